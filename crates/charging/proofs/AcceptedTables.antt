@@ -12,7 +12,7 @@ use Rattle.redemptions.specs.declared.voucher.Voucher.{Voucher}
 use Rattle.redemptions.specs.Standing.{unspent}
 use Rattle.redemptions.specs.Adding.{addition, after_addition}
 use Rattle.redemptions.specs.Redeeming.{DayEnds}
-use Rattle.tariffs.specs.Books.{Book}
+use Rattle.shelves.specs.Shelves.{Shelf}
 use Rattle.reserving.specs.Charges.{charge_rows}
 use Rattle.reserving.specs.Left.{first_of}
 use Rattle.reserving.proofs.LeftParted.{find_both}
@@ -28,35 +28,35 @@ use Rattle.keepers.specs.Change.{kept_after, over, redeemed_over, changed, with_
 use Rattle.keepers.specs.Change.{IsSwept}
 
 -- an account's rows, by what its head is
-pub row_none : (book : Book) (t : ℕ) (history : History) (r : Rows) → r.head ≡ None →
-    IsRow book t history r → (history.opened ≡ false) × (r ≡ no_rows)
-row_none book t history r e h = subst (λ (o : Option Head). IsRowOf o book t history r) e h
+pub row_none : (shelf : Shelf) (t : ℕ) (history : History) (r : Rows) → r.head ≡ None →
+    IsRow shelf t history r → (history.opened ≡ false) × (r ≡ no_rows)
+row_none shelf t history r e h = subst (λ (o : Option Head). IsRowOf o shelf t history r) e h
 
-pub row_some : (book : Book) (t : ℕ) (history : History) (r : Rows) (head : Head) →
-    r.head ≡ Some head → IsRow book t history r →
-    (history.opened ≡ true) × AreRowsAt book history.ledger t r
-row_some book t history r head e h = subst (λ (o : Option Head). IsRowOf o book t history r) e h
+pub row_some : (shelf : Shelf) (t : ℕ) (history : History) (r : Rows) (head : Head) →
+    r.head ≡ Some head → IsRow shelf t history r →
+    (history.opened ≡ true) × AreRowsAt shelf history.ledger t r
+row_some shelf t history r head e h = subst (λ (o : Option Head). IsRowOf o shelf t history r) e h
 
-pub row_of : (book : Book) (t : ℕ) (history : History) (r : Rows) → history.opened ≡ true →
-    AreRowsAt book history.ledger t r → IsRow book t history r
-row_of book t history r opened rows =
-    subst (λ (o : Option Head). IsRowOf o book t history r) (sym rows.are.head) (opened, rows)
+pub row_of : (shelf : Shelf) (t : ℕ) (history : History) (r : Rows) → history.opened ≡ true →
+    AreRowsAt shelf history.ledger t r → IsRow shelf t history r
+row_of shelf t history r opened rows =
+    subst (λ (o : Option Head). IsRowOf o shelf t history r) (sym rows.are.head) (opened, rows)
 
-row_later : (book : Book) (t u : ℕ) (history : History) (old new : Rows) → u ≤ t →
+row_later : (shelf : Shelf) (t u : ℕ) (history : History) (old new : Rows) → u ≤ t →
     (old.head ≡ None → new ≡ old) →
-    (AreRowsAt book history.ledger u old → AreRowsAt book history.ledger t new) →
-    IsRow book u history old → IsRow book t history new
-row_later book t u history old new le none some h = at old.head refl
+    (AreRowsAt shelf history.ledger u old → AreRowsAt shelf history.ledger t new) →
+    IsRow shelf u history old → IsRow shelf t history new
+row_later shelf t u history old new le none some h = at old.head refl
   where
-    at : (o : Option Head) → old.head ≡ o → IsRow book t history new
+    at : (o : Option Head) → old.head ≡ o → IsRow shelf t history new
     at None e =
-        let was = row_none book u history old e h in
+        let was = row_none shelf u history old e h in
         let same : new ≡ old = none e in
-        subst (λ (o : Option Head). IsRowOf o book t history new) (sym ((λ i. (same i).head) ∙ e))
+        subst (λ (o : Option Head). IsRowOf o shelf t history new) (sym ((λ i. (same i).head) ∙ e))
         (was.0, same ∙ was.1)
     at (Some head) e =
-        let was = row_some book u history old head e h in
-        row_of book t history new was.0 (some was.1)
+        let was = row_some shelf u history old head e h in
+        row_of shelf t history new was.0 (some was.1)
 
 -- an account doesn't stand for a later moment than the last
 pub as_of-last : (a : List ℕ) (list : List Accepted) → IsInTime list →
@@ -74,8 +74,8 @@ module _ (ends : DayEnds) (outcome : Option Voucher → History → Command → 
   abbrev after : List Accepted → Accepted → History → History
   after list d h = (outcome (standing_for ends d.command list) h d.command d.moment).after
 
-  pub tables_none : (book : Book) → AreTablesOf ends outcome book [] no_tables
-  tables_none book = record {
+  pub tables_none : (shelf : Shelf) → AreTablesOf ends outcome shelf [] no_tables
+  tables_none shelf = record {
     last = refl;
     accounts = λ a. (refl, refl);
     answers = λ a k. refl;
@@ -85,20 +85,20 @@ module _ (ends : DayEnds) (outcome : Option Voucher → History → Command → 
   }
 
   -- a sweep
-  pub tables_swept : (book : Book) (d : Accepted) (list : List Accepted) (old new : Tables) →
+  pub tables_swept : (shelf : Shelf) (d : Accepted) (list : List Accepted) (old new : Tables) →
       IsInTime list → last_moment list ≤ d.moment → concerned_by d.command ≡ each →
       is_opening d.command ≡ false → ((code : List ℕ) → names_code code d.command ≡ false) →
-      IsSwept book d.moment old new → AreTablesOf ends outcome book list old →
-      AreTablesOf ends outcome book (d ∷ list) new
-  tables_swept book d list old new time le swept opens codes x h = record {
+      IsSwept shelf d.moment old new → AreTablesOf ends outcome shelf list old →
+      AreTablesOf ends outcome shelf (d ∷ list) new
+  tables_swept shelf d list old new time le swept opens codes x h = record {
     last = x.last;
     accounts = λ a.
-        subst (λ o. IsRow book (if reaches a o then d.moment else as_of a list)
+        subst (λ o. IsRow shelf (if reaches a o then d.moment else as_of a list)
         (if names a o then after list d (history_of ends outcome a list)
         else history_of ends outcome a list) (new.rows a)) (sym swept)
         (let early : as_of a list ≤ d.moment =
         (let e : as_of a list ≤ last_moment list = as_of-last a list time in omega arith) in
-        row_later book d.moment (as_of a list) (history_of ends outcome a list) (old.rows a)
+        row_later shelf d.moment (as_of a list) (history_of ends outcome a list) (old.rows a)
         (new.rows a) early (x.none a)
         (x.rows a (history_of ends outcome a list).ledger (as_of a list) early) (h.accounts a));
     answers = λ a k.
@@ -123,12 +123,12 @@ module _ (ends : DayEnds) (outcome : Option Voucher → History → Command → 
   }
 
   -- a voucher that is new under its code
-  pub tables_added : (book : Book) (v : VoucherAddition) (t : ℕ) (list : List Accepted)
+  pub tables_added : (shelf : Shelf) (v : VoucherAddition) (t : ℕ) (list : List Accepted)
       (tables : Tables) → voucher_under ends v.code list ≡ None →
-      AreTablesOf ends outcome book list tables →
-      AreTablesOf ends outcome book (record { moment = t; command = AddVoucher v } ∷ list)
+      AreTablesOf ends outcome shelf list tables →
+      AreTablesOf ends outcome shelf (record { moment = t; command = AddVoucher v } ∷ list)
       (with_voucher v.code v.terms t tables)
-  tables_added book v t list tables free h = record {
+  tables_added shelf v t list tables free h = record {
     last = refl;
     accounts = h.accounts;
     answers = h.answers;
@@ -151,12 +151,12 @@ module _ (ends : DayEnds) (outcome : Option Voucher → History → Command → 
       at code false e = h.vouchers code
 
   -- a command that names an account: its rows are those of its history after the command
-  pub record Adds (book : Book) (d : Accepted) (list : List Accepted) (change : Change)
+  pub record Adds (shelf : Shelf) (d : Accepted) (list : List Accepted) (change : Change)
       (tables : Tables) : Type 0 where
     pub named : concerned_by d.command ≡ one change.number
     pub moment : change.moment ≡ d.moment
     pub opened : (history_of ends outcome change.number (d ∷ list)).opened ≡ true
-    pub row : AreRowsAt book (history_of ends outcome change.number (d ∷ list)).ledger d.moment
+    pub row : AreRowsAt shelf (history_of ends outcome change.number (d ∷ list)).ledger d.moment
         (over change.after (tables.rows change.number))
     pub kept : (k : Key) → kept_under k (history_of ends outcome change.number (d ∷ list)) ≡
         kept_after change.kept k (kept_under k (history_of ends outcome change.number list))
@@ -168,11 +168,11 @@ module _ (ends : DayEnds) (outcome : Option Voucher → History → Command → 
     pub count : (if is_some (tables.rows change.number).head then tables.count
         else tables.count + 1) ≡ (if is_opening d.command then tables.count + 1 else tables.count)
 
-  pub tables_changed : (book : Book) (d : Accepted) (list : List Accepted) (change : Change)
-      (tables : Tables) → Adds book d list change tables →
-      AreTablesOf ends outcome book list tables →
-      AreTablesOf ends outcome book (d ∷ list) (changed change tables)
-  tables_changed book d list change tables x h = record {
+  pub tables_changed : (shelf : Shelf) (d : Accepted) (list : List Accepted) (change : Change)
+      (tables : Tables) → Adds shelf d list change tables →
+      AreTablesOf ends outcome shelf list tables →
+      AreTablesOf ends outcome shelf (d ∷ list) (changed change tables)
+  tables_changed shelf d list change tables x h = record {
     last = x.moment;
     accounts = λ a. account a (same_name n a) refl;
     answers = λ a k. answer a k (same_name n a) refl;
@@ -190,20 +190,20 @@ module _ (ends : DayEnds) (outcome : Option Voucher → History → Command → 
       named : (a : List ℕ) (t : Bool) → same_name n a ≡ t → names a (concerned_by d.command) ≡ t
       named a t e = ap (names a) x.named ∙ e
 
-      row : IsRow book d.moment (history_of ends outcome n (d ∷ list))
+      row : IsRow shelf d.moment (history_of ends outcome n (d ∷ list))
           (over change.after (tables.rows n))
-      row = row_of book d.moment (history_of ends outcome n (d ∷ list))
+      row = row_of shelf d.moment (history_of ends outcome n (d ∷ list))
           (over change.after (tables.rows n)) x.opened x.row
 
       account : (a : List ℕ) (t : Bool) → same_name n a ≡ t →
-          IsRow book (as_of a (d ∷ list)) (history_of ends outcome a (d ∷ list))
+          IsRow shelf (as_of a (d ∷ list)) (history_of ends outcome a (d ∷ list))
           (if same_name n a then over change.after (tables.rows a) else tables.rows a)
       account a true e =
           let same : n ≡ a = (bytes_decides n a).0 e in
           subst (λ (r : Rows).
-          IsRow book (as_of a (d ∷ list)) (history_of ends outcome a (d ∷ list)) r)
+          IsRow shelf (as_of a (d ∷ list)) (history_of ends outcome a (d ∷ list)) r)
           (sym (ap (λ t. if t then over change.after (tables.rows a) else tables.rows a) e))
-          (subst (λ m. IsRow book (as_of a (d ∷ list)) (history_of ends outcome m (d ∷ list))
+          (subst (λ m. IsRow shelf (as_of a (d ∷ list)) (history_of ends outcome m (d ∷ list))
           (over change.after (tables.rows m))) same
           (rw (reached a true e) row))
       account a false e =
@@ -216,7 +216,7 @@ module _ (ends : DayEnds) (outcome : Option Voucher → History → Command → 
           tables.rows a = ap (λ t. if t then over change.after (tables.rows a)
           else tables.rows a) e in
           subst (λ (r : Rows).
-          IsRow book (as_of a (d ∷ list)) (history_of ends outcome a (d ∷ list)) r)
+          IsRow shelf (as_of a (d ∷ list)) (history_of ends outcome a (d ∷ list)) r)
           (sym o) (rw (moment, same) (h.accounts a))
 
       answer : (a : List ℕ) (k : Key) (t : Bool) → same_name n a ≡ t →

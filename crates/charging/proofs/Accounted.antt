@@ -3,7 +3,7 @@ use Rattle.std.proofs.Common.{◌≡◌, ℕ, List, ◌∷◌, sym, subst, ◌�
 use Rattle.std.specs.Prelude.{Result, Ok, Err, IfOk}
 use Rattle.commands.specs.declared.answer.Answer.{Answer}
 use Rattle.commands.specs.declared.command.Command.{Command}
-use Rattle.tariffs.specs.Books.{Book, IsBook}
+use Rattle.shelves.specs.Shelves.{Shelf, IsShelf}
 use Rattle.reserving.proofs.Lists.{some_of}
 use Rattle.keepers.specs.declared.fault.StoreFault.{StoreFault}
 use Rattle.keepers.specs.Tables.{Tables, head_of}
@@ -21,8 +21,9 @@ use Rattle.charging.proofs.Guaranteed.{IsGuaranteed, guaranteed_none, keeps_guar
 use Rattle.charging.proofs.KeptHistories.{kept_history}
 use Rattle.charging.proofs.Repeated.{answers-once}
 
-pub accounted : (b : Book) (commands : List DatedCommand) (old new : Tables) (given : List Answer) →
-    IsBook b → Runs b commands old new given → AreAccounted b commands old new given
+pub accounted : (b : Shelf) (commands : List DatedCommand) (old new : Tables)
+    (given : List Answer) →
+    IsShelf b → Runs b commands old new given → AreAccounted b commands old new given
 accounted b commands old new given ranges runs list time tables a head found =
     let after : List Accepted = after_commands b list (take (length given) commands) in
     let run : IsRun b list commands new given = runs list time tables in
@@ -42,7 +43,7 @@ accounted b commands old new given ranges runs list time tables a head found =
           (guaranteed_none b) a after).quotas;
     }
 
-pub answered_again : (b : Book) (c : Command) (t : ℕ) (old new : Tables) (given : Answer) →
+pub answered_again : (b : Shelf) (c : Command) (t : ℕ) (old new : Tables) (given : Answer) →
     ((list : List Accepted) → IsInTime list → AreTables b list old →
     IsServed b list c (moment_of list t) old new given) →
     IsAnsweredAgain b c old new given
@@ -54,7 +55,7 @@ answered_again b c t old new given served before first between key taken time ta
       now.same (answers-once b before c first between (moment_of list t) key taken).accepted,
     )
 
-pub served_again : (b : Book) (c : Command) (t : ℕ) (old new : Tables)
+pub served_again : (b : Shelf) (c : Command) (t : ℕ) (old new : Tables)
     (result : Result Answer StoreFault) → Serves b c t old new result →
     IfOk result (IsAnsweredAgain b c old new)
 served_again b c t old new (Ok given) served = answered_again b c t old new given served

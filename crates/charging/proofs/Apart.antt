@@ -6,7 +6,7 @@ use Rattle.std.specs.Prelude.{if◌then◌else◌, ◌||◌, filter, is_some, op
 use Rattle.identifiers.specs.Texts.{same_name}
 use Rattle.std.specs.Cmp.Lexicographic.{bytes_decides}
 use Rattle.std.proofs.lemmas.Bool.{and_from, or_left, or_right, or_parts}
-use Rattle.tariffs.specs.Books.{Book, IsBook}
+use Rattle.shelves.specs.Shelves.{Shelf, IsShelf}
 use Rattle.commands.specs.declared.command.Command.{Command}
 use Rattle.commands.specs.declared.command.Command.TheVariants as command
 use Rattle.reserving.specs.Balance.{buckets_at}
@@ -19,6 +19,7 @@ use Rattle.reserving.specs.Stored.{priced, advanced_stored}
 use Rattle.reserving.proofs.Advancing.{IsRowsOf-advanced}
 use Rattle.reserving.proofs.StoredRows.{IsAccount-priced, IsStored-advanced}
 use Rattle.reserving.proofs.Keys.{is_same-refl}
+use Rattle.reserving.specs.Pricing.{validity_of}
 use Rattle.charging.specs.Histories.{History, no_history, kept_under}
 use Rattle.keepers.specs.Tables.{Head, Rows, Tables, head_of, group_row, held_of, charge_in}
 use Rattle.keepers.specs.Change.{AreRowsAt}
@@ -38,22 +39,22 @@ use Rattle.charging.specs.Isolation.{DontFall, ShowAlike, IsIsolated}
 -- ---- rows
 
 -- a list of an account's rows, brought to a later moment, is that of its history there
-brought : (b : Book) (u t : ℕ) (ledger : Ledger) (r v : Rows) → IsBook b → u ≤ t →
+brought : (b : Shelf) (u t : ℕ) (ledger : Ledger) (r v : Rows) → IsShelf b → u ≤ t →
     AreRowsAt b ledger u r → AreRowsBroughtTo b t r v → AreRowsAt b ledger t v
-brought b u t ledger r v book le h x =
+brought b u t ledger r v shelf le h x =
     let told : IsRowsOf ledger (priced b x.listed)
     × (x.listed.as_of ≡ u) = rows_told b ledger u r x.listed h x.are x.kept in
     record {
       listed = advanced_stored b t x.listed;
       are = x.at;
-      kept = IsStored-advanced b t x.listed book x.kept;
+      kept = IsStored-advanced b t x.listed shelf x.kept;
       moment = refl;
       rows = IsRowsOf-advanced ledger (priced b x.listed) t
-          (IsAccount-priced b x.listed book x.kept) told.0 (subst (λ m. m ≤ t) (sym told.1) le);
+          (IsAccount-priced b x.listed shelf x.kept) told.0 (subst (λ m. m ≤ t) (sym told.1) le);
     }
 
 -- rows of one ledger at one moment tell the same
-tell_same : (b : Book) (t : ℕ) (ledger : Ledger) (v w : Rows) → AreRowsAt b ledger t v →
+tell_same : (b : Shelf) (t : ℕ) (ledger : Ledger) (v w : Rows) → AreRowsAt b ledger t v →
     AreRowsAt b ledger t w → TellTheSame v w
 tell_same b t ledger v w p q =
     let moment : p.listed.as_of ≡ q.listed.as_of = p.moment ∙ sym q.moment in
@@ -64,7 +65,7 @@ tell_same b t ledger v w p q =
     ∙ sym q.rows.next_charge in
     let same_group : (s : List ℕ) (g : ℕ) →
     group_in s g p.listed.groups ≡ group_in s g q.listed.groups = λ s g. p.rows.groups s g
-    ∙ ap (λ m. group_at b.validity m ledger s g) moment ∙ sym (q.rows.groups s g) in
+    ∙ ap (λ m. group_at (validity_of b) m ledger s g) moment ∙ sym (q.rows.groups s g) in
     record {
       head = p.are.head ∙ (λ i.
           Some (record {
@@ -74,12 +75,12 @@ tell_same b t ledger v w p q =
             next_charge = next_charge i;
           })) ∙ sym q.are.head;
       buckets = λ n. p.are.buckets n
-          ∙ ap (bucket_in n) (p.rows.buckets ∙ ap (λ m. buckets_at b.validity m ledger) moment
+          ∙ ap (bucket_in n) (p.rows.buckets ∙ ap (λ m. buckets_at (validity_of b) m ledger) moment
           ∙ sym q.rows.buckets) ∙ sym (q.are.buckets n);
       counters = λ g c. p.are.counters g c ∙ p.rows.counters g c ∙ sym (q.rows.counters g c)
           ∙ sym (q.are.counters g c);
       sessions = λ s. p.are.sessions s ∙ p.rows.sessions s
-          ∙ ap (λ m. session_at b.validity m ledger s) moment ∙ sym (q.rows.sessions s)
+          ∙ ap (λ m. session_at (validity_of b) m ledger s) moment ∙ sym (q.rows.sessions s)
           ∙ sym (q.are.sessions s);
       groups = λ s g. p.are.groups s g ∙ ap (option_map group_row) (same_group s g)
           ∙ sym (q.are.groups s g);
@@ -88,7 +89,7 @@ tell_same b t ledger v w p q =
     }
 
 -- an account's head is there where it was opened
-opened_is : (b : Book) (t : ℕ) (h : History) (r : Rows) → IsRow b t h r → is_some r.head ≡ h.opened
+opened_is : (b : Shelf) (t : ℕ) (h : History) (r : Rows) → IsRow b t h r → is_some r.head ≡ h.opened
 opened_is b t h r is = at r.head refl
   where
     at : (o : Option Head) → r.head ≡ o → is_some r.head ≡ h.opened
@@ -96,7 +97,7 @@ opened_is b t h r is = at r.head refl
     at (Some head) e = ap is_some e ∙ sym (row_some b t h r head e is).0
 
 -- an account that has a list of rows is there
-listed_row : (b : Book) (t : ℕ) (h : History) (r v : Rows) (u : ℕ) → IsRow b u h r →
+listed_row : (b : Shelf) (t : ℕ) (h : History) (r v : Rows) (u : ℕ) → IsRow b u h r →
     AreRowsBroughtTo b t r v → AreRowsAt b h.ledger u r
 listed_row b t h r v u is x = (row_some b u h r (head_of x.listed) x.are.head is).1
 
@@ -115,7 +116,7 @@ last_after : (list : List Accepted) (d : Accepted) (taken : Bool) (t : ℕ) → 
 last_after list d true t le e = omega arith
 last_after list d false t le e = le
 
-own_unmoved : (b : Book) (own : Command → Bool) (list : List Accepted) (ds : List DatedCommand) →
+own_unmoved : (b : Shelf) (own : Command → Bool) (list : List Accepted) (ds : List DatedCommand) →
     DontFall (last_moment list) ds →
     own_commands b own list ds ≡ filter (λ d. own d.command) ds
 own_unmoved b own list [] h = refl
@@ -200,12 +201,12 @@ own_is a all command.Sweep e = absurd (true≢false (sym e))
 own_is a all (command.Balance n) e = own_named a n e
 
 -- what stands under the account's codes is the same after both lists
-abbrev AreAlike : Book → (List ℕ → Bool) → List Accepted → List Accepted → Type 0
+abbrev AreAlike : Shelf → (List ℕ → Bool) → List Accepted → List Accepted → Type 0
 AreAlike b mine run alone =
     (code : List ℕ) → mine code ≡ true → voucher b code run ≡ voucher b code alone
 
 -- so it is under the code of an own command
-same_standing : (b : Book) (a : List ℕ) (all : List DatedCommand) (run alone : List Accepted)
+same_standing : (b : Shelf) (a : List ℕ) (all : List DatedCommand) (run alone : List Accepted)
     (c : Command) → is_own a all c ≡ true → IsFair a (λ code. redeems a code all) c →
     AreAlike b (λ code. redeems a code all) run alone → standing b c run ≡ standing b c alone
 same_standing b a all run alone (command.Ccr r) e fair alike = refl
@@ -253,7 +254,7 @@ other_code a all (command.Balance n) e fair code mine = refl
 
 -- they leave an account the same history, and its codes the same vouchers, and the second ends no
 -- later
-record LeaveAlike (b : Book) (a : List ℕ) (mine : List ℕ → Bool) (run alone : List Accepted) :
+record LeaveAlike (b : Shelf) (a : List ℕ) (mine : List ℕ → Bool) (run alone : List Accepted) :
     Type 0 where
   same : history b a run ≡ history b a alone
   vouchers : AreAlike b mine run alone
@@ -262,7 +263,7 @@ record LeaveAlike (b : Book) (a : List ℕ) (mine : List ℕ → Bool) (run alon
   alone_time : IsInTime alone
 
 -- an accepted command of others
-alike_other : (b : Book) (a : List ℕ) (mine : List ℕ → Bool) (run alone : List Accepted)
+alike_other : (b : Shelf) (a : List ℕ) (mine : List ℕ → Bool) (run alone : List Accepted)
     (d : Accepted) (taken : Bool) → names a (concerned_by d.command) ≡ false →
     ((code : List ℕ) → mine code ≡ true → names_code code d.command ≡ false) →
     last_moment run ≤ d.moment → LeaveAlike b a mine run alone →
@@ -280,7 +281,7 @@ alike_other b a mine run alone d true other codes le alike = record {
 }
 
 -- one in both
-alike_both : (b : Book) (a : List ℕ) (mine : List ℕ → Bool) (run alone : List Accepted)
+alike_both : (b : Shelf) (a : List ℕ) (mine : List ℕ → Bool) (run alone : List Accepted)
     (d : Accepted) (taken : Bool) → last_moment run ≤ d.moment →
     standing b d.command run ≡ standing b d.command alone →
     LeaveAlike b a mine run alone →
@@ -300,7 +301,7 @@ alike_both b a mine run alone d true le stands alike = record {
 -- ---- an own command after both lists
 
 -- it is answered alike, and accepted after both or neither
-same_answer : (b : Book) (a : List ℕ) (run alone : List Accepted) (c : Command) (t : ℕ)
+same_answer : (b : Shelf) (a : List ℕ) (run alone : List Accepted) (c : Command) (t : ℕ)
     (who : Concerned) → IsOwnOf a who → history b a run ≡ history b a alone →
     standing b c run ≡ standing b c alone →
     answer_on who b run c t ≡ answer_on who b alone c t
@@ -311,7 +312,7 @@ same_answer b a run alone c t none is same stands =
     λ i. (outcome b (stands i) no_history c t).answer
 same_answer b a run alone c t each is same stands = absurd is
 
-same_accepts : (b : Book) (a : List ℕ) (run alone : List Accepted) (c : Command) (t : ℕ)
+same_accepts : (b : Shelf) (a : List ℕ) (run alone : List Accepted) (c : Command) (t : ℕ)
     (who : Concerned) → IsOwnOf a who → history b a run ≡ history b a alone →
     standing b c run ≡ standing b c alone →
     accepts_on who b run c t ≡ accepts_on who b alone c t
@@ -334,7 +335,7 @@ same_moment run alone t later = omega arith
 moment-later : (list : List Accepted) (t : ℕ) → last_moment list ≤ moment_of list t
 moment-later list t = omega arith
 
-alike_own : (b : Book) (a : List ℕ) (mine : List ℕ → Bool) (run alone : List Accepted)
+alike_own : (b : Shelf) (a : List ℕ) (mine : List ℕ → Bool) (run alone : List Accepted)
     (d : DatedCommand) → IsOwnOf a (concerned_by d.command) →
     standing b d.command run ≡ standing b d.command alone → LeaveAlike b a mine run alone →
     LeaveAlike b a mine (after_command b run d) (after_command b alone (in_run run d))
@@ -353,7 +354,7 @@ alike_own b a mine run alone d is stands alike =
     subst (λ m. LeaveAlike b a mine (with_command b run d.command t)
     (with_command b alone d.command m)) (sym (same_moment run alone d.moment alike.later)) there
 
-own_answer : (b : Book) (a : List ℕ) (mine : List ℕ → Bool) (run alone : List Accepted)
+own_answer : (b : Shelf) (a : List ℕ) (mine : List ℕ → Bool) (run alone : List Accepted)
     (d : DatedCommand) → IsOwnOf a (concerned_by d.command) →
     standing b d.command run ≡ standing b d.command alone → LeaveAlike b a mine run alone →
     answer_to b run d.command (moment_of run d.moment) ≡
@@ -367,13 +368,13 @@ own_answer b a mine run alone d is stands alike =
 
 -- after two lists that leave the account alike: the run's answers to its own commands are those to
 -- them after the other list, and the lists after them leave it alike
-record IsServedAlike (b : Book) (a : List ℕ) (all : List DatedCommand) (run alone : List Accepted)
+record IsServedAlike (b : Shelf) (a : List ℕ) (all : List DatedCommand) (run alone : List Accepted)
     (ds own : List DatedCommand) : Type 0 where
   answers : own_answers (is_own a all) ds (answers_to b run ds) ≡ answers_to b alone own
   alike : LeaveAlike b a (λ code. redeems a code all) (after_commands b run ds)
       (after_commands b alone own)
 
-served_more : (b : Book) (a : List ℕ) (all : List DatedCommand) (run alone : List Accepted)
+served_more : (b : Shelf) (a : List ℕ) (all : List DatedCommand) (run alone : List Accepted)
     (d : DatedCommand) (ds own : List DatedCommand) (mine : Bool) →
     is_own a all d.command ≡ mine → IsFair a (λ code. redeems a code all) d.command →
     LeaveAlike b a (λ code. redeems a code all) run alone →
@@ -414,7 +415,7 @@ served_more b a all run alone d ds own false e fair alike rest =
       alike = next.alike;
     }
 
-served : (b : Book) (a : List ℕ) (all : List DatedCommand) (run alone : List Accepted)
+served : (b : Shelf) (a : List ℕ) (all : List DatedCommand) (run alone : List Accepted)
     (ds : List DatedCommand) → AreFair a (λ code. redeems a code all) ds →
     LeaveAlike b a (λ code. redeems a code all) run alone →
     IsServedAlike b a all run alone ds (own_commands b (is_own a all) run ds)
@@ -425,10 +426,10 @@ served b a all run alone (d ∷ ds) fair alike =
     (is_own a all d.command) refl fair.0 alike
     (λ next there. served b a all (after_command b run d) next ds fair.1 there)
 
-show_alike : (b : Book) (t : ℕ) (a : List ℕ) (mine : List ℕ → Bool) (run alone : List Accepted)
-    (x y : Tables) → IsBook b → LeaveAlike b a mine run alone → AreTables b run x →
+show_alike : (b : Shelf) (t : ℕ) (a : List ℕ) (mine : List ℕ → Bool) (run alone : List Accepted)
+    (x y : Tables) → IsShelf b → LeaveAlike b a mine run alone → AreTables b run x →
     AreTables b alone y → last_moment run ≤ t → ShowAlike b t a x y
-show_alike b t a mine run alone x y book alike p q le =
+show_alike b t a mine run alone x y shelf alike p q le =
     let early : as_of a run ≤ t = let last = as_of-last a run alike.run_time in omega arith in
     let early' : as_of a alone ≤ t = let last = as_of-last a alone alike.alone_time in let later =
     alike.later in omega arith in
@@ -439,19 +440,19 @@ show_alike b t a mine run alone x y book alike p q le =
           ∙ sym (opened_is b (as_of a alone) h' (y.rows a) (q.accounts a));
       rows = λ v w in_run in_alone.
           tell_same b t h.ledger v w
-          (brought b (as_of a run) t h.ledger (x.rows a) v book early
+          (brought b (as_of a run) t h.ledger (x.rows a) v shelf early
           (listed_row b t h (x.rows a) v (as_of a run) (p.accounts a) in_run) in_run)
           (subst (λ l. AreRowsAt b l t w) (sym (λ i. (alike.same i).ledger))
-          (brought b (as_of a alone) t h'.ledger (y.rows a) w book early'
+          (brought b (as_of a alone) t h'.ledger (y.rows a) w shelf early'
           (listed_row b t h' (y.rows a) w (as_of a alone) (q.accounts a) in_alone) in_alone));
       answers = λ k. p.answers a k ∙ ap (kept_under k) alike.same ∙ sym (q.answers a k);
       charges = λ n. p.charges a n ∙ ap (λ h. charge_in n (charge_rows h.ledger)) alike.same
           ∙ sym (q.charges a n);
     }
 
-pub isolated : (b : Book) → IsBook b → (a : List ℕ) (ds : List DatedCommand) → HasOwnCodes a ds →
+pub isolated : (b : Shelf) → IsShelf b → (a : List ℕ) (ds : List DatedCommand) → HasOwnCodes a ds →
     IsIsolated b a ds
-isolated b book a ds codes =
+isolated b shelf a ds codes =
     let all : IsServedAlike b a ds [] [] ds (own_commands b (is_own a ds) [] ds) =
     served b a ds [] [] ds (fair_run a ds codes) (record {
       same = refl;
@@ -464,6 +465,6 @@ isolated b book a ds codes =
       answers = all.answers;
       tables = λ t x y p q le. show_alike b t a (λ code. redeems a code ds)
           (after_commands b [] ds)
-          (after_commands b [] (own_commands b (is_own a ds) [] ds)) x y book all.alike p q le;
+          (after_commands b [] (own_commands b (is_own a ds) [] ds)) x y shelf all.alike p q le;
       unmoved = own_unmoved b (is_own a ds) [] ds;
     }

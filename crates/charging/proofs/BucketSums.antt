@@ -36,7 +36,7 @@ sum_by-inserted f b (x ∷ xs) =
     ]
 
 -- what is told by a bucket's number doesn't change with its position
-pub sum_by-moved : (f : ℕ → ℕ) (v t : ℕ) (ledger : Ledger) (cs : List Row) →
+pub sum_by-moved : (f : ℕ → ℕ) (v : ℕ → ℕ) (t : ℕ) (ledger : Ledger) (cs : List Row) →
     sum_by (λ b. f b.number) (map (bucket_at v t ledger) cs) ≡ sum_by (λ c. f c.number) cs
 sum_by-moved f v t ledger [] = refl
 sum_by-moved f v t ledger (c ∷ cs) =

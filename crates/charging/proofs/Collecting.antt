@@ -5,7 +5,7 @@ use Rattle.std.specs.Prelude.{sum_by}
 use Rattle.std.proofs.lemmas.List.Sums.{sum_by-cons, sum_by_push}
 use Rattle.std.proofs.lemmas.Bool.{leb-true}
 use Rattle.units.specs.declared.blocks.UsedPart.{UsedPart}
-use Rattle.tariffs.specs.Books.{Book}
+use Rattle.shelves.specs.Shelves.{Shelf}
 use Rattle.buckets.specs.declared.holds.Hold.{Hold}
 use Rattle.buckets.specs.Row.{Row, new_row}
 use Rattle.buckets.specs.Share.{parts}
@@ -27,6 +27,7 @@ use Rattle.reserving.proofs.ChargeRows.{charge_rows-touched, charge_rows-credite
 use Rattle.reserving.proofs.ChargeRows.{charge_rows-reserved, charge_rows-settled}
 use Rattle.reserving.proofs.ChargeRows.{charge_rows-charged_use}
 use Rattle.reserving.proofs.SettledFacts.{charged-charge_facts, charged-hold_facts}
+use Rattle.reserving.specs.Pricing.{validity_of}
 use Rattle.charging.specs.Collected.{collected_to_date, charged_to_date}
 use Rattle.charging.specs.SessionReports.{Report}
 use Rattle.charging.proofs.BucketSums.{sum_by-inserted, sum_by-moved}
@@ -53,7 +54,7 @@ abbrev charged_in : Ledger → ℕ
 charged_in ledger = sum_by (λ c. charged c.number ledger) (credits ledger)
 
 -- it is what they show as charged, at any moment
-shown : (v t : ℕ) (ledger : Ledger) (cs : List Row) →
+shown : (v : ℕ → ℕ) (t : ℕ) (ledger : Ledger) (cs : List Row) →
     sum_by (λ x. x.charged) (map (bucket_at v t ledger) cs)
     ≡ sum_by (λ c. charged c.number ledger) cs
 shown v t ledger [] = refl
@@ -68,7 +69,7 @@ shown v t ledger (c ∷ cs) =
 abbrev IsCharged : Ledger → Type 0
 IsCharged ledger = collected_to_date ledger ≡ charged_in ledger
 
-pub record IsCollecting (b : Book) (reports : List Report) (ledger : Ledger) : Type 0 where
+pub record IsCollecting (b : Shelf) (reports : List Report) (ledger : Ledger) : Type 0 where
   pub kept : IsSoundHistory b reports ledger
   pub sums : IsCharged ledger
 
@@ -120,10 +121,10 @@ same_touched t s n ledger = record {
   charged_is = λ k. omega arith;
 }
 
-same_reserved : (b : Book) (t : ℕ) (s : List ℕ) (g units amount : ℕ) (ledger : Ledger) →
+same_reserved : (b : Shelf) (t : ℕ) (s : List ℕ) (g units amount : ℕ) (ledger : Ledger) →
     SameSums (reserved b t s g units amount ledger) ledger
 same_reserved b t s g units amount ledger =
-    let hs : List Hold = holds_of g t amount (buckets_at b.validity t ledger) in
+    let hs : List Hold = holds_of g t amount (buckets_at (validity_of b) t ledger) in
     let before : Ledger = with_grant b t s g units ledger in
     let same = hold_credits t s g hs before in
     record {
@@ -155,7 +156,7 @@ sums_credit t from until scope amount ledger sound sums =
 -- ---- charges
 
 -- what parts of buckets charge
-charged_more : (f : Row → ℕ) (v t : ℕ) (ledger : Ledger) →
+charged_more : (f : Row → ℕ) (v : ℕ → ℕ) (t : ℕ) (ledger : Ledger) →
     AreCredited (credits ledger) (next_bucket ledger) →
     sum_by (λ c. charged c.number (charge_facts t (parts f (buckets_at v t ledger)) ++ ledger))
     (credits ledger)
@@ -172,7 +173,7 @@ charged_more f v t ledger h =
     ∙ sum_by-each (λ x. sum_at x.number hs) f rows (sum_at-parts f rows (distinct v t ledger h))
     ∙ sym (amounts-parts f rows))
 
-sums_settled : (v t : ℕ) (s : List ℕ) (g units blocks rated : ℕ) (ledger : Ledger) →
+sums_settled : (v : ℕ → ℕ) (t : ℕ) (s : List ℕ) (g units blocks rated : ℕ) (ledger : Ledger) →
     AreCredited (credits ledger) (next_bucket ledger) → IsCharged ledger →
     IsCharged (settled v t s g units blocks rated ledger)
 sums_settled v t s g units blocks rated ledger made sums =
@@ -192,11 +193,11 @@ sums_settled v t s g units blocks rated ledger made sums =
     ∙ ap (sum_by (λ c. charged c.number (charge_facts t hs ++ ledger))) same.rows
     ∙ charged_more (paid holds g t rated rows) v t ledger made)
 
-sums_debited : (b : Book) (t : ℕ) (s : List ℕ) (g units : ℕ) (ledger : Ledger) →
+sums_debited : (b : Shelf) (t : ℕ) (s : List ℕ) (g units : ℕ) (ledger : Ledger) →
     is_covered b t g units ledger ≡ true → AreCredited (credits ledger) (next_bucket ledger) →
     IsCharged ledger → IsCharged (debited b t s g units ledger)
 sums_debited b t s g units ledger covered made sums =
-    let v : ℕ = b.validity in
+    let v : ℕ → ℕ = (validity_of b) in
     let rows : List Row = buckets_at v t ledger in
     let rated : ℕ = (event_price b t g units ledger).amount.0 in
     let blocks : ℕ = (event_price b t g units ledger).blocks in
@@ -215,7 +216,7 @@ sums_debited b t s g units ledger covered made sums =
     ∙ ap (sum_by (λ c. charged c.number (charge_facts t hs ++ ledger))) same.rows
     ∙ charged_more (paid [] g t rated rows) v t ledger made)
 
-sums_settle : (b : Book) (t : ℕ) (s : List ℕ) (g : ℕ) (used_parts : List UsedPart)
+sums_settle : (b : Shelf) (t : ℕ) (s : List ℕ) (g : ℕ) (used_parts : List UsedPart)
     (ledger : Ledger) → AreCredited (credits ledger) (next_bucket ledger) → IsCharged ledger →
     IsCharged (settled_by b t s g used_parts ledger)
 sums_settle b t s g [] ledger made sums =
@@ -226,14 +227,14 @@ sums_settle b t s g [] ledger made sums =
       charged_is = λ n. omega arith;
     }) sums
 sums_settle b t s g (p ∷ ps) ledger made sums =
-    sums_settled b.validity t s g (reported (p ∷ ps))
+    sums_settled (validity_of b) t s g (reported (p ∷ ps))
     (report_price b t s g (p ∷ ps) ledger).blocks
     (report_price b t s g (p ∷ ps) ledger).amount.0 ledger made sums
 
-pub collecting_none : (b : Book) → IsCollecting b [] []
+pub collecting_none : (b : Shelf) → IsCollecting b [] []
 collecting_none b = record { kept = sound_none b; sums = refl }
 
-pub keeps_collecting : (b : Book) → Keeps b (IsCollecting b)
+pub keeps_collecting : (b : Shelf) → Keeps b (IsCollecting b)
 keeps_collecting b = record {
   quiet = λ t f reports ledger q n fits h. record {
     kept = kept.quiet t f reports ledger q n fits h.kept;
@@ -269,8 +270,8 @@ keeps_collecting b = record {
     kept = keeps_sound b
 
 -- at any moment
-pub collected_is_charged : (b : Book) (reports : List Report) (ledger : Ledger) →
+pub collected_is_charged : (b : Shelf) (reports : List Report) (ledger : Ledger) →
     IsCollecting b reports ledger → (t : ℕ) →
-    collected_to_date ledger ≡ charged_to_date b.validity t ledger
+    collected_to_date ledger ≡ charged_to_date (validity_of b) t ledger
 collected_is_charged b reports ledger h t = h.sums
-    ∙ sym (shown b.validity t ledger (credits ledger))
+    ∙ sym (shown (validity_of b) t ledger (credits ledger))

@@ -81,20 +81,23 @@ hold_credits t s g (h ∷ hs) ledger =
 
 -- ---- their positions
 
-position_kept : (v t : ℕ) (ledger : Ledger) → KeepsPlace (bucket_at v t ledger)
+position_kept : (v : ℕ → ℕ) (t : ℕ) (ledger : Ledger) → KeepsPlace (bucket_at v t ledger)
 position_kept v t ledger = record { number = λ c. refl; until = λ c. refl }
 
-pub in_order : (v t : ℕ) (ledger : Ledger) → AreCredited (credits ledger) (next_bucket ledger) →
+pub in_order : (v : ℕ → ℕ) (t : ℕ) (ledger : Ledger) →
+    AreCredited (credits ledger) (next_bucket ledger) →
     IsInOrder (buckets_at v t ledger)
 in_order v t ledger h = IsInOrder-map (bucket_at v t ledger) (credits ledger)
     (position_kept v t ledger) h.order
 
-pub all_made : (v t : ℕ) (ledger : Ledger) → AreCredited (credits ledger) (next_bucket ledger) →
+pub all_made : (v : ℕ → ℕ) (t : ℕ) (ledger : Ledger) →
+    AreCredited (credits ledger) (next_bucket ledger) →
     IsBelow (next_bucket ledger) (buckets_at v t ledger)
 all_made v t ledger h =
     IsBelow-map (next_bucket ledger) (bucket_at v t ledger) (credits ledger) (λ c. refl) h.below
 
-pub distinct : (v t : ℕ) (ledger : Ledger) → AreCredited (credits ledger) (next_bucket ledger) →
+pub distinct : (v : ℕ → ℕ) (t : ℕ) (ledger : Ledger) →
+    AreCredited (credits ledger) (next_bucket ledger) →
     AreDistinct (buckets_at v t ledger)
 distinct v t ledger h = AreDistinct-map (bucket_at v t ledger) (credits ledger)
     (position_kept v t ledger) h.distinct

@@ -1,13 +1,18 @@
 -- For each open grant of a ledger as much is held as its units can cost.
 use Rattle.std.proofs.Common.{◌≡◌, ℕ, ◌+◌, ◌≤◌, Bool, true, false, List, [], ◌∷◌, ◌++◌, refl, sym}
 use Rattle.std.proofs.Common.{ap, subst, ◌∙◌, arith, Option, Some, None}
-use Rattle.std.specs.Prelude.{if◌then◌else◌, ◌==◌, sum_by, find}
+use Rattle.std.proofs.Common.{zero, suc}
+use Rattle.std.specs.Prelude.{if◌then◌else◌, ◌==◌, sum_by, find, slice_get, option_map}
+use Rattle.std.specs.Prelude.{option_and_then}
 use Rattle.std.specs.List.{All}
 use Rattle.std.proofs.lemmas.List.Elements.{All-head, All-tail}
+use Rattle.shelves.specs.Shelves.{Shelf, IsShelf, number_at, tariff_in}
+use Rattle.shelves.specs.declared.dated.DatedBook.{DatedBook}
+use Rattle.shelves.proofs.Begun.{book_within, last_begun_holds}
 use Rattle.tariffs.specs.Books.{Book, IsBook}
+use Rattle.reserving.specs.declared.session.Terms.{Terms}
 use Rattle.tariffs.specs.Tariffs.{GroupTariff, IsTariff}
 use Rattle.rating.specs.declared.grant.Grant.{Grant as RatedGrant}
-use Rattle.rating.specs.declared.grant.Periods.{Periods}
 use Rattle.units.specs.declared.blocks.UsedPart.{UsedPart}
 use Rattle.buckets.specs.declared.holds.Hold.{Hold}
 use Rattle.buckets.specs.Row.{Row, eligible_amount}
@@ -18,7 +23,8 @@ use Rattle.buckets.proofs.Parts.{sum_at, held_in-sum_at}
 use Rattle.reserving.specs.Ledger.{Fact, Ledger, or_else, inner, newest, last_recording, used}
 use Rattle.reserving.specs.Ledger.{counter, held, only, open_grant, grant_in, next_bucket}
 use Rattle.reserving.specs.Ledger.Fact.{Grant, End, Use, Touch, Close, Recorded, Barred}
-use Rattle.reserving.specs.Pricing.{tariff_of, cycle_at, periods_at}
+use Rattle.reserving.specs.Pricing.{tariff_of, tariff_at, cycle_at, periods_at, terms_at}
+use Rattle.reserving.specs.Pricing.{validity_of}
 use Rattle.reserving.specs.Balance.{credits, buckets_at}
 use Rattle.reserving.specs.Requests.{credited}
 use Rattle.reserving.specs.Settlement.{charge_facts, settled_by}
@@ -51,48 +57,67 @@ found_blocks g (x ∷ xs) h = by_test (x.group == g) (found_blocks g xs (All-tai
     by_test true rest = is.some_block
     by_test false rest = rest
 
-pub has_blocks : (b : Book) → IsBook b → (g : ℕ) → HasBlocks (tariff_of b g)
-has_blocks b is g = found_blocks g b.tariffs is.tariffs
+-- the tariff of a group in a book; and of a number on a shelf
+book_blocks : (b : Book) → IsBook b → (g : ℕ) → HasBlocks (tariff_of b g)
+book_blocks b is g = found_blocks g b.tariffs is.tariffs
+
+pub has_blocks : (b : Shelf) → IsShelf b → (n g : ℕ) → HasBlocks (tariff_in b n g)
+has_blocks b is zero g = tt
+has_blocks b is (suc zero) g = book_blocks b.first is.first g
+has_blocks b is (suc (suc i)) g = by_book (slice_get b.later i) refl
+  where
+    by_book : (o : Option DatedBook) → slice_get b.later i ≡ o →
+        HasBlocks (option_and_then (λ y. tariff_of y g) (option_map (λ d. d.book) o))
+    by_book None e = tt
+    by_book (Some d) e =
+        book_blocks d.book (book_within b.first 0 b.first b.later i d is.later e) g
+
+-- a number at a moment is that of the book at it
+pub numbered : (b : Shelf) (t g : ℕ) → IsShelf b → tariff_in b (number_at b t) g ≡ tariff_at b t g
+numbered b t g is =
+    ap (λ (o : Option Book). option_and_then (λ y. tariff_of y g) o) (last_begun_holds b t is).book
 
 -- ---- open grants
 
 -- what is held for a grant is at least what its units can cost; its session is recorded
-pub record IsCovered (b : Book) (s : List ℕ) (g : ℕ) (ledger : Ledger) (x : OpenGrant) :
+pub record IsCovered (b : Shelf) (s : List ℕ) (g : ℕ) (ledger : Ledger) (x : OpenGrant) :
     Type 0 where
-  pub periods : Periods
-  pub granted : open_grant s g ledger ≡ Some periods
+  pub terms : Terms
+  pub granted : open_grant s g ledger ≡ Some terms
   pub recorded : last_recording s ledger ≡ None → ⊥
-  pub held : grant_price (tariff_of b g) periods (used s g ledger) x.counter x.units ≤
+  pub held : grant_price (tariff_in b terms.book g) terms.periods (used s g ledger) x.counter
+      x.units ≤
       held_together s g ledger
 
-abbrev pub IsCoveredAt : Book → Ledger → List ℕ → ℕ → Type 0
+abbrev pub IsCoveredAt : Shelf → Ledger → List ℕ → ℕ → Type 0
 IsCoveredAt b ledger s g = (x : OpenGrant) → grant_open s g ledger ≡ Some x →
     IsCovered b s g ledger x
 
-abbrev pub AreCovered : Book → Ledger → Type 0
+abbrev pub AreCovered : Shelf → Ledger → Type 0
 AreCovered b ledger = (s : List ℕ) (g : ℕ) → IsCoveredAt b ledger s g
 
 -- where a grant is left as it was, it stays covered
-covered_left : (b : Book) (s : List ℕ) (g : ℕ) (new old : Ledger) → LeavesGrant s g new old →
+covered_left : (b : Shelf) (s : List ℕ) (g : ℕ) (new old : Ledger) → LeavesGrant s g new old →
     IsCoveredAt b old s g → IsCoveredAt b new s g
 covered_left b s g new old left h x e =
     let before : IsCovered b s g old x = h x (sym left.grant ∙ e) in
     record {
-      periods = before.periods;
-      granted = left.periods ∙ before.granted;
+      terms = before.terms;
+      granted = left.terms ∙ before.granted;
       recorded = λ none. before.recorded (left.recorded none);
       held = omega (
         arith,
         before.held,
         left.held,
-        ap (λ n. grant_price (tariff_of b g) before.periods n x.counter x.units) left.used,
+        ap (λ n. grant_price (tariff_in b before.terms.book g) before.terms.periods n x.counter
+            x.units) left.used,
       );
     }
 
-pub covered_none : (b : Book) → AreCovered b []
+pub covered_none : (b : Shelf) → AreCovered b []
 covered_none b s g x e = cc
 
-pub covered_quiet : (b : Book) (t : ℕ) (f : Fact) (ledger : Ledger) → is_quiet f ≡ true →
+pub covered_quiet : (b : Shelf) (t : ℕ) (f : Fact) (ledger : Ledger) → is_quiet f ≡ true →
     AreCovered b ledger → AreCovered b (record { at = t; fact = f } ∷ ledger)
 covered_quiet b t f ledger q h s g =
     covered_left b s g (record { at = t; fact = f } ∷ ledger) ledger
@@ -105,7 +130,7 @@ covered_quiet b t f ledger q h s g =
     untold (Barred barred) k = refl
     untold _ k = cc
 
-pub covered_credit : (b : Book) (t from until : ℕ) (scope : Option ℕ) (amount : ℕ)
+pub covered_credit : (b : Shelf) (t from until : ℕ) (scope : Option ℕ) (amount : ℕ)
     (ledger : Ledger) → AreCovered b ledger →
     AreCovered b (credited t from until scope amount ledger)
 covered_credit b t from until scope amount ledger h s g =
@@ -125,7 +150,7 @@ ended t session group ledger s g x own e =
     cc
 
 -- the end of a grant leaves the others
-covered_end : (b : Book) (t : ℕ) (session : List ℕ) (group : ℕ) (new old : Ledger) →
+covered_end : (b : Shelf) (t : ℕ) (session : List ℕ) (group : ℕ) (new old : Ledger) →
     ((s : List ℕ) (g : ℕ) → is_key session group s g ≡ false → LeavesGrant s g new old) →
     AreCovered b old → AreCovered b (record { at = t; fact = End session group } ∷ new)
 covered_end b t session group new old left h s g x = by_test (is_key session group s g) refl
@@ -151,7 +176,7 @@ leaves_use t session group units blocks rated short hs ledger s g other =
     (leaves_one s g t (Use session group units blocks rated short)
     (charge_facts t hs ++ ledger) other) (leaves_charges s g t hs ledger)
 
-pub covered_settle : (b : Book) (t : ℕ) (session : List ℕ) (group : ℕ) (used_parts : List UsedPart)
+pub covered_settle : (b : Shelf) (t : ℕ) (session : List ℕ) (group : ℕ) (used_parts : List UsedPart)
     (ledger : Ledger) → AreCovered b ledger →
     AreCovered b (settled_by b t session group used_parts ledger)
 covered_settle b t session group [] ledger h =
@@ -161,7 +186,7 @@ covered_settle b t session group (p ∷ ps) ledger h =
 
 -- ---- debits: of a session that has no grant
 
-pub covered_debit : (b : Book) (t : ℕ) (session : List ℕ) (group units : ℕ) (ledger : Ledger) →
+pub covered_debit : (b : Shelf) (t : ℕ) (session : List ℕ) (group units : ℕ) (ledger : Ledger) →
     last_recording session ledger ≡ None → AreCovered b ledger →
     AreCovered b (debited b t session group units ledger)
 covered_debit b t session group units ledger new h s g x = by_test (is_key session group s g) refl
@@ -171,7 +196,7 @@ covered_debit b t session group units ledger new h s g x = by_test (is_key sessi
 
     hs : List Hold
     hs = parts (paid [] group t (event_price b t group units ledger).amount.0
-        (buckets_at b.validity t ledger)) (buckets_at b.validity t ledger)
+        (buckets_at (validity_of b) t ledger)) (buckets_at (validity_of b) t ledger)
 
     by_test : (k : Bool) → is_key session group s g ≡ k → grant_open s g more ≡ Some x →
         IsCovered b s g more x
@@ -188,17 +213,17 @@ covered_debit b t session group units ledger new h s g x = by_test (is_key sessi
 -- ---- grants
 
 -- what a grant's holds have together is its amount, as the funds have it
-granted_together : (b : Book) (t : ℕ) (s : List ℕ) (g units amount : ℕ) (ledger : Ledger) →
+granted_together : (b : Shelf) (t : ℕ) (s : List ℕ) (g units amount : ℕ) (ledger : Ledger) →
     AreCredited (credits ledger) (next_bucket ledger) →
-    amount ≤ funds g t (buckets_at b.validity t ledger) →
+    amount ≤ funds g t (buckets_at (validity_of b) t ledger) →
     amount ≤ held_together s g (reserved b t s g units amount ledger)
 granted_together b t s g units amount ledger made le =
     let all : sum_by (λ c. sum_at c.number hs) (credits ledger) ≡ amount =
-    sym (sum_by-moved (λ n. sum_at n hs) b.validity t ledger (credits ledger))
+    sym (sum_by-moved (λ n. sum_at n hs) (validity_of b) t ledger (credits ledger))
     ∙ sym (summed rows)
     ∙ held_sum-parts (share (eligible_amount g t) rows amount) rows
-    (distinct b.validity t ledger made)
-    ∙ sum_by-share (eligible_amount g t) rows amount (in_order b.validity t ledger made)
+    (distinct (validity_of b) t ledger made)
+    ∙ sum_by-share (eligible_amount g t) rows amount (in_order (validity_of b) t ledger made)
     ∙ omega (arith, le) in
     omega (
       arith,
@@ -209,7 +234,7 @@ granted_together b t s g units amount ledger made le =
     )
   where
     rows : List Row
-    rows = buckets_at b.validity t ledger
+    rows = buckets_at (validity_of b) t ledger
 
     hs : List Hold
     hs = holds_of g t amount rows
@@ -229,23 +254,23 @@ granted_together b t s g units amount ledger made le =
         (credits-hold_facts t s g hs (with_grant b t s g units ledger))
 
 -- the grant itself
-covered_own : (b : Book) (t : ℕ) (s : List ℕ) (g units amount : ℕ) (ledger : Ledger) →
+covered_own : (b : Shelf) (t : ℕ) (s : List ℕ) (g units amount : ℕ) (ledger : Ledger) →
     AreCredited (credits ledger) (next_bucket ledger) → (last_recording s ledger ≡ None → ⊥) →
-    amount ≤ funds g t (buckets_at b.validity t ledger) →
-    grant_price (tariff_of b g) (periods_at b t) (used s g ledger)
+    amount ≤ funds g t (buckets_at (validity_of b) t ledger) →
+    grant_price (tariff_in b (number_at b t) g) (periods_at b t) (used s g ledger)
     (counter (cycle_at b g) g (cycle_at b g t) ledger) units ≤ amount →
     IsCoveredAt b (reserved b t s g units amount ledger) s g
 covered_own b t s g units amount ledger made recorded funded priced x e =
     subst (IsCovered b s g (reserved b t s g units amount ledger))
     (some_of here x (sym (left.grant ∙ opened) ∙ e)) (record {
-      periods = periods_at b t;
-      granted = left.periods ∙ given;
+      terms = terms_at b t;
+      granted = left.terms ∙ given;
       recorded = λ none. recorded (left.recorded none);
       held = omega (
         arith,
         priced,
         granted_together b t s g units amount ledger made funded,
-        ap (λ n. grant_price (tariff_of b g) (periods_at b t) n place units) usage,
+        ap (λ n. grant_price (tariff_in b (number_at b t) g) (periods_at b t) n place units) usage,
       );
     })
   where
@@ -259,20 +284,20 @@ covered_own b t s g units amount ledger made recorded funded priced x e =
     first = with_grant b t s g units ledger
 
     left : LeavesGrant s g (reserved b t s g units amount ledger) first
-    left = leaves_holds s g t s g (holds_of g t amount (buckets_at b.validity t ledger)) first
+    left = leaves_holds s g t s g (holds_of g t amount (buckets_at (validity_of b) t ledger)) first
 
     opened : grant_open s g first ≡ Some here
     opened = λ i. inner (or_else (if own_key s g i then Some (Some here) else None)
         (newest (grant_told s g) ledger))
 
-    given : open_grant s g first ≡ Some (periods_at b t)
-    given = λ i. inner (or_else (if own_key s g i then Some (Some (periods_at b t)) else None)
+    given : open_grant s g first ≡ Some (terms_at b t)
+    given = λ i. inner (or_else (if own_key s g i then Some (Some (terms_at b t)) else None)
         (newest (grant_in s g) ledger))
 
     usage : used s g (reserved b t s g units amount ledger) ≡ used s g ledger
     usage = omega (arith, left.used)
 
-pub covered_grant : (b : Book) → IsBook b →
+pub covered_grant : (b : Shelf) → IsShelf b →
     (t : ℕ) (session : List ℕ) (group : ℕ) (asked : Option ℕ) (ledger : Ledger) →
     AreCredited (credits ledger) (next_bucket ledger) → (last_recording session ledger ≡ None → ⊥) →
     AreCovered b ledger → AreCovered b (granted b t session group asked ledger)
@@ -286,7 +311,7 @@ covered_grant b is t session group asked ledger made recorded h s g =
     place = counter (cycle_at b group) group (cycle_at b group t) ledger
 
     money : ℕ
-    money = funds group t (buckets_at b.validity t ledger)
+    money = funds group t (buckets_at (validity_of b) t ledger)
 
     grant : RatedGrant
     grant = grant_for b t group before asked ledger
@@ -296,16 +321,18 @@ covered_grant b is t session group asked ledger made recorded h s g =
 
     own : IsCoveredAt b more session group
     own = covered_own b t session group grant.units.0 grant.amount.0 ledger made recorded
-        (grant_within (tariff_of b group) (periods_at b t) before place asked money)
-        (grant_covers (tariff_of b group) (periods_at b t) before place asked money
-        (has_blocks b is group))
+        (grant_within (tariff_at b t group) (periods_at b t) before place asked money)
+        (subst (λ (o : Option GroupTariff). grant_price o (periods_at b t) before place
+        grant.units.0 ≤ grant.amount.0) (sym (numbered b t group is))
+        (grant_covers (tariff_at b t group) (periods_at b t) before place asked money
+        (subst HasBlocks (numbered b t group is) (has_blocks b is (number_at b t) group))))
 
     others : is_key session group s g ≡ false → LeavesGrant s g more ledger
     others other = leaves_both s g more (with_grant b t session group grant.units.0 ledger) ledger
         (leaves_holds s g t session group
-        (holds_of group t grant.amount.0 (buckets_at b.validity t ledger))
+        (holds_of group t grant.amount.0 (buckets_at (validity_of b) t ledger))
         (with_grant b t session group grant.units.0 ledger))
-        (leaves_one s g t (Grant session group (periods_at b t) grant.units.0 place) ledger other)
+        (leaves_one s g t (Grant session group (terms_at b t) grant.units.0 place) ledger other)
 
     by_test : (k : Bool) → is_key session group s g ≡ k → IsCoveredAt b more s g
     by_test true same = subst (λ n. IsCoveredAt b more s n) (key_group session group s g same)

@@ -24,7 +24,7 @@ held_together s g ledger = sum_by (λ c. held (only s g) c.number ledger) (credi
 -- a grant is told alike, and no less is held for it
 pub record LeavesGrant (s : List ℕ) (g : ℕ) (new old : Ledger) : Type 0 where
   pub grant : grant_open s g new ≡ grant_open s g old
-  pub periods : open_grant s g new ≡ open_grant s g old
+  pub terms : open_grant s g new ≡ open_grant s g old
   pub used : used s g new ≡ used s g old
   pub recorded : last_recording s new ≡ None → last_recording s old ≡ None
   pub held : held_together s g old ≤ held_together s g new
@@ -33,7 +33,7 @@ pub leaves_both : (s : List ℕ) (g : ℕ) (new mid old : Ledger) → LeavesGran
     LeavesGrant s g mid old → LeavesGrant s g new old
 leaves_both s g new mid old x y = record {
   grant = x.grant ∙ y.grant;
-  periods = x.periods ∙ y.periods;
+  terms = x.terms ∙ y.terms;
   used = x.used ∙ y.used;
   recorded = λ e. y.recorded (x.recorded e);
   held = omega (arith, x.held, y.held);
@@ -42,7 +42,7 @@ leaves_both s g new mid old x y = record {
 pub leaves_same : (s : List ℕ) (g : ℕ) (ledger : Ledger) → LeavesGrant s g ledger ledger
 leaves_same s g ledger = record {
   grant = refl;
-  periods = refl;
+  terms = refl;
   used = refl;
   recorded = λ e. e;
   held = omega arith;
@@ -52,7 +52,7 @@ leaves_same s g ledger = record {
 
 -- a fact of a session's group that begins or ends a grant, or is a use
 abbrev pub tells : List ℕ → ℕ → Fact → Bool
-tells s g (Grant session group periods units counter) = is_key session group s g
+tells s g (Grant session group terms units counter) = is_key session group s g
 tells s g (End session group) = is_key session group s g
 tells s g (Use session group units blocks rated uncollected) = is_key session group s g
 tells s g _ = false
@@ -101,22 +101,22 @@ pub leaves_one : (s : List ℕ) (g t : ℕ) (f : Fact) (ledger : Ledger) → tel
 leaves_one s g t (Credit number from until scope amount) ledger h =
     record {
       grant = refl;
-      periods = refl;
+      terms = refl;
       used = omega arith;
       recorded = λ e. e;
       held = credit_held t number from until scope amount s g ledger;
     }
-leaves_one s g t (Grant session group periods units counter) ledger h = record {
+leaves_one s g t (Grant session group terms units counter) ledger h = record {
   grant = rw h refl;
-  periods = rw h refl;
+  terms = rw h refl;
   used = omega arith;
   recorded = λ e. e;
-  held = each_most s g (in_front t (Grant session group periods units counter) ledger) ledger
+  held = each_most s g (in_front t (Grant session group terms units counter) ledger) ledger
       (credits ledger) (λ n. omega arith);
 }
 leaves_one s g t (HoldFact session group bucket amount) ledger h = record {
   grant = refl;
-  periods = refl;
+  terms = refl;
   used = omega arith;
   recorded = λ e. e;
   held = each_most s g (in_front t (HoldFact session group bucket amount) ledger) ledger
@@ -124,7 +124,7 @@ leaves_one s g t (HoldFact session group bucket amount) ledger h = record {
 }
 leaves_one s g t (End session group) ledger h = record {
   grant = rw h refl;
-  periods = rw h refl;
+  terms = rw h refl;
   used = omega arith;
   recorded = λ e. e;
   held = each_most s g (in_front t (End session group) ledger) ledger (credits ledger)
@@ -136,7 +136,7 @@ leaves_one s g t (End session group) ledger h = record {
 }
 leaves_one s g t (Use session group units blocks rated uncollected) ledger h = record {
   grant = refl;
-  periods = refl;
+  terms = refl;
   used = (let none : (if is_key session group s g then units else 0) ≡ 0 =
       rw h refl in omega (arith, none));
   recorded = λ e. e;
@@ -146,7 +146,7 @@ leaves_one s g t (Use session group units blocks rated uncollected) ledger h = r
 leaves_one s g t (Charge bucket amount) ledger h =
     record {
       grant = refl;
-      periods = refl;
+      terms = refl;
       used = omega arith;
       recorded = λ e. e;
       held = each_most s g (in_front t (Charge bucket amount) ledger) ledger (credits ledger)
@@ -155,7 +155,7 @@ leaves_one s g t (Charge bucket amount) ledger h =
 leaves_one s g t (Touch session) ledger h =
     record {
       grant = refl;
-      periods = refl;
+      terms = refl;
       used = omega arith;
       recorded = λ e. e;
       held = each_most s g (in_front t (Touch session) ledger) ledger (credits ledger)
@@ -164,7 +164,7 @@ leaves_one s g t (Touch session) ledger h =
 leaves_one s g t (Close session) ledger h =
     record {
       grant = refl;
-      periods = refl;
+      terms = refl;
       used = omega arith;
       recorded = λ e. e;
       held = each_most s g (in_front t (Close session) ledger) ledger (credits ledger)
@@ -173,7 +173,7 @@ leaves_one s g t (Close session) ledger h =
 leaves_one s g t (Barred barred) ledger h =
     record {
       grant = refl;
-      periods = refl;
+      terms = refl;
       used = omega arith;
       recorded = λ e. e;
       held = each_most s g (in_front t (Barred barred) ledger) ledger (credits ledger)
@@ -181,7 +181,7 @@ leaves_one s g t (Barred barred) ledger h =
     }
 leaves_one s g t (Recorded session number) ledger h = record {
   grant = refl;
-  periods = refl;
+  terms = refl;
   used = omega arith;
   recorded = by_test (is_same session s);
   held = each_most s g (in_front t (Recorded session number) ledger) ledger (credits ledger)

@@ -1,7 +1,7 @@
 -- A ledger only grows, at its front.
 use Rattle.std.proofs.Common.{ℕ, List, [], ◌∷◌, ◌++◌, Option, refl, ap}
 use Rattle.commands.specs.declared.request.Request.{Request}
-use Rattle.tariffs.specs.Books.{Book}
+use Rattle.shelves.specs.Shelves.{Shelf}
 use Rattle.units.specs.declared.blocks.UsedPart.{UsedPart}
 use Rattle.reserving.specs.Ledger.{Dated, Ledger}
 use Rattle.reserving.specs.Requests.{credited}
@@ -18,12 +18,12 @@ many : (old new xs : Ledger) → Extends old new → Extends old (xs ++ new)
 many old new [] h = h
 many old new (x ∷ xs) h = more old (xs ++ new) x (many old new xs h)
 
-settled_more : (b : Book) (t : ℕ) (s : List ℕ) (g : ℕ) (used_parts : List UsedPart)
+settled_more : (b : Shelf) (t : ℕ) (s : List ℕ) (g : ℕ) (used_parts : List UsedPart)
     (old ledger : Ledger) → Extends old ledger → Extends old (settled_by b t s g used_parts ledger)
 settled_more b t s g [] old ledger h = more old ledger _ h
 settled_more b t s g (p ∷ ps) old ledger h = many old ledger (_ ∷ _ ∷ _) h
 
-keeps_extends : (b : Book) (old : Ledger) → Keeps b (λ reports ledger. Extends old ledger)
+keeps_extends : (b : Shelf) (old : Ledger) → Keeps b (λ reports ledger. Extends old ledger)
 keeps_extends b old = record {
   quiet = λ t f reports ledger q n fits h. more old ledger _ h;
   touch = λ t s n reports ledger h. more old _ _ (more old ledger _ h);
@@ -47,7 +47,7 @@ pub one_credit : (t from until : ℕ) (scope : Option ℕ) (amount : ℕ) (ledge
 one_credit t from until scope amount ledger = one_more _ ledger
 
 -- by a request
-pub grown : (b : Book) (t : ℕ) (r : Request) (ledger : Ledger) →
+pub grown : (b : Shelf) (t : ℕ) (r : Request) (ledger : Ledger) →
     Extends ledger (decision b t r ledger).after
 grown b t r ledger = kept_decided b (λ reports after. Extends ledger after)
     (keeps_extends b ledger) t r.session r.number r.ask [] ledger (same ledger)

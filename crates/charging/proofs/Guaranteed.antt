@@ -2,17 +2,18 @@
 use Rattle.std.proofs.Common.{◌≡◌, ℕ, ◌≤◌, true, List, [], ◌∷◌, ◌++◌, refl, sym, ap, subst, ◌∙◌}
 use Rattle.std.proofs.Common.{arith, Option, Some}
 use Rattle.std.specs.Prelude.{unwrap_or}
-use Rattle.calendar.specs.Timetable.{period_at}
-use Rattle.tariffs.specs.Books.{Book, IsBook}
+use Rattle.tariffs.specs.Tariffs.{GroupTariff}
+use Rattle.shelves.specs.Shelves.{Shelf, IsShelf, tariff_in}
 use Rattle.rating.specs.declared.grant.Grant.{Grant as RatedGrant}
 use Rattle.units.specs.declared.blocks.UsedPart.{UsedPart}
 use Rattle.buckets.specs.declared.holds.Hold.{Hold}
 use Rattle.buckets.specs.Holding.{held_sum, holds_of, uncollected}
 use Rattle.reserving.specs.Ledger.{Fact, Ledger, used, counter, held, only, next_bucket}
 use Rattle.reserving.specs.Ledger.Fact.{Touch, Close, Recorded, Barred}
-use Rattle.reserving.specs.Pricing.{tariff_of, cycle_at, one_period, rated_with}
+use Rattle.reserving.specs.Pricing.{cycle_at, terms_now, rated_with, validity_of}
 use Rattle.reserving.specs.Balance.{credits, buckets_at}
 use Rattle.reserving.specs.Sessions.{holds_at}
+use Rattle.reserving.specs.Settlement.{price_by}
 use Rattle.reserving.specs.Settlement.{reported, report_price, charge_facts, settled_by, missing}
 use Rattle.reserving.specs.Reservation.{hold_facts, grant_for}
 use Rattle.reserving.specs.Debiting.{debited}
@@ -31,24 +32,24 @@ use Rattle.charging.proofs.GrantsHeld.{covered_grant}
 
 -- what each ledger of an account keeps: it is paid, its open grants are covered, and its uses
 -- within them are collected
-pub record IsGuaranteed (b : Book) (reports : List Report) (ledger : Ledger) : Type 0 where
+pub record IsGuaranteed (b : Shelf) (reports : List Report) (ledger : Ledger) : Type 0 where
   pub paying : IsPaying b reports ledger
   pub covered : AreCovered b ledger
   pub quotas : AreQuotasPaid b ledger
 
 -- ---- facts that are no uses
 
-AreQuotasPaid-charges : (b : Book) (t : ℕ) (hs : List Hold) (ledger : Ledger) →
+AreQuotasPaid-charges : (b : Shelf) (t : ℕ) (hs : List Hold) (ledger : Ledger) →
     AreQuotasPaid b ledger → AreQuotasPaid b (charge_facts t hs ++ ledger)
 AreQuotasPaid-charges b t [] ledger h = h
 AreQuotasPaid-charges b t (x ∷ xs) ledger h = (tt, AreQuotasPaid-charges b t xs ledger h)
 
-AreQuotasPaid-holds : (b : Book) (t : ℕ) (s : List ℕ) (g : ℕ) (hs : List Hold) (ledger : Ledger) →
+AreQuotasPaid-holds : (b : Shelf) (t : ℕ) (s : List ℕ) (g : ℕ) (hs : List Hold) (ledger : Ledger) →
     AreQuotasPaid b ledger → AreQuotasPaid b (hold_facts t s g hs ++ ledger)
 AreQuotasPaid-holds b t s g [] ledger h = h
 AreQuotasPaid-holds b t s g (x ∷ xs) ledger h = (tt, AreQuotasPaid-holds b t s g xs ledger h)
 
-quiet_quotas : (b : Book) (t : ℕ) (f : Fact) (ledger : Ledger) → is_quiet f ≡ true →
+quiet_quotas : (b : Shelf) (t : ℕ) (f : Fact) (ledger : Ledger) → is_quiet f ≡ true →
     AreQuotasPaid b ledger → AreQuotasPaid b (record { at = t; fact = f } ∷ ledger)
 quiet_quotas b t (Touch s) ledger q h = (tt, h)
 quiet_quotas b t (Close s) ledger q h = (tt, h)
@@ -59,7 +60,7 @@ quiet_quotas b t _ ledger q h = cc
 -- ---- a report
 
 -- what a session's reservation has together is what is held for it
-held_at : (v t : ℕ) (s : List ℕ) (g : ℕ) (ledger : Ledger) →
+held_at : (v : ℕ → ℕ) (t : ℕ) (s : List ℕ) (g : ℕ) (ledger : Ledger) →
     AreCredited (credits ledger) (next_bucket ledger) →
     held_sum (holds_at v t s g ledger) (buckets_at v t ledger) ≡ held_together s g ledger
 held_at v t s g ledger made =
@@ -67,39 +68,40 @@ held_at v t s g ledger made =
     (distinct v t ledger made)
     ∙ sum_by-moved (λ n. held (only s g) n ledger) v t ledger (credits ledger)
 
-within_grant : (b : Book) → IsBook b →
+within_grant : (b : Shelf) → IsShelf b →
     (t : ℕ) (s : List ℕ) (g : ℕ) (used_parts : List UsedPart) (reports : List Report)
     (ledger : Ledger) → IsGuaranteed b reports ledger →
     (x : OpenGrant) → grant_open s g ledger ≡ Some x → reported used_parts ≤ x.units →
     counter (cycle_at b g) g (cycle_at b g t) ledger ≡ x.counter →
-    uncollected (holds_at b.validity t s g ledger) g t
-    (report_price b t s g used_parts ledger).amount.0 (buckets_at b.validity t ledger) ≡ 0
+    uncollected (holds_at (validity_of b) t s g ledger) g t
+    (report_price b t s g used_parts ledger).amount.0 (buckets_at (validity_of b) t ledger) ≡ 0
 within_grant b is t s g used_parts reports ledger h x e le place_is =
     let covered : IsCovered b s g ledger x = h.covered s g x e in
     let place : ℕ = counter (cycle_at b g) g (cycle_at b g t) ledger in
     let before : ℕ = used s g ledger in
     let price : (report_price b t s g used_parts ledger).amount.0 ≡
-    (rated_with (tariff_of b g) covered.periods before place used_parts).amount.0 =
-    ap
-    (λ o. (rated_with (tariff_of b g) (unwrap_or o (one_period (period_at b.calendar t))) before
-    place used_parts).amount.0) covered.granted in
-    let most : (rated_with (tariff_of b g) covered.periods before place used_parts).amount.0 ≤
-    grant_price (tariff_of b g) covered.periods before place x.units =
-    report_within (tariff_of b g) covered.periods before place x.units used_parts
-    (has_blocks b is g) le in
-    let moved : grant_price (tariff_of b g) covered.periods before place x.units ≡
-    grant_price (tariff_of b g) covered.periods before x.counter x.units =
-    ap (λ n. grant_price (tariff_of b g) covered.periods before n x.units) place_is in
+    (rated_with (tariff_in b covered.terms.book g) covered.terms.periods before place
+    used_parts).amount.0 =
+    ap (λ o. (price_by b g (unwrap_or o (terms_now b t)) before place used_parts).amount.0)
+    covered.granted in
+    let o : Option GroupTariff = tariff_in b covered.terms.book g in
+    let most : (rated_with o covered.terms.periods before place used_parts).amount.0 ≤
+    grant_price o covered.terms.periods before place x.units =
+    report_within o covered.terms.periods before place x.units used_parts
+    (has_blocks b is covered.terms.book g) le in
+    let moved : grant_price o covered.terms.periods before place x.units ≡
+    grant_price o covered.terms.periods before x.counter x.units =
+    ap (λ n. grant_price o covered.terms.periods before n x.units) place_is in
     omega (
       arith,
       price,
       most,
       moved,
       covered.held,
-      held_at b.validity t s g ledger h.paying.credits,
+      held_at (validity_of b) t s g ledger h.paying.credits,
     )
 
-settled_quotas : (b : Book) → IsBook b →
+settled_quotas : (b : Shelf) → IsShelf b →
     (t : ℕ) (s : List ℕ) (g : ℕ) (used_parts : List UsedPart) (reports : List Report)
     (ledger : Ledger) → IsGuaranteed b reports ledger →
     AreQuotasPaid b (settled_by b t s g used_parts ledger)
@@ -115,19 +117,19 @@ settled_quotas b is t s g (p ∷ ps) reports ledger h =
       ),
     )
 
-granted_quotas : (b : Book) (t : ℕ) (s : List ℕ) (g : ℕ) (asked : Option ℕ) (ledger : Ledger) →
+granted_quotas : (b : Shelf) (t : ℕ) (s : List ℕ) (g : ℕ) (asked : Option ℕ) (ledger : Ledger) →
     AreQuotasPaid b ledger → AreQuotasPaid b (granted b t s g asked ledger)
 granted_quotas b t s g asked ledger h =
     let grant : RatedGrant = grant_for b t g (used s g ledger) asked ledger in
-    AreQuotasPaid-holds b t s g (holds_of g t grant.amount.0 (buckets_at b.validity t ledger))
+    AreQuotasPaid-holds b t s g (holds_of g t grant.amount.0 (buckets_at (validity_of b) t ledger))
     (with_grant b t s g grant.units.0 ledger) (tt, h)
 
 -- ---- each step
 
-pub guaranteed_none : (b : Book) → IsGuaranteed b [] []
+pub guaranteed_none : (b : Shelf) → IsGuaranteed b [] []
 guaranteed_none b = record { paying = paying_none b; covered = covered_none b; quotas = tt }
 
-pub keeps_guaranteed : (b : Book) → IsBook b → Keeps b (IsGuaranteed b)
+pub keeps_guaranteed : (b : Shelf) → IsShelf b → Keeps b (IsGuaranteed b)
 keeps_guaranteed b is = record {
   quiet = λ t f reports ledger q n fits h. record {
     paying = paying.quiet t f reports ledger q n fits h.paying;

@@ -16,7 +16,7 @@ use Rattle.commands.specs.declared.request.EventAction.TheVariants.{PriceEnquiry
 use Rattle.commands.specs.declared.service.Service.{Service}
 use Rattle.commands.specs.declared.service.Requested.{Requested}
 use Rattle.commands.specs.Refunds.{Refunded}
-use Rattle.tariffs.specs.Books.{Book}
+use Rattle.shelves.specs.Shelves.{Shelf, book_at}
 use Rattle.tariffs.specs.Tariffs.{GroupTariff}
 use Rattle.rating.specs.declared.grant.Grant.{Grant as RatedGrant}
 use Rattle.units.specs.declared.blocks.UsedPart.{UsedPart}
@@ -29,7 +29,7 @@ use Rattle.reserving.specs.Ledger.{next_bucket}
 use Rattle.reserving.specs.Ledger.Fact.{Close, Recorded}
 use Rattle.reserving.specs.Balance.{buckets_at}
 use Rattle.reserving.specs.Sessions.{holds_at}
-use Rattle.reserving.specs.Pricing.{tariff_of}
+use Rattle.reserving.specs.Pricing.{tariff_at, validity_of}
 use Rattle.reserving.specs.Requests.{recorded, touched, credited}
 use Rattle.reserving.specs.Settlement.{charge_facts, report_price, settled_by}
 use Rattle.reserving.specs.Reservation.{hold_facts, reserved, grant_for}
@@ -53,14 +53,14 @@ use Rattle.charging.specs.Paid.{is_touched}
 use Rattle.charging.proofs.Steps.{with_grant, Keeps}
 
 -- a grant leaves its session recorded
-recorded_granted : (b : Book) (t : ℕ) (s : List ℕ) (g units amount : ℕ) (ledger : Ledger) →
+recorded_granted : (b : Shelf) (t : ℕ) (s : List ℕ) (g units amount : ℕ) (ledger : Ledger) →
     last_recording s (reserved b t s g units amount ledger) ≡ last_recording s ledger
 recorded_granted b t s g units amount ledger =
     newest-front (recording_in s)
-    (hold_facts t s g (holds_of g t amount (buckets_at b.validity t ledger)))
+    (hold_facts t s g (holds_of g t amount (buckets_at (validity_of b) t ledger)))
     (with_grant b t s g units ledger)
     (each_hold (λ d. recording_in s d ≡ None) t s g
-    (holds_of g t amount (buckets_at b.validity t ledger)) (λ x n. refl))
+    (holds_of g t amount (buckets_at (validity_of b) t ledger)) (λ x n. refl))
 
 -- ---- a session's requests are of one that was touched
 
@@ -70,14 +70,14 @@ touched-charges s t [] ledger = refl
 touched-charges s t (h ∷ hs) ledger = touched-charges s t hs ledger
 
 -- a settlement touches nothing
-touched-settled : (b : Book) (t : ℕ) (s : List ℕ) (session : List ℕ) (g : ℕ)
+touched-settled : (b : Shelf) (t : ℕ) (s : List ℕ) (session : List ℕ) (g : ℕ)
     (used_parts : List UsedPart) (ledger : Ledger) →
     last_touch s (settled_by b t session g used_parts ledger) ≡ last_touch s ledger
 touched-settled b t s session g [] ledger = refl
 touched-settled b t s session g (p ∷ ps) ledger =
-    let rows = buckets_at b.validity t ledger in
+    let rows = buckets_at (validity_of b) t ledger in
     touched-charges s t (parts
-    (paid (holds_at b.validity t session g ledger) g t
+    (paid (holds_at (validity_of b) t session g ledger) g t
     (report_price b t session g (p ∷ ps) ledger).amount.0 rows) rows) ledger
 
 either-touched : (s : List ℕ) (c : Bool) (x y : Ledger) → is_touched s x ≡ true →
@@ -85,11 +85,11 @@ either-touched : (s : List ℕ) (c : Bool) (x y : Ledger) → is_touched s x ≡
 either-touched s true x y p q = p
 either-touched s false x y p q = q
 
-within-some : (v t : ℕ) (o : Option ℕ) → is_within v t o ≡ true → is_some o ≡ true
+within-some : (v : ℕ → ℕ) (t : ℕ) (o : Option ℕ) → is_within v t o ≡ true → is_some o ≡ true
 within-some v t None e = e
 within-some v t (Some at) e = refl
 
-touched-live : (v t : ℕ) (s : List ℕ) (ledger : Ledger) → is_live v t ledger s ≡ true →
+touched-live : (v : ℕ → ℕ) (t : ℕ) (s : List ℕ) (ledger : Ledger) → is_live v t ledger s ≡ true →
     is_touched s ledger ≡ true
 touched-live v t s ledger e =
     within-some v t (last_touch s ledger)
@@ -101,7 +101,7 @@ allowed-live : (live : Bool) (other limit : Option Failure) →
 allowed-live true other limit e = refl
 allowed-live false other limit e = absurd (no_some UnknownSessionId (sym e))
 
-module _ (b : Book) (P : List Report → Ledger → Type 0) (k : Keeps b P)
+module _ (b : Shelf) (P : List Report → Ledger → Type 0) (k : Keeps b P)
     (reports : List Report) where
   abbrev IsKept : Ledger → Type 0
   IsKept ledger = P reports ledger
@@ -174,7 +174,7 @@ module _ (b : Book) (P : List Report → Ledger → Type 0) (k : Keeps b P)
   kept_grants t s [] ledger h = h.1
   kept_grants t s (x ∷ xs) ledger h =
       kept_grants t s xs (granted b t s x ledger).after
-      (open_by (tariff_of b x.group) t s x ledger h)
+      (open_by (tariff_at b t x.group) t s x ledger h)
 
   open_touched : (t : ℕ) (s : List ℕ) (n : ℕ) (ledger : Ledger) → IsKept ledger →
       IsOpen s (touched t s n ledger)
@@ -191,11 +191,12 @@ module _ (b : Book) (P : List Report → Ledger → Type 0) (k : Keeps b P)
   kept_initial : (t : ℕ) (s : List ℕ) (n : ℕ) (services : List Service) (ledger : Ledger) →
       IsKept ledger → IsKept (decided b t s n (Initial services) ledger).after
   kept_initial t s n services ledger h =
-      unless_refused (initial_refusal b s services ledger) ledger
+      unless_refused (initial_refusal (book_at b t) s services ledger) ledger
       (opened_unless_barred b t s n services ledger) h
       (λ free.
       let new : last_recording s ledger ≡ None =
-      new_name s (last_recording s ledger) (option_map invalid (units_fault b s ledger services))
+      new_name s (last_recording s ledger)
+      (option_map invalid (units_fault (book_at b t) s ledger services))
       free in
       either_decision (is_barred ledger) _ (opened b t s n services ledger)
       (λ e. kept_recorded t s n ledger new h)
@@ -220,24 +221,28 @@ module _ (b : Book) (P : List Report → Ledger → Type 0) (k : Keeps b P)
   kept_debit : (t : ℕ) (s : List ℕ) (n : ℕ) (e : Event) (ledger : Ledger) → IsKept ledger →
       IsKept (debit_decision b t s n e ledger).after
   kept_debit t s n e ledger h =
-      unless_refused (debit_refusal b s e ledger) ledger (charged_unless_barred b t s n e ledger) h
+      unless_refused (debit_refusal (book_at b t) s e ledger) ledger
+      (charged_unless_barred b t s n e ledger) h
       (λ free.
       let new : last_recording s ledger ≡ None =
-      new_name s (last_recording s ledger) (option_map invalid (event_fault b e)) free in
+      new_name s (last_recording s ledger) (option_map invalid (event_fault (book_at b t) e))
+      free in
       either_decision (is_barred ledger) _
-      (charged_by (tariff_of b e.group) b t s n e ledger) (λ p. kept_recorded t s n ledger new h)
-      (λ p. kept_charged (tariff_of b e.group) t s n e ledger new h))
+      (charged_by (tariff_at b t e.group) b t s n e ledger) (λ p. kept_recorded t s n ledger new h)
+      (λ p. kept_charged (tariff_at b t e.group) t s n e ledger new h))
 
   kept_event : (action : EventAction) (t : ℕ) (s : List ℕ) (n : ℕ) (e : Event) (ledger : Ledger) →
       IsKept ledger → IsKept (decided_action action b t s n e ledger).after
   kept_event DirectDebiting t s n e ledger h = kept_debit t s n e ledger h
-  kept_event CheckBalance t s n e ledger h = unless_refused (read_refusal b e) ledger _ h (λ p. h)
-  kept_event PriceEnquiry t s n e ledger h = unless_refused (read_refusal b e) ledger _ h (λ p. h)
+  kept_event CheckBalance t s n e ledger h = unless_refused (read_refusal (book_at b t) e)
+      ledger _ h (λ p. h)
+  kept_event PriceEnquiry t s n e ledger h = unless_refused (read_refusal (book_at b t) e)
+      ledger _ h (λ p. h)
 
   kept_refund : (t : ℕ) (s : List ℕ) (n : ℕ) (r : Refunded) (ledger : Ledger) → IsKept ledger →
       IsKept (refund_decision b t s n r ledger).after
   kept_refund t s n r ledger h =
-      unless_refused (refund_refusal b s r ledger) ledger (refunded t s n r ledger) h
+      unless_refused (refund_refusal (book_at b t) s r ledger) ledger (refunded t s n r ledger) h
       (λ free. either_decision (nat_lt 4294967295 (next_bucket ledger)) _ _ (λ p. h)
       (λ p. kept_recorded t s n (credited t t 4102444800 None r.micros ledger)
       (new_name s (last_recording s ledger) _ free)
@@ -251,7 +256,7 @@ unreported : (P : List Report → Ledger → Type 0) (accepted : Bool) (reports 
 unreported P true reports ledger h = h
 unreported P false reports ledger h = h
 
-module _ (b : Book) (P : List Report → Ledger → Type 0) (k : Keeps b P) where
+module _ (b : Shelf) (P : List Report → Ledger → Type 0) (k : Keeps b P) where
   either_settled : (c : Bool) (more reports : List Report) (x y : Ledger) → P more x → P reports y →
       P (if c then more else reports) (if c then x else y)
   either_settled true more reports x y p q = p
@@ -263,10 +268,11 @@ module _ (b : Book) (P : List Report → Ledger → Type 0) (k : Keeps b P) wher
   kept_services t s [] reports ledger touches h = h
   kept_services t s (x ∷ xs) reports ledger touches h =
       kept_services t s xs _ (settled_service b t s x ledger)
-      (either-touched s (is_known b x.group) (settled_by b t s x.group (parts_of x.used) ledger)
+      (either-touched s (is_known (book_at b t) x.group)
+      (settled_by b t s x.group (parts_of x.used) ledger)
       ledger (ap is_some (touched-settled b t s s x.group (parts_of x.used) ledger) ∙ touches)
       touches)
-      (either_settled (is_known b x.group) _ reports
+      (either_settled (is_known (book_at b t) x.group) _ reports
       (settled_by b t s x.group (parts_of x.used) ledger) ledger
       (k.settle t s x.group (parts_of x.used) reports ledger touches h) h)
 
@@ -279,7 +285,8 @@ module _ (b : Book) (P : List Report → Ledger → Type 0) (k : Keeps b P) wher
       (refused_or (session_refusal b t s n services ledger) ledger d).after
   kept_session t s n services reports ledger d done h f =
       at (session_refusal b t s n services ledger)
-      (λ e. touched-live b.validity t s ledger (allowed-live (is_live b.validity t ledger s) _ _ e))
+      (λ e. touched-live (validity_of b) t s ledger
+      (allowed-live (is_live (validity_of b) t ledger s) _ _ e))
     where
       more : List Report
       more = with_services b t s services reports

@@ -17,7 +17,7 @@ use Rattle.redemptions.specs.declared.redeeming.RedeemRefusal.{RedeemRefusal}
 use Rattle.redemptions.specs.declared.voucher.Voucher.{Voucher}
 use Rattle.redemptions.specs.Adding.{addition}
 use Rattle.redemptions.specs.Redeeming.{redemption}
-use Rattle.tariffs.specs.Books.{Book}
+use Rattle.shelves.specs.Shelves.{Shelf}
 use Rattle.reserving.specs.Ledger.{Ledger}
 use Rattle.reserving.specs.Ledger.Fact.{Barred}
 use Rattle.decisions.specs.Decided.{Decision}
@@ -36,7 +36,7 @@ use Rattle.charging.specs.SessionReports.{Report, with_ask, with_reports, report
 use Rattle.charging.proofs.Steps.{Keeps}
 use Rattle.charging.proofs.KeptDecisions.{kept_decided}
 
-module _ (b : Book) (P : List Report → Ledger → Type 0) (k : Keeps b P) where
+module _ (b : Shelf) (P : List Report → Ledger → Type 0) (k : Keeps b P) where
   -- what a command comes to, with its reports where it is accepted
   abbrev IsKept : Command → ℕ → List Report → Outcome → Type 0
   IsKept c t reports o = P (if o.accepted then with_reports b t c reports else reports)

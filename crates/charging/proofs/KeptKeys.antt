@@ -22,14 +22,14 @@ use Rattle.commands.specs.declared.request.EventAction.{EventAction}
 use Rattle.commands.specs.declared.request.EventAction.TheVariants as action
 use Rattle.commands.specs.declared.request.Request.{Request}
 use Rattle.redemptions.specs.declared.voucher.Voucher.{Voucher}
-use Rattle.tariffs.specs.Books.{Book}
+use Rattle.shelves.specs.Shelves.{Shelf, book_at}
 use Rattle.reserving.specs.Ledger.{Ledger}
 use Rattle.reserving.proofs.Lists.{no_some}
 use Rattle.decisions.specs.Decided.{refused_or, told as told_of}
 use Rattle.decisions.specs.Events.{is_read_action, decided_action, read_refusal, checked_by}
 use Rattle.decisions.specs.Events.{priced_by}
 use Rattle.decisions.specs.Decisions.{decision, decided, answer_of, is_read}
-use Rattle.reserving.specs.Pricing.{tariff_of}
+use Rattle.reserving.specs.Pricing.{tariff_at}
 use Rattle.keepers.specs.declared.key.KeptAnswer.{KeptAnswer}
 use Rattle.keepers.specs.Keys.{key_of}
 use Rattle.charging.specs.Histories.{History, kept_under}
@@ -110,16 +110,16 @@ told_or : (o : Option Failure) (ledger : Ledger) (outcome : RequestOutcome) →
 told_or None ledger outcome = refl
 told_or (Some failure) ledger outcome = refl
 
-read_action : (x : EventAction) (b : Book) (t : ℕ) (s : List ℕ) (n : ℕ) (e : Event)
+read_action : (x : EventAction) (b : Shelf) (t : ℕ) (s : List ℕ) (n : ℕ) (e : Event)
     (ledger : Ledger) → is_read_action x ≡ true →
     (decided_action x b t s n e ledger).accepted ≡ false
 read_action action.DirectDebiting b t s n e ledger h = absurd (true≢false (sym h))
 read_action action.CheckBalance b t s n e ledger h =
-    told_or (read_refusal b e) ledger (checked_by (tariff_of b e.group) b t e ledger)
+    told_or (read_refusal (book_at b t) e) ledger (checked_by (tariff_at b t e.group) b t e ledger)
 read_action action.PriceEnquiry b t s n e ledger h =
-    told_or (read_refusal b e) ledger (priced_by (tariff_of b e.group) b t e ledger)
+    told_or (read_refusal (book_at b t) e) ledger (priced_by (tariff_at b t e.group) b t e ledger)
 
-read_ask : (x : Ask) (b : Book) (t : ℕ) (s : List ℕ) (n : ℕ) (ledger : Ledger) → is_read x ≡ true →
+read_ask : (x : Ask) (b : Shelf) (t : ℕ) (s : List ℕ) (n : ℕ) (ledger : Ledger) → is_read x ≡ true →
     (decided b t s n x ledger).accepted ≡ false
 read_ask (ask.Initial services) b t s n ledger h = absurd (true≢false (sym h))
 read_ask (ask.Update services) b t s n ledger h = absurd (true≢false (sym h))
@@ -128,12 +128,12 @@ read_ask (ask.Event e) b t s n ledger h = read_action e.action b t s n e ledger 
 read_ask (ask.Refund refund) b t s n ledger h = absurd (true≢false (sym h))
 
 -- a read isn't accepted
-pub reads-refused : (b : Book) (t : ℕ) (r : Request) (ledger : Ledger) → is_read r.ask ≡ true →
+pub reads-refused : (b : Shelf) (t : ℕ) (r : Request) (ledger : Ledger) → is_read r.ask ≡ true →
     (decision b t r ledger).accepted ≡ false
 reads-refused b t r ledger h = read_ask r.ask b t r.session r.number ledger h
 
 -- a decision that isn't an acceptance is told, and one that is is kept
-pub decided-told : (b : Book) (r : Request) (t : ℕ) (h : History) →
+pub decided-told : (b : Shelf) (r : Request) (t : ℕ) (h : History) →
     (decision b t r h.ledger).accepted ≡ false →
     decided_by r (decision b t r h.ledger) h ≡
     told (answer.Request (answer_of r (decision b t r h.ledger).outcome)) h
@@ -143,7 +143,7 @@ decided-told b r t h e = ap
     (decision b t r h.ledger).after h
     else told (answer.Request (answer_of r (decision b t r h.ledger).outcome)) h) e
 
-pub decided-kept : (b : Book) (r : Request) (t : ℕ) (h : History) →
+pub decided-kept : (b : Shelf) (r : Request) (t : ℕ) (h : History) →
     (decision b t r h.ledger).accepted ≡ true →
     decided_by r (decision b t r h.ledger) h ≡
     keeping (content.Request r) (answer.Request (answer_of r (decision b t r h.ledger).outcome))
@@ -154,7 +154,7 @@ decided-kept b r t h e = ap
     (decision b t r h.ledger).after h
     else told (answer.Request (answer_of r (decision b t r h.ledger).outcome)) h) e
 
-module _ (b : Book) (r : Request) (t : ℕ) (h : History) where
+module _ (b : Shelf) (r : Request) (t : ℕ) (h : History) where
   abbrev conflict : Answer
   conflict = failed r (InvalidAvpValue RequestNumber)
 
@@ -206,7 +206,7 @@ credit-fresh c t h e = ap
 
 -- ---- a redemption
 
-pub redemption-repeated : (b : Book) (standing : Option Voucher) (r : VoucherRedemption) (t : ℕ)
+pub redemption-repeated : (b : Shelf) (standing : Option Voucher) (r : VoucherRedemption) (t : ℕ)
     (h : History) (kept : KeptAnswer) → kept_under (key_of (content.Redeem r)) h ≡ Some kept →
     redeem_outcome b standing r t h ≡
     told (repeated kept (content.Redeem r) (answer.Refused ContentDiffers)) h
@@ -214,7 +214,7 @@ redemption-repeated b standing r t h kept e =
     ap (λ o. unless_kept o (content.Redeem r) (answer.Refused ContentDiffers) h
     (new_redemption b standing r t h)) e
 
-pub redemption-fresh : (b : Book) (standing : Option Voucher) (r : VoucherRedemption) (t : ℕ)
+pub redemption-fresh : (b : Shelf) (standing : Option Voucher) (r : VoucherRedemption) (t : ℕ)
     (h : History) → kept_under (key_of (content.Redeem r)) h ≡ None →
     redeem_outcome b standing r t h ≡ new_redemption b standing r t h
 redemption-fresh b standing r t h e =

@@ -22,7 +22,7 @@ use Rattle.redemptions.specs.declared.redeeming.RedeemRefusal.{RedeemRefusal}
 use Rattle.redemptions.specs.declared.voucher.Voucher.{Voucher}
 use Rattle.redemptions.specs.Adding.{addition}
 use Rattle.redemptions.specs.Redeeming.{redemption}
-use Rattle.tariffs.specs.Books.{Book}
+use Rattle.shelves.specs.Shelves.{Shelf}
 use Rattle.reserving.specs.Ledger.{next_bucket}
 use Rattle.reserving.specs.Requests.{credited}
 use Rattle.reserving.proofs.Lists.{no_some}
@@ -58,7 +58,7 @@ decided_stays r d h = at d.accepted
     at true = refl
     at false = refl
 
-request_stays : (b : Book) (r : Request) (t : ℕ) (h : History) →
+request_stays : (b : Shelf) (r : Request) (t : ℕ) (h : History) →
     (request_outcome b r t h).after.opened ≡ h.opened
 request_stays b r t h = at (is_read r.ask)
   where
@@ -102,7 +102,7 @@ addition_same (New voucher) h = refl
 addition_same Present h = refl
 addition_same Conflicting h = refl
 
-opened_stays : (b : Book) (s : Option Voucher) (h : History) (c : Command) (t : ℕ) →
+opened_stays : (b : Shelf) (s : Option Voucher) (h : History) (c : Command) (t : ℕ) →
     (opened_outcome b s h c t).after.opened ≡ h.opened
 opened_stays b s h (command.Ccr r) t = request_stays b r t h
 opened_stays b s h (command.OpenAccount n) t = refl
@@ -138,7 +138,7 @@ unopened_empty s h (command.Redeem r) e = e
 unopened_empty s h command.Sweep e = e
 unopened_empty s h (command.Balance n) e = e
 
-outcome_empty : (b : Book) (s : Option Voucher) (h : History) (c : Command) (t : ℕ) →
+outcome_empty : (b : Shelf) (s : Option Voucher) (h : History) (c : Command) (t : ℕ) →
     (h.opened ≡ false → IsEmpty h) → (outcome b s h c t).after.opened ≡ false →
     IsEmpty (outcome b s h c t).after
 outcome_empty b s h c t empty = at h.opened refl
@@ -149,7 +149,7 @@ outcome_empty b s h c t empty = at h.opened refl
     at true opened e = absurd (true≢false (sym opened ∙ sym (opened_stays b s h c t) ∙ e))
     at false opened e = unopened_empty s h c (empty opened)
 
-unopened-empty : (b : Book) (a : List ℕ) (list : List Accepted) →
+unopened-empty : (b : Shelf) (a : List ℕ) (list : List Accepted) →
     (history b a list).opened ≡ false → IsEmpty (history b a list)
 unopened-empty b a [] e = (refl, refl)
 unopened-empty b a (d ∷ before) e =
@@ -166,12 +166,12 @@ unopened-empty b a (d ∷ before) e =
         d.command d.moment empty closed
     at false empty closed = empty closed
 
-pub unopened-ledger : (b : Book) (a : List ℕ) (list : List Accepted) →
+pub unopened-ledger : (b : Shelf) (a : List ℕ) (list : List Accepted) →
     (history b a list).opened ≡ false → (history b a list).ledger ≡ []
 unopened-ledger b a list e = (unopened-empty b a list e).0
 
 -- an account of which something is kept was opened
-pub kept-opened : (b : Book) (a : List ℕ) (list : List Accepted) (k : Key) (kept : KeptAnswer) →
+pub kept-opened : (b : Shelf) (a : List ℕ) (list : List Accepted) (k : Key) (kept : KeptAnswer) →
     kept_under k (history b a list) ≡ Some kept → (history b a list).opened ≡ true
 kept-opened b a list k kept is = at (history b a list).opened refl
   where

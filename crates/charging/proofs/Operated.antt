@@ -13,7 +13,7 @@ use Rattle.commands.specs.declared.command.Command.TheVariants as command
 use Rattle.commands.specs.declared.command.Content.TheVariants as content
 use Rattle.commands.specs.declared.command.Credit.{Credit}
 use Rattle.redemptions.specs.declared.voucher.Voucher.{Voucher}
-use Rattle.tariffs.specs.Books.{Book}
+use Rattle.shelves.specs.Shelves.{Shelf}
 use Rattle.reserving.specs.declared.charge.ChargeRow.{ChargeRow}
 use Rattle.reserving.specs.declared.session.SessionGroup.{SessionGroup}
 use Rattle.reserving.specs.Ledger.{Ledger, next_bucket}
@@ -52,7 +52,7 @@ use Rattle.charging.proofs.Serving.{outcome-unopened, outcome-opened, outcome-ke
 
 -- ---- a sweep
 
-pub sweep-served : (b : Book) (list : List Accepted) (t n : ℕ) (old new : Tables) → IsInTime list →
+pub sweep-served : (b : Shelf) (list : List Accepted) (t n : ℕ) (old new : Tables) → IsInTime list →
     AreTables b list old → last_moment list ≤ t → n ≡ old.count → IsSwept b t old new →
     IsServed b list command.Sweep t old new (answer.Swept n)
 sweep-served b list t n old new time tables le count swept = record {
@@ -74,7 +74,7 @@ pub not-there : (old : Tables) (n : List ℕ) → is_some (old.rows n).head ≡ 
     (old.rows n).head ≡ None
 not-there old n e = no_head (old.rows n).head e
 
-pub open-again : (b : Book) (list : List Accepted) (n : List ℕ) (t : ℕ) (old new : Tables) →
+pub open-again : (b : Shelf) (list : List Accepted) (n : List ℕ) (t : ℕ) (old new : Tables) →
     IsInTime list → last_moment list ≤ t → AreTables b list old → is_some (old.rows n).head ≡ true →
     new ≡ old →
     IsServed b list (command.OpenAccount n) t old new (answer.Refused AccountExists)
@@ -109,9 +109,9 @@ held_alone n None = refl
 held_alone n (Some x) = refl
 
 -- the rows of a new account are its own
-new_rows : (b : Book) (t : ℕ) (x : AccountRows) → IsAccount x → x.book ≡ b → x.as_of ≡ t →
+new_rows : (b : Shelf) (t : ℕ) (x : AccountRows) → IsAccount x → x.shelf ≡ b → x.as_of ≡ t →
     IsRowsOf [] x → AreRowsAt b [] t (over (stored x) no_rows)
-new_rows b t x is book as_of rows = record {
+new_rows b t x is shelf as_of rows = record {
   listed = stored x;
   are = record {
     head = refl;
@@ -124,14 +124,14 @@ new_rows b t x is book as_of rows = record {
   };
   kept = IsStored-stored x is;
   moment = as_of;
-  rows = subst (λ (y : Book). IsRowsOf [] (priced y (stored x))) book rows;
+  rows = subst (λ (y : Shelf). IsRowsOf [] (priced y (stored x))) shelf rows;
 }
 
 -- a new account, and the change that tells it
-pub record IsNew (b : Book) (n : List ℕ) (t : ℕ) (x fresh : AccountRows) (change : Change) :
+pub record IsNew (b : Shelf) (n : List ℕ) (t : ℕ) (x fresh : AccountRows) (change : Change) :
     Type 0 where
   pub account : IsAccount x
-  pub priced_by : x.book ≡ b
+  pub priced_by : x.shelf ≡ b
   pub at_moment : x.as_of ≡ t
   pub rows : IsRowsOf [] x
   pub named : change.number ≡ n
@@ -146,7 +146,7 @@ pub record IsNew (b : Book) (n : List ℕ) (t : ℕ) (x fresh : AccountRows) (ch
   pub sessions : fresh.sessions ≡ []
   pub groups : fresh.groups ≡ []
 
-pub open-done : (b : Book) (list : List Accepted) (n : List ℕ) (t : ℕ) (x fresh : AccountRows)
+pub open-done : (b : Shelf) (list : List Accepted) (n : List ℕ) (t : ℕ) (x fresh : AccountRows)
     (change : Change) (old new : Tables) → IsInTime list → last_moment list ≤ t →
     AreTables b list old → (old.rows n).head ≡ None →
     IsNew b n t x fresh change →
@@ -198,7 +198,7 @@ bar-unopened : (s : Option Voucher) (h : History) (n : List ℕ) (barred : Bool)
 bar-unopened s h n true = refl
 bar-unopened s h n false = refl
 
-bar-opened : (b : Book) (s : Option Voucher) (h : History) (n : List ℕ) (barred : Bool) (t : ℕ) →
+bar-opened : (b : Shelf) (s : Option Voucher) (h : History) (n : List ℕ) (barred : Bool) (t : ℕ) →
     opened_outcome b s h (bar_command n barred) t ≡
     done answer.Done (with_ledger (with_bar t barred h.ledger) h)
 bar-opened b s h n true t = refl
@@ -208,7 +208,7 @@ bar-opens : (n : List ℕ) (barred : Bool) → is_opening (bar_command n barred)
 bar-opens n true = refl
 bar-opens n false = refl
 
-pub bar-unknown : (b : Book) (list : List Accepted) (n : List ℕ) (barred : Bool) (t : ℕ)
+pub bar-unknown : (b : Shelf) (list : List Accepted) (n : List ℕ) (barred : Bool) (t : ℕ)
     (old new : Tables) → IsInTime list → last_moment list ≤ t → AreTables b list old →
     (old.rows n).head ≡ None → new ≡ old →
     IsServed b list (bar_command n barred) t old new (answer.Refused AccountUnknown)
@@ -256,15 +256,15 @@ made_tells found x charges kept told redeemed spent none kept_is redeemed_is = r
   redeemed_is = redeemed_is;
 }
 
-pub bar-done : (b : Book) (list : List Accepted) (n : List ℕ) (barred : Bool) (t m : ℕ)
+pub bar-done : (b : Shelf) (list : List Accepted) (n : List ℕ) (barred : Bool) (t m : ℕ)
     (found : Loaded) (x : AccountRows) (change : Change) (old new : Tables) → IsInTime list →
     last_moment list ≤ t → AreTables b list old → IsTaken b t n old found →
-    m ≡ max t found.account.as_of → x.book ≡ found.account.book → x.as_of ≡ m →
+    m ≡ max t found.account.as_of → x.shelf ≡ found.account.shelf → x.as_of ≡ m →
     ((ledger : Ledger) (left : LeftRows) → IsWith ledger left m found.account →
     IsWith (with_bar m barred ledger) left m x) → Tells change found x None None →
     (IsMadeFrom found.before (stored x) (old.rows found.number) → new ≡ changed change old) →
     IsServed b list (bar_command n barred) t old new answer.Done
-bar-done b list n barred t m found x change old new time le tables loads moment book as_of rows
+bar-done b list n barred t m found x change old new time le tables loads moment shelf as_of rows
     tells grown =
     let h : History = history b n list in
     let account : IsOpened b list t n old found.account =
@@ -279,7 +279,7 @@ bar-done b list n barred t m found x change old new time le tables loads moment 
     ∙ bar-opened b (standing b (bar_command n barred) list) h n barred t)
     refl refl
     (record {
-      book = book;
+      shelf = shelf;
       at_moment = as_of ∙ now;
       grows = one_more (record { at = t; fact = Barred barred }) h.ledger;
       rows = subst (λ (u : ℕ). IsWith (with_bar u barred h.ledger) left u x) now
@@ -298,7 +298,7 @@ bar-done b list n barred t m found x change old new time le tables loads moment 
 
 -- ---- a credit
 
-pub credit-unknown : (b : Book) (list : List Accepted) (c : Credit) (t : ℕ) (old new : Tables) →
+pub credit-unknown : (b : Shelf) (list : List Accepted) (c : Credit) (t : ℕ) (old new : Tables) →
     IsInTime list → last_moment list ≤ t → AreTables b list old → (old.rows c.account).head ≡ None →
     new ≡ old →
     IsServed b list (command.Credit c) t old new (answer.Refused AccountUnknown)
@@ -309,7 +309,7 @@ credit-unknown b list c t old new time le tables none same =
     (outcome-unopened b list (command.Credit c) t c.account refl old tables none) refl refl same
     tables
 
-pub credit-again : (b : Book) (list : List Accepted) (c : Credit) (t : ℕ) (old new : Tables)
+pub credit-again : (b : Shelf) (list : List Accepted) (c : Credit) (t : ℕ) (old new : Tables)
     (kept : KeptAnswer) (given : Answer) → IsInTime list → last_moment list ≤ t →
     AreTables b list old →
     old.answers c.account (key_of (content.Credit c)) ≡ Some kept →
@@ -343,7 +343,7 @@ credits_made (Ok (Some n)) c t from until old new p q usable makes = λ ledger l
     )
 credits_made (Err e) c t from until old new p q usable makes = tt
 
-module _ (b : Book) (list : List Accepted) (c : Credit) (t : ℕ) (old new : Tables) (found : Loaded)
+module _ (b : Shelf) (list : List Accepted) (c : Credit) (t : ℕ) (old new : Tables) (found : Loaded)
     (time : IsInTime list) (le : last_moment list ≤ t) (tables : AreTables b list old)
     (loads : IsTaken b t c.account old found)
     (m : ℕ) (fresh : old.answers c.account (key_of (content.Credit c)) ≡ None)
@@ -383,13 +383,14 @@ module _ (b : Book) (list : List Accepted) (c : Credit) (t : ℕ) (old new : Tab
       (credited t (from_of c t) (until_of c) c.scope c.amount h.ledger) h) refused)
       refl refl same tables
 
-  pub credit-done : (number : ℕ) (change : Change) → o ≡ Some number → x.book ≡ found.account.book →
+  pub credit-done : (number : ℕ) (change : Change) → o ≡ Some number →
+      x.shelf ≡ found.account.shelf →
       IfSome o (λ n. x.as_of ≡ m) →
       Tells change found x (Some
       (record { content = content.Credit c; answer = answer.Bucket number })) None →
       (IsMadeFrom found.before (stored x) (old.rows found.number) → new ≡ changed change old) →
       IsServed b list (command.Credit c) t old new (answer.Bucket number)
-  credit-done number change some book stands tells grown =
+  credit-done number change some shelf stands tells grown =
       let done = subst (λ (q : Option ℕ). Credits q c m h.ledger left x) some credit in
       let as_of : x.as_of ≡ m = subst (λ (q : Option ℕ). IfSome q (λ n. x.as_of ≡ m)) some stands in
       let after : Ledger = credited t (from_of c t) (until_of c) c.scope c.amount h.ledger in
@@ -402,7 +403,7 @@ module _ (b : Book) (list : List Accepted) (c : Credit) (t : ℕ) (old new : Tab
       else keeping (content.Credit c) (answer.Bucket (next_bucket h.ledger)) after h) allowed)
       refl (ap answer.Bucket done.1)
       (record {
-        book = book;
+        shelf = shelf;
         at_moment = as_of ∙ now;
         grows = one_credit t (from_of c t) (until_of c) c.scope c.amount h.ledger;
         rows = subst (λ (u : ℕ). IsWith

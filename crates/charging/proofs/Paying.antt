@@ -4,7 +4,7 @@ use Rattle.std.proofs.Common.{refl, sym, ap, subst, ◌∙◌, arith, Option, So
 use Rattle.std.specs.Prelude.{if◌then◌else◌, is_some}
 use Rattle.std.proofs.lemmas.Bool.{leb-true}
 use Rattle.units.specs.declared.blocks.UsedPart.{UsedPart}
-use Rattle.tariffs.specs.Books.{Book}
+use Rattle.shelves.specs.Shelves.{Shelf}
 use Rattle.buckets.specs.declared.holds.Hold.{Hold}
 use Rattle.buckets.specs.Row.{Row}
 use Rattle.buckets.specs.Share.{parts}
@@ -25,6 +25,7 @@ use Rattle.charging.specs.SessionReports.{Report, with_report}
 use Rattle.charging.specs.Paid.{before_charges, collected, is_touched, IsReport, IsEvent}
 use Rattle.charging.specs.Paid.{without_last, ArePaid}
 use Rattle.buckets.proofs.Paid.{amounts, amounts-parts, sum_by-paid}
+use Rattle.reserving.specs.Pricing.{validity_of}
 use Rattle.charging.proofs.Steps.{is_quiet, is_touch, with_grant, Keeps}
 use Rattle.charging.proofs.Credited.{AreCredited, no_credits, more_credits, SameCredits}
 use Rattle.charging.proofs.Credited.{same_credits, quiet_credits, charge_credits, hold_credits}
@@ -42,12 +43,12 @@ collected-charges : (t : ℕ) (hs : List Hold) (ledger : Ledger) →
 collected-charges t [] ledger = omega arith
 collected-charges t (h ∷ hs) ledger = omega (arith, collected-charges t hs ledger)
 
-ArePaid-charges : (b : Book) (t : ℕ) (hs : List Hold) (reports : List Report) (ledger : Ledger) →
+ArePaid-charges : (b : Shelf) (t : ℕ) (hs : List Hold) (reports : List Report) (ledger : Ledger) →
     ArePaid b reports ledger → ArePaid b reports (charge_facts t hs ++ ledger)
 ArePaid-charges b t [] reports ledger h = h
 ArePaid-charges b t (x ∷ xs) reports ledger h = (tt, ArePaid-charges b t xs reports ledger h)
 
-ArePaid-holds : (b : Book) (t : ℕ) (s : List ℕ) (g : ℕ) (hs : List Hold) (reports : List Report)
+ArePaid-holds : (b : Shelf) (t : ℕ) (s : List ℕ) (g : ℕ) (hs : List Hold) (reports : List Report)
     (ledger : Ledger) → ArePaid b reports ledger → ArePaid b reports (hold_facts t s g hs ++ ledger)
 ArePaid-holds b t s g [] reports ledger h = h
 ArePaid-holds b t s g (x ∷ xs) reports ledger h = (tt, ArePaid-holds b t s g xs reports ledger h)
@@ -88,14 +89,14 @@ touches-holds t s g (x ∷ xs) ledger h = touches-holds t s g xs ledger h
 
 -- its buckets are in order, its newest fact is no charge, what isn't recorded wasn't touched, and
 -- its uses are paid
-pub record IsPaying (b : Book) (reports : List Report) (ledger : Ledger) : Type 0 where
+pub record IsPaying (b : Shelf) (reports : List Report) (ledger : Ledger) : Type 0 where
   pub credits : AreCredited (credits ledger) (next_bucket ledger)
   pub begins : before_charges ledger ≡ ledger
   pub nothing : collected ledger ≡ 0
   pub recorded : TouchesAreRecorded ledger
   pub paid : ArePaid b reports ledger
 
-paying_quiet : (b : Book) (t : ℕ) (f : Fact) (reports : List Report) (ledger : Ledger) →
+paying_quiet : (b : Shelf) (t : ℕ) (f : Fact) (reports : List Report) (ledger : Ledger) →
     is_quiet f ≡ true → is_touch f ≡ false → IsPaying b reports ledger →
     IsPaying b reports (record { at = t; fact = f } ∷ ledger)
 paying_quiet b t (Close s) reports ledger q n h =
@@ -126,7 +127,7 @@ paying_quiet b t (Barred x) reports ledger q n h =
 paying_quiet b t (Touch s) reports ledger q n h = absurd (true≢false n)
 paying_quiet b t _ reports ledger q n h = cc
 
-paying_touch : (b : Book) (t : ℕ) (s : List ℕ) (n : ℕ) (reports : List Report) (ledger : Ledger) →
+paying_touch : (b : Shelf) (t : ℕ) (s : List ℕ) (n : ℕ) (reports : List Report) (ledger : Ledger) →
     IsPaying b reports ledger → IsPaying b reports (touched t s n ledger)
 paying_touch b t s n reports ledger h = record {
   credits = same_credits _ (record { at = t; fact = Touch s } ∷ ledger)
@@ -138,7 +139,7 @@ paying_touch b t s n reports ledger h = record {
   paid = (tt, (tt, h.paid));
 }
 
-paying_credit : (b : Book) (t from until : ℕ) (scope : Option ℕ) (amount : ℕ)
+paying_credit : (b : Shelf) (t from until : ℕ) (scope : Option ℕ) (amount : ℕ)
     (reports : List Report) (ledger : Ledger) → IsPaying b reports ledger →
     IsPaying b reports (credited t from until scope amount ledger)
 paying_credit b t from until scope amount reports ledger h =
@@ -151,14 +152,14 @@ paying_credit b t from until scope amount reports ledger h =
     }
 
 -- what buckets pay of a report
-abbrev pub paid_parts : Book → ℕ → List ℕ → ℕ → List UsedPart → Ledger → List Hold
+abbrev pub paid_parts : Shelf → ℕ → List ℕ → ℕ → List UsedPart → Ledger → List Hold
 paid_parts b t s g used_parts ledger =
-    parts (paid (holds_at b.validity t s g ledger) g t
-    (report_price b t s g used_parts ledger).amount.0 (buckets_at b.validity t ledger))
-    (buckets_at b.validity t ledger)
+    parts (paid (holds_at (validity_of b) t s g ledger) g t
+    (report_price b t s g used_parts ledger).amount.0 (buckets_at (validity_of b) t ledger))
+    (buckets_at (validity_of b) t ledger)
 
 -- what a report's charges collect and what isn't collected are its price
-settled_is_paid : (b : Book) (t : ℕ) (s : List ℕ) (g : ℕ) (p : UsedPart) (ps : List UsedPart)
+settled_is_paid : (b : Shelf) (t : ℕ) (s : List ℕ) (g : ℕ) (p : UsedPart) (ps : List UsedPart)
     (reports : List Report) (ledger : Ledger) → is_touched s ledger ≡ true →
     IsPaying b reports ledger →
     ArePaid b (with_report t s g (p ∷ ps) reports) (settled_by b t s g (p ∷ ps) ledger)
@@ -172,7 +173,7 @@ settled_is_paid b t s g p ps reports ledger touches h = (
         h.nothing,
         amounts-parts (paid holds g t rated rows) rows,
         sum_by-paid holds g t rated rows
-            (in_order b.validity t ledger h.credits),
+            (in_order (validity_of b) t ledger h.credits),
       );
       report = λ e. subst (IsReport b own t s g (reported (p ∷ ps))
           (report_price b t s g (p ∷ ps) ledger).blocks rated (uncollected holds g t rated rows))
@@ -185,10 +186,10 @@ settled_is_paid b t s g p ps reports ledger touches h = (
 )
   where
     rows : List Row
-    rows = buckets_at b.validity t ledger
+    rows = buckets_at (validity_of b) t ledger
 
     holds : List Hold
-    holds = holds_at b.validity t s g ledger
+    holds = holds_at (validity_of b) t s g ledger
 
     rated : ℕ
     rated = (report_price b t s g (p ∷ ps) ledger).amount.0
@@ -219,7 +220,7 @@ settled_is_paid b t s g p ps reports ledger touches h = (
     }
 
 -- a settlement makes no bucket
-settled_credits : (v t : ℕ) (s : List ℕ) (g units blocks rated : ℕ) (ledger : Ledger) →
+settled_credits : (v : ℕ → ℕ) (t : ℕ) (s : List ℕ) (g units blocks rated : ℕ) (ledger : Ledger) →
     SameCredits (settled v t s g units blocks rated ledger) ledger
 settled_credits v t s g units blocks rated ledger =
     let same : SameCredits (charge_facts t
@@ -229,7 +230,7 @@ settled_credits v t s g units blocks rated ledger =
     (buckets_at v t ledger)) ledger in
     record { rows = same.rows; next = omega (arith, same.next) }
 
-paying_settle : (b : Book) (t : ℕ) (s : List ℕ) (g : ℕ) (used_parts : List UsedPart)
+paying_settle : (b : Shelf) (t : ℕ) (s : List ℕ) (g : ℕ) (used_parts : List UsedPart)
     (reports : List Report) (ledger : Ledger) → is_touched s ledger ≡ true →
     IsPaying b reports ledger →
     IsPaying b (with_report t s g used_parts reports) (settled_by b t s g used_parts ledger)
@@ -243,21 +244,21 @@ paying_settle b t s g [] reports ledger touches h = record {
 }
 paying_settle b t s g (p ∷ ps) reports ledger touches h = record {
   credits = same_credits (settled_by b t s g (p ∷ ps) ledger) ledger
-      (settled_credits b.validity t s g (reported (p ∷ ps))
+      (settled_credits (validity_of b) t s g (reported (p ∷ ps))
       (report_price b t s g (p ∷ ps) ledger).blocks (report_price b t s g (p ∷ ps) ledger).amount.0
       ledger) h.credits;
   begins = refl;
   nothing = refl;
   recorded = touches-charges t
-      (parts (paid (holds_at b.validity t s g ledger) g t
-      (report_price b t s g (p ∷ ps) ledger).amount.0 (buckets_at b.validity t ledger))
-      (buckets_at b.validity t ledger)) ledger h.recorded;
+      (parts (paid (holds_at (validity_of b) t s g ledger) g t
+      (report_price b t s g (p ∷ ps) ledger).amount.0 (buckets_at (validity_of b) t ledger))
+      (buckets_at (validity_of b) t ledger)) ledger h.recorded;
   paid = settled_is_paid b t s g p ps reports ledger touches h;
 }
 
 -- ---- grants and debits
 
-paying_holds : (b : Book) (t : ℕ) (s : List ℕ) (g : ℕ) (hs : List Hold) (reports : List Report)
+paying_holds : (b : Shelf) (t : ℕ) (s : List ℕ) (g : ℕ) (hs : List Hold) (reports : List Report)
     (ledger : Ledger) → IsPaying b reports ledger →
     IsPaying b reports (hold_facts t s g hs ++ ledger)
 paying_holds b t s g [] reports ledger h = h
@@ -270,11 +271,11 @@ paying_holds b t s g (x ∷ xs) reports ledger h = record {
   paid = (tt, ArePaid-holds b t s g xs reports ledger h.paid);
 }
 
-paying_reserved : (b : Book) (t : ℕ) (s : List ℕ) (g units amount : ℕ) (reports : List Report)
+paying_reserved : (b : Shelf) (t : ℕ) (s : List ℕ) (g units amount : ℕ) (reports : List Report)
     (ledger : Ledger) → IsPaying b reports ledger →
     IsPaying b reports (reserved b t s g units amount ledger)
 paying_reserved b t s g units amount reports ledger h =
-    paying_holds b t s g (holds_of g t amount (buckets_at b.validity t ledger)) reports
+    paying_holds b t s g (holds_of g t amount (buckets_at (validity_of b) t ledger)) reports
     (with_grant b t s g units ledger) (record {
       credits = same_credits (with_grant b t s g units ledger) ledger
           (record { rows = refl; next = omega arith }) h.credits;
@@ -284,7 +285,7 @@ paying_reserved b t s g units amount reports ledger h =
       paid = (tt, h.paid);
     })
 
-pub paying_debit : (b : Book) (t : ℕ) (s : List ℕ) (g units : ℕ) (reports : List Report)
+pub paying_debit : (b : Shelf) (t : ℕ) (s : List ℕ) (g units : ℕ) (reports : List Report)
     (ledger : Ledger) → last_recording s ledger ≡ None → is_covered b t g units ledger ≡ true →
     IsPaying b reports ledger →
     IsPaying b reports (debited b t s g units ledger)
@@ -302,7 +303,7 @@ paying_debit b t s g units reports ledger new covered h = record {
         h.nothing,
         amounts-parts (paid [] g t rated rows) rows,
         sum_by-paid [] g t rated rows
-            (in_order b.validity t ledger h.credits),
+            (in_order (validity_of b) t ledger h.credits),
         within,
       );
       report = λ e. absurd (true≢false (sym e ∙ untouched));
@@ -316,7 +317,7 @@ paying_debit b t s g units reports ledger new covered h = record {
 }
   where
     rows : List Row
-    rows = buckets_at b.validity t ledger
+    rows = buckets_at (validity_of b) t ledger
 
     rated : ℕ
     rated = (event_price b t g units ledger).amount.0
@@ -339,7 +340,7 @@ paying_debit b t s g units reports ledger new covered h = record {
     event : IsEvent b t g units (event_price b t g units ledger).blocks rated 0 ledger
     event = record { blocks_are = refl; rated_is = refl; covered = covered; whole = refl }
 
-pub paying_none : (b : Book) → IsPaying b [] []
+pub paying_none : (b : Shelf) → IsPaying b [] []
 paying_none b = record {
   credits = no_credits;
   begins = refl;
@@ -348,7 +349,7 @@ paying_none b = record {
   paid = refl;
 }
 
-pub keeps_paying : (b : Book) → Keeps b (IsPaying b)
+pub keeps_paying : (b : Shelf) → Keeps b (IsPaying b)
 keeps_paying b = record {
   quiet = λ t f reports ledger q n fits h. paying_quiet b t f reports ledger q n h;
   touch = paying_touch b;

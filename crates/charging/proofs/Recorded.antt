@@ -6,7 +6,7 @@ use Rattle.units.specs.declared.blocks.UsedPart.{UsedPart}
 use Rattle.buckets.specs.declared.holds.Hold.{Hold}
 use Rattle.buckets.specs.Holding.{paid}
 use Rattle.buckets.specs.Share.{parts}
-use Rattle.tariffs.specs.Books.{Book}
+use Rattle.shelves.specs.Shelves.{Shelf}
 use Rattle.reserving.specs.Ledger.{Fact, Ledger, Recording, is_same, or_else, names_group, touch_in}
 use Rattle.reserving.specs.Ledger.{has_group, last_touch, last_recording}
 use Rattle.reserving.specs.Ledger.Fact.{Credit, Grant, Hold as HoldFact, End, Use, Charge, Touch}
@@ -20,6 +20,7 @@ use Rattle.reserving.specs.Sessions.{holds_at}
 use Rattle.reserving.proofs.Lists.{no_some}
 use Rattle.reserving.proofs.Holds.{same_from}
 use Rattle.reserving.proofs.Keys.{first_true}
+use Rattle.reserving.specs.Pricing.{validity_of}
 use Rattle.charging.specs.Accepted.{Accepted}
 use Rattle.charging.specs.Served.{history}
 use Rattle.charging.specs.Paid.{is_touched}
@@ -146,22 +147,22 @@ touched_recorded : (s : List ℕ) (ledger : Ledger) → is_touched s ledger ≡ 
     AreRecorded ledger → last_recording s ledger ≡ None → ⊥
 touched_recorded s ledger touches h e = true≢false (sym touches ∙ ap is_some (h.touches s e))
 
-settled_kept : (b : Book) (t : ℕ) (s : List ℕ) (g : ℕ) (used_parts : List UsedPart)
+settled_kept : (b : Shelf) (t : ℕ) (s : List ℕ) (g : ℕ) (used_parts : List UsedPart)
     (ledger : Ledger) → is_touched s ledger ≡ true → AreRecorded ledger →
     AreRecorded (settled_by b t s g used_parts ledger)
 settled_kept b t s g [] ledger touches h = plain t (End s g) ledger (end_plain s g) h
 settled_kept b t s g (p ∷ ps) ledger touches h =
     let hs : List Hold = parts
-    (paid (holds_at b.validity t s g ledger) g t
-    (report_price b t s g (p ∷ ps) ledger).amount.0 (buckets_at b.validity t ledger))
-    (buckets_at b.validity t ledger) in
+    (paid (holds_at (validity_of b) t s g ledger) g t
+    (report_price b t s g (p ∷ ps) ledger).amount.0 (buckets_at (validity_of b) t ledger))
+    (buckets_at (validity_of b) t ledger) in
     plain t (End s g) _ (end_plain s g)
     (named t s (Use s g _ _ _ _) _ (λ x y e. same_from s x (first_true (is_same s x) (g == y) e))
     (λ x. refl) (λ x. refl)
     (λ e. touched_recorded s ledger touches h (sym (charges_record s t hs ledger) ∙ e))
     (charges t hs ledger h))
 
-granted_kept : (b : Book) (t : ℕ) (s : List ℕ) (g : ℕ) (asked : Option ℕ) (ledger : Ledger) →
+granted_kept : (b : Shelf) (t : ℕ) (s : List ℕ) (g : ℕ) (asked : Option ℕ) (ledger : Ledger) →
     (last_recording s ledger ≡ None → ⊥) → AreRecorded ledger →
     AreRecorded (granted b t s g asked ledger)
 granted_kept b t s g asked ledger has h =
@@ -171,19 +172,20 @@ granted_kept b t s g asked ledger has h =
 -- ---- an event
 
 -- the ledger with a debit's charges
-abbrev with_charges : Book → ℕ → ℕ → ℕ → Ledger → Ledger
+abbrev with_charges : Shelf → ℕ → ℕ → ℕ → Ledger → Ledger
 with_charges b t g units ledger =
     charge_facts t
-    (parts (paid [] g t (event_price b t g units ledger).amount.0 (buckets_at b.validity t ledger))
-    (buckets_at b.validity t ledger)) ++ ledger
+    (parts (paid [] g t (event_price b t g units ledger).amount.0
+    (buckets_at (validity_of b) t ledger))
+    (buckets_at (validity_of b) t ledger)) ++ ledger
 
-event_kept : (b : Book) (t : ℕ) (s : List ℕ) (g units n : ℕ) (ledger : Ledger) →
+event_kept : (b : Shelf) (t : ℕ) (s : List ℕ) (g units n : ℕ) (ledger : Ledger) →
     AreRecorded ledger → AreRecorded (recorded t s n (debited b t s g units ledger))
 event_kept b t s g units n ledger h =
     let k : AreRecorded (with_charges b t g units ledger) =
     charges t
     (parts (paid [] g t (event_price b t g units ledger).amount.0
-    (buckets_at b.validity t ledger)) (buckets_at b.validity t ledger)) ledger h in
+    (buckets_at (validity_of b) t ledger)) (buckets_at (validity_of b) t ledger)) ledger h in
     record {
       groups = λ x y e q. at x y k (is_same s x) refl e q;
       touches = λ x e. k.touches x
@@ -200,7 +202,7 @@ event_kept b t s g units n ledger h =
 
 -- ---- a history
 
-keeps_recorded : (b : Book) → Keeps b (λ reports ledger. AreRecorded ledger)
+keeps_recorded : (b : Shelf) → Keeps b (λ reports ledger. AreRecorded ledger)
 keeps_recorded b = record {
   quiet = λ t f reports ledger q n fits h. quiet_kept t f ledger q n h;
   touch = λ t s n reports ledger h. touched_kept t s n ledger h;
@@ -216,13 +218,13 @@ keeps_recorded b = record {
 none_recorded : AreRecorded []
 none_recorded = record { groups = λ s g e k. true≢false (sym k); touches = λ s e. refl }
 
-pub recorded_history : (b : Book) (a : List ℕ) (list : List Accepted) →
+pub recorded_history : (b : Shelf) (a : List ℕ) (list : List Accepted) →
     AreRecorded (history b a list).ledger
 recorded_history b a list =
     kept_history b (λ reports ledger. AreRecorded ledger) (keeps_recorded b) none_recorded a list
 
 -- a session without a record has no group
-pub new_has_no_groups : (b : Book) (a : List ℕ) (list : List Accepted) (s : List ℕ) →
+pub new_has_no_groups : (b : Shelf) (a : List ℕ) (list : List Accepted) (s : List ℕ) →
     last_recording s (history b a list).ledger ≡ None → (g : ℕ) →
     has_group s g (history b a list).ledger ≡ false
 new_has_no_groups b a list s e g = at (has_group s g (history b a list).ledger) refl

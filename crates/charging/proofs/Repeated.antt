@@ -24,7 +24,7 @@ use Rattle.redemptions.specs.declared.redeeming.RedeemRefusal.{RedeemRefusal}
 use Rattle.redemptions.specs.declared.voucher.Voucher.{Voucher}
 use Rattle.redemptions.specs.Adding.{addition}
 use Rattle.redemptions.specs.Redeeming.{redemption}
-use Rattle.tariffs.specs.Books.{Book}
+use Rattle.shelves.specs.Shelves.{Shelf}
 use Rattle.reserving.specs.Ledger.{Ledger, next_bucket}
 use Rattle.reserving.specs.Requests.{credited}
 use Rattle.decisions.specs.Decided.{Decision}
@@ -92,7 +92,7 @@ unless_both P None new conflict h fresh p q = q refl
 unless_both P (Some kept) new conflict h fresh p q = p (repeated kept new conflict)
 
 -- a property of what a request comes to on the history of an account that is there
-of_request : (P : Outcome → Type 0) (b : Book) (r : Request) (t : ℕ) (h : History) →
+of_request : (P : Outcome → Type 0) (b : Shelf) (r : Request) (t : ℕ) (h : History) →
     ((given : Answer) → P (told given h)) →
     ((given : Answer) (ledger : Ledger) → kept_under (key_of (content.Request r)) h ≡ None →
     P (keeping (content.Request r) given ledger h)) → P (request_outcome b r t h)
@@ -134,7 +134,7 @@ of_redeemed P (Ok x) r t h same kept =
     (keeping (content.Redeem r) given ledger h) (same (answer.Refused OutOfRange))
     (kept given ledger)
 
-of_redemption : (P : Outcome → Type 0) (b : Book) (s : Option Voucher) (r : VoucherRedemption)
+of_redemption : (P : Outcome → Type 0) (b : Shelf) (s : Option Voucher) (r : VoucherRedemption)
     (t : ℕ) (h : History) → ((given : Answer) → P (told given h)) →
     ((given : Answer) (ledger : Ledger) → kept_under (key_of (content.Redeem r)) h ≡ None →
     P (keeping (content.Redeem r) given ledger h)) → P (redeem_outcome b s r t h)
@@ -153,7 +153,7 @@ keeps_kept : (kept new : KeptAnswer) (h : History) (ledger : Ledger) → Keeps k
 keeps_kept kept new h ledger keeps free =
     record { there = keeps.there; found = found_older kept new h.kept free keeps.found }
 
-keeps_opened : (b : Book) (kept : KeptAnswer) (s : Option Voucher) (h : History) (c : Command)
+keeps_opened : (b : Shelf) (kept : KeptAnswer) (s : Option Voucher) (h : History) (c : Command)
     (t : ℕ) → Keeps kept h → Keeps kept (opened_outcome b s h c t).after
 keeps_opened b kept s h (command.Ccr r) t keeps =
     of_request (λ o. Keeps kept o.after) b r t h (λ given. keeps)
@@ -177,14 +177,14 @@ keeps_opened b kept s h (command.Redeem r) t keeps =
 keeps_opened b kept s h command.Sweep t keeps = keeps
 keeps_opened b kept s h (command.Balance n) t keeps = keeps
 
-keeps_after : (b : Book) (kept : KeptAnswer) (s : Option Voucher) (h : History) (c : Command)
+keeps_after : (b : Shelf) (kept : KeptAnswer) (s : Option Voucher) (h : History) (c : Command)
     (t : ℕ) → Keeps kept h → Keeps kept (outcome b s h c t).after
 keeps_after b kept s h c t keeps =
     subst (λ o. Keeps kept (if o then opened_outcome b s h c t else unopened_outcome s h c).after)
     (sym keeps.there) (keeps_opened b kept s h c t keeps)
 
 -- an accepted command, of the account or of others
-keeps_accepted : (b : Book) (kept : KeptAnswer) (a : List ℕ) (list : List Accepted) (d : Accepted)
+keeps_accepted : (b : Shelf) (kept : KeptAnswer) (a : List ℕ) (list : List Accepted) (d : Accepted)
     (taken : Bool) → Keeps kept (history b a list) →
     Keeps kept (history b a (if taken then d ∷ list else list))
 keeps_accepted b kept a list d false keeps = keeps
@@ -198,7 +198,7 @@ keeps_accepted b kept a list d true keeps = at (names a (concerned_by d.command)
         keeps
     at false = keeps
 
-keeps_through : (b : Book) (kept : KeptAnswer) (a : List ℕ) (list : List Accepted)
+keeps_through : (b : Shelf) (kept : KeptAnswer) (a : List ℕ) (list : List Accepted)
     (ds : List DatedCommand) → Keeps kept (history b a list) →
     Keeps kept (history b a (after_commands b list ds))
 keeps_through b kept a list [] keeps = keeps
@@ -219,7 +219,7 @@ first_kept : (new : Content) (given : Answer) (ledger : Ledger) (h : History) �
 first_kept new given ledger h there taken =
     record { there = there; found = found_newest (record { content = new; answer = given }) h.kept }
 
-first_request : (b : Book) (r : Request) (t : ℕ) (h : History) →
+first_request : (b : Shelf) (r : Request) (t : ℕ) (h : History) →
     IsKeptFirst (content.Request r) (outcome b None h (command.Ccr r) t)
 first_request b r t h = at h.opened refl
   where
@@ -230,7 +230,7 @@ first_request b r t h = at h.opened refl
         (λ given ledger free. first_kept (content.Request r) given ledger h there)
     at false there = no
 
-first_credit : (b : Book) (c : Credit) (t : ℕ) (h : History) →
+first_credit : (b : Shelf) (c : Credit) (t : ℕ) (h : History) →
     IsKeptFirst (content.Credit c) (outcome b None h (command.Credit c) t)
 first_credit b c t h = at h.opened refl
   where
@@ -241,7 +241,7 @@ first_credit b c t h = at h.opened refl
         (λ given ledger free. first_kept (content.Credit c) given ledger h there)
     at false there = no
 
-first_redemption : (b : Book) (s : Option Voucher) (r : VoucherRedemption) (t : ℕ) (h : History) →
+first_redemption : (b : Shelf) (s : Option Voucher) (r : VoucherRedemption) (t : ℕ) (h : History) →
     IsKeptFirst (content.Redeem r) (outcome b s h (command.Redeem r) t)
 first_redemption b s r t h = at h.opened refl
   where
@@ -259,7 +259,7 @@ unread true x y e = no e
 unread false x y e = refl
 
 -- on a history that keeps it, a command is told its first answer
-repeat_request : (b : Book) (r : Request) (given : Answer) (t : ℕ) (h : History) →
+repeat_request : (b : Shelf) (r : Request) (given : Answer) (t : ℕ) (h : History) →
     not (is_read r.ask) ≡ true → Keeps (record { content = content.Request r; answer = given }) h →
     outcome b None h (command.Ccr r) t ≡ told given h
 repeat_request b r given t h key keeps =
@@ -272,7 +272,7 @@ repeat_request b r given t h key keeps =
     ∙ ap (λ found. unless_kept found (content.Request r) conflict h (decided_by r d h)) keeps.found
     ∙ ap (λ same. told (if same then given else conflict) h) ((request_exact r r).1 refl)
 
-repeat_credit : (b : Book) (c : Credit) (given : Answer) (t : ℕ) (h : History) →
+repeat_credit : (b : Shelf) (c : Credit) (given : Answer) (t : ℕ) (h : History) →
     Keeps (record { content = content.Credit c; answer = given }) h →
     outcome b None h (command.Credit c) t ≡ told given h
 repeat_credit b c given t h keeps =
@@ -283,7 +283,7 @@ repeat_credit b c given t h keeps =
     ∙ ap (λ same. told (if same then given else answer.Refused ContentDiffers) h)
     ((credit_exact c c).1 refl)
 
-repeat_redemption : (b : Book) (s : Option Voucher) (r : VoucherRedemption) (given : Answer)
+repeat_redemption : (b : Shelf) (s : Option Voucher) (r : VoucherRedemption) (given : Answer)
     (t : ℕ) (h : History) → Keeps (record { content = content.Redeem r; answer = given }) h →
     outcome b s h (command.Redeem r) t ≡ told given h
 repeat_redemption b s r given t h keeps =
@@ -297,7 +297,7 @@ repeat_redemption b s r given t h keeps =
 -- ---- once
 
 -- the history of an account after a command that names it
-own_after : (b : Book) (a : List ℕ) (list : List Accepted) (d : Accepted) →
+own_after : (b : Shelf) (a : List ℕ) (list : List Accepted) (d : Accepted) →
     concerned_by d.command ≡ one a → history b a (d ∷ list) ≡
     (outcome b (standing b d.command list) (history b a list) d.command d.moment).after
 own_after b a list d named =
@@ -307,7 +307,7 @@ own_after b a list d named =
     ∙ ap (λ own. if own then after else history b a list) ((bytes_decides a a).1 refl)
 
 -- so the history after the commands between keeps the command that was accepted
-kept_between : (b : Book) (kept : KeptAnswer) (a : List ℕ) (list : List Accepted) (c : Command)
+kept_between : (b : Shelf) (kept : KeptAnswer) (a : List ℕ) (list : List Accepted) (c : Command)
     (t : ℕ) (between : List DatedCommand) → concerned_by c ≡ one a →
     Keeps kept (outcome b (standing b c list) (history b a list) c t).after →
     Keeps kept (history b a (after_commands b (record { moment = t; command = c } ∷ list) between))

@@ -22,7 +22,7 @@ use Rattle.commands.specs.declared.request.EventAction.{EventAction}
 use Rattle.commands.specs.declared.request.EventAction.TheVariants.{DirectDebiting, CheckBalance}
 use Rattle.commands.specs.declared.request.EventAction.TheVariants.{PriceEnquiry}
 use Rattle.commands.specs.declared.request.Request.{Request}
-use Rattle.tariffs.specs.Books.{Book, IsBook}
+use Rattle.shelves.specs.Shelves.{Shelf, IsShelf}
 use Rattle.reserving.specs.Ledger.{Ledger, Recording, last_recording}
 use Rattle.reserving.specs.Charges.{charge_rows}
 use Rattle.reserving.specs.Rows.{AccountRows, IsAccount}
@@ -56,7 +56,7 @@ use Rattle.charging.proofs.KeptKeys.{decided-kept}
 use Rattle.charging.proofs.Serving.{IsOpened, is_opened, keeps-some, none-spent, served-told}
 use Rattle.charging.proofs.Serving.{served-loaded, outcome-unopened, outcome-opened, outcome-kept}
 
-pub request-unknown : (b : Book) (list : List Accepted) (r : Request) (t : ℕ) (old new : Tables)
+pub request-unknown : (b : Shelf) (list : List Accepted) (r : Request) (t : ℕ) (old new : Tables)
     (given : Answer) →
     IsInTime list → last_moment list ≤ t → AreTables b list old → (old.rows r.account).head ≡ None →
     given ≡ failed r UserUnknown → new ≡ old → IsServed b list (Ccr r) t old new given
@@ -70,7 +70,7 @@ kept-answer : (v : Bool) (o : Option KeptAnswer) (kept : KeptAnswer) →
 kept-answer true o kept e = absurd (no_some kept e)
 kept-answer false o kept e = e
 
-pub request-again : (b : Book) (list : List Accepted) (r : Request) (t : ℕ) (old new : Tables)
+pub request-again : (b : Shelf) (list : List Accepted) (r : Request) (t : ℕ) (old new : Tables)
     (kept : KeptAnswer) (given : Answer) →
     IsInTime list → last_moment list ≤ t → AreTables b list old →
     kept_of_request r old ≡ Some kept →
@@ -90,7 +90,7 @@ request-again b list r t old new kept given time le tables is answers same =
 
 -- ---- a request without a kept answer, of an account that is there
 
-module _ (b : Book) (list : List Accepted) (r : Request) (t : ℕ) (old : Tables)
+module _ (b : Shelf) (list : List Accepted) (r : Request) (t : ℕ) (old : Tables)
     (time : IsInTime list) (le : last_moment list ≤ t) (tables : AreTables b list old)
     (opened : (history b r.account list).opened ≡ true) (fresh : kept_of_request r old ≡ None) where
   abbrev h : History
@@ -115,11 +115,11 @@ module _ (b : Book) (list : List Accepted) (r : Request) (t : ℕ) (old : Tables
 -- ---- a read
 
 -- what a keeper found to be read
-pub none_viewed : (b : Book) (t : ℕ) (r : Rows) (o : Option AccountRows) → IsView b t r o →
+pub none_viewed : (b : Shelf) (t : ℕ) (r : Rows) (o : Option AccountRows) → IsView b t r o →
     o ≡ None → r.head ≡ None
 none_viewed b t r o found none = subst (λ (q : Option AccountRows). IsView b t r q) none found
 
-pub some_viewed : (b : Book) (t : ℕ) (r : Rows) (o : Option AccountRows) (x : AccountRows) →
+pub some_viewed : (b : Shelf) (t : ℕ) (r : Rows) (o : Option AccountRows) (x : AccountRows) →
     IsView b t r o → o ≡ Some x → IsLoadedFrom b t r x
 some_viewed b t r o x found there = subst (λ (q : Option AccountRows). IsView b t r q) there found
 
@@ -128,13 +128,13 @@ reads-fresh : (r : Request) (old : Tables) → is_read r.ask ≡ true → kept_o
 reads-fresh r old reads =
     ap (λ v. if v then None else old.answers r.account (key_of (content.Request r))) reads
 
-pub read-told : (b : Book) (list : List Accepted) (r : Request) (t : ℕ) (old new : Tables)
+pub read-told : (b : Shelf) (list : List Accepted) (r : Request) (t : ℕ) (old new : Tables)
     (x : AccountRows) (m : ℕ) (given : RequestAnswer) →
     IsInTime list → last_moment list ≤ t → AreTables b list old →
     IsLoadedFrom b t (old.rows r.account) x → IsAccount x → m ≡ max t x.as_of →
     is_read r.ask ≡ true →
     ((ledger : Ledger) (left : LeftRows) → IsWith ledger left m x →
-    given ≡ answer_of r (decision x.book m r ledger).outcome) → new ≡ old →
+    given ≡ answer_of r (decision x.shelf m r ledger).outcome) → new ≡ old →
     IsServed b list (Ccr r) t old new (answer.Request given)
 read-told b list r t old new x m given time le tables loads is moment reads answers same =
     let account : IsOpened b list t r.account old x =
@@ -155,7 +155,7 @@ if_known : (v : Bool) (ledger : Ledger) (other : Option Failure) (d : Decision) 
 if_known v ledger other d e =
     ap (λ q. refused_or (if q then Some (invalid SessionId) else other) ledger d) e
 
-known_event : (action : EventAction) (b : Book) (t : ℕ) (s : List ℕ) (n : ℕ) (e : EventOf)
+known_event : (action : EventAction) (b : Shelf) (t : ℕ) (s : List ℕ) (n : ℕ) (e : EventOf)
     (ledger : Ledger) → begins_session (Event (record e { action = action })) ≡ true →
     has_record s ledger ≡ true →
     Rattle.decisions.specs.Events.decided_action action b t s n e ledger ≡
@@ -165,7 +165,7 @@ known_event DirectDebiting b t s n e ledger begins known =
 known_event CheckBalance b t s n e ledger begins known = absurd (true≢false (sym begins))
 known_event PriceEnquiry b t s n e ledger begins known = absurd (true≢false (sym begins))
 
-refused_known : (ask : Ask) (b : Book) (t : ℕ) (s : List ℕ) (n : ℕ) (ledger : Ledger) →
+refused_known : (ask : Ask) (b : Shelf) (t : ℕ) (s : List ℕ) (n : ℕ) (ledger : Ledger) →
     begins_session ask ≡ true → has_record s ledger ≡ true →
     decided b t s n ask ledger ≡ decision_of.told (Failed (invalid SessionId)) ledger
 refused_known (Initial services) b t s n ledger begins known =
@@ -177,7 +177,7 @@ refused_known (Event e) b t s n ledger begins known =
 refused_known (Refund refund) b t s n ledger begins known =
     if_known (has_record s ledger) ledger _ _ known
 
-pub request-known : (b : Book) (list : List Accepted) (r : Request) (t : ℕ) (old new : Tables)
+pub request-known : (b : Shelf) (list : List Accepted) (r : Request) (t : ℕ) (old new : Tables)
     (given : Answer) →
     IsInTime list → last_moment list ≤ t → AreTables b list old → kept_of_request r old ≡ None →
     is_known r old ≡ true → given ≡ failed r (InvalidAvpValue SessionId) → new ≡ old →
@@ -211,7 +211,8 @@ request-known b list r t old new given time le tables fresh known answers same =
 
 -- ---- a request that is decided
 
-module _ (b : Book) (list : List Accepted) (r : Request) (t : ℕ) (old new : Tables) (found : Loaded)
+module _ (b : Shelf) (list : List Accepted) (r : Request) (t : ℕ) (old new : Tables)
+    (found : Loaded)
     (time : IsInTime list) (le : last_moment list ≤ t) (tables : AreTables b list old)
     (loads : IsTaken b t r.account old found)
     (fresh : kept_of_request r old ≡ None) (new_name : is_known r old ≡ false) (m : ℕ)
@@ -228,8 +229,8 @@ module _ (b : Book) (list : List Accepted) (r : Request) (t : ℕ) (old new : Ta
   now : m ≡ t
   now = moment ∙ account.moment
 
-  ranges : IsBook b
-  ranges = subst IsBook account.of_book loads.account.book
+  ranges : IsShelf b
+  ranges = subst IsShelf account.of_book loads.account.shelf
 
   -- of a session that begins there is no row
   unknown : begins_session r.ask ≡ true → false ≡ has_record r.session past.ledger
@@ -256,16 +257,16 @@ module _ (b : Book) (list : List Accepted) (r : Request) (t : ℕ) (old new : Ta
   with-rows : IsWith past.ledger left m found.account
   with-rows = subst (λ (u : ℕ). IsWith past.ledger left u found.account) (sym now) account.with_left
 
-  decision-is : decision found.account.book m r past.ledger ≡ decision b t r past.ledger
+  decision-is : decision found.account.shelf m r past.ledger ≡ decision b t r past.ledger
   decision-is = λ i. decision (account.of_book i) (now i) r past.ledger
 
   module _ (given : RequestAnswer) (accepted : Bool)
       (answers : (ledger : Ledger) (beside : LeftRows) → IsWith ledger beside m found.account →
       IsAsked ledger beside r false →
-      given ≡ answer_of r (decision found.account.book m r ledger).outcome)
+      given ≡ answer_of r (decision found.account.shelf m r ledger).outcome)
       (accepts : (ledger : Ledger) (beside : LeftRows) → IsWith ledger beside m found.account →
       IsAsked ledger beside r false →
-      accepted ≡ (decision found.account.book m r ledger).accepted) where
+      accepted ≡ (decision found.account.shelf m r ledger).accepted) where
     accepts-is : (decision b t r past.ledger).accepted ≡ accepted
     accepts-is = sym (accepts past.ledger left with-rows asked ∙ (λ i. (decision-is i).accepted))
 
@@ -280,13 +281,13 @@ module _ (b : Book) (list : List Accepted) (r : Request) (t : ℕ) (old new : Ta
         (accepts-is ∙ refused) same
 
     pub request-done : (x : AccountRows) (change : Change) (result : Answer) → accepted ≡ true →
-        x.book ≡ found.account.book → x.as_of ≡ m →
+        x.shelf ≡ found.account.shelf → x.as_of ≡ m →
         ((ledger : Ledger) (beside : LeftRows) → IsWith ledger beside m found.account →
         IsAsked ledger beside r false →
-        IsWith (decision found.account.book m r ledger).after beside m x) →
+        IsWith (decision found.account.shelf m r ledger).after beside m x) →
         ((ledger : Ledger) (beside : LeftRows) → IsWith ledger beside m found.account →
         IsAsked ledger beside r false →
-        charge_rows (decision found.account.book m r ledger).after ≡
+        charge_rows (decision found.account.shelf m r ledger).after ≡
         charge_rows ledger ++ change.charges.items) →
         change.number ≡ found.number → change.moment ≡ x.as_of → change.after ≡ stored x →
         change.kept ≡ Some (record {
@@ -296,10 +297,10 @@ module _ (b : Book) (list : List Accepted) (r : Request) (t : ℕ) (old new : Ta
         result ≡ answer.Request given →
         (IsMadeFrom found.before (stored x) (old.rows found.number) →
         new ≡ changed change old) → IsServed b list (Ccr r) t old new result
-    request-done x change result done book as_of rows charges number moments afters kept redeemed
+    request-done x change result done shelf as_of rows charges number moments afters kept redeemed
         results makes =
         let after : Ledger = (decision b t r past.ledger).after in
-        let same : (decision found.account.book m r past.ledger).after ≡ after = λ i.
+        let same : (decision found.account.shelf m r past.ledger).after ≡ after = λ i.
         (decision-is i).after in
         served-loaded b list (Ccr r) t r.account refl time le old new tables found loads
         (keeping (content.Request r)
@@ -310,7 +311,7 @@ module _ (b : Book) (list : List Accepted) (r : Request) (t : ℕ) (old new : Ta
         refl
         (results ∙ ap answer.Request answer-is)
         (record {
-          book = book;
+          shelf = shelf;
           at_moment = as_of ∙ now;
           grows = grown b t r past.ledger;
           rows = subst (λ (u : ℕ). IsWith after left u x) now

@@ -6,7 +6,7 @@ use Rattle.std.proofs.Math.Seq.{take-append_seam}
 use Rattle.std.proofs.Math.Nat.{le-max_right}
 use Rattle.std.specs.Prelude.{if◌then◌else◌}
 use Rattle.commands.specs.declared.answer.Answer.{Answer}
-use Rattle.tariffs.specs.Books.{Book}
+use Rattle.shelves.specs.Shelves.{Shelf}
 use Rattle.keepers.specs.Tables.{Tables}
 use Rattle.charging.specs.Accepted.{Accepted, last_moment, IsInTime}
 use Rattle.charging.specs.declared.running.DatedCommand.{DatedCommand}
@@ -15,7 +15,7 @@ use Rattle.charging.specs.Runs.{after_command, answers_to, after_commands, IsRun
 
 -- ---- one command more
 
-pub time-more : (b : Book) (list : List Accepted) (d : DatedCommand) → IsInTime list →
+pub time-more : (b : Shelf) (list : List Accepted) (d : DatedCommand) → IsInTime list →
     IsInTime (after_command b list d)
 time-more b list d time = at (accepts b list d.command (moment_of list d.moment))
   where
@@ -25,7 +25,7 @@ time-more b list d time = at (accepts b list d.command (moment_of list d.moment)
     at true = (le-max_right d.moment (last_moment list), time)
     at false = time
 
-answers-more : (b : Book) (list : List Accepted) (ds : List DatedCommand) (d : DatedCommand) →
+answers-more : (b : Shelf) (list : List Accepted) (ds : List DatedCommand) (d : DatedCommand) →
     answers_to b list (ds ++ d ∷ []) ≡
     answers_to b list ds ++ answer_to b (after_commands b list ds) d.command
     (moment_of (after_commands b list ds) d.moment) ∷ []
@@ -34,29 +34,29 @@ answers-more b list (e ∷ ds) d =
     ap (λ (given : List Answer). answer_to b list e.command (moment_of list e.moment) ∷ given)
     (answers-more b (after_command b list e) ds d)
 
-pub commands_after : (b : Book) (list : List Accepted) (xs ys : List DatedCommand) →
+pub commands_after : (b : Shelf) (list : List Accepted) (xs ys : List DatedCommand) →
     after_commands b list (xs ++ ys) ≡ after_commands b (after_commands b list xs) ys
 commands_after b list [] ys = refl
 commands_after b list (x ∷ xs) ys = commands_after b (after_command b list x) xs ys
 
-pub commands-more : (b : Book) (list : List Accepted) (ds : List DatedCommand) (d : DatedCommand) →
+pub commands-more : (b : Shelf) (list : List Accepted) (ds : List DatedCommand) (d : DatedCommand) →
     after_commands b list (ds ++ d ∷ []) ≡ after_command b (after_commands b list ds) d
 commands-more b list ds d = commands_after b list ds (d ∷ [])
 
 -- ---- so far
 
 -- the answers are those of these commands, and the tables those of the list after them
-pub record IsSoFar (b : Book) (list : List Accepted) (ds : List DatedCommand) (new : Tables)
+pub record IsSoFar (b : Shelf) (list : List Accepted) (ds : List DatedCommand) (new : Tables)
     (given : List Answer) : Type 0 where
   pub answers : given ≡ answers_to b list ds
   pub tables : AreTables b (after_commands b list ds) new
   pub time : IsInTime (after_commands b list ds)
 
-abbrev pub RunsSoFar : Book → List DatedCommand → Tables → Tables → List Answer → Type 0
+abbrev pub RunsSoFar : Shelf → List DatedCommand → Tables → Tables → List Answer → Type 0
 RunsSoFar b ds old new given = (list : List Accepted) → IsInTime list → AreTables b list old →
     IsSoFar b list ds new given
 
-pub so-far-more : (b : Book) (list : List Accepted) (ds : List DatedCommand) (d : DatedCommand)
+pub so-far-more : (b : Shelf) (list : List Accepted) (ds : List DatedCommand) (d : DatedCommand)
     (mid new : Tables) (given all : List Answer) (x : Answer) → IsSoFar b list ds mid given →
     IsServed b (after_commands b list ds) d.command (moment_of (after_commands b list ds) d.moment)
     mid new x → all ≡ given ++ x ∷ [] → IsSoFar b list (ds ++ d ∷ []) new all
@@ -69,7 +69,8 @@ so-far-more b list ds d mid new given all x so served grown = record {
 }
 
 -- the commands that were answered are a beginning of all
-pub run-of : (b : Book) (list : List Accepted) (commands ds rest : List DatedCommand) (new : Tables)
+pub run-of : (b : Shelf) (list : List Accepted) (commands ds rest : List DatedCommand)
+    (new : Tables)
     (given : List Answer) → ds ++ rest ≡ commands → length given ≡ length ds →
     IsSoFar b list ds new given → IsRun b list commands new given
 run-of b list commands ds rest new given all count so =

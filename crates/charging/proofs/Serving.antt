@@ -5,7 +5,7 @@ use Rattle.std.proofs.Math.Nat.{max-eq_left}
 use Rattle.std.specs.Prelude.{if◌then◌else◌, is_some, max, Result, Ok, Err, OnOk}
 use Rattle.commands.specs.declared.answer.Answer.{Answer}
 use Rattle.commands.specs.declared.command.Command.{Command}
-use Rattle.tariffs.specs.Books.{Book}
+use Rattle.shelves.specs.Shelves.{Shelf}
 use Rattle.reserving.specs.Charges.{charge_rows}
 use Rattle.reserving.specs.Rows.{AccountRows, IsAccount}
 use Rattle.reserving.specs.Stored.{StoredRows, stored, priced}
@@ -55,7 +55,7 @@ pub keeps-none : {o : Option KeptAnswer} → o ≡ None → (xs : List KeptAnswe
 keeps-none e xs = sym (ap (λ o. keeps o xs) e)
 
 -- the list stays in time
-pub in-time : (b : Book) (list : List Accepted) (c : Command) (t : ℕ) → IsInTime list →
+pub in-time : (b : Shelf) (list : List Accepted) (c : Command) (t : ℕ) → IsInTime list →
     last_moment list ≤ t → IsInTime (with_command b list c t)
 in-time b list c t time le = at (accepts b list c t)
   where
@@ -66,13 +66,13 @@ in-time b list c t time le = at (accepts b list c t)
 -- ---- what a keeper loaded
 
 -- what a call found is so of the tables before the calls before it
-pub none_loaded : (b : Book) (t : ℕ) (a : List ℕ) (mid old : Tables) (o : Option Loaded) →
+pub none_loaded : (b : Shelf) (t : ℕ) (a : List ℕ) (mid old : Tables) (o : Option Loaded) →
     mid ≡ old → IsLoad b t a (mid.rows a) o → o ≡ None → (old.rows a).head ≡ None
 none_loaded b t a mid old o same found none =
     subst (λ (x : Tables). (x.rows a).head ≡ None) same
     (subst (λ (q : Option Loaded). IsLoad b t a (mid.rows a) q) none found)
 
-pub some_loaded : (b : Book) (t : ℕ) (a : List ℕ) (mid old : Tables) (o : Option Loaded)
+pub some_loaded : (b : Shelf) (t : ℕ) (a : List ℕ) (mid old : Tables) (o : Option Loaded)
     (l : Loaded) → mid ≡ old → IsLoad b t a (mid.rows a) o → o ≡ Some l →
     IsLoad b t a (old.rows a) (Some l)
 some_loaded b t a mid old o l same found there =
@@ -81,17 +81,17 @@ some_loaded b t a mid old o l same found there =
 
 -- an account that was loaded is there: the rows of its history are those that were loaded with
 -- those that were left
-pub record IsOpened (b : Book) (list : List Accepted) (t : ℕ) (a : List ℕ) (old : Tables)
+pub record IsOpened (b : Shelf) (list : List Accepted) (t : ℕ) (a : List ℕ) (old : Tables)
     (x : AccountRows) : Type 0 where
   pub opened : (history b a list).opened ≡ true
-  pub of_book : x.book ≡ b
+  pub of_book : x.shelf ≡ b
   pub head : is_some (old.rows a).head ≡ true
   pub are : AreRowsAt b (history b a list).ledger (as_of a list) (old.rows a)
   pub with_left : IsWith (history b a list).ledger (left_of t (priced b are.listed)) t x
   -- and the moment isn't before its own
   pub moment : max t x.as_of ≡ t
 
-pub is_opened : (b : Book) (list : List Accepted) (t : ℕ) (a : List ℕ) (old : Tables)
+pub is_opened : (b : Shelf) (list : List Accepted) (t : ℕ) (a : List ℕ) (old : Tables)
     (x : AccountRows) →
     IsInTime list → last_moment list ≤ t → AreTables b list old → IsLoadedFrom b t (old.rows a) x →
     IsAccount x → IsOpened b list t a old x
@@ -117,14 +117,14 @@ is_opened b list t a old x time le tables loads is =
 -- ---- what a command comes to
 
 -- the voucher of a change is what an accepted command leaves under its code
-abbrev pub AreSpent : Book → List Accepted → ℕ → Command → Change → Type 0
+abbrev pub AreSpent : Shelf → List Accepted → ℕ → Command → Change → Type 0
 AreSpent b list t c change = (code : List ℕ) →
     redeemed_over change.redeemed code (voucher b code list) ≡
     (if names_code code c then voucher_after (book_days b) c t (voucher b code list)
     else voucher b code list)
 
 -- a command that names no code leaves each as it is
-pub none-spent : (b : Book) (list : List Accepted) (t : ℕ) (c : Command) (change : Change) →
+pub none-spent : (b : Shelf) (list : List Accepted) (t : ℕ) (c : Command) (change : Change) →
     ((code : List ℕ) → names_code code c ≡ false) → change.redeemed ≡ None →
     AreSpent b list t c change
 none-spent b list t c change codes is code =
@@ -133,7 +133,7 @@ none-spent b list t c change codes is code =
     else voucher b code list) (codes code))
 
 -- a change is what an accepted command makes of the history of the account that it names
-pub record IsChange (b : Book) (list : List Accepted) (t : ℕ) (c : Command)
+pub record IsChange (b : Shelf) (list : List Accepted) (t : ℕ) (c : Command)
     (before after : History) (change : Change) (tables : Tables) : Type 0 where
   pub moment : change.moment ≡ t
   pub opened : after.opened ≡ true
@@ -145,7 +145,7 @@ pub record IsChange (b : Book) (list : List Accepted) (t : ℕ) (c : Command)
       else tables.count + 1) ≡ (if is_opening c then tables.count + 1 else tables.count)
 
 -- an account whose head is there was opened
-pub is-there : (b : Book) (list : List Accepted) (a : List ℕ) (old : Tables) →
+pub is-there : (b : Shelf) (list : List Accepted) (a : List ℕ) (old : Tables) →
     AreTables b list old → is_some (old.rows a).head ≡ true → (history b a list).opened ≡ true
 is-there b list a old tables e = at (old.rows a).head refl e
   where
@@ -155,7 +155,7 @@ is-there b list a old tables e = at (old.rows a).head refl e
     at (Some head) is k = (row_some b (as_of a list) (history b a list) (old.rows a) head is
         (tables.accounts a)).0
 
-module _ (b : Book) (list : List Accepted) (c : Command) (t : ℕ) (a : List ℕ)
+module _ (b : Shelf) (list : List Accepted) (c : Command) (t : ℕ) (a : List ℕ)
     (named : concerned_by c ≡ one a) where
   -- what it comes to
   abbrev comes : Outcome
@@ -285,7 +285,7 @@ module _ (b : Book) (list : List Accepted) (c : Command) (t : ℕ) (a : List ℕ
     -- the call left the account with the rows that weren't loaded the ledger's after the command,
     -- and the change tells it
     pub record IsCalled (o : Outcome) (x : AccountRows) (change : Change) : Type 0 where
-      pub book : x.book ≡ found.account.book
+      pub shelf : x.shelf ≡ found.account.shelf
       pub at_moment : x.as_of ≡ t
       pub grows : Extends (history b a list).ledger o.after.ledger
       pub rows : IsWith o.after.ledger (left_of t (priced b account.are.listed)) t x
@@ -303,7 +303,7 @@ module _ (b : Book) (list : List Accepted) (c : Command) (t : ℕ) (a : List ℕ
         × AreRowsAt b o.after.ledger x.as_of (over (stored x) (old.rows a))
     left o x change is = left_behind b (history b a list).ledger o.after.ledger (as_of a list) t
         (old.rows a) found.account x account.are loads.account loads.load.1
-        (is.book ∙ account.of_book) is.grows is.rows
+        (is.shelf ∙ account.of_book) is.grows is.rows
 
     made : (o : Outcome) (x : AccountRows) (change : Change) → IsCalled o x change →
         IsMadeFrom found.before (stored x) (old.rows found.number)

@@ -1,6 +1,6 @@
 -- The ledger of each history is sound.
 use Rattle.std.proofs.Common.{◌≡◌, ℕ, true, false, true≢false, List, [], ◌∷◌, ◌∙◌, None}
-use Rattle.tariffs.specs.Books.{Book}
+use Rattle.shelves.specs.Shelves.{Shelf}
 use Rattle.buckets.specs.declared.holds.Hold.{Hold}
 use Rattle.buckets.specs.Row.{Row}
 use Rattle.buckets.specs.Share.{parts}
@@ -18,13 +18,14 @@ use Rattle.reserving.proofs.rows.Barring.{IsSoundLedger-barred}
 use Rattle.reserving.proofs.rows.Empty.{IsSoundLedger-none}
 use Rattle.reserving.proofs.rows.Reserved.{IsSoundLedger-reserved}
 use Rattle.reserving.proofs.rows.Debited.{IsSoundLedger-debited}
+use Rattle.reserving.specs.Pricing.{validity_of}
 use Rattle.charging.specs.SessionReports.{Report}
 use Rattle.charging.proofs.Steps.{is_quiet, is_touch, IsInPlace, Keeps}
 use Rattle.charging.proofs.Credited.{all_made}
 use Rattle.charging.proofs.Recorded.{charges_record}
 use Rattle.charging.proofs.Paying.{IsPaying, paying_none, keeps_paying}
 
-pub record IsSoundHistory (b : Book) (reports : List Report) (ledger : Ledger) : Type 0 where
+pub record IsSoundHistory (b : Shelf) (reports : List Report) (ledger : Ledger) : Type 0 where
   pub paying : IsPaying b reports ledger
   pub sound : IsSoundLedger ledger
 
@@ -36,26 +37,26 @@ sound_quiet t (Recorded s k) ledger q n fits h = IsSoundLedger-recorded t s k le
 sound_quiet t (Barred x) ledger q n fits h = IsSoundLedger-barred t x ledger h
 sound_quiet t _ ledger q n fits h = cc
 
-sound_debited : (b : Book) (t : ℕ) (s : List ℕ) (g units : ℕ) (reports : List Report)
+sound_debited : (b : Shelf) (t : ℕ) (s : List ℕ) (g units : ℕ) (reports : List Report)
     (ledger : Ledger) → IsSoundHistory b reports ledger →
     IsSoundLedger (debited b t s g units ledger)
 sound_debited b t s g units reports ledger h =
-    IsSoundLedger-debited b.validity t s g units (event_price b t g units ledger).blocks
+    IsSoundLedger-debited (validity_of b) t s g units (event_price b t g units ledger).blocks
     (event_price b t g units ledger).amount.0 ledger
-    (all_made b.validity t ledger h.paying.credits) h.sound
+    (all_made (validity_of b) t ledger h.paying.credits) h.sound
 
 -- a debit records nothing by itself
-new_debited : (b : Book) (t : ℕ) (s : List ℕ) (g units : ℕ) (ledger : Ledger) →
+new_debited : (b : Shelf) (t : ℕ) (s : List ℕ) (g units : ℕ) (ledger : Ledger) →
     last_recording s ledger ≡ None → last_recording s (debited b t s g units ledger) ≡ None
 new_debited b t s g units ledger new =
-    let rows : List Row = buckets_at b.validity t ledger in
+    let rows : List Row = buckets_at (validity_of b) t ledger in
     let hs : List Hold = parts (paid [] g t (event_price b t g units ledger).amount.0 rows) rows in
     charges_record s t hs ledger ∙ new
 
-pub sound_none : (b : Book) → IsSoundHistory b [] []
+pub sound_none : (b : Shelf) → IsSoundHistory b [] []
 sound_none b = record { paying = paying_none b; sound = IsSoundLedger-none }
 
-pub keeps_sound : (b : Book) → Keeps b (IsSoundHistory b)
+pub keeps_sound : (b : Shelf) → Keeps b (IsSoundHistory b)
 keeps_sound b = record {
   quiet = λ t f reports ledger q n fits h. record {
     paying = paying.quiet t f reports ledger q n fits h.paying;
@@ -72,12 +73,12 @@ keeps_sound b = record {
   settle = λ t s g used_parts reports ledger touches h. record {
     paying = paying.settle t s g used_parts reports ledger touches h.paying;
     sound = IsSoundLedger-settled_by b t s g used_parts ledger
-        (all_made b.validity t ledger h.paying.credits) h.sound;
+        (all_made (validity_of b) t ledger h.paying.credits) h.sound;
   };
   grant = λ t s g asked reports ledger has h. record {
     paying = paying.grant t s g asked reports ledger has h.paying;
     sound = IsSoundLedger-reserved b t s g _ _ ledger
-        (all_made b.validity t ledger h.paying.credits) has h.sound;
+        (all_made (validity_of b) t ledger h.paying.credits) has h.sound;
   };
   event = λ t s g units n reports ledger new covered h. record {
     paying = paying.event t s g units n reports ledger new covered h.paying;

@@ -8,7 +8,7 @@ use Rattle.commands.specs.declared.answer.Answer.TheVariants as answer
 use Rattle.commands.specs.declared.answer.Refusal.TheVariants.{AccountUnknown}
 use Rattle.commands.specs.declared.balance.AccountBalance.{AccountBalance}
 use Rattle.commands.specs.declared.command.Command.TheVariants as command
-use Rattle.tariffs.specs.Books.{Book}
+use Rattle.shelves.specs.Shelves.{Shelf}
 use Rattle.reserving.specs.Balance.{buckets_at}
 use Rattle.reserving.specs.Changes.{advanced}
 use Rattle.reserving.specs.Ledger.{Ledger}
@@ -16,6 +16,7 @@ use Rattle.reserving.specs.Left.{LeftRows, IsWith, is_dead, bucket_in, left_of, 
 use Rattle.reserving.specs.Rows.{AccountRows}
 use Rattle.reserving.specs.Stored.{priced}
 use Rattle.reserving.proofs.LeftMore.{with_advanced}
+use Rattle.reserving.specs.Pricing.{validity_of}
 use Rattle.keepers.specs.Change.{IsLoadedFrom, AreDeadOf}
 use Rattle.keepers.specs.Tables.{Tables}
 use Rattle.keepers.proofs.Found.{bucket_filter}
@@ -32,12 +33,12 @@ use Rattle.charging.proofs.Serving.{IsOpened, is_opened, served-told, outcome-op
 
 -- ---- the state
 
-pub none-stated : (b : Book) (a : List ℕ) (list : List Accepted) (old : Tables) →
+pub none-stated : (b : Shelf) (a : List ℕ) (list : List Accepted) (old : Tables) →
     AreTables b list old → (old.rows a).head ≡ None → (history b a list).opened ≡ false
 none-stated b a list old tables none =
     (row_none b (as_of a list) (history b a list) (old.rows a) none (tables.accounts a)).0
 
-pub some-stated : (b : Book) (a : List ℕ) (t : ℕ) (list : List Accepted) (old : Tables)
+pub some-stated : (b : Shelf) (a : List ℕ) (t : ℕ) (list : List Accepted) (old : Tables)
     (x : AccountRows) (dead : List Row) (s : AccountState) → IsInTime list →
     AreTables b list old → last_moment list ≤ t → IsLoadedFrom b t (old.rows a) x →
     AreDeadOf (old.rows a) dead → IsStateOf t x dead s → IsState b t (history b a list) (Some s)
@@ -63,13 +64,13 @@ some-stated b a t list old x dead s time tables le loads found h =
         moment = h.moment ∙ there.moment;
         barred = h.barred ∙ there.with_left.rows.barred;
         buckets = buckets ∙ ap by_number later.rows.buckets
-            ∙ ap (λ (k : Book). by_number (buckets_at k.validity t ledger)) there.of_book;
+            ∙ ap (λ (k : Shelf). by_number (buckets_at (validity_of k) t ledger)) there.of_book;
       },
     )
 
 -- ---- the answer
 
-pub balance-unknown : (b : Book) (list : List Accepted) (n : List ℕ) (t : ℕ) (old new : Tables) →
+pub balance-unknown : (b : Shelf) (list : List Accepted) (n : List ℕ) (t : ℕ) (old new : Tables) →
     IsInTime list → last_moment list ≤ t → AreTables b list old →
     (history b n list).opened ≡ false → new ≡ old →
     IsServed b list (command.Balance n) t old new (answer.Refused AccountUnknown)
@@ -81,7 +82,7 @@ balance-unknown b list n t old new time le tables none same =
     else unopened_outcome None h (command.Balance n)) none)
     refl refl same tables
 
-pub balance-told : (b : Book) (list : List Accepted) (n : List ℕ) (t : ℕ) (old new : Tables)
+pub balance-told : (b : Shelf) (list : List Accepted) (n : List ℕ) (t : ℕ) (old new : Tables)
     (s : AccountState) (given : AccountBalance) → IsInTime list → last_moment list ≤ t →
     AreTables b list old → IsState b t (history b n list) (Some s) →
     given ≡ record {

@@ -1,11 +1,11 @@
 -- What each step of a ledger keeps, every ledger of an account keeps.
 use Rattle.std.proofs.Common.{◌≡◌, ℕ, Bool, true, false, List, ◌∷◌, Option, None}
 use Rattle.units.specs.declared.blocks.UsedPart.{UsedPart}
-use Rattle.tariffs.specs.Books.{Book}
+use Rattle.shelves.specs.Shelves.{Shelf}
 use Rattle.rating.specs.declared.grant.Grant.{Grant as RatedGrant}
 use Rattle.reserving.specs.Ledger.{Fact, Ledger, last_recording, used, counter}
 use Rattle.reserving.specs.Ledger.Fact.{Grant, Touch, Close, Recorded, Barred}
-use Rattle.reserving.specs.Pricing.{cycle_at, periods_at}
+use Rattle.reserving.specs.Pricing.{cycle_at, terms_at}
 use Rattle.reserving.specs.Requests.{recorded, touched, credited}
 use Rattle.reserving.specs.Settlement.{settled_by}
 use Rattle.reserving.specs.Reservation.{reserved, grant_for}
@@ -22,16 +22,16 @@ is_quiet (Barred barred) = true
 is_quiet _ = false
 
 -- a grant's first fact, before its holds
-abbrev pub with_grant : Book → ℕ → List ℕ → ℕ → ℕ → Ledger → Ledger
+abbrev pub with_grant : Shelf → ℕ → List ℕ → ℕ → ℕ → Ledger → Ledger
 with_grant b t s g units ledger =
     record {
       at = t;
-      fact = Grant s g (periods_at b t) units
+      fact = Grant s g (terms_at b t) units
           (counter (cycle_at b g) g (cycle_at b g t) ledger);
     } ∷ ledger
 
 -- the ledger with the grant of a session's group, as far as the funds cover it
-abbrev pub granted : Book → ℕ → List ℕ → ℕ → Option ℕ → Ledger → Ledger
+abbrev pub granted : Shelf → ℕ → List ℕ → ℕ → Option ℕ → Ledger → Ledger
 granted b t s g asked ledger = let grant : RatedGrant =
     grant_for b t g (used s g ledger) asked ledger in reserved b t s g grant.units.0 grant.amount.0
     ledger
@@ -48,7 +48,7 @@ IsInPlace (Recorded session number) ledger = last_recording session ledger ≡ N
 IsInPlace _ ledger = Unit {0}
 
 -- a property of an account's reports and ledger is kept by each step that its commands take
-pub record Keeps (b : Book) (P : List Report → Ledger → Type 0) : Type 0 where
+pub record Keeps (b : Shelf) (P : List Report → Ledger → Type 0) : Type 0 where
   pub quiet : (t : ℕ) (f : Fact) (reports : List Report) (ledger : Ledger) → is_quiet f ≡ true →
       is_touch f ≡ false → IsInPlace f ledger → P reports ledger →
       P reports (record { at = t; fact = f } ∷ ledger)

@@ -20,7 +20,7 @@ use Rattle.redemptions.specs.declared.redeeming.Redemption.{Redemption}
 use Rattle.redemptions.specs.declared.redeeming.RedeemRefusal.{RedeemRefusal}
 use Rattle.redemptions.specs.Adding.{same_terms, addition}
 use Rattle.redemptions.specs.Redeeming.{redemption, after_redemption}
-use Rattle.tariffs.specs.Books.{Book}
+use Rattle.shelves.specs.Shelves.{Shelf}
 use Rattle.reserving.specs.Ledger.{Ledger, next_bucket}
 use Rattle.reserving.specs.Charges.{charge_rows}
 use Rattle.reserving.specs.Requests.{credited}
@@ -65,7 +65,7 @@ new_free (Some v) terms w e = at (same_terms v.terms terms) e
     at true k = absurd (true≢false (sym (ap is_new k)))
     at false k = absurd (true≢false (sym (ap is_new k)))
 
-module _ (b : Book) (list : List Accepted) (v : VoucherAddition) (t : ℕ) (old new : Tables)
+module _ (b : Shelf) (list : List Accepted) (v : VoucherAddition) (t : ℕ) (old new : Tables)
     (time : IsInTime list) (le : last_moment list ≤ t) (tables : AreTables b list old)
     (x : Addition) (adds : addition (old.vouchers v.code) v.terms ≡ x) where
   adds-is : addition (voucher b v.code list) v.terms ≡ x
@@ -117,7 +117,7 @@ module _ (b : Book) (list : List Accepted) (v : VoucherAddition) (t : ℕ) (old 
 
 -- ---- a voucher that is redeemed
 
-pub redeem-unknown : (b : Book) (list : List Accepted) (r : VoucherRedemption) (t : ℕ)
+pub redeem-unknown : (b : Shelf) (list : List Accepted) (r : VoucherRedemption) (t : ℕ)
     (old new : Tables) → IsInTime list → last_moment list ≤ t → AreTables b list old →
     (old.rows r.account).head ≡ None → new ≡ old →
     IsServed b list (command.Redeem r) t old new (answer.Refused AccountUnknown)
@@ -128,7 +128,7 @@ redeem-unknown b list r t old new time le tables none same =
     (outcome-unopened b list (command.Redeem r) t r.account refl old tables none) refl refl same
     tables
 
-pub redeem-again : (b : Book) (list : List Accepted) (r : VoucherRedemption) (t : ℕ)
+pub redeem-again : (b : Shelf) (list : List Accepted) (r : VoucherRedemption) (t : ℕ)
     (old new : Tables) (kept : KeptAnswer) (given : Answer) → IsInTime list →
     last_moment list ≤ t → AreTables b list old →
     old.answers r.account (key_of (content.Redeem r)) ≡ Some kept →
@@ -145,7 +145,7 @@ redeem-again b list r t old new kept given time le tables is answers same =
     refl answers same tables
 
 -- a redemption under a free reference, of an account that is there
-module _ (b : Book) (list : List Accepted) (r : VoucherRedemption) (t : ℕ) (old : Tables)
+module _ (b : Shelf) (list : List Accepted) (r : VoucherRedemption) (t : ℕ) (old : Tables)
     (tables : AreTables b list old)
     (opened : (history b r.account list).opened ≡ true)
     (fresh : old.answers r.account (key_of (content.Redeem r)) ≡ None)
@@ -162,7 +162,7 @@ module _ (b : Book) (list : List Accepted) (r : VoucherRedemption) (t : ℕ) (ol
       (sym (tables.answers r.account (key_of (content.Redeem r))) ∙ fresh)
       ∙ ap (λ q. redemption_outcome q r t (history b r.account list)) redeems-is
 
-pub redeem-refused : (b : Book) (list : List Accepted) (r : VoucherRedemption) (t : ℕ)
+pub redeem-refused : (b : Shelf) (list : List Accepted) (r : VoucherRedemption) (t : ℕ)
     (old new : Tables) (found : Loaded) (refusal : RedeemRefusal) → IsInTime list →
     last_moment list ≤ t → AreTables b list old →
     IsLoad b t r.account (old.rows r.account) (Some found) →
@@ -177,7 +177,7 @@ redeem-refused b list r t old new found refusal time le tables loads fresh redee
     (answer.Refused (refused_as refusal)) old new
     (redeemed-is b list r t old tables opened fresh (Err refusal) redeems) refl refl same tables
 
-module _ (b : Book) (list : List Accepted) (r : VoucherRedemption) (t : ℕ) (old new : Tables)
+module _ (b : Shelf) (list : List Accepted) (r : VoucherRedemption) (t : ℕ) (old new : Tables)
     (found : Loaded) (time : IsInTime list) (le : last_moment list ≤ t)
     (tables : AreTables b list old) (loads : IsTaken b t r.account old found) (m : ℕ)
     (fresh : old.answers r.account (key_of (content.Redeem r)) ≡ None)
@@ -241,13 +241,13 @@ module _ (b : Book) (list : List Accepted) (r : VoucherRedemption) (t : ℕ) (ol
       at false e = refl
 
   pub redeem-done : (number : ℕ) (change : Change) → o ≡ Some number →
-      x.book ≡ found.account.book → IfSome o (λ n. x.as_of ≡ m) →
+      x.shelf ≡ found.account.shelf → IfSome o (λ n. x.as_of ≡ m) →
       Tells change found x (Some
       (record { content = content.Redeem r; answer = answer.Bucket number }))
       (Some (record { code = r.code; voucher = y.voucher })) →
       (IsMadeFrom found.before (stored x) (old.rows found.number) → new ≡ changed change old) →
       IsServed b list (command.Redeem r) t old new (answer.Bucket number)
-  redeem-done number change some book stands tells grown =
+  redeem-done number change some shelf stands tells grown =
       let done = subst (λ (q : Option ℕ). Makes q y.from y.until y.scope y.amount m h.ledger left x)
       some made in
       let as_of : x.as_of ≡ m = subst (λ (q : Option ℕ). IfSome q (λ n. x.as_of ≡ m)) some stands in
@@ -259,7 +259,7 @@ module _ (b : Book) (list : List Accepted) (r : VoucherRedemption) (t : ℕ) (ol
       else keeping (content.Redeem r) (answer.Bucket (next_bucket h.ledger)) after h) done.0)
       refl (ap answer.Bucket done.1)
       (record {
-        book = book;
+        shelf = shelf;
         at_moment = as_of ∙ now;
         grows = one_credit t y.from y.until y.scope y.amount h.ledger;
         rows = subst (λ (u : ℕ). IsWith

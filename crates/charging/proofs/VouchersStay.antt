@@ -18,7 +18,7 @@ use Rattle.redemptions.specs.Standing.{is_spent, terms_under}
 use Rattle.redemptions.specs.Adding.{same_terms, addition, after_addition}
 use Rattle.redemptions.specs.Redeeming.{DayEnds, bucket_end, redemption_until, after_redemption}
 use Rattle.redemptions.proofs.Exact.{terms_exact}
-use Rattle.tariffs.specs.Books.{Book}
+use Rattle.shelves.specs.Shelves.{Shelf}
 use Rattle.reserving.proofs.Lists.{some_of}
 use Rattle.charging.specs.Histories.{History, no_history}
 use Rattle.charging.specs.Accepted.{Accepted, names_code, voucher_after}
@@ -61,7 +61,7 @@ keeps_terms ends command.Sweep t found terms e = e
 keeps_terms ends (command.Balance n) t found terms e = e
 
 -- after an accepted command, of this code or of others
-keeps_accepted : (b : Book) (code : List ℕ) (terms : VoucherTerms) (list : List Accepted)
+keeps_accepted : (b : Shelf) (code : List ℕ) (terms : VoucherTerms) (list : List Accepted)
     (d : Accepted) (taken : Bool) → terms_under (voucher b code list) ≡ Some terms →
     terms_under (voucher b code (if taken then d ∷ list else list)) ≡ Some terms
 keeps_accepted b code terms list d false e = e
@@ -73,7 +73,7 @@ keeps_accepted b code terms list d true e = at (names_code code d.command)
     at true = keeps_terms (book_days b) d.command d.moment (voucher b code list) terms e
     at false = e
 
-keeps_through : (b : Book) (code : List ℕ) (terms : VoucherTerms) (list : List Accepted)
+keeps_through : (b : Shelf) (code : List ℕ) (terms : VoucherTerms) (list : List Accepted)
     (ds : List DatedCommand) → terms_under (voucher b code list) ≡ Some terms →
     terms_under (voucher b code (after_commands b list ds)) ≡ Some terms
 keeps_through b code terms list [] e = e
@@ -101,7 +101,7 @@ free_if_taken (Some w) terms h taken = at (same_terms w.terms terms) taken
     at false k = no k
 
 -- it stands there afterwards
-stands_then : (b : Book) (list : List Accepted) (v : VoucherAddition) (t : ℕ) →
+stands_then : (b : Shelf) (list : List Accepted) (v : VoucherAddition) (t : ℕ) →
     voucher b v.code list ≡ None →
     terms_under (voucher b v.code (record { moment = t; command = command.AddVoucher v } ∷ list)) ≡
     Some v.terms
@@ -119,13 +119,13 @@ present_again (Some w) terms e =
     ap (λ same. if same then Present else Conflicting)
     ((terms_exact w.terms terms).1 (some_of w.terms terms e))
 
-pub record IsAddedOnce (b : Book) (list after : List Accepted) (v : VoucherAddition) (t u : ℕ) :
+pub record IsAddedOnce (b : Shelf) (list after : List Accepted) (v : VoucherAddition) (t u : ℕ) :
     Type 0 where
   pub answer : answer_to b after (command.AddVoucher v) u ≡
       answer_to b list (command.AddVoucher v) t
   pub accepted : accepts b after (command.AddVoucher v) u ≡ false
 
-pub added-once : (b : Book) (list : List Accepted) (v : VoucherAddition) (t : ℕ)
+pub added-once : (b : Shelf) (list : List Accepted) (v : VoucherAddition) (t : ℕ)
     (between : List DatedCommand) (u : ℕ) → accepts b list (command.AddVoucher v) t ≡ true →
     IsAddedOnce b list
     (after_commands b (record { moment = t; command = command.AddVoucher v } ∷ list) between) v t u

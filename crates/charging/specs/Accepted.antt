@@ -10,7 +10,7 @@ use Rattle.commands.specs.declared.answer.Answer.{Answer}
 use Rattle.redemptions.specs.declared.voucher.Voucher.{Voucher}
 use Rattle.redemptions.specs.Adding.{addition, after_addition}
 use Rattle.redemptions.specs.Redeeming.{DayEnds, redemption, after_redemption}
-use Rattle.tariffs.specs.Books.{Book}
+use Rattle.shelves.specs.Shelves.{Shelf}
 use Rattle.reserving.specs.Charges.{charge_rows}
 use Rattle.keepers.specs.declared.key.Key.{Key}
 use Rattle.keepers.specs.Tables.{Head, Rows, Tables, no_rows, charge_in}
@@ -140,13 +140,13 @@ standing_for ends (command.Balance n) list = None
 -- ---- one account alone
 
 -- the rows of an account that is there, or none
-abbrev pub IsRowOf : Option Head → Book → ℕ → History → Rows → Type 0
-IsRowOf None book t history r = (history.opened ≡ false) × (r ≡ no_rows)
-IsRowOf (Some head) book t history r = (history.opened ≡ true) × AreRowsAt book history.ledger t r
+abbrev pub IsRowOf : Option Head → Shelf → ℕ → History → Rows → Type 0
+IsRowOf None shelf t history r = (history.opened ≡ false) × (r ≡ no_rows)
+IsRowOf (Some head) shelf t history r = (history.opened ≡ true) × AreRowsAt shelf history.ledger t r
 
 -- an account's rows are those of its history at a moment
-abbrev pub IsRow : Book → ℕ → History → Rows → Type 0
-IsRow book t history r = IsRowOf r.head book t history r
+abbrev pub IsRow : Shelf → ℕ → History → Rows → Type 0
+IsRow shelf t history r = IsRowOf r.head shelf t history r
 
 -- by where days end, and what commands come to over what stands under their codes and on an
 -- account's history
@@ -163,9 +163,9 @@ module _ (ends : DayEnds) (outcome : Option Voucher → History → Command → 
   -- ---- tables
 
   -- the tables of the accepted commands
-  pub record AreTablesOf (book : Book) (list : List Accepted) (tables : Tables) : Type 0 where
+  pub record AreTablesOf (shelf : Shelf) (list : List Accepted) (tables : Tables) : Type 0 where
     pub last : tables.last ≡ last_moment list
-    pub accounts : (a : List ℕ) → IsRow book (as_of a list) (history_of a list) (tables.rows a)
+    pub accounts : (a : List ℕ) → IsRow shelf (as_of a list) (history_of a list) (tables.rows a)
     pub answers : (a : List ℕ) (k : Key) → tables.answers a k ≡ kept_under k (history_of a list)
     pub charges : (a : List ℕ) (n : ℕ) →
         tables.charges a n ≡ charge_in n (charge_rows (history_of a list).ledger)

@@ -5,9 +5,10 @@ use Rattle.std.specs.List.Sorted.{IsNonDecreasingBy, IsPermutation}
 use Rattle.buckets.specs.Row.{Row}
 use Rattle.commands.specs.declared.balance.AccountBalance.{AccountBalance}
 use Rattle.commands.specs.declared.balance.BucketBalance.{BucketBalance}
-use Rattle.tariffs.specs.Books.{Book}
+use Rattle.shelves.specs.Shelves.{Shelf}
 use Rattle.reserving.specs.Ledger.{Ledger, is_barred}
 use Rattle.reserving.specs.Balance.{buckets_at}
+use Rattle.reserving.specs.Pricing.{validity_of}
 
 -- a bucket stands before the first of a greater number
 abbrev pub numbered : Row → List Row → List Row
@@ -33,11 +34,11 @@ bucket_balance b = record {
 }
 
 -- the balance at a moment of the account of this number, by its ledger
-abbrev pub account_balance : Book → List ℕ → ℕ → Ledger → AccountBalance
+abbrev pub account_balance : Shelf → List ℕ → ℕ → Ledger → AccountBalance
 account_balance b n t ledger = record {
   account = n;
   barred = is_barred ledger;
-  buckets = map bucket_balance (by_number (buckets_at b.validity t ledger));
+  buckets = map bucket_balance (by_number (buckets_at (validity_of b) t ledger));
   moment = t;
 }
 

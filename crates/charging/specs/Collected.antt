@@ -10,5 +10,5 @@ abbrev pub collected_to_date : Ledger → ℕ
 collected_to_date ledger = sum_by (λ c. c.collected.0) (charge_rows ledger)
 
 -- from all buckets, as they stand at a moment
-abbrev pub charged_to_date : ℕ → ℕ → Ledger → ℕ
+abbrev pub charged_to_date : (ℕ → ℕ) → ℕ → Ledger → ℕ
 charged_to_date v t ledger = sum_by (λ x. x.charged) (buckets_at v t ledger)

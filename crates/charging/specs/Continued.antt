@@ -2,7 +2,7 @@
 -- goes on.
 -- Source: profile.
 use Rattle.std.specs.Prelude.{List}
-use Rattle.tariffs.specs.Books.{Book}
+use Rattle.shelves.specs.Shelves.{Shelf}
 use Rattle.keepers.specs.Tables.{Tables}
 use Rattle.charging.specs.declared.running.DatedCommand.{DatedCommand}
 use Rattle.charging.specs.Accepted.{Accepted, IsInTime}
@@ -10,17 +10,17 @@ use Rattle.charging.specs.Runs.{after_commands}
 use Rattle.charging.specs.Served.{AreTables}
 
 -- this is so of every list of accepted commands whose tables these are
-abbrev pub ForEachList : Book → Tables → (List Accepted → Type 0) → Type 0
+abbrev pub ForEachList : Shelf → Tables → (List Accepted → Type 0) → Type 0
 ForEachList b tables says = (list : List Accepted) → IsInTime list →
     AreTables b list tables → says list
 
 -- some dated commands came to the list, in time, and these are its tables then
-pub record IsContinued (b : Book) (content : Tables) (list : List Accepted) : Type 0 where
+pub record IsContinued (b : Shelf) (content : Tables) (list : List Accepted) : Type 0 where
   pub commands : List DatedCommand
   pub tables : AreTables b (after_commands b list commands) content
   pub time : IsInTime (after_commands b list commands)
 
 -- whatever list the tables before are of, commands came to it, and the tables after are those of
 -- the longer list
-abbrev pub Continues : Book → Tables → Tables → Type 0
+abbrev pub Continues : Shelf → Tables → Tables → Type 0
 Continues b old new = ForEachList b old (IsContinued b new)

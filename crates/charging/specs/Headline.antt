@@ -5,12 +5,13 @@ use Rattle.std.specs.Prelude.{◌≡◌, ℕ, List, Option, Some, take, length}
 use Rattle.commands.specs.declared.answer.Answer.{Answer}
 use Rattle.buckets.specs.Row.{IsBalanced}
 use Rattle.buckets.specs.Spend.{Each}
-use Rattle.tariffs.specs.Books.{Book}
+use Rattle.shelves.specs.Shelves.{Shelf}
 use Rattle.reserving.specs.declared.charge.ChargeRow.{ChargeRow}
 use Rattle.reserving.specs.Ledger.{Ledger}
 use Rattle.reserving.specs.Balance.{buckets_at}
 use Rattle.reserving.specs.Charges.{charge_rows}
 use Rattle.reserving.specs.Left.{bucket_in}
+use Rattle.reserving.specs.Pricing.{validity_of}
 use Rattle.keepers.specs.Tables.{Head, Rows, Tables, charge_in}
 use Rattle.charging.specs.Accepted.{Accepted, IsInTime}
 use Rattle.charging.specs.declared.running.DatedCommand.{DatedCommand}
@@ -20,12 +21,12 @@ use Rattle.charging.specs.SessionReports.{Report, reports_of}
 use Rattle.charging.specs.Paid.{ArePaid}
 use Rattle.charging.specs.Quotas.{AreQuotasPaid}
 
-pub record IsAccounted (b : Book) (reports : List Report) (ledger : Ledger) (t : ℕ) (rows : Rows)
+pub record IsAccounted (b : Shelf) (reports : List Report) (ledger : Ledger) (t : ℕ) (rows : Rows)
     (told : ℕ → Option ChargeRow) : Type 0 where
   -- each bucket is what the ledger sums to, as of the account's last command
-  pub buckets : (n : ℕ) → rows.buckets n ≡ bucket_in n (buckets_at b.validity t ledger)
+  pub buckets : (n : ℕ) → rows.buckets n ≡ bucket_in n (buckets_at (validity_of b) t ledger)
   -- what was credited is available, reserved, charged or expired
-  pub balanced : Each IsBalanced (buckets_at b.validity t ledger)
+  pub balanced : Each IsBalanced (buckets_at (validity_of b) t ledger)
   -- the charges are the ledger's uses, by their numbers
   pub charges : (n : ℕ) → told n ≡ charge_in n (charge_rows ledger)
   -- of each use what is collected and what isn't are the price of the blocks that its report or
@@ -37,7 +38,7 @@ pub record IsAccounted (b : Book) (reports : List Report) (ledger : Ledger) (t :
 
 -- so each account after a run, for every list of accepted commands whose tables the keeper held
 -- before it
-abbrev pub AreAccounted : Book → List DatedCommand → Tables → Tables → List Answer → Type 0
+abbrev pub AreAccounted : Shelf → List DatedCommand → Tables → Tables → List Answer → Type 0
 AreAccounted b commands old new given =
     (list : List Accepted) → IsInTime list → AreTables b list old → (a : List ℕ) (head : Head) →
     (new.rows a).head ≡ Some head →

@@ -7,7 +7,7 @@ use Rattle.identifiers.specs.Texts.{same_name}
 use Rattle.commands.specs.declared.answer.Answer.{Answer}
 use Rattle.commands.specs.declared.command.Command.{Command}
 use Rattle.commands.specs.declared.command.Command.TheVariants as command
-use Rattle.tariffs.specs.Books.{Book}
+use Rattle.shelves.specs.Shelves.{Shelf}
 use Rattle.reserving.specs.Stored.{StoredRows, IsStored, advanced_stored}
 use Rattle.keepers.specs.declared.key.Key.{Key}
 use Rattle.keepers.specs.Tables.{Rows, Tables, AreListed}
@@ -58,7 +58,7 @@ pub record HasOwnCodes (a : List ℕ) (ds : List DatedCommand) : Type 0 where
       same_name other a ≡ false → redeems other code ds ≡ false
 
 -- the own commands of a run, each with its moment in the run
-abbrev pub own_commands : Book → (Command → Bool) → List Accepted → List DatedCommand →
+abbrev pub own_commands : Shelf → (Command → Bool) → List Accepted → List DatedCommand →
     List DatedCommand
 own_commands b own list [] = []
 own_commands b own list (d ∷ ds) =
@@ -90,7 +90,7 @@ pub record TellTheSame (x y : Rows) : Type 0 where
   pub holds : (s : List ℕ) (g n : ℕ) → x.holds s g n ≡ y.holds s g n
 
 -- an account's rows at a moment: those of a list of its rows that was brought there
-pub record AreRowsBroughtTo (b : Book) (t : ℕ) (rows brought : Rows) : Type 0 where
+pub record AreRowsBroughtTo (b : Shelf) (t : ℕ) (rows brought : Rows) : Type 0 where
   pub listed : StoredRows
   pub are : AreListed listed rows
   pub kept : IsStored listed
@@ -98,7 +98,7 @@ pub record AreRowsBroughtTo (b : Book) (t : ℕ) (rows brought : Rows) : Type 0 
 
 -- the tables of two runs show an account alike, at a moment that isn't before the last accepted
 -- command
-pub record ShowAlike (b : Book) (t : ℕ) (a : List ℕ) (x y : Tables) : Type 0 where
+pub record ShowAlike (b : Shelf) (t : ℕ) (a : List ℕ) (x y : Tables) : Type 0 where
   pub opened : is_some (x.rows a).head ≡ is_some (y.rows a).head
   pub rows : (v w : Rows) → AreRowsBroughtTo b t (x.rows a) v → AreRowsBroughtTo b t (y.rows a) w →
       TellTheSame v w
@@ -107,7 +107,7 @@ pub record ShowAlike (b : Book) (t : ℕ) (a : List ℕ) (x y : Tables) : Type 0
 
 -- in a run from nothing an account's answers are those of its own commands alone, and so are its
 -- rows
-pub record IsIsolated (b : Book) (a : List ℕ) (ds : List DatedCommand) : Type 0 where
+pub record IsIsolated (b : Shelf) (a : List ℕ) (ds : List DatedCommand) : Type 0 where
   pub answers : own_answers (is_own a ds) ds (answers_to b [] ds) ≡
       answers_to b [] (own_commands b (is_own a ds) [] ds)
   pub tables : (t : ℕ) (x y : Tables) → AreTables b (after_commands b [] ds) x →

@@ -30,7 +30,7 @@ use Rattle.redemptions.specs.declared.redeeming.RedeemRefusal.TheVariants as ref
 use Rattle.redemptions.specs.declared.voucher.Voucher.{Voucher}
 use Rattle.redemptions.specs.Adding.{addition}
 use Rattle.redemptions.specs.Redeeming.{DayEnds, redemption}
-use Rattle.tariffs.specs.Books.{Book}
+use Rattle.shelves.specs.Shelves.{Shelf, book_at}
 use Rattle.reserving.specs.Ledger.{Ledger, next_bucket}
 use Rattle.reserving.specs.Requests.{credited, with_bar}
 use Rattle.decisions.specs.Decided.{Decision}
@@ -86,7 +86,7 @@ decided_by r d h =
     then keeping (content.Request r) (answer.Request (answer_of r d.outcome)) d.after h
     else told (answer.Request (answer_of r d.outcome)) h
 
-abbrev pub request_outcome : Book → Request → ℕ → History → Outcome
+abbrev pub request_outcome : Shelf → Request → ℕ → History → Outcome
 request_outcome b r t h =
     if is_read r.ask
     then told (answer.Request (answer_of r (decision b t r h.ledger).outcome)) h
@@ -132,9 +132,9 @@ addition_outcome (New voucher) h = done answer.Done h
 addition_outcome Present h = told answer.Done h
 addition_outcome Conflicting h = told (answer.Refused ContentDiffers) h
 
--- where days end by the book's calendar
-abbrev pub book_days : Book → DayEnds
-book_days b t days = day_end b.calendar.zone t days
+-- where days end by the calendar of the book at the moment
+abbrev pub book_days : Shelf → DayEnds
+book_days b t days = day_end (book_at b t).calendar.zone t days
 
 abbrev pub refused_as : RedeemRefusal → Refusal
 refused_as refusal.VoucherUnknown = VoucherUnknown
@@ -154,11 +154,11 @@ abbrev pub redemption_outcome : Result Redemption RedeemRefusal → VoucherRedem
 redemption_outcome (Err refusal) r t h = told (answer.Refused (refused_as refusal)) h
 redemption_outcome (Ok x) r t h = redeemed_outcome x r t h
 
-abbrev pub new_redemption : Book → Option Voucher → VoucherRedemption → ℕ → History → Outcome
+abbrev pub new_redemption : Shelf → Option Voucher → VoucherRedemption → ℕ → History → Outcome
 new_redemption b standing r t h =
     redemption_outcome (redemption (book_days b) standing r.account t) r t h
 
-abbrev pub redeem_outcome : Book → Option Voucher → VoucherRedemption → ℕ → History → Outcome
+abbrev pub redeem_outcome : Shelf → Option Voucher → VoucherRedemption → ℕ → History → Outcome
 redeem_outcome b standing r t h =
     unless_kept (kept_under (key_of (content.Redeem r)) h) (content.Redeem r)
     (answer.Refused ContentDiffers) h (new_redemption b standing r t h)
@@ -169,7 +169,7 @@ abbrev pub with_ledger : Ledger → History → History
 with_ledger ledger h = record { opened = h.opened; ledger = ledger; kept = h.kept }
 
 -- of an account that is there
-abbrev pub opened_outcome : Book → Option Voucher → History → Command → ℕ → Outcome
+abbrev pub opened_outcome : Shelf → Option Voucher → History → Command → ℕ → Outcome
 opened_outcome b standing h (command.Ccr r) t = request_outcome b r t h
 opened_outcome b standing h (command.OpenAccount n) t = told (answer.Refused AccountExists) h
 opened_outcome b standing h (command.Credit c) t = credit_outcome c t h
@@ -198,6 +198,6 @@ unopened_outcome standing h (command.Redeem r) = told (answer.Refused AccountUnk
 unopened_outcome standing h command.Sweep = told answer.Done h
 unopened_outcome standing h (command.Balance n) = told (answer.Refused AccountUnknown) h
 
-abbrev pub outcome : Book → Option Voucher → History → Command → ℕ → Outcome
+abbrev pub outcome : Shelf → Option Voucher → History → Command → ℕ → Outcome
 outcome b standing h c t =
     if h.opened then opened_outcome b standing h c t else unopened_outcome standing h c

@@ -2,7 +2,7 @@
 -- units are debited; TS 32.296, account balance management function).
 use Rattle.std.specs.Prelude.{◌≡◌, ℕ, ◌+◌, ◌<◌, Bool, true, false, List, [], ◌∷◌, is_some}
 use Rattle.std.specs.Prelude.{if◌then◌else◌}
-use Rattle.tariffs.specs.Books.{Book}
+use Rattle.shelves.specs.Shelves.{Shelf}
 use Rattle.buckets.specs.Row.{Row, eligible_amount}
 use Rattle.buckets.specs.Holding.{held_in, paid_of_hold, settled_row}
 use Rattle.buckets.specs.Laws.{IsAmong}
@@ -12,6 +12,7 @@ use Rattle.reserving.specs.Balance.{buckets_at}
 use Rattle.reserving.specs.Sessions.{holds_at}
 use Rattle.reserving.specs.Settlement.{reported, report_price, missing}
 use Rattle.reserving.specs.Debiting.{event_price, is_covered}
+use Rattle.reserving.specs.Pricing.{validity_of}
 use Rattle.charging.specs.SessionReports.{Report}
 
 -- ---- the charges of a use stand right before it
@@ -38,17 +39,18 @@ collected (d ∷ older) = if is_charge d.fact then charge_amount d.fact + collec
 
 -- something is uncollected only where all that the report's reservation held is paid, and no
 -- eligible bucket has anything left
-abbrev pub IsSpent : Book → ℕ → List ℕ → ℕ → ℕ → Ledger → Type 0
+abbrev pub IsSpent : Shelf → ℕ → List ℕ → ℕ → ℕ → Ledger → Type 0
 IsSpent b t s g rated before =
-    (x : Row) → IsAmong x (buckets_at b.validity t before) →
-    (paid_of_hold (holds_at b.validity t s g before) rated (buckets_at b.validity t before) x ≡
-    held_in (holds_at b.validity t s g before) x)
-    × (eligible_amount g t (settled_row (holds_at b.validity t s g before) g t rated
-    (buckets_at b.validity t before) x) ≡ 0)
+    (x : Row) → IsAmong x (buckets_at (validity_of b) t before) →
+    (paid_of_hold (holds_at (validity_of b) t s g before) rated
+    (buckets_at (validity_of b) t before) x ≡
+    held_in (holds_at (validity_of b) t s g before) x)
+    × (eligible_amount g t (settled_row (holds_at (validity_of b) t s g before) g t rated
+    (buckets_at (validity_of b) t before) x) ≡ 0)
 
 -- the use that a report made: it has the price of the blocks that the report's parts started, each
 -- part in its period
-pub record IsReport (b : Book) (r : Report) (t : ℕ) (s : List ℕ)
+pub record IsReport (b : Shelf) (r : Report) (t : ℕ) (s : List ℕ)
     (g units blocks rated uncollected : ℕ) (before : Ledger) : Type 0 where
   pub moment : t ≡ r.at
   pub session : s ≡ r.session
@@ -60,13 +62,13 @@ pub record IsReport (b : Book) (r : Report) (t : ℕ) (s : List ℕ)
   pub short : 0 < uncollected → IsSpent b t s g rated before
 
 -- the same of the last of some reports
-abbrev pub IsLastReport : Book → List Report → ℕ → List ℕ → ℕ → ℕ → ℕ → ℕ → ℕ → Ledger → Type 0
+abbrev pub IsLastReport : Shelf → List Report → ℕ → List ℕ → ℕ → ℕ → ℕ → ℕ → ℕ → Ledger → Type 0
 IsLastReport b [] t s g units blocks rated uncollected before = ⊥
 IsLastReport b (r ∷ older) t s g units blocks rated uncollected before =
     IsReport b r t s g units blocks rated uncollected before
 
 -- a debit: the eligible buckets had the price of the blocks that it started
-pub record IsEvent (b : Book) (t : ℕ) (g units blocks rated uncollected : ℕ) (before : Ledger) :
+pub record IsEvent (b : Shelf) (t : ℕ) (g units blocks rated uncollected : ℕ) (before : Ledger) :
     Type 0 where
   pub blocks_are : blocks ≡ (event_price b t g units before).blocks
   pub rated_is : rated ≡ (event_price b t g units before).amount.0
@@ -81,7 +83,7 @@ is_touched s ledger = is_some (last_touch s ledger)
 
 -- what is collected and what isn't are the price: of the session's report where its session was
 -- touched, else of a debit
-pub record IsPaidUse (b : Book) (reports : List Report) (t : ℕ) (s : List ℕ)
+pub record IsPaidUse (b : Shelf) (reports : List Report) (t : ℕ) (s : List ℕ)
     (g units blocks rated uncollected : ℕ) (older : Ledger) : Type 0 where
   pub sum : collected older + uncollected ≡ rated
   pub report : is_touched s (before_charges older) ≡ true →
@@ -89,7 +91,7 @@ pub record IsPaidUse (b : Book) (reports : List Report) (t : ℕ) (s : List ℕ)
   pub event : is_touched s (before_charges older) ≡ false →
       IsEvent b t g units blocks rated uncollected (before_charges older)
 
-abbrev pub IsPaid : Book → List Report → ℕ → Fact → Ledger → Type 0
+abbrev pub IsPaid : Shelf → List Report → ℕ → Fact → Ledger → Type 0
 IsPaid b reports t (Use s g units blocks rated uncollected) older =
     IsPaidUse b reports t s g units blocks rated uncollected older
 IsPaid b reports t _ older = Unit {0}
@@ -105,7 +107,7 @@ reports_before (Use s g units blocks rated uncollected) older reports =
 reports_before _ older reports = reports
 
 -- each use of a ledger is paid, and each of the reports made one of them, in their order
-abbrev pub ArePaid : Book → List Report → Ledger → Type 0
+abbrev pub ArePaid : Shelf → List Report → Ledger → Type 0
 ArePaid b reports [] = reports ≡ []
 ArePaid b reports (d ∷ older) =
     IsPaid b reports d.at d.fact older × ArePaid b (reports_before d.fact older reports) older

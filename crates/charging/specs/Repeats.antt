@@ -4,7 +4,7 @@
 use Rattle.std.specs.Prelude.{◌≡◌, ℕ, Bool, true, false, not, List, ◌∷◌}
 use Rattle.commands.specs.declared.command.Command.{Command}
 use Rattle.commands.specs.declared.command.Command.TheVariants as command
-use Rattle.tariffs.specs.Books.{Book}
+use Rattle.shelves.specs.Shelves.{Shelf}
 use Rattle.decisions.specs.Decisions.{is_read}
 use Rattle.commands.specs.declared.answer.Answer.{Answer}
 use Rattle.keepers.specs.Tables.{Tables}
@@ -27,7 +27,7 @@ has_key command.Sweep = false
 has_key (command.Balance n) = false
 
 -- the command comes again after these
-pub record IsRepeated (b : Book) (before after : List Accepted) (c : Command)
+pub record IsRepeated (b : Shelf) (before after : List Accepted) (c : Command)
     (t u : ℕ) : Type 0 where
   pub answer : answer_to b after c u ≡ answer_to b before c t
   pub accepted : accepts b after c u ≡ false
@@ -35,12 +35,12 @@ pub record IsRepeated (b : Book) (before after : List Accepted) (c : Command)
 -- once a command with a key is accepted it has one answer for good
 abbrev pub AnswersOnce : Type 0
 AnswersOnce =
-    (b : Book) (list : List Accepted) (c : Command) (t : ℕ) (between : List DatedCommand) (u : ℕ) →
+    (b : Shelf) (list : List Accepted) (c : Command) (t : ℕ) (between : List DatedCommand) (u : ℕ) →
     has_key c ≡ true → accepts b list c t ≡ true →
     IsRepeated b list (after_commands b (record { moment = t; command = c } ∷ list) between) c t u
 
 -- a command that was accepted before gets its first answer, and no table changes
-abbrev pub IsAnsweredAgain : Book → Command → Tables → Tables → Answer → Type 0
+abbrev pub IsAnsweredAgain : Shelf → Command → Tables → Tables → Answer → Type 0
 IsAnsweredAgain b c old new given =
     (before : List Accepted) (t : ℕ) (between : List DatedCommand) → has_key c ≡ true →
     accepts b before c t ≡ true →

@@ -5,7 +5,7 @@ use Rattle.std.specs.Prelude.{IfSome}
 use Rattle.commands.specs.declared.answer.Answer.{Answer}
 use Rattle.charging.specs.declared.answers.Run.{Run}
 use Rattle.charging.specs.declared.running.DatedCommand.{DatedCommand}
-use Rattle.tariffs.specs.Books.{Book}
+use Rattle.shelves.specs.Shelves.{Shelf}
 use Rattle.keepers.specs.Faults.{max_failures}
 use Rattle.keepers.specs.Tables.{Tables}
 use Rattle.keepers.specs.declared.fault.StoreFault.TheVariants.{Store}
@@ -13,36 +13,36 @@ use Rattle.charging.specs.Accepted.{Accepted, IsInTime}
 use Rattle.charging.specs.Served.{AreTables, moment_of, answer_to, with_command}
 
 -- the list after a command that is handed in with a moment
-abbrev pub after_command : Book → List Accepted → DatedCommand → List Accepted
+abbrev pub after_command : Shelf → List Accepted → DatedCommand → List Accepted
 after_command b list d = with_command b list d.command (moment_of list d.moment)
 
 -- the answers to dated commands, each after those before it
-abbrev pub answers_to : Book → List Accepted → List DatedCommand → List Answer
+abbrev pub answers_to : Shelf → List Accepted → List DatedCommand → List Answer
 answers_to b list [] = []
 answers_to b list (d ∷ ds) = answer_to b list d.command (moment_of list d.moment)
     ∷ answers_to b (after_command b list d) ds
 
 -- the list of accepted commands after them
-abbrev pub after_commands : Book → List Accepted → List DatedCommand → List Accepted
+abbrev pub after_commands : Shelf → List Accepted → List DatedCommand → List Accepted
 after_commands b list [] = list
 after_commands b list (d ∷ ds) = after_commands b (after_command b list d) ds
 
 -- the answers are those of a beginning of the commands, and the tables are those of the list after
 -- it
-pub record IsRun (b : Book) (list : List Accepted) (commands : List DatedCommand) (new : Tables)
+pub record IsRun (b : Shelf) (list : List Accepted) (commands : List DatedCommand) (new : Tables)
     (given : List Answer) : Type 0 where
   pub answers : given ≡ answers_to b list (take (length given) commands)
   pub tables : AreTables b (after_commands b list (take (length given) commands)) new
   pub time : IsInTime (after_commands b list (take (length given) commands))
 
 -- for every list of accepted commands whose tables a keeper holds
-abbrev pub Runs : Book → List DatedCommand → Tables → Tables → List Answer → Type 0
+abbrev pub Runs : Shelf → List DatedCommand → Tables → Tables → List Answer → Type 0
 Runs b commands old new given = (list : List Accepted) → IsInTime list → AreTables b list old →
     IsRun b list commands new given
 
 -- what a run leaves of a keeper, and where it stops
 pub record RunsOver {K : Type 0} (content : K → Tables) (failed : K → ℕ) (clean : K → Type 0)
-    (b : Book) (commands : List DatedCommand) (old new : K) (run : Run) : Type 0 where
+    (b : Shelf) (commands : List DatedCommand) (old new : K) (run : Run) : Type 0 where
   pub runs : clean new → Runs b commands (content old) (content new) run.answers.items
   pub beginning : length run.answers.items ≤ length commands
   pub whole : IfNone run.fault (length run.answers.items ≡ length commands)

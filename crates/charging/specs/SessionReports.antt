@@ -8,7 +8,7 @@ use Rattle.commands.specs.declared.request.Ask.{Ask}
 use Rattle.commands.specs.declared.request.Ask.TheVariants.{Initial, Update, Termination, Event}
 use Rattle.commands.specs.declared.request.Ask.TheVariants.{Refund}
 use Rattle.commands.specs.declared.service.Service.{Service}
-use Rattle.tariffs.specs.Books.{Book}
+use Rattle.shelves.specs.Shelves.{Shelf, book_at}
 use Rattle.decisions.specs.Known.{is_known}
 use Rattle.decisions.specs.Reports.{parts_of}
 use Rattle.charging.specs.Accepted.{Accepted, concerned_by, names}
@@ -30,21 +30,22 @@ with_report t s g (p ∷ ps) reports =
     record { at = t; session = s; group = g; parts = p ∷ ps } ∷ reports
 
 -- of a request's services those report whose groups have a tariff, in the request's order
-abbrev pub with_services : Book → ℕ → List ℕ → List Service → List Report → List Report
+abbrev pub with_services : Shelf → ℕ → List ℕ → List Service → List Report → List Report
 with_services b t s [] reports = reports
 with_services b t s (x ∷ xs) reports =
     with_services b t s xs
-    (if is_known b x.group then with_report t s x.group (parts_of x.used) reports else reports)
+    (if is_known (book_at b t) x.group then with_report t s x.group (parts_of x.used)
+    reports else reports)
 
 -- updates and terminations report
-abbrev pub with_ask : Book → ℕ → List ℕ → Ask → List Report → List Report
+abbrev pub with_ask : Shelf → ℕ → List ℕ → Ask → List Report → List Report
 with_ask b t s (Initial services) reports = reports
 with_ask b t s (Update services) reports = with_services b t s services reports
 with_ask b t s (Termination services) reports = with_services b t s services reports
 with_ask b t s (Event event) reports = reports
 with_ask b t s (Refund refund) reports = reports
 
-abbrev pub with_reports : Book → ℕ → Command → List Report → List Report
+abbrev pub with_reports : Shelf → ℕ → Command → List Report → List Report
 with_reports b t (command.Ccr r) reports = with_ask b t r.session r.ask reports
 with_reports b t (command.OpenAccount n) reports = reports
 with_reports b t (command.Credit c) reports = reports
@@ -56,7 +57,7 @@ with_reports b t command.Sweep reports = reports
 with_reports b t (command.Balance n) reports = reports
 
 -- the reports of an account's sessions, the newest first
-abbrev pub reports_of : Book → List ℕ → List Accepted → List Report
+abbrev pub reports_of : Shelf → List ℕ → List Accepted → List Report
 reports_of b a [] = []
 reports_of b a (d ∷ before) =
     if names a (concerned_by d.command)

@@ -9,7 +9,7 @@ use Rattle.commands.specs.declared.command.Command.TheVariants.{Bar, Unbar}
 use Rattle.commands.specs.declared.command.Content.TheVariants as content
 use Rattle.commands.specs.declared.command.Credit.{Credit}
 use Rattle.commands.specs.declared.request.Request.{Request}
-use Rattle.tariffs.specs.Books.{Book}
+use Rattle.shelves.specs.Shelves.{Shelf}
 use Rattle.reserving.specs.Ledger.{Ledger, next_bucket}
 use Rattle.reserving.specs.Requests.{credited}
 use Rattle.reserving.specs.Rows.{AccountRows, IsAccount}
@@ -28,13 +28,13 @@ use Rattle.charging.specs.Served.{AreTables, IsServed}
 
 -- a command is served at a moment that isn't before that of the last accepted command, or the
 -- tables are as before
-abbrev pub ServesAt : Book → Command → ℕ → Tables → Tables → Result Answer StoreFault → Type 0
+abbrev pub ServesAt : Shelf → Command → ℕ → Tables → Tables → Result Answer StoreFault → Type 0
 ServesAt b c t old new result =
     (list : List Accepted) → IsInTime list → AreTables b list old → last_moment list ≤ t →
     MatchResult result (λ given. IsServed b list c t old new given) (λ fault. new ≡ old)
 
 -- so it is, with this answer
-abbrev pub Answers : Book → Command → ℕ → Tables → Tables → Answer → Type 0
+abbrev pub Answers : Shelf → Command → ℕ → Tables → Tables → Answer → Type 0
 Answers b c t old new given = (list : List Accepted) → IsInTime list → AreTables b list old →
     last_moment list ≤ t → IsServed b list c t old new given
 
@@ -43,7 +43,8 @@ abbrev pub bar_command : List ℕ → Bool → Command
 bar_command n barred = if barred then Bar n else Unbar n
 
 -- an account was loaded at a moment from the tables; it keeps what each account keeps
-pub record IsTaken (b : Book) (t : ℕ) (a : List ℕ) (tables : Tables) (found : Loaded) : Type 0 where
+pub record IsTaken (b : Shelf) (t : ℕ) (a : List ℕ) (tables : Tables)
+    (found : Loaded) : Type 0 where
   pub load : IsLoad b t a (tables.rows a) (Some found)
   pub account : IsAccount found.account
 

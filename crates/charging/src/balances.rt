@@ -14,8 +14,8 @@ use commands::{AccountBalance, Answer, BucketBalance, BucketBalances, Refusal};
 use identifiers::AccountNumber;
 use keepers::{Keeper, StoreFault};
 use reserving::Account;
+use shelves::TariffShelf;
 use std::alloc::{AllocError, Global};
-use tariffs::TariffBook;
 use units::Moment;
 
 /// What became of an account's money, as of a moment.
@@ -36,30 +36,30 @@ pub struct AccountState {
 /// Store fault 1 where a growth was refused, 2 where the store failed.
 pub fn account_state<K: Keeper>(
     keeper: &mut K,
-    book: &TariffBook,
+    shelf: &TariffShelf,
     number: &AccountNumber,
     moment: Moment,
 ) -> Result<Option<AccountState>, StoreFault>
     ensures { Reads K.content K.failed K.clean keeper.old keeper.new
-        (TellsState book.now number.now moment (K.content keeper.old)) result }
+        (TellsState shelf.now number.now moment (K.content keeper.old)) result }
 {
     let last = keeper.last()?;
-    state_at(keeper, book, number, moment.max(last))
+    state_at(keeper, shelf, number, moment.max(last))
 }
 
 /// The same at a moment that isn't before that of the last accepted command.
 fn state_at<K: Keeper>(
     keeper: &mut K,
-    book: &TariffBook,
+    shelf: &TariffShelf,
     number: &AccountNumber,
     moment: Moment,
 ) -> Result<Option<AccountState>, StoreFault>
     ensures found { K.clean keeper.new →
-        IfOk result (TellsStateAt book.now number.now moment (K.content keeper.old)) }
+        IfOk result (TellsStateAt shelf.now number.now moment (K.content keeper.old)) }
     ensures same { K.clean keeper.new → K.content keeper.new ≡ K.content keeper.old }
     ensures kept { Keeps K.content K.failed K.clean keeper.old keeper.new result }
 {
-    let Some(account) = keeper.view(book, number, moment)? else {
+    let Some(account) = keeper.view(shelf, number, moment)? else {
         return Ok(None);
     };
     let dead = keeper.dead_buckets(number)?;
@@ -106,16 +106,16 @@ fn sort(buckets: &mut Vec<Bucket>) -> Result<(), AllocError>
 pub(crate) fn tell_balance<K: Keeper>(
     alloc: Global,
     keeper: &mut K,
-    book: &TariffBook,
+    shelf: &TariffShelf,
     number: AccountNumber,
     moment: Moment,
 ) -> Result<Answer, StoreFault>
     ensures served { K.clean keeper.new →
-        ServesAt book.now (command.Balance number) moment (K.content keeper.old)
+        ServesAt shelf.now (command.Balance number) moment (K.content keeper.old)
         (K.content keeper.new) result }
     ensures kept { Keeps K.content K.failed K.clean keeper.old keeper.new result }
 {
-    let Some(state) = state_at(keeper, book, &number, moment)? else {
+    let Some(state) = state_at(keeper, shelf, &number, moment)? else {
         return Ok(Answer::Refused(Refusal::AccountUnknown));
     };
     let balance = balance_of(alloc, number, &state)?;

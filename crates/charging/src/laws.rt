@@ -1,7 +1,8 @@
 //! Laws of the definitions by which commands are answered: functions that do nothing.
 
 ghost use Rattle.std.specs.Prelude.{◌≡◌, ℕ, List, []};
-ghost use Rattle.tariffs.specs.Books.{Book, IsBook};
+ghost use Rattle.shelves.specs.Shelves.{Shelf, IsShelf};
+ghost use Rattle.reserving.specs.Pricing.{validity_of};
 ghost use Rattle.reserving.specs.SoundLedger.{IsSoundLedger};
 ghost use Rattle.keepers.specs.Tables.{no_tables};
 ghost use Rattle.charging.specs.Accepted.{Accepted, IsInTime};
@@ -18,14 +19,14 @@ ghost use Rattle.charging.specs.Isolation.{HasOwnCodes, IsIsolated};
 /// can begin.
 pub fn beginning()
     ensures time { IsInTime [] }
-    ensures tables { (b : Book) → AreTables b [] no_tables }
+    ensures tables { (b : Shelf) → AreTables b [] no_tables }
 {}
 
 /// What the ledger of each history is: a session's last touch is recorded, a session without a
 /// record was neither closed nor has anything held or granted, and nothing is charged or held of a
 /// bucket that isn't made yet (profile).
 pub fn soundness()
-    ensures { (b : Book) (a : List ℕ) (list : List Accepted) →
+    ensures { (b : Shelf) (a : List ℕ) (list : List Accepted) →
         IsSoundLedger (history b a list).ledger }
 {}
 
@@ -35,7 +36,7 @@ pub fn soundness()
 /// 32.296, account balance management function). The reports are those of the accepted updates and
 /// terminations, in their order, each priced by the parts that it names.
 pub fn payment()
-    ensures { (b : Book) (a : List ℕ) (list : List Accepted) →
+    ensures { (b : Shelf) (a : List ℕ) (list : List Accepted) →
         ArePaid b (reports_of b a list) (history b a list).ledger }
 {}
 
@@ -43,16 +44,16 @@ pub fn payment()
 /// group's counter is collected whole, whatever stood between (TS 32.299, session charging with
 /// unit reservation).
 pub fn quota()
-    ensures { (b : Book) → IsBook b → (a : List ℕ) (list : List Accepted) →
+    ensures { (b : Shelf) → IsShelf b → (a : List ℕ) (list : List Accepted) →
         AreQuotasPaid b (history b a list).ledger }
 {}
 
 /// To date: what was collected by all charges of an account is what its buckets together show as
 /// charged, at any moment (TS 32.296, account balance management function).
 pub fn collection()
-    ensures { (b : Book) (a : List ℕ) (list : List Accepted) (t : ℕ) →
+    ensures { (b : Shelf) (a : List ℕ) (list : List Accepted) (t : ℕ) →
         collected_to_date (history b a list).ledger ≡
-        charged_to_date b.validity t (history b a list).ledger }
+        charged_to_date (validity_of b) t (history b a list).ledger }
 {}
 
 /// Repeats: once a request that isn't a read, a credit, a redemption or the addition of a voucher
@@ -68,6 +69,6 @@ pub fn repeats()
 /// redemption for another account names the code of one. Others and sweeps reach it through the
 /// moments of its commands, and where moments never fall not at all (profile).
 pub fn isolation()
-    ensures { (book : Book) → IsBook book → (account : List ℕ) (commands : List DatedCommand) →
-        HasOwnCodes account commands → IsIsolated book account commands }
+    ensures { (shelf : Shelf) → IsShelf shelf → (account : List ℕ) (commands : List DatedCommand) →
+        HasOwnCodes account commands → IsIsolated shelf account commands }
 {}

@@ -5,7 +5,7 @@ ghost use Rattle.commands.specs.Kept.{is_kept};
 ghost use Rattle.commands.specs.declared.answer.Answer.TheVariants as answer;
 ghost use Rattle.commands.specs.declared.command.Command.TheVariants as command;
 ghost use Rattle.commands.specs.declared.command.Content.TheVariants as content;
-ghost use Rattle.tariffs.specs.Books.{Book};
+ghost use Rattle.shelves.specs.Shelves.{Shelf};
 ghost use Rattle.reserving.specs.Ledger.{Ledger};
 ghost use Rattle.reserving.specs.Left.{LeftRows, IsWith};
 ghost use Rattle.keepers.specs.Keys.{key_of};
@@ -19,28 +19,28 @@ use commands::{Answer, Content, Credit, KeptCredit, Refusal, is_kept_credit};
 use identifiers::AccountNumber;
 use keepers::{Keeper, KeptAnswer, Key, Loaded, StoreFault};
 use reserving::{Account, AccountFault};
+use shelves::TariffShelf;
 use std::alloc::{AllocError, Global};
-use tariffs::TariffBook;
 use units::{Moment, Money};
 
 /// Opens an account.
 pub(crate) fn open_account<K: Keeper>(
     alloc: Global,
     keeper: &mut K,
-    book: &TariffBook,
+    shelf: &TariffShelf,
     number: AccountNumber,
     moment: Moment,
 ) -> Result<Answer, StoreFault>
     ensures served { K.clean keeper.new →
-        ServesAt book.now (command.OpenAccount number) moment (K.content keeper.old)
+        ServesAt shelf.now (command.OpenAccount number) moment (K.content keeper.old)
         (K.content keeper.new) result }
     ensures kept { Keeps K.content K.failed K.clean keeper.old keeper.new result }
 {
     if keeper.has_account(&number)? {
         return Ok(Answer::Refused(Refusal::AccountExists));
     }
-    let before = Account::new(alloc, book).into_stored();
-    let mut account = Account::new(alloc, book);
+    let before = Account::new(alloc, shelf).into_stored();
+    let mut account = Account::new(alloc, shelf);
     account.advance(moment);
     let loaded = Loaded {
         number,
@@ -55,17 +55,17 @@ pub(crate) fn open_account<K: Keeper>(
 pub(crate) fn set_barred<K: Keeper>(
     alloc: Global,
     keeper: &mut K,
-    book: &TariffBook,
+    shelf: &TariffShelf,
     number: AccountNumber,
     barred: bool,
     moment: Moment,
 ) -> Result<Answer, StoreFault>
     ensures served { K.clean keeper.new →
-        ServesAt book.now (bar_command number barred) moment (K.content keeper.old)
+        ServesAt shelf.now (bar_command number barred) moment (K.content keeper.old)
         (K.content keeper.new) result }
     ensures kept { Keeps K.content K.failed K.clean keeper.old keeper.new result }
 {
-    let Some(mut loaded) = keeper.load(book, &number, moment)? else {
+    let Some(mut loaded) = keeper.load(shelf, &number, moment)? else {
         return Ok(Answer::Refused(Refusal::AccountUnknown));
     };
     let moment = moment_on(&loaded.account, moment);
@@ -77,15 +77,15 @@ pub(crate) fn set_barred<K: Keeper>(
 /// Brings each account to the moment.
 pub(crate) fn sweep<K: Keeper>(
     keeper: &mut K,
-    book: &TariffBook,
+    shelf: &TariffShelf,
     moment: Moment,
 ) -> Result<Answer, StoreFault>
     ensures served { K.clean keeper.new →
-        ServesAt book.now command.Sweep moment (K.content keeper.old)
+        ServesAt shelf.now command.Sweep moment (K.content keeper.old)
         (K.content keeper.new) result }
     ensures kept { Keeps K.content K.failed K.clean keeper.old keeper.new result }
 {
-    let count = keeper.sweep(book, moment)?;
+    let count = keeper.sweep(shelf, moment)?;
     Ok(Answer::Swept(count))
 }
 
@@ -93,12 +93,12 @@ pub(crate) fn sweep<K: Keeper>(
 pub(crate) fn serve_credit<K: Keeper>(
     alloc: Global,
     keeper: &mut K,
-    book: &TariffBook,
+    shelf: &TariffShelf,
     credit: Credit,
     moment: Moment,
 ) -> Result<Answer, StoreFault>
     ensures served { K.clean keeper.new →
-        ServesAt book.now (command.Credit credit) moment (K.content keeper.old)
+        ServesAt shelf.now (command.Credit credit) moment (K.content keeper.old)
         (K.content keeper.new) result }
     ensures kept { Keeps K.content K.failed K.clean keeper.old keeper.new result }
 {
@@ -107,7 +107,7 @@ pub(crate) fn serve_credit<K: Keeper>(
         let conflict = Answer::Refused(Refusal::ContentDiffers);
         return Ok(repeated_credit(kept, &credit, conflict));
     }
-    let Some(loaded) = keeper.load(book, &credit.account, moment)? else {
+    let Some(loaded) = keeper.load(shelf, &credit.account, moment)? else {
         return Ok(Answer::Refused(Refusal::AccountUnknown));
     };
     credit_account(alloc, keeper, loaded, credit, moment)
@@ -158,7 +158,7 @@ pub(crate) fn make_bucket(
         IsWith ledger left moment account.old →
         Makes number from until scope amount moment ledger left account.new) }
     ensures moment { IfOk result (λ number. IfSome number (λ n. account.new.as_of ≡ moment)) }
-    ensures tariff { account.new.book ≡ account.old.book }
+    ensures tariff { account.new.shelf ≡ account.old.shelf }
 {
     match account.credit(from, until, scope, amount, moment) {
         Ok(number) => Ok(Some(number)),
@@ -180,7 +180,7 @@ fn add_bucket(
         Credits number credit.now moment ledger left account.new) }
     ensures moment { IfOk result (λ number. IfSome number (λ n. account.new.as_of ≡ moment)) }
     ensures some { IfOk result (λ number. IfSome number (λ n. is_kept credit.now ≡ true)) }
-    ensures tariff { account.new.book ≡ account.old.book }
+    ensures tariff { account.new.shelf ≡ account.old.shelf }
 {
     if is_unusable(credit, moment) {
         return Ok(None);
@@ -209,7 +209,7 @@ fn credit_account<K: Keeper>(
     credit: Credit,
     moment: Moment,
 ) -> Result<Answer, StoreFault>
-    ensures served { K.clean keeper.new → (b : Book) →
+    ensures served { K.clean keeper.new → (b : Shelf) →
         IsLoad b moment credit.account ((K.content keeper.old).rows credit.account)
         (Some loaded.entry) → (K.content keeper.old).answers credit.account
         (key_of (content.Credit credit)) ≡ None →

@@ -6,7 +6,7 @@ ghost use Rattle.commands.specs.declared.answer.Failure.TheVariants.{InvalidAvpV
 ghost use Rattle.commands.specs.declared.avp.Avp.TheVariants.{RequestNumber};
 ghost use Rattle.commands.specs.declared.command.Command.TheVariants.{Ccr};
 ghost use Rattle.commands.specs.declared.command.Content.TheVariants as content;
-ghost use Rattle.tariffs.specs.Books.{Book};
+ghost use Rattle.shelves.specs.Shelves.{Shelf};
 ghost use Rattle.reserving.specs.Stored.{stored};
 ghost use Rattle.keepers.specs.Change.{IsLoad, IsMadeFrom, changed};
 ghost use Rattle.keepers.specs.Keeping.{Keeps, Reads};
@@ -18,20 +18,20 @@ use crate::repetition::repeated;
 use commands::{Answer, Avp, Content, Failure, Outcome, Request, RequestAnswer};
 use decisions::{Decided, begins_session, decide, is_read, read};
 use keepers::{Keeper, KeptAnswer, Key, Loaded, StoreFault, copy_answer};
+use shelves::TariffShelf;
 use std::alloc::{AllocError, Global};
-use tariffs::TariffBook;
 use units::Moment;
 
 /// Answers a request: that of an unknown account, a repeat, or one that is decided.
 pub(crate) fn serve_request<K: Keeper>(
     alloc: Global,
     keeper: &mut K,
-    book: &TariffBook,
+    shelf: &TariffShelf,
     request: Request,
     moment: Moment,
 ) -> Result<Answer, StoreFault>
     ensures served { K.clean keeper.new →
-        ServesAt book.now (Ccr request) moment (K.content keeper.old)
+        ServesAt shelf.now (Ccr request) moment (K.content keeper.old)
         (K.content keeper.new) result }
     ensures kept { Keeps K.content K.failed K.clean keeper.old keeper.new result }
 {
@@ -39,14 +39,14 @@ pub(crate) fn serve_request<K: Keeper>(
     if let Some(kept) = kept {
         return Ok(repeat(kept, request)?);
     }
-    let read = answer_read(keeper, book, &request, moment)?;
+    let read = answer_read(keeper, shelf, &request, moment)?;
     if let Some(answer) = read {
         return Ok(answer);
     }
     if is_known(keeper, &request)? {
         return Ok(failed(&request, Failure::InvalidAvpValue(Avp::SessionId))?);
     }
-    let Some(loaded) = keeper.load(book, &request.account, moment)? else {
+    let Some(loaded) = keeper.load(shelf, &request.account, moment)? else {
         return Ok(failed(&request, Failure::UserUnknown)?);
     };
     decide_on(alloc, keeper, loaded, request, moment)
@@ -104,13 +104,13 @@ fn repeat(kept: KeptAnswer, request: Request) -> Result<Answer, AllocError>
 /// The answer to a check or an enquiry, by the account as it stands; None: the request is neither.
 fn answer_read<K: Keeper>(
     keeper: &mut K,
-    book: &TariffBook,
+    shelf: &TariffShelf,
     request: &Request,
     moment: Moment,
 ) -> Result<Option<Answer>, StoreFault>
     ensures served { K.clean keeper.new →
         IfOk result (λ o. IfSome o (λ given.
-        Answers book.now (Ccr request.now) moment (K.content keeper.old)
+        Answers shelf.now (Ccr request.now) moment (K.content keeper.old)
         (K.content keeper.new) given)) }
     ensures same { K.clean keeper.new → K.content keeper.new ≡ K.content keeper.old }
     ensures kept { Keeps K.content K.failed K.clean keeper.old keeper.new result }
@@ -118,7 +118,7 @@ fn answer_read<K: Keeper>(
     if !is_read(&request.ask) {
         return Ok(None);
     }
-    let Some(account) = keeper.view(book, &request.account, moment)? else {
+    let Some(account) = keeper.view(shelf, &request.account, moment)? else {
         return Ok(Some(failed(request, Failure::UserUnknown)?));
     };
     let now = moment_on(&account, moment);
@@ -136,7 +136,7 @@ fn decide_on<K: Keeper>(
     request: Request,
     moment: Moment,
 ) -> Result<Answer, StoreFault>
-    ensures served { K.clean keeper.new → (b : Book) →
+    ensures served { K.clean keeper.new → (b : Shelf) →
         IsLoad b moment request.account ((K.content keeper.old).rows request.account)
         (Some loaded.entry) →
         kept_of_request request (K.content keeper.old) ≡ None →

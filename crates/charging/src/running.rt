@@ -9,8 +9,8 @@ use crate::answers::Run;
 use crate::stepping::step;
 use commands::Command;
 use keepers::{Keeper, StoreFault};
+use shelves::TariffShelf;
 use std::alloc::Global;
-use tariffs::TariffBook;
 use units::Moment;
 
 /// A command with the moment at which it was handed in.
@@ -32,11 +32,11 @@ pub struct DatedCommand {
 pub fn run<K: Keeper>(
     alloc: Global,
     keeper: &mut K,
-    book: &TariffBook,
+    shelf: &TariffShelf,
     commands: Vec<DatedCommand>,
 ) -> Run
     ensures runs { K.clean keeper.new →
-        Runs book.now commands.items (K.content keeper.old)
+        Runs shelf.now commands.items (K.content keeper.old)
         (K.content keeper.new) result.answers.items }
     ensures beginning { length result.answers.items ≤ length commands.items }
     ensures whole { IfNone result.fault (length result.answers.items ≡ length commands.items) }
@@ -49,22 +49,22 @@ pub fn run<K: Keeper>(
     ensures cause { result.fault ≡ Some Store →
         min (K.failed keeper.old + 1) max_failures ≤ K.failed keeper.new }
     ensures accounted { K.clean keeper.new →
-        AreAccounted book.now commands.items (K.content keeper.old)
+        AreAccounted shelf.now commands.items (K.content keeper.old)
         (K.content keeper.new) result.answers.items }
 {
     // For the prover alone: looking at the value makes known here what its type keeps.
-    let _ranges = book.validity();
-    answer_each(alloc, keeper, book, commands)
+    let _ranges = shelf.first();
+    answer_each(alloc, keeper, shelf, commands)
 }
 
 /// Answers commands one after another, up to the first store fault.
 fn answer_each<K: Keeper>(
     alloc: Global,
     keeper: &mut K,
-    book: &TariffBook,
+    shelf: &TariffShelf,
     commands: Vec<DatedCommand>,
 ) -> Run
-    ensures { RunsOver K.content K.failed K.clean book.now commands.items keeper.old keeper.new
+    ensures { RunsOver K.content K.failed K.clean shelf.now commands.items keeper.old keeper.new
         result }
 {
     let mut answers = Vec::new(alloc);
@@ -75,7 +75,7 @@ fn answer_each<K: Keeper>(
                 fault: Some(StoreFault::Memory),
             };
         }
-        match step(alloc, keeper, book, dated.command, dated.moment) {
+        match step(alloc, keeper, shelf, dated.command, dated.moment) {
             Ok(answer) => answers.push_reserved(answer),
             Err(fault) => {
                 return Run {

@@ -10,8 +10,8 @@ use crate::requests::serve_request;
 use crate::voucher_commands::{add_voucher, serve_redemption};
 use commands::{Answer, Command};
 use keepers::{Keeper, StoreFault};
+use shelves::TariffShelf;
 use std::alloc::Global;
-use tariffs::TariffBook;
 use units::Moment;
 
 /// Answers a command, and commits it where it is accepted, at the later of this moment and that of
@@ -23,45 +23,45 @@ use units::Moment;
 pub fn step<K: Keeper>(
     alloc: Global,
     keeper: &mut K,
-    book: &TariffBook,
+    shelf: &TariffShelf,
     command: Command,
     moment: Moment,
 ) -> Result<Answer, StoreFault>
     ensures served { K.clean keeper.new →
-        Serves book.now command moment (K.content keeper.old) (K.content keeper.new) result }
+        Serves shelf.now command moment (K.content keeper.old) (K.content keeper.new) result }
     ensures err { K.clean keeper.new → OnErr result (K.content keeper.new ≡ K.content keeper.old) }
     ensures cleanness { K.clean keeper.new → K.clean keeper.old }
     ensures cause { HasCause (K.failed keeper.old) (K.failed keeper.new) result }
     ensures again { K.clean keeper.new →
-        IfOk result (IsAnsweredAgain book.now command (K.content keeper.old)
+        IfOk result (IsAnsweredAgain shelf.now command (K.content keeper.old)
         (K.content keeper.new)) }
 {
-    serve(alloc, keeper, book, command, moment)
+    serve(alloc, keeper, shelf, command, moment)
 }
 
 /// Serves a command by its kind.
 fn serve<K: Keeper>(
     alloc: Global,
     keeper: &mut K,
-    book: &TariffBook,
+    shelf: &TariffShelf,
     command: Command,
     moment: Moment,
 ) -> Result<Answer, StoreFault>
     ensures served { K.clean keeper.new →
-        Serves book.now command moment (K.content keeper.old) (K.content keeper.new) result }
+        Serves shelf.now command moment (K.content keeper.old) (K.content keeper.new) result }
     ensures kept { Keeps K.content K.failed K.clean keeper.old keeper.new result }
 {
     let last = keeper.last()?;
     let moment = moment.max(last);
     match command {
-        Command::Ccr(request) => serve_request(alloc, keeper, book, request, moment),
-        Command::OpenAccount(number) => open_account(alloc, keeper, book, number, moment),
-        Command::Credit(credit) => serve_credit(alloc, keeper, book, credit, moment),
-        Command::Bar(number) => set_barred(alloc, keeper, book, number, true, moment),
-        Command::Unbar(number) => set_barred(alloc, keeper, book, number, false, moment),
+        Command::Ccr(request) => serve_request(alloc, keeper, shelf, request, moment),
+        Command::OpenAccount(number) => open_account(alloc, keeper, shelf, number, moment),
+        Command::Credit(credit) => serve_credit(alloc, keeper, shelf, credit, moment),
+        Command::Bar(number) => set_barred(alloc, keeper, shelf, number, true, moment),
+        Command::Unbar(number) => set_barred(alloc, keeper, shelf, number, false, moment),
         Command::AddVoucher(addition) => add_voucher(keeper, addition, moment),
-        Command::Redeem(asked) => serve_redemption(alloc, keeper, book, asked, moment),
-        Command::Sweep => sweep(keeper, book, moment),
-        Command::Balance(number) => tell_balance(alloc, keeper, book, number, moment),
+        Command::Redeem(asked) => serve_redemption(alloc, keeper, shelf, asked, moment),
+        Command::Sweep => sweep(keeper, shelf, moment),
+        Command::Balance(number) => tell_balance(alloc, keeper, shelf, number, moment),
     }
 }

@@ -4,7 +4,7 @@ ghost use Rattle.std.specs.Prelude.{◌≡◌, ◌≤◌, IfOk, None, Ok, Some};
 ghost use Rattle.commands.specs.declared.answer.Answer.TheVariants as answer;
 ghost use Rattle.commands.specs.declared.command.Command.TheVariants as command;
 ghost use Rattle.commands.specs.declared.command.Content.TheVariants as content;
-ghost use Rattle.tariffs.specs.Books.{Book};
+ghost use Rattle.shelves.specs.Shelves.{Shelf};
 ghost use Rattle.keepers.specs.Keys.{key_of};
 ghost use Rattle.keepers.specs.Change.{IsLoad};
 ghost use Rattle.keepers.specs.Keeping.{Keeps, Reads};
@@ -18,23 +18,23 @@ use commands::{Answer, Content, Refusal, VoucherAddition, VoucherRedemption, is_
 use identifiers::VoucherCode;
 use keepers::{Keeper, KeptAnswer, Key, Loaded, Redeemed, StoreFault};
 use redemptions::{Addition, CivilDays, RedeemRefusal, Redemption, Voucher, add, redeem};
+use shelves::TariffShelf;
 use std::alloc::{AllocError, Global};
-use tariffs::TariffBook;
 use units::Moment;
 
-/// The civil days of a tariff book's calendar.
+/// The civil days by the calendar of the book at a moment.
 #[derive(Drop)]
 struct BookDays<'b> {
-    book: &'b TariffBook,
+    shelf: &'b TariffShelf,
 }
 
 impl CivilDays for BookDays<'_> {
     ghost use Rattle.charging.specs.Outcomes.{book_days};
 
-    ghost day_end = { λ d. book_days d.book.now };
+    ghost day_end = { λ d. book_days d.shelf.now };
 
     fn day_end(&self, moment: Moment, days: u32) -> Option<Moment> {
-        self.book.day_end(moment, days)
+        self.shelf.book_at(moment).day_end(moment, days)
     }
 }
 
@@ -44,7 +44,7 @@ pub(crate) fn add_voucher<K: Keeper>(
     addition: VoucherAddition,
     moment: Moment,
 ) -> Result<Answer, StoreFault>
-    ensures served { K.clean keeper.new → (b : Book) →
+    ensures served { K.clean keeper.new → (b : Shelf) →
         ServesAt b (command.AddVoucher addition) moment (K.content keeper.old)
         (K.content keeper.new) result }
     ensures kept { Keeps K.content K.failed K.clean keeper.old keeper.new result }
@@ -64,12 +64,12 @@ pub(crate) fn add_voucher<K: Keeper>(
 pub(crate) fn serve_redemption<K: Keeper>(
     alloc: Global,
     keeper: &mut K,
-    book: &TariffBook,
+    shelf: &TariffShelf,
     asked: VoucherRedemption,
     moment: Moment,
 ) -> Result<Answer, StoreFault>
     ensures served { K.clean keeper.new →
-        ServesAt book.now (command.Redeem asked) moment (K.content keeper.old)
+        ServesAt shelf.now (command.Redeem asked) moment (K.content keeper.old)
         (K.content keeper.new) result }
     ensures kept { Keeps K.content K.failed K.clean keeper.old keeper.new result }
 {
@@ -79,9 +79,9 @@ pub(crate) fn serve_redemption<K: Keeper>(
         return Ok(repeated_redemption(kept, &asked, conflict));
     }
     let found = keeper.find_voucher(&asked.code)?;
-    let redeemed = redeem_by(book, found, &asked, moment)?;
+    let redeemed = redeem_by(shelf, found, &asked, moment)?;
     let code = asked.code.clone()?;
-    let Some(loaded) = keeper.load(book, &asked.account, moment)? else {
+    let Some(loaded) = keeper.load(shelf, &asked.account, moment)? else {
         return Ok(Answer::Refused(Refusal::AccountUnknown));
     };
     match redeemed {
@@ -118,18 +118,19 @@ fn find_redemption<K: Keeper>(
     keeper.find_answer(&asked.account, &key)
 }
 
-/// What a redemption comes to by a book's days, over what stands under its code.
+/// What a redemption comes to by the days of the book at its moment, over what stands under its
+/// code.
 fn redeem_by(
-    book: &TariffBook,
+    shelf: &TariffShelf,
     found: Option<Voucher>,
     asked: &VoucherRedemption,
     moment: Moment,
 ) -> Result<Result<Redemption, RedeemRefusal>, AllocError>
     ensures { IfOk result (λ r. r ≡
-        redemption (book_days book.now) found asked.now.account moment) }
+        redemption (book_days shelf.now) found asked.now.account moment) }
 {
     let account = asked.account.clone()?;
-    Ok(redeem(found, account, moment, &BookDays { book }))
+    Ok(redeem(found, account, moment, &BookDays { shelf }))
 }
 
 /// The refusal as an operator is told it.
@@ -163,7 +164,7 @@ fn credit_redeemed<K: Keeper>(
     redeemed: Redemption,
     moment: Moment,
 ) -> Result<Answer, StoreFault>
-    ensures served { K.clean keeper.new → (b : Book) →
+    ensures served { K.clean keeper.new → (b : Shelf) →
         IsLoad b moment asked.account ((K.content keeper.old).rows asked.account)
         (Some loaded.entry) → (K.content keeper.old).answers asked.account
         (key_of (content.Redeem asked)) ≡ None → code ≡ asked.code →

@@ -4,7 +4,7 @@ use Rattle.std.proofs.Common.{false}
 use Rattle.std.specs.Io.KnownBytes.{Appends}
 use Rattle.byte_streams.specs.declared.StreamFault.{StreamFault}
 use Rattle.commands.specs.declared.command.VoucherAddition.{VoucherAddition}
-use Rattle.tariffs.specs.Books.{Book}
+use Rattle.shelves.specs.Shelves.{Shelf}
 use Rattle.keepers.specs.Tables.{Tables}
 use Rattle.keepers.specs.declared.fault.StoreFault.{StoreFault}
 use Rattle.office.specs.Counts.{counts_line}
@@ -19,7 +19,7 @@ use Rattle.database_office.specs.Importing.{IsFileImported, IsImportFault}
 use Rattle.database_office.specs.declared.fault.DatabaseFault.TheVariants.{Office}
 use Rattle.database_office.specs.declared.importing.ImportFault.TheVariants.{Vouchers, Database}
 
-module _ (b : Book) (t : ℕ) (old new : Tables) (before after : Option (List ℕ)) where
+module _ (b : Shelf) (t : ℕ) (old new : Tables) (before after : Option (List ℕ)) where
   -- all were added
   pub imported : (rows : List VoucherAddition) (r : Option (List ℕ)) →
       IfSome r (λ text. vouchers_in text ≡ Ok rows) →

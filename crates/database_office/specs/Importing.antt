@@ -3,7 +3,7 @@
 -- Source: profile.
 use Rattle.std.specs.Prelude.{◌≡◌, ℕ, List, Option, Ok, Err, IsTrue, false}
 use Rattle.commands.specs.declared.command.VoucherAddition.{VoucherAddition}
-use Rattle.tariffs.specs.Books.{Book}
+use Rattle.shelves.specs.Shelves.{Shelf}
 use Rattle.keepers.specs.Tables.{Tables}
 use Rattle.office.specs.Counts.{counts_line}
 use Rattle.office.specs.Imports.{BeginsImport, TellsImport, additions}
@@ -21,20 +21,20 @@ use Rattle.database_office.specs.declared.importing.ImportFault.{ImportFault}
 use Rattle.database_office.specs.declared.importing.ImportFault.TheVariants.{Vouchers, Database}
 
 -- the text's vouchers were added, in their order, and this is so of the counts
-pub record IsFileImported (b : Book) (text : List ℕ) (t : ℕ) (old new : Tables)
+pub record IsFileImported (b : Shelf) (text : List ℕ) (t : ℕ) (old new : Tables)
     (tells : Counts → Type 0) : Type 0 where
   pub rows : List VoucherAddition
   pub says : vouchers_in text ≡ Ok rows
   pub imported : TellsImport b (additions t rows) old new tells
 
 -- a beginning of them was
-pub record IsFileBegun (b : Book) (text : List ℕ) (t : ℕ) (old new : Tables) : Type 0 where
+pub record IsFileBegun (b : Shelf) (text : List ℕ) (t : ℕ) (old new : Tables) : Type 0 where
   pub rows : List VoucherAddition
   pub says : vouchers_in text ≡ Ok rows
   pub begun : BeginsImport b (additions t rows) old new
 
 -- over a keeper, a fault of the database is the store's or the writer's
-abbrev pub IsOverKeeper : Book → List ℕ → ℕ → Tables → Tables → Option (List ℕ) →
+abbrev pub IsOverKeeper : Shelf → List ℕ → ℕ → Tables → Tables → Option (List ℕ) →
     Option (List ℕ) → DatabaseFault → Type 0
 IsOverKeeper b text t old new before after File = ⊥
 IsOverKeeper b text t old new before after Clock = ⊥
@@ -48,7 +48,7 @@ IsOverKeeper b text t old new before after (Office (Write fault)) =
 
 -- one of the text is its first, or reading it stopped, which it may do at that record: then no
 -- table has changed
-abbrev pub IsImportFault : Book → List ℕ → ℕ → Tables → Tables → Option (List ℕ) →
+abbrev pub IsImportFault : Shelf → List ℕ → ℕ → Tables → Tables → Option (List ℕ) →
     Option (List ℕ) → ImportFault → Type 0
 IsImportFault b text t old new before after (Vouchers fault) =
     (IsTrue (is_in_file fault.kind) → vouchers_in text ≡ Err fault)

@@ -19,9 +19,9 @@ use crate::opening::{Office, open_office};
 use keepers::Keeper;
 use office::{Status, serve_office};
 use operator::{OfficeCommand, OfficeWords};
+use shelves::TariffShelf;
 use std::alloc::Global;
 use std::io::Write;
-use tariffs::TariffBook;
 use units::Moment;
 
 /// Carries out an operator's command over the database of the words, and writes its answer as a
@@ -46,27 +46,27 @@ pub fn command_office<O: Write>(
         at,
     } = words;
     let moment = command_moment(rt, at)?;
-    let Office { mut keeper, book } = open_office(rt, &database)?;
-    carry_out(rt.alloc(), &mut keeper, &book, command, moment, output)
+    let Office { mut keeper, shelf } = open_office(rt, &database)?;
+    carry_out(rt.alloc(), &mut keeper, &shelf, command, moment, output)
 }
 
 /// Carries out an operator's command over a keeper, as `serve_office`.
 fn carry_out<K: Keeper, O: Write>(
     alloc: Global,
     keeper: &mut K,
-    book: &TariffBook,
+    shelf: &TariffShelf,
     command: OfficeCommand,
     moment: Moment,
     output: &mut O,
 ) -> Result<Status, DatabaseFault>
     ensures done { K.clean keeper.new → IfOk result (λ status.
-        IsCarriedOut book.now (command_of command) moment (K.content keeper.old)
+        IsCarriedOut shelf.now (command_of command) moment (K.content keeper.old)
         (K.content keeper.new) (λ answer. (status ≡ status_of answer)
         × Appends (O.contents output.old) (O.contents output.new) (answer_line answer))) }
     ensures printed { IfOk result (λ status.
         PrintsAnswer status (O.contents output.old) (O.contents output.new)) }
     ensures untold { (fault : StreamFault) → result ≡ Err (OfOffice (Write fault)) →
-        K.clean keeper.new → IsCarriedOut book.now (command_of command) moment
+        K.clean keeper.new → IsCarriedOut shelf.now (command_of command) moment
         (K.content keeper.old) (K.content keeper.new) (λ answer.
         WritesBeginning (O.contents output.old) (O.contents output.new) (answer_line answer)) }
     ensures unserved { (fault : StoreFault) → result ≡ Err (OfOffice (Store fault)) →
@@ -76,7 +76,7 @@ fn carry_out<K: Keeper, O: Write>(
     ensures cleanness { K.clean keeper.new → K.clean keeper.old }
     ensures failures { K.failed keeper.old ≤ K.failed keeper.new }
 {
-    match serve_office(alloc, keeper, book, command, moment, output) {
+    match serve_office(alloc, keeper, shelf, command, moment, output) {
         Ok(status) => Ok(status),
         Err(fault) => Err(DatabaseFault::Office(fault)),
     }

@@ -13,9 +13,9 @@ use crate::opening::{Office, open_office};
 use keepers::Keeper;
 use office::serve_import;
 use operator::ImportWords;
+use shelves::TariffShelf;
 use std::alloc::Global;
 use std::io::{Read, Write};
-use tariffs::TariffBook;
 use thiserror::Error;
 use units::Moment;
 use vouchers::{VoucherFault, read_vouchers};
@@ -59,8 +59,8 @@ pub fn import_office<O: Write>(
     let ImportWords { database, file, at } = words;
     let reader = open_file(rt, file.as_str())?;
     let moment = command_moment(rt, at)?;
-    let Office { mut keeper, book } = open_office(rt, &database)?;
-    import_file(rt.alloc(), &mut keeper, &book, reader, moment, output)
+    let Office { mut keeper, shelf } = open_office(rt, &database)?;
+    import_file(rt.alloc(), &mut keeper, &shelf, reader, moment, output)
 }
 
 /// Adds the vouchers of a file over a keeper, in their order, and writes what became of them as
@@ -73,19 +73,19 @@ pub fn import_office<O: Write>(
 pub fn import_file<K: Keeper, R: Read + Drop, O: Write>(
     alloc: Global,
     keeper: &mut K,
-    book: &TariffBook,
+    shelf: &TariffShelf,
     reader: R,
     moment: Moment,
     output: &mut O,
 ) -> Result<(), ImportFault>
     ensures done { K.clean keeper.new → OnOk result (IfSome (R.remaining reader) (λ text.
-        IsFileImported book.now text moment (K.content keeper.old) (K.content keeper.new)
+        IsFileImported shelf.now text moment (K.content keeper.old) (K.content keeper.new)
         (λ counts. Appends (O.contents output.old) (O.contents output.new)
         (counts_line counts)))) }
     ensures printed { OnOk result (PrintsCounts (O.contents output.old) (O.contents output.new)) }
     ensures fault { K.clean keeper.new → IfErr result (λ fault.
         IfSome (R.remaining reader) (λ text.
-        IsImportFault book.now text moment (K.content keeper.old) (K.content keeper.new)
+        IsImportFault shelf.now text moment (K.content keeper.old) (K.content keeper.new)
         (O.contents output.old) (O.contents output.new) fault)) }
     ensures unwritten { IfErr result (λ fault. IsUntold fault → output.new ≡ output.old) }
     ensures cleanness { K.clean keeper.new → K.clean keeper.old }
@@ -95,7 +95,7 @@ pub fn import_file<K: Keeper, R: Read + Drop, O: Write>(
         Ok(rows) => rows,
         Err(fault) => return Err(ImportFault::Vouchers(fault)),
     };
-    match serve_import(alloc, keeper, book, rows, moment, output) {
+    match serve_import(alloc, keeper, shelf, rows, moment, output) {
         Ok(()) => Ok(()),
         Err(fault) => Err(ImportFault::Database(DatabaseFault::Office(fault))),
     }

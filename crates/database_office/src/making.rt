@@ -26,7 +26,7 @@ pub fn make_database(
     rt: &HostRuntime,
     words: &InitWords,
 ) -> Result<Office<DatabaseFiles<Wary>>, DatabaseFault>
-    ensures fresh { IfOk result (λ office. IsFresh office.keeper office.book) }
+    ensures fresh { IfOk result (λ office. IsFresh office.keeper office.shelf) }
     ensures fault { IfErr result IsInitFault }
 {
     let bytes = read_file(rt, words.book.as_str())?;
@@ -67,12 +67,12 @@ pub fn make_tables<S: Alter + Drop>(
     text: &str,
 ) -> Result<Office<S>, (DatabaseFault, Connection<S>)>
     ensures made { IfOk result
-        (λ office. IsCreated S.Store text.now connection office.keeper office.book) }
+        (λ office. IsCreated S.Store text.now connection office.keeper office.shelf) }
     ensures refused { IfErr result
         (λ left. IsNotMade (IsNotCreated S.Store text.now connection left.1) left.0) }
 {
     match SqlKeeper::create(alloc, connection, text) {
-        Ok((keeper, book)) => Ok(Office { keeper, book }),
+        Ok((keeper, shelf)) => Ok(Office { keeper, shelf }),
         Err((fault, left)) => Err((making_fault(fault), left)),
     }
 }

@@ -8,19 +8,19 @@ use crate::fault::DatabaseFault;
 use crate::files::connect_there;
 use database_files::DatabaseFiles;
 use operator::FilePath;
+use shelves::TariffShelf;
 use sql_keeper::SqlKeeper;
 use sqlite::{Alter, Connection};
 use sqlite_disk::Wary;
 use std::alloc::Global;
-use tariffs::TariffBook;
 
-/// An office: what keeps its accounts, and the tariff book that it goes by.
+/// An office: what keeps its accounts, and the shelf of tariff books that it goes by.
 #[derive(Drop)]
 pub struct Office<S: Alter + Drop> {
     /// What keeps the office's accounts, in a database.
     pub keeper: SqlKeeper<S>,
-    /// The tariff book that the office goes by.
-    pub book: TariffBook,
+    /// The tariff books that the office goes by.
+    pub shelf: TariffShelf,
 }
 
 /// Opens the office of the database at a path. No file is made, and an empty one is left empty.
@@ -32,7 +32,7 @@ pub fn open_office(
     rt: &HostRuntime,
     path: &FilePath,
 ) -> Result<Office<DatabaseFiles<Wary>>, DatabaseFault>
-    ensures fresh { IfOk result (λ office. IsFresh office.keeper office.book) }
+    ensures fresh { IfOk result (λ office. IsFresh office.keeper office.shelf) }
     ensures told { IfErr result IsUnopened }
 {
     let connection = connect_there(rt, path.as_str())?;
@@ -52,12 +52,13 @@ pub fn open_tables<S: Alter + Drop>(
     alloc: Global,
     connection: Connection<S>,
 ) -> Result<Office<S>, (DatabaseFault, Connection<S>)>
-    ensures opened { IfOk result (λ office. IsOpened S.Store connection office.keeper office.book) }
+    ensures opened { IfOk result
+        (λ office. IsOpened S.Store connection office.keeper office.shelf) }
     ensures refused { IfErr result
         (λ left. IsNotFound (IsNotOpened S.Store connection left.1) left.0) }
 {
     match SqlKeeper::open(alloc, connection) {
-        Ok((keeper, book)) => Ok(Office { keeper, book }),
+        Ok((keeper, shelf)) => Ok(Office { keeper, shelf }),
         Err((fault, left)) => Err((DatabaseFault::Open(fault), left)),
     }
 }

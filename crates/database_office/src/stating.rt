@@ -13,9 +13,9 @@ use crate::opening::{Office, open_office};
 use charge_sources::ChargeSource;
 use office::{MonthQuery, Status, serve_statement};
 use operator::StatementWords;
+use shelves::TariffShelf;
 use std::alloc::Global;
 use std::io::Write;
-use tariffs::TariffBook;
 use units::Moment;
 
 /// Writes the month of an account over the database of the words, as a statement or as CSV. The
@@ -42,26 +42,26 @@ pub fn state_office<O: Write>(
         at,
     } = words;
     let moment = command_moment(rt, at)?;
-    let Office { mut keeper, book } = open_office(rt, &database)?;
+    let Office { mut keeper, shelf } = open_office(rt, &database)?;
     let query = MonthQuery {
         account,
         month,
         csv,
     };
-    tell_month(rt.alloc(), &mut keeper, &book, &query, moment, output)
+    tell_month(rt.alloc(), &mut keeper, &shelf, &query, moment, output)
 }
 
 /// Writes an account's month over a keeper, as `serve_statement`.
 fn tell_month<K: ChargeSource, O: Write>(
     alloc: Global,
     keeper: &mut K,
-    book: &TariffBook,
+    shelf: &TariffShelf,
     query: &MonthQuery,
     moment: Moment,
     output: &mut O,
 ) -> Result<Status, DatabaseFault>
     ensures told { K.clean keeper.new →
-        IsOfOffice (IsMonthTold book.now query.now moment (K.content keeper.old)
+        IsOfOffice (IsMonthTold shelf.now query.now moment (K.content keeper.old)
         (O.contents output.old) (O.contents output.new)) result }
     ensures ended { IfOk result (IsEnded
         (Appends (O.contents output.old) (O.contents output.new) unknown_line)) }
@@ -69,7 +69,7 @@ fn tell_month<K: ChargeSource, O: Write>(
     ensures unwritten { IfErr result (λ fault. IsUnasked fault → output.new ≡ output.old) }
     ensures fault { IfErr result IsOfficeFault }
 {
-    match serve_statement(alloc, keeper, book, query, moment, output) {
+    match serve_statement(alloc, keeper, shelf, query, moment, output) {
         Ok(status) => Ok(status),
         Err(fault) => Err(DatabaseFault::Office(fault)),
     }

@@ -9,8 +9,8 @@ use Rattle.commands.specs.declared.answer.Outcome.TheVariants.{Services, Refunde
 use Rattle.commands.specs.declared.answer.ServiceOutcome.TheVariants as service
 use Rattle.commands.specs.Refunds.{Refunded as Refund}
 use Rattle.units.specs.declared.blocks.UsedPart.{UsedPart}
-use Rattle.tariffs.specs.Books.{Book}
 use Rattle.tariffs.specs.Tariffs.{GroupTariff}
+use Rattle.shelves.specs.Shelves.{Shelf}
 use Rattle.reserving.specs.declared.charge.ChargeRow.{ChargeRow}
 use Rattle.reserving.specs.declared.settle.Settled.{Settled}
 use Rattle.reserving.specs.Ledger.{Ledger}
@@ -40,17 +40,17 @@ pub reports_settled : (old new : AccountRows) (t : ℕ) (s : List ℕ) (g : ℕ)
     (settled : Settled) (row : ChargeRow) → length parts ≢ 0 →
     row ≡ told_row old.next_charge t s g settled →
     ((ledger : Ledger) (left : LeftRows) → IsWith ledger left t old →
-    passes_limit old.book t s g parts ledger ≡ false) →
+    passes_limit old.shelf t s g parts ledger ≡ false) →
     ((ledger : Ledger) (left : LeftRows) → IsWith ledger left t old →
-    IsWith (settled_by old.book t s g parts ledger) left t new) →
+    IsWith (settled_by old.shelf t s g parts ledger) left t new) →
     ((ledger : Ledger) (left : LeftRows) → IsWith ledger left t old →
-    IsSettlementOf old.book t s g parts ledger settled) → Reports row old new t s g parts
+    IsSettlementOf old.shelf t s g parts ledger settled) → Reports row old new t s g parts
 reports_settled old new t s g [] settled row some is within after told = absurd (some refl)
 reports_settled old new t s g (p ∷ ps) settled row some is within after told = λ ledger left h.
     record {
       within = within ledger left h;
       rows = after ledger left h;
-      written = charge_rows-settlement old.book t old.next_charge s g p ps ledger settled
+      written = charge_rows-settlement old.shelf t old.next_charge s g p ps ledger settled
           h.rows.next_charge (told ledger left h) ∙ ap (λ r. charge_rows ledger ++ r ∷ []) (sym is);
     }
 
@@ -74,18 +74,18 @@ pub follows_charged : (old middle new : AccountRows) (tariff : GroupTariff) (t :
     (n g units : ℕ) (settled : Settled) (row : ChargeRow) →
     row ≡ told_row old.next_charge t s g settled →
     ((ledger : Ledger) (left : LeftRows) → NotLeft s left → IsWith ledger left t old →
-    IsBeside left t middle × IsDebitOf old.book t s g units ledger
+    IsBeside left t middle × IsDebitOf old.shelf t s g units ledger
     (joined left middle) settled) →
     ((ledger : Ledger) (left : LeftRows) → NotLeft s left → IsWith ledger left t middle →
     IsWith (recorded t s n ledger) left t new) →
-    Follows (IsNew s) (charged_if_covered old.book tariff t s n g units) t old new
+    Follows (IsNew s) (charged_if_covered old.shelf tariff t s n g units) t old new
     (debit_outcome tariff g units) true (row ∷ [])
 follows_charged old middle new tariff t s n g units settled row is debit records =
     λ ledger left asked h.
     let beside : IsBeside left t middle = (debit ledger left asked h).0 in
-    let own : IsDebitOf old.book t s g units ledger (joined left middle) settled =
+    let own : IsDebitOf old.shelf t s g units ledger (joined left middle) settled =
     (debit ledger left asked h).1 in
-    let after : Ledger = debited old.book t s g units ledger in
+    let after : Ledger = debited old.shelf t s g units ledger in
     let decision : Decision = accepted (debit_outcome tariff g units) (recorded t s n after) in
     let agrees : Agrees (debit_outcome tariff g units) true (row ∷ []) decision ledger left t new =
     record {
@@ -93,17 +93,17 @@ follows_charged old middle new tariff t s n g units settled row is debit records
       acceptance = refl;
       rows = records after left asked (with_beside after left t middle beside own.rows);
       written = charge_rows-recorded t s n after
-          ∙ charge_rows-debit old.book t old.next_charge s g units ledger
+          ∙ charge_rows-debit old.shelf t old.next_charge s g units ledger
           (joined left middle) settled h.rows.next_charge own
           ∙ ap (λ r. charge_rows ledger ++ r ∷ []) (sym is);
     } in
-    let same : charged_if_covered old.book tariff t s n g units ledger ≡ decision =
+    let same : charged_if_covered old.shelf tariff t s n g units ledger ≡ decision =
     rw (own.covered, own.within) refl in
     subst (λ d. Agrees (debit_outcome tariff g units) true (row ∷ []) d ledger left t new)
     (sym same) agrees
 
 -- an event whose price is covered, and whose charge passes a limit
-pub charge_passes : (b : Book) (tariff : GroupTariff) (t : ℕ) (s : List ℕ) (n g units : ℕ)
+pub charge_passes : (b : Shelf) (tariff : GroupTariff) (t : ℕ) (s : List ℕ) (n g units : ℕ)
     (ledger : Ledger) → (is_covered b t g units ledger ≡ true)
     × (debit_passes b t s g units ledger ≡ true) →
     charged_if_covered b tariff t s n g units ledger ≡ told (Failed UnableToComply) ledger

@@ -6,9 +6,9 @@ use Rattle.std.proofs.lemmas.Bool.Decides.{nat_tests}
 use Rattle.commands.specs.declared.answer.ServiceFailure.TheVariants.{CreditLimitReached}
 use Rattle.commands.specs.declared.answer.ServiceOutcome.{ServiceOutcome}
 use Rattle.commands.specs.declared.answer.ServiceOutcome.TheVariants as service
-use Rattle.tariffs.specs.Books.{Book}
 use Rattle.tariffs.specs.Tariffs.{GroupTariff}
 use Rattle.rating.specs.declared.grant.Grant.{Grant}
+use Rattle.shelves.specs.Shelves.{Shelf, book_at}
 use Rattle.commands.specs.declared.service.Service.{Service}
 use Rattle.commands.specs.declared.service.Requested.{Requested}
 use Rattle.reserving.specs.Ledger.{Ledger, is_barred, used}
@@ -36,7 +36,7 @@ units_outcome tariff given switch validity fewer =
       last = final_unit tariff fewer;
     })
 
-grants_some : (b : Book) (tariff : GroupTariff) (t : ℕ) (s : List ℕ) (g : ℕ) (asked : Option ℕ)
+grants_some : (b : Shelf) (tariff : GroupTariff) (t : ℕ) (s : List ℕ) (g : ℕ) (asked : Option ℕ)
     (grant : Grant) (ledger : Ledger) (left : LeftRows) (a : AccountRows) →
     0 < grant.units.0 → IsWith (reserved b t s g grant.units.0 grant.amount.0 ledger) left t a →
     Grants (grant_answer b tariff t grant.units.0 asked)
@@ -59,10 +59,11 @@ grants_some b tariff t s g asked grant ledger left a some rows =
     at false e = absurd (let no : false ≡ true = e in cc)
 
 -- units that are reserved are the service's grant
-pub grants_units : (b : Book) (tariff : GroupTariff) (t : ℕ) (s : List ℕ) (g : ℕ) (asked : Option ℕ)
+pub grants_units : (b : Shelf) (tariff : GroupTariff) (t : ℕ) (s : List ℕ) (g : ℕ)
+    (asked : Option ℕ)
     (ledger : Ledger) (left : LeftRows) (a : AccountRows) (given : ℕ) (switch : Option ℕ)
     (validity : ℕ) (fewer : Bool) (outcome : ServiceOutcome) →
-    Some tariff ≡ tariff_of b g → IsBeside left t a →
+    Some tariff ≡ tariff_of (book_at b t) g → IsBeside left t a →
     IsGrantOf b t s g asked ledger (joined left a) given switch validity fewer →
     outcome ≡ units_outcome tariff given switch validity fewer →
     Grants outcome (granted_units b tariff t s g asked ledger) left t a
@@ -84,7 +85,7 @@ grants_units b tariff t s g asked ledger left a given switch validity fewer outc
     (grants_some b tariff t s g asked grant ledger left a some own)
 
 -- where nothing is granted
-pub grants_nothing : (b : Book) (tariff : GroupTariff) (t : ℕ) (s : List ℕ) (g : ℕ)
+pub grants_nothing : (b : Shelf) (tariff : GroupTariff) (t : ℕ) (s : List ℕ) (g : ℕ)
     (asked : Option ℕ) (ledger : Ledger) (left : LeftRows) (a : AccountRows) → IsBeside left t a →
     ((grant_for b t g (used s g ledger) asked ledger).units.0 ≡ 0)
     × IsRowsOf ledger (joined left a) →
@@ -114,9 +115,10 @@ grants_nothing b tariff t s g asked ledger left a beside both =
     }
 
 -- a known group, of which something is asked while the account isn't barred
-pub granted_is : (b : Book) (tariff : GroupTariff) (t : ℕ) (s : List ℕ) (x : Service)
+pub granted_is : (b : Shelf) (tariff : GroupTariff) (t : ℕ) (s : List ℕ) (x : Service)
     (requested : Requested) (asked : Option ℕ) (ledger : Ledger) →
-    Some tariff ≡ tariff_of b x.group → x.requested ≡ Some requested → asked ≡ units_of requested →
+    Some tariff ≡ tariff_of (book_at b t) x.group → x.requested ≡ Some requested →
+    asked ≡ units_of requested →
     is_barred ledger ≡ false →
     granted_units b tariff t s x.group asked ledger ≡ granted b t s x ledger
 granted_is b tariff t s x requested asked ledger known asks units free =

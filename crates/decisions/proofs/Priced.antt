@@ -1,12 +1,14 @@
 -- The price of an event fits 64 bits.
+use Rattle.std.specs.Prelude.{option_and_then}
+use Rattle.tariffs.specs.Books.{Book}
 use Rattle.std.proofs.Common.{◌≡◌, ℕ, zero, suc, ◌+◌, ◌*◌, ◌≤◌, ◌<◌, ◌^◌, List, [], ◌∷◌, ap, ◌∙◌}
-use Rattle.std.proofs.Common.{subst, arith, add-zero, zero-add, Option, Some}
+use Rattle.std.proofs.Common.{subst, sym, arith, add-zero, zero-add, Option, Some}
 use Rattle.std.specs.Prelude.{slice_index_or}
 use Rattle.std.specs.List.{AllByRecursion}
 use Rattle.units.specs.Blocks.{started}
 use Rattle.tariffs.specs.declared.tiers.Tier.{Tier}
 use Rattle.tariffs.specs.Prices.{AreTiers, ArePriced}
-use Rattle.tariffs.specs.Tariffs.{GroupTariff, IsTariff, tiers_at}
+use Rattle.tariffs.specs.Tariffs.{GroupTariff, IsTariff}
 use Rattle.tariffs.specs.declared.group_prices.Side.{Side}
 use Rattle.tariffs.specs.declared.group_prices.Side.TheVariants.{Before, After}
 use Rattle.tariffs.specs.GroupPrices.{tiers_on}
@@ -14,6 +16,8 @@ use Rattle.rating.specs.declared.report.Part.{Part}
 use Rattle.rating.specs.Rated.{rated_amount, report_blocks, report_amount}
 use Rattle.rating.proofs.RunFacts.{rated_bound}
 use Rattle.rating.specs.declared.grant.Periods.{Periods}
+use Rattle.shelves.proofs.Begun.{last_begun_holds}
+use Rattle.shelves.specs.Shelves.{Shelf, IsShelf, book_at, number_at, tariff_in}
 use Rattle.reserving.specs.Pricing.{tariff_of, prices_by, rated_with, rated_parts}
 use Rattle.reserving.specs.Debiting.{untagged}
 use Rattle.reserving.specs.Changes.{event_price_in}
@@ -58,11 +62,18 @@ rated_fits tariff p place units is few =
     report_bound tariff p 0 place (rated_parts (untagged units)) is in
     omega (arith, bound, few, event_blocks tariff.block units)
 
+-- the tariff of the number at a moment is that of the book at it
+numbered : (s : Shelf) (t g : ℕ) → IsShelf s →
+    tariff_in s (number_at s t) g ≡ tariff_of (book_at s t) g
+numbered s t g is =
+    ap (λ (o : Option Book). option_and_then (λ b. tariff_of b g) o) (last_begun_holds s t is).book
+
 -- the price of an event of no more than 10^9 blocks
-pub price_fits : (a : AccountRows) (tariff : GroupTariff) (t g units : ℕ) →
-    Some tariff ≡ tariff_of a.book g → IsTariff tariff →
+pub price_fits : (a : AccountRows) (tariff : GroupTariff) (t g units : ℕ) → IsShelf a.shelf →
+    Some tariff ≡ tariff_of (book_at a.shelf t) g → IsTariff tariff →
     started 0 units tariff.block ≤ 1_000_000_000 → (event_price_in g units t a).amount.0 < 2 ^ 64
-price_fits a tariff t g units known is few = at (tariff_of a.book g) known _ _
+price_fits a tariff t g units shelf known is few =
+    at (tariff_in a.shelf (number_at a.shelf t) g) (known ∙ sym (numbered a.shelf t g shelf)) _ _
   where
     at : (o : Option GroupTariff) → Some tariff ≡ o → (p : Periods) (place : ℕ) →
         (rated_with o p 0 place (untagged units)).amount.0 < 2 ^ 64

@@ -13,9 +13,9 @@ use Rattle.commands.specs.declared.answer.ServiceFailure.{ServiceFailure}
 use Rattle.commands.specs.declared.answer.ServiceFailure.TheVariants.{EndUserServiceDenied}
 use Rattle.commands.specs.declared.answer.ServiceFailure.TheVariants.{CreditLimitReached}
 use Rattle.commands.specs.declared.answer.ServiceOutcome.TheVariants as service
-use Rattle.tariffs.specs.Books.{Book}
 use Rattle.tariffs.specs.Tariffs.{GroupTariff}
 use Rattle.rating.specs.declared.grant.Grant.{Grant}
+use Rattle.shelves.specs.Shelves.{Shelf, book_at}
 use Rattle.reserving.specs.declared.charge.ChargeRow.{ChargeRow}
 use Rattle.reserving.specs.Ledger.{Ledger, is_barred, used}
 use Rattle.reserving.specs.Pricing.{tariff_of}
@@ -179,7 +179,7 @@ follows_denied old new t s n why rows = λ ledger left asked h. record {
 
 -- ---- grants make no charge
 
-with_charges : (b : Book) (tariff : GroupTariff) (t : ℕ) (s : List ℕ) (g : ℕ) (asked : Option ℕ)
+with_charges : (b : Shelf) (tariff : GroupTariff) (t : ℕ) (s : List ℕ) (g : ℕ) (asked : Option ℕ)
     (grant : Grant) (ledger : Ledger) →
     charge_rows (granted_with b tariff t s g asked grant ledger).after ≡ charge_rows ledger
 with_charges b tariff t s g asked grant ledger = at (nat_lt 0 grant.units.0)
@@ -197,7 +197,7 @@ with_charges b tariff t s g asked grant ledger = at (nat_lt 0 grant.units.0)
     at true = charge_rows-reserved b t s g grant.units.0 grant.amount.0 ledger
     at false = refl
 
-unless_charges : (b : Book) (tariff : GroupTariff) (t : ℕ) (s : List ℕ) (g : ℕ) (asked : Option ℕ)
+unless_charges : (b : Shelf) (tariff : GroupTariff) (t : ℕ) (s : List ℕ) (g : ℕ) (asked : Option ℕ)
     (ledger : Ledger) → charge_rows (granted_unless_barred b tariff t s g asked ledger).after ≡
     charge_rows ledger
 unless_charges b tariff t s g asked ledger = at (is_barred ledger)
@@ -211,21 +211,21 @@ unless_charges b tariff t s g asked ledger = at (is_barred ledger)
     at false = with_charges b tariff t s g asked (grant_for b t g (used s g ledger) asked ledger)
         ledger
 
-if_charges : (b : Book) (tariff : GroupTariff) (t : ℕ) (s : List ℕ) (g : ℕ) (o : Option Requested)
+if_charges : (b : Shelf) (tariff : GroupTariff) (t : ℕ) (s : List ℕ) (g : ℕ) (o : Option Requested)
     (ledger : Ledger) → charge_rows (granted_if b tariff t s g o ledger).after ≡ charge_rows ledger
 if_charges b tariff t s g None ledger = refl
 if_charges b tariff t s g (Some requested) ledger = unless_charges b tariff t s g _ ledger
 
-by_charges : (o : Option GroupTariff) (b : Book) (t : ℕ) (s : List ℕ) (x : Service)
+by_charges : (o : Option GroupTariff) (b : Shelf) (t : ℕ) (s : List ℕ) (x : Service)
     (ledger : Ledger) → charge_rows (granted_by o b t s x ledger).after ≡ charge_rows ledger
 by_charges None b t s x ledger = refl
 by_charges (Some tariff) b t s x ledger = if_charges b tariff t s x.group x.requested ledger
 
-pub grants_charges : (b : Book) (t : ℕ) (s : List ℕ) (services : List Service) (ledger : Ledger) →
+pub grants_charges : (b : Shelf) (t : ℕ) (s : List ℕ) (services : List Service) (ledger : Ledger) →
     charge_rows (after_grants b t s services ledger) ≡ charge_rows ledger
 grants_charges b t s [] ledger = refl
 grants_charges b t s (x ∷ xs) ledger = grants_charges b t s xs (granted b t s x ledger).after
-    ∙ by_charges (tariff_of b x.group) b t s x ledger
+    ∙ by_charges (tariff_of (book_at b t) x.group) b t s x ledger
 
 -- ---- sessions
 
@@ -233,22 +233,22 @@ grants_charges b t s (x ∷ xs) ledger = grants_charges b t s xs (granted b t s 
 pub follows_opened : (old new : AccountRows) (t : ℕ) (s : List ℕ) (n : ℕ) (services : List Service)
     (answers : List ServiceAnswer) →
     ((ledger : Ledger) (left : LeftRows) → IsWith ledger left t old →
-    any_grants old.book t ledger services ≡ true) →
+    any_grants old.shelf t ledger services ≡ true) →
     ((ledger : Ledger) (left : LeftRows) → NotLeft s left → IsWith ledger left t old →
-    GrantsAll answers old.book t s services (touched t s n ledger) left new) →
-    Follows (IsNew s) (opened old.book t s n services) t old new (Services answers) true []
+    GrantsAll answers old.shelf t s services (touched t s n ledger) left new) →
+    Follows (IsNew s) (opened old.shelf t s n services) t old new (Services answers) true []
 follows_opened old new t s n services answers some grants = λ ledger left asked h.
-    let all : GrantsAll answers old.book t s services (touched t s n ledger) left new =
+    let all : GrantsAll answers old.shelf t s services (touched t s n ledger) left new =
     grants ledger left asked h in
     let granted : Decision = accepted
-    (Services (grant_answers old.book t s services (touched t s n ledger)))
-    (after_grants old.book t s services (touched t s n ledger)) in
+    (Services (grant_answers old.shelf t s services (touched t s n ledger)))
+    (after_grants old.shelf t s services (touched t s n ledger)) in
     let own : Agrees (Services answers) true [] granted ledger left t new = record {
       same = ap Services all.same;
       acceptance = refl;
       rows = all.rows;
-      written = uncharged (after_grants old.book t s services (touched t s n ledger)) ledger
-          (grants_charges old.book t s services (touched t s n ledger)
+      written = uncharged (after_grants old.shelf t s services (touched t s n ledger)) ledger
+          (grants_charges old.shelf t s services (touched t s n ledger)
           ∙ charge_rows-touched t s n ledger);
     } in
     subst (λ x. Agrees (Services answers) true [] x ledger left t new)
@@ -257,40 +257,41 @@ follows_opened old new t s n services answers some grants = λ ledger left asked
 -- an update whose services are settled
 pub follows_updated : (old middle new : AccountRows) (t : ℕ) (s : List ℕ) (n : ℕ)
     (services : List Service) (answers : List ServiceAnswer) (charges : List ChargeRow) →
-    middle.book ≡ old.book →
+    middle.shelf ≡ old.shelf →
     Settles charges old middle t s services →
     ((ledger : Ledger) (left : LeftRows) → IsWith ledger left t middle →
-    GrantsAll answers middle.book t s services (touched t s n ledger) left new) →
-    Follows Always (updated old.book t s n services) t old new (Services answers) true charges
+    GrantsAll answers middle.shelf t s services (touched t s n ledger) left new) →
+    Follows Always (updated old.shelf t s n services) t old new (Services answers) true charges
 follows_updated old middle new t s n services answers charges e settles grants =
     λ ledger left asked h.
-    let settled : AreSettled charges old.book t s services ledger left middle =
+    let settled : AreSettled charges old.shelf t s services ledger left middle =
     settles ledger left h in
-    let own : Ledger = settled_touched old.book t s n services ledger in
-    let all : GrantsAll answers old.book t s services own left new =
+    let own : Ledger = settled_touched old.shelf t s n services ledger in
+    let all : GrantsAll answers old.shelf t s services own left new =
     subst (λ b. GrantsAll answers b t s services own left new) e
-    (grants (settled_services old.book t s services ledger) left settled.rows) in
+    (grants (settled_services old.shelf t s services ledger) left settled.rows) in
     record {
       same = ap Services all.same;
       acceptance = refl;
       rows = all.rows;
-      written = grants_charges old.book t s services own
-          ∙ charge_rows-touched t s n (settled_services old.book t s services ledger)
+      written = grants_charges old.shelf t s services own
+          ∙ charge_rows-touched t s n (settled_services old.shelf t s services ledger)
           ∙ settled.written;
     }
 
 -- a termination whose services are settled
 pub follows_ended : (old middle new : AccountRows) (t : ℕ) (s : List ℕ) (n : ℕ)
     (services : List Service) (answers : List ServiceAnswer) (charges : List ChargeRow) →
-    answers ≡ settled_answers old.book services → Settles charges old middle t s services →
+    answers ≡ settled_answers (book_at old.shelf t) services →
+    Settles charges old middle t s services →
     ((ledger : Ledger) (left : LeftRows) → IsWith ledger left t middle →
     IsWith (closed t s (touched t s n ledger)) left t new) →
-    Follows Always (ended old.book t s n services) t old new (Services answers) true charges
+    Follows Always (ended old.shelf t s n services) t old new (Services answers) true charges
 follows_ended old middle new t s n services answers charges same settles ends =
     λ ledger left asked h.
-    let settled : AreSettled charges old.book t s services ledger left middle =
+    let settled : AreSettled charges old.shelf t s services ledger left middle =
     settles ledger left h in
-    let own : Ledger = settled_services old.book t s services ledger in
+    let own : Ledger = settled_services old.shelf t s services ledger in
     record {
       same = ap Services same;
       acceptance = refl;

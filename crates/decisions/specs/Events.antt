@@ -24,8 +24,9 @@ use Rattle.commands.specs.declared.answer.Outcome.TheVariants.{Failed}
 use Rattle.units.specs.Blocks.{started}
 use Rattle.tariffs.specs.Books.{Book}
 use Rattle.tariffs.specs.Tariffs.{GroupTariff}
+use Rattle.shelves.specs.Shelves.{Shelf, book_at}
 use Rattle.reserving.specs.Ledger.{Ledger, is_barred, next_bucket}
-use Rattle.reserving.specs.Pricing.{tariff_of}
+use Rattle.reserving.specs.Pricing.{tariff_of, tariff_at}
 use Rattle.reserving.specs.Requests.{recorded, credited}
 use Rattle.reserving.specs.Debiting.{event_price, is_covered, debited, debit_passes}
 use Rattle.decisions.specs.Recorded.{has_record}
@@ -55,7 +56,7 @@ debit_refusal b s e ledger = if has_record s ledger then Some (invalid SessionId
     else option_map invalid (event_fault b e)
 
 -- its units are charged at once
-abbrev pub charged : Book → GroupTariff → ℕ → List ℕ → ℕ → ℕ → ℕ → Ledger → Decision
+abbrev pub charged : Shelf → GroupTariff → ℕ → List ℕ → ℕ → ℕ → ℕ → Ledger → Decision
 charged b tariff t s n g units ledger =
     if debit_passes b t s g units ledger
     then told (Failed UnableToComply) ledger
@@ -66,56 +67,57 @@ charged b tariff t s n g units ledger =
     (recorded t s n (debited b t s g units ledger))
 
 -- where the eligible buckets have their price
-abbrev pub charged_if_covered : Book → GroupTariff → ℕ → List ℕ → ℕ → ℕ → ℕ → Ledger → Decision
+abbrev pub charged_if_covered : Shelf → GroupTariff → ℕ → List ℕ → ℕ → ℕ → ℕ → Ledger → Decision
 charged_if_covered b tariff t s n g units ledger =
     if is_covered b t g units ledger then charged b tariff t s n g units ledger
     else denied t s n CreditLimitReached ledger
 
-abbrev pub charged_by : Option GroupTariff → Book → ℕ → List ℕ → ℕ → Event → Ledger → Decision
+abbrev pub charged_by : Option GroupTariff → Shelf → ℕ → List ℕ → ℕ → Event → Ledger → Decision
 charged_by None b t s n e ledger = denied t s n RatingFailed ledger
 charged_by (Some tariff) b t s n e ledger =
     charged_if_covered b tariff t s n e.group (event_units tariff e.requested) ledger
 
 -- a barred account is charged nothing
-abbrev pub charged_unless_barred : Book → ℕ → List ℕ → ℕ → Event → Ledger → Decision
+abbrev pub charged_unless_barred : Shelf → ℕ → List ℕ → ℕ → Event → Ledger → Decision
 charged_unless_barred b t s n e ledger =
     if is_barred ledger then denied t s n EndUserServiceDenied ledger
-    else charged_by (tariff_of b e.group) b t s n e ledger
+    else charged_by (tariff_at b t e.group) b t s n e ledger
 
-abbrev pub debit_decision : Book → ℕ → List ℕ → ℕ → Event → Ledger → Decision
+abbrev pub debit_decision : Shelf → ℕ → List ℕ → ℕ → Event → Ledger → Decision
 debit_decision b t s n e ledger =
-    refused_or (debit_refusal b s e ledger) ledger (charged_unless_barred b t s n e ledger)
+    refused_or (debit_refusal (book_at b t) s e ledger) ledger
+    (charged_unless_barred b t s n e ledger)
 
 -- ---- reads
 
 abbrev pub balance_of : Bool → Balance
 balance_of covered = if covered then EnoughCredit else NoCredit
 
-abbrev pub checked_by : Option GroupTariff → Book → ℕ → Event → Ledger → Outcome
+abbrev pub checked_by : Option GroupTariff → Shelf → ℕ → Event → Ledger → Outcome
 checked_by None b t e ledger = Failed (Denied RatingFailed)
 checked_by (Some tariff) b t e ledger =
     Checked (balance_of (is_covered b t e.group (event_units tariff e.requested) ledger))
 
-abbrev pub priced_by : Option GroupTariff → Book → ℕ → Event → Ledger → Outcome
+abbrev pub priced_by : Option GroupTariff → Shelf → ℕ → Event → Ledger → Outcome
 priced_by None b t e ledger = Failed (Denied RatingFailed)
 priced_by (Some tariff) b t e ledger =
     Priced (record {
       micros = (event_price b t e.group (event_units tariff e.requested) ledger).amount.0;
-      currency = b.currency;
+      currency = (book_at b t).currency;
     })
 
 abbrev pub read_refusal : Book → Event → Option Failure
 read_refusal b e = option_map invalid (event_fault b e)
 
-abbrev pub check_decision : Book → ℕ → Event → Ledger → Decision
+abbrev pub check_decision : Shelf → ℕ → Event → Ledger → Decision
 check_decision b t e ledger =
-    refused_or (read_refusal b e) ledger
-    (told (checked_by (tariff_of b e.group) b t e ledger) ledger)
+    refused_or (read_refusal (book_at b t) e) ledger
+    (told (checked_by (tariff_at b t e.group) b t e ledger) ledger)
 
-abbrev pub enquiry_decision : Book → ℕ → Event → Ledger → Decision
+abbrev pub enquiry_decision : Shelf → ℕ → Event → Ledger → Decision
 enquiry_decision b t e ledger =
-    refused_or (read_refusal b e) ledger
-    (told (priced_by (tariff_of b e.group) b t e ledger) ledger)
+    refused_or (read_refusal (book_at b t) e) ledger
+    (told (priced_by (tariff_at b t e.group) b t e ledger) ledger)
 
 -- ---- an event
 
@@ -124,12 +126,12 @@ is_read_action DirectDebiting = false
 is_read_action CheckBalance = true
 is_read_action PriceEnquiry = true
 
-abbrev pub decided_action : EventAction → Book → ℕ → List ℕ → ℕ → Event → Ledger → Decision
+abbrev pub decided_action : EventAction → Shelf → ℕ → List ℕ → ℕ → Event → Ledger → Decision
 decided_action DirectDebiting b t s n e ledger = debit_decision b t s n e ledger
 decided_action CheckBalance b t s n e ledger = check_decision b t e ledger
 decided_action PriceEnquiry b t s n e ledger = enquiry_decision b t e ledger
 
-abbrev pub event_decision : Book → ℕ → List ℕ → ℕ → Event → Ledger → Decision
+abbrev pub event_decision : Shelf → ℕ → List ℕ → ℕ → Event → Ledger → Decision
 event_decision b t s n e ledger = decided_action e.action b t s n e ledger
 
 -- ---- a refund
@@ -147,6 +149,6 @@ refunded t s n r ledger =
     then told (Failed UnableToComply) ledger
     else accepted Refunded (recorded t s n (credited t t 4102444800 None r.micros ledger))
 
-abbrev pub refund_decision : Book → ℕ → List ℕ → ℕ → Refund → Ledger → Decision
+abbrev pub refund_decision : Shelf → ℕ → List ℕ → ℕ → Refund → Ledger → Decision
 refund_decision b t s n r ledger =
-    refused_or (refund_refusal b s r ledger) ledger (refunded t s n r ledger)
+    refused_or (refund_refusal (book_at b t) s r ledger) ledger (refunded t s n r ledger)

@@ -26,15 +26,17 @@ fn balance(covered: bool) -> Balance
 pub(crate) fn checked(account: &Account, event: &Event, moment: Moment) -> Outcome
     requires later { account.now.as_of ≤ moment }
     ensures { (ledger : Ledger) (left : LeftRows) → IsWith ledger left moment account.now →
-        result ≡ (check_decision account.now.book moment event.now ledger).outcome }
+        result ≡ (check_decision account.now.shelf moment event.now ledger).outcome }
 {
-    if let Some(failure) = event_refusal(account, event) {
+    if let Some(failure) = event_refusal(account, event, moment) {
         return Outcome::Failed(failure);
     }
-    let Some(tariff) = tariff_of(account, event.group) else {
+    let Some(tariff) = tariff_of(account, event.group, moment) else {
         return Outcome::Failed(Failure::Denied(ServiceFailure::RatingFailed));
     };
     let quantity = event_quantity(tariff, &event.requested);
+    // For the prover alone: looking at the value makes known here what its type keeps.
+    let _ranges = account.shelf().first();
     let price = account.quote(event.group, Units(quantity.units()), moment);
     Outcome::Checked(balance(price <= account.funds(event.group, moment)))
 }
@@ -42,18 +44,20 @@ pub(crate) fn checked(account: &Account, event: &Event, moment: Moment) -> Outco
 /// What an event's units would cost (PRICE_ENQUIRY, RFC 8506 section 6.1).
 pub(crate) fn priced(account: &Account, event: &Event, moment: Moment) -> Outcome
     ensures { (ledger : Ledger) (left : LeftRows) → IsWith ledger left moment account.now →
-        result ≡ (enquiry_decision account.now.book moment event.now ledger).outcome }
+        result ≡ (enquiry_decision account.now.shelf moment event.now ledger).outcome }
 {
-    if let Some(failure) = event_refusal(account, event) {
+    if let Some(failure) = event_refusal(account, event, moment) {
         return Outcome::Failed(failure);
     }
-    let Some(tariff) = tariff_of(account, event.group) else {
+    let Some(tariff) = tariff_of(account, event.group, moment) else {
         return Outcome::Failed(Failure::Denied(ServiceFailure::RatingFailed));
     };
     let quantity = event_quantity(tariff, &event.requested);
+    // For the prover alone: looking at the value makes known here what its type keeps.
+    let _ranges = account.shelf().first();
     let price = account.quote(event.group, Units(quantity.units()), moment);
     Outcome::Priced(Cost {
         micros: price.0 as u64,
-        currency: account.book().currency(),
+        currency: account.shelf().book_at(moment).currency(),
     })
 }

@@ -2,7 +2,7 @@
 use Rattle.std.proofs.Common.{ℕ, List, [], ◌∷◌, ◌++◌, sym, subst, Result, Ok, Err}
 use Rattle.commands.specs.declared.answer.Answer.{Answer}
 use Rattle.commands.specs.declared.command.Command.{Command}
-use Rattle.tariffs.specs.Books.{Book}
+use Rattle.shelves.specs.Shelves.{Shelf}
 use Rattle.keepers.specs.declared.fault.StoreFault.{StoreFault}
 use Rattle.keepers.specs.Tables.{Tables}
 use Rattle.charging.specs.Accepted.{Accepted, IsInTime}
@@ -12,11 +12,11 @@ use Rattle.charging.specs.Runs.{after_commands}
 use Rattle.charging.proofs.RunLemmas.{commands_after}
 
 -- none
-pub continued_none : (b : Book) (tables : Tables) → ForEachList b tables (IsContinued b tables)
+pub continued_none : (b : Shelf) (tables : Tables) → ForEachList b tables (IsContinued b tables)
 continued_none b tables = λ list time are. record { commands = []; tables = are; time = time }
 
 -- and then more
-pub continued_more : (b : Book) (old mid new : Tables) → ForEachList b old (IsContinued b mid) →
+pub continued_more : (b : Shelf) (old mid new : Tables) → ForEachList b old (IsContinued b mid) →
     ForEachList b mid (IsContinued b new) → ForEachList b old (IsContinued b new)
 continued_more b old mid new f g = λ list time are.
     let first : IsContinued b mid list = f list time are in
@@ -30,7 +30,7 @@ continued_more b old mid new f g = λ list time are.
     }
 
 -- a step
-pub continued_step : (b : Book) (c : Command) (t : ℕ)
+pub continued_step : (b : Shelf) (c : Command) (t : ℕ)
     (old new : Tables) (result : Result Answer StoreFault) → Serves b c t old new result →
     ForEachList b old (IsContinued b new)
 continued_step b c t old new (Ok given) serves = λ list time are.

@@ -11,7 +11,7 @@ use Rattle.commands.specs.declared.command.Command.{Command}
 use Rattle.json_fields.specs.declared.fault.WireFault.{WireFault}
 use Rattle.json_fields.specs.declared.fault.WireFault.TheVariants.{Memory}
 use Rattle.wire_answers.specs.Spelled.{answer_text, fault_text}
-use Rattle.tariffs.specs.Books.{Book}
+use Rattle.shelves.specs.Shelves.{Shelf}
 use Rattle.keepers.specs.declared.fault.StoreFault.{StoreFault}
 use Rattle.keepers.specs.Tables.{Tables}
 pub use Rattle.keepers.proofs.Placed.{on_err as at_err}
@@ -88,7 +88,7 @@ may_not (states q) = omega arith
 may_once : (c : Command) (m : Option ℕ) → MayAsk (reads (Ok c)) (m ∷ [])
 may_once c m = omega arith
 
-module _ {C : Type 0} (gives : C → Option ℕ → C → Type 0) (b : Book) (closes : Bool)
+module _ {C : Type 0} (gives : C → Option ℕ → C → Type 0) (b : Shelf) (closes : Bool)
     (Writes : List ℕ → Type 0) where
   -- no memory or no store
   pub unserved_reply : (asking : Asking) (moments : List (Option ℕ)) (c0 c1 : C)
@@ -253,7 +253,7 @@ module _ {C : Type 0} (gives : C → Option ℕ → C → Type 0) (b : Book) (cl
 
 -- ---- no memory for the text of an answer
 
-module _ {C : Type 0} (gives : C → Option ℕ → C → Type 0) (b : Book) where
+module _ {C : Type 0} (gives : C → Option ℕ → C → Type 0) (b : Shelf) where
   -- it is owed where an accepted command may get it
   pub owed_answer : (c : Command) (read : Bool) (t : ℕ) (c0 c1 : C) (old new : Tables)
       (answer : Answer) → read ≡ is_read_command c → gives c0 (Some t) c1 →

@@ -7,7 +7,7 @@ use Rattle.byte_streams.specs.declared.StreamFault.TheVariants as stream
 use Rattle.commands.specs.declared.answer.Answer.TheVariants.{Refused}
 use Rattle.commands.specs.declared.answer.Refusal.TheVariants.{AccountUnknown}
 use Rattle.wire_answers.specs.Spelled.{answer_text}
-use Rattle.tariffs.specs.Books.{Book}
+use Rattle.shelves.specs.Shelves.{Shelf}
 use Rattle.reserving.specs.ChargeColumns.{ChargeColumns}
 use Rattle.reserving.specs.Charges.{charge_rows}
 use Rattle.keepers.specs.Tables.{Tables}
@@ -27,26 +27,27 @@ use Rattle.http_answers.specs.declared.text.Media.TheVariants.{Text}
 use Rattle.http_answers.specs.Texts.{response, response_of, unable, TellsText}
 use Rattle.charging.specs.Balances.{by_number}
 use Rattle.reserving.specs.Balance.{buckets_at}
+use Rattle.reserving.specs.Pricing.{validity_of}
 use Rattle.http_api.specs.Replies.{unserved, MayAsk, GoesOn, statement_media, statement_reply}
 use Rattle.http_api.specs.Replies.{reply_text, IsReplied, Replies}
 use Rattle.http_api.specs.Told.{IsTold, TellsAnswer, TellsCharges}
 use Rattle.http_api.proofs.RequestReplies.{not_memory, not_read, unserved_reply}
 
 -- the charges of the tables are those of the ledger
-are_charges : (b : Book) (a : List ℕ) (list : List Accepted) (tables : Tables) →
+are_charges : (b : Shelf) (a : List ℕ) (list : List Accepted) (tables : Tables) →
     AreTables b list tables →
     AreCharges (tables.charges a) (charge_rows (history b a list).ledger)
 are_charges b a list tables h =
     record { rising = charges_rise (history b a list).ledger; listed = λ n. sym (h.charges a n) }
 
 -- a read leaves the list as it is
-pub continued_same : (b : Book) (old new : Tables) → new ≡ old →
+pub continued_same : (b : Shelf) (old new : Tables) → new ≡ old →
     ForEachList b old (IsContinued b new)
 continued_same b old new same = λ list time are.
     record { commands = []; tables = subst (AreTables b list) (sym same) are; time = time }
 
 -- where the tables stay, and the writer alone fails
-pub goes_on_same : {A K : Type 0} (b : Book) (empty full : Option (List ℕ)) (content : K → Tables)
+pub goes_on_same : {A K : Type 0} (b : Shelf) (empty full : Option (List ℕ)) (content : K → Tables)
     (failed : K → ℕ) (clean : K → Type 0) (old new : K) (result : Result A StreamFault) →
     OnErr result (result ≡ Err stream.Write) → (clean new → content new ≡ content old) →
     (clean new → clean old) → failed old ≤ failed new →
@@ -63,7 +64,7 @@ goes_on_same b empty full content failed clean old new result only same cleannes
 once : (m : Option ℕ) (q : StatementAsked) → MayAsk (states q) (m ∷ [])
 once m q = omega arith
 
-module _ {C : Type 0} (gives : C → Option ℕ → C → Type 0) (b : Book) (closes : Bool)
+module _ {C : Type 0} (gives : C → Option ℕ → C → Type 0) (b : Shelf) (closes : Bool)
     (Writes : List ℕ → Type 0) (q : StatementAsked) where
   -- a clock that doesn't answer, no memory or no store
   pub unstated_reply : (m : Option ℕ) (c0 c1 : C) (old new : Tables) →
@@ -78,8 +79,9 @@ module _ {C : Type 0} (gives : C → Option ℕ → C → Type 0) (b : Book) (cl
       response status.ok closes (answer_text (Refused AccountUnknown))
       ≡ reply_text closes (statement_reply b list q t h)
   unknown_text t list h closed =
-      sym (ap (λ v. response_of (statement_media v) status.ok closes (if v then statement_text b
-      q.account q.month t (charge_rows h.ledger) (by_number (buckets_at b.validity t h.ledger))
+      sym (ap (λ v. response_of (statement_media v) status.ok closes
+      (if v then statement_text b.first
+      q.account q.month t (charge_rows h.ledger) (by_number (buckets_at (validity_of b) t h.ledger))
       else answer_text (Refused AccountUnknown))) closed)
 
   unknown_told : (t : ℕ) (c0 c1 : C) (old new : Tables) (found : Option AccountState) →
@@ -117,13 +119,15 @@ module _ {C : Type 0} (gives : C → Option ℕ → C → Type 0) (b : Book) (cl
   stated_text : (t : ℕ) (list : List Accepted) (h : History) (s : AccountState) → h.opened ≡ true →
       IsStateAt b t h.ledger s →
       response_of Text status.ok closes
-      (statement_text b q.account q.month s.moment (charge_rows h.ledger) s.buckets.items)
+      (statement_text b.first q.account q.month s.moment (charge_rows h.ledger) s.buckets.items)
       ≡ reply_text closes (statement_reply b list q t h)
   stated_text t list h s opened is =
       (λ i. response_of Text status.ok closes
-      (statement_text b q.account q.month (is.moment i) (charge_rows h.ledger) (is.buckets i)))
-      ∙ sym (ap (λ v. response_of (statement_media v) status.ok closes (if v then statement_text b
-      q.account q.month t (charge_rows h.ledger) (by_number (buckets_at b.validity t h.ledger))
+      (statement_text b.first q.account q.month (is.moment i) (charge_rows h.ledger)
+      (is.buckets i)))
+      ∙ sym (ap (λ v. response_of (statement_media v) status.ok closes
+      (if v then statement_text b.first
+      q.account q.month t (charge_rows h.ledger) (by_number (buckets_at (validity_of b) t h.ledger))
       else answer_text (Refused AccountUnknown))) opened)
 
   -- what is told of charges, of one list
@@ -131,7 +135,8 @@ module _ {C : Type 0} (gives : C → Option ℕ → C → Type 0) (b : Book) (cl
       (text : List ℕ) → h ≡ history b q.account list → AreTables b list new → IsInTime list →
       h.opened ≡ true → IsStateAt b (moment_of list t) h.ledger s →
       IsTold closes
-      (statement_text b q.account q.month s.moment (charge_rows h.ledger) s.buckets.items) text →
+      (statement_text b.first q.account q.month s.moment (charge_rows h.ledger) s.buckets.items)
+      text →
       IsReplied b (states q) closes (Some t ∷ []) text new list
   told_reply t list new h s text same are time opened is (inl e) = record {
     reply = statement_reply b list q (moment_of list t) h;
@@ -152,7 +157,8 @@ module _ {C : Type 0} (gives : C → Option ℕ → C → Type 0) (b : Book) (cl
       (s : AccountState) → gives c0 (Some t) c1 → TellsState b q.account t old found →
       found ≡ Some s → mid ≡ old → new ≡ mid →
       TellsCharges (mid.charges q.account)
-      (λ rows. statement_text b q.account q.month s.moment rows s.buckets.items) closes Writes →
+      (λ rows. statement_text b.first q.account q.month s.moment rows s.buckets.items)
+      closes Writes →
       Replies gives b (states q) closes c0 c1 Writes old new
   stated_reply t c0 c1 old mid new found s given states_ is first second tells = record {
     moments = Some t ∷ [];

@@ -4,7 +4,7 @@ use Rattle.std.proofs.Common.{Some, None, Result, Ok, Err}
 use Rattle.std.specs.Prelude.{if◌then◌else◌, ⊤}
 use Rattle.commands.specs.declared.command.Command.{Command}
 use Rattle.json_fields.specs.declared.fault.WireFault.{WireFault}
-use Rattle.tariffs.specs.Books.{Book}
+use Rattle.shelves.specs.Shelves.{Shelf}
 use Rattle.charging.specs.Accepted.{Accepted}
 use Rattle.http_heads.specs.Statuses.{IsAnswerStatus, method_not_allowed}
 use Rattle.http_heads.specs.Requests.{Ask}
@@ -54,12 +54,12 @@ asked_says ask = row_says (route_of ask.target) ask
 
 -- ---- the reply
 
-served_at : (b : Book) (list : List Accepted) (c : Command) (m : Option ℕ) →
+served_at : (b : Shelf) (list : List Accepted) (c : Command) (m : Option ℕ) →
     IsAnswerStatus (reply_at b list c m).status
 served_at b list c None = refl
 served_at b list c (Some t) = refl
 
-stated_at : (b : Book) (list : List Accepted) (q : StatementAsked) (m : Option ℕ) →
+stated_at : (b : Shelf) (list : List Accepted) (q : StatementAsked) (m : Option ℕ) →
     IsAnswerStatus (statement_at b list q m).status
 stated_at b list q None = refl
 stated_at b list q (Some t) = refl
@@ -68,7 +68,7 @@ told_as : (reply given : Reply) → reply ≡ given → IsAnswerStatus given.sta
     IsAnswerStatus reply.status
 told_as reply given same is = subst (λ r. IsAnswerStatus r.status) (sym same) is
 
-pub reply_says : (b : Book) (list : List Accepted) (asking : Asking) (moments : List (Option ℕ))
+pub reply_says : (b : Shelf) (list : List Accepted) (asking : Asking) (moments : List (Option ℕ))
     (reply : Reply) → SaysStatus asking → IsReply b list asking moments reply →
     IsAnswerStatus reply.status
 reply_says b list asking moments reply says (inr h) = told_as reply _ h.1 refl

@@ -7,7 +7,7 @@ use Rattle.std.proofs.Common.{◌∙◌, inl, inr, arith, le_refl, Option, Some,
 use Rattle.std.specs.Io.KnownBytes.{Appends}
 use Rattle.std.proofs.KnownBytes.{Appends-nil, Appends-trans}
 use Rattle.std.proofs.Math.Seq.{take-length}
-use Rattle.tariffs.specs.Books.{Book}
+use Rattle.shelves.specs.Shelves.{Shelf}
 use Rattle.keepers.specs.Tables.{Tables}
 use Rattle.charging.specs.Accepted.{Accepted}
 use Rattle.charging.specs.Continued.{ForEachList}
@@ -49,7 +49,7 @@ begins-all a b text h = (length text, subst (Appends a b) (sym (take-length text
 -- ---- what is heard
 
 -- a request that was heard, as it is taken
-record IsHeard (b : Book) (next : Next) (heard : Heard) (left : Option (List ℕ)) : Type 0 where
+record IsHeard (b : Shelf) (next : Next) (heard : Heard) (left : Option (List ℕ)) : Type 0 where
   asking : Asking
   rest : List ℕ
   asked : IsAsked asking heard.asked
@@ -58,7 +58,7 @@ record IsHeard (b : Book) (next : Next) (heard : Heard) (left : Option (List ℕ
       Takes b next old new
   goes_on : heard.closes ≡ false → left ≡ Some rest
 
-heard_case : (b : Book) (stream : List ℕ) (next : Next) (heard : Heard)
+heard_case : (b : Shelf) (stream : List ℕ) (next : Next) (heard : Heard)
     (left : Option (List ℕ)) → IsNext stream next → HearsNext next (Some heard) left →
     IsHeard b next heard left
 heard_case b stream (asks ask rest) heard left is_next h = record {
@@ -94,14 +94,14 @@ not_closed false left h = refl
 -- ---- one more request
 
 -- so many requests were taken, and this is left
-record IsAt (b : Book) (stream : List ℕ)
+record IsAt (b : Shelf) (stream : List ℕ)
     (count left : ℕ) (rest : List ℕ) (moments : List (Option ℕ)) (text : List ℕ) (content : Tables)
     (list : List Accepted) : Type 0 where
   taken : IsTaken b stream count moments text content list
   left_is : taken.last.left ≡ left
   rest_is : taken.last.rest ≡ rest
 
-at-none : (b : Book) (stream : List ℕ) (tables : Tables) →
+at-none : (b : Shelf) (stream : List ℕ) (tables : Tables) →
     ForEachList b tables (IsAt b stream 0 1000 stream [] [] tables)
 at-none b stream tables = λ list time are. record {
   taken = record {
@@ -117,14 +117,14 @@ at-none b stream tables = λ list time are. record {
 }
 
 -- one more is answered, and this is left
-record IsMoreAt (b : Book) (stream : List ℕ) (count left : ℕ) (closes : Bool) (after : List ℕ)
+record IsMoreAt (b : Shelf) (stream : List ℕ) (count left : ℕ) (closes : Bool) (after : List ℕ)
     (moments : List (Option ℕ)) (text more : List ℕ) (content : Tables) (list : List Accepted) :
     Type 0 where
   turned : IsTakenWith b stream count moments text more content list
   left_is : turned.last.left ≡ left_after closes left
   rest_is : turned.last.rest ≡ after
 
-more-at : (b : Book) (stream : List ℕ) (count left : ℕ) (rest after : List ℕ)
+more-at : (b : Shelf) (stream : List ℕ) (count left : ℕ) (rest after : List ℕ)
     (moments ms : List (Option ℕ)) (text more : List ℕ) (mid new : Tables) (list : List Accepted)
     (asking : Asking) (closes : Bool) (next : Next) →
     0 < left → IsNext rest next → SaysStatus asking →
@@ -165,7 +165,7 @@ more-at b stream count left rest after moments ms text more mid new list asking 
       rest_is = refl;
     }
 
-at-more : (b : Book) (stream : List ℕ) (count left : ℕ) (closes : Bool) (after : List ℕ)
+at-more : (b : Shelf) (stream : List ℕ) (count left : ℕ) (closes : Bool) (after : List ℕ)
     (moments : List (Option ℕ)) (text more : List ℕ) (new : Tables) (list : List Accepted) →
     IsMoreAt b stream count left closes after moments text more new list →
     IsAt b stream (count + 1) (left_after closes left) after moments (text ++ more) new list
@@ -183,7 +183,7 @@ at-more b stream count left closes after moments text more new list m = record {
   rest_is = m.rest_is;
 }
 
-module _ {C : Type 0} (gives : C → Option ℕ → C → Type 0) (b : Book) where
+module _ {C : Type 0} (gives : C → Option ℕ → C → Type 0) (b : Shelf) where
   -- so many requests of a stream were taken, and it goes on
   pub record IsSoFar (stream : List ℕ) (count left : ℕ) (r : Option (List ℕ)) (c0 c1 : C)
       (w0 w1 : Option (List ℕ)) (old new : Tables) : Type 0 where

@@ -36,10 +36,10 @@ use Rattle.redemptions.specs.declared.redeeming.RedeemRefusal.{RedeemRefusal}
 use Rattle.redemptions.specs.declared.voucher.Voucher.{Voucher}
 use Rattle.redemptions.specs.Adding.{addition}
 use Rattle.redemptions.specs.Redeeming.{redemption}
-use Rattle.tariffs.specs.Books.{Book}
+use Rattle.shelves.specs.Shelves.{Shelf, book_at}
 use Rattle.tariffs.specs.Tariffs.{GroupTariff}
 use Rattle.reserving.specs.Ledger.{Ledger, is_barred, next_bucket}
-use Rattle.reserving.specs.Pricing.{tariff_of}
+use Rattle.reserving.specs.Pricing.{tariff_at}
 use Rattle.reserving.specs.Requests.{credited, recorded, touched}
 use Rattle.reserving.specs.Debiting.{is_covered, debited, debit_passes}
 use Rattle.decisions.specs.Decided.{Decision, accepted, denied, told as decided_told, refused_or}
@@ -82,20 +82,20 @@ unless_refused : (o : Option Failure) (ledger : Ledger) (d : Decision) → IsApa
 unless_refused None ledger d p = p
 unless_refused (Some failure) ledger d p = λ e. refl
 
-initial_apart : (b : Book) (t : ℕ) (s : List ℕ) (n : ℕ) (services : List Service)
+initial_apart : (b : Shelf) (t : ℕ) (s : List ℕ) (n : ℕ) (services : List Service)
     (ledger : Ledger) → IsApart (decided b t s n (Initial services) ledger)
 initial_apart b t s n services ledger =
     let barred : Decision = denied t s n EndUserServiceDenied ledger in
-    let nothing : Decision = denied t s n (first_denial b services) ledger in
+    let nothing : Decision = denied t s n (first_denial (book_at b t) services) ledger in
     let begun : Ledger = touched t s n ledger in
     let answers : List ServiceAnswer = grant_answers b t s services begun in
     let after : Ledger = after_grants b t s services begun in
-    unless_refused (initial_refusal b s services ledger) ledger
+    unless_refused (initial_refusal (book_at b t) s services ledger) ledger
     (opened_unless_barred b t s n services ledger)
     (either (is_barred ledger) barred (opened b t s n services ledger) no
     (either (any_grants b t ledger services) (accepted (Services answers) after) nothing no no))
 
-charged_apart : (tariff : GroupTariff) (b : Book) (t : ℕ) (s : List ℕ) (n g units : ℕ)
+charged_apart : (tariff : GroupTariff) (b : Shelf) (t : ℕ) (s : List ℕ) (n g units : ℕ)
     (ledger : Ledger) → IsApart (charged_if_covered b tariff t s n g units ledger)
 charged_apart tariff b t s n g units ledger =
     let short : Decision = denied t s n CreditLimitReached ledger in
@@ -107,33 +107,34 @@ charged_apart tariff b t s n g units ledger =
     (either (debit_passes b t s g units ledger) passes (accepted (Services answers) after)
     (λ e. refl) no) no
 
-charged_by_apart : (found : Option GroupTariff) (b : Book) (t : ℕ) (s : List ℕ) (n : ℕ) (e : Event)
+charged_by_apart : (found : Option GroupTariff) (b : Shelf) (t : ℕ) (s : List ℕ) (n : ℕ) (e : Event)
     (ledger : Ledger) → IsApart (charged_by found b t s n e ledger)
 charged_by_apart None b t s n e ledger = no
 charged_by_apart (Some tariff) b t s n e ledger =
     charged_apart tariff b t s n e.group (event_units tariff e.requested) ledger
 
-event_apart : (action : EventAction) (b : Book) (t : ℕ) (s : List ℕ) (n : ℕ) (e : Event)
+event_apart : (action : EventAction) (b : Shelf) (t : ℕ) (s : List ℕ) (n : ℕ) (e : Event)
     (ledger : Ledger) → IsApart (decided_action action b t s n e ledger)
 event_apart DirectDebiting b t s n e ledger =
     let barred : Decision = denied t s n EndUserServiceDenied ledger in
-    unless_refused (debit_refusal b s e ledger) ledger (charged_unless_barred b t s n e ledger)
-    (either (is_barred ledger) barred (charged_by (tariff_of b e.group) b t s n e ledger) no
-    (charged_by_apart (tariff_of b e.group) b t s n e ledger))
-event_apart CheckBalance b t s n e ledger = unless_refused (read_refusal b e) ledger
-    (decided_told (checked_by (tariff_of b e.group) b t e ledger) ledger) (λ h. refl)
-event_apart PriceEnquiry b t s n e ledger = unless_refused (read_refusal b e) ledger
-    (decided_told (priced_by (tariff_of b e.group) b t e ledger) ledger) (λ h. refl)
+    unless_refused (debit_refusal (book_at b t) s e ledger) ledger
+    (charged_unless_barred b t s n e ledger)
+    (either (is_barred ledger) barred (charged_by (tariff_at b t e.group) b t s n e ledger) no
+    (charged_by_apart (tariff_at b t e.group) b t s n e ledger))
+event_apart CheckBalance b t s n e ledger = unless_refused (read_refusal (book_at b t) e) ledger
+    (decided_told (checked_by (tariff_at b t e.group) b t e ledger) ledger) (λ h. refl)
+event_apart PriceEnquiry b t s n e ledger = unless_refused (read_refusal (book_at b t) e) ledger
+    (decided_told (priced_by (tariff_at b t e.group) b t e ledger) ledger) (λ h. refl)
 
-refund_apart : (b : Book) (t : ℕ) (s : List ℕ) (n : ℕ) (r : Money) (ledger : Ledger) →
+refund_apart : (b : Shelf) (t : ℕ) (s : List ℕ) (n : ℕ) (r : Money) (ledger : Ledger) →
     IsApart (decided b t s n (Refund r) ledger)
 refund_apart b t s n r ledger =
     let full : Decision = decided_told (Failed UnableToComply) ledger in
     let after : Ledger = recorded t s n (credited t t 4102444800 None r.micros ledger) in
-    unless_refused (refund_refusal b s r ledger) ledger (refunded t s n r ledger)
+    unless_refused (refund_refusal (book_at b t) s r ledger) ledger (refunded t s n r ledger)
     (either (nat_lt 4294967295 (next_bucket ledger)) full (accepted Refunded after) (λ e. refl) no)
 
-decided_apart : (b : Book) (t : ℕ) (s : List ℕ) (n : ℕ) (ask : Ask) (ledger : Ledger) →
+decided_apart : (b : Shelf) (t : ℕ) (s : List ℕ) (n : ℕ) (ask : Ask) (ledger : Ledger) →
     IsApart (decided b t s n ask ledger)
 decided_apart b t s n (Initial services) ledger = initial_apart b t s n services ledger
 decided_apart b t s n (Update services) ledger =
@@ -173,7 +174,7 @@ decided_by_unaccepted r d h apart = at d.accepted refl
     at true is = λ e. absurd (true≢false (sym is ∙ apart e))
     at false is = λ e. refl
 
-request_unaccepted : (b : Book) (r : Request) (t : ℕ) (h : History) →
+request_unaccepted : (b : Shelf) (r : Request) (t : ℕ) (h : History) →
     IsUnaccepted (request_outcome b r t h)
 request_unaccepted b r t h =
     let d : Decision = decision b t r h.ledger in
@@ -202,7 +203,7 @@ redemption_unaccepted (Ok x) r t h =
     if_both (is_full h.ledger) (told (answer.Refused OutOfRange) h)
     (keeping (content.Redeem r) given ledger h) (λ e. refl) no
 
-redeem_unaccepted : (b : Book) (s : Option Voucher) (r : VoucherRedemption) (t : ℕ) (h : History) →
+redeem_unaccepted : (b : Shelf) (s : Option Voucher) (r : VoucherRedemption) (t : ℕ) (h : History) →
     IsUnaccepted (redeem_outcome b s r t h)
 redeem_unaccepted b s r t h =
     unless_both (kept_under (key_of (content.Redeem r)) h) (content.Redeem r)
@@ -214,7 +215,7 @@ addition_unaccepted (New voucher) h = no
 addition_unaccepted Present h = λ e. refl
 addition_unaccepted Conflicting h = λ e. refl
 
-opened_unaccepted : (b : Book) (s : Option Voucher) (h : History) (c : Command) (t : ℕ) →
+opened_unaccepted : (b : Shelf) (s : Option Voucher) (h : History) (c : Command) (t : ℕ) →
     IsUnaccepted (opened_outcome b s h c t)
 opened_unaccepted b s h (command.Ccr r) t = request_unaccepted b r t h
 opened_unaccepted b s h (command.OpenAccount n) t = λ e. refl
@@ -238,7 +239,7 @@ unopened_unaccepted s h (command.Redeem r) = λ e. refl
 unopened_unaccepted s h command.Sweep = λ e. refl
 unopened_unaccepted s h (command.Balance n) = λ e. refl
 
-outcome_unaccepted : (b : Book) (s : Option Voucher) (h : History) (c : Command) (t : ℕ) →
+outcome_unaccepted : (b : Shelf) (s : Option Voucher) (h : History) (c : Command) (t : ℕ) →
     IsUnaccepted (outcome b s h c t)
 outcome_unaccepted b s h c t =
     if_both h.opened (opened_outcome b s h c t) (unopened_outcome s h c)
@@ -246,7 +247,7 @@ outcome_unaccepted b s h c t =
 
 -- ---- a read
 
-read_request : (b : Book) (r : Request) (t : ℕ) (h : History) → is_read r.ask ≡ true →
+read_request : (b : Shelf) (r : Request) (t : ℕ) (h : History) → is_read r.ask ≡ true →
     (request_outcome b r t h).accepted ≡ false
 read_request b r t h is =
     let d : Decision = decision b t r h.ledger in
@@ -255,7 +256,7 @@ read_request b r t h is =
     (content.Request r) (failed r (InvalidAvpValue RequestNumber)) h (decided_by r d h) in
     ap (λ v. (if v then given else other).accepted) is
 
-read_opened : (b : Book) (s : Option Voucher) (h : History) (c : Command) (t : ℕ) →
+read_opened : (b : Shelf) (s : Option Voucher) (h : History) (c : Command) (t : ℕ) →
     is_read_command c ≡ true → (opened_outcome b s h c t).accepted ≡ false
 read_opened b s h (command.Ccr r) t is = read_request b r t h is
 read_opened b s h (command.OpenAccount n) t is = no is
@@ -279,7 +280,7 @@ read_unopened s h (command.Redeem r) is = no is
 read_unopened s h command.Sweep is = no is
 read_unopened s h (command.Balance n) is = refl
 
-read_outcome : (b : Book) (s : Option Voucher) (h : History) (c : Command) (t : ℕ) →
+read_outcome : (b : Shelf) (s : Option Voucher) (h : History) (c : Command) (t : ℕ) →
     is_read_command c ≡ true → (outcome b s h c t).accepted ≡ false
 read_outcome b s h c t is = at h.opened
   where
@@ -290,7 +291,7 @@ read_outcome b s h c t is = at h.opened
 
 -- ---- after a list of accepted commands
 
-outcome_apart : (b : Book) (s : Option Voucher) (h : History) (c : Command) (t : ℕ) →
+outcome_apart : (b : Shelf) (s : Option Voucher) (h : History) (c : Command) (t : ℕ) →
     is_unaccepted (is_read_command c) (outcome b s h c t).answer ≡ true →
     (outcome b s h c t).accepted ≡ false
 outcome_apart b s h c t e = at (is_read_command c) refl e
@@ -311,7 +312,7 @@ sweep_reads (command.Redeem r) e = refl
 sweep_reads command.Sweep e = refl
 sweep_reads (command.Balance n) e = absurd (cc)
 
-unaccepted_on : (k : Concerned) (b : Book) (list : List Accepted) (c : Command) (t : ℕ) →
+unaccepted_on : (k : Concerned) (b : Shelf) (list : List Accepted) (c : Command) (t : ℕ) →
     concerned_by c ≡ k →
     is_unaccepted (is_read_command c) (answer_on k b list c t) ≡ true →
     accepts_on k b list c t ≡ false
@@ -321,12 +322,12 @@ unaccepted_on none b list c t is e = outcome_apart b (standing b c list) no_hist
 unaccepted_on (one a) b list c t is e =
     outcome_apart b (standing b c list) (history b a list) c t e
 
-pub not_accepted : (b : Book) (list : List Accepted) (c : Command) (t : ℕ) →
+pub not_accepted : (b : Shelf) (list : List Accepted) (c : Command) (t : ℕ) →
     is_unaccepted (is_read_command c) (answer_to b list c t) ≡ true → accepts b list c t ≡ false
 not_accepted b list c t e = unaccepted_on (concerned_by c) b list c t refl e
 
 -- so it leaves the tables
-pub unaccepted_same : (b : Book) (list : List Accepted) (c : Command) (t : ℕ) (old new : Tables)
+pub unaccepted_same : (b : Shelf) (list : List Accepted) (c : Command) (t : ℕ) (old new : Tables)
     (given : Answer) → IsServed b list c t old new given →
     is_unaccepted (is_read_command c) given ≡ true → new ≡ old
 unaccepted_same b list c t old new given served e = served.same (not_accepted b list c t

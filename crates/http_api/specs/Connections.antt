@@ -5,7 +5,7 @@ use Rattle.std.specs.Prelude.{◌≡◌, ◌<◌, ◌≤◌, ◌-◌, ◌==◌, 
 use Rattle.std.specs.Prelude.{List, [], ◌++◌, take, Option, ◌⊎◌, Result, IfOk, OnErr, IfSome}
 use Rattle.std.specs.Prelude.{IsErrOf}
 use Rattle.std.specs.Io.KnownBytes.{Appends}
-use Rattle.tariffs.specs.Books.{Book}
+use Rattle.shelves.specs.Shelves.{Shelf}
 use Rattle.keepers.specs.Tables.{Tables}
 use Rattle.charging.specs.Accepted.{Accepted, IsInTime}
 use Rattle.charging.specs.Continued.{ForEachList, Continues}
@@ -50,7 +50,7 @@ after_reply old closes rest moments reply = record {
 }
 
 -- a request is answered, with one of the statuses of answers
-pub record IsAnswered (b : Book) (asking : Asking) (closes : Bool) (rest : List ℕ)
+pub record IsAnswered (b : Shelf) (asking : Asking) (closes : Bool) (rest : List ℕ)
     (old new : Connection) : Type 0 where
   pub moments : List (Option ℕ)
   pub reply : Reply
@@ -59,20 +59,20 @@ pub record IsAnswered (b : Book) (asking : Asking) (closes : Bool) (rest : List 
   pub after : new ≡ after_reply old closes rest moments reply
 
 -- what comes next is answered; after a refusal of the head or of the length nothing more is read
-abbrev pub Takes : Book → Next → Connection → Connection → Type 0
+abbrev pub Takes : Shelf → Next → Connection → Connection → Type 0
 Takes b (asks ask rest) old new = IsAnswered b (asked_of ask) ask.closes rest old new
 Takes b (refused status) old new = IsAnswered b (refuses status) true [] old new
 Takes b ended old new = ⊥
 
 -- one turn
-pub record IsTurn (b : Book) (old new : Connection) : Type 0 where
+pub record IsTurn (b : Shelf) (old new : Connection) : Type 0 where
   pub taken : 0 < old.left
   pub next : Next
   pub is_next : IsNext old.rest next
   pub takes : Takes b next old new
 
 -- so many turns
-abbrev pub Turns : Book → ℕ → Connection → Connection → Type 0
+abbrev pub Turns : Shelf → ℕ → Connection → Connection → Type 0
 Turns b zero first last = last ≡ first
 Turns b (suc n) first last = (between : Connection) × Turns b n first between
     × IsTurn b between last
@@ -84,7 +84,7 @@ IsOver last = (last.left ≡ 0) ⊎ IsNext last.rest ended
 -- ---- over a reader, a writer, a keeper and a clock
 
 -- so many requests of a stream come to these moments, this text and these tables
-pub record IsTaken (b : Book) (stream : List ℕ) (count : ℕ) (moments : List (Option ℕ))
+pub record IsTaken (b : Shelf) (stream : List ℕ) (count : ℕ) (moments : List (Option ℕ))
     (text : List ℕ) (content : Tables) (list : List Accepted) : Type 0 where
   pub last : Connection
   pub turns : Turns b count (new_connection stream list) last
@@ -94,13 +94,13 @@ pub record IsTaken (b : Book) (stream : List ℕ) (count : ℕ) (moments : List 
   pub time : IsInTime last.list
 
 -- and the connection is over
-pub record IsWhole (b : Book) (stream : List ℕ) (count : ℕ) (moments : List (Option ℕ))
+pub record IsWhole (b : Shelf) (stream : List ℕ) (count : ℕ) (moments : List (Option ℕ))
     (text : List ℕ) (content : Tables) (list : List Accepted) : Type 0 where
   pub taken : IsTaken b stream count moments text content list
   pub over : IsOver taken.last
 
 -- a stream is served to the end of the connection
-pub record IsServed {C : Type 0} (gives : C → Option ℕ → C → Type 0) (b : Book)
+pub record IsServed {C : Type 0} (gives : C → Option ℕ → C → Type 0) (b : Shelf)
     (stream : List ℕ) (count : ℕ) (before after : C) (empty full : Option (List ℕ))
     (old new : Tables) : Type 0 where
   pub moments : List (Option ℕ)
@@ -110,7 +110,7 @@ pub record IsServed {C : Type 0} (gives : C → Option ℕ → C → Type 0) (b 
   pub whole : ForEachList b old (IsWhole b stream count moments text new)
 
 -- so many requests of it were taken, and a beginning of their answers is written
-pub record IsBegun {C : Type 0} (gives : C → Option ℕ → C → Type 0) (b : Book) (stream : List ℕ)
+pub record IsBegun {C : Type 0} (gives : C → Option ℕ → C → Type 0) (b : Shelf) (stream : List ℕ)
     (before after : C) (empty full : Option (List ℕ)) (old new : Tables) : Type 0 where
   pub count : ℕ
   pub bounded : count ≤ 1000
@@ -121,13 +121,13 @@ pub record IsBegun {C : Type 0} (gives : C → Option ℕ → C → Type 0) (b :
   pub taken : ForEachList b old (IsTaken b stream count moments text new)
 
 -- so many of its requests were answered, and this is left of it
-pub record IsTakenTo (b : Book) (stream left : List ℕ) (count : ℕ) (moments : List (Option ℕ))
+pub record IsTakenTo (b : Shelf) (stream left : List ℕ) (count : ℕ) (moments : List (Option ℕ))
     (text : List ℕ) (content : Tables) (list : List Accepted) : Type 0 where
   pub taken : IsTaken b stream count moments text content list
   pub left_is : taken.last.rest ≡ left
 
 -- its next request is a command, and the text of the answer is owed
-pub record OwesNext {C : Type 0} (gives : C → Option ℕ → C → Type 0) (b : Book) (stream : List ℕ)
+pub record OwesNext {C : Type 0} (gives : C → Option ℕ → C → Type 0) (b : Shelf) (stream : List ℕ)
     (before after : C) (old : Tables) : Type 0 where
   pub ask : Ask
   pub left : List ℕ
@@ -136,7 +136,7 @@ pub record OwesNext {C : Type 0} (gives : C → Option ℕ → C → Type 0) (b 
 
 -- where memory is refused so many requests of a stream were answered whole; nothing is done for the
 -- next one, or the text of its answer is owed
-pub record IsOutOfMemory {C : Type 0} (gives : C → Option ℕ → C → Type 0) (b : Book)
+pub record IsOutOfMemory {C : Type 0} (gives : C → Option ℕ → C → Type 0) (b : Shelf)
     (stream : List ℕ) (before after : C) (empty full : Option (List ℕ)) (old new : Tables) :
     Type 0 where
   pub count : ℕ
@@ -151,14 +151,14 @@ pub record IsOutOfMemory {C : Type 0} (gives : C → Option ℕ → C → Type 0
   pub next : ((after ≡ between) × (new ≡ content)) ⊎ OwesNext gives b left between after content
 
 -- so many of its requests were answered, and the connection takes more
-pub record IsTakenOn (b : Book) (stream : List ℕ) (count : ℕ) (moments : List (Option ℕ))
+pub record IsTakenOn (b : Shelf) (stream : List ℕ) (count : ℕ) (moments : List (Option ℕ))
     (text : List ℕ) (content : Tables) (list : List Accepted) : Type 0 where
   pub taken : IsTaken b stream count moments text content list
   pub goes_on : 0 < taken.last.left
 
 -- where the reader fails so many requests of a stream were answered whole, and nothing is done for
 -- the next one
-pub record IsUnread {C : Type 0} (gives : C → Option ℕ → C → Type 0) (b : Book) (stream : List ℕ)
+pub record IsUnread {C : Type 0} (gives : C → Option ℕ → C → Type 0) (b : Shelf) (stream : List ℕ)
     (before after : C) (empty full : Option (List ℕ)) (old new : Tables) : Type 0 where
   pub count : ℕ
   pub bounded : count < 1000
@@ -169,7 +169,7 @@ pub record IsUnread {C : Type 0} (gives : C → Option ℕ → C → Type 0) (b 
   pub taken : ForEachList b old (IsTakenOn b stream count moments text new)
 
 -- so many of its requests were answered with a text, and one more with another
-pub record IsTakenWith (b : Book) (stream : List ℕ) (count : ℕ) (moments : List (Option ℕ))
+pub record IsTakenWith (b : Shelf) (stream : List ℕ) (count : ℕ) (moments : List (Option ℕ))
     (text more : List ℕ) (content : Tables) (list : List Accepted) : Type 0 where
   pub between : Connection
   pub turns : Turns b count (new_connection stream list) between
@@ -183,7 +183,7 @@ pub record IsTakenWith (b : Book) (stream : List ℕ) (count : ℕ) (moments : L
 
 -- where the writer fails so many requests of a stream were answered whole, and of the answer to the
 -- next one a beginning is written
-pub record IsCutOff {C : Type 0} (gives : C → Option ℕ → C → Type 0) (b : Book) (stream : List ℕ)
+pub record IsCutOff {C : Type 0} (gives : C → Option ℕ → C → Type 0) (b : Shelf) (stream : List ℕ)
     (before after : C) (empty full : Option (List ℕ)) (old new : Tables) : Type 0 where
   pub count : ℕ
   pub bounded : count < 1000
@@ -198,7 +198,7 @@ pub record IsCutOff {C : Type 0} (gives : C → Option ℕ → C → Type 0) (b 
 -- what comes of a connection over a keeper that stays clean, where the reader tells its bytes: it
 -- is served to its end, or a beginning of it is, and each fault says which; at most 1,000 requests
 -- are answered, and the accepted commands go on
-pub record ServesConnection {C K : Type 0} (gives : C → Option ℕ → C → Type 0) (b : Book)
+pub record ServesConnection {C K : Type 0} (gives : C → Option ℕ → C → Type 0) (b : Shelf)
     (bytes : Option (List ℕ)) (before after : C) (empty full : Option (List ℕ))
     (content : K → Tables) (failed : K → ℕ) (clean : K → Type 0) (old new : K)
     (result : Result Served ServeFault) : Type 0 where

@@ -8,9 +8,10 @@ use Rattle.commands.specs.declared.answer.Answer.TheVariants.{Refused}
 use Rattle.commands.specs.declared.answer.Refusal.TheVariants.{AccountUnknown}
 use Rattle.commands.specs.declared.command.Command.{Command}
 use Rattle.wire_answers.specs.Spelled.{answer_text, fault_text}
-use Rattle.tariffs.specs.Books.{Book}
+use Rattle.shelves.specs.Shelves.{Shelf}
 use Rattle.reserving.specs.Balance.{buckets_at}
 use Rattle.reserving.specs.Charges.{charge_rows}
+use Rattle.reserving.specs.Pricing.{validity_of}
 use Rattle.keepers.specs.Tables.{Tables}
 use Rattle.statements.specs.Texts.{statement_text}
 use Rattle.charging.specs.Accepted.{Accepted, IsInTime}
@@ -42,7 +43,7 @@ abbrev pub unserved : List Accepted → Reply
 unserved list = refusal list status.service_unavailable unable
 
 -- a command at the clock's moment; without one it isn't served
-abbrev pub reply_at : Book → List Accepted → Command → Option ℕ → Reply
+abbrev pub reply_at : Shelf → List Accepted → Command → Option ℕ → Reply
 reply_at b list c None = unserved list
 reply_at b list c (Some t) = record {
   status = status.ok;
@@ -58,13 +59,13 @@ statement_media false = Json
 
 -- an account's statement by its history, as of a moment: all of its charges of the month, and its
 -- buckets by number
-abbrev pub statement_body : Book → StatementAsked → ℕ → History → List ℕ
+abbrev pub statement_body : Shelf → StatementAsked → ℕ → History → List ℕ
 statement_body b q t h = if h.opened
-    then statement_text b q.account q.month t (charge_rows h.ledger)
-    (by_number (buckets_at b.validity t h.ledger))
+    then statement_text b.first q.account q.month t (charge_rows h.ledger)
+    (by_number (buckets_at (validity_of b) t h.ledger))
     else answer_text (Refused AccountUnknown)
 
-abbrev pub statement_reply : Book → List Accepted → StatementAsked → ℕ → History → Reply
+abbrev pub statement_reply : Shelf → List Accepted → StatementAsked → ℕ → History → Reply
 statement_reply b list q t h = record {
   status = status.ok;
   media = statement_media h.opened;
@@ -73,7 +74,7 @@ statement_reply b list q t h = record {
 }
 
 -- a statement at the clock's moment
-abbrev pub statement_at : Book → List Accepted → StatementAsked → Option ℕ → Reply
+abbrev pub statement_at : Shelf → List Accepted → StatementAsked → Option ℕ → Reply
 statement_at b list q None = unserved list
 statement_at b list q (Some t) =
     statement_reply b list q (moment_of list t) (history b q.account list)
@@ -84,7 +85,7 @@ reply_text closes reply = response_of reply.media reply.status closes reply.body
 
 -- what is due, by what a request asks; the clock is asked once for a command or a statement, and
 -- for nothing else
-abbrev pub IsDue : Book → List Accepted → Asking → List (Option ℕ) → Reply → Type 0
+abbrev pub IsDue : Shelf → List Accepted → Asking → List (Option ℕ) → Reply → Type 0
 IsDue b list (refuses code) moments reply = (moments ≡ []) × (reply ≡ refusal list code no_members)
 IsDue b list (reads (Err fault)) moments reply = (moments ≡ [])
     × (reply ≡ refusal list status.bad_request (fault_text fault))
@@ -101,14 +102,14 @@ MayAsk (reads (Ok c)) moments = length moments ≤ 1
 MayAsk (states q) moments = length moments ≤ 1
 
 -- what is due; or 503 where memory or the store fails: then the request isn't accepted
-abbrev pub IsReply : Book → List Accepted → Asking → List (Option ℕ) → Reply → Type 0
+abbrev pub IsReply : Shelf → List Accepted → Asking → List (Option ℕ) → Reply → Type 0
 IsReply b list asking moments reply = IsDue b list asking moments reply
     ⊎ (MayAsk asking moments × (reply ≡ unserved list))
 
 -- ---- over a keeper
 
 -- the text is that of a reply, and the tables are those of the list after it
-pub record IsReplied (b : Book) (asking : Asking) (closes : Bool) (moments : List (Option ℕ))
+pub record IsReplied (b : Shelf) (asking : Asking) (closes : Bool) (moments : List (Option ℕ))
     (text : List ℕ) (content : Tables) (list : List Accepted) : Type 0 where
   pub reply : Reply
   pub is_reply : IsReply b list asking moments reply
@@ -117,7 +118,7 @@ pub record IsReplied (b : Book) (asking : Asking) (closes : Bool) (moments : Lis
   pub time : IsInTime reply.after
 
 -- what a request leaves: moments that the clock gave, a text that is written, and tables
-pub record Replies {C : Type 0} (gives : C → Option ℕ → C → Type 0) (b : Book) (asking : Asking)
+pub record Replies {C : Type 0} (gives : C → Option ℕ → C → Type 0) (b : Shelf) (asking : Asking)
     (closes : Bool) (before after : C) (Writes : List ℕ → Type 0) (old new : Tables) : Type 0 where
   pub moments : List (Option ℕ)
   pub given : GivesInTurn gives before moments after
@@ -127,7 +128,7 @@ pub record Replies {C : Type 0} (gives : C → Option ℕ → C → Type 0) (b :
 
 -- what answering a request leaves, whatever it asks: nothing is written where memory is refused, no
 -- reader fails, and the accepted commands go on
-pub record GoesOn {A K : Type 0} (b : Book) (empty full : Option (List ℕ)) (content : K → Tables)
+pub record GoesOn {A K : Type 0} (b : Shelf) (empty full : Option (List ℕ)) (content : K → Tables)
     (failed : K → ℕ) (clean : K → Type 0) (old new : K) (result : Result A StreamFault) :
     Type 0 where
   pub unwritten : IsErrOf result Memory → full ≡ empty

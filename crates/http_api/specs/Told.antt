@@ -5,7 +5,7 @@ use Rattle.std.specs.Prelude.{◌≡◌, ◌⊎◌, ℕ, Bool, true, false, List
 use Rattle.commands.specs.declared.answer.Answer.{Answer}
 use Rattle.commands.specs.declared.command.Command.{Command}
 use Rattle.wire_answers.specs.Spelled.{answer_text}
-use Rattle.tariffs.specs.Books.{Book}
+use Rattle.shelves.specs.Shelves.{Shelf}
 use Rattle.keepers.specs.Tables.{Tables}
 use Rattle.charging.specs.Continued.{ForEachList}
 use Rattle.charging.specs.Served.{moment_of, answer_to}
@@ -25,7 +25,7 @@ TellsAnswer read answer closes Writes = Writes (response ok closes (answer_text 
 
 -- the text of an answer is owed: a command was served at the clock's moment, and an accepted one
 -- may get its answer
-pub record Owes {C : Type 0} (gives : C → Option ℕ → C → Type 0) (b : Book) (asking : Asking)
+pub record Owes {C : Type 0} (gives : C → Option ℕ → C → Type 0) (b : Shelf) (asking : Asking)
     (before after : C) (old : Tables) : Type 0 where
   pub command : Command
   pub asks : asking ≡ reads (OkOf command)

@@ -13,9 +13,9 @@ use charge_sources::ChargeSource;
 use charging::step;
 use commands::Command;
 use http_answers::{Asked, tell_fault, tell_refusal, tell_unable};
+use shelves::TariffShelf;
 use std::alloc::Global;
 use std::io::Write;
-use tariffs::TariffBook;
 
 /// Answers a request, and commits its command where it is accepted. The clock is asked once where
 /// it is a command or asks for a statement.
@@ -29,31 +29,31 @@ pub(crate) fn answer_request<W: Write, K: ChargeSource, C: Clock>(
     alloc: Global,
     writer: &mut W,
     keeper: &mut K,
-    book: &TariffBook,
+    shelf: &TariffShelf,
     clock: &mut C,
     asked: Asked,
     closes: bool,
 ) -> Result<(), StreamFault>
     ensures ok { K.clean keeper.new → OnOk result ((asking : Asking) → IsAsked asking asked →
-        Replies C.gives book.now asking closes clock.old clock.new
+        Replies C.gives shelf.now asking closes clock.old clock.new
         (Appends (W.contents writer.old) (W.contents writer.new))
         (K.content keeper.old) (K.content keeper.new)) }
     ensures err { K.clean keeper.new → OnErr result ((asking : Asking) → IsAsked asking asked →
-        Replies C.gives book.now asking closes clock.old clock.new
+        Replies C.gives shelf.now asking closes clock.old clock.new
         (Begins (W.contents writer.old) (W.contents writer.new))
         (K.content keeper.old) (K.content keeper.new)) }
     ensures memory { K.clean keeper.new → IsErrOf result StreamFault.Memory → (asking : Asking) →
         IsAsked asking asked →
-        Owes C.gives book.now asking clock.old clock.new (K.content keeper.old) }
-    ensures goes_on { GoesOn book.now (W.contents writer.old) (W.contents writer.new)
+        Owes C.gives shelf.now asking clock.old clock.new (K.content keeper.old) }
+    ensures goes_on { GoesOn shelf.now (W.contents writer.old) (W.contents writer.new)
         K.content K.failed K.clean keeper.old keeper.new result }
 {
     match asked {
         Asked::Refused(status) => tell_refusal(alloc, writer, status, closes),
         Asked::Unread(fault) => tell_fault(alloc, writer, fault, closes),
-        Asked::Does(command) => serve_command(alloc, writer, keeper, book, clock, command, closes),
+        Asked::Does(command) => serve_command(alloc, writer, keeper, shelf, clock, command, closes),
         Asked::States(statement) => {
-            serve_statement(alloc, writer, keeper, book, clock, &statement, closes)
+            serve_statement(alloc, writer, keeper, shelf, clock, &statement, closes)
         }
     }
 }
@@ -64,29 +64,29 @@ fn serve_command<W: Write, K: ChargeSource, C: Clock>(
     alloc: Global,
     writer: &mut W,
     keeper: &mut K,
-    book: &TariffBook,
+    shelf: &TariffShelf,
     clock: &mut C,
     command: Command,
     closes: bool,
 ) -> Result<(), StreamFault>
     ensures ok { K.clean keeper.new → OnOk result
-        (Replies C.gives book.now (reads (Ok command)) closes clock.old clock.new
+        (Replies C.gives shelf.now (reads (Ok command)) closes clock.old clock.new
         (Appends (W.contents writer.old) (W.contents writer.new))
         (K.content keeper.old) (K.content keeper.new)) }
     ensures err { K.clean keeper.new → OnErr result
-        (Replies C.gives book.now (reads (Ok command)) closes clock.old clock.new
+        (Replies C.gives shelf.now (reads (Ok command)) closes clock.old clock.new
         (Begins (W.contents writer.old) (W.contents writer.new))
         (K.content keeper.old) (K.content keeper.new)) }
     ensures memory { K.clean keeper.new → IsErrOf result StreamFault.Memory →
-        Owes C.gives book.now (reads (Ok command)) clock.old clock.new (K.content keeper.old) }
-    ensures goes_on { GoesOn book.now (W.contents writer.old) (W.contents writer.new)
+        Owes C.gives shelf.now (reads (Ok command)) clock.old clock.new (K.content keeper.old) }
+    ensures goes_on { GoesOn shelf.now (W.contents writer.old) (W.contents writer.new)
         K.content K.failed K.clean keeper.old keeper.new result }
 {
     let Some(moment) = clock.now() else {
         return tell_unable(writer, closes);
     };
     let read = is_read_command(&command);
-    match step(alloc, keeper, book, command, moment) {
+    match step(alloc, keeper, shelf, command, moment) {
         Ok(answer) => tell_answer(alloc, writer, &answer, read, closes),
         Err(_) => tell_unable(writer, closes),
     }

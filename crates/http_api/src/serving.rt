@@ -9,9 +9,9 @@ use crate::hearing::{Heard, hear};
 use charge_sources::ChargeSource;
 use http_answers::{Route, Router, known_router};
 use http_heads::{EMPTY_HEADER_SPAN, HeaderSpan, MAX_FIELDS};
+use shelves::TariffShelf;
 use std::alloc::Global;
 use std::io::{BufRead, BufReader, Read, Write};
-use tariffs::TariffBook;
 
 /// The most requests of a connection.
 pub const MAX_REQUESTS: u32 = 1000;
@@ -39,10 +39,10 @@ pub fn serve<R: Read, W: Write, K: ChargeSource, C: Clock>(
     reader: &mut R,
     writer: &mut W,
     keeper: &mut K,
-    book: &TariffBook,
+    shelf: &TariffShelf,
     clock: &mut C,
 ) -> Result<Served, ServeFault>
-    ensures { ServesConnection C.gives book.now (R.remaining reader.old) clock.old clock.new
+    ensures { ServesConnection C.gives shelf.now (R.remaining reader.old) clock.old clock.new
         (W.contents writer.old) (W.contents writer.new)
         K.content K.failed K.clean keeper.old keeper.new result }
 {
@@ -62,7 +62,7 @@ pub fn serve<R: Read, W: Write, K: ChargeSource, C: Clock>(
         room.as_mut_slice(),
         writer,
         keeper,
-        book,
+        shelf,
         clock,
     )
 }
@@ -93,12 +93,12 @@ fn serve_requests<R: BufRead, W: Write, K: ChargeSource, C: Clock>(
     room: &mut [HeaderSpan],
     writer: &mut W,
     keeper: &mut K,
-    book: &TariffBook,
+    shelf: &TariffShelf,
     clock: &mut C,
 ) -> Result<Served, ServeFault>
     requires router { router.now ≡ table }
     requires room { 8192 ≤ 3 * length room.old }
-    ensures { ServesConnection C.gives book.now (R.remaining reader.old) clock.old clock.new
+    ensures { ServesConnection C.gives shelf.now (R.remaining reader.old) clock.old clock.new
         (W.contents writer.old) (W.contents writer.new)
         K.content K.failed K.clean keeper.old keeper.new result }
 {
@@ -109,7 +109,7 @@ fn serve_requests<R: BufRead, W: Write, K: ChargeSource, C: Clock>(
         };
         let Heard { asked, closes } = heard;
         left = left_after(closes, left);
-        answer_request(alloc, writer, keeper, book, clock, asked, left == 0)?;
+        answer_request(alloc, writer, keeper, shelf, clock, asked, left == 0)?;
         if left == 0 {
             return Ok(one_more(served));
         }

@@ -5,11 +5,11 @@ use crate::clock::Clock;
 use crate::fault::ServeFault;
 use crate::serving::{Served, serve};
 use charge_sources::ChargeSource;
+use shelves::TariffShelf;
 use std::alloc::Global;
 use std::io;
 use std::net::TcpStream;
 use std::time::Duration;
-use tariffs::TariffBook;
 
 /// How long a read or a write of a socket may take, in seconds (profile).
 pub const SOCKET_SECONDS: u64 = 30;
@@ -23,19 +23,19 @@ pub fn serve_socket<K: ChargeSource, C: Clock>(
     alloc: Global,
     stream: &TcpStream,
     keeper: &mut K,
-    book: &TariffBook,
+    shelf: &TariffShelf,
     clock: &mut C,
 ) -> Result<Served, ServeFault>
     ensures bounded { IfOk result (λ done. done.requests ≤ 1000) }
     ensures continued { K.clean keeper.new →
-        Continues book.now (K.content keeper.old) (K.content keeper.new) }
+        Continues shelf.now (K.content keeper.old) (K.content keeper.new) }
     ensures cleanness { K.clean keeper.new → K.clean keeper.old }
     ensures failures { K.failed keeper.old ≤ K.failed keeper.new }
 {
     if limit(stream).is_err() {
         return Err(ServeFault::Read);
     }
-    serve(alloc, &mut &*stream, &mut &*stream, keeper, book, clock)
+    serve(alloc, &mut &*stream, &mut &*stream, keeper, shelf, clock)
 }
 
 /// Sets what a socket delays, and how long it waits.

@@ -21,10 +21,10 @@ use charging::{AccountState, account_state};
 use commands::{Answer, Refusal};
 use http::StatusCode;
 use http_answers::{StatementAsked, tell_text, tell_unable};
+use shelves::TariffShelf;
 use statements::{AccountMonth, StatementFault, statement};
 use std::alloc::Global;
 use std::io::Write;
-use tariffs::TariffBook;
 
 /// Serves a statement at the clock's moment. It is a read: it changes nothing.
 ///
@@ -34,17 +34,17 @@ pub(crate) fn serve_statement<W: Write, K: ChargeSource, C: Clock>(
     alloc: Global,
     writer: &mut W,
     keeper: &mut K,
-    book: &TariffBook,
+    shelf: &TariffShelf,
     clock: &mut C,
     asked: &StatementAsked,
     closes: bool,
 ) -> Result<(), StreamFault>
     ensures ok { K.clean keeper.new → OnOk result
-        (Replies C.gives book.now (states asked.now) closes clock.old clock.new
+        (Replies C.gives shelf.now (states asked.now) closes clock.old clock.new
         (Appends (W.contents writer.old) (W.contents writer.new))
         (K.content keeper.old) (K.content keeper.new)) }
     ensures err { K.clean keeper.new → OnErr result
-        (Replies C.gives book.now (states asked.now) closes clock.old clock.new
+        (Replies C.gives shelf.now (states asked.now) closes clock.old clock.new
         (Begins (W.contents writer.old) (W.contents writer.new))
         (K.content keeper.old) (K.content keeper.new)) }
     ensures fault { OnErr result (result ≡ Err StreamFault.Write) }
@@ -55,12 +55,12 @@ pub(crate) fn serve_statement<W: Write, K: ChargeSource, C: Clock>(
     let Some(moment) = clock.now() else {
         return tell_unable(writer, closes);
     };
-    let state = match account_state(keeper, book, &asked.account, moment) {
+    let state = match account_state(keeper, shelf, &asked.account, moment) {
         Ok(state) => state,
         Err(_) => return tell_unable(writer, closes),
     };
     match state {
-        Some(state) => tell_statement(alloc, writer, keeper, book, asked, &state, closes),
+        Some(state) => tell_statement(alloc, writer, keeper, shelf, asked, &state, closes),
         None => tell_unknown(alloc, writer, closes),
     }
 }
@@ -70,25 +70,27 @@ fn tell_statement<W: Write, K: ChargeSource>(
     alloc: Global,
     writer: &mut W,
     keeper: &mut K,
-    book: &TariffBook,
+    shelf: &TariffShelf,
     asked: &StatementAsked,
     state: &AccountState,
     closes: bool,
 ) -> Result<(), StreamFault>
     ensures ok { K.clean keeper.new → OnOk result
         (TellsCharges ((K.content keeper.old).charges asked.now.account)
-        (λ rows. statement_text book.now asked.now.account asked.now.month state.now.moment rows
-        state.now.buckets.items) closes (Appends (W.contents writer.old) (W.contents writer.new))) }
+        (λ rows. statement_text shelf.now.first asked.now.account asked.now.month state.now.moment
+        rows state.now.buckets.items) closes
+        (Appends (W.contents writer.old) (W.contents writer.new))) }
     ensures err { K.clean keeper.new → OnErr result
         (TellsCharges ((K.content keeper.old).charges asked.now.account)
-        (λ rows. statement_text book.now asked.now.account asked.now.month state.now.moment rows
-        state.now.buckets.items) closes (Begins (W.contents writer.old) (W.contents writer.new))) }
+        (λ rows. statement_text shelf.now.first asked.now.account asked.now.month state.now.moment
+        rows state.now.buckets.items) closes
+        (Begins (W.contents writer.old) (W.contents writer.new))) }
     ensures fault { OnErr result (result ≡ Err StreamFault.Write) }
     ensures same { K.clean keeper.new → K.content keeper.new ≡ K.content keeper.old }
     ensures cleanness { K.clean keeper.new → K.clean keeper.old }
     ensures failures { K.failed keeper.old ≤ K.failed keeper.new }
 {
-    match statement_of(alloc, keeper, book, asked, state) {
+    match statement_of(alloc, keeper, shelf, asked, state) {
         Ok(text) => tell_text(alloc, writer, StatusCode::OK, closes, text.as_slice()),
         Err(_) => tell_unable(writer, closes),
     }
@@ -98,18 +100,20 @@ fn tell_statement<W: Write, K: ChargeSource>(
 fn statement_of<K: ChargeSource>(
     alloc: Global,
     keeper: &mut K,
-    book: &TariffBook,
+    shelf: &TariffShelf,
     asked: &StatementAsked,
     state: &AccountState,
 ) -> Result<Vec<u8>, StatementFault>
     ensures text { K.clean keeper.new → IfOk result (λ text. (rows : List ChargeColumns) →
         AreCharges ((K.content keeper.old).charges asked.now.account) rows →
-        text.items ≡ statement_text book.now asked.now.account asked.now.month state.now.moment rows
-        state.now.buckets.items) }
+        text.items ≡ statement_text shelf.now.first asked.now.account asked.now.month
+        state.now.moment
+        rows state.now.buckets.items) }
     ensures asks { Asks K.content K.failed K.clean keeper.old keeper.new result }
 {
     let mut text = Vec::new(alloc);
     let buckets = state.buckets.as_slice();
+    let book = shelf.first();
     let month = AccountMonth {
         account: &asked.account,
         month: asked.month,

@@ -1,9 +1,8 @@
 -- The buckets that can't be used any more.
-use Rattle.std.proofs.Common.{◌≡◌, ℕ, List, [], ◌++◌, refl, sym, subst}
+use Rattle.std.proofs.Common.{◌≡◌, List, [], ◌++◌, refl, sym, subst}
 use Rattle.std.specs.Prelude.{◌==◌, filter}
 use Rattle.buckets.specs.Row.{Row}
-use Rattle.reserving.specs.Rows.{AreApart}
-use Rattle.reserving.specs.Left.{is_dead, bucket_in}
+use Rattle.reserving.specs.Left.{is_dead}
 use Rattle.reserving.proofs.LeftTests.{find_filter, apart_filter}
 use Rattle.keepers.specs.Keyed.{same_bucket}
 use Rattle.keepers.specs.Tables.{no_rows}

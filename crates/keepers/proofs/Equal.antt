@@ -1,11 +1,13 @@
 -- Rows that are told equal are equal.
-use Rattle.std.proofs.Common.{◌≡◌, ℕ, Bool, true, false, List, [], ◌∷◌, refl, sym, ap, ◌∙◌, Option}
+use Rattle.std.proofs.Common.{◌≡◌, ℕ, true, List, [], ◌∷◌, refl, ap, Option}
 use Rattle.std.proofs.Common.{Some, None}
-use Rattle.std.specs.Prelude.{◌==◌, ◌&&◌}
+use Rattle.std.specs.Prelude.{◌==◌}
 use Rattle.std.specs.Cmp.Lexicographic.{pointwise}
 use Rattle.buckets.specs.declared.holds.Hold.{Hold}
 use Rattle.buckets.specs.Row.{Row}
 use Rattle.rating.specs.declared.grant.Periods.{Periods}
+use Rattle.reserving.specs.declared.session.Terms.{Terms}
+use Rattle.keepers.specs.Differing.{equal_terms}
 use Rattle.reserving.specs.declared.session.Session.{Session}
 use Rattle.reserving.specs.declared.session.SessionState.{SessionState}
 use Rattle.reserving.specs.declared.session.SessionState.TheVariants.{Open, Ended, NeverOpened}
@@ -87,6 +89,14 @@ periods_from x y e =
       after = record { 0 = number_from x.after.0 y.after.0 parts.1 i };
     }
 
+terms_from : (x y : Terms) → equal_terms x y ≡ true → x ≡ y
+terms_from x y e =
+    let parts = both (x.book == y.book) (equal_periods x.periods y.periods) e in
+    λ i. record {
+      book = number_from x.book y.book parts.0 i;
+      periods = periods_from x.periods y.periods parts.1 i;
+    }
+
 hold_from : (x y : Hold) → equal_hold x y ≡ true → x ≡ y
 hold_from x y e =
     let parts = both (x.bucket == y.bucket) (x.amount == y.amount) e in
@@ -108,9 +118,9 @@ reservation_from None None e = refl
 reservation_from None (Some y) e = absurd (not_both e)
 reservation_from (Some x) None e = absurd (not_both e)
 reservation_from (Some x) (Some y) e =
-    let parts = both (equal_periods x.periods y.periods) (pointwise equal_hold x.holds y.holds) e in
+    let parts = both (equal_terms x.terms y.terms) (pointwise equal_hold x.holds y.holds) e in
     λ i. Some (record {
-      periods = periods_from x.periods y.periods parts.0 i;
+      terms = terms_from x.terms y.terms parts.0 i;
       holds = holds_from x.holds y.holds parts.1 i;
     })
 

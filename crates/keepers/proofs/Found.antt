@@ -1,13 +1,12 @@
 -- Rows found by number among those that pass, and among merged ones.
-use Rattle.std.proofs.Common.{◌≡◌, ℕ, ◌+◌, Bool, true, false, cond, List, [], ◌∷◌, ◌++◌, refl, sym}
-use Rattle.std.proofs.Common.{ap, subst, ◌∙◌, Option, Some, None}
-use Rattle.std.specs.Prelude.{if◌then◌else◌, ◌==◌, ◌≢◌, filter, not}
-use Rattle.std.specs.List.{find}
+use Rattle.std.proofs.Common.{◌≡◌, ℕ, Bool, true, false, cond, List, [], ◌∷◌, refl, sym}
+use Rattle.std.proofs.Common.{ap, ◌∙◌, Option, Some, None}
+use Rattle.std.specs.Prelude.{if◌then◌else◌, ◌==◌, ◌≢◌, filter}
 use Rattle.buckets.specs.Row.{Row, precedes}
 use Rattle.buckets.specs.Spend.{AreDistinct, DiffersFromAll}
 use Rattle.reserving.specs.Rows.{EachIn, AreApart}
-use Rattle.reserving.proofs.Lists.{no_some, some_of, not_both}
-use Rattle.reserving.proofs.Keys.{same_number, number_same}
+use Rattle.reserving.proofs.Lists.{no_some}
+use Rattle.reserving.proofs.Keys.{same_number}
 use Rattle.reserving.specs.Left.{bucket_in, placed, merged, only, first_of}
 use Rattle.reserving.proofs.LeftTests.{find_filter}
 use Rattle.keepers.specs.Keyed.{same_bucket}

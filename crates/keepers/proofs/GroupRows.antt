@@ -20,14 +20,14 @@ use Rattle.keepers.specs.Change.{held_over}
 -- ---- what is told of each
 
 pub reserved_row : (o : Option Reservation) →
-    is_some (option_map (λ (x : Reservation). x.periods) o) ≡ is_some o
+    is_some (option_map (λ (x : Reservation). x.terms) o) ≡ is_some o
 reserved_row None = refl
 reserved_row (Some x) = refl
 
-pub no_periods : (o : Option Reservation) → option_map (λ (x : Reservation). x.periods) o ≡ None →
+pub no_terms : (o : Option Reservation) → option_map (λ (x : Reservation). x.terms) o ≡ None →
     o ≡ None
-no_periods None e = refl
-no_periods (Some x) e = absurd (no_some x.periods (sym e))
+no_terms None e = refl
+no_terms (Some x) e = absurd (no_some x.terms (sym e))
 
 pub no_row : (o : Option SessionGroup) → option_map group_row o ≡ None → o ≡ None
 no_row None e = refl
@@ -65,15 +65,15 @@ group_of s g buckets (Some r) held =
       session = s;
       group = g;
       used = r.used;
-      reservation = reservation_of (parts (λ b. held b.number) buckets) r.periods;
+      reservation = reservation_of (parts (λ b. held b.number) buckets) r.terms;
     })
 
 same_reservation : (buckets : List Row) (o : Option Reservation) →
     IsInOrderOf buckets (holds_in o) →
     o ≡ reservation_of (parts (λ b. held_at b.number (holds_in o)) buckets)
-    (option_map (λ (x : Reservation). x.periods) o)
+    (option_map (λ (x : Reservation). x.terms) o)
 same_reservation buckets None h = refl
-same_reservation buckets (Some x) h = λ i. Some (record { periods = x.periods; holds = h i })
+same_reservation buckets (Some x) h = λ i. Some (record { terms = x.terms; holds = h i })
 
 pub group_back : (s : List ℕ) (g : ℕ) (buckets : List Row) (groups : List SessionGroup) →
     AreInOrderOf buckets groups →

@@ -1,14 +1,10 @@
 -- A ledger that grows keeps its rows: what isn't found after wasn't found before.
-use Rattle.std.proofs.Common.{◌≡◌, ℕ, ◌+◌, Bool, true, false, cond, List, [], ◌∷◌, ◌++◌, map, refl}
+use Rattle.std.proofs.Common.{◌≡◌, ℕ, Bool, true, false, cond, List, [], ◌∷◌, ◌++◌, refl}
 use Rattle.std.proofs.Common.{sym, ap, subst, ◌∙◌, Option, Some, None}
 use Rattle.std.specs.Prelude.{if◌then◌else◌, ◌==◌, nat_lt, option_map}
-use Rattle.std.specs.List.{find}
 use Rattle.std.proofs.lemmas.Bool.{or_parts, cond-false}
 use Rattle.buckets.specs.Row.{Row, new_row}
 use Rattle.buckets.specs.Spend.{inserted}
-use Rattle.reserving.specs.declared.session.Session.{Session}
-use Rattle.reserving.specs.declared.session.SessionGroup.{SessionGroup}
-use Rattle.reserving.specs.declared.session.Counter.{Counter}
 use Rattle.reserving.specs.Ledger.{Fact, Dated, Ledger, or_else, newest, any, any_dated}
 use Rattle.reserving.specs.Ledger.{recording_in, last_recording, has_group, names_group}
 use Rattle.reserving.specs.Ledger.{has_counter, counts_group}
@@ -71,7 +67,7 @@ credited_none : (n : ℕ) (f : Fact) (xs : List Row) → bucket_in n (credited_b
     bucket_in n xs ≡ None
 credited_none n (Credit number from until scope amount) xs e =
     inserted_none n (new_row number from until scope amount) xs e
-credited_none n (Grant session group periods units counter) xs e = e
+credited_none n (Grant session group terms units counter) xs e = e
 credited_none n (Hold session group bucket amount) xs e = e
 credited_none n (End session group) xs e = e
 credited_none n (Use session group units blocks rated uncollected) xs e = e
@@ -91,14 +87,15 @@ mapped_none : {A B : Type 0} (f : A → B) (o : Option A) → option_map f o ≡
 mapped_none f None e = refl
 mapped_none f (Some x) e = absurd (no_some (f x) (sym e))
 
-bucket_found : (n v t : ℕ) (ledger : Ledger) →
+bucket_found : (n : ℕ) (v : ℕ → ℕ) (t : ℕ) (ledger : Ledger) →
     bucket_in n (buckets_at v t ledger) ≡
     option_map (bucket_at v t ledger) (bucket_in n (credits ledger))
 bucket_found n v t ledger =
     find-map (λ b. b.number == n) (bucket_at v t ledger) (credits ledger) (λ b. refl)
 
 module _ (old new : Ledger) (more : Extends old new) where
-  pub session_stays : (v t w u : ℕ) (s : List ℕ) → session_at w u new s ≡ None →
+  pub session_stays : (v : ℕ → ℕ) (t : ℕ) (w : ℕ → ℕ) (u : ℕ) (s : List ℕ) →
+      session_at w u new s ≡ None →
       session_at v t old s ≡ None
   session_stays v t w u s e =
       let none : last_recording s new ≡ None =
@@ -107,7 +104,8 @@ module _ (old new : Ledger) (more : Extends old new) where
       (newest_front (recording_in s) more.front old
       (subst (λ (l : Ledger). last_recording s l ≡ None) more.is none))
 
-  pub group_stays : (v t w u : ℕ) (s : List ℕ) (g : ℕ) → group_at w u new s g ≡ None →
+  pub group_stays : (v : ℕ → ℕ) (t : ℕ) (w : ℕ → ℕ) (u : ℕ) (s : List ℕ) (g : ℕ) →
+      group_at w u new s g ≡ None →
       group_at v t old s g ≡ None
   group_stays v t w u s g e =
       let none : has_group s g new ≡ false = none_of (has_group s g new) _ e in
@@ -124,7 +122,8 @@ module _ (old new : Ledger) (more : Extends old new) where
       (dated_front (counts_group cycle_of g c) more.front old
       (subst (λ (l : Ledger). has_counter cycle_of g c l ≡ false) more.is none))
 
-  pub bucket_stays : (v t w u n : ℕ) → bucket_in n (buckets_at w u new) ≡ None →
+  pub bucket_stays : (v : ℕ → ℕ) (t : ℕ) (w : ℕ → ℕ) (u n : ℕ) →
+      bucket_in n (buckets_at w u new) ≡ None →
       bucket_in n (buckets_at v t old) ≡ None
   bucket_stays v t w u n e =
       let none : bucket_in n (credits new) ≡ None =

@@ -1,16 +1,16 @@
 -- What a call left beside the rows that weren't loaded: the change may be committed, and the tables
 -- after it.
-use Rattle.std.proofs.Common.{◌≡◌, ℕ, Bool, true, false, List, [], ◌++◌, refl, sym, ap, subst, ◌∙◌}
+use Rattle.std.proofs.Common.{◌≡◌, ℕ, Bool, true, false, List, ◌++◌, refl, sym, ap, subst, ◌∙◌}
 use Rattle.std.proofs.Common.{Option, Some, None}
 use Rattle.std.specs.Prelude.{if◌then◌else◌, ◌==◌, not, is_some, option_map}
 use Rattle.buckets.specs.Row.{Row}
-use Rattle.tariffs.specs.Books.{Book}
+use Rattle.shelves.specs.Shelves.{Shelf}
 use Rattle.reserving.specs.declared.session.Session.{Session}
 use Rattle.reserving.specs.declared.session.SessionGroup.{SessionGroup}
 use Rattle.reserving.specs.declared.session.Reservation.{Reservation}
 use Rattle.reserving.specs.declared.session.Counter.{Counter}
 use Rattle.reserving.specs.Ledger.{Ledger, is_same}
-use Rattle.reserving.specs.Pricing.{cycle_at}
+use Rattle.reserving.specs.Pricing.{cycle_at, validity_of}
 use Rattle.reserving.specs.Balance.{buckets_at}
 use Rattle.reserving.specs.Sessions.{is_session, is_of, is_counter, is_open, session_in, group_in}
 use Rattle.reserving.specs.Sessions.{counter_in}
@@ -59,18 +59,18 @@ none_both l x e k = ap (λ o. first_of o x) e ∙ k
 not_held : (r : SessionGroup) → is_some r.reservation ≡ false → r.reservation ≡ None
 not_held r e = Rattle.reserving.proofs.KeysFound.is_none_is r.reservation e
 
-module _ (book : Book) (before after : Ledger) (u t : ℕ) (r : Rows) (a x : AccountRows)
-    (h : AreRowsAt book before u r) (own : IsAccount a) (loads : IsLoadedFrom book t r a)
-    (same : x.book ≡ book) (more : Extends before after)
-    (left_with : IsWith after (left_of t (priced book h.listed)) t x) where
+module _ (shelf : Shelf) (before after : Ledger) (u t : ℕ) (r : Rows) (a x : AccountRows)
+    (h : AreRowsAt shelf before u r) (own : IsAccount a) (loads : IsLoadedFrom shelf t r a)
+    (same : x.shelf ≡ shelf) (more : Extends before after)
+    (left_with : IsWith after (left_of t (priced shelf h.listed)) t x) where
   abbrev w : AccountRows
-  w = priced book h.listed
+  w = priced shelf h.listed
 
   abbrev left : LeftRows
   left = left_of t w
 
   whole : IsAccount w
-  whole = taking.whole book before u t r a h own loads
+  whole = taking.whole shelf before u t r a h own loads
 
   -- ---- what isn't among the rows after it was left
 
@@ -90,12 +90,13 @@ module _ (book : Book) (before after : Ledger) (u t : ℕ) (r : Rows) (a x : Acc
       at false f =
           let none : bucket_in n left.buckets ≡ None = bucket_left n ∙ ap (only is_dead) e
           ∙ ap (λ v. if v then Some y else None) f in
-          let gone : bucket_in n (buckets_at x.book.validity x.as_of after) ≡ None =
+          let gone : bucket_in n (buckets_at (validity_of x.shelf) x.as_of after) ≡ None =
           ap (bucket_in n) (sym left_with.rows.buckets) ∙ bucket_after n
           ∙ none_both (bucket_in n x.buckets) (bucket_in n left.buckets) k none in
           absurd
           (no_some y
-          (sym (bucket_stays before after more w.book.validity w.as_of x.book.validity x.as_of n
+          (sym (bucket_stays before after more (validity_of w.shelf) w.as_of
+          (validity_of x.shelf) x.as_of n
           gone) ∙ ap (bucket_in n) (sym h.rows.buckets) ∙ e))
 
   session_left : (s : List ℕ) →
@@ -118,7 +119,8 @@ module _ (book : Book) (before after : Ledger) (u t : ℕ) (r : Rows) (a x : Acc
           ∙ none_both (session_in s left.sessions) (session_in s x.sessions) none k in
           absurd
           (no_some y
-          (sym (session_stays before after more w.book.validity w.as_of x.book.validity x.as_of
+          (sym (session_stays before after more (validity_of w.shelf) w.as_of
+          (validity_of x.shelf) x.as_of
           s gone) ∙ sym (h.rows.sessions s) ∙ e))
 
   abbrev of_open : SessionGroup → Bool
@@ -148,7 +150,8 @@ module _ (book : Book) (before after : Ledger) (u t : ℕ) (r : Rows) (a x : Acc
           ∙ none_both (group_in s g left.groups) (group_in s g x.groups) none k in
           absurd
           (no_some y
-          (sym (group_stays before after more w.book.validity w.as_of x.book.validity x.as_of s
+          (sym (group_stays before after more (validity_of w.shelf) w.as_of
+          (validity_of x.shelf) x.as_of s
           g gone) ∙ sym (h.rows.groups s g) ∙ e))
 
   group_is_left : (s : List ℕ) (g : ℕ) (y : SessionGroup) → group_in s g w.groups ≡ Some y →
@@ -157,7 +160,7 @@ module _ (book : Book) (before after : Ledger) (u t : ℕ) (r : Rows) (a x : Acc
       ∙ ap (λ v. if not v then Some y else None) f
 
   abbrev of_cycle : Counter → Bool
-  of_cycle y = y.cycle == cycle_at book y.group t
+  of_cycle y = y.cycle == cycle_at shelf y.group t
 
   counter_left : (g c : ℕ) →
       counter_in g c left.counters ≡ only (λ y. not (of_cycle y)) (counter_in g c w.counters)
@@ -179,8 +182,8 @@ module _ (book : Book) (before after : Ledger) (u t : ℕ) (r : Rows) (a x : Acc
           ∙ none_both (counter_in g c left.counters) (counter_in g c x.counters) none k in
           absurd
           (no_some y
-          (sym (counter_stays before after more (cycle_at w.book g) g c
-          (subst (λ (b : Book). Rattle.reserving.specs.Sessions.counter_at
+          (sym (counter_stays before after more (cycle_at w.shelf g) g c
+          (subst (λ (b : Shelf). Rattle.reserving.specs.Sessions.counter_at
           (cycle_at b g) after g c ≡ None) same gone)) ∙ sym (h.rows.counters g c) ∙ e))
 
   -- ---- the change may be committed
@@ -188,7 +191,7 @@ module _ (book : Book) (before after : Ledger) (u t : ℕ) (r : Rows) (a x : Acc
   pub made : IsMadeFrom (stored a) (stored x) r
   made = record {
     buckets = λ n y e. only_some (λ b. not (is_dead b)) (r.buckets n) y (sym (loads.buckets n) ∙ e);
-    counters = λ g c y e. if_some (c == cycle_at book g t) (r.counters g c) y
+    counters = λ g c y e. if_some (c == cycle_at shelf g t) (r.counters g c) y
         (sym (loads.counters g c) ∙ e);
     sessions = λ s y e. only_some (λ z. is_open z.state) (r.sessions s) y
         (sym (loads.sessions s) ∙ e);
@@ -204,14 +207,14 @@ module _ (book : Book) (before after : Ledger) (u t : ℕ) (r : Rows) (a x : Acc
     where
       free_row : (s : List ℕ) (g : ℕ) (row : GroupRow) (o : Option SessionGroup) →
           group_in s g w.groups ≡ o → option_map group_row o ≡ Some row →
-          group_in s g x.groups ≡ None → (row.periods ≡ None) × (session_in s x.sessions ≡ None)
+          group_in s g x.groups ≡ None → (row.terms ≡ None) × (session_in s x.sessions ≡ None)
       free_row s g row None there e k = absurd (no_some row e)
       free_row s g row (Some y) there e k =
           let closed : of_open y ≡ false = group_gone s g y there k in
           let of : y.session ≡ s = own_session s g y there in
           let is_left : group_in s g left.groups ≡ Some y = group_is_left s g y there closed in (
-            ap (λ (z : GroupRow). z.periods) (sym (some_of (group_row y) row e))
-                ∙ ap (λ (o : Option Reservation). option_map (λ (z : Reservation). z.periods) o)
+            ap (λ (z : GroupRow). z.terms) (sym (some_of (group_row y) row e))
+                ∙ ap (λ (o : Option Reservation). option_map (λ (z : Reservation). z.terms) o)
                 (EachIn-found (λ z. z.reservation ≡ None) (is_of s g) left.groups y
                 left_with.apart.free is_left),
             ap (λ n. session_in n x.sessions) (sym of)
@@ -227,7 +230,7 @@ module _ (book : Book) (before after : Ledger) (u t : ℕ) (r : Rows) (a x : Acc
   same_left p None l e k = sym e
   same_left p (Some y) l e k = sym (e ∙ ap (λ v. if v then Some y else None) (k y refl))
 
-  pub leaves : AreRowsAt book after x.as_of (over (stored x) r)
+  pub leaves : AreRowsAt shelf after x.as_of (over (stored x) r)
   leaves = record {
     listed = stored (joined left x);
     are = record {
@@ -258,7 +261,7 @@ module _ (book : Book) (before after : Ledger) (u t : ℕ) (r : Rows) (a x : Acc
     };
     kept = IsStored-stored (joined left x) left_with.apart.whole;
     moment = refl;
-    rows = subst (λ (b : Book). IsRowsOf after (priced b (stored (joined left x)))) same
+    rows = subst (λ (b : Shelf). IsRowsOf after (priced b (stored (joined left x)))) same
         left_with.rows;
   }
     where
@@ -281,5 +284,5 @@ module _ (book : Book) (before after : Ledger) (u t : ℕ) (r : Rows) (a x : Acc
       by_bucket n (Some y) k = refl
 
   pub left_behind : IsMadeFrom (stored a) (stored x) r
-      × AreRowsAt book after x.as_of (over (stored x) r)
+      × AreRowsAt shelf after x.as_of (over (stored x) r)
   left_behind = (made, leaves)

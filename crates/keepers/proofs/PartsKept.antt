@@ -1,24 +1,23 @@
 -- What the keeper in memory has of an account stays apart: what is live, and what was left.
-use Rattle.std.proofs.Common.{◌≡◌, ℕ, ◌+◌, ◌≤◌, Bool, true, false, cond, List, [], ◌∷◌, ◌++◌, map}
-use Rattle.std.proofs.Common.{get_or, refl, sym, ap, subst, ◌∙◌, Option, Some, None}
-use Rattle.std.specs.Prelude.{if◌then◌else◌, ◌==◌, ◌&&◌, ◌||◌, not, filter, is_some, position}
-use Rattle.std.specs.Prelude.{option_map, Result, Ok, Err, IfOk}
+use Rattle.std.proofs.Common.{◌≡◌, ℕ, ◌≤◌, Bool, true, false, List, [], ◌∷◌, ◌++◌, map}
+use Rattle.std.proofs.Common.{get_or, refl, sym, ap, ◌∙◌, Option, Some, None}
+use Rattle.std.specs.Prelude.{if◌then◌else◌, ◌==◌, not, filter, is_some, position}
+use Rattle.std.specs.Prelude.{Result, Ok, Err, IfOk}
 use Rattle.std.specs.List.{find}
 use Rattle.std.proofs.lemmas.Bool.{not-true}
 use Rattle.buckets.specs.Row.{Row, IsBalanced, with_release, with_end}
-use Rattle.buckets.specs.Spend.{AreDistinct, Each}
+use Rattle.buckets.specs.Spend.{Each}
 use Rattle.buckets.proofs.SharesAlong.{with_end_keeps, with_release_number}
-use Rattle.tariffs.specs.Books.{Book}
+use Rattle.shelves.specs.Shelves.{Shelf}
 use Rattle.reserving.specs.declared.session.Session.{Session}
 use Rattle.reserving.specs.declared.session.SessionGroup.{SessionGroup}
-use Rattle.reserving.specs.declared.session.Counter.{Counter}
 use Rattle.reserving.specs.Ledger.{is_same}
-use Rattle.reserving.specs.Sessions.{is_session, is_of, is_counter, is_open, session_in, group_in}
+use Rattle.reserving.specs.Sessions.{is_session, is_of, is_open, session_in, group_in}
 use Rattle.reserving.specs.Sessions.{counter_in, is_live_in}
-use Rattle.reserving.specs.Changes.{advanced, lapse, lapse_group, lapsed_in}
+use Rattle.reserving.specs.Changes.{lapse, lapse_group, lapsed_in}
 use Rattle.reserving.specs.Rows.{AccountRows, EachIn, AreApart}
-use Rattle.reserving.specs.Stored.{StoredRows, IsStored, priced, advanced_stored}
-use Rattle.reserving.specs.Left.{LeftRows, is_dead, bucket_in, none_left, first_of}
+use Rattle.reserving.specs.Stored.{StoredRows, IsStored, priced}
+use Rattle.reserving.specs.Left.{is_dead, bucket_in, none_left, first_of}
 use Rattle.reserving.proofs.Lists.{no_some, not_both, AreApart-map, EachIn-weaker}
 use Rattle.reserving.proofs.Keys.{first_true, second_true}
 use Rattle.reserving.proofs.KeysFound.{placed, unplaced, is_none_is}
@@ -26,6 +25,7 @@ use Rattle.reserving.proofs.kept.Ordered.{lapsed_name}
 use Rattle.reserving.proofs.Advancing.{session_in-advanced}
 use Rattle.reserving.proofs.LeftTests.{each_filter, each_passes, each_append, apart_filter}
 use Rattle.reserving.proofs.LeftTests.{apart_append, none_each}
+use Rattle.reserving.specs.Pricing.{validity_of}
 use Rattle.keepers.specs.Parts.{Parts, AreParts, leaves_bucket, leaves_counter, leaves_session}
 use Rattle.keepers.specs.Parts.{leaves_group, left_after, with_live, advanced_parts}
 use Rattle.keepers.specs.Keyed.{same_bucket, same_session, same_group, same_counter}
@@ -164,14 +164,14 @@ apart_behind same f (x ∷ xs) ys k l h = (
   apart_behind same f xs ys k l h.1,
 )
 
-pub parts_advanced : (book : Book) (t : ℕ) (p : Parts) → AreParts p →
-    AreParts (advanced_parts book t p)
-parts_advanced book t p h = record {
+pub parts_advanced : (shelf : Shelf) (t : ℕ) (p : Parts) → AreParts p →
+    AreParts (advanced_parts shelf t p)
+parts_advanced shelf t p h = record {
   buckets = apart_behind same_bucket later p.left.buckets p.live.buckets
       (λ x y. ap (λ n. y.number == n) (number x)) (λ x y. ap (λ n. n == x.number) (number y))
       h.buckets;
   counters = h.counters;
-  sessions = apart_behind same_session (lapse book.validity t) p.left.sessions p.live.sessions
+  sessions = apart_behind same_session (lapse (validity_of shelf) t) p.left.sessions p.live.sessions
       (λ x y. ap (λ s. is_session s y) (id_of x)) (λ x y. ap (λ s. is_same s x.id) (id_of y))
       h.sessions;
   groups = apart_behind same_group (lapse_group keeps) p.left.groups p.live.groups group_first
@@ -188,10 +188,10 @@ parts_advanced book t p h = record {
 }
   where
     a : AccountRows
-    a = priced book p.live
+    a = priced shelf p.live
 
     keeps : List ℕ → Bool
-    keeps = is_live_in book.validity t p.live.sessions
+    keeps = is_live_in (validity_of shelf) t p.live.sessions
 
     later : Row → Row
     later b = with_end t (with_release t b (lapsed_in keeps p.live.groups b))
@@ -200,8 +200,8 @@ parts_advanced book t p h = record {
     number b = (with_end_keeps t).number (with_release t b (lapsed_in keeps p.live.groups b))
         ∙ with_release_number t b (lapsed_in keeps p.live.groups b)
 
-    id_of : (r : Session) → (lapse book.validity t r).id ≡ r.id
-    id_of r = lapsed_name book.validity t r
+    id_of : (r : Session) → (lapse (validity_of shelf) t r).id ≡ r.id
+    id_of r = lapsed_name (validity_of shelf) t r
 
     by_keep : (r y : SessionGroup) (k : Bool) →
         is_of (if k then r else record r { reservation = None }).session

@@ -1,8 +1,8 @@
 -- What the keeper in memory loads is what may still change of the account's rows.
-use Rattle.std.proofs.Common.{◌≡◌, ℕ, Bool, true, false, List, [], ◌++◌, refl, sym, ap, ◌∙◌, Option}
+use Rattle.std.proofs.Common.{◌≡◌, ℕ, Bool, true, false, List, ◌++◌, refl, sym, ap, ◌∙◌, Option}
 use Rattle.std.proofs.Common.{Some, None}
 use Rattle.std.specs.Prelude.{if◌then◌else◌, ◌==◌, ◌||◌, not, is_some, option_map, filter}
-use Rattle.tariffs.specs.Books.{Book}
+use Rattle.shelves.specs.Shelves.{Shelf}
 use Rattle.reserving.specs.declared.session.Session.{Session}
 use Rattle.reserving.specs.declared.session.SessionGroup.{SessionGroup}
 use Rattle.reserving.specs.declared.session.Counter.{Counter}
@@ -37,9 +37,9 @@ hidden p None x h = refl
 hidden p (Some y) x h = ap (only p) (h y refl).0
     ∙ sym (ap (λ t. if t then Some y else None) (h y refl).1)
 
-module _ (book : Book) (t : ℕ) (p : Parts) (h : AreParts p) (live : IsStored p.live) where
+module _ (shelf : Shelf) (t : ℕ) (p : Parts) (h : AreParts p) (live : IsStored p.live) where
   abbrev a : AccountRows
-  a = live_part book t p.left.counters p.live
+  a = live_part shelf t p.left.counters p.live
 
   bucket_found : (n : ℕ) → bucket_in n a.buckets ≡
       only (λ b. not (is_dead b)) (bucket_in n (p.left.buckets ++ p.live.buckets))
@@ -72,27 +72,29 @@ module _ (book : Book) (t : ℕ) (p : Parts) (h : AreParts p) (live : IsStored p
 
   by_cycle : (g c : ℕ) (o : Option Counter) →
       counter_in g c (p.left.counters ++ p.live.counters) ≡ o →
-      only (λ (r : Counter). r.cycle == cycle_at book r.group t) o ≡
-      (if c == cycle_at book g t then o else None)
-  by_cycle g c None e = sym (nothing (c == cycle_at book g t) None refl)
+      only (λ (r : Counter). r.cycle == cycle_at shelf r.group t) o ≡
+      (if c == cycle_at shelf g t then o else None)
+  by_cycle g c None e = sym (nothing (c == cycle_at shelf g t) None refl)
   by_cycle g c (Some r) e =
       let k : is_counter g c r ≡ true =
       find-passes (is_counter g c) (p.left.counters ++ p.live.counters) r e in
-      λ i. if same_number r.cycle c (second_true (r.group == g) (r.cycle == c) k) i == cycle_at book
+      λ i. if same_number r.cycle c (second_true (r.group == g) (r.cycle == c) k) i ==
+      cycle_at shelf
       (same_number r.group g (first_true (r.group == g) (r.cycle == c) k) i) t then Some r
       else None
 
   counter_found : (g c : ℕ) → counter_in g c a.counters ≡
-      (if c == cycle_at book g t then counter_in g c (p.left.counters ++ p.live.counters) else None)
+      (if c == cycle_at shelf g t then counter_in g c (p.left.counters ++ p.live.counters)
+      else None)
   counter_found g c =
       sym (find_reordered same_counter (is_counter g c) (one_counter g c)
-      (filter (λ r. r.cycle == cycle_at book r.group t) (p.left.counters ++ p.live.counters)) _
+      (filter (λ r. r.cycle == cycle_at shelf r.group t) (p.left.counters ++ p.live.counters)) _
       (arranged_reordered counter_before
-      (filter (λ r. r.cycle == cycle_at book r.group t) (p.left.counters ++ p.live.counters)))
-      (apart_filter same_counter (λ r. r.cycle == cycle_at book r.group t)
+      (filter (λ r. r.cycle == cycle_at shelf r.group t) (p.left.counters ++ p.live.counters)))
+      (apart_filter same_counter (λ r. r.cycle == cycle_at shelf r.group t)
       (p.left.counters ++ p.live.counters) h.counters))
       ∙ find_filter same_counter (is_counter g c) (one_counter g c)
-      (λ r. r.cycle == cycle_at book r.group t) (p.left.counters ++ p.live.counters) h.counters
+      (λ r. r.cycle == cycle_at shelf r.group t) (p.left.counters ++ p.live.counters) h.counters
       ∙ by_cycle g c (counter_in g c (p.left.counters ++ p.live.counters)) refl
 
   -- a session is open by both where it is by what is live
@@ -155,7 +157,7 @@ module _ (book : Book) (t : ℕ) (p : Parts) (h : AreParts p) (live : IsStored p
           ∙ sym (λ i. if is_open_row (away i) || (reserved_row y.reservation ∙ free) i
           then Some y else None)
 
-  pub parts_loaded : IsLoadedFrom book t (rows_of p) a
+  pub parts_loaded : IsLoadedFrom shelf t (rows_of p) a
   parts_loaded = record {
     priced_by = refl;
     head = refl;

@@ -1,30 +1,27 @@
 -- As time goes on, what the keeper in memory has of an account stays the rows of each ledger whose
 -- rows it was.
-use Rattle.std.proofs.Common.{◌≡◌, ◌≢◌, ℕ, ◌+◌, ◌<◌, ◌≤◌, Bool, true, false, List, [], ◌∷◌}
-use Rattle.std.proofs.Common.{◌++◌, map, refl, sym, ap, subst, ◌∙◌, arith, Option, Some, None}
-use Rattle.std.specs.Prelude.{if◌then◌else◌, ◌==◌, ◌&&◌, ◌||◌, not, filter, nat_lt}
+use Rattle.std.proofs.Common.{◌≡◌, ◌≢◌, ℕ, ◌≤◌, Bool, true, false, List, [], ◌∷◌}
+use Rattle.std.proofs.Common.{◌++◌, refl, sym, ap, subst, ◌∙◌, arith, Option, Some, None}
+use Rattle.std.specs.Prelude.{if◌then◌else◌, ◌==◌}
 use Rattle.std.specs.List.{find}
 use Rattle.std.proofs.lemmas.Bool.Decides.{nat_tests}
 use Rattle.buckets.specs.Row.{Row, IsBalanced, precedes}
 use Rattle.buckets.specs.Spend.{Each, IsSound, IsBelow, IsInOrder, AreDistinct, DiffersFromAll}
 use Rattle.buckets.specs.Spend.{PrecedesAll}
 use Rattle.buckets.specs.Holding.{held_in}
-use Rattle.tariffs.specs.Books.{Book, IsBook}
-use Rattle.reserving.specs.declared.session.Session.{Session}
+use Rattle.shelves.specs.Shelves.{Shelf, IsShelf}
 use Rattle.reserving.specs.declared.session.SessionGroup.{SessionGroup}
-use Rattle.reserving.specs.declared.session.Reservation.{Reservation}
-use Rattle.reserving.specs.declared.session.Counter.{Counter}
-use Rattle.reserving.specs.Ledger.{Ledger, is_same}
+use Rattle.reserving.specs.Ledger.{Ledger}
 use Rattle.reserving.specs.Balance.{buckets_at}
-use Rattle.reserving.specs.Sessions.{is_session, is_of, is_counter, is_open, session_in, session_at}
-use Rattle.reserving.specs.Sessions.{group_in, group_at, counter_in, holds_in, held_by}
+use Rattle.reserving.specs.Sessions.{is_of, session_in, session_at}
+use Rattle.reserving.specs.Sessions.{group_in, group_at, holds_in, held_by}
 use Rattle.reserving.specs.Changes.{advanced}
 use Rattle.reserving.specs.Rows.{AccountRows, EachIn, AreApart, AreInOrderOf, IsAccount, IsRowsOf}
-use Rattle.reserving.specs.Stored.{StoredRows, IsStored, stored, priced}
-use Rattle.reserving.specs.Left.{LeftRows, IsDead, is_dead, first_of, bucket_in, placed, merged}
+use Rattle.reserving.specs.Stored.{IsStored, stored, priced}
+use Rattle.reserving.specs.Left.{LeftRows, IsDead, first_of, bucket_in, placed, merged}
 use Rattle.reserving.specs.Left.{joined, IsLeft}
 use Rattle.reserving.proofs.Lists.{no_some, some_of, EachIn-weaker}
-use Rattle.reserving.proofs.Keys.{same_number, found_own}
+use Rattle.reserving.proofs.Keys.{found_own}
 use Rattle.reserving.proofs.Advancing.{IsRowsOf-advanced}
 use Rattle.reserving.proofs.Advanced.{IsAccount-advanced}
 use Rattle.reserving.proofs.StoredRows.{IsAccount-priced, IsStored-stored}
@@ -37,6 +34,7 @@ use Rattle.reserving.proofs.LeftMore.{are_told, apart_none}
 use Rattle.reserving.proofs.LeftFrames.{advanced_joined}
 use Rattle.reserving.proofs.InOrder.{order_joined}
 use Rattle.reserving.proofs.KeysFound.{is_none_is}
+use Rattle.reserving.specs.Pricing.{validity_of}
 use Rattle.keepers.specs.Tables.{head_of, held_of, AreListed}
 use Rattle.keepers.specs.Change.{AreRowsAt}
 use Rattle.keepers.specs.Parts.{Parts, AreParts, rows_of, advanced_parts}
@@ -139,10 +137,10 @@ turned (Some y) None h = refl
 turned (Some y) (Some x) h = absurd (no_some x (sym (h y refl)))
 
 -- with the rows that were left, in any order, they are a list of the account's rows
-listed_in_order : (p : Parts) (book : Book) → AreParts p →
+listed_in_order : (p : Parts) (shelf : Shelf) → AreParts p →
     AreDistinct (merged p.left.buckets p.live.buckets) →
-    AreListed (stored (joined p.left (priced book p.live))) (rows_of p)
-listed_in_order p book h d = record {
+    AreListed (stored (joined p.left (priced shelf p.live))) (rows_of p)
+listed_in_order p shelf h d = record {
   head = refl;
   buckets = λ n.
       find_both (λ b. b.number == n) p.left.buckets p.live.buckets
@@ -156,23 +154,23 @@ listed_in_order p book h d = record {
   holds = λ s g n. refl;
 }
 
-module _ (book : Book) (ledger : Ledger) (u t : ℕ) (p : Parts) (ranges : IsBook book)
+module _ (shelf : Shelf) (ledger : Ledger) (u t : ℕ) (p : Parts) (ranges : IsShelf shelf)
     (h : AreParts p) (live : IsStored p.live) (le : u ≤ t)
-    (are : AreRowsAt book ledger u (rows_of p)) where
+    (are : AreRowsAt shelf ledger u (rows_of p)) where
   abbrev left : LeftRows
   left = p.left
 
   abbrev a : AccountRows
-  a = priced book p.live
+  a = priced shelf p.live
 
   abbrev w : AccountRows
-  w = priced book are.listed
+  w = priced shelf are.listed
 
   own : IsAccount a
-  own = IsAccount-priced book p.live ranges live
+  own = IsAccount-priced shelf p.live ranges live
 
   whole_w : IsAccount w
-  whole_w = IsAccount-priced book are.listed ranges are.kept
+  whole_w = IsAccount-priced shelf are.listed ranges are.kept
 
   head_is : head_of p.live ≡ head_of are.listed
   head_is = some_of (head_of p.live) (head_of are.listed) are.are.head
@@ -190,7 +188,7 @@ module _ (book : Book) (ledger : Ledger) (u t : ℕ) (p : Parts) (ranges : IsBoo
 
   merged_is : merged left.buckets a.buckets ≡ w.buckets
   merged_is = are_told (merged left.buckets a.buckets) w.buckets sound whole_w.sound
-      (λ n. sym ((listed_in_order p book h sorted.1).buckets n) ∙ are.are.buckets n)
+      (λ n. sym ((listed_in_order p shelf h sorted.1).buckets n) ∙ are.are.buckets n)
 
   dead : Each IsDead left.buckets
   dead = each_of IsDead left.buckets (EachIn-weaker _ _ left.buckets dead_parts h.dead)
@@ -256,7 +254,7 @@ module _ (book : Book) (ledger : Ledger) (u t : ℕ) (p : Parts) (ranges : IsBoo
 
   whole : IsAccount (joined left a)
   whole = record {
-    book = ranges;
+    shelf = ranges;
     sound = sound;
     below = subst (IsBelow p.live.next_bucket) (sym merged_is)
         (subst (λ (n : ℕ). IsBelow n w.buckets) (λ i. (sym head_is i).next_bucket) whole_w.below);
@@ -294,13 +292,14 @@ module _ (book : Book) (ledger : Ledger) (u t : ℕ) (p : Parts) (ranges : IsBoo
   rows : IsRowsOf ledger (joined left a)
   rows = record {
     barred = (λ i. (head_is i).barred) ∙ are.rows.barred;
-    buckets = merged_is ∙ are.rows.buckets ∙ (λ i. buckets_at book.validity (sym as_of i) ledger);
+    buckets = merged_is ∙ are.rows.buckets
+        ∙ (λ i. buckets_at (validity_of shelf) (sym as_of i) ledger);
     sessions = λ s. are.are.sessions s ∙ are.rows.sessions s
-        ∙ (λ i. session_at book.validity (sym as_of i) ledger s);
+        ∙ (λ i. session_at (validity_of shelf) (sym as_of i) ledger s);
     groups = λ s g. group_same s g (merged left.buckets a.buckets)
         (left.groups ++ a.groups) w.groups whole.order in_order (are.are.groups s g)
         (are.are.holds s g) ∙ are.rows.groups s g
-        ∙ (λ i. group_at book.validity (sym as_of i) ledger s g);
+        ∙ (λ i. group_at (validity_of shelf) (sym as_of i) ledger s g);
     counters = λ g c. are.are.counters g c ∙ are.rows.counters g c;
     next_bucket = (λ i. (head_is i).next_bucket) ∙ are.rows.next_bucket;
     next_charge = (λ i. (head_is i).next_charge) ∙ are.rows.next_charge;
@@ -313,11 +312,11 @@ module _ (book : Book) (ledger : Ledger) (u t : ℕ) (p : Parts) (ranges : IsBoo
   whole_later : IsAccount (joined left (advanced t a))
   whole_later = subst IsAccount same (IsAccount-advanced (joined left a) t whole)
 
-  pub swept_parts : AreRowsAt book ledger t (rows_of (advanced_parts book t p))
+  pub swept_parts : AreRowsAt shelf ledger t (rows_of (advanced_parts shelf t p))
   swept_parts = record {
     listed = stored (joined left (advanced t a));
-    are = listed_in_order (advanced_parts book t p) book
-        (parts_advanced book t p h) whole_later.sound.distinct;
+    are = listed_in_order (advanced_parts shelf t p) shelf
+        (parts_advanced shelf t p h) whole_later.sound.distinct;
     kept = IsStored-stored (joined left (advanced t a)) whole_later;
     moment = refl;
     rows = subst (IsRowsOf ledger) same

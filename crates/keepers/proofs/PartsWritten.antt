@@ -1,5 +1,5 @@
 -- What the keeper in memory has after a commit: the change's rows over those that were there.
-use Rattle.std.proofs.Common.{◌≡◌, ℕ, Bool, true, List, [], ◌++◌, refl, sym, ap, ◌∙◌, Option}
+use Rattle.std.proofs.Common.{◌≡◌, ℕ, Bool, true, List, ◌++◌, refl, sym, ap, ◌∙◌, Option}
 use Rattle.std.proofs.Common.{Some, None}
 use Rattle.std.specs.Prelude.{if◌then◌else◌, ◌==◌, ◌&&◌, not, filter, is_some, option_map}
 use Rattle.std.specs.List.{find}
@@ -14,7 +14,7 @@ use Rattle.reserving.specs.Sessions.{counter_in}
 use Rattle.reserving.specs.Rows.{AreApart}
 use Rattle.reserving.specs.Stored.{StoredRows, IsStored}
 use Rattle.reserving.specs.Left.{is_dead, IsDead, only, first_of, bucket_in, none_left}
-use Rattle.reserving.proofs.Lists.{no_some, find-passes}
+use Rattle.reserving.proofs.Lists.{find-passes}
 use Rattle.reserving.proofs.Holds.{same_from}
 use Rattle.reserving.proofs.Keys.{first_true, second_true, same_number, both_true}
 use Rattle.reserving.proofs.LeftTests.{find_filter}
@@ -26,7 +26,7 @@ use Rattle.keepers.specs.Parts.{Parts, AreParts, rows_of, leaves_bucket, leaves_
 use Rattle.keepers.specs.Parts.{leaves_session, leaves_group, with_live}
 use Rattle.keepers.specs.Keyed.{same_bucket, same_session, same_group, same_counter}
 use Rattle.keepers.proofs.Found.{told_by_one, one_bucket}
-use Rattle.keepers.proofs.GroupRows.{no_periods, row_over, held_over_is}
+use Rattle.keepers.proofs.GroupRows.{no_terms, row_over, held_over_is}
 use Rattle.keepers.proofs.PartsKept.{parts_replaced}
 
 same_left : {A : Type 0} (p : A → Bool) (o l : Option A) → l ≡ only p o →
@@ -106,7 +106,7 @@ module _ (before w : StoredRows) (p : Parts) (h : AreParts p) (live : IsStored p
       both_true (not (is_some y.reservation))
       (not (is_some (session_in y.session w.sessions)) && not
       (is_some (group_in y.session y.group w.groups)))
-      (none_not y.reservation (no_periods y.reservation free.0))
+      (none_not y.reservation (no_terms y.reservation free.0))
       (both_true (not (is_some (session_in y.session w.sessions)))
       (not (is_some (group_in y.session y.group w.groups)))
       (none_not (session_in y.session w.sessions) (ap (λ m. session_in m w.sessions) name ∙ free.1))

@@ -4,7 +4,7 @@ use Rattle.std.proofs.Common.{◌≡◌, ℕ, suc, ◌+◌, ◌<◌, Bool, true,
 use Rattle.std.proofs.Common.{length, length-set, get_or, set, refl, sym, ap, ◌∙◌, arith, Option}
 use Rattle.std.proofs.Common.{Some, None, Bor}
 use Rattle.std.specs.Prelude.{if◌then◌else◌, ◌==◌, nat_lt, is_some, position, Result, Ok, Err}
-use Rattle.std.specs.Prelude.{OnErr, OnOk}
+use Rattle.std.specs.Prelude.{OnErr}
 use Rattle.std.specs.List.{find, position_or_len, position_from}
 use Rattle.std.specs.Option.{option_copied, IsSome, IfSome}
 use Rattle.std.proofs.lemmas.List.Folds.{position_or_len-set}

@@ -2,14 +2,14 @@
 use Rattle.std.proofs.Common.{◌≡◌, ℕ, Bool, true, false, List, refl, sym, ap, subst, ◌∙◌}
 use Rattle.std.proofs.Common.{Option, Some, None}
 use Rattle.std.specs.Prelude.{if◌then◌else◌, ◌==◌, ◌||◌, not, is_some, option_map, filter}
-use Rattle.tariffs.specs.Books.{Book}
+use Rattle.shelves.specs.Shelves.{Shelf}
 use Rattle.buckets.proofs.Filtered.{sound_filter}
 use Rattle.reserving.specs.declared.session.Session.{Session}
 use Rattle.reserving.specs.declared.session.SessionGroup.{SessionGroup}
 use Rattle.reserving.specs.declared.session.Reservation.{Reservation}
 use Rattle.reserving.specs.Ledger.{Ledger, last_recording}
 use Rattle.reserving.specs.Ledger.{has_group}
-use Rattle.reserving.specs.Pricing.{cycle_at}
+use Rattle.reserving.specs.Pricing.{cycle_at, validity_of}
 use Rattle.reserving.specs.Sessions.{is_open, session_in, group_in}
 use Rattle.reserving.specs.Sessions.{reservation_at}
 use Rattle.reserving.specs.Rows.{AccountRows, AreInOrderOf, IsAccount, IsRowsOf}
@@ -31,16 +31,16 @@ use Rattle.keepers.proofs.GroupRows.{no_row, group_same}
 
 module _ (ledger : Ledger) (w : AccountRows) (rows : IsRowsOf ledger w) where
   row_free : (s : List ℕ) (g : ℕ) (t : Bool) →
-      reservation_at w.book.validity w.as_of ledger s g ≡ None →
+      reservation_at (validity_of w.shelf) w.as_of ledger s g ≡ None →
       has_reservation (option_map group_row
       (if t then Some (record {
         session = s;
         group = g;
         used = Rattle.reserving.specs.Ledger.used s g ledger;
-        reservation = reservation_at w.book.validity w.as_of ledger s g;
+        reservation = reservation_at (validity_of w.shelf) w.as_of ledger s g;
       }) else None)) ≡ false
   row_free s g true e = ap (λ (o : Option Reservation). is_some
-      (option_map (λ (x : Reservation). x.periods) o)) e
+      (option_map (λ (x : Reservation). x.terms) o)) e
   row_free s g false e = refl
 
   pub ended_free : (s : List ℕ) (g : ℕ) → is_open_row (session_in s w.sessions) ≡ false →
@@ -53,17 +53,17 @@ module _ (ledger : Ledger) (w : AccountRows) (rows : IsRowsOf ledger w) where
 
 -- ---- what is loaded is a part
 
-module _ (book : Book) (ledger : Ledger) (u t : ℕ) (r : Rows) (a : AccountRows)
-    (h : AreRowsAt book ledger u r) (own : IsAccount a) (loads : IsLoadedFrom book t r a) where
+module _ (shelf : Shelf) (ledger : Ledger) (u t : ℕ) (r : Rows) (a : AccountRows)
+    (h : AreRowsAt shelf ledger u r) (own : IsAccount a) (loads : IsLoadedFrom shelf t r a) where
   abbrev w : AccountRows
-  w = priced book h.listed
+  w = priced shelf h.listed
 
   head_is : head_of (stored a) ≡ head_of h.listed
   head_is = some_of (head_of (stored a)) (head_of h.listed) (sym loads.head ∙ h.are.head)
 
   pub whole : IsAccount w
-  whole = IsAccount-priced book h.listed
-      (subst Rattle.tariffs.specs.Books.IsBook loads.priced_by own.book) h.kept
+  whole = IsAccount-priced shelf h.listed
+      (subst Rattle.shelves.specs.Shelves.IsShelf loads.priced_by own.shelf) h.kept
 
   either_way : (o p : Bool) (x : Option SessionGroup) → p ≡ false → (if o || p then x else None) ≡
       (if o then x else None)
@@ -100,7 +100,7 @@ module _ (book : Book) (ledger : Ledger) (u t : ℕ) (r : Rows) (a : AccountRows
 
   pub part : IsPartOf t w a
   part = record {
-    book = loads.priced_by;
+    shelf = loads.priced_by;
     as_of = λ i. (head_is i).as_of;
     barred = λ i. (head_is i).barred;
     next_bucket = λ i. (head_is i).next_bucket;
@@ -114,7 +114,7 @@ module _ (book : Book) (ledger : Ledger) (u t : ℕ) (r : Rows) (a : AccountRows
         then group_in s g w.groups else None)
         ∙ by_open s g (is_open_row (session_in s w.sessions)) refl;
     counters = λ g c. loads.counters g c
-        ∙ ap (λ o. if c == cycle_at book g t then o else None) (h.are.counters g c);
+        ∙ ap (λ o. if c == cycle_at shelf g t then o else None) (h.are.counters g c);
   }
 
   pub taken : IsWith ledger (left_of t w) t a

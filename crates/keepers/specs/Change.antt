@@ -1,10 +1,10 @@
 -- What a keeper loads of an account, and what a commit and a sweep leave.
 -- Source: profile.
-use Rattle.std.specs.Prelude.{◌≡◌, ℕ, ◌+◌, ◌++◌, ◌==◌, ◌≤◌, ◌||◌, Bool, true, false, not, Option}
+use Rattle.std.specs.Prelude.{◌≡◌, ℕ, ◌+◌, ◌==◌, ◌≤◌, ◌||◌, Bool, false, not, Option}
 use Rattle.std.specs.Prelude.{Some, None, List, is_some, option_map, if◌then◌else◌}
 use Rattle.identifiers.specs.Texts.{same_name}
 use Rattle.buckets.specs.Row.{Row}
-use Rattle.tariffs.specs.Books.{Book}
+use Rattle.shelves.specs.Shelves.{Shelf}
 use Rattle.reserving.specs.declared.session.Session.{Session}
 use Rattle.reserving.specs.declared.session.SessionGroup.{SessionGroup}
 use Rattle.reserving.specs.declared.session.Counter.{Counter}
@@ -24,14 +24,14 @@ use Rattle.keepers.specs.declared.loaded.Loaded.{Loaded}
 use Rattle.keepers.specs.declared.loaded.Change.{Change}
 use Rattle.keepers.specs.declared.loaded.Redeemed.{Redeemed}
 use Rattle.keepers.specs.Keyed.{same_bucket}
-use Rattle.keepers.specs.Tables.{Head, Rows, Tables, GroupRow, no_rows, head_of, group_row, held_of}
+use Rattle.keepers.specs.Tables.{Rows, Tables, GroupRow, head_of, group_row, held_of}
 use Rattle.keepers.specs.Tables.{AreListed, charge_in}
 
 -- ---- load
 
 abbrev pub has_reservation : Option GroupRow → Bool
 has_reservation None = false
-has_reservation (Some r) = is_some r.periods
+has_reservation (Some r) = is_some r.terms
 
 -- a group's row and what is held there are loaded
 abbrev pub is_loaded : Rows → List ℕ → ℕ → Bool
@@ -40,8 +40,8 @@ is_loaded r s g = is_open_row (r.sessions s) || has_reservation (r.groups s g)
 -- the account is what may still change at the moment: the buckets that aren't dead, the open
 -- sessions, what they have of groups and whatever holds a reservation, and the counters of the
 -- cycles at the moment
-pub record IsLoadedFrom (book : Book) (t : ℕ) (r : Rows) (a : AccountRows) : Type 0 where
-  pub priced_by : a.book ≡ book
+pub record IsLoadedFrom (shelf : Shelf) (t : ℕ) (r : Rows) (a : AccountRows) : Type 0 where
+  pub priced_by : a.shelf ≡ shelf
   pub head : r.head ≡ Some (head_of (stored a))
   pub buckets : (n : ℕ) → bucket_in n a.buckets ≡ only (λ b. not (is_dead b)) (r.buckets n)
   pub sessions : (s : List ℕ) → session_in s a.sessions ≡ only (λ x. is_open x.state) (r.sessions s)
@@ -50,17 +50,17 @@ pub record IsLoadedFrom (book : Book) (t : ℕ) (r : Rows) (a : AccountRows) : T
   pub holds : (s : List ℕ) (g n : ℕ) → held_of n (group_in s g a.groups) ≡
       (if is_loaded r s g then r.holds s g n else 0)
   pub counters : (g c : ℕ) → counter_in g c a.counters ≡
-      (if c == cycle_at book g t then r.counters g c else None)
+      (if c == cycle_at shelf g t then r.counters g c else None)
 
-abbrev pub IsLoad : Book → ℕ → List ℕ → Rows → Option Loaded → Type 0
-IsLoad book t n r None = r.head ≡ None
-IsLoad book t n r (Some l) = (l.number ≡ n) × IsLoadedFrom book t r l.account
+abbrev pub IsLoad : Shelf → ℕ → List ℕ → Rows → Option Loaded → Type 0
+IsLoad shelf t n r None = r.head ≡ None
+IsLoad shelf t n r (Some l) = (l.number ≡ n) × IsLoadedFrom shelf t r l.account
     × (l.before ≡ stored l.account)
 
 -- the same without a copy of what was loaded
-abbrev pub IsView : Book → ℕ → Rows → Option AccountRows → Type 0
-IsView book t r None = r.head ≡ None
-IsView book t r (Some a) = IsLoadedFrom book t r a
+abbrev pub IsView : Shelf → ℕ → Rows → Option AccountRows → Type 0
+IsView shelf t r None = r.head ≡ None
+IsView shelf t r (Some a) = IsLoadedFrom shelf t r a
 
 -- the buckets that can't be used any more, each once
 pub record AreDeadOf (r : Rows) (rows : List Row) : Type 0 where
@@ -124,7 +124,7 @@ pub record IsMadeFrom (before after : StoredRows) (r : Rows) : Type 0 where
   pub ended : (s : List ℕ) (x : Session) → r.sessions s ≡ Some x →
       session_in s after.sessions ≡ None → is_open x.state ≡ false
   pub free : (s : List ℕ) (g : ℕ) (x : GroupRow) → r.groups s g ≡ Some x →
-      group_in s g after.groups ≡ None → (x.periods ≡ None) × (session_in s after.sessions ≡ None)
+      group_in s g after.groups ≡ None → (x.terms ≡ None) × (session_in s after.sessions ≡ None)
 
 -- ---- a voucher that is added
 
@@ -142,18 +142,19 @@ with_voucher code terms moment tables = record {
 -- ---- a sweep
 
 -- from each ledger whose rows the account has at a moment, its rows at the later one
-pub record AreRowsAt (book : Book) (ledger : Ledger) (t : ℕ) (r : Rows) : Type 0 where
+pub record AreRowsAt (shelf : Shelf) (ledger : Ledger) (t : ℕ) (r : Rows) : Type 0 where
   pub listed : StoredRows
   pub are : AreListed listed r
   pub kept : IsStored listed
   pub moment : listed.as_of ≡ t
-  pub rows : IsRowsOf ledger (priced book listed)
+  pub rows : IsRowsOf ledger (priced shelf listed)
 
-pub record IsSwept (book : Book) (t : ℕ) (old new : Tables) : Type 0 where
+pub record IsSwept (shelf : Shelf) (t : ℕ) (old new : Tables) : Type 0 where
   pub last : new.last ≡ t
   pub none : (a : List ℕ) → (old.rows a).head ≡ None → new.rows a ≡ old.rows a
-  pub rows : (a : List ℕ) (ledger : Ledger) (u : ℕ) → u ≤ t → AreRowsAt book ledger u (old.rows a) →
-      AreRowsAt book ledger t (new.rows a)
+  pub rows : (a : List ℕ) (ledger : Ledger) (u : ℕ) → u ≤ t →
+      AreRowsAt shelf ledger u (old.rows a) →
+      AreRowsAt shelf ledger t (new.rows a)
   pub answers : (a : List ℕ) (k : Key) → new.answers a k ≡ old.answers a k
   pub charges : (a : List ℕ) (n : ℕ) → new.charges a n ≡ old.charges a n
   pub vouchers : (code : List ℕ) → new.vouchers code ≡ old.vouchers code

@@ -1,11 +1,12 @@
 -- Rows that differ from those before: a change is told by them alone.
 -- Source: profile.
-use Rattle.std.specs.Prelude.{◌≡◌, ℕ, ◌==◌, ◌&&◌, Bool, true, false, List, [], ◌∷◌, Option, Some}
+use Rattle.std.specs.Prelude.{◌≡◌, ℕ, ◌==◌, ◌&&◌, Bool, true, false, List, Option, Some}
 use Rattle.std.specs.Prelude.{None, option_map}
 use Rattle.std.specs.Cmp.Lexicographic.{pointwise}
 use Rattle.buckets.specs.declared.holds.Hold.{Hold}
 use Rattle.buckets.specs.Row.{Row}
 use Rattle.rating.specs.declared.grant.Periods.{Periods}
+use Rattle.reserving.specs.declared.session.Terms.{Terms}
 use Rattle.reserving.specs.declared.session.Session.{Session}
 use Rattle.reserving.specs.declared.session.SessionState.{SessionState}
 use Rattle.reserving.specs.declared.session.SessionState.TheVariants.{Open, Ended, NeverOpened}
@@ -13,7 +14,7 @@ use Rattle.reserving.specs.declared.session.SessionGroup.{SessionGroup}
 use Rattle.reserving.specs.declared.session.Reservation.{Reservation}
 use Rattle.reserving.specs.declared.session.Counter.{Counter}
 use Rattle.reserving.specs.Ledger.{is_same}
-use Rattle.reserving.specs.Sessions.{is_session, is_of, is_counter, session_in, group_in}
+use Rattle.reserving.specs.Sessions.{session_in, group_in}
 use Rattle.reserving.specs.Sessions.{counter_in}
 use Rattle.reserving.specs.Rows.{AreApart}
 use Rattle.reserving.specs.Left.{bucket_in, differing, first_of}
@@ -51,13 +52,16 @@ equal_session x y = is_same x.id y.id &&
 abbrev pub equal_periods : Periods → Periods → Bool
 equal_periods x y = x.before.0 == y.before.0 && x.after.0 == y.after.0
 
+abbrev pub equal_terms : Terms → Terms → Bool
+equal_terms x y = x.book == y.book && equal_periods x.periods y.periods
+
 abbrev pub equal_hold : Hold → Hold → Bool
 equal_hold x y = x.bucket == y.bucket && x.amount == y.amount
 
 abbrev pub equal_reservation : Option Reservation → Option Reservation → Bool
 equal_reservation None None = true
 equal_reservation (Some x) (Some y) =
-    equal_periods x.periods y.periods && pointwise equal_hold x.holds y.holds
+    equal_terms x.terms y.terms && pointwise equal_hold x.holds y.holds
 equal_reservation x y = false
 
 abbrev pub equal_group : SessionGroup → SessionGroup → Bool

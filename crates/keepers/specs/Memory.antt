@@ -1,13 +1,13 @@
 -- What the keeper in memory holds.
 -- Source: profile.
 use Rattle.std.specs.Prelude.{◌≡◌, ◌≤◌, ◌+◌, ◌++◌, ℕ, Bool, List, [], ◌∷◌, length, Option, Some}
-use Rattle.std.specs.Prelude.{None, is_some, option_map, position, if◌then◌else◌}
+use Rattle.std.specs.Prelude.{None, is_some, position, if◌then◌else◌}
 use Rattle.std.specs.List.{find}
 use Rattle.std.specs.HashMap.{HashMap, get}
 use Rattle.std.specs.declared.hash.FoldHasher.{FoldHasher}
 use Rattle.std.specs.declared.hash.BuildHasherDefault.{BuildHasherDefault}
 use Rattle.identifiers.specs.Texts.{same_name}
-use Rattle.tariffs.specs.Books.{Book}
+use Rattle.shelves.specs.Shelves.{Shelf}
 use Rattle.reserving.specs.declared.charge.ChargeRow.{ChargeRow}
 use Rattle.reserving.specs.declared.session.Session.{Session}
 use Rattle.redemptions.specs.declared.voucher.Voucher.{Voucher}
@@ -80,17 +80,17 @@ pub record AreUnchanged (old new : List Entry) : Type 0 where
 -- ---- a sweep
 
 -- an account as a sweep leaves it
-pub record IsSweptEntry (book : Book) (t : ℕ) (old new : Entry) : Type 0 where
+pub record IsSweptEntry (shelf : Shelf) (t : ℕ) (old new : Entry) : Type 0 where
   pub number : new.number ≡ old.number
-  pub rows : (ledger : Ledger) (u : ℕ) → u ≤ t → AreRowsAt book ledger u (rows_of old.rows) →
-      AreRowsAt book ledger t (rows_of new.rows)
+  pub rows : (ledger : Ledger) (u : ℕ) → u ≤ t → AreRowsAt shelf ledger u (rows_of old.rows) →
+      AreRowsAt shelf ledger t (rows_of new.rows)
   pub charges : new.charges ≡ old.charges
   pub answers : new.answers ≡ old.answers
 
-abbrev pub AreSwept : Book → ℕ → List Entry → List Entry → Type 0
-AreSwept book t [] [] = Unit {0}
-AreSwept book t (x ∷ xs) (y ∷ ys) = IsSweptEntry book t x y × AreSwept book t xs ys
-AreSwept book t xs ys = ⊥
+abbrev pub AreSwept : Shelf → ℕ → List Entry → List Entry → Type 0
+AreSwept shelf t [] [] = Unit {0}
+AreSwept shelf t (x ∷ xs) (y ∷ ys) = IsSweptEntry shelf t x y × AreSwept shelf t xs ys
+AreSwept shelf t xs ys = ⊥
 
 -- vouchers under their codes
 abbrev pub VoucherMap : Type 0

@@ -8,7 +8,7 @@ use Rattle.buckets.specs.Row.{Row}
 use Rattle.calendar.specs.declared.cycle.Cycle.{Cycle}
 use Rattle.calendar.specs.declared.cycle.Cycle.TheVariants as Each
 use Rattle.calendar.specs.Timetable.{cycle_of}
-use Rattle.tariffs.specs.Books.{Book}
+use Rattle.shelves.specs.Shelves.{Shelf, book_at}
 use Rattle.identifiers.specs.Texts.{same_name}
 use Rattle.reserving.specs.declared.session.Session.{Session}
 use Rattle.reserving.specs.declared.session.SessionGroup.{SessionGroup}
@@ -48,10 +48,11 @@ abbrev pub AreLeftCounters : Numbers → List Counter → Type 0
 AreLeftCounters cycles rows = EachIn (λ c. is_numbered cycles c.cycle ≡ true) rows
 
 -- one that was left may be of a cycle at the moment: of none, of the day, or of the month
-abbrev pub is_left_now : Book → ℕ → Numbers → Cycle → Bool
-is_left_now book t cycles cycle = is_numbered cycles (cycle_of book.calendar.zone cycle t)
+abbrev pub is_left_now : Shelf → ℕ → Numbers → Cycle → Bool
+is_left_now shelf t cycles cycle = is_numbered cycles
+    (cycle_of (book_at shelf t).calendar.zone cycle t)
 
-abbrev pub may_go_on : Book → ℕ → Numbers → Bool
-may_go_on book t cycles =
-    (is_left_now book t cycles Each.None || is_left_now book t cycles Each.Day)
-    || is_left_now book t cycles Each.Month
+abbrev pub may_go_on : Shelf → ℕ → Numbers → Bool
+may_go_on shelf t cycles =
+    (is_left_now shelf t cycles Each.None || is_left_now shelf t cycles Each.Day)
+    || is_left_now shelf t cycles Each.Month

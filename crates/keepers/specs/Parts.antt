@@ -1,19 +1,18 @@
 -- An account as the keeper in memory has it: what was live after its last command, and the rows
 -- that were left.
 -- Source: profile.
-use Rattle.std.specs.Prelude.{◌≡◌, ℕ, ◌==◌, ◌&&◌, ◌++◌, ◌≤◌, Bool, true, false, not, List, []}
-use Rattle.std.specs.Prelude.{Option, Some, None, is_some, option_map, filter}
+use Rattle.std.specs.Prelude.{◌≡◌, ℕ, ◌&&◌, ◌++◌, ◌≤◌, Bool, true, false, not}
+use Rattle.std.specs.Prelude.{Some, is_some, option_map, filter}
 use Rattle.buckets.specs.Row.{Row, IsBalanced}
-use Rattle.buckets.specs.Spend.{Each}
-use Rattle.tariffs.specs.Books.{Book}
+use Rattle.shelves.specs.Shelves.{Shelf}
 use Rattle.reserving.specs.declared.session.Session.{Session}
 use Rattle.reserving.specs.declared.session.SessionGroup.{SessionGroup}
 use Rattle.reserving.specs.declared.session.Counter.{Counter}
-use Rattle.reserving.specs.Sessions.{is_session, is_of, is_counter, is_open, session_in, group_in}
+use Rattle.reserving.specs.Sessions.{is_open, session_in, group_in}
 use Rattle.reserving.specs.Sessions.{counter_in}
 use Rattle.reserving.specs.Rows.{EachIn, AreApart}
 use Rattle.reserving.specs.Stored.{StoredRows, advanced_stored}
-use Rattle.reserving.specs.Left.{LeftRows, IsDead, is_dead, bucket_in}
+use Rattle.reserving.specs.Left.{LeftRows, is_dead, bucket_in}
 use Rattle.keepers.specs.Tables.{Rows, head_of, group_row, held_of}
 use Rattle.keepers.specs.Keyed.{same_bucket, same_session, same_group, same_counter}
 
@@ -73,5 +72,5 @@ left_after w p = record {
 abbrev pub with_live : StoredRows → Parts → Parts
 with_live w p = record { live = w; left = left_after w p }
 
-abbrev pub advanced_parts : Book → ℕ → Parts → Parts
-advanced_parts book t p = record { live = advanced_stored book t p.live; left = p.left }
+abbrev pub advanced_parts : Shelf → ℕ → Parts → Parts
+advanced_parts shelf t p = record { live = advanced_stored shelf t p.live; left = p.left }

@@ -1,11 +1,11 @@
 -- What a keeper holds, each row under its key.
 -- Source: profile.
-use Rattle.std.specs.Prelude.{◌≡◌, ℕ, ◌==◌, Bool, List, [], Option, Some, None, option_map, sum_by}
+use Rattle.std.specs.Prelude.{◌≡◌, ℕ, ◌==◌, Bool, List, Option, Some, None, option_map, sum_by}
 use Rattle.std.specs.Prelude.{if◌then◌else◌}
 use Rattle.std.specs.List.{find}
 use Rattle.buckets.specs.declared.holds.Hold.{Hold}
 use Rattle.buckets.specs.Row.{Row}
-use Rattle.rating.specs.declared.grant.Periods.{Periods}
+use Rattle.reserving.specs.declared.session.Terms.{Terms}
 use Rattle.reserving.specs.declared.charge.ChargeRow.{ChargeRow}
 use Rattle.reserving.specs.declared.session.Session.{Session}
 use Rattle.reserving.specs.declared.session.SessionGroup.{SessionGroup}
@@ -24,10 +24,10 @@ pub record Head : Type 0 where
   pub next_bucket : ℕ
   pub next_charge : ℕ
 
--- what a session has of a group: its use, and the periods of its reservation where it has one
+-- what a session has of a group: its use, and the terms of its reservation where it has one
 pub record GroupRow : Type 0 where
   pub used : ℕ
-  pub periods : Option Periods
+  pub terms : Option Terms
 
 -- an account's rows: a bucket by its number, a counter by group and cycle, a session by its name,
 -- what it has of a group by name and group, and what its reservation there holds of a bucket by the
@@ -90,7 +90,7 @@ head_of w = record {
 }
 
 abbrev pub group_row : SessionGroup → GroupRow
-group_row r = record { used = r.used; periods = option_map (λ x. x.periods) r.reservation }
+group_row r = record { used = r.used; terms = option_map (λ x. x.terms) r.reservation }
 
 abbrev pub held_at : ℕ → List Hold → ℕ
 held_at n holds = sum_by (λ h. if h.bucket == n then h.amount else 0) holds

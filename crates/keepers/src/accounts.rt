@@ -8,9 +8,9 @@ use crate::entries::{Entry, advance_entries, place_of, put_entry};
 use crate::key::KeptAnswer;
 use identifiers::AccountNumber;
 use reserving::{ChargeRow, StoredAccount};
+use shelves::TariffShelf;
 use std::alloc::{AllocError, Global};
 use std::collections::HashMap;
-use tariffs::TariffBook;
 use units::Moment;
 
 /// Accounts in the order in which they were opened, and the place of each number among them.
@@ -70,10 +70,10 @@ impl Accounts {
     }
 
     /// Brings each account to the moment.
-    pub(crate) fn advance(&mut self, book: &TariffBook, moment: Moment)
-        ensures { AreSwept book.now moment self.old.entries.items self.new.entries.items }
+    pub(crate) fn advance(&mut self, shelf: &TariffShelf, moment: Moment)
+        ensures { AreSwept shelf.now moment self.old.entries.items self.new.entries.items }
     {
-        advance_entries(&mut self.entries, book, moment);
+        advance_entries(&mut self.entries, shelf, moment);
     }
 
     /// How many accounts there are.

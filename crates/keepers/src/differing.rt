@@ -7,11 +7,12 @@ ghost use Rattle.std.specs.Cmp.Lexicographic.{pointwise};
 ghost use Rattle.keepers.specs.Keyed.{same_bucket, same_counter, same_session, same_group};
 ghost use Rattle.keepers.specs.Differing.{same_scope, equal_bucket, equal_counter, same_state};
 ghost use Rattle.keepers.specs.Differing.{equal_session, equal_hold, equal_periods};
+ghost use Rattle.keepers.specs.Differing.{equal_terms};
 ghost use Rattle.keepers.specs.Differing.{equal_reservation, equal_group};
 
 use buckets::{Bucket, Hold};
 use rating::Periods;
-use reserving::{Counter, Reservation, Session, SessionGroup, SessionState, StoredAccount};
+use reserving::{Counter, Reservation, Session, SessionGroup, SessionState, StoredAccount, Terms};
 
 /// Whether a bucket's row differs from all before, from this place on.
 pub fn is_new_bucket(before: &StoredAccount, cursor: &mut usize, row: &Bucket) -> bool
@@ -207,6 +208,12 @@ fn equal_periods(x: &Periods, y: &Periods) -> bool
     x.before == y.before && x.after == y.after
 }
 
+fn equal_terms(x: &Terms, y: &Terms) -> bool
+    ensures { result ≡ equal_terms x.now y.now }
+{
+    x.book == y.book && equal_periods(&x.periods, &y.periods)
+}
+
 fn equal_holds(x: &[Hold], y: &[Hold]) -> bool
     ensures { result ≡ pointwise equal_hold x.now y.now }
 {
@@ -219,8 +226,7 @@ fn equal_reservation(x: &Option<Reservation>, y: &Option<Reservation>) -> bool
     match (x, y) {
         (None, None) => true,
         (Some(x), Some(y)) => {
-            equal_periods(&x.periods, &y.periods)
-                && equal_holds(x.holds.as_slice(), y.holds.as_slice())
+            equal_terms(&x.terms, &y.terms) && equal_holds(x.holds.as_slice(), y.holds.as_slice())
         }
         _ => false,
     }

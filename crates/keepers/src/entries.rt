@@ -24,9 +24,9 @@ use crate::whole::WholeAccount;
 use buckets::Bucket;
 use identifiers::{AccountNumber, SessionId};
 use reserving::{Account, ChargeRow, LoadFault, StoredAccount};
+use shelves::TariffShelf;
 use std::alloc::{AllocError, Global};
 use std::collections::HashMap;
-use tariffs::TariffBook;
 use units::Moment;
 
 /// An account as it is kept in memory.
@@ -41,33 +41,33 @@ pub(crate) struct Entry {
 /// What may still change of the account of this number.
 pub(crate) fn view_entry<'b>(
     accounts: &Accounts,
-    book: &'b TariffBook,
+    shelf: &'b TariffShelf,
     number: &AccountNumber,
     moment: Moment,
 ) -> Result<Option<Account<'b>>, LoadFault>
     ensures { IfOk result (λ found.
-        IsView book.now moment (rows_of_entry (entry_in number.now accounts.now.entries.items))
+        IsView shelf.now moment (rows_of_entry (entry_in number.now accounts.now.entries.items))
         found) }
 {
     let Some(entry) = accounts.find(number) else {
         return Ok(None);
     };
-    let account = entry.rows.load(book, moment)?;
+    let account = entry.rows.load(shelf, moment)?;
     Ok(Some(account))
 }
 
 /// What may still change of the account of this number, with a copy of it.
 pub(crate) fn load_entry<'b>(
     accounts: &Accounts,
-    book: &'b TariffBook,
+    shelf: &'b TariffShelf,
     number: &AccountNumber,
     moment: Moment,
 ) -> Result<Option<Loaded<'b>>, LoadFault>
     ensures { IfOk result (λ found.
-        IsLoad book.now moment number.now
+        IsLoad shelf.now moment number.now
         (rows_of_entry (entry_in number.now accounts.now.entries.items)) found) }
 {
-    let Some(account) = view_entry(accounts, book, number, moment)? else {
+    let Some(account) = view_entry(accounts, shelf, number, moment)? else {
         return Ok(None);
     };
     let number = number.clone()?;
@@ -301,17 +301,17 @@ pub(crate) fn charges_in<'e>(accounts: &'e Accounts, number: &AccountNumber) -> 
 }
 
 /// Brings each account to the moment.
-pub(crate) fn advance_entries(entries: &mut Vec<Entry>, book: &TariffBook, moment: Moment)
-    ensures rows { AreSwept book.now moment entries.old.items entries.new.items }
+pub(crate) fn advance_entries(entries: &mut Vec<Entry>, shelf: &TariffShelf, moment: Moment)
+    ensures rows { AreSwept shelf.now moment entries.old.items entries.new.items }
 {
     for entry in entries.iter_mut() {
-        advance_entry(entry, book, moment);
+        advance_entry(entry, shelf, moment);
     }
 }
 
 /// Brings an account to the moment.
-fn advance_entry(entry: &mut Entry, book: &TariffBook, moment: Moment)
-    ensures { IsSweptEntry book.now moment entry.old entry.new }
+fn advance_entry(entry: &mut Entry, shelf: &TariffShelf, moment: Moment)
+    ensures { IsSweptEntry shelf.now moment entry.old entry.new }
 {
-    entry.rows.advance(book, moment);
+    entry.rows.advance(shelf, moment);
 }

@@ -8,7 +8,7 @@ use buckets::Bucket;
 use identifiers::{AccountNumber, SessionId, VoucherCode};
 use redemptions::{Voucher, VoucherTerms};
 use reserving::Account;
-use tariffs::TariffBook;
+use shelves::TariffShelf;
 use units::Moment;
 
 /// A keeper whose store fails once, for tests: the call after so many others answers store fault 2
@@ -99,26 +99,26 @@ impl<K: Keeper> Keeper for Failing<K> {
 
     fn load<'b>(
         &mut self,
-        book: &'b TariffBook,
+        shelf: &'b TariffShelf,
         account: &AccountNumber,
         moment: Moment,
     ) -> Result<Option<Loaded<'b>>, StoreFault> {
         if self.fails() {
             return Err(StoreFault::Store);
         }
-        self.inner.load(book, account, moment)
+        self.inner.load(shelf, account, moment)
     }
 
     fn view<'b>(
         &mut self,
-        book: &'b TariffBook,
+        shelf: &'b TariffShelf,
         account: &AccountNumber,
         moment: Moment,
     ) -> Result<Option<Account<'b>>, StoreFault> {
         if self.fails() {
             return Err(StoreFault::Store);
         }
-        self.inner.view(book, account, moment)
+        self.inner.view(shelf, account, moment)
     }
 
     fn has_account(&mut self, account: &AccountNumber) -> Result<bool, StoreFault> {
@@ -187,10 +187,10 @@ impl<K: Keeper> Keeper for Failing<K> {
         self.inner.abandon(loaded);
     }
 
-    fn sweep(&mut self, book: &TariffBook, moment: Moment) -> Result<u64, StoreFault> {
+    fn sweep(&mut self, shelf: &TariffShelf, moment: Moment) -> Result<u64, StoreFault> {
         if self.fails() {
             return Err(StoreFault::Store);
         }
-        self.inner.sweep(book, moment)
+        self.inner.sweep(shelf, moment)
     }
 }

@@ -12,7 +12,7 @@ use buckets::Bucket;
 use identifiers::{AccountNumber, SessionId, VoucherCode};
 use redemptions::{Voucher, VoucherTerms};
 use reserving::Account;
-use tariffs::TariffBook;
+use shelves::TariffShelf;
 use units::Moment;
 
 /// What keeps the rows of accounts, their charges, the kept answers and the vouchers.
@@ -39,28 +39,28 @@ pub trait Keeper {
         ensures { Reads content failed clean self.old self.new
             (λ t. t ≡ (content self.old).last) result };
 
-    /// What may still change of the account of this number at the moment, priced by the book; None
+    /// What may still change of the account of this number at the moment, priced by the shelf; None
     /// where there is no account.
     fn load<'b>(
         &mut self,
-        book: &'b TariffBook,
+        shelf: &'b TariffShelf,
         account: &AccountNumber,
         moment: Moment,
     ) -> Result<Option<Loaded<'b>>, StoreFault>
         ensures { Reads content failed clean self.old self.new
-            (λ found. IsLoad book.now moment account.now
+            (λ found. IsLoad shelf.now moment account.now
             ((content self.old).rows account.now) found) result };
 
     /// What may still change of the account of this number at the moment, to be read; None where
     /// there is no account.
     fn view<'b>(
         &mut self,
-        book: &'b TariffBook,
+        shelf: &'b TariffShelf,
         account: &AccountNumber,
         moment: Moment,
     ) -> Result<Option<Account<'b>>, StoreFault>
         ensures { Reads content failed clean self.old self.new
-            (λ found. IsView book.now moment ((content self.old).rows account.now) found) result };
+            (λ found. IsView shelf.now moment ((content self.old).rows account.now) found) result };
 
     /// Whether there is an account of this number.
     fn has_account(&mut self, account: &AccountNumber) -> Result<bool, StoreFault>
@@ -130,10 +130,10 @@ pub trait Keeper {
 
     /// Brings each account to the moment, in one transaction, and answers how many there are. At a
     /// fault nothing has changed.
-    fn sweep(&mut self, book: &TariffBook, moment: Moment) -> Result<u64, StoreFault>
+    fn sweep(&mut self, shelf: &TariffShelf, moment: Moment) -> Result<u64, StoreFault>
         ensures count { clean self.new → IfOk result (λ n. n ≡ (content self.old).count) }
         ensures done { clean self.new →
-            OnOk result (IsSwept book.now moment (content self.old) (content self.new)) }
+            OnOk result (IsSwept shelf.now moment (content self.old) (content self.new)) }
         ensures kept { Keeps content failed clean self.old self.new result };
 
     /// The count stays at the highest.

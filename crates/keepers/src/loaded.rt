@@ -12,7 +12,7 @@ use units::Moment;
 pub struct Loaded<'b> {
     /// Its number (Subscription-Id-Data, RFC 8506 section 8.48).
     pub number: AccountNumber,
-    /// Its rows that may still change, priced by the book that it was loaded with.
+    /// Its rows that may still change, priced by the shelf that it was loaded with.
     pub account: Account<'b>,
     /// The rows that may still change, as they were loaded.
     pub before: StoredAccount,

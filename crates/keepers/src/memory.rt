@@ -16,9 +16,9 @@ use buckets::Bucket;
 use identifiers::{AccountNumber, SessionId, VoucherCode};
 use redemptions::{Voucher, VoucherTerms};
 use reserving::{Account, ChargeRow, LoadFault};
+use shelves::TariffShelf;
 use std::alloc::{AllocError, Global};
 use std::collections::HashMap;
-use tariffs::TariffBook;
 use units::Moment;
 
 /// A keeper in memory. Its store never fails.
@@ -65,8 +65,8 @@ impl MemoryKeeper {
     }
 }
 
-/// What a load that failed is told as. Its store doesn't fail: rows that the book doesn't price
-/// aren't loaded, as if there were no room for them. A run has one book, so that it meets none.
+/// What a load that failed is told as. Its store doesn't fail: rows that the shelf doesn't price
+/// aren't loaded, as if there were no room for them. A run has one shelf, so that it meets none.
 fn refused(fault: LoadFault) -> StoreFault
     ensures { result ≡ StoreFault.Memory }
 {
@@ -98,11 +98,11 @@ impl Keeper for MemoryKeeper {
 
     fn load<'b>(
         &mut self,
-        book: &'b TariffBook,
+        shelf: &'b TariffShelf,
         account: &AccountNumber,
         moment: Moment,
     ) -> Result<Option<Loaded<'b>>, StoreFault> {
-        match load_entry(&self.accounts, book, account, moment) {
+        match load_entry(&self.accounts, shelf, account, moment) {
             Ok(found) => Ok(found),
             Err(fault) => Err(refused(fault)),
         }
@@ -110,11 +110,11 @@ impl Keeper for MemoryKeeper {
 
     fn view<'b>(
         &mut self,
-        book: &'b TariffBook,
+        shelf: &'b TariffShelf,
         account: &AccountNumber,
         moment: Moment,
     ) -> Result<Option<Account<'b>>, StoreFault> {
-        match view_entry(&self.accounts, book, account, moment) {
+        match view_entry(&self.accounts, shelf, account, moment) {
             Ok(found) => Ok(found),
             Err(fault) => Err(refused(fault)),
         }
@@ -180,8 +180,8 @@ impl Keeper for MemoryKeeper {
         Ok(())
     }
 
-    fn sweep(&mut self, book: &TariffBook, moment: Moment) -> Result<u64, StoreFault> {
-        self.accounts.advance(book, moment);
+    fn sweep(&mut self, shelf: &TariffShelf, moment: Moment) -> Result<u64, StoreFault> {
+        self.accounts.advance(shelf, moment);
         self.last = moment;
         Ok(self.accounts.count())
     }

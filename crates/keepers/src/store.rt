@@ -27,10 +27,10 @@ use buckets::Bucket;
 use calendar::Cycle;
 use identifiers::SessionId;
 use reserving::{Account, Counter, LoadFault, Session, SessionGroup, SessionState, StoredAccount};
+use shelves::TariffShelf;
 use std::alloc::{AllocError, Global};
 use std::collections::HashMap;
 use std::marker::Model;
-use tariffs::TariffBook;
 use units::Moment;
 
 /// Rows that can't change any more.
@@ -105,14 +105,15 @@ impl Store {
     /// A copy of what may still change at the moment.
     pub(crate) fn load<'b>(
         &self,
-        book: &'b TariffBook,
+        shelf: &'b TariffShelf,
         moment: Moment,
     ) -> Result<Account<'b>, LoadFault>
-        ensures { IfOk result (λ account. IsLoadedFrom book.now moment (rows_of self.now) account) }
+        ensures { IfOk result (λ account. IsLoadedFrom shelf.now moment
+            (rows_of self.now) account) }
     {
         let _kept = self.live.as_of();
-        let others = going_on(&self.known.cycles, &self.left.counters, book, moment);
-        self.live.load_at(book, moment, others)
+        let others = going_on(&self.known.cycles, &self.left.counters, shelf, moment);
+        self.live.load_at(shelf, moment, others)
     }
 
     /// A copy of the buckets that can't be used any more.
@@ -163,15 +164,15 @@ impl Store {
     }
 
     /// Brings the rows to a moment.
-    pub(crate) fn advance(&mut self, book: &TariffBook, moment: Moment)
-        ensures parts { self.new ≡ advanced_parts book.now moment self.old }
+    pub(crate) fn advance(&mut self, shelf: &TariffShelf, moment: Moment)
+        ensures parts { self.new ≡ advanced_parts shelf.now moment self.old }
         ensures rows { (ledger : Ledger) (u : ℕ) → u ≤ moment →
-            AreRowsAt book.now ledger u (rows_of self.old) →
-            AreRowsAt book.now ledger moment (rows_of self.new) }
+            AreRowsAt shelf.now ledger u (rows_of self.old) →
+            AreRowsAt shelf.now ledger moment (rows_of self.new) }
     {
         let _kept = self.live.as_of();
-        let _ranges = book.validity();
-        self.live.advance(book, moment);
+        let _ranges = shelf.first();
+        self.live.advance(shelf, moment);
     }
 }
 
@@ -238,19 +239,24 @@ fn dead_rows(left: &Vec<Bucket>, live: &StoredAccount) -> Result<Vec<Bucket>, Al
 // ---- counters that were left, and may be of a cycle at the moment
 
 /// Whether a counter that was left is of this cycle at the moment.
-fn is_left_now(cycles: &HashMap<u32, bool>, book: &TariffBook, cycle: Cycle, moment: Moment) -> bool
-    ensures { result ≡ is_left_now book.now moment cycles.now cycle }
+fn is_left_now(
+    cycles: &HashMap<u32, bool>,
+    shelf: &TariffShelf,
+    cycle: Cycle,
+    moment: Moment,
+) -> bool
+    ensures { result ≡ is_left_now shelf.now moment cycles.now cycle }
 {
-    cycles.contains_key(&book.cycle_of(cycle, moment))
+    cycles.contains_key(&shelf.book_at(moment).cycle_of(cycle, moment))
 }
 
 /// Whether a counter that was left may be of a cycle at the moment, whatever its group.
-fn may_go_on(cycles: &HashMap<u32, bool>, book: &TariffBook, moment: Moment) -> bool
-    ensures { result ≡ may_go_on book.now moment cycles.now }
+fn may_go_on(cycles: &HashMap<u32, bool>, shelf: &TariffShelf, moment: Moment) -> bool
+    ensures { result ≡ may_go_on shelf.now moment cycles.now }
 {
-    is_left_now(cycles, book, Cycle::None, moment)
-        || is_left_now(cycles, book, Cycle::Day, moment)
-        || is_left_now(cycles, book, Cycle::Month, moment)
+    is_left_now(cycles, shelf, Cycle::None, moment)
+        || is_left_now(cycles, shelf, Cycle::Day, moment)
+        || is_left_now(cycles, shelf, Cycle::Month, moment)
 }
 
 /// The counters that were left, where one of them may be of a cycle at the moment; else none, so
@@ -258,12 +264,12 @@ fn may_go_on(cycles: &HashMap<u32, bool>, book: &TariffBook, moment: Moment) -> 
 fn going_on<'s>(
     cycles: &HashMap<u32, bool>,
     rows: &'s [Counter],
-    book: &TariffBook,
+    shelf: &TariffShelf,
     moment: Moment,
 ) -> &'s [Counter]
-    ensures { result.now ≡ if may_go_on book.now moment cycles.now then rows.now else [] }
+    ensures { result.now ≡ if may_go_on shelf.now moment cycles.now then rows.now else [] }
 {
-    if may_go_on(cycles, book, moment) {
+    if may_go_on(cycles, shelf, moment) {
         rows
     } else {
         &[]

@@ -4,6 +4,7 @@ use Rattle.std.proofs.Common.{Err, ◌+◌, ◌≤◌, arith}
 use Rattle.std.specs.Prelude.{min, OnOk, OnErr}
 use Rattle.std.specs.Io.KnownBytes.{Appends}
 use Rattle.tariffs.specs.Books.{Book}
+use Rattle.shelves.specs.Shelves.{Shelf, one_book}
 use Rattle.keepers.specs.Faults.{max_failures}
 use Rattle.keepers.specs.Tables.{Tables, no_tables}
 use Rattle.charging.proofs.AcceptedTables.{tables_none}
@@ -11,23 +12,23 @@ use Rattle.charging.specs.Outcomes.{book_days, outcome}
 use Rattle.charging.specs.Continued.{ForEachList}
 use Rattle.charging.specs.Served.{AreTables}
 use Rattle.office.specs.Written.{WritesBeginning}
-use Rattle.request_lines.specs.Served.{IsAnswered, IsBegun}
+use Rattle.request_lines.specs.Served.{IsAnswered, IsBegun, text_of}
 use Rattle.request_lines.proofs.Answered.{begins}
 use Rattle.ocs.specs.Once.{once_text}
 
-pub once-answered : {A E : Type 0} (result : Result A E) (b c : Book) (credit : ℕ)
-    (r w0 w1 : Option (List ℕ)) (old new : Tables) → b ≡ c → old ≡ no_tables →
+pub once-answered : {A E : Type 0} (result : Result A E) (b : Shelf) (c : Book) (credit : ℕ)
+    (r w0 w1 : Option (List ℕ)) (old new : Tables) → b ≡ one_book c → old ≡ no_tables →
     OnOk result
     (IfSome r (λ stream. ForEachList b old (IsAnswered b (Some credit) stream w0 w1 new))) →
     OnOk result (IfSome r (λ stream. Appends w0 w1 (once_text c credit stream)))
 once-answered (Err e) b c credit r w0 w1 old new same none h = tt
 once-answered (Ok x) b c credit None w0 w1 old new same none h = tt
 once-answered (Ok x) b c credit (Some stream) w0 w1 old new same none h =
-    subst (λ (book : Book). Appends w0 w1 (once_text book credit stream)) same
+    subst (λ (shelf : Shelf). Appends w0 w1 (text_of shelf [] (Some credit) stream)) same
     (h [] tt (subst (AreTables b []) (sym none) (tables_none (book_days b) (outcome b) b))).written
 
-pub once-begun : {A E : Type 0} (result : Result A E) (b c : Book) (credit : ℕ)
-    (r w0 w1 : Option (List ℕ)) (old new : Tables) → b ≡ c → old ≡ no_tables →
+pub once-begun : {A E : Type 0} (result : Result A E) (b : Shelf) (c : Book) (credit : ℕ)
+    (r w0 w1 : Option (List ℕ)) (old new : Tables) → b ≡ one_book c → old ≡ no_tables →
     OnErr result
     (IfSome r (λ stream. ForEachList b old (IsBegun b (Some credit) stream w0 w1 new))) →
     OnErr result (IfSome r (λ stream. WritesBeginning w0 w1 (once_text c credit stream)))
@@ -36,7 +37,7 @@ once-begun (Err e) b c credit None w0 w1 old new same none h = tt
 once-begun (Err e) b c credit (Some stream) w0 w1 old new same none h =
     let begun : IsBegun b (Some credit) stream w0 w1 new [] =
     h [] tt (subst (AreTables b []) (sym none) (tables_none (book_days b) (outcome b) b)) in
-    subst (λ (book : Book). WritesBeginning w0 w1 (once_text book credit stream)) same
+    subst (λ (shelf : Shelf). WritesBeginning w0 w1 (text_of shelf [] (Some credit) stream)) same
     (begins b [] (Some credit) stream begun.count w0 w1 begun.written)
 
 -- a count that stays at 0 has no cause

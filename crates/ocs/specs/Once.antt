@@ -3,12 +3,14 @@
 use Rattle.std.specs.Prelude.{ℕ, List, [], Option, Some, IfSome}
 use Rattle.std.specs.Io.KnownBytes.{Appends}
 use Rattle.tariffs.specs.Books.{Book}
+use Rattle.shelves.specs.Shelves.{one_book}
 use Rattle.office.specs.Written.{WritesBeginning}
 use Rattle.request_lines.specs.Served.{text_of}
 
--- the text of a stream, before any command: the first request's account is opened with this amount
+-- the text of a stream, before any command, by a book alone on its shelf: the first request's
+-- account is opened with this amount
 abbrev pub once_text : Book → ℕ → List ℕ → List ℕ
-once_text b credit stream = text_of b [] (Some credit) stream
+once_text b credit stream = text_of (one_book b) [] (Some credit) stream
 
 -- where the reader tells its bytes, that text of them is written
 abbrev pub WritesOnce : Book → ℕ → Option (List ℕ) → Option (List ℕ) → Option (List ℕ) → Type 0

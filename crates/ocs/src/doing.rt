@@ -1,11 +1,12 @@
-ghost use Rattle.std.specs.Prelude.{◌≡◌, ◌≢◌, ◌++◌, ◌∷◌, [], codes, Err, IfErr, IfOk, IfSome, OnOk};
-ghost use Rattle.std.specs.Prelude.{OnErr};
+ghost use Rattle.std.specs.Prelude.{◌≡◌, ◌≢◌, ◌≤◌, ◌++◌, ◌∷◌, [], codes, Err, IfErr, IfOk, IfSome};
+ghost use Rattle.std.specs.Prelude.{OnOk, OnErr};
 ghost use Rattle.std.specs.Io.KnownBytes.{Appends};
 ghost use Rattle.keepers.specs.declared.fault.StoreFault.TheVariants.{Store as StoreFailed};
 ghost use Rattle.office.specs.Printed.{IsEnded};
 ghost use Rattle.office.specs.Written.{WritesBeginning};
 ghost use Rattle.one_price.specs.OnceBook.{once_book};
 ghost use Rattle.operator.specs.Read.{IsInRange, IsOnceInRange};
+ghost use Rattle.shelves.specs.Shelves.{one_book};
 ghost use Rattle.ocs.specs.Ends.{HasPrinted, IfOnce, Imports, IsRefused, Stores};
 ghost use Rattle.ocs.specs.Once.{BeginsOnce, WritesOnce};
 ghost use Rattle.ocs.specs.Told.{IfLines, IsReached, IsReachedByLines, IsSilent, IsToldAtEnd};
@@ -19,7 +20,8 @@ use office::Status;
 use one_price::once_book;
 use operator::{OnceWords, ProgramWords};
 use request_lines::{LinesFault, lines};
-use std::alloc::Global;
+use shelves::TariffShelf;
+use std::alloc::{AllocError, Global};
 use std::io::{Read, Write};
 
 /// Does what the words say. The status is `Failed` where an operator's command or a statement is
@@ -101,7 +103,22 @@ fn answer_lines<I: Read, O: Write>(
     ensures fault { OnErr result (BeginsOnce (once_book once.price once.block) once.credit
         (I.remaining input.old) (O.contents output.old) (O.contents output.new)) }
 {
-    let book = once_book(alloc, once.price, once.block)?;
+    let shelf = once_shelf(alloc, once.price, once.block)?;
     let mut keeper = MemoryKeeper::new(alloc);
-    lines(alloc, &mut keeper, &book, Some(once.credit), input, output)
+    lines(alloc, &mut keeper, &shelf, Some(once.credit), input, output)
+}
+
+/// The shelf on which the book of one price stands alone: `price` micro-units a block of `block`
+/// seconds.
+fn once_shelf(alloc: Global, price: u64, block: u64) -> Result<TariffShelf, AllocError>
+    requires price { price ≤ 1_000_000_000 }
+    requires some_block { 1 ≤ block }
+    requires block { block ≤ 1_000_000_000_000_000 }
+    ensures { IfOk result (λ s. s ≡ one_book (once_book price block)) }
+{
+    let book = once_book(alloc, price, block)?;
+    match TariffShelf::new(alloc, book) {
+        Ok(shelf) => Ok(shelf),
+        Err(_) => Err(AllocError),
+    }
 }

@@ -21,9 +21,9 @@ use keepers::Keeper;
 use office::Status;
 use operator::{ImportWords, InitWords, OfficeWords, ReplayWords, StatementWords};
 use request_lines::{LinesFault, lines};
+use shelves::TariffShelf;
 use std::alloc::Global;
 use std::io::{BufReader, Read, Write};
-use tariffs::TariffBook;
 
 /// Makes the database of a tariff book, and says that it is made.
 #[tactic(auto, using(office::proofs::Beginnings::nothing_written, office::proofs::Beginnings::some_written))]
@@ -122,14 +122,14 @@ pub(crate) fn answer_replay<O: Write>(
         Ok(file) => file,
         Err(fault) => return Err(ProgramFault::Database(fault)),
     };
-    let Office { mut keeper, book } = match open_office(rt, &replay.database) {
+    let Office { mut keeper, shelf } = match open_office(rt, &replay.database) {
         Ok(office) => office,
         Err(fault) => return Err(ProgramFault::Database(fault)),
     };
     let Ok(mut reader) = BufReader::new(rt.alloc(), file) else {
         return Err(ProgramFault::Stream(StreamFault::Memory));
     };
-    match answer_requests(rt.alloc(), &mut keeper, &book, &mut reader, output) {
+    match answer_requests(rt.alloc(), &mut keeper, &shelf, &mut reader, output) {
         Ok(()) => Ok(Status::Done),
         Err(fault) => Err(ProgramFault::Lines(fault)),
     }
@@ -140,16 +140,16 @@ pub(crate) fn answer_replay<O: Write>(
 fn answer_requests<K: Keeper, R: Read, O: Write>(
     alloc: Global,
     keeper: &mut K,
-    book: &TariffBook,
+    shelf: &TariffShelf,
     reader: &mut R,
     output: &mut O,
 ) -> Result<(), LinesFault>
     ensures reached { IfErr result (IsReachedByLines (Unit {0})) }
     ensures unwritten { IfErr result (λ fault. AreUnread fault → output.new ≡ output.old) }
     ensures unread { IfErr result (λ fault. AreUnread fault → keeper.new ≡ keeper.old) }
-    ensures answers { AnswersLines book.now None (R.remaining reader.old)
+    ensures answers { AnswersLines shelf.now None (R.remaining reader.old)
         (O.contents output.old) (O.contents output.new)
         K.content K.failed K.clean keeper.old keeper.new result }
 {
-    lines(alloc, keeper, book, None, reader, output)
+    lines(alloc, keeper, shelf, None, reader, output)
 }

@@ -2,7 +2,7 @@
 use Rattle.std.proofs.Common.{◌≡◌, ℕ, List, Option, subst, Result, Ok}
 use Rattle.commands.specs.declared.answer.Answer.{Answer}
 use Rattle.commands.specs.declared.command.Command.{Command}
-use Rattle.tariffs.specs.Books.{Book}
+use Rattle.shelves.specs.Shelves.{Shelf}
 use Rattle.keepers.specs.Tables.{Tables}
 use Rattle.charging.specs.Served.{IsServed, Serves, moment_of}
 use Rattle.std.specs.Io.KnownBytes.{Appends}
@@ -12,7 +12,7 @@ use Rattle.office.specs.Told.{answer_line, status_of}
 use Rattle.office.specs.Written.{WritesBeginning}
 use Rattle.office.specs.declared.status.Status.{Status}
 
-pub carried_out : (b : Book) (c : Command) (t : ℕ) (old new : Tables) (tells : Answer → Type 0)
+pub carried_out : (b : Shelf) (c : Command) (t : ℕ) (old new : Tables) (tells : Answer → Type 0)
     (given : Answer)
     → Serves b c t old new (Ok given) → tells given → IsCarriedOut b c t old new tells
 carried_out b c t old new tells given serves told = λ list time tables.
@@ -24,14 +24,14 @@ carried_out b c t old new tells given serves told = λ list time tables.
 
 -- ---- by what a step and a writer gave
 
-served_from : (b : Book) (c d : Command) (t : ℕ) (old new : Tables) (r : Result Answer StoreFault)
+served_from : (b : Shelf) (c d : Command) (t : ℕ) (old new : Tables) (r : Result Answer StoreFault)
     (given : Answer)
     → Serves b d t old new r → r ≡ Ok given → d ≡ c → Serves b c t old new (Ok given)
 served_from b c d t old new r given serves e same =
     subst (λ (x : Command). Serves b x t old new (Ok given)) same
     (subst (λ (x : Result Answer StoreFault). Serves b d t old new x) e serves)
 
-pub done_from : (b : Book) (c d : Command) (t : ℕ) (old new : Tables)
+pub done_from : (b : Shelf) (c d : Command) (t : ℕ) (old new : Tables)
     (before after : Option (List ℕ)) (status : Status)
     (r : Result Answer StoreFault) (given : Answer)
     → Serves b d t old new r → r ≡ Ok given → d ≡ c → status ≡ status_of given
@@ -42,7 +42,7 @@ done_from b c d t old new before after status r given serves e same is written =
     (λ answer. (status ≡ status_of answer) × Appends before after (answer_line answer)) given
     (served_from b c d t old new r given serves e same) (is, written)
 
-pub untold_from : (b : Book) (c d : Command) (t : ℕ) (old new : Tables)
+pub untold_from : (b : Shelf) (c d : Command) (t : ℕ) (old new : Tables)
     (before after : Option (List ℕ)) (r : Result Answer StoreFault) (given : Answer)
     → Serves b d t old new r → r ≡ Ok given → d ≡ c
     → WritesBeginning before after (answer_line given)

@@ -10,7 +10,7 @@ use Rattle.std.proofs.Math.Seq.{take-append_seam}
 use Rattle.commands.specs.declared.answer.Answer.{Answer}
 use Rattle.commands.specs.declared.command.Command.TheVariants.{AddVoucher}
 use Rattle.commands.specs.declared.command.VoucherAddition.{VoucherAddition}
-use Rattle.tariffs.specs.Books.{Book}
+use Rattle.shelves.specs.Shelves.{Shelf}
 use Rattle.keepers.specs.Tables.{Tables}
 use Rattle.charging.specs.Accepted.{Accepted, IsInTime}
 use Rattle.charging.specs.Runs.{after_command, after_commands}
@@ -31,7 +31,7 @@ use Rattle.office.specs.declared.counts.Counts.{Counts}
 
 -- ---- one command more
 
-counts-more : (b : Book) (list : List Accepted) (ds : List DatedCommand) (d : DatedCommand)
+counts-more : (b : Shelf) (list : List Accepted) (ds : List DatedCommand) (d : DatedCommand)
     (n : Counts) → counts_after b list (ds ++ d ∷ []) n ≡
     counted_after b (after_commands b list ds) d (counts_after b list ds n)
 counts-more b list [] d n = refl
@@ -51,22 +51,22 @@ additions-count t (row ∷ rows) = ap suc (additions-count t rows)
 -- ---- so far
 
 -- these commands were counted as they were decided, and the tables are those of the list after them
-pub record IsSoFar (b : Book) (list : List Accepted) (ds : List DatedCommand) (old new : Tables)
+pub record IsSoFar (b : Shelf) (list : List Accepted) (ds : List DatedCommand) (old new : Tables)
     (counts : Counts) : Type 0 where
   pub counted : counts ≡ counts_after b list ds no_counts
   pub tables : AreTables b (after_commands b list ds) new
   pub time : IsInTime (after_commands b list ds)
   pub same : counts.new ≡ 0 → new ≡ old
 
-abbrev pub ImportsSoFar : Book → List DatedCommand → Tables → Tables → Counts → Type 0
+abbrev pub ImportsSoFar : Shelf → List DatedCommand → Tables → Tables → Counts → Type 0
 ImportsSoFar b ds old new counts = (list : List Accepted) → IsInTime list → AreTables b list old →
     IsSoFar b list ds old new counts
 
-pub none-yet : (b : Book) (old : Tables) → ImportsSoFar b [] old old no_counts
+pub none-yet : (b : Shelf) (old : Tables) → ImportsSoFar b [] old old no_counts
 none-yet b old = λ list time tables.
     record { counted = refl; tables = tables; time = time; same = λ none. refl }
 
-so-far-more : (b : Book) (list : List Accepted) (ds : List DatedCommand) (d : DatedCommand)
+so-far-more : (b : Shelf) (list : List Accepted) (ds : List DatedCommand) (d : DatedCommand)
     (old mid new : Tables) (n : Counts) (x : Addition) → IsSoFar b list ds old mid n →
     IsAdded b (after_commands b list ds) d mid new x →
     IsSoFar b list (ds ++ d ∷ []) old new (counted_as x n)
@@ -81,7 +81,7 @@ so-far-more b list ds d old mid new n x so added = record {
 }
 
 -- with one voucher more
-pub one-more : (b : Book) (t : ℕ) (list : List Accepted) (rows : List VoucherAddition)
+pub one-more : (b : Shelf) (t : ℕ) (list : List Accepted) (rows : List VoucherAddition)
     (row : VoucherAddition) (old mid new : Tables) (n m : Counts) (x : Addition) →
     IsSoFar b list (additions t rows) old mid n →
     IsAdded b (after_commands b list (additions t rows)) (addition_at t row) mid new x →
@@ -94,7 +94,7 @@ one-more b t list rows row old mid new n m x so added e =
 
 -- ---- at the end
 
-pub all-imported : (b : Book) (t : ℕ) (rows : List VoucherAddition) (old new : Tables)
+pub all-imported : (b : Shelf) (t : ℕ) (rows : List VoucherAddition) (old new : Tables)
     (n : Counts) →
     ImportsSoFar b (additions t rows) old new n → (list : List Accepted) → IsInTime list →
     AreTables b list old → IsImported b list (additions t rows) old new n
@@ -117,7 +117,7 @@ fewer t rows rest all row e =
     additions-count t all ∙ ap length (sym e) ∙ length-append rows (row ∷ rest) in
     omega (arith, count)
 
-pub begun : (b : Book) (t : ℕ) (rows rest all : List VoucherAddition) (row : VoucherAddition)
+pub begun : (b : Shelf) (t : ℕ) (rows rest all : List VoucherAddition) (row : VoucherAddition)
     (old mid new : Tables) (n : Counts) → rows ++ row ∷ rest ≡ all →
     ImportsSoFar b (additions t rows) old mid n →
     ((list : List Accepted) → IsInTime list → AreTables b list mid → new ≡ mid) →
@@ -141,7 +141,7 @@ begun b t rows rest all row old mid new n e so kept = λ list time tables.
     }
 
 -- the same of an answer that is a fault
-pub begun_at : (b : Book) (t : ℕ) (rows rest all : List VoucherAddition) (row : VoucherAddition)
+pub begun_at : (b : Shelf) (t : ℕ) (rows rest all : List VoucherAddition) (row : VoucherAddition)
     (old mid new : Tables) (n : Counts) (r : Result Counts StoreFault) → is_err r ≡ true →
     rows ++ row ∷ rest ≡ all → ImportsSoFar b (additions t rows) old mid n →
     ((list : List Accepted) → IsInTime list → AreTables b list mid → new ≡ mid) →
@@ -152,7 +152,7 @@ begun_at b t rows rest all row old mid new n (Ok counts) is e so kept = absurd (
 
 -- ---- what is told
 
-pub told_from : (b : Book) (commands : List DatedCommand) (old new : Tables)
+pub told_from : (b : Shelf) (commands : List DatedCommand) (old new : Tables)
     (before after : Option (List ℕ)) (r : Result Counts StoreFault) (n : Counts) →
     Imports b commands old new r → r ≡ Ok n → Appends before after (counts_line n) →
     TellsImport b commands old new (λ counts. Appends before after (counts_line counts))
@@ -165,7 +165,7 @@ told_from b commands old new before after r n imports is written = λ list time 
       told = subst (λ counts. Appends before after (counts_line counts)) all.counted written;
     }
 
-pub untold_from : (b : Book) (commands : List DatedCommand) (old new : Tables)
+pub untold_from : (b : Shelf) (commands : List DatedCommand) (old new : Tables)
     (before after : Option (List ℕ)) (r : Result Counts StoreFault) (n : Counts) →
     Imports b commands old new r → r ≡ Ok n → WritesBeginning before after (counts_line n) →
     TellsImport b commands old new (λ counts. WritesBeginning before after (counts_line counts))
@@ -179,7 +179,7 @@ untold_from b commands old new before after r n imports is written = λ list tim
           written;
     }
 
-pub begun_from : (b : Book) (commands : List DatedCommand) (old new : Tables)
+pub begun_from : (b : Shelf) (commands : List DatedCommand) (old new : Tables)
     (r : Result Counts StoreFault) (f : StoreFault) → Imports b commands old new r → r ≡ Err f →
     BeginsImport b commands old new
 begun_from b commands old new r f imports is =
@@ -201,7 +201,7 @@ not-new (New made) n none = let no : ⊥ = omega (arith, none) in absurd no
 not-new Present n none = (none, refl)
 not-new Conflicting n none = (none, refl)
 
-pub added : (b : Book) (t : ℕ) (row : VoucherAddition) (old mid new : Tables)
+pub added : (b : Shelf) (t : ℕ) (row : VoucherAddition) (old mid new : Tables)
     (found : Option Voucher) (x : Addition) → found ≡ old.vouchers row.code →
     x ≡ addition found row.terms → mid ≡ old →
     ((list : List Accepted) → IsInTime list → AreTables b list mid →

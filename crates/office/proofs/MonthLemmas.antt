@@ -5,6 +5,7 @@ use Rattle.std.specs.Prelude.{if◌then◌else◌, IfOk, OnErr}
 use Rattle.std.specs.Io.KnownBytes.{Appends}
 use Rattle.buckets.specs.Row.{Row}
 use Rattle.tariffs.specs.Books.{Book}
+use Rattle.shelves.specs.Shelves.{Shelf}
 use Rattle.reserving.specs.ChargeColumns.{ChargeColumns}
 use Rattle.reserving.specs.Charges.{charge_rows}
 use Rattle.keepers.specs.Tables.{Tables}
@@ -34,27 +35,28 @@ use Rattle.office.specs.declared.status.Status.TheVariants.{Done, Failed}
 -- ---- charges and buckets
 
 -- the charges of the tables are those of the ledger
-are_charges : (b : Book) (a : List ℕ) (list : List Accepted) (tables : Tables) →
+are_charges : (b : Shelf) (a : List ℕ) (list : List Accepted) (tables : Tables) →
     AreTables b list tables →
     AreCharges (tables.charges a) (charge_rows (history b a list).ledger)
 are_charges b a list tables h =
     record { rising = charges_rise (history b a list).ledger; listed = λ n. sym (h.charges a n) }
 
 -- one form of the text or the other
-pub as_csv : (b : Book) (q : MonthQuery) (t : ℕ) (buckets : List Row)
-    (charges : List ChargeColumns) → q.csv ≡ true →
-    export_text b q.month charges ≡ rows_text b q t charges buckets
-as_csv b q t buckets charges is =
-    sym (ap (λ v. if v then export_text b q.month charges
-    else statement_text b q.account q.month t charges buckets) is)
+pub as_csv : (b : Shelf) (first : Book) (q : MonthQuery) (t : ℕ) (buckets : List Row)
+    (charges : List ChargeColumns) → first ≡ b.first → q.csv ≡ true →
+    export_text first q.month charges ≡ rows_text b q t charges buckets
+as_csv b first q t buckets charges of_shelf is =
+    ap (λ (x : Book). export_text x q.month charges) of_shelf
+    ∙ sym (ap (λ v. if v then export_text b.first q.month charges
+    else statement_text b.first q.account q.month t charges buckets) is)
 
-pub as_lines : (b : Book) (q : MonthQuery) (t : ℕ) (shown buckets : List Row)
-    (charges : List ChargeColumns) → q.csv ≡ false → shown ≡ buckets →
-    statement_text b q.account q.month t charges shown ≡ rows_text b q t charges buckets
-as_lines b q t shown buckets charges is same =
-    ap (statement_text b q.account q.month t charges) same
-    ∙ sym (ap (λ v. if v then export_text b q.month charges
-    else statement_text b q.account q.month t charges buckets) is)
+pub as_lines : (b : Shelf) (first : Book) (q : MonthQuery) (t : ℕ) (shown buckets : List Row)
+    (charges : List ChargeColumns) → first ≡ b.first → q.csv ≡ false → shown ≡ buckets →
+    statement_text first q.account q.month t charges shown ≡ rows_text b q t charges buckets
+as_lines b first q t shown buckets charges of_shelf is same =
+    (λ i. statement_text (of_shelf i) q.account q.month t charges (same i))
+    ∙ sym (ap (λ v. if v then export_text b.first q.month charges
+    else statement_text b.first q.account q.month t charges buckets) is)
 
 -- another form of the text is written where it is the same
 pub writes_as : {T : Type 0} (charges : ℕ → Option ChargeColumns) (old new : Option (List ℕ))
@@ -120,7 +122,7 @@ reads_asked content failed clean old mid new r same cleanness kept asks = record
 
 -- ---- by the ledger
 
-module _ (b : Book) (q : MonthQuery) (t : ℕ) (old : Tables) (before after : Option (List ℕ)) where
+module _ (b : Shelf) (q : MonthQuery) (t : ℕ) (old : Tables) (before after : Option (List ℕ)) where
   -- of an account whose state was found
   text_is : (list : List Accepted) (s : AccountState) → (history b q.account list).opened ≡ true →
       IsStateAt b (moment_of list t) (history b q.account list).ledger s →
@@ -169,7 +171,7 @@ module _ (b : Book) (q : MonthQuery) (t : ℕ) (old : Tables) (before after : Op
       (subst (λ l. Tells Failed before after l r) text told)
 
 -- nothing is written
-pub nothing_told : (b : Book) (q : MonthQuery) (t : ℕ) (old : Tables) (before : Option (List ℕ))
+pub nothing_told : (b : Shelf) (q : MonthQuery) (t : ℕ) (old : Tables) (before : Option (List ℕ))
     (f : OfficeFault) →
     ((text : List ℕ) → WritesBeginning before before text) →
     IsMonthTold b q t old before before (Err f)

@@ -7,11 +7,12 @@ use Rattle.byte_streams.specs.declared.StreamFault.TheVariants as stream
 use Rattle.buckets.specs.Row.{Row}
 use Rattle.commands.specs.declared.answer.Answer.TheVariants.{Refused}
 use Rattle.commands.specs.declared.answer.Refusal.TheVariants.{AccountUnknown}
-use Rattle.tariffs.specs.Books.{Book}
+use Rattle.shelves.specs.Shelves.{Shelf}
 use Rattle.reserving.specs.Balance.{buckets_at}
 use Rattle.reserving.specs.ChargeColumns.{ChargeColumns}
 use Rattle.reserving.specs.Charges.{charge_rows}
 use Rattle.reserving.specs.Ledger.{Ledger}
+use Rattle.reserving.specs.Pricing.{validity_of}
 use Rattle.keepers.specs.Faults.{max_failures}
 use Rattle.keepers.specs.Tables.{Tables}
 use Rattle.keepers.specs.declared.fault.StoreFault.TheVariants as store
@@ -32,23 +33,24 @@ use Rattle.office.specs.declared.status.Status.TheVariants.{Done, Failed}
 
 -- ---- texts
 
--- the text of these charges and buckets, as of a moment
-abbrev pub rows_text : Book → MonthQuery → ℕ → List ChargeColumns → List Row → List ℕ
+-- the text of these charges and buckets, as of a moment; the month is civil in the zone of the
+-- first book, which all books of a shelf have
+abbrev pub rows_text : Shelf → MonthQuery → ℕ → List ChargeColumns → List Row → List ℕ
 rows_text b q t charges buckets =
-    if q.csv then export_text b q.month charges
-    else statement_text b q.account q.month t charges buckets
+    if q.csv then export_text b.first q.month charges
+    else statement_text b.first q.account q.month t charges buckets
 
 -- of an account's ledger: all of its charges, and its buckets at the moment, by number
-abbrev pub ledger_text : Book → MonthQuery → ℕ → Ledger → List ℕ
+abbrev pub ledger_text : Shelf → MonthQuery → ℕ → Ledger → List ℕ
 ledger_text b q t ledger =
-    rows_text b q t (charge_rows ledger) (by_number (buckets_at b.validity t ledger))
+    rows_text b q t (charge_rows ledger) (by_number (buckets_at (validity_of b) t ledger))
 
 -- the line of an account that isn't there
 abbrev pub unknown_line : List ℕ
 unknown_line = answer_line (Refused AccountUnknown)
 
 -- what is told of an account by its history, and how that ends: one that wasn't opened is refused
-abbrev pub month_text : Book → MonthQuery → ℕ → History → List ℕ
+abbrev pub month_text : Shelf → MonthQuery → ℕ → History → List ℕ
 month_text b q t h = if h.opened then ledger_text b q t h.ledger else unknown_line
 
 abbrev pub month_status : History → Status
@@ -64,7 +66,7 @@ pub record Tells (ends : Status) (old new : Option (List ℕ)) (text : List ℕ)
 
 -- so the month is told as of the moment of a command, for every list of accepted commands whose
 -- tables a keeper holds
-abbrev pub IsMonthTold : Book → MonthQuery → ℕ → Tables → Option (List ℕ) → Option (List ℕ) →
+abbrev pub IsMonthTold : Shelf → MonthQuery → ℕ → Tables → Option (List ℕ) → Option (List ℕ) →
     Result Status OfficeFault → Type 0
 IsMonthTold b q t tables old new result =
     (list : List Accepted) → IsInTime list → AreTables b list tables →

@@ -22,9 +22,9 @@ use charging::step;
 use commands::{Command, VoucherAddition};
 use keepers::{Keeper, StoreFault};
 use redemptions::{Addition, add};
+use shelves::TariffShelf;
 use std::alloc::Global;
 use std::io::Write;
-use tariffs::TariffBook;
 use units::Moment;
 
 /// Adds vouchers in their order, each by a command at the later of this moment and that of the last
@@ -36,12 +36,12 @@ use units::Moment;
 pub fn import<K: Keeper>(
     alloc: Global,
     keeper: &mut K,
-    book: &TariffBook,
+    shelf: &TariffShelf,
     rows: Vec<VoucherAddition>,
     moment: Moment,
 ) -> Result<Counts, StoreFault>
     ensures imported { K.clean keeper.new →
-        Imports book.now (additions moment rows.items) (K.content keeper.old)
+        Imports shelf.now (additions moment rows.items) (K.content keeper.old)
         (K.content keeper.new) result }
     ensures all { IfOk result (λ counts. total counts ≡ length rows.items) }
     ensures cleanness { K.clean keeper.new → K.clean keeper.old }
@@ -51,7 +51,7 @@ pub fn import<K: Keeper>(
     let _size = rows.len();
     let mut counts = no_counts();
     for row in rows {
-        let addition = add_voucher(alloc, keeper, book, row, moment)?;
+        let addition = add_voucher(alloc, keeper, shelf, row, moment)?;
         counts = count_one(counts, addition);
     }
     Ok(counts)
@@ -61,18 +61,18 @@ pub fn import<K: Keeper>(
 fn add_voucher<K: Keeper>(
     alloc: Global,
     keeper: &mut K,
-    book: &TariffBook,
+    shelf: &TariffShelf,
     row: VoucherAddition,
     moment: Moment,
 ) -> Result<Addition, StoreFault>
     ensures added { K.clean keeper.new →
-        Adds book.now (addition_at moment row) (K.content keeper.old) (K.content keeper.new)
+        Adds shelf.now (addition_at moment row) (K.content keeper.old) (K.content keeper.new)
         result }
     ensures kept { Keeps K.content K.failed K.clean keeper.old keeper.new result }
 {
     let found = keeper.find_voucher(&row.code)?;
     let addition = add(&found, row.terms);
-    step(alloc, keeper, book, Command::AddVoucher(row), moment)?;
+    step(alloc, keeper, shelf, Command::AddVoucher(row), moment)?;
     Ok(addition)
 }
 
@@ -87,27 +87,27 @@ fn add_voucher<K: Keeper>(
 pub fn serve_import<K: Keeper, W: Write>(
     alloc: Global,
     keeper: &mut K,
-    book: &TariffBook,
+    shelf: &TariffShelf,
     rows: Vec<VoucherAddition>,
     moment: Moment,
     writer: &mut W,
 ) -> Result<(), OfficeFault>
     ensures done { K.clean keeper.new → OnOk result
-        (TellsImport book.now (additions moment rows.items) (K.content keeper.old)
+        (TellsImport shelf.now (additions moment rows.items) (K.content keeper.old)
         (K.content keeper.new)
         (λ counts. Appends (W.contents writer.old) (W.contents writer.new) (counts_line counts))) }
     ensures printed { OnOk result (PrintsCounts (W.contents writer.old) (W.contents writer.new)) }
     ensures untold { (fault : StreamFault) → result ≡ Err (Write fault) → K.clean keeper.new →
-        TellsImport book.now (additions moment rows.items) (K.content keeper.old)
+        TellsImport shelf.now (additions moment rows.items) (K.content keeper.old)
         (K.content keeper.new) (λ counts.
         WritesBeginning (W.contents writer.old) (W.contents writer.new) (counts_line counts)) }
     ensures unserved { (fault : StoreFault) → result ≡ Err (Store fault) → K.clean keeper.new →
-        BeginsImport book.now (additions moment rows.items) (K.content keeper.old)
+        BeginsImport shelf.now (additions moment rows.items) (K.content keeper.old)
         (K.content keeper.new) }
     ensures stops { StopsAtStore K.failed K.clean keeper.old keeper.new writer.old writer.new
         result }
 {
-    let counts = match import(alloc, keeper, book, rows, moment) {
+    let counts = match import(alloc, keeper, shelf, rows, moment) {
         Ok(counts) => counts,
         Err(fault) => return Err(OfficeFault::Store(fault)),
     };

@@ -16,9 +16,9 @@ use crate::writing::write_answer_line;
 use charging::step;
 use keepers::Keeper;
 use operator::OfficeCommand;
+use shelves::TariffShelf;
 use std::alloc::Global;
 use std::io::Write;
-use tariffs::TariffBook;
 use units::Moment;
 
 /// Carries out an operator's command at the later of this moment and that of the last accepted
@@ -33,19 +33,19 @@ use units::Moment;
 pub fn serve_office<K: Keeper, W: Write>(
     alloc: Global,
     keeper: &mut K,
-    book: &TariffBook,
+    shelf: &TariffShelf,
     command: OfficeCommand,
     moment: Moment,
     writer: &mut W,
 ) -> Result<Status, OfficeFault>
     ensures done { K.clean keeper.new → IfOk result (λ status.
-        IsCarriedOut book.now (command_of command) moment (K.content keeper.old)
+        IsCarriedOut shelf.now (command_of command) moment (K.content keeper.old)
         (K.content keeper.new) (λ answer. (status ≡ status_of answer)
         × Appends (W.contents writer.old) (W.contents writer.new) (answer_line answer))) }
     ensures printed { IfOk result (λ status.
         PrintsAnswer status (W.contents writer.old) (W.contents writer.new)) }
     ensures untold { (fault : StreamFault) → result ≡ Err (Write fault) → K.clean keeper.new →
-        IsCarriedOut book.now (command_of command) moment (K.content keeper.old)
+        IsCarriedOut shelf.now (command_of command) moment (K.content keeper.old)
         (K.content keeper.new) (λ answer.
         WritesBeginning (W.contents writer.old) (W.contents writer.new) (answer_line answer)) }
     ensures unserved { (fault : StoreFault) → result ≡ Err (Store fault) → K.clean keeper.new →
@@ -53,7 +53,7 @@ pub fn serve_office<K: Keeper, W: Write>(
     ensures stops { StopsAtStore K.failed K.clean keeper.old keeper.new writer.old writer.new
         result }
 {
-    let answer = match step(alloc, keeper, book, command.into_command(), moment) {
+    let answer = match step(alloc, keeper, shelf, command.into_command(), moment) {
         Ok(answer) => answer,
         Err(fault) => return Err(OfficeFault::Store(fault)),
     };

@@ -21,10 +21,10 @@ use commands::{Answer, Refusal};
 use identifiers::AccountNumber;
 use keepers::StoreFault;
 use operator::Month;
+use shelves::TariffShelf;
 use statements::{AccountMonth, StatementFault, export, statement};
 use std::alloc::Global;
 use std::io::Write;
-use tariffs::TariffBook;
 use units::Moment;
 
 /// What is asked of an account: its charges of a month.
@@ -32,7 +32,7 @@ use units::Moment;
 pub struct MonthQuery {
     /// The account whose charges are asked for.
     pub account: AccountNumber,
-    /// The civil month in the book's zone.
+    /// The civil month in the zone of the books.
     pub month: Month,
     /// Whether they are written as CSV, without sums and buckets.
     pub csv: bool,
@@ -49,24 +49,24 @@ pub struct MonthQuery {
 pub fn serve_statement<K: ChargeSource, W: Write>(
     alloc: Global,
     keeper: &mut K,
-    book: &TariffBook,
+    shelf: &TariffShelf,
     query: &MonthQuery,
     moment: Moment,
     writer: &mut W,
 ) -> Result<Status, OfficeFault>
     ensures told { K.clean keeper.new →
-        IsMonthTold book.now query.now moment (K.content keeper.old)
+        IsMonthTold shelf.now query.now moment (K.content keeper.old)
         (W.contents writer.old) (W.contents writer.new) result }
     ensures ended { IfOk result (IsEnded
         (Appends (W.contents writer.old) (W.contents writer.new) unknown_line)) }
     ensures reads { OnlyReads K.content K.failed K.clean keeper.old keeper.new result }
 {
-    let state = match account_state(keeper, book, &query.account, moment) {
+    let state = match account_state(keeper, shelf, &query.account, moment) {
         Ok(state) => state,
         Err(fault) => return Err(OfficeFault::Store(fault)),
     };
     match state {
-        Some(state) => month_ended(write_month(alloc, keeper, book, query, &state, writer)),
+        Some(state) => month_ended(write_month(alloc, keeper, shelf, query, &state, writer)),
         None => tell_unknown(alloc, writer),
     }
 }
@@ -75,7 +75,7 @@ pub fn serve_statement<K: ChargeSource, W: Write>(
 fn write_month<K: ChargeSource, W: Write>(
     alloc: Global,
     keeper: &mut K,
-    book: &TariffBook,
+    shelf: &TariffShelf,
     query: &MonthQuery,
     state: &AccountState,
     writer: &mut W,
@@ -83,7 +83,7 @@ fn write_month<K: ChargeSource, W: Write>(
     ensures writes { K.clean keeper.new →
         Writes ((K.content keeper.old).charges query.now.account)
         (W.contents writer.old) (W.contents writer.new)
-        (λ rows. rows_text book.now query.now state.now.moment rows state.now.buckets.items)
+        (λ rows. rows_text shelf.now query.now state.now.moment rows state.now.buckets.items)
         result }
     ensures asks { Asks K.content K.failed K.clean keeper.old keeper.new result }
 {
@@ -92,6 +92,7 @@ fn write_month<K: ChargeSource, W: Write>(
         month,
         csv,
     } = query;
+    let book = shelf.first();
     let asked = AccountMonth {
         account,
         month: *month,

@@ -39,7 +39,7 @@ pub fn serve_database<O: Write, E: Write>(
     ensures untold { OnErr result (errors.new ≡ errors.old) }
     ensures fault { IfErr result IsServeFault }
 {
-    let Office { mut keeper, book } = open_office(rt, &words.database)?;
+    let Office { mut keeper, shelf } = open_office(rt, &words.database)?;
     let Ok(listener) = TcpListener::bind(rt, (Ipv4Addr::LOCALHOST, words.port)) else {
         return Err(DatabaseFault::Net);
     };
@@ -50,7 +50,7 @@ pub fn serve_database<O: Write, E: Write>(
         &listener,
         words.connections,
         &mut keeper,
-        &book,
+        &shelf,
         &mut clock,
         errors,
     ))

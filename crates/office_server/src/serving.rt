@@ -7,10 +7,10 @@ ghost use Rattle.office_server.specs.Told.{TellsFaults};
 use crate::telling::tell_fault;
 use charge_sources::ChargeSource;
 use http_api::{Clock, ServeFault, Served, serve_socket};
+use shelves::TariffShelf;
 use std::alloc::Global;
 use std::io::Write;
 use std::net::TcpListener;
-use tariffs::TariffBook;
 
 /// Serves so many connections of a listener, one after another, each as `serve_socket` does, and
 /// answers how many of them ended in a fault. A connection's fault is one line on `errors`, as far
@@ -21,20 +21,20 @@ pub fn serve_connections<K: ChargeSource, C: Clock, E: Write>(
     listener: &TcpListener,
     connections: u32,
     keeper: &mut K,
-    book: &TariffBook,
+    shelf: &TariffShelf,
     clock: &mut C,
     errors: &mut E,
 ) -> u32
     ensures told { TellsFaults result (E.contents errors.old) (E.contents errors.new) }
     ensures bounded { result ≤ connections }
     ensures continued { K.clean keeper.new →
-        Continues book.now (K.content keeper.old) (K.content keeper.new) }
+        Continues shelf.now (K.content keeper.old) (K.content keeper.new) }
     ensures cleanness { K.clean keeper.new → K.clean keeper.old }
     ensures failures { K.failed keeper.old ≤ K.failed keeper.new }
 {
     let mut failed = 0;
     for _served in 0..connections {
-        failed += serve_next(alloc, listener, keeper, book, clock, errors);
+        failed += serve_next(alloc, listener, keeper, shelf, clock, errors);
     }
     failed
 }
@@ -44,18 +44,18 @@ fn serve_next<K: ChargeSource, C: Clock, E: Write>(
     alloc: Global,
     listener: &TcpListener,
     keeper: &mut K,
-    book: &TariffBook,
+    shelf: &TariffShelf,
     clock: &mut C,
     errors: &mut E,
 ) -> u32
     ensures told { TellsFaults result (E.contents errors.old) (E.contents errors.new) }
     ensures bounded { result ≤ 1 }
     ensures continued { K.clean keeper.new →
-        Continues book.now (K.content keeper.old) (K.content keeper.new) }
+        Continues shelf.now (K.content keeper.old) (K.content keeper.new) }
     ensures cleanness { K.clean keeper.new → K.clean keeper.old }
     ensures failures { K.failed keeper.old ≤ K.failed keeper.new }
 {
-    match serve_accepted(alloc, listener, keeper, book, clock) {
+    match serve_accepted(alloc, listener, keeper, shelf, clock) {
         Ok(_) => 0,
         Err(fault) => {
             tell_fault(errors, fault);
@@ -69,16 +69,16 @@ fn serve_accepted<K: ChargeSource, C: Clock>(
     alloc: Global,
     listener: &TcpListener,
     keeper: &mut K,
-    book: &TariffBook,
+    shelf: &TariffShelf,
     clock: &mut C,
 ) -> Result<Served, ServeFault>
     ensures continued { K.clean keeper.new →
-        Continues book.now (K.content keeper.old) (K.content keeper.new) }
+        Continues shelf.now (K.content keeper.old) (K.content keeper.new) }
     ensures cleanness { K.clean keeper.new → K.clean keeper.old }
     ensures failures { K.failed keeper.old ≤ K.failed keeper.new }
 {
     match listener.accept() {
-        Ok((stream, _)) => serve_socket(alloc, &stream, keeper, book, clock),
+        Ok((stream, _)) => serve_socket(alloc, &stream, keeper, shelf, clock),
         Err(_) => Err(ServeFault::Read),
     }
 }

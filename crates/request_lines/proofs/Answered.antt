@@ -10,7 +10,7 @@ use Rattle.std.specs.Prelude.{true, false, is_some}
 use Rattle.std.specs.Io.KnownBytes.{Appends}
 use Rattle.byte_streams.specs.Lines.{lines_of}
 use Rattle.commands.specs.declared.answer.Answer.{Answer}
-use Rattle.tariffs.specs.Books.{Book}
+use Rattle.shelves.specs.Shelves.{Shelf}
 use Rattle.keepers.specs.Tables.{Tables}
 use Rattle.charging.specs.Accepted.{Accepted, IsInTime}
 use Rattle.charging.specs.Continued.{ForEachList, IsContinued}
@@ -20,7 +20,8 @@ use Rattle.charging.specs.Runs.{after_command, answers_to, after_commands, IsRun
 use Rattle.charging.proofs.RunLemmas.{commands_after}
 use Rattle.request_lines.specs.declared.input.Input.{Input}
 use Rattle.request_lines.specs.Lines.{line_request}
-use Rattle.request_lines.specs.Served.{requests_in, opening_for, opening_in, commands_of, faults_in, texts_of}
+use Rattle.request_lines.specs.Served.{requests_in, opening_for, opening_in, commands_of, faults_in}
+use Rattle.request_lines.specs.Served.{texts_of}
 use Rattle.request_lines.specs.Served.{text_of, text_to, IsAnswered}
 use Rattle.request_lines.specs.Served.{IsShort, IsBegun, IsRunOpened, IsUntold}
 use Rattle.request_lines.specs.Input.{told_fault, IsInput}
@@ -30,7 +31,7 @@ use Rattle.request_lines.proofs.Texts.{texts_taken}
 
 -- ---- commands one after another
 
-answers_after : (b : Book) (list : List Accepted) (xs ys : List DatedCommand) →
+answers_after : (b : Shelf) (list : List Accepted) (xs ys : List DatedCommand) →
     answers_to b list (xs ++ ys)
     ≡ answers_to b list xs ++ answers_to b (after_commands b list xs) ys
 answers_after b list [] ys = refl
@@ -38,13 +39,13 @@ answers_after b list (x ∷ xs) ys =
     ap (λ (l : List Answer). answer_to b list x.command (moment_of list x.moment) ∷ l)
     (answers_after b (after_command b list x) xs ys)
 
-answers_count : (b : Book) (list : List Accepted) (ds : List DatedCommand) →
+answers_count : (b : Shelf) (list : List Accepted) (ds : List DatedCommand) →
     length (answers_to b list ds) ≡ length ds
 answers_count b list [] = refl
 answers_count b list (d ∷ ds) = ap suc (answers_count b (after_command b list d) ds)
 
 -- the answers to a beginning of the commands are a beginning of the answers
-answers_taken : (b : Book) (list : List Accepted) (ds : List DatedCommand) (n : ℕ) →
+answers_taken : (b : Shelf) (list : List Accepted) (ds : List DatedCommand) (n : ℕ) →
     answers_to b list (take n ds) ≡ take n (answers_to b list ds)
 answers_taken b list ds zero = refl
 answers_taken b list [] (suc n) = refl
@@ -80,7 +81,7 @@ stopped_within (Some f) opening requests n lt =
     length-append opening requests in
     omega (arith, long, lt)
 
-module _ (b : Book) (opening requests : List DatedCommand) where
+module _ (b : Shelf) (opening requests : List DatedCommand) where
   -- the run stopped before the requests
   pub opening-stopped : {F : Type 0} (fault : Option F) (given : List Answer) (old new : Tables) →
       is_some fault ≡ true → length given ≤ length opening →
@@ -157,10 +158,10 @@ module _ (b : Book) (opening requests : List DatedCommand) where
 
 -- ---- the list goes on
 
-pub continued-same : (b : Book) (tables : Tables) → ForEachList b tables (IsContinued b tables)
+pub continued-same : (b : Shelf) (tables : Tables) → ForEachList b tables (IsContinued b tables)
 continued-same b tables = λ list time h. record { commands = []; tables = h; time = time }
 
-pub continued-run : {F : Type 0} (b : Book) (opening requests : List DatedCommand)
+pub continued-run : {F : Type 0} (b : Shelf) (opening requests : List DatedCommand)
     (old new : Tables) (given : List Answer) (fault : Option F) →
     ForEachList b old (IsRunOpened b opening requests new given fault) →
     ForEachList b old (IsContinued b new)
@@ -170,7 +171,7 @@ continued-run b opening requests old new given fault runs = λ list time tables.
 
 -- ---- a stream
 
-module _ (b : Book) (amount : Option ℕ) (w0 w1 : Option (List ℕ)) where
+module _ (b : Shelf) (amount : Option ℕ) (w0 w1 : Option (List ℕ)) where
   -- before the lines are read
   pub begun-none : (r : Option (List ℕ)) (tables : Tables) →
       IfSome r (λ stream. ForEachList b tables (IsBegun b amount stream w0 w0 tables))
@@ -291,7 +292,7 @@ module _ (b : Book) (amount : Option ℕ) (w0 w1 : Option (List ℕ)) where
       }
 
 -- a beginning of what is told is a beginning of the stream's text
-pub begins : (b : Book) (list : List Accepted) (amount : Option ℕ) (stream : List ℕ) (count : ℕ)
+pub begins : (b : Shelf) (list : List Accepted) (amount : Option ℕ) (stream : List ℕ) (count : ℕ)
     (w0 w1 : Option (List ℕ)) → WritesBeginning w0 w1 (text_to count b list amount stream) →
     WritesBeginning w0 w1 (text_of b list amount stream)
 begins b list amount stream count w0 w1 h =

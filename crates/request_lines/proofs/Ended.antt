@@ -7,7 +7,7 @@ use Rattle.std.specs.Io.KnownBytes.{Appends}
 use Rattle.byte_streams.specs.Lines.{lines_of}
 use Rattle.byte_streams.specs.declared.StreamFault.{StreamFault}
 use Rattle.commands.specs.declared.answer.Answer.{Answer}
-use Rattle.tariffs.specs.Books.{Book}
+use Rattle.shelves.specs.Shelves.{Shelf}
 use Rattle.keepers.specs.Tables.{Tables}
 use Rattle.keepers.specs.declared.fault.StoreFault.{StoreFault}
 use Rattle.charging.specs.Continued.{ForEachList}
@@ -20,9 +20,11 @@ use Rattle.request_lines.specs.declared.input.Input.{Input}
 use Rattle.request_lines.specs.Faults.{ended_as}
 use Rattle.request_lines.specs.Input.{told_fault, IsInput}
 use Rattle.request_lines.specs.Lines.{line_request}
-use Rattle.request_lines.specs.Served.{opening_for, texts_of, AnswersLines, IsAnswered, IsBegun, IsCut}
+use Rattle.request_lines.specs.Served.{opening_for, texts_of, AnswersLines, IsAnswered, IsBegun}
+use Rattle.request_lines.specs.Served.{IsCut}
 use Rattle.request_lines.specs.Served.{IsRunOpened, IsStopped, IsUntold}
-use Rattle.request_lines.proofs.Answered.{answered-run, begun-none, begun-run, continued-same, short-run}
+use Rattle.request_lines.proofs.Answered.{answered-run, begun-none, begun-run, continued-same}
+use Rattle.request_lines.proofs.Answered.{short-run}
 use Rattle.request_lines.proofs.Answered.{untold-run}
 
 -- ---- which fault it is
@@ -101,7 +103,7 @@ ended-both fault written result f e k = both_told fault written f (ap both_in (s
 -- ---- what is left
 
 -- a stream's commands were run, and what they are answered was written, or a beginning
-pub record IsWritten {A : Type 0} (b : Book) (amount : Option ℕ) (w0 w1 r : Option (List ℕ))
+pub record IsWritten {A : Type 0} (b : Shelf) (amount : Option ℕ) (w0 w1 r : Option (List ℕ))
     (old new : Tables) (fault : Option StoreFault) (written : Result A StreamFault) : Type 0 where
   pub input : Input
   pub opening : List DatedCommand
@@ -113,7 +115,7 @@ pub record IsWritten {A : Type 0} (b : Book) (amount : Option ℕ) (w0 w1 r : Op
   pub part : OnErr written
       (WritesBeginning w0 w1 (texts_of (map told_fault input.lines.items) given))
 
-module _ {A : Type 0} (b : Book) (amount : Option ℕ) (w0 w1 r : Option (List ℕ))
+module _ {A : Type 0} (b : Shelf) (amount : Option ℕ) (w0 w1 r : Option (List ℕ))
     (old new : Tables) where
   answered : (fault : Option StoreFault) (written : Result A StreamFault) →
       IsWritten b amount w0 w1 r old new fault written → OnOk (ended_as fault written)
@@ -201,7 +203,7 @@ module _ {A : Type 0} (b : Book) (amount : Option ℕ) (w0 w1 r : Option (List �
 -- ---- before the lines are read
 
 -- nothing was run and nothing was written
-pub none_answered : {A K : Type 0} (b : Book) (amount : Option ℕ) (r w : Option (List ℕ))
+pub none_answered : {A K : Type 0} (b : Shelf) (amount : Option ℕ) (r w : Option (List ℕ))
     (content : K → Tables) (failed : K → ℕ) (clean : K → Type 0) (keeper : K)
     (result : Result A LinesFault) (f : StreamFault) → result ≡ Err (Read f) →
     AnswersLines b amount r w w content failed clean keeper keeper result

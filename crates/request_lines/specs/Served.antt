@@ -12,7 +12,7 @@ use Rattle.commands.specs.declared.command.Command.{Command}
 use Rattle.commands.specs.declared.command.Command.TheVariants.{Ccr, OpenAccount, Credit}
 use Rattle.json_fields.specs.declared.fault.WireFault.{WireFault}
 use Rattle.wire_answers.specs.Spelled.{answer_text, fault_text}
-use Rattle.tariffs.specs.Books.{Book}
+use Rattle.shelves.specs.Shelves.{Shelf}
 use Rattle.keepers.specs.Faults.{max_failures}
 use Rattle.keepers.specs.Tables.{Tables}
 use Rattle.keepers.specs.declared.fault.StoreFault.{StoreFault}
@@ -98,32 +98,32 @@ told_text amount stream answers =
     texts_of (faults_in stream) (drop (length (opening_in amount stream)) answers)
 
 -- the text of a stream, after a list of accepted commands
-abbrev pub text_of : Book → List Accepted → Option ℕ → List ℕ → List ℕ
+abbrev pub text_of : Shelf → List Accepted → Option ℕ → List ℕ → List ℕ
 text_of b list amount stream =
     told_text amount stream (answers_to b list (commands_of amount stream))
 
 -- as far as so many commands are answered
-abbrev pub text_to : ℕ → Book → List Accepted → Option ℕ → List ℕ → List ℕ
+abbrev pub text_to : ℕ → Shelf → List Accepted → Option ℕ → List ℕ → List ℕ
 text_to count b list amount stream =
     told_text amount stream (answers_to b list (take count (commands_of amount stream)))
 
 -- ---- a run
 
 -- all is written, and the tables are those of all commands
-pub record IsAnswered (b : Book) (opening : Option ℕ) (stream : List ℕ) (old new : Option (List ℕ))
+pub record IsAnswered (b : Shelf) (opening : Option ℕ) (stream : List ℕ) (old new : Option (List ℕ))
     (content : Tables) (list : List Accepted) : Type 0 where
   pub written : Appends old new (text_of b list opening stream)
   pub tables : AreTables b (after_commands b list (commands_of opening stream)) content
 
 -- the tables are those of all commands, and a beginning of the text is written
-pub record IsUntold (b : Book) (opening : Option ℕ) (stream : List ℕ) (old new : Option (List ℕ))
+pub record IsUntold (b : Shelf) (opening : Option ℕ) (stream : List ℕ) (old new : Option (List ℕ))
     (content : Tables) (list : List Accepted) : Type 0 where
   pub tables : AreTables b (after_commands b list (commands_of opening stream)) content
   pub written : WritesBeginning old new (text_of b list opening stream)
 
 -- the tables are those of fewer commands than there are, and what is written is of the text as far
 -- as these are answered
-pub record IsShort (b : Book) (opening : Option ℕ) (stream : List ℕ) (Writes : List ℕ → Type 0)
+pub record IsShort (b : Shelf) (opening : Option ℕ) (stream : List ℕ) (Writes : List ℕ → Type 0)
     (content : Tables) (list : List Accepted) : Type 0 where
   pub count : ℕ
   pub few : count < length (commands_of opening stream)
@@ -131,19 +131,19 @@ pub record IsShort (b : Book) (opening : Option ℕ) (stream : List ℕ) (Writes
   pub written : Writes (text_to count b list opening stream)
 
 -- all of that text
-abbrev pub IsStopped : Book → Option ℕ → List ℕ → Option (List ℕ) → Option (List ℕ) → Tables →
+abbrev pub IsStopped : Shelf → Option ℕ → List ℕ → Option (List ℕ) → Option (List ℕ) → Tables →
     List Accepted → Type 0
 IsStopped b opening stream old new content list =
     IsShort b opening stream (Appends old new) content list
 
 -- or a beginning of it
-abbrev pub IsCut : Book → Option ℕ → List ℕ → Option (List ℕ) → Option (List ℕ) → Tables →
+abbrev pub IsCut : Shelf → Option ℕ → List ℕ → Option (List ℕ) → Option (List ℕ) → Tables →
     List Accepted → Type 0
 IsCut b opening stream old new content list =
     IsShort b opening stream (WritesBeginning old new) content list
 
 -- the same, where all commands may have been run
-pub record IsBegun (b : Book) (opening : Option ℕ) (stream : List ℕ) (old new : Option (List ℕ))
+pub record IsBegun (b : Shelf) (opening : Option ℕ) (stream : List ℕ) (old new : Option (List ℕ))
     (content : Tables) (list : List Accepted) : Type 0 where
   pub count : ℕ
   pub tables : AreTables b (after_commands b list (take count (commands_of opening stream))) content
@@ -153,7 +153,7 @@ pub record IsBegun (b : Book) (opening : Option ℕ) (stream : List ℕ) (old ne
 
 -- so many of the commands are run, all where there is no fault, and fewer where there is one; the
 -- answers are those to the requests among them
-pub record IsRunOpened {F : Type 0} (b : Book) (opening requests : List DatedCommand)
+pub record IsRunOpened {F : Type 0} (b : Shelf) (opening requests : List DatedCommand)
     (content : Tables) (given : List Answer) (fault : Option F)
     (list : List Accepted) : Type 0 where
   pub count : ℕ
@@ -167,7 +167,7 @@ pub record IsRunOpened {F : Type 0} (b : Book) (opening requests : List DatedCom
 
 -- what answering lines leaves of a keeper that stays clean, where the reader tells its bytes: all
 -- are answered, or a beginning of them, and the faults of the keeper and of the writer say which
-pub record AnswersLines {A K : Type 0} (b : Book) (opening : Option ℕ)
+pub record AnswersLines {A K : Type 0} (b : Shelf) (opening : Option ℕ)
     (bytes empty full : Option (List ℕ)) (content : K → Tables) (failed : K → ℕ)
     (clean : K → Type 0) (old new : K) (result : Result A LinesFault) : Type 0 where
   pub answered : clean new → OnOk result (IfSome bytes (λ stream. ForEachList b (content old)

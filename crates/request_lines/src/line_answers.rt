@@ -16,9 +16,9 @@ use crate::output::write_output;
 use byte_streams::StreamFault;
 use charging::{DatedCommand, Run, run};
 use keepers::{Keeper, StoreFault};
+use shelves::TariffShelf;
 use std::alloc::Global;
 use std::io::{Read, Write};
-use tariffs::TariffBook;
 use units::Money;
 
 /// Answers lines `MOMENT JSON` of requests for credit control, a line each. All lines are read
@@ -36,12 +36,12 @@ use units::Money;
 pub fn lines<K: Keeper, R: Read, W: Write>(
     alloc: Global,
     keeper: &mut K,
-    book: &TariffBook,
+    shelf: &TariffShelf,
     opening: Option<Money>,
     reader: &mut R,
     writer: &mut W,
 ) -> Result<(), LinesFault>
-    ensures answers { AnswersLines book.now opening (R.remaining reader.old)
+    ensures answers { AnswersLines shelf.now opening (R.remaining reader.old)
         (W.contents writer.old) (W.contents writer.new)
         K.content K.failed K.clean keeper.old keeper.new result }
     ensures unread { (fault : StreamFault) → result ≡ Err (Read fault) → keeper.new ≡ keeper.old }
@@ -55,7 +55,7 @@ pub fn lines<K: Keeper, R: Read, W: Write>(
     let Ok(opening) = open_first(alloc, opening, &requests) else {
         return Err(LinesFault::Read(StreamFault::Memory));
     };
-    let Run { answers, fault } = run_opened(alloc, keeper, book, opening, requests);
+    let Run { answers, fault } = run_opened(alloc, keeper, shelf, opening, requests);
     let written = write_output(alloc, writer, &lines, &answers);
     ended_as(fault, written)
 }
@@ -76,22 +76,22 @@ fn ended_as(fault: Option<StoreFault>, written: Result<(), StreamFault>) -> Resu
 fn run_opened<K: Keeper>(
     alloc: Global,
     keeper: &mut K,
-    book: &TariffBook,
+    shelf: &TariffShelf,
     opening: Vec<DatedCommand>,
     requests: Vec<DatedCommand>,
 ) -> Run
-    ensures runs { K.clean keeper.new → ForEachList book.now (K.content keeper.old)
-        (IsRunOpened book.now opening.items requests.items
+    ensures runs { K.clean keeper.new → ForEachList shelf.now (K.content keeper.old)
+        (IsRunOpened shelf.now opening.items requests.items
         (K.content keeper.new) result.answers.items result.fault) }
     ensures cleanness { K.clean keeper.new → K.clean keeper.old }
     ensures failures { K.failed keeper.old ≤ K.failed keeper.new }
     ensures cause { result.fault ≡ Some StoreFailed →
         min (K.failed keeper.old + 1) max_failures ≤ K.failed keeper.new }
 {
-    let Run { answers: _, fault } = run(alloc, keeper, book, opening);
+    let Run { answers: _, fault } = run(alloc, keeper, shelf, opening);
     if fault.is_some() {
         let answers = Vec::new(alloc);
         return Run { answers, fault };
     }
-    run(alloc, keeper, book, requests)
+    run(alloc, keeper, shelf, requests)
 }

@@ -5,7 +5,7 @@ use Rattle.std.proofs.Common.{ap, ◌∙◌, arith, Option}
 use Rattle.std.proofs.lemmas.Bool.Decides.{nat_tests}
 use Rattle.std.proofs.lemmas.List.{append-nil}
 use Rattle.units.specs.declared.blocks.UsedPart.{UsedPart}
-use Rattle.tariffs.specs.Books.{Book}
+use Rattle.shelves.specs.Shelves.{Shelf}
 use Rattle.buckets.specs.declared.holds.Hold.{Hold}
 use Rattle.buckets.specs.Row.{Row}
 use Rattle.buckets.specs.Share.{parts}
@@ -16,7 +16,7 @@ use Rattle.reserving.specs.Ledger.{Ledger, uses_in, counter, next_charge}
 use Rattle.reserving.specs.Ledger.Fact.{Grant, End, Use}
 use Rattle.reserving.specs.Charges.{charge_of, charge_rows}
 use Rattle.reserving.specs.Requests.{recorded, touched, closed, credited, with_bar}
-use Rattle.reserving.specs.Pricing.{cycle_at, periods_at}
+use Rattle.reserving.specs.Pricing.{cycle_at, terms_at, validity_of}
 use Rattle.reserving.specs.Balance.{buckets_at}
 use Rattle.reserving.specs.Sessions.{holds_at}
 use Rattle.reserving.specs.Settlement.{reported, report_price, charge_facts, settled, settled_by}
@@ -62,14 +62,14 @@ pub charge_rows-ended : (t : ℕ) (s : List ℕ) (g : ℕ) (ledger : Ledger) →
     charge_rows (record { at = t; fact = End s g } ∷ ledger) ≡ charge_rows ledger
 charge_rows-ended t s g ledger = append-nil (charge_rows ledger)
 
-pub charge_rows-reserved : (b : Book) (t : ℕ) (s : List ℕ) (g units amount : ℕ) (ledger : Ledger) →
+pub charge_rows-reserved : (b : Shelf) (t : ℕ) (s : List ℕ) (g units amount : ℕ) (ledger : Ledger) →
     charge_rows (reserved b t s g units amount ledger) ≡ charge_rows ledger
 charge_rows-reserved b t s g units amount ledger =
-    let hs : List Hold = holds_of g t amount (buckets_at b.validity t ledger) in
+    let hs : List Hold = holds_of g t amount (buckets_at (validity_of b) t ledger) in
     let before : Ledger =
     record {
       at = t;
-      fact = Grant s g (periods_at b t) units (counter (cycle_at b g) g (cycle_at b g t) ledger);
+      fact = Grant s g (terms_at b t) units (counter (cycle_at b g) g (cycle_at b g t) ledger);
     }
     ∷ ledger in
     charge_rows-front (hold_facts t s g hs) before (each_hold _ t s g hs (λ k n m. refl))
@@ -104,7 +104,8 @@ used_row t hs s g units blocks rated left ledger =
     (each_charge _ t hs (λ k n. refl))) in
     λ i. rows i ++ charge_row (number i) t s g blocks rated left ∷ []
 
-pub charge_rows-settled : (v t : ℕ) (s : List ℕ) (g units blocks rated : ℕ) (ledger : Ledger) →
+pub charge_rows-settled : (v : ℕ → ℕ) (t : ℕ) (s : List ℕ) (g units blocks rated : ℕ)
+    (ledger : Ledger) →
     charge_rows (settled v t s g units blocks rated ledger)
     ≡ charge_rows ledger
     ++ charge_row (next_charge ledger) t s g blocks rated
@@ -119,7 +120,8 @@ charge_rows-settled v t s g units blocks rated ledger =
     ∷ charge_facts t hs ++ ledger))
     ∙ used_row t hs s g units blocks rated (uncollected holds g t rated rows) ledger
 
-pub charge_rows-charged_use : (v t : ℕ) (s : List ℕ) (g units blocks rated : ℕ) (ledger : Ledger) →
+pub charge_rows-charged_use : (v : ℕ → ℕ) (t : ℕ) (s : List ℕ) (g units blocks rated : ℕ)
+    (ledger : Ledger) →
     charge_rows (charged_use v t s g units blocks rated ledger)
     ≡ charge_rows ledger ++ charge_row (next_charge ledger) t s g blocks rated 0 ∷ []
 charge_rows-charged_use v t s g units blocks rated ledger =
@@ -129,18 +131,18 @@ charge_rows-charged_use v t s g units blocks rated ledger =
 -- ---- reports
 
 -- a group that is named without a report is charged nothing
-pub charge_rows-unreported : (b : Book) (t : ℕ) (s : List ℕ) (g : ℕ) (ledger : Ledger) →
+pub charge_rows-unreported : (b : Shelf) (t : ℕ) (s : List ℕ) (g : ℕ) (ledger : Ledger) →
     charge_rows (settled_by b t s g [] ledger) ≡ charge_rows ledger
 charge_rows-unreported b t s g ledger = charge_rows-ended t s g ledger
 
-pub charge_rows-reported : (b : Book) (t : ℕ) (s : List ℕ) (g : ℕ) (p : UsedPart)
+pub charge_rows-reported : (b : Shelf) (t : ℕ) (s : List ℕ) (g : ℕ) (p : UsedPart)
     (ps : List UsedPart) (ledger : Ledger) →
     charge_rows (settled_by b t s g (p ∷ ps) ledger)
     ≡ charge_rows ledger
     ++ charge_row (next_charge ledger) t s g (report_price b t s g (p ∷ ps) ledger).blocks
     (report_price b t s g (p ∷ ps) ledger).amount.0 (missing b t s g (p ∷ ps) ledger) ∷ []
 charge_rows-reported b t s g p ps ledger =
-    charge_rows-settled b.validity t s g (reported (p ∷ ps))
+    charge_rows-settled (validity_of b) t s g (reported (p ∷ ps))
     (report_price b t s g (p ∷ ps) ledger).blocks
     (report_price b t s g (p ∷ ps) ledger).amount.0 ledger
 
@@ -174,7 +176,7 @@ told_is n t s g blocks rated left x eb er eu ec = λ i. record {
 }
 
 -- a settled report adds the row that its answer tells
-pub charge_rows-settlement : (b : Book) (t n : ℕ) (s : List ℕ) (g : ℕ) (p : UsedPart)
+pub charge_rows-settlement : (b : Shelf) (t n : ℕ) (s : List ℕ) (g : ℕ) (p : UsedPart)
     (ps : List UsedPart) (ledger : Ledger) (x : Settled) → n ≡ next_charge ledger →
     IsSettlementOf b t s g (p ∷ ps) ledger x →
     charge_rows (settled_by b t s g (p ∷ ps) ledger) ≡ charge_rows ledger ++ told_row n t s g x ∷ []
@@ -192,14 +194,15 @@ charge_rows-settlement b t n s g p ps ledger x number is =
     is.rated is.uncollected collected)
 
 -- so does a debit
-pub charge_rows-debit : (b : Book) (t n : ℕ) (s : List ℕ) (g units : ℕ) (ledger : Ledger)
+pub charge_rows-debit : (b : Shelf) (t n : ℕ) (s : List ℕ) (g units : ℕ) (ledger : Ledger)
     (after : AccountRows) (x : Settled) → n ≡ next_charge ledger →
     IsDebitOf b t s g units ledger after x →
     charge_rows (debited b t s g units ledger) ≡ charge_rows ledger ++ told_row n t s g x ∷ []
 charge_rows-debit b t n s g units ledger after x number is =
     let rated : ℕ = (event_price b t g units ledger).amount.0 in
     let collected : x.collected.0 ≡ rated - 0 = omega (arith, is.collected, is.rated) in
-    charge_rows-charged_use b.validity t s g units (event_price b t g units ledger).blocks rated
+    charge_rows-charged_use (validity_of b) t s g units
+    (event_price b t g units ledger).blocks rated
     ledger
     ∙ (λ i. charge_rows ledger
     ++ charge_row (sym number i) t s g (event_price b t g units ledger).blocks rated 0 ∷ [])

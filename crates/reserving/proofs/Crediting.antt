@@ -10,7 +10,7 @@ use Rattle.reserving.specs.Ledger.{Ledger, is_live, charged, held, only, used, c
 use Rattle.reserving.specs.Ledger.{has_counter, open_grant, next_bucket}
 use Rattle.reserving.specs.Balance.{credits, bucket_at, balance_of}
 use Rattle.reserving.specs.Sessions.{held_by, holds_at, group_at, reservation_of, counter_at}
-use Rattle.reserving.specs.Pricing.{cycle_at}
+use Rattle.reserving.specs.Pricing.{cycle_at, validity_of}
 use Rattle.reserving.specs.SoundLedger.{IsUnknown, IsSoundLedger}
 use Rattle.reserving.specs.Rows.{AccountRows, IsAccount, IsRowsOf}
 use Rattle.reserving.specs.Requests.{credited}
@@ -71,7 +71,7 @@ pub IsAccount-credited : (a : AccountRows) (from until : ℕ) (scope : Option �
 IsAccount-credited a from until scope amount le most is =
     let b : Row = new_row a.next_bucket from until scope amount in
     record {
-      book = is.book;
+      shelf = is.shelf;
       sound = IsSound-inserted b a.buckets is.below (record { sum = omega arith; most = most })
           is.sound;
       below = IsBelow-inserted a.next_bucket b a.buckets (omega arith) is.below;
@@ -92,7 +92,8 @@ IsAccount-credited a from until scope amount le most is =
 
 abbrev later_row : AccountRows → ℕ → Row → Row
 later_row a t b =
-    with_end t (with_release t b (lapsed_in (is_live_in a.book.validity t a.sessions) a.groups b))
+    with_end t (with_release t b (lapsed_in (is_live_in (validity_of a.shelf) t a.sessions) a.groups
+    b))
 
 -- a new bucket at a moment
 new_later : (t n from until : ℕ) (scope : Option ℕ) (amount lapsed ch h : ℕ) → lapsed ≡ 0 → ch ≡ 0 →
@@ -152,8 +153,8 @@ IsRowsOf-credited ledger a t from until scope amount is rows le = record {
   sound = IsSoundLedger-credited t from until scope amount ledger rows.sound;
 }
   where
-    v : ℕ
-    v = a.book.validity
+    v : ℕ → ℕ
+    v = (validity_of a.shelf)
 
     more : Ledger
     more = credited t from until scope amount ledger
@@ -225,11 +226,12 @@ IsRowsOf-credited ledger a t from until scope amount is rows le = record {
         }) else None
 
     counted : (g c : ℕ) →
-        counter_at (cycle_at a.book g) ledger g c ≡ counter_at (cycle_at a.book g) more g c
+        counter_at (cycle_at a.shelf g) ledger g c ≡ counter_at (cycle_at a.shelf g) more g c
     counted g c =
-        let number : counter (cycle_at a.book g) g c ledger ≡ counter (cycle_at a.book g) g c more =
-        plain (cycle_at a.book g t == c) (counter (cycle_at a.book g) g c ledger) in
-        λ i. if has_counter (cycle_at a.book g) g c ledger
+        let number : counter (cycle_at a.shelf g) g c ledger ≡ counter
+        (cycle_at a.shelf g) g c more =
+        plain (cycle_at a.shelf g t == c) (counter (cycle_at a.shelf g) g c ledger) in
+        λ i. if has_counter (cycle_at a.shelf g) g c ledger
         then Some (record { group = g; cycle = c; blocks = number i }) else None
       where
         plain : (e : Bool) (n : ℕ) → n ≡ (if e then 0 else 0) + n

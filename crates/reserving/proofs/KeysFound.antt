@@ -12,7 +12,7 @@ use Rattle.reserving.specs.declared.session.Counter.{Counter}
 use Rattle.reserving.specs.Keyed.{put, IsGap}
 use Rattle.reserving.specs.Sessions.{is_of, group_in, is_counter, counter_in, holds_in}
 use Rattle.reserving.specs.Sessions.{is_session, session_in, session_before}
-use Rattle.reserving.specs.Changes.{new_group, used_in, reserved_in, periods_in, count_in}
+use Rattle.reserving.specs.Changes.{new_group, used_in, reserved_in, terms_in, count_in}
 use Rattle.reserving.specs.Changes.{ended_group}
 use Rattle.reserving.specs.Prepared.{with_group, with_counter}
 use Rattle.reserving.specs.Rows.{EachIn, AreApart}
@@ -86,16 +86,16 @@ reserved_at s g place rows d h =
 
 pub periods_at_place : (s : List ℕ) (g place : ℕ) (rows : List SessionGroup) (d : SessionGroup) →
     position (is_of s g) rows ≡ Some place →
-    option_map (λ (r : Reservation). r.periods) (get_or rows place d).reservation
-    ≡ periods_in s g rows
+    option_map (λ (r : Reservation). r.terms) (get_or rows place d).reservation
+    ≡ terms_in s g rows
 periods_at_place s g place rows d h =
-    sym (ap (λ o. option_map (λ (r : Reservation). r.periods)
+    sym (ap (λ o. option_map (λ (r : Reservation). r.terms)
     (unwrap_or o (new_group s g)).reservation) (found_group s g place rows d h))
 
 pub no_periods : (s : List ℕ) (g : ℕ) (rows : List SessionGroup) →
-    position (is_of s g) rows ≡ None → None ≡ periods_in s g rows
+    position (is_of s g) rows ≡ None → None ≡ terms_in s g rows
 no_periods s g rows h =
-    sym (ap (λ o. option_map (λ (r : Reservation). r.periods)
+    sym (ap (λ o. option_map (λ (r : Reservation). r.terms)
     (unwrap_or o (new_group s g)).reservation) (unplaced (is_of s g) rows h))
 
 pub unreserved : (s : List ℕ) (g : ℕ) (rows : List SessionGroup) →

@@ -12,13 +12,13 @@ use Rattle.buckets.specs.Holding.{held_in, settled_rows, released_rows}
 use Rattle.buckets.proofs.SharesAlong.{KeepsPlace, with_end_keeps, with_release_number}
 use Rattle.buckets.proofs.SharesAlong.{with_release_until}
 use Rattle.rating.specs.declared.report.Rated.{Rated}
-use Rattle.tariffs.specs.Books.{Book}
+use Rattle.shelves.specs.Shelves.{Shelf}
 use Rattle.reserving.specs.declared.session.Session.{Session}
 use Rattle.reserving.specs.declared.session.SessionGroup.{SessionGroup}
 use Rattle.reserving.specs.declared.session.Reservation.{Reservation}
 use Rattle.reserving.specs.declared.session.Counter.{Counter}
 use Rattle.reserving.specs.Ledger.{Ledger, is_same, is_live}
-use Rattle.reserving.specs.Pricing.{cycle_at}
+use Rattle.reserving.specs.Pricing.{cycle_at, validity_of}
 use Rattle.reserving.specs.Keyed.{put}
 use Rattle.reserving.specs.Sessions.{session_in, is_open, is_of, group_in, is_counter, is_live_in}
 use Rattle.reserving.specs.Sessions.{is_live_row, holds_in, held_by}
@@ -52,7 +52,8 @@ lapse_free keeps r e = at (keeps r.session)
     at false = λ i. record r { reservation = sym e i }
 
 -- nothing of a live session was left
-pub differs_from : (v t : ℕ) (rows : List Session) (s x : List ℕ) → is_live_in v t rows s ≡ true →
+pub differs_from : (v : ℕ → ℕ) (t : ℕ) (rows : List Session) (s x : List ℕ) →
+    is_live_in v t rows s ≡ true →
     session_in x rows ≡ None → is_same x s ≡ false
 differs_from v t rows s x alive none = at (is_same x s) refl
   where
@@ -64,37 +65,38 @@ differs_from v t rows s x alive none = at (is_same x s) refl
     at false e = refl
 
 pub not_of_live : (left : LeftRows) (a : AccountRows) (t : ℕ) (s : List ℕ) (g : ℕ) → IsLeft left a →
-    is_live_in a.book.validity t a.sessions s ≡ true → EachIn (λ r. is_of s g r ≡ false) left.groups
+    is_live_in (validity_of a.shelf) t a.sessions s ≡ true →
+    EachIn (λ r. is_of s g r ≡ false) left.groups
 not_of_live left a t s g h alive =
     EachIn-weaker _ _ left.groups
     (λ r e. ap (λ b. b && r.group == g)
-    (differs_from a.book.validity t a.sessions s r.session alive e)) h.others
+    (differs_from (validity_of a.shelf) t a.sessions s r.session alive e)) h.others
 
 -- no counter of the cycle was left
-pub not_counted : (book : Book) (t g : ℕ) (rows : List Counter) → AreOfOtherCycles book t rows →
-    EachIn (λ r. is_counter g (cycle_at book g t) r ≡ false) rows
-not_counted book t g rows cycles = EachIn-weaker _ _ rows other cycles
+pub not_counted : (shelf : Shelf) (t g : ℕ) (rows : List Counter) → AreOfOtherCycles shelf t rows →
+    EachIn (λ r. is_counter g (cycle_at shelf g t) r ≡ false) rows
+not_counted shelf t g rows cycles = EachIn-weaker _ _ rows other cycles
   where
-    other : (r : Counter) → (r.cycle == cycle_at book r.group t) ≡ false →
-        is_counter g (cycle_at book g t) r ≡ false
+    other : (r : Counter) → (r.cycle == cycle_at shelf r.group t) ≡ false →
+        is_counter g (cycle_at shelf g t) r ≡ false
     other r e = at (r.group == g) refl
       where
-        at : (b : Bool) → (r.group == g) ≡ b → (b && r.cycle == cycle_at book g t) ≡ false
-        at true k = ap (λ n. r.cycle == cycle_at book n t) (sym (number_from r.group g k)) ∙ e
+        at : (b : Bool) → (r.group == g) ≡ b → (b && r.cycle == cycle_at shelf g t) ≡ false
+        at true k = ap (λ n. r.cycle == cycle_at shelf n t) (sym (number_from r.group g k)) ∙ e
         at false k = refl
 
-pub count_beside : (book : Book) (t g : ℕ) (left rows : List Counter) →
-    AreOfOtherCycles book t left →
-    count_in g (cycle_at book g t) (left ++ rows) ≡ count_in g (cycle_at book g t) rows
-count_beside book t g left rows cycles =
+pub count_beside : (shelf : Shelf) (t g : ℕ) (left rows : List Counter) →
+    AreOfOtherCycles shelf t left →
+    count_in g (cycle_at shelf g t) (left ++ rows) ≡ count_in g (cycle_at shelf g t) rows
+count_beside shelf t g left rows cycles =
     ap (λ o. unwrap_or (option_map (λ (r : Counter). r.blocks) o) 0)
-    (find_behind (is_counter g (cycle_at book g t)) left rows (not_counted book t g left cycles))
+    (find_behind (is_counter g (cycle_at shelf g t)) left rows (not_counted shelf t g left cycles))
 
 module _ (left : LeftRows) (a : AccountRows) (h : IsLeft left a) where
   pub live : (t : ℕ) (s : List ℕ) →
-      is_live_in a.book.validity t (left.sessions ++ a.sessions) s
-      ≡ is_live_in a.book.validity t a.sessions s
-  live t s = live_behind a.book.validity t left.sessions a.sessions s h.over h.apart
+      is_live_in (validity_of a.shelf) t (left.sessions ++ a.sessions) s
+      ≡ is_live_in (validity_of a.shelf) t a.sessions s
+  live t s = live_behind (validity_of a.shelf) t left.sessions a.sessions s h.over h.apart
 
   -- no reservation holds anything of a dead bucket
   pub unheld : Each (λ b. held_by (λ s. true) a.groups b ≡ 0) left.buckets
@@ -108,10 +110,10 @@ module _ (left : LeftRows) (a : AccountRows) (h : IsLeft left a) where
 
   module _ (t : ℕ) where
     abbrev keeps : List ℕ → Bool
-    keeps = is_live_in a.book.validity t a.sessions
+    keeps = is_live_in (validity_of a.shelf) t a.sessions
 
     abbrev whole_keeps : List ℕ → Bool
-    whole_keeps = is_live_in a.book.validity t (left.sessions ++ a.sessions)
+    whole_keeps = is_live_in (validity_of a.shelf) t (left.sessions ++ a.sessions)
 
     abbrev later : Row → Row
     later b = with_end t (with_release t b (lapsed_in keeps a.groups b))
@@ -145,13 +147,13 @@ module _ (left : LeftRows) (a : AccountRows) (h : IsLeft left a) where
         (each_both (λ b. held_by (λ s. true) a.groups b ≡ 0) IsDead (λ b. later b ≡ b)
         left.buckets later_dead unheld h.dead)
 
-    lapse_over : (r : Session) → is_open r.state ≡ false → lapse a.book.validity t r ≡ r
+    lapse_over : (r : Session) → is_open r.state ≡ false → lapse (validity_of a.shelf) t r ≡ r
     lapse_over r e = rw e refl
 
-    sessions_later : map (lapse a.book.validity t) (left.sessions ++ a.sessions)
-        ≡ left.sessions ++ map (lapse a.book.validity t) a.sessions
+    sessions_later : map (lapse (validity_of a.shelf) t) (left.sessions ++ a.sessions)
+        ≡ left.sessions ++ map (lapse (validity_of a.shelf) t) a.sessions
     sessions_later =
-        map_behind (lapse a.book.validity t) left.sessions a.sessions
+        map_behind (lapse (validity_of a.shelf) t) left.sessions a.sessions
         (EachIn-weaker _ _ left.sessions lapse_over h.over)
 
     groups_later : map (lapse_group whole_keeps) (left.groups ++ a.groups)
@@ -241,17 +243,17 @@ module _ (left : LeftRows) (a : AccountRows) (h : IsLeft left a) where
         (λ r e. ap (λ t. if t then record r { reservation = None } else r) e) not_of) in
         λ i. record (joined left a) { buckets = buckets i; groups = groups i }
 
-    module _ (cycles : AreOfOtherCycles a.book a.as_of left.counters) where
-      pub count_same : count_in g (cycle_at a.book g a.as_of) (left.counters ++ a.counters)
-          ≡ count_in g (cycle_at a.book g a.as_of) a.counters
-      count_same = count_beside a.book a.as_of g left.counters a.counters cycles
+    module _ (cycles : AreOfOtherCycles a.shelf a.as_of left.counters) where
+      pub count_same : count_in g (cycle_at a.shelf g a.as_of) (left.counters ++ a.counters)
+          ≡ count_in g (cycle_at a.shelf g a.as_of) a.counters
+      count_same = count_beside a.shelf a.as_of g left.counters a.counters cycles
 
       pub count_joined : (blocks : ℕ) →
           IsPermutation
-          (with_count g (cycle_at a.book g a.as_of) blocks (left.counters ++ a.counters))
-          (left.counters ++ with_count g (cycle_at a.book g a.as_of) blocks a.counters)
+          (with_count g (cycle_at a.shelf g a.as_of) blocks (left.counters ++ a.counters))
+          (left.counters ++ with_count g (cycle_at a.shelf g a.as_of) blocks a.counters)
       count_joined blocks =
-          let c : ℕ = cycle_at a.book g a.as_of in
+          let c : ℕ = cycle_at a.shelf g a.as_of in
           let row : Counter =
           record { group = g; cycle = c; blocks = count_in g c a.counters + blocks } in
           let same : with_count g c blocks (left.counters ++ a.counters)
@@ -262,7 +264,7 @@ module _ (left : LeftRows) (a : AccountRows) (h : IsLeft left a) where
           subst (λ xs. IsPermutation xs (left.counters ++ with_count g c blocks a.counters))
           (sym same)
           (put_behind counter_before (is_counter g c) row left.counters a.counters
-          (not_counted a.book a.as_of g left.counters cycles))
+          (not_counted a.shelf a.as_of g left.counters cycles))
 
       pub settled_joined : (units blocks rated : ℕ) →
           IsReordered (settled_account s g units blocks rated (joined left a))
@@ -271,7 +273,7 @@ module _ (left : LeftRows) (a : AccountRows) (h : IsLeft left a) where
         same = λ i. record (joined left a) {
           buckets = settled_buckets rated i;
           counters = left.counters
-              ++ with_count g (cycle_at a.book g a.as_of) blocks a.counters;
+              ++ with_count g (cycle_at a.shelf g a.as_of) blocks a.counters;
           groups = left.groups ++ with_use s g units a.groups;
           next_charge = a.next_charge + 1;
         };
@@ -283,8 +285,8 @@ module _ (left : LeftRows) (a : AccountRows) (h : IsLeft left a) where
       price_same : (used_parts : List UsedPart) →
           price_in s g a.as_of used_parts (joined left a) ≡ price_in s g a.as_of used_parts a
       price_same used_parts =
-          λ i. price_of a.book a.as_of g
-          (option_map (λ (r : Reservation). r.periods) (row_same i).reservation)
+          λ i. price_of a.shelf a.as_of g
+          (option_map (λ (r : Reservation). r.terms) (row_same i).reservation)
           (row_same i).used (count_same i) used_parts
 
       pub by_parts : (used_parts : List UsedPart) →
@@ -305,8 +307,8 @@ pub advanced_joined : (t : ℕ) (left : LeftRows) (a : AccountRows) → IsLeft l
 advanced_joined t left a h = advanced_joined' left a h t
 
 pub settled_by_joined : (left : LeftRows) (a : AccountRows) (s : List ℕ) (g : ℕ)
-    (used_parts : List UsedPart) → IsLeft left a → AreOfOtherCycles a.book a.as_of left.counters →
-    is_live_in a.book.validity a.as_of a.sessions s ≡ true →
+    (used_parts : List UsedPart) → IsLeft left a → AreOfOtherCycles a.shelf a.as_of left.counters →
+    is_live_in (validity_of a.shelf) a.as_of a.sessions s ≡ true →
     IsReordered (settled_by_rows s g used_parts (joined left a))
     (joined left (settled_by_rows s g used_parts a))
 settled_by_joined left a s g used_parts h cycles alive =
@@ -314,16 +316,16 @@ settled_by_joined left a s g used_parts h cycles alive =
 
 -- the old theorem, at the whole account
 pub settled_with_left : (ledger : Ledger) (left : LeftRows) (a : AccountRows) (s : List ℕ) (g : ℕ)
-    (used_parts : List UsedPart) → IsLeft left a → AreOfOtherCycles a.book a.as_of left.counters →
-    is_live_in a.book.validity a.as_of a.sessions s ≡ true → IsRowsOf ledger (joined left a) →
-    IsRowsOf (settled_by a.book a.as_of s g used_parts ledger)
+    (used_parts : List UsedPart) → IsLeft left a → AreOfOtherCycles a.shelf a.as_of left.counters →
+    is_live_in (validity_of a.shelf) a.as_of a.sessions s ≡ true → IsRowsOf ledger (joined left a) →
+    IsRowsOf (settled_by a.shelf a.as_of s g used_parts ledger)
     (joined left (settled_by_rows s g used_parts a))
 settled_with_left ledger left a s g used_parts h cycles alive rows =
     let now : a.as_of ≤ a.as_of = omega arith in
-    let whole_live : is_live a.book.validity a.as_of ledger s ≡ true =
+    let whole_live : is_live (validity_of a.shelf) a.as_of ledger s ≡ true =
     sym (is_live_in-is ledger (joined left a) a.as_of s rows now) ∙ live left a h a.as_of s
     ∙ alive in
-    IsRowsOf-reordered (settled_by a.book a.as_of s g used_parts ledger)
+    IsRowsOf-reordered (settled_by a.shelf a.as_of s g used_parts ledger)
     (settled_by_rows s g used_parts (joined left a))
     (joined left (settled_by_rows s g used_parts a))
     (settled_by_joined left a s g used_parts h cycles alive)

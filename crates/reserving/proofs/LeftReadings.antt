@@ -9,11 +9,12 @@ use Rattle.buckets.specs.Spend.{Each, funds}
 use Rattle.buckets.specs.Holding.{held_in, uncollected}
 use Rattle.rating.specs.declared.grant.Grant.{Grant}
 use Rattle.rating.specs.declared.grant.Periods.{Periods}
+use Rattle.shelves.specs.Shelves.{book_at}
 use Rattle.reserving.specs.declared.session.SessionGroup.{SessionGroup}
 use Rattle.reserving.specs.declared.session.Reservation.{Reservation}
 use Rattle.reserving.specs.Ledger.{Ledger, is_live}
 use Rattle.reserving.specs.Balance.{buckets_at}
-use Rattle.reserving.specs.Pricing.{cycle_at, periods_at}
+use Rattle.reserving.specs.Pricing.{cycle_at, periods_at, validity_of}
 use Rattle.reserving.specs.Quotas.{IsQuota}
 use Rattle.reserving.specs.Reservation.{grant_for}
 use Rattle.reserving.specs.Sessions.{is_of, is_live_in}
@@ -40,7 +41,7 @@ funds_joined left a g t h =
 
 pub funds_told : (ledger : Ledger) (left : LeftRows) (t : ℕ) (a : AccountRows) (g : ℕ) →
     a.as_of ≤ t → IsWith ledger left t a →
-    funds g t (advanced t a).buckets ≡ funds g t (buckets_at a.book.validity t ledger)
+    funds g t (advanced t a).buckets ≡ funds g t (buckets_at (validity_of a.shelf) t ledger)
 funds_told ledger left t a g le h =
     sym (funds_joined left a g t h.apart)
     ∙ ap (funds g t) (IsRowsOf-advanced ledger (joined left a) t h.apart.whole h.rows le).buckets
@@ -49,21 +50,21 @@ funds_told ledger left t a g le h =
 
 pub live_told : (ledger : Ledger) (left : LeftRows) (t u : ℕ) (a : AccountRows) (s : List ℕ) →
     a.as_of ≤ u → IsWith ledger left t a →
-    is_live_in a.book.validity u a.sessions s ≡ is_live a.book.validity u ledger s
+    is_live_in (validity_of a.shelf) u a.sessions s ≡ is_live (validity_of a.shelf) u ledger s
 live_told ledger left t u a s le h =
     sym (live left a h.apart u s) ∙ is_live_in-is ledger (joined left a) u s h.rows le
 
 -- ---- an event
 
 pub event_price_joined : (left : LeftRows) (a : AccountRows) (g units t : ℕ) →
-    AreOfOtherCycles a.book t left.counters →
+    AreOfOtherCycles a.shelf t left.counters →
     event_price_in g units t (joined left a) ≡ event_price_in g units t a
 event_price_joined left a g units t cycles =
-    λ i. price_of a.book t g None 0 (count_beside a.book t g left.counters a.counters cycles i)
+    λ i. price_of a.shelf t g None 0 (count_beside a.shelf t g left.counters a.counters cycles i)
     (untagged units)
 
 pub event_price_told : (ledger : Ledger) (left : LeftRows) (t : ℕ) (a : AccountRows) (g units : ℕ) →
-    IsWith ledger left t a → event_price_in g units t a ≡ event_price a.book t g units ledger
+    IsWith ledger left t a → event_price_in g units t a ≡ event_price a.shelf t g units ledger
 event_price_told ledger left t a g units h =
     sym (event_price_joined left a g units t h.cycles)
     ∙ event_price_is ledger (joined left a) g units t h.rows
@@ -75,33 +76,33 @@ used_joined left a s g h not_of = ap (λ (r : SessionGroup). r.used) (row_same l
 
 pub debit_passes_told : (ledger : Ledger) (left : LeftRows) (t : ℕ) (a : AccountRows) (s : List ℕ)
     (g units : ℕ) → EachIn (λ r. is_of s g r ≡ false) left.groups → IsWith ledger left t a →
-    debit_passes a.book t s g units ledger
-    ≡ passes (used_in s g a.groups) units (count_in g (cycle_at a.book g t) a.counters)
+    debit_passes a.shelf t s g units ledger
+    ≡ passes (used_in s g a.groups) units (count_in g (cycle_at a.shelf g t) a.counters)
     (event_price_in g units t a).blocks a.next_charge
 debit_passes_told ledger left t a s g units not_of h =
     debit_passes_is ledger (joined left a) s g units t h.rows
     ∙ (λ i. passes (used_joined left a s g h.apart not_of i) units
-    (count_beside a.book t g left.counters a.counters h.cycles i)
+    (count_beside a.shelf t g left.counters a.counters h.cycles i)
     (event_price_joined left a g units t h.cycles i).blocks a.next_charge)
 
 -- ---- a report
 
 pub price_joined : (left : LeftRows) (a : AccountRows) (s : List ℕ) (g t : ℕ)
-    (used_parts : List UsedPart) → IsLeft left a → AreOfOtherCycles a.book t left.counters →
+    (used_parts : List UsedPart) → IsLeft left a → AreOfOtherCycles a.shelf t left.counters →
     EachIn (λ r. is_of s g r ≡ false) left.groups →
     price_in s g t used_parts (joined left a) ≡ price_in s g t used_parts a
 price_joined left a s g t used_parts h cycles not_of =
-    λ i. price_of a.book t g
-    (option_map (λ (r : Reservation). r.periods) (row_same left a h s g not_of i).reservation)
+    λ i. price_of a.shelf t g
+    (option_map (λ (r : Reservation). r.terms) (row_same left a h s g not_of i).reservation)
     (row_same left a h s g not_of i).used
-    (count_beside a.book t g left.counters a.counters cycles i) used_parts
+    (count_beside a.shelf t g left.counters a.counters cycles i) used_parts
 
 pub passes_after_told : (charges : ℕ) (ledger : Ledger) (left : LeftRows) (t : ℕ) (a : AccountRows)
     (s : List ℕ) (g : ℕ) (used_parts : List UsedPart) → a.as_of ≤ t → IsWith ledger left t a →
-    is_live_in a.book.validity t a.sessions s ≡ true → (used_parts ≡ [] → ⊥) →
-    passes_after charges a.book t s g used_parts ledger
+    is_live_in (validity_of a.shelf) t a.sessions s ≡ true → (used_parts ≡ [] → ⊥) →
+    passes_after charges a.shelf t s g used_parts ledger
     ≡ passes (used_in s g a.groups) (reported used_parts)
-    (count_in g (cycle_at a.book g t) a.counters) (price_in s g t used_parts a).blocks
+    (count_in g (cycle_at a.shelf g t) a.counters) (price_in s g t used_parts a).blocks
     (a.next_charge + charges)
 passes_after_told charges ledger left t a s g used_parts le h alive some =
     let not_of : EachIn (λ r. is_of s g r ≡ false) left.groups =
@@ -109,23 +110,23 @@ passes_after_told charges ledger left t a s g used_parts le h alive some =
     passes_after_is charges ledger (joined left a) s g t used_parts h.apart.whole h.rows le
     (live left a h.apart t s ∙ alive) some
     ∙ (λ i. passes (used_joined left a s g h.apart not_of i) (reported used_parts)
-    (count_beside a.book t g left.counters a.counters h.cycles i)
+    (count_beside a.shelf t g left.counters a.counters h.cycles i)
     (price_joined left a s g t used_parts h.apart h.cycles not_of i).blocks
     (a.next_charge + charges))
 
 pub passes_told : (ledger : Ledger) (left : LeftRows) (t : ℕ) (a : AccountRows) (s : List ℕ) (g : ℕ)
     (used_parts : List UsedPart) → a.as_of ≤ t → IsWith ledger left t a →
-    is_live_in a.book.validity t a.sessions s ≡ true → (used_parts ≡ [] → ⊥) →
-    passes_limit a.book t s g used_parts ledger
+    is_live_in (validity_of a.shelf) t a.sessions s ≡ true → (used_parts ≡ [] → ⊥) →
+    passes_limit a.shelf t s g used_parts ledger
     ≡ passes (used_in s g a.groups) (reported used_parts)
-    (count_in g (cycle_at a.book g t) a.counters) (price_in s g t used_parts a).blocks
+    (count_in g (cycle_at a.shelf g t) a.counters) (price_in s g t used_parts a).blocks
     a.next_charge
 passes_told ledger left t a s g used_parts le h alive some =
     let next : a.next_charge + 0 ≡ a.next_charge = omega arith in
-    sym (passes_after-none a.book t s g used_parts ledger)
+    sym (passes_after-none a.shelf t s g used_parts ledger)
     ∙ passes_after_told 0 ledger left t a s g used_parts le h alive some
     ∙ ap (passes (used_in s g a.groups) (reported used_parts)
-    (count_in g (cycle_at a.book g t) a.counters) (price_in s g t used_parts a).blocks) next
+    (count_in g (cycle_at a.shelf g t) a.counters) (price_in s g t used_parts a).blocks) next
 
 -- what is collected of an amount doesn't know of dead buckets
 pub uncollected_merged : (holds : List Hold) (g t amount : ℕ) (left rows : List Row) →
@@ -137,37 +138,39 @@ uncollected_merged holds g t amount left rows dead none =
 -- ---- a quota
 
 pub quota_joined : (left : LeftRows) (a : AccountRows) (used used' g t : ℕ) (requested : Option ℕ)
-    (units : ℕ) (grant : Grant) → IsLeft left a → AreOfOtherCycles a.book t left.counters →
+    (units : ℕ) (grant : Grant) → IsLeft left a → AreOfOtherCycles a.shelf t left.counters →
     used' ≡ used →
-    IsQuota a.book used g requested (periods_at a.book t)
-    (count_in g (cycle_at a.book g t) a.counters) (funds g t (advanced t a).buckets) units grant
+    IsQuota (book_at a.shelf t) used g requested (periods_at a.shelf t)
+    (count_in g (cycle_at a.shelf g t) a.counters) (funds g t (advanced t a).buckets) units grant
     →
-    IsQuota a.book used' g requested (periods_at a.book t)
-    (count_in g (cycle_at a.book g t) (joined left a).counters)
+    IsQuota (book_at a.shelf t) used' g requested (periods_at a.shelf t)
+    (count_in g (cycle_at a.shelf g t) (joined left a).counters)
     (funds g t (advanced t (joined left a)).buckets) units grant
 quota_joined left a used used' g t requested units grant h cycles e q =
-    let p : Periods = periods_at a.book t in
-    let c : ℕ = cycle_at a.book g t in
-    subst (λ n. IsQuota a.book n g requested p (count_in g c (joined left a).counters)
+    let p : Periods = periods_at a.shelf t in
+    let c : ℕ = cycle_at a.shelf g t in
+    subst (λ n. IsQuota (book_at a.shelf t) n g requested p (count_in g c (joined left a).counters)
     (funds g t (advanced t (joined left a)).buckets) units grant) (sym e)
-    (subst (λ n. IsQuota a.book used g requested p n
+    (subst (λ n. IsQuota (book_at a.shelf t) used g requested p n
     (funds g t (advanced t (joined left a)).buckets) units grant)
-    (sym (count_beside a.book t g left.counters a.counters cycles))
-    (subst (λ n. IsQuota a.book used g requested p (count_in g c a.counters) n units grant)
+    (sym (count_beside a.shelf t g left.counters a.counters cycles))
+    (subst (λ n. IsQuota (book_at a.shelf t) used g requested p (count_in g c a.counters)
+    n units grant)
     (sym (funds_joined left a g t h)) q))
 
 pub new_told_beside : (ledger : Ledger) (left : LeftRows) (t : ℕ) (a : AccountRows) (g : ℕ)
     (requested : Option ℕ) (units : ℕ) (grant : Grant) → a.as_of ≤ t → IsWith ledger left t a →
-    IsQuota a.book 0 g requested (periods_at a.book t) (count_in g (cycle_at a.book g t) a.counters)
+    IsQuota (book_at a.shelf t) 0 g requested (periods_at a.shelf t)
+    (count_in g (cycle_at a.shelf g t) a.counters)
     (funds g t (advanced t a).buckets) units grant →
-    grant ≡ grant_for a.book t g 0 requested ledger
+    grant ≡ grant_for a.shelf t g 0 requested ledger
 new_told_beside ledger left t a g requested units grant le h q =
     new_told ledger (joined left a) g t requested units grant h.apart.whole h.rows le
     (quota_joined left a 0 0 g t requested units grant h.apart h.cycles refl q)
 
 pub quota_of_joined : (left : LeftRows) (a : AccountRows) (s : List ℕ) (g t : ℕ)
     (requested : Option ℕ) (units : ℕ) (grant : Grant) → IsLeft left a →
-    AreOfOtherCycles a.book t left.counters → EachIn (λ r. is_of s g r ≡ false) left.groups →
+    AreOfOtherCycles a.shelf t left.counters → EachIn (λ r. is_of s g r ≡ false) left.groups →
     QuotaOf a s g t requested units grant → QuotaOf (joined left a) s g t requested units grant
 quota_of_joined left a s g t requested units grant h cycles not_of q =
     quota_joined left a (used_in s g a.groups) (used_in s g (joined left a).groups) g t requested

@@ -6,11 +6,11 @@ use Rattle.std.specs.Prelude.{if◌then◌else◌, ◌==◌, ◌&&◌, nat_lt}
 use Rattle.std.proofs.Math.Bool.{and-false}
 use Rattle.std.proofs.lemmas.Bool.Decides.{nat_tests}
 use Rattle.units.specs.declared.blocks.UsedPart.{UsedPart}
-use Rattle.tariffs.specs.Books.{Book}
+use Rattle.shelves.specs.Shelves.{Shelf}
 use Rattle.rating.specs.declared.report.Rated.{Rated}
 use Rattle.reserving.specs.Ledger.{Ledger, is_same, used, counter, open_grant, next_charge, uses_in}
 use Rattle.reserving.specs.Ledger.{inner, or_else, newest, grant_in}
-use Rattle.reserving.specs.Pricing.{cycle_at}
+use Rattle.reserving.specs.Pricing.{cycle_at, validity_of}
 use Rattle.reserving.specs.Settlement.{charge_facts, settled, settled_by, reported, price_of}
 use Rattle.reserving.specs.Settlement.{report_price, passes, passes_limit, passes_after}
 use Rattle.reserving.specs.Settlement.{charge_count}
@@ -26,7 +26,7 @@ none_counted : (t u : Bool) (n : ℕ) → u ≡ false → (if t then (if u then 
 none_counted true u n e = rw e refl
 none_counted false u n e = refl
 
-next_settled : (v t : ℕ) (s : List ℕ) (g units blocks rated : ℕ) (ledger : Ledger) →
+next_settled : (v : ℕ → ℕ) (t : ℕ) (s : List ℕ) (g units blocks rated : ℕ) (ledger : Ledger) →
     next_charge (settled v t s g units blocks rated ledger) ≡ next_charge ledger + 1
 next_settled v t s g units blocks rated ledger =
     omega (
@@ -36,7 +36,7 @@ next_settled v t s g units blocks rated ledger =
     )
 
 -- what the settlement of another group leaves of all that limits a report
-record IsBefore (b : Book) (t : ℕ) (s : List ℕ) (g charges : ℕ) (ledger after : Ledger) : Type 0
+record IsBefore (b : Shelf) (t : ℕ) (s : List ℕ) (g charges : ℕ) (ledger after : Ledger) : Type 0
   where
     pub used : used s g after ≡ used s g ledger
     pub count : counter (cycle_at b g) g (cycle_at b g t) after
@@ -44,7 +44,8 @@ record IsBefore (b : Book) (t : ℕ) (s : List ℕ) (g charges : ℕ) (ledger af
     pub grant : open_grant s g after ≡ open_grant s g ledger
     pub next : next_charge after ≡ next_charge ledger + charges
 
-before_other : (b : Book) (t : ℕ) (s : List ℕ) (g h : ℕ) (parts : List UsedPart) (ledger : Ledger) →
+before_other : (b : Shelf) (t : ℕ) (s : List ℕ) (g h : ℕ) (parts : List UsedPart)
+    (ledger : Ledger) →
     (h == g) ≡ false →
     IsBefore b t s g (charge_count parts) ledger (settled_by b t s h parts ledger)
 before_other b t s g h [] ledger e =
@@ -60,23 +61,24 @@ before_other b t s g h (p ∷ ps) ledger e =
     let key : is_key s h s g ≡ false = other_key s h g e in
     let price : Rated = report_price b t s h (p ∷ ps) ledger in
     let same =
-    other_settled b.validity t s h (reported (p ∷ ps)) price.blocks price.amount.0 ledger s g
+    other_settled (validity_of b) t s h (reported (p ∷ ps)) price.blocks price.amount.0 ledger s g
     key in
     let cycle : ℕ = cycle_at b g t in
     record {
       used = same.used;
       count = omega (
         arith,
-        counter-settled (cycle_at b g) g cycle b.validity t s h (reported (p ∷ ps))
+        counter-settled (cycle_at b g) g cycle (validity_of b) t s h (reported (p ∷ ps))
             price.blocks price.amount.0 ledger,
         none_counted (cycle == cycle) (h == g) price.blocks e,
       );
       grant = same.grant;
-      next = next_settled b.validity t s h (reported (p ∷ ps)) price.blocks price.amount.0 ledger;
+      next = next_settled (validity_of b) t s h (reported (p ∷ ps)) price.blocks
+          price.amount.0 ledger;
     }
 
 -- so it passes a limit after the settlement where it did before, behind the settlement's charge
-pub passes_after-other : (charges : ℕ) (b : Book) (t : ℕ) (s : List ℕ) (g : ℕ)
+pub passes_after-other : (charges : ℕ) (b : Shelf) (t : ℕ) (s : List ℕ) (g : ℕ)
     (parts : List UsedPart) (h : ℕ) (others : List UsedPart) (ledger : Ledger) → (h == g) ≡ false →
     passes_after charges b t s g parts (settled_by b t s h others ledger)
     ≡ passes_after (charge_count others + charges) b t s g parts ledger
@@ -89,7 +91,7 @@ passes_after-other charges b t s g (p ∷ ps) h others ledger e =
     λ i. passes (k.used i) (reported (p ∷ ps)) (k.count i)
     (price_of b t g (k.grant i) (k.used i) (k.count i) (p ∷ ps)).blocks (next i)
 
-pub passes_after-none : (b : Book) (t : ℕ) (s : List ℕ) (g : ℕ) (parts : List UsedPart)
+pub passes_after-none : (b : Shelf) (t : ℕ) (s : List ℕ) (g : ℕ) (parts : List UsedPart)
     (ledger : Ledger) → passes_after 0 b t s g parts ledger ≡ passes_limit b t s g parts ledger
 passes_after-none b t s g [] ledger = refl
 passes_after-none b t s g (p ∷ ps) ledger =

@@ -10,14 +10,18 @@ use Rattle.buckets.specs.Holding.{holds_of}
 use Rattle.reserving.specs.declared.session.SessionGroup.{SessionGroup}
 use Rattle.reserving.specs.Ledger.{Ledger, used, counter, is_live}
 use Rattle.tariffs.specs.Books.{Book}
+use Rattle.shelves.specs.Shelves.{Shelf, book_at}
 use Rattle.tariffs.specs.Tariffs.{GroupTariff, tiers_at}
 use Rattle.tariffs.specs.GroupPrices.{GroupPrices}
 use Rattle.tariffs.specs.BookPrices.{ArePricesOf}
 use Rattle.rating.specs.declared.grant.Grant.{Grant}
 use Rattle.rating.specs.declared.grant.Periods.{Periods}
 use Rattle.rating.specs.Granted.{IsGreatest, dearer, grant_of}
-use Rattle.reserving.specs.Pricing.{tariff_of, cycle_at, switch_at, validity_at, periods_at}
-use Rattle.reserving.specs.Pricing.{prices_by, wanted_units, wanted_with, grant_with}
+use Rattle.reserving.specs.Pricing.{tariff_of, tariff_at, cycle_at, switch_at, validity_at}
+use Rattle.reserving.specs.Pricing.{periods_at}
+use Rattle.reserving.specs.Pricing.{terms_at}
+use Rattle.reserving.specs.declared.session.Terms.{Terms}
+use Rattle.reserving.specs.Pricing.{prices_by, wanted_units, wanted_with, grant_with, validity_of}
 use Rattle.reserving.specs.Quotas.{IsQuota, IsGreatestFor}
 use Rattle.reserving.specs.Keyed.{put}
 use Rattle.reserving.specs.Balance.{buckets_at}
@@ -38,16 +42,16 @@ use Rattle.reserving.proofs.calls.RowParts.{or_new_later, group_later, put_later
 use Rattle.reserving.proofs.calls.RowParts.{held_by-with_group}
 use Rattle.reserving.proofs.rows.Reserved.{IsRowsOf-reserved}
 
-pub reserved_parts : (a : AccountRows) (s : List ℕ) (g amount : ℕ) (periods : Periods)
+pub reserved_parts : (a : AccountRows) (s : List ℕ) (g amount : ℕ) (terms : Terms)
     (holds : List Hold) (buckets : List Row) (groups : List SessionGroup) →
-    periods ≡ periods_at a.book a.as_of → buckets ≡ held_rows g a.as_of amount a.buckets →
+    terms ≡ terms_at a.shelf a.as_of → buckets ≡ held_rows g a.as_of amount a.buckets →
     holds ≡ holds_of g a.as_of amount a.buckets →
-    groups ≡ with_reservation s g periods holds a.groups →
+    groups ≡ with_reservation s g terms holds a.groups →
     (let x : AccountRows = record a { buckets = buckets; groups = groups } in x)
     ≡ reserved_account s g amount a
-reserved_parts a s g amount periods holds buckets groups p b h k =
+reserved_parts a s g amount terms holds buckets groups p b h k =
     let all : groups
-    ≡ with_reservation s g (periods_at a.book a.as_of) (holds_of g a.as_of amount a.buckets)
+    ≡ with_reservation s g (terms_at a.shelf a.as_of) (holds_of g a.as_of amount a.buckets)
     a.groups = k ∙ (λ i. with_reservation s g (p i) (h i) a.groups) in
     λ i. record a { buckets = b i; groups = all i }
 
@@ -56,7 +60,7 @@ reserved_parts a s g amount periods holds buckets groups p b h k =
 buckets_later : (a : AccountRows) (s : List ℕ) (g t : ℕ) →
     (advanced t (with_group_row s g a)).buckets ≡ (advanced t a).buckets
 buckets_later a s g t =
-    let keeps : List ℕ → Bool = is_live_in a.book.validity t a.sessions in
+    let keeps : List ℕ → Bool = is_live_in (validity_of a.shelf) t a.sessions in
     let given : (y : Row) →
     lapsed_in keeps (with_group s g a.groups) y ≡ lapsed_in keeps a.groups y =
     λ y. held_by-with_group (λ z. not (keeps z)) s g a.groups y in
@@ -66,13 +70,13 @@ pub reserved_later : (a : AccountRows) (s : List ℕ) (g t amount : ℕ) →
     reserved_account s g amount (advanced t (with_group_row s g a))
     ≡ reserved_account s g amount (advanced t a)
 reserved_later a s g t amount =
-    let keeps : List ℕ → Bool = is_live_in a.book.validity t a.sessions in
+    let keeps : List ℕ → Bool = is_live_in (validity_of a.shelf) t a.sessions in
     let x : AccountRows = reserved_account s g amount (advanced t a) in
     let same : (advanced t (with_group_row s g a)).buckets ≡ (advanced t a).buckets =
     buckets_later a s g t in
     let row : group_or_new s g (map (lapse_group keeps) (with_group s g a.groups))
     ≡ group_or_new s g (map (lapse_group keeps) a.groups) = or_new_later keeps s g a.groups in
-    let p : Periods = periods_at a.book t in
+    let p : Terms = terms_at a.shelf t in
     let groups : with_reservation s g p
     (holds_of g t amount (advanced t (with_group_row s g a)).buckets)
     (map (lapse_group keeps) (with_group s g a.groups))
@@ -83,7 +87,7 @@ reserved_later a s g t amount =
       session = s;
       group = g;
       used = (row i).used;
-      reservation = Some (record { periods = p; holds = holds_of g t amount (same i) });
+      reservation = Some (record { terms = p; holds = holds_of g t amount (same i) });
     })
     (map (lapse_group keeps) (with_group s g a.groups)))
     ∙ put_later keeps s g
@@ -92,7 +96,7 @@ reserved_later a s g t amount =
       group = g;
       used = used_in s g (map (lapse_group keeps) a.groups);
       reservation =
-          Some (record { periods = p; holds = holds_of g t amount (advanced t a).buckets });
+          Some (record { terms = p; holds = holds_of g t amount (advanced t a).buckets });
     })
     a.groups refl refl in
     λ i. record x { buckets = held_rows g t amount (same i); groups = groups i }
@@ -118,13 +122,13 @@ pub group_there : (a middle : AccountRows) (s : List ℕ) (g t : ℕ) →
     middle ≡ advanced t (with_group_row s g a) → is_some (group_in s g middle.groups) ≡ true
 group_there a middle s g t m =
     ap (λ x. is_some (group_in s g x.groups)) m
-    ∙ ap is_some (group_later (is_live_in a.book.validity t a.sessions) s g a.groups)
+    ∙ ap is_some (group_later (is_live_in (validity_of a.shelf) t a.sessions) s g a.groups)
 
 pub free_middle : (a middle : AccountRows) (s : List ℕ) (g t : ℕ) →
     reservation_in s g a.groups ≡ None → middle ≡ advanced t (with_group_row s g a) →
     reservation_in s g middle.groups ≡ None
 free_middle a middle s g t none m =
-    let keeps : List ℕ → Bool = is_live_in a.book.validity t a.sessions in
+    let keeps : List ℕ → Bool = is_live_in (validity_of a.shelf) t a.sessions in
     ap (λ x. reservation_in s g x.groups) m
     ∙ ap (λ (r : SessionGroup). r.reservation) (or_new_later keeps s g a.groups)
     ∙ free_later keeps s g a.groups none
@@ -141,18 +145,18 @@ covered_middle a middle s g t amount le m =
 pub rows_granted : (ledger : Ledger) (a middle after : AccountRows) (s : List ℕ)
     (g t units amount : ℕ) →
     IsAccount a → IsRowsOf ledger a → a.as_of ≤ t →
-    is_live_in a.book.validity t a.sessions s ≡ true → reservation_in s g a.groups ≡ None →
+    is_live_in (validity_of a.shelf) t a.sessions s ≡ true → reservation_in s g a.groups ≡ None →
     middle ≡ advanced t (with_group_row s g a) → after ≡ reserved_account s g amount middle →
-    IsRowsOf (reserved a.book t s g units amount ledger) after
+    IsRowsOf (reserved a.shelf t s g units amount ledger) after
 rows_granted ledger a middle after s g t units amount account rows le live_in none m e =
-    let live : is_live a.book.validity t ledger s ≡ true =
+    let live : is_live (validity_of a.shelf) t ledger s ≡ true =
     sym (is_live_in-is ledger a t s rows le) ∙ live_in in
     let later : AccountRows = advanced t a in
-    subst (IsRowsOf (reserved a.book t s g units amount ledger))
+    subst (IsRowsOf (reserved a.shelf t s g units amount ledger))
     (sym (e ∙ ap (reserved_account s g amount) m ∙ reserved_later a s g t amount))
     (IsRowsOf-reserved ledger later s g units amount (IsAccount-advanced a t account)
     (IsRowsOf-advanced ledger a t account rows le) live
-    (free_later (is_live_in a.book.validity t a.sessions) s g a.groups none))
+    (free_later (is_live_in (validity_of a.shelf) t a.sessions) s g a.groups none))
 
 -- ---- the greatest grant, by the book's look-up
 
@@ -239,65 +243,68 @@ quota_by b before g requested periods place money units grant q f =
 
 abbrev pub QuotaOf : AccountRows → List ℕ → ℕ → ℕ → Option ℕ → ℕ → Grant → Type 0
 QuotaOf a s g t requested units grant =
-    IsQuota a.book (used_in s g a.groups) g requested (periods_at a.book t)
-    (count_in g (cycle_at a.book g t) a.counters) (funds g t (advanced t a).buckets) units grant
+    IsQuota (book_at a.shelf t) (used_in s g a.groups) g requested (periods_at a.shelf t)
+    (count_in g (cycle_at a.shelf g t) a.counters) (funds g t (advanced t a).buckets) units grant
 
 -- a quota that was reckoned with periods that are those of the moment
 pub quota_with : (a : AccountRows) (used g t : ℕ) (requested : Option ℕ) (units : ℕ) (grant : Grant)
-    (periods : Periods) → periods ≡ periods_at a.book t →
-    IsQuota a.book used g requested periods (count_in g (cycle_at a.book g t) a.counters)
+    (periods : Periods) → periods ≡ periods_at a.shelf t →
+    IsQuota (book_at a.shelf t) used g requested periods
+    (count_in g (cycle_at a.shelf g t) a.counters)
     (funds g t (advanced t a).buckets) units grant →
-    IsQuota a.book used g requested (periods_at a.book t)
-    (count_in g (cycle_at a.book g t) a.counters) (funds g t (advanced t a).buckets) units grant
+    IsQuota (book_at a.shelf t) used g requested (periods_at a.shelf t)
+    (count_in g (cycle_at a.shelf g t) a.counters) (funds g t (advanced t a).buckets) units grant
 quota_with a used g t requested units grant periods is q =
-    subst (λ p. IsQuota a.book used g requested p (count_in g (cycle_at a.book g t) a.counters)
+    subst (λ p. IsQuota (book_at a.shelf t) used g requested p
+    (count_in g (cycle_at a.shelf g t) a.counters)
     (funds g t (advanced t a).buckets) units grant) is q
 
 pub quota_of : (a : AccountRows) (s : List ℕ) (g t : ℕ) (requested : Option ℕ) (units : ℕ)
-    (grant : Grant) (periods : Periods) → periods ≡ periods_at a.book t →
-    IsQuota a.book (used_in s g a.groups) g requested periods
-    (count_in g (cycle_at a.book g t) a.counters) (funds g t (advanced t a).buckets) units grant →
+    (grant : Grant) (periods : Periods) → periods ≡ periods_at a.shelf t →
+    IsQuota (book_at a.shelf t) (used_in s g a.groups) g requested periods
+    (count_in g (cycle_at a.shelf g t) a.counters) (funds g t (advanced t a).buckets) units grant →
     QuotaOf a s g t requested units grant
 quota_of a s g t = quota_with a (used_in s g a.groups) g t
 
 pub grant_told : (ledger : Ledger) (a : AccountRows) (s : List ℕ) (g t : ℕ) (requested : Option ℕ)
     (units : ℕ) (grant : Grant) → IsAccount a → IsRowsOf ledger a → a.as_of ≤ t →
     QuotaOf a s g t requested units grant →
-    grant ≡ grant_for a.book t g (used s g ledger) requested ledger
+    grant ≡ grant_for a.shelf t g (used s g ledger) requested ledger
 grant_told ledger a s g t requested units grant account rows le q =
     q.grant ∙
-    (λ i. grant_with (tariff_of a.book g) (periods_at a.book t) (used_in_is ledger a s g rows i)
-    (count_in_is ledger a g (cycle_at a.book g t) rows i) requested
+    (λ i. grant_with (tariff_at a.shelf t g) (periods_at a.shelf t) (used_in_is ledger a s g rows i)
+    (count_in_is ledger a g (cycle_at a.shelf g t) rows i) requested
     (funds g t ((IsRowsOf-advanced ledger a t account rows le).buckets i)))
 
 -- a session that used nothing yet
 pub new_told : (ledger : Ledger) (a : AccountRows) (g t : ℕ) (requested : Option ℕ) (units : ℕ)
     (grant : Grant) → IsAccount a → IsRowsOf ledger a → a.as_of ≤ t →
-    IsQuota a.book 0 g requested (periods_at a.book t) (count_in g (cycle_at a.book g t) a.counters)
+    IsQuota (book_at a.shelf t) 0 g requested (periods_at a.shelf t)
+    (count_in g (cycle_at a.shelf g t) a.counters)
     (funds g t (advanced t a).buckets) units grant →
-    grant ≡ grant_for a.book t g 0 requested ledger
+    grant ≡ grant_for a.shelf t g 0 requested ledger
 new_told ledger a g t requested units grant account rows le q =
     q.grant ∙
-    (λ i. grant_with (tariff_of a.book g) (periods_at a.book t) 0
-    (count_in_is ledger a g (cycle_at a.book g t) rows i) requested
+    (λ i. grant_with (tariff_at a.shelf t g) (periods_at a.shelf t) 0
+    (count_in_is ledger a g (cycle_at a.shelf g t) rows i) requested
     (funds g t ((IsRowsOf-advanced ledger a t account rows le).buckets i)))
 
 -- a grant that is covered stays within the funds, also of a group without a tariff
 pub quota_covered : (a : AccountRows) (s : List ℕ) (g t : ℕ) (requested : Option ℕ) (units : ℕ)
     (grant : Grant) → QuotaOf a s g t requested units grant →
     grant.amount.0 ≤ funds g t (advanced t a).buckets
-quota_covered a s g t requested units grant q = by_tariff (tariff_of a.book g) refl
+quota_covered a s g t requested units grant q = by_tariff (tariff_at a.shelf t g) refl
   where
-    by_tariff : (o : Option GroupTariff) → tariff_of a.book g ≡ o →
+    by_tariff : (o : Option GroupTariff) → tariff_at a.shelf t g ≡ o →
         grant.amount.0 ≤ funds g t (advanced t a).buckets
     by_tariff None e =
         let same : grant
-        ≡ grant_with None (periods_at a.book t) (used_in s g a.groups)
-        (count_in g (cycle_at a.book g t) a.counters) requested
+        ≡ grant_with None (periods_at a.shelf t) (used_in s g a.groups)
+        (count_in g (cycle_at a.shelf g t) a.counters) requested
         (funds g t (advanced t a).buckets) =
         q.grant ∙ ap
-        (λ o. grant_with o (periods_at a.book t) (used_in s g a.groups)
-        (count_in g (cycle_at a.book g t) a.counters) requested
+        (λ o. grant_with o (periods_at a.shelf t) (used_in s g a.groups)
+        (count_in g (cycle_at a.shelf g t) a.counters) requested
         (funds g t (advanced t a).buckets)) e in
         let none : grant.amount.0 ≡ 0 = ap (λ (x : Grant). x.amount.0) same in
         omega (arith, none)
@@ -307,19 +314,19 @@ pub grant_is : (ledger : Ledger) (a middle after : AccountRows) (s : List ℕ) (
     (requested : Option ℕ) (wanted : ℕ) (grant : Grant) (at : Option ℕ) (validity : ℕ)
     (fewer : Bool) →
     IsAccount a → IsRowsOf ledger a → a.as_of ≤ t →
-    is_live_in a.book.validity t a.sessions s ≡ true → reservation_in s g a.groups ≡ None →
+    is_live_in (validity_of a.shelf) t a.sessions s ≡ true → reservation_in s g a.groups ≡ None →
     QuotaOf a s g t requested wanted grant →
-    0 < grant.units.0 → at ≡ switch_at a.book t → validity ≡ validity_at a.book t →
+    0 < grant.units.0 → at ≡ switch_at a.shelf t → validity ≡ validity_at a.shelf t →
     fewer ≡ nat_lt grant.units.0 wanted →
     middle ≡ advanced t (with_group_row s g a) →
     after ≡ reserved_account s g grant.amount.0 middle →
-    IsGrantOf a.book t s g requested ledger after grant.units.0 at validity fewer
+    IsGrantOf a.shelf t s g requested ledger after grant.units.0 at validity fewer
 grant_is ledger a middle after s g t requested wanted grant at validity fewer account rows le live
     none q some switch valid few m e =
-    let book : Book = a.book in
-    let now : (advanced t a).buckets ≡ buckets_at book.validity t ledger =
+    let shelf : Shelf = a.shelf in
+    let now : (advanced t a).buckets ≡ buckets_at (validity_of shelf) t ledger =
     (IsRowsOf-advanced ledger a t account rows le).buckets in
-    let told : grant ≡ grant_for book t g (used s g ledger) requested ledger =
+    let told : grant ≡ grant_for shelf t g (used s g ledger) requested ledger =
     grant_told ledger a s g t requested wanted grant account rows le q in
     record {
       some = some;
@@ -328,28 +335,28 @@ grant_is ledger a middle after s g t requested wanted grant at validity fewer ac
       validity = valid;
       fewer = few ∙ ap (nat_lt grant.units.0) q.wanted;
       greatest = λ x k.
-          subst (λ (n : ℕ). IsGreatest (tiers_at x (periods_at book t).before.0)
-          (tiers_at x (periods_at book t).after.0)
-          (counter (cycle_at book g) g (cycle_at book g t) ledger)
+          subst (λ (n : ℕ). IsGreatest (tiers_at x (periods_at shelf t).before.0)
+          (tiers_at x (periods_at shelf t).after.0)
+          (counter (cycle_at shelf g) g (cycle_at shelf g t) ledger)
           (started (used s g ledger) (wanted_units x requested) x.block)
-          (funds g t (buckets_at book.validity t ledger)) n)
+          (funds g t (buckets_at (validity_of shelf) t ledger)) n)
           (ap (λ (y : Grant). y.blocks.0) told)
-          (subst (λ xs. IsGreatest (tiers_at x (periods_at book t).before.0)
-          (tiers_at x (periods_at book t).after.0)
-          (counter (cycle_at book g) g (cycle_at book g t) ledger)
+          (subst (λ xs. IsGreatest (tiers_at x (periods_at shelf t).before.0)
+          (tiers_at x (periods_at shelf t).after.0)
+          (counter (cycle_at shelf g) g (cycle_at shelf g t) ledger)
           (started (used s g ledger) (wanted_units x requested) x.block) (funds g t xs)
           grant.blocks.0) now
-          (subst (λ n. IsGreatest (tiers_at x (periods_at book t).before.0)
-          (tiers_at x (periods_at book t).after.0) n
+          (subst (λ n. IsGreatest (tiers_at x (periods_at shelf t).before.0)
+          (tiers_at x (periods_at shelf t).after.0) n
           (started (used s g ledger) (wanted_units x requested) x.block)
           (funds g t (advanced t a).buckets) grant.blocks.0)
-          (count_in_is ledger a g (cycle_at book g t) rows)
-          (subst (λ n. IsGreatest (tiers_at x (periods_at book t).before.0)
-          (tiers_at x (periods_at book t).after.0) (count_in g (cycle_at book g t) a.counters)
+          (count_in_is ledger a g (cycle_at shelf g t) rows)
+          (subst (λ n. IsGreatest (tiers_at x (periods_at shelf t).before.0)
+          (tiers_at x (periods_at shelf t).after.0) (count_in g (cycle_at shelf g t) a.counters)
           (started n (wanted_units x requested) x.block) (funds g t (advanced t a).buckets)
           grant.blocks.0) (used_in_is ledger a s g rows)
           (q.greatest x k).greatest)));
-      rows = subst (λ n. IsRowsOf (reserved book t s g grant.units.0 n ledger) after)
+      rows = subst (λ n. IsRowsOf (reserved shelf t s g grant.units.0 n ledger) after)
           (ap (λ (x : Grant). x.amount.0) told)
           (rows_granted ledger a middle after s g t grant.units.0 grant.amount.0 account rows le
           live none m e);

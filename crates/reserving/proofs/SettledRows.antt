@@ -1,10 +1,10 @@
 -- What a settlement makes of an account's rows: those of the ledger with the settlement.
-use Rattle.std.proofs.Common.{◌≡◌, ℕ, ◌+◌, ◌-◌, ◌<◌, ◌≤◌, Bool, true, false, List, [], ◌∷◌, ◌++◌}
+use Rattle.std.proofs.Common.{◌≡◌, ℕ, ◌+◌, ◌<◌, ◌≤◌, Bool, true, false, List, [], ◌∷◌, ◌++◌}
 use Rattle.std.proofs.Common.{map, refl, sym, ap, subst, ◌∙◌, arith, Option, Some, None}
 use Rattle.std.specs.Prelude.{if◌then◌else◌, ◌==◌, ◌&&◌, ◌||◌, not, unwrap_or, option_map}
 use Rattle.std.proofs.lemmas.Bool.{or_parts}
 use Rattle.units.specs.declared.blocks.UsedPart.{UsedPart}
-use Rattle.tariffs.specs.Books.{Book}
+use Rattle.shelves.specs.Shelves.{Shelf}
 use Rattle.buckets.specs.declared.holds.Hold.{Hold}
 use Rattle.buckets.specs.Row.{Row, with_release}
 use Rattle.buckets.specs.Share.{parts}
@@ -16,14 +16,14 @@ use Rattle.buckets.proofs.SharesAlong.{with_release_number}
 use Rattle.reserving.specs.declared.session.SessionGroup.{SessionGroup}
 use Rattle.reserving.specs.declared.session.Reservation.{Reservation}
 use Rattle.reserving.specs.declared.session.Counter.{Counter}
-use Rattle.rating.specs.declared.grant.Periods.{Periods}
+use Rattle.reserving.specs.declared.session.Terms.{Terms}
 use Rattle.reserving.specs.Ledger.{Fact, Dated, Ledger, or_else, open_grant, held, only, used}
 use Rattle.reserving.specs.Ledger.{counter, has_group, has_counter, inner, is_live, is_same}
 use Rattle.reserving.specs.Ledger.{units_in, names_group, grant_in, counts_group, blocks_in}
 use Rattle.reserving.specs.Ledger.{uses_in, credits_in, newest, total, next_bucket, next_charge}
 use Rattle.reserving.specs.Ledger.Fact.{End, Use, Charge, Credit, Grant, Hold as HoldFact, Touch}
 use Rattle.reserving.specs.Ledger.Fact.{Close, Recorded, Barred}
-use Rattle.reserving.specs.Pricing.{cycle_at}
+use Rattle.reserving.specs.Pricing.{cycle_at, validity_of}
 use Rattle.reserving.specs.Keyed.{put}
 use Rattle.reserving.specs.Balance.{buckets_at}
 use Rattle.reserving.specs.Sessions.{is_of, group_in, group_at, is_counter, counter_in, counter_at}
@@ -31,7 +31,7 @@ use Rattle.reserving.specs.Sessions.{holds_at, reservation_of, reservation_at}
 use Rattle.rating.specs.declared.report.Rated.{Rated}
 use Rattle.reserving.specs.Settlement.{charge_facts, settled, settled_by, reported, price_of}
 use Rattle.reserving.specs.Settlement.{report_price}
-use Rattle.reserving.specs.Changes.{new_group, used_in, reserved_in, periods_in, price_in, count_in}
+use Rattle.reserving.specs.Changes.{new_group, used_in, reserved_in, terms_in, price_in, count_in}
 use Rattle.reserving.specs.Changes.{with_use, with_count, ended_group, ended_rows, settled_account}
 use Rattle.reserving.specs.Changes.{settled_by_rows}
 use Rattle.reserving.specs.SoundLedger.{IsUnknown, IsSoundLedger}
@@ -90,12 +90,12 @@ used_in_is ledger a s g rows =
       session = s;
       group = g;
       used = used s g ledger;
-      reservation = reservation_at a.book.validity a.as_of ledger s g;
+      reservation = reservation_at (validity_of a.shelf) a.as_of ledger s g;
     }) s g
     (used_none s g ledger)
 
 -- without a grant or a use of the group there is no open grant
-grant_ended : (k : Bool) (o : Option (Option Periods)) → inner o ≡ None →
+grant_ended : (k : Bool) (o : Option (Option Terms)) → inner o ≡ None →
     inner (or_else (if k then Some None else None) o) ≡ None
 grant_ended true o h = refl
 grant_ended false o h = h
@@ -124,10 +124,10 @@ open_none s g (d ∷ older) h =
     by_fact at (Recorded a b) k r = r
     by_fact at (Barred a) k r = r
 
-either_periods : (h l : Bool) (hs : List Hold) (p : Option Periods) (used : ℕ) (s : List ℕ) (g : ℕ)
+either_periods : (h l : Bool) (hs : List Hold) (p : Option Terms) (used : ℕ) (s : List ℕ) (g : ℕ)
     → l ≡ true → (h ≡ false → p ≡ None) →
     (let x : SessionGroup = row_with s g used (if l then reservation_of hs p else None) in
-    option_map (λ (r : Reservation). r.periods)
+    option_map (λ (r : Reservation). r.terms)
     (unwrap_or (if h then Some x else None) (new_group s g)).reservation ≡ p)
 either_periods true true hs None used s g e k = refl
 either_periods true true hs (Some p) used s g e k = refl
@@ -136,13 +136,14 @@ either_periods false l hs p used s g e k = sym (k refl)
 
 -- the periods of a live session's reservation
 pub periods_in_is : (ledger : Ledger) (a : AccountRows) (s : List ℕ) (g : ℕ) → IsRowsOf ledger a →
-    is_live a.book.validity a.as_of ledger s ≡ true →
-    periods_in s g a.groups ≡ open_grant s g ledger
+    is_live (validity_of a.shelf) a.as_of ledger s ≡ true →
+    terms_in s g a.groups ≡ open_grant s g ledger
 periods_in_is ledger a s g rows live =
-    ap (λ o. option_map (λ (r : Reservation). r.periods) (unwrap_or o (new_group s g)).reservation)
+    ap (λ o. option_map (λ (r : Reservation). r.terms) (unwrap_or o (new_group s g)).reservation)
     (rows.groups s g)
-    ∙ either_periods (has_group s g ledger) (is_live a.book.validity a.as_of ledger s)
-    (holds_at a.book.validity a.as_of s g ledger) (open_grant s g ledger) (used s g ledger) s g
+    ∙ either_periods (has_group s g ledger) (is_live (validity_of a.shelf) a.as_of ledger s)
+    (holds_at (validity_of a.shelf) a.as_of s g ledger) (open_grant s g ledger)
+    (used s g ledger) s g
     live (open_none s g ledger)
 
 pub if_none : (t : Bool) → (let z : ℕ = 0 in (if t then z else z) ≡ z)
@@ -189,12 +190,12 @@ either_count false x k = sym (k refl)
 
 -- the account's counter of a group and cycle
 pub count_in_is : (ledger : Ledger) (a : AccountRows) (g c : ℕ) → IsRowsOf ledger a →
-    count_in g c a.counters ≡ counter (cycle_at a.book g) g c ledger
+    count_in g c a.counters ≡ counter (cycle_at a.shelf g) g c ledger
 count_in_is ledger a g c rows =
     ap (λ o. unwrap_or (option_map (λ (r : Counter). r.blocks) o) 0) (rows.counters g c)
-    ∙ either_count (has_counter (cycle_at a.book g) g c ledger)
-    (record { group = g; cycle = c; blocks = counter (cycle_at a.book g) g c ledger })
-    (counter_none (cycle_at a.book g) g c ledger)
+    ∙ either_count (has_counter (cycle_at a.shelf g) g c ledger)
+    (record { group = g; cycle = c; blocks = counter (cycle_at a.shelf g) g c ledger })
+    (counter_none (cycle_at a.shelf g) g c ledger)
 
 -- ---- charges, and a use in front of them
 
@@ -272,12 +273,13 @@ and_not : (x : Bool) → (x && not x) ≡ false
 and_not true = refl
 and_not false = refl
 
-abbrev pub parts_paid : ℕ → ℕ → List ℕ → ℕ → ℕ → Ledger → List Hold
+abbrev pub parts_paid : (ℕ → ℕ) → ℕ → List ℕ → ℕ → ℕ → Ledger → List Hold
 parts_paid v t session group rated ledger =
     parts (paid (holds_at v t session group ledger) group t rated (buckets_at v t ledger))
     (buckets_at v t ledger)
 
-pub other_settled : (v t : ℕ) (session : List ℕ) (group units blocks rated : ℕ) (ledger : Ledger)
+pub other_settled : (v : ℕ → ℕ) (t : ℕ) (session : List ℕ) (group units blocks rated : ℕ)
+    (ledger : Ledger)
     (s : List ℕ) (g : ℕ) → is_key session group s g ≡ false →
     SameGroup s g ledger (settled v t session group units blocks rated ledger)
 other_settled v t session group units blocks rated ledger s g h =
@@ -309,7 +311,8 @@ pub own_row : (s : List ℕ) (g : ℕ) (h : Bool) (u w : ℕ) (o p : Option Rese
 own_row s g h u w o p named used kept =
     λ i. if named i then Some (row_with s g (used i) (kept i)) else None
 
-own_settled : (v t : ℕ) (session : List ℕ) (group units blocks rated : ℕ) (ledger : Ledger) →
+own_settled : (v : ℕ → ℕ) (t : ℕ) (session : List ℕ) (group units blocks rated : ℕ)
+    (ledger : Ledger) →
     group_at v t (settled v t session group units blocks rated ledger) session group
     ≡ Some (record {
       session = session;
@@ -331,7 +334,8 @@ own_settled v t session group units blocks rated ledger =
     (newest (grant_in session group) (charge_facts t hs ++ ledger))) in
     own_row session group _ _ _ _ _ named so_far none
 
-groups-settled : (v t : ℕ) (session : List ℕ) (group units blocks rated : ℕ) (ledger : Ledger)
+groups-settled : (v : ℕ → ℕ) (t : ℕ) (session : List ℕ) (group units blocks rated : ℕ)
+    (ledger : Ledger)
     (does : Row → Row) (rows : List SessionGroup) →
     IsMoved does v t ledger (settled v t session group units blocks rated ledger) →
     used_in session group rows ≡ used session group ledger →
@@ -405,7 +409,8 @@ counted_once true false n e = cc
 counted_once false true n e = cc
 counted_once false false n e = cc
 
-pub counter-settled : (f : ℕ → ℕ) (g c v t : ℕ) (session : List ℕ) (group units blocks rated : ℕ)
+pub counter-settled : (f : ℕ → ℕ) (g c : ℕ) (v : ℕ → ℕ) (t : ℕ) (session : List ℕ)
+    (group units blocks rated : ℕ)
     (ledger : Ledger) →
     counter f g c (settled v t session group units blocks rated ledger)
     ≡ counter f g c ledger + (if f t == c then (if group == g then blocks else 0) else 0)
@@ -418,7 +423,8 @@ counter-settled f g c v t session group units blocks rated ledger =
           (each_charge _ t (parts_paid v t session group rated ledger) (λ b n. if_none (f t == c))),
     )
 
-has_counter-settled : (f : ℕ → ℕ) (g c v t : ℕ) (session : List ℕ) (group units blocks rated : ℕ)
+has_counter-settled : (f : ℕ → ℕ) (g c : ℕ) (v : ℕ → ℕ) (t : ℕ) (session : List ℕ)
+    (group units blocks rated : ℕ)
     (ledger : Ledger) →
     has_counter f g c (settled v t session group units blocks rated ledger)
     ≡ ((group == g && f t == c) || has_counter f g c ledger)
@@ -509,7 +515,7 @@ counters_used cycle_of t group blocks ledger after rows counts names so_far h g 
         ∙ h g c
         ∙ sym (λ i. (if named i then Some (same i) else None))
 
-counters-settled : (cycle_of : ℕ → ℕ → ℕ) (v t : ℕ) (session : List ℕ)
+counters-settled : (cycle_of : ℕ → ℕ → ℕ) (v : ℕ → ℕ) (t : ℕ) (session : List ℕ)
     (group units blocks rated : ℕ) (ledger : Ledger) (rows : List Counter) →
     count_in group (cycle_of group t) rows
     ≡ counter (cycle_of group) group (cycle_of group t) ledger →
@@ -547,7 +553,8 @@ held_part p k n ledger h =
           (λ s g. split_by (p s g) (k s g)),
     )
 
-unknown-settled : (v t : ℕ) (session : List ℕ) (group units blocks rated : ℕ) (ledger : Ledger)
+unknown-settled : (v : ℕ → ℕ) (t : ℕ) (session : List ℕ) (group units blocks rated : ℕ)
+    (ledger : Ledger)
     (s : List ℕ) → IsUnknown s ledger →
     IsUnknown s (settled v t session group units blocks rated ledger)
 unknown-settled v t session group units blocks rated ledger s h =
@@ -586,12 +593,12 @@ unknown-ended t session group ledger s h =
 
 -- an account's buckets are made
 pub made_in : (ledger : Ledger) (a : AccountRows) → IsAccount a → IsRowsOf ledger a →
-    IsBelow (next_bucket ledger) (buckets_at a.book.validity a.as_of ledger)
+    IsBelow (next_bucket ledger) (buckets_at (validity_of a.shelf) a.as_of ledger)
 made_in ledger a account rows =
-    subst (λ n. IsBelow n (buckets_at a.book.validity a.as_of ledger)) rows.next_bucket
+    subst (λ n. IsBelow n (buckets_at (validity_of a.shelf) a.as_of ledger)) rows.next_bucket
     (subst (IsBelow a.next_bucket) rows.buckets account.below)
 
-pub IsSoundLedger-settled : (v t : ℕ) (session : List ℕ) (group units blocks rated : ℕ)
+pub IsSoundLedger-settled : (v : ℕ → ℕ) (t : ℕ) (session : List ℕ) (group units blocks rated : ℕ)
     (ledger : Ledger) → IsBelow (next_bucket ledger) (buckets_at v t ledger) →
     IsSoundLedger ledger → IsSoundLedger (settled v t session group units blocks rated ledger)
 IsSoundLedger-settled v t session group units blocks rated ledger below sound =
@@ -643,11 +650,11 @@ IsSoundLedger-ended t session group ledger sound = record {
 
 pub IsRowsOf-settled : (ledger : Ledger) (a : AccountRows) (session : List ℕ)
     (group units blocks rated : ℕ) →
-    IsAccount a → IsRowsOf ledger a → is_live a.book.validity a.as_of ledger session ≡ true →
-    IsRowsOf (settled a.book.validity a.as_of session group units blocks rated ledger)
+    IsAccount a → IsRowsOf ledger a → is_live (validity_of a.shelf) a.as_of ledger session ≡ true →
+    IsRowsOf (settled (validity_of a.shelf) a.as_of session group units blocks rated ledger)
     (settled_account session group units blocks rated a)
 IsRowsOf-settled ledger a session group units blocks rated account rows live =
-    let v : ℕ = a.book.validity in
+    let v : ℕ → ℕ = (validity_of a.shelf) in
     let t : ℕ = a.as_of in
     let after : Ledger = settled v t session group units blocks rated ledger in
     let now : List Row = buckets_at v t ledger in
@@ -672,8 +679,8 @@ IsRowsOf-settled ledger a session group units blocks rated account rows live =
           (settled_row holds group t rated now) a.groups is_moved
           (used_in_is ledger a session group rows) rows.groups;
       counters =
-          counters-settled (cycle_at a.book) v t session group units blocks rated ledger a.counters
-          (count_in_is ledger a group (cycle_at a.book group t) rows) rows.counters;
+          counters-settled (cycle_at a.shelf) v t session group units blocks rated ledger a.counters
+          (count_in_is ledger a group (cycle_at a.shelf group t) rows) rows.counters;
       next_bucket = rows.next_bucket ∙ omega (arith, next_bucket-charges t hs ledger);
       next_charge =
           ap (λ n. n + 1) rows.next_charge ∙ omega (arith, next_charge-charges t hs ledger);
@@ -688,7 +695,8 @@ ended_key : (t : Bool) (r : SessionGroup) (s : List ℕ) (g : ℕ) →
 ended_key true r s g = refl
 ended_key false r s g = refl
 
-groups-ended : (v t : ℕ) (session : List ℕ) (group : ℕ) (ledger : Ledger) (does : Row → Row)
+groups-ended : (v : ℕ → ℕ) (t : ℕ) (session : List ℕ) (group : ℕ) (ledger : Ledger)
+    (does : Row → Row)
     (rows : List SessionGroup) →
     IsMoved does v t ledger (with_end t session group ledger) →
     ((s : List ℕ) (g : ℕ) → group_in s g rows ≡ group_at v t ledger s g) →
@@ -774,10 +782,10 @@ counter_ended f t session group ledger g c =
     λ i. (if has_counter f g c ledger then Some (same i) else None)
 
 pub IsRowsOf-ended : (ledger : Ledger) (a : AccountRows) (session : List ℕ) (group : ℕ) →
-    IsAccount a → IsRowsOf ledger a → is_live a.book.validity a.as_of ledger session ≡ true →
+    IsAccount a → IsRowsOf ledger a → is_live (validity_of a.shelf) a.as_of ledger session ≡ true →
     IsRowsOf (with_end a.as_of session group ledger) (ended_rows session group a)
 IsRowsOf-ended ledger a session group account rows live =
-    let v : ℕ = a.book.validity in
+    let v : ℕ → ℕ = (validity_of a.shelf) in
     let t : ℕ = a.as_of in
     let after : Ledger = with_end t session group ledger in
     let now : List Row = buckets_at v t ledger in
@@ -797,7 +805,7 @@ IsRowsOf-ended ledger a session group account rows live =
       groups = groups-ended v t session group ledger (λ b. with_release t b (held_in holds b))
           a.groups is_moved rows.groups;
       counters =
-          λ g c. rows.counters g c ∙ counter_ended (cycle_at a.book g) t session group ledger g c;
+          λ g c. rows.counters g c ∙ counter_ended (cycle_at a.shelf g) t session group ledger g c;
       next_bucket = rows.next_bucket ∙ omega arith;
       next_charge = rows.next_charge ∙ omega arith;
       sound = IsSoundLedger-ended t session group ledger rows.sound;
@@ -805,41 +813,41 @@ IsRowsOf-ended ledger a session group account rows live =
 
 -- ---- a report's settlement
 
-pub IsSoundLedger-settled_by : (b : Book) (t : ℕ) (session : List ℕ) (group : ℕ)
+pub IsSoundLedger-settled_by : (b : Shelf) (t : ℕ) (session : List ℕ) (group : ℕ)
     (used_parts : List UsedPart) (ledger : Ledger) →
-    IsBelow (next_bucket ledger) (buckets_at b.validity t ledger) → IsSoundLedger ledger →
+    IsBelow (next_bucket ledger) (buckets_at (validity_of b) t ledger) → IsSoundLedger ledger →
     IsSoundLedger (settled_by b t session group used_parts ledger)
 IsSoundLedger-settled_by b t session group [] ledger below sound =
     IsSoundLedger-ended t session group ledger sound
 IsSoundLedger-settled_by b t session group (p ∷ ps) ledger below sound =
-    IsSoundLedger-settled b.validity t session group (reported (p ∷ ps))
+    IsSoundLedger-settled (validity_of b) t session group (reported (p ∷ ps))
     (report_price b t session group (p ∷ ps) ledger).blocks
     (report_price b t session group (p ∷ ps) ledger).amount.0 ledger below sound
 
 -- a report costs by the rows what it costs by the ledger
 pub price_in_is : (ledger : Ledger) (a : AccountRows) (s : List ℕ) (g : ℕ)
     (used_parts : List UsedPart) → IsRowsOf ledger a →
-    is_live a.book.validity a.as_of ledger s ≡ true →
-    price_in s g a.as_of used_parts a ≡ report_price a.book a.as_of s g used_parts ledger
+    is_live (validity_of a.shelf) a.as_of ledger s ≡ true →
+    price_in s g a.as_of used_parts a ≡ report_price a.shelf a.as_of s g used_parts ledger
 price_in_is ledger a s g used_parts rows live =
-    λ i. price_of a.book a.as_of g (periods_in_is ledger a s g rows live i)
-    (used_in_is ledger a s g rows i) (count_in_is ledger a g (cycle_at a.book g a.as_of) rows i)
+    λ i. price_of a.shelf a.as_of g (periods_in_is ledger a s g rows live i)
+    (used_in_is ledger a s g rows i) (count_in_is ledger a g (cycle_at a.shelf g a.as_of) rows i)
     used_parts
 
 pub IsRowsOf-settled_by : (ledger : Ledger) (a : AccountRows) (session : List ℕ) (group : ℕ)
     (used_parts : List UsedPart) →
-    IsAccount a → IsRowsOf ledger a → is_live a.book.validity a.as_of ledger session ≡ true →
-    IsRowsOf (settled_by a.book a.as_of session group used_parts ledger)
+    IsAccount a → IsRowsOf ledger a → is_live (validity_of a.shelf) a.as_of ledger session ≡ true →
+    IsRowsOf (settled_by a.shelf a.as_of session group used_parts ledger)
     (settled_by_rows session group used_parts a)
 IsRowsOf-settled_by ledger a session group [] account rows live =
     IsRowsOf-ended ledger a session group account rows live
 IsRowsOf-settled_by ledger a session group (p ∷ ps) account rows live =
     let cost : price_in session group a.as_of (p ∷ ps) a
-    ≡ report_price a.book a.as_of session group (p ∷ ps) ledger =
+    ≡ report_price a.shelf a.as_of session group (p ∷ ps) ledger =
     price_in_is ledger a session group (p ∷ ps) rows live in
     let x : Rated = price_in session group a.as_of (p ∷ ps) a in
     subst (λ (y : Rated). IsRowsOf
-    (settled a.book.validity a.as_of session group (reported (p ∷ ps)) y.blocks y.amount.0
+    (settled (validity_of a.shelf) a.as_of session group (reported (p ∷ ps)) y.blocks y.amount.0
     ledger) (settled_by_rows session group (p ∷ ps) a)) cost
     (IsRowsOf-settled ledger a session group (reported (p ∷ ps)) x.blocks x.amount.0 account rows
     live)

@@ -26,9 +26,9 @@ balance_of t c charged held = record c {
 }
 
 -- a bucket's position at a moment: what live sessions' reservations hold is reserved
-abbrev pub bucket_at : ℕ → ℕ → Ledger → Row → Row
+abbrev pub bucket_at : (ℕ → ℕ) → ℕ → Ledger → Row → Row
 bucket_at v t ledger c =
     balance_of t c (charged c.number ledger) (held (λ s g. is_live v t ledger s) c.number ledger)
 
-abbrev pub buckets_at : ℕ → ℕ → Ledger → List Row
+abbrev pub buckets_at : (ℕ → ℕ) → ℕ → Ledger → List Row
 buckets_at v t ledger = map (bucket_at v t ledger) (credits ledger)

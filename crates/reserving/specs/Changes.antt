@@ -14,9 +14,9 @@ use Rattle.reserving.specs.declared.session.SessionGroup.{SessionGroup}
 use Rattle.reserving.specs.declared.session.Reservation.{Reservation}
 use Rattle.reserving.specs.declared.session.Counter.{Counter}
 use Rattle.reserving.specs.Ledger.{is_same}
-use Rattle.rating.specs.declared.grant.Periods.{Periods}
+use Rattle.reserving.specs.declared.session.Terms.{Terms}
 use Rattle.rating.specs.declared.report.Rated.{Rated}
-use Rattle.reserving.specs.Pricing.{cycle_at, periods_at}
+use Rattle.reserving.specs.Pricing.{cycle_at, terms_at, validity_of}
 use Rattle.reserving.specs.Keyed.{put}
 use Rattle.reserving.specs.Sessions.{is_session, is_of, group_in, is_counter, counter_in, is_open}
 use Rattle.reserving.specs.Sessions.{is_live_in, held_by, holds_in}
@@ -28,9 +28,10 @@ use Rattle.reserving.specs.Sessions.{group_before, session_before, counter_befor
 -- ---- time goes on: sessions whose supervision time is over end, what they held is given up, and
 -- what is left of buckets that ended is expired
 
-abbrev pub lapse : ℕ → ℕ → Session → Session
+abbrev pub lapse : (ℕ → ℕ) → ℕ → Session → Session
 lapse v t r =
-    if is_open r.state && not (nat_lt t (r.touched + 2 * v)) then record r { state = Ended } else r
+    if is_open r.state && not (nat_lt t (r.touched + 2 * v r.touched))
+    then record r { state = Ended } else r
 
 -- a group of a session that doesn't keep its reservations
 abbrev pub lapse_group : (List ℕ → Bool) → SessionGroup → SessionGroup
@@ -45,10 +46,10 @@ advanced t a = record a {
   as_of = t;
   buckets =
       map (λ b. with_end t
-      (with_release t b (lapsed_in (is_live_in a.book.validity t a.sessions) a.groups b)))
+      (with_release t b (lapsed_in (is_live_in (validity_of a.shelf) t a.sessions) a.groups b)))
       a.buckets;
-  sessions = map (lapse a.book.validity t) a.sessions;
-  groups = map (lapse_group (is_live_in a.book.validity t a.sessions)) a.groups;
+  sessions = map (lapse (validity_of a.shelf) t) a.sessions;
+  groups = map (lapse_group (is_live_in (validity_of a.shelf) t a.sessions)) a.groups;
 }
 
 -- ---- sessions
@@ -111,20 +112,20 @@ ended_rows s g a = record a {
 abbrev pub settled_account : List ℕ → ℕ → ℕ → ℕ → ℕ → AccountRows → AccountRows
 settled_account s g units blocks rated a = record a {
   buckets = settled_rows (reserved_in s g a.groups) g a.as_of rated a.buckets;
-  counters = with_count g (cycle_at a.book g a.as_of) blocks a.counters;
+  counters = with_count g (cycle_at a.shelf g a.as_of) blocks a.counters;
   groups = with_use s g units a.groups;
   next_charge = a.next_charge + 1;
 }
 
--- the periods of the group's reservation
-abbrev pub periods_in : List ℕ → ℕ → List SessionGroup → Option Periods
-periods_in s g rows = option_map (λ r. r.periods) (group_or_new s g rows).reservation
+-- the terms of the group's reservation
+abbrev pub terms_in : List ℕ → ℕ → List SessionGroup → Option Terms
+terms_in s g rows = option_map (λ r. r.terms) (group_or_new s g rows).reservation
 
 -- what a report costs, by the rows
 abbrev pub price_in : List ℕ → ℕ → ℕ → List UsedPart → AccountRows → Rated
 price_in s g t used_parts a =
-    price_of a.book t g (periods_in s g a.groups) (used_in s g a.groups)
-    (count_in g (cycle_at a.book g t) a.counters) used_parts
+    price_of a.shelf t g (terms_in s g a.groups) (used_in s g a.groups)
+    (count_in g (cycle_at a.shelf g t) a.counters) used_parts
 
 abbrev pub settled_by_rows : List ℕ → ℕ → List UsedPart → AccountRows → AccountRows
 settled_by_rows s g [] a = ended_rows s g a
@@ -137,7 +138,7 @@ settled_by_rows s g (p ∷ ps) a =
 -- what an event's units cost, by the rows
 abbrev pub event_price_in : ℕ → ℕ → ℕ → AccountRows → Rated
 event_price_in g units t a =
-    price_of a.book t g None 0 (count_in g (cycle_at a.book g t) a.counters) (untagged units)
+    price_of a.shelf t g None 0 (count_in g (cycle_at a.shelf g t) a.counters) (untagged units)
 
 -- an event's use leaves the group's reservation as it is
 abbrev pub with_event : List ℕ → ℕ → ℕ → List SessionGroup → List SessionGroup
@@ -153,28 +154,28 @@ with_event s g units rows =
 abbrev pub debited_account : List ℕ → ℕ → ℕ → ℕ → ℕ → AccountRows → AccountRows
 debited_account s g units blocks rated a = record a {
   buckets = settled_rows [] g a.as_of rated a.buckets;
-  counters = with_count g (cycle_at a.book g a.as_of) blocks a.counters;
+  counters = with_count g (cycle_at a.shelf g a.as_of) blocks a.counters;
   groups = with_event s g units a.groups;
   next_charge = a.next_charge + 1;
 }
 
 -- ---- reservation
 
-abbrev pub with_reservation : List ℕ → ℕ → Periods → List Hold → List SessionGroup →
+abbrev pub with_reservation : List ℕ → ℕ → Terms → List Hold → List SessionGroup →
     List SessionGroup
-with_reservation s g periods holds rows =
+with_reservation s g terms holds rows =
     put group_before (is_of s g)
     (record {
       session = s;
       group = g;
       used = used_in s g rows;
-      reservation = Some (record { periods = periods; holds = holds });
+      reservation = Some (record { terms = terms; holds = holds });
     }) rows
 
 abbrev pub reserved_account : List ℕ → ℕ → ℕ → AccountRows → AccountRows
 reserved_account s g amount a = record a {
   buckets = held_rows g a.as_of amount a.buckets;
-  groups = with_reservation s g (periods_at a.book a.as_of) (holds_of g a.as_of amount a.buckets)
+  groups = with_reservation s g (terms_at a.shelf a.as_of) (holds_of g a.as_of amount a.buckets)
       a.groups;
 }
 
@@ -220,9 +221,9 @@ AreLapsable p groups rows = Each (λ b. held_by p groups b ≤ b.reserved) rows
 -- ---- funds at a later moment
 
 -- what a bucket has available for a group at a later moment, with what ended sessions held of it
-abbrev pub amount_later : ℕ → ℕ → ℕ → List Session → List SessionGroup → Row → ℕ
+abbrev pub amount_later : ℕ → (ℕ → ℕ) → ℕ → List Session → List SessionGroup → Row → ℕ
 amount_later group v t sessions groups b =
     if is_eligible group t b then b.available + lapsed_in (is_live_in v t sessions) groups b else 0
 
-abbrev pub funds_later : ℕ → ℕ → ℕ → List Session → List SessionGroup → List Row → ℕ
+abbrev pub funds_later : ℕ → (ℕ → ℕ) → ℕ → List Session → List SessionGroup → List Row → ℕ
 funds_later group v t sessions groups rows = sum_by (amount_later group v t sessions groups) rows

@@ -2,7 +2,7 @@
 -- immediate event charging; RFC 8506 section 6.3).
 use Rattle.std.specs.Prelude.{ℕ, Bool, nat_le, List, [], ◌∷◌, ◌++◌, None}
 use Rattle.units.specs.declared.blocks.UsedPart.{UsedPart}
-use Rattle.tariffs.specs.Books.{Book}
+use Rattle.shelves.specs.Shelves.{Shelf}
 use Rattle.rating.specs.declared.report.Rated.{Rated}
 use Rattle.buckets.specs.Row.{Row}
 use Rattle.buckets.specs.Share.{parts}
@@ -10,7 +10,7 @@ use Rattle.buckets.specs.Spend.{funds}
 use Rattle.buckets.specs.Holding.{paid}
 use Rattle.reserving.specs.Ledger.{Ledger, used, counter, next_charge}
 use Rattle.reserving.specs.Ledger.Fact.{Use}
-use Rattle.reserving.specs.Pricing.{cycle_at}
+use Rattle.reserving.specs.Pricing.{cycle_at, validity_of}
 use Rattle.reserving.specs.Balance.{buckets_at}
 use Rattle.reserving.specs.Settlement.{price_of, charge_facts, passes}
 
@@ -19,18 +19,18 @@ untagged units = record { units = record { 0 = units }; change = None } ∷ []
 
 -- what an event's units cost: they start blocks from no use on, at the period of the moment, from
 -- the group's counter in the cycle on
-abbrev pub event_price : Book → ℕ → ℕ → ℕ → Ledger → Rated
+abbrev pub event_price : Shelf → ℕ → ℕ → ℕ → Ledger → Rated
 event_price b t group units ledger =
     price_of b t group None 0 (counter (cycle_at b group) group (cycle_at b group t) ledger)
     (untagged units)
 
 -- the eligible buckets have their price
-abbrev pub is_covered : Book → ℕ → ℕ → ℕ → Ledger → Bool
+abbrev pub is_covered : Shelf → ℕ → ℕ → ℕ → Ledger → Bool
 is_covered b t group units ledger =
     nat_le (event_price b t group units ledger).amount.0
-    (funds group t (buckets_at b.validity t ledger))
+    (funds group t (buckets_at (validity_of b) t ledger))
 
-abbrev pub charged_use : ℕ → ℕ → List ℕ → ℕ → ℕ → ℕ → ℕ → Ledger → Ledger
+abbrev pub charged_use : (ℕ → ℕ) → ℕ → List ℕ → ℕ → ℕ → ℕ → ℕ → Ledger → Ledger
 charged_use v t session group units blocks rated ledger =
     record { at = t; fact = Use session group units blocks rated 0 }
     ∷ charge_facts t (parts (paid [] group t rated rows) rows) ++ ledger
@@ -39,13 +39,13 @@ charged_use v t session group units blocks rated ledger =
     rows = buckets_at v t ledger
 
 -- the ledger with a debit that is covered
-abbrev pub debited : Book → ℕ → List ℕ → ℕ → ℕ → Ledger → Ledger
+abbrev pub debited : Shelf → ℕ → List ℕ → ℕ → ℕ → Ledger → Ledger
 debited b t session group units ledger =
-    charged_use b.validity t session group units (event_price b t group units ledger).blocks
+    charged_use (validity_of b) t session group units (event_price b t group units ledger).blocks
     (event_price b t group units ledger).amount.0 ledger
 
 -- a stored number would pass its limit
-abbrev pub debit_passes : Book → ℕ → List ℕ → ℕ → ℕ → Ledger → Bool
+abbrev pub debit_passes : Shelf → ℕ → List ℕ → ℕ → ℕ → Ledger → Bool
 debit_passes b t session group units ledger =
     passes (used session group ledger) units
     (counter (cycle_at b group) group (cycle_at b group t) ledger)

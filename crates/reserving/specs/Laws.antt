@@ -11,25 +11,25 @@ use Rattle.reserving.specs.Rows.{AccountRows}
 use Rattle.reserving.specs.Changes.{advanced}
 
 -- the reservations of sessions that ended between two moments
-abbrev pub ended_between : ℕ → ℕ → ℕ → Ledger → List ℕ → ℕ → Bool
+abbrev pub ended_between : (ℕ → ℕ) → ℕ → ℕ → Ledger → List ℕ → ℕ → Bool
 ended_between v t1 t2 ledger s g = is_live v t1 ledger s && not (is_live v t2 ledger s)
 
 -- a bucket that is brought from a moment to a later one: what sessions that ended between them held
 -- is given up, and from its end on what is left is expired
-abbrev pub brought : ℕ → ℕ → ℕ → Ledger → Row → Row
+abbrev pub brought : (ℕ → ℕ) → ℕ → ℕ → Ledger → Row → Row
 brought v t1 t2 ledger b =
     with_end t2 (with_release t2 b (held (ended_between v t1 t2 ledger) b.number ledger))
 
 -- a bucket's position, brought to a later moment, is its position then
 abbrev pub IsBroughtOn : Type 0
-IsBroughtOn = (v t1 t2 : ℕ) (ledger : Ledger) (c : Row) → t1 ≤ t2 →
+IsBroughtOn = (v : ℕ → ℕ) (t1 t2 : ℕ) (ledger : Ledger) (c : Row) → t1 ≤ t2 →
     IsBalanced (bucket_at v t1 ledger c) →
     brought v t1 t2 ledger (bucket_at v t1 ledger c) ≡ bucket_at v t2 ledger c
 
 -- and in two steps it is brought to where one step brings it
 abbrev pub IsBroughtAlike : Type 0
 IsBroughtAlike =
-    (v t1 t2 t3 : ℕ) (ledger : Ledger) (c : Row) → t1 ≤ t2 → t2 ≤ t3 →
+    (v : ℕ → ℕ) (t1 t2 t3 : ℕ) (ledger : Ledger) (c : Row) → t1 ≤ t2 → t2 ≤ t3 →
     IsBalanced (bucket_at v t1 ledger c) →
     brought v t2 t3 ledger (brought v t1 t2 ledger (bucket_at v t1 ledger c))
     ≡ brought v t1 t3 ledger (bucket_at v t1 ledger c)
@@ -49,13 +49,14 @@ AreDeadKept (x ∷ xs) (y ∷ ys) = (IsDead x → y ≡ x) × AreDeadKept xs ys
 
 -- as time goes on
 abbrev pub IsDeadLater : Type 0
-IsDeadLater = (v t u : ℕ) (ledger : Ledger) → t ≤ u → Each IsBalanced (buckets_at v t ledger) →
+IsDeadLater = (v : ℕ → ℕ) (t u : ℕ) (ledger : Ledger) → t ≤ u →
+    Each IsBalanced (buckets_at v t ledger) →
     AreDeadKept (buckets_at v t ledger) (buckets_at v u ledger)
 
 -- and by a settlement
 abbrev pub IsDeadSettled : Type 0
 IsDeadSettled =
-    (v t : ℕ) (session : List ℕ) (group units blocks rated : ℕ) (ledger : Ledger) →
+    (v : ℕ → ℕ) (t : ℕ) (session : List ℕ) (group units blocks rated : ℕ) (ledger : Ledger) →
     is_live v t ledger session ≡ true → Each IsBalanced (buckets_at v t ledger) →
     AreDistinct (buckets_at v t ledger) →
     AreDeadKept (buckets_at v t ledger)

@@ -3,17 +3,17 @@
 use Rattle.std.specs.Prelude.{ℕ, ◌+◌, ◌*◌, Bool, false, not, ◌==◌, ◌&&◌, ◌||◌, nat_lt, nat_eq}
 use Rattle.std.specs.Prelude.{if◌then◌else◌, List, [], ◌∷◌, Option, Some, None, unwrap_or}
 use Rattle.std.specs.Cmp.Lexicographic.{pointwise}
-use Rattle.rating.specs.declared.grant.Periods.{Periods}
+use Rattle.reserving.specs.declared.session.Terms.{Terms}
 
 -- Credit: a bucket is made. Grant, Hold and End: a session gets units of a rating group, priced by
--- the tariff periods at the grant and at the switch within its validity, from this place of the
--- group's counter on; what is held for it of each bucket; it is over. Use and Charge: units are
--- reported, start blocks, and are rated; what each bucket pays. Touch and Close: a request of the
--- session is accepted; the session ends. Recorded: a request of the session is kept under its
--- number. Barred: the account is barred, or no longer.
+-- the book at the grant in the tariff periods at the grant and at the switch within its validity,
+-- from this place of the group's counter on; what is held for it of each bucket; it is over. Use
+-- and Charge: units are reported, start blocks, and are rated; what each bucket pays. Touch and
+-- Close: a request of the session is accepted; the session ends. Recorded: a request of the session
+-- is kept under its number. Barred: the account is barred, or no longer.
 pub data Fact : Type 0 where
   Credit : (number from until : ℕ) (scope : Option ℕ) (amount : ℕ) → Fact
-  Grant : (session : List ℕ) (group : ℕ) (periods : Periods) (units counter : ℕ) → Fact
+  Grant : (session : List ℕ) (group : ℕ) (terms : Terms) (units counter : ℕ) → Fact
   Hold : (session : List ℕ) (group bucket amount : ℕ) → Fact
   End : (session : List ℕ) (group : ℕ) → Fact
   Use : (session : List ℕ) (group units blocks rated uncollected : ℕ) → Fact
@@ -132,13 +132,13 @@ abbrev pub is_closed : List ℕ → Ledger → Bool
 is_closed s ledger = any (closes s) ledger
 
 -- a session that was touched lives until two validity times after its last touch
-abbrev pub is_within : ℕ → ℕ → Option ℕ → Bool
+abbrev pub is_within : (ℕ → ℕ) → ℕ → Option ℕ → Bool
 is_within v t None = false
-is_within v t (Some at) = nat_lt t (at + 2 * v)
+is_within v t (Some at) = nat_lt t (at + 2 * v at)
 
 -- a live session: it has a touch, wasn't closed, and its supervision time is not over (profile, in
 -- the place of the session supervision timer Tcc of RFC 8506 section 13)
-abbrev pub is_live : ℕ → ℕ → Ledger → List ℕ → Bool
+abbrev pub is_live : (ℕ → ℕ) → ℕ → Ledger → List ℕ → Bool
 is_live v t ledger s = is_within v t (last_touch s ledger) && not (is_closed s ledger)
 
 pub record Recording : Type 0 where
@@ -179,12 +179,12 @@ held counts n (d ∷ older) = hold_of counts n d.fact + held (counts_before d.fa
 abbrev pub only : List ℕ → ℕ → List ℕ → ℕ → Bool
 only session group s g = is_same s session && g == group
 
-abbrev pub grant_in : List ℕ → ℕ → Dated → Option (Option Periods)
+abbrev pub grant_in : List ℕ → ℕ → Dated → Option (Option Terms)
 grant_in s g d = granted_by d.fact
   where
-    granted_by : Fact → Option (Option Periods)
-    granted_by (Grant session group periods units counter) =
-        if is_same session s && group == g then Some (Some periods) else None
+    granted_by : Fact → Option (Option Terms)
+    granted_by (Grant session group terms units counter) =
+        if is_same session s && group == g then Some (Some terms) else None
     granted_by (End session group) = if is_same session s && group == g then Some None else None
     granted_by _ = None
 
@@ -192,12 +192,12 @@ abbrev pub inner : {A : Type 0} → Option (Option A) → Option A
 inner None = None
 inner (Some x) = x
 
--- the periods of a session's grant of a group that no later fact ended
-abbrev pub open_grant : List ℕ → ℕ → Ledger → Option Periods
+-- the terms of a session's grant of a group that no later fact ended
+abbrev pub open_grant : List ℕ → ℕ → Ledger → Option Terms
 open_grant s g ledger = inner (newest (grant_in s g) ledger)
 
 abbrev pub names_group : List ℕ → ℕ → Fact → Bool
-names_group s g (Grant session group periods units counter) = is_same session s && group == g
+names_group s g (Grant session group terms units counter) = is_same session s && group == g
 names_group s g (Use session group units blocks rated uncollected) = is_same session s && group == g
 names_group s g _ = false
 

@@ -1,4 +1,4 @@
--- What a tariff book says of a rating group at a moment: its tariff, the cycle of its counter, the
+-- What tariff books say of a rating group at a moment: its tariff, the cycle of its counter, the
 -- tariff switch within the validity, the periods of a grant, and what a report costs.
 -- Source: RFC 8506 sections 8.19, 8.20, 8.27 and 8.33; TS 32.296, rating function.
 use Rattle.std.specs.Prelude.{ℕ, ◌-◌, ◌==◌, Bool, if◌then◌else◌, List, [], ◌∷◌, Option, Some, None}
@@ -8,6 +8,8 @@ use Rattle.calendar.specs.Clock.{ZoneRule}
 use Rattle.calendar.specs.Timetable.{Timetable, period_at, switch_within, validity_from, cycle_of}
 use Rattle.calendar.specs.declared.week.Period.{Period}
 use Rattle.tariffs.specs.Books.{Book}
+use Rattle.shelves.specs.Shelves.{Shelf, book_at, number_at}
+use Rattle.reserving.specs.declared.session.Terms.{Terms}
 use Rattle.tariffs.specs.Tariffs.{GroupTariff}
 use Rattle.tariffs.specs.GroupPrices.{GroupPrices, prices_in}
 use Rattle.tariffs.specs.declared.group_prices.Side.TheVariants.{Before, After}
@@ -33,10 +35,18 @@ cycle_with zone None t = 0
 cycle_with zone (Some x) t = cycle_of zone x.cycle t
 
 -- the cycle of a group's counter at a moment
-abbrev pub cycle_at : Book → ℕ → ℕ → ℕ
-cycle_at b g t = cycle_with b.calendar.zone (tariff_of b g) t
+abbrev pub cycle_at : Shelf → ℕ → ℕ → ℕ
+cycle_at s g t = cycle_with (book_at s t).calendar.zone (tariff_of (book_at s t) g) t
+
+-- the tariff of a rating group at a moment
+abbrev pub tariff_at : Shelf → ℕ → ℕ → Option GroupTariff
+tariff_at s t g = tariff_of (book_at s t) g
 
 -- ---- the validity of a grant
+
+-- the validity of a grant that is made at a moment
+abbrev pub validity_of : Shelf → ℕ → ℕ
+validity_of s t = (book_at s t).validity
 
 -- the book's validity; moments reach 43,200 seconds past the last one of commands, so that no
 -- command's is cut
@@ -44,27 +54,46 @@ abbrev pub reach : Book → ℕ → ℕ
 reach b t = min b.validity (4_102_488_000 - t)
 
 -- the tariff switch within the validity (Tariff-Time-Change)
-abbrev pub switch_at : Book → ℕ → Option ℕ
-switch_at b t = switch_within b.calendar t (reach b t)
+abbrev pub switch_by : Book → ℕ → Option ℕ
+switch_by b t = switch_within b.calendar t (reach b t)
 
 -- the granted Validity-Time: cut at the next change of period after the switch
-abbrev pub validity_at : Book → ℕ → ℕ
-validity_at b t = validity_from b.calendar t (reach b t)
+abbrev pub validity_by : Book → ℕ → ℕ
+validity_by b t = validity_from b.calendar t (reach b t)
 
 abbrev pub period_after : Timetable → ℕ → Option ℕ → Period
 period_after c t None = period_at c t
 period_after c t (Some s) = period_at c s
 
 -- the periods of a grant: at its moment, and at its switch
-abbrev pub periods_at : Book → ℕ → Periods
-periods_at b t =
-    record { before = period_at b.calendar t; after = period_after b.calendar t (switch_at b t) }
+abbrev pub periods_by : Book → ℕ → Periods
+periods_by b t =
+    record { before = period_at b.calendar t; after = period_after b.calendar t (switch_by b t) }
+
+-- the same by the book at the moment: one that begins later is no switch and cuts nothing
+abbrev pub switch_at : Shelf → ℕ → Option ℕ
+switch_at s t = switch_by (book_at s t) t
+
+abbrev pub validity_at : Shelf → ℕ → ℕ
+validity_at s t = validity_by (book_at s t) t
+
+abbrev pub periods_at : Shelf → ℕ → Periods
+periods_at s t = periods_by (book_at s t) t
+
+-- the terms of a grant: the number of its book, and its periods
+abbrev pub terms_at : Shelf → ℕ → Terms
+terms_at s t = record { book = number_at s t; periods = periods_at s t }
 
 -- ---- reports
 
 -- one period for all parts of a report
 abbrev pub one_period : Period → Periods
 one_period p = record { before = p; after = p }
+
+-- what prices a report without a grant: the book at the moment, and the period at it
+abbrev pub terms_now : Shelf → ℕ → Terms
+terms_now s t =
+    record { book = number_at s t; periods = one_period (period_at (book_at s t).calendar t) }
 
 -- two values of Tariff-Change-Usage, or their absences, are the same
 abbrev pub is_change : Option TariffChangeUsage → Option TariffChangeUsage → Bool

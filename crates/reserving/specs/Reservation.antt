@@ -7,9 +7,10 @@ use Rattle.buckets.specs.Spend.{funds}
 use Rattle.buckets.specs.Holding.{holds_of}
 use Rattle.reserving.specs.Ledger.{Ledger, counter}
 use Rattle.reserving.specs.Ledger.Fact.{Grant, Hold as HoldFact}
-use Rattle.tariffs.specs.Books.{Book}
+use Rattle.shelves.specs.Shelves.{Shelf}
 use Rattle.rating.specs.declared.grant.Grant.{Grant as RatedGrant}
-use Rattle.reserving.specs.Pricing.{tariff_of, cycle_at, periods_at, grant_with}
+use Rattle.reserving.specs.Pricing.{tariff_at, cycle_at, periods_at, terms_at, grant_with}
+use Rattle.reserving.specs.Pricing.{validity_of}
 use Rattle.reserving.specs.Balance.{buckets_at}
 
 abbrev pub hold_facts : ℕ → List ℕ → ℕ → List Hold → Ledger
@@ -19,19 +20,19 @@ hold_facts t session group (h ∷ hs) =
     ∷ hold_facts t session group hs
 
 -- the ledger with a grant
-abbrev pub reserved : Book → ℕ → List ℕ → ℕ → ℕ → ℕ → Ledger → Ledger
+abbrev pub reserved : Shelf → ℕ → List ℕ → ℕ → ℕ → ℕ → Ledger → Ledger
 reserved b t session group units amount ledger =
-    hold_facts t session group (holds_of group t amount (buckets_at b.validity t ledger))
+    hold_facts t session group (holds_of group t amount (buckets_at (validity_of b) t ledger))
     ++ (record {
       at = t;
-      fact = Grant session group (periods_at b t) units
+      fact = Grant session group (terms_at b t) units
           (counter (cycle_at b group) group (cycle_at b group t) ledger);
     } ∷ ledger)
 
 -- what a session with this use would be granted: the greatest number of new blocks, each at the
 -- dearer of its two prices, that the funds cover
-abbrev pub grant_for : Book → ℕ → ℕ → ℕ → Option ℕ → Ledger → RatedGrant
+abbrev pub grant_for : Shelf → ℕ → ℕ → ℕ → Option ℕ → Ledger → RatedGrant
 grant_for b t group before requested ledger =
-    grant_with (tariff_of b group) (periods_at b t) before
+    grant_with (tariff_at b t group) (periods_at b t) before
     (counter (cycle_at b group) group (cycle_at b group t) ledger) requested
-    (funds group t (buckets_at b.validity t ledger))
+    (funds group t (buckets_at (validity_of b) t ledger))

@@ -4,7 +4,7 @@ use Rattle.std.specs.Prelude.{◌≡◌, ℕ, ◌+◌, ◌<◌, ◌≤◌, Bool,
 use Rattle.std.specs.Prelude.{Some}
 use Rattle.units.specs.declared.blocks.UsedPart.{UsedPart}
 use Rattle.units.specs.Blocks.{started}
-use Rattle.tariffs.specs.Books.{Book}
+use Rattle.shelves.specs.Shelves.{Shelf}
 use Rattle.tariffs.specs.Tariffs.{GroupTariff, tiers_at}
 use Rattle.rating.specs.Granted.{IsGreatest}
 use Rattle.buckets.specs.Spend.{funds}
@@ -12,8 +12,8 @@ use Rattle.reserving.specs.declared.reserve.Granted.{Granted}
 use Rattle.reserving.specs.declared.reserve.Granted.TheVariants.{Nothing, Units}
 use Rattle.reserving.specs.declared.settle.Settled.{Settled}
 use Rattle.reserving.specs.Ledger.{Ledger, used, counter}
-use Rattle.reserving.specs.Pricing.{tariff_of, cycle_at, switch_at, validity_at, periods_at}
-use Rattle.reserving.specs.Pricing.{wanted_units, wanted_with}
+use Rattle.reserving.specs.Pricing.{tariff_at, cycle_at, switch_at, validity_at, periods_at}
+use Rattle.reserving.specs.Pricing.{wanted_units, wanted_with, validity_of}
 use Rattle.reserving.specs.Balance.{buckets_at}
 use Rattle.reserving.specs.Settlement.{report_price, missing}
 use Rattle.reserving.specs.Reservation.{reserved, grant_for}
@@ -21,7 +21,7 @@ use Rattle.reserving.specs.Debiting.{event_price, is_covered, debit_passes, debi
 use Rattle.reserving.specs.Rows.{AccountRows, IsRowsOf}
 
 -- the blocks that a report starts, their price, and what of it is collected and isn't
-pub record IsSettlementOf (b : Book) (t : ℕ) (session : List ℕ) (group : ℕ)
+pub record IsSettlementOf (b : Shelf) (t : ℕ) (session : List ℕ) (group : ℕ)
     (used_parts : List UsedPart) (ledger : Ledger) (s : Settled) : Type 0 where
   pub blocks : s.blocks.0 ≡ (report_price b t session group used_parts ledger).blocks
   pub rated : s.rated.0 ≡ (report_price b t session group used_parts ledger).amount.0
@@ -31,20 +31,20 @@ pub record IsSettlementOf (b : Book) (t : ℕ) (session : List ℕ) (group : ℕ
 -- ---- grants
 
 -- units that are granted: their price is held
-pub record IsGrantOf (b : Book) (t : ℕ) (session : List ℕ) (group : ℕ) (requested : Option ℕ)
+pub record IsGrantOf (b : Shelf) (t : ℕ) (session : List ℕ) (group : ℕ) (requested : Option ℕ)
     (ledger : Ledger) (after : AccountRows) (given : ℕ) (at : Option ℕ) (seconds : ℕ) (final : Bool)
     : Type 0 where
   pub some : 0 < given
   pub units : given ≡ (grant_for b t group (used session group ledger) requested ledger).units.0
   pub switch : at ≡ switch_at b t
   pub validity : seconds ≡ validity_at b t
-  pub fewer : final ≡ nat_lt given (wanted_with (tariff_of b group) requested)
+  pub fewer : final ≡ nat_lt given (wanted_with (tariff_at b t group) requested)
   -- as many blocks as the funds cover, and no more
-  pub greatest : (x : GroupTariff) → tariff_of b group ≡ Some x →
+  pub greatest : (x : GroupTariff) → tariff_at b t group ≡ Some x →
       IsGreatest (tiers_at x (periods_at b t).before.0) (tiers_at x (periods_at b t).after.0)
       (counter (cycle_at b group) group (cycle_at b group t) ledger)
       (started (used session group ledger) (wanted_units x requested) x.block)
-      (funds group t (buckets_at b.validity t ledger))
+      (funds group t (buckets_at (validity_of b) t ledger))
       (grant_for b t group (used session group ledger) requested ledger).blocks.0
   pub rows : IsRowsOf
       (reserved b t session group given
@@ -52,7 +52,7 @@ pub record IsGrantOf (b : Book) (t : ℕ) (session : List ℕ) (group : ℕ) (re
 
 -- what a reservation answers, and what it makes of the account: nothing is granted exactly where no
 -- unit is covered
-abbrev pub GivesGrant : Book → ℕ → List ℕ → ℕ → Option ℕ → Ledger → AccountRows → Granted → Type 0
+abbrev pub GivesGrant : Shelf → ℕ → List ℕ → ℕ → Option ℕ → Ledger → AccountRows → Granted → Type 0
 GivesGrant b t session group requested ledger after Nothing =
     ((grant_for b t group (used session group ledger) requested ledger).units.0 ≡ 0) ×
     IsRowsOf ledger after
@@ -73,7 +73,7 @@ IsWithinGrant t (Units units switch validity fewer) = IsWithin t units.0
 -- ---- debits
 
 -- an event's units are charged whole: their price is covered
-pub record IsDebitOf (b : Book) (t : ℕ) (session : List ℕ) (group units : ℕ) (ledger : Ledger)
+pub record IsDebitOf (b : Shelf) (t : ℕ) (session : List ℕ) (group units : ℕ) (ledger : Ledger)
     (after : AccountRows) (s : Settled) : Type 0 where
   pub covered : is_covered b t group units ledger ≡ true
   pub within : debit_passes b t session group units ledger ≡ false
@@ -84,7 +84,7 @@ pub record IsDebitOf (b : Book) (t : ℕ) (session : List ℕ) (group units : �
   pub rows : IsRowsOf (debited b t session group units ledger) after
 
 -- what a debit answers, and what it makes of the account; nothing where the funds don't cover it
-abbrev pub IsDebit : Book → ℕ → List ℕ → ℕ → ℕ → Ledger → AccountRows → Option Settled → Type 0
+abbrev pub IsDebit : Shelf → ℕ → List ℕ → ℕ → ℕ → Ledger → AccountRows → Option Settled → Type 0
 IsDebit b t session group units ledger after None = is_covered b t group units ledger ≡ false
 IsDebit b t session group units ledger after (Some s) =
     IsDebitOf b t session group units ledger after s

@@ -4,9 +4,8 @@
 use Rattle.std.specs.Prelude.{ℕ, ◌+◌, Bool, false, ◌||◌, nat_lt, List, [], ◌∷◌, ◌++◌, Option}
 use Rattle.std.specs.Prelude.{sum_by, unwrap_or}
 use Rattle.units.specs.declared.blocks.UsedPart.{UsedPart}
-use Rattle.calendar.specs.Timetable.{period_at}
-use Rattle.tariffs.specs.Books.{Book}
-use Rattle.rating.specs.declared.grant.Periods.{Periods}
+use Rattle.shelves.specs.Shelves.{Shelf, tariff_in}
+use Rattle.reserving.specs.declared.session.Terms.{Terms}
 use Rattle.rating.specs.declared.report.Rated.{Rated}
 use Rattle.buckets.specs.declared.holds.Hold.{Hold}
 use Rattle.buckets.specs.Row.{Row}
@@ -14,7 +13,7 @@ use Rattle.buckets.specs.Share.{parts}
 use Rattle.buckets.specs.Holding.{paid, uncollected}
 use Rattle.reserving.specs.Ledger.{Ledger, used, counter, open_grant, next_charge}
 use Rattle.reserving.specs.Ledger.Fact.{Use, Charge, End}
-use Rattle.reserving.specs.Pricing.{tariff_of, cycle_at, one_period, rated_with}
+use Rattle.reserving.specs.Pricing.{cycle_at, terms_now, rated_with, validity_of}
 use Rattle.reserving.specs.Balance.{buckets_at}
 use Rattle.reserving.specs.Sessions.{holds_at}
 
@@ -22,15 +21,20 @@ use Rattle.reserving.specs.Sessions.{holds_at}
 abbrev pub reported : List UsedPart → ℕ
 reported used_parts = sum_by (λ p. p.units.0) used_parts
 
--- what a report costs: by the periods of its grant, or without one all by the period at its moment
-abbrev pub price_of : Book → ℕ → ℕ → Option Periods → ℕ → ℕ → List UsedPart → Rated
+-- what a report costs by the terms of a grant: by the book of their number, in their periods
+abbrev pub price_by : Shelf → ℕ → Terms → ℕ → ℕ → List UsedPart → Rated
+price_by b group x used place used_parts =
+    rated_with (tariff_in b x.book group) x.periods used place used_parts
+
+-- what a report costs: by the terms of its grant, or without one all by the book and the period at
+-- its moment
+abbrev pub price_of : Shelf → ℕ → ℕ → Option Terms → ℕ → ℕ → List UsedPart → Rated
 price_of b t group granted used place used_parts =
-    rated_with (tariff_of b group) (unwrap_or granted (one_period (period_at b.calendar t))) used
-    place used_parts
+    price_by b group (unwrap_or granted (terms_now b t)) used place used_parts
 
 -- the price of a report of a live session: its grant is its reservation, its use goes on after the
 -- session's use so far, and its blocks are counted from the group's counter in the cycle on
-abbrev pub report_price : Book → ℕ → List ℕ → ℕ → List UsedPart → Ledger → Rated
+abbrev pub report_price : Shelf → ℕ → List ℕ → ℕ → List UsedPart → Ledger → Rated
 report_price b t session group used_parts ledger =
     price_of b t group (open_grant session group ledger) (used session group ledger)
     (counter (cycle_at b group) group (cycle_at b group t) ledger) used_parts
@@ -40,7 +44,7 @@ charge_facts t [] = []
 charge_facts t (h ∷ hs) = record { at = t; fact = Charge h.bucket h.amount } ∷ charge_facts t hs
 
 -- the ledger with a settlement
-abbrev pub settled : ℕ → ℕ → List ℕ → ℕ → ℕ → ℕ → ℕ → Ledger → Ledger
+abbrev pub settled : (ℕ → ℕ) → ℕ → List ℕ → ℕ → ℕ → ℕ → ℕ → Ledger → Ledger
 settled v t session group units blocks rated ledger =
     record { at = t; fact = End session group }
     ∷ record {
@@ -57,18 +61,19 @@ settled v t session group units blocks rated ledger =
 
 -- the ledger with a reported group's settlement; a group that is named without a report only ends
 -- its reservation
-abbrev pub settled_by : Book → ℕ → List ℕ → ℕ → List UsedPart → Ledger → Ledger
+abbrev pub settled_by : Shelf → ℕ → List ℕ → ℕ → List UsedPart → Ledger → Ledger
 settled_by b t session group [] ledger = record { at = t; fact = End session group } ∷ ledger
 settled_by b t session group (p ∷ ps) ledger =
-    settled b.validity t session group (reported (p ∷ ps))
+    settled (validity_of b) t session group (reported (p ∷ ps))
     (report_price b t session group (p ∷ ps) ledger).blocks
     (report_price b t session group (p ∷ ps) ledger).amount.0 ledger
 
 -- what of a report's price neither its holds nor any eligible bucket pays
-abbrev pub missing : Book → ℕ → List ℕ → ℕ → List UsedPart → Ledger → ℕ
+abbrev pub missing : Shelf → ℕ → List ℕ → ℕ → List UsedPart → Ledger → ℕ
 missing b t session group used_parts ledger =
-    uncollected (holds_at b.validity t session group ledger) group t
-    (report_price b t session group used_parts ledger).amount.0 (buckets_at b.validity t ledger)
+    uncollected (holds_at (validity_of b) t session group ledger) group t
+    (report_price b t session group used_parts ledger).amount.0
+    (buckets_at (validity_of b) t ledger)
 
 -- a stored number would pass its limit: the session's use, the group's counter, or the charge row's
 -- number
@@ -77,7 +82,7 @@ passes before units count blocks charge =
     nat_lt 1000000000000000000 (before + units)
     || (nat_lt 4000000000000000000 (count + blocks) || nat_lt 4294967295 charge)
 
-abbrev pub passes_limit : Book → ℕ → List ℕ → ℕ → List UsedPart → Ledger → Bool
+abbrev pub passes_limit : Shelf → ℕ → List ℕ → ℕ → List UsedPart → Ledger → Bool
 passes_limit b t session group [] ledger = false
 passes_limit b t session group (p ∷ ps) ledger =
     passes (used session group ledger) (reported (p ∷ ps))
@@ -85,7 +90,7 @@ passes_limit b t session group (p ∷ ps) ledger =
     (report_price b t session group (p ∷ ps) ledger).blocks (next_charge ledger)
 
 -- the same, where so many charges are numbered before the report's own
-abbrev pub passes_after : ℕ → Book → ℕ → List ℕ → ℕ → List UsedPart → Ledger → Bool
+abbrev pub passes_after : ℕ → Shelf → ℕ → List ℕ → ℕ → List UsedPart → Ledger → Bool
 passes_after charges b t session group [] ledger = false
 passes_after charges b t session group (p ∷ ps) ledger =
     passes (used session group ledger) (reported (p ∷ ps))

@@ -14,7 +14,7 @@ ghost use Rattle.reserving.specs.Changes.{debited_account};
 use crate::account::Account;
 use crate::fault::AccountFault;
 use crate::grouping;
-use crate::pricing::{Tally, price};
+use crate::pricing::{Tally, price, prices_by, terms_now};
 use crate::settle::{RatedUse, Settled};
 use buckets::{Charged, Holds};
 use identifiers::SessionId;
@@ -28,20 +28,20 @@ impl<'b> Account<'b> {
     pub fn quote(&self, group: u32, units: Units, moment: Moment) -> Amount
         ensures rows { result.0 ≡ (event_price_in group units.0 moment self.now).amount.0 }
         ensures ledger { (ledger : Ledger) → IsRowsOf ledger self.now →
-            result.0 ≡ (event_price self.now.book moment group units.0 ledger).amount.0 }
+            result.0 ≡ (event_price self.now.shelf moment group units.0 ledger).amount.0 }
         ensures left { (ledger : Ledger) (left : LeftRows) → IsWith ledger left moment self.now →
-            result.0 ≡ (event_price self.now.book moment group units.0 ledger).amount.0 }
+            result.0 ≡ (event_price self.now.shelf moment group units.0 ledger).amount.0 }
     {
         self.event_price(group, units, moment).amount
     }
 
-    /// The blocks that an event's units start, and what these cost. A group that the book doesn't
-    /// have costs nothing.
+    /// The blocks that an event's units start, and what these cost. A group that the book at the
+    /// moment doesn't have costs nothing.
     fn event_price(&self, group: u32, units: Units, moment: Moment) -> Rated
         ensures { result ≡ event_price_in group units.0 moment self.now }
     {
-        let period = self.book.period_at(moment);
-        let Some(prices) = self.book.prices(group, period, period) else {
+        let terms = terms_now(self.shelf, moment);
+        let Some(prices) = prices_by(self.shelf, group, terms) else {
             return Rated {
                 amount: Amount(0),
                 blocks: 0,
@@ -73,20 +73,20 @@ impl<'b> Account<'b> {
     ) -> Result<Option<Settled>, AccountFault>
         requires { self.old.as_of ≤ moment }
         ensures debit { IfOk result (λ s. (ledger : Ledger) → IsRowsOf ledger self.old →
-            IsDebit self.old.book moment session.now group units.0 ledger self.new s) }
+            IsDebit self.old.shelf moment session.now group units.0 ledger self.new s) }
         ensures left { IfOk result (λ s. (ledger : Ledger) (left : LeftRows) →
             group_in session.now group left.groups ≡ None → IsWith ledger left moment self.old →
             IsBeside left moment self.new ×
-            IsDebit self.old.book moment session.now group units.0 ledger (joined left self.new)
+            IsDebit self.old.shelf moment session.now group units.0 ledger (joined left self.new)
             s) }
         ensures limit { result ≡ Err AccountFault.Limit → (ledger : Ledger) →
             IsRowsOf ledger self.old →
-            (is_covered self.old.book moment group units.0 ledger ≡ true) ×
-            (debit_passes self.old.book moment session.now group units.0 ledger ≡ true) }
+            (is_covered self.old.shelf moment group units.0 ledger ≡ true) ×
+            (debit_passes self.old.shelf moment session.now group units.0 ledger ≡ true) }
         ensures limit_left { result ≡ Err AccountFault.Limit → (ledger : Ledger) (left : LeftRows) →
             group_in session.now group left.groups ≡ None → IsWith ledger left moment self.old →
-            (is_covered self.old.book moment group units.0 ledger ≡ true) ×
-            (debit_passes self.old.book moment session.now group units.0 ledger ≡ true) }
+            (is_covered self.old.shelf moment group units.0 ledger ≡ true) ×
+            (debit_passes self.old.shelf moment session.now group units.0 ledger ≡ true) }
         ensures by_rows { IfOk result
             (λ s. IfSome s (λ given. self.new ≡ debited_account session.now group units.0
             (event_price_in group units.0 moment self.old).blocks
@@ -97,7 +97,7 @@ impl<'b> Account<'b> {
         ensures as_of { IfOk result (λ s. IfSome s (λ given. self.new.as_of ≡ moment)) }
         ensures new { IfOk result (λ s. (x : List ℕ) → session_in x self.old.sessions ≡ None →
             session_in x self.new.sessions ≡ None) }
-        ensures tariff { self.new.book ≡ self.old.book }
+        ensures tariff { self.new.shelf ≡ self.old.shelf }
         ensures err { OnErr result (self.new ≡ self.old) }
     {
         let price = self.event_price(group, units, moment);
@@ -129,7 +129,7 @@ impl<'b> Account<'b> {
     ) -> Charged
         requires group { is_some (group_in session.now group self.old.groups) ≡ true }
         requires counter { is_some (counter_in group cycle self.old.counters) ≡ true }
-        requires cycle { cycle ≡ cycle_at self.old.book group self.old.as_of }
+        requires cycle { cycle ≡ cycle_at self.old.shelf group self.old.as_of }
         requires used { used_in session.now group self.old.groups + rated.units.0
             ≤ 1_000_000_000_000_000_000 }
         requires counted { count_in group cycle self.old.counters + rated.blocks.0

@@ -9,11 +9,13 @@ ghost use Rattle.reserving.specs.Rows.{AreAscending, IsRowsOf};
 ghost use Rattle.reserving.specs.Left.{LeftRows, IsWith};
 ghost use Rattle.reserving.specs.Changes.{advanced};
 ghost use Rattle.reserving.specs.Lapsed.{held_for, lapsed_for, lapsed_funds};
+ghost use Rattle.reserving.specs.Pricing.{validity_of};
 
 use crate::account::Account;
 use crate::advance::is_live;
 use crate::session::{Session, SessionGroup};
 use buckets::{Bucket, Holds};
+use shelves::TariffShelf;
 use units::{Amount, Moment};
 
 impl<'b> Account<'b> {
@@ -24,18 +26,17 @@ impl<'b> Account<'b> {
         requires { self.now.as_of ≤ moment }
         ensures rows { result.0 ≡ funds group moment (advanced moment self.now).buckets }
         ensures ledger { (ledger : Ledger) → IsRowsOf ledger self.now →
-            result.0 ≡ funds group moment (buckets_at self.now.book.validity moment ledger) }
+            result.0 ≡ funds group moment (buckets_at (validity_of self.now.shelf) moment ledger) }
         ensures left { (ledger : Ledger) (left : LeftRows) → IsWith ledger left moment self.now →
-            result.0 ≡ funds group moment (buckets_at self.now.book.validity moment ledger) }
+            result.0 ≡ funds group moment (buckets_at (validity_of self.now.shelf) moment ledger) }
     {
-        let validity = self.book.validity();
         let buckets = self.rows.purse.buckets();
         let given_up = lapsed_funds(
             buckets,
             &self.rows.groups,
             &self.rows.sessions,
             group,
-            validity,
+            self.shelf,
             moment,
         );
         Amount(free_funds(buckets, group, moment) + given_up)
@@ -73,21 +74,22 @@ fn lapsed_funds(
     groups: &[SessionGroup],
     sessions: &[Session],
     group: u32,
-    validity: u32,
+    shelf: &TariffShelf,
     at: Moment,
 ) -> u128
     requires sound { IsSound buckets.now }
     requires held { Each (λ b. held_by (λ s. true) groups.now b ≡ b.reserved) buckets.now }
     requires order { AreAscending session_before sessions.now }
     ensures value { result
-        ≡ lapsed_funds (is_live_in validity at sessions.now) group at groups.now buckets.now }
+        ≡ lapsed_funds (is_live_in (validity_of shelf.now) at sessions.now) group at
+        groups.now buckets.now }
     ensures most { result < 2 ^ 126 }
 {
     // For the prover alone: looking at the value makes known here what its type keeps.
     let _count = buckets.len();
     let mut total = 0;
     for row in groups {
-        total += lapsed_of(buckets, row, sessions, group, validity, at);
+        total += lapsed_of(buckets, row, sessions, group, shelf, at);
     }
     total
 }
@@ -99,19 +101,21 @@ fn lapsed_of(
     row: &SessionGroup,
     sessions: &[Session],
     group: u32,
-    validity: u32,
+    shelf: &TariffShelf,
     at: Moment,
 ) -> u128
-    requires within { lapsed_for (is_live_in validity at sessions.now) group at row.now buckets.now
+    requires within { lapsed_for (is_live_in (validity_of shelf.now) at sessions.now) group at
+        row.now buckets.now
         < 2 ^ 126 }
     requires order { AreAscending session_before sessions.now }
-    ensures { result ≡ lapsed_for (is_live_in validity at sessions.now) group at row.now
+    ensures { result ≡ lapsed_for (is_live_in (validity_of shelf.now) at sessions.now)
+        group at row.now
         buckets.now }
 {
     let Some(reservation) = &row.reservation else {
         return 0;
     };
-    if is_live(sessions, &row.session, validity, at) {
+    if is_live(sessions, &row.session, shelf, at) {
         return 0;
     }
     held_for(buckets, &reservation.holds, group, at)

@@ -5,15 +5,14 @@ ghost use Rattle.std.specs.Prelude.{position, map, option_map, length, vec_len, 
 ghost use Rattle.reserving.specs.Sessions.{is_of, group_in, is_counter, counter_in, holds_in};
 ghost use Rattle.reserving.specs.Sessions.{group_before, counter_before};
 ghost use Rattle.reserving.specs.Rows.{AreApart, AreAscending};
-ghost use Rattle.reserving.specs.Changes.{used_in, reserved_in, periods_in, count_in, with_use};
+ghost use Rattle.reserving.specs.Changes.{used_in, reserved_in, terms_in, count_in, with_use};
 ghost use Rattle.reserving.specs.Changes.{with_event, with_count, with_reservation, ended_group};
 ghost use Rattle.reserving.specs.Prepared.{with_group, with_counter};
 
 use crate::searching::{seek_counter, seek_group};
-use crate::session::{Counter, Reservation, SessionGroup};
+use crate::session::{Counter, Reservation, SessionGroup, Terms};
 use buckets::Holds;
 use identifiers::SessionId;
-use rating::Periods;
 use std::alloc::{AllocError, Global};
 
 /// The place of the row of a session's group.
@@ -49,27 +48,23 @@ pub(crate) fn used_of(groups: &[SessionGroup], session: &SessionId, group: u32) 
     groups[place].used
 }
 
-/// The periods of the reservation of a session's group.
-pub(crate) fn periods_of(
-    groups: &[SessionGroup],
-    session: &SessionId,
-    group: u32,
-) -> Option<Periods>
+/// The terms of the reservation of a session's group.
+pub(crate) fn terms_of(groups: &[SessionGroup], session: &SessionId, group: u32) -> Option<Terms>
     requires { AreAscending group_before groups.now }
-    ensures { result ≡ periods_in session.now group groups.now }
+    ensures { result ≡ terms_in session.now group groups.now }
 {
     let Some(place) = place_of(groups, session, group) else {
         return None;
     };
-    periods_in(&groups[place])
+    terms_in(&groups[place])
 }
 
-/// The periods of a row's reservation.
-fn periods_in(row: &SessionGroup) -> Option<Periods>
-    ensures { result ≡ option_map (λ r. r.periods) row.now.reservation }
+/// The terms of a row's reservation.
+fn terms_in(row: &SessionGroup) -> Option<Terms>
+    ensures { result ≡ option_map (λ r. r.terms) row.now.reservation }
 {
     match &row.reservation {
-        Some(reservation) => Some(reservation.periods),
+        Some(reservation) => Some(reservation.terms),
         None => None,
     }
 }
@@ -218,16 +213,16 @@ pub(crate) fn reserve_group(
     groups: &mut Vec<SessionGroup>,
     session: &SessionId,
     group: u32,
-    periods: Periods,
+    terms: Terms,
     holds: Holds,
 )
     requires there { is_some (group_in session.now group groups.old.items) ≡ true }
     requires order { AreAscending group_before groups.old.items }
-    ensures { groups.new.items ≡ with_reservation session.now group periods holds groups.old.items }
+    ensures { groups.new.items ≡ with_reservation session.now group terms holds groups.old.items }
 {
     let Some(place) = place_of(groups, session, group) else {
         unreachable!();
     };
     let row = &mut groups[place];
-    row.reservation = Some(Reservation { periods, holds });
+    row.reservation = Some(Reservation { terms, holds });
 }

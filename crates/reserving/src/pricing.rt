@@ -1,4 +1,4 @@
-//! What the tariff book says of a grant's validity and of a report's parts.
+//! What tariff books say of a grant's validity and of a report's parts.
 
 ghost use Rattle.std.specs.Prelude.{◌≡◌, ◌+◌, ◌≤◌, ◌<◌, ◌^◌, Some, None, IfSome, IfNone};
 ghost use Rattle.std.specs.Prelude.{option_map, if◌then◌else◌};
@@ -7,13 +7,17 @@ ghost use Rattle.units.specs.declared.blocks.TariffChangeUsage.TheVariants.{Unit
 ghost use Rattle.units.specs.declared.blocks.TariffChangeUsage.TheVariants.{UnitIndeterminate};
 ghost use Rattle.calendar.specs.Timetable.{period_at};
 ghost use Rattle.rating.specs.Rated.{part_of, rated_report};
-ghost use Rattle.reserving.specs.Pricing.{reach, switch_at, validity_at, periods_at, is_change};
+ghost use Rattle.reserving.specs.Pricing.{reach, switch_by, validity_by, periods_by, is_change};
 ghost use Rattle.reserving.specs.Pricing.{units_of, four_parts, wanted_units};
-ghost use Rattle.reserving.specs.Placed.{AreOfBook};
+ghost use Rattle.reserving.specs.Placed.{AreOfBook, AreOfShelf};
+ghost use Rattle.shelves.specs.Shelves.{tariff_in};
+ghost use Rattle.reserving.specs.Pricing.{prices_by, terms_now};
 ghost use Rattle.reserving.specs.Settlement.{reported};
 ghost use Rattle.reserving.specs.Windows.{AreWindowsOfBooks};
 
+use crate::session::Terms;
 use rating::{Part, Periods, Rated, rate_report};
+use shelves::TariffShelf;
 use tariffs::{Prices, Side, Tariff, TariffBook};
 use units::{Moment, TariffChangeUsage, Units, UsedPart};
 
@@ -33,10 +37,10 @@ pub(crate) struct Window {
 
 /// The validity of a grant of this moment.
 pub(crate) fn window_at(book: &TariffBook, moment: Moment) -> Window
-    ensures periods { result.periods ≡ periods_at book.now moment }
+    ensures periods { result.periods ≡ periods_by book.now moment }
     ensures of_book { AreOfBook book.now result.periods }
-    ensures switch { result.switch ≡ switch_at book.now moment }
-    ensures validity { result.validity ≡ validity_at book.now moment }
+    ensures switch { result.switch ≡ switch_by book.now moment }
+    ensures validity { result.validity ≡ validity_by book.now moment }
 {
     let before = book.period_at(moment);
     let found = book.window_from(moment, reach(book, moment));
@@ -89,6 +93,30 @@ fn reach(book: &TariffBook, moment: Moment) -> u32
         validity
     } else {
         left as u32
+    }
+}
+
+/// The prices of a rating group by the terms of a grant.
+pub(crate) fn prices_by(shelf: &TariffShelf, group: u32, terms: Terms) -> Option<Prices<'_>>
+    requires { AreOfShelf shelf.now terms }
+    ensures { result
+        ≡ option_map (λ x. prices_by x terms.periods) (tariff_in shelf.now terms.book group) }
+{
+    shelf.prices(terms.book, group, terms.periods.before, terms.periods.after)
+}
+
+/// The terms of what has no grant: the book at a moment and its period.
+pub(crate) fn terms_now(shelf: &TariffShelf, moment: Moment) -> Terms
+    ensures value { result ≡ terms_now shelf.now moment }
+    ensures of_shelf { AreOfShelf shelf.now result }
+{
+    let period = shelf.book_at(moment).period_at(moment);
+    Terms {
+        book: shelf.number_at(moment),
+        periods: Periods {
+            before: period,
+            after: period,
+        },
     }
 }
 

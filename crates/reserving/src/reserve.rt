@@ -1,9 +1,12 @@
 ghost use Rattle.std.specs.Prelude.{◌≡◌, ℕ, ◌+◌, ◌*◌, ◌≤◌, ◌<◌, ◌==◌, None, true, false, is_some};
 ghost use Rattle.std.specs.Prelude.{nat_lt, length, option_map, OnOk, OnErr, IfOk};
 ghost use Rattle.buckets.specs.Spend.{funds};
+ghost use Rattle.shelves.specs.Shelves.{book_at};
 ghost use Rattle.reserving.specs.Ledger.{Ledger};
 ghost use Rattle.reserving.specs.Sessions.{group_in, is_live_in};
-ghost use Rattle.reserving.specs.Pricing.{tariff_of, cycle_at, periods_at, wanted_with, grant_with};
+ghost use Rattle.reserving.specs.Pricing.{tariff_at, cycle_at, periods_at, terms_at, wanted_with};
+ghost use Rattle.reserving.specs.Pricing.{grant_with};
+ghost use Rattle.reserving.specs.Pricing.{validity_of};
 ghost use Rattle.reserving.specs.Reservation.{grant_for};
 ghost use Rattle.reserving.specs.Quotas.{IsQuota};
 ghost use Rattle.reserving.specs.Changes.{advanced, used_in, count_in, reserved_account};
@@ -17,6 +20,7 @@ use crate::account::Account;
 use crate::fault::AccountFault;
 use crate::grouping;
 use crate::pricing::{wanted_of, window_at};
+use crate::session::Terms;
 use buckets::HoldRoom;
 use identifiers::SessionId;
 use rating::{Grant, Periods, greatest_grant};
@@ -67,28 +71,28 @@ impl<'b> Account<'b> {
         moment: Moment,
     ) -> Result<Granted, AccountFault>
         requires moment { self.old.as_of ≤ moment }
-        requires live { is_live_in self.old.book.validity moment self.old.sessions session.now
+        requires live { is_live_in (validity_of self.old.shelf) moment self.old.sessions session.now
             ≡ true }
         requires free { reservation_in session.now group self.old.groups ≡ None }
         ensures rows { IfOk result (λ granted. (ledger : Ledger) → IsRowsOf ledger self.old →
-            GivesGrant self.old.book moment session.now group (option_map (λ u. u.0) requested)
+            GivesGrant self.old.shelf moment session.now group (option_map (λ u. u.0) requested)
             ledger self.new granted) }
         ensures left { IfOk result (λ granted. (ledger : Ledger) (left : LeftRows) →
             IsWith ledger left moment self.old →
             IsBeside left moment self.new ×
-            GivesGrant self.old.book moment session.now group (option_map (λ u. u.0) requested)
+            GivesGrant self.old.shelf moment session.now group (option_map (λ u. u.0) requested)
             ledger (joined left self.new) granted) }
         ensures as_of { OnOk result (self.new.as_of ≡ moment) }
-        ensures tariff { self.new.book ≡ self.old.book }
+        ensures tariff { self.new.shelf ≡ self.old.shelf }
         ensures sessions { OnOk result (self.new.sessions ≡ (advanced moment self.old).sessions) }
-        ensures within { IfOk result (IsWithinGrant (tariff_of self.old.book group)) }
+        ensures within { IfOk result (IsWithinGrant (tariff_at self.old.shelf moment group)) }
         ensures others { OnOk result ((g : ℕ) → (g == group) ≡ false →
             reservation_in session.now g self.old.groups ≡ None →
             reservation_in session.now g self.new.groups ≡ None) }
         ensures memory { OnErr result (result ≡ Err AccountFault.Memory) }
         ensures err { OnErr result (self.new ≡ self.old) }
     {
-        let window = window_at(self.book, moment);
+        let window = window_at(self.shelf.book_at(moment), moment);
         let quota = self.quota(session, group, requested, window.periods, moment);
         if quota.grant.units.0 == 0 {
             self.advance(moment);
@@ -96,7 +100,11 @@ impl<'b> Account<'b> {
         }
         let room = self.make_row(session, group)?;
         self.advance(moment);
-        self.hold_quota(room, session, group, window.periods, quota.grant.amount);
+        let terms = Terms {
+            book: self.shelf.number_at(moment),
+            periods: window.periods,
+        };
+        self.hold_quota(room, session, group, terms, quota.grant.amount);
         Ok(Granted::Units {
             units: quota.grant.units,
             switch: window.switch,
@@ -111,20 +119,20 @@ impl<'b> Account<'b> {
         requires { self.now.as_of ≤ moment }
         ensures rows { result
             ≡ nat_lt 0
-            (grant_with (tariff_of self.now.book group) (periods_at self.now.book moment) 0
-            (count_in group (cycle_at self.now.book group moment) self.now.counters)
+            (grant_with (tariff_at self.now.shelf moment group) (periods_at self.now.shelf moment) 0
+            (count_in group (cycle_at self.now.shelf group moment) self.now.counters)
             (option_map (λ u. u.0) requested)
             (funds group moment (advanced moment self.now).buckets)).units.0 }
         ensures ledger { (ledger : Ledger) → IsRowsOf ledger self.now →
             result ≡ nat_lt 0
-            (grant_for self.now.book moment group 0 (option_map (λ u. u.0) requested)
+            (grant_for self.now.shelf moment group 0 (option_map (λ u. u.0) requested)
             ledger).units.0 }
         ensures left { (ledger : Ledger) (left : LeftRows) → IsWith ledger left moment self.now →
             result ≡ nat_lt 0
-            (grant_for self.now.book moment group 0 (option_map (λ u. u.0) requested)
+            (grant_for self.now.shelf moment group 0 (option_map (λ u. u.0) requested)
             ledger).units.0 }
     {
-        let periods = window_at(self.book, moment).periods;
+        let periods = window_at(self.shelf.book_at(moment), moment).periods;
         let quota = self.quota_after(0, group, requested, periods, moment);
         0 < quota.grant.units.0
     }
@@ -139,11 +147,12 @@ impl<'b> Account<'b> {
         moment: Moment,
     ) -> Quota
         requires moment { self.now.as_of ≤ moment }
-        requires of_book { AreOfBook self.now.book periods }
+        requires of_book { AreOfBook (book_at self.now.shelf moment) periods }
         ensures account { IsAccount self.now }
-        ensures quota { IsQuota self.now.book (used_in session.now group self.now.groups) group
+        ensures quota { IsQuota (book_at self.now.shelf moment)
+            (used_in session.now group self.now.groups) group
             (option_map (λ u. u.0) requested) periods
-            (count_in group (cycle_at self.now.book group moment) self.now.counters)
+            (count_in group (cycle_at self.now.shelf group moment) self.now.counters)
             (funds group moment (advanced moment self.now).buckets) result.wanted result.grant }
     {
         let used = grouping::used_of(&self.rows.groups, session, group);
@@ -160,12 +169,17 @@ impl<'b> Account<'b> {
         moment: Moment,
     ) -> Quota
         requires moment { self.now.as_of ≤ moment }
-        requires of_book { AreOfBook self.now.book periods }
-        ensures { IsQuota self.now.book used group (option_map (λ u. u.0) requested) periods
-            (count_in group (cycle_at self.now.book group moment) self.now.counters)
+        requires of_book { AreOfBook (book_at self.now.shelf moment) periods }
+        ensures { IsQuota (book_at self.now.shelf moment) used group
+            (option_map (λ u. u.0) requested) periods
+            (count_in group (cycle_at self.now.shelf group moment) self.now.counters)
             (funds group moment (advanced moment self.now).buckets) result.wanted result.grant }
     {
-        let Some(prices) = self.book.prices(group, periods.before, periods.after) else {
+        let Some(prices) = self
+            .shelf
+            .book_at(moment)
+            .prices(group, periods.before, periods.after)
+        else {
             return Quota::none();
         };
         let wanted = wanted_of(prices.tariff(), requested);
@@ -194,15 +208,15 @@ impl<'b> Account<'b> {
         room: HoldRoom,
         session: &SessionId,
         group: u32,
-        periods: Periods,
+        terms: Terms,
         amount: Amount,
     )
-        requires periods { periods ≡ periods_at self.old.book self.old.as_of }
-        requires of_book { AreOfBook self.old.book periods }
-        requires tariff { is_some (tariff_of self.old.book group) ≡ true }
+        requires terms { terms ≡ terms_at self.old.shelf self.old.as_of }
+        requires of_book { AreOfBook (book_at self.old.shelf self.old.as_of) terms.periods }
+        requires tariff { is_some (tariff_at self.old.shelf self.old.as_of group) ≡ true }
         requires there { is_some (group_in session.now group self.old.groups) ≡ true }
         requires free { reservation_in session.now group self.old.groups ≡ None }
-        requires live { is_live_in self.old.book.validity self.old.as_of self.old.sessions
+        requires live { is_live_in (validity_of self.old.shelf) self.old.as_of self.old.sessions
             session.now ≡ true }
         requires room { length self.old.buckets ≤ room }
         requires covered { amount.0 ≤ funds group self.old.as_of self.old.buckets }
@@ -212,7 +226,7 @@ impl<'b> Account<'b> {
             .rows
             .purse
             .hold_in(room, group, self.rows.as_of, amount);
-        grouping::reserve_group(&mut self.rows.groups, session, group, periods, holds);
+        grouping::reserve_group(&mut self.rows.groups, session, group, terms, holds);
     }
 }
 

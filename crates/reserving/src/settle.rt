@@ -1,12 +1,15 @@
 ghost use Rattle.std.specs.Prelude.{◌≡◌, ◌+◌};
+ghost use Rattle.reserving.specs.Pricing.{validity_of};
 
 use crate::account::Account;
 use crate::fault::AccountFault;
 use crate::grouping;
-use crate::pricing::{Tally, price, reported_units, tally_of};
+use crate::live::cycle_of;
+use crate::pricing::{Tally, price, prices_by, reported_units, tally_of, terms_now};
+use crate::session::Terms;
 use buckets::Charged;
 use identifiers::SessionId;
-use rating::{Periods, Rated};
+use rating::Rated;
 use units::{Amount, Blocks, Moment, Units, UsedPart};
 
 /// What became of a report of used units or of a debit. The type keeps that what is collected and
@@ -49,7 +52,7 @@ impl<'b> Account<'b> {
     ghost use Rattle.reserving.specs.Settlement.{reported, price_of, passes, passes_limit};
     ghost use Rattle.reserving.specs.Settlement.{passes_after, settled_by};
     ghost use Rattle.reserving.specs.Rows.{IsAccount, IsRowsOf};
-    ghost use Rattle.reserving.specs.Placed.{AreOfBook};
+    ghost use Rattle.reserving.specs.Placed.{AreOfShelf};
     ghost use Rattle.reserving.specs.Left.{LeftRows, IsWith};
     ghost use Rattle.reserving.specs.Results.{IsSettlementOf};
     ghost use Rattle.buckets.specs.Holding.{uncollected};
@@ -62,9 +65,9 @@ impl<'b> Account<'b> {
     };
     ghost use Rattle.units.specs.declared.blocks.TariffChangeUsage.TheVariants.{UnitIndeterminate};
     ghost use Rattle.calendar.specs.Timetable.{period_at};
-    ghost use Rattle.reserving.specs.Pricing.{cycle_at, units_of, one_period};
+    ghost use Rattle.reserving.specs.Pricing.{cycle_at, units_of, terms_now};
     ghost use Rattle.reserving.specs.Sessions.{group_in, counter_in};
-    ghost use Rattle.reserving.specs.Changes.{advanced, used_in, reserved_in, periods_in, count_in};
+    ghost use Rattle.reserving.specs.Changes.{advanced, used_in, reserved_in, terms_in, count_in};
     ghost use Rattle.reserving.specs.Changes.{price_in, settled_account, settled_by_rows};
     ghost use Rattle.reserving.specs.Changes.{ended_rows};
     ghost use Rattle.reserving.specs.Prepared.{with_rows, reservation_in};
@@ -86,36 +89,36 @@ impl<'b> Account<'b> {
         moment: Moment,
     ) -> Result<Settled, AccountFault>
         requires moment { self.old.as_of ≤ moment }
-        requires live { is_live_in self.old.book.validity moment self.old.sessions session.now
+        requires live { is_live_in (validity_of self.old.shelf) moment self.old.sessions session.now
             ≡ true }
         ensures rows { OnOk result ((ledger : Ledger) → IsRowsOf ledger self.old →
-            IsRowsOf (settled_by self.old.book moment session.now group parts.now ledger)
+            IsRowsOf (settled_by self.old.shelf moment session.now group parts.now ledger)
             self.new) }
         ensures left { OnOk result ((ledger : Ledger) (left : LeftRows) →
             IsWith ledger left moment self.old →
-            IsWith (settled_by self.old.book moment session.now group parts.now ledger)
+            IsWith (settled_by self.old.shelf moment session.now group parts.now ledger)
             left moment self.new) }
         ensures by_rows { OnOk result
             (self.new ≡ settled_by_rows session.now group parts.now (advanced moment self.old)) }
         ensures as_of { OnOk result (self.new.as_of ≡ moment) }
-        ensures tariff { self.new.book ≡ self.old.book }
+        ensures tariff { self.new.shelf ≡ self.old.shelf }
         ensures sessions { OnOk result (self.new.sessions ≡ (advanced moment self.old).sessions) }
         ensures settled { IfOk result (λ s. (ledger : Ledger) → IsRowsOf ledger self.old →
-            IsSettlementOf self.old.book moment session.now group parts.now ledger s) }
+            IsSettlementOf self.old.shelf moment session.now group parts.now ledger s) }
         ensures settled_left { IfOk result (λ s. (ledger : Ledger) (left : LeftRows) →
             IsWith ledger left moment self.old →
-            IsSettlementOf self.old.book moment session.now group parts.now ledger s) }
+            IsSettlementOf self.old.shelf moment session.now group parts.now ledger s) }
         ensures within { OnOk result ((ledger : Ledger) → IsRowsOf ledger self.old →
-            passes_limit self.old.book moment session.now group parts.now ledger ≡ false) }
+            passes_limit self.old.shelf moment session.now group parts.now ledger ≡ false) }
         ensures within_left { OnOk result ((ledger : Ledger) (left : LeftRows) →
             IsWith ledger left moment self.old →
-            passes_limit self.old.book moment session.now group parts.now ledger ≡ false) }
+            passes_limit self.old.shelf moment session.now group parts.now ledger ≡ false) }
         ensures limit { result ≡ Err AccountFault.Limit → (ledger : Ledger) →
             IsRowsOf ledger self.old →
-            passes_limit self.old.book moment session.now group parts.now ledger ≡ true }
+            passes_limit self.old.shelf moment session.now group parts.now ledger ≡ true }
         ensures limit_left { result ≡ Err AccountFault.Limit → (ledger : Ledger) (left : LeftRows) →
             IsWith ledger left moment self.old →
-            passes_limit self.old.book moment session.now group parts.now ledger ≡ true }
+            passes_limit self.old.shelf moment session.now group parts.now ledger ≡ true }
         ensures ended { parts.now ≡ [] → IsOk result }
         ensures free { OnOk result (reservation_in session.now group self.new.groups ≡ None) }
         ensures others { OnOk result
@@ -159,10 +162,10 @@ impl<'b> Account<'b> {
         moment: Moment,
     ) -> bool
         requires later { self.now.as_of ≤ moment }
-        requires live { is_live_in self.now.book.validity moment self.now.sessions session.now
+        requires live { is_live_in (validity_of self.now.shelf) moment self.now.sessions session.now
             ≡ true }
         ensures { (ledger : Ledger) (left : LeftRows) → IsWith ledger left moment self.now →
-            result ≡ passes_after charges self.now.book moment session.now group parts.now ledger }
+            result ≡ passes_after charges self.now.shelf moment session.now group parts.now ledger }
     {
         if parts.is_empty() {
             return false;
@@ -193,17 +196,14 @@ impl<'b> Account<'b> {
 
     /// The cycle of the counter of a group at a moment.
     pub(crate) fn cycle_at(&self, group: u32, moment: Moment) -> u32
-        ensures { result ≡ cycle_at self.now.book group moment }
+        ensures { result ≡ cycle_at self.now.shelf group moment }
     {
-        match self.book.tariff(group) {
-            Some(tariff) => self.book.cycle_of(tariff.cycle(), moment),
-            None => 0,
-        }
+        cycle_of(self.shelf, group, moment)
     }
 
     /// The blocks that the counter of a group has counted in the cycle of a moment.
     pub(crate) fn place_at(&self, group: u32, moment: Moment) -> u64
-        ensures { result ≡ count_in group (cycle_at self.now.book group moment) self.now.counters }
+        ensures { result ≡ count_in group (cycle_at self.now.shelf group moment) self.now.counters }
     {
         let cycle = self.cycle_at(group, moment);
         grouping::count_of(&self.rows.counters, group, cycle)
@@ -220,12 +220,12 @@ impl<'b> Account<'b> {
         ensures account { IsAccount self.now }
         ensures none { result ≡ None →
             passes (used_in session.now group self.now.groups) (reported parts.now)
-            (count_in group (cycle_at self.now.book group moment) self.now.counters)
+            (count_in group (cycle_at self.now.shelf group moment) self.now.counters)
             (price_in session.now group moment parts.now self.now).blocks self.now.next_charge
             ≡ true }
         ensures some { IfSome result
             (λ r. passes (used_in session.now group self.now.groups) r.units.0
-            (count_in group (cycle_at self.now.book group moment) self.now.counters) r.blocks.0
+            (count_in group (cycle_at self.now.shelf group moment) self.now.counters) r.blocks.0
             self.now.next_charge ≡ false) }
         ensures units { IfSome result (λ r. r.units.0 ≡ reported parts.now) }
         ensures blocks { IfSome result
@@ -256,11 +256,11 @@ impl<'b> Account<'b> {
         ensures account { IsAccount self.now }
         ensures none { result ≡ None →
             passes (used_in session.now group self.now.groups) units.0
-            (count_in group (cycle_at self.now.book group moment) self.now.counters) rated.blocks
+            (count_in group (cycle_at self.now.shelf group moment) self.now.counters) rated.blocks
             self.now.next_charge ≡ true }
         ensures some { IfSome result
             (λ r. passes (used_in session.now group self.now.groups) units.0
-            (count_in group (cycle_at self.now.book group moment) self.now.counters) rated.blocks
+            (count_in group (cycle_at self.now.shelf group moment) self.now.counters) rated.blocks
             self.now.next_charge ≡ false) }
         ensures units { IfSome result (λ r. r.units ≡ units) }
         ensures blocks { IfSome result (λ r. r.blocks.0 ≡ rated.blocks) }
@@ -279,8 +279,8 @@ impl<'b> Account<'b> {
         })
     }
 
-    /// What a report costs: by the periods of its grant, without one by the period at the moment. A
-    /// group that the book doesn't have costs nothing.
+    /// What a report costs: by the terms of its grant, without one by the book and the period at the
+    /// moment. A group that this book doesn't have costs nothing.
     fn price(
         &self,
         session: &SessionId,
@@ -297,11 +297,11 @@ impl<'b> Account<'b> {
             tally.now.before ≡ units_of (Some UnitBeforeTariffChange) parts →
             tally.now.indeterminate ≡ units_of (Some UnitIndeterminate) parts →
             tally.now.after ≡ units_of (Some UnitAfterTariffChange) parts →
-            result ≡ price_of self.now.book moment group
-            (periods_in session.now group self.now.groups) used place parts }
+            result ≡ price_of self.now.shelf moment group
+            (terms_in session.now group self.now.groups) used place parts }
     {
-        let periods = self.periods(session, group, moment);
-        let Some(prices) = self.book.prices(group, periods.before, periods.after) else {
+        let terms = self.terms(session, group, moment);
+        let Some(prices) = prices_by(self.shelf, group, terms) else {
             return Rated {
                 amount: Amount(0),
                 blocks: 0,
@@ -310,22 +310,16 @@ impl<'b> Account<'b> {
         price(&prices, used, place, tally)
     }
 
-    /// The periods that price a report: those of its grant, or the period at the moment.
-    fn periods(&self, session: &SessionId, group: u32, moment: Moment) -> Periods
+    /// The terms that price a report: those of its grant, or what prices one without a grant.
+    fn terms(&self, session: &SessionId, group: u32, moment: Moment) -> Terms
         ensures value { result
-            ≡ unwrap_or (periods_in session.now group self.now.groups)
-            (one_period (period_at self.now.book.calendar moment)) }
-        ensures of_book { AreOfBook self.now.book result }
+            ≡ unwrap_or (terms_in session.now group self.now.groups)
+            (terms_now self.now.shelf moment) }
+        ensures of_shelf { AreOfShelf self.now.shelf result }
     {
-        match grouping::periods_of(&self.rows.groups, session, group) {
-            Some(periods) => periods,
-            None => {
-                let period = self.book.period_at(moment);
-                Periods {
-                    before: period,
-                    after: period,
-                }
-            }
+        match grouping::terms_of(&self.rows.groups, session, group) {
+            Some(terms) => terms,
+            None => terms_now(self.shelf, moment),
         }
     }
 
@@ -339,7 +333,7 @@ impl<'b> Account<'b> {
     ) -> Charged
         requires group { is_some (group_in session.now group self.old.groups) ≡ true }
         requires counter { is_some (counter_in group cycle self.old.counters) ≡ true }
-        requires cycle { cycle ≡ cycle_at self.old.book group self.old.as_of }
+        requires cycle { cycle ≡ cycle_at self.old.shelf group self.old.as_of }
         requires used { used_in session.now group self.old.groups + rated.units.0
             ≤ 1_000_000_000_000_000_000 }
         requires counted { count_in group cycle self.old.counters + rated.blocks.0

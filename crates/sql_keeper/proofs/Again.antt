@@ -49,7 +49,7 @@ left_again = record {
       left_by text old new (meta_with text change) left b.catalog b.stored b.meta refl refl b.last;
   added = λ text code terms t old new left b.
       left_by text old new (meta_at text t) left b.catalog b.stored b.meta refl refl b.last;
-  swept = λ names text book t old new left b.
+  swept = λ names text shelf t old new left b.
       left_by text old new (meta_at text t) left b.catalog b.stored b.meta refl refl b.last;
 }
 

@@ -13,6 +13,7 @@ use Rattle.reserving.specs.declared.charge.ChargeRow.{ChargeRow}
 use Rattle.reserving.specs.declared.session.Session.{Session}
 use Rattle.reserving.specs.declared.session.SessionGroup.{SessionGroup}
 use Rattle.reserving.specs.declared.session.Reservation.{Reservation}
+use Rattle.reserving.specs.declared.session.Terms.{Terms}
 use Rattle.reserving.specs.Sessions.{session_in, is_session, is_counter, is_of, group_in, holds_in}
 use Rattle.reserving.specs.Rows.{AreApart}
 use Rattle.reserving.specs.Stored.{StoredRows, IsStored}
@@ -40,7 +41,8 @@ use Rattle.sql_rows.specs.Values.{Meta, Group, Kept, request_kind, reference_kin
 use Rattle.sql_rows.specs.Content.{Rows as Stored, Content, with_rows, with_meta, with_account}
 use Rattle.sql_rows.specs.Content.{with_head, with_answer}
 use Rattle.sql_rows.specs.Each.{with_buckets, with_counters, with_sessions}
-use Rattle.sql_keeper.specs.Content.{periods_in, group_in as stored_group, is_reserved, held_in}
+use Rattle.sql_keeper.specs.Content.{periods_in, terms_in, group_in as stored_group, is_reserved}
+use Rattle.sql_keeper.specs.Content.{held_in}
 use Rattle.sql_keeper.specs.Content.{rows_of, is_numbered, charge_of, kept_in, answer_in}
 use Rattle.sql_keeper.specs.Content.{voucher_in, tables_of}
 use Rattle.sql_keeper.specs.Content as content
@@ -109,6 +111,11 @@ periods_back : (names : List (List ℕ)) (p : Periods) → IsNamed names p.befor
 periods_back names p e f =
     λ i. record { before = period_back names p.before e i; after = period_back names p.after f i }
 
+terms_back : (names : List (List ℕ)) (x : Terms) → x.book ≡ 1 → IsNamed names x.periods.before →
+    IsNamed names x.periods.after → terms_in names (names_at names x.periods) ≡ x
+terms_back names x first e f =
+    λ i. record { book = sym first i; periods = periods_back names x.periods e f i }
+
 -- ---- groups
 
 none_reserved : (names : List (List ℕ)) (b : Bool) → content.reserved_in names b None ≡ None
@@ -118,7 +125,7 @@ none_reserved names false = refl
 -- the session of a group that isn't written stays as it is
 module _ (names : List (List ℕ)) (w : StoredRows) (r : Stored)
     (free : (s : List ℕ) (g : ℕ) (x : GroupRow) → (rows_of names r).groups s g ≡ Some x →
-    group_in s g w.groups ≡ None → (x.periods ≡ None) × (session_in s w.sessions ≡ None))
+    group_in s g w.groups ≡ None → (x.terms ≡ None) × (session_in s w.sessions ≡ None))
     (may : (s : List ℕ) (g : ℕ) (x : SessionGroup) → group_in s g w.groups ≡ Some x →
     MayStand names w.sessions s x.reservation) where
   pub open_after : List ℕ → Bool
@@ -151,11 +158,13 @@ module _ (names : List (List ℕ)) (w : StoredRows) (r : Stored)
       back : (o : Option Reservation) (used : ℕ) → MayStand names w.sessions s o
           → stored_group names (open_after s) (record {
             used = used;
-            periods = option_map (λ (x : Reservation). names_at names x.periods) o;
-          }) ≡ record { used = used; periods = option_map (λ (x : Reservation). x.periods) o }
-      back None used m = λ i. record { used = used; periods = none_reserved names (open_after s) i }
-      back (Some x) used m = rw (still_open s m.live) (λ i.
-          record { used = used; periods = Some (periods_back names x.periods m.before m.after i) })
+            periods = option_map (λ (x : Reservation). names_at names x.terms.periods) o;
+          }) ≡ record { used = used; terms = option_map (λ (x : Reservation). x.terms) o }
+      back None used m = λ i. record { used = used; terms = none_reserved names (open_after s) i }
+      back (Some x) used m = rw (still_open s m.live) (λ i. record {
+        used = used;
+        terms = Some (terms_back names x.terms m.book m.before m.after i);
+      })
 
       at : (o : Option SessionGroup) (p : Option Group) → group_in s g w.groups ≡ o
           → r.groups s g ≡ p → option_map (stored_group names (open_after s))
@@ -180,7 +189,7 @@ module _ (names : List (List ℕ)) (w : StoredRows) (r : Stored)
 
       back : (o : Option Reservation) → MayStand names w.sessions s o
           → held_in (open_after s
-          && is_some (option_map (λ (x : Reservation). names_at names x.periods) o))
+          && is_some (option_map (λ (x : Reservation). names_at names x.terms.periods) o))
           (amount_at n (holds_in o)) ≡ tables.held_at n (holds_in o)
       back None m = not_held (open_after s) None
       back (Some x) m = rw (still_open s m.live) (sym (held_is n x.holds m.holds))

@@ -14,7 +14,7 @@ use Rattle.keepers.specs.Change.{with_voucher as with_added}
 use Rattle.redemptions.specs.declared.terms.VoucherTerms.{VoucherTerms}
 use Rattle.keepers.specs.Faults.{HasCause, max_failures}
 use Rattle.keepers.specs.Keeping.{Keeps}
-use Rattle.tariffs.specs.Books.{Book}
+use Rattle.shelves.specs.Shelves.{Shelf}
 use Rattle.sql_keeper.specs.Additions.{BecomesAdded}
 use Rattle.sql_keeper.specs.Commits.{CommitsChange, CommitsWhole}
 use Rattle.sql_keeper.specs.Content.{tables_of}
@@ -59,13 +59,13 @@ added_law g old conn text code terms t keeper (Err e) commits clean = tt
 
 -- the law of a sweep
 pub swept_law : {S A : Type 0} (g : Ghosts S) (old : KeeperState S) (conn : Held S)
-    (text : List ℕ) (book : Book) (t : ℕ) → IsKeeper g old → (r : Result A StoreFault)
-    → CommitsWhole (BecomesSwept old.names text book t) (state g old.connection) (state g conn) r
+    (text : List ℕ) (shelf : Shelf) (t : ℕ) → IsKeeper g old → (r : Result A StoreFault)
+    → CommitsWhole (BecomesSwept old.names text shelf t) (state g old.connection) (state g conn) r
     → IsClean (state g conn)
     → OnOk r
-    (IsSwept book t (tables_in g old) (tables_of old.names (content_of (state g conn).now.trees)))
-swept_law g old conn text book t keeper (Ok x) commits clean = (commits.done clean.disk).2.tables
-swept_law g old conn text book t keeper (Err e) commits clean = tt
+    (IsSwept shelf t (tables_in g old) (tables_of old.names (content_of (state g conn).now.trees)))
+swept_law g old conn text shelf t keeper (Ok x) commits clean = (commits.done clean.disk).2.tables
+swept_law g old conn text shelf t keeper (Err e) commits clean = tt
 
 module _ {S A : Type 0} (g : Ghosts S) (old new : KeeperState S)
     (Become : List ℕ → Trees → Trees → Type 0) (text : List ℕ) (keeper : IsKeeper g old) where

@@ -11,6 +11,7 @@ use Rattle.buckets.specs.Row.{Row}
 use Rattle.buckets.specs.Spend.{AreDistinct}
 use Rattle.reserving.specs.declared.session.SessionGroup.{SessionGroup}
 use Rattle.reserving.specs.declared.session.Reservation.{Reservation}
+use Rattle.reserving.specs.declared.session.Terms.{Terms}
 use Rattle.reserving.specs.Sessions.{is_of, group_in, holds_in}
 use Rattle.keepers.specs.Tables.{group_row, held_at, held_of}
 use Rattle.sql_tables.specs.Keyed.{same_name}
@@ -21,8 +22,9 @@ use Rattle.sql_rows.specs.Lists.{GroupAt, AreGroups, AreHolds}
 use Rattle.sql_rows.specs.Texts.{group_at, hold_at}
 use Rattle.sql_rows.specs.Values.{PeriodNames}
 use Rattle.sql_keeper.specs.Content.{group_in as group_told, is_reserved, held_in, periods_in}
-use Rattle.sql_keeper.specs.GroupRows.{amount_of, ArePeriodsOf, IsReservationOf, IsGroupOf}
-use Rattle.sql_keeper.specs.GroupRows.{AreGroupsOf, AreSessionGroups}
+use Rattle.sql_keeper.specs.Content.{terms_in}
+use Rattle.sql_keeper.specs.GroupRows.{amount_of, ArePeriodsOf, AreTermsOf, IsReservationOf}
+use Rattle.sql_keeper.specs.GroupRows.{IsGroupOf, AreGroupsOf, AreSessionGroups}
 use Rattle.sql_keeper.proofs.HeldAlong.{held_along, amounts_are}
 use Rattle.sql_keeper.proofs.Overlays.{name_from, number_from}
 
@@ -33,16 +35,21 @@ periods_are names p q h = λ i. record {
   after = unwrap_or (sym h.after i) (record { 0 = 0 });
 }
 
+terms_are : (names : List (List ℕ)) (p : PeriodNames) (x : Terms) → AreTermsOf names p x
+    → x ≡ terms_in names p
+terms_are names p x h =
+    λ i. record { book = h.book i; periods = periods_are names p x.periods h.periods i }
+
 module _ (names : List (List ℕ)) (buckets : List Row) (held : List HeldColumns) where
   -- ---- one row
 
   reserved_is : (g : ℕ) (o : Option PeriodNames) (r : Option Reservation)
       → IsReservationOf names buckets held g o r
-      → option_map (λ (x : Reservation). x.periods) r ≡ option_map (periods_in names) o
+      → option_map (λ (x : Reservation). x.terms) r ≡ option_map (terms_in names) o
   reserved_is g None None h = refl
   reserved_is g None (Some r) h = absurd h
   reserved_is g (Some p) None h = absurd h
-  reserved_is g (Some p) (Some r) h = ap Some (periods_are names p r.periods h.0)
+  reserved_is g (Some p) (Some r) h = ap Some (terms_are names p r.terms h.0)
 
   holds_are : AreDistinct buckets → (g n : ℕ) (o : Option PeriodNames) (r : Option Reservation)
       → IsReservationOf names buckets held g o r
@@ -57,7 +64,7 @@ module _ (names : List (List ℕ)) (buckets : List Row) (held : List HeldColumns
       → group_row x ≡ group_told names true c.row
   row_is s c x h = λ i. record {
     used = h.used i;
-    periods = reserved_is c.group c.row.periods x.reservation h.reservation i;
+    terms = reserved_is c.group c.row.periods x.reservation h.reservation i;
   }
 
   -- ---- the row of a key

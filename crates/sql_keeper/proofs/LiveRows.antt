@@ -5,7 +5,7 @@ use Rattle.std.proofs.Common.{true≢false}
 use Rattle.std.specs.Prelude.{if◌then◌else◌, filter, option_map, is_some}
 use Rattle.std.specs.List.{find}
 use Rattle.buckets.specs.Row.{Row}
-use Rattle.tariffs.specs.Books.{Book}
+use Rattle.shelves.specs.Shelves.{Shelf}
 use Rattle.reserving.specs.declared.session.Session.{Session}
 use Rattle.reserving.specs.Left.{is_dead}
 use Rattle.reserving.specs.Sessions.{is_open}
@@ -74,12 +74,12 @@ find_kept q p b same (x ∷ xs) = at b (p x) (q x) refl refl (same x) (find_kept
 -- ---- all of it
 
 -- an account that finds under each key what was read
-pub live_read : (names : List (List ℕ)) (book : Book) (t : ℕ) (told : Stored) (x : ReadRows)
-    (w : StoredRows) → IsReadAccount names book t told (Some x)
+pub live_read : (names : List (List ℕ)) (shelf : Shelf) (t : ℕ) (told : Stored) (x : ReadRows)
+    (w : StoredRows) → IsReadAccount names shelf t told (Some x)
     → w ≡ in_key_order (account_with x.head x.rows x.counters.items)
     → FindsSame (account_with x.head x.rows x.counters.items) w
-    → IsLiveAccount names book t told (Some w)
-live_read names book t told x w (head, live, counters) is found =
+    → IsLiveAccount names shelf t told (Some w)
+live_read names shelf t told x w (head, live, counters) is found =
     let groups : AreLiveGroups names told w.sessions w.groups = record {
       groups = λ s g.
           ap (option_map group_row) (found.groups s g) ∙ live.groups.groups s g
@@ -101,7 +101,7 @@ live_read names book t told x w (head, live, counters) is found =
     )
 
 pub live_loaded : AreLiveRowsLoaded
-live_loaded names book t rows w (head, live, counters) =
+live_loaded names shelf t rows w (head, live, counters) =
     let groups = open_loaded names rows w.sessions w.groups live.sessions live.groups in
     record {
       priced_by = refl;
@@ -115,20 +115,20 @@ live_loaded names book t rows w (head, live, counters) =
       counters = counters;
     }
 
-pub load_made : {E : Type 0} (names : List (List ℕ)) (book : Book) (t : ℕ) (a : List ℕ)
+pub load_made : {E : Type 0} (names : List (List ℕ)) (shelf : Shelf) (t : ℕ) (a : List ℕ)
     (rows : Stored) (o : Option StoredRows) (r : Result (Option Loaded) E)
-    → IfOk r (IsLoadOf book a o) → IsLiveAccount names book t rows o
-    → IfOk r (IsLoad book t a (rows_of names rows))
-load_made names book t a rows None (Ok None) made live = ap (option_map head_in) live
-load_made names book t a rows None (Ok (Some l)) made live = absurd made
-load_made names book t a rows (Some w) (Ok None) made live = absurd made
-load_made names book t a rows (Some w) (Ok (Some l)) (number, account, before) live = (
+    → IfOk r (IsLoadOf shelf a o) → IsLiveAccount names shelf t rows o
+    → IfOk r (IsLoad shelf t a (rows_of names rows))
+load_made names shelf t a rows None (Ok None) made live = ap (option_map head_in) live
+load_made names shelf t a rows None (Ok (Some l)) made live = absurd made
+load_made names shelf t a rows (Some w) (Ok None) made live = absurd made
+load_made names shelf t a rows (Some w) (Ok (Some l)) (number, account, before) live = (
   number,
-  subst (IsLoadedFrom book t (rows_of names rows)) (sym account)
-      (live_loaded names book t rows w live),
+  subst (IsLoadedFrom shelf t (rows_of names rows)) (sym account)
+      (live_loaded names shelf t rows w live),
   before ∙ ap stored (sym account),
 )
-load_made names book t a rows o (Err e) made live = tt
+load_made names shelf t a rows o (Err e) made live = tt
 
 abbrev answers : {A E : Type 0} → Result A E → Bool
 answers (Ok x) = true
@@ -140,11 +140,11 @@ fault_or d (Err e) = e
 
 -- a load without the rows once more is a view
 pub viewed : {K : Type 0} (content : K → Tables) (failed : K → ℕ) (clean : K → Type 0) (old new : K)
-    (book : Book) (t : ℕ) (a : List ℕ) (rows : Rows) (r : Result (Option Loaded) StoreFault)
+    (shelf : Shelf) (t : ℕ) (a : List ℕ) (rows : Rows) (r : Result (Option Loaded) StoreFault)
     (q : Result (Option AccountRows) StoreFault) → IsAccountOf r q
-    → Reads content failed clean old new (IsLoad book t a rows) r
-    → Reads content failed clean old new (IsView book t rows) q
-viewed content failed clean old new book t a rows r q is h = record {
+    → Reads content failed clean old new (IsLoad shelf t a rows) r
+    → Reads content failed clean old new (IsView shelf t rows) q
+viewed content failed clean old new shelf t a rows r q is h = record {
   found = λ now. found r q is (h.found now);
   same = h.same;
   cleanness = h.cleanness;
@@ -152,12 +152,12 @@ viewed content failed clean old new book t a rows r q is h = record {
 }
   where
     found : (r : Result (Option Loaded) StoreFault) (q : Result (Option AccountRows) StoreFault)
-        → IsAccountOf r q → IfOk r (IsLoad book t a rows) → IfOk q (IsView book t rows)
+        → IsAccountOf r q → IfOk r (IsLoad shelf t a rows) → IfOk q (IsView shelf t rows)
     found (Ok None) (Ok None) is load = load
     found (Ok None) (Ok (Some x)) is load = absurd is
     found (Ok (Some l)) (Ok None) is load = absurd is
     found (Ok (Some l)) (Ok (Some x)) is (number, load, before) =
-        subst (IsLoadedFrom book t rows) (sym is) load
+        subst (IsLoadedFrom shelf t rows) (sym is) load
     found r (Err f) is load = tt
     found (Err e) (Ok o) is load = absurd is
 

@@ -5,6 +5,7 @@ use Rattle.std.specs.Prelude.{Ok, Err, Result, IfErr, IfOk, OnOk}
 use Rattle.std.specs.Str.{IsUtf8}
 use Rattle.std.specs.String.{string_bytes}
 use Rattle.tariffs.specs.Books.{Book}
+use Rattle.shelves.specs.Shelves.{Shelf, one_book}
 use Rattle.sqlite_trees.specs.declared.store.Store.{Ghosts}
 use Rattle.sqlite_trees.specs.Tree.{Trees}
 use Rattle.sqlite_trees.specs.Objects.{catalog_tree}
@@ -74,15 +75,20 @@ store_told text schema f (inr is) none book =
 
 -- ---- a keeper before its first call
 
-module _ {S : Type 0} (g : Ghosts S) (k : KeeperState S) (conn : Held S) (book given own : Book)
-    (text bytes : List ℕ) (connection : k.connection ≡ conn) (is : book ≡ given)
-    (same : own ≡ given) (names : k.names ≡ own.periods) (told : k.text ≡ bytes)
-    (none : k.failures ≡ 0) (read : IsBookOf text given) (kept : bytes ≡ text)
+module _ {S : Type 0} (g : Ghosts S) (k : KeeperState S) (conn : Held S) (shelf given : Shelf)
+    (own : Book) (text bytes : List ℕ) (connection : k.connection ≡ conn) (is : shelf ≡ given)
+    (alone : given ≡ one_book own) (names : k.names ≡ own.periods) (told : k.text ≡ bytes)
+    (none : k.failures ≡ 0) (read : IsBookOf text own) (kept : bytes ≡ text)
     (live : IsLive (state g conn)) (utf8 : IsUtf8 bytes) where
-  pub fresh : IsFresh k book
+  first : own ≡ shelf.first
+  first = sym (ap (λ (s : Shelf). s.first) (is ∙ alone))
+
+  pub fresh : IsFresh k shelf
   fresh = record {
-    read = subst (λ t. IsBookOf t book) (sym (told ∙ kept)) (subst (IsBookOf text) (sym is) read);
-    names = names ∙ ap (λ (b : Book). b.periods) (same ∙ sym is);
+    read = subst (λ t. IsBookOf t shelf.first) (sym (told ∙ kept))
+        (subst (IsBookOf text) first read);
+    alone = ap (λ (s : Shelf). s.later) (is ∙ alone);
+    names = names ∙ ap (λ (b : Book). b.periods) first;
     uncounted = none;
   }
 
@@ -96,7 +102,7 @@ module _ {S : Type 0} (g : Ghosts S) (k : KeeperState S) (conn : Held S) (book g
   pub created : {A E : Type 0} (old : Held S) (u : A) → old.schema ≡ stage 0
       → old.in_transaction ≡ false
       → CreatesBook {A = A} {E = E} text (state g old) (state g conn) (Ok u)
-      → IsCreated g text old k book
+      → IsCreated g text old k shelf
   created old u blank plain c = record {
     fresh = fresh;
     of_text = told ∙ kept;
@@ -123,7 +129,7 @@ module _ {S : Type 0} (g : Ghosts S) (k : KeeperState S) (conn : Held S) (book g
             last = omega arith;
           };
           utf8 = subst IsUtf8 kept utf8;
-          book = (given, read);
+          book = (own, read);
         });
     survives = subst (λ h. Survives (state g old) (state g h) (IsNewBook text))
         (sym connection) c.survives;
@@ -132,7 +138,7 @@ module _ {S : Type 0} (g : Ghosts S) (k : KeeperState S) (conn : Held S) (book g
   pub opened : (old : Held S) → (HasCleanDisk (state g conn) → IsKept (state g conn).now.trees bytes
       × IsStill (state g old) (state g conn) × IsTrue (state g conn).is_open)
       → Survives (state g old) (state g conn) (λ _. ⊥) → HasIdleBook (state g conn)
-      → IsOpened g old k book
+      → IsOpened g old k shelf
   opened old found survives idle = record {
     fresh = fresh;
     left = subst (λ h. HasCleanDisk (state g h) → IsLeft k.text (state g h).now.trees)
@@ -143,7 +149,7 @@ module _ {S : Type 0} (g : Ghosts S) (k : KeeperState S) (conn : Held S) (book g
           stored = (idle clean it.2).book.stored;
           kept = subst (IsKept (state g conn).now.trees) (sym told) it.0;
           utf8 = subst IsUtf8 (sym told) utf8;
-          book = subst IsBookText (sym (told ∙ kept)) (given, read);
+          book = subst IsBookText (sym (told ∙ kept)) (own, read);
         });
     clean = subst (λ h. HasCleanDisk (state g h) → IsClean (state g h)) (sym connection)
         (λ clean. record { disk = clean; open_still = inr (found clean).2 });
@@ -252,13 +258,14 @@ finds_none old new e told means survives = record {
 
 pub finds_book : (old new : State) (m : MetaRow) (r : Result ReadBook OpenFault)
     → FindsMeta old new (Ok m) → OnOk r (m.version ≡ 1)
-    → IfOk r (λ b. IsBookOf (string_bytes b.text) b.given)
-    → IfOk r (λ b. b.own ≡ b.given) → IfOk r (λ b. string_bytes b.text ≡ string_bytes m.book)
+    → IfOk r (λ b. IsBookOf (string_bytes b.text) b.own)
+    → IfOk r (λ b. b.given ≡ one_book b.own)
+    → IfOk r (λ b. string_bytes b.text ≡ string_bytes m.book)
     → IfErr r (λ fault. fault ≡ Version → ¬ (m.version ≡ 1))
     → IfErr r (λ fault. ¬ (fault ≡ Foreign)) → m.last ≤ 4_102_488_000
     → IfErr r (λ fault. fault ≡ Rules → (m.version ≡ 1) × ¬ IsBookText (string_bytes m.book))
     → FindsBook old new r
-finds_book old new m (Ok b) finds version read same text told ours last rules = record {
+finds_book old new m (Ok b) finds version read given text told ours last rules = record {
   found = λ clean.
       let f = finds.found clean in (
         record { row = meta_of m; is = f.0; version = version; book = sym text; last = last },
@@ -266,17 +273,17 @@ finds_book old new m (Ok b) finds version read same text told ours last rules = 
         f.2,
       );
   read = read;
-  same = same;
+  given = given;
   idle = finds.idle;
   foreign = λ clean. tt;
   version = λ clean. tt;
   rules = λ clean. tt;
   survives = finds.survives;
 }
-finds_book old new m (Err e) finds version read same text told ours last rules = record {
+finds_book old new m (Err e) finds version read given text told ours last rules = record {
   found = λ clean. tt;
   read = tt;
-  same = tt;
+  given = tt;
   idle = tt;
   foreign = λ clean is. absurd (ours is);
   version = λ clean is.
@@ -303,7 +310,7 @@ pub finds_no_book : (old new : State) (e : OpenFault) → FindsMeta old new (Err
 finds_no_book old new e finds = record {
   found = λ clean. tt;
   read = tt;
-  same = tt;
+  given = tt;
   idle = tt;
   foreign = finds.foreign;
   version = λ clean is. absurd (finds.told is);

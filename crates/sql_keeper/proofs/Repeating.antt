@@ -10,6 +10,7 @@ use Rattle.calendar.specs.declared.cycle.Cycle.{Cycle}
 use Rattle.calendar.specs.declared.cycle.Cycle.TheVariants as often
 use Rattle.tariffs.specs.Books.{Book}
 use Rattle.tariffs.specs.Tariffs.{GroupTariff}
+use Rattle.shelves.specs.Shelves.{Shelf, book_at}
 use Rattle.reserving.specs.declared.session.Counter.{Counter}
 use Rattle.reserving.specs.Pricing.{cycle_with, tariff_of}
 use Rattle.reserving.specs.Sessions.{is_counter, counter_in}
@@ -59,10 +60,12 @@ module _ (zone : ZoneRule) (t c : ℕ) (o never daily monthly : Option Counter) 
   one_of_three often.Day e f h = (λ i. option_or (option_or (e i) (f i)) (h i)) ∙ or_none _
   one_of_three often.Month e f h = λ i. option_or (option_or (e i) (f i)) (h i)
 
-pub counters_joined : (b : Book) (t : ℕ) (rows : Stored) (never daily monthly all : List Counter)
+-- all of them, by the book at the moment
+pub counters_joined : (s : Shelf) (b : Book) (t : ℕ) (rows : Stored)
+    (never daily monthly all : List Counter) → b ≡ book_at s t
     → AreEachRepeating b t rows never daily monthly → all ≡ (never ++ daily) ++ monthly
-    → AreCountersAt b t rows all
-counters_joined b t rows never daily monthly all each is g c =
+    → AreCountersAt s t rows all
+counters_joined s b t rows never daily monthly all of_shelf each is g c =
     ap (counter_in g c) is
     ∙ find-append (is_counter g c) (never ++ daily) monthly
     ∙ ap (λ o. option_or o (counter_in g c monthly)) (find-append (is_counter g c) never daily)
@@ -70,4 +73,5 @@ counters_joined b t rows never daily monthly all each is g c =
     (counter_in g c daily) (counter_in g c monthly) (repeats_in b g) (each.never_are g c)
     (each.daily_are g c) (each.monthly_are g c)
     ∙ ap (λ n. if c == n then rows.counters g c else None)
-    (cycle_repeats b.calendar.zone (tariff_of b g) t)
+    (cycle_repeats b.calendar.zone (tariff_of b g) t
+    ∙ ap (λ (x : Book). cycle_with x.calendar.zone (tariff_of x g) t) of_shelf)

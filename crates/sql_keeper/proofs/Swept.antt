@@ -5,7 +5,7 @@ use Rattle.std.specs.Prelude.{if◌then◌else◌, ◌≤◌, ◌+◌, ◌&&◌,
 use Rattle.std.specs.List.{find}
 use Rattle.std.proofs.lemmas.Bool.Decides.{nat_tests}
 use Rattle.identifiers.specs.Texts.{same_name}
-use Rattle.tariffs.specs.Books.{Book, IsBook}
+use Rattle.shelves.specs.Shelves.{Shelf, IsShelf}
 use Rattle.reserving.specs.Ledger.{Ledger}
 use Rattle.reserving.specs.Changes.{advanced}
 use Rattle.reserving.specs.Left.{left_of}
@@ -38,15 +38,16 @@ use Rattle.sql_keeper.proofs.Overlays.{name_from, opened}
 
 -- ---- one account
 
-module _ (names : List (List ℕ)) (book : Book) (t : ℕ) (rows : Stored) (ranges : IsBook book) where
-  module _ (before : StoredRows) (live : IsLiveAccount names book t rows (Some before))
+module _ (names : List (List ℕ)) (shelf : Shelf) (t : ℕ) (rows : Stored)
+    (ranges : IsShelf shelf) where
+  module _ (before : StoredRows) (live : IsLiveAccount names shelf t rows (Some before))
       (kept : IsStored before) (ledger : Ledger) (u : ℕ) (early : u ≤ t)
-      (h : AreRowsAt book ledger u (rows_of names rows)) where
-    own : IsAccount (priced book before)
-    own = IsAccount-priced book before ranges kept
+      (h : AreRowsAt shelf ledger u (rows_of names rows)) where
+    own : IsAccount (priced shelf before)
+    own = IsAccount-priced shelf before ranges kept
 
-    loads : IsLoadedFrom book t (rows_of names rows) (priced book before)
-    loads = live_loaded names book t rows before live
+    loads : IsLoadedFrom shelf t (rows_of names rows) (priced shelf before)
+    loads = live_loaded names shelf t rows before live
 
     no_later : before.as_of ≤ t
     no_later =
@@ -56,42 +57,43 @@ module _ (names : List (List ℕ)) (book : Book) (t : ℕ) (rows : Stored) (rang
 
     -- what was loaded and brought on is over what was there as the ledger's rows of the later
     -- moment
-    pub brought_on : IsMadeFrom before (advanced_stored book t before) (rows_of names rows)
-        × AreRowsAt book ledger t (over (advanced_stored book t before) (rows_of names rows))
+    pub brought_on : IsMadeFrom before (advanced_stored shelf t before) (rows_of names rows)
+        × AreRowsAt shelf ledger t (over (advanced_stored shelf t before) (rows_of names rows))
     brought_on =
-        left_behind book ledger ledger u t (rows_of names rows) (priced book before)
-        (advanced t (priced book before)) h own loads refl (record { front = []; is = refl })
-        (with_advanced ledger (left_of t (priced book h.listed)) t (priced book before) no_later
-        (taken book ledger u t (rows_of names rows) (priced book before) h own loads))
+        left_behind shelf ledger ledger u t (rows_of names rows) (priced shelf before)
+        (advanced t (priced shelf before)) h own loads refl (record { front = []; is = refl })
+        (with_advanced ledger (left_of t (priced shelf h.listed)) t (priced shelf before) no_later
+        (taken shelf ledger u t (rows_of names rows) (priced shelf before) h own loads))
 
-    pub swept_is : rows_at book t before ≡ advanced_stored book t before
+    pub swept_is : rows_at shelf t before ≡ advanced_stored shelf t before
     swept_is = at (nat_le before.as_of t) (no_test before.as_of t no_later)
       where
         no_test : (n m : ℕ) → n ≤ m → nat_le n m ≡ true
         no_test n m le = grind (arith, nat_tests)
 
         at : (b : Bool) → b ≡ true
-            → (if b then advanced_stored book t before else before) ≡ advanced_stored book t before
+            → (if b then advanced_stored shelf t before else before) ≡ advanced_stored
+            shelf t before
         at true e = refl
         at false e = absurd (true≢false (sym e))
 
-  swept_one : (w : StoredRows) → AreSweptRows names book t rows w
-      → (ledger : Ledger) (u : ℕ) → u ≤ t → AreRowsAt book ledger u (rows_of names rows)
-      → AreRowsAt book ledger t (rows_of names (over_stored names w rows))
+  swept_one : (w : StoredRows) → AreSweptRows names shelf t rows w
+      → (ledger : Ledger) (u : ℕ) → u ≤ t → AreRowsAt shelf ledger u (rows_of names rows)
+      → AreRowsAt shelf ledger t (rows_of names (over_stored names w rows))
   swept_one w s ledger u early h =
       let both = brought_on s.before s.live s.kept ledger u early h in
-      let is : advanced_stored book t s.before ≡ w =
+      let is : advanced_stored shelf t s.before ≡ w =
       sym (s.is ∙ swept_is s.before s.live s.kept ledger u early h) in
       let made : IsMadeFrom s.before w (rows_of names rows) =
       subst (λ x. IsMadeFrom s.before x (rows_of names rows)) is both.0 in
-      subst (AreRowsAt book ledger t)
+      subst (AreRowsAt shelf ledger t)
       (sym (rows_read names w rows made.free (may_at names w.sessions w.groups s.may)))
-      (subst (λ x. AreRowsAt book ledger t (over x (rows_of names rows))) is both.1)
+      (subst (λ x. AreRowsAt shelf ledger t (over x (rows_of names rows))) is both.1)
 
-next_is : (book : Book) (t : ℕ) (w : StoredRows) → (rows_at book t w).next_charge ≡ w.next_charge
-next_is book t w = at (nat_le w.as_of t)
+next_is : (shelf : Shelf) (t : ℕ) (w : StoredRows) → (rows_at shelf t w).next_charge ≡ w.next_charge
+next_is shelf t w = at (nat_le w.as_of t)
   where
-    at : (b : Bool) → (if b then advanced_stored book t w else w).next_charge ≡ w.next_charge
+    at : (b : Bool) → (if b then advanced_stored shelf t w else w).next_charge ≡ w.next_charge
     at true = refl
     at false = refl
 
@@ -226,14 +228,14 @@ found_one P a (y ∷ ys) x h e = at (same_name y.number a) refl e (found_one P a
         subst (λ z. P z × (z.number ≡ a)) is (h.0, name_from y.number a k)
     at false k f rest = rest f
 
-module _ (names : List (List ℕ)) (text : List ℕ) (book : Book) (t : ℕ) (c : Content)
-    (xs : List SweptAccount) (ranges : IsBook book) (all : AreAllSwept names book t c xs) where
+module _ (names : List (List ℕ)) (text : List ℕ) (shelf : Shelf) (t : ℕ) (c : Content)
+    (xs : List SweptAccount) (ranges : IsShelf shelf) (all : AreAllSwept names shelf t c xs) where
   may : EachIn (MayBePut names) xs
-  may = EachIn-weaker (IsSweptOf names book t c) (MayBePut names) xs
+  may = EachIn-weaker (IsSweptOf names shelf t c) (MayBePut names) xs
       (λ x h. (h.stored, h.may)) all.each
 
   there : EachIn (IsThere c) xs
-  there = EachIn-weaker (IsSweptOf names book t c) (IsThere c) xs
+  there = EachIn-weaker (IsSweptOf names shelf t c) (IsThere c) xs
       (λ x h. ap is_some h.live.0) all.each
 
   rows_are : (a : List ℕ) →
@@ -243,23 +245,23 @@ module _ (names : List (List ℕ)) (text : List ℕ) (book : Book) (t : ℕ) (c 
   -- what is seen of an account's rows, before and after
   record AreSeen (a : List ℕ) (r : Stored) : Type 0 where
     none : (rows_of names (c.rows a)).head ≡ None → rows_of names r ≡ rows_of names (c.rows a)
-    rows : (ledger : Ledger) (u : ℕ) → u ≤ t → AreRowsAt book ledger u (rows_of names (c.rows a))
-        → AreRowsAt book ledger t (rows_of names r)
+    rows : (ledger : Ledger) (u : ℕ) → u ≤ t → AreRowsAt shelf ledger u (rows_of names (c.rows a))
+        → AreRowsAt shelf ledger t (rows_of names r)
     answers : (k : Key) → answer_in a k r ≡ answer_in a k (c.rows a)
     charges : (n : ℕ) → charge_of n r ≡ charge_of n (c.rows a)
 
-  seen_of : (a : List ℕ) (x : SweptAccount) → IsSweptOf names book t c x → x.number ≡ a
+  seen_of : (a : List ℕ) (x : SweptAccount) → IsSweptOf names shelf t c x → x.number ≡ a
       → AreSeen a (over_stored names x.rows (c.rows a))
   seen_of a x one is = record {
     none = λ e. absurd (no_some _ (sym e ∙ ap (option_map head_in) here.live.0));
-    rows = swept_one names book t (c.rows a) ranges x.rows here;
+    rows = swept_one names shelf t (c.rows a) ranges x.rows here;
     answers = λ k. same_texts a k names x.rows [] (c.rows a);
     charges = λ n. numbered_still n (head_of here.before) (head_of x.rows) (c.rows a)
-        (ap (λ (w : StoredRows). w.next_charge) here.is ∙ next_is book t here.before) here.live.0;
+        (ap (λ (w : StoredRows). w.next_charge) here.is ∙ next_is shelf t here.before) here.live.0;
   }
     where
-      here : AreSweptRows names book t (c.rows a) x.rows
-      here = subst (λ n. AreSweptRows names book t (c.rows n) x.rows) is one
+      here : AreSweptRows names shelf t (c.rows a) x.rows
+      here = subst (λ n. AreSweptRows names shelf t (c.rows n) x.rows) is one
 
   seen_none : (a : List ℕ) → swept_at a xs ≡ None → AreSeen a (c.rows a)
   seen_none a none = record {
@@ -282,10 +284,10 @@ module _ (names : List (List ℕ)) (text : List ℕ) (book : Book) (t : ℕ) (c 
       at : (o : Option SweptAccount) → swept_at a xs ≡ o → AreSeen a (row_after names o (c.rows a))
       at None e = seen_none a e
       at (Some x) e =
-          let one = found_one (IsSweptOf names book t c) a xs x all.each e in
+          let one = found_one (IsSweptOf names shelf t c) a xs x all.each e in
           seen_of a x one.0 one.1
 
-  pub swept : IsSwept book t (tables_of names c) (tables_of names (with_sweep names text t xs c))
+  pub swept : IsSwept shelf t (tables_of names c) (tables_of names (with_sweep names text t xs c))
   swept = record {
     last = ap last_in (meta_after names xs (with_meta (meta_at text t) c) may);
     none = λ a. (seen a).none;
@@ -301,4 +303,4 @@ module _ (names : List (List ℕ)) (text : List ℕ) (book : Book) (t : ℕ) (c 
   swept_meta = meta_after names xs (with_meta (meta_at text t) c) may
 
 pub sweeps_read : AreSweepsRead
-sweeps_read names text book t c xs ranges all = swept names text book t c xs ranges all
+sweeps_read names text shelf t c xs ranges all = swept names text shelf t c xs ranges all

@@ -8,7 +8,7 @@ use Rattle.std.proofs.lemmas.Result.{IfOk-weaker}
 use Rattle.sqlite_trees.specs.Tree.{Trees}
 use Rattle.sqlite.specs.Effect.{Database}
 use Rattle.sqlite.specs.State.{State, HasCleanDisk}
-use Rattle.tariffs.specs.Books.{Book, IsBook}
+use Rattle.shelves.specs.Shelves.{Shelf, IsShelf}
 use Rattle.reserving.specs.Stored.{StoredRows}
 use Rattle.reserving.proofs.LeftTests.{each_append}
 use Rattle.keepers.specs.Change.{IsSwept}
@@ -32,14 +32,14 @@ use Rattle.sql_keeper.proofs.Swept.{sweeps_read, swept_meta}
 
 -- ---- one account
 
-pub swept_made : {E : Type 0} (names : List (List ℕ)) (book : Book) (t : ℕ)
+pub swept_made : {E : Type 0} (names : List (List ℕ)) (shelf : Shelf) (t : ℕ)
     (c : Content) (a : List ℕ) (o : Option StoredRows) (r : Result SweptAccount E)
-    → IfOk r (IsSweptFrom names book t a o)
-    → IsLiveAccount names book t (c.rows a) o → IfOk r (IsSweptAs names book t c a)
-swept_made names book t c a None (Ok x) made live = absurd made
-swept_made names book t c a (Some w) (Ok x) made live = record {
+    → IfOk r (IsSweptFrom names shelf t a o)
+    → IsLiveAccount names shelf t (c.rows a) o → IfOk r (IsSweptAs names shelf t c a)
+swept_made names shelf t c a None (Ok x) made live = absurd made
+swept_made names shelf t c a (Some w) (Ok x) made live = record {
   number_is = made.number_is;
-  swept = subst (λ n. AreSweptRows names book t (c.rows n) x.rows) (sym made.number_is) (record {
+  swept = subst (λ n. AreSweptRows names shelf t (c.rows n) x.rows) (sym made.number_is) (record {
     before = w;
     live = live;
     kept = made.kept;
@@ -48,7 +48,7 @@ swept_made names book t c a (Some w) (Ok x) made live = record {
     may = made.may;
   });
 }
-swept_made names book t c a o (Err e) made live = tt
+swept_made names shelf t c a o (Err e) made live = tt
 
 -- ---- one after another
 
@@ -63,27 +63,27 @@ numbers_length : (xs : List SweptAccount) →
 numbers_length [] = refl
 numbers_length (y ∷ ys) = ap suc (numbers_length ys)
 
-module _ (names : List (List ℕ)) (book : Book) (t : ℕ) where
+module _ (names : List (List ℕ)) (shelf : Shelf) (t : ℕ) where
   more_swept : (c : Content) (numbers : List (List ℕ)) (a : List ℕ) (xs : List SweptAccount)
       (x : SweptAccount)
-      → AreSweptOf names book t c numbers xs → IsSweptAs names book t c a x
-      → AreSweptOf names book t c (numbers ++ a ∷ []) (xs ++ x ∷ [])
+      → AreSweptOf names shelf t c numbers xs → IsSweptAs names shelf t c a x
+      → AreSweptOf names shelf t c (numbers ++ a ∷ []) (xs ++ x ∷ [])
   more_swept c numbers a xs x h one = record {
     numbers_are = numbers_more xs x ∙ (λ i. h.numbers_are i ++ one.number_is i ∷ []);
-    each = each_append (IsSweptOf names book t c) xs (x ∷ []) h.each (one.swept, tt);
+    each = each_append (IsSweptOf names shelf t c) xs (x ∷ []) h.each (one.swept, tt);
   }
 
   -- the accounts so far
   pub record HasSwept (numbers : List (List ℕ)) (xs : List SweptAccount)
       (old new : State) : Type 0 where
     pub found : HasCleanDisk new → IsTrue new.is_open →
-        AreSweptOf names book t (content_of old.now.trees) numbers xs
+        AreSweptOf names shelf t (content_of old.now.trees) numbers xs
     pub reads : HaveRead old new
 
   pub none_swept : (xs : List SweptAccount) (s : State) → xs ≡ [] → HasIdleBook s →
       HasSwept [] xs s s
   none_swept xs s none idle = record {
-    found = λ clean on. subst (AreSweptOf names book t (content_of s.now.trees) []) (sym none)
+    found = λ clean on. subst (AreSweptOf names shelf t (content_of s.now.trees) []) (sym none)
         (record { numbers_are = refl; each = tt });
     reads = none_read s idle;
   }
@@ -93,46 +93,47 @@ module _ (names : List (List ℕ)) (book : Book) (t : ℕ) where
       (xs ys : List SweptAccount) (old mid new : State) (x : SweptAccount) → i < length numbers
       → a ≡ get_or numbers i a → ys ≡ xs ++ x ∷ [] → HasSwept (take i numbers) xs old mid
       → Gathers {A = SweptAccount} {E = E}
-      (λ trees x. IsSweptAs names book t (content_of trees) a x) mid new (Ok x)
+      (λ trees x. IsSweptAs names shelf t (content_of trees) a x) mid new (Ok x)
       → HasSwept (take (i + 1) numbers) ys old new
   next_swept {E} numbers i a xs ys old mid new x less is more before here = record {
     found = λ clean on.
         let after = here.only.still clean on in
-        subst (AreSweptOf names book t (content_of old.now.trees) (take (i + 1) numbers)) (sym more)
-        (subst (λ ns. AreSweptOf names book t (content_of old.now.trees) ns (xs ++ x ∷ []))
+        subst (AreSweptOf names shelf t (content_of old.now.trees) (take (i + 1) numbers))
+        (sym more)
+        (subst (λ ns. AreSweptOf names shelf t (content_of old.now.trees) ns (xs ++ x ∷ []))
         (ap (λ b. take i numbers ++ b ∷ []) is ∙ sym (take_more numbers i a less))
         (more_swept (content_of old.now.trees) (take i numbers) a xs x
         (before.found (here.only.cleanness clean) after.was_open)
-        (told_before (λ trees. IsSweptAs names book t (content_of trees) a x) old mid new
+        (told_before (λ trees. IsSweptAs names shelf t (content_of trees) a x) old mid new
         before.reads.only here.only clean on (here.found clean on))));
     reads = have_read_then old mid new before.reads (have_gathered {A = SweptAccount} {E = E}
-        (λ trees x. IsSweptAs names book t (content_of trees) a x) mid new x here);
+        (λ trees x. IsSweptAs names shelf t (content_of trees) a x) mid new x here);
   }
 
   pub all_swept : {V E : Type 0} (items : V → List SweptAccount) (numbers : List (List ℕ))
       (i : ℕ) (v : V) (old new : State) → length numbers ≤ i
       → HasSwept (take i numbers) (items v) old new → Gathers {A = V} {E = E}
-      (λ trees v. AreSweptOf names book t (content_of trees) numbers (items v)) old new (Ok v)
+      (λ trees v. AreSweptOf names shelf t (content_of trees) numbers (items v)) old new (Ok v)
   all_swept {V} {E} items numbers i v old new end h =
       gathers_from {A = V} {E = E}
-      (λ trees v. AreSweptOf names book t (content_of trees) numbers (items v)) old new
+      (λ trees v. AreSweptOf names shelf t (content_of trees) numbers (items v)) old new
       (Ok v) h.reads
-      (λ clean on. subst (λ ns. AreSweptOf names book t (content_of old.now.trees) ns (items v))
+      (λ clean on. subst (λ ns. AreSweptOf names shelf t (content_of old.now.trees) ns (items v))
       (take_all i numbers end) (h.found clean on))
 
   -- the numbers of all accounts, and then the accounts of these numbers
   pub all_read : {V E : Type 0} (items : V → List SweptAccount) (numbers : List (List ℕ))
       (old mid new : State) (r : Result V E) → HaveRead old mid
       → (HasCleanDisk mid → AreAccounts (content_of old.now.trees) numbers)
-      → Gathers (λ trees v. AreSweptOf names book t (content_of trees) numbers (items v)) mid new r
-      → Gathers (λ trees v. AreAllSwept names book t (content_of trees) (items v)) old new r
+      → Gathers (λ trees v. AreSweptOf names shelf t (content_of trees) numbers (items v)) mid new r
+      → Gathers (λ trees v. AreAllSwept names shelf t (content_of trees) (items v)) old new r
   all_read items numbers old mid new r first accounts second = record {
     found = λ clean on.
-        IfOk-weaker r (λ v. AreSweptOf names book t (content_of mid.now.trees) numbers (items v))
-        (λ v. AreAllSwept names book t (content_of old.now.trees) (items v))
+        IfOk-weaker r (λ v. AreSweptOf names shelf t (content_of mid.now.trees) numbers (items v))
+        (λ v. AreAllSwept names shelf t (content_of old.now.trees) (items v))
         (λ v there.
-        let here : AreSweptOf names book t (content_of old.now.trees) numbers (items v) =
-        told_before (λ trees. AreSweptOf names book t (content_of trees) numbers (items v)) old mid
+        let here : AreSweptOf names shelf t (content_of old.now.trees) numbers (items v) =
+        told_before (λ trees. AreSweptOf names shelf t (content_of trees) numbers (items v)) old mid
         new first.only second.only clean on there in
         record {
           all = subst (AreAccounts (content_of old.now.trees)) (sym here.numbers_are)
@@ -146,36 +147,37 @@ module _ (names : List (List ℕ)) (book : Book) (t : ℕ) where
 
 -- ---- what is written
 
-become : (names : List (List ℕ)) (text : List ℕ) (book : Book) (t : ℕ) (xs : List SweptAccount)
-    → IsBook book → t ≤ 4_102_488_000 → (old new : Trees)
-    → AreAllSwept names book t (content_of old) xs → Turns (with_sweep names text t xs) old new
-    → BecomesSwept names text book t old new
-become names text book t xs ranges last old new all turns = record {
+become : (names : List (List ℕ)) (text : List ℕ) (shelf : Shelf) (t : ℕ) (xs : List SweptAccount)
+    → IsShelf shelf → t ≤ 4_102_488_000 → (old new : Trees)
+    → AreAllSwept names shelf t (content_of old) xs → Turns (with_sweep names text t xs) old new
+    → BecomesSwept names text shelf t old new
+become names text shelf t xs ranges last old new all turns = record {
   tables =
-      subst (λ (c : Content). IsSwept book t (tables_of names (content_of old)) (tables_of names c))
-      (sym turns.content) (sweeps_read names text book t (content_of old) xs ranges all);
+      subst (λ (c : Content). IsSwept shelf t (tables_of names (content_of old))
+      (tables_of names c))
+      (sym turns.content) (sweeps_read names text shelf t (content_of old) xs ranges all);
   meta = ap (λ (c : Content). c.meta) turns.content
-      ∙ swept_meta names text book t (content_of old) xs ranges all;
+      ∙ swept_meta names text shelf t (content_of old) xs ranges all;
   last = last;
   catalog = turns.catalog;
   stored = turns.stored;
 }
 
 module _ {V E : Type 0} (items : V → List SweptAccount) (names : List (List ℕ)) (text : List ℕ)
-    (book : Book) (t : ℕ) (v : V) (xs : List SweptAccount) (is : xs ≡ items v)
-    (ranges : IsBook book) (last : t ≤ 4_102_488_000) (old mid : State)
+    (shelf : Shelf) (t : ℕ) (v : V) (xs : List SweptAccount) (is : xs ≡ items v)
+    (ranges : IsShelf shelf) (last : t ≤ 4_102_488_000) (old mid : State)
     (reads : Gathers {A = V} {E = E}
-    (λ trees v. AreAllSwept names book t (content_of trees) (items v)) old mid (Ok v)) where
+    (λ trees v. AreAllSwept names shelf t (content_of trees) (items v)) old mid (Ok v)) where
   all_of : HasCleanDisk mid → IsTrue mid.is_open →
-      AreAllSwept names book t (content_of old.now.trees) xs
+      AreAllSwept names shelf t (content_of old.now.trees) xs
   all_of clean on =
-      subst (AreAllSwept names book t (content_of old.now.trees)) (sym is) (reads.found clean on)
+      subst (AreAllSwept names shelf t (content_of old.now.trees)) (sym is) (reads.found clean on)
 
   pub become_swept : HasCleanDisk mid → IsTrue mid.is_open → (db : Trees)
       → Turns (with_sweep names text t xs) mid.now.trees db
-      → BecomesSwept names text book t old.now.trees db
+      → BecomesSwept names text shelf t old.now.trees db
   become_swept clean on db turns =
-      become names text book t xs ranges last old.now.trees db (all_of clean on)
+      become names text shelf t xs ranges last old.now.trees db (all_of clean on)
       (subst (λ (d : Database).
       Turns (with_sweep names text t xs) d.trees db) (reads.only.still clean on).now_is turns)
 

@@ -2,7 +2,7 @@
 -- Source: profile.
 use Rattle.std.specs.Prelude.{◌≡◌, ℕ, List}
 use Rattle.std.specs.Str.{IsUtf8}
-use Rattle.tariffs.specs.Books.{Book}
+use Rattle.shelves.specs.Shelves.{Shelf}
 use Rattle.sqlite_trees.specs.declared.store.Store.{Ghosts}
 use Rattle.sqlite_trees.specs.Tree.{Trees}
 use Rattle.sqlite.specs.Effect.{IsDatabase}
@@ -28,8 +28,8 @@ pub record AreLeftAgain : Type 0 where
       → IsLeft text old → Becomes names text change old new → IsLeft text new
   pub added : (text code : List ℕ) (terms : VoucherTerms) (t : ℕ) (old new : Trees)
       → IsLeft text old → BecomesAdded text code terms t old new → IsLeft text new
-  pub swept : (names : List (List ℕ)) (text : List ℕ) (book : Book) (t : ℕ) (old new : Trees)
-      → IsLeft text old → BecomesSwept names text book t old new → IsLeft text new
+  pub swept : (names : List (List ℕ)) (text : List ℕ) (shelf : Shelf) (t : ℕ) (old new : Trees)
+      → IsLeft text old → BecomesSwept names text shelf t old new → IsLeft text new
 
 -- the connection that was opened shows what was left, so none of these faults is told of it
 abbrev pub IsFoundAgain : {S : Type 0} → Ghosts S → Held S → Held S → List ℕ → OpenFault → Type 0

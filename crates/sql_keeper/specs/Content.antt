@@ -7,6 +7,7 @@ use Rattle.calendar.specs.declared.week.Period.{Period}
 use Rattle.rating.specs.declared.grant.Periods.{Periods}
 use Rattle.tariffs.specs.Names.{period_named}
 use Rattle.reserving.specs.declared.charge.ChargeRow.{ChargeRow}
+use Rattle.reserving.specs.declared.session.Terms.{Terms}
 use Rattle.reserving.specs.Left.{is_open_row}
 use Rattle.commands.specs.declared.command.Content.{Content as Command}
 use Rattle.commands.specs.declared.answer.Answer.{Answer}
@@ -42,12 +43,16 @@ head_in h = record {
   next_charge = h.next_charge;
 }
 
+-- the terms of a reservation: the tables keep no number of a book, so it is one of the first book
+abbrev pub terms_in : List (List ℕ) → PeriodNames → Terms
+terms_in names p = record { book = 1; periods = periods_in names p }
+
 -- a reservation stands as long as its session is open
-abbrev pub reserved_in : List (List ℕ) → Bool → Option PeriodNames → Option Periods
-reserved_in names is_open periods = if is_open then option_map (periods_in names) periods else None
+abbrev pub reserved_in : List (List ℕ) → Bool → Option PeriodNames → Option Terms
+reserved_in names is_open periods = if is_open then option_map (terms_in names) periods else None
 
 abbrev pub group_in : List (List ℕ) → Bool → Group → GroupRow
-group_in names is_open x = record { used = x.used; periods = reserved_in names is_open x.periods }
+group_in names is_open x = record { used = x.used; terms = reserved_in names is_open x.periods }
 
 abbrev pub is_reserved : Option Group → Bool
 is_reserved None = false

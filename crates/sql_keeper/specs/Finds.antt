@@ -2,6 +2,7 @@
 -- Source: profile.
 use Rattle.std.specs.Prelude.{◌≡◌, Some, IfErr, IfOk, OnOk, IsTrue, Result}
 use Rattle.std.specs.String.{string_bytes}
+use Rattle.shelves.specs.Shelves.{one_book}
 use Rattle.sqlite.specs.State.{State, HasCleanDisk, Survives}
 use Rattle.sql_tables.specs.Schema.{book_schema}
 use Rattle.sql_tables.specs.Statements.{HasIdleBook, IsStill}
@@ -38,8 +39,8 @@ pub record FindsMeta (old new : State) (result : Result MetaRow OpenFault) : Typ
 pub record FindsBook (old new : State) (result : Result ReadBook OpenFault) : Type 0 where
   pub found : HasCleanDisk new → IfOk result (λ r. IsKept new.now.trees (string_bytes r.text)
       × IsStill old new × IsTrue new.is_open)
-  pub read : IfOk result (λ r. IsBookOf (string_bytes r.text) r.given)
-  pub same : IfOk result (λ r. r.own ≡ r.given)
+  pub read : IfOk result (λ r. IsBookOf (string_bytes r.text) r.own)
+  pub given : IfOk result (λ r. r.given ≡ one_book r.own)
   pub idle : OnOk result (HasIdleBook new)
   pub foreign : HasCleanDisk new → IfErr result (IsForeignAt old)
   pub version : HasCleanDisk new →

@@ -10,6 +10,7 @@ use Rattle.rating.specs.declared.grant.Periods.{Periods}
 use Rattle.tariffs.specs.Names.{period_named}
 use Rattle.reserving.specs.declared.session.SessionGroup.{SessionGroup}
 use Rattle.reserving.specs.declared.session.Reservation.{Reservation}
+use Rattle.reserving.specs.declared.session.Terms.{Terms}
 use Rattle.reserving.specs.Sessions.{group_in}
 use Rattle.keepers.specs.Tables.{group_row, held_of}
 use Rattle.sql_tables.specs.Keyed.{same_name}
@@ -46,6 +47,11 @@ pub record ArePeriodsOf (names : List (List ℕ)) (p : PeriodNames) (periods : P
   pub before : period_named names p.before ≡ Some periods.before
   pub after : period_named names p.after ≡ Some periods.after
 
+-- the terms of a reservation with these names: it is of the first book
+pub record AreTermsOf (names : List (List ℕ)) (p : PeriodNames) (x : Terms) : Type 0 where
+  pub book : x.book ≡ 1
+  pub periods : ArePeriodsOf names p x.periods
+
 -- the holds of a rating group stand in the order of the buckets, and there is no other hold of it
 pub record AreHoldsOf (buckets : List Row) (held : List HeldColumns) (g : ℕ)
     (holds : List Hold) : Type 0
@@ -60,7 +66,7 @@ IsReservationOf names buckets held g None None = Unit {0}
 IsReservationOf names buckets held g None (Some r) = ⊥
 IsReservationOf names buckets held g (Some p) None = ⊥
 IsReservationOf names buckets held g (Some p) (Some r) =
-    ArePeriodsOf names p r.periods × AreHoldsOf buckets held g r.holds
+    AreTermsOf names p r.terms × AreHoldsOf buckets held g r.holds
 
 -- what a session has of a rating group is that of the row
 pub record IsGroupOf (names : List (List ℕ)) (buckets : List Row)

@@ -1,7 +1,7 @@
 -- What is proved of definitions alone.
 -- Source: profile.
 use Rattle.std.specs.Prelude.{◌≡◌, ℕ, List, [], Option}
-use Rattle.tariffs.specs.Books.{Book, IsBook}
+use Rattle.shelves.specs.Shelves.{Shelf, IsShelf}
 use Rattle.reserving.specs.Stored.{IsStored}
 use Rattle.keepers.specs.declared.loaded.Change.{Change}
 use Rattle.keepers.specs.Tables.{no_tables}
@@ -31,10 +31,10 @@ AreChangesRead =
 -- there
 abbrev pub AreSweepsRead : Type 0
 AreSweepsRead =
-    (names : List (List ℕ)) (text : List ℕ) (book : Book) (t : ℕ) (c : Content)
+    (names : List (List ℕ)) (text : List ℕ) (shelf : Shelf) (t : ℕ) (c : Content)
     (xs : List SweptAccount)
-    → IsBook book → AreAllSwept names book t c xs
-    → IsSwept book t (tables_of names c) (tables_of names (with_sweep names text t xs c))
+    → IsShelf shelf → AreAllSwept names shelf t c xs
+    → IsSwept shelf t (tables_of names c) (tables_of names (with_sweep names text t xs c))
 
 -- tables without rows hold nothing
 abbrev pub AreNewTablesEmpty : Type 0

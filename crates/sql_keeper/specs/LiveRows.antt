@@ -3,7 +3,7 @@
 use Rattle.std.specs.Prelude.{◌≡◌, ℕ, ◌==◌, not, List, Option, Some, None, Result, Ok, Err}
 use Rattle.std.specs.Prelude.{if◌then◌else◌}
 use Rattle.buckets.specs.Row.{Row}
-use Rattle.tariffs.specs.Books.{Book}
+use Rattle.shelves.specs.Shelves.{Shelf}
 use Rattle.reserving.specs.declared.session.Session.{Session}
 use Rattle.reserving.specs.declared.session.SessionGroup.{SessionGroup}
 use Rattle.reserving.specs.declared.session.Counter.{Counter}
@@ -28,9 +28,9 @@ abbrev pub AreLiveBuckets : Stored → List Row → Type 0
 AreLiveBuckets rows bs = (n : ℕ) → bucket_in n bs ≡ only (λ b. not (is_dead b)) (rows.buckets n)
 
 -- the counters of the cycles at the moment: each by its rating group and cycle, and no other
-abbrev pub AreCountersAt : Book → ℕ → Stored → List Counter → Type 0
-AreCountersAt book t rows cs = (g c : ℕ) →
-    counter_in g c cs ≡ (if c == cycle_at book g t then rows.counters g c else None)
+abbrev pub AreCountersAt : Shelf → ℕ → Stored → List Counter → Type 0
+AreCountersAt shelf t rows cs = (g c : ℕ) →
+    counter_in g c cs ≡ (if c == cycle_at shelf g t then rows.counters g c else None)
 
 -- all that may still change whatever the moment: the buckets that aren't dead, the open sessions,
 -- and what they have of rating groups; the names are those of the periods of reservations
@@ -55,36 +55,36 @@ account_with h x cs = record {
 
 -- what is read of an account: its head, and all of it that may still change at the moment; there is
 -- none where it has no head
-abbrev pub IsReadAccount : List (List ℕ) → Book → ℕ → Stored → Option ReadRows → Type 0
-IsReadAccount names book t rows None = rows.head ≡ None
-IsReadAccount names book t rows (Some x) =
+abbrev pub IsReadAccount : List (List ℕ) → Shelf → ℕ → Stored → Option ReadRows → Type 0
+IsReadAccount names shelf t rows None = rows.head ≡ None
+IsReadAccount names shelf t rows (Some x) =
     (rows.head ≡ Some x.head)
     × AreLiveRows names rows x.rows.purse x.rows.sessions.items x.rows.groups.items
-    × AreCountersAt book t rows x.counters.items
+    × AreCountersAt shelf t rows x.counters.items
 
 -- the account, with all of it that may still change at the moment; there is none where it has no
 -- head
-abbrev pub IsLiveAccount : List (List ℕ) → Book → ℕ → Stored → Option StoredRows → Type 0
-IsLiveAccount names book t rows None = rows.head ≡ None
-IsLiveAccount names book t rows (Some w) =
+abbrev pub IsLiveAccount : List (List ℕ) → Shelf → ℕ → Stored → Option StoredRows → Type 0
+IsLiveAccount names shelf t rows None = rows.head ≡ None
+IsLiveAccount names shelf t rows (Some w) =
     (rows.head ≡ Some (head_of w)) × AreLiveRows names rows w.buckets w.sessions w.groups
-    × AreCountersAt book t rows w.counters
+    × AreCountersAt shelf t rows w.counters
 
--- it is what a load asks of the account's rows, once the book prices it
+-- it is what a load asks of the account's rows, once the shelf prices it
 abbrev pub AreLiveRowsLoaded : Type 0
 AreLiveRowsLoaded =
-    (names : List (List ℕ)) (book : Book) (t : ℕ) (rows : Stored) (w : StoredRows)
-    → IsLiveAccount names book t rows (Some w)
-    → IsLoadedFrom book t (rows_of names rows) (priced book w)
+    (names : List (List ℕ)) (shelf : Shelf) (t : ℕ) (rows : Stored) (w : StoredRows)
+    → IsLiveAccount names shelf t rows (Some w)
+    → IsLoadedFrom shelf t (rows_of names rows) (priced shelf w)
 
 -- ---- once they are read
 
--- the account's number, the account priced by the book, and the same rows once more
-abbrev pub IsLoadOf : Book → List ℕ → Option StoredRows → Option Loaded → Type 0
-IsLoadOf book a None None = Unit {0}
-IsLoadOf book a None (Some l) = ⊥
-IsLoadOf book a (Some w) None = ⊥
-IsLoadOf book a (Some w) (Some l) = (l.number ≡ a) × (l.account ≡ priced book w) × (l.before ≡ w)
+-- the account's number, the account priced by the shelf, and the same rows once more
+abbrev pub IsLoadOf : Shelf → List ℕ → Option StoredRows → Option Loaded → Type 0
+IsLoadOf shelf a None None = Unit {0}
+IsLoadOf shelf a None (Some l) = ⊥
+IsLoadOf shelf a (Some w) None = ⊥
+IsLoadOf shelf a (Some w) (Some l) = (l.number ≡ a) × (l.account ≡ priced shelf w) × (l.before ≡ w)
 
 -- the account alone, or the same fault
 abbrev pub IsAccountOf : {E : Type 0} → Result (Option Loaded) E →

@@ -1,8 +1,8 @@
 -- A keeper that was just made over a database, and what is left where none was made.
 -- Source: profile.
-use Rattle.std.specs.Prelude.{◌≡◌, ◌≤◌, ℕ, false, List, Some, IsTrue}
+use Rattle.std.specs.Prelude.{◌≡◌, ◌≤◌, ℕ, false, List, [], Some, IsTrue}
 use Rattle.std.specs.Str.{IsUtf8}
-use Rattle.tariffs.specs.Books.{Book}
+use Rattle.shelves.specs.Shelves.{Shelf}
 use Rattle.sqlite_trees.specs.declared.store.Store.{Ghosts}
 use Rattle.sqlite_trees.specs.Tree.{Trees}
 use Rattle.sqlite_trees.specs.Objects.{catalog_tree}
@@ -25,10 +25,11 @@ use Rattle.sql_keeper.specs.declared.create_fault.CreateFault.{CreateFault}
 use Rattle.sql_keeper.specs.Inside.{KeeperState, IsClean, tables_in}
 use Rattle.sql_keeper.specs.Stops.{trees_in}
 
--- a keeper before its first call, and the book of its text
-pub record IsFresh {S : Type 0} (k : KeeperState S) (book : Book) : Type 0 where
-  pub read : IsBookOf k.text book
-  pub names : k.names ≡ book.periods
+-- a keeper before its first call, and the shelf on which the book of its text stands alone
+pub record IsFresh {S : Type 0} (k : KeeperState S) (shelf : Shelf) : Type 0 where
+  pub read : IsBookOf k.text shelf.first
+  pub alone : shelf.later ≡ []
+  pub names : k.names ≡ shelf.first.periods
   pub uncounted : k.failures ≡ 0
 
 -- ---- left
@@ -54,8 +55,8 @@ pub record IsLeft (text : List ℕ) (trees : Trees) : Type 0 where
 
 -- the tables were made in a database that had none, and hold nothing but what is kept once
 pub record IsCreated {S : Type 0} (g : Ghosts S) (text : List ℕ) (old : Held S) (k : KeeperState S)
-    (book : Book) : Type 0 where
-  pub fresh : IsFresh k book
+    (shelf : Shelf) : Type 0 where
+  pub fresh : IsFresh k shelf
   pub of_text : k.text ≡ text
   pub blank : old.schema ≡ stage 0
   pub plain : old.in_transaction ≡ false
@@ -94,9 +95,9 @@ pub record IsRuled (trees : Trees) : Type 0 where
 
 -- the keeper holds what was there, and nothing was written
 pub record IsOpened {S : Type 0} (g : Ghosts S) (old : Held S) (k : KeeperState S)
-    (book : Book) : Type 0
+    (shelf : Shelf) : Type 0
   where
-    pub fresh : IsFresh k book
+    pub fresh : IsFresh k shelf
     pub left : HasCleanDisk (state g k.connection) → IsLeft k.text (trees_in g k)
     pub clean : HasCleanDisk (state g k.connection) → IsClean (state g k.connection)
     pub still : HasCleanDisk (state g k.connection) → IsStill (state g old) (state g k.connection)

@@ -4,7 +4,7 @@ use Rattle.std.specs.Prelude.{◌≡◌, ◌≤◌, ℕ, List, Option, Some, Non
 use Rattle.sqlite_trees.specs.Tree.{Trees}
 use Rattle.sqlite_trees.specs.Objects.{catalog_tree}
 use Rattle.sql_tables.specs.Statements.{AreStored}
-use Rattle.tariffs.specs.Books.{Book}
+use Rattle.shelves.specs.Shelves.{Shelf}
 use Rattle.reserving.specs.Rows.{EachIn}
 use Rattle.reserving.specs.Stored.{StoredRows, IsStored, advanced_stored}
 use Rattle.keepers.specs.Change.{IsSwept}
@@ -20,55 +20,55 @@ use Rattle.sql_keeper.specs.declared.swept_rows.SweptAccount.{SweptAccount}
 -- ---- what is read
 
 -- an account's rows at a moment; rows of a later one stay
-abbrev pub rows_at : Book → ℕ → StoredRows → StoredRows
-rows_at book t w = if nat_le w.as_of t then advanced_stored book t w else w
+abbrev pub rows_at : Shelf → ℕ → StoredRows → StoredRows
+rows_at shelf t w = if nat_le w.as_of t then advanced_stored shelf t w else w
 
 -- these are what may still change of an account, at the moment, and they may be written
-pub record AreSweptRows (names : List (List ℕ)) (book : Book) (t : ℕ) (rows : Stored)
+pub record AreSweptRows (names : List (List ℕ)) (shelf : Shelf) (t : ℕ) (rows : Stored)
     (w : StoredRows)
     : Type 0 where
   pub before : StoredRows
-  pub live : IsLiveAccount names book t rows (Some before)
+  pub live : IsLiveAccount names shelf t rows (Some before)
   pub kept : IsStored before
-  pub is : w ≡ rows_at book t before
+  pub is : w ≡ rows_at shelf t before
   pub stored : IsStored w
   pub may : AreWritable names w.sessions w.groups
 
-abbrev pub IsSweptOf : List (List ℕ) → Book → ℕ → Content → SweptAccount → Type 0
-IsSweptOf names book t c x = AreSweptRows names book t (c.rows x.number) x.rows
+abbrev pub IsSweptOf : List (List ℕ) → Shelf → ℕ → Content → SweptAccount → Type 0
+IsSweptOf names shelf t c x = AreSweptRows names shelf t (c.rows x.number) x.rows
 
 -- the account of this number
-pub record IsSweptAs (names : List (List ℕ)) (book : Book) (t : ℕ) (c : Content) (number : List ℕ)
+pub record IsSweptAs (names : List (List ℕ)) (shelf : Shelf) (t : ℕ) (c : Content) (number : List ℕ)
     (x : SweptAccount) : Type 0 where
   pub number_is : x.number ≡ number
-  pub swept : IsSweptOf names book t c x
+  pub swept : IsSweptOf names shelf t c x
 
 -- what was read of it, where anything was
-pub record IsSweptOfRows (names : List (List ℕ)) (book : Book) (t : ℕ) (number : List ℕ)
+pub record IsSweptOfRows (names : List (List ℕ)) (shelf : Shelf) (t : ℕ) (number : List ℕ)
     (before : StoredRows) (x : SweptAccount) : Type 0 where
   pub number_is : x.number ≡ number
   pub kept : IsStored before
-  pub is : x.rows ≡ rows_at book t before
+  pub is : x.rows ≡ rows_at shelf t before
   pub stored : IsStored x.rows
   pub may : AreWritable names x.rows.sessions x.rows.groups
 
-abbrev pub IsSweptFrom : List (List ℕ) → Book → ℕ → List ℕ → Option StoredRows →
+abbrev pub IsSweptFrom : List (List ℕ) → Shelf → ℕ → List ℕ → Option StoredRows →
     SweptAccount → Type 0
-IsSweptFrom names book t number None x = ⊥
-IsSweptFrom names book t number (Some before) x = IsSweptOfRows names book t number before x
+IsSweptFrom names shelf t number None x = ⊥
+IsSweptFrom names shelf t number (Some before) x = IsSweptOfRows names shelf t number before x
 
 -- the accounts of these numbers, in turn
-pub record AreSweptOf (names : List (List ℕ)) (book : Book) (t : ℕ) (c : Content)
+pub record AreSweptOf (names : List (List ℕ)) (shelf : Shelf) (t : ℕ) (c : Content)
     (numbers : List (List ℕ)) (xs : List SweptAccount) : Type 0 where
   pub numbers_are : map (λ (x : SweptAccount). x.number) xs ≡ numbers
-  pub each : EachIn (IsSweptOf names book t c) xs
+  pub each : EachIn (IsSweptOf names shelf t c) xs
 
 -- all accounts, each once
-pub record AreAllSwept (names : List (List ℕ)) (book : Book) (t : ℕ) (c : Content)
+pub record AreAllSwept (names : List (List ℕ)) (shelf : Shelf) (t : ℕ) (c : Content)
     (xs : List SweptAccount)
     : Type 0 where
   pub all : AreAccounts c (map (λ (x : SweptAccount). x.number) xs)
-  pub each : EachIn (IsSweptOf names book t c) xs
+  pub each : EachIn (IsSweptOf names shelf t c) xs
 
 -- ---- what is written
 
@@ -85,10 +85,10 @@ with_sweep names text t xs c = with_accounts names xs (with_meta (meta_at text t
 -- each account is brought to the moment; the tables would be found again: the catalog is the same,
 -- and so are the version and the text of the book, no rowid stands twice, and the moment is in the
 -- range of moments
-pub record BecomesSwept (names : List (List ℕ)) (text : List ℕ) (book : Book) (t : ℕ)
+pub record BecomesSwept (names : List (List ℕ)) (text : List ℕ) (shelf : Shelf) (t : ℕ)
     (old new : Trees)
     : Type 0 where
-  pub tables : IsSwept book t (tables_of names (content_of old)) (tables_of names (content_of new))
+  pub tables : IsSwept shelf t (tables_of names (content_of old)) (tables_of names (content_of new))
   pub meta : (content_of new).meta ≡ Some (meta_at text t)
   pub last : t ≤ 4_102_488_000
   pub catalog : new catalog_tree ≡ old catalog_tree

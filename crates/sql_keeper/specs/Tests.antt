@@ -19,12 +19,14 @@ use Rattle.sql_keeper.specs.Writes.{name_at}
 abbrev pub IsNamed : List (List ℕ) → Period → Type 0
 IsNamed names p = period_named names (name_at names p) ≡ Some p
 
--- a reservation stands in an open session, its periods have names, and it holds of each bucket once
+-- a reservation stands in an open session, it is of the first book, its periods have names, and it
+-- holds of each bucket once
 pub record IsWritable (names : List (List ℕ)) (sessions : List Session) (s : List ℕ)
     (r : Reservation) : Type 0 where
   pub live : is_open_row (session_in s sessions) ≡ true
-  pub before : IsNamed names r.periods.before
-  pub after : IsNamed names r.periods.after
+  pub book : r.terms.book ≡ 1
+  pub before : IsNamed names r.terms.periods.before
+  pub after : IsNamed names r.terms.periods.after
   pub holds : AreHolds r.holds
 
 abbrev pub MayStand : List (List ℕ) → List Session → List ℕ → Option Reservation → Type 0

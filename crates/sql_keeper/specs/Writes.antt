@@ -39,7 +39,7 @@ names_at names p = record { before = name_at names p.before; after = name_at nam
 abbrev pub columns_of : List (List ℕ) → SessionGroup → Group
 columns_of names r = record {
   used = r.used;
-  periods = option_map (λ (x : Reservation). names_at names x.periods) r.reservation;
+  periods = option_map (λ (x : Reservation). names_at names x.terms.periods) r.reservation;
 }
 
 abbrev pub head_of : StoredRows → HeadColumns

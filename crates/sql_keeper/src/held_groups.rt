@@ -42,8 +42,8 @@ fn put_columns<S: Alter>(
     match &row.reservation {
         None => put_group_free(tx, account, &row.session, row.group, row.used),
         Some(reservation) => {
-            let before = name_of(book, reservation.periods.before);
-            let after = name_of(book, reservation.periods.after);
+            let before = name_of(book, reservation.terms.periods.before);
+            let after = name_of(book, reservation.terms.periods.after);
             put_group_reserved(
                 tx,
                 account,

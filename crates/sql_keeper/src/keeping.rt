@@ -6,8 +6,8 @@ use identifiers::{AccountNumber, SessionId, VoucherCode};
 use keepers::{Change, Keeper, KeptAnswer, Key, Loaded, StoreFault};
 use redemptions::{Voucher, VoucherTerms};
 use reserving::Account;
+use shelves::TariffShelf;
 use sqlite::Alter;
-use tariffs::TariffBook;
 use units::Moment;
 
 impl<S: Alter> Keeper for SqlKeeper<S> {
@@ -34,20 +34,20 @@ impl<S: Alter> Keeper for SqlKeeper<S> {
 
     fn load<'b>(
         &mut self,
-        book: &'b TariffBook,
+        shelf: &'b TariffShelf,
         account: &AccountNumber,
         moment: Moment,
     ) -> Result<Option<Loaded<'b>>, StoreFault> {
-        SqlKeeper::load(self, book, account, moment)
+        SqlKeeper::load(self, shelf, account, moment)
     }
 
     fn view<'b>(
         &mut self,
-        book: &'b TariffBook,
+        shelf: &'b TariffShelf,
         account: &AccountNumber,
         moment: Moment,
     ) -> Result<Option<Account<'b>>, StoreFault> {
-        SqlKeeper::view(self, book, account, moment)
+        SqlKeeper::view(self, shelf, account, moment)
     }
 
     fn has_account(&mut self, account: &AccountNumber) -> Result<bool, StoreFault> {
@@ -99,7 +99,7 @@ impl<S: Alter> Keeper for SqlKeeper<S> {
         } = loaded;
     }
 
-    fn sweep(&mut self, book: &TariffBook, moment: Moment) -> Result<u64, StoreFault> {
-        SqlKeeper::sweep(self, book, moment)
+    fn sweep(&mut self, shelf: &TariffShelf, moment: Moment) -> Result<u64, StoreFault> {
+        SqlKeeper::sweep(self, shelf, moment)
     }
 }

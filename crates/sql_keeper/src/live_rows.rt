@@ -11,7 +11,7 @@ ghost use Rattle.sql_rows.specs.Content.{Rows as Stored, rows_in};
 ghost use Rattle.sql_rows.specs.Texts.{bucket_row};
 ghost use Rattle.sql_tables.specs.Statements.{HasIdleBook, Reads};
 ghost use Rattle.sqlite.specs.Held.{state};
-ghost use Rattle.tariffs.specs.Books.{Book};
+ghost use Rattle.shelves.specs.Shelves.{Shelf};
 
 use crate::live_groups::read_live_groups;
 use crate::rebuilding::buckets_of;
@@ -19,6 +19,7 @@ use buckets::Purse;
 use calendar::Cycle;
 use identifiers::AccountNumber;
 use reserving::{Counter, GivenRows, Session, SessionGroup, StoredAccount};
+use shelves::TariffShelf;
 use sql_rows::{
     BucketColumns, Head, read_account, read_buckets_live, read_counters_in, read_sessions_open,
 };
@@ -170,14 +171,15 @@ fn read_counters_at<S: Alter>(
     conn: &mut Connection<S>,
     alloc: Global,
     account: &AccountNumber,
-    book: &TariffBook,
+    shelf: &TariffShelf,
     moment: Moment,
 ) -> Result<Vec<Counter>, ReadFault>
     requires idle { HasIdleBook (state S.Store conn.old) }
     ensures { Gathers (λ trees xs.
-        AreCountersAt book.now moment (rows_in trees account.now) xs.items)
+        AreCountersAt shelf.now moment (rows_in trees account.now) xs.items)
         (state S.Store conn.old) (state S.Store conn.new) result }
 {
+    let book = shelf.book_at(moment);
     let counters = read_each_repeating(conn, alloc, account, book, moment)?;
     joined_counters(counters)
 }
@@ -211,11 +213,11 @@ fn read_rows_at<S: Alter>(
     alloc: Global,
     account: &AccountNumber,
     names: &TariffBook,
-    book: &TariffBook,
+    shelf: &TariffShelf,
     moment: Moment,
 ) -> Result<Option<ReadRows>, ReadFault>
     requires idle { HasIdleBook (state S.Store conn.old) }
-    ensures { Gathers (λ trees o. IsReadAccount names.now.periods book.now moment
+    ensures { Gathers (λ trees o. IsReadAccount names.now.periods shelf.now moment
         (rows_in trees account.now) o)
         (state S.Store conn.old) (state S.Store conn.new) result }
 {
@@ -223,7 +225,7 @@ fn read_rows_at<S: Alter>(
         return Ok(None);
     };
     let rows = read_live_rows(conn, alloc, account, names)?;
-    let counters = read_counters_at(conn, alloc, account, book, moment)?;
+    let counters = read_counters_at(conn, alloc, account, shelf, moment)?;
     Ok(Some(ReadRows {
         head,
         rows,
@@ -263,8 +265,8 @@ fn live_account_of(
     alloc: Global,
     read: Option<ReadRows>,
 ) -> Result<Option<StoredAccount>, ReadFault>
-    ensures { (names : List (List ℕ)) (book : Book) (t : ℕ) (rows : Stored) →
-        IsReadAccount names book t rows read → IfOk result (IsLiveAccount names book t rows) }
+    ensures { (names : List (List ℕ)) (shelf : Shelf) (t : ℕ) (rows : Stored) →
+        IsReadAccount names shelf t rows read → IfOk result (IsLiveAccount names shelf t rows) }
 {
     let Some(read) = read else {
         return Ok(None);
@@ -279,8 +281,8 @@ fn live_account_of(
 }
 
 /// The account of this number with all of it that may still change at a moment; None where there
-/// is no account. The periods of reservations have the names of one book, and counters the cycles
-/// of the other.
+/// is no account. The periods of reservations have the names of a book, and counters the cycles of
+/// the shelf.
 ///
 /// # Errors
 /// `Rules` where the rows are no account's; else a fault of the store, or want of memory.
@@ -289,14 +291,14 @@ pub(crate) fn read_live_account<S: Alter>(
     alloc: Global,
     account: &AccountNumber,
     names: &TariffBook,
-    book: &TariffBook,
+    shelf: &TariffShelf,
     moment: Moment,
 ) -> Result<Option<StoredAccount>, ReadFault>
     requires idle { HasIdleBook (state S.Store conn.old) }
-    ensures { Gathers (λ trees o. IsLiveAccount names.now.periods book.now moment
+    ensures { Gathers (λ trees o. IsLiveAccount names.now.periods shelf.now moment
         (rows_in trees account.now) o)
         (state S.Store conn.old) (state S.Store conn.new) result }
 {
-    let read = read_rows_at(conn, alloc, account, names, book, moment)?;
+    let read = read_rows_at(conn, alloc, account, names, shelf, moment)?;
     live_account_of(alloc, read)
 }

@@ -18,18 +18,19 @@ use crate::live_rows::read_live_account;
 use identifiers::AccountNumber;
 use keepers::{Loaded, StoreFault};
 use reserving::{Account, LoadFault, StoredAccount};
+use shelves::TariffShelf;
 use sql_tables::ReadFault;
 use sqlite::{Alter, Connection};
 use std::alloc::Global;
 use tariffs::TariffBook;
 use units::Moment;
 
-/// A copy of the rows as an account that the book prices. A reservation that has no prices in it is
-/// out of the rules.
-fn priced_copy<'b>(rows: &StoredAccount, book: &'b TariffBook) -> Result<Account<'b>, ReadFault>
-    ensures { IfOk result (λ account. account ≡ priced book.now rows.now) }
+/// A copy of the rows as an account that the shelf prices. A reservation that has no prices there
+/// is out of the rules.
+fn priced_copy<'b>(rows: &StoredAccount, shelf: &'b TariffShelf) -> Result<Account<'b>, ReadFault>
+    ensures { IfOk result (λ account. account ≡ priced shelf.now rows.now) }
 {
-    match rows.load(book) {
+    match rows.load(shelf) {
         Ok(account) => Ok(account),
         Err(LoadFault::Memory) => Err(ReadFault::Memory),
         Err(LoadFault::OtherBook) => Err(ReadFault::Rules),
@@ -39,16 +40,16 @@ fn priced_copy<'b>(rows: &StoredAccount, book: &'b TariffBook) -> Result<Account
 /// The account of the rows, where there are rows, with the rows once more.
 fn loaded_of<'b>(
     rows: Option<StoredAccount>,
-    book: &'b TariffBook,
+    shelf: &'b TariffShelf,
     number: &AccountNumber,
 ) -> Result<Option<Loaded<'b>>, ReadFault>
-    ensures { IfOk result (IsLoadOf book.now number.now rows) }
+    ensures { IfOk result (IsLoadOf shelf.now number.now rows) }
 {
     let Some(before) = rows else {
         return Ok(None);
     };
     let number = number.clone()?;
-    let account = priced_copy(&before, book)?;
+    let account = priced_copy(&before, shelf)?;
     Ok(Some(Loaded {
         number,
         account,
@@ -80,41 +81,41 @@ fn load_of<'b, S: Alter>(
     conn: &mut Connection<S>,
     alloc: Global,
     names: &TariffBook,
-    book: &'b TariffBook,
+    shelf: &'b TariffShelf,
     account: &AccountNumber,
     moment: Moment,
 ) -> Result<Option<Loaded<'b>>, ReadFault>
     requires idle { HasIdleBook (state S.Store conn.old) }
-    ensures { Gathers (λ trees found. IsLoad book.now moment account.now
+    ensures { Gathers (λ trees found. IsLoad shelf.now moment account.now
         (rows_of names.now.periods (rows_in trees account.now)) found)
         (state S.Store conn.old) (state S.Store conn.new) result }
 {
-    let rows = read_live_account(conn, alloc, account, names, book, moment)?;
-    loaded_of(rows, book, account)
+    let rows = read_live_account(conn, alloc, account, names, shelf, moment)?;
+    loaded_of(rows, shelf, account)
 }
 
 impl<S: Alter> SqlKeeper<S> {
-    /// What may still change of the account of this number at the moment, priced by the book; None
+    /// What may still change of the account of this number at the moment, priced by the shelf; None
     /// where there is no account.
     ///
     /// # Errors
     /// A fault of the store, which is counted, as are rows that are no account's, or a reservation
-    /// that has no prices in the book; want of memory.
+    /// that has no prices on the shelf; want of memory.
     pub fn load<'b>(
         &mut self,
-        book: &'b TariffBook,
+        shelf: &'b TariffShelf,
         account: &AccountNumber,
         moment: Moment,
     ) -> Result<Option<Loaded<'b>>, StoreFault>
         ensures { Finds (tables_in S.Store) failed_in (clean_in S.Store) self.old self.new
-            (λ found. IsLoad book.now moment account.now
+            (λ found. IsLoad shelf.now moment account.now
             ((tables_in S.Store self.old).rows account.now) found) result }
     {
         let read = load_of(
             &mut self.connection,
             self.alloc,
             &self.book,
-            book,
+            shelf,
             account,
             moment,
         );
@@ -128,15 +129,15 @@ impl<S: Alter> SqlKeeper<S> {
     /// As of `load`.
     pub fn view<'b>(
         &mut self,
-        book: &'b TariffBook,
+        shelf: &'b TariffShelf,
         account: &AccountNumber,
         moment: Moment,
     ) -> Result<Option<Account<'b>>, StoreFault>
         ensures { Finds (tables_in S.Store) failed_in (clean_in S.Store) self.old self.new
-            (λ found. IsView book.now moment
+            (λ found. IsView shelf.now moment
             ((tables_in S.Store self.old).rows account.now) found) result }
     {
-        let loaded = self.load(book, account, moment);
+        let loaded = self.load(shelf, account, moment);
         account_of(loaded)
     }
 }

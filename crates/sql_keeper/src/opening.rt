@@ -2,6 +2,7 @@
 
 ghost use Rattle.std.specs.Prelude.{◌≡◌, ◌≤◌, ◌⊎◌, false, Some, IfErr, IfOk, OnOk};
 ghost use Rattle.std.specs.String.{string_bytes};
+ghost use Rattle.shelves.specs.Shelves.{one_book};
 ghost use Rattle.sql_opening.specs.Opens.{IsNoVersion};
 ghost use Rattle.sql_opening.specs.declared.fault.OpenFault.TheVariants.{Foreign, Rules, Version};
 ghost use Rattle.sql_rows.specs.Content.{content_of};
@@ -21,24 +22,25 @@ use crate::books::{ReadBook, read_book};
 use crate::create_fault::CreateFault;
 use crate::creating::create_book;
 use crate::keeper::SqlKeeper;
+use shelves::TariffShelf;
 use sql_opening::{OpenFault, find_tables};
 use sql_rows::{Meta, read_meta};
 use sql_tables::{ReadFault, has_ours, is_blank};
 use sqlite::{Alter, Connection, Error, ErrorCode};
 use std::alloc::Global;
-use tariffs::{BookFault, TariffBook};
+use tariffs::BookFault;
 
-/// A keeper before its first call, and the book that it goes by.
+/// A keeper before its first call, and the shelf that it goes by.
 fn keeper_of<S: Alter>(
     alloc: Global,
     connection: Connection<S>,
     read: ReadBook,
-) -> (SqlKeeper<S>, TariffBook)
+) -> (SqlKeeper<S>, TariffShelf)
     requires plain { connection.in_transaction ≡ false }
     requires idle { HasIdleBook (state S.Store connection) }
     requires stays { StaysOpen (state S.Store connection) }
     ensures connection { result.0.connection ≡ connection }
-    ensures book { result.1 ≡ read.given }
+    ensures shelf { result.1 ≡ read.given }
     ensures names { result.0.names ≡ read.own.periods }
     ensures text { result.0.text ≡ string_bytes read.text }
     ensures uncounted { result.0.failures ≡ 0 }
@@ -132,8 +134,8 @@ fn book_fault(fault: BookFault) -> OpenFault
 /// The book of what is kept once.
 fn find_book(alloc: Global, meta: &Meta) -> Result<ReadBook, OpenFault>
     ensures version { OnOk result (meta.now.version ≡ 1) }
-    ensures read { IfOk result (λ r. IsBookOf (string_bytes r.text) r.given) }
-    ensures same { IfOk result (λ r. r.own ≡ r.given) }
+    ensures read { IfOk result (λ r. IsBookOf (string_bytes r.text) r.own) }
+    ensures given { IfOk result (λ r. r.given ≡ one_book r.own) }
     ensures text { IfOk result (λ r. string_bytes r.text ≡ string_bytes meta.now.book) }
     ensures told { IfErr result (λ fault. fault ≡ Version → ¬ (meta.now.version ≡ 1)) }
     ensures ours { IfErr result (λ fault. ¬ (fault ≡ Foreign)) }
@@ -162,7 +164,8 @@ fn book_in<S: Alter>(alloc: Global, conn: &mut Connection<S>) -> Result<ReadBook
 
 impl<S: Alter> SqlKeeper<S> {
     /// Makes the database of a book in a connection that has no table, and answers its keeper, and
-    /// the book apart. It is made in one transaction: a stop leaves none of its tables or all.
+    /// the shelf of this one book apart. It is made in one transaction: a stop leaves none of its
+    /// tables or all.
     ///
     /// # Errors
     /// The connection is given back, and nothing is changed. In this order: `Book`, why the text is
@@ -172,7 +175,7 @@ impl<S: Alter> SqlKeeper<S> {
         alloc: Global,
         mut connection: Connection<S>,
         text: &str,
-    ) -> Result<(SqlKeeper<S>, TariffBook), (CreateFault, Connection<S>)>
+    ) -> Result<(SqlKeeper<S>, TariffShelf), (CreateFault, Connection<S>)>
         ensures created { IfOk result
             (λ made. IsCreated S.Store text.now connection made.0 made.1) }
         ensures refused { IfErr result
@@ -188,7 +191,8 @@ impl<S: Alter> SqlKeeper<S> {
         }
     }
 
-    /// Opens the database of a book, and answers its keeper, and the book apart. It writes nothing.
+    /// Opens the database of a book, and answers its keeper, and the shelf of this one book apart.
+    /// It writes nothing.
     ///
     /// # Errors
     /// The connection is given back. `Foreign`, the tables aren't exactly those of this system, and
@@ -198,7 +202,7 @@ impl<S: Alter> SqlKeeper<S> {
     pub fn open(
         alloc: Global,
         mut connection: Connection<S>,
-    ) -> Result<(SqlKeeper<S>, TariffBook), (OpenFault, Connection<S>)>
+    ) -> Result<(SqlKeeper<S>, TariffShelf), (OpenFault, Connection<S>)>
         ensures opened { IfOk result (λ made. IsOpened S.Store connection made.0 made.1) }
         ensures refused { IfErr result (λ left. IsNotOpened S.Store connection left.1 left.0) }
     {

@@ -2,9 +2,9 @@
 
 ghost use Rattle.std.specs.Prelude.{◌≡◌, ◌==◌, ◌&&◌, Some, IfOk, map, option_map};
 ghost use Rattle.std.specs.List.{list_any};
-ghost use Rattle.sql_keeper.specs.GroupRows.{AreGroupsOf, AreHoldsOf, ArePeriodsOf, IsGroupOf};
-ghost use Rattle.sql_keeper.specs.GroupRows.{IsReservationOf, amount_of, are_held_of, holds_along};
-ghost use Rattle.sql_keeper.specs.GroupRows.{is_held_of};
+ghost use Rattle.sql_keeper.specs.GroupRows.{AreGroupsOf, AreHoldsOf, ArePeriodsOf, AreTermsOf};
+ghost use Rattle.sql_keeper.specs.GroupRows.{IsGroupOf, IsReservationOf, amount_of, are_held_of};
+ghost use Rattle.sql_keeper.specs.GroupRows.{holds_along, is_held_of};
 ghost use Rattle.sql_rows.specs.Texts.{group_at, names_of};
 ghost use Rattle.tariffs.specs.Names.{period_named};
 
@@ -12,7 +12,7 @@ use buckets::{Bucket, Hold, Holds, Purse};
 use calendar::Period;
 use identifiers::SessionId;
 use rating::Periods;
-use reserving::{Reservation, SessionGroup};
+use reserving::{Reservation, SessionGroup, Terms};
 use sql_rows::{GroupColumns, HeldColumns, PeriodNames};
 use sql_tables::ReadFault;
 use std::alloc::Global;
@@ -31,6 +31,14 @@ fn periods_of(book: &TariffBook, names: &PeriodNames) -> Result<Periods, ReadFau
     let before = period_of(book, names.before.as_str())?;
     let after = period_of(book, names.after.as_str())?;
     Ok(Periods { before, after })
+}
+
+/// The terms of a reservation with these names of periods: it is of the first book.
+fn terms_of(book: &TariffBook, names: &PeriodNames) -> Result<Terms, ReadFault>
+    ensures { IfOk result (λ x. AreTermsOf book.now.periods (names_of names.now) x) }
+{
+    let periods = periods_of(book, names)?;
+    Ok(Terms { book: 1, periods })
 }
 
 /// What is held of a bucket for a rating group, in micro-units; 0 where nothing is.
@@ -127,9 +135,9 @@ fn reservation_of(
     match &row.periods {
         None => Ok(None),
         Some(names) => {
-            let periods = periods_of(book, names)?;
+            let terms = terms_of(book, names)?;
             let holds = holds_of(alloc, buckets, row.group, held)?;
-            Ok(Some(Reservation { periods, holds }))
+            Ok(Some(Reservation { terms, holds }))
         }
     }
 }

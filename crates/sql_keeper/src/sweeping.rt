@@ -18,6 +18,7 @@ use crate::keeper::SqlKeeper;
 use crate::putting::put_stored;
 use crate::swept_rows::{SweptAccount, read_sweep};
 use keepers::StoreFault;
+use shelves::TariffShelf;
 use sql_rows::put_meta;
 use sql_tables::ReadFault;
 use sqlite::{Alter, Connection, Error, Transaction};
@@ -87,21 +88,21 @@ fn make_sweep<S: Alter>(
     alloc: Global,
     names: &TariffBook,
     text: &str,
-    book: &TariffBook,
+    shelf: &TariffShelf,
     moment: Moment,
 ) -> Result<u64, ReadFault>
     requires plain { conn.old.in_transaction ≡ false }
     requires idle { HasIdleBook (state S.Store conn.old) }
     ensures plain { conn.new.in_transaction ≡ false }
-    ensures commits { CommitsWhole (BecomesSwept names.now.periods text.now book.now moment)
+    ensures commits { CommitsWhole (BecomesSwept names.now.periods text.now shelf.now moment)
         (state S.Store conn.old) (state S.Store conn.new) result }
     ensures count { HasCleanDisk (state S.Store conn.new) →
         IfOk result (λ n. n ≡ (content_of (state S.Store conn.old).now.trees).count) }
 {
     // For the prover alone: looking at the value makes known here what its type keeps.
-    let _ranges = book.validity();
+    let _ranges = shelf.first();
     let _moment = moment.seconds();
-    let accounts = read_sweep(conn, alloc, names, book, moment)?;
+    let accounts = read_sweep(conn, alloc, names, shelf, moment)?;
     write_sweep(conn, names, text, moment, &accounts)?;
     Ok(accounts.len() as u64)
 }
@@ -118,20 +119,20 @@ impl<S: Alter> SqlKeeper<S> {
     /// # Errors
     /// Want of memory; a fault of the store, which is counted, as are rows that are no account's or
     /// that may not be written.
-    pub fn sweep(&mut self, book: &TariffBook, moment: Moment) -> Result<u64, StoreFault>
+    pub fn sweep(&mut self, shelf: &TariffShelf, moment: Moment) -> Result<u64, StoreFault>
         ensures count { clean_in S.Store self.new →
             IfOk result (λ n. n ≡ (tables_in S.Store self.old).count) }
-        ensures done { clean_in S.Store self.new → OnOk result (IsSwept book.now moment
+        ensures done { clean_in S.Store self.new → OnOk result (IsSwept shelf.now moment
             (tables_in S.Store self.old) (tables_in S.Store self.new)) }
         ensures kept { Keeps (tables_in S.Store) failed_in (clean_in S.Store) self.old self.new
             result }
         ensures whole { IsWhole S.Store self.old self.new
-            (BecomesSwept self.old.names self.old.text book.now moment
+            (BecomesSwept self.old.names self.old.text shelf.now moment
             (trees_in S.Store self.old)) }
     {
         let text = self.text.as_str();
         let (alloc, names) = (self.alloc, &self.book);
-        let made = make_sweep(&mut self.connection, alloc, names, text, book, moment);
+        let made = make_sweep(&mut self.connection, alloc, names, text, shelf, moment);
         counted(&mut self.failures, made)
     }
 }

@@ -11,6 +11,7 @@ use crate::live_rows::read_live_account;
 use crate::testing::are_writable;
 use identifiers::AccountNumber;
 use reserving::StoredAccount;
+use shelves::TariffShelf;
 use sql_rows::read_accounts;
 use sql_tables::ReadFault;
 use sqlite::{Alter, Connection};
@@ -28,12 +29,12 @@ pub(crate) struct SweptAccount {
 }
 
 /// The rows of an account at a moment; rows of a later one stay.
-fn advanced_to(rows: StoredAccount, book: &TariffBook, moment: Moment) -> StoredAccount
-    ensures { result ≡ rows_at book.now moment rows }
+fn advanced_to(rows: StoredAccount, shelf: &TariffShelf, moment: Moment) -> StoredAccount
+    ensures { result ≡ rows_at shelf.now moment rows }
 {
     let mut rows = rows;
     if rows.as_of().seconds() <= moment.seconds() {
-        rows.advance(book, moment);
+        rows.advance(shelf, moment);
     }
     rows
 }
@@ -44,10 +45,10 @@ fn swept_of(
     account: &AccountNumber,
     rows: Option<StoredAccount>,
     names: &TariffBook,
-    book: &TariffBook,
+    shelf: &TariffShelf,
     moment: Moment,
 ) -> Result<SweptAccount, ReadFault>
-    ensures { IfOk result (IsSweptFrom names.now.periods book.now moment account.now rows) }
+    ensures { IfOk result (IsSweptFrom names.now.periods shelf.now moment account.now rows) }
 {
     let Some(before) = rows else {
         return Err(ReadFault::Rules);
@@ -55,7 +56,7 @@ fn swept_of(
     // For the prover alone: looking at the value makes known here what its type keeps.
     let _kept = before.as_of();
     let number = account.clone()?;
-    let rows = advanced_to(before, book, moment);
+    let rows = advanced_to(before, shelf, moment);
     let _stored = rows.as_of();
     if !are_writable(names, rows.sessions(), rows.groups()) {
         return Err(ReadFault::Rules);
@@ -64,24 +65,24 @@ fn swept_of(
 }
 
 /// The accounts of these numbers at a moment, in turn. The periods of reservations have the names
-/// of one book, and counters the cycles of the other.
+/// of a book, and counters the cycles of the shelf.
 fn read_each<S: Alter>(
     conn: &mut Connection<S>,
     alloc: Global,
     accounts: &[AccountNumber],
     names: &TariffBook,
-    book: &TariffBook,
+    shelf: &TariffShelf,
     moment: Moment,
 ) -> Result<Vec<SweptAccount>, ReadFault>
     requires idle { HasIdleBook (state S.Store conn.old) }
-    ensures { Gathers (λ trees xs. AreSweptOf names.now.periods book.now moment (content_of trees)
+    ensures { Gathers (λ trees xs. AreSweptOf names.now.periods shelf.now moment (content_of trees)
         accounts.now xs.items)
         (state S.Store conn.old) (state S.Store conn.new) result }
 {
     let mut swept = Vec::new(alloc);
     'accounts: for account in accounts {
-        let rows = read_live_account(conn, alloc, account, names, book, moment)?;
-        let next = swept_of(account, rows, names, book, moment)?;
+        let rows = read_live_account(conn, alloc, account, names, shelf, moment)?;
+        let next = swept_of(account, rows, names, shelf, moment)?;
         let Ok(()) = swept.push(next) else {
             return Err(ReadFault::Memory);
         };
@@ -98,14 +99,14 @@ pub(crate) fn read_sweep<S: Alter>(
     conn: &mut Connection<S>,
     alloc: Global,
     names: &TariffBook,
-    book: &TariffBook,
+    shelf: &TariffShelf,
     moment: Moment,
 ) -> Result<Vec<SweptAccount>, ReadFault>
     requires idle { HasIdleBook (state S.Store conn.old) }
-    ensures { Gathers (λ trees xs. AreAllSwept names.now.periods book.now moment (content_of trees)
+    ensures { Gathers (λ trees xs. AreAllSwept names.now.periods shelf.now moment (content_of trees)
         xs.items)
         (state S.Store conn.old) (state S.Store conn.new) result }
 {
     let accounts = read_accounts(conn, alloc)?;
-    read_each(conn, alloc, &accounts, names, book, moment)
+    read_each(conn, alloc, &accounts, names, shelf, moment)
 }

@@ -62,6 +62,8 @@ fn is_named(book: &TariffBook, period: Period) -> bool
     book.period_name(period).is_some()
 }
 
+/// Whether a reservation reads as it is written: it stands in an open session, it is of the first
+/// book, the only one whose reservations the tables keep, and its periods have names.
 fn is_writable(
     book: &TariffBook,
     sessions: &[Session],
@@ -72,7 +74,10 @@ fn is_writable(
 {
     // For the prover alone: looking at the value makes known here what its type keeps.
     let _holds = reservation.holds.as_slice();
-    let periods = reservation.periods;
+    if reservation.terms.book != 1 {
+        return false;
+    }
+    let periods = reservation.terms.periods;
     is_open(sessions, session) && is_named(book, periods.before) && is_named(book, periods.after)
 }
 
@@ -86,7 +91,8 @@ fn may_stand(book: &TariffBook, sessions: &[Session], row: &SessionGroup) -> boo
     }
 }
 
-/// Whether each reservation stands in an open session, with periods that have names.
+/// Whether each reservation stands in an open session, of the first book and with periods that
+/// have names.
 pub(crate) fn are_writable(book: &TariffBook, sessions: &[Session], groups: &[SessionGroup]) -> bool
     ensures { IsTrue result → AreWritable book.now.periods sessions.now groups.now }
 {
@@ -99,8 +105,8 @@ pub(crate) fn are_writable(book: &TariffBook, sessions: &[Session], groups: &[Se
 }
 
 /// Whether a change may be written over an account with this head, so that what is written reads as
-/// the change: each reservation stands in an open session, with periods that the book names, and
-/// the charges are numbered on.
+/// the change: each reservation stands in an open session, of the first book and with periods that
+/// it names, and the charges are numbered on.
 pub fn may_be_written(book: &TariffBook, head: &Option<Head>, change: &Change) -> bool
     ensures reservations { IsTrue result →
         AreWritable book.now.periods change.now.after.sessions change.now.after.groups }

@@ -4,3 +4,4 @@ pub mod NameFacts
 pub mod WeekFacts
 pub mod GroupFacts
 pub mod PricedOnce
+pub mod ZoneFacts

@@ -8,7 +8,7 @@ use Rattle.book_fields.specs.declared.fault.BookFault.TheVariants.{WeekNotCovere
 use Rattle.book_fields.specs.Faults.{◌>>=◌, or_fault}
 use Rattle.book_fields.specs.Fields.{text_of, number_in}
 use Rattle.tariffs.specs.Names.{ArePeriods, names_of}
-use Rattle.tariffs.specs.WeekFields.{zone_of, entries_of}
+use Rattle.tariffs.specs.WeekFields.{zone_in, zone_of, entries_of}
 use Rattle.tariffs.specs.Tariffs.{GroupTariff, IsTariff, AreOfOtherGroups}
 use Rattle.tariffs.specs.GroupFields.{groups_of}
 
@@ -23,8 +23,9 @@ pub record Book : Type 0 where
   pub periods : List (List ℕ)
   pub tariffs : List GroupTariff
 
--- the ranges of a book (profile)
+-- the ranges of a book (profile), and its zone is that of its text
 pub record IsBook (b : Book) : Type 0 where
+  pub zone : zone_in b.zone_text ≡ Some b.calendar.zone
   pub week : IsTimetable b.calendar
   pub some_currency : 1 ≤ b.currency
   pub currency : b.currency ≤ 999

@@ -2,7 +2,7 @@
 
 ghost use Rattle.std.specs.Prelude.{◌≡◌, ◌≢◌, ◌==◌, ℕ, ◌+◌, ◌*◌, ◌<◌, ◌≤◌, nat_lt, pos, ◌+ℤ◌, ◌*ℤ◌};
 ghost use Rattle.std.specs.Prelude.{length, find, slice_get, option_copied, IfOk, IfErr, IfSome};
-ghost use Rattle.std.specs.Prelude.{IfNone, Ok, Err};
+ghost use Rattle.std.specs.Prelude.{IfNone, Ok, Err, All};
 ghost use Rattle.toml.specs.Data.{Members};
 ghost use Rattle.toml.specs.View.{table_view};
 ghost use Rattle.calendar.specs.Timetable.{period_at, IsEntryAt, IsChange, switch_within};
@@ -52,7 +52,7 @@ impl Model for TariffBook {
     ghost invariant = { λ b. IsBook (book_in b) };
 }
 
-#[tactic(auto, unfolding(crate::specs::Books::book_of))]
+#[tactic(auto, using(crate::proofs::ZoneFacts::zone_is), unfolding(crate::specs::Books::book_of))]
 fn book(alloc: Global, table: &Table) -> Result<TariffBook, BookFault>
     ensures { Gives (λ b. b) result (book_of (table_view table.now)) }
 {
@@ -123,6 +123,14 @@ impl TariffBook {
         ensures book { IsBook self.now }
     {
         self.validity
+    }
+
+    /// The tariffs of its rating groups, in the order of the document.
+    pub fn tariffs(&self) -> &[Tariff]
+        ensures value { result.now ≡ self.now.tariffs }
+        ensures tariffs { All IsTariff result.now }
+    {
+        self.tariffs.as_slice()
     }
 
     /// The tariff of a rating group; None for a group that the book doesn't have.

@@ -3,7 +3,7 @@
 
 use crate::tests::lines::{dated, first_word};
 use crate::tests::rows::{push, push_buckets, push_charges};
-use crate::tests::scenarios::{assert_told, book, push_answer, whole_lines};
+use crate::tests::scenarios::{assert_told, push_answer, shelf, whole_lines};
 use commands::{Answer, Ask, Command, Request};
 use decisions::{Decided, begins_session, decide, is_read, read};
 use reserving::Account;
@@ -126,9 +126,9 @@ fn credit(rt: &impl Abort, account: &mut Account) {
 
 /// Tries cases with an empty line between them on an account of its own.
 fn try_all(rt: &impl Abort, alloc: Global, cases: &str) {
-    let book = book(rt, alloc);
+    let shelf = shelf(rt, alloc);
     let cases = whole_lines(rt, alloc, cases);
-    let mut account = Account::new(alloc, &book);
+    let mut account = Account::new(alloc, &shelf);
     credit(rt, &mut account);
     try_cases(rt, alloc, &mut account, cases.as_str());
 }

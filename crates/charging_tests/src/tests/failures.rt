@@ -3,12 +3,12 @@
 
 use crate::tests::lines::commands_between;
 use crate::tests::rows::push_rows;
-use crate::tests::scenarios::{assert_told, book, push_answer, try_all, whole_lines};
+use crate::tests::scenarios::{assert_told, push_answer, shelf, try_all, whole_lines};
 use charging::run;
 use keepers::{Failing, Keeper, MemoryKeeper, StoreFault};
+use shelves::TariffShelf;
 use std::alloc::Global;
 use std::process::Abort;
-use tariffs::TariffBook;
 
 /// Twelve commands, which call a keeper in each way that there is: an account is opened and
 /// credited; a session begins, reports, and sends its report again; the account is barred and gets
@@ -102,18 +102,18 @@ fn hand_in(
     rt: &impl Abort,
     alloc: Global,
     keeper: &mut Failing<MemoryKeeper>,
-    book: &TariffBook,
+    shelf: &TariffShelf,
     lines: &str,
     between: (usize, usize),
 ) -> Outcome {
     let commands = commands_between(rt, alloc, lines, between);
-    let run = run(alloc, keeper, book, commands);
+    let run = run(alloc, keeper, shelf, commands);
     let failures = keeper.failures();
     let mut text = String::new(alloc);
     for answer in &run.answers {
         push_answer(rt, alloc, &mut text, answer);
     }
-    push_rows(rt, alloc, &mut text, &mut keeper.inner, book);
+    push_rows(rt, alloc, &mut text, &mut keeper.inner, shelf);
     Outcome {
         answered: run.answers.len(),
         fault: fault_number(run.fault),
@@ -141,16 +141,16 @@ fn assert_counted(rt: &impl Abort, stopped: &Outcome, later: &Outcome) {
 fn try_failing(
     rt: &impl Abort,
     alloc: Global,
-    book: &TariffBook,
+    shelf: &TariffShelf,
     lines: &str,
     (failing, sound): (&mut Failing<MemoryKeeper>, &mut Failing<MemoryKeeper>),
 ) -> usize {
-    let stopped = hand_in(rt, alloc, failing, book, lines, (0, 12));
+    let stopped = hand_in(rt, alloc, failing, shelf, lines, (0, 12));
     let answered = stopped.answered;
-    let beginning = hand_in(rt, alloc, sound, book, lines, (0, answered));
+    let beginning = hand_in(rt, alloc, sound, shelf, lines, (0, answered));
     assert_told(rt, stopped.text.as_str(), beginning.text.as_str());
-    let later = hand_in(rt, alloc, failing, book, lines, (answered, 12));
-    let others = hand_in(rt, alloc, sound, book, lines, (answered, 12));
+    let later = hand_in(rt, alloc, failing, shelf, lines, (answered, 12));
+    let others = hand_in(rt, alloc, sound, shelf, lines, (answered, 12));
     assert_told(rt, later.text.as_str(), others.text.as_str());
     assert_counted(rt, &stopped, &later);
     answered
@@ -160,24 +160,24 @@ fn try_failing(
 fn try_failing_after(
     rt: &impl Abort,
     alloc: Global,
-    book: &TariffBook,
+    shelf: &TariffShelf,
     lines: &str,
     calls: u64,
 ) -> usize {
     let mut failing = Failing::new(MemoryKeeper::new(alloc), calls);
     let mut sound = Failing::new(MemoryKeeper::new(alloc), u64::MAX);
-    try_failing(rt, alloc, book, lines, (&mut failing, &mut sound))
+    try_failing(rt, alloc, shelf, lines, (&mut failing, &mut sound))
 }
 
 /// The store fails at its first call, then at its second, and so on until a run meets no failure.
 #[test]
 fn a_store_that_fails_at_each_call(rt: HostRuntime) {
     let alloc = rt.alloc();
-    let book = book(&rt, alloc);
+    let shelf = shelf(&rt, alloc);
     let lines = whole_lines(&rt, alloc, TWELVE);
     let mut calls_of_all = 0;
     for calls in 0..99 {
-        if try_failing_after(&rt, alloc, &book, lines.as_str(), calls) == 12 {
+        if try_failing_after(&rt, alloc, &shelf, lines.as_str(), calls) == 12 {
             calls_of_all = calls;
             break;
         }

@@ -5,9 +5,9 @@ use buckets::Bucket;
 use identifiers::AccountNumber;
 use keepers::{Keeper, MemoryKeeper, WholeAccount};
 use reserving::{Account, ChargeRow, Counter, Session, SessionGroup};
+use shelves::TariffShelf;
 use std::alloc::Global;
 use std::process::Abort;
-use tariffs::TariffBook;
 
 /// Puts words behind a text.
 pub(crate) fn push(rt: &impl Abort, text: &mut String, words: &str) {
@@ -113,11 +113,11 @@ fn push_first(
     rt: &impl Abort,
     text: &mut String,
     keeper: &mut MemoryKeeper,
-    book: &TariffBook,
+    shelf: &TariffShelf,
     number: &AccountNumber,
 ) -> bool {
     let last = keeper.last().expect(rt, "a moment");
-    let Some(account) = keeper.view(book, number, last).expect(rt, "a look") else {
+    let Some(account) = keeper.view(shelf, number, last).expect(rt, "a look") else {
         return false;
     };
     push_account(rt, text, &account);
@@ -130,12 +130,12 @@ fn push_rows_of(
     rt: &impl Abort,
     text: &mut String,
     keeper: &mut MemoryKeeper,
-    book: &TariffBook,
+    shelf: &TariffShelf,
     number: &AccountNumber,
     word: &str,
 ) {
     push(rt, text, word);
-    if push_first(rt, text, keeper, book, number) {
+    if push_first(rt, text, keeper, shelf, number) {
         let mut whole = keeper.whole(number).expect(rt, "memory");
         push_whole(rt, text, &mut whole, word);
     }
@@ -175,13 +175,13 @@ pub(crate) fn push_rows(
     alloc: Global,
     text: &mut String,
     keeper: &mut MemoryKeeper,
-    book: &TariffBook,
+    shelf: &TariffShelf,
 ) {
     let (first, second) = (account(rt, alloc, "49151"), account(rt, alloc, "49152"));
     let last = keeper.last().expect(rt, "a moment");
     write!(text, "last: {}", last.seconds()).expect(rt, "memory");
     push_vouchers(rt, alloc, text, keeper);
-    push_rows_of(rt, text, keeper, book, &first, "\n");
-    push_rows_of(rt, text, keeper, book, &second, "\n49152 ");
+    push_rows_of(rt, text, keeper, shelf, &first, "\n");
+    push_rows_of(rt, text, keeper, shelf, &second, "\n49152 ");
     push(rt, text, "\n");
 }

@@ -11,14 +11,16 @@ use crate::tests::rows::{push, push_rows};
 use charging::run;
 use commands::Answer;
 use keepers::MemoryKeeper;
+use shelves::TariffShelf;
 use std::alloc::Global;
 use std::process::Abort;
 use tariffs::TariffBook;
 use wire::write_answer;
 
-/// The tariff book of the scenarios.
-pub(crate) fn book(rt: &impl Abort, alloc: Global) -> TariffBook {
-    TariffBook::read(alloc, worked_book::BOOK.as_bytes()).expect(rt, "the worked book")
+/// The shelf of the scenarios: the worked book alone.
+pub(crate) fn shelf(rt: &impl Abort, alloc: Global) -> TariffShelf {
+    let book = TariffBook::read(alloc, worked_book::BOOK.as_bytes()).expect(rt, "the worked book");
+    TariffShelf::new(alloc, book).expect(rt, "a shelf")
 }
 
 /// The text with each line that begins with two spaces put behind the one before it.
@@ -79,9 +81,9 @@ fn push_looked(rt: &impl Abort, text: &mut String, part: &str, before: &str, aft
     }
 }
 
-fn rows(rt: &impl Abort, alloc: Global, keeper: &mut MemoryKeeper, book: &TariffBook) -> String {
+fn rows(rt: &impl Abort, alloc: Global, keeper: &mut MemoryKeeper, shelf: &TariffShelf) -> String {
     let mut text = String::new(alloc);
-    push_rows(rt, alloc, &mut text, keeper, book);
+    push_rows(rt, alloc, &mut text, keeper, shelf);
     text
 }
 
@@ -90,12 +92,12 @@ fn told(
     rt: &impl Abort,
     alloc: Global,
     keeper: &mut MemoryKeeper,
-    book: &TariffBook,
+    shelf: &TariffShelf,
     part: &str,
 ) -> String {
-    let before = rows(rt, alloc, keeper, book);
-    let run = run(alloc, keeper, book, all_commands(rt, alloc, part));
-    let after = rows(rt, alloc, keeper, book);
+    let before = rows(rt, alloc, keeper, shelf);
+    let run = run(alloc, keeper, shelf, all_commands(rt, alloc, part));
+    let after = rows(rt, alloc, keeper, shelf);
     let mut text = String::new(alloc);
     push_answered(rt, alloc, &mut text, part, &run.answers);
     push_looked(rt, &mut text, part, before.as_str(), after.as_str());
@@ -111,10 +113,10 @@ fn try_part(
     rt: &impl Abort,
     alloc: Global,
     keeper: &mut MemoryKeeper,
-    book: &TariffBook,
+    shelf: &TariffShelf,
     part: &str,
 ) {
-    let told = told(rt, alloc, keeper, book, part);
+    let told = told(rt, alloc, keeper, shelf, part);
     assert_told(rt, told.as_str().trim_end(), part.trim_end());
 }
 
@@ -122,20 +124,20 @@ fn try_parts(
     rt: &impl Abort,
     alloc: Global,
     keeper: &mut MemoryKeeper,
-    book: &TariffBook,
+    shelf: &TariffShelf,
     parts: &str,
 ) {
     for part in parts.split("\n\n") {
-        try_part(rt, alloc, keeper, book, part);
+        try_part(rt, alloc, keeper, shelf, part);
     }
 }
 
 /// Tries a scenario over a new keeper. It is told by texts, each going on after the one before it.
 pub(crate) fn try_all(rt: &impl Abort, alloc: Global, texts: &[&str]) {
-    let book = book(rt, alloc);
+    let shelf = shelf(rt, alloc);
     let mut keeper = MemoryKeeper::new(alloc);
     for text in texts {
         let text = whole_lines(rt, alloc, text);
-        try_parts(rt, alloc, &mut keeper, &book, text.as_str());
+        try_parts(rt, alloc, &mut keeper, &shelf, text.as_str());
     }
 }

@@ -4,7 +4,7 @@
 use crate::tests::deciding::request_of;
 use crate::tests::lines::{account, all_commands};
 use crate::tests::rows::push;
-use crate::tests::scenarios::{book, whole_lines};
+use crate::tests::scenarios::{shelf, whole_lines};
 use charging::run;
 use commands::{Answer, Content, Request};
 use decisions::decide;
@@ -13,9 +13,9 @@ use keepers::{
     is_new_session,
 };
 use reserving::{Account, StoredAccount};
+use shelves::TariffShelf;
 use std::alloc::Global;
 use std::process::Abort;
-use tariffs::TariffBook;
 use units::Moment;
 
 /// A credit of an event's price but for its number, and a debit of one event but for its session's.
@@ -137,13 +137,18 @@ fn play_turns(
     rt: &impl Abort,
     alloc: Global,
     keeper: &mut MemoryKeeper,
-    book: &TariffBook,
+    shelf: &TariffShelf,
     count: u64,
 ) -> usize {
     let mut lines = String::new(alloc);
     push_turns(rt, &mut lines, count);
     let lines = whole_lines(rt, alloc, lines.as_str());
-    let run = run(alloc, keeper, book, all_commands(rt, alloc, lines.as_str()));
+    let run = run(
+        alloc,
+        keeper,
+        shelf,
+        all_commands(rt, alloc, lines.as_str()),
+    );
     run.answers.len()
 }
 
@@ -160,11 +165,11 @@ fn load<'b>(
     rt: &impl Abort,
     alloc: Global,
     keeper: &mut MemoryKeeper,
-    book: &'b TariffBook,
+    shelf: &'b TariffShelf,
     at: Moment,
 ) -> Loaded<'b> {
     let number = account(rt, alloc, "49151");
-    let loaded = keeper.load(book, &number, at).expect(rt, "rows");
+    let loaded = keeper.load(shelf, &number, at).expect(rt, "rows");
     loaded.expect(rt, "an account")
 }
 
@@ -174,12 +179,12 @@ fn push_last_debit(
     alloc: Global,
     text: &mut String,
     keeper: &mut MemoryKeeper,
-    book: &TariffBook,
+    shelf: &TariffShelf,
     turn: u64,
 ) {
     let last = keeper.last().expect(rt, "a moment");
     let (request, at) = debit_of(rt, alloc, turn);
-    let loaded = load(rt, alloc, keeper, book, at);
+    let loaded = load(rt, alloc, keeper, shelf, at);
     push_numbers(rt, text, &loaded.account);
     let change = change_of(rt, alloc, loaded, request, at);
     push_named(rt, text, &change, last);
@@ -188,12 +193,12 @@ fn push_last_debit(
 /// After so many credits that were used up and one that wasn't, how many commands were answered,
 /// and what a debit loads and writes.
 fn after_turns(rt: &impl Abort, alloc: Global, count: u64) -> String {
-    let book = book(rt, alloc);
+    let shelf = shelf(rt, alloc);
     let mut keeper = MemoryKeeper::new(alloc);
-    let answered = play_turns(rt, alloc, &mut keeper, &book, count);
+    let answered = play_turns(rt, alloc, &mut keeper, &shelf, count);
     let mut text = String::new(alloc);
     write!(text, "answers: {answered};").expect(rt, "memory");
-    push_last_debit(rt, alloc, &mut text, &mut keeper, &book, count);
+    push_last_debit(rt, alloc, &mut text, &mut keeper, &shelf, count);
     text
 }
 

@@ -106,8 +106,8 @@ fn try_all(rt: &impl Abort, alloc: Global, book: &TariffBook, lines: &str) {
 }
 
 /// The content is the body's members that are there, in byte order of their names. Charges are
-/// numbered one after another. A reservation stands in an open session, with two of the book's
-/// periods, which are two.
+/// numbered one after another. A reservation stands in an open session and is of the first book,
+/// with two of its periods, which are two.
 const CASES: &str = r#"content 49152 {"Amount":1,"Reference":"v1"} -> out of the rules
 content 49151 {"Amount":1,"Reference":"v1"} -> {"Amount":1,"Reference":"v1"}
 content 49151 {"Scope":0,"Reference":"v","Amount":1} -> {"Amount":1,"Reference":"v","Scope":0}
@@ -127,6 +127,8 @@ rows 1 1 & session s1 0 9 open & group s1 10 0 -> true
 rows 1 1 & session s1 0 9 ended & group s1 10 0 -> true
 rows 1 1 & session s1 0 9 open & group s1 10 0 2 0 -> false
 rows 1 1 & session s1 0 9 open & group s1 10 0 0 2 -> false
+rows 1 1 & session s1 0 9 open & group s1 10 0 2:0 1 -> false
+rows 1 1 & session s1 0 9 open & group s1 10 0 0:0 1 -> false
 rows 1 1 & session s1 0 9 ended & group s1 10 0 0 1 -> false
 rows 1 1 & session s1 0 9 never & group s1 10 0 0 1 -> false"#;
 

@@ -7,6 +7,7 @@ use crate::tests::ten::{ALL, commands, push_answers, wanted_answers};
 use crate::tests::views::tell_again;
 use charging::{Answer, DatedCommand, run};
 use keepers::MemoryKeeper;
+use shelves::TariffShelf;
 use sql_keeper::SqlKeeper;
 use sqlite::Files;
 use std::alloc::Global;
@@ -24,8 +25,8 @@ fn run_in(
         Err(files) => return (Vec::new(alloc), files),
     };
     match SqlKeeper::open(alloc, connection) {
-        Ok((mut keeper, book)) => {
-            let run = run(alloc, &mut keeper, &book, commands);
+        Ok((mut keeper, shelf)) => {
+            let run = run(alloc, &mut keeper, &shelf, commands);
             (run.answers, into_files(keeper))
         }
         Err((_, connection)) => (Vec::new(alloc), connection.into_store().close()),
@@ -37,27 +38,28 @@ fn seen_in(rt: &impl Abort, alloc: Global, bytes: (&[u8], &[u8])) -> String {
     let files = files_of(rt, alloc, bytes, NO_STOP);
     let connection = connected(alloc, files).ok().expect(rt, "a connection");
     let opened = SqlKeeper::open(alloc, connection).ok();
-    let (mut keeper, book) = opened.expect(rt, "a keeper");
+    let (mut keeper, shelf) = opened.expect(rt, "a keeper");
     let mut text = String::new(alloc);
-    tell_again(rt, alloc, &mut keeper, &book, &mut text);
+    tell_again(rt, alloc, &mut keeper, &shelf, &mut text);
     text
 }
 
 /// The same of the first commands over a keeper in memory.
-fn left_by(rt: &impl Abort, alloc: Global, book: &TariffBook, count: usize) -> String {
+fn left_by(rt: &impl Abort, alloc: Global, shelf: &TariffShelf, count: usize) -> String {
     let mut keeper = MemoryKeeper::new(alloc);
-    let _answers = run(alloc, &mut keeper, book, commands(rt, alloc, count));
+    let _answers = run(alloc, &mut keeper, shelf, commands(rt, alloc, count));
     let mut text = String::new(alloc);
-    tell_again(rt, alloc, &mut keeper, book, &mut text);
+    tell_again(rt, alloc, &mut keeper, shelf, &mut text);
     text
 }
 
 /// What each beginning of the commands leaves, the shortest first.
 fn beginnings(rt: &impl Abort, alloc: Global) -> Vec<String> {
     let book = TariffBook::read(alloc, worked_book::BOOK.as_bytes()).expect(rt, "a book");
+    let shelf = TariffShelf::new(alloc, book).expect(rt, "a shelf");
     let mut all = Vec::new(alloc);
     for count in 0..=ALL {
-        let pushed = all.push(left_by(rt, alloc, &book, count));
+        let pushed = all.push(left_by(rt, alloc, &shelf, count));
         assert!(rt; pushed.is_ok());
     }
     all

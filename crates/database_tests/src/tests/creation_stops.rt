@@ -4,11 +4,11 @@ use crate::tests::files::{
     Bytes, Calls, Left, NO_STOP, Stopping, bytes_of, connected, files_of, into_files,
 };
 use crate::tests::views::tell;
+use shelves::TariffShelf;
 use sql_keeper::{OpenFault, SqlKeeper};
 use sqlite::{Connection, FileStore, Files};
 use std::alloc::Global;
 use std::process::Abort;
-use tariffs::TariffBook;
 
 type Keeper = SqlKeeper<FileStore<Stopping>>;
 
@@ -36,7 +36,7 @@ fn found_or_made(
     alloc: Global,
     connection: Connection<FileStore<Stopping>>,
     is_made: bool,
-) -> Option<(Keeper, TariffBook)> {
+) -> Option<(Keeper, TariffShelf)> {
     match SqlKeeper::open(alloc, connection) {
         Ok(opened) => Some(opened),
         Err((OpenFault::Foreign, connection)) if !is_made => {
@@ -51,9 +51,9 @@ fn seen_in(rt: &impl Abort, alloc: Global, bytes: (&[u8], &[u8]), is_made: bool)
     let files = files_of(rt, alloc, bytes, NO_STOP);
     let connection = connected(alloc, files).ok().expect(rt, "a connection");
     let found = found_or_made(alloc, connection, is_made);
-    let (mut keeper, book) = found.expect(rt, "a keeper");
+    let (mut keeper, shelf) = found.expect(rt, "a keeper");
     let mut text = String::new(alloc);
-    tell(rt, alloc, &mut keeper, &book, &mut text);
+    tell(rt, alloc, &mut keeper, &shelf, &mut text);
     text
 }
 

@@ -6,11 +6,11 @@ use crate::tests::row_writers::{push, push_account};
 use crate::tests::values::{account, moment};
 use identifiers::AccountNumber;
 use reserving::{Account, StoredAccount};
+use shelves::TariffShelf;
 use sql_keeper::SqlKeeper;
 use sqlite::MemStore;
 use std::alloc::Global;
 use std::process::Abort;
-use tariffs::TariffBook;
 
 /// Monday, 2026-01-05, 10:00: the month has number 684.
 const AT: u64 = 1_767_607_200;
@@ -43,12 +43,12 @@ fn account_with(rt: &impl Abort, alloc: Global, bucket: &str) -> StoredAccount {
 fn tell_view(
     rt: &impl Abort,
     keeper: &mut SqlKeeper<MemStore>,
-    book: &TariffBook,
+    shelf: &TariffShelf,
     number: &AccountNumber,
     text: &mut String,
 ) {
     let view = keeper
-        .view(book, number, moment(rt, AT))
+        .view(shelf, number, moment(rt, AT))
         .expect(rt, "a view");
     match &view {
         Some(account) => push_account(rt, text, account),
@@ -73,23 +73,23 @@ fn views(
     rt: &impl Abort,
     alloc: Global,
     keeper: &mut SqlKeeper<MemStore>,
-    book: &TariffBook,
+    shelf: &TariffShelf,
     text: &mut String,
 ) {
     let number = account(rt, alloc, "49151");
-    tell_view(rt, keeper, book, &number, text);
-    let new = Account::new(alloc, book).into_stored();
+    tell_view(rt, keeper, shelf, &number, text);
+    let new = Account::new(alloc, shelf).into_stored();
     commit(rt, alloc, keeper, (new, account_with(rt, alloc, SEVEN)));
-    tell_view(rt, keeper, book, &number, text);
+    tell_view(rt, keeper, shelf, &number, text);
     let (same, same_again) = (account_with(rt, alloc, FIVE), account_with(rt, alloc, FIVE));
     commit(rt, alloc, keeper, (same, same_again));
-    tell_view(rt, keeper, book, &number, text);
+    tell_view(rt, keeper, shelf, &number, text);
     let (old, new) = (
         account_with(rt, alloc, SEVEN),
         account_with(rt, alloc, FIVE),
     );
     commit(rt, alloc, keeper, (old, new));
-    tell_view(rt, keeper, book, &number, text);
+    tell_view(rt, keeper, shelf, &number, text);
 }
 
 /// What may still change is viewed. A row that is the same before and after isn't written, whatever
@@ -118,8 +118,8 @@ group open 10 60 1 0 2 3
 #[test]
 fn what_may_still_change_is_loaded_and_what_differs_written(rt: HostRuntime) {
     let alloc = rt.alloc();
-    let (mut keeper, book) = new_keeper(&rt, alloc);
+    let (mut keeper, shelf) = new_keeper(&rt, alloc);
     let mut text = String::new(alloc);
-    views(&rt, alloc, &mut keeper, &book, &mut text);
+    views(&rt, alloc, &mut keeper, &shelf, &mut text);
     assert_eq!(rt; text.as_str(), VIEWS);
 }

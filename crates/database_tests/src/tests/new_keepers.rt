@@ -3,15 +3,15 @@
 use crate::tests::values::account;
 use keepers::Change;
 use reserving::StoredAccount;
+use shelves::TariffShelf;
 use sql_keeper::SqlKeeper;
 use sqlite::{Connection, MemStore};
 use std::alloc::Global;
 use std::process::Abort;
-use tariffs::TariffBook;
 use units::Moment;
 
 /// A keeper of the worked book over a new database, and the book.
-pub(crate) fn new_keeper(rt: &impl Abort, alloc: Global) -> (SqlKeeper<MemStore>, TariffBook) {
+pub(crate) fn new_keeper(rt: &impl Abort, alloc: Global) -> (SqlKeeper<MemStore>, TariffShelf) {
     let conn = Connection::open_in_memory(alloc).expect(rt, "a database");
     let made = SqlKeeper::create(alloc, conn, worked_book::BOOK);
     made.ok().expect(rt, "a keeper")

@@ -6,6 +6,7 @@ use calendar::Period;
 use rating::Periods;
 use reserving::{
     ChargeRow, Counter, GivenRows, Reservation, Session, SessionGroup, SessionState, StoredAccount,
+    Terms,
 };
 use sql_rows::Head;
 use std::alloc::Global;
@@ -99,15 +100,26 @@ fn holds(rt: &impl Abort, alloc: Global, words: &[&str]) -> Holds {
     Holds::from_items(items).expect(rt, "holds")
 }
 
+/// The places of two periods, the first one behind `NUMBER:` where it isn't of the first book.
+fn terms(rt: &impl Abort, before: &str, after: &str) -> Terms {
+    let (number, before) = match before.split_once(":") {
+        Some(both) => both,
+        None => ("1", before),
+    };
+    let book = number.parse::<u8>().expect(rt, "a book's number");
+    let before = Period(before.parse::<u8>().expect(rt, "a period"));
+    let after = Period(after.parse::<u8>().expect(rt, "a period"));
+    let periods = Periods { before, after };
+    Terms { book, periods }
+}
+
 /// The places of two periods and then holds, or nothing.
 fn reservation(rt: &impl Abort, alloc: Global, words: &[&str]) -> Option<Reservation> {
     let [before, after, held @ ..] = words else {
         return None;
     };
-    let before = Period(before.parse::<u8>().expect(rt, "a period"));
-    let after = Period(after.parse::<u8>().expect(rt, "a period"));
     Some(Reservation {
-        periods: Periods { before, after },
+        terms: terms(rt, before, after),
         holds: holds(rt, alloc, held),
     })
 }

@@ -78,7 +78,8 @@ pub(crate) fn push_sessions(rt: &impl Abort, text: &mut String, rows: &[Session]
 
 /// The place of each period, and what is held of each bucket.
 fn push_reservation(rt: &impl Abort, text: &mut String, reservation: &Reservation) {
-    let (before, after) = (reservation.periods.before.0, reservation.periods.after.0);
+    let periods = reservation.terms.periods;
+    let (before, after) = (periods.before.0, periods.after.0);
     write!(text, " {before} {after}").expect(rt, "room");
     for hold in reservation.holds.as_slice() {
         let (bucket, amount) = (hold.bucket, hold.amount);

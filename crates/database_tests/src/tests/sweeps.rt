@@ -5,11 +5,11 @@ use crate::tests::row_readers::stored;
 use crate::tests::row_writers::{push, push_account, push_buckets};
 use crate::tests::values::{account, moment};
 use reserving::Account;
+use shelves::TariffShelf;
 use sql_keeper::SqlKeeper;
 use sqlite::{Connection, MemStore};
 use std::alloc::Global;
 use std::process::Abort;
-use tariffs::TariffBook;
 
 /// Monday, 2026-01-05, 10:00.
 const BEGIN: u64 = 1_767_607_200;
@@ -30,10 +30,10 @@ fn write(
     rt: &impl Abort,
     alloc: Global,
     keeper: &mut SqlKeeper<MemStore>,
-    book: &TariffBook,
+    shelf: &TariffShelf,
     row: (&str, &str),
 ) {
-    let before = Account::new(alloc, book).into_stored();
+    let before = Account::new(alloc, shelf).into_stored();
     let after = stored(rt, alloc, moment(rt, BEGIN), row.1);
     let change = change_of(rt, alloc, moment(rt, BEGIN), row.0, (before, after));
     keeper.commit(change).expect(rt, "a commit");
@@ -44,7 +44,7 @@ fn tell_account(
     rt: &impl Abort,
     alloc: Global,
     keeper: &mut SqlKeeper<MemStore>,
-    book: &TariffBook,
+    shelf: &TariffShelf,
     digits: &str,
     text: &mut String,
 ) {
@@ -56,7 +56,7 @@ fn tell_account(
         &keeper.dead_buckets(&number).expect(rt, "buckets"),
     );
     let view = keeper
-        .view(book, &number, moment(rt, SWEEP))
+        .view(shelf, &number, moment(rt, SWEEP))
         .expect(rt, "a view");
     match &view {
         Some(account) => push_account(rt, text, account),
@@ -69,11 +69,11 @@ fn tell_both(
     rt: &impl Abort,
     alloc: Global,
     keeper: &mut SqlKeeper<MemStore>,
-    book: &TariffBook,
+    shelf: &TariffShelf,
     text: &mut String,
 ) {
-    tell_account(rt, alloc, keeper, book, "49151", text);
-    tell_account(rt, alloc, keeper, book, "49152", text);
+    tell_account(rt, alloc, keeper, shelf, "49151", text);
+    tell_account(rt, alloc, keeper, shelf, "49152", text);
     let last = keeper.last().expect(rt, "a moment").seconds();
     write!(text, "last {last}\n").expect(rt, "room");
 }
@@ -83,15 +83,15 @@ fn try_sweep(
     rt: &impl Abort,
     alloc: Global,
     keeper: &mut SqlKeeper<MemStore>,
-    book: &TariffBook,
+    shelf: &TariffShelf,
     text: &mut String,
 ) {
-    write(rt, alloc, keeper, book, ("49151", HOLDING));
-    write(rt, alloc, keeper, book, ("49152", ENDING));
-    tell_both(rt, alloc, keeper, book, text);
-    let count = keeper.sweep(book, moment(rt, SWEEP)).expect(rt, "a sweep");
+    write(rt, alloc, keeper, shelf, ("49151", HOLDING));
+    write(rt, alloc, keeper, shelf, ("49152", ENDING));
+    tell_both(rt, alloc, keeper, shelf, text);
+    let count = keeper.sweep(shelf, moment(rt, SWEEP)).expect(rt, "a sweep");
     write!(text, "swept {count}\n").expect(rt, "room");
-    tell_both(rt, alloc, keeper, book, text);
+    tell_both(rt, alloc, keeper, shelf, text);
 }
 
 /// At the sweep the session is over, and so is the time of the second account's bucket. What was
@@ -128,18 +128,18 @@ fn opened_keeper(
     rt: &impl Abort,
     alloc: Global,
     conn: Connection<MemStore>,
-) -> (SqlKeeper<MemStore>, TariffBook) {
+) -> (SqlKeeper<MemStore>, TariffShelf) {
     SqlKeeper::open(alloc, conn).ok().expect(rt, "a keeper")
 }
 
 #[test]
 fn a_sweep_is_found_by_a_keeper_that_is_opened(rt: HostRuntime) {
     let alloc = rt.alloc();
-    let (mut keeper, book) = new_keeper(&rt, alloc);
+    let (mut keeper, shelf) = new_keeper(&rt, alloc);
     let mut text = String::new(alloc);
-    try_sweep(&rt, alloc, &mut keeper, &book, &mut text);
-    let (mut keeper, book) = opened_keeper(&rt, alloc, keeper.into_connection());
+    try_sweep(&rt, alloc, &mut keeper, &shelf, &mut text);
+    let (mut keeper, shelf) = opened_keeper(&rt, alloc, keeper.into_connection());
     push(&rt, &mut text, "opened\n");
-    tell_both(&rt, alloc, &mut keeper, &book, &mut text);
+    tell_both(&rt, alloc, &mut keeper, &shelf, &mut text);
     assert_eq!(rt; text.as_str(), SEEN);
 }

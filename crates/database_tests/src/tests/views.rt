@@ -7,9 +7,9 @@ use charge_sources::{ChargeSource, ChargeVisitor};
 use charging::{run, step};
 use commands::Command;
 use reserving::ChargeRow;
+use shelves::TariffShelf;
 use std::alloc::Global;
 use std::process::Abort;
-use tariffs::TariffBook;
 use units::Moment;
 use wire::write_answer;
 
@@ -61,12 +61,12 @@ fn tell_balance<K: ChargeSource>(
     rt: &impl Abort,
     alloc: Global,
     keeper: &mut K,
-    book: &TariffBook,
+    shelf: &TariffShelf,
     text: &mut String,
 ) {
     let last = keeper.last().expect(rt, "a moment");
     let balance = Command::Balance(account(rt, alloc, ACCOUNT));
-    let answer = step(alloc, keeper, book, balance, last).expect(rt, "an answer");
+    let answer = step(alloc, keeper, shelf, balance, last).expect(rt, "an answer");
     let line = write_answer(alloc, &answer).expect(rt, "room");
     push(rt, text, line.as_str());
     push(rt, text, "\n");
@@ -77,12 +77,12 @@ fn tell_view<K: ChargeSource>(
     rt: &impl Abort,
     alloc: Global,
     keeper: &mut K,
-    book: &TariffBook,
+    shelf: &TariffShelf,
     text: &mut String,
 ) {
     let number = account(rt, alloc, ACCOUNT);
     let last = keeper.last().expect(rt, "a moment");
-    let view = keeper.view(book, &number, last).expect(rt, "a view");
+    let view = keeper.view(shelf, &number, last).expect(rt, "a view");
     match &view {
         Some(account) => push_account(rt, text, account),
         None => push(rt, text, "no account\n"),
@@ -115,14 +115,14 @@ pub(crate) fn tell<K: ChargeSource>(
     rt: &impl Abort,
     alloc: Global,
     keeper: &mut K,
-    book: &TariffBook,
+    shelf: &TariffShelf,
     text: &mut String,
 ) {
     let last = keeper.last().expect(rt, "a moment").seconds();
     write!(text, "last {last}\n").expect(rt, "room");
     tell_voucher(rt, alloc, keeper, text);
-    tell_balance(rt, alloc, keeper, book, text);
-    tell_view(rt, alloc, keeper, book, text);
+    tell_balance(rt, alloc, keeper, shelf, text);
+    tell_view(rt, alloc, keeper, shelf, text);
     tell_charges(rt, alloc, keeper, text);
 }
 
@@ -132,12 +132,12 @@ pub(crate) fn tell_again<K: ChargeSource>(
     rt: &impl Abort,
     alloc: Global,
     keeper: &mut K,
-    book: &TariffBook,
+    shelf: &TariffShelf,
     text: &mut String,
 ) {
-    tell(rt, alloc, keeper, book, text);
+    tell(rt, alloc, keeper, shelf, text);
     push(rt, text, "again\n");
-    let run = run(alloc, keeper, book, commands(rt, alloc, ALL));
+    let run = run(alloc, keeper, shelf, commands(rt, alloc, ALL));
     push_answers(rt, alloc, text, &run.answers);
-    tell(rt, alloc, keeper, book, text);
+    tell(rt, alloc, keeper, shelf, text);
 }

@@ -6,11 +6,11 @@ use crate::tests::values::{account, code, moment, money};
 use keepers::Redeemed;
 use redemptions::{Voucher, VoucherTerms};
 use reserving::Account;
+use shelves::TariffShelf;
 use sql_keeper::SqlKeeper;
 use sqlite::MemStore;
 use std::alloc::Global;
 use std::process::Abort;
-use tariffs::TariffBook;
 use units::Moment;
 
 /// Monday, 2026-01-05, 10:00.
@@ -77,9 +77,9 @@ fn add(
 }
 
 /// An account redeems the first voucher.
-fn redeem(rt: &impl Abort, alloc: Global, keeper: &mut SqlKeeper<MemStore>, book: &TariffBook) {
-    let before = Account::new(alloc, book).into_stored();
-    let after = Account::new(alloc, book).into_stored();
+fn redeem(rt: &impl Abort, alloc: Global, keeper: &mut SqlKeeper<MemStore>, shelf: &TariffShelf) {
+    let before = Account::new(alloc, shelf).into_stored();
+    let after = Account::new(alloc, shelf).into_stored();
     let mut change = change_of(rt, alloc, moment(rt, REDEEMED), "49151", (before, after));
     change.redeemed = Some(Redeemed {
         code: code(rt, alloc, "000000000001"),
@@ -111,13 +111,13 @@ fn try_vouchers(
     rt: &impl Abort,
     alloc: Global,
     keeper: &mut SqlKeeper<MemStore>,
-    book: &TariffBook,
+    shelf: &TariffShelf,
     text: &mut String,
 ) {
     tell_vouchers(rt, alloc, keeper, text);
     add(rt, alloc, keeper, terms(rt), moment(rt, ADDED));
     tell_vouchers(rt, alloc, keeper, text);
-    redeem(rt, alloc, keeper, book);
+    redeem(rt, alloc, keeper, shelf);
     tell_vouchers(rt, alloc, keeper, text);
     add(rt, alloc, keeper, other_terms(rt), moment(rt, ADDED_AGAIN));
     tell_vouchers(rt, alloc, keeper, text);
@@ -126,8 +126,8 @@ fn try_vouchers(
 #[test]
 fn a_voucher_is_added_and_redeemed(rt: HostRuntime) {
     let alloc = rt.alloc();
-    let (mut keeper, book) = new_keeper(&rt, alloc);
+    let (mut keeper, shelf) = new_keeper(&rt, alloc);
     let mut text = String::new(alloc);
-    try_vouchers(&rt, alloc, &mut keeper, &book, &mut text);
+    try_vouchers(&rt, alloc, &mut keeper, &shelf, &mut text);
     assert_eq!(rt; text.as_str(), VOUCHERS);
 }

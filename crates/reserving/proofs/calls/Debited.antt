@@ -14,7 +14,7 @@ use Rattle.reserving.specs.declared.session.SessionGroup.{SessionGroup}
 use Rattle.reserving.specs.declared.session.Counter.{Counter}
 use Rattle.reserving.specs.declared.settle.Settled.{Settled}
 use Rattle.reserving.specs.Ledger.{Ledger}
-use Rattle.reserving.specs.Pricing.{cycle_at}
+use Rattle.reserving.specs.Pricing.{cycle_at, validity_of}
 use Rattle.reserving.specs.Balance.{buckets_at}
 use Rattle.reserving.specs.Keyed.{put}
 use Rattle.reserving.specs.Sessions.{is_of, is_live_in}
@@ -48,30 +48,30 @@ at_least x y = by_ranked (x < y) (x ≡ y) (y < x) (nat_cmp x y) (ranked x y _ r
 
 -- by the rows it is what it is by the ledger
 pub event_price_is : (ledger : Ledger) (a : AccountRows) (group units t : ℕ) → IsRowsOf ledger a →
-    event_price_in group units t a ≡ event_price a.book t group units ledger
+    event_price_in group units t a ≡ event_price a.shelf t group units ledger
 event_price_is ledger a group units t rows =
-    λ i. price_of a.book t group None 0
-    (count_in_is ledger a group (cycle_at a.book group t) rows i) (untagged units)
+    λ i. price_of a.shelf t group None 0
+    (count_in_is ledger a group (cycle_at a.shelf group t) rows i) (untagged units)
 
 pub debit_passes_is : (ledger : Ledger) (a : AccountRows) (s : List ℕ) (group units t : ℕ) →
     IsRowsOf ledger a →
-    debit_passes a.book t s group units ledger
+    debit_passes a.shelf t s group units ledger
     ≡ passes (used_in s group a.groups) units
-    (count_in group (cycle_at a.book group t) a.counters)
+    (count_in group (cycle_at a.shelf group t) a.counters)
     (event_price_in group units t a).blocks a.next_charge
 debit_passes_is ledger a s group units t rows =
     λ i. passes (sym (used_in_is ledger a s group rows) i) units
-    (sym (count_in_is ledger a group (cycle_at a.book group t) rows) i)
+    (sym (count_in_is ledger a group (cycle_at a.shelf group t) rows) i)
     (sym (event_price_is ledger a group units t rows) i).blocks (sym rows.next_charge i)
 
 -- the price is covered where the funds aren't less
 pub covered_is : (b : Bool) (ledger : Ledger) (a : AccountRows) (group units t paid price : ℕ) →
     IsRowsOf ledger a →
-    paid ≡ funds group t (buckets_at a.book.validity t ledger) →
+    paid ≡ funds group t (buckets_at (validity_of a.shelf) t ledger) →
     price ≡ (event_price_in group units t a).amount.0 → is_lt (nat_cmp paid price) ≡ b →
-    is_covered a.book t group units ledger ≡ not b
+    is_covered a.shelf t group units ledger ≡ not b
 covered_is b ledger a group units t paid price rows p q h =
-    let cost : price ≡ (event_price a.book t group units ledger).amount.0 =
+    let cost : price ≡ (event_price a.shelf t group units ledger).amount.0 =
     q ∙ ap (λ (x : Rated). x.amount.0) (event_price_is ledger a group units t rows) in
     (λ i. nat_le (sym cost i) (sym p i)) ∙ at_least paid price ∙ ap not h
 
@@ -81,7 +81,7 @@ covered_is b ledger a group units t paid price rows p q h =
 pub debited_parts : (a : AccountRows) (s : List ℕ) (g cycle units blocks rated : ℕ)
     (holds : List Hold) (buckets : List Row) (counters : List Counter) (groups : List SessionGroup)
     →
-    cycle ≡ cycle_at a.book g a.as_of →
+    cycle ≡ cycle_at a.shelf g a.as_of →
     holds ≡ [] → buckets ≡ settled_rows holds g a.as_of rated a.buckets →
     counters ≡ with_count g cycle blocks a.counters → groups ≡ with_event s g units a.groups →
     (let x : AccountRows = record a {
@@ -98,7 +98,7 @@ debited_parts a s g cycle units blocks rated holds buckets counters groups e h b
 pub buckets_later : (a : AccountRows) (s : List ℕ) (g c t : ℕ) →
     (advanced t (with_rows s g c a)).buckets ≡ (advanced t a).buckets
 buckets_later a s g c t =
-    let keeps : List ℕ → Bool = is_live_in a.book.validity t a.sessions in
+    let keeps : List ℕ → Bool = is_live_in (validity_of a.shelf) t a.sessions in
     let given : (b : Row) →
     lapsed_in keeps (with_group s g a.groups) b ≡ lapsed_in keeps a.groups b =
     λ b. held_by-with_group (λ x. not (keeps x)) s g a.groups b in
@@ -106,11 +106,11 @@ buckets_later a s g c t =
 
 -- a debit finds the empty rows as none
 pub debited_later : (a : AccountRows) (s : List ℕ) (g t units blocks rated : ℕ) →
-    debited_account s g units blocks rated (advanced t (with_rows s g (cycle_at a.book g t) a))
+    debited_account s g units blocks rated (advanced t (with_rows s g (cycle_at a.shelf g t) a))
     ≡ debited_account s g units blocks rated (advanced t a)
 debited_later a s g t units blocks rated =
-    let keeps : List ℕ → Bool = is_live_in a.book.validity t a.sessions in
-    let c : ℕ = cycle_at a.book g t in
+    let keeps : List ℕ → Bool = is_live_in (validity_of a.shelf) t a.sessions in
+    let c : ℕ = cycle_at a.shelf g t in
     let row : group_or_new s g (map (lapse_group keeps) (with_group s g a.groups))
     ≡ group_or_new s g (map (lapse_group keeps) a.groups) = or_new_later keeps s g a.groups in
     let new : SessionGroup = group_or_new s g (map (lapse_group keeps) a.groups) in
@@ -135,7 +135,7 @@ debited_later a s g t units blocks rated =
 
 -- the rows as the call leaves them
 pub debited_is : (a middle after : AccountRows) (s : List ℕ) (g c t units blocks rated : ℕ) →
-    c ≡ cycle_at a.book g t → middle ≡ advanced t (with_rows s g c a) →
+    c ≡ cycle_at a.shelf g t → middle ≡ advanced t (with_rows s g c a) →
     after ≡ debited_account s g units blocks rated middle →
     after ≡ debited_account s g units blocks rated (advanced t a)
 debited_is a middle after s g c t units blocks rated k m e =
@@ -145,25 +145,25 @@ debited_is a middle after s g c t units blocks rated k m e =
 -- the rows of the ledger with the debit
 pub rows_debited : (ledger : Ledger) (a middle after : AccountRows) (s : List ℕ)
     (g c t units blocks rated : ℕ) →
-    IsAccount a → IsRowsOf ledger a → a.as_of ≤ t → c ≡ cycle_at a.book g t →
+    IsAccount a → IsRowsOf ledger a → a.as_of ≤ t → c ≡ cycle_at a.shelf g t →
     blocks ≡ (event_price_in g units t a).blocks → rated ≡ (event_price_in g units t a).amount.0 →
     middle ≡ advanced t (with_rows s g c a) →
     after ≡ debited_account s g units blocks rated middle →
-    IsRowsOf (debited a.book t s g units ledger) after
+    IsRowsOf (debited a.shelf t s g units ledger) after
 rows_debited ledger a middle after s g c t units blocks rated account rows le k b r m e =
     let later : AccountRows = advanced t a in
-    let cost : event_price_in g units t a ≡ event_price a.book t g units ledger =
+    let cost : event_price_in g units t a ≡ event_price a.shelf t g units ledger =
     event_price_is ledger a g units t rows in
     let same : after ≡ debited_account s g units blocks rated later =
     debited_is a middle after s g c t units blocks rated k m e in
-    let done : IsRowsOf (charged_use a.book.validity t s g units blocks rated ledger) after =
-    subst (IsRowsOf (charged_use a.book.validity t s g units blocks rated ledger)) (sym same)
+    let done : IsRowsOf (charged_use (validity_of a.shelf) t s g units blocks rated ledger) after =
+    subst (IsRowsOf (charged_use (validity_of a.shelf) t s g units blocks rated ledger)) (sym same)
     (IsRowsOf-debited ledger later s g units blocks rated (IsAccount-advanced a t account)
     (IsRowsOf-advanced ledger a t account rows le)) in
     subst (λ n. IsRowsOf
-    (charged_use a.book.validity t s g units n (event_price a.book t g units ledger).amount.0
+    (charged_use (validity_of a.shelf) t s g units n (event_price a.shelf t g units ledger).amount.0
     ledger) after) (b ∙ ap (λ (x : Rated). x.blocks) cost)
-    (subst (λ n. IsRowsOf (charged_use a.book.validity t s g units blocks n ledger) after)
+    (subst (λ n. IsRowsOf (charged_use (validity_of a.shelf) t s g units blocks n ledger) after)
     (r ∙ ap (λ (x : Rated). x.amount.0) cost) done)
 
 -- what is covered is collected whole
@@ -178,9 +178,9 @@ all_collected rated collected missing held paid h m c =
 pub record IsDebitMade (a middle after : AccountRows) (s : List ℕ) (g c t units paid : ℕ)
     (x : Settled) : Type 0 where
   pub later : a.as_of ≤ t
-  pub cycle : c ≡ cycle_at a.book g t
+  pub cycle : c ≡ cycle_at a.shelf g t
   pub covers : is_lt (nat_cmp paid x.rated.0) ≡ false
-  pub fits : passes (used_in s g a.groups) units (count_in g (cycle_at a.book g t) a.counters)
+  pub fits : passes (used_in s g a.groups) units (count_in g (cycle_at a.shelf g t) a.counters)
       (event_price_in g units t a).blocks a.next_charge ≡ false
   pub started : x.blocks.0 ≡ (event_price_in g units t a).blocks
   pub price : x.rated.0 ≡ (event_price_in g units t a).amount.0
@@ -192,21 +192,21 @@ pub record IsDebitMade (a middle after : AccountRows) (s : List ℕ) (g c t unit
 -- what the call answers
 pub debit_is : (ledger : Ledger) (a middle after : AccountRows) (s : List ℕ) (g c t units paid : ℕ)
     (x : Settled) →
-    IsAccount a → IsRowsOf ledger a → paid ≡ funds g t (buckets_at a.book.validity t ledger) →
+    IsAccount a → IsRowsOf ledger a → paid ≡ funds g t (buckets_at (validity_of a.shelf) t ledger) →
     IsDebitMade a middle after s g c t units paid x →
-    IsDebitOf a.book t s g units ledger after x
+    IsDebitOf a.shelf t s g units ledger after x
 debit_is ledger a middle after s g c t units paid x account rows f made =
-    let cost : event_price_in g units t a ≡ event_price a.book t g units ledger =
+    let cost : event_price_in g units t a ≡ event_price a.shelf t g units ledger =
     event_price_is ledger a g units t rows in
-    let covered : is_covered a.book t g units ledger ≡ true =
+    let covered : is_covered a.shelf t g units ledger ≡ true =
     covered_is false ledger a g units t paid x.rated.0 rows f made.price made.covers in
-    let buckets : middle.buckets ≡ buckets_at a.book.validity t ledger =
+    let buckets : middle.buckets ≡ buckets_at (validity_of a.shelf) t ledger =
     ap (λ (y : AccountRows). y.buckets) made.brought ∙ buckets_later a s g c t
     ∙ (IsRowsOf-advanced ledger a t account rows made.later).buckets in
-    let enough : nat_le x.rated.0 (funds g t (buckets_at a.book.validity t ledger)) ≡ true =
+    let enough : nat_le x.rated.0 (funds g t (buckets_at (validity_of a.shelf) t ledger)) ≡ true =
     ap (nat_le x.rated.0) (sym f) ∙ at_least paid x.rated.0 ∙ ap not made.covers in
     let missing : x.uncollected.0
-    ≡ uncollected [] g t x.rated.0 (buckets_at a.book.validity t ledger) =
+    ≡ uncollected [] g t x.rated.0 (buckets_at (validity_of a.shelf) t ledger) =
     made.missing ∙ (λ i. uncollected [] g (made.brought i).as_of x.rated.0 (buckets i)) in
     let whole : (x.collected.0 ≡ x.rated.0) × (x.uncollected.0 ≡ 0) =
     all_collected x.rated.0 x.collected.0 x.uncollected.0 _ _ enough missing made.whole in

@@ -8,12 +8,12 @@ use Rattle.buckets.specs.Holding.{held_in, settled_rows, released_rows}
 use Rattle.reserving.specs.declared.session.SessionGroup.{SessionGroup}
 use Rattle.reserving.specs.declared.session.Reservation.{Reservation}
 use Rattle.reserving.specs.declared.session.Counter.{Counter}
-use Rattle.reserving.specs.Pricing.{cycle_at}
+use Rattle.reserving.specs.Pricing.{cycle_at, validity_of}
 use Rattle.reserving.specs.Keyed.{put}
 use Rattle.reserving.specs.Sessions.{is_of, group_in, is_counter, counter_in, holds_in, held_by}
 use Rattle.reserving.specs.Sessions.{is_live_in}
 use Rattle.reserving.specs.Changes.{lapse_group, lapsed_in, advanced, new_group, group_or_new}
-use Rattle.reserving.specs.Changes.{used_in, reserved_in, periods_in, count_in, with_use}
+use Rattle.reserving.specs.Changes.{used_in, reserved_in, terms_in, count_in, with_use}
 use Rattle.reserving.specs.Changes.{with_count, ended_group, ended_rows, settled_account}
 use Rattle.reserving.specs.Prepared.{with_group, counter_or_new, with_counter, with_rows}
 use Rattle.reserving.specs.Rows.{AccountRows}
@@ -40,7 +40,7 @@ ended_parts a s g holds buckets groups h b k =
 -- what a charge leaves: the buckets, the counters, the groups and the next charge's number
 pub charged_parts : (a : AccountRows) (g cycle blocks rated : ℕ) (holds given : List Hold)
     (buckets : List Row) (counters : List Counter) (groups leaves : List SessionGroup) →
-    cycle ≡ cycle_at a.book g a.as_of →
+    cycle ≡ cycle_at a.shelf g a.as_of →
     holds ≡ given → buckets ≡ settled_rows holds g a.as_of rated a.buckets →
     counters ≡ with_count g cycle blocks a.counters → groups ≡ leaves →
     (let x : AccountRows = record a {
@@ -51,14 +51,14 @@ pub charged_parts : (a : AccountRows) (g cycle blocks rated : ℕ) (holds given 
     } in x)
     ≡ (let y : AccountRows = record a {
       buckets = settled_rows given g a.as_of rated a.buckets;
-      counters = with_count g (cycle_at a.book g a.as_of) blocks a.counters;
+      counters = with_count g (cycle_at a.shelf g a.as_of) blocks a.counters;
       groups = leaves;
       next_charge = a.next_charge + 1;
     } in y)
 charged_parts a g cycle blocks rated holds given buckets counters groups leaves e h b c k =
     let moved : buckets ≡ settled_rows given g a.as_of rated a.buckets =
     b ∙ ap (λ x. settled_rows x g a.as_of rated a.buckets) h in
-    let counted : counters ≡ with_count g (cycle_at a.book g a.as_of) blocks a.counters =
+    let counted : counters ≡ with_count g (cycle_at a.shelf g a.as_of) blocks a.counters =
     c ∙ ap (λ x. with_count g x blocks a.counters) e in
     λ i. record a {
       buckets = moved i;
@@ -70,7 +70,7 @@ charged_parts a g cycle blocks rated holds given buckets counters groups leaves 
 pub settled_parts : (a : AccountRows) (s : List ℕ) (g cycle units blocks rated : ℕ)
     (holds : List Hold) (buckets : List Row) (counters : List Counter) (groups : List SessionGroup)
     →
-    cycle ≡ cycle_at a.book g a.as_of →
+    cycle ≡ cycle_at a.shelf g a.as_of →
     holds ≡ reserved_in s g a.groups → buckets ≡ settled_rows holds g a.as_of rated a.buckets →
     counters ≡ with_count g cycle blocks a.counters → groups ≡ with_use s g units a.groups →
     (let x : AccountRows = record a {
@@ -189,23 +189,23 @@ used_later keeps s g rows =
 
 kept_periods : (t : Bool) (r : SessionGroup) → t ≡ true →
     (let x : SessionGroup = if t then r else record r { reservation = None } in
-    option_map (λ (y : Reservation). y.periods) x.reservation
-    ≡ option_map (λ (y : Reservation). y.periods) r.reservation)
+    option_map (λ (y : Reservation). y.terms) x.reservation
+    ≡ option_map (λ (y : Reservation). y.terms) r.reservation)
 kept_periods true r h = refl
 kept_periods false r h = cc
 
 -- a session that keeps its reservations keeps their periods
 pub periods_later : (keeps : List ℕ → Bool) (s : List ℕ) (g : ℕ) (rows : List SessionGroup) →
-    keeps s ≡ true → periods_in s g (map (lapse_group keeps) rows) ≡ periods_in s g rows
+    keeps s ≡ true → terms_in s g (map (lapse_group keeps) rows) ≡ terms_in s g rows
 periods_later keeps s g rows h =
-    ap (λ o. option_map (λ (y : Reservation). y.periods) (unwrap_or o (new_group s g)).reservation)
+    ap (λ o. option_map (λ (y : Reservation). y.terms) (unwrap_or o (new_group s g)).reservation)
     (find-map (is_of s g) (lapse_group keeps) rows (key_kept keeps s g))
     ∙ by_row (group_in s g rows) refl
   where
     by_row : (o : Option SessionGroup) → group_in s g rows ≡ o →
-        option_map (λ (y : Reservation). y.periods)
+        option_map (λ (y : Reservation). y.terms)
         (unwrap_or (option_map (lapse_group keeps) o) (new_group s g)).reservation
-        ≡ option_map (λ (y : Reservation). y.periods) (unwrap_or o (new_group s g)).reservation
+        ≡ option_map (λ (y : Reservation). y.terms) (unwrap_or o (new_group s g)).reservation
     by_row (Some x) e = kept_periods (keeps x.session) x (ap keeps (found_session s g rows x e) ∙ h)
     by_row None e = refl
 
@@ -266,11 +266,11 @@ counted_later g c blocks rows =
 
 -- a settlement finds the empty rows as none
 pub settled_later : (a : AccountRows) (s : List ℕ) (g t units blocks rated : ℕ) →
-    settled_account s g units blocks rated (advanced t (with_rows s g (cycle_at a.book g t) a))
+    settled_account s g units blocks rated (advanced t (with_rows s g (cycle_at a.shelf g t) a))
     ≡ settled_account s g units blocks rated (advanced t a)
 settled_later a s g t units blocks rated =
-    let keeps : List ℕ → Bool = is_live_in a.book.validity t a.sessions in
-    let c : ℕ = cycle_at a.book g t in
+    let keeps : List ℕ → Bool = is_live_in (validity_of a.shelf) t a.sessions in
+    let c : ℕ = cycle_at a.shelf g t in
     let row : group_or_new s g (map (lapse_group keeps) (with_group s g a.groups))
     ≡ group_or_new s g (map (lapse_group keeps) a.groups) = or_new_later keeps s g a.groups in
     let groups : with_use s g units (map (lapse_group keeps) (with_group s g a.groups))

@@ -1,4 +1,10 @@
+use Rattle.std.specs.Prelude.{unwrap_or}
+use Rattle.shelves.specs.Shelves.{tariff_in}
+use Rattle.reserving.specs.declared.session.Terms.{Terms}
+use Rattle.reserving.specs.Ledger.{open_grant}
+use Rattle.reserving.specs.Pricing.{terms_now}
 -- A settlement's call, from any ledger whose rows the account is before it.
+use Rattle.reserving.specs.Pricing.{validity_of}
 use Rattle.std.proofs.Common.{◌≡◌, ℕ, ◌+◌, ◌≤◌, Bool, true, false, List, [], ◌∷◌, map, refl, sym}
 use Rattle.std.proofs.Common.{ap, subst, ◌∙◌, arith, Option, Some, None}
 use Rattle.std.specs.Prelude.{is_some, not}
@@ -17,7 +23,7 @@ use Rattle.tariffs.specs.Tariffs.{GroupTariff}
 use Rattle.rating.specs.declared.grant.Periods.{Periods}
 use Rattle.rating.specs.declared.report.Rated.{Rated}
 use Rattle.rating.specs.Rated.{rated_amount, report_blocks, report_amount}
-use Rattle.reserving.specs.Pricing.{tariff_of, rated_with}
+use Rattle.reserving.specs.Pricing.{rated_with}
 use Rattle.reserving.specs.Settlement.{settled_by, reported, price_of, report_price, passes}
 use Rattle.reserving.specs.Settlement.{passes_limit, passes_after}
 use Rattle.reserving.specs.Changes.{lapsed_in, advanced, used_in, reserved_in, count_in, price_in}
@@ -40,17 +46,17 @@ use Rattle.reserving.proofs.calls.RowParts.{count_later, held_by-with_group, set
 pub rows_ended : (ledger : Ledger) (a middle after : AccountRows) (s : List ℕ) (g t : ℕ)
     (used_parts : List UsedPart) →
     IsAccount middle → IsRowsOf ledger a → a.as_of ≤ t →
-    is_live_in a.book.validity t a.sessions s ≡ true →
+    is_live_in (validity_of a.shelf) t a.sessions s ≡ true →
     used_parts ≡ [] → middle ≡ advanced t a → IsRowsOf ledger middle →
     after ≡ ended_rows s g middle →
-    IsRowsOf (settled_by a.book t s g used_parts ledger) after
+    IsRowsOf (settled_by a.shelf t s g used_parts ledger) after
 rows_ended ledger a middle after s g t used_parts account rows le live_in empty m rows_middle e =
-    let live : is_live a.book.validity t ledger s ≡ true =
+    let live : is_live (validity_of a.shelf) t ledger s ≡ true =
     sym (is_live_in-is ledger a t s rows le) ∙ live_in in
     let account' : IsAccount (advanced t a) = subst IsAccount m account in
     let rows' : IsRowsOf ledger (advanced t a) = subst (IsRowsOf ledger) m rows_middle in
-    subst (λ ps. IsRowsOf (settled_by a.book t s g ps ledger) after) (sym empty)
-    (subst (IsRowsOf (settled_by a.book t s g [] ledger)) (sym (e ∙ ap (ended_rows s g) m))
+    subst (λ ps. IsRowsOf (settled_by a.shelf t s g ps ledger) after) (sym empty)
+    (subst (IsRowsOf (settled_by a.shelf t s g [] ledger)) (sym (e ∙ ap (ended_rows s g) m))
     (IsRowsOf-settled_by ledger (advanced t a) s g [] account' rows' live))
 
 -- a report without parts costs nothing
@@ -66,15 +72,19 @@ unfolding report_amount rated_amount
 no_amount None p before place = refl
 no_amount (Some x) p before place = refl
 
+-- the terms that price a report
+abbrev terms_of : AccountRows → ℕ → List ℕ → ℕ → Ledger → Terms
+terms_of a t s g ledger = unwrap_or (open_grant s g ledger) (terms_now a.shelf t)
+
 pub nothing_settled : (ledger : Ledger) (a : AccountRows) (s : List ℕ) (g t : ℕ)
     (used_parts : List UsedPart) (x : Settled) → used_parts ≡ [] → x.blocks.0 ≡ 0 →
-    x.rated.0 ≡ 0 → x.uncollected.0 ≡ 0 → IsSettlementOf a.book t s g used_parts ledger x
+    x.rated.0 ≡ 0 → x.uncollected.0 ≡ 0 → IsSettlementOf a.shelf t s g used_parts ledger x
 nothing_settled ledger a s g t used_parts x empty none free whole =
-    let blocks : (report_price a.book t s g [] ledger).blocks ≡ 0 =
-    no_blocks (tariff_of a.book g) _ (used s g ledger) _ in
-    let amount : (report_price a.book t s g [] ledger).amount.0 ≡ 0 =
-    no_amount (tariff_of a.book g) _ (used s g ledger) _ in
-    subst (λ ps. IsSettlementOf a.book t s g ps ledger x) (sym empty) (record {
+    let blocks : (report_price a.shelf t s g [] ledger).blocks ≡ 0 =
+    no_blocks (tariff_in a.shelf (terms_of a t s g ledger).book g) _ (used s g ledger) _ in
+    let amount : (report_price a.shelf t s g [] ledger).amount.0 ≡ 0 =
+    no_amount (tariff_in a.shelf (terms_of a t s g ledger).book g) _ (used s g ledger) _ in
+    subst (λ ps. IsSettlementOf a.shelf t s g ps ledger x) (sym empty) (record {
       blocks = none ∙ sym blocks;
       rated = free ∙ sym amount;
       uncollected = omega (arith, amount, whole);
@@ -93,21 +103,21 @@ within_counted before units count blocks charge h = grind (arith, nat_tests)
 
 -- the price by the rows stays as time goes on to a moment at which the session is live
 pub price_later : (a : AccountRows) (s : List ℕ) (g t : ℕ) (used_parts : List UsedPart) →
-    is_live_in a.book.validity t a.sessions s ≡ true →
+    is_live_in (validity_of a.shelf) t a.sessions s ≡ true →
     price_in s g t used_parts a ≡ price_in s g t used_parts (advanced t a)
 price_later a s g t used_parts live_in =
-    let keeps : List ℕ → Bool = is_live_in a.book.validity t a.sessions in
-    λ i. price_of a.book t g (sym (periods_later keeps s g a.groups live_in) i)
-    (sym (used_later keeps s g a.groups) i) (count_in g (cycle_at a.book g t) a.counters)
+    let keeps : List ℕ → Bool = is_live_in (validity_of a.shelf) t a.sessions in
+    λ i. price_of a.shelf t g (sym (periods_later keeps s g a.groups live_in) i)
+    (sym (used_later keeps s g a.groups) i) (count_in g (cycle_at a.shelf g t) a.counters)
     used_parts
 
 -- it is the price by the ledger
 pub price_is : (ledger : Ledger) (a : AccountRows) (s : List ℕ) (g t : ℕ)
     (used_parts : List UsedPart) → IsAccount a → IsRowsOf ledger a → a.as_of ≤ t →
-    is_live_in a.book.validity t a.sessions s ≡ true →
-    price_in s g t used_parts a ≡ report_price a.book t s g used_parts ledger
+    is_live_in (validity_of a.shelf) t a.sessions s ≡ true →
+    price_in s g t used_parts a ≡ report_price a.shelf t s g used_parts ledger
 price_is ledger a s g t used_parts account rows le live_in =
-    let live : is_live a.book.validity t ledger s ≡ true =
+    let live : is_live (validity_of a.shelf) t ledger s ≡ true =
     sym (is_live_in-is ledger a t s rows le) ∙ live_in in
     price_later a s g t used_parts live_in
     ∙ price_in_is ledger (advanced t a) s g used_parts
@@ -115,31 +125,31 @@ price_is ledger a s g t used_parts account rows le live_in =
 
 pub passes_after_is : (charges : ℕ) (ledger : Ledger) (a : AccountRows) (s : List ℕ) (g t : ℕ)
     (used_parts : List UsedPart) → IsAccount a → IsRowsOf ledger a → a.as_of ≤ t →
-    is_live_in a.book.validity t a.sessions s ≡ true → (used_parts ≡ [] → ⊥) →
-    passes_after charges a.book t s g used_parts ledger
+    is_live_in (validity_of a.shelf) t a.sessions s ≡ true → (used_parts ≡ [] → ⊥) →
+    passes_after charges a.shelf t s g used_parts ledger
     ≡ passes (used_in s g a.groups) (reported used_parts)
-    (count_in g (cycle_at a.book g t) a.counters) (price_in s g t used_parts a).blocks
+    (count_in g (cycle_at a.shelf g t) a.counters) (price_in s g t used_parts a).blocks
     (a.next_charge + charges)
 passes_after_is charges ledger a s g t [] account rows le live some = absurd (some refl)
 passes_after_is charges ledger a s g t (p ∷ ps) account rows le live some =
     λ i. passes (sym (used_in_is ledger a s g rows) i) (reported (p ∷ ps))
-    (sym (count_in_is ledger a g (cycle_at a.book g t) rows) i)
+    (sym (count_in_is ledger a g (cycle_at a.shelf g t) rows) i)
     (sym (price_is ledger a s g t (p ∷ ps) account rows le live) i).blocks
     (sym rows.next_charge i + charges)
 
 pub passes_is : (ledger : Ledger) (a : AccountRows) (s : List ℕ) (g t : ℕ)
     (used_parts : List UsedPart) → IsAccount a → IsRowsOf ledger a → a.as_of ≤ t →
-    is_live_in a.book.validity t a.sessions s ≡ true → (used_parts ≡ [] → ⊥) →
-    passes_limit a.book t s g used_parts ledger
+    is_live_in (validity_of a.shelf) t a.sessions s ≡ true → (used_parts ≡ [] → ⊥) →
+    passes_limit a.shelf t s g used_parts ledger
     ≡ passes (used_in s g a.groups) (reported used_parts)
-    (count_in g (cycle_at a.book g t) a.counters) (price_in s g t used_parts a).blocks
+    (count_in g (cycle_at a.shelf g t) a.counters) (price_in s g t used_parts a).blocks
     a.next_charge
 passes_is ledger a s g t used_parts account rows le live some =
     let next : a.next_charge + 0 ≡ a.next_charge = omega arith in
-    sym (passes_after-none a.book t s g used_parts ledger)
+    sym (passes_after-none a.shelf t s g used_parts ledger)
     ∙ passes_after_is 0 ledger a s g t used_parts account rows le live some
     ∙ ap (passes (used_in s g a.groups) (reported used_parts)
-    (count_in g (cycle_at a.book g t) a.counters) (price_in s g t used_parts a).blocks) next
+    (count_in g (cycle_at a.shelf g t) a.counters) (price_in s g t used_parts a).blocks) next
 
 -- ---- a report with parts
 
@@ -147,7 +157,7 @@ pub there_later : (a middle : AccountRows) (s : List ℕ) (g c t : ℕ) →
     middle ≡ advanced t (with_rows s g c a) → is_some (group_in s g middle.groups) ≡ true
 there_later a middle s g c t m =
     ap (λ x. is_some (group_in s g x.groups)) m
-    ∙ ap is_some (group_later (is_live_in a.book.validity t a.sessions) s g a.groups)
+    ∙ ap is_some (group_later (is_live_in (validity_of a.shelf) t a.sessions) s g a.groups)
 
 pub counter_there : (a middle : AccountRows) (s : List ℕ) (g c t : ℕ) →
     middle ≡ advanced t (with_rows s g c a) → is_some (counter_in g c middle.counters) ≡ true
@@ -160,7 +170,7 @@ counter_there a middle s g c t m =
 pub used_middle : (a middle : AccountRows) (s : List ℕ) (g c t : ℕ) →
     middle ≡ advanced t (with_rows s g c a) → used_in s g middle.groups ≡ used_in s g a.groups
 used_middle a middle s g c t m =
-    let keeps : List ℕ → Bool = is_live_in a.book.validity t a.sessions in
+    let keeps : List ℕ → Bool = is_live_in (validity_of a.shelf) t a.sessions in
     ap (λ x. used_in s g x.groups) m
     ∙ ap (λ (r : SessionGroup). r.used) (or_new_later keeps s g a.groups)
     ∙ used_later keeps s g a.groups
@@ -179,8 +189,8 @@ with_parts a s g (p ∷ ps) some = refl
 -- the rows as the call leaves them
 pub settled_is : (a middle after : AccountRows) (s : List ℕ) (g c t units blocks rated : ℕ)
     (used_parts : List UsedPart) →
-    is_live_in a.book.validity t a.sessions s ≡ true → (used_parts ≡ [] → ⊥) →
-    c ≡ cycle_at a.book g t →
+    is_live_in (validity_of a.shelf) t a.sessions s ≡ true → (used_parts ≡ [] → ⊥) →
+    c ≡ cycle_at a.shelf g t →
     units ≡ reported used_parts → blocks ≡ (price_in s g t used_parts a).blocks →
     rated ≡ (price_in s g t used_parts a).amount.0 →
     middle ≡ advanced t (with_rows s g c a) →
@@ -205,23 +215,23 @@ ended_is a middle after s g t used_parts empty m e =
 pub rows_settled : (ledger : Ledger) (a middle after : AccountRows) (s : List ℕ)
     (g c t units blocks rated : ℕ) (used_parts : List UsedPart) →
     IsAccount a → IsRowsOf ledger a → a.as_of ≤ t →
-    is_live_in a.book.validity t a.sessions s ≡ true →
-    (used_parts ≡ [] → ⊥) → c ≡ cycle_at a.book g t →
+    is_live_in (validity_of a.shelf) t a.sessions s ≡ true →
+    (used_parts ≡ [] → ⊥) → c ≡ cycle_at a.shelf g t →
     units ≡ reported used_parts → blocks ≡ (price_in s g t used_parts a).blocks →
     rated ≡ (price_in s g t used_parts a).amount.0 →
     middle ≡ advanced t (with_rows s g c a) →
     after ≡ settled_account s g units blocks rated middle →
-    IsRowsOf (settled_by a.book t s g used_parts ledger) after
+    IsRowsOf (settled_by a.shelf t s g used_parts ledger) after
 rows_settled ledger a middle after s g c t units blocks rated used_parts account rows le live_in
     some k u b r m e =
-    let live : is_live a.book.validity t ledger s ≡ true =
+    let live : is_live (validity_of a.shelf) t ledger s ≡ true =
     sym (is_live_in-is ledger a t s rows le) ∙ live_in in
     let later : AccountRows = advanced t a in
     let account' : IsAccount later = IsAccount-advanced a t account in
     let rows' : IsRowsOf ledger later = IsRowsOf-advanced ledger a t account rows le in
     let same : after ≡ settled_by_rows s g used_parts later =
     settled_is a middle after s g c t units blocks rated used_parts live_in some k u b r m e in
-    subst (IsRowsOf (settled_by a.book t s g used_parts ledger)) (sym same)
+    subst (IsRowsOf (settled_by a.shelf t s g used_parts ledger)) (sym same)
     (IsRowsOf-settled_by ledger later s g used_parts account' rows' live)
 
 -- what the call answers, by the account's rows before it and as it finds them at the moment
@@ -237,19 +247,19 @@ pub record IsTold (a middle : AccountRows) (s : List ℕ) (g c t : ℕ) (used_pa
 pub settlement_is : (ledger : Ledger) (a middle : AccountRows) (s : List ℕ) (g c t : ℕ)
     (used_parts : List UsedPart) (x : Settled) →
     IsAccount a → IsRowsOf ledger a → a.as_of ≤ t →
-    is_live_in a.book.validity t a.sessions s ≡ true →
+    is_live_in (validity_of a.shelf) t a.sessions s ≡ true →
     IsTold a middle s g c t used_parts x.blocks.0 x.rated.0 x.uncollected.0 x.collected.0 →
-    IsSettlementOf a.book t s g used_parts ledger x
+    IsSettlementOf a.shelf t s g used_parts ledger x
 settlement_is ledger a middle s g c t used_parts x account rows le live_in told =
-    let v : ℕ = a.book.validity in
+    let v : ℕ → ℕ = (validity_of a.shelf) in
     let live : is_live v t ledger s ≡ true = sym (is_live_in-is ledger a t s rows le) ∙ live_in in
     let keeps : List ℕ → Bool = is_live_in v t a.sessions in
     let later : AccountRows = advanced t a in
     let account' : IsAccount later = IsAccount-advanced a t account in
     let rows' : IsRowsOf ledger later = IsRowsOf-advanced ledger a t account rows le in
-    let cost : price_in s g t used_parts a ≡ report_price a.book t s g used_parts ledger =
+    let cost : price_in s g t used_parts a ≡ report_price a.shelf t s g used_parts ledger =
     price_is ledger a s g t used_parts account rows le live_in in
-    let rated : x.rated.0 ≡ (report_price a.book t s g used_parts ledger).amount.0 =
+    let rated : x.rated.0 ≡ (report_price a.shelf t s g used_parts ledger).amount.0 =
     told.rated_is ∙ ap (λ (y : Rated). y.amount.0) cost in
     let given : (y : Row) →
     lapsed_in keeps (with_group s g a.groups) y ≡ lapsed_in keeps a.groups y =

@@ -54,11 +54,11 @@ held_event s g units rows b =
 
 pub IsAccount-debited : (a : AccountRows) (session : List ℕ) (group units blocks rated : ℕ) →
     used_in session group a.groups + units ≤ 1000000000000000000 →
-    count_in group (cycle_at a.book group a.as_of) a.counters + blocks ≤ 4000000000000000000 →
+    count_in group (cycle_at a.shelf group a.as_of) a.counters + blocks ≤ 4000000000000000000 →
     a.next_charge < 4294967296 →
     IsAccount a → IsAccount (debited_account session group units blocks rated a)
 IsAccount-debited a session group units blocks rated used_fits count_fits charge_fits h =
-    let cycle : ℕ = cycle_at a.book group a.as_of in
+    let cycle : ℕ = cycle_at a.shelf group a.as_of in
     let row : SessionGroup =
     record {
       session = session;
@@ -71,7 +71,7 @@ IsAccount-debited a session group units blocks rated used_fits count_fits charge
     in
     let does : Row → Row = settled_row [] group a.as_of rated a.buckets in
     record {
-      book = h.book;
+      shelf = h.shelf;
       sound = IsSound-settled [] group a.as_of rated a.buckets (within_none a.buckets) h.sound;
       below = IsBelow-map a.next_bucket does a.buckets
           (settled_number [] group a.as_of rated a.buckets) h.below;

@@ -182,15 +182,15 @@ AreApart-put_counter g c r rows key h =
 
 pub IsAccount-settled : (a : AccountRows) (session : List ℕ) (group units blocks rated : ℕ) →
     used_in session group a.groups + units ≤ 1000000000000000000 →
-    count_in group (cycle_at a.book group a.as_of) a.counters + blocks ≤ 4000000000000000000 →
+    count_in group (cycle_at a.shelf group a.as_of) a.counters + blocks ≤ 4000000000000000000 →
     a.next_charge < 4294967296 →
     IsAccount a → IsAccount (settled_account session group units blocks rated a)
 IsAccount-settled a session group units blocks rated used_fits count_fits charge_fits h =
     let holds : List Hold = reserved_in session group a.groups in
     let within : IsWithin holds a.buckets = within_of session group a.groups a.buckets h.held in
-    let cycle : ℕ = cycle_at a.book group a.as_of in
+    let cycle : ℕ = cycle_at a.shelf group a.as_of in
     record {
-      book = h.book;
+      shelf = h.shelf;
       sound = IsSound-settled holds group a.as_of rated a.buckets within h.sound;
       below = IsBelow-map a.next_bucket (settled_row holds group a.as_of rated a.buckets) a.buckets
           (settled_number holds group a.as_of rated a.buckets) h.below;
@@ -302,7 +302,7 @@ IsAccount-ended a session group h =
     let holds : List Hold = reserved_in session group a.groups in
     let within : IsWithin holds a.buckets = within_of session group a.groups a.buckets h.held in
     record {
-      book = h.book;
+      shelf = h.shelf;
       sound = IsSound-release holds a.as_of a.buckets within h.sound;
       below = IsBelow-map a.next_bucket (λ b. with_release a.as_of b (held_in holds b)) a.buckets
           (λ b. with_release_number a.as_of b (held_in holds b)) h.below;
@@ -388,7 +388,7 @@ pub IsAccount-with_group_row : (a : AccountRows) (session : List ℕ) (group : �
 IsAccount-with_group_row a session group h =
     let row : SessionGroup = group_or_new session group a.groups in
     record {
-      book = h.book;
+      shelf = h.shelf;
       sound = h.sound;
       below = h.below;
       next_bucket = h.next_bucket;

@@ -19,7 +19,8 @@ use Rattle.reserving.proofs.LeftMerged.{release_none, end_dead, settled_dead}
 
 -- ---- as time goes on
 
-ended_none : (v t u n : ℕ) (ledger : Ledger) → held (λ s g. is_live v t ledger s) n ledger ≡ 0 →
+ended_none : (v : ℕ → ℕ) (t u n : ℕ) (ledger : Ledger) →
+    held (λ s g. is_live v t ledger s) n ledger ≡ 0 →
     held (ended_between v t u ledger) n ledger ≡ 0
 ended_none v t u n ledger e =
     omega (
@@ -31,7 +32,7 @@ ended_none v t u n ledger e =
           (split_by (λ s g. is_live v t ledger s) (λ s g. is_live v u ledger s)),
     )
 
-each_later : (v t u : ℕ) (ledger : Ledger) (cs : List Row) → t ≤ u →
+each_later : (v : ℕ → ℕ) (t u : ℕ) (ledger : Ledger) (cs : List Row) → t ≤ u →
     Each IsBalanced (map (bucket_at v t ledger) cs) →
     AreDeadKept (map (bucket_at v t ledger) cs) (map (bucket_at v u ledger) cs)
 each_later v t u ledger [] le h = tt
@@ -47,7 +48,8 @@ each_later v t u ledger (c ∷ cs) le h = (one, each_later v t u ledger cs le h.
         (release_none u b (held (ended_between v t u ledger) c.number ledger) none)
         ∙ end_dead u b d
 
-pub dead_later : (v t u : ℕ) (ledger : Ledger) → t ≤ u → Each IsBalanced (buckets_at v t ledger) →
+pub dead_later : (v : ℕ → ℕ) (t u : ℕ) (ledger : Ledger) → t ≤ u →
+    Each IsBalanced (buckets_at v t ledger) →
     AreDeadKept (buckets_at v t ledger) (buckets_at v u ledger)
 dead_later v t u ledger le h = each_later v t u ledger (credits ledger) le h
 
@@ -59,7 +61,7 @@ kept_by f [] h = tt
 kept_by f (x ∷ xs) h = (h.0, kept_by f xs h.1)
 
 -- a live session's reservation holds nothing of a dead bucket
-one_none : (v t : ℕ) (session : List ℕ) (group n : ℕ) (ledger : Ledger) →
+one_none : (v : ℕ → ℕ) (t : ℕ) (session : List ℕ) (group n : ℕ) (ledger : Ledger) →
     is_live v t ledger session ≡ true → held (λ s g. is_live v t ledger s) n ledger ≡ 0 →
     held (only session group) n ledger ≡ 0
 one_none v t session group n ledger live e =
@@ -72,7 +74,8 @@ one_none v t session group n ledger live e =
           n ledger (one_split (λ s. is_live v t ledger s) session group live),
     )
 
-each_dead : (v t : ℕ) (session : List ℕ) (group rated : ℕ) (ledger : Ledger) (holds : List Hold)
+each_dead : (v : ℕ → ℕ) (t : ℕ) (session : List ℕ) (group rated : ℕ) (ledger : Ledger)
+    (holds : List Hold)
     (rows cs : List Row) → is_live v t ledger session ≡ true →
     Each (λ b. sum_at b.number holds ≡ held (only session group) b.number ledger)
     (map (bucket_at v t ledger) cs) →
@@ -90,7 +93,8 @@ each_dead v t session group rated ledger holds rows (c ∷ cs) live h =
         ∙ one_none v t session group c.number ledger live d.reserved in
         settled_dead holds group t rated rows (bucket_at v t ledger c) d none
 
-pub dead_settled : (v t : ℕ) (session : List ℕ) (group units blocks rated : ℕ) (ledger : Ledger) →
+pub dead_settled : (v : ℕ → ℕ) (t : ℕ) (session : List ℕ) (group units blocks rated : ℕ)
+    (ledger : Ledger) →
     is_live v t ledger session ≡ true → Each IsBalanced (buckets_at v t ledger) →
     AreDistinct (buckets_at v t ledger) →
     AreDeadKept (buckets_at v t ledger)

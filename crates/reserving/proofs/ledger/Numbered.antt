@@ -24,7 +24,7 @@ one_use : (n t : ℕ) (f : Fact) → IsOneUse n (record { at = t; fact = f })
 one_use n t (Use session group units blocks rated uncollected) =
     record { numbered = (refl, tt); count = refl }
 one_use n t (Credit number from until scope amount) = record { numbered = tt; count = refl }
-one_use n t (Grant session group periods units counter) = record { numbered = tt; count = refl }
+one_use n t (Grant session group terms units counter) = record { numbered = tt; count = refl }
 one_use n t (Hold session group bucket amount) = record { numbered = tt; count = refl }
 one_use n t (End session group) = record { numbered = tt; count = refl }
 one_use n t (Charge bucket amount) = record { numbered = tt; count = refl }

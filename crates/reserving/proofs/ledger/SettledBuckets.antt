@@ -46,7 +46,7 @@ eligible_le false a x m h = omega arith
 -- ---- the ledger with the settlement
 
 -- neither the end of a reservation, a use nor a charge tells of sessions
-pub same_sessions-settled : (v t : ℕ) (session : List ℕ) (group units blocks rated : ℕ)
+pub same_sessions-settled : (v : ℕ → ℕ) (t : ℕ) (session : List ℕ) (group units blocks rated : ℕ)
     (ledger : Ledger) → SameSessions ledger (settled v t session group units blocks rated ledger)
 same_sessions-settled v t session group units blocks rated ledger =
     let hs : List Hold =
@@ -67,10 +67,10 @@ same_sessions-ended t session group ledger =
     record { touch = λ s. refl; closed = λ s. refl; recording = λ s. refl }
 
 -- all reservations of live sessions, but for one
-abbrev others : ℕ → ℕ → List ℕ → ℕ → Ledger → List ℕ → ℕ → Bool
+abbrev others : (ℕ → ℕ) → ℕ → List ℕ → ℕ → Ledger → List ℕ → ℕ → Bool
 others v t session group ledger s g = is_live v t ledger s && not (is_same s session && g == group)
 
-split_is : (v t : ℕ) (session : List ℕ) (group n : ℕ) (ledger : Ledger) →
+split_is : (v : ℕ → ℕ) (t : ℕ) (session : List ℕ) (group n : ℕ) (ledger : Ledger) →
     is_live v t ledger session ≡ true →
     held (λ s g. is_live v t ledger s) n ledger ≡ held (others v t session group ledger) n ledger
     + held (only session group) n ledger
@@ -79,7 +79,7 @@ split_is v t session group n ledger live =
     n ledger (one_split (λ s. is_live v t ledger s) session group live)
 
 -- what all live sessions hold of a bucket: the others' and the one reservation's
-split_at : (v t : ℕ) (session : List ℕ) (group : ℕ) (ledger : Ledger) (c : Row) →
+split_at : (v : ℕ → ℕ) (t : ℕ) (session : List ℕ) (group : ℕ) (ledger : Ledger) (c : Row) →
     (let holds : List Hold = holds_at v t session group ledger in
     is_live v t ledger session ≡ true →
     sum_at c.number holds ≡ held (only session group) c.number ledger →
@@ -94,7 +94,8 @@ split_at v t session group ledger c live holding =
       holding,
     )
 
-bucket_at-settled : (v t : ℕ) (session : List ℕ) (group units blocks rated : ℕ) (ledger : Ledger)
+bucket_at-settled : (v : ℕ → ℕ) (t : ℕ) (session : List ℕ) (group units blocks rated : ℕ)
+    (ledger : Ledger)
     (c : Row) →
     (let holds : List Hold = holds_at v t session group ledger in
     let rows : List Row = buckets_at v t ledger in
@@ -139,7 +140,8 @@ bucket_at-settled v t session group units blocks rated ledger c live balanced ho
     ∙ ap (λ x. with_release t (with_charge (with_charge_of_hold (balance_of t c ch x) s1) s2)
     (h - s1)) (sym split)
 
-each_settled : (v t : ℕ) (session : List ℕ) (group units blocks rated : ℕ) (ledger : Ledger)
+each_settled : (v : ℕ → ℕ) (t : ℕ) (session : List ℕ) (group units blocks rated : ℕ)
+    (ledger : Ledger)
     (cs : List Row) →
     (let holds : List Hold = holds_at v t session group ledger in
     let rows : List Row = buckets_at v t ledger in
@@ -166,7 +168,7 @@ each_settled v t session group units blocks rated ledger (c ∷ cs) live balance
     λ i. one i ∷ rest i
 
 -- the buckets of a ledger with a settlement
-pub buckets_at-settled : (v t : ℕ) (session : List ℕ) (group units blocks rated : ℕ)
+pub buckets_at-settled : (v : ℕ → ℕ) (t : ℕ) (session : List ℕ) (group units blocks rated : ℕ)
     (ledger : Ledger) →
     is_live v t ledger session ≡ true →
     Each IsBalanced (buckets_at v t ledger) →
@@ -185,7 +187,7 @@ buckets_at-settled v t session group units blocks rated ledger live balanced dis
 
 -- ---- the ledger with the reservation's end alone
 
-bucket_at-ended : (v t : ℕ) (session : List ℕ) (group : ℕ) (ledger : Ledger) (c : Row) →
+bucket_at-ended : (v : ℕ → ℕ) (t : ℕ) (session : List ℕ) (group : ℕ) (ledger : Ledger) (c : Row) →
     (let holds : List Hold = holds_at v t session group ledger in
     is_live v t ledger session ≡ true →
     IsBalanced (bucket_at v t ledger c) →
@@ -208,7 +210,7 @@ bucket_at-ended v t session group ledger c live balanced holding =
     ∙ balance_by-ended (nat_lt t c.until) c ch h r within
     ∙ ap (λ x. with_release t (balance_of t c ch x) h) (sym split)
 
-each_ended : (v t : ℕ) (session : List ℕ) (group : ℕ) (ledger : Ledger) (cs : List Row) →
+each_ended : (v : ℕ → ℕ) (t : ℕ) (session : List ℕ) (group : ℕ) (ledger : Ledger) (cs : List Row) →
     is_live v t ledger session ≡ true →
     Each IsBalanced (map (bucket_at v t ledger) cs) →
     Each (λ b. sum_at b.number (holds_at v t session group ledger)
@@ -221,7 +223,7 @@ each_ended v t session group ledger (c ∷ cs) live balanced holding =
     ∷ each_ended v t session group ledger cs live balanced.1 holding.1 i
 
 -- the buckets of a ledger with a reservation's end
-pub buckets_at-ended : (v t : ℕ) (session : List ℕ) (group : ℕ) (ledger : Ledger) →
+pub buckets_at-ended : (v : ℕ → ℕ) (t : ℕ) (session : List ℕ) (group : ℕ) (ledger : Ledger) →
     is_live v t ledger session ≡ true →
     Each IsBalanced (buckets_at v t ledger) →
     AreDistinct (buckets_at v t ledger) →

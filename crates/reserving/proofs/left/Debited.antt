@@ -8,14 +8,14 @@ use Rattle.buckets.specs.Spend.{Each, funds}
 use Rattle.buckets.specs.Holding.{held_in, uncollected}
 use Rattle.std.specs.List.Sorted.{IsPermutation}
 use Rattle.std.proofs.lemmas.List.Sorted.{IsPermutation-refl}
-use Rattle.tariffs.specs.Books.{Book}
+use Rattle.shelves.specs.Shelves.{Shelf}
 use Rattle.rating.specs.declared.report.Rated.{Rated}
 use Rattle.reserving.specs.declared.session.SessionGroup.{SessionGroup}
 use Rattle.reserving.specs.declared.settle.Settled.{Settled}
 use Rattle.reserving.specs.Ledger.{Ledger}
 use Rattle.reserving.specs.Balance.{buckets_at}
 use Rattle.reserving.specs.Keyed.{put}
-use Rattle.reserving.specs.Pricing.{cycle_at}
+use Rattle.reserving.specs.Pricing.{cycle_at, validity_of}
 use Rattle.reserving.specs.Sessions.{is_of, group_in, is_live_in}
 use Rattle.reserving.specs.Settlement.{passes}
 use Rattle.reserving.specs.Debiting.{is_covered}
@@ -47,7 +47,7 @@ none_held : (left : List Row) → Each IsDead left → Each (λ b. held_in [] b 
 none_held left dead = each_map IsDead (λ b. held_in [] b ≡ 0) left (λ b d. refl) dead
 
 pub debited_joined : (left : LeftRows) (a : AccountRows) (s : List ℕ) (g units blocks rated : ℕ) →
-    IsLeft left a → AreOfOtherCycles a.book a.as_of left.counters →
+    IsLeft left a → AreOfOtherCycles a.shelf a.as_of left.counters →
     EachIn (λ r. is_of s g r ≡ false) left.groups →
     IsReordered (debited_account s g units blocks rated (joined left a))
     (joined left (debited_account s g units blocks rated a))
@@ -69,7 +69,7 @@ debited_joined left a s g units blocks rated h cycles not_of =
         buckets =
             settled_merged [] g a.as_of rated left.buckets a.buckets h.dead
             (none_held left.buckets h.dead) i;
-        counters = left.counters ++ with_count g (cycle_at a.book g a.as_of) blocks a.counters;
+        counters = left.counters ++ with_count g (cycle_at a.shelf g a.as_of) blocks a.counters;
         groups = left.groups ++ with_event s g units a.groups;
         next_charge = a.next_charge + 1;
       };
@@ -79,7 +79,7 @@ debited_joined left a s g units blocks rated h cycles not_of =
           (sym moved) (put_behind group_before (is_of s g) new left.groups a.groups not_of);
     }
 
-debit_reordered : (b : Book) (t : ℕ) (s : List ℕ) (g units : ℕ) (ledger : Ledger)
+debit_reordered : (b : Shelf) (t : ℕ) (s : List ℕ) (g units : ℕ) (ledger : Ledger)
     (y z : AccountRows) (x : Settled) → IsReordered y z → AreKeysApart y →
     IsDebitOf b t s g units ledger y x → IsDebitOf b t s g units ledger z x
 debit_reordered b t s g units ledger y z x r keys h = record {
@@ -94,9 +94,9 @@ debit_reordered b t s g units ledger y z x r keys h = record {
 
 pub covered_beside : (b : Bool) (ledger : Ledger) (left : LeftRows) (t : ℕ) (a : AccountRows)
     (g units paid price : ℕ) → IsWith ledger left t a →
-    paid ≡ funds g t (buckets_at a.book.validity t ledger) →
+    paid ≡ funds g t (buckets_at (validity_of a.shelf) t ledger) →
     price ≡ (event_price_in g units t a).amount.0 → is_lt (nat_cmp paid price) ≡ b →
-    is_covered a.book t g units ledger ≡ not b
+    is_covered a.shelf t g units ledger ≡ not b
 covered_beside b ledger left t a g units paid price h p q k =
     covered_is b ledger (joined left a) g units t paid price h.rows p
     (q ∙ ap (λ (x : Rated). x.amount.0) (sym (event_price_joined left a g units t h.cycles))) k
@@ -104,9 +104,9 @@ covered_beside b ledger left t a g units paid price h p q k =
 pub debit_beside : (ledger : Ledger) (left : LeftRows) (a middle after : AccountRows) (s : List ℕ)
     (g c t units paid : ℕ) (x : Settled) →
     IsWith ledger left t a → group_in s g left.groups ≡ None →
-    paid ≡ funds g t (buckets_at a.book.validity t ledger) →
+    paid ≡ funds g t (buckets_at (validity_of a.shelf) t ledger) →
     IsDebitMade a middle after s g c t units paid x →
-    IsBeside left t after × IsDebitOf a.book t s g units ledger (joined left after) x
+    IsBeside left t after × IsDebitOf a.shelf t s g units ledger (joined left after) x
 debit_beside ledger left a middle after s g c t units paid x h gone f made =
     let whole : AccountRows = joined left a in
     let later : AccountRows = advanced t a in
@@ -115,9 +115,9 @@ debit_beside ledger left a middle after s g c t units paid x h gone f made =
     let not_of : EachIn (λ y. is_of s g y ≡ false) left.groups =
     none_each (is_of s g) left.groups gone in
     let with_later : IsWith ledger left t later = with_advanced ledger left t a made.later h in
-    let count : count_in g (cycle_at a.book g t) whole.counters
-    ≡ count_in g (cycle_at a.book g t) a.counters =
-    count_beside a.book t g left.counters a.counters h.cycles in
+    let count : count_in g (cycle_at a.shelf g t) whole.counters
+    ≡ count_in g (cycle_at a.shelf g t) a.counters =
+    count_beside a.shelf t g left.counters a.counters h.cycles in
     let cost : event_price_in g units t whole ≡ event_price_in g units t a =
     event_price_joined left a g units t h.cycles in
     let is : after ≡ debited_account s g units blocks rated later =
@@ -143,11 +143,11 @@ debit_beside ledger left a middle after s g c t units paid x h gone f made =
     ∙ uncollected_merged [] g t rated left.buckets later.buckets h.apart.dead
     (none_held left.buckets h.apart.dead)) in
     let fits' : passes (used_in s g whole.groups) units
-    (count_in g (cycle_at a.book g t) whole.counters) (event_price_in g units t whole).blocks
+    (count_in g (cycle_at a.shelf g t) whole.counters) (event_price_in g units t whole).blocks
     a.next_charge ≡ false =
     (λ i. passes (used_joined left a s g h.apart not_of i) units (count i) (cost i).blocks
     a.next_charge) ∙ made.fits in
-    let debited : IsDebitOf a.book t s g units ledger
+    let debited : IsDebitOf a.shelf t s g units ledger
     (debited_account s g units blocks rated (advanced t (with_rows s g c whole))) x =
     debit_is ledger whole (advanced t (with_rows s g c whole))
     (debited_account s g units blocks rated (advanced t (with_rows s g c whole))) s g c t units
@@ -166,20 +166,20 @@ debit_beside ledger left a middle after s g c t units paid x h gone f made =
     }) in
     let used : used_in s g (joined left later).groups ≡ used_in s g a.groups =
     used_joined left later s g with_later.apart not_of
-    ∙ used_later (is_live_in a.book.validity t a.sessions) s g a.groups in
+    ∙ used_later (is_live_in (validity_of a.shelf) t a.sessions) s g a.groups in
     let blocks_are : blocks ≡ (event_price_in g units t a).blocks = made.started in
     let within : used_in s g a.groups + units ≤ 1000000000000000000 =
-    within_used (used_in s g a.groups) units (count_in g (cycle_at a.book g t) a.counters)
+    within_used (used_in s g a.groups) units (count_in g (cycle_at a.shelf g t) a.counters)
     (event_price_in g units t a).blocks a.next_charge made.fits in
-    let counted : count_in g (cycle_at a.book g t) a.counters + (event_price_in g units t a).blocks
+    let counted : count_in g (cycle_at a.shelf g t) a.counters + (event_price_in g units t a).blocks
     ≤ 4000000000000000000 =
-    within_counted (used_in s g a.groups) units (count_in g (cycle_at a.book g t) a.counters)
+    within_counted (used_in s g a.groups) units (count_in g (cycle_at a.shelf g t) a.counters)
     (event_price_in g units t a).blocks a.next_charge made.fits in
     let account : IsAccount (debited_account s g units blocks rated (joined left later)) =
     IsAccount-debited (joined left later) s g units blocks rated
     (omega (arith, used, within)) (omega (arith, count, counted, blocks_are))
     (most_charge (used_in s g a.groups) units
-    (count_in g (cycle_at a.book g t) a.counters) (event_price_in g units t a).blocks
+    (count_in g (cycle_at a.shelf g t) a.counters) (event_price_in g units t a).blocks
     a.next_charge made.fits) with_later.apart.whole in
     let beside : IsBeside left t (debited_account s g units blocks rated later) = record {
       apart = record {
@@ -197,8 +197,8 @@ debit_beside ledger left a middle after s g c t units paid x h gone f made =
       cycles = h.cycles;
     } in (
       subst (IsBeside left t) (sym is) beside,
-      debit_reordered a.book t s g units ledger
+      debit_reordered a.shelf t s g units ledger
           (debited_account s g units blocks rated (joined left later)) (joined left after) x moved
           (keys_of (debited_account s g units blocks rated (joined left later)) account)
-          (subst (λ y. IsDebitOf a.book t s g units ledger y x) same debited),
+          (subst (λ y. IsDebitOf a.shelf t s g units ledger y x) same debited),
     )

@@ -4,9 +4,9 @@ use Rattle.std.proofs.Common.{Option, None}
 use Rattle.std.specs.Prelude.{nat_lt}
 use Rattle.rating.specs.declared.grant.Grant.{Grant}
 use Rattle.reserving.specs.declared.session.SessionGroup.{SessionGroup}
-use Rattle.tariffs.specs.Books.{Book}
+use Rattle.shelves.specs.Shelves.{Shelf}
 use Rattle.reserving.specs.Ledger.{Ledger, used}
-use Rattle.reserving.specs.Pricing.{switch_at, validity_at}
+use Rattle.reserving.specs.Pricing.{switch_at, validity_at, validity_of}
 use Rattle.reserving.specs.Reservation.{grant_for}
 use Rattle.reserving.specs.Sessions.{is_of, is_live_in}
 use Rattle.reserving.specs.Changes.{advanced, reserved_account}
@@ -32,7 +32,7 @@ free_joined left a s g h not_of none =
 
 -- a reservation that is made leaves the rows that were left
 pub left_reserved : (left : LeftRows) (a : AccountRows) (s : List ℕ) (g amount : ℕ) →
-    IsLeft left a → is_live_in a.book.validity a.as_of a.sessions s ≡ true →
+    IsLeft left a → is_live_in (validity_of a.shelf) a.as_of a.sessions s ≡ true →
     reservation_in s g a.groups ≡ None → IsLeft left (reserved_account s g amount a)
 left_reserved left a s g amount h alive none = record {
   dead = h.dead;
@@ -49,15 +49,15 @@ left_reserved left a s g amount h alive none = record {
 -- nothing is granted exactly where no unit is covered
 pub nothing_beside : (ledger : Ledger) (left : LeftRows) (t : ℕ) (a : AccountRows) (s : List ℕ)
     (g : ℕ) (requested : Option ℕ) (wanted : ℕ) (grant : Grant) → IsWith ledger left t a →
-    a.as_of ≤ t → is_live_in a.book.validity t a.sessions s ≡ true →
+    a.as_of ≤ t → is_live_in (validity_of a.shelf) t a.sessions s ≡ true →
     QuotaOf a s g t requested wanted grant →
-    grant ≡ grant_for a.book t g (used s g ledger) requested ledger
+    grant ≡ grant_for a.shelf t g (used s g ledger) requested ledger
 nothing_beside ledger left t a s g requested wanted grant h le alive q =
     grant_told ledger (joined left a) s g t requested wanted grant h.apart.whole h.rows le
     (quota_of_joined left a s g t requested wanted grant h.apart h.cycles
     (not_of_live left a t s g h.apart alive) q)
 
-grant_reordered : (b : Book) (t : ℕ) (s : List ℕ) (g : ℕ) (requested : Option ℕ) (ledger : Ledger)
+grant_reordered : (b : Shelf) (t : ℕ) (s : List ℕ) (g : ℕ) (requested : Option ℕ) (ledger : Ledger)
     (y z : AccountRows) (given : ℕ) (at : Option ℕ) (seconds : ℕ) (fewer : Bool) →
     IsReordered y z → AreKeysApart y →
     IsGrantOf b t s g requested ledger y given at seconds fewer →
@@ -75,15 +75,15 @@ grant_reordered b t s g requested ledger y z given at seconds fewer r keys h = r
 pub grant_beside : (ledger : Ledger) (left : LeftRows) (a middle after : AccountRows) (s : List ℕ)
     (g t : ℕ) (requested : Option ℕ) (wanted : ℕ) (grant : Grant) (at : Option ℕ) (validity : ℕ)
     (fewer : Bool) →
-    IsWith ledger left t a → a.as_of ≤ t → is_live_in a.book.validity t a.sessions s ≡ true →
+    IsWith ledger left t a → a.as_of ≤ t → is_live_in (validity_of a.shelf) t a.sessions s ≡ true →
     reservation_in s g a.groups ≡ None →
     QuotaOf a s g t requested wanted grant →
-    0 < grant.units.0 → at ≡ switch_at a.book t → validity ≡ validity_at a.book t →
+    0 < grant.units.0 → at ≡ switch_at a.shelf t → validity ≡ validity_at a.shelf t →
     fewer ≡ nat_lt grant.units.0 wanted →
     middle ≡ advanced t (with_group_row s g a) →
     after ≡ reserved_account s g grant.amount.0 middle →
     IsBeside left t after ×
-    IsGrantOf a.book t s g requested ledger (joined left after) grant.units.0 at validity fewer
+    IsGrantOf a.shelf t s g requested ledger (joined left after) grant.units.0 at validity fewer
 grant_beside ledger left a middle after s g t requested wanted grant at validity fewer h le alive
     none q some switch valid few m e =
     let whole : AccountRows = joined left a in
@@ -92,10 +92,10 @@ grant_beside ledger left a middle after s g t requested wanted grant at validity
     let not_of : EachIn (λ r. is_of s g r ≡ false) left.groups =
     not_of_live left a t s g h.apart alive in
     let with_later : IsWith ledger left t later = with_advanced ledger left t a le h in
-    let alive_later : is_live_in a.book.validity t later.sessions s ≡ true =
+    let alive_later : is_live_in (validity_of a.shelf) t later.sessions s ≡ true =
     live_later ledger left a s t le h with_later alive in
     let free : reservation_in s g later.groups ≡ None =
-    free_later (is_live_in a.book.validity t a.sessions) s g a.groups none in
+    free_later (is_live_in (validity_of a.shelf) t a.sessions) s g a.groups none in
     let is : after ≡ reserved_account s g amount later =
     e ∙ ap (reserved_account s g amount) m ∙ reserved_later a s g t amount in
     let same : reserved_account s g amount (advanced t (with_group_row s g whole))
@@ -114,7 +114,7 @@ grant_beside ledger left a middle after s g t requested wanted grant at validity
       apart = left_reserved left later s g amount with_later.apart alive_later free;
       cycles = h.cycles;
     } in
-    let granted : IsGrantOf a.book t s g requested ledger
+    let granted : IsGrantOf a.shelf t s g requested ledger
     (reserved_account s g amount (advanced t (with_group_row s g whole))) grant.units.0 at
     validity fewer =
     grant_is ledger whole (advanced t (with_group_row s g whole))
@@ -125,10 +125,10 @@ grant_beside ledger left a middle after s g t requested wanted grant at validity
     (quota_of_joined left a s g t requested wanted grant h.apart h.cycles not_of q) some switch
     valid few refl refl in (
       subst (IsBeside left t) (sym is) beside,
-      grant_reordered a.book t s g requested ledger
+      grant_reordered a.shelf t s g requested ledger
           (reserved_account s g amount (joined left later)) (joined left after) grant.units.0 at
           validity fewer moved
           (keys_of (reserved_account s g amount (joined left later)) account)
-          (subst (λ x. IsGrantOf a.book t s g requested ledger x grant.units.0 at validity fewer)
+          (subst (λ x. IsGrantOf a.shelf t s g requested ledger x grant.units.0 at validity fewer)
           same granted),
     )

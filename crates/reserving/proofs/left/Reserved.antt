@@ -4,7 +4,7 @@ use Rattle.std.proofs.Common.{sym, subst, ◌∙◌, arith, Some}
 use Rattle.std.specs.List.Sorted.{IsPermutation}
 use Rattle.std.proofs.lemmas.List.Sorted.{IsPermutation-refl}
 use Rattle.std.specs.Prelude.{◌-◌}
-use Rattle.rating.specs.declared.grant.Periods.{Periods}
+use Rattle.reserving.specs.declared.session.Terms.{Terms}
 use Rattle.buckets.specs.declared.holds.Hold.{Hold}
 use Rattle.buckets.specs.Row.{Row, eligible_amount, with_hold}
 use Rattle.buckets.specs.Share.{share, parts}
@@ -13,7 +13,7 @@ use Rattle.buckets.specs.Holding.{holds_of}
 use Rattle.buckets.proofs.SharesAlong.{KeepsPlace}
 use Rattle.reserving.specs.declared.session.SessionGroup.{SessionGroup}
 use Rattle.reserving.specs.Keyed.{put}
-use Rattle.reserving.specs.Pricing.{periods_at}
+use Rattle.reserving.specs.Pricing.{terms_at, validity_of}
 use Rattle.reserving.specs.Sessions.{is_of, is_live_in}
 use Rattle.reserving.specs.Changes.{used_in, with_reservation, reserved_account}
 use Rattle.reserving.specs.Rows.{AccountRows, EachIn}
@@ -71,11 +71,11 @@ held_merged group at amount left rows dead =
 -- ---- the grant
 
 pub reserved_joined : (left : LeftRows) (a : AccountRows) (s : List ℕ) (g amount : ℕ) →
-    IsLeft left a → is_live_in a.book.validity a.as_of a.sessions s ≡ true →
+    IsLeft left a → is_live_in (validity_of a.shelf) a.as_of a.sessions s ≡ true →
     IsReordered (reserved_account s g amount (joined left a))
     (joined left (reserved_account s g amount a))
 reserved_joined left a s g amount h alive =
-    let p : Periods = periods_at a.book a.as_of in
+    let p : Terms = terms_at a.shelf a.as_of in
     let not_of : EachIn (λ r. is_of s g r ≡ false) left.groups =
     not_of_live left a a.as_of s g h alive in
     let hs : List Hold = holds_of g a.as_of amount a.buckets in
@@ -86,7 +86,7 @@ reserved_joined left a s g amount h alive =
       session = s;
       group = g;
       used = used_in s g a.groups;
-      reservation = Some (record { periods = p; holds = hs });
+      reservation = Some (record { terms = p; holds = hs });
     } in
     let moved : with_reservation s g p (holds_of g a.as_of amount (merged left.buckets a.buckets))
     (left.groups ++ a.groups) ≡ put group_before (is_of s g) row (left.groups ++ a.groups) =
@@ -95,7 +95,7 @@ reserved_joined left a s g amount h alive =
       session = s;
       group = g;
       used = (row_same left a h s g not_of i).used;
-      reservation = Some (record { periods = p; holds = same i });
+      reservation = Some (record { terms = p; holds = same i });
     }) (left.groups ++ a.groups)) in
     record {
       same = λ i. record (joined left a) {

@@ -6,7 +6,7 @@ use Rattle.units.specs.declared.blocks.UsedPart.{UsedPart}
 use Rattle.rating.specs.declared.report.Rated.{Rated}
 use Rattle.reserving.specs.declared.session.SessionGroup.{SessionGroup}
 use Rattle.reserving.specs.Ledger.{Ledger, is_live}
-use Rattle.reserving.specs.Pricing.{cycle_at}
+use Rattle.reserving.specs.Pricing.{cycle_at, validity_of}
 use Rattle.reserving.specs.Sessions.{is_of, is_live_in}
 use Rattle.reserving.specs.Settlement.{reported, passes, settled_by}
 use Rattle.reserving.specs.Changes.{advanced, used_in, count_in, price_in, ended_rows}
@@ -26,14 +26,14 @@ use Rattle.reserving.proofs.LeftMore.{with_advanced, with_ended, with_facts}
 -- the limits hold
 pub record Fits (a : AccountRows) (s : List ℕ) (g t units blocks : ℕ) : Type 0 where
   pub used : used_in s g a.groups + units ≤ 1000000000000000000
-  pub counted : count_in g (cycle_at a.book g t) a.counters + blocks ≤ 4000000000000000000
+  pub counted : count_in g (cycle_at a.shelf g t) a.counters + blocks ≤ 4000000000000000000
   pub charges : a.next_charge < 4294967296
 
 pub with_settled : (ledger : Ledger) (left : LeftRows) (a : AccountRows) (s : List ℕ) (g : ℕ)
     (used_parts : List UsedPart) → IsWith ledger left a.as_of a →
-    is_live_in a.book.validity a.as_of a.sessions s ≡ true →
+    is_live_in (validity_of a.shelf) a.as_of a.sessions s ≡ true →
     Fits a s g a.as_of (reported used_parts) (price_in s g a.as_of used_parts a).blocks →
-    IsWith (settled_by a.book a.as_of s g used_parts ledger) left a.as_of
+    IsWith (settled_by a.shelf a.as_of s g used_parts ledger) left a.as_of
     (settled_by_rows s g used_parts a)
 with_settled ledger left a s g [] h alive fits = with_ended ledger left a s g h alive
 with_settled ledger left a s g (p ∷ ps) h alive fits =
@@ -42,10 +42,10 @@ with_settled ledger left a s g (p ∷ ps) h alive fits =
     not_of_live left a a.as_of s g h.apart alive in
     let used : used_in s g (joined left a).groups ≡ used_in s g a.groups =
     ap (λ (r : SessionGroup). r.used) (row_same left a h.apart s g not_of) in
-    let count : count_in g (cycle_at a.book g a.as_of) (joined left a).counters
-    ≡ count_in g (cycle_at a.book g a.as_of) a.counters =
+    let count : count_in g (cycle_at a.shelf g a.as_of) (joined left a).counters
+    ≡ count_in g (cycle_at a.shelf g a.as_of) a.counters =
     count_same left a h.apart s g not_of h.cycles in
-    with_facts (settled_by a.book a.as_of s g (p ∷ ps) ledger) ledger left a.as_of a
+    with_facts (settled_by a.shelf a.as_of s g (p ∷ ps) ledger) ledger left a.as_of a
     (settled_by_rows s g (p ∷ ps) a) refl refl h
     (IsAccount-reordered
     (settled_account s g (reported (p ∷ ps)) x.blocks x.amount.0 (joined left a))
@@ -59,8 +59,8 @@ with_settled ledger left a s g (p ∷ ps) h alive fits =
 -- the session lives on at the moment
 pub live_later : (ledger : Ledger) (left : LeftRows) (a : AccountRows) (s : List ℕ) (t : ℕ) →
     a.as_of ≤ t → IsWith ledger left t a → IsWith ledger left t (advanced t a) →
-    is_live_in a.book.validity t a.sessions s ≡ true →
-    is_live_in a.book.validity t (advanced t a).sessions s ≡ true
+    is_live_in (validity_of a.shelf) t a.sessions s ≡ true →
+    is_live_in (validity_of a.shelf) t (advanced t a).sessions s ≡ true
 live_later ledger left a s t le h k alive =
     let now : t ≤ t = omega arith in
     sym (live left (advanced t a) k.apart t s)
@@ -71,11 +71,11 @@ live_later ledger left a s t le h k alive =
 -- a session that lives at a moment, in the rows as the call finds them then
 pub record IsLiveThen (ledger : Ledger) (a : AccountRows) (s : List ℕ) (t : ℕ) : Type 0 where
   pub rows : IsRowsOf ledger (advanced t a)
-  pub live : is_live a.book.validity t ledger s ≡ true
+  pub live : is_live (validity_of a.shelf) t ledger s ≡ true
 
 pub live_then : (ledger : Ledger) (a middle : AccountRows) (s : List ℕ) (t : ℕ) →
     middle ≡ advanced t a → IsRowsOf ledger a → IsRowsOf ledger middle → a.as_of ≤ t →
-    is_live_in a.book.validity t a.sessions s ≡ true → IsLiveThen ledger a s t
+    is_live_in (validity_of a.shelf) t a.sessions s ≡ true → IsLiveThen ledger a s t
 live_then ledger a middle s t m rows later le alive = record {
   rows = subst (IsRowsOf ledger) m later;
   live = sym (is_live_in-is ledger a t s rows le) ∙ alive;
@@ -85,25 +85,25 @@ live_then ledger a middle s t m rows later le alive = record {
 pub record IsLiveBeside (ledger : Ledger) (left : LeftRows) (a : AccountRows) (s : List ℕ) (t : ℕ) :
     Type 0 where
   pub rows : IsWith ledger left t (advanced t a)
-  pub live : is_live_in a.book.validity t (advanced t a).sessions s ≡ true
+  pub live : is_live_in (validity_of a.shelf) t (advanced t a).sessions s ≡ true
 
 pub live_beside : (ledger : Ledger) (left : LeftRows) (a middle : AccountRows)
     (s : List ℕ) (t : ℕ) →
     middle ≡ advanced t a → IsWith ledger left t a → IsWith ledger left t middle → a.as_of ≤ t →
-    is_live_in a.book.validity t a.sessions s ≡ true → IsLiveBeside ledger left a s t
+    is_live_in (validity_of a.shelf) t a.sessions s ≡ true → IsLiveBeside ledger left a s t
 live_beside ledger left a middle s t m h k le alive =
     let later : IsWith ledger left t (advanced t a) = subst (IsWith ledger left t) m k in
     record { rows = later; live = live_later ledger left a s t le h later alive }
 
 pub left_ended : (ledger : Ledger) (left : LeftRows) (a middle after : AccountRows) (s : List ℕ)
     (g t : ℕ) (used_parts : List UsedPart) →
-    IsWith ledger left t a → a.as_of ≤ t → is_live_in a.book.validity t a.sessions s ≡ true →
+    IsWith ledger left t a → a.as_of ≤ t → is_live_in (validity_of a.shelf) t a.sessions s ≡ true →
     used_parts ≡ [] → middle ≡ advanced t a → after ≡ ended_rows s g middle →
-    IsWith (settled_by a.book t s g used_parts ledger) left t after
+    IsWith (settled_by a.shelf t s g used_parts ledger) left t after
 left_ended ledger left a middle after s g t used_parts h le alive empty m e =
     let k : IsWith ledger left t (advanced t a) = with_advanced ledger left t a le h in
-    subst (λ ps. IsWith (settled_by a.book t s g ps ledger) left t after) (sym empty)
-    (subst (IsWith (settled_by a.book t s g [] ledger) left t) (sym (e ∙ ap (ended_rows s g) m))
+    subst (λ ps. IsWith (settled_by a.shelf t s g ps ledger) left t after) (sym empty)
+    (subst (IsWith (settled_by a.shelf t s g [] ledger) left t) (sym (e ∙ ap (ended_rows s g) m))
     (with_ended ledger left (advanced t a) s g k (live_later ledger left a s t le h k alive)))
 
 pub most_charge : (before units count blocks charge : ℕ) →
@@ -112,15 +112,15 @@ most_charge before units count blocks charge h = grind (arith, nat_tests)
 
 pub left_settled : (ledger : Ledger) (left : LeftRows) (a middle after : AccountRows) (s : List ℕ)
     (g c t units blocks rated : ℕ) (used_parts : List UsedPart) →
-    IsWith ledger left t a → a.as_of ≤ t → is_live_in a.book.validity t a.sessions s ≡ true →
-    (used_parts ≡ [] → ⊥) → c ≡ cycle_at a.book g t →
+    IsWith ledger left t a → a.as_of ≤ t → is_live_in (validity_of a.shelf) t a.sessions s ≡ true →
+    (used_parts ≡ [] → ⊥) → c ≡ cycle_at a.shelf g t →
     units ≡ reported used_parts → blocks ≡ (price_in s g t used_parts a).blocks →
     rated ≡ (price_in s g t used_parts a).amount.0 →
-    passes (used_in s g a.groups) units (count_in g (cycle_at a.book g t) a.counters) blocks
+    passes (used_in s g a.groups) units (count_in g (cycle_at a.shelf g t) a.counters) blocks
     a.next_charge ≡ false →
     middle ≡ advanced t (with_rows s g c a) →
     after ≡ settled_account s g units blocks rated middle →
-    IsWith (settled_by a.book t s g used_parts ledger) left t after
+    IsWith (settled_by a.shelf t s g used_parts ledger) left t after
 left_settled ledger left a middle after s g c t units blocks rated used_parts h le alive some k u b
     r fits m e =
     let later : AccountRows = advanced t a in
@@ -132,20 +132,20 @@ left_settled ledger left a middle after s g c t units blocks rated used_parts h 
     let blocks_are : blocks ≡ (price_in s g t used_parts later).blocks =
     b ∙ ap (λ (x : Rated). x.blocks) cost in
     let used : used_in s g later.groups ≡ used_in s g a.groups =
-    used_later (is_live_in a.book.validity t a.sessions) s g a.groups in
+    used_later (is_live_in (validity_of a.shelf) t a.sessions) s g a.groups in
     let within : used_in s g a.groups + units ≤ 1000000000000000000 =
-    within_used (used_in s g a.groups) units (count_in g (cycle_at a.book g t) a.counters)
+    within_used (used_in s g a.groups) units (count_in g (cycle_at a.shelf g t) a.counters)
     blocks a.next_charge fits in
-    let counted : count_in g (cycle_at a.book g t) a.counters + blocks ≤ 4000000000000000000 =
-    within_counted (used_in s g a.groups) units (count_in g (cycle_at a.book g t) a.counters)
+    let counted : count_in g (cycle_at a.shelf g t) a.counters + blocks ≤ 4000000000000000000 =
+    within_counted (used_in s g a.groups) units (count_in g (cycle_at a.shelf g t) a.counters)
     blocks a.next_charge fits in
-    subst (IsWith (settled_by a.book t s g used_parts ledger) left t) (sym same)
+    subst (IsWith (settled_by a.shelf t s g used_parts ledger) left t) (sym same)
     (with_settled ledger left later s g used_parts with_later
     (live_later ledger left a s t le h with_later alive)
     (record {
       used = omega (arith, used, within, u);
       counted = omega (arith, counted, blocks_are);
       charges =
-          most_charge (used_in s g a.groups) units (count_in g (cycle_at a.book g t) a.counters)
+          most_charge (used_in s g a.groups) units (count_in g (cycle_at a.shelf g t) a.counters)
           blocks a.next_charge fits;
     }))

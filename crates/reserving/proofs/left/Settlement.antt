@@ -19,19 +19,20 @@ use Rattle.reserving.proofs.calls.Debited.{buckets_later}
 use Rattle.reserving.proofs.LeftFrames.{live, not_of_live, holds_same, holds_none, advanced_joined}
 use Rattle.reserving.proofs.LeftMore.{with_advanced}
 use Rattle.reserving.proofs.LeftReadings.{price_joined, uncollected_merged}
+use Rattle.reserving.specs.Pricing.{validity_of}
 
 -- rows without facts hold nothing
 held_later : (a : AccountRows) (s : List ℕ) (g c t : ℕ) →
     reserved_in s g (advanced t (with_rows s g c a)).groups ≡ reserved_in s g (advanced t a).groups
 held_later a s g c t =
     ap (λ (y : SessionGroup). holds_in y.reservation)
-    (or_new_later (is_live_in a.book.validity t a.sessions) s g a.groups)
+    (or_new_later (is_live_in (validity_of a.shelf) t a.sessions) s g a.groups)
 
 pub settlement_beside : (ledger : Ledger) (left : LeftRows) (a middle : AccountRows) (s : List ℕ)
     (g c t : ℕ) (used_parts : List UsedPart) (x : Settled) →
-    IsWith ledger left t a → a.as_of ≤ t → is_live_in a.book.validity t a.sessions s ≡ true →
+    IsWith ledger left t a → a.as_of ≤ t → is_live_in (validity_of a.shelf) t a.sessions s ≡ true →
     IsTold a middle s g c t used_parts x.blocks.0 x.rated.0 x.uncollected.0 x.collected.0 →
-    IsSettlementOf a.book t s g used_parts ledger x
+    IsSettlementOf a.shelf t s g used_parts ledger x
 settlement_beside ledger left a middle s g c t used_parts x h le alive told =
     let whole : AccountRows = joined left a in
     let later : AccountRows = advanced t a in

@@ -27,6 +27,7 @@ use Rattle.reserving.proofs.Lists.{EachIn-found, EachIn-weaker}
 use Rattle.reserving.proofs.ledger.Columns.{with_columns}
 use Rattle.reserving.proofs.rows.Lapsing.{released_none}
 use Rattle.reserving.proofs.rows.TwoAdvances.{lapse_twice, live_alike}
+use Rattle.reserving.specs.Pricing.{validity_of}
 
 -- ---- lists
 
@@ -108,10 +109,11 @@ rows_same t keeps groups (b ∷ bs) h e =
 pub calm_same : (a : AccountRows) → IsCalm a → advanced a.as_of a ≡ a
 calm_same a h = λ i. record a {
   buckets =
-      rows_same a.as_of (is_live_in a.book.validity a.as_of a.sessions) a.groups a.buckets h.groups
+      rows_same a.as_of (is_live_in (validity_of a.shelf) a.as_of a.sessions) a.groups
+      a.buckets h.groups
       h.buckets i;
-  sessions = map_same (lapse a.book.validity a.as_of) a.sessions h.sessions i;
-  groups = groups_same (is_live_in a.book.validity a.as_of a.sessions) a.groups h.groups i;
+  sessions = map_same (lapse (validity_of a.shelf) a.as_of) a.sessions h.sessions i;
+  groups = groups_same (is_live_in (validity_of a.shelf) a.as_of a.sessions) a.groups h.groups i;
 }
 
 -- ---- an account that was brought to its moment
@@ -142,20 +144,22 @@ ended_bucket t b = at (nat_lt t b.until) refl
 
 pub calm_advanced : (t : ℕ) (a : AccountRows) → IsCalm (advanced t a)
 calm_advanced t a = record {
-  sessions = each_made (λ r. lapse a.book.validity t r ≡ r) (lapse a.book.validity t) a.sessions
-      (λ r. lapse_twice a.book.validity t t (omega arith) r);
+  sessions = each_made (λ r. lapse (validity_of a.shelf) t r ≡ r)
+      (lapse (validity_of a.shelf) t) a.sessions
+      (λ r. lapse_twice (validity_of a.shelf) t t (omega arith) r);
   groups = each_made
-      (λ r. is_live_in a.book.validity t (map (lapse a.book.validity t) a.sessions) r.session
+      (λ r. is_live_in (validity_of a.shelf) t (map (lapse (validity_of a.shelf) t) a.sessions)
+      r.session
       ≡ false → r.reservation ≡ None)
-      (lapse_group (is_live_in a.book.validity t a.sessions)) a.groups
-      (λ r. lapsed_group (is_live_in a.book.validity t a.sessions)
-      (is_live_in a.book.validity t (map (lapse a.book.validity t) a.sessions)) r
-      (λ s. live_alike a.book.validity t t a.sessions (omega arith) s));
+      (lapse_group (is_live_in (validity_of a.shelf) t a.sessions)) a.groups
+      (λ r. lapsed_group (is_live_in (validity_of a.shelf) t a.sessions)
+      (is_live_in (validity_of a.shelf) t (map (lapse (validity_of a.shelf) t) a.sessions)) r
+      (λ s. live_alike (validity_of a.shelf) t t a.sessions (omega arith) s));
   buckets = rows_made (λ b. nat_lt t b.until ≡ false → b.available ≡ 0)
       (λ b. with_end t (with_release t b
-      (lapsed_in (is_live_in a.book.validity t a.sessions) a.groups b))) a.buckets
+      (lapsed_in (is_live_in (validity_of a.shelf) t a.sessions) a.groups b))) a.buckets
       (λ b. ended_bucket t (with_release t b
-      (lapsed_in (is_live_in a.book.validity t a.sessions) a.groups b)));
+      (lapsed_in (is_live_in (validity_of a.shelf) t a.sessions) a.groups b)));
 }
 
 -- ---- a row that is made where there is none
@@ -180,7 +184,7 @@ pub calm_with_rows : (a : AccountRows) (s : List ℕ) (g c : ℕ) → IsCalm a �
     IsCalm (with_rows s g c a)
 calm_with_rows a s g c h = record {
   sessions = h.sessions;
-  groups = group_made (is_live_in a.book.validity a.as_of a.sessions) s g a.groups h.groups;
+  groups = group_made (is_live_in (validity_of a.shelf) a.as_of a.sessions) s g a.groups h.groups;
   buckets = h.buckets;
 }
 
@@ -188,7 +192,7 @@ pub calm_with_group_row : (a : AccountRows) (s : List ℕ) (g : ℕ) → IsCalm 
     IsCalm (with_group_row s g a)
 calm_with_group_row a s g h = record {
   sessions = h.sessions;
-  groups = group_made (is_live_in a.book.validity a.as_of a.sessions) s g a.groups h.groups;
+  groups = group_made (is_live_in (validity_of a.shelf) a.as_of a.sessions) s g a.groups h.groups;
   buckets = h.buckets;
 }
 
@@ -214,7 +218,8 @@ pub calm_settled : (a : AccountRows) (s : List ℕ) (g units blocks rated : ℕ)
 calm_settled a s g units blocks rated h = record {
   sessions = h.sessions;
   groups = EachIn-put
-      (λ r. is_live_in a.book.validity a.as_of a.sessions r.session ≡ false → r.reservation ≡ None)
+      (λ r. is_live_in (validity_of a.shelf) a.as_of a.sessions r.session ≡ false →
+      r.reservation ≡ None)
       group_before (is_of s g) _ a.groups (λ k. refl) h.groups;
   buckets = rows_map (λ b. nat_lt a.as_of b.until ≡ false → b.available ≡ 0)
       (λ b. nat_lt a.as_of b.until ≡ false → b.available ≡ 0)
@@ -248,10 +253,12 @@ pub calm_ended : (a : AccountRows) (s : List ℕ) (g : ℕ) → IsCalm a → IsC
 calm_ended a s g h = record {
   sessions = h.sessions;
   groups = EachIn-map
-      (λ r. is_live_in a.book.validity a.as_of a.sessions r.session ≡ false → r.reservation ≡ None)
-      (λ r. is_live_in a.book.validity a.as_of a.sessions r.session ≡ false → r.reservation ≡ None)
+      (λ r. is_live_in (validity_of a.shelf) a.as_of a.sessions r.session ≡ false →
+      r.reservation ≡ None)
+      (λ r. is_live_in (validity_of a.shelf) a.as_of a.sessions r.session ≡ false →
+      r.reservation ≡ None)
       (ended_group s g) a.groups
-      (λ r e. ended_calm (is_live_in a.book.validity a.as_of a.sessions) s g r e) h.groups;
+      (λ r e. ended_calm (is_live_in (validity_of a.shelf) a.as_of a.sessions) s g r e) h.groups;
   buckets = rows_map (λ b. nat_lt a.as_of b.until ≡ false → b.available ≡ 0)
       (λ b. nat_lt a.as_of b.until ≡ false → b.available ≡ 0)
       (λ b. with_release a.as_of b (held_in (holds_in (group_or_new s g a.groups).reservation) b))
@@ -261,12 +268,13 @@ calm_ended a s g h = record {
 }
 
 pub calm_reserved : (a : AccountRows) (s : List ℕ) (g amount : ℕ) →
-    is_live_in a.book.validity a.as_of a.sessions s ≡ true → IsCalm a →
+    is_live_in (validity_of a.shelf) a.as_of a.sessions s ≡ true → IsCalm a →
     IsCalm (reserved_account s g amount a)
 calm_reserved a s g amount live h = record {
   sessions = h.sessions;
   groups = EachIn-put
-      (λ r. is_live_in a.book.validity a.as_of a.sessions r.session ≡ false → r.reservation ≡ None)
+      (λ r. is_live_in (validity_of a.shelf) a.as_of a.sessions r.session ≡ false →
+      r.reservation ≡ None)
       group_before (is_of s g) _ a.groups (λ k. absurd (not_both (sym k ∙ live))) h.groups;
   buckets = rows_map (λ b. nat_lt a.as_of b.until ≡ false → b.available ≡ 0)
       (λ b. nat_lt a.as_of b.until ≡ false → b.available ≡ 0)
@@ -276,11 +284,11 @@ calm_reserved a s g amount live h = record {
 
 -- ---- touches
 
-touched_same : (v t : ℕ) (s : List ℕ) (n : ℕ) (r : Session) → 60 ≤ v → lapse v t r ≡ r →
+touched_same : (v : ℕ → ℕ) (t : ℕ) (s : List ℕ) (n : ℕ) (r : Session) → 60 ≤ v t → lapse v t r ≡ r →
     lapse v t (touched_session s n t r) ≡ touched_session s n t r
 touched_same v t s n r some same = at (is_session s r)
   where
-    open_still : nat_lt t (t + 2 * v) ≡ true
+    open_still : nat_lt t (t + 2 * v t) ≡ true
     open_still = grind (arith, nat_tests)
 
     at : (e : Bool) →
@@ -298,12 +306,12 @@ touched_name s x n t r =
     (λ e. is_session x (if e then record r { last_number = n; touched = t; state = Open } else r)
     ≡ is_session x r) [ true ↦ refl | false ↦ refl ]
 
-row_before : (v t : ℕ) (s : List ℕ) (n : ℕ) → 60 ≤ v → (o : Option Session) →
+row_before : (v : ℕ → ℕ) (t : ℕ) (s : List ℕ) (n : ℕ) → 60 ≤ v t → (o : Option Session) →
     is_live_row v t (option_map (touched_session s n t) o) ≡ false → is_live_row v t o ≡ false
 row_before v t s n some None k = k
 row_before v t s n some (Some r) k = at (is_session s r) k
   where
-    open_still : nat_lt t (t + 2 * v) ≡ true
+    open_still : nat_lt t (t + 2 * v t) ≡ true
     open_still = grind (arith, nat_tests)
 
     at : (e : Bool) →
@@ -313,32 +321,37 @@ row_before v t s n some (Some r) k = at (is_session s r) k
     at true k = absurd (not_both (sym k ∙ open_still))
     at false k = k
 
-live_before : (v t : ℕ) (s : List ℕ) (n : ℕ) (rows : List Session) → 60 ≤ v → (x : List ℕ) →
+live_before : (v : ℕ → ℕ) (t : ℕ) (s : List ℕ) (n : ℕ) (rows : List Session) → 60 ≤ v t →
+    (x : List ℕ) →
     is_live_in v t (map (touched_session s n t) rows) x ≡ false → is_live_in v t rows x ≡ false
 live_before v t s n rows some x k =
     row_before v t s n some (session_in x rows)
     (ap (is_live_row v t)
     (sym (find-map (is_session x) (touched_session s n t) rows (touched_name s x n t))) ∙ k)
 
-pub calm_touched : (a : AccountRows) (s : List ℕ) (n : ℕ) → 60 ≤ a.book.validity → IsCalm a →
+pub calm_touched : (a : AccountRows) (s : List ℕ) (n : ℕ) →
+    60 ≤ validity_of a.shelf a.as_of → IsCalm a →
     IsCalm (touched_account s n a)
 calm_touched a s n some h = record {
-  sessions = EachIn-map (λ r. lapse a.book.validity a.as_of r ≡ r)
-      (λ r. lapse a.book.validity a.as_of r ≡ r) (touched_session s n a.as_of) a.sessions
-      (λ r e. touched_same a.book.validity a.as_of s n r some e) h.sessions;
+  sessions = EachIn-map (λ r. lapse (validity_of a.shelf) a.as_of r ≡ r)
+      (λ r. lapse (validity_of a.shelf) a.as_of r ≡ r) (touched_session s n a.as_of) a.sessions
+      (λ r e. touched_same (validity_of a.shelf) a.as_of s n r some e) h.sessions;
   groups = EachIn-weaker
-      (λ r. is_live_in a.book.validity a.as_of a.sessions r.session ≡ false → r.reservation ≡ None)
-      (λ r. is_live_in a.book.validity a.as_of (map (touched_session s n a.as_of) a.sessions)
+      (λ r. is_live_in (validity_of a.shelf) a.as_of a.sessions r.session ≡ false →
+      r.reservation ≡ None)
+      (λ r. is_live_in (validity_of a.shelf) a.as_of (map (touched_session s n a.as_of) a.sessions)
       r.session ≡ false → r.reservation ≡ None) a.groups
-      (λ r e k. e (live_before a.book.validity a.as_of s n a.sessions some r.session k)) h.groups;
+      (λ r e k. e (live_before (validity_of a.shelf) a.as_of s n a.sessions some r.session k))
+      h.groups;
   buckets = h.buckets;
 }
 
 -- ---- a live session is live once time went on
 
 pub live_middle : (a x : AccountRows) (s : List ℕ) (g t : ℕ) →
-    is_live_in a.book.validity t a.sessions s ≡ true → x ≡ advanced t (with_group_row s g a) →
-    is_live_in x.book.validity x.as_of x.sessions s ≡ true
+    is_live_in (validity_of a.shelf) t a.sessions s ≡ true → x ≡ advanced t (with_group_row s g a) →
+    is_live_in (validity_of x.shelf) x.as_of x.sessions s ≡ true
 live_middle a x s g t live is =
-    subst (λ (y : AccountRows). is_live_in y.book.validity y.as_of y.sessions s ≡ true) (sym is)
-    (live_alike a.book.validity t t a.sessions (omega arith) s ∙ live)
+    subst (λ (y : AccountRows). is_live_in (validity_of y.shelf) y.as_of y.sessions s ≡ true)
+    (sym is)
+    (live_alike (validity_of a.shelf) t t a.sessions (omega arith) s ∙ live)

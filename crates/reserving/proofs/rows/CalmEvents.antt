@@ -21,6 +21,7 @@ use Rattle.reserving.specs.Sessions.{group_before, session_before}
 use Rattle.reserving.proofs.Lists.{EachIn-put, find-put_other, EachIn-found, EachIn-weaker}
 use Rattle.reserving.proofs.KeysFound.{found_session}
 use Rattle.reserving.proofs.rows.Calm.{rows_map, settled_calm}
+use Rattle.reserving.specs.Pricing.{validity_of}
 
 -- ---- an event keeps the group's reservation
 
@@ -41,9 +42,10 @@ pub calm_debited : (a : AccountRows) (s : List ℕ) (g units blocks rated : ℕ)
 calm_debited a s g units blocks rated h = record {
   sessions = h.sessions;
   groups = EachIn-put
-      (λ r. is_live_in a.book.validity a.as_of a.sessions r.session ≡ false → r.reservation ≡ None)
+      (λ r. is_live_in (validity_of a.shelf) a.as_of a.sessions r.session ≡ false →
+      r.reservation ≡ None)
       group_before (is_of s g) _ a.groups
-      (kept_reservation (is_live_in a.book.validity a.as_of a.sessions) s g a.groups h.groups)
+      (kept_reservation (is_live_in (validity_of a.shelf) a.as_of a.sessions) s g a.groups h.groups)
       h.groups;
   buckets = rows_map (λ b. nat_lt a.as_of b.until ≡ false → b.available ≡ 0)
       (λ b. nat_lt a.as_of b.until ≡ false → b.available ≡ 0)
@@ -55,18 +57,18 @@ calm_debited a s g units blocks rated h = record {
 
 -- ---- a recorded request
 
-new_same : (v t : ℕ) (s : List ℕ) (n u : ℕ) (state : SessionState) → 60 ≤ v → t ≤ u →
+new_same : (v : ℕ → ℕ) (t : ℕ) (s : List ℕ) (n u : ℕ) (state : SessionState) → 60 ≤ v u → t ≤ u →
     lapse v t (record { id = s; last_number = n; touched = u; state = state })
     ≡ record { id = s; last_number = n; touched = u; state = state }
 new_same v t s n u Open some le =
-    let still : nat_lt t (u + 2 * v) ≡ true = grind (arith, nat_tests) in
+    let still : nat_lt t (u + 2 * v u) ≡ true = grind (arith, nat_tests) in
     let ended : Session = record { id = s; last_number = n; touched = u; state = Ended } in
     let now : Session = record { id = s; last_number = n; touched = u; state = Open } in
     ap (λ p. if not p then ended else now) still
 new_same v t s n u Ended some le = refl
 new_same v t s n u NeverOpened some le = refl
 
-live_unput : (v t : ℕ) (s x : List ℕ) (new : Session) (rows : List Session) → new.id ≡ s →
+live_unput : (v : ℕ → ℕ) (t : ℕ) (s x : List ℕ) (new : Session) (rows : List Session) → new.id ≡ s →
     session_in s rows ≡ None → is_live_in v t (put session_before (is_session s) new rows) x
     ≡ false →
     is_live_in v t rows x ≡ false
@@ -84,17 +86,19 @@ live_unput v t s x new rows named none k = at (is_same s x) refl
         ∙ k
 
 pub calm_recorded : (a : AccountRows) (s : List ℕ) (n u : ℕ) (state : SessionState) →
-    60 ≤ a.book.validity → a.as_of ≤ u → session_in s a.sessions ≡ None → IsCalm a →
+    60 ≤ validity_of a.shelf u → a.as_of ≤ u → session_in s a.sessions ≡ None → IsCalm a →
     IsCalm (with_session s n u state a)
 calm_recorded a s n u state some le none h = record {
-  sessions = EachIn-put (λ r. lapse a.book.validity a.as_of r ≡ r) session_before (is_session s) _
+  sessions = EachIn-put (λ r. lapse (validity_of a.shelf) a.as_of r ≡ r) session_before
+      (is_session s) _
       a.sessions
-      (new_same a.book.validity a.as_of s n u state some le) h.sessions;
+      (new_same (validity_of a.shelf) a.as_of s n u state some le) h.sessions;
   groups = EachIn-weaker
-      (λ r. is_live_in a.book.validity a.as_of a.sessions r.session ≡ false → r.reservation ≡ None)
-      (λ r. is_live_in a.book.validity a.as_of (session_put s n u state a.sessions) r.session
+      (λ r. is_live_in (validity_of a.shelf) a.as_of a.sessions r.session ≡ false →
+      r.reservation ≡ None)
+      (λ r. is_live_in (validity_of a.shelf) a.as_of (session_put s n u state a.sessions) r.session
       ≡ false → r.reservation ≡ None) a.groups
-      (λ r e k. e (live_unput a.book.validity a.as_of s r.session _ a.sessions refl none k))
+      (λ r e k. e (live_unput (validity_of a.shelf) a.as_of s r.session _ a.sessions refl none k))
       h.groups;
   buckets = h.buckets;
 }

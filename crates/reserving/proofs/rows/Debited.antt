@@ -10,11 +10,11 @@ use Rattle.buckets.specs.Holding.{held_in, paid, paid_of_hold, paid_of_rest, set
 use Rattle.buckets.specs.Holding.{settled_rows}
 use Rattle.buckets.proofs.Parts.{sum_at, sum_at-parts, sum_at_none}
 use Rattle.reserving.specs.declared.session.SessionGroup.{SessionGroup}
-use Rattle.rating.specs.declared.grant.Periods.{Periods}
+use Rattle.reserving.specs.declared.session.Terms.{Terms}
 use Rattle.reserving.specs.Ledger.{Ledger, charged, open_grant, held, only, used, counter}
 use Rattle.reserving.specs.Ledger.{has_group, has_counter, inner, is_live, is_same, grant_in}
 use Rattle.reserving.specs.Ledger.{counts_group, blocks_in, next_bucket}
-use Rattle.reserving.specs.Pricing.{cycle_at}
+use Rattle.reserving.specs.Pricing.{cycle_at, validity_of}
 use Rattle.reserving.specs.Keyed.{put}
 use Rattle.reserving.specs.Balance.{credits, balance_of, bucket_at, buckets_at}
 use Rattle.reserving.specs.Sessions.{is_of, group_in, group_at, holds_at, reservation_of}
@@ -42,12 +42,12 @@ use Rattle.reserving.proofs.SettledRows.{count_in_is, open_none, if_none, counte
 use Rattle.reserving.proofs.SettledRows.{differs_above, made_in}
 
 -- what each bucket pays of an event's price
-abbrev shares : ℕ → ℕ → ℕ → ℕ → Ledger → List Hold
+abbrev shares : (ℕ → ℕ) → ℕ → ℕ → ℕ → Ledger → List Hold
 shares v t group rated ledger =
     parts (paid [] group t rated (buckets_at v t ledger)) (buckets_at v t ledger)
 
 -- neither a use nor a charge tells of sessions
-same_sessions-debited : (v t : ℕ) (session : List ℕ) (group units blocks rated : ℕ)
+same_sessions-debited : (v : ℕ → ℕ) (t : ℕ) (session : List ℕ) (group units blocks rated : ℕ)
     (ledger : Ledger) →
     SameSessions ledger (charged_use v t session group units blocks rated ledger)
 same_sessions-debited v t session group units blocks rated ledger =
@@ -60,7 +60,8 @@ same_sessions-debited v t session group units blocks rated ledger =
 
 -- ---- its buckets
 
-bucket_at-debited : (v t : ℕ) (session : List ℕ) (group units blocks rated : ℕ) (ledger : Ledger)
+bucket_at-debited : (v : ℕ → ℕ) (t : ℕ) (session : List ℕ) (group units blocks rated : ℕ)
+    (ledger : Ledger)
     (c : Row) →
     (let rows : List Row = buckets_at v t ledger in
     IsBalanced (bucket_at v t ledger c) →
@@ -99,7 +100,8 @@ bucket_at-debited v t session group units blocks rated ledger c balanced sum =
     ∙ ap (λ x. with_release t (with_charge (with_charge_of_hold (balance_of t c ch x) s1) s2)
     (h - s1)) (sym none)
 
-each_debited : (v t : ℕ) (session : List ℕ) (group units blocks rated : ℕ) (ledger : Ledger)
+each_debited : (v : ℕ → ℕ) (t : ℕ) (session : List ℕ) (group units blocks rated : ℕ)
+    (ledger : Ledger)
     (cs : List Row) →
     (let rows : List Row = buckets_at v t ledger in
     Each IsBalanced (map (bucket_at v t ledger) cs) →
@@ -117,7 +119,8 @@ each_debited v t session group units blocks rated ledger (c ∷ cs) balanced sum
     = each_debited v t session group units blocks rated ledger cs balanced.1 sums.1 in
     λ i. one i ∷ rest i
 
-buckets_at-debited : (v t : ℕ) (session : List ℕ) (group units blocks rated : ℕ) (ledger : Ledger) →
+buckets_at-debited : (v : ℕ → ℕ) (t : ℕ) (session : List ℕ) (group units blocks rated : ℕ)
+    (ledger : Ledger) →
     Each IsBalanced (buckets_at v t ledger) →
     AreDistinct (buckets_at v t ledger) →
     buckets_at v t (charged_use v t session group units blocks rated ledger)
@@ -131,20 +134,21 @@ buckets_at-debited v t session group units blocks rated ledger balanced distinct
 
 -- ---- its groups
 
-same_grant : (v t : ℕ) (session : List ℕ) (group units blocks rated : ℕ) (ledger : Ledger)
+same_grant : (v : ℕ → ℕ) (t : ℕ) (session : List ℕ) (group units blocks rated : ℕ) (ledger : Ledger)
     (s : List ℕ) (g : ℕ) →
     open_grant s g (charged_use v t session group units blocks rated ledger) ≡ open_grant s g ledger
 same_grant v t session group units blocks rated ledger s g =
     ap inner (newest-front (grant_in s g) (charge_facts t (shares v t group rated ledger)) ledger
     (each_charge _ t (shares v t group rated ledger) (λ b n. refl)))
 
-same_held : (v t : ℕ) (session : List ℕ) (group units blocks rated : ℕ) (ledger : Ledger)
+same_held : (v : ℕ → ℕ) (t : ℕ) (session : List ℕ) (group units blocks rated : ℕ) (ledger : Ledger)
     (p : List ℕ → ℕ → Bool) (n : ℕ) →
     held p n (charged_use v t session group units blocks rated ledger) ≡ held p n ledger
 same_held v t session group units blocks rated ledger p n =
     omega (arith, held-charge_facts p n t (shares v t group rated ledger) ledger)
 
-other_debited : (v t : ℕ) (session : List ℕ) (group units blocks rated : ℕ) (ledger : Ledger)
+other_debited : (v : ℕ → ℕ) (t : ℕ) (session : List ℕ) (group units blocks rated : ℕ)
+    (ledger : Ledger)
     (s : List ℕ) (g : ℕ) → is_key session group s g ≡ false →
     SameGroup s g ledger (charged_use v t session group units blocks rated ledger)
 other_debited v t session group units blocks rated ledger s g h =
@@ -156,7 +160,7 @@ other_debited v t session group units blocks rated ledger s g h =
       held = same_held v t session group units blocks rated ledger (only s g);
     }
 
-either_reservation : (h l : Bool) (hs : List Hold) (p : Option Periods) (used : ℕ) (s : List ℕ)
+either_reservation : (h l : Bool) (hs : List Hold) (p : Option Terms) (used : ℕ) (s : List ℕ)
     (g : ℕ) → (h ≡ false → p ≡ None) →
     (let x : SessionGroup = row_with s g used (if l then reservation_of hs p else None) in
     (unwrap_or (if h then Some x else None) (new_group s g)).reservation
@@ -167,14 +171,17 @@ either_reservation false false hs p used s g k = refl
 
 -- a group's reservation, if it has a row or not
 reservation_is : (ledger : Ledger) (a : AccountRows) (s : List ℕ) (g : ℕ) → IsRowsOf ledger a →
-    (group_or_new s g a.groups).reservation ≡ reservation_at a.book.validity a.as_of ledger s g
+    (group_or_new s g a.groups).reservation ≡ reservation_at (validity_of a.shelf)
+    a.as_of ledger s g
 reservation_is ledger a s g rows =
     ap (λ o. (unwrap_or o (new_group s g)).reservation) (rows.groups s g)
-    ∙ either_reservation (has_group s g ledger) (is_live a.book.validity a.as_of ledger s)
-    (holds_at a.book.validity a.as_of s g ledger) (open_grant s g ledger) (used s g ledger) s g
+    ∙ either_reservation (has_group s g ledger) (is_live (validity_of a.shelf) a.as_of ledger s)
+    (holds_at (validity_of a.shelf) a.as_of s g ledger) (open_grant s g ledger)
+    (used s g ledger) s g
     (open_none s g ledger)
 
-own_debited : (v t : ℕ) (session : List ℕ) (group units blocks rated : ℕ) (ledger : Ledger)
+own_debited : (v : ℕ → ℕ) (t : ℕ) (session : List ℕ) (group units blocks rated : ℕ)
+    (ledger : Ledger)
     (does : Row → Row) →
     IsMoved does v t ledger (charged_use v t session group units blocks rated ledger) →
     group_at v t (charged_use v t session group units blocks rated ledger) session group
@@ -198,7 +205,8 @@ own_debited v t session group units blocks rated ledger does moved =
     (same_held v t session group units blocks rated ledger (only session group)) in
     own_row session group _ _ _ _ _ named so_far kept
 
-groups-debited : (v t : ℕ) (session : List ℕ) (group units blocks rated : ℕ) (ledger : Ledger)
+groups-debited : (v : ℕ → ℕ) (t : ℕ) (session : List ℕ) (group units blocks rated : ℕ)
+    (ledger : Ledger)
     (does : Row → Row) (rows : List SessionGroup) →
     IsMoved does v t ledger (charged_use v t session group units blocks rated ledger) →
     used_in session group rows ≡ used session group ledger →
@@ -255,7 +263,8 @@ groups-debited v t session group units blocks rated ledger does rows moved so_fa
 
 -- ---- its counters
 
-counter-debited : (v t : ℕ) (session : List ℕ) (group units blocks rated : ℕ) (ledger : Ledger)
+counter-debited : (v : ℕ → ℕ) (t : ℕ) (session : List ℕ) (group units blocks rated : ℕ)
+    (ledger : Ledger)
     (f : ℕ → ℕ) (g c : ℕ) →
     counter f g c (charged_use v t session group units blocks rated ledger)
     ≡ counter f g c ledger + (if f t == c then (if group == g then blocks else 0) else 0)
@@ -267,7 +276,8 @@ counter-debited v t session group units blocks rated ledger f g c =
           (each_charge _ t hs (λ b n. if_none (f t == c))),
     )
 
-has_counter-debited : (v t : ℕ) (session : List ℕ) (group units blocks rated : ℕ) (ledger : Ledger)
+has_counter-debited : (v : ℕ → ℕ) (t : ℕ) (session : List ℕ) (group units blocks rated : ℕ)
+    (ledger : Ledger)
     (f : ℕ → ℕ) (g c : ℕ) →
     has_counter f g c (charged_use v t session group units blocks rated ledger)
     ≡ ((group == g && f t == c) || has_counter f g c ledger)
@@ -279,7 +289,8 @@ has_counter-debited v t session group units blocks rated ledger f g c =
 
 -- ---- the rows of the ledger with the debit
 
-unknown-debited : (v t : ℕ) (session : List ℕ) (group units blocks rated : ℕ) (ledger : Ledger)
+unknown-debited : (v : ℕ → ℕ) (t : ℕ) (session : List ℕ) (group units blocks rated : ℕ)
+    (ledger : Ledger)
     (s : List ℕ) → IsUnknown s ledger →
     IsUnknown s (charged_use v t session group units blocks rated ledger)
 unknown-debited v t session group units blocks rated ledger s h = record {
@@ -290,7 +301,7 @@ unknown-debited v t session group units blocks rated ledger s h = record {
 }
 
 -- the ledger stays sound
-pub IsSoundLedger-debited : (v t : ℕ) (session : List ℕ) (group units blocks rated : ℕ)
+pub IsSoundLedger-debited : (v : ℕ → ℕ) (t : ℕ) (session : List ℕ) (group units blocks rated : ℕ)
     (ledger : Ledger) → IsBelow (next_bucket ledger) (buckets_at v t ledger) →
     IsSoundLedger ledger → IsSoundLedger (charged_use v t session group units blocks rated ledger)
 IsSoundLedger-debited v t session group units blocks rated ledger below sound =
@@ -322,10 +333,10 @@ IsSoundLedger-debited v t session group units blocks rated ledger below sound =
 pub IsRowsOf-debited : (ledger : Ledger) (a : AccountRows) (session : List ℕ)
     (group units blocks rated : ℕ) →
     IsAccount a → IsRowsOf ledger a →
-    IsRowsOf (charged_use a.book.validity a.as_of session group units blocks rated ledger)
+    IsRowsOf (charged_use (validity_of a.shelf) a.as_of session group units blocks rated ledger)
     (debited_account session group units blocks rated a)
 IsRowsOf-debited ledger a session group units blocks rated account rows =
-    let v : ℕ = a.book.validity in
+    let v : ℕ → ℕ = (validity_of a.shelf) in
     let t : ℕ = a.as_of in
     let after : Ledger = charged_use v t session group units blocks rated ledger in
     let now : List Row = buckets_at v t ledger in
@@ -348,10 +359,10 @@ IsRowsOf-debited ledger a session group units blocks rated account rows =
           (used_in_is ledger a session group rows) (reservation_is ledger a session group rows)
           rows.groups;
       counters =
-          counters_used (cycle_at a.book) t group blocks ledger after a.counters
+          counters_used (cycle_at a.shelf) t group blocks ledger after a.counters
           (counter-debited v t session group units blocks rated ledger)
           (has_counter-debited v t session group units blocks rated ledger)
-          (count_in_is ledger a group (cycle_at a.book group t) rows) rows.counters;
+          (count_in_is ledger a group (cycle_at a.shelf group t) rows) rows.counters;
       next_bucket = rows.next_bucket ∙ omega (arith, next_bucket-charges t hs ledger);
       next_charge =
           ap (λ n. n + 1) rows.next_charge ∙ omega (arith, next_charge-charges t hs ledger);

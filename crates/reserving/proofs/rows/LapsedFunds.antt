@@ -100,7 +100,8 @@ later_amount : (e : Bool) (m n : ℕ) →
 later_amount true m n = refl
 later_amount false m n = refl
 
-pub lapsed_funds-is : (group v t : ℕ) (sessions : List Session) (groups : List SessionGroup)
+pub lapsed_funds-is : (group : ℕ) (v : ℕ → ℕ) (t : ℕ) (sessions : List Session)
+    (groups : List SessionGroup)
     (rows : List Row) →
     funds group t rows + lapsed_funds (is_live_in v t sessions) group t groups rows
     ≡ funds group t

@@ -30,7 +30,8 @@ amount_is group t n b = at (nat_lt t b.until) refl
     at true e = rw (e, e) refl
     at false e = rw (e, e) (no_end (nat_le b.from t) (covers b.scope group) 0 (b.available + n))
 
-pub funds_later-is : (group v t : ℕ) (sessions : List Session) (groups : List SessionGroup)
+pub funds_later-is : (group : ℕ) (v : ℕ → ℕ) (t : ℕ) (sessions : List Session)
+    (groups : List SessionGroup)
     (rows : List Row) →
     funds_later group v t sessions groups rows
     ≡ funds group t

@@ -20,9 +20,9 @@ use Rattle.reserving.specs.Ledger.{is_closed, units_in, names_group, grant_in, c
 use Rattle.reserving.specs.Ledger.{blocks_in, uses_in, credits_in, newest, last_touch}
 use Rattle.reserving.specs.Ledger.{last_recording, next_bucket}
 use Rattle.reserving.specs.Ledger.Fact.{Grant}
-use Rattle.tariffs.specs.Books.{Book}
-use Rattle.rating.specs.declared.grant.Periods.{Periods}
-use Rattle.reserving.specs.Pricing.{periods_at, cycle_at}
+use Rattle.shelves.specs.Shelves.{Shelf}
+use Rattle.reserving.specs.declared.session.Terms.{Terms}
+use Rattle.reserving.specs.Pricing.{terms_at, cycle_at, validity_of}
 use Rattle.reserving.specs.Keyed.{put}
 use Rattle.reserving.specs.Balance.{credits, balance_of, bucket_at, buckets_at}
 use Rattle.reserving.specs.Sessions.{is_of, group_in, group_at, counter_at, holds_at, holds_in}
@@ -59,22 +59,23 @@ balance_by-held true c ch h s q =
 balance_by-held false c ch h s q =
     with_columns c _ _ _ _ _ _ _ _ (omega arith) (omega arith) refl (omega arith)
 
-abbrev holds_for : Book → ℕ → ℕ → ℕ → Ledger → List Hold
-holds_for book t group amount ledger = holds_of group t amount (buckets_at book.validity t ledger)
+abbrev holds_for : Shelf → ℕ → ℕ → ℕ → Ledger → List Hold
+holds_for shelf t group amount ledger = holds_of group t amount
+    (buckets_at (validity_of shelf) t ledger)
 
-abbrev granted : Book → ℕ → List ℕ → ℕ → ℕ → Ledger → Ledger
-granted book t session group units ledger =
+abbrev granted : Shelf → ℕ → List ℕ → ℕ → ℕ → Ledger → Ledger
+granted shelf t session group units ledger =
     record {
       at = t;
-      fact = Grant session group (periods_at book t) units
-          (counter (cycle_at book group) group (cycle_at book group t) ledger);
+      fact = Grant session group (terms_at shelf t) units
+          (counter (cycle_at shelf group) group (cycle_at shelf group t) ledger);
     } ∷ ledger
 
-same_sessions-reserved : (book : Book) (t : ℕ) (session : List ℕ) (group units amount : ℕ)
-    (ledger : Ledger) → SameSessions ledger (reserved book t session group units amount ledger)
-same_sessions-reserved book t session group units amount ledger =
-    let hs : List Hold = holds_for book t group amount ledger in
-    let before : Ledger = granted book t session group units ledger in
+same_sessions-reserved : (shelf : Shelf) (t : ℕ) (session : List ℕ) (group units amount : ℕ)
+    (ledger : Ledger) → SameSessions ledger (reserved shelf t session group units amount ledger)
+same_sessions-reserved shelf t session group units amount ledger =
+    let hs : List Hold = holds_for shelf t group amount ledger in
+    let before : Ledger = granted shelf t session group units ledger in
     record {
       touch = λ s. newest-front _ (hold_facts t session group hs) before
           (each_hold _ t session group hs (λ b n. refl));
@@ -85,27 +86,27 @@ same_sessions-reserved book t session group units amount ledger =
           (each_hold _ t session group hs (λ b n. refl));
     }
 
-bucket_at-reserved : (book : Book) (t : ℕ) (session : List ℕ) (group units amount : ℕ)
+bucket_at-reserved : (shelf : Shelf) (t : ℕ) (session : List ℕ) (group units amount : ℕ)
     (ledger : Ledger) (c : Row) →
-    (let rows : List Row = buckets_at book.validity t ledger in
-    is_live book.validity t ledger session ≡ true →
+    (let rows : List Row = buckets_at (validity_of shelf) t ledger in
+    is_live (validity_of shelf) t ledger session ≡ true →
     sum_at c.number (holds_of group t amount rows)
-    ≡ share (eligible_amount group t) rows amount (bucket_at book.validity t ledger c) →
-    bucket_at book.validity t (reserved book t session group units amount ledger) c
-    ≡ with_hold (bucket_at book.validity t ledger c)
-    (share (eligible_amount group t) rows amount (bucket_at book.validity t ledger c)))
-bucket_at-reserved book t session group units amount ledger c live sum =
-    let v : ℕ = book.validity in
+    ≡ share (eligible_amount group t) rows amount (bucket_at (validity_of shelf) t ledger c) →
+    bucket_at (validity_of shelf) t (reserved shelf t session group units amount ledger) c
+    ≡ with_hold (bucket_at (validity_of shelf) t ledger c)
+    (share (eligible_amount group t) rows amount (bucket_at (validity_of shelf) t ledger c)))
+bucket_at-reserved shelf t session group units amount ledger c live sum =
+    let v : ℕ → ℕ = (validity_of shelf) in
     let rows : List Row = buckets_at v t ledger in
     let n : ℕ = c.number in
     let hs : List Hold = holds_of group t amount rows in
-    let before : Ledger = granted book t session group units ledger in
-    let after : Ledger = reserved book t session group units amount ledger in
+    let before : Ledger = granted shelf t session group units ledger in
+    let after : Ledger = reserved shelf t session group units amount ledger in
     let all : List ℕ → ℕ → Bool = λ s g. is_live v t ledger s in
     let all' : List ℕ → ℕ → Bool = λ s g. is_live v t after s in
     let same : all' ≡ all =
     λ i s g. same_live v t ledger after
-    (same_sessions-reserved book t session group units amount ledger) s i in
+    (same_sessions-reserved shelf t session group units amount ledger) s i in
     let s : ℕ = share (eligible_amount group t) rows amount (bucket_at v t ledger c) in
     let held' : held all' n (hold_facts t session group hs ++ before) ≡ s + held all n ledger =
     ap (λ p. held p n (hold_facts t session group hs ++ before)) same
@@ -119,45 +120,48 @@ bucket_at-reserved book t session group units amount ledger c live sum =
     ∙ ap (λ x. balance_of t c x (s + held all n ledger)) charged'
     ∙ balance_by-held (nat_lt t c.until) c (charged n ledger) (held all n ledger) s within
 
-each_reserved : (book : Book) (t : ℕ) (session : List ℕ) (group units amount : ℕ) (ledger : Ledger)
+each_reserved : (shelf : Shelf) (t : ℕ) (session : List ℕ) (group units amount : ℕ)
+    (ledger : Ledger)
     (cs : List Row) →
-    (let rows : List Row = buckets_at book.validity t ledger in
-    is_live book.validity t ledger session ≡ true →
+    (let rows : List Row = buckets_at (validity_of shelf) t ledger in
+    is_live (validity_of shelf) t ledger session ≡ true →
     Each (λ b. sum_at b.number (holds_of group t amount rows)
-    ≡ share (eligible_amount group t) rows amount b) (map (bucket_at book.validity t ledger) cs)
+    ≡ share (eligible_amount group t) rows amount b)
+    (map (bucket_at (validity_of shelf) t ledger) cs)
     →
-    map (bucket_at book.validity t (reserved book t session group units amount ledger)) cs
+    map (bucket_at (validity_of shelf) t (reserved shelf t session group units amount ledger)) cs
     ≡ map (λ b. with_hold b (share (eligible_amount group t) rows amount b))
-    (map (bucket_at book.validity t ledger) cs))
-each_reserved book t session group units amount ledger [] live sums = refl
-each_reserved book t session group units amount ledger (c ∷ cs) live sums =
-    λ i. bucket_at-reserved book t session group units amount ledger c live sums.0 i
-    ∷ each_reserved book t session group units amount ledger cs live sums.1 i
+    (map (bucket_at (validity_of shelf) t ledger) cs))
+each_reserved shelf t session group units amount ledger [] live sums = refl
+each_reserved shelf t session group units amount ledger (c ∷ cs) live sums =
+    λ i. bucket_at-reserved shelf t session group units amount ledger c live sums.0 i
+    ∷ each_reserved shelf t session group units amount ledger cs live sums.1 i
 
 -- the buckets of a ledger with a grant
-buckets_at-reserved : (book : Book) (t : ℕ) (session : List ℕ) (group units amount : ℕ)
+buckets_at-reserved : (shelf : Shelf) (t : ℕ) (session : List ℕ) (group units amount : ℕ)
     (ledger : Ledger) →
-    is_live book.validity t ledger session ≡ true →
-    AreDistinct (buckets_at book.validity t ledger) →
-    buckets_at book.validity t (reserved book t session group units amount ledger)
-    ≡ held_rows group t amount (buckets_at book.validity t ledger)
-buckets_at-reserved book t session group units amount ledger live distinct =
-    let rows : List Row = buckets_at book.validity t ledger in
+    is_live (validity_of shelf) t ledger session ≡ true →
+    AreDistinct (buckets_at (validity_of shelf) t ledger) →
+    buckets_at (validity_of shelf) t (reserved shelf t session group units amount ledger)
+    ≡ held_rows group t amount (buckets_at (validity_of shelf) t ledger)
+buckets_at-reserved shelf t session group units amount ledger live distinct =
+    let rows : List Row = buckets_at (validity_of shelf) t ledger in
     let hs : List Hold = holds_of group t amount rows in
-    ap (map (bucket_at book.validity t (reserved book t session group units amount ledger)))
-    (credits-hold_facts t session group hs (granted book t session group units ledger))
-    ∙ each_reserved book t session group units amount ledger (credits ledger) live
+    ap (map (bucket_at (validity_of shelf) t (reserved shelf t session group units amount ledger)))
+    (credits-hold_facts t session group hs (granted shelf t session group units ledger))
+    ∙ each_reserved shelf t session group units amount ledger (credits ledger) live
     (sum_at-parts (share (eligible_amount group t) rows amount) rows distinct)
 
 -- ---- the groups
 
-other_reserved : (book : Book) (t : ℕ) (session : List ℕ) (group units amount : ℕ) (ledger : Ledger)
+other_reserved : (shelf : Shelf) (t : ℕ) (session : List ℕ) (group units amount : ℕ)
+    (ledger : Ledger)
     (s : List ℕ) (g : ℕ) → is_key session group s g ≡ false →
-    SameGroup s g ledger (reserved book t session group units amount ledger)
-other_reserved book t session group units amount ledger s g h =
-    let hs : List Hold = holds_for book t group amount ledger in
-    let before : Ledger = granted book t session group units ledger in
-    let p : Periods = periods_at book t in
+    SameGroup s g ledger (reserved shelf t session group units amount ledger)
+other_reserved shelf t session group units amount ledger s g h =
+    let hs : List Hold = holds_for shelf t group amount ledger in
+    let before : Ledger = granted shelf t session group units ledger in
+    let p : Terms = terms_at shelf t in
     record {
       named = any-front (names_group s g) (hold_facts t session group hs) before
           (each_hold _ t session group hs (λ b n. refl)) ∙ (λ i. h i || has_group s g ledger);
@@ -187,47 +191,50 @@ parts_each F G does (b ∷ bs) k e =
     λ i. (if nat_lt 0 (amount i) then one i ∷ parts_each F G does bs k e.1 i
     else parts_each F G does bs k e.1 i)
 
-each_own : (book : Book) (t : ℕ) (session : List ℕ) (group units amount : ℕ) (ledger : Ledger)
+each_own : (shelf : Shelf) (t : ℕ) (session : List ℕ) (group units amount : ℕ) (ledger : Ledger)
     (G : Row → ℕ) (xs : List Row) →
     Each (λ b. held (only session group) b.number ledger ≡ 0) xs →
-    Each (λ b. sum_at b.number (holds_for book t group amount ledger) ≡ G b) xs →
+    Each (λ b. sum_at b.number (holds_for shelf t group amount ledger) ≡ G b) xs →
     Each (λ b. held (only session group) b.number
-    (reserved book t session group units amount ledger) ≡ G b) xs
-each_own book t session group units amount ledger G [] none h = tt
-each_own book t session group units amount ledger G (b ∷ bs) none h = (
+    (reserved shelf t session group units amount ledger) ≡ G b) xs
+each_own shelf t session group units amount ledger G [] none h = tt
+each_own shelf t session group units amount ledger G (b ∷ bs) none h = (
   omega (
     arith,
     held-hold_facts (only session group) b.number t session group
-        (holds_for book t group amount ledger) (granted book t session group units ledger)
+        (holds_for shelf t group amount ledger) (granted shelf t session group units ledger)
         (own_key session group),
     none.0,
     h.0,
   ),
-  each_own book t session group units amount ledger G bs none.1 h.1,
+  each_own shelf t session group units amount ledger G bs none.1 h.1,
 )
 
-abbrev reservation_for : Book → ℕ → List Hold → Reservation
-reservation_for book t holds = record { periods = periods_at book t; holds = holds }
+abbrev reservation_for : Shelf → ℕ → List Hold → Reservation
+reservation_for shelf t holds = record { terms = terms_at shelf t; holds = holds }
 
-own_reserved : (book : Book) (t : ℕ) (session : List ℕ) (group units amount : ℕ) (ledger : Ledger) →
-    is_live book.validity t ledger session ≡ true →
-    AreDistinct (buckets_at book.validity t ledger) →
-    Each (λ b. held (only session group) b.number ledger ≡ 0) (buckets_at book.validity t ledger) →
-    group_at book.validity t (reserved book t session group units amount ledger) session group
+own_reserved : (shelf : Shelf) (t : ℕ) (session : List ℕ) (group units amount : ℕ)
+    (ledger : Ledger) →
+    is_live (validity_of shelf) t ledger session ≡ true →
+    AreDistinct (buckets_at (validity_of shelf) t ledger) →
+    Each (λ b. held (only session group) b.number ledger ≡ 0)
+    (buckets_at (validity_of shelf) t ledger) →
+    group_at (validity_of shelf) t (reserved shelf t session group units amount ledger) session
+    group
     ≡ Some (record {
       session = session;
       group = group;
       used = used session group ledger;
-      reservation = Some (reservation_for book t (holds_for book t group amount ledger));
+      reservation = Some (reservation_for shelf t (holds_for shelf t group amount ledger));
     })
-own_reserved book t session group units amount ledger live distinct free =
-    let v : ℕ = book.validity in
-    let after : Ledger = reserved book t session group units amount ledger in
-    let before : Ledger = granted book t session group units ledger in
+own_reserved shelf t session group units amount ledger live distinct free =
+    let v : ℕ → ℕ = (validity_of shelf) in
+    let after : Ledger = reserved shelf t session group units amount ledger in
+    let before : Ledger = granted shelf t session group units ledger in
     let rows : List Row = buckets_at v t ledger in
-    let hs : List Hold = holds_for book t group amount ledger in
+    let hs : List Hold = holds_for shelf t group amount ledger in
     let own : is_key session group session group ≡ true = own_key session group in
-    let p : Periods = periods_at book t in
+    let p : Terms = terms_at shelf t in
     let G : Row → ℕ = share (eligible_amount group t) rows amount in
     let named : has_group session group after ≡ true =
     any-front (names_group session group) (hold_facts t session group hs) before
@@ -246,56 +253,57 @@ own_reserved book t session group units amount ledger live distinct free =
     (or_else (if own i then Some (Some p) else None) (newest (grant_in session group) ledger)))
     in
     let is_live' : is_live v t after session ≡ true =
-    same_live v t ledger after (same_sessions-reserved book t session group units amount ledger)
+    same_live v t ledger after (same_sessions-reserved shelf t session group units amount ledger)
     session ∙ live in
     let holds : holds_at v t session group after ≡ hs =
     ap (parts (λ b. held (only session group) b.number after))
-    (buckets_at-reserved book t session group units amount ledger live distinct)
+    (buckets_at-reserved shelf t session group units amount ledger live distinct)
     ∙ parts_each (λ n. held (only session group) n after) G (λ b. with_hold b (G b)) rows
     (λ b. refl)
-    (each_own book t session group units amount ledger G rows free
+    (each_own shelf t session group units amount ledger G rows free
     (sum_at-parts G rows distinct)) in
-    let reservation : reservation_at v t after session group ≡ Some (reservation_for book t hs) =
+    let reservation : reservation_at v t after session group ≡ Some (reservation_for shelf t hs) =
     λ i. (if is_live' i then reservation_of (holds i) (grant i) else None) in
     own_row session group _ _ _ _ _ named so_far reservation
 
-groups-reserved : (book : Book) (t : ℕ) (session : List ℕ) (group units amount : ℕ)
+groups-reserved : (shelf : Shelf) (t : ℕ) (session : List ℕ) (group units amount : ℕ)
     (ledger : Ledger) (rows : List SessionGroup) (holds : List Hold) →
-    is_live book.validity t ledger session ≡ true →
-    AreDistinct (buckets_at book.validity t ledger) →
-    Each (λ b. held (only session group) b.number ledger ≡ 0) (buckets_at book.validity t ledger) →
-    holds ≡ holds_for book t group amount ledger →
+    is_live (validity_of shelf) t ledger session ≡ true →
+    AreDistinct (buckets_at (validity_of shelf) t ledger) →
+    Each (λ b. held (only session group) b.number ledger ≡ 0)
+    (buckets_at (validity_of shelf) t ledger) →
+    holds ≡ holds_for shelf t group amount ledger →
     used_in session group rows ≡ used session group ledger →
-    ((s : List ℕ) (g : ℕ) → group_in s g rows ≡ group_at book.validity t ledger s g) →
+    ((s : List ℕ) (g : ℕ) → group_in s g rows ≡ group_at (validity_of shelf) t ledger s g) →
     (s : List ℕ) (g : ℕ) →
-    group_in s g (with_reservation session group (periods_at book t) holds rows)
-    ≡ group_at book.validity t (reserved book t session group units amount ledger) s g
-groups-reserved book t session group units amount ledger rows holds live distinct free eh so_far h s
-    g = by_test (is_key session group s g) refl
+    group_in s g (with_reservation session group (terms_at shelf t) holds rows)
+    ≡ group_at (validity_of shelf) t (reserved shelf t session group units amount ledger) s g
+groups-reserved shelf t session group units amount ledger rows holds live distinct free eh so_far
+    h s g = by_test (is_key session group s g) refl
   where
     after : Ledger
-    after = reserved book t session group units amount ledger
+    after = reserved shelf t session group units amount ledger
 
     row : SessionGroup
     row = record {
       session = session;
       group = group;
       used = used_in session group rows;
-      reservation = Some (reservation_for book t holds);
+      reservation = Some (reservation_for shelf t holds);
     }
 
     moved : IsMoved
         (λ b. with_hold b
-        (share (eligible_amount group t) (buckets_at book.validity t ledger) amount b))
-        book.validity t ledger after
+        (share (eligible_amount group t) (buckets_at (validity_of shelf) t ledger) amount b))
+        (validity_of shelf) t ledger after
     moved = record {
-      rows = buckets_at-reserved book t session group units amount ledger live distinct;
+      rows = buckets_at-reserved shelf t session group units amount ledger live distinct;
       number = λ b. refl;
     }
 
     by_test : (e : Bool) → is_key session group s g ≡ e →
         group_in s g (put group_before (is_of session group) row rows)
-        ≡ group_at book.validity t after s g
+        ≡ group_at (validity_of shelf) t after s g
     by_test true q =
         let es : session ≡ s = key_session session group s g q in
         let eg : group ≡ g = key_group session group s g q in
@@ -305,41 +313,41 @@ groups-reserved book t session group units amount ledger rows holds live distinc
           session = session;
           group = group;
           used = used session group ledger;
-          reservation = Some (reservation_for book t (holds_for book t group amount ledger));
+          reservation = Some (reservation_for shelf t (holds_for shelf t group amount ledger));
         } in
         r) = λ i. record {
           session = session;
           group = group;
           used = so_far i;
           reservation =
-              Some (reservation_for book t (eh i));
+              Some (reservation_for shelf t (eh i));
         } in
         (λ i. group_in (sym es i) (sym eg i) (put group_before (is_of session group) row rows))
         ∙ find-put group_before (is_of session group) row rows (own_key session group)
         ∙ (λ i. Some (same i))
-        ∙ sym (own_reserved book t session group units amount ledger live distinct free)
-        ∙ (λ i. group_at book.validity t after (es i) (eg i))
+        ∙ sym (own_reserved shelf t session group units amount ledger live distinct free)
+        ∙ (λ i. group_at (validity_of shelf) t after (es i) (eg i))
     by_test false q =
         find-put_other group_before (is_of session group) (is_of s g) row rows q
         (other_row session group s g q)
         ∙ h s g
         ∙ sym (same_group
         (λ b. with_hold b
-        (share (eligible_amount group t) (buckets_at book.validity t ledger) amount b))
-        book.validity t ledger after s g moved
-        (same_sessions-reserved book t session group units amount ledger)
-        (other_reserved book t session group units amount ledger s g q))
+        (share (eligible_amount group t) (buckets_at (validity_of shelf) t ledger) amount b))
+        (validity_of shelf) t ledger after s g moved
+        (same_sessions-reserved shelf t session group units amount ledger)
+        (other_reserved shelf t session group units amount ledger s g q))
 
 -- ---- counters, and what isn't known
 
-counter_reserved : (book : Book) (cycle_of : ℕ → ℕ) (t : ℕ) (session : List ℕ)
+counter_reserved : (shelf : Shelf) (cycle_of : ℕ → ℕ) (t : ℕ) (session : List ℕ)
     (group units amount : ℕ) (ledger : Ledger) (g c : ℕ) →
     counter_at cycle_of ledger g c
-    ≡ counter_at cycle_of (reserved book t session group units amount ledger) g c
-counter_reserved book cycle_of t session group units amount ledger g c =
-    let hs : List Hold = holds_for book t group amount ledger in
-    let before : Ledger = granted book t session group units ledger in
-    let after : Ledger = reserved book t session group units amount ledger in
+    ≡ counter_at cycle_of (reserved shelf t session group units amount ledger) g c
+counter_reserved shelf cycle_of t session group units amount ledger g c =
+    let hs : List Hold = holds_for shelf t group amount ledger in
+    let before : Ledger = granted shelf t session group units ledger in
+    let after : Ledger = reserved shelf t session group units amount ledger in
     let count : counter cycle_of g c ledger ≡ counter cycle_of g c after =
     omega (
       arith,
@@ -359,7 +367,7 @@ counter_reserved book cycle_of t session group units amount ledger g c =
     λ i. (if sym named i then Some (same i) else None)
 
 -- a live session is recorded
-touched_live : (v t : ℕ) (ledger : Ledger) (s : List ℕ) →
+touched_live : (v : ℕ → ℕ) (t : ℕ) (ledger : Ledger) (s : List ℕ) →
     ((x : ℕ) → last_touch s ledger ≡ Some x →
     option_map (λ r. r.at) (last_recording s ledger) ≡ Some x) → is_live v t ledger s ≡ true →
     last_recording s ledger ≡ None → ⊥
@@ -373,15 +381,15 @@ touched_live v t ledger s h live none = by_touch (last_touch s ledger) refl
         cc
     by_touch (Some x) e = no_some x (sym (ap (option_map (λ r. r.at)) none) ∙ h x e)
 
-unknown-reserved : (book : Book) (t : ℕ) (session : List ℕ) (group units amount : ℕ)
+unknown-reserved : (shelf : Shelf) (t : ℕ) (session : List ℕ) (group units amount : ℕ)
     (ledger : Ledger) (s : List ℕ) → is_same session s ≡ false → IsUnknown s ledger →
-    IsUnknown s (reserved book t session group units amount ledger)
-unknown-reserved book t session group units amount ledger s other h =
-    let hs : List Hold = holds_for book t group amount ledger in
-    let before : Ledger = granted book t session group units ledger in
+    IsUnknown s (reserved shelf t session group units amount ledger)
+unknown-reserved shelf t session group units amount ledger s other h =
+    let hs : List Hold = holds_for shelf t group amount ledger in
+    let before : Ledger = granted shelf t session group units ledger in
     let p : List ℕ → ℕ → Bool = λ x g. is_same x s in
     record {
-      closed = (same_sessions-reserved book t session group units amount ledger).closed s
+      closed = (same_sessions-reserved shelf t session group units amount ledger).closed s
           ∙ h.closed;
       held = λ n. omega (
         arith,
@@ -389,46 +397,46 @@ unknown-reserved book t session group units amount ledger s other h =
         h.held n,
       );
       granted =
-          λ g. (other_reserved book t session group units amount ledger s g
+          λ g. (other_reserved shelf t session group units amount ledger s g
           (ap (λ x. x && group == g) other)).grant ∙ h.granted g;
     }
 
-held_above : (book : Book) (t : ℕ) (session : List ℕ) (group units amount : ℕ) (ledger : Ledger)
-    (n : ℕ) (p : List ℕ → ℕ → Bool) → sum_at n (holds_for book t group amount ledger) ≡ 0 →
-    held p n ledger ≡ 0 → held p n (reserved book t session group units amount ledger) ≡ 0
-held_above book t session group units amount ledger n p sum none = by_test (p session group) refl
+held_above : (shelf : Shelf) (t : ℕ) (session : List ℕ) (group units amount : ℕ) (ledger : Ledger)
+    (n : ℕ) (p : List ℕ → ℕ → Bool) → sum_at n (holds_for shelf t group amount ledger) ≡ 0 →
+    held p n ledger ≡ 0 → held p n (reserved shelf t session group units amount ledger) ≡ 0
+held_above shelf t session group units amount ledger n p sum none = by_test (p session group) refl
   where
     by_test : (b : Bool) → p session group ≡ b →
-        held p n (reserved book t session group units amount ledger) ≡ 0
+        held p n (reserved shelf t session group units amount ledger) ≡ 0
     by_test true e =
         omega (
           arith,
-          held-hold_facts p n t session group (holds_for book t group amount ledger)
-              (granted book t session group units ledger) e,
+          held-hold_facts p n t session group (holds_for shelf t group amount ledger)
+              (granted shelf t session group units ledger) e,
           sum,
           none,
         )
     by_test false e =
         omega (
           arith,
-          held-hold_facts_other p n t session group (holds_for book t group amount ledger)
-              (granted book t session group units ledger) e,
+          held-hold_facts_other p n t session group (holds_for shelf t group amount ledger)
+              (granted shelf t session group units ledger) e,
           none,
         )
 
 -- ---- the ledger stays sound: a grant is of a recorded session
 
-pub IsSoundLedger-reserved : (book : Book) (t : ℕ) (session : List ℕ) (group units amount : ℕ)
-    (ledger : Ledger) → IsBelow (next_bucket ledger) (buckets_at book.validity t ledger) →
+pub IsSoundLedger-reserved : (shelf : Shelf) (t : ℕ) (session : List ℕ) (group units amount : ℕ)
+    (ledger : Ledger) → IsBelow (next_bucket ledger) (buckets_at (validity_of shelf) t ledger) →
     (last_recording session ledger ≡ None → ⊥) → IsSoundLedger ledger →
-    IsSoundLedger (reserved book t session group units amount ledger)
-IsSoundLedger-reserved book t session group units amount ledger below has sound =
-    let now : List Row = buckets_at book.validity t ledger in
-    let hs : List Hold = holds_for book t group amount ledger in
-    let before : Ledger = granted book t session group units ledger in
-    let after : Ledger = reserved book t session group units amount ledger in
+    IsSoundLedger (reserved shelf t session group units amount ledger)
+IsSoundLedger-reserved shelf t session group units amount ledger below has sound =
+    let now : List Row = buckets_at (validity_of shelf) t ledger in
+    let hs : List Hold = holds_for shelf t group amount ledger in
+    let before : Ledger = granted shelf t session group units ledger in
+    let after : Ledger = reserved shelf t session group units amount ledger in
     let same : SameSessions ledger after =
-    same_sessions-reserved book t session group units amount ledger in
+    same_sessions-reserved shelf t session group units amount ledger in
     let next : next_bucket after ≡ next_bucket ledger =
     omega (
       arith,
@@ -439,7 +447,7 @@ IsSoundLedger-reserved book t session group units amount ledger below has sound 
       touched = same_touched ledger after same sound.touched;
       unknown = λ s e.
           let nothing : last_recording s ledger ≡ None = sym (same.recording s) ∙ e in
-          unknown-reserved book t session group units amount ledger s
+          unknown-reserved shelf t session group units amount ledger s
           (not_true (is_same session s)
           (λ q. has (ap (λ x. last_recording x ledger) (same_from session s q) ∙ nothing)))
           (sound.unknown s nothing);
@@ -450,7 +458,7 @@ IsSoundLedger-reserved book t session group units amount ledger below has sound 
       );
       free = λ n counts le.
           let made : next_bucket ledger ≤ n = subst (λ (m : ℕ). m ≤ n) next le in
-          held_above book t session group units amount ledger n counts
+          held_above shelf t session group units amount ledger n counts
           (sum_at_none (share (eligible_amount group t) now amount) n now
           (differs_above (next_bucket ledger) n now below made)) (sound.free n counts made);
     }
@@ -459,21 +467,21 @@ IsSoundLedger-reserved book t session group units amount ledger below has sound 
 
 pub IsRowsOf-reserved : (ledger : Ledger) (a : AccountRows) (session : List ℕ)
     (group units amount : ℕ) →
-    IsAccount a → IsRowsOf ledger a → is_live a.book.validity a.as_of ledger session ≡ true →
+    IsAccount a → IsRowsOf ledger a → is_live (validity_of a.shelf) a.as_of ledger session ≡ true →
     reservation_in session group a.groups ≡ None →
-    IsRowsOf (reserved a.book a.as_of session group units amount ledger)
+    IsRowsOf (reserved a.shelf a.as_of session group units amount ledger)
     (reserved_account session group amount a)
 IsRowsOf-reserved ledger a session group units amount account rows live none =
-    let book : Book = a.book in
-    let v : ℕ = book.validity in
+    let shelf : Shelf = a.shelf in
+    let v : ℕ → ℕ = (validity_of shelf) in
     let t : ℕ = a.as_of in
-    let after : Ledger = reserved book t session group units amount ledger in
-    let before : Ledger = granted book t session group units ledger in
+    let after : Ledger = reserved shelf t session group units amount ledger in
+    let before : Ledger = granted shelf t session group units ledger in
     let now : List Row = buckets_at v t ledger in
-    let hs : List Hold = holds_for book t group amount ledger in
+    let hs : List Hold = holds_for shelf t group amount ledger in
     let sound : IsSound now = subst IsSound rows.buckets account.sound in
     let same : SameSessions ledger after =
-    same_sessions-reserved book t session group units amount ledger in
+    same_sessions-reserved shelf t session group units amount ledger in
     let free : Each (λ b. held (only session group) b.number ledger ≡ 0) now =
     held_free ledger a session group account rows live (ap is_some none) in
     record {
@@ -482,15 +490,15 @@ IsRowsOf-reserved ledger a session group units amount account rows live none =
           (each_hold _ t session group hs (λ b n. refl)));
       buckets =
           ap (held_rows group t amount) rows.buckets
-          ∙ sym (buckets_at-reserved book t session group units amount ledger live sound.distinct);
+          ∙ sym (buckets_at-reserved shelf t session group units amount ledger live sound.distinct);
       sessions = λ s. rows.sessions s ∙ sym (same_session v t ledger after same s);
-      groups = groups-reserved book t session group units amount ledger a.groups
+      groups = groups-reserved shelf t session group units amount ledger a.groups
           (holds_of group t amount a.buckets) live sound.distinct free
           (ap (holds_of group t amount) rows.buckets) (used_in_is ledger a session group rows)
           rows.groups;
       counters =
           λ g c. rows.counters g c
-          ∙ counter_reserved book (cycle_at book g) t session group units amount ledger g c;
+          ∙ counter_reserved shelf (cycle_at shelf g) t session group units amount ledger g c;
       next_bucket =
           rows.next_bucket
           ∙ omega (
@@ -505,7 +513,7 @@ IsRowsOf-reserved ledger a session group units amount account rows live none =
             total-front (λ d. uses_in d.fact) (hold_facts t session group hs) before
                 (each_hold _ t session group hs (λ b n. refl)),
           );
-      sound = IsSoundLedger-reserved book t session group units amount ledger
+      sound = IsSoundLedger-reserved shelf t session group units amount ledger
           (made_in ledger a account rows)
           (touched_live v t ledger session (rows.sound.touched session) live) rows.sound;
     }
@@ -540,7 +548,7 @@ IsAccount-reserved a session group amount none h =
       session = session;
       group = group;
       used = used_in session group a.groups;
-      reservation = Some (reservation_for a.book t hs);
+      reservation = Some (reservation_for a.shelf t hs);
     } in
     let held : (b : Row) →
     held_by (λ s. true) (put group_before (is_of session group) row a.groups) b
@@ -549,7 +557,7 @@ IsAccount-reserved a session group amount none h =
     ≡ 0 = ap (λ x. held_in x b) (reserved_none session group a.groups none) in
     omega (arith, held_by-put session group row a.groups b, nothing)) in
     record {
-      book = h.book;
+      shelf = h.shelf;
       sound = subst IsSound
           (sym (by_shares-along with_hold (eligible_amount group t) a.buckets amount h.sound.order))
           (IsSound-hold group t amount a.buckets h.sound);

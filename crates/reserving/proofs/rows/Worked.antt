@@ -12,6 +12,7 @@ use Rattle.units.specs.declared.blocks.TariffChangeUsage.{TariffChangeUsage}
 use Rattle.units.specs.declared.blocks.TariffChangeUsage.TheVariants.{UnitBeforeTariffChange}
 use Rattle.units.specs.declared.blocks.TariffChangeUsage.TheVariants.{UnitAfterTariffChange}
 use Rattle.tariffs.specs.Books.{Book}
+use Rattle.shelves.specs.Shelves.{Shelf}
 use Rattle.tariffs.specs.Tariffs.{GroupTariff}
 use Rattle.tariffs.specs.declared.final_action.FinalAction.TheVariants.{Terminate}
 use Rattle.tariffs.specs.declared.tiers.Tier.{Tier}
@@ -20,7 +21,7 @@ use Rattle.rating.specs.Rated.{rated_amount, report_blocks, report_amount}
 use Rattle.buckets.specs.Row.{Row}
 use Rattle.reserving.specs.Ledger.{Ledger, used, is_live}
 use Rattle.reserving.specs.Ledger.Fact.{Credit, Touch}
-use Rattle.reserving.specs.Pricing.{switch_at, validity_at}
+use Rattle.reserving.specs.Pricing.{switch_at, validity_at, validity_of}
 use Rattle.reserving.specs.Balance.{buckets_at}
 use Rattle.reserving.specs.Settlement.{settled_by, missing}
 use Rattle.reserving.specs.Reservation.{reserved, grant_for}
@@ -85,6 +86,9 @@ book = record {
   tariffs = seconds ∷ octets ∷ [];
 }
 
+abbrev shelf : Shelf
+shelf = record { first = book; later = [] }
+
 -- "s3"
 abbrev s : List ℕ
 s = 115 ∷ 51 ∷ []
@@ -103,13 +107,13 @@ opened t credit =
 
 abbrev units_granted : ℕ → ℕ → ℕ → Ledger → ℕ
 units_granted t g wanted ledger =
-    (grant_for book t g (used s g ledger) (Some wanted) ledger).units.0
+    (grant_for shelf t g (used s g ledger) (Some wanted) ledger).units.0
 
 -- what is wanted is granted as far as the funds go
 abbrev granted : ℕ → ℕ → ℕ → Ledger → Ledger
 granted t g wanted ledger =
-    reserved book t s g (units_granted t g wanted ledger)
-    (grant_for book t g (used s g ledger) (Some wanted) ledger).amount.0 ledger
+    reserved shelf t s g (units_granted t g wanted ledger)
+    (grant_for shelf t g (used s g ledger) (Some wanted) ledger).amount.0 ledger
 
 abbrev bucket : (number from until credited available reserved charged expired : ℕ) → Row
 bucket number from until credited available reserved charged expired =
@@ -128,16 +132,17 @@ bucket number from until credited available reserved charged expired =
 -- ---- a switch within the validity
 
 -- at 07:30 the dearer period begins in half an hour, and lasts
-switched : switch_at book 1767598200 ≡ Some 1767600000
+switched : switch_at shelf 1767598200 ≡ Some 1767600000
 unfolding switch_within minutes_from
 switched = refl
 
-switched_validity : validity_at book 1767598200 ≡ 3600
+switched_validity : validity_at shelf 1767598200 ≡ 3600
 unfolding switch_within minutes_from
 switched_validity = refl
 
 -- each of ten blocks is held at the dearer price
-dearer_held : buckets_at 3600 1767598200 (granted 1767598200 10 600 (opened 1767598200 1000000))
+dearer_held : buckets_at (validity_of shelf) 1767598200
+    (granted 1767598200 10 600 (opened 1767598200 1000000))
     ≡ bucket 1 1767571200 4102444800 1000000 0 1000000 0 0 ∷ []
 unfolding switch_within minutes_from dearer greatest_covered
 dearer_held = refl
@@ -146,8 +151,8 @@ dearer_held = refl
 switched_report : List UsedPart
 switched_report = part (Some UnitBeforeTariffChange) 300 ∷ part (Some UnitAfterTariffChange) 90 ∷ []
 
-switched_settled : buckets_at 3600 1767600300
-    (settled_by book 1767600300 s 10 switched_report
+switched_settled : buckets_at (validity_of shelf) 1767600300
+    (settled_by shelf 1767600300 s 10 switched_report
     (record { at = 1767600300; fact = Touch s }
     ∷ granted 1767598200 10 600 (opened 1767598200 1000000)))
     ≡ bucket 1 1767571200 4102444800 1000000 550000 0 450000 0 ∷ []
@@ -162,20 +167,21 @@ few_units : units_granted 1767607200 10 600 (opened 1767607200 250000) ≡ 120
 unfolding switch_within minutes_from dearer greatest_covered
 few_units = refl
 
-few_held : buckets_at 3600 1767607200 (granted 1767607200 10 600 (opened 1767607200 250000))
+few_held : buckets_at (validity_of shelf) 1767607200
+    (granted 1767607200 10 600 (opened 1767607200 250000))
     ≡ bucket 1 1767571200 4102444800 250000 50000 200000 0 0 ∷ []
 unfolding switch_within minutes_from dearer greatest_covered
 few_held = refl
 
 -- five blocks are used of them
-few_missing : missing book 1767607500 s 10 (report 300)
+few_missing : missing shelf 1767607500 s 10 (report 300)
     (granted 1767607200 10 600 (opened 1767607200 250000)) ≡ 250000
 unfolding switch_within minutes_from dearer greatest_covered rated_amount report_blocks
     report_amount
 few_missing = refl
 
-few_settled : buckets_at 3600 1767607500
-    (settled_by book 1767607500 s 10 (report 300)
+few_settled : buckets_at (validity_of shelf) 1767607500
+    (settled_by shelf 1767607500 s 10 (report 300)
     (granted 1767607200 10 600 (opened 1767607200 250000)))
     ≡ bucket 1 1767571200 4102444800 250000 0 0 250000 0 ∷ []
 unfolding switch_within minutes_from dearer greatest_covered rated_amount report_blocks
@@ -185,7 +191,7 @@ few_settled = refl
 -- 61 seconds of 600 start two blocks; of the 600 wanted then, the rest of the second is free
 abbrev updated : Ledger
 updated =
-    settled_by book 1767607500 s 10 (report 61)
+    settled_by shelf 1767607500 s 10 (report 61)
     (record { at = 1767607500; fact = Touch s }
     ∷ granted 1767607200 10 600 (opened 1767607200 1000000))
 
@@ -194,14 +200,14 @@ unfolding switch_within minutes_from dearer greatest_covered rated_amount report
     report_amount
 begun_units = refl
 
-begun_held : buckets_at 3600 1767607500 (granted 1767607500 10 600 updated)
+begun_held : buckets_at (validity_of shelf) 1767607500 (granted 1767607500 10 600 updated)
     ≡ bucket 1 1767571200 4102444800 1000000 0 800000 200000 0 ∷ []
 unfolding switch_within minutes_from dearer greatest_covered rated_amount report_blocks
     report_amount
 begun_held = refl
 
-begun_settled : buckets_at 3600 1767607560
-    (settled_by book 1767607560 s 10 (report 59) (granted 1767607500 10 600 updated))
+begun_settled : buckets_at (validity_of shelf) 1767607560
+    (settled_by shelf 1767607560 s 10 (report 59) (granted 1767607500 10 600 updated))
     ≡ bucket 1 1767571200 4102444800 1000000 800000 0 200000 0 ∷ []
 unfolding switch_within minutes_from dearer greatest_covered rated_amount report_blocks
     report_amount
@@ -215,13 +221,14 @@ two = record { at = 1767571200; fact = Credit 2 1767571200 4102444800 None 30000
 abbrev two_granted : Ledger
 two_granted = granted 1767607200 10 180 (record { at = 1767607200; fact = Touch s } ∷ two)
 
-two_held : buckets_at 3600 1767607200 two_granted
+two_held : buckets_at (validity_of shelf) 1767607200 two_granted
     ≡ bucket 1 1767571200 1767607800 150000 0 150000 0 0
     ∷ bucket 2 1767571200 4102444800 300000 150000 150000 0 0 ∷ []
 unfolding switch_within minutes_from dearer greatest_covered
 two_held = refl
 
-two_settled : buckets_at 3600 1767608100 (settled_by book 1767608100 s 10 (report 60) two_granted)
+two_settled : buckets_at (validity_of shelf) 1767608100
+    (settled_by shelf 1767608100 s 10 (report 60) two_granted)
     ≡ bucket 1 1767571200 1767607800 150000 0 0 100000 50000
     ∷ bucket 2 1767571200 4102444800 300000 300000 0 0 0 ∷ []
 unfolding switch_within minutes_from dearer greatest_covered rated_amount report_blocks
@@ -233,26 +240,79 @@ two_settled = refl
 abbrev left_alone : Ledger
 left_alone = granted 1767607200 10 600 (opened 1767607200 1000000)
 
-left_alone_live : is_live 3600 1767614399 left_alone s ≡ true
+left_alone_live : is_live (validity_of shelf) 1767614399 left_alone s ≡ true
 unfolding switch_within minutes_from dearer greatest_covered
 left_alone_live = refl
 
-left_alone_held : buckets_at 3600 1767614399 left_alone
+left_alone_held : buckets_at (validity_of shelf) 1767614399 left_alone
     ≡ bucket 1 1767571200 4102444800 1000000 0 1000000 0 0 ∷ []
 unfolding switch_within minutes_from dearer greatest_covered
 left_alone_held = refl
 
 -- a request in its last second gets what its first one held
-left_alone_again : units_granted 1767614399 10 600 (settled_by book 1767614399 s 10 [] left_alone)
+left_alone_again : units_granted 1767614399 10 600 (settled_by shelf 1767614399 s 10 [] left_alone)
     ≡ 600
 unfolding switch_within minutes_from dearer greatest_covered
 left_alone_again = refl
 
-left_alone_over : is_live 3600 1767614400 left_alone s ≡ false
+left_alone_over : is_live (validity_of shelf) 1767614400 left_alone s ≡ false
 unfolding switch_within minutes_from dearer greatest_covered
 left_alone_over = refl
 
-left_alone_given_up : buckets_at 3600 1767614400 left_alone
+left_alone_given_up : buckets_at (validity_of shelf) 1767614400 left_alone
     ≡ bucket 1 1767571200 4102444800 1000000 1000000 0 0 0 ∷ []
 unfolding switch_within minutes_from dearer greatest_covered
 left_alone_given_up = refl
+
+-- ---- a second book, from Tuesday 00:00 on, in which a minute costs 60,000, and 120,000 by day
+
+abbrev dearer_book : Book
+dearer_book = record book {
+  tariffs =
+      record seconds { prices = flat 60000 ∷ flat 120000 ∷ [] } ∷ octets ∷ [];
+}
+
+abbrev two_books : Shelf
+two_books = record {
+  first = book;
+  later = record { from = 1767657600; book = dearer_book } ∷ [];
+}
+
+abbrev granted_on : Shelf → ℕ → ℕ → Ledger → Ledger
+granted_on shelf t wanted ledger =
+    reserved shelf t s 10 (grant_for shelf t 10 (used s 10 ledger) (Some wanted) ledger).units.0
+    (grant_for shelf t 10 (used s 10 ledger) (Some wanted) ledger).amount.0 ledger
+
+-- five minutes before the second book begins, five minutes are held at the first one's price, and
+-- its beginning is no switch
+abbrev before_it : Ledger
+before_it = granted_on two_books 1767657300 300 (opened 1767657300 1000000)
+
+no_switch : switch_at two_books 1767657300 ≡ None
+unfolding switch_within minutes_from
+no_switch = refl
+
+before_held : buckets_at (validity_of two_books) 1767657300 before_it
+    ≡ bucket 1 1767571200 4102444800 1000000 750000 250000 0 0 ∷ []
+unfolding switch_within minutes_from dearer greatest_covered
+before_held = refl
+
+-- a minute after it has begun they are settled at the first one's price, and five more held at the
+-- second one's
+abbrev after_it : Ledger
+after_it = granted_on two_books 1767657660 300
+    (record { at = 1767657660; fact = Touch s }
+    ∷ settled_by two_books 1767657660 s 10 (report 300) before_it)
+
+after_held : buckets_at (validity_of two_books) 1767657660 after_it
+    ≡ bucket 1 1767571200 4102444800 1000000 450000 300000 250000 0 ∷ []
+unfolding switch_within minutes_from dearer greatest_covered rated_amount report_blocks
+    report_amount
+after_held = refl
+
+after_settled : buckets_at (validity_of two_books) 1767657700
+    (settled_by two_books 1767657700 s 10 (report 300) after_it)
+    ≡ bucket 1 1767571200 4102444800 1000000 450000 0 550000 0 ∷ []
+unfolding switch_within minutes_from dearer greatest_covered rated_amount report_blocks
+    report_amount
+after_settled = refl

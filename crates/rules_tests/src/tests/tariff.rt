@@ -1,8 +1,9 @@
-//! Tests of `tariffs` and `one_price`.
+//! Tests of `tariffs`, `shelves` and `one_price`.
 
 mod documents;
 mod faults;
 mod limits;
 mod lookups;
 mod one_prices;
+mod shelf;
 mod switches;

@@ -5,6 +5,7 @@ ghost use Rattle.std.specs.Prelude.{◌<◌};
 use calendar::{Calendar, Entry, Zone};
 use identifiers::SessionId;
 use reserving::Account;
+use shelves::TariffShelf;
 use std::alloc::Global;
 use std::process::Abort;
 use tariffs::TariffBook;
@@ -61,7 +62,13 @@ pub(crate) fn book_in_zone(rt: &impl Abort, alloc: Global, text: &str, zone: &st
     book(rt, alloc, text.as_str())
 }
 
+/// The shelf on which a book that a text is read as stands alone.
+pub(crate) fn shelf(rt: &impl Abort, alloc: Global, text: &str) -> TariffShelf {
+    let book = book(rt, alloc, text);
+    TariffShelf::new(alloc, book).expect(rt, "a shelf")
+}
+
 /// An account without rows.
-pub(crate) fn account(alloc: Global, book: &TariffBook) -> Account<'_> {
-    Account::new(alloc, book)
+pub(crate) fn account(alloc: Global, shelf: &TariffShelf) -> Account<'_> {
+    Account::new(alloc, shelf)
 }

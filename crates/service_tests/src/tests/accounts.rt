@@ -5,6 +5,7 @@ use crate::tests::connections::told_by;
 use crate::tests::requests::request;
 use http_api::FixedClock;
 use keepers::MemoryKeeper;
+use shelves::TariffShelf;
 use std::alloc::Global;
 use std::process::Abort;
 use tariffs::TariffBook;
@@ -36,9 +37,10 @@ const EVENTS_TO_NUMBER: &str =
 const EVENTS_FROM_NUMBER: &str =
     r#","Subscription-Id":{"Subscription-Id-Type":0,"Subscription-Id-Data":"49151"},"Multiple-Services-Credit-Control":[{"Rating-Group":30,"Used-Service-Unit":[{"CC-Service-Specific-Units":1000000000}]}]}"#;
 
-/// The worked book.
-pub(crate) fn book(rt: &impl Abort, alloc: Global) -> TariffBook {
-    TariffBook::read(alloc, worked_book::BOOK.as_bytes()).expect(rt, "a book")
+/// A shelf of the worked book alone.
+pub(crate) fn shelf(rt: &impl Abort, alloc: Global) -> TariffShelf {
+    let book = TariffBook::read(alloc, worked_book::BOOK.as_bytes()).expect(rt, "a book");
+    TariffShelf::new(alloc, book).expect(rt, "a shelf")
 }
 
 /// A moment of commands.
@@ -57,22 +59,28 @@ pub(crate) fn clock(rt: &impl Abort, seconds: u64) -> FixedClock {
 pub(crate) fn ask_all<R: Abort>(
     rt: &R,
     alloc: Global,
-    book: &TariffBook,
+    shelf: &TariffShelf,
     keeper: &mut MemoryKeeper,
     lines: &str,
 ) {
     for line in lines.lines() {
-        ask(rt, alloc, book, keeper, line);
+        ask(rt, alloc, shelf, keeper, line);
     }
 }
 
 /// Serves a line. Its answer is one of 200.
-fn ask<R: Abort>(rt: &R, alloc: Global, book: &TariffBook, keeper: &mut MemoryKeeper, line: &str) {
+fn ask<R: Abort>(
+    rt: &R,
+    alloc: Global,
+    shelf: &TariffShelf,
+    keeper: &mut MemoryKeeper,
+    line: &str,
+) {
     let (seconds, line) = line.split_once(" ").expect(rt, "a moment");
     let mut clock = clock(rt, seconds.parse::<u64>().expect(rt, "seconds"));
     let request = request(rt, alloc, line);
     let mut bytes = request.as_bytes();
-    let told = told_by(rt, alloc, book, &mut bytes, keeper, &mut clock);
+    let told = told_by(rt, alloc, shelf, &mut bytes, keeper, &mut clock);
     is_done(rt, told.as_str());
 }
 

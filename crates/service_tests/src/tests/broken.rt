@@ -10,7 +10,7 @@ use identifiers::{AccountNumber, SessionId, VoucherCode};
 use keepers::{Change, Keeper, KeptAnswer, Key, Loaded, MemoryKeeper, StoreFault};
 use redemptions::{Voucher, VoucherTerms};
 use reserving::Account;
-use tariffs::TariffBook;
+use shelves::TariffShelf;
 use units::Moment;
 
 #[derive(Drop)]
@@ -40,7 +40,7 @@ impl Keeper for Broken {
 
     fn load<'b>(
         &mut self,
-        _book: &'b TariffBook,
+        _shelf: &'b TariffShelf,
         _account: &AccountNumber,
         _moment: Moment,
     ) -> Result<Option<Loaded<'b>>, StoreFault> {
@@ -49,7 +49,7 @@ impl Keeper for Broken {
 
     fn view<'b>(
         &mut self,
-        _book: &'b TariffBook,
+        _shelf: &'b TariffShelf,
         _account: &AccountNumber,
         _moment: Moment,
     ) -> Result<Option<Account<'b>>, StoreFault> {
@@ -97,7 +97,7 @@ impl Keeper for Broken {
         Err(StoreFault::Store)
     }
 
-    fn sweep(&mut self, _book: &TariffBook, _moment: Moment) -> Result<u64, StoreFault> {
+    fn sweep(&mut self, _shelf: &TariffShelf, _moment: Moment) -> Result<u64, StoreFault> {
         Err(StoreFault::Store)
     }
 }

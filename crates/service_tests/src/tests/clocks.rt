@@ -2,7 +2,7 @@
 
 ghost use Rattle.std.specs.Prelude.{◌≡◌};
 
-use crate::tests::accounts::{TEN, book, clock};
+use crate::tests::accounts::{TEN, clock, shelf};
 use crate::tests::connections::told_by;
 use crate::tests::requests::{
     EMPTY_BODY, EXISTS, NO_REQUEST, NOT_FOUND, OPEN, OPENED, UNABLE, UNKNOWN,
@@ -37,7 +37,7 @@ impl Clock for Counting {
 /// What is written for these requests by a clock that doesn't answer so many times first, and how
 /// often it is asked.
 fn told_by_counting(rt: &impl Abort, alloc: Global, stream: &str, silent: u32) -> String {
-    let book = book(rt, alloc);
+    let shelf = shelf(rt, alloc);
     let mut counting = Counting {
         clock: clock(rt, TEN),
         asked: 0,
@@ -45,7 +45,7 @@ fn told_by_counting(rt: &impl Abort, alloc: Global, stream: &str, silent: u32) -
     };
     let mut bytes = stream.as_bytes();
     let mut keeper = MemoryKeeper::new(alloc);
-    let told = told_by(rt, alloc, &book, &mut bytes, &mut keeper, &mut counting);
+    let told = told_by(rt, alloc, &shelf, &mut bytes, &mut keeper, &mut counting);
     format!(in alloc; "{}, asked {}", told.as_str(), counting.asked).expect(rt, "memory")
 }
 

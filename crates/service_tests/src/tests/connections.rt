@@ -5,10 +5,10 @@ use crate::tests::requests::OPEN;
 use crate::tests::trials::with_line;
 use charge_sources::ChargeSource;
 use http_api::{Clock, ServeFault, Served, serve};
+use shelves::TariffShelf;
 use std::alloc::Global;
 use std::io::Read;
 use std::process::Abort;
-use tariffs::TariffBook;
 
 /// What was written, and in a last line how many requests were answered, or the number of the
 /// fault.
@@ -30,13 +30,13 @@ pub(crate) fn with_ending(
 pub(crate) fn told_by<S: Read, K: ChargeSource, C: Clock>(
     rt: &impl Abort,
     alloc: Global,
-    book: &TariffBook,
+    shelf: &TariffShelf,
     reader: &mut S,
     keeper: &mut K,
     clock: &mut C,
 ) -> String {
     let mut written = Vec::new(alloc);
-    let served = serve(alloc, reader, &mut written, keeper, book, clock);
+    let served = serve(alloc, reader, &mut written, keeper, shelf, clock);
     with_ending(rt, alloc, written.as_slice(), served)
 }
 
@@ -44,22 +44,22 @@ pub(crate) fn told_by<S: Read, K: ChargeSource, C: Clock>(
 pub(crate) fn told<S: Read, K: ChargeSource>(
     rt: &impl Abort,
     alloc: Global,
-    book: &TariffBook,
+    shelf: &TariffShelf,
     reader: &mut S,
     keeper: &mut K,
 ) -> String {
-    told_by(rt, alloc, book, reader, keeper, &mut clock(rt, TEN))
+    told_by(rt, alloc, shelf, reader, keeper, &mut clock(rt, TEN))
 }
 
 /// What was told, and behind it what a connection is told that opens the account.
 pub(crate) fn then_opening<K: ChargeSource>(
     rt: &impl Abort,
     alloc: Global,
-    book: &TariffBook,
+    shelf: &TariffShelf,
     keeper: &mut K,
     first: &str,
 ) -> String {
     let mut again = OPEN.as_bytes();
-    let second = told(rt, alloc, book, &mut again, keeper);
+    let second = told(rt, alloc, shelf, &mut again, keeper);
     with_line(rt, alloc, first, second.as_str())
 }

@@ -4,10 +4,10 @@ use byte_streams::StreamFault;
 use keepers::{Failing, MemoryKeeper, StoreFault};
 use one_price::once_book;
 use request_lines::{LinesFault, lines};
+use shelves::TariffShelf;
 use std::alloc::Global;
 use std::io::{self, ErrorKind, Read, Write};
 use std::process::Abort;
-use tariffs::TariffBook;
 use units::Money;
 
 /// The text on fewer lines: one that begins with two spaces goes on with the one before it.
@@ -15,9 +15,10 @@ fn joined(rt: &impl Abort, alloc: Global, text: &str) -> String {
     text.replace(alloc, "\n  ", "").expect(rt, "memory")
 }
 
-/// A book of one price: 100,000 micro-units a minute.
-fn minutes(rt: &impl Abort, alloc: Global) -> TariffBook {
-    once_book(alloc, 100_000, 60).expect(rt, "memory")
+/// A shelf of a book of one price alone: 100,000 micro-units a minute.
+fn minutes(rt: &impl Abort, alloc: Global) -> TariffShelf {
+    let book = once_book(alloc, 100_000, 60).expect(rt, "memory");
+    TariffShelf::new(alloc, book).expect(rt, "a shelf")
 }
 
 /// Fails where answering ended otherwise, or where other bytes are written.
@@ -73,14 +74,14 @@ const CALLS_OF_ONE_DEBIT: u64 = 12;
 /// Answers these lines over a keeper that fails after the first debit.
 fn answer_to_a_fault<W: Write>(
     alloc: Global,
-    book: &TariffBook,
+    shelf: &TariffShelf,
     asked: &str,
     writer: &mut W,
 ) -> Result<(), LinesFault> {
     let credit = Money::new(100_000);
     let mut reader = asked.as_bytes();
     let mut keeper = Failing::new(MemoryKeeper::new(alloc), CALLS_OF_ONE_DEBIT);
-    lines(alloc, &mut keeper, book, credit, &mut reader, writer)
+    lines(alloc, &mut keeper, shelf, credit, &mut reader, writer)
 }
 
 /// Answers the debits over that keeper.
@@ -90,8 +91,8 @@ fn debit_to_a_fault<W: Write>(
     writer: &mut W,
 ) -> Result<(), LinesFault> {
     let asked = joined(rt, alloc, DEBITS);
-    let book = minutes(rt, alloc);
-    answer_to_a_fault(alloc, &book, asked.as_str(), writer)
+    let shelf = minutes(rt, alloc);
+    answer_to_a_fault(alloc, &shelf, asked.as_str(), writer)
 }
 
 /// At a store fault after the first debit, the answers before it are written.
@@ -174,19 +175,19 @@ const FAULTS: &[u8] =
 /// Answers lines that open no account.
 fn answer<R: Read, W: Write>(
     alloc: Global,
-    book: &TariffBook,
+    shelf: &TariffShelf,
     reader: &mut R,
     writer: &mut W,
 ) -> Result<(), LinesFault> {
     let mut keeper = MemoryKeeper::new(alloc);
-    lines(alloc, &mut keeper, book, None, reader, writer)
+    lines(alloc, &mut keeper, shelf, None, reader, writer)
 }
 
 /// How answering those lines ends over a reader that fails after so many calls, and what is
 /// written.
 fn read_to_a_fault(
     alloc: Global,
-    book: &TariffBook,
+    shelf: &TariffShelf,
     left: usize,
     written: &mut Vec<u8>,
 ) -> Result<(), LinesFault> {
@@ -194,21 +195,21 @@ fn read_to_a_fault(
         bytes: UNREAD,
         left,
     };
-    answer(alloc, book, &mut reader, written)
+    answer(alloc, shelf, &mut reader, written)
 }
 
 /// A reader that fails at this call is told as such; nothing is written.
-fn fail_to_read(rt: &impl Abort, alloc: Global, book: &TariffBook, left: usize) {
+fn fail_to_read(rt: &impl Abort, alloc: Global, shelf: &TariffShelf, left: usize) {
     let mut written = Vec::new(alloc);
-    let ended = read_to_a_fault(alloc, book, left, &mut written);
+    let ended = read_to_a_fault(alloc, shelf, left, &mut written);
     let fault = LinesFault::Read(StreamFault::Read);
     expect_told(rt, ended, Err(fault), &written, b"");
 }
 
 /// A reader that fails at no call.
-fn read_to_the_end(rt: &impl Abort, alloc: Global, book: &TariffBook, left: usize) {
+fn read_to_the_end(rt: &impl Abort, alloc: Global, shelf: &TariffShelf, left: usize) {
     let mut written = Vec::new(alloc);
-    let ended = read_to_a_fault(alloc, book, left, &mut written);
+    let ended = read_to_a_fault(alloc, shelf, left, &mut written);
     expect_told(rt, ended, Ok(()), &written, FAULTS);
 }
 
@@ -216,27 +217,27 @@ fn read_to_the_end(rt: &impl Abort, alloc: Global, book: &TariffBook, left: usiz
 #[test]
 fn a_reader_that_fails(rt: HostRuntime) {
     let alloc = rt.alloc();
-    let book = minutes(&rt, alloc);
+    let shelf = minutes(&rt, alloc);
     for left in 0..9 {
-        fail_to_read(&rt, alloc, &book, left);
+        fail_to_read(&rt, alloc, &shelf, left);
     }
-    read_to_the_end(&rt, alloc, &book, 9);
+    read_to_the_end(&rt, alloc, &shelf, 9);
 }
 
 /// A writer that fails at this call is told as such; a beginning of the answers is written.
-fn fail_to_write(rt: &impl Abort, alloc: Global, book: &TariffBook, left: usize) {
+fn fail_to_write(rt: &impl Abort, alloc: Global, shelf: &TariffShelf, left: usize) {
     let mut reader = UNREAD;
     let mut writer = failing_writer(alloc, left);
-    let ended = answer(alloc, book, &mut reader, &mut writer);
+    let ended = answer(alloc, shelf, &mut reader, &mut writer);
     let fault = LinesFault::Write(StreamFault::Write);
     expect_begun(rt, ended, fault, &writer.taken, FAULTS);
 }
 
 /// A writer that fails at no call.
-fn write_to_the_end(rt: &impl Abort, alloc: Global, book: &TariffBook, left: usize) {
+fn write_to_the_end(rt: &impl Abort, alloc: Global, shelf: &TariffShelf, left: usize) {
     let mut reader = UNREAD;
     let mut writer = failing_writer(alloc, left);
-    let ended = answer(alloc, book, &mut reader, &mut writer);
+    let ended = answer(alloc, shelf, &mut reader, &mut writer);
     expect_told(rt, ended, Ok(()), &writer.taken, FAULTS);
 }
 
@@ -244,9 +245,9 @@ fn write_to_the_end(rt: &impl Abort, alloc: Global, book: &TariffBook, left: usi
 #[test]
 fn a_writer_that_fails(rt: HostRuntime) {
     let alloc = rt.alloc();
-    let book = minutes(&rt, alloc);
+    let shelf = minutes(&rt, alloc);
     for left in 0..9 {
-        fail_to_write(&rt, alloc, &book, left);
+        fail_to_write(&rt, alloc, &shelf, left);
     }
-    write_to_the_end(&rt, alloc, &book, 9);
+    write_to_the_end(&rt, alloc, &shelf, 9);
 }

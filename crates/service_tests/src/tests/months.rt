@@ -1,16 +1,16 @@
 //! Statements and exports of a month: writers that fail at each byte, and a source that fails at
 //! each row.
 
-use crate::tests::accounts::{FIRST_EVENT, HALF_PAID, ask_all, book, many_events, moment};
+use crate::tests::accounts::{FIRST_EVENT, HALF_PAID, ask_all, many_events, moment, shelf};
 use crate::tests::broken::Broken;
 use crate::tests::trials::{Trial, try_below};
 use buckets::Bucket;
 use identifiers::AccountNumber;
 use keepers::{Keeper, MemoryKeeper};
+use shelves::TariffShelf;
 use statements::{AccountMonth, StatementFault, export, statement};
 use std::alloc::Global;
 use std::process::Abort;
-use tariffs::TariffBook;
 use units::Moment;
 use worked_book::Slow;
 use written_numbers::Month;
@@ -74,7 +74,7 @@ struct Writing<'a> {
     account: AccountNumber,
     month: Month,
     moment: Moment,
-    book: &'a TariffBook,
+    shelf: &'a TariffShelf,
     is_export: bool,
     text: &'static str,
 }
@@ -84,7 +84,7 @@ impl<'a> Trial for Writing<'a> {
         let asked = AccountMonth {
             account: &self.account,
             month: self.month,
-            book: self.book,
+            book: self.shelf.first(),
         };
         let mut writer = Slow::new(alloc, at);
         let keeper = &mut self.keeper;
@@ -108,12 +108,12 @@ impl<'a> Trial for Writing<'a> {
 fn half_paid_month<'a>(
     rt: &impl Abort,
     alloc: Global,
-    book: &'a TariffBook,
+    shelf: &'a TariffShelf,
     is_export: bool,
     text: &'static str,
 ) -> Writing<'a> {
     let mut keeper = MemoryKeeper::new(alloc);
-    ask_all(rt, alloc, book, &mut keeper, HALF_PAID);
+    ask_all(rt, alloc, shelf, &mut keeper, HALF_PAID);
     let account = account(rt, alloc);
     let buckets = keeper.dead_buckets(&account).expect(rt, "buckets");
     Writing {
@@ -122,7 +122,7 @@ fn half_paid_month<'a>(
         account,
         month: january(rt),
         moment: moment(rt, 1_767_607_500),
-        book,
+        shelf,
         is_export,
         text,
     }
@@ -132,17 +132,17 @@ fn half_paid_month<'a>(
 #[test]
 fn a_writer_that_fails_at_each_byte(rt: HostRuntime) {
     let alloc = rt.alloc();
-    let book = book(&rt, alloc);
+    let shelf = shelf(&rt, alloc);
     try_below(
         &rt,
         alloc,
-        &mut half_paid_month(&rt, alloc, &book, false, STATEMENT),
+        &mut half_paid_month(&rt, alloc, &shelf, false, STATEMENT),
         542,
     );
     try_below(
         &rt,
         alloc,
-        &mut half_paid_month(&rt, alloc, &book, true, EXPORT),
+        &mut half_paid_month(&rt, alloc, &shelf, true, EXPORT),
         97,
     );
 }
@@ -153,7 +153,7 @@ struct Rows<'a> {
     source: Broken,
     account: AccountNumber,
     month: Month,
-    book: &'a TariffBook,
+    shelf: &'a TariffShelf,
 }
 
 impl<'a> Trial for Rows<'a> {
@@ -162,7 +162,7 @@ impl<'a> Trial for Rows<'a> {
         let asked = AccountMonth {
             account: &self.account,
             month: self.month,
-            book: self.book,
+            book: self.shelf.first(),
         };
         let mut written = Vec::new(alloc);
         let end = export(alloc, &mut self.source, &mut written, &asked);
@@ -179,12 +179,12 @@ impl<'a> Trial for Rows<'a> {
 }
 
 /// A keeper with eleven charges of a thousand million events each.
-fn keeper_of_events<R: Abort>(rt: &R, alloc: Global, book: &TariffBook) -> MemoryKeeper {
+fn keeper_of_events<R: Abort>(rt: &R, alloc: Global, shelf: &TariffShelf) -> MemoryKeeper {
     let mut keeper = MemoryKeeper::new(alloc);
-    ask_all(rt, alloc, book, &mut keeper, FIRST_EVENT);
+    ask_all(rt, alloc, shelf, &mut keeper, FIRST_EVENT);
     for number in 1..12 {
         let line = many_events(rt, alloc, number);
-        ask_all(rt, alloc, book, &mut keeper, line.as_str());
+        ask_all(rt, alloc, shelf, &mut keeper, line.as_str());
     }
     keeper
 }
@@ -193,15 +193,15 @@ fn keeper_of_events<R: Abort>(rt: &R, alloc: Global, book: &TariffBook) -> Memor
 #[test]
 fn a_source_that_fails_at_each_row(rt: HostRuntime) {
     let alloc = rt.alloc();
-    let book = book(&rt, alloc);
+    let shelf = shelf(&rt, alloc);
     let mut rows = Rows {
         source: Broken {
-            keeper: keeper_of_events(&rt, alloc, &book),
+            keeper: keeper_of_events(&rt, alloc, &shelf),
             left: 0,
         },
         account: account(&rt, alloc),
         month: january(&rt),
-        book: &book,
+        shelf: &shelf,
     };
     try_below(&rt, alloc, &mut rows, 12);
 }

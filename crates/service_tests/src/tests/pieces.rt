@@ -1,18 +1,18 @@
 //! An account is opened twice: the bytes come in pieces, end early, or come from a reader that
 //! fails at a call.
 
-use crate::tests::accounts::book;
+use crate::tests::accounts::shelf;
 use crate::tests::connections::{then_opening, told};
 use crate::tests::requests::{
     EXISTS, FIRST_BUCKET, OPEN, OPEN_TWICE, OPENED, OPENED_THEN_EXISTS, request,
 };
 use crate::tests::trials::{Trial, try_below};
 use keepers::MemoryKeeper;
+use shelves::TariffShelf;
 use std::alloc::Global;
 use std::io;
 use std::io::{ErrorKind, Read};
 use std::process::Abort;
-use tariffs::TariffBook;
 
 /// The bytes of a request.
 const LENGTH: usize = 51;
@@ -47,7 +47,7 @@ impl<'a> Read for Pieces<'a> {
 /// many, or as many as the first.
 #[derive(Drop)]
 struct InPieces<'a> {
-    book: &'a TariffBook,
+    shelf: &'a TariffShelf,
     stream: &'a str,
     after: Option<usize>,
     answers: &'a str,
@@ -65,7 +65,7 @@ impl<'a> Trial for InPieces<'a> {
         told(
             rt,
             alloc,
-            self.book,
+            self.shelf,
             &mut reader,
             &mut MemoryKeeper::new(alloc),
         )
@@ -80,9 +80,9 @@ impl<'a> Trial for InPieces<'a> {
 #[test]
 fn two_pieces_cut_at_each_byte(rt: HostRuntime) {
     let alloc = rt.alloc();
-    let book = book(&rt, alloc);
+    let shelf = shelf(&rt, alloc);
     let mut opened_twice = InPieces {
-        book: &book,
+        shelf: &shelf,
         stream: OPEN_TWICE,
         after: Some(200),
         answers: OPENED_THEN_EXISTS,
@@ -94,9 +94,9 @@ fn two_pieces_cut_at_each_byte(rt: HostRuntime) {
 #[test]
 fn pieces_of_each_length(rt: HostRuntime) {
     let alloc = rt.alloc();
-    let book = book(&rt, alloc);
+    let shelf = shelf(&rt, alloc);
     let mut opened_twice = InPieces {
-        book: &book,
+        shelf: &shelf,
         stream: OPEN_TWICE,
         after: None,
         answers: OPENED_THEN_EXISTS,
@@ -112,9 +112,9 @@ fn a_body_in_pieces_of_each_length(rt: HostRuntime) {
     let credit = request(&rt, alloc, credit);
     let stream = format!(in alloc; "{OPEN}{}", credit.as_str()).expect(&rt, "memory");
     let answers = format!(in alloc; "{OPENED}{FIRST_BUCKET}").expect(&rt, "memory");
-    let book = book(&rt, alloc);
+    let shelf = shelf(&rt, alloc);
     let mut credited = InPieces {
-        book: &book,
+        shelf: &shelf,
         stream: stream.as_str(),
         after: None,
         answers: answers.as_str(),
@@ -145,7 +145,7 @@ fn ending_of(answered: usize) -> &'static str {
 /// So many bytes come, and then the end.
 #[derive(Drop)]
 struct Ended<'a> {
-    book: &'a TariffBook,
+    shelf: &'a TariffShelf,
 }
 
 impl<'a> Trial for Ended<'a> {
@@ -155,8 +155,8 @@ impl<'a> Trial for Ended<'a> {
             .split_at_checked(at)
             .expect(rt, "bytes");
         let mut keeper = MemoryKeeper::new(alloc);
-        let first = told(rt, alloc, self.book, &mut beginning, &mut keeper);
-        then_opening(rt, alloc, self.book, &mut keeper, first.as_str())
+        let first = told(rt, alloc, self.shelf, &mut beginning, &mut keeper);
+        then_opening(rt, alloc, self.shelf, &mut keeper, first.as_str())
     }
 
     fn expected<R: Abort>(&mut self, rt: &R, alloc: Global, at: usize) -> String {
@@ -168,14 +168,14 @@ impl<'a> Trial for Ended<'a> {
 #[test]
 fn ends_at_each_byte(rt: HostRuntime) {
     let alloc = rt.alloc();
-    let book = book(&rt, alloc);
-    try_below(&rt, alloc, &mut Ended { book: &book }, 103);
+    let shelf = shelf(&rt, alloc);
+    try_below(&rt, alloc, &mut Ended { shelf: &shelf }, 103);
 }
 
 /// A reader gives single bytes and fails after so many calls. The 103rd call tells the end.
 #[derive(Drop)]
 struct Unread<'a> {
-    book: &'a TariffBook,
+    shelf: &'a TariffShelf,
 }
 
 impl<'a> Trial for Unread<'a> {
@@ -187,8 +187,8 @@ impl<'a> Trial for Unread<'a> {
             calls: at,
         };
         let mut keeper = MemoryKeeper::new(alloc);
-        let first = told(rt, alloc, self.book, &mut reader, &mut keeper);
-        then_opening(rt, alloc, self.book, &mut keeper, first.as_str())
+        let first = told(rt, alloc, self.shelf, &mut reader, &mut keeper);
+        then_opening(rt, alloc, self.shelf, &mut keeper, first.as_str())
     }
 
     fn expected<R: Abort>(&mut self, rt: &R, alloc: Global, at: usize) -> String {
@@ -200,6 +200,6 @@ impl<'a> Trial for Unread<'a> {
 #[test]
 fn fails_at_each_read(rt: HostRuntime) {
     let alloc = rt.alloc();
-    let book = book(&rt, alloc);
-    try_below(&rt, alloc, &mut Unread { book: &book }, 104);
+    let shelf = shelf(&rt, alloc);
+    try_below(&rt, alloc, &mut Unread { shelf: &shelf }, 104);
 }

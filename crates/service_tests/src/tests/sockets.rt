@@ -1,6 +1,6 @@
 //! A connection over the loopback address in one process.
 
-use crate::tests::accounts::{TEN, book, clock};
+use crate::tests::accounts::{TEN, clock, shelf};
 use crate::tests::connections::with_ending;
 use crate::tests::requests::{OPEN_TWICE, OPENED_THEN_EXISTS};
 use http_api::serve_socket;
@@ -13,9 +13,9 @@ use std::process::Abort;
 
 /// How the engine ends the connection.
 fn ending(rt: &impl Abort, alloc: Global, stream: &TcpStream) -> String {
-    let book = book(rt, alloc);
+    let shelf = shelf(rt, alloc);
     let mut keeper = MemoryKeeper::new(alloc);
-    let served = serve_socket(alloc, stream, &mut keeper, &book, &mut clock(rt, TEN));
+    let served = serve_socket(alloc, stream, &mut keeper, &shelf, &mut clock(rt, TEN));
     with_ending(rt, alloc, b"", served)
 }
 

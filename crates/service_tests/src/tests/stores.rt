@@ -1,15 +1,15 @@
 //! Requests that come twice over a store that fails at each of its calls in turn.
 
-use crate::tests::accounts::{HALF_PAID, ask_all, book, clock, moment};
+use crate::tests::accounts::{HALF_PAID, ask_all, clock, moment, shelf};
 use crate::tests::connections::told_by;
 use crate::tests::months::STATEMENT;
 use crate::tests::requests::{EXISTS, FIRST_BUCKET, OPEN, OPENED, UNABLE, request};
 use identifiers::VoucherCode;
 use keepers::{Failing, Keeper, MemoryKeeper};
 use redemptions::VoucherTerms;
+use shelves::TariffShelf;
 use std::alloc::Global;
 use std::process::Abort;
-use tariffs::TariffBook;
 use units::Money;
 
 /// What is asked for twice.
@@ -26,7 +26,7 @@ struct Twice<'a> {
 }
 
 /// A keeper with a voucher of 30 days, and what the lines made.
-fn keeper(rt: &impl Abort, alloc: Global, book: &TariffBook, lines: &str) -> MemoryKeeper {
+fn keeper(rt: &impl Abort, alloc: Global, shelf: &TariffShelf, lines: &str) -> MemoryKeeper {
     let code = VoucherCode::new(alloc, "000000000001").expect(rt, "memory");
     let code = code.expect(rt, "a code");
     let amount = Money::new(5_000_000).expect(rt, "an amount");
@@ -34,7 +34,7 @@ fn keeper(rt: &impl Abort, alloc: Global, book: &TariffBook, lines: &str) -> Mem
     let mut keeper = MemoryKeeper::new(alloc);
     let added = keeper.add_voucher(code, terms, moment(rt, 1_767_571_200));
     added.expect(rt, "a voucher");
-    ask_all(rt, alloc, book, &mut keeper, lines);
+    ask_all(rt, alloc, shelf, &mut keeper, lines);
     keeper
 }
 
@@ -43,15 +43,15 @@ fn keeper(rt: &impl Abort, alloc: Global, book: &TariffBook, lines: &str) -> Mem
 fn told_after(
     rt: &impl Abort,
     alloc: Global,
-    book: &TariffBook,
+    shelf: &TariffShelf,
     twice: Twice<'_>,
     calls: u64,
 ) -> String {
     let stream = twice.request.repeat(alloc, 2).expect(rt, "memory");
     let mut bytes = stream.as_bytes();
-    let mut keeper = Failing::new(keeper(rt, alloc, book, twice.before), calls);
+    let mut keeper = Failing::new(keeper(rt, alloc, shelf, twice.before), calls);
     let mut clock = clock(rt, 1_767_607_500);
-    told_by(rt, alloc, book, &mut bytes, &mut keeper, &mut clock)
+    told_by(rt, alloc, shelf, &mut bytes, &mut keeper, &mut clock)
 }
 
 /// Whether these two answers are told, and no other.
@@ -77,10 +77,10 @@ fn served_of(told: &str, twice: Twice<'_>) -> &'static str {
 
 /// What is served where the store fails at its first call, then at its second, and so on.
 fn served_in_turn<R: Abort>(rt: &R, alloc: Global, twice: Twice<'_>) -> String {
-    let book = book(rt, alloc);
+    let shelf = shelf(rt, alloc);
     let mut text = String::new(alloc);
     for calls in 0..24 {
-        let told = told_after(rt, alloc, &book, twice, calls);
+        let told = told_after(rt, alloc, &shelf, twice, calls);
         text.push_str(served_of(told.as_str(), twice))
             .expect(rt, "memory");
     }

@@ -1,21 +1,21 @@
 //! A writer that fails at a call.
 
-use crate::tests::accounts::{TEN, book, clock};
+use crate::tests::accounts::{TEN, clock, shelf};
 use crate::tests::connections::{then_opening, with_ending};
 use crate::tests::requests::{EXISTS, OPEN_TWICE, OPENED_THEN_EXISTS};
 use crate::tests::trials::{Trial, try_below};
 use http_api::serve;
 use keepers::MemoryKeeper;
+use shelves::TariffShelf;
 use std::alloc::Global;
 use std::process::Abort;
-use tariffs::TariffBook;
 use worked_book::Slow;
 
 /// An account is opened twice, and the writer fails after so many bytes; then the account is opened
 /// once more, over the same keeper.
 #[derive(Drop)]
 struct Unwritten<'a> {
-    book: &'a TariffBook,
+    shelf: &'a TariffShelf,
 }
 
 impl<'a> Trial for Unwritten<'a> {
@@ -29,11 +29,11 @@ impl<'a> Trial for Unwritten<'a> {
             &mut bytes,
             &mut writer,
             &mut keeper,
-            self.book,
+            self.shelf,
             &mut clock,
         );
         let first = with_ending(rt, alloc, writer.taken.as_slice(), served);
-        then_opening(rt, alloc, self.book, &mut keeper, first.as_str())
+        then_opening(rt, alloc, self.shelf, &mut keeper, first.as_str())
     }
 
     fn expected<R: Abort>(&mut self, rt: &R, alloc: Global, at: usize) -> String {
@@ -51,6 +51,6 @@ impl<'a> Trial for Unwritten<'a> {
 #[test]
 fn fails_at_each_write(rt: HostRuntime) {
     let alloc = rt.alloc();
-    let book = book(&rt, alloc);
-    try_below(&rt, alloc, &mut Unwritten { book: &book }, 179);
+    let shelf = shelf(&rt, alloc);
+    try_below(&rt, alloc, &mut Unwritten { shelf: &shelf }, 179);
 }

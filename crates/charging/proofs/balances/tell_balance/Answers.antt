@@ -6,19 +6,19 @@ use Rattle.charging.proofs.balances.tell_balance.Goals as goal
 
 pub returns-in_default-clause-served : goal.returns-in_default-clause-served
 returns-in_default-clause-served g c = λ clean list time is le.
-    balance-unknown c.args.book.now list c.args.number c.args.moment
+    balance-unknown c.args.shelf.now list c.args.number c.args.moment
     (g.K.Keeper.content c.args.keeper.now) (g.K.Keeper.content c.state_at.new.keeper) time le is
-    (subst (λ (o : Option AccountState). TellsStateAt c.args.book.now c.args.number c.args.moment
+    (subst (λ (o : Option AccountState). TellsStateAt c.args.shelf.now c.args.number c.args.moment
     (g.K.Keeper.content c.args.keeper.now) o) c.in_default.is (c.in_ok-state.ensures.found clean)
     list time is le)
     (c.in_ok-state.ensures.same clean)
 
 pub returns-clause-served : goal.returns-clause-served
 returns-clause-served g c = λ clean list time is le.
-    balance-told c.args.book.now list c.args.number c.args.moment
+    balance-told c.args.shelf.now list c.args.number c.args.moment
     (g.K.Keeper.content c.args.keeper.now) (g.K.Keeper.content c.state_at.new.keeper)
     c.in-Some.state c.in_ok-balance.balance time le is
-    (subst (λ (o : Option AccountState). TellsStateAt c.args.book.now c.args.number c.args.moment
+    (subst (λ (o : Option AccountState). TellsStateAt c.args.shelf.now c.args.number c.args.moment
     (g.K.Keeper.content c.args.keeper.now) o) c.in-Some.is (c.in_ok-state.ensures.found clean)
     list time is le)
     c.in_ok-balance.ensures (c.in_ok-state.ensures.same clean)

@@ -8,7 +8,7 @@ use Rattle.charging.proofs.operators.open_account.Goals as goal
 
 pub returns-then-branch-clause-served : goal.returns-then-branch-clause-served
 returns-then-branch-clause-served g c = λ clean list time is le.
-    open-again c.args.book.now list c.args.number c.args.moment
+    open-again c.args.shelf.now list c.args.number c.args.moment
     (g.K.Keeper.content c.args.keeper.now) (g.K.Keeper.content c.has_account.new.self) time le
     is
     (sym (c.in_ok-has_account.ensures.found clean) ∙ c.if-branch.true)
@@ -27,15 +27,15 @@ returns-clause-served g c = λ clean list time is le.
       kept = None;
       redeemed = None;
     } in
-    open-done c.args.book.now list c.args.number c.args.moment c.advance.new.self c.new.result
+    open-done c.args.shelf.now list c.args.number c.args.moment c.advance.new.self c.new.result
     change (g.K.Keeper.content c.args.keeper.now) (g.K.Keeper.content c.commit.new.keeper) time
     le is
     (not-there (g.K.Keeper.content c.args.keeper.now) c.args.number
     (sym (c.in_ok-has_account.ensures.found clean_asked) ∙ c.if-branch.false))
     (record {
       account = c.in_ok-commit.ensures.account;
-      priced_by = (λ i. (c.advance.ensures.rows i).book)
-          ∙ (λ i. (c.new-account.ensures.rows i).book);
+      priced_by = (λ i. (c.advance.ensures.rows i).shelf)
+          ∙ (λ i. (c.new-account.ensures.rows i).shelf);
       at_moment = λ i. (c.advance.ensures.rows i).as_of;
       rows = c.advance.ensures.ledger [] c.new-account.ensures.ledger;
       named = refl;

@@ -9,9 +9,9 @@ use Rattle.charging.proofs.operators.set_barred.Goals as goal
 
 pub returns-in_default-clause-served : goal.returns-in_default-clause-served
 returns-in_default-clause-served g c = λ clean list time is le.
-    bar-unknown c.args.book.now list c.args.number c.args.barred c.args.moment
+    bar-unknown c.args.shelf.now list c.args.number c.args.barred c.args.moment
     (g.K.Keeper.content c.args.keeper.now) (g.K.Keeper.content c.load.new.self) time le is
-    (none_loaded c.args.book.now c.args.moment c.args.number (g.K.Keeper.content c.args.keeper.now)
+    (none_loaded c.args.shelf.now c.args.moment c.args.number (g.K.Keeper.content c.args.keeper.now)
     (g.K.Keeper.content c.args.keeper.now) c.in_ok-loaded.field-0 refl
     (c.in_ok-loaded.ensures.found clean) c.in_default.is)
     (c.in_ok-loaded.ensures.same clean)
@@ -29,17 +29,17 @@ returns-clause-served g c = λ clean list time is le.
       kept = None;
       redeemed = None;
     } in
-    bar-done c.args.book.now list c.args.number c.args.barred c.args.moment
+    bar-done c.args.shelf.now list c.args.number c.args.barred c.args.moment
     c.moment_on-moment.result c.in-Some.loaded c.set_barred.new.self change
     (g.K.Keeper.content c.args.keeper.now) (g.K.Keeper.content c.commit.new.keeper) time le is
     (record {
-      load = some_loaded c.args.book.now c.args.moment c.args.number
+      load = some_loaded c.args.shelf.now c.args.moment c.args.number
           (g.K.Keeper.content c.args.keeper.now)
           (g.K.Keeper.content c.args.keeper.now) c.in_ok-loaded.field-0 c.in-Some.loaded refl
           (c.in_ok-loaded.ensures.found clean_load) c.in-Some.is;
       account = c.moment_on-moment.ensures.kept;
     })
-    c.moment_on-moment.ensures.value (λ i. (c.set_barred.ensures.rows i).book)
+    c.moment_on-moment.ensures.value (λ i. (c.set_barred.ensures.rows i).shelf)
     (λ i. (c.set_barred.ensures.rows i).as_of) c.set_barred.ensures.left
     (record {
       number = refl;

@@ -6,11 +6,11 @@ use Rattle.charging.proofs.requests.answer_read.Goals as goal
 pub returns-in-Some-2-clause-served : goal.returns-in-Some-2-clause-served
 returns-in-Some-2-clause-served g c = λ clean list time is le.
     let answers = rw c.in-Some-2.is at c.in_ok-answer.ensures.answer in
-    read-told c.args.book.now list c.args.request.now c.args.moment
+    read-told c.args.shelf.now list c.args.request.now c.args.moment
     (g.K.Keeper.content c.args.keeper.now)
     (g.K.Keeper.content c.view.new.self) c.in-Some.account c.moment_on-now.result
     c.in-Some-2.answer time le is
-    (some_viewed c.args.book.now c.args.moment
+    (some_viewed c.args.shelf.now c.args.moment
     ((g.K.Keeper.content c.args.keeper.now).rows c.args.request.now.account)
     c.in_ok-account.field-0 c.in-Some.account
     (c.in_ok-account.ensures.found clean) c.in-Some.is)
@@ -20,10 +20,10 @@ returns-in-Some-2-clause-served g c = λ clean list time is le.
 
 pub returns-in_default-clause-served : goal.returns-in_default-clause-served
 returns-in_default-clause-served g c = λ clean list time is le.
-    request-unknown c.args.book.now list c.args.request.now c.args.moment
+    request-unknown c.args.shelf.now list c.args.request.now c.args.moment
     (g.K.Keeper.content c.args.keeper.now)
     (g.K.Keeper.content c.view.new.self) c.in_ok-failed.field-0 time le is
-    (none_viewed c.args.book.now c.args.moment
+    (none_viewed c.args.shelf.now c.args.moment
     ((g.K.Keeper.content c.args.keeper.now).rows c.args.request.now.account)
     c.in_ok-account.field-0 (c.in_ok-account.ensures.found clean) c.in_default.is)
     c.in_ok-failed.ensures (c.in_ok-account.ensures.same clean)

@@ -8,7 +8,7 @@ use Rattle.charging.proofs.requests.serve_request.Goals as goal
 
 pub returns-in-Some-clause-served : goal.returns-in-Some-clause-served
 returns-in-Some-clause-served g c = λ clean list time is le.
-    request-again c.args.book.now list c.args.request c.args.moment
+    request-again c.args.shelf.now list c.args.request c.args.moment
     (g.K.Keeper.content c.args.keeper.now) (g.K.Keeper.content c.find_kept.new.keeper)
     c.in-Some.kept c.in_ok-repeat.field-0 time le is
     (sym (c.in_ok-kept.ensures.found clean) ∙ c.in-Some.is) c.in_ok-repeat.ensures
@@ -19,7 +19,7 @@ returns-then-branch-clause-served g c = λ clean list time is le.
     let clean_read = c.in_ok-is_known.ensures.cleanness clean in
     let clean_find = c.in_ok-read.ensures.kept.cleanness clean_read in
     let before = c.in_ok-read.ensures.same clean_read ∙ c.in_ok-kept.ensures.same clean_find in
-    request-known c.args.book.now list c.args.request c.args.moment
+    request-known c.args.shelf.now list c.args.request c.args.moment
     (g.K.Keeper.content c.args.keeper.now) (g.K.Keeper.content c.is_known.new.keeper)
     c.in_ok-failed.field-0 time le is
     (sym (c.in_ok-kept.ensures.found clean_find) ∙ c.in_default.is)
@@ -34,10 +34,10 @@ returns-in_default-2-clause-served g c = λ clean list time is le.
     let clean_find = c.in_ok-read.ensures.kept.cleanness clean_read in
     let same = c.in_ok-is_known.ensures.same clean_known ∙ c.in_ok-read.ensures.same clean_read
     ∙ c.in_ok-kept.ensures.same clean_find in
-    request-unknown c.args.book.now list c.args.request c.args.moment
+    request-unknown c.args.shelf.now list c.args.request c.args.moment
     (g.K.Keeper.content c.args.keeper.now)
     (g.K.Keeper.content c.load.new.self) c.in_ok-failed-2.field-0 time le is
-    (none_loaded c.args.book.now c.args.moment c.args.request.account
+    (none_loaded c.args.shelf.now c.args.moment c.args.request.account
     (g.K.Keeper.content c.is_known.new.keeper)
     (g.K.Keeper.content c.args.keeper.now) c.in_ok-loaded.field-0 same
     (c.in_ok-loaded.ensures.found clean) c.in_default-2.is)
@@ -53,7 +53,7 @@ returns-clause-served g c = λ clean.
     let same_known = c.in_ok-is_known.ensures.same clean_known in
     let all = same_load ∙ same_known ∙ c.in_ok-read.ensures.same clean_read
     ∙ c.in_ok-kept.ensures.same clean_find in
-    let loads = some_loaded c.args.book.now c.args.moment c.args.request.account
+    let loads = some_loaded c.args.shelf.now c.args.moment c.args.request.account
     (g.K.Keeper.content c.is_known.new.keeper)
     (g.K.Keeper.content c.load.new.self) c.in_ok-loaded.field-0 c.in-Some-2.loaded
     (sym same_load) (c.in_ok-loaded.ensures.found clean_load) c.in-Some-2.is in
@@ -61,6 +61,6 @@ returns-clause-served g c = λ clean.
     ∙ sym (c.in_ok-kept.ensures.found clean_find) ∙ c.in_default.is in
     let new = ap (is_known c.args.request) (same_load ∙ same_known)
     ∙ sym (c.in_ok-is_known.ensures.found clean_known) ∙ c.if-branch.false in
-    subst (λ (x : Tables). ServesAt c.args.book.now (Ccr c.args.request) c.args.moment x
+    subst (λ (x : Tables). ServesAt c.args.shelf.now (Ccr c.args.request) c.args.moment x
     (g.K.Keeper.content c.decide_on.new.keeper) c.decide_on.result) all
-    (c.decide_on.ensures.served clean c.args.book.now loads fresh new)
+    (c.decide_on.ensures.served clean c.args.shelf.now loads fresh new)

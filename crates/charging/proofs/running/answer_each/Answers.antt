@@ -16,11 +16,11 @@ loop-dated-preserved g c =
     record {
       runs = λ clean list time is.
           let so = c.loop-dated.invariant.runs (c.in-Ok.ensures.cleanness clean) list time is in
-          so-far-more c.args.book.now list c.loop-dated.yielded c.in-Some.dated
+          so-far-more c.args.shelf.now list c.loop-dated.yielded c.in-Some.dated
           (g.K.Keeper.content c.loop-dated.keeper)
           (g.K.Keeper.content c.step.new.keeper) c.loop-dated.answers.items
           c.push_reserved.new.self.items c.in-Ok.answer so
-          (c.in-Ok.ensures.served clean (after_commands c.args.book.now list c.loop-dated.yielded)
+          (c.in-Ok.ensures.served clean (after_commands c.args.shelf.now list c.loop-dated.yielded)
           so.time so.tables) grown;
       all = append_assoc c.loop-dated.yielded (c.in-Some.dated ∷ []) c.next.new.self.rest.items
           ∙ ap (λ (ds : List DatedCommand). c.loop-dated.yielded ++ ds)

@@ -5,7 +5,7 @@ use Rattle.charging.proofs.running.answer_each.Given as goal
 abbrev pub invariant-loop-dated : goal.invariant-loop-dated
 invariant-loop-dated g l = record {
   runs : g.K.Keeper.clean l.keeper →
-      RunsSoFar l.book l.yielded (g.K.Keeper.content l.fn.keeper)
+      RunsSoFar l.shelf l.yielded (g.K.Keeper.content l.fn.keeper)
       (g.K.Keeper.content l.keeper) l.answers.items;
   all : l.yielded ++ l.dated-iterator.rest.items ≡ l.fn.commands.items;
   count : length l.answers.items ≡ length l.yielded;

@@ -15,7 +15,7 @@ use Rattle.charging.proofs.voucher_commands.serve_redemption.Goals as goal
 
 pub returns-in-Some-clause-served : goal.returns-in-Some-clause-served
 returns-in-Some-clause-served g c = λ clean list time is le.
-    redeem-again c.args.book.now list c.args.asked c.args.moment
+    redeem-again c.args.shelf.now list c.args.asked c.args.moment
     (g.K.Keeper.content c.args.keeper.now) (g.K.Keeper.content c.find_redemption.new.keeper)
     c.in-Some.kept c.repeated_redemption.result time le is
     (sym (c.in_ok-kept.ensures.found clean) ∙ c.in-Some.is) c.repeated_redemption.ensures
@@ -30,7 +30,7 @@ returns-in-Ok-clause-served g c = λ clean.
     let same_load = c.in_ok-loaded.ensures.same clean_load in
     let same_voucher = c.in_ok-found.ensures.same clean_voucher in
     let same = same_load ∙ same_voucher ∙ c.in_ok-kept.ensures.same clean_find in
-    let loads = some_loaded c.args.book.now c.args.moment c.args.asked.account
+    let loads = some_loaded c.args.shelf.now c.args.moment c.args.asked.account
     (g.K.Keeper.content c.find_voucher.new.self)
     (g.K.Keeper.content c.load.new.self) c.in_ok-loaded.field-0 c.in-Some-2.loaded
     (sym same_load) (c.in_ok-loaded.ensures.found clean_load) c.in-Some-2.is in
@@ -38,13 +38,13 @@ returns-in-Ok-clause-served g c = λ clean.
     (key_of (content.Redeem c.args.asked))) ∙ sym (c.in_ok-kept.ensures.found clean_find)
     ∙ c.in_default.is in
     let redeems = ap
-    (λ o. redemption (book_days c.args.book.now) o c.args.asked.account c.args.moment)
+    (λ o. redemption (book_days c.args.shelf.now) o c.args.asked.account c.args.moment)
     ((λ i. ((same_load ∙ same_voucher) i).vouchers c.args.asked.code)
     ∙ sym (c.in_ok-found.ensures.found clean_voucher))
     ∙ sym c.in_ok-redeemed.ensures ∙ c.in-Ok.is in
-    subst (λ (x : Tables). ServesAt c.args.book.now (command.Redeem c.args.asked) c.args.moment x
+    subst (λ (x : Tables). ServesAt c.args.shelf.now (command.Redeem c.args.asked) c.args.moment x
     (g.K.Keeper.content c.credit_redeemed.new.keeper) c.credit_redeemed.result) same
-    (c.credit_redeemed.ensures.served clean c.args.book.now loads fresh code redeems)
+    (c.credit_redeemed.ensures.served clean c.args.shelf.now loads fresh code redeems)
 
 pub returns-in-Err-clause-served : goal.returns-in-Err-clause-served
 returns-in-Err-clause-served g c = λ clean list time is le.
@@ -56,20 +56,20 @@ returns-in-Err-clause-served g c = λ clean list time is le.
     let same_voucher = c.in_ok-found.ensures.same clean_voucher in
     let same_find = c.in_ok-kept.ensures.same clean_find in
     let before = same_voucher ∙ same_find in
-    let loads = some_loaded c.args.book.now c.args.moment c.args.asked.account
+    let loads = some_loaded c.args.shelf.now c.args.moment c.args.asked.account
     (g.K.Keeper.content c.find_voucher.new.self)
     (g.K.Keeper.content c.args.keeper.now) c.in_ok-loaded.field-0 c.in-Some-2.loaded
     before (c.in_ok-loaded.ensures.found clean_load) c.in-Some-2.is in
     let fresh = sym (c.in_ok-kept.ensures.found clean_find) ∙ c.in_default.is in
     let redeems = ap
-    (λ o. redemption (book_days c.args.book.now) o c.args.asked.account c.args.moment)
+    (λ o. redemption (book_days c.args.shelf.now) o c.args.asked.account c.args.moment)
     ((λ i. (sym same_find i).vouchers c.args.asked.code)
     ∙ sym (c.in_ok-found.ensures.found clean_voucher))
     ∙ sym c.in_ok-redeemed.ensures ∙ c.in-Err.is in
-    subst (λ (x : Refusal). IsServed c.args.book.now list (command.Redeem c.args.asked)
+    subst (λ (x : Refusal). IsServed c.args.shelf.now list (command.Redeem c.args.asked)
     c.args.moment (g.K.Keeper.content c.args.keeper.now) (g.K.Keeper.content c.abandon.new.self)
     (answer.Refused x)) (sym c.told_refusal.ensures)
-    (redeem-refused c.args.book.now list c.args.asked c.args.moment
+    (redeem-refused c.args.shelf.now list c.args.asked c.args.moment
     (g.K.Keeper.content c.args.keeper.now) (g.K.Keeper.content c.abandon.new.self)
     c.in-Some-2.loaded c.in-Err.refusal time le is loads fresh redeems
     (given ∙ same_load ∙ before))
@@ -79,9 +79,9 @@ returns-in_default-2-clause-served g c = λ clean list time is le.
     let clean_voucher = c.in_ok-loaded.ensures.cleanness clean in
     let same = c.in_ok-found.ensures.same clean_voucher
     ∙ c.in_ok-kept.ensures.same (c.in_ok-found.ensures.cleanness clean_voucher) in
-    redeem-unknown c.args.book.now list c.args.asked c.args.moment
+    redeem-unknown c.args.shelf.now list c.args.asked c.args.moment
     (g.K.Keeper.content c.args.keeper.now) (g.K.Keeper.content c.load.new.self) time le is
-    (none_loaded c.args.book.now c.args.moment c.args.asked.account
+    (none_loaded c.args.shelf.now c.args.moment c.args.asked.account
     (g.K.Keeper.content c.find_voucher.new.self)
     (g.K.Keeper.content c.args.keeper.now) c.in_ok-loaded.field-0 same
     (c.in_ok-loaded.ensures.found clean) c.in_default-2.is)

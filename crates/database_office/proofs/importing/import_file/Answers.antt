@@ -3,7 +3,7 @@ use Rattle.database_office.proofs.importing.import_file.Goals as goal
 
 pub returns-in-Err-serve_import-clause-fault : goal.returns-in-Err-serve_import-clause-fault
 returns-in-Err-serve_import-clause-fault g c = λ clean.
-    not_told c.args.book.now c.args.moment (g.K.Keeper.content c.args.keeper.now)
+    not_told c.args.shelf.now c.args.moment (g.K.Keeper.content c.args.keeper.now)
     (g.K.Keeper.content c.serve_import.new.keeper) (g.O.Write.contents c.args.output.now)
     (g.O.Write.contents c.serve_import.new.writer) c.in-Ok.rows.items
     (g.R.Read.remaining c.args.reader) c.serve_import.result c.in-Err-serve_import.fault

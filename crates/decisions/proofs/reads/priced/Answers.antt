@@ -2,6 +2,7 @@ use Rattle.std.proofs.Common.{rules, ◌≡◌, ◌≤◌, ◌<◌, ◌^◌, Non
 use Rattle.std.proofs.Math.Facts.{Fits-of_lt}
 use Rattle.units.specs.Blocks.{started}
 use Rattle.tariffs.specs.Tariffs.{IsTariff}
+use Rattle.shelves.specs.Shelves.{IsShelf, book_at}
 use Rattle.reserving.specs.Pricing.{tariff_of}
 use Rattle.reserving.specs.Changes.{event_price_in}
 use Rattle.decisions.specs.Events.{event_fault, event_units}
@@ -12,11 +13,14 @@ use Rattle.decisions.proofs.reads.priced.Goals as goal
 pub overflow_cast-result : goal.overflow_cast-result
 overflow_cast-result c =
     let known : Some c.in-Some-tariff_of.tariff.now ≡
-    tariff_of c.args.account.now.book c.args.event.now.group = search rules in
+    tariff_of (book_at c.args.account.now.shelf c.args.moment)
+    c.args.event.now.group = search rules in
     let is : IsTariff c.in-Some-tariff_of.tariff.now = search rules in
-    let fault : event_fault c.args.account.now.book c.args.event.now ≡ None = search rules in
+    let fault : event_fault (book_at c.args.account.now.shelf c.args.moment) c.args.event.now ≡
+    None = search rules in
     let right : AreRight c.in-Some-tariff_of.tariff.now c.args.event.now.requested =
-    units_right c.args.account.now.book c.args.event.now c.in-Some-tariff_of.tariff.now
+    units_right (book_at c.args.account.now.shelf c.args.moment) c.args.event.now
+    c.in-Some-tariff_of.tariff.now
     known fault in
     let units : event_units c.in-Some-tariff_of.tariff.now c.args.event.now.requested ≡
     c.units.result = sym c.event_quantity-quantity.ensures.units
@@ -27,5 +31,6 @@ overflow_cast-result c =
     let fits : (event_price_in c.args.event.now.group c.units.result c.args.moment
     c.args.account.now).amount.0 < 2 ^ 64 =
     price_fits c.args.account.now c.in-Some-tariff_of.tariff.now c.args.moment
-    c.args.event.now.group c.units.result known is few in
+    c.args.event.now.group c.units.result
+    (subst IsShelf c.shelf.ensures c.first-ranges.ensures.shelf) known is few in
     Fits-of_lt (subst (λ n. n < 2 ^ 64) (sym c.quote-price.ensures.rows) fits)

@@ -8,35 +8,35 @@ use Rattle.http_api.proofs.answering.answer_request.Goals as goal
 
 pub returns-in-Refused-clause-ok : goal.returns-in-Refused-clause-ok
 returns-in-Refused-clause-ok g c = λ clean. ok_gives c.tell_refusal.result
-    (λ tells asking asked. refused_reply g.C.Clock.gives c.args.book.now c.args.closes
+    (λ tells asking asked. refused_reply g.C.Clock.gives c.args.shelf.now c.args.closes
     (Appends (g.W.Write.contents c.args.writer.now) (g.W.Write.contents c.tell_refusal.new.writer))
     c.in-Refused.status c.args.clock.now (g.K.Keeper.content c.args.keeper.now) tells asking
     (subst (IsAsked asking) c.in-Refused.is asked)) c.tell_refusal.ensures.ok
 
 pub returns-in-Refused-clause-err : goal.returns-in-Refused-clause-err
 returns-in-Refused-clause-err g c = λ clean. err_gives c.tell_refusal.result
-    (λ tells asking asked. refused_reply g.C.Clock.gives c.args.book.now c.args.closes
+    (λ tells asking asked. refused_reply g.C.Clock.gives c.args.shelf.now c.args.closes
     (Begins (g.W.Write.contents c.args.writer.now) (g.W.Write.contents c.tell_refusal.new.writer))
     c.in-Refused.status c.args.clock.now (g.K.Keeper.content c.args.keeper.now) tells asking
     (subst (IsAsked asking) c.in-Refused.is asked)) c.tell_refusal.ensures.err
 
 pub returns-in-Unread-clause-ok : goal.returns-in-Unread-clause-ok
 returns-in-Unread-clause-ok g c = λ clean. ok_gives c.tell_fault.result
-    (λ tells asking asked. unread_reply g.C.Clock.gives c.args.book.now c.args.closes
+    (λ tells asking asked. unread_reply g.C.Clock.gives c.args.shelf.now c.args.closes
     (Appends (g.W.Write.contents c.args.writer.now) (g.W.Write.contents c.tell_fault.new.writer))
     c.in-Unread.fault c.args.clock.now (g.K.Keeper.content c.args.keeper.now) tells asking
     (subst (IsAsked asking) c.in-Unread.is asked)) c.tell_fault.ensures.ok
 
 pub returns-in-Unread-clause-err : goal.returns-in-Unread-clause-err
 returns-in-Unread-clause-err g c = λ clean. err_gives c.tell_fault.result
-    (λ tells asking asked. unread_reply g.C.Clock.gives c.args.book.now c.args.closes
+    (λ tells asking asked. unread_reply g.C.Clock.gives c.args.shelf.now c.args.closes
     (Begins (g.W.Write.contents c.args.writer.now) (g.W.Write.contents c.tell_fault.new.writer))
     c.in-Unread.fault c.args.clock.now (g.K.Keeper.content c.args.keeper.now) tells asking
     (subst (IsAsked asking) c.in-Unread.is asked)) c.tell_fault.ensures.err
 
 pub returns-in-States-clause-ok : goal.returns-in-States-clause-ok
 returns-in-States-clause-ok g c = λ clean. ok_gives c.serve_statement.result
-    (λ replies asking asked. statement_reply g.C.Clock.gives c.args.book.now c.args.closes (Appends
+    (λ replies asking asked. statement_reply g.C.Clock.gives c.args.shelf.now c.args.closes (Appends
     (g.W.Write.contents c.args.writer.now) (g.W.Write.contents c.serve_statement.new.writer))
     c.in-States.statement c.args.clock.now c.serve_statement.new.clock
     (g.K.Keeper.content c.args.keeper.now) (g.K.Keeper.content c.serve_statement.new.keeper) replies
@@ -44,7 +44,7 @@ returns-in-States-clause-ok g c = λ clean. ok_gives c.serve_statement.result
 
 pub returns-in-States-clause-err : goal.returns-in-States-clause-err
 returns-in-States-clause-err g c = λ clean. err_gives c.serve_statement.result
-    (λ replies asking asked. statement_reply g.C.Clock.gives c.args.book.now c.args.closes (Begins
+    (λ replies asking asked. statement_reply g.C.Clock.gives c.args.shelf.now c.args.closes (Begins
     (g.W.Write.contents c.args.writer.now) (g.W.Write.contents c.serve_statement.new.writer))
     c.in-States.statement c.args.clock.now c.serve_statement.new.clock
     (g.K.Keeper.content c.args.keeper.now) (g.K.Keeper.content c.serve_statement.new.keeper) replies
@@ -60,7 +60,7 @@ returns-in-Unread-clause-memory g c = λ clean e.
 
 pub returns-in-Does-clause-memory : goal.returns-in-Does-clause-memory
 returns-in-Does-clause-memory g c = λ clean e asking asked.
-    owed_command g.C.Clock.gives c.args.book.now c.in-Does.command c.args.clock.now
+    owed_command g.C.Clock.gives c.args.shelf.now c.in-Does.command c.args.clock.now
     c.serve_command.new.clock (g.K.Keeper.content c.args.keeper.now)
     (c.serve_command.ensures.memory clean e) asking (subst (IsAsked asking) c.in-Does.is asked)
 

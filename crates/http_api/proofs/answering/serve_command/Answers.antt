@@ -8,7 +8,7 @@ use Rattle.http_api.proofs.answering.serve_command.Goals as goal
 
 pub returns-in_default-clause-ok : goal.returns-in_default-clause-ok
 returns-in_default-clause-ok g c = λ clean. ok_gives c.tell_unable.result
-    (unclocked_reply g.C.Clock.gives c.args.book.now c.args.closes
+    (unclocked_reply g.C.Clock.gives c.args.shelf.now c.args.closes
     (Appends (g.W.Write.contents c.args.writer.now) (g.W.Write.contents c.tell_unable.new.writer))
     c.args.command c.args.clock.now c.now.new.self (g.K.Keeper.content c.args.keeper.now)
     (subst (λ o. g.C.Clock.gives c.args.clock.now o c.now.new.self) c.in_default.is c.now.ensures))
@@ -20,7 +20,7 @@ returns-in_default-clause-memory g c = λ clean e.
 
 pub returns-in_default-clause-err : goal.returns-in_default-clause-err
 returns-in_default-clause-err g c = λ clean. err_gives c.tell_unable.result
-    (unclocked_reply g.C.Clock.gives c.args.book.now c.args.closes
+    (unclocked_reply g.C.Clock.gives c.args.shelf.now c.args.closes
     (Begins (g.W.Write.contents c.args.writer.now) (g.W.Write.contents c.tell_unable.new.writer))
     c.args.command c.args.clock.now c.now.new.self (g.K.Keeper.content c.args.keeper.now)
     (subst (λ o. g.C.Clock.gives c.args.clock.now o c.now.new.self) c.in_default.is c.now.ensures))
@@ -28,7 +28,7 @@ returns-in_default-clause-err g c = λ clean. err_gives c.tell_unable.result
 
 pub returns-in-Ok-clause-ok : goal.returns-in-Ok-clause-ok
 returns-in-Ok-clause-ok g c = λ clean. ok_gives c.tell_answer.result
-    (answered_reply g.C.Clock.gives c.args.book.now c.args.closes
+    (answered_reply g.C.Clock.gives c.args.shelf.now c.args.closes
     (Appends (g.W.Write.contents c.args.writer.now) (g.W.Write.contents c.tell_answer.new.writer))
     c.args.command c.is_read_command-read.result c.in-Some.moment c.args.clock.now c.now.new.self
     (g.K.Keeper.content c.args.keeper.now) (g.K.Keeper.content c.step.new.keeper) c.in-Ok.answer
@@ -38,7 +38,7 @@ returns-in-Ok-clause-ok g c = λ clean. ok_gives c.tell_answer.result
 
 pub returns-in-Ok-clause-err : goal.returns-in-Ok-clause-err
 returns-in-Ok-clause-err g c = λ clean. err_gives c.tell_answer.result
-    (answered_reply g.C.Clock.gives c.args.book.now c.args.closes
+    (answered_reply g.C.Clock.gives c.args.shelf.now c.args.closes
     (Begins (g.W.Write.contents c.args.writer.now) (g.W.Write.contents c.tell_answer.new.writer))
     c.args.command c.is_read_command-read.result c.in-Some.moment c.args.clock.now c.now.new.self
     (g.K.Keeper.content c.args.keeper.now) (g.K.Keeper.content c.step.new.keeper) c.in-Ok.answer
@@ -48,7 +48,7 @@ returns-in-Ok-clause-err g c = λ clean. err_gives c.tell_answer.result
 
 pub returns-in-Ok-clause-memory : goal.returns-in-Ok-clause-memory
 returns-in-Ok-clause-memory g c = λ clean e.
-    owed_answer g.C.Clock.gives c.args.book.now c.args.command c.is_read_command-read.result
+    owed_answer g.C.Clock.gives c.args.shelf.now c.args.command c.is_read_command-read.result
     c.in-Some.moment c.args.clock.now c.now.new.self (g.K.Keeper.content c.args.keeper.now)
     (g.K.Keeper.content c.step.new.keeper) c.in-Ok.answer c.is_read_command-read.ensures
     (subst (λ o. g.C.Clock.gives c.args.clock.now o c.now.new.self) c.in-Some.is c.now.ensures)
@@ -56,7 +56,7 @@ returns-in-Ok-clause-memory g c = λ clean e.
 
 pub returns-in-Err-clause-ok : goal.returns-in-Err-clause-ok
 returns-in-Err-clause-ok g c = λ clean. ok_gives c.tell_unable-in-Err.result
-    (failed_reply g.C.Clock.gives c.args.book.now c.args.closes (Appends
+    (failed_reply g.C.Clock.gives c.args.shelf.now c.args.closes (Appends
     (g.W.Write.contents c.args.writer.now) (g.W.Write.contents c.tell_unable-in-Err.new.writer))
     c.args.command c.in-Some.moment c.args.clock.now c.now.new.self
     (g.K.Keeper.content c.args.keeper.now) (g.K.Keeper.content c.step.new.keeper) c.in-Err.field-0
@@ -65,7 +65,7 @@ returns-in-Err-clause-ok g c = λ clean. ok_gives c.tell_unable-in-Err.result
 
 pub returns-in-Err-clause-err : goal.returns-in-Err-clause-err
 returns-in-Err-clause-err g c = λ clean. err_gives c.tell_unable-in-Err.result
-    (failed_reply g.C.Clock.gives c.args.book.now c.args.closes (Begins
+    (failed_reply g.C.Clock.gives c.args.shelf.now c.args.closes (Begins
     (g.W.Write.contents c.args.writer.now) (g.W.Write.contents c.tell_unable-in-Err.new.writer))
     c.args.command c.in-Some.moment c.args.clock.now c.now.new.self
     (g.K.Keeper.content c.args.keeper.now) (g.K.Keeper.content c.step.new.keeper) c.in-Err.field-0
@@ -80,7 +80,7 @@ pub returns-in-Ok-clause-goes_on : goal.returns-in-Ok-clause-goes_on
 returns-in-Ok-clause-goes_on g c = record {
   unwritten = c.tell_answer.ensures.unwritten;
   read = c.tell_answer.ensures.read;
-  continued = λ clean. continued_step c.args.book.now c.args.command c.in-Some.moment
+  continued = λ clean. continued_step c.args.shelf.now c.args.command c.in-Some.moment
       (g.K.Keeper.content c.args.keeper.now) (g.K.Keeper.content c.step.new.keeper) c.step.result
       (c.step.ensures.served clean);
   cleanness = c.step.ensures.cleanness;

@@ -17,10 +17,10 @@ use Rattle.http_api.proofs.serving.serve_requests.Goals.{After-answer_request}
 pub loop-served-init : goal.loop-served-init
 loop-served-init g c = record {
   turns = refl;
-  so_far = λ clean. so_far-none g.C.Clock.gives c.args.book.now
+  so_far = λ clean. so_far-none g.C.Clock.gives c.args.shelf.now
       (g.R.Read.remaining c.args.reader.now) c.args.clock.now (g.W.Write.contents c.args.writer.now)
       (g.K.Keeper.content c.args.keeper.now);
-  continued = λ clean. continued_none c.args.book.now (g.K.Keeper.content c.args.keeper.now);
+  continued = λ clean. continued_none c.args.shelf.now (g.K.Keeper.content c.args.keeper.now);
   cleanness = λ clean. clean;
   failures = le_refl (g.K.Keeper.failed c.args.keeper.now);
 }
@@ -29,16 +29,16 @@ loop-served-init g c = record {
 one_more : (g : _) (c : After-answer_request g) (Writes : List ℕ → Type 0) →
     g.K.Keeper.clean c.answer_request.new.keeper →
     ((asking : Asking) → IsAsked asking c.in-Some.heard.asked →
-    Replies g.C.Clock.gives c.args.book.now asking (c.left_after-left.result == 0)
+    Replies g.C.Clock.gives c.args.shelf.now asking (c.left_after-left.result == 0)
     c.loop-served.clock c.answer_request.new.clock Writes (g.K.Keeper.content c.loop-served.keeper)
     (g.K.Keeper.content c.answer_request.new.keeper)) →
     IfSome (g.R.Read.remaining c.args.reader.now) (λ stream.
-    IsOneMore g.C.Clock.gives c.args.book.now stream c.loop-served.served c.loop-served.left
+    IsOneMore g.C.Clock.gives c.args.shelf.now stream c.loop-served.served c.loop-served.left
     c.in-Some.heard.closes (g.R.Read.remaining c.hear.new.reader) c.args.clock.now
     c.answer_request.new.clock (g.W.Write.contents c.args.writer.now)
     (g.W.Write.contents c.loop-served.writer) Writes (g.K.Keeper.content c.args.keeper.now)
     (g.K.Keeper.content c.answer_request.new.keeper))
-one_more g c Writes clean replies = taken_one g.C.Clock.gives c.args.book.now c.loop-served.served
+one_more g c Writes clean replies = taken_one g.C.Clock.gives c.args.shelf.now c.loop-served.served
     c.loop-served.left c.left_after-left.result (c.left_after-left.result == 0)
     (g.R.Read.remaining c.args.reader.now) (g.R.Read.remaining c.loop-served.reader)
     (g.R.Read.remaining c.hear.new.reader) c.args.clock.now c.loop-served.clock
@@ -54,9 +54,9 @@ one_more g c Writes clean replies = taken_one g.C.Clock.gives c.args.book.now c.
 -- and the accepted commands went on
 continued : (g : _) (c : After-answer_request g) →
     g.K.Keeper.clean c.answer_request.new.keeper →
-    Continues c.args.book.now (g.K.Keeper.content c.args.keeper.now)
+    Continues c.args.shelf.now (g.K.Keeper.content c.args.keeper.now)
     (g.K.Keeper.content c.answer_request.new.keeper)
-continued g c clean = continued_more c.args.book.now (g.K.Keeper.content c.args.keeper.now)
+continued g c clean = continued_more c.args.shelf.now (g.K.Keeper.content c.args.keeper.now)
     (g.K.Keeper.content c.loop-served.keeper) (g.K.Keeper.content c.answer_request.new.keeper)
     (c.loop-served.invariant.continued (c.answer_request.ensures.goes_on.cleanness clean))
     (c.answer_request.ensures.goes_on.continued clean)
@@ -71,20 +71,20 @@ pub returns-in_err-heard : goal.returns-in_err-heard
 returns-in_err-heard g c = record {
   served = λ clean. no_value c.from_residual.result _ _ c.from_residual.ensures.1;
   begun = λ clean. at_err c.from_residual.result
-      (so_far-begun g.C.Clock.gives c.args.book.now c.loop-served.served c.loop-served.left
+      (so_far-begun g.C.Clock.gives c.args.shelf.now c.loop-served.served c.loop-served.left
       (g.R.Read.remaining c.args.reader.now) (g.R.Read.remaining c.loop-served.reader)
       c.args.clock.now c.loop-served.clock (g.W.Write.contents c.args.writer.now)
       (g.W.Write.contents c.loop-served.writer) (g.K.Keeper.content c.args.keeper.now)
       (g.K.Keeper.content c.loop-served.keeper)
       (omega (arith, c.loop-served.invariant.turns)) (c.loop-served.invariant.so_far clean));
   memory = λ clean e.
-      so_far-short g.C.Clock.gives c.args.book.now c.loop-served.served c.loop-served.left
+      so_far-short g.C.Clock.gives c.args.shelf.now c.loop-served.served c.loop-served.left
       (g.R.Read.remaining c.args.reader.now) (g.R.Read.remaining c.loop-served.reader)
       c.args.clock.now c.loop-served.clock (g.W.Write.contents c.args.writer.now)
       (g.W.Write.contents c.loop-served.writer) (g.K.Keeper.content c.args.keeper.now)
       (g.K.Keeper.content c.loop-served.keeper) (c.loop-served.invariant.so_far clean);
   read = λ clean e.
-      so_far-unread g.C.Clock.gives c.args.book.now c.loop-served.served c.loop-served.left
+      so_far-unread g.C.Clock.gives c.args.shelf.now c.loop-served.served c.loop-served.left
       (g.R.Read.remaining c.args.reader.now) (g.R.Read.remaining c.loop-served.reader)
       c.args.clock.now c.loop-served.clock (g.W.Write.contents c.args.writer.now)
       (g.W.Write.contents c.loop-served.writer) (g.K.Keeper.content c.args.keeper.now)
@@ -102,7 +102,7 @@ returns-in_err-heard g c = record {
 pub returns-in_default : goal.returns-in_default
 returns-in_default g c = record {
   served = λ clean.
-      so_far-ended g.C.Clock.gives c.args.book.now c.loop-served.served c.loop-served.left
+      so_far-ended g.C.Clock.gives c.args.shelf.now c.loop-served.served c.loop-served.left
       (g.R.Read.remaining c.args.reader.now) (g.R.Read.remaining c.loop-served.reader)
       (g.R.Read.remaining c.hear.new.reader) c.args.clock.now c.loop-served.clock
       (g.W.Write.contents c.args.writer.now) (g.W.Write.contents c.loop-served.writer)
@@ -124,7 +124,7 @@ returns-in_err-answer_request g c = record {
   served = λ clean. no_value c.from_residual-in_err-answer_request.result _ _
       c.from_residual-in_err-answer_request.ensures.1;
   begun = λ clean. at_err c.from_residual-in_err-answer_request.result
-      (so_far-broken g.C.Clock.gives c.args.book.now c.loop-served.served c.loop-served.left
+      (so_far-broken g.C.Clock.gives c.args.shelf.now c.loop-served.served c.loop-served.left
       c.in-Some.heard.closes (g.R.Read.remaining c.args.reader.now) _ _ _ _
       (g.W.Write.contents c.loop-served.writer) _ _ _ c.loop-served-test.true
       (one_more g (goal.at.returns-in_err-answer_request g c).After-answer_request _ clean
@@ -134,7 +134,7 @@ returns-in_err-answer_request g c = record {
       fault_told c.answer_request.result c.from_residual-in_err-answer_request.result _
       broken.Memory
       c.in_err-answer_request.was c.from_residual-in_err-answer_request.ensures.1 e in
-      so_far-owed g.C.Clock.gives c.args.book.now c.loop-served.served c.loop-served.left
+      so_far-owed g.C.Clock.gives c.args.shelf.now c.loop-served.served c.loop-served.left
       (g.R.Read.remaining c.args.reader.now) (g.R.Read.remaining c.loop-served.reader)
       (g.R.Read.remaining c.hear.new.reader) c.args.clock.now c.loop-served.clock
       c.answer_request.new.clock (g.W.Write.contents c.args.writer.now)
@@ -148,7 +148,7 @@ returns-in_err-answer_request g c = record {
       c.from_residual-in_err-answer_request.result _ broken.Read c.in_err-answer_request.was
       c.from_residual-in_err-answer_request.ensures.1 e));
   write = λ clean e.
-      so_far-cut g.C.Clock.gives c.args.book.now c.loop-served.served c.loop-served.left
+      so_far-cut g.C.Clock.gives c.args.shelf.now c.loop-served.served c.loop-served.left
       c.in-Some.heard.closes (g.R.Read.remaining c.args.reader.now) _ _ _ _
       (g.W.Write.contents c.loop-served.writer) _ _ _ c.loop-served-test.true
       (one_more g (goal.at.returns-in_err-answer_request g c).After-answer_request _ clean
@@ -164,7 +164,7 @@ returns-in_err-answer_request g c = record {
 pub returns-then-left-eq0 : goal.returns-then-left-eq0
 returns-then-left-eq0 g c = record {
   served = λ clean.
-      so_far-closed g.C.Clock.gives c.args.book.now c.loop-served.served c.one_more.result.requests
+      so_far-closed g.C.Clock.gives c.args.shelf.now c.loop-served.served c.one_more.result.requests
       c.loop-served.left c.left_after-left.result c.in-Some.heard.closes
       (g.R.Read.remaining c.args.reader.now) (g.R.Read.remaining c.hear.new.reader) _ _ _
       (g.W.Write.contents c.loop-served.writer) _ _ _ c.one_more.ensures c.left_after-left.ensures
@@ -188,7 +188,7 @@ loop-served-preserved g c = record {
       c.loop-served.served c.left_after-left.ensures c.if-left-eq0.false
       c.loop-served.invariant.turns;
   so_far = λ clean.
-      so_far-more g.C.Clock.gives c.args.book.now c.loop-served.served c.loop-served.left
+      so_far-more g.C.Clock.gives c.args.shelf.now c.loop-served.served c.loop-served.left
       c.left_after-left.result c.in-Some.heard.closes (g.R.Read.remaining c.args.reader.now) _ _ _ _
       (g.W.Write.contents c.loop-served.writer) _ _ _ c.left_after-left.ensures
       c.if-left-eq0.false (one_more g (goal.at.loop-served-preserved g c).After-answer_request _
@@ -201,7 +201,7 @@ loop-served-preserved g c = record {
 pub returns : goal.returns
 returns g c = record {
   served = λ clean.
-      so_far-full g.C.Clock.gives c.args.book.now c.loop-served.served 1000 c.loop-served.left
+      so_far-full g.C.Clock.gives c.args.shelf.now c.loop-served.served 1000 c.loop-served.left
       (g.R.Read.remaining c.args.reader.now) (g.R.Read.remaining c.loop-served.reader)
       c.args.clock.now c.loop-served.clock (g.W.Write.contents c.args.writer.now)
       (g.W.Write.contents c.loop-served.writer) (g.K.Keeper.content c.args.keeper.now)

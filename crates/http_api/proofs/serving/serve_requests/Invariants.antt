@@ -7,11 +7,12 @@ abbrev pub invariant-loop-served : goal.invariant-loop-served
 invariant-loop-served g l = record {
   turns : l.left + l.served ≡ 1000;
   so_far : g.K.Keeper.clean l.keeper → IfSome (g.R.Read.remaining l.fn.reader) (λ stream.
-      IsSoFar g.C.Clock.gives l.book stream l.served l.left (g.R.Read.remaining l.reader) l.fn.clock
+      IsSoFar g.C.Clock.gives l.shelf stream l.served l.left
+      (g.R.Read.remaining l.reader) l.fn.clock
       l.clock (g.W.Write.contents l.fn.writer) (g.W.Write.contents l.writer)
       (g.K.Keeper.content l.fn.keeper) (g.K.Keeper.content l.keeper));
-  continued : g.K.Keeper.clean l.keeper → ForEachList l.book (g.K.Keeper.content l.fn.keeper)
-      (IsContinued l.book (g.K.Keeper.content l.keeper));
+  continued : g.K.Keeper.clean l.keeper → ForEachList l.shelf (g.K.Keeper.content l.fn.keeper)
+      (IsContinued l.shelf (g.K.Keeper.content l.keeper));
   cleanness : g.K.Keeper.clean l.keeper → g.K.Keeper.clean l.fn.keeper;
   failures : g.K.Keeper.failed l.fn.keeper ≤ g.K.Keeper.failed l.keeper;
 }

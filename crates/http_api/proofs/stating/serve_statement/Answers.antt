@@ -8,7 +8,7 @@ use Rattle.http_api.proofs.stating.serve_statement.Goals as goal
 
 pub returns-in_default-clause-ok : goal.returns-in_default-clause-ok
 returns-in_default-clause-ok g c = λ clean. ok_gives c.tell_unable.result
-    (unstated_reply g.C.Clock.gives c.args.book.now c.args.closes
+    (unstated_reply g.C.Clock.gives c.args.shelf.now c.args.closes
     (Appends (g.W.Write.contents c.args.writer.now) (g.W.Write.contents c.tell_unable.new.writer))
     c.args.asked.now None c.args.clock.now c.now.new.self
     (g.K.Keeper.content c.args.keeper.now) (g.K.Keeper.content c.args.keeper.now) (subst (λ o.
@@ -17,7 +17,7 @@ returns-in_default-clause-ok g c = λ clean. ok_gives c.tell_unable.result
 
 pub returns-in_default-clause-err : goal.returns-in_default-clause-err
 returns-in_default-clause-err g c = λ clean. err_gives c.tell_unable.result
-    (unstated_reply g.C.Clock.gives c.args.book.now c.args.closes
+    (unstated_reply g.C.Clock.gives c.args.shelf.now c.args.closes
     (Begins (g.W.Write.contents c.args.writer.now) (g.W.Write.contents c.tell_unable.new.writer))
     c.args.asked.now None c.args.clock.now c.now.new.self
     (g.K.Keeper.content c.args.keeper.now) (g.K.Keeper.content c.args.keeper.now) (subst (λ o.
@@ -26,7 +26,7 @@ returns-in_default-clause-err g c = λ clean. err_gives c.tell_unable.result
 
 pub returns-in-Err-clause-ok : goal.returns-in-Err-clause-ok
 returns-in-Err-clause-ok g c = λ clean. ok_gives c.tell_unable-in-Err.result
-    (unstated_reply g.C.Clock.gives c.args.book.now c.args.closes (Appends (g.W.Write.contents
+    (unstated_reply g.C.Clock.gives c.args.shelf.now c.args.closes (Appends (g.W.Write.contents
     c.args.writer.now) (g.W.Write.contents c.tell_unable-in-Err.new.writer)) c.args.asked.now
     (Some c.in-Some.moment) c.args.clock.now c.now.new.self (g.K.Keeper.content c.args.keeper.now)
     (g.K.Keeper.content c.account_state.new.keeper) (subst (λ o. g.C.Clock.gives c.args.clock.now o
@@ -35,7 +35,7 @@ returns-in-Err-clause-ok g c = λ clean. ok_gives c.tell_unable-in-Err.result
 
 pub returns-in-Err-clause-err : goal.returns-in-Err-clause-err
 returns-in-Err-clause-err g c = λ clean. err_gives c.tell_unable-in-Err.result
-    (unstated_reply g.C.Clock.gives c.args.book.now c.args.closes (Begins (g.W.Write.contents
+    (unstated_reply g.C.Clock.gives c.args.shelf.now c.args.closes (Begins (g.W.Write.contents
     c.args.writer.now) (g.W.Write.contents c.tell_unable-in-Err.new.writer)) c.args.asked.now
     (Some c.in-Some.moment) c.args.clock.now c.now.new.self (g.K.Keeper.content c.args.keeper.now)
     (g.K.Keeper.content c.account_state.new.keeper) (subst (λ o. g.C.Clock.gives c.args.clock.now o
@@ -44,7 +44,7 @@ returns-in-Err-clause-err g c = λ clean. err_gives c.tell_unable-in-Err.result
 
 pub returns-in-Some-state-clause-ok : goal.returns-in-Some-state-clause-ok
 returns-in-Some-state-clause-ok g c = λ clean. ok_gives c.tell_statement.result
-    (stated_reply g.C.Clock.gives c.args.book.now c.args.closes (Appends (g.W.Write.contents
+    (stated_reply g.C.Clock.gives c.args.shelf.now c.args.closes (Appends (g.W.Write.contents
     c.args.writer.now) (g.W.Write.contents c.tell_statement.new.writer)) c.args.asked.now
     c.in-Some.moment c.args.clock.now c.now.new.self (g.K.Keeper.content c.args.keeper.now)
     (g.K.Keeper.content c.account_state.new.keeper) (g.K.Keeper.content c.tell_statement.new.keeper)
@@ -56,7 +56,7 @@ returns-in-Some-state-clause-ok g c = λ clean. ok_gives c.tell_statement.result
 
 pub returns-in-Some-state-clause-err : goal.returns-in-Some-state-clause-err
 returns-in-Some-state-clause-err g c = λ clean. err_gives c.tell_statement.result
-    (stated_reply g.C.Clock.gives c.args.book.now c.args.closes
+    (stated_reply g.C.Clock.gives c.args.shelf.now c.args.closes
     (Begins (g.W.Write.contents c.args.writer.now) (g.W.Write.contents c.tell_statement.new.writer))
     c.args.asked.now c.in-Some.moment c.args.clock.now c.now.new.self
     (g.K.Keeper.content c.args.keeper.now) (g.K.Keeper.content c.account_state.new.keeper)
@@ -68,7 +68,7 @@ returns-in-Some-state-clause-err g c = λ clean. err_gives c.tell_statement.resu
 
 pub returns-in-None-clause-ok : goal.returns-in-None-clause-ok
 returns-in-None-clause-ok g c = λ clean. ok_gives c.tell_unknown.result
-    (unknown_reply g.C.Clock.gives c.args.book.now c.args.closes
+    (unknown_reply g.C.Clock.gives c.args.shelf.now c.args.closes
     (Appends (g.W.Write.contents c.args.writer.now) (g.W.Write.contents c.tell_unknown.new.writer))
     c.args.asked.now c.in-Some.moment c.args.clock.now c.now.new.self
     (g.K.Keeper.content c.args.keeper.now) (g.K.Keeper.content c.account_state.new.keeper)
@@ -78,7 +78,7 @@ returns-in-None-clause-ok g c = λ clean. ok_gives c.tell_unknown.result
 
 pub returns-in-None-clause-err : goal.returns-in-None-clause-err
 returns-in-None-clause-err g c = λ clean. err_gives c.tell_unknown.result
-    (unknown_reply g.C.Clock.gives c.args.book.now c.args.closes
+    (unknown_reply g.C.Clock.gives c.args.shelf.now c.args.closes
     (Begins (g.W.Write.contents c.args.writer.now) (g.W.Write.contents c.tell_unknown.new.writer))
     c.args.asked.now c.in-Some.moment c.args.clock.now c.now.new.self
     (g.K.Keeper.content c.args.keeper.now) (g.K.Keeper.content c.account_state.new.keeper)

@@ -1,11 +1,11 @@
-use Rattle.std.proofs.Common.{sym, ap, ◌∙◌, subst, List, length, ◌<◌}
+use Rattle.std.proofs.Common.{subst, List, length, ◌<◌}
 use Rattle.keepers.specs.declared.entries.Entry.{Entry}
 use Rattle.keepers.proofs.SweptEach.{swept_next}
 use Rattle.keepers.proofs.entries.advance_entries.Goals as goal
 
 pub loop-entry-preserved : goal.loop-entry-preserved
 loop-entry-preserved c =
-    swept_next c.args.book.now c.args.moment c.loop-entry.entry-index c.args.entries.now.items
+    swept_next c.args.shelf.now c.args.moment c.loop-entry.entry-index c.args.entries.now.items
     c.loop-entry.entry-items c.entry-item.result c.advance_entry.new.entry
     c.loop-entry.invariant.0 c.loop-entry.invariant.1
     (subst (λ (zs : List Entry). c.loop-entry.entry-index < length zs)

@@ -1,6 +1,5 @@
-use Rattle.std.proofs.Common.{ap, ◌∙◌, sym}
+use Rattle.std.proofs.Common.{ap, ◌∙◌}
 use Rattle.std.specs.Prelude.{is_some}
-use Rattle.std.specs.Option.{option_copied}
 use Rattle.keepers.specs.Memory.{entry_in}
 use Rattle.keepers.proofs.Placed.{head_there, copied_there}
 use Rattle.keepers.proofs.entries.has_entry.Goals as goal

@@ -1,17 +1,15 @@
-use Rattle.std.proofs.Common.{◌≡◌, List, [], ◌∷◌, ◌++◌, length, sym, ap, ◌∙◌, Some, None, refl}
+use Rattle.std.proofs.Common.{◌≡◌, [], ◌∷◌, ◌++◌, length, sym, ap, ◌∙◌, Some, None}
 use Rattle.std.proofs.Common.{rules, subst, Option}
 use Rattle.std.specs.Prelude.{position, if◌then◌else◌}
-use Rattle.std.specs.HashMap.{get}
 use Rattle.std.proofs.lemmas.List.{length-set}
 use Rattle.identifiers.specs.Texts.{same_name}
-use Rattle.keepers.specs.Keys.{same_key}
 use Rattle.keepers.specs.Change.{kept_after}
 use Rattle.keepers.specs.declared.entries.Entry.{Entry}
 use Rattle.keepers.specs.Change.{over, IsMadeFrom}
 use Rattle.keepers.specs.Parts.{rows_of}
 use Rattle.keepers.specs.Memory.{is_entry, entry_in, rows_of_entry, answer_of_entry}
 use Rattle.keepers.specs.Memory.{charges_of_entry}
-use Rattle.keepers.proofs.Placed.{place_added, place_written, on_err, found_at, seen_written}
+use Rattle.keepers.proofs.Placed.{place_added, on_err, found_at, seen_written}
 use Rattle.keepers.proofs.Placed.{seen_left, count_written, seen_added, count_added}
 use Rattle.keepers.proofs.entries.put_entry.Goals as goal
 

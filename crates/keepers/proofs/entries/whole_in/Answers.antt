@@ -1,4 +1,4 @@
-use Rattle.std.proofs.Common.{◌≡◌, sym, ap, ◌∙◌, subst, Option}
+use Rattle.std.proofs.Common.{sym, ap, ◌∙◌, subst, Option}
 use Rattle.std.proofs.lemmas.Result.{IfOk-weaker}
 use Rattle.std.specs.Option.{option_copied}
 use Rattle.keepers.specs.declared.entries.Entry.{Entry}

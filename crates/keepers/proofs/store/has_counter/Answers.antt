@@ -1,6 +1,6 @@
 use Rattle.std.proofs.Common.{ap, ◌∙◌}
-use Rattle.std.specs.Prelude.{is_some, ◌==◌}
-use Rattle.reserving.specs.Sessions.{is_session, is_of, is_counter}
+use Rattle.std.specs.Prelude.{is_some}
+use Rattle.reserving.specs.Sessions.{is_counter}
 use Rattle.keepers.proofs.PartsKept.{placed_found}
 use Rattle.keepers.proofs.store.has_counter.Goals as goal
 

@@ -1,4 +1,4 @@
-use Rattle.std.proofs.Common.{◌≡◌, ℕ, List, take, true}
+use Rattle.std.proofs.Common.{◌≡◌, ℕ, take, true}
 use Rattle.buckets.specs.Row.{Row}
 use Rattle.reserving.specs.Rows.{EachIn}
 use Rattle.keepers.specs.Named.{is_numbered}

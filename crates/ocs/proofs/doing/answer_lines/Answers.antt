@@ -3,11 +3,11 @@ use Rattle.ocs.proofs.EndLemmas.{reached_lines}
 use Rattle.ocs.proofs.doing.answer_lines.Goals as goal
 
 pub returns-clause-done : goal.returns-clause-done
-returns-clause-done g c = once-answered c.lines.result _ _ _ _ _ _ _ _ c.in_ok-book.ensures
+returns-clause-done g c = once-answered c.lines.result _ _ _ _ _ _ _ _ c.in_ok-shelf.ensures
     c.new-keeper.ensures.content (c.lines.ensures.answers.answered tt)
 
 pub returns-clause-fault : goal.returns-clause-fault
-returns-clause-fault g c = once-begun c.lines.result _ _ _ _ _ _ _ _ c.in_ok-book.ensures
+returns-clause-fault g c = once-begun c.lines.result _ _ _ _ _ _ _ _ c.in_ok-shelf.ensures
     c.new-keeper.ensures.content (c.lines.ensures.answers.begun tt)
 
 pub returns-clause-reached : goal.returns-clause-reached

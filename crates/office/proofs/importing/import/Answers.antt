@@ -11,7 +11,7 @@ pub returns-in_err-addition-clause-imported : goal.returns-in_err-addition-claus
 returns-in_err-addition-clause-imported g c = λ clean.
     let all = ap (λ (more : List VoucherAddition). c.loop-row.yielded ++ more)
     (sym c.in-Some.ensures.steps.0) ∙ c.loop-row.invariant.all in
-    begun_at c.args.book.now c.args.moment c.loop-row.yielded c.next.new.self.rest.items
+    begun_at c.args.shelf.now c.args.moment c.loop-row.yielded c.next.new.self.rest.items
     c.args.rows.items c.in-Some.row (g.K.Keeper.content c.args.keeper.now)
     (g.K.Keeper.content c.loop-row.keeper) (g.K.Keeper.content c.add_voucher.new.keeper)
     c.loop-row.counts c.from_residual.result c.from_residual.ensures.0 all
@@ -23,12 +23,12 @@ loop-row-preserved g c = record {
   runs = λ clean list time is.
       let so = c.loop-row.invariant.runs (c.in_ok-addition.ensures.kept.cleanness clean) list time
       is in
-      one-more c.args.book.now c.args.moment list c.loop-row.yielded c.in-Some.row
+      one-more c.args.shelf.now c.args.moment list c.loop-row.yielded c.in-Some.row
       (g.K.Keeper.content c.args.keeper.now) (g.K.Keeper.content c.loop-row.keeper)
       (g.K.Keeper.content c.add_voucher.new.keeper) c.loop-row.counts c.count_one-counts.result
       c.in_ok-addition.addition so
       (c.in_ok-addition.ensures.added clean
-      (after_commands c.args.book.now list (additions c.args.moment c.loop-row.yielded))
+      (after_commands c.args.shelf.now list (additions c.args.moment c.loop-row.yielded))
       so.time so.tables) c.count_one-counts.ensures;
   all = append_assoc c.loop-row.yielded (c.in-Some.row ∷ []) c.next.new.self.rest.items
       ∙ ap (λ (more : List VoucherAddition). c.loop-row.yielded ++ more)

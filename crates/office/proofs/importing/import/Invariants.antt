@@ -7,7 +7,7 @@ use Rattle.office.proofs.importing.import.Given as goal
 abbrev pub invariant-loop-row : goal.invariant-loop-row
 invariant-loop-row g l = record {
   runs : g.K.Keeper.clean l.keeper →
-      ImportsSoFar l.book (additions l.moment l.yielded) (g.K.Keeper.content l.fn.keeper)
+      ImportsSoFar l.shelf (additions l.moment l.yielded) (g.K.Keeper.content l.fn.keeper)
       (g.K.Keeper.content l.keeper) l.counts;
   all : l.yielded ++ l.row-iterator.rest.items ≡ l.fn.rows.items;
   count : total l.counts ≡ length l.yielded;

@@ -7,14 +7,14 @@ use Rattle.office.proofs.stating.serve_statement.Goals as goal
 
 pub returns-in-Err-clause-told : goal.returns-in-Err-clause-told
 returns-in-Err-clause-told g c = λ clean.
-    nothing_told c.args.book.now c.args.query.now c.args.moment
+    nothing_told c.args.shelf.now c.args.query.now c.args.moment
     (g.K.Keeper.content c.args.keeper.now) (g.W.Write.contents c.args.writer.now) _
     (nothing_written (g.W.Write.contents c.args.writer.now))
 
 pub returns-in-Some-clause-told : goal.returns-in-Some-clause-told
 returns-in-Some-clause-told g c = λ clean.
     let viewed = c.write_month.ensures.asks.cleanness clean in
-    let b = c.args.book.now in
+    let b = c.args.shelf.now in
     let q = c.args.query.now in
     let old = g.K.Keeper.content c.args.keeper.now in
     let w0 = g.W.Write.contents c.args.writer.now in
@@ -27,7 +27,7 @@ returns-in-Some-clause-told g c = λ clean.
 
 pub returns-in-None-clause-told : goal.returns-in-None-clause-told
 returns-in-None-clause-told g c = λ clean.
-    unknown_told c.args.book.now c.args.query.now c.args.moment
+    unknown_told c.args.shelf.now c.args.query.now c.args.moment
     (g.K.Keeper.content c.args.keeper.now)
     (g.W.Write.contents c.args.writer.now) (g.W.Write.contents c.tell_unknown.new.writer)
     c.in-Ok.state c.tell_unknown.result (c.in-Ok.ensures.found clean) c.in-None.is

@@ -7,7 +7,7 @@ pub loop-served-init : goal.loop-served-init
 loop-served-init g c = record {
   told = faults_none (g.E.Write.contents c.args.errors.now);
   few = le_refl 0;
-  continued = λ clean. continued_none c.args.book.now (g.K.Keeper.content c.args.keeper.now);
+  continued = λ clean. continued_none c.args.shelf.now (g.K.Keeper.content c.args.keeper.now);
   cleanness = λ clean. clean;
   failures = le_refl (g.K.Keeper.failed c.args.keeper.now);
 }
@@ -21,7 +21,7 @@ loop-served-preserved g c = record {
       c.loop-served.invariant.told c.serve_next-failed.ensures.told;
   few = omega (arith, c.loop-served.invariant.few, c.serve_next-failed.ensures.bounded);
   continued = λ clean.
-      continued_more c.args.book.now (g.K.Keeper.content c.args.keeper.now)
+      continued_more c.args.shelf.now (g.K.Keeper.content c.args.keeper.now)
       (g.K.Keeper.content c.loop-served.keeper) (g.K.Keeper.content c.serve_next-failed.new.keeper)
       (c.loop-served.invariant.continued (c.serve_next-failed.ensures.cleanness clean))
       (c.serve_next-failed.ensures.continued clean);

@@ -7,8 +7,8 @@ abbrev pub invariant-loop-served : goal.invariant-loop-served
 invariant-loop-served g l = record {
   told : TellsFaults l.failed (g.E.Write.contents l.fn.errors) (g.E.Write.contents l.errors);
   few : l.failed ≤ l._served;
-  continued : g.K.Keeper.clean l.keeper → ForEachList l.book (g.K.Keeper.content l.fn.keeper)
-      (IsContinued l.book (g.K.Keeper.content l.keeper));
+  continued : g.K.Keeper.clean l.keeper → ForEachList l.shelf (g.K.Keeper.content l.fn.keeper)
+      (IsContinued l.shelf (g.K.Keeper.content l.keeper));
   cleanness : g.K.Keeper.clean l.keeper → g.K.Keeper.clean l.fn.keeper;
   failures : g.K.Keeper.failed l.fn.keeper ≤ g.K.Keeper.failed l.keeper;
 }

@@ -8,23 +8,25 @@ use Rattle.request_lines.specs.Input.{told_fault}
 use Rattle.request_lines.specs.Served.{opening_for, texts_of}
 use Rattle.office.proofs.Beginnings.{on_err}
 use Rattle.request_lines.proofs.Answered.{continued-run}
-use Rattle.request_lines.proofs.Ended.{IsWritten, ended-answered, ended-begun, ended-both, ended-cut}
-use Rattle.request_lines.proofs.Ended.{ended-read, ended-stopped, ended-store, ended-untold, none_answered}
+use Rattle.request_lines.proofs.Ended.{IsWritten, ended-answered, ended-begun, ended-both}
+use Rattle.request_lines.proofs.Ended.{ended-cut}
+use Rattle.request_lines.proofs.Ended.{ended-read, ended-stopped, ended-store, ended-untold}
+use Rattle.request_lines.proofs.Ended.{none_answered}
 use Rattle.request_lines.proofs.line_answers.lines.Goals as goal
 
 pub returns-in-Err-clause-answers : goal.returns-in-Err-clause-answers
-returns-in-Err-clause-answers g c = none_answered c.args.book.now c.args.opening
+returns-in-Err-clause-answers g c = none_answered c.args.shelf.now c.args.opening
     (g.R.Read.remaining c.args.reader.now) (g.W.Write.contents c.args.writer.now)
     g.K.Keeper.content g.K.Keeper.failed g.K.Keeper.clean c.args.keeper.now _ _ refl
 
 pub returns-in_default-clause-answers : goal.returns-in_default-clause-answers
-returns-in_default-clause-answers g c = none_answered c.args.book.now c.args.opening
+returns-in_default-clause-answers g c = none_answered c.args.shelf.now c.args.opening
     (g.R.Read.remaining c.args.reader.now) (g.W.Write.contents c.args.writer.now)
     g.K.Keeper.content g.K.Keeper.failed g.K.Keeper.clean c.args.keeper.now _ _ refl
 
 pub returns : goal.returns
 returns g c =
-    let b = c.args.book.now in
+    let b = c.args.shelf.now in
     let opening = c.args.opening in
     let w0 = g.W.Write.contents c.args.writer.now in
     let w1 = g.W.Write.contents c.write_output-written.new.writer in

@@ -7,7 +7,7 @@ use Rattle.request_lines.proofs.line_answers.run_opened.Goals as goal
 
 pub returns-then-is_some-clause-runs : goal.returns-then-is_some-clause-runs
 returns-then-is_some-clause-runs g c = λ clean.
-    let b = c.args.book.now in
+    let b = c.args.shelf.now in
     let old = g.K.Keeper.content c.args.keeper.now in
     let new = g.K.Keeper.content c.run-fault.new.keeper in
     subst (λ (answers : List Answer). ForEachList b old (IsRunOpened b c.args.opening.items
@@ -25,7 +25,7 @@ returns-clause-runs g c = λ clean.
     let all : length before ≡ length c.args.opening.items =
     where_none (length before ≡ length c.args.opening.items) c.run-fault.result.fault
     (sym c.is_some.ensures ∙ c.if-is_some.false) c.run-fault.ensures.whole in
-    requests-run c.args.book.now c.args.opening.items c.args.requests.items c.run.result.fault
+    requests-run c.args.shelf.now c.args.opening.items c.args.requests.items c.run.result.fault
     before c.run.result.answers.items old mid new all
     (c.run-fault.ensures.runs (c.run.ensures.cleanness clean))
     (c.run.ensures.runs clean) c.run.ensures.whole c.run.ensures.stopped

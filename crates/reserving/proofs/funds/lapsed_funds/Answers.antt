@@ -1,6 +1,7 @@
 use Rattle.std.proofs.Common.{◌<◌, ◌^◌, length, arith}
 use Rattle.reserving.specs.Sessions.{is_live_in}
 use Rattle.reserving.proofs.rows.LapsedFunds.{lapsed_funds-most}
+use Rattle.reserving.specs.Pricing.{validity_of}
 use Rattle.reserving.proofs.funds.lapsed_funds.Goals as goal
 
 pub loop-row-init : goal.loop-row-init
@@ -9,6 +10,7 @@ loop-row-init c =
     record {
       total = omega arith;
       most =
-          lapsed_funds-most (is_live_in c.args.validity c.args.at c.args.sessions.now) c.args.group
+          lapsed_funds-most (is_live_in (validity_of c.args.shelf.now) c.args.at
+          c.args.sessions.now) c.args.group
           c.args.at c.args.groups.now c.args.buckets.now short c.requires.sound c.requires.held;
     }

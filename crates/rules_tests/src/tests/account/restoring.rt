@@ -8,7 +8,7 @@ use buckets::{Bucket, Hold, Holds, Purse};
 use calendar::Period;
 use rating::Periods;
 use reserving::{
-    Counter, GivenRows, Reservation, Session, SessionGroup, SessionState, StoredAccount,
+    Counter, GivenRows, Reservation, Session, SessionGroup, SessionState, StoredAccount, Terms,
 };
 use std::alloc::{AllocError, Global};
 use std::process::Abort;
@@ -39,11 +39,12 @@ fn group(rt: &impl Abort, alloc: Global, holds: Holds) -> SessionGroup {
         before: Period(0),
         after: Period(1),
     };
+    let terms = Terms { book: 1, periods };
     SessionGroup {
         session: session_id(rt, alloc, "s1"),
         group: 10,
         used: 60,
-        reservation: Some(Reservation { periods, holds }),
+        reservation: Some(Reservation { terms, holds }),
     }
 }
 

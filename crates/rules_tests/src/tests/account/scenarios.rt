@@ -8,17 +8,18 @@
 //! amount and what of it is available, reserved, charged and expired.
 
 ghost use Rattle.std.specs.Prelude.{◌≡◌, ◌≤◌, true, None};
+ghost use Rattle.reserving.specs.Pricing.{validity_of};
 ghost use Rattle.reserving.specs.Sessions.{session_in, is_live_in};
 ghost use Rattle.reserving.specs.Prepared.{reservation_in};
 
 use crate::tests::account::rows::buckets_text;
 use crate::tests::tables::{Teller, Words, try_table};
-use crate::tests::values::{account, book, end, moment, money, session_id};
+use crate::tests::values::{account, book, end, moment, money, session_id, shelf};
 use identifiers::SessionId;
 use reserving::{Account, Granted, Session, SessionGroup, Settled};
+use shelves::TariffShelf;
 use std::alloc::Global;
 use std::process::Abort;
-use tariffs::TariffBook;
 use units::{Moment, TariffChangeUsage, Units, UsedPart};
 use worked_book::BOOK;
 
@@ -65,7 +66,8 @@ fn must_be_new(rt: &impl Abort, account: &Account, id: &SessionId, at: Moment)
 /// Ends the test also where the session isn't live.
 fn must_be_live(rt: &impl Abort, account: &Account, id: &SessionId, at: Moment)
     ensures later { account.now.as_of ≤ at }
-    ensures live { is_live_in account.now.book.validity at account.now.sessions id.now ≡ true }
+    ensures live { is_live_in (validity_of account.now.shelf) at account.now.sessions id.now
+        ≡ true }
 {
     must_be_later(rt, account, at);
     assert!(rt; account.is_live(id, at));
@@ -376,8 +378,8 @@ impl Teller for Player<'_> {
 }
 
 /// Tries the lines of a scenario on an account that begins empty.
-fn play(rt: &impl Abort, alloc: Global, book: &TariffBook, lines: &str) {
-    let account = account(alloc, book);
+fn play(rt: &impl Abort, alloc: Global, shelf: &TariffShelf, lines: &str) {
+    let account = account(alloc, shelf);
     try_table(rt, alloc, &mut Player { account }, lines);
 }
 
@@ -543,9 +545,9 @@ const CLOCK_PUT_BACK: &str = "\
 1792891860 settle s2 10 30:before 30:after => 1 50000 50000 0 (1000000; 650000, 0, 350000, 0)";
 
 fn play_all(rt: &impl Abort, alloc: Global, document: &str, scenarios: &[&str]) {
-    let book = book(rt, alloc, document);
+    let shelf = shelf(rt, alloc, document);
     for lines in scenarios {
-        play(rt, alloc, &book, lines);
+        play(rt, alloc, &shelf, lines);
     }
 }
 
@@ -561,4 +563,31 @@ fn sessions_and_their_charges(rt: HostRuntime) {
 #[test]
 fn events_and_limits(rt: HostRuntime) {
     play_all(&rt, rt.alloc(), BOOK, &[EVENTS, EVENT, BESIDE, LIMITS]);
+}
+
+/// From Tuesday 00:00 on a minute by night costs 60,000. What was granted before is settled by the
+/// book of its grant.
+const BOOKS: &str = "\
+1767571200 credit 4102444800 1000000 => 1 (1000000; 1000000, 0, 0, 0)
+1767657300 open s32 => opened (1000000; 1000000, 0, 0, 0)
+1767657300 reserve s32 10 300 => 300 None 3600 all (1000000; 750000, 250000, 0, 0)
+1767657660 settle s32 10 300 => 5 250000 250000 0 (1000000; 750000, 0, 250000, 0)
+1767657660 reserve s32 10 300 => 300 None 3600 all (1000000; 450000, 300000, 250000, 0)
+1767657700 settle s32 10 300 => 5 300000 300000 0 (1000000; 450000, 0, 550000, 0)";
+
+/// Adds the worked book with the night at 60,000, from Tuesday 00:00 on.
+fn add_dearer(rt: &impl Abort, alloc: Global, shelf: &mut TariffShelf) {
+    let text = BOOK.replace(alloc, "price = 50000", "price = 60000");
+    let text = text.expect(rt, "memory");
+    let dearer = book(rt, alloc, text.as_str());
+    let (from, after) = (moment(rt, 1_767_657_600), moment(rt, 1_767_571_200));
+    shelf.add(from, dearer, after).expect(rt, "a later book");
+}
+
+#[test]
+fn a_grant_is_settled_by_its_own_book(rt: HostRuntime) {
+    let alloc = rt.alloc();
+    let mut shelf = shelf(&rt, alloc, BOOK);
+    add_dearer(&rt, alloc, &mut shelf);
+    play(&rt, alloc, &shelf, BOOKS);
 }

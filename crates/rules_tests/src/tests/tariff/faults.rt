@@ -34,7 +34,7 @@ impl Teller for Changes<'_> {
     }
 }
 
-fn changed(rt: &impl Abort, alloc: Global, document: &str, changes: &str) -> String {
+pub(crate) fn changed(rt: &impl Abort, alloc: Global, document: &str, changes: &str) -> String {
     let mut text = String::from_str(alloc, document).expect(rt, "memory");
     for change in changes.split(" & ") {
         text = with_change(rt, alloc, text.as_str(), change);

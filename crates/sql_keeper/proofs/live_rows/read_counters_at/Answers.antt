@@ -8,7 +8,8 @@ pub returns : goal.returns
 returns g c =
     gathers_made _ _ _ _ c.in_ok-counters.counters c.joined_counters.result c.in_ok-counters.ensures
     (λ trees found.
-    IfOk-weaker c.joined_counters.result _ _ (λ xs is. counters_joined c.args.book.now c.args.moment
-    (rows_in trees c.args.account.now) c.in_ok-counters.counters.never.items
-    c.in_ok-counters.counters.daily.items
-    c.in_ok-counters.counters.monthly.items xs.items found is) c.joined_counters.ensures)
+    IfOk-weaker c.joined_counters.result _ _ (λ xs is. counters_joined c.args.shelf.now
+    c.book_at-book.result.now c.args.moment (rows_in trees c.args.account.now)
+    c.in_ok-counters.counters.never.items c.in_ok-counters.counters.daily.items
+    c.in_ok-counters.counters.monthly.items xs.items c.book_at-book.ensures.value found is)
+    c.joined_counters.ensures)

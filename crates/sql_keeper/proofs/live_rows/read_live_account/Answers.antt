@@ -8,5 +8,5 @@ returns g c =
     gathers_made _ _ (state g.S.Store c.args.conn.now)
     (state g.S.Store c.read_rows_at.new.conn)
     c.in_ok-read.read c.live_account_of.result c.in_ok-read.ensures
-    (λ trees found. c.live_account_of.ensures c.args.names.now.periods c.args.book.now
+    (λ trees found. c.live_account_of.ensures c.args.names.now.periods c.args.shelf.now
     c.args.moment (rows_in trees c.args.account.now) found)

@@ -9,6 +9,6 @@ returns g c = gathers_made _ _ (state g.S.Store c.args.conn.now)
     (state g.S.Store c.read_live_account.new.conn)
     c.in_ok-rows.rows c.loaded_of.result c.in_ok-rows.ensures
     (λ trees live.
-    load_made c.args.names.now.periods c.args.book.now c.args.moment c.args.account.now
+    load_made c.args.names.now.periods c.args.shelf.now c.args.moment c.args.account.now
     (rows_in trees c.args.account.now) c.in_ok-rows.rows c.loaded_of.result
     c.loaded_of.ensures live)

@@ -10,16 +10,16 @@ returns-in_err-write_sweep-clause-commits g c =
     let p = err_from_is_err_and c.from_residual-in_err-write_sweep.result
     c.from_residual-in_err-write_sweep.ensures.1 in
     rw p.1 (not_written _ _ _ _ _ c.in_ok-accounts.ensures.only c.in_ok-accounts.ensures.survives
-    (become_swept (λ xs. xs.items) _ _ c.args.book.now c.args.moment c.in_ok-accounts.accounts
-    c.deref.result.now c.deref.ensures.value c.validity-ranges.ensures.book
+    (become_swept (λ xs. xs.items) _ _ c.args.shelf.now c.args.moment c.in_ok-accounts.accounts
+    c.deref.result.now c.deref.ensures.value c.first-ranges.ensures.shelf
     (omega (arith, c.seconds-moment.ensures.in_range, c.seconds-moment.ensures.value)) _ _
     c.in_ok-accounts.ensures) _ _ c.in_err-write_sweep.ensures.transacts)
 
 pub returns-clause-commits : goal.returns-clause-commits
 returns-clause-commits g c =
     written _ _ _ _ _ c.in_ok-accounts.ensures.only c.in_ok-accounts.ensures.survives
-    (become_swept (λ xs. xs.items) _ _ c.args.book.now c.args.moment c.in_ok-accounts.accounts
-    c.deref.result.now c.deref.ensures.value c.validity-ranges.ensures.book
+    (become_swept (λ xs. xs.items) _ _ c.args.shelf.now c.args.moment c.in_ok-accounts.accounts
+    c.deref.result.now c.deref.ensures.value c.first-ranges.ensures.shelf
     (omega (arith, c.seconds-moment.ensures.in_range, c.seconds-moment.ensures.value)) _ _
     c.in_ok-accounts.ensures) _ _ c.in_ok-write_sweep.ensures.transacts
 
@@ -27,9 +27,9 @@ pub returns-clause-count : goal.returns-clause-count
 returns-clause-count g c =
     let n : c.len.result ≡ length c.in_ok-accounts.accounts.items = omega (arith, c.len.ensures) in
     λ clean. n
-    ∙ count_swept (λ xs. xs.items) c.args.names.now.periods c.args.text.now c.args.book.now
+    ∙ count_swept (λ xs. xs.items) c.args.names.now.periods c.args.text.now c.args.shelf.now
     c.args.moment c.in_ok-accounts.accounts c.deref.result.now c.deref.ensures.value
-    c.validity-ranges.ensures.book
+    c.first-ranges.ensures.shelf
     (omega (arith, c.seconds-moment.ensures.in_range, c.seconds-moment.ensures.value))
     (state g.S.Store c.args.conn.now)
     (state g.S.Store c.read_sweep.new.conn) c.in_ok-accounts.ensures

@@ -1,4 +1,4 @@
-use Rattle.std.proofs.Common.{rules, ◌≡◌, ◌+◌, length, ◌∙◌, ap}
+use Rattle.std.proofs.Common.{rules, ◌+◌, length, ◌∙◌, ap}
 use Rattle.std.specs.Prelude.{if◌then◌else◌}
 use Rattle.keepers.specs.Change.{redeemed_over}
 use Rattle.keepers.specs.Memory.{entry_in}

@@ -13,7 +13,7 @@ invariant_of-self c =
     record {
       parts = subst (λ (w : StoredRows). AreParts (record { live = w; left = p.left }))
           (sym c.advance.ensures)
-          (parts_advanced c.args.book.now c.args.moment p c.self.invariant.parts);
+          (parts_advanced c.args.shelf.now c.args.moment p c.self.invariant.parts);
       buckets = c.self.invariant.buckets;
       counters = c.self.invariant.counters;
       sessions = c.self.invariant.sessions;
@@ -23,9 +23,9 @@ invariant_of-self c =
 pub returns-clause-rows : goal.returns-clause-rows
 returns-clause-rows c = λ ledger u le are.
     let p : Parts = parts_of c.self.inside in
-    subst (λ (w : StoredRows). AreRowsAt c.args.book.now ledger c.args.moment
+    subst (λ (w : StoredRows). AreRowsAt c.args.shelf.now ledger c.args.moment
     (rows_of (record { live = w; left = p.left }))) (sym c.advance.ensures)
-    (swept_parts c.args.book.now ledger u c.args.moment p c.validity-ranges.ensures.book
+    (swept_parts c.args.shelf.now ledger u c.args.moment p c.first-ranges.ensures.shelf
     c.self.invariant.parts c.as_of-kept.ensures.kept le
-    (subst (λ (q : Parts). AreRowsAt c.args.book.now ledger u (rows_of q))
+    (subst (λ (q : Parts). AreRowsAt c.args.shelf.now ledger u (rows_of q))
     (sym c.self.view_is) are))

@@ -1,6 +1,4 @@
-use Rattle.std.proofs.Common.{◌≡◌, ◌++◌, ◌∙◌, subst}
-use Rattle.std.specs.Prelude.{filter}
-use Rattle.reserving.specs.Left.{is_dead}
+use Rattle.std.proofs.Common.{subst}
 use Rattle.keepers.specs.Change.{AreDeadOf}
 use Rattle.keepers.specs.Parts.{Parts, rows_of}
 use Rattle.keepers.proofs.PartsKept.{if_ok}

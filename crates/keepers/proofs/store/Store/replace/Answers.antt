@@ -1,4 +1,4 @@
-use Rattle.std.proofs.Common.{◌≡◌, ◌∙◌, sym, ap, subst}
+use Rattle.std.proofs.Common.{◌∙◌, sym, ap, subst}
 use Rattle.keepers.specs.Change.{IsMadeFrom, over}
 use Rattle.keepers.specs.Parts.{Parts, rows_of, with_live}
 use Rattle.keepers.specs.Inside.{parts_of}

@@ -26,7 +26,7 @@ invariant_of-self c =
     c.args.rated.blocks.0 c.args.rated.amount.0 c.none-none_held.result
     c.settle-charged.new.self c.count_blocks.new.counters.items c.count_units.new.groups.items
     (c.requires.cycle
-    ∙ sym (ap (λ (x : AccountRows). cycle_at x.book c.args.group x.as_of) c.self.view_is))
+    ∙ sym (ap (λ (x : AccountRows). cycle_at x.shelf c.args.group x.as_of) c.self.view_is))
     c.none-none_held.ensures c.settle-charged.ensures.rows c.count_blocks.ensures
     c.count_units.ensures
     ∙ ap (debited_account c.args.session.now c.args.group c.args.rated.units.0 c.args.rated.blocks.0

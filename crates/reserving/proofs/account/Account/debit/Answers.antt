@@ -44,7 +44,7 @@ returns-in_default-clause-limit c = λ e ledger rows.
       debit_passes_is ledger c.args.self.now c.args.session.now c.args.group c.args.units.0
           c.args.moment rows
           ∙ (λ i. passes (used_in c.args.session.now c.args.group a.groups) c.args.units.0
-          (count_in c.args.group (cycle_at a.book c.args.group c.args.moment) a.counters)
+          (count_in c.args.group (cycle_at a.shelf c.args.group c.args.moment) a.counters)
           (sym c.event_price-price.ensures i).blocks a.next_charge)
           ∙ c.within_limits.ensures.none c.in_default.is,
     )
@@ -75,7 +75,7 @@ charge_use-charged-requires-clause-used c =
       same,
       units,
       within_used (used_in c.args.session.now c.args.group c.args.self.now.groups) c.args.units.0
-          (count_in c.args.group (cycle_at c.args.self.now.book c.args.group c.args.moment)
+          (count_in c.args.group (cycle_at c.args.self.now.shelf c.args.group c.args.moment)
           c.args.self.now.counters) c.event_price-price.result.blocks c.args.self.now.next_charge
           c.in-Some.ensures.some,
     )
@@ -83,7 +83,7 @@ charge_use-charged-requires-clause-used c =
 pub charge_use-charged-requires-clause-counted : goal.charge_use-charged-requires-clause-counted
 charge_use-charged-requires-clause-counted c =
     let cycle : count_in c.args.group c.cycle_at-cycle.result c.args.self.now.counters
-    ≡ count_in c.args.group (cycle_at c.args.self.now.book c.args.group c.args.moment)
+    ≡ count_in c.args.group (cycle_at c.args.self.now.shelf c.args.group c.args.moment)
     c.args.self.now.counters =
     ap (λ x. count_in c.args.group x c.args.self.now.counters) c.cycle_at-cycle.ensures in
     let same : count_in c.args.group c.cycle_at-cycle.result c.advance.new.self.counters
@@ -98,7 +98,7 @@ charge_use-charged-requires-clause-counted c =
       c.in-Some.ensures.blocks,
       within_counted (used_in c.args.session.now c.args.group c.args.self.now.groups)
           c.args.units.0
-          (count_in c.args.group (cycle_at c.args.self.now.book c.args.group c.args.moment)
+          (count_in c.args.group (cycle_at c.args.self.now.shelf c.args.group c.args.moment)
           c.args.self.now.counters) c.event_price-price.result.blocks c.args.self.now.next_charge
           c.in-Some.ensures.some,
     )
@@ -159,7 +159,7 @@ made c sum =
           ∙ sym c.lt.ensures ∙ c.if-lt.false;
       fits = ap
           (λ (x : Rated). passes (used_in c.args.session.now c.args.group a.groups) c.args.units.0
-          (count_in c.args.group (cycle_at a.book c.args.group c.args.moment) a.counters) x.blocks
+          (count_in c.args.group (cycle_at a.shelf c.args.group c.args.moment) a.counters) x.blocks
           a.next_charge) (sym c.event_price-price.ensures) ∙ c.in-Some.ensures.some;
       started = started c;
       price = price c;
@@ -190,7 +190,7 @@ returns-clause-new c = λ x h.
 pub returns-clause-number : goal.returns-clause-number
 returns-clause-number c =
     charge-numbered (used_in c.args.session.now c.args.group c.args.self.now.groups) c.args.units.0
-    (count_in c.args.group (cycle_at c.args.self.now.book c.args.group c.args.moment)
+    (count_in c.args.group (cycle_at c.args.self.now.shelf c.args.group c.args.moment)
     c.args.self.now.counters) c.event_price-price.result.blocks c.args.self.now.next_charge
     c.in-Some.ensures.some
 
@@ -217,7 +217,7 @@ returns-in_default-clause-limit_left c = λ e ledger left gone h.
       debit_passes_told ledger left c.args.moment a c.args.session.now c.args.group c.args.units.0
           (none_each (is_of c.args.session.now c.args.group) left.groups gone) h
           ∙ (λ i. passes (used_in c.args.session.now c.args.group a.groups) c.args.units.0
-          (count_in c.args.group (cycle_at a.book c.args.group c.args.moment) a.counters)
+          (count_in c.args.group (cycle_at a.shelf c.args.group c.args.moment) a.counters)
           (sym c.event_price-price.ensures i).blocks a.next_charge)
           ∙ c.within_limits.ensures.none c.in_default.is,
     )

@@ -1,6 +1,8 @@
 use Rattle.std.proofs.Common.{◌≡◌, true, None, sym, ap, subst, ◌∙◌}
 use Rattle.std.specs.Prelude.{is_some}
-use Rattle.reserving.specs.Pricing.{tariff_of, periods_at}
+use Rattle.reserving.specs.Pricing.{tariff_at, terms_at, validity_of}
+use Rattle.reserving.specs.declared.session.Terms.{Terms}
+use Rattle.shelves.specs.Shelves.{book_at}
 use Rattle.reserving.specs.Rows.{AccountRows}
 use Rattle.reserving.specs.Changes.{reserved_account}
 use Rattle.reserving.specs.Prepared.{reservation_in}
@@ -19,26 +21,28 @@ invariant_of-self c =
     let none : reservation_in c.args.session.now c.args.group a.groups ≡ None =
     subst (λ (x : AccountRows). reservation_in c.args.session.now c.args.group x.groups ≡ None)
     (sym c.self.view_is) c.requires.free in
-    let periods : c.args.periods ≡ periods_at a.book a.as_of =
-    subst (λ (x : AccountRows). c.args.periods ≡ periods_at x.book x.as_of) (sym c.self.view_is)
-    c.requires.periods in
-    let same : AreOfBook a.book c.args.periods =
-    subst (λ (x : AccountRows). AreOfBook x.book c.args.periods) (sym c.self.view_is)
+    let terms : c.args.terms ≡ terms_at a.shelf a.as_of =
+    subst (λ (x : AccountRows). c.args.terms ≡ terms_at x.shelf x.as_of) (sym c.self.view_is)
+    c.requires.terms in
+    let same : AreOfBook (book_at a.shelf a.as_of) c.args.terms.periods =
+    subst (λ (x : AccountRows). AreOfBook (book_at x.shelf x.as_of) c.args.terms.periods)
+    (sym c.self.view_is)
     c.requires.of_book in
-    let some : is_some (tariff_of a.book c.args.group) ≡ true =
-    subst (λ (x : AccountRows). is_some (tariff_of x.book c.args.group) ≡ true)
+    let some : is_some (tariff_at a.shelf a.as_of c.args.group) ≡ true =
+    subst (λ (x : AccountRows). is_some (tariff_at x.shelf x.as_of c.args.group) ≡ true)
     (sym c.self.view_is) c.requires.tariff in
     let is =
-    reserved_parts a c.args.session.now c.args.group c.args.amount.0 c.args.periods
-    c.hold_in-holds.result c.hold_in-holds.new.self c.reserve_group.new.groups.items periods
+    reserved_parts a c.args.session.now c.args.group c.args.amount.0 c.args.terms
+    c.hold_in-holds.result c.hold_in-holds.new.self c.reserve_group.new.groups.items terms
     c.hold_in-holds.ensures.rows c.hold_in-holds.ensures.holds c.reserve_group.ensures in
     record {
       priced = subst IsPriced (sym is)
           (IsPriced-reserved a c.args.session.now c.args.group c.args.amount.0 none
-          (subst (AreOfBook a.book) periods same) some c.self.invariant.priced);
+          (subst (λ (x : Terms). AreOfBook (book_at a.shelf a.as_of) x.periods) terms same) some
+          c.self.invariant.priced);
       calm = λ e. subst IsCalm (sym is)
           (calm_reserved a c.args.session.now c.args.group c.args.amount.0
-          (subst (λ (x : AccountRows). is_live_in x.book.validity x.as_of x.sessions
+          (subst (λ (x : AccountRows). is_live_in (validity_of x.shelf) x.as_of x.sessions
           c.args.session.now ≡ true) (sym c.self.view_is) c.requires.live)
           (c.self.invariant.calm e));
     }
@@ -46,10 +50,10 @@ invariant_of-self c =
 pub returns : goal.returns
 returns c =
     let a : AccountRows = rows_of c.self.inside in
-    let periods : c.args.periods ≡ periods_at a.book a.as_of =
-    subst (λ (x : AccountRows). c.args.periods ≡ periods_at x.book x.as_of) (sym c.self.view_is)
-    c.requires.periods in
-    reserved_parts a c.args.session.now c.args.group c.args.amount.0 c.args.periods
-    c.hold_in-holds.result c.hold_in-holds.new.self c.reserve_group.new.groups.items periods
+    let terms : c.args.terms ≡ terms_at a.shelf a.as_of =
+    subst (λ (x : AccountRows). c.args.terms ≡ terms_at x.shelf x.as_of) (sym c.self.view_is)
+    c.requires.terms in
+    reserved_parts a c.args.session.now c.args.group c.args.amount.0 c.args.terms
+    c.hold_in-holds.result c.hold_in-holds.new.self c.reserve_group.new.groups.items terms
     c.hold_in-holds.ensures.rows c.hold_in-holds.ensures.holds c.reserve_group.ensures
     ∙ ap (reserved_account c.args.session.now c.args.group c.args.amount.0) c.self.view_is

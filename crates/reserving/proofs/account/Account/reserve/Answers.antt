@@ -1,8 +1,11 @@
 use Rattle.std.proofs.Common.{◌≡◌, ℕ, ◌<◌, Option, sym, ap, ◌∙◌, arith, refl}
 use Rattle.std.specs.Prelude.{option_map, nat_lt}
 use Rattle.units.specs.declared.blocks.Units.{Units}
+use Rattle.tariffs.specs.Books.{Book}
 use Rattle.rating.specs.declared.grant.Grant.{Grant}
-use Rattle.reserving.specs.Pricing.{periods_at, switch_at, validity_at}
+use Rattle.shelves.specs.Shelves.{book_at}
+use Rattle.reserving.specs.Pricing.{periods_at, switch_at, validity_at, periods_by, switch_by}
+use Rattle.reserving.specs.Pricing.{validity_by}
 use Rattle.reserving.specs.Changes.{advanced, used_in, reserved_account}
 use Rattle.reserving.specs.Prepared.{with_group_row}
 use Rattle.reserving.specs.Rows.{AccountRows}
@@ -23,7 +26,8 @@ nothing_told : (c : goal.After-advance) →
 nothing_told c =
     quota_of c.args.self.now c.args.session.now c.args.group c.args.moment _ _ _ _
     (c.window_at-window.ensures.periods
-    ∙ ap (λ (x : AccountRows). periods_at x.book c.args.moment) c.self.view_is)
+    ∙ ap (λ (b : Book). periods_by b c.args.moment) c.book_at.ensures.value
+    ∙ ap (λ (x : AccountRows). periods_at x.shelf c.args.moment) c.self.view_is)
     c.quota-quota.ensures.quota
 
 pub returns-then-quota-eq0-clause-rows : goal.returns-then-quota-eq0-clause-rows
@@ -58,7 +62,8 @@ hold_quota-requires-clause-covered c =
     (option_map (λ (u : Units). u.0) c.args.requested) _ c.quota-quota.result.grant
     (quota_of c.args.self.now c.args.session.now c.args.group c.args.moment _ _ _ _
     (c.window_at-window.ensures.periods
-    ∙ ap (λ (x : AccountRows). periods_at x.book c.args.moment) c.self.view_is)
+    ∙ ap (λ (b : Book). periods_by b c.args.moment) c.book_at.ensures.value
+    ∙ ap (λ (x : AccountRows). periods_at x.shelf c.args.moment) c.self.view_is)
     c.quota-quota.ensures.quota))
     (c.advance-2.ensures.rows ∙ ap (advanced c.args.moment) c.in_ok-room.ensures.ok)
 
@@ -75,23 +80,26 @@ quota_told : (c : goal.After-struct_known-2-1) →
 quota_told c =
     quota_of c.args.self.now c.args.session.now c.args.group c.args.moment _ _ _ _
     (c.window_at-window.ensures.periods
-    ∙ ap (λ (x : AccountRows). periods_at x.book c.args.moment) c.self.view_is)
+    ∙ ap (λ (b : Book). periods_by b c.args.moment) c.book_at.ensures.value
+    ∙ ap (λ (x : AccountRows). periods_at x.shelf c.args.moment) c.self.view_is)
     c.quota-quota.ensures.quota
 
 some_units : (c : goal.After-struct_known-2-1) → 0 < (granted c).units.0
 some_units c = omega (arith, c.if-quota-eq0.false)
 
 switch : (c : goal.After-struct_known-2-1) →
-    c.window_at-window.result.switch ≡ switch_at c.args.self.now.book c.args.moment
+    c.window_at-window.result.switch ≡ switch_at c.args.self.now.shelf c.args.moment
 switch c =
     c.window_at-window.ensures.switch
-    ∙ ap (λ (x : AccountRows). switch_at x.book c.args.moment) c.self.view_is
+    ∙ ap (λ (b : Book). switch_by b c.args.moment) c.book_at.ensures.value
+    ∙ ap (λ (x : AccountRows). switch_at x.shelf c.args.moment) c.self.view_is
 
 validity : (c : goal.After-struct_known-2-1) →
-    c.window_at-window.result.validity ≡ validity_at c.args.self.now.book c.args.moment
+    c.window_at-window.result.validity ≡ validity_at c.args.self.now.shelf c.args.moment
 validity c =
     c.window_at-window.ensures.validity
-    ∙ ap (λ (x : AccountRows). validity_at x.book c.args.moment) c.self.view_is
+    ∙ ap (λ (b : Book). validity_by b c.args.moment) c.book_at.ensures.value
+    ∙ ap (λ (x : AccountRows). validity_at x.shelf c.args.moment) c.self.view_is
 
 brought : (c : goal.After-struct_known-2-1) →
     c.advance-2.new.self
@@ -110,7 +118,7 @@ returns-clause-rows c = λ ledger rows.
 pub returns-clause-within : goal.returns-clause-within
 returns-clause-within c =
     let some : 0 < c.quota-quota.result.grant.units.0 = omega (arith, c.if-quota-eq0.false) in
-    within_grant c.args.self.now.book
+    within_grant (book_at c.args.self.now.shelf c.args.moment)
     (used_in c.args.session.now c.args.group c.args.self.now.groups) c.args.group
     (option_map (λ (u : Units). u.0) c.args.requested) c.window_at-window.result.periods _ _
     c.quota-quota.result.wanted c.quota-quota.result.grant c.quota-quota.ensures.quota some

@@ -61,7 +61,7 @@ settle_use-charged-requires-clause-used c =
       same,
       within_used (used_in c.args.session.now c.args.group c.args.self.now.groups)
           c.in-Some.rated.units.0
-          (count_in c.args.group (cycle_at c.args.self.now.book c.args.group c.args.moment)
+          (count_in c.args.group (cycle_at c.args.self.now.shelf c.args.group c.args.moment)
           c.args.self.now.counters) c.in-Some.rated.blocks.0 c.args.self.now.next_charge
           c.in-Some.ensures.some,
     )
@@ -69,7 +69,7 @@ settle_use-charged-requires-clause-used c =
 pub settle_use-charged-requires-clause-counted : goal.settle_use-charged-requires-clause-counted
 settle_use-charged-requires-clause-counted c =
     let cycle : count_in c.args.group c.cycle_at-cycle.result c.args.self.now.counters
-    ≡ count_in c.args.group (cycle_at c.args.self.now.book c.args.group c.args.moment)
+    ≡ count_in c.args.group (cycle_at c.args.self.now.shelf c.args.group c.args.moment)
     c.args.self.now.counters =
     ap (λ x. count_in c.args.group x c.args.self.now.counters) c.cycle_at-cycle.ensures in
     let same : count_in c.args.group c.cycle_at-cycle.result c.advance-2.new.self.counters
@@ -83,7 +83,7 @@ settle_use-charged-requires-clause-counted c =
       cycle,
       within_counted (used_in c.args.session.now c.args.group c.args.self.now.groups)
           c.in-Some.rated.units.0
-          (count_in c.args.group (cycle_at c.args.self.now.book c.args.group c.args.moment)
+          (count_in c.args.group (cycle_at c.args.self.now.shelf c.args.group c.args.moment)
           c.args.self.now.counters) c.in-Some.rated.blocks.0 c.args.self.now.next_charge
           c.in-Some.ensures.some,
     )
@@ -125,14 +125,14 @@ returns-clause-settled c = λ ledger rows.
 within : (c : goal.After-result-6-1) →
     passes (used_in c.args.session.now c.args.group c.args.self.now.groups)
     (reported c.args.parts.now)
-    (count_in c.args.group (cycle_at c.args.self.now.book c.args.group c.args.moment)
+    (count_in c.args.group (cycle_at c.args.self.now.shelf c.args.group c.args.moment)
     c.args.self.now.counters)
     (price_in c.args.session.now c.args.group c.args.moment c.args.parts.now
     c.args.self.now).blocks c.args.self.now.next_charge ≡ false
 within c =
     (λ i. passes (used_in c.args.session.now c.args.group c.args.self.now.groups)
     (sym c.in-Some.ensures.units i)
-    (count_in c.args.group (cycle_at c.args.self.now.book c.args.group c.args.moment)
+    (count_in c.args.group (cycle_at c.args.self.now.shelf c.args.group c.args.moment)
     c.args.self.now.counters) (sym c.in-Some.ensures.blocks i) c.args.self.now.next_charge)
     ∙ c.in-Some.ensures.some
 

@@ -28,7 +28,7 @@ invariant_of-self c =
     c.settle-charged.new.self c.count_blocks.new.counters.items
     c.use_group-holds.new.groups.items
     (c.requires.cycle
-    ∙ sym (ap (λ (x : AccountRows). cycle_at x.book c.args.group x.as_of) c.self.view_is))
+    ∙ sym (ap (λ (x : AccountRows). cycle_at x.shelf c.args.group x.as_of) c.self.view_is))
     c.use_group-holds.ensures.holds c.settle-charged.ensures.rows c.count_blocks.ensures
     c.use_group-holds.ensures.groups
     ∙ ap (settled_account c.args.session.now c.args.group c.args.rated.units.0 c.args.rated.blocks.0

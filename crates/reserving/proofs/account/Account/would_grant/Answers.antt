@@ -1,9 +1,11 @@
 use Rattle.std.proofs.Common.{ℕ, Option, ap, subst, ◌∙◌}
 use Rattle.std.specs.Prelude.{option_map, nat_lt}
 use Rattle.units.specs.declared.blocks.Units.{Units}
+use Rattle.tariffs.specs.Books.{Book}
 use Rattle.rating.specs.declared.grant.Grant.{Grant}
 use Rattle.buckets.specs.Spend.{funds}
-use Rattle.reserving.specs.Pricing.{periods_at, cycle_at}
+use Rattle.shelves.specs.Shelves.{book_at}
+use Rattle.reserving.specs.Pricing.{periods_at, cycle_at, periods_by}
 use Rattle.reserving.specs.Quotas.{IsQuota}
 use Rattle.reserving.specs.Changes.{advanced, count_in}
 use Rattle.reserving.specs.Rows.{AccountRows}
@@ -21,16 +23,17 @@ grant c = c.quota_after-quota.result.grant
 
 -- the quota that was reckoned with the window's periods
 quota_told : (c : goal.After-struct_known-1) →
-    IsQuota c.args.self.now.book 0 c.args.group (requested c)
-    (periods_at c.args.self.now.book c.args.moment)
-    (count_in c.args.group (cycle_at c.args.self.now.book c.args.group c.args.moment)
+    IsQuota (book_at c.args.self.now.shelf c.args.moment) 0 c.args.group (requested c)
+    (periods_at c.args.self.now.shelf c.args.moment)
+    (count_in c.args.group (cycle_at c.args.self.now.shelf c.args.group c.args.moment)
     c.args.self.now.counters)
     (funds c.args.group c.args.moment (advanced c.args.moment c.args.self.now).buckets)
     c.quota_after-quota.result.wanted (grant c)
 quota_told c =
     quota_with c.args.self.now 0 c.args.group c.args.moment (requested c) _ _ _
     (c.window_at.ensures.periods
-    ∙ ap (λ (x : AccountRows). periods_at x.book c.args.moment) c.self.view_is)
+    ∙ ap (λ (b : Book). periods_by b c.args.moment) c.book_at.ensures.value
+    ∙ ap (λ (x : AccountRows). periods_at x.shelf c.args.moment) c.self.view_is)
     c.quota_after-quota.ensures
 
 pub returns-clause-ledger : goal.returns-clause-ledger

@@ -10,7 +10,7 @@ returns-in-Ok-clause-opened g c =
     opened g.S.Store c.keeper_of.result.0 c.book_in.new.conn c.keeper_of.result.1 c.in-Ok.read.given
     c.in-Ok.read.own (string_bytes c.in-Ok.read.text)
     (string_bytes c.in-Ok.read.text) c.keeper_of.ensures.connection
-    c.keeper_of.ensures.book finds.same c.keeper_of.ensures.names c.keeper_of.ensures.text
+    c.keeper_of.ensures.shelf finds.given c.keeper_of.ensures.names c.keeper_of.ensures.text
     c.keeper_of.ensures.uncounted finds.read refl c.keeper_of.ensures.live
     (IsUtf8-string_bytes c.in-Ok.read.text) c.args.connection
     finds.found finds.survives finds.idle

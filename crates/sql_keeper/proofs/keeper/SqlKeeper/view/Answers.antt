@@ -5,6 +5,6 @@ use Rattle.sql_keeper.proofs.keeper.SqlKeeper.view.Goals as goal
 pub returns : goal.returns
 returns g c = viewed (tables_in g.S.Store) failed_in
     (clean_in g.S.Store) c.args.self.now c.load-loaded.new.self
-    c.args.book.now c.args.moment c.args.account.now
+    c.args.shelf.now c.args.moment c.args.account.now
     ((tables_in g.S.Store c.args.self.now).rows c.args.account.now) c.load-loaded.result
     c.account_of.result c.account_of.ensures c.load-loaded.ensures
