@@ -64,6 +64,17 @@ def put_in(chance, text):
     return text[:at] + chance.choice(PIECES) + text[at:]
 
 
+def change_line(chance, text):
+    """A line is left out, or comes a second time somewhere."""
+    lines = text.splitlines(keepends=True)
+    one = chance.choice(lines)
+    if chance.random() < 0.5:
+        lines.remove(one)
+    else:
+        lines.insert(chance.randint(0, len(lines)), one)
+    return b"".join(lines)
+
+
 def with_another(chance, text, pattern, others):
     """One match of the pattern is one of the others."""
     found = list(pattern.finditer(text))
@@ -102,7 +113,9 @@ def change_page(chance, pages):
     return pages[:to] + page + pages[to + step :]
 
 
-TEXTS = (change_byte, leave_out, double, move, cut, put_in, change_number, change_token)
+TEXTS = (
+    change_byte, leave_out, double, move, cut, put_in, change_line, change_number, change_token)
+FIELDS = (*TEXTS, change_line, change_line, *4 * (change_number, change_token))
 FILES = (change_byte, change_byte, leave_out, double, move, cut, change_field, change_page)
 
 

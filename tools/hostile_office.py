@@ -20,6 +20,8 @@ BOOK = offices.TOP / "tests/scenarios/worked-debits/book.toml"
 BEGUN, LATER = 1_767_598_200, 1_767_610_000
 MOMENTS = (1_767_599_700, 1_767_600_900, 1_767_607_800)
 ACCOUNTS = ("49151", "0", "999999999999999")
+SESSION = re.compile(rb'"Session-Id": ?"([^"\\]*)"')
+ACCOUNT = re.compile(rb'"Subscription-Id-Data": ?"[0-9]+"')
 STATEMENT = ("statement", "db", "49151", "202601", "--at", LATER)
 # Rows that no database has, and rows that no commands leave.
 BROKEN = (
@@ -68,13 +70,14 @@ class Batch:
         return pathlib.Path(shutil.copytree(self.office.base, self.work / str(name)))
 
     def bodies(self, tag, most):
-        """Requests that follow each other in a file, of sessions that no others have."""
+        """Requests of two sessions of a file, under names that no others have."""
         bodies = self.chance.choice(self.office.bodies)
-        first = self.chance.randrange(len(bodies))
+        two = self.chance.choice(bodies) + self.chance.choice(bodies)
+        names = set(SESSION.findall(two))
         account = self.chance.choice((*ACCOUNTS, ACCOUNTS[0], ACCOUNTS[0], "7")).encode()
-        for body in bodies[first : first + most]:
-            body = re.sub(rb'("Session-Id": ?"[^"\\]*)"', rb'\1-%d"' % tag, body)
-            yield re.sub(rb'("Subscription-Id-Data": ?")[0-9]+"', rb'\g<1>%s"' % account, body)
+        for body in [body for body in bodies if names & set(SESSION.findall(body))][:most]:
+            body = SESSION.sub(rb'"Session-Id":"\1-%d"' % tag, body)
+            yield ACCOUNT.sub(rb'"Subscription-Id-Data":"%s"' % account, body)
 
 
 def limit():
@@ -153,8 +156,8 @@ def prepare(built, base):
     for words in (*made, *opening()):
         need((ended := run(built, base, *words)).status == 0, words, ended)
         due.add(run(built, base, *STATEMENT).out)
-    asked = lines_of(tests / "streams/all-01.in")[:40]
-    lines = [b"%d %s\n" % (BEGUN + at, body) for at, body in enumerate(asked)]
+    asked = lines_of(tests / "streams/all-05.in")[:60]
+    lines = [b"%d %s\n" % (BEGUN + 20 * at, body) for at, body in enumerate(asked)]
     for line in lines:
         replayed(built, base, line)
         due.add(run(built, base, *STATEMENT).out)
