@@ -1,4 +1,5 @@
 -- What rulings come to on each ledger.
+use Rattle.reserving.specs.Reservation.{held_due}
 use Rattle.std.proofs.Common.{◌≡◌, ℕ, Bool, true, false, List, [], ◌∷◌, ◌++◌, refl, sym, ap, ◌∙◌}
 use Rattle.std.proofs.Common.{subst, Option, Some, None}
 use Rattle.std.specs.Prelude.{if◌then◌else◌, nat_lt, Result, Ok, Err, IfOk}
@@ -187,14 +188,14 @@ with_charges b tariff t s g asked grant ledger = at (nat_lt 0 grant.units.0)
     some : Answered
     some = record {
       outcome = grant_answer b tariff t grant.units.0 asked;
-      after = reserved b t s g grant.units.0 grant.amount.0 ledger;
+      after = reserved b t s g grant.units.0 (held_due grant) ledger;
     }
 
     none : Answered
     none = record { outcome = service.Failed CreditLimitReached; after = ledger }
 
     at : (c : Bool) → charge_rows (if c then some else none).after ≡ charge_rows ledger
-    at true = charge_rows-reserved b t s g grant.units.0 grant.amount.0 ledger
+    at true = charge_rows-reserved b t s g grant.units.0 (held_due grant) ledger
     at false = refl
 
 unless_charges : (b : Shelf) (tariff : GroupTariff) (t : ℕ) (s : List ℕ) (g : ℕ) (asked : Option ℕ)

@@ -1,5 +1,6 @@
 -- One-time events (RFC 8506 section 6; TS 32.299, immediate event charging): direct debiting,
 -- refund of money, check of the balance, and price enquiry.
+use Rattle.buckets.specs.declared.kind.BucketKind.TheVariants.{Money}
 use Rattle.std.specs.Prelude.{ℕ, Bool, true, false, ◌==◌, ◌||◌, nat_lt, if◌then◌else◌, List, []}
 use Rattle.std.specs.Prelude.{◌∷◌, Option, Some, None, option_map, unwrap_or}
 use Rattle.commands.specs.declared.avp.Avp.{Avp}
@@ -102,7 +103,7 @@ abbrev pub priced_by : Option GroupTariff → Shelf → ℕ → Event → Ledger
 priced_by None b t e ledger = Failed (Denied RatingFailed)
 priced_by (Some tariff) b t e ledger =
     Priced (record {
-      micros = (event_price b t e.group (event_units tariff e.requested) ledger).amount.0;
+      micros = (event_price b t e.group 0 (event_units tariff e.requested) ledger).amount.0;
       currency = (book_at b t).currency;
     })
 
@@ -147,7 +148,7 @@ abbrev pub refunded : ℕ → List ℕ → ℕ → Refund → Ledger → Decisio
 refunded t s n r ledger =
     if nat_lt 4294967295 (next_bucket ledger)
     then told (Failed UnableToComply) ledger
-    else accepted Refunded (recorded t s n (credited t t 4102444800 None r.micros ledger))
+    else accepted Refunded (recorded t s n (credited t Money t 4102444800 None r.micros ledger))
 
 abbrev pub refund_decision : Shelf → ℕ → List ℕ → ℕ → Refund → Ledger → Decision
 refund_decision b t s n r ledger =

@@ -1,5 +1,6 @@
 -- The grants of a request, service by service (RFC 8506 sections 5.2 and 5.3; TS 32.299, session
 -- charging with unit reservation).
+use Rattle.reserving.specs.Reservation.{held_due}
 use Rattle.std.specs.Prelude.{ℕ, Bool, nat_lt, if◌then◌else◌, List, [], ◌∷◌, Option, Some, None}
 use Rattle.std.specs.List.{list_any}
 use Rattle.commands.specs.declared.service.Service.{Service}
@@ -55,7 +56,7 @@ granted_with b tariff t s g asked grant ledger =
     if nat_lt 0 grant.units.0
     then record {
       outcome = grant_answer b tariff t grant.units.0 asked;
-      after = reserved b t s g grant.units.0 grant.amount.0 ledger;
+      after = reserved b t s g grant.units.0 (held_due grant) ledger;
     }
     else record { outcome = service.Failed CreditLimitReached; after = ledger }
 

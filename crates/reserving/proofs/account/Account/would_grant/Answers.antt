@@ -1,3 +1,4 @@
+use Rattle.buckets.specs.Spend.{allowance}
 use Rattle.std.proofs.Common.{ℕ, Option, ap, subst, ◌∙◌}
 use Rattle.std.specs.Prelude.{option_map, nat_lt}
 use Rattle.units.specs.declared.blocks.Units.{Units}
@@ -28,6 +29,7 @@ quota_told : (c : goal.After-struct_known-1) →
     (count_in c.args.group (cycle_at c.args.self.now.shelf c.args.group c.args.moment)
     c.args.self.now.counters)
     (funds c.args.group c.args.moment (advanced c.args.moment c.args.self.now).buckets)
+    (allowance c.args.group c.args.moment (advanced c.args.moment c.args.self.now).buckets)
     c.quota_after-quota.result.wanted (grant c)
 quota_told c =
     quota_with c.args.self.now 0 c.args.group c.args.moment (requested c) _ _ _
