@@ -7,7 +7,8 @@ use Rattle.buckets.specs.Kinds.{is_alike, most_of}
 use Rattle.buckets.specs.Row.{is_eligible, eligible_amount}
 use Rattle.buckets.specs.Share.{sum_in}
 use Rattle.buckets.proofs.Dues.{sum_in-cons}
-use Rattle.std.proofs.Common.{◌≡◌, ◌≢◌, ℕ, suc, ◌<◌, ◌≤◌, Bool, true, false, List, [], ◌∷◌, length, map}
+use Rattle.std.proofs.Common.{◌≡◌, ◌≢◌, ℕ, suc, ◌<◌, ◌≤◌, Bool, true, false, List, [], ◌∷◌, length}
+use Rattle.std.proofs.Common.{map}
 use Rattle.std.proofs.Common.{◌||◌, refl, sym, ap, eqb-true, arith}
 use Rattle.std.specs.List.{list_any, IsDistinct, AllByRecursion}
 use Rattle.std.proofs.Math.Dec.{eqb}

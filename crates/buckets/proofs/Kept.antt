@@ -82,14 +82,17 @@ Each-inserted P b (x ∷ xs) p h =
     [ true ↦ (p, h) | false ↦ (h.0, Each-inserted P b xs p h.1) ]
 
 balanced_hold : (b : Row) (n : ℕ) → n ≤ b.available → IsBalanced b → IsBalanced (with_hold b n)
-balanced_hold b n le h = record { sum = omega arith; most = h.most; scope = h.scope; number = h.number }
+balanced_hold b n le h = record
+    { sum = omega arith; most = h.most; scope = h.scope; number = h.number }
 
 balanced_charge : (b : Row) (n : ℕ) → n ≤ b.available → IsBalanced b → IsBalanced (with_charge b n)
-balanced_charge b n le h = record { sum = omega arith; most = h.most; scope = h.scope; number = h.number }
+balanced_charge b n le h = record
+    { sum = omega arith; most = h.most; scope = h.scope; number = h.number }
 
 balanced_charge_of_hold : (b : Row) (n : ℕ) → n ≤ b.reserved → IsBalanced b →
     IsBalanced (with_charge_of_hold b n)
-balanced_charge_of_hold b n le h = record { sum = omega arith; most = h.most; scope = h.scope; number = h.number }
+balanced_charge_of_hold b n le h = record
+    { sum = omega arith; most = h.most; scope = h.scope; number = h.number }
 
 pub balanced_release : (t : ℕ) (b : Row) (n : ℕ) → n ≤ b.reserved → IsBalanced b →
     IsBalanced (with_release t b n)
@@ -106,7 +109,8 @@ balanced_end t b h =
     elim (nat_lt t b.until) as
     (λ e. IsBalanced
     (if e then b else record b { available = 0; expired = b.expired + b.available }))
-    [ true ↦ h | false ↦ record { sum = omega arith; most = h.most; scope = h.scope; number = h.number } ]
+    [ true ↦ h | false ↦ record { sum = omega arith; most = h.most; scope = h.scope;
+    number = h.number } ]
 
 pub eligible_within : (e : Bool) (a m : ℕ) → min (if e then a else 0) m ≤ a
 eligible_within true a m = omega arith
@@ -124,7 +128,8 @@ balanced_along-charge : (group t : ℕ) (left : Due) (rows : List Row) → Each 
     Each IsBalanced (along with_charge (eligible_amount group t) left rows)
 balanced_along-charge group t left [] h = tt
 balanced_along-charge group t left (b ∷ bs) h = (
-  balanced_charge b _ (eligible_within (is_eligible group t b) b.available (due_in b.kind left)) h.0,
+  balanced_charge b _ (eligible_within (is_eligible group t b) b.available (due_in b.kind left))
+  h.0,
   balanced_along-charge group t (less b.kind (eligible_amount group t b) left) bs h.1,
 )
 

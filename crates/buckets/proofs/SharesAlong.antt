@@ -7,7 +7,8 @@ use Rattle.std.proofs.lemmas.List.{drop_more}
 use Rattle.std.proofs.lemmas.List.Sums.{sum_by-cons}
 use Rattle.buckets.specs.declared.kind.Due.{Due}
 use Rattle.buckets.specs.Kinds.{is_alike, due_in, less}
-use Rattle.buckets.specs.Row.{Row, precedes, is_paid_before, with_hold, with_charge, with_charge_of_hold, with_end}
+use Rattle.buckets.specs.Row.{Row, precedes, is_paid_before, with_hold, with_charge}
+use Rattle.buckets.specs.Row.{with_charge_of_hold, with_end}
 use Rattle.buckets.specs.Row.{with_release, eligible_amount}
 use Rattle.buckets.specs.Share.{sum_before, share, left_over, by_shares, along, parts, parts_along}
 use Rattle.buckets.specs.Spend.{PrecedesAll, IsInOrder, IsBelow, inserted, place}
@@ -103,7 +104,8 @@ pub record KeepsPlaces (does : Row → ℕ → Row) : Type 0 where
   pub number : (b : Row) (n : ℕ) → (does b n).number ≡ b.number
   pub until : (b : Row) (n : ℕ) → (does b n).until ≡ b.until
 
-PrecedesAll-along : (does : Row → ℕ → Row) (f : Row → ℕ) (a c : Row) (rows : List Row) (left : Due) →
+PrecedesAll-along : (does : Row → ℕ → Row) (f : Row → ℕ) (a c : Row) (rows : List Row)
+    (left : Due) →
     KeepsPlaces does → c.number ≡ a.number → c.until ≡ a.until → PrecedesAll a rows →
     PrecedesAll c (along does f left rows)
 PrecedesAll-along does f a c [] left k n u h = tt

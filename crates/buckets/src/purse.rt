@@ -105,7 +105,8 @@ impl Purse {
     ) -> Result<(), PurseFault>
         requires { IsBelow number self.old }
         ensures ok { OnOk result
-            (self.new ≡ inserted (new_row BucketKind.Money number from until scope amount) self.old) }
+            (self.new ≡ inserted (new_row BucketKind.Money number from until scope amount)
+            self.old) }
         ensures memory { OnErr result (result ≡ Err PurseFault.Memory) }
         ensures err { OnErr result (self.new ≡ self.old) }
     {
@@ -226,8 +227,8 @@ impl Purse {
         Ok(self.hold_in(room, group, at, amount, Blocks(0)))
     }
 
-    /// Holds the blocks in the eligible allowances, in their order (TS 32.299, session charging with
-    /// unit reservation).
+    /// Holds the blocks in the eligible allowances, in their order (TS 32.299, session charging
+    /// with unit reservation).
     ///
     /// # Errors
     /// `NotCovered` exactly where the blocks exceed the allowance, else `Memory`: a growth was
@@ -313,8 +314,8 @@ impl Purse {
     }
 
     /// Charges blocks to the holds that are lent, and what they don't reach to the eligible
-    /// allowances, each in order, and answers how many these cover. The holds are lowered by what was
-    /// taken of them.
+    /// allowances, each in order, and answers how many these cover. The holds are lowered by what
+    /// was taken of them.
     ///
     /// # Errors
     /// `Memory` and no other: a growth was refused. Then purse and holds are unchanged.
@@ -369,8 +370,8 @@ impl Purse {
         Ok(unpaid)
     }
 
-    /// Charges an amount and blocks as `charge` and `charge_blocks` do and then gives up what is left
-    /// of the holds: what a report's settlement does to the purse. It takes no memory.
+    /// Charges an amount and blocks as `charge` and `charge_blocks` do and then gives up what is
+    /// left of the holds: what a report's settlement does to the purse. It takes no memory.
     pub fn settle(
         &mut self,
         holds: Holds,

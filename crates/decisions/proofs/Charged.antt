@@ -1,5 +1,4 @@
 -- Reports and debits that are charged.
-use Rattle.buckets.specs.declared.kind.BucketKind.TheVariants.{Money}
 use Rattle.std.proofs.Common.{◌≡◌, ℕ, ◌≤◌, ◌<◌, Bool, true, false, List, [], ◌∷◌, ◌++◌, refl, sym}
 use Rattle.std.proofs.Common.{ap, ◌∙◌, subst, length, None, ◌≢◌, arith}
 use Rattle.std.specs.Prelude.{nat_lt, Result, Ok, Err}
@@ -11,6 +10,7 @@ use Rattle.commands.specs.declared.answer.ServiceOutcome.TheVariants as service
 use Rattle.commands.specs.Refunds.{Refunded as Refund}
 use Rattle.units.specs.declared.blocks.UsedPart.{UsedPart}
 use Rattle.tariffs.specs.Tariffs.{GroupTariff}
+use Rattle.buckets.specs.declared.kind.BucketKind.TheVariants.{Money}
 use Rattle.shelves.specs.Shelves.{Shelf}
 use Rattle.reserving.specs.declared.charge.ChargeRow.{ChargeRow}
 use Rattle.reserving.specs.declared.settle.Settled.{Settled}

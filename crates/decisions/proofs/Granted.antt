@@ -1,5 +1,4 @@
 -- The answer of a service that units are reserved for.
-use Rattle.reserving.specs.Reservation.{held_due}
 use Rattle.std.proofs.Common.{◌≡◌, ℕ, ◌<◌, Bool, true, false, List, refl, sym, ap, ◌∙◌, subst}
 use Rattle.std.proofs.Common.{Option, Some, Result, Ok, Err, arith}
 use Rattle.std.specs.Prelude.{if◌then◌else◌, nat_lt, OnOk}
@@ -14,7 +13,7 @@ use Rattle.commands.specs.declared.service.Service.{Service}
 use Rattle.commands.specs.declared.service.Requested.{Requested}
 use Rattle.reserving.specs.Ledger.{Ledger, is_barred, used}
 use Rattle.reserving.specs.Pricing.{tariff_of, wanted_units, wanted_with}
-use Rattle.reserving.specs.Reservation.{reserved, grant_for}
+use Rattle.reserving.specs.Reservation.{reserved, grant_for, held_due}
 use Rattle.reserving.specs.Results.{IsGrantOf}
 use Rattle.reserving.specs.Rows.{AccountRows, IsRowsOf}
 use Rattle.reserving.specs.Left.{LeftRows, joined, IsBeside, IsWith}

@@ -1,6 +1,5 @@
 -- One-time events (RFC 8506 section 6; TS 32.299, immediate event charging): direct debiting,
 -- refund of money, check of the balance, and price enquiry.
-use Rattle.buckets.specs.declared.kind.BucketKind.TheVariants.{Money}
 use Rattle.std.specs.Prelude.{ℕ, Bool, true, false, ◌==◌, ◌||◌, nat_lt, if◌then◌else◌, List, []}
 use Rattle.std.specs.Prelude.{◌∷◌, Option, Some, None, option_map, unwrap_or}
 use Rattle.commands.specs.declared.avp.Avp.{Avp}
@@ -25,6 +24,7 @@ use Rattle.commands.specs.declared.answer.Outcome.TheVariants.{Failed}
 use Rattle.units.specs.Blocks.{started}
 use Rattle.tariffs.specs.Books.{Book}
 use Rattle.tariffs.specs.Tariffs.{GroupTariff}
+use Rattle.buckets.specs.declared.kind.BucketKind.TheVariants.{Money}
 use Rattle.shelves.specs.Shelves.{Shelf, book_at}
 use Rattle.reserving.specs.Ledger.{Ledger, is_barred, next_bucket}
 use Rattle.reserving.specs.Pricing.{tariff_of, tariff_at}

@@ -1,6 +1,5 @@
 -- The grants of a request, service by service (RFC 8506 sections 5.2 and 5.3; TS 32.299, session
 -- charging with unit reservation).
-use Rattle.reserving.specs.Reservation.{held_due}
 use Rattle.std.specs.Prelude.{ℕ, Bool, nat_lt, if◌then◌else◌, List, [], ◌∷◌, Option, Some, None}
 use Rattle.std.specs.List.{list_any}
 use Rattle.commands.specs.declared.service.Service.{Service}
@@ -22,7 +21,7 @@ use Rattle.tariffs.specs.Books.{Book}
 use Rattle.rating.specs.declared.grant.Grant.{Grant}
 use Rattle.shelves.specs.Shelves.{Shelf}
 use Rattle.reserving.specs.Pricing.{switch_at, validity_at, wanted_units, tariff_at}
-use Rattle.reserving.specs.Reservation.{reserved, grant_for}
+use Rattle.reserving.specs.Reservation.{reserved, grant_for, held_due}
 use Rattle.decisions.specs.Known.{is_known}
 use Rattle.decisions.specs.Reports.{units_of, asked_units}
 

@@ -13,8 +13,8 @@ unfoldable pub rated_amount : List Tier → ℕ → ℕ → ℕ
 rated_amount tiers place zero = 0
 rated_amount tiers place (suc n) = rated_amount tiers place n + block_price tiers (place + suc n)
 
--- the same of n blocks the first of which are covered: these cost nothing, and each other block keeps
--- its place
+-- the same of n blocks the first of which are covered: these cost nothing, and each other block
+-- keeps its place
 abbrev pub uncovered_amount : List Tier → ℕ → ℕ → ℕ → ℕ
 uncovered_amount tiers place covered n = rated_amount tiers (place + covered) (n - covered)
 

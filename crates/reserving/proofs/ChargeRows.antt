@@ -1,7 +1,5 @@
 -- The charge rows of a ledger with more facts: a report and a debit add one each, and nothing else
 -- adds any.
-use Rattle.buckets.specs.declared.kind.BucketKind.{BucketKind}
-use Rattle.buckets.specs.declared.kind.Due.{Due}
 use Rattle.std.proofs.Common.{◌≡◌, ℕ, ◌+◌, ◌-◌, ◌≤◌, Bool, false, List, [], ◌∷◌, ◌++◌, refl, sym}
 use Rattle.std.proofs.Common.{ap, ◌∙◌, arith, Option}
 use Rattle.std.proofs.lemmas.Bool.Decides.{nat_tests}
@@ -23,6 +21,8 @@ use Rattle.reserving.specs.Balance.{buckets_at}
 use Rattle.reserving.specs.Sessions.{holds_at}
 use Rattle.reserving.specs.Settlement.{due_of}
 use Rattle.rating.specs.declared.report.Rated.{Rated}
+use Rattle.buckets.specs.declared.kind.BucketKind.{BucketKind}
+use Rattle.buckets.specs.declared.kind.Due.{Due}
 use Rattle.reserving.specs.Settlement.{reported, report_price, charge_facts, settled, settled_by}
 use Rattle.reserving.specs.Settlement.{missing, passes}
 use Rattle.reserving.specs.Reservation.{hold_facts, reserved}
@@ -53,7 +53,8 @@ pub charge_rows-closed : (t : ℕ) (s : List ℕ) (ledger : Ledger) →
     charge_rows (closed t s ledger) ≡ charge_rows ledger
 charge_rows-closed t s ledger = append-nil (charge_rows ledger)
 
-pub charge_rows-credited : (t : ℕ) (kind : BucketKind) (from until : ℕ) (scope : Option ℕ) (amount : ℕ) (ledger : Ledger) →
+pub charge_rows-credited : (t : ℕ) (kind : BucketKind) (from until : ℕ) (scope : Option ℕ)
+    (amount : ℕ) (ledger : Ledger) →
     charge_rows (credited t kind from until scope amount ledger) ≡ charge_rows ledger
 charge_rows-credited t kind from until scope amount ledger = append-nil (charge_rows ledger)
 
@@ -66,7 +67,8 @@ pub charge_rows-ended : (t : ℕ) (s : List ℕ) (g : ℕ) (ledger : Ledger) →
     charge_rows (record { at = t; fact = End s g } ∷ ledger) ≡ charge_rows ledger
 charge_rows-ended t s g ledger = append-nil (charge_rows ledger)
 
-pub charge_rows-reserved : (b : Shelf) (t : ℕ) (s : List ℕ) (g units : ℕ) (due : Due) (ledger : Ledger) →
+pub charge_rows-reserved : (b : Shelf) (t : ℕ) (s : List ℕ) (g units : ℕ) (due : Due)
+    (ledger : Ledger) →
     charge_rows (reserved b t s g units due ledger) ≡ charge_rows ledger
 charge_rows-reserved b t s g units due ledger =
     let hs : List Hold = holds_of g t due (buckets_at (validity_of b) t ledger) in
@@ -100,7 +102,8 @@ charge_row n t s g blocks due uncollected = record {
 used_row : (t : ℕ) (hs : List Hold) (s : List ℕ) (g units blocks : ℕ) (due : Due) (left : ℕ)
     (ledger : Ledger) →
     charge_rows
-    (record { at = t; fact = Use s g units blocks due.blocks due.money left } ∷ charge_facts t hs ++ ledger)
+    (record { at = t; fact = Use s g units blocks due.blocks due.money left } ∷ charge_facts
+    t hs ++ ledger)
     ≡ charge_rows ledger ++ charge_row (next_charge ledger) t s g blocks due left ∷ []
 used_row t hs s g units blocks due left ledger =
     let rows : charge_rows (charge_facts t hs ++ ledger) ≡ charge_rows ledger =

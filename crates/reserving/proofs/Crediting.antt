@@ -1,6 +1,4 @@
 -- A bucket is made: what that adds to the rows.
-use Rattle.buckets.specs.declared.kind.BucketKind.{BucketKind}
-use Rattle.buckets.specs.Kinds.{most_of, IsScopeOf}
 use Rattle.std.proofs.Common.{◌≡◌, ℕ, ◌+◌, ◌-◌, ◌<◌, ◌≤◌, Bool, true, false, List, [], ◌∷◌, map}
 use Rattle.std.proofs.Common.{refl, sym, ap, ◌∙◌, arith, Option, Some, None}
 use Rattle.std.specs.Prelude.{if◌then◌else◌, ◌==◌, nat_lt}
@@ -18,6 +16,8 @@ use Rattle.reserving.specs.Rows.{AccountRows, IsAccount, IsRowsOf}
 use Rattle.reserving.specs.Requests.{credited}
 use Rattle.reserving.specs.Changes.{credited_account}
 use Rattle.buckets.specs.Row.{with_end, with_release}
+use Rattle.buckets.specs.declared.kind.BucketKind.{BucketKind}
+use Rattle.buckets.specs.Kinds.{most_of, IsScopeOf}
 use Rattle.reserving.specs.Sessions.{is_live_in}
 use Rattle.reserving.specs.Changes.{advanced, lapsed_in}
 use Rattle.reserving.proofs.InOrder.{parts-inserted, order_inserted}
@@ -67,14 +67,16 @@ IsBelow-inserted next b (x ∷ xs) lt h =
 
 -- ---- what each account keeps
 
-pub IsAccount-credited : (a : AccountRows) (kind : BucketKind) (from until : ℕ) (scope : Option ℕ) (amount : ℕ) →
+pub IsAccount-credited : (a : AccountRows) (kind : BucketKind) (from until : ℕ) (scope : Option ℕ)
+    (amount : ℕ) →
     a.next_bucket ≤ 4294967295 → amount ≤ most_of kind → IsScopeOf kind scope → IsAccount a →
     IsAccount (credited_account kind from until scope amount a)
 IsAccount-credited a kind from until scope amount le most scoped is =
     let b : Row = new_row kind a.next_bucket from until scope amount in
     record {
       shelf = is.shelf;
-      sound = IsSound-inserted b a.buckets is.below (record { sum = omega arith; most = most; scope = scoped; number = omega arith })
+      sound = IsSound-inserted b a.buckets is.below
+          (record { sum = omega arith; most = most; scope = scoped; number = omega arith })
           is.sound;
       below = IsBelow-inserted a.next_bucket b a.buckets (omega arith) is.below;
       next_bucket = omega arith;
@@ -98,7 +100,8 @@ later_row a t b =
     b))
 
 -- a new bucket at a moment
-new_later : (t n : ℕ) (kind : BucketKind) (from until : ℕ) (scope : Option ℕ) (amount lapsed ch h : ℕ) → lapsed ≡ 0 → ch ≡ 0 →
+new_later : (t n : ℕ) (kind : BucketKind) (from until : ℕ) (scope : Option ℕ)
+    (amount lapsed ch h : ℕ) → lapsed ≡ 0 → ch ≡ 0 →
     h ≡ 0 → with_end t (with_release t (new_row kind n from until scope amount) lapsed)
     ≡ balance_of t (new_row kind n from until scope amount) ch h
 new_later t n kind from until scope amount lapsed ch h el ec eh =
@@ -124,7 +127,8 @@ new_later t n kind from until scope amount lapsed ch h el ec eh =
         refl (omega arith))
 
 -- a bucket more leaves the ledger sound
-pub IsSoundLedger-credited : (t : ℕ) (kind : BucketKind) (from until : ℕ) (scope : Option ℕ) (amount : ℕ)
+pub IsSoundLedger-credited : (t : ℕ) (kind : BucketKind) (from until : ℕ)
+    (scope : Option ℕ) (amount : ℕ)
     (ledger : Ledger) → IsSoundLedger ledger →
     IsSoundLedger (credited t kind from until scope amount ledger)
 IsSoundLedger-credited t kind from until scope amount ledger sound = record {
@@ -135,7 +139,8 @@ IsSoundLedger-credited t kind from until scope amount ledger sound = record {
   free = λ n p le. omega (arith, sound.free n p (omega (arith, le)));
 }
 
-pub IsRowsOf-credited : (ledger : Ledger) (a : AccountRows) (t : ℕ) (kind : BucketKind) (from until : ℕ) (scope : Option ℕ)
+pub IsRowsOf-credited : (ledger : Ledger) (a : AccountRows) (t : ℕ) (kind : BucketKind)
+    (from until : ℕ) (scope : Option ℕ)
     (amount : ℕ) → IsAccount a → IsRowsOf ledger a → a.as_of ≤ t →
     IsRowsOf (credited t kind from until scope amount ledger)
     (advanced t (credited_account kind from until scope amount a))

@@ -1,11 +1,4 @@
 -- Calls on an account leave the rows that were left as they are.
-use Rattle.buckets.specs.declared.kind.BucketKind.TheVariants.{Blocks}
-use Rattle.buckets.specs.Spend.{allowance}
-use Rattle.buckets.specs.Holding.{held_sum}
-use Rattle.reserving.specs.Settlement.{due_of}
-use Rattle.reserving.specs.Changes.{coverable_in}
-use Rattle.reserving.proofs.LeftMerged.{sum_in-merged, allowance_merged}
-use Rattle.buckets.specs.declared.kind.Due.{Due}
 use Rattle.std.proofs.Common.{◌≡◌, ℕ, ◌+◌, ◌≤◌, Bool, true, false, List, [], ◌∷◌, ◌++◌, map, refl}
 use Rattle.std.proofs.Common.{sym, ap, subst, ◌∙◌, arith, Some, None}
 use Rattle.std.specs.Prelude.{if◌then◌else◌, ◌==◌, ◌&&◌, not, unwrap_or, option_map}
@@ -14,11 +7,13 @@ use Rattle.std.proofs.lemmas.List.Sorted.{IsPermutation-refl}
 use Rattle.units.specs.declared.blocks.UsedPart.{UsedPart}
 use Rattle.buckets.specs.declared.holds.Hold.{Hold}
 use Rattle.buckets.specs.Row.{Row, with_release, with_end}
-use Rattle.buckets.specs.Spend.{Each}
-use Rattle.buckets.specs.Holding.{held_in, settled_rows, released_rows}
+use Rattle.buckets.specs.Spend.{Each, allowance}
+use Rattle.buckets.specs.Holding.{held_in, settled_rows, released_rows, held_sum}
 use Rattle.buckets.proofs.SharesAlong.{KeepsPlace, with_end_keeps, with_release_number}
 use Rattle.buckets.proofs.SharesAlong.{with_release_until}
 use Rattle.rating.specs.declared.report.Rated.{Rated}
+use Rattle.buckets.specs.declared.kind.BucketKind.TheVariants.{Blocks}
+use Rattle.buckets.specs.declared.kind.Due.{Due}
 use Rattle.shelves.specs.Shelves.{Shelf}
 use Rattle.reserving.specs.declared.session.Session.{Session}
 use Rattle.reserving.specs.declared.session.SessionGroup.{SessionGroup}
@@ -29,11 +24,11 @@ use Rattle.reserving.specs.Pricing.{cycle_at, validity_of}
 use Rattle.reserving.specs.Keyed.{put}
 use Rattle.reserving.specs.Sessions.{session_in, is_open, is_of, group_in, is_counter, is_live_in}
 use Rattle.reserving.specs.Sessions.{is_live_row, holds_in, held_by}
-use Rattle.reserving.specs.Settlement.{reported, price_of, settled_by}
+use Rattle.reserving.specs.Settlement.{reported, price_of, settled_by, due_of}
 use Rattle.reserving.specs.Changes.{advanced, lapse, lapse_group, lapsed_in, group_or_new}
 use Rattle.reserving.specs.Changes.{new_group, used_in, reserved_in, count_in, price_in, with_use}
 use Rattle.reserving.specs.Changes.{with_count, ended_group, ended_rows, settled_account}
-use Rattle.reserving.specs.Changes.{settled_by_rows}
+use Rattle.reserving.specs.Changes.{settled_by_rows, coverable_in}
 use Rattle.reserving.specs.Rows.{AccountRows, EachIn, IsRowsOf}
 use Rattle.reserving.proofs.Advancing.{held_by-split, is_live_in-is}
 use Rattle.reserving.proofs.Lists.{not_both, EachIn-weaker}
@@ -43,6 +38,7 @@ use Rattle.reserving.specs.Left.{LeftRows, merged, joined, IsDead, IsLeft, AreOf
 use Rattle.reserving.specs.Sessions.{group_before, counter_before}
 use Rattle.reserving.proofs.LeftMerged.{map_merged, each_map, each_both, each_left, release_none}
 use Rattle.reserving.proofs.LeftMerged.{end_dead, settled_merged, released_merged}
+use Rattle.reserving.proofs.LeftMerged.{sum_in-merged, allowance_merged}
 use Rattle.reserving.proofs.LeftJoined.{find_behind, map_behind}
 use Rattle.reserving.proofs.Reordered.{put_behind}
 use Rattle.reserving.proofs.order.SameRows.{IsReordered, reordered_none, keys_settled}

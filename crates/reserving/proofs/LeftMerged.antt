@@ -1,25 +1,21 @@
 -- Buckets that are left, in their places among those that are loaded.
-use Rattle.buckets.specs.declared.kind.BucketKind.{BucketKind}
-use Rattle.buckets.specs.declared.kind.BucketKind.TheVariants.{Money, Blocks}
-use Rattle.buckets.specs.Kinds.{is_alike, due_in}
-use Rattle.buckets.specs.Row.{is_paid_before}
-use Rattle.buckets.specs.Share.{sum_in, left_over}
-use Rattle.buckets.specs.Spend.{allowance}
-use Rattle.buckets.specs.Holding.{unheld}
-use Rattle.buckets.specs.declared.kind.Due.{Due}
 use Rattle.std.proofs.Common.{◌≡◌, ℕ, ◌+◌, ◌-◌, Bool, true, false, List, [], ◌∷◌, map, refl, sym}
 use Rattle.std.proofs.Common.{ap, ◌∙◌, arith}
 use Rattle.std.specs.Prelude.{if◌then◌else◌, nat_lt, sum_by, min}
 use Rattle.std.proofs.lemmas.List.Sums.{sum_by-cons}
 use Rattle.buckets.specs.declared.holds.Hold.{Hold}
 use Rattle.buckets.specs.Row.{Row, precedes, eligible_amount, is_eligible, with_charge}
-use Rattle.buckets.specs.Row.{with_charge_of_hold, with_release, with_end}
-use Rattle.buckets.specs.Share.{share, sum_before}
-use Rattle.buckets.specs.Spend.{Each, funds}
+use Rattle.buckets.specs.Row.{with_charge_of_hold, with_release, with_end, is_paid_before}
+use Rattle.buckets.specs.Share.{share, sum_before, sum_in, left_over}
+use Rattle.buckets.specs.Spend.{Each, funds, allowance}
 use Rattle.buckets.specs.Holding.{held_in, paid_of_hold, paid_of_rest, settled_row}
-use Rattle.buckets.specs.Holding.{settled_rows, released_rows}
+use Rattle.buckets.specs.Holding.{settled_rows, released_rows, unheld}
 use Rattle.buckets.proofs.SharesAlong.{KeepsPlace, released_keeps, with_release_number}
 use Rattle.buckets.proofs.SharesAlong.{with_release_until}
+use Rattle.buckets.specs.declared.kind.BucketKind.{BucketKind}
+use Rattle.buckets.specs.declared.kind.BucketKind.TheVariants.{Money, Blocks}
+use Rattle.buckets.specs.Kinds.{is_alike, due_in}
+use Rattle.buckets.specs.declared.kind.Due.{Due}
 use Rattle.reserving.specs.Left.{placed, merged, IsDead}
 
 -- ---- a change that keeps places

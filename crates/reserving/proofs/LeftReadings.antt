@@ -1,7 +1,4 @@
 -- What is read of an account beside the rows that were left: funds, prices, quotas and limits.
-use Rattle.buckets.specs.declared.kind.BucketKind.TheVariants.{Money}
-use Rattle.reserving.proofs.LeftMerged.{sum_in-merged}
-use Rattle.buckets.specs.declared.kind.Due.{Due}
 use Rattle.std.proofs.Common.{◌≡◌, ℕ, ◌+◌, ◌-◌, arith, ◌≤◌, true, false, List, [], refl, sym, ap}
 use Rattle.std.proofs.Common.{subst, ◌∙◌, Option, None}
 use Rattle.std.specs.Prelude.{option_map}
@@ -12,6 +9,8 @@ use Rattle.buckets.specs.Spend.{Each, funds, allowance}
 use Rattle.buckets.specs.Holding.{held_in, uncollected}
 use Rattle.rating.specs.declared.grant.Grant.{Grant}
 use Rattle.rating.specs.declared.grant.Periods.{Periods}
+use Rattle.buckets.specs.declared.kind.BucketKind.TheVariants.{Money}
+use Rattle.buckets.specs.declared.kind.Due.{Due}
 use Rattle.shelves.specs.Shelves.{book_at}
 use Rattle.reserving.specs.declared.session.SessionGroup.{SessionGroup}
 use Rattle.reserving.specs.declared.session.Reservation.{Reservation}
@@ -32,8 +31,9 @@ use Rattle.reserving.proofs.PassedLimits.{passes_after-none}
 use Rattle.reserving.proofs.calls.Settled.{passes_after_is}
 use Rattle.reserving.proofs.calls.Debited.{event_price_is, rest_price_is, debit_passes_is}
 use Rattle.reserving.proofs.ReservedCall.{new_told, QuotaOf}
-use Rattle.reserving.proofs.LeftMerged.{funds_merged, allowance_merged}
-use Rattle.reserving.proofs.LeftFrames.{cover_same, live, not_of_live, row_same, count_beside, advanced_joined}
+use Rattle.reserving.proofs.LeftMerged.{funds_merged, allowance_merged, sum_in-merged}
+use Rattle.reserving.proofs.LeftFrames.{cover_same, live, not_of_live, row_same, count_beside}
+use Rattle.reserving.proofs.LeftFrames.{advanced_joined}
 
 -- ---- funds
 
@@ -61,7 +61,8 @@ pub allowance_told : (ledger : Ledger) (left : LeftRows) (t : ℕ) (a : AccountR
     allowance g t (advanced t a).buckets ≡ allowance g t (buckets_at (validity_of a.shelf) t ledger)
 allowance_told ledger left t a g le h =
     sym (allowance_joined left a g t h.apart)
-    ∙ ap (allowance g t) (IsRowsOf-advanced ledger (joined left a) t h.apart.whole h.rows le).buckets
+    ∙ ap (allowance g t) (IsRowsOf-advanced ledger (joined left a) t h.apart.whole
+    h.rows le).buckets
 
 -- ---- whether a session is live
 
@@ -176,7 +177,8 @@ pub quota_joined : (left : LeftRows) (a : AccountRows) (used used' g t : ℕ) (r
     (units : ℕ) (grant : Grant) → IsLeft left a → AreOfOtherCycles a.shelf t left.counters →
     used' ≡ used →
     IsQuota (book_at a.shelf t) used g requested (periods_at a.shelf t)
-    (count_in g (cycle_at a.shelf g t) a.counters) (funds g t (advanced t a).buckets) (allowance g t (advanced t a).buckets) units grant
+    (count_in g (cycle_at a.shelf g t) a.counters) (funds g t (advanced t a).buckets)
+    (allowance g t (advanced t a).buckets) units grant
     →
     IsQuota (book_at a.shelf t) used' g requested (periods_at a.shelf t)
     (count_in g (cycle_at a.shelf g t) (joined left a).counters)

@@ -109,7 +109,8 @@ passes_after-other charges b t s g (p ∷ ps) h others ledger e =
     ∙ ap (λ n. passes (used s g ledger) (reported (p ∷ ps))
     (counter (cycle_at b g) g (cycle_at b g t) ledger) n
     (next_charge ledger + (charge_count others + charges)))
-    (blocks_alike (tariff_in b (unwrap_or (open_grant s g ledger) (terms_now b t)).book g) _ (used s g ledger) _
+    (blocks_alike (tariff_in b (unwrap_or (open_grant s g ledger) (terms_now b t)).book g) _
+    (used s g ledger) _
     (coverable (validity_of b) t s g (settled_by b t s h others ledger))
     (coverable (validity_of b) t s g ledger) (p ∷ ps))
 

@@ -257,7 +257,8 @@ quota_by b before g requested periods place money free units grant q f =
     grant.units.0 ≤ units → IsQuota b before g requested periods place money free units grant)
     (sym f.are)
     (λ wanted most is greatest within.
-    quota_some b before g requested periods place money free units grant f.tariff (sym f.known) wanted
+    quota_some b before g requested periods place money free units grant f.tariff
+    (sym f.known) wanted
     most is greatest within)
 
 -- ---- the greatest grant, told from the rows and from the ledger
@@ -265,7 +266,8 @@ quota_by b before g requested periods place money free units grant q f =
 abbrev pub QuotaOf : AccountRows → List ℕ → ℕ → ℕ → Option ℕ → ℕ → Grant → Type 0
 QuotaOf a s g t requested units grant =
     IsQuota (book_at a.shelf t) (used_in s g a.groups) g requested (periods_at a.shelf t)
-    (count_in g (cycle_at a.shelf g t) a.counters) (funds g t (advanced t a).buckets) (allowance g t (advanced t a).buckets) units grant
+    (count_in g (cycle_at a.shelf g t) a.counters) (funds g t (advanced t a).buckets)
+    (allowance g t (advanced t a).buckets) units grant
 
 -- a quota that was reckoned with periods that are those of the moment
 pub quota_with : (a : AccountRows) (used g t : ℕ) (requested : Option ℕ) (units : ℕ) (grant : Grant)
@@ -274,7 +276,8 @@ pub quota_with : (a : AccountRows) (used g t : ℕ) (requested : Option ℕ) (un
     (count_in g (cycle_at a.shelf g t) a.counters)
     (funds g t (advanced t a).buckets) (allowance g t (advanced t a).buckets) units grant →
     IsQuota (book_at a.shelf t) used g requested (periods_at a.shelf t)
-    (count_in g (cycle_at a.shelf g t) a.counters) (funds g t (advanced t a).buckets) (allowance g t (advanced t a).buckets) units grant
+    (count_in g (cycle_at a.shelf g t) a.counters) (funds g t (advanced t a).buckets)
+    (allowance g t (advanced t a).buckets) units grant
 quota_with a used g t requested units grant periods is q =
     subst (λ p. IsQuota (book_at a.shelf t) used g requested p
     (count_in g (cycle_at a.shelf g t) a.counters)
@@ -283,7 +286,8 @@ quota_with a used g t requested units grant periods is q =
 pub quota_of : (a : AccountRows) (s : List ℕ) (g t : ℕ) (requested : Option ℕ) (units : ℕ)
     (grant : Grant) (periods : Periods) → periods ≡ periods_at a.shelf t →
     IsQuota (book_at a.shelf t) (used_in s g a.groups) g requested periods
-    (count_in g (cycle_at a.shelf g t) a.counters) (funds g t (advanced t a).buckets) (allowance g t (advanced t a).buckets) units grant →
+    (count_in g (cycle_at a.shelf g t) a.counters) (funds g t (advanced t a).buckets)
+    (allowance g t (advanced t a).buckets) units grant →
     QuotaOf a s g t requested units grant
 quota_of a s g t = quota_with a (used_in s g a.groups) g t
 

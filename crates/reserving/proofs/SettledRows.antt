@@ -605,7 +605,8 @@ made_in ledger a account rows =
     subst (λ n. IsBelow n (buckets_at (validity_of a.shelf) a.as_of ledger)) rows.next_bucket
     (subst (IsBelow a.next_bucket) rows.buckets account.below)
 
-pub IsSoundLedger-settled : (v : ℕ → ℕ) (t : ℕ) (session : List ℕ) (group units blocks : ℕ) (due : Due)
+pub IsSoundLedger-settled : (v : ℕ → ℕ) (t : ℕ) (session : List ℕ)
+    (group units blocks : ℕ) (due : Due)
     (ledger : Ledger) → IsBelow (next_bucket ledger) (buckets_at v t ledger) →
     IsSoundLedger ledger → IsSoundLedger (settled v t session group units blocks due ledger)
 IsSoundLedger-settled v t session group units blocks due ledger below sound =

@@ -240,6 +240,7 @@ abbrev pub amount_later : ℕ → (ℕ → ℕ) → ℕ → List Session → Lis
 amount_later group v t sessions groups b =
     if is_eligible group t b then b.available + lapsed_in (is_live_in v t sessions) groups b else 0
 
-abbrev pub funds_later : BucketKind → ℕ → (ℕ → ℕ) → ℕ → List Session → List SessionGroup → List Row → ℕ
+abbrev pub funds_later : BucketKind → ℕ → (ℕ → ℕ) → ℕ → List Session →
+    List SessionGroup → List Row → ℕ
 funds_later kind group v t sessions groups rows =
     sum_in kind (amount_later group v t sessions groups) rows

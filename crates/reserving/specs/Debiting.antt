@@ -19,8 +19,8 @@ use Rattle.reserving.specs.Settlement.{price_of, due_of, charge_facts, passes}
 abbrev pub untagged : ℕ → List UsedPart
 untagged units = record { units = record { 0 = units }; change = None } ∷ []
 
--- what an event's units cost, where so many blocks are covered: they start blocks from no use on, at
--- the period of the moment, from the group's counter in the cycle on
+-- what an event's units cost, where so many blocks are covered: they start blocks from no use on,
+-- at the period of the moment, from the group's counter in the cycle on
 abbrev pub event_price : Shelf → ℕ → ℕ → ℕ → ℕ → Ledger → Rated
 event_price b t group covered units ledger =
     price_of b t group None 0 (counter (cycle_at b group) group (cycle_at b group t) ledger)

@@ -6,11 +6,11 @@ use Rattle.std.specs.Cmp.Lexicographic.{pointwise}
 use Rattle.reserving.specs.declared.session.Terms.{Terms}
 use Rattle.buckets.specs.declared.kind.BucketKind.{BucketKind}
 
--- Credit: a bucket of a kind is made. Grant, Hold and End: a session gets units of a rating group, priced by
--- the book at the grant in the tariff periods at the grant and at the switch within its validity,
--- from this place of the group's counter on; what is held for it of each bucket; it is over. Use
--- and Charge: units are reported, start blocks, of which allowances cover some, and the others are rated; what each bucket
--- pays. Holds and charges are in the bucket's unit. Touch and
+-- Credit: a bucket of a kind is made. Grant, Hold and End: a session gets units of a rating group,
+-- priced by the book at the grant in the tariff periods at the grant and at the switch within its
+-- validity, from this place of the group's counter on; what is held for it of each bucket; it is
+-- over. Use and Charge: units are reported, start blocks, of which allowances cover some, and the
+-- others are rated; what each bucket pays. Holds and charges are in the bucket's unit. Touch and
 -- Close: a request of the session is accepted; the session ends. Recorded: a request of the session
 -- is kept under its number. Barred: the account is barred, or no longer.
 pub data Fact : Type 0 where
@@ -97,7 +97,8 @@ abbrev pub used : List ℕ → ℕ → Ledger → ℕ
 used s g ledger = total (λ d. units_in s g d.fact) ledger
 
 abbrev pub blocks_in : ℕ → Fact → ℕ
-blocks_in g (Use session group units blocks covered rated uncollected) = if group == g then blocks else 0
+blocks_in g (Use session group units blocks covered rated uncollected) =
+    if group == g then blocks else 0
 blocks_in g _ = 0
 
 -- the account's counter of a group in a cycle: the blocks of the uses whose moments lie in it
@@ -200,7 +201,8 @@ open_grant s g ledger = inner (newest (grant_in s g) ledger)
 
 abbrev pub names_group : List ℕ → ℕ → Fact → Bool
 names_group s g (Grant session group terms units counter) = is_same session s && group == g
-names_group s g (Use session group units blocks covered rated uncollected) = is_same session s && group == g
+names_group s g (Use session group units blocks covered rated uncollected) =
+    is_same session s && group == g
 names_group s g _ = false
 
 -- the session has a grant or a use of the group
@@ -211,7 +213,8 @@ abbrev pub counts_group : (ℕ → ℕ) → ℕ → ℕ → Dated → Bool
 counts_group cycle_at g c d = counted_by d.fact
   where
     counted_by : Fact → Bool
-    counted_by (Use session group units blocks covered rated uncollected) = group == g && cycle_at d.at == c
+    counted_by (Use session group units blocks covered rated uncollected) =
+        group == g && cycle_at d.at == c
     counted_by _ = false
 
 abbrev pub any_dated : (Dated → Bool) → Ledger → Bool

@@ -119,8 +119,8 @@ rated_parts parts =
 abbrev pub prices_by : GroupTariff → Periods → GroupPrices
 prices_by t periods = prices_in t periods.before.0 periods.after.0
 
--- what a report costs after a use so far, from a place of the counter on, where its first blocks are
--- covered; a group without a tariff costs nothing
+-- what a report costs after a use so far, from a place of the counter on, where its first blocks
+-- are covered; a group without a tariff costs nothing
 abbrev pub rated_with : Option GroupTariff → Periods → ℕ → ℕ → ℕ → List UsedPart → Rated
 rated_with None periods used place covered parts =
     record { amount = record { 0 = 0 }; blocks = 0; covered = record { 0 = 0 } }

@@ -1,6 +1,7 @@
 -- What settlements and grants answer, as a ledger tells it.
 -- Source: RFC 8506 sections 5.2 to 5.4; TS 32.299, session charging with unit reservation.
-use Rattle.std.specs.Prelude.{◌≡◌, ℕ, ◌+◌, ◌-◌, ◌<◌, ◌≤◌, Bool, true, false, nat_lt, List, Option, None}
+use Rattle.std.specs.Prelude.{◌≡◌, ℕ, ◌+◌, ◌-◌, ◌<◌, ◌≤◌, Bool, true, false, nat_lt, List, Option}
+use Rattle.std.specs.Prelude.{None}
 use Rattle.std.specs.Prelude.{Some}
 use Rattle.units.specs.declared.blocks.UsedPart.{UsedPart}
 use Rattle.units.specs.Blocks.{started}
@@ -20,8 +21,8 @@ use Rattle.reserving.specs.Reservation.{reserved, grant_for, held_due}
 use Rattle.reserving.specs.Debiting.{rest_price, is_covered, debit_passes, debited}
 use Rattle.reserving.specs.Rows.{AccountRows, IsRowsOf}
 
--- the blocks that a report starts, those that allowances cover, the price of the others, and what of
--- it is collected and isn't
+-- the blocks that a report starts, those that allowances cover, the price of the others, and what
+-- of it is collected and isn't
 pub record IsSettlementOf (b : Shelf) (t : ℕ) (session : List ℕ) (group : ℕ)
     (used_parts : List UsedPart) (ledger : Ledger) (s : Settled) : Type 0 where
   pub blocks : s.blocks.0 ≡ (report_price b t session group used_parts ledger).blocks

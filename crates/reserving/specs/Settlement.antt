@@ -25,8 +25,8 @@ use Rattle.reserving.specs.Sessions.{holds_at}
 abbrev pub reported : List UsedPart → ℕ
 reported used_parts = sum_by (λ p. p.units.0) used_parts
 
--- what a report costs by the terms of a grant: by the book of their number, in their periods; so many
--- blocks may be covered
+-- what a report costs by the terms of a grant: by the book of their number, in their periods; so
+-- many blocks may be covered
 abbrev pub price_by : Shelf → ℕ → Terms → ℕ → ℕ → ℕ → List UsedPart → Rated
 price_by b group x used place covered used_parts =
     rated_with (tariff_in b x.book group) x.periods used place covered used_parts

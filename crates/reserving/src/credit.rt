@@ -29,13 +29,15 @@ impl<'b> Account<'b> {
     ) -> Result<u32, AccountFault>
         requires { self.old.as_of ≤ moment }
         ensures rows { OnOk result
-            (self.new ≡ advanced moment (credited_account BucketKind.Money from until scope amount self.old)) }
+            (self.new ≡ advanced moment (credited_account BucketKind.Money from until scope
+            amount self.old)) }
         ensures number { IfOk result (λ n. n ≡ self.old.next_bucket) }
         ensures ledger { OnOk result ((ledger : Ledger) → IsRowsOf ledger self.old →
             IsRowsOf (credited moment BucketKind.Money from until scope amount ledger) self.new) }
         ensures left { OnOk result ((ledger : Ledger) (left : LeftRows) →
             IsWith ledger left moment self.old →
-            IsWith (credited moment BucketKind.Money from until scope amount ledger) left moment self.new) }
+            IsWith (credited moment BucketKind.Money from until scope amount ledger) left
+            moment self.new) }
         ensures limit { IsErrOf result AccountFault.Limit ↔ (4294967295 < self.old.next_bucket) }
         ensures err { OnErr result (self.new ≡ self.old) }
     {

@@ -38,8 +38,8 @@ impl<'b> Account<'b> {
         self.event_price(group, Blocks(0), units, moment).amount
     }
 
-    /// What those of them cost that the allowance at the moment doesn't cover (RFC 8506 section 6.2).
-    /// It takes no memory and changes nothing.
+    /// What those of them cost that the allowance at the moment doesn't cover (RFC 8506 section
+    /// 6.2). It takes no memory and changes nothing.
     pub fn quote_rest(&self, group: u32, units: Units, moment: Moment) -> Amount
         requires { self.now.as_of ≤ moment }
         ensures rows { result.0 ≡ (rest_price_in group units.0 moment self.now).amount.0 }
@@ -51,7 +51,8 @@ impl<'b> Account<'b> {
         self.rest_price(group, units, moment).amount
     }
 
-    /// The blocks that an event's units start, and what those cost that the allowance doesn't cover.
+    /// The blocks that an event's units start, and what those cost that the allowance doesn't
+    /// cover.
     fn rest_price(&self, group: u32, units: Units, moment: Moment) -> Rated
         requires { self.now.as_of ≤ moment }
         ensures value { result ≡ rest_price_in group units.0 moment self.now }
@@ -84,10 +85,9 @@ impl<'b> Account<'b> {
         price(&prices, 0, self.place_at(group, moment), covered, &tally)
     }
 
-    /// Charges the units of an event at once, where the eligible buckets cover the price of what the
-    /// allowance leaves of their blocks
-    /// (RFC 8506 section 6.3; TS 32.299, immediate event charging). None: they don't, and nothing
-    /// has changed.
+    /// Charges the units of an event at once, where the eligible buckets cover the price of what
+    /// the allowance leaves of their blocks (RFC 8506 section 6.3; TS 32.299, immediate event
+    /// charging). None: they don't, and nothing has changed.
     ///
     /// # Errors
     /// `Limit` only where the price is covered and the session's use, the group's counter or the

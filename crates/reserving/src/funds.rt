@@ -42,16 +42,18 @@ impl<'b> Account<'b> {
         requires { self.now.as_of ≤ moment }
         ensures rows { result.0 ≡ allowance group moment (advanced moment self.now).buckets }
         ensures ledger { (ledger : Ledger) → IsRowsOf ledger self.now →
-            result.0 ≡ allowance group moment (buckets_at (validity_of self.now.shelf) moment ledger) }
+            result.0 ≡ allowance group moment
+            (buckets_at (validity_of self.now.shelf) moment ledger) }
         ensures left { (ledger : Ledger) (left : LeftRows) → IsWith ledger left moment self.now →
-            result.0 ≡ allowance group moment (buckets_at (validity_of self.now.shelf) moment ledger) }
+            result.0 ≡ allowance group moment
+            (buckets_at (validity_of self.now.shelf) moment ledger) }
         ensures most { result.0 ≤ 4_294_967_296_000_000_000 }
     {
         Blocks(self.sum_later(BucketKind::Blocks, group, moment) as u64)
     }
 
-    /// What the buckets of a kind that are eligible for the rating group at the moment have available
-    /// then.
+    /// What the buckets of a kind that are eligible for the rating group at the moment have
+    /// available then.
     fn sum_later(&self, kind: BucketKind, group: u32, moment: Moment) -> u128
         requires { self.now.as_of ≤ moment }
         ensures rows { result

@@ -1,10 +1,4 @@
 -- A debit's call, from any ledger whose rows the account is before it.
-use Rattle.buckets.specs.Kinds.{due}
-use Rattle.buckets.specs.Spend.{allowance}
-use Rattle.reserving.specs.Settlement.{due_of}
-use Rattle.reserving.specs.Debiting.{rest_price}
-use Rattle.reserving.specs.Changes.{rest_price_in}
-use Rattle.buckets.specs.declared.kind.Due.{Due}
 use Rattle.std.proofs.Common.{◌≡◌, ℕ, ◌+◌, ◌-◌, ◌<◌, ◌≤◌, Bool, true, false, List, [], map, refl}
 use Rattle.std.proofs.Common.{sym, ap, subst, ◌∙◌, arith, None}
 use Rattle.std.specs.Prelude.{nat_le, not}
@@ -13,9 +7,11 @@ use Rattle.std.proofs.lemmas.Cmp.{ranked, by_ranked}
 use Rattle.std.proofs.lemmas.Bool.Decides.{nat_tests}
 use Rattle.buckets.specs.declared.holds.Hold.{Hold}
 use Rattle.buckets.specs.Row.{Row, with_release, with_end}
-use Rattle.buckets.specs.Spend.{funds}
+use Rattle.buckets.specs.Spend.{funds, allowance}
 use Rattle.buckets.specs.Holding.{settled_rows, uncollected}
 use Rattle.rating.specs.declared.report.Rated.{Rated}
+use Rattle.buckets.specs.Kinds.{due}
+use Rattle.buckets.specs.declared.kind.Due.{Due}
 use Rattle.reserving.specs.declared.session.SessionGroup.{SessionGroup}
 use Rattle.reserving.specs.declared.session.Counter.{Counter}
 use Rattle.reserving.specs.declared.settle.Settled.{Settled}
@@ -24,12 +20,12 @@ use Rattle.reserving.specs.Pricing.{cycle_at, validity_of}
 use Rattle.reserving.specs.Balance.{buckets_at}
 use Rattle.reserving.specs.Keyed.{put}
 use Rattle.reserving.specs.Sessions.{is_of, is_live_in}
-use Rattle.reserving.specs.Settlement.{price_of, passes}
+use Rattle.reserving.specs.Settlement.{price_of, passes, due_of}
 use Rattle.reserving.specs.Debiting.{untagged, event_price, is_covered, debit_passes, charged_use}
-use Rattle.reserving.specs.Debiting.{debited}
+use Rattle.reserving.specs.Debiting.{debited, rest_price}
 use Rattle.reserving.specs.Changes.{lapse_group, lapsed_in, advanced, group_or_new, used_in}
 use Rattle.reserving.specs.Changes.{count_in, with_event, with_count, event_price_in}
-use Rattle.reserving.specs.Changes.{debited_account}
+use Rattle.reserving.specs.Changes.{debited_account, rest_price_in}
 use Rattle.reserving.specs.Prepared.{with_group, with_rows}
 use Rattle.reserving.specs.Rows.{AccountRows, IsAccount, IsRowsOf}
 use Rattle.reserving.specs.Results.{IsDebitOf}
@@ -215,7 +211,8 @@ debit_is ledger a middle after s g c t units paid x account rows f made =
     let cost : rest_price_in g units t a ≡ rest_price a.shelf t g units ledger =
     rest_price_is ledger a g units t account rows made.later in
     let covered : is_covered a.shelf t g units ledger ≡ true =
-    covered_is false ledger a g units t paid x.rated.0 account rows made.later f made.price made.covers in
+    covered_is false ledger a g units t paid x.rated.0 account rows made.later f made.price
+    made.covers in
     let buckets : middle.buckets ≡ buckets_at (validity_of a.shelf) t ledger =
     ap (λ (y : AccountRows). y.buckets) made.brought ∙ buckets_later a s g c t
     ∙ (IsRowsOf-advanced ledger a t account rows made.later).buckets in
@@ -234,6 +231,8 @@ debit_is ledger a middle after s g c t units paid x account rows f made =
       rated = made.price ∙ ap (λ (y : Rated). y.amount.0) cost;
       collected = whole.0;
       uncollected = whole.1;
-      rows = rows_debited ledger a middle after s g c t units x.blocks.0 (due x.rated.0 x.covered.0) account rows
-          made.later made.cycle made.started (λ i. due (made.price i) (made.cover i)) made.brought made.debited;
+      rows = rows_debited ledger a middle after s g c t units x.blocks.0
+          (due x.rated.0 x.covered.0) account rows
+          made.later made.cycle made.started (λ i. due (made.price i) (made.cover i))
+          made.brought made.debited;
     }

@@ -1,11 +1,11 @@
 -- The rows as a call leaves them, part by part; and time going on in rows without facts.
-use Rattle.buckets.specs.declared.kind.Due.{Due}
 use Rattle.std.proofs.Common.{◌≡◌, ℕ, ◌+◌, Bool, true, false, List, ◌∷◌, map, refl, sym}
 use Rattle.std.proofs.Common.{ap, ◌∙◌, arith, Option, Some, None}
 use Rattle.std.specs.Prelude.{if◌then◌else◌, unwrap_or, option_map, not}
 use Rattle.buckets.specs.declared.holds.Hold.{Hold}
 use Rattle.buckets.specs.Row.{Row, with_release, with_end}
 use Rattle.buckets.specs.Holding.{held_in, settled_rows, released_rows}
+use Rattle.buckets.specs.declared.kind.Due.{Due}
 use Rattle.reserving.specs.declared.session.SessionGroup.{SessionGroup}
 use Rattle.reserving.specs.declared.session.Reservation.{Reservation}
 use Rattle.reserving.specs.declared.session.Counter.{Counter}
@@ -198,7 +198,8 @@ kept_periods false r h = cc
 -- a session that keeps its reservations keeps their periods
 kept_holds : (b : Bool) (x : SessionGroup) → b ≡ true →
     holds_in (if b then x else record x { reservation = None }).reservation ≡ holds_in x.reservation
-kept_holds b x e = ap (λ t. holds_in (if t then x else record x { reservation = None }).reservation) e
+kept_holds b x e = ap (λ t. holds_in (if t then x else record x { reservation = None }).reservation)
+    e
 
 -- a live session's reservation stays
 pub reserved_later : (keeps : List ℕ → Bool) (s : List ℕ) (g : ℕ) (rows : List SessionGroup) →

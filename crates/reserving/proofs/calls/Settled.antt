@@ -57,7 +57,8 @@ use Rattle.reserving.proofs.rows.Complete.{reserved_in_is}
 use Rattle.reserving.proofs.PassedLimits.{passes_after-none}
 use Rattle.reserving.proofs.kept.Settled.{or_new_cycle}
 use Rattle.reserving.proofs.SettledRows.{used_in_is, count_in_is, price_in_is, IsRowsOf-settled_by}
-use Rattle.reserving.proofs.calls.RowParts.{reserved_later, or_new_later, group_later, used_later, periods_later}
+use Rattle.reserving.proofs.calls.RowParts.{reserved_later, or_new_later, group_later, used_later}
+use Rattle.reserving.proofs.calls.RowParts.{periods_later}
 use Rattle.reserving.proofs.calls.RowParts.{count_later, held_by-with_group, settled_later}
 
 -- ---- a report without parts
@@ -114,7 +115,8 @@ terms_of a t s g ledger = unwrap_or (open_grant s g ledger) (terms_now a.shelf t
 
 pub nothing_settled : (ledger : Ledger) (a : AccountRows) (s : List ℕ) (g t : ℕ)
     (used_parts : List UsedPart) (x : Settled) → used_parts ≡ [] → x.blocks.0 ≡ 0 →
-    x.covered.0 ≡ 0 → x.rated.0 ≡ 0 → x.uncollected.0 ≡ 0 → IsSettlementOf a.shelf t s g used_parts ledger x
+    x.covered.0 ≡ 0 → x.rated.0 ≡ 0 → x.uncollected.0 ≡ 0 →
+    IsSettlementOf a.shelf t s g used_parts ledger x
 nothing_settled ledger a s g t used_parts x empty none bare free whole =
     let blocks : (report_price a.shelf t s g [] ledger).blocks ≡ 0 =
     no_blocks (tariff_in a.shelf (terms_of a t s g ledger).book g) _ (used s g ledger) _ _ in
@@ -173,7 +175,8 @@ coverable_later a s g t live_in = λ i. held i + allowed i
     held : held_sum Blocks (reserved_in s g a.groups) a.buckets
         ≡ held_sum Blocks (reserved_in s g (advanced t a).groups) (advanced t a).buckets
     held =
-        sym (held_sum-later Blocks (reserved_in s g a.groups) t (lapsed_in keeps a.groups) a.buckets)
+        sym (held_sum-later Blocks (reserved_in s g a.groups) t
+        (lapsed_in keeps a.groups) a.buckets)
         ∙ (λ i. held_sum Blocks (sym (reserved_later keeps s g a.groups live_in) i)
         (advanced t a).buckets)
 

@@ -1,8 +1,8 @@
 -- A settlement makes no reservation, and a grant one of its own group alone.
-use Rattle.buckets.specs.declared.kind.Due.{Due}
 use Rattle.std.proofs.Common.{◌≡◌, ℕ, ◌+◌, Bool, true, false, List, map, refl, sym, ap, ◌∙◌, Option}
 use Rattle.std.proofs.Common.{Some, None}
 use Rattle.std.specs.Prelude.{if◌then◌else◌, ◌==◌, option_map, unwrap_or}
+use Rattle.buckets.specs.declared.kind.Due.{Due}
 use Rattle.reserving.specs.declared.session.SessionGroup.{SessionGroup}
 use Rattle.reserving.specs.Keyed.{put}
 use Rattle.reserving.specs.Ledger.{is_same}

@@ -1,7 +1,4 @@
 -- The periods of each reservation stay the book's, whatever a call makes of the rows.
-use Rattle.buckets.specs.declared.kind.BucketKind.{BucketKind}
-use Rattle.buckets.specs.Kinds.{most_of, IsScopeOf}
-use Rattle.buckets.specs.declared.kind.Due.{Due}
 use Rattle.std.proofs.Common.{◌≡◌, ℕ, ◌+◌, ◌≤◌, ◌<◌, Bool, true, false, cond, List, [], ◌∷◌, ◌++◌}
 use Rattle.std.proofs.Common.{map, refl, sym, ap, subst, ◌∙◌, arith, Option, Some, None}
 use Rattle.std.specs.Prelude.{if◌then◌else◌, ◌&&◌, is_some, length, nat_lt, option_map, unwrap_or}
@@ -26,6 +23,9 @@ use Rattle.reserving.specs.Pricing.{tariff_of, tariff_at, cycle_at, periods_at, 
 use Rattle.reserving.specs.Pricing.{validity_of}
 use Rattle.reserving.specs.Sessions.{session_in, is_of, group_in, is_counter, is_live_in}
 use Rattle.buckets.specs.Holding.{holds_of}
+use Rattle.buckets.specs.declared.kind.BucketKind.{BucketKind}
+use Rattle.buckets.specs.Kinds.{most_of, IsScopeOf}
+use Rattle.buckets.specs.declared.kind.Due.{Due}
 use Rattle.reserving.specs.Keyed.{put}
 use Rattle.reserving.specs.Changes.{advanced, with_session, touched_account, closed_account}
 use Rattle.reserving.specs.Changes.{lapse_group, is_other, new_group, group_or_new, ended_group}
@@ -317,7 +317,8 @@ IsPriced-with_rows a session group cycle is = record {
       (group_or_new session group a.groups) (or_new_key session group a.groups) is.order);
 }
 
-pub IsPriced-credited : (a : AccountRows) (kind : BucketKind) (from until : ℕ) (scope : Option ℕ) (amount : ℕ) →
+pub IsPriced-credited : (a : AccountRows) (kind : BucketKind) (from until : ℕ) (scope : Option ℕ)
+    (amount : ℕ) →
     a.next_bucket ≤ 4294967295 → amount ≤ most_of kind → IsScopeOf kind scope → IsPriced a →
     IsPriced (credited_account kind from until scope amount a)
 IsPriced-credited a kind from until scope amount le most scoped is = record {

@@ -1,7 +1,5 @@
 -- What each account keeps is kept by a settlement, by the end of a reservation, and by rows without
 -- facts.
-use Rattle.buckets.specs.Holding.{unheld}
-use Rattle.buckets.specs.declared.kind.Due.{Due}
 use Rattle.std.proofs.Common.{◌≡◌, ℕ, ◌+◌, ◌-◌, ◌<◌, ◌≤◌, Bool, true, false, cond, List, [], ◌∷◌}
 use Rattle.std.proofs.Common.{map, refl, sym, ap, subst, ◌∙◌, arith, Option, Some, None}
 use Rattle.std.specs.Prelude.{if◌then◌else◌, unwrap_or, sum_by, ◌==◌, not, ◌&&◌}
@@ -10,10 +8,11 @@ use Rattle.buckets.specs.declared.holds.Hold.{Hold}
 use Rattle.buckets.specs.Row.{Row, with_charge, with_charge_of_hold, with_release}
 use Rattle.buckets.specs.Spend.{Each, IsSound}
 use Rattle.buckets.specs.Holding.{held_in, IsWithin, paid_of_hold, paid_of_rest}
-use Rattle.buckets.specs.Holding.{settled_row, settled_rows}
+use Rattle.buckets.specs.Holding.{settled_row, settled_rows, unheld}
 use Rattle.buckets.proofs.SharesAlong.{with_release_number}
 use Rattle.buckets.proofs.Kept.{IsSound-charge, IsSound-charge_of_hold, IsSound-release}
 use Rattle.buckets.proofs.Settling.{left_within, settled_rows-along, IsSound-release_rest}
+use Rattle.buckets.specs.declared.kind.Due.{Due}
 use Rattle.reserving.specs.declared.session.SessionGroup.{SessionGroup}
 use Rattle.reserving.specs.declared.session.Counter.{Counter}
 use Rattle.reserving.specs.Pricing.{cycle_at}

@@ -1,5 +1,4 @@
 -- A dead bucket never changes again.
-use Rattle.buckets.specs.declared.kind.Due.{Due}
 use Rattle.std.proofs.Common.{◌≡◌, ℕ, ◌≤◌, true, List, [], ◌∷◌, map, sym, ap, subst, ◌∙◌, arith}
 use Rattle.std.specs.Prelude.{not, ◌&&◌, ◌==◌}
 use Rattle.buckets.specs.declared.holds.Hold.{Hold}
@@ -7,6 +6,7 @@ use Rattle.buckets.specs.Row.{Row, IsBalanced, with_end}
 use Rattle.buckets.specs.Spend.{Each, AreDistinct}
 use Rattle.buckets.specs.Holding.{held_in, settled_row}
 use Rattle.buckets.proofs.Parts.{sum_at, sum_at-parts, held_in-sum_at}
+use Rattle.buckets.specs.declared.kind.Due.{Due}
 use Rattle.reserving.specs.Ledger.{Ledger, is_same, is_live, held, only}
 use Rattle.reserving.specs.Balance.{credits, bucket_at, buckets_at}
 use Rattle.reserving.specs.Sessions.{holds_at}

@@ -1,5 +1,4 @@
 -- What the end of a reservation, and a settlement, make of each bucket of a ledger.
-use Rattle.buckets.specs.declared.kind.Due.{Due}
 use Rattle.std.proofs.Common.{◌≡◌, ℕ, ◌+◌, ◌-◌, ◌≤◌, Bool, true, false, List, [], ◌∷◌, ◌++◌, map}
 use Rattle.std.proofs.Common.{refl, sym, ap, ◌∙◌, arith}
 use Rattle.std.specs.Prelude.{if◌then◌else◌, ◌==◌, ◌&&◌, not, nat_lt, min}
@@ -10,6 +9,7 @@ use Rattle.buckets.specs.Spend.{Each, AreDistinct}
 use Rattle.buckets.specs.Holding.{held_in, paid_of_hold, paid_of_rest, paid, settled_row}
 use Rattle.buckets.specs.Holding.{settled_rows, released_rows}
 use Rattle.buckets.proofs.Parts.{sum_at, sum_at-parts, held_in-sum_at}
+use Rattle.buckets.specs.declared.kind.Due.{Due}
 use Rattle.reserving.specs.Ledger.{Ledger, charged, held, only, is_live, is_same}
 use Rattle.reserving.specs.Ledger.Fact.{End}
 use Rattle.reserving.specs.Balance.{credits, balance_of, bucket_at, buckets_at}
@@ -47,7 +47,8 @@ eligible_le false a x m h = omega arith
 -- ---- the ledger with the settlement
 
 -- neither the end of a reservation, a use nor a charge tells of sessions
-pub same_sessions-settled : (v : ℕ → ℕ) (t : ℕ) (session : List ℕ) (group units blocks : ℕ) (due : Due)
+pub same_sessions-settled : (v : ℕ → ℕ) (t : ℕ) (session : List ℕ)
+    (group units blocks : ℕ) (due : Due)
     (ledger : Ledger) → SameSessions ledger (settled v t session group units blocks due ledger)
 same_sessions-settled v t session group units blocks due ledger =
     let hs : List Hold =

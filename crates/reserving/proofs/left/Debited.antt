@@ -1,6 +1,4 @@
 -- A debit's call, from a ledger whose rows the account's are together with those left.
-use Rattle.buckets.specs.Kinds.{due}
-use Rattle.buckets.specs.declared.kind.Due.{Due}
 use Rattle.std.proofs.Common.{◌≡◌, ℕ, ◌+◌, ◌≤◌, Bool, false, List, [], ◌++◌, refl, sym, ap, subst}
 use Rattle.std.proofs.Common.{◌∙◌, arith, None}
 use Rattle.std.specs.Prelude.{not}
@@ -12,6 +10,8 @@ use Rattle.std.specs.List.Sorted.{IsPermutation}
 use Rattle.std.proofs.lemmas.List.Sorted.{IsPermutation-refl}
 use Rattle.shelves.specs.Shelves.{Shelf}
 use Rattle.rating.specs.declared.report.Rated.{Rated}
+use Rattle.buckets.specs.Kinds.{due}
+use Rattle.buckets.specs.declared.kind.Due.{Due}
 use Rattle.reserving.specs.declared.session.SessionGroup.{SessionGroup}
 use Rattle.reserving.specs.declared.settle.Settled.{Settled}
 use Rattle.reserving.specs.Ledger.{Ledger}
@@ -48,7 +48,8 @@ use Rattle.reserving.proofs.LeftReadings.{used_joined, rest_price_joined, uncoll
 none_held : (left : List Row) → Each IsDead left → Each (λ b. held_in [] b ≡ 0) left
 none_held left dead = each_map IsDead (λ b. held_in [] b ≡ 0) left (λ b d. refl) dead
 
-pub debited_joined : (left : LeftRows) (a : AccountRows) (s : List ℕ) (g units blocks : ℕ) (due : Due) →
+pub debited_joined : (left : LeftRows) (a : AccountRows) (s : List ℕ)
+    (g units blocks : ℕ) (due : Due) →
     IsLeft left a → AreOfOtherCycles a.shelf a.as_of left.counters →
     EachIn (λ r. is_of s g r ≡ false) left.groups →
     IsReordered (debited_account s g units blocks due (joined left a))
@@ -102,7 +103,8 @@ pub covered_beside : (b : Bool) (ledger : Ledger) (left : LeftRows) (t : ℕ) (a
     is_covered a.shelf t g units ledger ≡ not b
 covered_beside b ledger left t a g units paid price le h p q k =
     covered_is b ledger (joined left a) g units t paid price h.apart.whole h.rows le p
-    (q ∙ ap (λ (x : Rated). x.amount.0) (sym (rest_price_joined left a g units t h.apart h.cycles))) k
+    (q ∙ ap (λ (x : Rated). x.amount.0) (sym (rest_price_joined left a g units t h.apart h.cycles)))
+    k
 
 pub debit_beside : (ledger : Ledger) (left : LeftRows) (a middle after : AccountRows) (s : List ℕ)
     (g c t units paid : ℕ) (x : Settled) →
@@ -140,7 +142,8 @@ debit_beside ledger left a middle after s g c t units paid x h gone f made =
     ∙ ap (λ (y : AccountRows). y.buckets) (advanced_joined t left a h.apart) in
     let un' : x.uncollected.0
     ≡ uncollected [] g t owed.money (advanced t (with_rows s g c whole)).buckets =
-    made.missing ∙ (λ i. uncollected [] g (made.brought i).as_of owed.money (made.brought i).buckets)
+    made.missing ∙ (λ i. uncollected [] g (made.brought i).as_of owed.money
+    (made.brought i).buckets)
     ∙ ap (uncollected [] g t owed.money) (buckets_later a s g c t)
     ∙ sym (ap (uncollected [] g t owed.money) buckets
     ∙ uncollected_merged [] g t owed left.buckets later.buckets h.apart.dead

@@ -1,15 +1,14 @@
 -- A grant's call, from a ledger whose rows the account's are together with those left.
-use Rattle.reserving.specs.Reservation.{held_due}
-use Rattle.buckets.specs.declared.kind.Due.{Due}
 use Rattle.std.proofs.Common.{◌≡◌, ℕ, ◌<◌, ◌≤◌, Bool, true, false, List, refl, sym, ap, subst, ◌∙◌}
 use Rattle.std.proofs.Common.{Option, None}
 use Rattle.std.specs.Prelude.{nat_lt}
 use Rattle.rating.specs.declared.grant.Grant.{Grant}
+use Rattle.buckets.specs.declared.kind.Due.{Due}
 use Rattle.reserving.specs.declared.session.SessionGroup.{SessionGroup}
 use Rattle.shelves.specs.Shelves.{Shelf}
 use Rattle.reserving.specs.Ledger.{Ledger, used}
 use Rattle.reserving.specs.Pricing.{switch_at, validity_at, validity_of}
-use Rattle.reserving.specs.Reservation.{grant_for}
+use Rattle.reserving.specs.Reservation.{grant_for, held_due}
 use Rattle.reserving.specs.Sessions.{is_of, is_live_in}
 use Rattle.reserving.specs.Changes.{advanced, reserved_account}
 use Rattle.reserving.specs.Prepared.{with_group_row, reservation_in}

@@ -1,5 +1,4 @@
 -- A grant, and a debit, leave the rows that were left as they are.
-use Rattle.buckets.specs.declared.kind.Due.{Due}
 use Rattle.std.proofs.Common.{◌≡◌, ℕ, ◌+◌, true, false, List, [], ◌∷◌, ◌++◌, map, refl}
 use Rattle.std.proofs.Common.{sym, subst, ◌∙◌, arith, Some}
 use Rattle.std.specs.List.Sorted.{IsPermutation}
@@ -12,6 +11,7 @@ use Rattle.buckets.specs.Share.{share, parts}
 use Rattle.buckets.specs.Spend.{Each, held_rows}
 use Rattle.buckets.specs.Holding.{holds_of}
 use Rattle.buckets.proofs.SharesAlong.{KeepsPlace}
+use Rattle.buckets.specs.declared.kind.Due.{Due}
 use Rattle.reserving.specs.declared.session.SessionGroup.{SessionGroup}
 use Rattle.reserving.specs.Keyed.{put}
 use Rattle.reserving.specs.Pricing.{terms_at, validity_of}

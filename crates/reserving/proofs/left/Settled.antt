@@ -1,16 +1,15 @@
 -- A settlement's call, from a ledger whose rows the account's are together with those left.
-use Rattle.reserving.specs.Settlement.{due_of}
-use Rattle.buckets.specs.declared.kind.Due.{Due}
 use Rattle.std.proofs.Common.{◌≡◌, ℕ, ◌+◌, ◌<◌, ◌≤◌, true, false, List, [], ◌∷◌, refl, sym, ap}
 use Rattle.std.proofs.Common.{subst, ◌∙◌, arith}
 use Rattle.std.proofs.lemmas.Bool.Decides.{nat_tests}
 use Rattle.units.specs.declared.blocks.UsedPart.{UsedPart}
 use Rattle.rating.specs.declared.report.Rated.{Rated}
+use Rattle.buckets.specs.declared.kind.Due.{Due}
 use Rattle.reserving.specs.declared.session.SessionGroup.{SessionGroup}
 use Rattle.reserving.specs.Ledger.{Ledger, is_live}
 use Rattle.reserving.specs.Pricing.{cycle_at, validity_of}
 use Rattle.reserving.specs.Sessions.{is_of, is_live_in}
-use Rattle.reserving.specs.Settlement.{reported, passes, settled_by}
+use Rattle.reserving.specs.Settlement.{reported, passes, settled_by, due_of}
 use Rattle.reserving.specs.Changes.{advanced, used_in, count_in, price_in, ended_rows}
 use Rattle.reserving.specs.Changes.{settled_account, settled_by_rows}
 use Rattle.reserving.specs.Prepared.{with_rows}

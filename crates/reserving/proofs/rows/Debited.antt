@@ -1,5 +1,4 @@
 -- What a debit makes of an account's rows: those of the ledger with its use and its charges.
-use Rattle.buckets.specs.declared.kind.Due.{Due}
 use Rattle.std.proofs.Common.{◌≡◌, ℕ, ◌+◌, ◌-◌, ◌≤◌, Bool, true, false, List, [], ◌∷◌, ◌++◌, map}
 use Rattle.std.proofs.Common.{refl, sym, ap, subst, ◌∙◌, arith, Option, Some, None}
 use Rattle.std.specs.Prelude.{if◌then◌else◌, ◌==◌, ◌&&◌, ◌||◌, nat_lt, unwrap_or}
@@ -10,6 +9,7 @@ use Rattle.buckets.specs.Spend.{Each, AreDistinct, IsSound, IsBelow}
 use Rattle.buckets.specs.Holding.{held_in, paid, paid_of_hold, paid_of_rest, settled_row}
 use Rattle.buckets.specs.Holding.{settled_rows}
 use Rattle.buckets.proofs.Parts.{sum_at, sum_at-parts, sum_at_none}
+use Rattle.buckets.specs.declared.kind.Due.{Due}
 use Rattle.reserving.specs.declared.session.SessionGroup.{SessionGroup}
 use Rattle.reserving.specs.declared.session.Terms.{Terms}
 use Rattle.reserving.specs.Ledger.{Ledger, charged, open_grant, held, only, used, counter}
@@ -135,14 +135,16 @@ buckets_at-debited v t session group units blocks due ledger balanced distinct =
 
 -- ---- its groups
 
-same_grant : (v : ℕ → ℕ) (t : ℕ) (session : List ℕ) (group units blocks : ℕ) (due : Due) (ledger : Ledger)
+same_grant : (v : ℕ → ℕ) (t : ℕ) (session : List ℕ) (group units blocks : ℕ) (due : Due)
+    (ledger : Ledger)
     (s : List ℕ) (g : ℕ) →
     open_grant s g (charged_use v t session group units blocks due ledger) ≡ open_grant s g ledger
 same_grant v t session group units blocks due ledger s g =
     ap inner (newest-front (grant_in s g) (charge_facts t (shares v t group due ledger)) ledger
     (each_charge _ t (shares v t group due ledger) (λ b n. refl)))
 
-same_held : (v : ℕ → ℕ) (t : ℕ) (session : List ℕ) (group units blocks : ℕ) (due : Due) (ledger : Ledger)
+same_held : (v : ℕ → ℕ) (t : ℕ) (session : List ℕ) (group units blocks : ℕ) (due : Due)
+    (ledger : Ledger)
     (p : List ℕ → ℕ → Bool) (n : ℕ) →
     held p n (charged_use v t session group units blocks due ledger) ≡ held p n ledger
 same_held v t session group units blocks due ledger p n =
@@ -302,7 +304,8 @@ unknown-debited v t session group units blocks due ledger s h = record {
 }
 
 -- the ledger stays sound
-pub IsSoundLedger-debited : (v : ℕ → ℕ) (t : ℕ) (session : List ℕ) (group units blocks : ℕ) (due : Due)
+pub IsSoundLedger-debited : (v : ℕ → ℕ) (t : ℕ) (session : List ℕ)
+    (group units blocks : ℕ) (due : Due)
     (ledger : Ledger) → IsBelow (next_bucket ledger) (buckets_at v t ledger) →
     IsSoundLedger ledger → IsSoundLedger (charged_use v t session group units blocks due ledger)
 IsSoundLedger-debited v t session group units blocks due ledger below sound =

@@ -69,7 +69,8 @@ either_way false n = refl
 
 -- ---- nothing is given up where nothing is reserved
 
-held_nothing : (kind : BucketKind) (group t : ℕ) (rows : List Row) → held_for kind group t [] rows ≡ 0
+held_nothing : (kind : BucketKind) (group t : ℕ) (rows : List Row) →
+    held_for kind group t [] rows ≡ 0
 held_nothing kind group t rows =
     sums_none kind (λ b. if is_eligible group t b then held_in [] b else 0) rows
     (λ b. either_way (is_eligible group t b) 0)
@@ -79,7 +80,8 @@ unheld : (kind : BucketKind) (k : Bool) (group t : ℕ) (rows : List Row) →
 unheld kind true group t rows = refl
 unheld kind false group t rows = held_nothing kind group t rows
 
-pub lapsed_for-none : (keeps : List ℕ → Bool) (kind : BucketKind) (group t : ℕ) (r : SessionGroup) (rows : List Row) →
+pub lapsed_for-none : (keeps : List ℕ → Bool) (kind : BucketKind) (group t : ℕ) (r : SessionGroup)
+    (rows : List Row) →
     r.reservation ≡ None → 0 ≡ lapsed_for keeps kind group t r rows
 lapsed_for-none keeps kind group t r rows e =
     sym (ap (λ o. if keeps r.session then 0 else held_for kind group t (holds_in o) rows) e
@@ -101,13 +103,15 @@ first_amount false false m n = refl
 
 first_held : (kind : BucketKind) (k : Bool) (group t : ℕ) (holds : List Hold) (rows : List Row) →
     (if k then 0 else held_for kind group t holds rows)
-    ≡ sum_in kind (λ b. if k then 0 else (if is_eligible group t b then held_in holds b else 0)) rows
+    ≡ sum_in kind (λ b. if k then 0 else (if is_eligible group t b then held_in holds b else 0))
+    rows
 first_held kind true group t holds rows = sym (sums_none kind (λ b. 0) rows (λ b. refl))
 first_held kind false group t holds rows = refl
 
 lapsed_sum : (keeps : List ℕ → Bool) (kind : BucketKind) (group t : ℕ) (groups : List SessionGroup)
     (rows : List Row) →
-    lapsed_funds keeps kind group t groups rows ≡ sum_in kind (lapsed_amount keeps group t groups) rows
+    lapsed_funds keeps kind group t groups rows ≡ sum_in kind
+    (lapsed_amount keeps group t groups) rows
 lapsed_sum keeps kind group t [] rows =
     sym (sums_none kind (lapsed_amount keeps group t []) rows
     (λ b. either_way (is_eligible group t b) 0))
@@ -138,7 +142,8 @@ pub lapsed_funds-is : (kind : BucketKind) (group : ℕ) (v : ℕ → ℕ) (t : �
 lapsed_funds-is kind group v t sessions groups rows =
     ap (λ n. sum_in kind (eligible_amount group t) rows + n)
     (lapsed_sum (is_live_in v t sessions) kind group t groups rows)
-    ∙ sums_add kind (eligible_amount group t) (lapsed_amount (is_live_in v t sessions) group t groups)
+    ∙ sums_add kind (eligible_amount group t)
+    (lapsed_amount (is_live_in v t sessions) group t groups)
     (amount_later group v t sessions groups) rows
     (λ b. later_amount (is_eligible group t b) b.available
     (lapsed_in (is_live_in v t sessions) groups b))
@@ -170,7 +175,8 @@ lapsed_most keeps group t groups b balanced held = at (is_eligible group t b)
     at true = most
     at false = omega arith
 
-sum_most : (keeps : List ℕ → Bool) (kind : BucketKind) (group t : ℕ) (groups : List SessionGroup) (rows : List Row) →
+sum_most : (keeps : List ℕ → Bool) (kind : BucketKind) (group t : ℕ) (groups : List SessionGroup)
+    (rows : List Row) →
     Each IsBalanced rows → Each (λ b. held_by (λ s. true) groups b ≡ b.reserved) rows →
     sum_in kind (lapsed_amount keeps group t groups) rows ≤ length rows * 1000000000000000
 sum_most keeps kind group t groups [] balanced held = omega arith
@@ -183,7 +189,8 @@ sum_most keeps kind group t groups (b ∷ bs) balanced held =
       sum_most keeps kind group t groups bs balanced.1 held.1,
     )
 
-pub lapsed_funds-most : (keeps : List ℕ → Bool) (kind : BucketKind) (group t : ℕ) (groups : List SessionGroup)
+pub lapsed_funds-most : (keeps : List ℕ → Bool) (kind : BucketKind) (group t : ℕ)
+    (groups : List SessionGroup)
     (rows : List Row) → length rows < 2 ^ 64 → IsSound rows →
     Each (λ b. held_by (λ s. true) groups b ≡ b.reserved) rows →
     lapsed_funds keeps kind group t groups rows < 2 ^ 126
@@ -196,7 +203,8 @@ lapsed_funds-most keeps kind group t groups rows short sound held =
     )
 
 -- the next reservation is a part of what is left
-pub lapsed_funds-next : (keeps : List ℕ → Bool) (kind : BucketKind) (group t : ℕ) (groups : List SessionGroup)
+pub lapsed_funds-next : (keeps : List ℕ → Bool) (kind : BucketKind) (group t : ℕ)
+    (groups : List SessionGroup)
     (i : ℕ) (d : SessionGroup) (rows : List Row) → i < length groups →
     lapsed_funds keeps kind group t (drop i groups) rows
     ≡ lapsed_for keeps kind group t (get_or groups i d) rows

@@ -50,7 +50,8 @@ pub funds_later-is : (kind : BucketKind) (group : ℕ) (v : ℕ → ℕ) (t : �
 funds_later-is kind group v t sessions groups [] = refl
 funds_later-is kind group v t sessions groups (b ∷ bs) =
     sum_in-cons kind (amount_later group v t sessions groups) b bs
-    ∙ (λ i. (if is_alike (sym (later_kind t (lapsed_in (is_live_in v t sessions) groups b) b) i) kind
+    ∙ (λ i. (if is_alike (sym (later_kind t (lapsed_in (is_live_in v t sessions) groups b) b) i)
+    kind
     then sym (amount_is group t (lapsed_in (is_live_in v t sessions) groups b) b) i else 0)
     + funds_later-is kind group v t sessions groups bs i)
     ∙ sym (sum_in-cons kind (eligible_amount group t)

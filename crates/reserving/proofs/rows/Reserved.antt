@@ -1,5 +1,4 @@
 -- What a grant makes of a ledger's buckets, groups and counters, and of an account's rows.
-use Rattle.buckets.specs.declared.kind.Due.{Due}
 use Rattle.std.proofs.Common.{◌≡◌, ℕ, ◌+◌, ◌-◌, ◌≤◌, Bool, true, false, List, [], ◌∷◌, ◌++◌, map}
 use Rattle.std.proofs.Common.{refl, sym, ap, subst, ◌∙◌, arith, Option, Some, None}
 use Rattle.std.specs.Prelude.{if◌then◌else◌, ◌==◌, ◌&&◌, ◌||◌, not, nat_lt, is_some}
@@ -12,6 +11,7 @@ use Rattle.buckets.specs.Holding.{held_in, holds_of}
 use Rattle.buckets.proofs.Parts.{sum_at, sum_at-parts, held_in-sum_at, sum_at_none}
 use Rattle.buckets.proofs.SharesAlong.{by_shares-along}
 use Rattle.buckets.proofs.Kept.{IsSound-hold, eligible_within}
+use Rattle.buckets.specs.declared.kind.Due.{Due}
 use Rattle.reserving.specs.declared.session.SessionGroup.{SessionGroup}
 use Rattle.reserving.specs.declared.session.Reservation.{Reservation}
 use Rattle.reserving.specs.declared.session.Counter.{Counter}
@@ -191,7 +191,8 @@ parts_each F G does (b ∷ bs) k e =
     λ i. (if nat_lt 0 (amount i) then one i ∷ parts_each F G does bs k e.1 i
     else parts_each F G does bs k e.1 i)
 
-each_own : (shelf : Shelf) (t : ℕ) (session : List ℕ) (group units : ℕ) (due : Due) (ledger : Ledger)
+each_own : (shelf : Shelf) (t : ℕ) (session : List ℕ) (group units : ℕ) (due : Due)
+    (ledger : Ledger)
     (G : Row → ℕ) (xs : List Row) →
     Each (λ b. held (only session group) b.number ledger ≡ 0) xs →
     Each (λ b. sum_at b.number (holds_for shelf t group due ledger) ≡ G b) xs →
@@ -401,7 +402,8 @@ unknown-reserved shelf t session group units due ledger s other h =
           (ap (λ x. x && group == g) other)).grant ∙ h.granted g;
     }
 
-held_above : (shelf : Shelf) (t : ℕ) (session : List ℕ) (group units : ℕ) (due : Due) (ledger : Ledger)
+held_above : (shelf : Shelf) (t : ℕ) (session : List ℕ) (group units : ℕ) (due : Due)
+    (ledger : Ledger)
     (n : ℕ) (p : List ℕ → ℕ → Bool) → sum_at n (holds_for shelf t group due ledger) ≡ 0 →
     held p n ledger ≡ 0 → held p n (reserved shelf t session group units due ledger) ≡ 0
 held_above shelf t session group units due ledger n p sum none = by_test (p session group) refl
@@ -426,7 +428,8 @@ held_above shelf t session group units due ledger n p sum none = by_test (p sess
 
 -- ---- the ledger stays sound: a grant is of a recorded session
 
-pub IsSoundLedger-reserved : (shelf : Shelf) (t : ℕ) (session : List ℕ) (group units : ℕ) (due : Due)
+pub IsSoundLedger-reserved : (shelf : Shelf) (t : ℕ) (session : List ℕ)
+    (group units : ℕ) (due : Due)
     (ledger : Ledger) → IsBelow (next_bucket ledger) (buckets_at (validity_of shelf) t ledger) →
     (last_recording session ledger ≡ None → ⊥) → IsSoundLedger ledger →
     IsSoundLedger (reserved shelf t session group units due ledger)

@@ -1,7 +1,6 @@
 -- Worked cases, computed from the definitions: a book with seconds at 50,000 micro-units a minute,
 -- 100,000 on weekdays from 08:00 to 20:00, and octets in blocks of 1,048,576, of which the first
 -- 100 of a month are free.
-use Rattle.buckets.specs.declared.kind.BucketKind.TheVariants.{Money, Blocks}
 use Rattle.std.proofs.Common.{◌≡◌, ℕ, Bool, true, false, List, [], ◌∷◌, refl, Option, None, Some}
 use Rattle.calendar.specs.Clock.{always}
 use Rattle.calendar.specs.Timetable.{minutes_from, switch_within}
@@ -20,6 +19,7 @@ use Rattle.tariffs.specs.declared.tiers.Tier.{Tier}
 use Rattle.rating.specs.Granted.{dearer, greatest_covered}
 use Rattle.rating.specs.Rated.{rated_amount, report_blocks, report_amount}
 use Rattle.buckets.specs.Row.{Row}
+use Rattle.buckets.specs.declared.kind.BucketKind.TheVariants.{Money, Blocks}
 use Rattle.reserving.specs.Ledger.{Ledger, used, is_live}
 use Rattle.reserving.specs.Ledger.Fact.{Credit, Touch}
 use Rattle.reserving.specs.Pricing.{switch_at, validity_at, validity_of}

@@ -18,7 +18,8 @@ returns-clause-ledger c = λ ledger rows.
     (subst (IsRowsOf
     (credited c.args.moment Money c.args.from c.args.until c.args.scope c.micros.result ledger))
     (ap (advanced c.args.moment) (sym c.in_ok-number.ensures.rows) ∙ sym c.advance.ensures.rows)
-    (IsRowsOf-credited ledger c.args.self.now c.args.moment Money c.args.from c.args.until c.args.scope
+    (IsRowsOf-credited ledger c.args.self.now c.args.moment Money c.args.from
+    c.args.until c.args.scope
     c.micros.result c.in_ok-number.ensures.account rows c.requires))
 
 pub returns-clause-left : goal.returns-clause-left
@@ -30,6 +31,8 @@ returns-clause-left c = λ ledger left with_left.
     (credited c.args.moment Money c.args.from c.args.until c.args.scope c.micros.result ledger) left
     c.args.moment x)
     (ap (advanced c.args.moment) (sym c.in_ok-number.ensures.rows) ∙ sym c.advance.ensures.rows)
-    (with_credited ledger left c.args.moment c.args.self.now Money c.args.from c.args.until c.args.scope
-    c.micros.result c.in_ok-number.ensures.in_range (omega (arith, c.micros.ensures.in_range)) tt c.requires
+    (with_credited ledger left c.args.moment c.args.self.now Money c.args.from
+    c.args.until c.args.scope
+    c.micros.result c.in_ok-number.ensures.in_range (omega (arith, c.micros.ensures.in_range)) tt
+    c.requires
     with_left))

@@ -1,10 +1,10 @@
-use Rattle.buckets.specs.Kinds.{due}
-use Rattle.units.specs.declared.blocks.Blocks.{Blocks}
 use Rattle.std.proofs.Common.{◌≡◌, ◌+◌, true, false, sym, ap, ◌∙◌, arith}
 use Rattle.std.specs.Ordering.{is_lt, nat_cmp}
 use Rattle.units.specs.declared.blocks.Units.{Units}
 use Rattle.units.specs.declared.money.Amount.{Amount}
+use Rattle.units.specs.declared.blocks.Blocks.{Blocks}
 use Rattle.rating.specs.declared.report.Rated.{Rated}
+use Rattle.buckets.specs.Kinds.{due}
 use Rattle.reserving.specs.Pricing.{cycle_at}
 use Rattle.reserving.specs.Settlement.{passes}
 use Rattle.reserving.specs.Sessions.{session_in}
@@ -41,7 +41,8 @@ returns-in_default-clause-limit c = λ e ledger rows.
     ≡ (rest_price_in c.args.group c.args.units.0 c.args.moment c.args.self.now).amount.0 =
     ap (λ (x : Rated). x.amount.0) c.rest_price-price.ensures.value in (
       covered_is false ledger c.args.self.now c.args.group c.args.units.0 c.args.moment
-          c.funds.result.0 c.rest_price-price.result.amount.0 c.within_limits.ensures.account rows c.requires
+          c.funds.result.0 c.rest_price-price.result.amount.0 c.within_limits.ensures.account
+          rows c.requires
           (c.funds.ensures.ledger ledger rows) price (sym c.lt.ensures ∙ c.if-lt.false),
       debit_passes_is ledger c.args.self.now c.args.session.now c.args.group c.args.units.0
           c.args.moment c.within_limits.ensures.account rows c.requires
@@ -138,7 +139,8 @@ debited : (c : goal.After-result-6-1) →
 debited c =
     c.charge_use-charged.ensures.rows
     ∙ (λ i. debited_account c.args.session.now c.args.group (c.in-Some.ensures.units i).0
-    c.in-Some.rated.blocks.0 (due c.in-Some.rated.amount.0 c.in-Some.rated.covered.0) c.advance.new.self)
+    c.in-Some.rated.blocks.0 (due c.in-Some.rated.amount.0 c.in-Some.rated.covered.0)
+    c.advance.new.self)
 
 abbrev Sums : (c : goal.After-result-6-1) → Type 0
 Sums c =
@@ -245,7 +247,8 @@ returns-clause-by_rows c =
     let a : AccountRows = c.args.self.now in
     debited_is a c.advance.new.self c.charge_use-charged.new.self c.args.session.now c.args.group
     c.cycle_at-cycle.result c.args.moment c.args.units.0 c.in-Some.rated.blocks.0
-    (due c.in-Some.rated.amount.0 c.in-Some.rated.covered.0) c.cycle_at-cycle.ensures (brought c) (debited c)
+    (due c.in-Some.rated.amount.0 c.in-Some.rated.covered.0) c.cycle_at-cycle.ensures
+    (brought c) (debited c)
     ∙ (λ i. debited_account c.args.session.now c.args.group c.args.units.0 (started c i)
     (due (price c i) (cover c i))
     (advanced c.args.moment a))

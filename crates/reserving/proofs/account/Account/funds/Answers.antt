@@ -9,7 +9,8 @@ pub returns-clause-ledger : goal.returns-clause-ledger
 returns-clause-ledger c = λ ledger rows.
     c.sum_later.ensures.rows
     ∙ ap (funds c.args.group c.args.moment)
-    (IsRowsOf-advanced ledger c.args.self.now c.args.moment c.sum_later.ensures.account rows c.requires).buckets
+    (IsRowsOf-advanced ledger c.args.self.now c.args.moment c.sum_later.ensures.account rows
+    c.requires).buckets
 
 pub returns-clause-left : goal.returns-clause-left
 returns-clause-left c =

@@ -60,7 +60,8 @@ returns c =
     let wanted : ℕ = c.wanted_of-wanted.result in
     let grant : Grant = c.greatest_grant-grant.result in
     quota_by (book_at c.args.self.now.shelf c.args.moment) c.args.used c.args.group
-    (option_map (λ (u : Units). u.0) c.args.requested) c.args.periods place money free wanted grant q
+    (option_map (λ (u : Units). u.0) c.args.requested) c.args.periods place money free
+    wanted grant q
     found
     (c.wanted_of-wanted.ensures.value
     ∙ ap (λ t. wanted_units t (option_map (λ (u : Units). u.0) c.args.requested))

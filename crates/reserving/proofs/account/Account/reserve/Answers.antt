@@ -1,4 +1,3 @@
-use Rattle.reserving.specs.Reservation.{held_due}
 use Rattle.std.proofs.Common.{◌≡◌, ℕ, ◌<◌, Option, sym, ap, ◌∙◌, arith, refl}
 use Rattle.std.specs.Prelude.{option_map, nat_lt}
 use Rattle.units.specs.declared.blocks.Units.{Units}
@@ -17,6 +16,7 @@ use Rattle.reserving.proofs.calls.StillFree.{others_advanced, others_reserved}
 use Rattle.reserving.specs.Left.{IsWith}
 use Rattle.reserving.proofs.left.Granted.{nothing_beside, grant_beside}
 use Rattle.reserving.proofs.rows.Calm.{live_middle}
+use Rattle.reserving.specs.Reservation.{held_due}
 use Rattle.reserving.proofs.account.Account.reserve.Goals as goal
 
 -- where nothing is granted, the quota was reckoned with the window's periods

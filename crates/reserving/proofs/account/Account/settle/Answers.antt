@@ -1,11 +1,10 @@
-use Rattle.buckets.specs.Kinds.{due}
-use Rattle.reserving.specs.Settlement.{due_of}
 use Rattle.std.proofs.Common.{false, ◌≡◌, refl, sym, ap, ◌∙◌, arith}
+use Rattle.buckets.specs.Kinds.{due}
 use Rattle.reserving.specs.Changes.{advanced, used_in, count_in, price_in, settled_account}
 use Rattle.reserving.specs.Changes.{ended_rows}
 use Rattle.reserving.specs.Pricing.{cycle_at}
 use Rattle.reserving.specs.Rows.{AccountRows}
-use Rattle.reserving.specs.Settlement.{passes, reported}
+use Rattle.reserving.specs.Settlement.{passes, reported, due_of}
 use Rattle.reserving.proofs.Lists.{is_nothing, is_something}
 use Rattle.reserving.proofs.calls.Settled.{rows_ended, nothing_settled, within_used, within_counted}
 use Rattle.reserving.proofs.calls.Settled.{passes_is, there_later, counter_there, used_middle}
@@ -101,7 +100,8 @@ pub returns-clause-rows : goal.returns-clause-rows
 returns-clause-rows c = λ ledger rows.
     rows_settled ledger c.args.self.now c.advance-2.new.self c.settle_use-charged.new.self
     c.args.session.now c.args.group c.cycle_at-cycle.result c.args.moment
-    c.in-Some.rated.units.0 c.in-Some.rated.blocks.0 (due c.in-Some.rated.amount.0 c.in-Some.rated.covered.0) c.args.parts.now
+    c.in-Some.rated.units.0 c.in-Some.rated.blocks.0
+    (due c.in-Some.rated.amount.0 c.in-Some.rated.covered.0) c.args.parts.now
     c.rate.ensures.account rows c.requires.moment c.requires.live
     (is_something c.args.parts.now (sym c.is_empty.ensures ∙ c.if-is_empty.false))
     c.cycle_at-cycle.ensures
@@ -169,7 +169,8 @@ returns-then-is_empty-clause-sessions c =
 pub returns-clause-free : goal.returns-clause-free
 returns-clause-free c =
     settled_free c.args.session.now c.args.group c.in-Some.rated.units.0 c.in-Some.rated.blocks.0
-    (due c.in-Some.rated.amount.0 c.in-Some.rated.covered.0) c.advance-2.new.self c.settle_use-charged.new.self
+    (due c.in-Some.rated.amount.0 c.in-Some.rated.covered.0) c.advance-2.new.self
+    c.settle_use-charged.new.self
     c.settle_use-charged.ensures.rows
 
 pub returns-then-is_empty-clause-free : goal.returns-then-is_empty-clause-free
@@ -203,7 +204,8 @@ pub returns-clause-left : goal.returns-clause-left
 returns-clause-left c = λ ledger left h.
     left_settled ledger left c.args.self.now c.advance-2.new.self c.settle_use-charged.new.self
     c.args.session.now c.args.group c.cycle_at-cycle.result c.args.moment
-    c.in-Some.rated.units.0 c.in-Some.rated.blocks.0 (due c.in-Some.rated.amount.0 c.in-Some.rated.covered.0) c.args.parts.now
+    c.in-Some.rated.units.0 c.in-Some.rated.blocks.0
+    (due c.in-Some.rated.amount.0 c.in-Some.rated.covered.0) c.args.parts.now
     h c.requires.moment c.requires.live
     (is_something c.args.parts.now (sym c.is_empty.ensures ∙ c.if-is_empty.false))
     c.cycle_at-cycle.ensures
@@ -247,7 +249,8 @@ pub returns-clause-by_rows : goal.returns-clause-by_rows
 returns-clause-by_rows c =
     settled_is c.args.self.now c.advance-2.new.self c.settle_use-charged.new.self c.args.session.now
     c.args.group c.cycle_at-cycle.result c.args.moment c.in-Some.rated.units.0
-    c.in-Some.rated.blocks.0 (due c.in-Some.rated.amount.0 c.in-Some.rated.covered.0) c.args.parts.now
+    c.in-Some.rated.blocks.0 (due c.in-Some.rated.amount.0 c.in-Some.rated.covered.0)
+    c.args.parts.now
     c.requires.live (is_something c.args.parts.now (sym c.is_empty.ensures ∙ c.if-is_empty.false))
     c.cycle_at-cycle.ensures
     c.in-Some.ensures.units c.in-Some.ensures.blocks (due_is' c)

@@ -1,11 +1,9 @@
-use Rattle.buckets.specs.Holding.{uncollected}
-use Rattle.reserving.specs.Changes.{reserved_in}
-use Rattle.buckets.specs.Kinds.{due}
 use Rattle.std.proofs.Common.{◌≤◌, ◌+◌, sym, ap, subst, ◌∙◌}
-use Rattle.buckets.specs.Holding.{IsWithin}
+use Rattle.buckets.specs.Holding.{IsWithin, uncollected}
+use Rattle.buckets.specs.Kinds.{due}
 use Rattle.reserving.specs.Pricing.{cycle_at}
 use Rattle.reserving.specs.Rows.{AccountRows}
-use Rattle.reserving.specs.Changes.{count_in, settled_account}
+use Rattle.reserving.specs.Changes.{count_in, settled_account, reserved_in}
 use Rattle.reserving.proofs.kept.Settled.{within_of}
 use Rattle.reserving.proofs.calls.RowParts.{settled_parts}
 use Rattle.reserving.specs.Inside.{rows_of}
@@ -27,7 +25,8 @@ invariant_of-self c =
     let now : AccountRows = c.args.self.now in
     let is =
     settled_parts a c.args.session.now c.args.group c.args.cycle c.args.rated.units.0
-    c.args.rated.blocks.0 (due c.args.rated.amount.0 c.args.rated.covered.0) c.use_group-holds.result
+    c.args.rated.blocks.0 (due c.args.rated.amount.0 c.args.rated.covered.0)
+    c.use_group-holds.result
     c.settle-charged.new.self c.count_blocks.new.counters.items
     c.use_group-holds.new.groups.items
     (c.requires.cycle

@@ -1,4 +1,3 @@
-use Rattle.reserving.specs.Pricing.{validity_of}
 use Rattle.std.proofs.Common.{◌+◌, map, ap, ◌∙◌, subst, arith}
 use Rattle.buckets.proofs.Counted.{sum_in-most}
 use Rattle.reserving.specs.Rows.{IsAccount}
@@ -9,6 +8,7 @@ use Rattle.buckets.specs.Share.{sum_in}
 use Rattle.reserving.specs.Sessions.{is_live_in}
 use Rattle.reserving.specs.Changes.{advanced, lapsed_in}
 use Rattle.reserving.proofs.rows.LapsedFunds.{lapsed_funds-is}
+use Rattle.reserving.specs.Pricing.{validity_of}
 use Rattle.reserving.proofs.account.Account.sum_later.Goals as goal
 
 pub returns-clause-rows : goal.returns-clause-rows

@@ -1,10 +1,9 @@
-use Rattle.buckets.specs.Spend.{allowance}
 use Rattle.std.proofs.Common.{ℕ, Option, ap, subst, ◌∙◌}
 use Rattle.std.specs.Prelude.{option_map, nat_lt}
 use Rattle.units.specs.declared.blocks.Units.{Units}
 use Rattle.tariffs.specs.Books.{Book}
 use Rattle.rating.specs.declared.grant.Grant.{Grant}
-use Rattle.buckets.specs.Spend.{funds}
+use Rattle.buckets.specs.Spend.{funds, allowance}
 use Rattle.shelves.specs.Shelves.{book_at}
 use Rattle.reserving.specs.Pricing.{periods_at, cycle_at, periods_by}
 use Rattle.reserving.specs.Quotas.{IsQuota}
