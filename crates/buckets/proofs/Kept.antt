@@ -108,9 +108,15 @@ pub balanced_end : (t : ℕ) (b : Row) → IsBalanced b → IsBalanced (with_end
 balanced_end t b h =
     elim (nat_lt t b.until) as
     (λ e. IsBalanced
-    (if e then b else record b { available = 0; expired = b.expired + b.available }))
-    [ true ↦ h | false ↦ record { sum = omega arith; most = h.most; scope = h.scope;
-    number = h.number } ]
+    (if e then b else record b { available = 0; expired = b.expired + b.available })) [
+      | true ↦ h
+      | false ↦ record {
+        sum = omega arith;
+        most = h.most;
+        scope = h.scope;
+        number = h.number;
+      }
+    ]
 
 pub eligible_within : (e : Bool) (a m : ℕ) → min (if e then a else 0) m ≤ a
 eligible_within true a m = omega arith
@@ -129,7 +135,7 @@ balanced_along-charge : (group t : ℕ) (left : Due) (rows : List Row) → Each 
 balanced_along-charge group t left [] h = tt
 balanced_along-charge group t left (b ∷ bs) h = (
   balanced_charge b _ (eligible_within (is_eligible group t b) b.available (due_in b.kind left))
-  h.0,
+      h.0,
   balanced_along-charge group t (less b.kind (eligible_amount group t b) left) bs h.1,
 )
 

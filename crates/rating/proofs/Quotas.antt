@@ -62,8 +62,13 @@ report_most p used place covered (part ∷ parts) =
           let all : n + r - covered ≡ (n - covered) + r = omega arith in
           let behind = rw (from, many) at rest in
           rw all
-          (omega (arith, here, behind, dearer_cut p.before p.after (place + covered)
-          (n - covered) r)))
+          (omega (
+            arith,
+            here,
+            behind,
+            dearer_cut p.before p.after (place + covered)
+                (n - covered) r,
+          )))
       | inr more ↦ (
           let from : place + n + (covered - n) ≡ place + covered = omega arith in
           let many : r - (covered - n) ≡ n + r - covered = omega arith in
