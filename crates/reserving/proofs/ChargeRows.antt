@@ -102,8 +102,8 @@ charge_row n t s g blocks due uncollected = record {
 used_row : (t : ℕ) (hs : List Hold) (s : List ℕ) (g units blocks : ℕ) (due : Due) (left : ℕ)
     (ledger : Ledger) →
     charge_rows
-    (record { at = t; fact = Use s g units blocks due.blocks due.money left } ∷ charge_facts
-    t hs ++ ledger)
+    (record { at = t; fact = Use s g units blocks due.blocks due.money left }
+    ∷ charge_facts t hs ++ ledger)
     ≡ charge_rows ledger ++ charge_row (next_charge ledger) t s g blocks due left ∷ []
 used_row t hs s g units blocks due left ledger =
     let rows : charge_rows (charge_facts t hs ++ ledger) ≡ charge_rows ledger =

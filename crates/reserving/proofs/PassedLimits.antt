@@ -1,25 +1,21 @@
 -- The limits of a report's stored numbers, before and after the settlement of another group of its
 -- session.
-use Rattle.std.proofs.Common.{ap, ◌∙◌, Option, Some, None}
-use Rattle.tariffs.specs.Tariffs.{GroupTariff}
-use Rattle.rating.specs.declared.grant.Periods.{Periods}
-use Rattle.reserving.specs.Pricing.{terms_now, rated_with}
-use Rattle.shelves.specs.Shelves.{tariff_in}
-use Rattle.std.specs.Prelude.{unwrap_or}
-use Rattle.reserving.specs.Settlement.{due_of, coverable}
-use Rattle.buckets.specs.declared.kind.Due.{Due}
 use Rattle.std.proofs.Common.{◌≡◌, ℕ, ◌+◌, Bool, true, false, List, [], ◌∷◌, refl, ap, ◌∙◌, arith}
-use Rattle.std.proofs.Common.{Some, None}
-use Rattle.std.specs.Prelude.{if◌then◌else◌, ◌==◌, ◌&&◌, nat_lt}
+use Rattle.std.proofs.Common.{Option, Some, None}
+use Rattle.std.specs.Prelude.{if◌then◌else◌, ◌==◌, ◌&&◌, nat_lt, unwrap_or}
 use Rattle.std.proofs.Math.Bool.{and-false}
 use Rattle.std.proofs.lemmas.Bool.Decides.{nat_tests}
 use Rattle.units.specs.declared.blocks.UsedPart.{UsedPart}
-use Rattle.shelves.specs.Shelves.{Shelf}
+use Rattle.tariffs.specs.Tariffs.{GroupTariff}
+use Rattle.shelves.specs.Shelves.{Shelf, tariff_in}
+use Rattle.rating.specs.declared.grant.Periods.{Periods}
 use Rattle.rating.specs.declared.report.Rated.{Rated}
+use Rattle.buckets.specs.declared.kind.Due.{Due}
 use Rattle.reserving.specs.Ledger.{Ledger, is_same, used, counter, open_grant, next_charge, uses_in}
 use Rattle.reserving.specs.Ledger.{inner, or_else, newest, grant_in}
-use Rattle.reserving.specs.Pricing.{cycle_at, validity_of}
+use Rattle.reserving.specs.Pricing.{cycle_at, validity_of, terms_now, rated_with}
 use Rattle.reserving.specs.Settlement.{charge_facts, settled, settled_by, reported, price_of}
+use Rattle.reserving.specs.Settlement.{due_of, coverable}
 use Rattle.reserving.specs.Settlement.{report_price, passes, passes_limit, passes_after}
 use Rattle.reserving.specs.Settlement.{charge_count}
 use Rattle.reserving.proofs.Keys.{is_key}

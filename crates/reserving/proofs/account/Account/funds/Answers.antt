@@ -2,7 +2,6 @@ use Rattle.std.proofs.Common.{ap, ◌∙◌}
 use Rattle.buckets.specs.Spend.{funds}
 use Rattle.reserving.proofs.Advancing.{IsRowsOf-advanced}
 use Rattle.reserving.proofs.LeftReadings.{funds_told}
-use Rattle.reserving.specs.Pricing.{validity_of}
 use Rattle.reserving.proofs.account.Account.funds.Goals as goal
 
 pub returns-clause-ledger : goal.returns-clause-ledger
