@@ -16,7 +16,7 @@ use Rattle.buckets.specs.Share.{sum_in, parts}
 use Rattle.buckets.specs.Spend.{inserted, funds, allowance}
 use Rattle.buckets.specs.Holding.{paid, holds_of, held_sum, uncollected}
 use Rattle.buckets.proofs.Dues.{sum_in-cons}
-use Rattle.buckets.proofs.Paid.{sum_in-paid, sum_in-both}
+use Rattle.buckets.proofs.Paid.{sum_in-both}
 use Rattle.buckets.proofs.Parts.{sum_at, sum_at-parts}
 use Rattle.reserving.specs.Ledger.{Fact, Ledger, charged, next_bucket, next_charge}
 use Rattle.reserving.specs.Ledger.Fact.{Touch, Close, Recorded, Barred}
@@ -39,7 +39,7 @@ use Rattle.charging.specs.SessionReports.{Report}
 use Rattle.charging.proofs.BucketSums.{sum_in-each, sum_in-alike, sum_in-inserted, sum_in-moved}
 use Rattle.charging.proofs.Credited.{AreCredited, distinct, in_order, charge_credits, hold_credits}
 use Rattle.charging.proofs.Sound.{IsSoundHistory, sound_none, keeps_sound}
-use Rattle.charging.proofs.Coverable.{report_covers, event_covers}
+use Rattle.charging.proofs.Coverable.{money_paid, blocks_paid, report_covers, event_covers}
 use Rattle.charging.proofs.Steps.{is_quiet, with_grant, granted, Keeps}
 
 -- ---- sums
@@ -180,18 +180,12 @@ taken_settled : (k : BucketKind) (v : ℕ → ℕ) (t : ℕ) (s : List ℕ) (g b
     ≡ sum_in k (paid (holds_at v t s g ledger) g t due (buckets_at v t ledger))
     (buckets_at v t ledger)
 taken_settled Money v t s g blocks n due ledger made within =
-    omega (
-      arith,
-      sum_in-paid Money (holds_at v t s g ledger) g t due (buckets_at v t ledger)
-          (in_order v t ledger made),
-    )
+    let all = money_paid (holds_at v t s g ledger) g t due (buckets_at v t ledger)
+    (in_order v t ledger made) in
+    omega (arith, all)
 taken_settled Blocks v t s g blocks n due ledger made within =
-    omega (
-      arith,
-      within,
-      sum_in-paid Blocks (holds_at v t s g ledger) g t due
-          (buckets_at v t ledger) (in_order v t ledger made),
-    )
+    sym (blocks_paid (holds_at v t s g ledger) g t due (buckets_at v t ledger)
+    (in_order v t ledger made) within)
 
 sums_settled : (v : ℕ → ℕ) (t : ℕ) (s : List ℕ) (g units blocks : ℕ) (due : Due)
     (ledger : Ledger) → AreCredited (credits ledger) (next_bucket ledger) →
@@ -221,19 +215,11 @@ taken_debited : (k : BucketKind) (v : ℕ → ℕ) (t : ℕ) (s : List ℕ) (g b
     taken_of k (charge_row n t s g blocks due 0)
     ≡ sum_in k (paid [] g t due (buckets_at v t ledger)) (buckets_at v t ledger)
 taken_debited Money v t s g blocks n due ledger made funded allowed =
-    omega (
-      arith,
-      funded,
-      sum_in-paid Money [] g t due (buckets_at v t ledger)
-          (in_order v t ledger made),
-    )
+    let all = money_paid [] g t due (buckets_at v t ledger) (in_order v t ledger made) in
+    omega (arith, all, funded)
 taken_debited Blocks v t s g blocks n due ledger made funded allowed =
-    omega (
-      arith,
-      allowed,
-      sum_in-paid Blocks [] g t due (buckets_at v t ledger)
-          (in_order v t ledger made),
-    )
+    sym (blocks_paid [] g t due (buckets_at v t ledger) (in_order v t ledger made)
+    (omega (arith, allowed)))
 
 sums_debited : (b : Shelf) (t : ℕ) (s : List ℕ) (g units : ℕ) (ledger : Ledger) →
     is_covered b t g units ledger ≡ true → AreCredited (credits ledger) (next_bucket ledger) →

@@ -1,12 +1,19 @@
--- No more blocks are covered than a reservation holds and the allowance has.
-use Rattle.std.proofs.Common.{ℕ, ◌+◌, ◌≤◌, List, Option, Some, None, arith}
+-- No more blocks are covered than a reservation holds and the allowance has; so allowances give all
+-- of them.
+use Rattle.std.proofs.Common.{◌≡◌, ℕ, ◌+◌, ◌-◌, ◌≤◌, List, Option, Some, None, arith}
+use Rattle.std.specs.Prelude.{unwrap_or}
 use Rattle.units.specs.declared.blocks.UsedPart.{UsedPart}
 use Rattle.tariffs.specs.Tariffs.{GroupTariff}
 use Rattle.shelves.specs.Shelves.{Shelf, tariff_in, number_at}
 use Rattle.rating.specs.declared.grant.Periods.{Periods}
-use Rattle.buckets.specs.declared.kind.BucketKind.TheVariants.{Blocks}
-use Rattle.buckets.specs.Spend.{allowance}
-use Rattle.buckets.specs.Holding.{held_sum}
+use Rattle.buckets.specs.declared.kind.BucketKind.TheVariants.{Money, Blocks}
+use Rattle.buckets.specs.declared.kind.Due.{Due}
+use Rattle.buckets.specs.declared.holds.Hold.{Hold}
+use Rattle.buckets.specs.Row.{Row}
+use Rattle.buckets.specs.Share.{sum_in}
+use Rattle.buckets.specs.Spend.{IsInOrder, allowance}
+use Rattle.buckets.specs.Holding.{held_sum, paid, uncollected}
+use Rattle.buckets.proofs.Paid.{sum_in-paid}
 use Rattle.reserving.specs.declared.session.Terms.{Terms}
 use Rattle.reserving.specs.Ledger.{Ledger, used, counter, open_grant}
 use Rattle.reserving.specs.Pricing.{cycle_at, terms_now, rated_with, validity_of}
@@ -14,9 +21,26 @@ use Rattle.reserving.specs.Balance.{buckets_at}
 use Rattle.reserving.specs.Sessions.{holds_at}
 use Rattle.reserving.specs.Settlement.{report_price, coverable}
 use Rattle.reserving.specs.Debiting.{untagged, rest_price}
-use Rattle.std.specs.Prelude.{unwrap_or}
 
-pub covers_most : (o : Option GroupTariff) (p : Periods) (used place covered : ℕ)
+-- ---- what buckets pay of what is due, in each unit
+
+pub money_paid : (holds : List Hold) (g t : ℕ) (due : Due) (rows : List Row) → IsInOrder rows →
+    sum_in Money (paid holds g t due rows) rows + uncollected holds g t due.money rows
+    ≡ due.money
+money_paid holds g t due rows order = sum_in-paid Money holds g t due rows order
+
+pub blocks_paid : (holds : List Hold) (g t : ℕ) (due : Due) (rows : List Row) → IsInOrder rows →
+    due.blocks ≤ held_sum Blocks holds rows + allowance g t rows →
+    sum_in Blocks (paid holds g t due rows) rows ≡ due.blocks
+blocks_paid holds g t due rows order le =
+    let all : sum_in Blocks (paid holds g t due rows) rows
+    + (due.blocks - held_sum Blocks holds rows - allowance g t rows) ≡ due.blocks =
+    sum_in-paid Blocks holds g t due rows order in
+    omega (arith, all, le)
+
+-- ---- the blocks of a report, and of an event
+
+covers_most : (o : Option GroupTariff) (p : Periods) (used place covered : ℕ)
     (parts : List UsedPart) → (rated_with o p used place covered parts).covered.0 ≤ covered
 covers_most None p used place covered parts = omega arith
 covers_most (Some x) p used place covered parts = omega arith

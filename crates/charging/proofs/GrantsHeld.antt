@@ -22,7 +22,7 @@ use Rattle.buckets.specs.Kinds.{due_in}
 use Rattle.buckets.specs.Row.{Row, eligible_amount}
 use Rattle.buckets.specs.Share.{sum_in, share, parts}
 use Rattle.buckets.specs.Spend.{funds, allowance}
-use Rattle.buckets.specs.Holding.{held_sum, holds_of, paid}
+use Rattle.buckets.specs.Holding.{held_in, held_sum, holds_of, paid}
 use Rattle.buckets.proofs.Parts.{sum_at, held_in-sum_at}
 use Rattle.reserving.specs.Ledger.{Fact, Ledger, or_else, inner, newest, last_recording, used}
 use Rattle.reserving.specs.Ledger.{counter, held, only, open_grant, grant_in, next_bucket}
@@ -252,7 +252,7 @@ granted_together k b t s g units due ledger made le =
     own n = held-hold_facts (only s g) n t s g hs (with_grant b t s g units ledger) (own_key s g)
 
     summed : (xs : List Row) → held_sum k hs xs ≡ sum_in k (λ x. sum_at x.number hs) xs
-    summed xs = sum_in-alike k _ (λ x. sum_at x.number hs) xs (λ x. held_in-sum_at hs x)
+    summed xs = sum_in-alike k (held_in hs) (λ x. sum_at x.number hs) xs (λ x. held_in-sum_at hs x)
 
     same : held_together k s g more
         ≡ sum_in k (λ c. held (only s g) c.number more) (credits ledger)

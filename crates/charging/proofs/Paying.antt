@@ -13,10 +13,9 @@ use Rattle.buckets.specs.declared.kind.Due.{Due}
 use Rattle.buckets.specs.Kinds.{due_in}
 use Rattle.buckets.specs.Row.{Row}
 use Rattle.buckets.specs.Share.{parts, sum_in}
-use Rattle.buckets.specs.Spend.{funds, allowance}
-use Rattle.buckets.specs.Holding.{paid, unpaid, uncollected, holds_of, held_sum}
+use Rattle.buckets.specs.Spend.{IsInOrder, funds}
+use Rattle.buckets.specs.Holding.{paid, unpaid, uncollected, holds_of}
 use Rattle.buckets.proofs.Short.{spent}
-use Rattle.buckets.proofs.Paid.{sum_in-paid}
 use Rattle.reserving.specs.Ledger.{Fact, Ledger, Recording, or_else, is_same, last_touch}
 use Rattle.reserving.specs.Ledger.{last_recording, next_bucket}
 use Rattle.reserving.specs.Ledger.Fact.{Touch, Close, Recorded, Barred}
@@ -37,7 +36,7 @@ use Rattle.charging.proofs.Credited.{AreCredited, no_credits, more_credits, Same
 use Rattle.charging.proofs.Credited.{same_credits, quiet_credits, charge_credits, hold_credits}
 use Rattle.charging.proofs.Credited.{in_order}
 use Rattle.charging.proofs.Taking.{taken_parts}
-use Rattle.charging.proofs.Coverable.{report_covers, event_covers}
+use Rattle.charging.proofs.Coverable.{money_paid, blocks_paid, report_covers, event_covers}
 
 -- ---- charges in front
 
@@ -171,8 +170,13 @@ settled_is_paid b t s g p ps reports ledger touches h = (
   tt,
   (
     record {
-      sum = omega (arith, takes Money, h.nothing Money, pays Money);
-      allowed = omega (arith, takes Blocks, h.nothing Blocks, pays Blocks, within);
+      sum = omega (arith, takes Money, h.nothing Money, money_paid holds g t all rows order);
+      allowed = omega (
+        arith,
+        takes Blocks,
+        h.nothing Blocks,
+        blocks_paid holds g t all rows order (report_covers b t s g (p ∷ ps) ledger),
+      );
       report = λ e. subst (IsReport b own t s g (reported (p ∷ ps)) price.blocks all.blocks
           all.money (uncollected holds g t all.money rows)) (sym before) report;
       event = λ e. absurd (true≢false (sym is_touched_before ∙ e));
@@ -201,12 +205,8 @@ settled_is_paid b t s g p ps reports ledger touches h = (
         ≡ sum_in k (paid holds g t all rows) rows + taken k ledger
     takes k = taken_parts k (paid holds g t all rows) (validity_of b) t ledger h.credits
 
-    pays : (k : BucketKind) → sum_in k (paid holds g t all rows) rows
-        + due_in k (unpaid holds g t all rows) ≡ due_in k all
-    pays k = sum_in-paid k holds g t all rows (in_order (validity_of b) t ledger h.credits)
-
-    within : all.blocks ≤ held_sum Blocks holds rows + allowance g t rows
-    within = report_covers b t s g (p ∷ ps) ledger
+    order : IsInOrder rows
+    order = in_order (validity_of b) t ledger h.credits
 
     own : Report
     own = record { at = t; session = s; group = g; parts = p ∷ ps }
@@ -308,8 +308,19 @@ paying_debit b t s g units reports ledger new covered h = record {
   recorded = touches-charges t hs ledger h.recorded;
   paid = (
     record {
-      sum = omega (arith, takes Money, h.nothing Money, pays Money, within);
-      allowed = omega (arith, takes Blocks, h.nothing Blocks, pays Blocks, allowed);
+      sum = omega (
+        arith,
+        takes Money,
+        h.nothing Money,
+        money_paid [] g t all rows order,
+        within,
+      );
+      allowed = omega (
+        arith,
+        takes Blocks,
+        h.nothing Blocks,
+        blocks_paid [] g t all rows order (omega (arith, event_covers b t g units ledger)),
+      );
       report = λ e. absurd (true≢false (sym e ∙ untouched));
       event = λ e. subst (IsEvent b t g units price.blocks all.blocks all.money 0) (sym before)
           event;
@@ -336,18 +347,14 @@ paying_debit b t s g units reports ledger new covered h = record {
         ≡ sum_in k (paid [] g t all rows) rows + taken k ledger
     takes k = taken_parts k (paid [] g t all rows) (validity_of b) t ledger h.credits
 
-    pays : (k : BucketKind) → sum_in k (paid [] g t all rows) rows
-        + due_in k (unpaid [] g t all rows) ≡ due_in k all
-    pays k = sum_in-paid k [] g t all rows (in_order (validity_of b) t ledger h.credits)
+    order : IsInOrder rows
+    order = in_order (validity_of b) t ledger h.credits
 
     same : SameCredits (charge_facts t hs ++ ledger) ledger
     same = charge_credits t hs ledger
 
     within : all.money ≤ funds g t rows
     within = leb-true all.money (funds g t rows) covered
-
-    allowed : all.blocks ≤ allowance g t rows
-    allowed = event_covers b t g units ledger
 
     before : before_charges (charge_facts t hs ++ ledger) ≡ ledger
     before = before_charges-charges t hs ledger h.begins

@@ -13,7 +13,7 @@ use Rattle.buckets.proofs.Dues.{sum_in-cons}
 use Rattle.reserving.specs.Ledger.{Ledger, next_bucket}
 use Rattle.reserving.specs.Balance.{credits, bucket_at, buckets_at}
 use Rattle.reserving.specs.Settlement.{charge_facts}
-use Rattle.reserving.proofs.Keys.{number_same}
+use Rattle.reserving.proofs.Keys.{same_number, number_same}
 use Rattle.charging.specs.Paid.{kind_in, is_of, taken}
 use Rattle.charging.proofs.Credited.{AreCredited, charge_credits, distinct}
 
@@ -25,7 +25,7 @@ next_kind n b bs apart = by_test (b.number == n) refl
   where
     by_test : (t : Bool) → (b.number == n) ≡ t →
         (if t then Some b.kind else kind_in n bs) ≡ kind_in n bs
-    by_test true e = grind (arith, nat_tests, apart)
+    by_test true e = absurd (apart (sym (same_number b.number n e)))
     by_test false e = refl
 
 kinds_more : (b : Row) (bs xs : List Row) → DiffersFromAll b.number xs →
