@@ -7,12 +7,14 @@ use Rattle.std.proofs.lemmas.List.Sums.{sum_by-cons}
 use Rattle.buckets.specs.declared.kind.BucketKind.{BucketKind}
 use Rattle.buckets.specs.declared.kind.BucketKind.TheVariants.{Money, Blocks}
 use Rattle.buckets.specs.declared.kind.Due.{Due}
+use Rattle.buckets.specs.declared.holds.Hold.{Hold}
 use Rattle.buckets.specs.Kinds.{is_alike, due_in}
 use Rattle.buckets.specs.Row.{Row, precedes, is_paid_before, covers, is_eligible, eligible_amount}
 use Rattle.buckets.specs.Row.{with_charge}
 use Rattle.buckets.specs.Row.{with_charge_of_hold, with_release}
 use Rattle.buckets.specs.Share.{sum_in, sum_before, share}
-use Rattle.buckets.specs.Holding.{held_in, unheld, paid_of_hold, paid_of_rest}
+use Rattle.buckets.specs.Holding.{held_in, held_sum, unheld, paid_of_hold, paid_of_rest}
+use Rattle.buckets.specs.Holding.{settled_row}
 use Rattle.buckets.specs.Laws.{IsAmong, IsSpentWhereShort}
 use Rattle.buckets.proofs.Dues.{sum_in-cons, due_left}
 
@@ -114,15 +116,20 @@ all_taken : (l : Bool) (n part : ℕ) → part ≡ (if l then n else 0) → l �
 all_taken true n part e k = omega (arith, e)
 all_taken false n part e k = absurd (let no_bucket : false ≡ true = k in cc)
 
-pub spent : IsSpentWhereShort
-spent holds group at due rows b h short =
+-- what is due reaches all that is held in a bucket's unit, and all that is eligible
+pub spent_all : (holds : List Hold) (group at : ℕ) (due : Due) (rows : List Row) (b : Row) →
+    IsAmong b rows →
+    held_sum b.kind holds rows + sum_in b.kind (eligible_amount group at) rows
+    ≤ due_in b.kind due →
+    (paid_of_hold holds due rows b ≡ held_in holds b) ×
+    (eligible_amount group at (settled_row holds group at due rows b) ≡ 0)
+spent_all holds group at due rows b h reaches =
     let left = due_left (held_in holds) rows due b.kind in
-    let last = due_left (eligible_amount group at) rows (unheld holds due rows) b.kind in
     let held : paid_of_hold holds due rows b ≡ held_in holds b =
-    share_all (held_in holds) b rows due h (omega (arith, short, left, last)) in
+    share_all (held_in holds) b rows due h (omega (arith, reaches)) in
     let rest : paid_of_rest holds group at due rows b ≡ eligible_amount group at b =
     share_all (eligible_amount group at) b rows (unheld holds due rows) h
-    (omega (arith, short, last)) in
+    (omega (arith, reaches, left)) in
     let part : ℕ = paid_of_rest holds group at due rows b in (
       held,
       emptied group at (held_in holds b - paid_of_hold holds due rows b) b
@@ -131,3 +138,9 @@ spent holds group at due rows b h short =
           (is_eligible group at b) refl (all_taken (is_eligible group at b) b.available part rest)
           (omega (arith, held)),
     )
+
+pub spent : IsSpentWhereShort
+spent holds group at due rows b h short =
+    let left = due_left (held_in holds) rows due b.kind in
+    let last = due_left (eligible_amount group at) rows (unheld holds due rows) b.kind in
+    spent_all holds group at due rows b h (omega (arith, short, left, last))

@@ -1,11 +1,17 @@
 -- No more blocks are covered than a reservation holds and the allowance has; so allowances give all
 -- of them.
-use Rattle.std.proofs.Common.{◌≡◌, ℕ, ◌+◌, ◌-◌, ◌≤◌, List, Option, Some, None, arith}
+use Rattle.std.proofs.Common.{◌≡◌, ℕ, ◌+◌, ◌-◌, ◌≤◌, ◌<◌, List, Option, Some, None, arith}
+use Rattle.std.proofs.Common.{inl, inr}
 use Rattle.std.specs.Prelude.{unwrap_or}
+use Rattle.std.proofs.lemmas.Bool.{cases_lt}
 use Rattle.units.specs.declared.blocks.UsedPart.{UsedPart}
-use Rattle.tariffs.specs.Tariffs.{GroupTariff}
+use Rattle.tariffs.specs.Tariffs.{GroupTariff, tiers_at}
 use Rattle.shelves.specs.Shelves.{Shelf, tariff_in, number_at}
 use Rattle.rating.specs.declared.grant.Periods.{Periods}
+use Rattle.rating.specs.Rated.{report_blocks}
+use Rattle.rating.specs.Granted.{dearer}
+use Rattle.rating.proofs.Sums.{dearer_none}
+use Rattle.rating.proofs.Quotas.{pays_within}
 use Rattle.buckets.specs.declared.kind.BucketKind.TheVariants.{Money, Blocks}
 use Rattle.buckets.specs.declared.kind.Due.{Due}
 use Rattle.buckets.specs.declared.holds.Hold.{Hold}
@@ -16,7 +22,8 @@ use Rattle.buckets.specs.Holding.{held_sum, paid, uncollected}
 use Rattle.buckets.proofs.Paid.{sum_in-paid}
 use Rattle.reserving.specs.declared.session.Terms.{Terms}
 use Rattle.reserving.specs.Ledger.{Ledger, used, counter, open_grant}
-use Rattle.reserving.specs.Pricing.{cycle_at, terms_now, rated_with, validity_of}
+use Rattle.reserving.specs.Pricing.{cycle_at, terms_now, rated_with, rated_parts, prices_by}
+use Rattle.reserving.specs.Pricing.{validity_of}
 use Rattle.reserving.specs.Balance.{buckets_at}
 use Rattle.reserving.specs.Sessions.{holds_at}
 use Rattle.reserving.specs.Settlement.{report_price, coverable}
@@ -55,6 +62,39 @@ report_covers b t s g parts ledger =
     covers_most (tariff_in b x.book g) x.periods (used s g ledger)
     (counter (cycle_at b g) g (cycle_at b g t) ledger) (coverable (validity_of b) t s g ledger)
     parts
+
+-- where money is due, all of them are covered
+covers_all : (o : Option GroupTariff) (p : Periods) (used place covered : ℕ)
+    (parts : List UsedPart) → 0 < (rated_with o p used place covered parts).amount.0 →
+    covered ≤ (rated_with o p used place covered parts).covered.0
+covers_all None p used place covered parts less = omega (arith, less)
+covers_all (Some x) p used place covered parts less =
+    let blocks : ℕ = report_blocks x.block used (rated_parts parts) in
+    elim (cases_lt covered blocks) [
+      | inl few ↦ omega (arith, few)
+      | inr all ↦ (
+          let most : (rated_with (Some x) p used place covered parts).amount.0
+          ≤ dearer (tiers_at x p.before.0) (tiers_at x p.after.0) (place + covered) 0 =
+          pays_within (prices_by x p) used place covered (rated_parts parts) covered 0
+          (omega arith) (omega (arith, all)) in
+          omega (
+            arith,
+            less,
+            most,
+            dearer_none (tiers_at x p.before.0) (tiers_at x p.after.0) (place + covered),
+          ))
+    ]
+
+pub report_covers_all : (b : Shelf) (t : ℕ) (s : List ℕ) (g : ℕ) (parts : List UsedPart)
+    (ledger : Ledger) → 0 < (report_price b t s g parts ledger).amount.0 →
+    held_sum Blocks (holds_at (validity_of b) t s g ledger) (buckets_at (validity_of b) t ledger)
+    + allowance g t (buckets_at (validity_of b) t ledger)
+    ≤ (report_price b t s g parts ledger).covered.0
+report_covers_all b t s g parts ledger less =
+    let x : Terms = unwrap_or (open_grant s g ledger) (terms_now b t) in
+    covers_all (tariff_in b x.book g) x.periods (used s g ledger)
+    (counter (cycle_at b g) g (cycle_at b g t) ledger) (coverable (validity_of b) t s g ledger)
+    parts less
 
 pub event_covers : (b : Shelf) (t g units : ℕ) (ledger : Ledger) →
     (rest_price b t g units ledger).covered.0

@@ -11,11 +11,11 @@ use Rattle.buckets.specs.declared.kind.BucketKind.{BucketKind}
 use Rattle.buckets.specs.declared.kind.BucketKind.TheVariants.{Money, Blocks}
 use Rattle.buckets.specs.declared.kind.Due.{Due}
 use Rattle.buckets.specs.Kinds.{due_in}
-use Rattle.buckets.specs.Row.{Row}
+use Rattle.buckets.specs.Row.{Row, eligible_amount}
 use Rattle.buckets.specs.Share.{parts, sum_in}
 use Rattle.buckets.specs.Spend.{IsInOrder, funds}
-use Rattle.buckets.specs.Holding.{paid, unpaid, uncollected, holds_of}
-use Rattle.buckets.proofs.Short.{spent}
+use Rattle.buckets.specs.Holding.{paid, uncollected, holds_of, held_sum}
+use Rattle.buckets.proofs.Short.{spent_all}
 use Rattle.reserving.specs.Ledger.{Fact, Ledger, Recording, or_else, is_same, last_touch}
 use Rattle.reserving.specs.Ledger.{last_recording, next_bucket}
 use Rattle.reserving.specs.Ledger.Fact.{Touch, Close, Recorded, Barred}
@@ -36,7 +36,8 @@ use Rattle.charging.proofs.Credited.{AreCredited, no_credits, more_credits, Same
 use Rattle.charging.proofs.Credited.{same_credits, quiet_credits, charge_credits, hold_credits}
 use Rattle.charging.proofs.Credited.{in_order}
 use Rattle.charging.proofs.Taking.{taken_parts}
-use Rattle.charging.proofs.Coverable.{money_paid, blocks_paid, report_covers, event_covers}
+use Rattle.charging.proofs.Coverable.{money_paid, blocks_paid, report_covers, report_covers_all}
+use Rattle.charging.proofs.Coverable.{event_covers}
 
 -- ---- charges in front
 
@@ -208,6 +209,11 @@ settled_is_paid b t s g p ps reports ledger touches h = (
     order : IsInOrder rows
     order = in_order (validity_of b) t ledger h.credits
 
+    reaches : 0 < uncollected holds g t all.money rows → (k : BucketKind) →
+        held_sum k holds rows + sum_in k (eligible_amount g t) rows ≤ due_in k all
+    reaches less Money = omega (arith, less)
+    reaches less Blocks = report_covers_all b t s g (p ∷ ps) ledger (omega (arith, less))
+
     own : Report
     own = record { at = t; session = s; group = g; parts = p ∷ ps }
 
@@ -228,8 +234,7 @@ settled_is_paid b t s g p ps reports ledger touches h = (
       covered_is = refl;
       rated_is = refl;
       uncollected_is = refl;
-      short = λ less x among counts. spent holds g t all rows x among
-          (subst (λ (k : BucketKind). 0 < due_in k (unpaid holds g t all rows)) (sym counts) less);
+      short = λ less x among. spent_all holds g t all rows x among (reaches less x.kind);
     }
 
 -- a settlement makes no bucket

@@ -31,7 +31,7 @@ pub record IsAccounted (b : Shelf) (reports : List Report) (ledger : Ledger) (t 
   pub charges : (n : ℕ) → told n ≡ charge_in n (charge_rows ledger)
   -- of each use what is collected and what isn't are the price of the blocks that its report or
   -- debit started and no allowance covered, allowances give just the blocks that are covered, and
-  -- something isn't collected only where its reservation and every eligible bucket have no money
+  -- something isn't collected only where its reservation and every eligible bucket are empty
   pub paid : ArePaid b reports ledger
   -- a use within its grant is collected whole
   pub quotas : AreQuotasPaid b ledger

@@ -60,11 +60,11 @@ covered_blocks ledger = taken Blocks ledger
 
 -- ---- a report
 
--- something is uncollected only where all money that the report's reservation held is paid, and no
--- eligible bucket of money has anything left
+-- something is uncollected only where all that the report's reservation held is paid, and no
+-- eligible bucket has anything left: neither money nor blocks
 abbrev pub IsSpent : Shelf → ℕ → List ℕ → ℕ → Due → Ledger → Type 0
 IsSpent b t s g due before =
-    (x : Row) → IsAmong x (buckets_at (validity_of b) t before) → x.kind ≡ Money →
+    (x : Row) → IsAmong x (buckets_at (validity_of b) t before) →
     (paid_of_hold (holds_at (validity_of b) t s g before) due
     (buckets_at (validity_of b) t before) x ≡
     held_in (holds_at (validity_of b) t s g before) x)

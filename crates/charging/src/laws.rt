@@ -33,10 +33,10 @@ pub fn soundness()
 
 /// Each report and each debit of an account has the price of the started blocks that no allowance
 /// covered: what is collected of it and what isn't are that price, allowances give just the blocks
-/// that are covered, and something is uncollected only where the money of its reservation is used
-/// up and no eligible bucket has any money left (RFC 8506 section 5.3; TS 32.296, account balance
-/// management function). The reports are those of the accepted updates and terminations, in their
-/// order, each priced by the parts that it names.
+/// that are covered, and something is uncollected only where its reservation is used up and no
+/// eligible bucket has anything left, neither money nor blocks (RFC 8506 section 5.3; TS 32.296,
+/// account balance management function). The reports are those of the accepted updates and
+/// terminations, in their order, each priced by the parts that it names.
 pub fn payment()
     ensures { (b : Shelf) (a : List ℕ) (list : List Accepted) →
         ArePaid b (reports_of b a list) (history b a list).ledger }
