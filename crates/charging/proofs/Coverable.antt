@@ -28,6 +28,7 @@ use Rattle.reserving.specs.Balance.{buckets_at}
 use Rattle.reserving.specs.Sessions.{holds_at}
 use Rattle.reserving.specs.Settlement.{report_price, coverable}
 use Rattle.reserving.specs.Debiting.{untagged, rest_price}
+use Rattle.charging.specs.Allowed.{CoversFirst, ReportsAreCovered, EventsAreCovered}
 
 -- ---- what buckets pay of what is due, in each unit
 
@@ -62,6 +63,14 @@ report_covers b t s g parts ledger =
     covers_most (tariff_in b x.book g) x.periods (used s g ledger)
     (counter (cycle_at b g) g (cycle_at b g t) ledger) (coverable (validity_of b) t s g ledger)
     parts
+
+-- no more are covered than are started
+covers_started : (o : Option GroupTariff) (p : Periods) (used place covered : ℕ)
+    (parts : List UsedPart) →
+    (rated_with o p used place covered parts).covered.0
+    ≤ (rated_with o p used place covered parts).blocks
+covers_started None p used place covered parts = omega arith
+covers_started (Some x) p used place covered parts = omega arith
 
 -- where money is due, all of them are covered
 covers_all : (o : Option GroupTariff) (p : Periods) (used place covered : ℕ)
@@ -101,5 +110,32 @@ pub event_covers : (b : Shelf) (t g units : ℕ) (ledger : Ledger) →
     ≤ allowance g t (buckets_at (validity_of b) t ledger)
 event_covers b t g units ledger =
     covers_most (tariff_in b (number_at b t) g) (terms_now b t).periods 0
+    (counter (cycle_at b g) g (cycle_at b g t) ledger)
+    (allowance g t (buckets_at (validity_of b) t ledger)) (untagged units)
+
+-- ---- allowances come first
+
+covers_first : (o : Option GroupTariff) (p : Periods) (used place free : ℕ)
+    (parts : List UsedPart) → CoversFirst (rated_with o p used place free parts) free
+covers_first o p used place free parts = record {
+  started = covers_started o p used place free parts;
+  most = covers_most o p used place free parts;
+  all = λ less. omega (
+    arith,
+    covers_most o p used place free parts,
+    covers_all o p used place free parts less,
+  );
+}
+
+pub report_covers_first : ReportsAreCovered
+report_covers_first b t s g parts ledger =
+    let x : Terms = unwrap_or (open_grant s g ledger) (terms_now b t) in
+    covers_first (tariff_in b x.book g) x.periods (used s g ledger)
+    (counter (cycle_at b g) g (cycle_at b g t) ledger) (coverable (validity_of b) t s g ledger)
+    parts
+
+pub event_covers_first : EventsAreCovered
+event_covers_first b t g units ledger =
+    covers_first (tariff_in b (number_at b t) g) (terms_now b t).periods 0
     (counter (cycle_at b g) g (cycle_at b g t) ledger)
     (allowance g t (buckets_at (validity_of b) t ledger)) (untagged units)

@@ -10,6 +10,7 @@ ghost use Rattle.charging.specs.Accepted.{Accepted, IsInTime};
 ghost use Rattle.charging.specs.Served.{history, AreTables};
 ghost use Rattle.charging.specs.SessionReports.{reports_of};
 ghost use Rattle.charging.specs.Paid.{ArePaid};
+ghost use Rattle.charging.specs.Allowed.{ReportsAreCovered, EventsAreCovered};
 ghost use Rattle.charging.specs.Collected.{taken_to_date, charged_to_date};
 ghost use Rattle.charging.specs.Quotas.{AreQuotasPaid};
 ghost use Rattle.charging.specs.Repeats.{AnswersOnce};
@@ -40,6 +41,14 @@ pub fn soundness()
 pub fn payment()
     ensures { (b : Shelf) (a : List ℕ) (list : List Accepted) →
         ArePaid b (reports_of b a list) (history b a list).ledger }
+{}
+
+/// Allowances before money: a report's price, and an event's, is due only where all blocks are
+/// covered that its reservation and the eligible allowances have, so that what an allowance could
+/// cover costs nothing (profile).
+pub fn allowances_before_money()
+    ensures reports { ReportsAreCovered }
+    ensures events { EventsAreCovered }
 {}
 
 /// A quota pays: a report that ends a grant, has at most its units and starts at its place of the
