@@ -74,8 +74,8 @@ pub record PaysFor (o : Option GroupTariff) (p : Periods) (used place units bloc
   pub first : ℕ
   pub others : ℕ
   pub starts : started_by o used units ≤ first + others
-  pub has_blocks : first ≤ blocks
-  pub has_money : dearer_by o p (place + first) others ≤ money
+  pub blocks_held : first ≤ blocks
+  pub money_held : dearer_by o p (place + first) others ≤ money
 
 -- more of both pay too
 pub pays_more : (o : Option GroupTariff) (p : Periods)
@@ -87,8 +87,8 @@ pays_more o p used place units blocks money more_blocks more_money le1 le2 h =
       first = h.first;
       others = h.others;
       starts = h.starts;
-      has_blocks = omega (arith, h.has_blocks, le1);
-      has_money = omega (arith, h.has_money, le2);
+      blocks_held = omega (arith, h.blocks_held, le1);
+      money_held = omega (arith, h.money_held, le2);
     }
 
 -- a report of no more units than are paid for costs no more than the money, where at least the
@@ -108,12 +108,12 @@ report_within (Some x) p used place units blocks money covered parts some le pay
       more_started x.block used (reported parts) units some le,
       pays.starts,
     ) in
-    let first : pays.first ≤ covered = omega (arith, pays.has_blocks, has) in
+    let first : pays.first ≤ covered = omega (arith, pays.blocks_held, has) in
     omega (
       arith,
       pays_within (prices_by x p) used place covered (rated_parts parts) pays.first pays.others
           first starts,
-      pays.has_money,
+      pays.money_held,
     )
 
 -- ---- a grant
@@ -147,8 +147,8 @@ grant_pays None p used place requested funds allowance some = record {
   first = 0;
   others = 0;
   starts = omega arith;
-  has_blocks = omega arith;
-  has_money = omega arith;
+  blocks_held = omega arith;
+  money_held = omega arith;
 }
 grant_pays (Some x) p used place requested funds allowance some =
     let wanted : ℕ = wanted_units x requested in
@@ -159,8 +159,8 @@ grant_pays (Some x) p used place requested funds allowance some =
       first = m;
       others = n;
       starts = omega (arith, granted_blocks x.block used wanted (m + n) some);
-      has_blocks = omega arith;
-      has_money = omega arith;
+      blocks_held = omega arith;
+      money_held = omega arith;
     }
 
 -- which the funds have

@@ -35,7 +35,7 @@ use Rattle.reserving.specs.Sessions.{holds_at}
 use Rattle.reserving.specs.Pricing.{tariff_at, validity_of}
 use Rattle.reserving.specs.Requests.{recorded, touched, credited}
 use Rattle.reserving.specs.Settlement.{charge_facts, report_price, settled_by}
-use Rattle.reserving.specs.Reservation.{hold_facts, reserved, grant_for}
+use Rattle.reserving.specs.Reservation.{hold_facts, reserved, grant_for, held_due}
 use Rattle.reserving.specs.Debiting.{is_covered, debit_passes}
 use Rattle.reserving.proofs.Lists.{no_some}
 use Rattle.reserving.proofs.Keys.{is_same-refl}
@@ -157,7 +157,7 @@ module _ (b : Shelf) (P : List Report → Ledger → Type 0) (k : Keeps b P)
   open_units tariff t s g asked ledger h =
       let grant : RatedGrant = grant_for b t g (used s g ledger) asked ledger in
       either_answered s (nat_lt 0 grant.units.0) _ _ (
-        λ e. h.0 (sym (recorded_granted b t s g grant.units.0 grant.amount.0 ledger) ∙ e),
+        λ e. h.0 (sym (recorded_granted b t s g grant.units.0 (held_due grant) ledger) ∙ e),
         k.grant t s g asked reports ledger h.0 h.1,
       ) h
 
