@@ -115,14 +115,16 @@ pub(crate) fn head_text(
     Ok(text)
 }
 
-/// An amount of a bucket, in micro-units: nothing where the bucket counts blocks.
-fn of_money(kind: BucketKind, amount: u64) -> u64
-    ensures value { result ≡ if is_alike kind BucketKind.Money then amount else 0 }
-    ensures most { result ≤ amount }
+/// What was charged to a bucket, in micro-units: nothing where it counts blocks.
+fn money_charged(bucket: &Bucket) -> u64
+    ensures value { result
+        ≡ if is_alike bucket.now.kind BucketKind.Money then bucket.now.charged else 0 }
+    ensures most { result ≤ 1_000_000_000_000_000 }
 {
-    match kind {
-        BucketKind::Money => amount,
-        BucketKind::Blocks => 0,
+    if bucket.counts(BucketKind::Money) {
+        bucket.charged()
+    } else {
+        0
     }
 }
 
@@ -132,7 +134,7 @@ fn charged_to(buckets: &[Bucket]) -> u128
 {
     let mut charged = 0u128;
     for bucket in buckets {
-        charged += of_money(bucket.kind(), bucket.charged()) as u128;
+        charged += money_charged(bucket) as u128;
     }
     charged
 }
