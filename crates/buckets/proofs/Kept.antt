@@ -2,7 +2,9 @@
 use Rattle.std.proofs.Common.{◌≢◌, ℕ, ◌+◌, ◌-◌, ◌<◌, ◌≤◌, Bool, true, false, List, [], ◌∷◌, map}
 use Rattle.std.proofs.Common.{sym, ◌∙◌, arith}
 use Rattle.std.specs.Prelude.{if◌then◌else◌, nat_lt, min}
+use Rattle.buckets.specs.declared.kind.Due.{Due}
 use Rattle.buckets.specs.declared.holds.Hold.{Hold}
+use Rattle.buckets.specs.Kinds.{due_in, less}
 use Rattle.buckets.specs.Row.{Row, IsBalanced, eligible_amount, is_eligible, with_hold, with_charge}
 use Rattle.buckets.specs.Row.{with_charge_of_hold, with_release, with_end}
 use Rattle.buckets.specs.Share.{along}
@@ -14,20 +16,21 @@ use Rattle.buckets.proofs.SharesAlong.{with_charge_of_hold_keeps, with_end_keeps
 
 -- ---- numbers
 
-DiffersFromAll-along : (does : Row → ℕ → Row) (f : Row → ℕ) (n left : ℕ) (rows : List Row) →
+DiffersFromAll-along : (does : Row → ℕ → Row) (f : Row → ℕ) (n : ℕ) (left : Due) (rows : List Row) →
     KeepsPlaces does → DiffersFromAll n rows → DiffersFromAll n (along does f left rows)
 DiffersFromAll-along does f n left [] k h = tt
 DiffersFromAll-along does f n left (b ∷ bs) k h = (
-  λ e. h.0 (sym (k.number b (min (f b) left)) ∙ e),
-  DiffersFromAll-along does f n (left - f b) bs k h.1,
+  λ e. h.0 (sym (k.number b (min (f b) (due_in b.kind left))) ∙ e),
+  DiffersFromAll-along does f n (less b.kind (f b) left) bs k h.1,
 )
 
-pub AreDistinct-along : (does : Row → ℕ → Row) (f : Row → ℕ) (left : ℕ) (rows : List Row) →
+pub AreDistinct-along : (does : Row → ℕ → Row) (f : Row → ℕ) (left : Due) (rows : List Row) →
     KeepsPlaces does → AreDistinct rows → AreDistinct (along does f left rows)
 AreDistinct-along does f left [] k h = tt
 AreDistinct-along does f left (b ∷ bs) k h = (
-  rw (k.number b (min (f b) left)) (DiffersFromAll-along does f b.number (left - f b) bs k h.0),
-  AreDistinct-along does f (left - f b) bs k h.1,
+  rw (k.number b (min (f b) (due_in b.kind left)))
+      (DiffersFromAll-along does f b.number (less b.kind (f b) left) bs k h.0),
+  AreDistinct-along does f (less b.kind (f b) left) bs k h.1,
 )
 
 DiffersFromAll-map : (does : Row → Row) (n : ℕ) (rows : List Row) → KeepsPlace does →
@@ -79,14 +82,17 @@ Each-inserted P b (x ∷ xs) p h =
     [ true ↦ (p, h) | false ↦ (h.0, Each-inserted P b xs p h.1) ]
 
 balanced_hold : (b : Row) (n : ℕ) → n ≤ b.available → IsBalanced b → IsBalanced (with_hold b n)
-balanced_hold b n le h = record { sum = omega arith; most = h.most }
+balanced_hold b n le h = record
+    { sum = omega arith; most = h.most; scope = h.scope; number = h.number }
 
 balanced_charge : (b : Row) (n : ℕ) → n ≤ b.available → IsBalanced b → IsBalanced (with_charge b n)
-balanced_charge b n le h = record { sum = omega arith; most = h.most }
+balanced_charge b n le h = record
+    { sum = omega arith; most = h.most; scope = h.scope; number = h.number }
 
 balanced_charge_of_hold : (b : Row) (n : ℕ) → n ≤ b.reserved → IsBalanced b →
     IsBalanced (with_charge_of_hold b n)
-balanced_charge_of_hold b n le h = record { sum = omega arith; most = h.most }
+balanced_charge_of_hold b n le h = record
+    { sum = omega arith; most = h.most; scope = h.scope; number = h.number }
 
 pub balanced_release : (t : ℕ) (b : Row) (n : ℕ) → n ≤ b.reserved → IsBalanced b →
     IsBalanced (with_release t b n)
@@ -94,45 +100,53 @@ balanced_release t b n le h =
     elim (nat_lt t b.until) as
     (λ e. IsBalanced (if e then record b { reserved = b.reserved - n; available = b.available + n }
     else record b { reserved = b.reserved - n; expired = b.expired + n })) [
-      | true ↦ record { sum = omega arith; most = h.most }
-      | false ↦ record { sum = omega arith; most = h.most }
+      | true ↦ record { sum = omega arith; most = h.most; scope = h.scope; number = h.number }
+      | false ↦ record { sum = omega arith; most = h.most; scope = h.scope; number = h.number }
     ]
 
 pub balanced_end : (t : ℕ) (b : Row) → IsBalanced b → IsBalanced (with_end t b)
 balanced_end t b h =
     elim (nat_lt t b.until) as
     (λ e. IsBalanced
-    (if e then b else record b { available = 0; expired = b.expired + b.available }))
-    [ true ↦ h | false ↦ record { sum = omega arith; most = h.most } ]
+    (if e then b else record b { available = 0; expired = b.expired + b.available })) [
+      | true ↦ h
+      | false ↦ record {
+        sum = omega arith;
+        most = h.most;
+        scope = h.scope;
+        number = h.number;
+      }
+    ]
 
 pub eligible_within : (e : Bool) (a m : ℕ) → min (if e then a else 0) m ≤ a
 eligible_within true a m = omega arith
 eligible_within false a m = omega arith
 
-balanced_along-hold : (group t left : ℕ) (rows : List Row) → Each IsBalanced rows →
+balanced_along-hold : (group t : ℕ) (left : Due) (rows : List Row) → Each IsBalanced rows →
     Each IsBalanced (along with_hold (eligible_amount group t) left rows)
 balanced_along-hold group t left [] h = tt
 balanced_along-hold group t left (b ∷ bs) h = (
-  balanced_hold b _ (eligible_within (is_eligible group t b) b.available left) h.0,
-  balanced_along-hold group t (left - eligible_amount group t b) bs h.1,
+  balanced_hold b _ (eligible_within (is_eligible group t b) b.available (due_in b.kind left)) h.0,
+  balanced_along-hold group t (less b.kind (eligible_amount group t b) left) bs h.1,
 )
 
-balanced_along-charge : (group t left : ℕ) (rows : List Row) → Each IsBalanced rows →
+balanced_along-charge : (group t : ℕ) (left : Due) (rows : List Row) → Each IsBalanced rows →
     Each IsBalanced (along with_charge (eligible_amount group t) left rows)
 balanced_along-charge group t left [] h = tt
 balanced_along-charge group t left (b ∷ bs) h = (
-  balanced_charge b _ (eligible_within (is_eligible group t b) b.available left) h.0,
-  balanced_along-charge group t (left - eligible_amount group t b) bs h.1,
+  balanced_charge b _ (eligible_within (is_eligible group t b) b.available (due_in b.kind left))
+      h.0,
+  balanced_along-charge group t (less b.kind (eligible_amount group t b) left) bs h.1,
 )
 
-balanced_along-charge_of_hold : (holds : List Hold) (left : ℕ) (rows : List Row) →
+balanced_along-charge_of_hold : (holds : List Hold) (left : Due) (rows : List Row) →
     IsWithin holds rows → Each IsBalanced rows →
     Each IsBalanced (along with_charge_of_hold (held_in holds) left rows)
 balanced_along-charge_of_hold holds left [] w h = tt
 balanced_along-charge_of_hold holds left (b ∷ bs) w h =
     let le : held_in holds b ≤ b.reserved = w.0 in (
       balanced_charge_of_hold b _ (omega arith) h.0,
-      balanced_along-charge_of_hold holds (left - held_in holds b) bs w.1 h.1,
+      balanced_along-charge_of_hold holds (less b.kind (held_in holds b) left) bs w.1 h.1,
     )
 
 balanced_released : (holds : List Hold) (t : ℕ) (rows : List Row) → IsWithin holds rows →
@@ -148,7 +162,7 @@ balanced_ended t (b ∷ bs) h = (balanced_end t b h.0, balanced_ended t bs h.1)
 
 -- ---- all of it
 
-pub IsSound-hold : (group t left : ℕ) (rows : List Row) → IsSound rows →
+pub IsSound-hold : (group t : ℕ) (left : Due) (rows : List Row) → IsSound rows →
     IsSound (along with_hold (eligible_amount group t) left rows)
 IsSound-hold group t left rows h = record {
   order = IsInOrder-along with_hold (eligible_amount group t) rows left with_hold_keeps h.order;
@@ -157,7 +171,7 @@ IsSound-hold group t left rows h = record {
   balanced = balanced_along-hold group t left rows h.balanced;
 }
 
-pub IsSound-charge : (group t left : ℕ) (rows : List Row) → IsSound rows →
+pub IsSound-charge : (group t : ℕ) (left : Due) (rows : List Row) → IsSound rows →
     IsSound (along with_charge (eligible_amount group t) left rows)
 IsSound-charge group t left rows h = record {
   order = IsInOrder-along with_charge (eligible_amount group t) rows left with_charge_keeps h.order;
@@ -167,7 +181,7 @@ IsSound-charge group t left rows h = record {
   balanced = balanced_along-charge group t left rows h.balanced;
 }
 
-pub IsSound-charge_of_hold : (holds : List Hold) (left : ℕ) (rows : List Row) →
+pub IsSound-charge_of_hold : (holds : List Hold) (left : Due) (rows : List Row) →
     IsWithin holds rows → IsSound rows →
     IsSound (along with_charge_of_hold (held_in holds) left rows)
 IsSound-charge_of_hold holds left rows w h = record {

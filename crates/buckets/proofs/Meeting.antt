@@ -1,14 +1,16 @@
 -- What a walk along holds and buckets meets is what the holds have of each bucket.
-use Rattle.std.proofs.Common.{◌≡◌, ◌≢◌, ℕ, ◌+◌, ◌-◌, ◌<◌, Bool, true, false, List, [], ◌∷◌, length}
+use Rattle.std.proofs.Common.{◌≡◌, ◌≢◌, ℕ, ◌+◌, ◌<◌, Bool, true, false, List, [], ◌∷◌, length}
 use Rattle.std.proofs.Common.{◌≤◌, get_or, set, drop, refl, sym, ap, ◌∙◌, subst, arith}
 use Rattle.std.specs.Prelude.{if◌then◌else◌, ◌==◌}
 use Rattle.std.proofs.lemmas.Bool.{eqb-true}
 use Rattle.std.proofs.lemmas.List.{drop_more, drop-set-lt}
-use Rattle.std.proofs.lemmas.List.Sums.{sum_by-cons, sum_by-drop_more}
+use Rattle.std.proofs.lemmas.List.Sums.{sum_by-cons}
+use Rattle.buckets.specs.declared.kind.Due.{Due}
 use Rattle.buckets.specs.declared.holds.Hold.{Hold}
 use Rattle.buckets.specs.Row.{Row}
 use Rattle.buckets.specs.Spend.{Each, DiffersFromAll, AreDistinct}
-use Rattle.buckets.specs.Holding.{held_in, held_sum, IsWithin, IsLeftWithin}
+use Rattle.buckets.specs.Kinds.{less}
+use Rattle.buckets.specs.Holding.{held_in, IsWithin, IsLeftWithin}
 use Rattle.buckets.specs.Merged.{first_held, next_of, unmet, AreMet}
 
 -- where a walk stands: at a place of the holds and at one of the rows, from which on they are met
@@ -138,15 +140,10 @@ pub within_after : (holds : List Hold) (rows : List Row) (i : ℕ) (d new : Row)
 within_after holds rows i d new lt h =
     rw (drop-set-lt (i + 1) rows i new (omega arith)) ((rw (drop_more rows i d lt) at h).1)
 
-pub left_within_after : (holds : List Hold) (left after : ℕ) (rows : List Row) (i : ℕ)
-    (d new : Row) → i < length rows → after ≡ left - held_in holds (get_or rows i d) →
+pub left_within_after : (holds : List Hold) (left after : Due) (rows : List Row) (i : ℕ)
+    (d new : Row) → i < length rows →
+    after ≡ less (get_or rows i d).kind (held_in holds (get_or rows i d)) left →
     IsLeftWithin holds left (drop i rows) →
     IsLeftWithin holds after (drop (i + 1) (set rows i new))
 left_within_after holds left after rows i d new lt is h =
     rw (drop-set-lt (i + 1) rows i new (omega arith), is) ((rw (drop_more rows i d lt) at h).1)
-
-pub sum_after : (holds : List Hold) (rows : List Row) (i : ℕ) (d new : Row) → i < length rows →
-    held_sum holds (drop i rows)
-    ≡ held_in holds (get_or rows i d) + held_sum holds (drop (i + 1) (set rows i new))
-sum_after holds rows i d new lt =
-    rw (drop-set-lt (i + 1) rows i new (omega arith)) (sum_by-drop_more (held_in holds) rows i d lt)

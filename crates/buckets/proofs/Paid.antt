@@ -5,24 +5,35 @@ use Rattle.std.specs.Prelude.{if◌then◌else◌, nat_lt, min, sum_by}
 use Rattle.std.specs.List.{AllByRecursion}
 use Rattle.std.proofs.lemmas.Bool.Decides.{nat_tests}
 use Rattle.std.proofs.lemmas.List.Sums.{sum_by-cons}
+use Rattle.buckets.specs.declared.kind.BucketKind.{BucketKind}
+use Rattle.buckets.specs.declared.kind.BucketKind.TheVariants.{Money, Blocks}
+use Rattle.buckets.specs.declared.kind.Due.{Due}
 use Rattle.buckets.specs.declared.holds.Hold.{Hold}
+use Rattle.buckets.specs.Kinds.{is_alike, due_in, less}
 use Rattle.buckets.specs.Row.{Row, eligible_amount}
-use Rattle.buckets.specs.Share.{share, parts, parts_along}
-use Rattle.buckets.specs.Spend.{IsInOrder, AreDistinct, DiffersFromAll, funds}
-use Rattle.buckets.specs.Holding.{held_in, held_sum, paid, paid_of_hold, paid_of_rest, AreHolds}
+use Rattle.buckets.specs.Share.{sum_in, share, parts}
+use Rattle.buckets.specs.Spend.{IsInOrder, PrecedesAll, AreDistinct, DiffersFromAll}
+use Rattle.buckets.specs.Holding.{held_in, unheld, paid, paid_of_hold, paid_of_rest, AreHolds}
 use Rattle.buckets.specs.Laws.{PaysAll}
-use Rattle.buckets.proofs.SharesAlong.{parts-along}
+use Rattle.buckets.proofs.SharesAlong.{share_next, share_first}
+use Rattle.buckets.proofs.Dues.{due_less, due_left, sum_in-cons}
 
-pub sum_by-both : (f g : Row → ℕ) (rows : List Row) →
-    sum_by (λ b. f b + g b) rows ≡ sum_by f rows + sum_by g rows
-sum_by-both f g [] = refl
-sum_by-both f g (b ∷ bs) =
+if_both : (t : Bool) (n m : ℕ) →
+    (if t then n + m else 0) ≡ (if t then n else 0) + (if t then m else 0)
+if_both true n m = refl
+if_both false n m = refl
+
+pub sum_in-both : (k : BucketKind) (f g : Row → ℕ) (rows : List Row) →
+    sum_in k (λ b. f b + g b) rows ≡ sum_in k f rows + sum_in k g rows
+sum_in-both k f g [] = refl
+sum_in-both k f g (b ∷ bs) =
     omega (
       arith,
-      sum_by-cons (λ x. f x + g x) b bs,
-      sum_by-cons f b bs,
-      sum_by-cons g b bs,
-      sum_by-both f g bs,
+      sum_in-cons k (λ x. f x + g x) b bs,
+      sum_in-cons k f b bs,
+      sum_in-cons k g b bs,
+      if_both (is_alike b.kind k) (f b) (g b),
+      sum_in-both k f g bs,
     )
 
 -- what holds have together
@@ -42,34 +53,58 @@ amounts-parts f (b ∷ bs) =
     ∙ ap (λ n. f b + n) (amounts-parts f bs)
     ∙ sym (sum_by-cons f b bs)
 
-amounts-along : (f : Row → ℕ) (left : ℕ) (rows : List Row) →
-    amounts (parts_along (λ b n. n) f left rows) ≡ min (sum_by f rows) left
-amounts-along f left [] = omega arith
-amounts-along f left (b ∷ bs) =
-    one_part (nat_lt 0 (min (f b) left)) (record { bucket = b.number; amount = min (f b) left })
-    (parts_along (λ x n. n) f (left - f b) bs) refl
-    ∙ omega (arith, amounts-along f (left - f b) bs, sum_by-cons f b bs)
+-- the shares of those behind the first
+sum_in-next : (k : BucketKind) (f : Row → ℕ) (b : Row) (bs ys : List Row) (c : Due) →
+    PrecedesAll b ys →
+    sum_in k (share f (b ∷ bs) c) ys ≡ sum_in k (share f bs (less b.kind (f b) c)) ys
+sum_in-next k f b bs [] c h = refl
+sum_in-next k f b bs (y ∷ ys) c h =
+    sum_in-cons k (share f (b ∷ bs) c) y ys
+    ∙ rw (share_next f b y bs c h.0, sum_in-next k f b bs ys c h.1)
+    (sym (sum_in-cons k (share f bs (less b.kind (f b) c)) y ys))
 
--- the shares of an amount are all of it, as far as the sum reaches
-pub sum_by-share : (f : Row → ℕ) (rows : List Row) (amount : ℕ) → IsInOrder rows →
-    sum_by (share f rows amount) rows ≡ min (sum_by f rows) amount
-sum_by-share f rows amount order =
-    sym (amounts-parts (share f rows amount) rows)
-    ∙ ap amounts (parts-along (λ b n. n) f rows amount order) ∙ amounts-along f amount rows
+one_share : (j k : BucketKind) (n s : ℕ) (c : Due) →
+    (if is_alike j k then min n (due_in j c) else 0)
+    + min s (due_in k c - (if is_alike j k then n else 0))
+    ≡ min ((if is_alike j k then n else 0) + s) (due_in k c)
+one_share Money Money n s c = omega arith
+one_share Money Blocks n s c = omega arith
+one_share Blocks Money n s c = omega arith
+one_share Blocks Blocks n s c = omega arith
 
--- what the buckets pay of an amount and what is uncollected are the amount
-pub sum_by-paid : PaysAll
-sum_by-paid holds group t amount rows order =
-    let both : sum_by (paid holds group t amount rows) rows
-    ≡ sum_by (paid_of_hold holds amount rows) rows
-    + sum_by (paid_of_rest holds group t amount rows) rows =
-    sum_by-both (paid_of_hold holds amount rows) (paid_of_rest holds group t amount rows) rows in
-    let first : sum_by (paid_of_hold holds amount rows) rows ≡ min (held_sum holds rows) amount =
-    sum_by-share (held_in holds) rows amount order in
-    let rest : sum_by (paid_of_rest holds group t amount rows) rows
-    ≡ min (funds group t rows) (amount - held_sum holds rows) =
-    sum_by-share (eligible_amount group t) rows (amount - held_sum holds rows) order in
-    omega (arith, both, first, rest)
+-- the shares of what is due are all of it, as far as the sum reaches
+pub sum_in-share : (k : BucketKind) (f : Row → ℕ) (rows : List Row) (due : Due) → IsInOrder rows →
+    sum_in k (share f rows due) rows ≡ min (sum_in k f rows) (due_in k due)
+sum_in-share k f [] due order = omega arith
+sum_in-share k f (b ∷ bs) due order =
+    omega (
+      arith,
+      sum_in-cons k (share f (b ∷ bs) due) b bs,
+      ap (λ n. if is_alike b.kind k then n else 0) (share_first f b bs due order.0),
+      sum_in-next k f b bs bs due order.0,
+      sum_in-share k f bs (less b.kind (f b) due) order.1,
+      due_less b.kind k (f b) due,
+      one_share b.kind k (f b) (sum_in k f bs) due,
+      sum_in-cons k f b bs,
+    )
+
+-- what the buckets pay of what is due and what is unpaid are what is due
+pub sum_in-paid : PaysAll
+sum_in-paid k holds group t due rows order =
+    let both : sum_in k (paid holds group t due rows) rows
+    ≡ sum_in k (paid_of_hold holds due rows) rows
+    + sum_in k (paid_of_rest holds group t due rows) rows =
+    sum_in-both k (paid_of_hold holds due rows) (paid_of_rest holds group t due rows) rows in
+    let first = sum_in-share k (held_in holds) rows due order in
+    let rest = sum_in-share k (eligible_amount group t) rows (unheld holds due rows) order in
+    omega (
+      arith,
+      both,
+      first,
+      rest,
+      due_left (held_in holds) rows due k,
+      due_left (eligible_amount group t) rows (unheld holds due rows) k,
+    )
 
 -- ---- parts of distinct buckets are holds
 

@@ -1,16 +1,20 @@
 -- The shares of an amount, by one walk along the buckets in order.
 use Rattle.std.proofs.Common.{length, get_or, drop, ◌≡◌, ℕ, ◌+◌, ◌-◌, ◌<◌, ◌≤◌, Bool, true, false}
 use Rattle.std.proofs.Common.{List, [], ◌∷◌, map, refl, sym, ap, ◌∙◌, add-one, arith}
-use Rattle.std.specs.Prelude.{insert, if◌then◌else◌, nat_lt, min}
+use Rattle.std.specs.Prelude.{insert, if◌then◌else◌, nat_lt, min, ◌&&◌}
 use Rattle.std.proofs.lemmas.Bool.Decides.{nat_tests}
 use Rattle.std.proofs.lemmas.List.{drop_more}
 use Rattle.std.proofs.lemmas.List.Sums.{sum_by-cons}
-use Rattle.buckets.specs.Row.{Row, precedes, with_hold, with_charge, with_charge_of_hold, with_end}
+use Rattle.buckets.specs.declared.kind.Due.{Due}
+use Rattle.buckets.specs.Kinds.{is_alike, due_in, less}
+use Rattle.buckets.specs.Row.{Row, precedes, is_paid_before, with_hold, with_charge}
+use Rattle.buckets.specs.Row.{with_charge_of_hold, with_end}
 use Rattle.buckets.specs.Row.{with_release, eligible_amount}
-use Rattle.buckets.specs.Share.{sum_before, share, by_shares, along, parts, parts_along}
-use Rattle.buckets.specs.Spend.{PrecedesAll, IsInOrder, IsBelow, inserted, place, funds}
+use Rattle.buckets.specs.Share.{sum_before, share, left_over, by_shares, along, parts, parts_along}
+use Rattle.buckets.specs.Spend.{PrecedesAll, IsInOrder, IsBelow, inserted, place}
 use Rattle.buckets.specs.declared.holds.Hold.{Hold}
-use Rattle.buckets.specs.Holding.{held_in, held_sum, IsWithin, IsLeftWithin, charged_rows}
+use Rattle.buckets.specs.Holding.{held_in, unheld, IsWithin, IsLeftWithin, charged_rows}
+use Rattle.buckets.proofs.Dues.{due_less, left_over_more}
 
 -- what precedes is not preceded
 pub precedes_asym : (a b : Row) → precedes a b ≡ true → precedes b a ≡ false
@@ -19,46 +23,71 @@ precedes_asym a b h = grind (arith, nat_tests)
 precedes_irrefl : (a : Row) → precedes a a ≡ false
 precedes_irrefl a = grind (arith, nat_tests)
 
+not_before : (t : Bool) (a b : Row) → precedes a b ≡ false → (t && precedes a b) ≡ false
+not_before true a b h = h
+not_before false a b h = refl
+
 -- nothing that comes later counts
 sum_before_none : (f : Row → ℕ) (b : Row) (bs : List Row) → PrecedesAll b bs → sum_before f b bs ≡ 0
 sum_before_none f b [] h = refl
 sum_before_none f b (x ∷ xs) h =
-    sum_by-cons (λ y. if precedes y b then f y else 0) x xs
-    ∙ rw (precedes_asym b x h.0, sum_before_none f b xs h.1) refl
+    sum_by-cons (λ y. if is_paid_before y b then f y else 0) x xs
+    ∙ rw (
+      not_before (is_alike x.kind b.kind) x b (precedes_asym b x h.0),
+      sum_before_none f b xs h.1,
+    ) refl
 
 sum_before_first : (f : Row → ℕ) (b : Row) (bs : List Row) → PrecedesAll b bs →
     sum_before f b (b ∷ bs) ≡ 0
 sum_before_first f b bs h =
-    sum_by-cons (λ y. if precedes y b then f y else 0) b bs
-    ∙ rw (precedes_irrefl b, sum_before_none f b bs h) refl
+    sum_by-cons (λ y. if is_paid_before y b then f y else 0) b bs
+    ∙ rw (
+      not_before (is_alike b.kind b.kind) b b (precedes_irrefl b),
+      sum_before_none f b bs h,
+    ) refl
+
+and_before : (t : Bool) (a b : Row) → precedes a b ≡ true → (t && precedes a b) ≡ t
+and_before true a b h = h
+and_before false a b h = refl
 
 sum_before_next : (f : Row → ℕ) (b x : Row) (bs : List Row) → precedes b x ≡ true →
-    sum_before f x (b ∷ bs) ≡ f b + sum_before f x bs
+    sum_before f x (b ∷ bs)
+    ≡ (if is_alike b.kind x.kind then f b else 0) + sum_before f x bs
 sum_before_next f b x bs h =
-    sum_by-cons (λ y. if precedes y x then f y else 0) b bs
-    ∙ rw h refl
+    sum_by-cons (λ y. if is_paid_before y x then f y else 0) b bs
+    ∙ ap (λ t. (if t then f b else 0) + sum_before f x bs)
+    (and_before (is_alike b.kind x.kind) b x h)
 
-share_next : (f : Row → ℕ) (b x : Row) (bs : List Row) (c : ℕ) → precedes b x ≡ true →
-    share f (b ∷ bs) c x ≡ share f bs (c - f b) x
-share_next f b x bs c h = rw (sum_before_next f b x bs h) (ap (min (f x)) (omega arith))
+pub share_next : (f : Row → ℕ) (b x : Row) (bs : List Row) (c : Due) → precedes b x ≡ true →
+    share f (b ∷ bs) c x ≡ share f bs (less b.kind (f b) c) x
+share_next f b x bs c h =
+    rw (sum_before_next f b x bs h, due_less b.kind x.kind (f b) c)
+    (ap (min (f x)) (omega arith))
+
+-- the first takes what it reaches
+pub share_first : (f : Row → ℕ) (b : Row) (bs : List Row) (c : Due) → PrecedesAll b bs →
+    share f (b ∷ bs) c b ≡ min (f b) (due_in b.kind c)
+share_first f b bs c h =
+    rw (sum_before_first f b bs h) (ap (min (f b)) (omega arith))
 
 -- the shares of those behind the first
-map_next : (does : Row → ℕ → Row) (f : Row → ℕ) (b : Row) (bs ys : List Row) (c : ℕ) →
+map_next : (does : Row → ℕ → Row) (f : Row → ℕ) (b : Row) (bs ys : List Row) (c : Due) →
     PrecedesAll b ys →
-    map (λ x. does x (share f (b ∷ bs) c x)) ys ≡ map (λ x. does x (share f bs (c - f b) x)) ys
+    map (λ x. does x (share f (b ∷ bs) c x)) ys
+    ≡ map (λ x. does x (share f bs (less b.kind (f b) c) x)) ys
 map_next does f b bs [] c h = refl
 map_next does f b bs (y ∷ ys) c h =
     rw (share_next f b y bs c h.0, map_next does f b bs ys c h.1) refl
 
-pub by_shares-along : (does : Row → ℕ → Row) (f : Row → ℕ) (rows : List Row) (c : ℕ) →
+pub by_shares-along : (does : Row → ℕ → Row) (f : Row → ℕ) (rows : List Row) (c : Due) →
     IsInOrder rows → by_shares does f rows c ≡ along does f c rows
 by_shares-along does f [] c h = refl
 by_shares-along does f (b ∷ bs) c h =
-    let none : c - 0 ≡ c = omega arith in
+    let none : due_in b.kind c - 0 ≡ due_in b.kind c = omega arith in
     rw (
       sum_before_first f b bs h.0,
       map_next does f b bs bs c h.0,
-      by_shares-along does f bs (c - f b) h.1,
+      by_shares-along does f bs (less b.kind (f b) c) h.1,
       none,
     ) refl
 
@@ -75,27 +104,32 @@ pub record KeepsPlaces (does : Row → ℕ → Row) : Type 0 where
   pub number : (b : Row) (n : ℕ) → (does b n).number ≡ b.number
   pub until : (b : Row) (n : ℕ) → (does b n).until ≡ b.until
 
-PrecedesAll-along : (does : Row → ℕ → Row) (f : Row → ℕ) (a c : Row) (rows : List Row) (left : ℕ) →
+PrecedesAll-along : (does : Row → ℕ → Row) (f : Row → ℕ) (a c : Row) (rows : List Row)
+    (left : Due) →
     KeepsPlaces does → c.number ≡ a.number → c.until ≡ a.until → PrecedesAll a rows →
     PrecedesAll c (along does f left rows)
 PrecedesAll-along does f a c [] left k n u h = tt
 PrecedesAll-along does f a c (b ∷ bs) left k n u h = (
-  precedes_kept a b c (does b (min (f b) left)) n u (k.number b (min (f b) left))
-      (k.until b (min (f b) left)) h.0,
-  PrecedesAll-along does f a c bs (left - f b) k n u h.1,
+  precedes_kept a b c (does b part) n u (k.number b part) (k.until b part) h.0,
+  PrecedesAll-along does f a c bs (less b.kind (f b) left) k n u h.1,
 )
+  where
+    part : ℕ
+    part = min (f b) (due_in b.kind left)
 
-pub IsInOrder-along : (does : Row → ℕ → Row) (f : Row → ℕ) (rows : List Row) (left : ℕ) →
+pub IsInOrder-along : (does : Row → ℕ → Row) (f : Row → ℕ) (rows : List Row) (left : Due) →
     KeepsPlaces does → IsInOrder rows → IsInOrder (along does f left rows)
 IsInOrder-along does f [] left k h = tt
 IsInOrder-along does f (b ∷ bs) left k h = (
-  PrecedesAll-along does f b (does b (min (f b) left)) bs left' k (k.number b (min (f b) left))
-      (k.until b (min (f b) left)) h.0,
+  PrecedesAll-along does f b (does b part) bs left' k (k.number b part) (k.until b part) h.0,
   IsInOrder-along does f bs left' k h.1,
 )
   where
-    left' : ℕ
-    left' = left - f b
+    part : ℕ
+    part = min (f b) (due_in b.kind left)
+
+    left' : Due
+    left' = less b.kind (f b) left
 
 PrecedesAll-map : (does : Row → Row) (a c : Row) (rows : List Row) → KeepsPlace does →
     c.number ≡ a.number → c.until ≡ a.until → PrecedesAll a rows → PrecedesAll c (map does rows)
@@ -136,22 +170,23 @@ pub with_end_keeps : (at : ℕ) → KeepsPlace (with_end at)
 with_end_keeps at = record { number = with_end_number at; until = with_end_until at }
 
 -- the parts are the shares above 0
-parts_next : (of : Row → ℕ → ℕ) (f : Row → ℕ) (b : Row) (bs ys : List Row) (c : ℕ) →
+parts_next : (of : Row → ℕ → ℕ) (f : Row → ℕ) (b : Row) (bs ys : List Row) (c : Due) →
     PrecedesAll b ys →
-    parts (λ x. of x (share f (b ∷ bs) c x)) ys ≡ parts (λ x. of x (share f bs (c - f b) x)) ys
+    parts (λ x. of x (share f (b ∷ bs) c x)) ys
+    ≡ parts (λ x. of x (share f bs (less b.kind (f b) c) x)) ys
 parts_next of f b bs [] c h = refl
 parts_next of f b bs (y ∷ ys) c h =
     rw (share_next f b y bs c h.0, parts_next of f b bs ys c h.1) refl
 
-pub parts-along : (of : Row → ℕ → ℕ) (f : Row → ℕ) (rows : List Row) (c : ℕ) → IsInOrder rows →
+pub parts-along : (of : Row → ℕ → ℕ) (f : Row → ℕ) (rows : List Row) (c : Due) → IsInOrder rows →
     parts (λ b. of b (share f rows c b)) rows ≡ parts_along of f c rows
 parts-along of f [] c h = refl
 parts-along of f (b ∷ bs) c h =
-    let none : c - 0 ≡ c = omega arith in
+    let none : due_in b.kind c - 0 ≡ due_in b.kind c = omega arith in
     rw (
       sum_before_first f b bs h.0,
       parts_next of f b bs bs c h.0,
-      parts-along of f bs (c - f b) h.1,
+      parts-along of f bs (less b.kind (f b) c) h.1,
       none,
     ) refl
 
@@ -223,15 +258,17 @@ eligible_kept : (group at : ℕ) (b : Row) (n : ℕ) →
     eligible_amount group at (with_charge_of_hold b n) ≡ eligible_amount group at b
 eligible_kept group at b n = refl
 
-pub funds-charged : (holds : List Hold) (group at left : ℕ) (rows : List Row) →
-    funds group at (along with_charge_of_hold (held_in holds) left rows) ≡ funds group at rows
-funds-charged holds group at left [] = refl
-funds-charged holds group at left (b ∷ bs) =
-    sum_by-cons (eligible_amount group at) (with_charge_of_hold b (min (held_in holds b) left))
-    (along with_charge_of_hold (held_in holds) (left - held_in holds b) bs)
-    ∙ ap (λ n. eligible_amount group at b + n)
-    (funds-charged holds group at (left - held_in holds b) bs)
-    ∙ sym (sum_by-cons (eligible_amount group at) b bs)
+pub eligible-charged : (holds : List Hold) (group at : ℕ) (left d : Due) (rows : List Row) →
+    left_over (eligible_amount group at) (along with_charge_of_hold (held_in holds) left rows) d
+    ≡ left_over (eligible_amount group at) rows d
+eligible-charged holds group at left d [] = refl
+eligible-charged holds group at left d (b ∷ bs) =
+    left_over_more (eligible_amount group at)
+    (with_charge_of_hold b (min (held_in holds b) (due_in b.kind left)))
+    (along with_charge_of_hold (held_in holds) (less b.kind (held_in holds b) left) bs) d
+    ∙ eligible-charged holds group at (less b.kind (held_in holds b) left)
+    (less b.kind (eligible_amount group at b) d) bs
+    ∙ sym (left_over_more (eligible_amount group at) b bs d)
 
 -- what is within at the bucket that is next
 pub within_at : (holds : List Hold) (rows : List Row) (i : ℕ) (d : Row) → i < length rows →
@@ -239,21 +276,21 @@ pub within_at : (holds : List Hold) (rows : List Row) (i : ℕ) (d : Row) → i 
 within_at holds rows i d lt h = (rw (drop_more rows i d lt) at h).0
 
 -- charged to the holds and then to what is eligible
-pub charged_rows-along : (holds : List Hold) (group at amount : ℕ) (rows : List Row) →
+pub charged_rows-along : (holds : List Hold) (group at : ℕ) (due : Due) (rows : List Row) →
     IsInOrder rows →
-    charged_rows holds group at amount rows
-    ≡ along with_charge (eligible_amount group at) (amount - held_sum holds rows)
-    (along with_charge_of_hold (held_in holds) amount rows)
-charged_rows-along holds group at amount rows h =
-    rw (by_shares-along with_charge_of_hold (held_in holds) rows amount h)
+    charged_rows holds group at due rows
+    ≡ along with_charge (eligible_amount group at) (unheld holds due rows)
+    (along with_charge_of_hold (held_in holds) due rows)
+charged_rows-along holds group at due rows h =
+    rw (by_shares-along with_charge_of_hold (held_in holds) rows due h)
     (by_shares-along with_charge (eligible_amount group at)
-    (along with_charge_of_hold (held_in holds) amount rows) (amount - held_sum holds rows)
-    (IsInOrder-along with_charge_of_hold (held_in holds) rows amount with_charge_of_hold_keeps
-    h))
+    (along with_charge_of_hold (held_in holds) due rows) (unheld holds due rows)
+    (IsInOrder-along with_charge_of_hold (held_in holds) rows due with_charge_of_hold_keeps h))
 
 -- what a later walk finds of the holds is what the first walk found
-pub left_within_at : (holds : List Hold) (left : ℕ) (rows : List Row) (i : ℕ) (d : Row) →
+pub left_within_at : (holds : List Hold) (left : Due) (rows : List Row) (i : ℕ) (d : Row) →
     i < length rows → IsLeftWithin holds left (drop i rows) →
-    held_in holds (get_or rows i d) - min (held_in holds (get_or rows i d)) left
+    held_in holds (get_or rows i d)
+    - min (held_in holds (get_or rows i d)) (due_in (get_or rows i d).kind left)
     ≤ (get_or rows i d).reserved
 left_within_at holds left rows i d lt h = (rw (drop_more rows i d lt) at h).0

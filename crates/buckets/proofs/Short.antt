@@ -1,63 +1,80 @@
 -- What is short: all holds are used up, and what is eligible is empty.
-use Rattle.std.proofs.Common.{◌≡◌, ℕ, ◌+◌, ◌-◌, ◌≤◌, Bool, true, false, List, [], ◌∷◌, refl, ap}
+use Rattle.std.proofs.Common.{◌≡◌, ℕ, ◌+◌, ◌-◌, ◌≤◌, Bool, true, false, List, [], ◌∷◌, refl}
 use Rattle.std.proofs.Common.{◌∙◌, arith, inl, inr}
-use Rattle.std.specs.Prelude.{if◌then◌else◌, nat_lt, nat_le, ◌==◌, ◌&&◌, ◌||◌, sum_by}
+use Rattle.std.specs.Prelude.{if◌then◌else◌, nat_lt, nat_le, ◌==◌, ◌&&◌, ◌||◌}
 use Rattle.std.proofs.lemmas.Bool.Decides.{nat_tests}
 use Rattle.std.proofs.lemmas.List.Sums.{sum_by-cons}
-use Rattle.buckets.specs.Row.{Row, precedes, covers, is_eligible, eligible_amount, with_charge}
+use Rattle.buckets.specs.declared.kind.BucketKind.{BucketKind}
+use Rattle.buckets.specs.declared.kind.BucketKind.TheVariants.{Money, Blocks}
+use Rattle.buckets.specs.declared.kind.Due.{Due}
+use Rattle.buckets.specs.declared.holds.Hold.{Hold}
+use Rattle.buckets.specs.Kinds.{is_alike, due_in}
+use Rattle.buckets.specs.Row.{Row, precedes, is_paid_before, covers, is_eligible, eligible_amount}
+use Rattle.buckets.specs.Row.{with_charge}
 use Rattle.buckets.specs.Row.{with_charge_of_hold, with_release}
-use Rattle.buckets.specs.Share.{sum_before, share}
-use Rattle.buckets.specs.Holding.{held_in, held_sum, paid_of_hold, paid_of_rest}
+use Rattle.buckets.specs.Share.{sum_in, sum_before, share}
+use Rattle.buckets.specs.Holding.{held_in, held_sum, unheld, paid_of_hold, paid_of_rest}
+use Rattle.buckets.specs.Holding.{settled_row}
 use Rattle.buckets.specs.Laws.{IsAmong, IsSpentWhereShort}
+use Rattle.buckets.proofs.Dues.{sum_in-cons, due_left}
 
-before_itself : (u n : ℕ) → (nat_lt u u || (u == u && nat_lt n n)) ≡ false
-before_itself u n = grind (arith, nat_tests)
+before_itself : (t : Bool) (u n : ℕ) → (t && (nat_lt u u || (u == u && nat_lt n n))) ≡ false
+before_itself true u n = grind (arith, nat_tests)
+before_itself false u n = refl
 
-part_le : (t : Bool) (n : ℕ) → (if t then n else 0) ≤ n
-part_le true n = omega arith
-part_le false n = omega arith
+-- what comes before counts the same unit
+part_le : (t p : Bool) (n : ℕ) → (if t && p then n else 0) ≤ (if t then n else 0)
+part_le true true n = omega arith
+part_le true false n = omega arith
+part_le false p n = omega arith
 
-before_most : (f : Row → ℕ) (b : Row) (rows : List Row) → sum_before f b rows ≤ sum_by f rows
+before_most : (f : Row → ℕ) (b : Row) (rows : List Row) →
+    sum_before f b rows ≤ sum_in b.kind f rows
 before_most f b [] = omega arith
 before_most f b (x ∷ xs) =
     omega (
       arith,
-      part_le (precedes x b) (f x),
+      part_le (is_alike x.kind b.kind) (precedes x b) (f x),
       before_most f b xs,
-      sum_by-cons (λ y. if precedes y b then f y else 0) x xs,
-      sum_by-cons f x xs,
+      sum_by-cons (λ y. if is_paid_before y b then f y else 0) x xs,
+      sum_in-cons b.kind f x xs,
     )
+
+alike_itself : (k : BucketKind) → is_alike k k ≡ true
+alike_itself Money = refl
+alike_itself Blocks = refl
 
 -- what stands before a bucket, and its own, are within the sum
 before_le : (f : Row → ℕ) (b : Row) (rows : List Row) → IsAmong b rows →
-    sum_before f b rows + f b ≤ sum_by f rows
+    sum_before f b rows + f b ≤ sum_in b.kind f rows
 before_le f b [] h = absurd h
 before_le f b (x ∷ xs) (inl e) =
-    let none : (if precedes x b then f x else 0) ≡ 0 =
-    rw (e, before_itself b.until b.number) refl in
-    let same : f x ≡ f b = ap f e in
+    let none : (if is_paid_before x b then f x else 0) ≡ 0 =
+    rw (e, before_itself (is_alike b.kind b.kind) b.until b.number) refl in
+    let same : (if is_alike x.kind b.kind then f x else 0) ≡ f b =
+    rw (e, alike_itself b.kind) refl in
     omega (
       arith,
       none,
       same,
       before_most f b xs,
-      sum_by-cons (λ y. if precedes y b then f y else 0) x xs,
-      sum_by-cons f x xs,
+      sum_by-cons (λ y. if is_paid_before y b then f y else 0) x xs,
+      sum_in-cons b.kind f x xs,
     )
 before_le f b (x ∷ xs) (inr h) =
     omega (
       arith,
-      part_le (precedes x b) (f x),
+      part_le (is_alike x.kind b.kind) (precedes x b) (f x),
       before_le f b xs h,
-      sum_by-cons (λ y. if precedes y b then f y else 0) x xs,
-      sum_by-cons f x xs,
+      sum_by-cons (λ y. if is_paid_before y b then f y else 0) x xs,
+      sum_in-cons b.kind f x xs,
     )
 
--- an amount that passes the sum takes all of each
-share_all : (f : Row → ℕ) (b : Row) (rows : List Row) (amount : ℕ) → IsAmong b rows →
-    sum_by f rows ≤ amount → share f rows amount b ≡ f b
-share_all f b rows amount h le =
-    let within : sum_before f b rows + f b ≤ sum_by f rows = before_le f b rows h in
+-- what passes the sum takes all of each
+share_all : (f : Row → ℕ) (b : Row) (rows : List Row) (due : Due) → IsAmong b rows →
+    sum_in b.kind f rows ≤ due_in b.kind due → share f rows due b ≡ f b
+share_all f b rows due h le =
+    let within : sum_before f b rows + f b ≤ sum_in b.kind f rows = before_le f b rows h in
     omega (arith, within, le)
 
 -- a bucket whose available amount is charged whole, and of which nothing is given up, has nothing
@@ -99,18 +116,31 @@ all_taken : (l : Bool) (n part : ℕ) → part ≡ (if l then n else 0) → l �
 all_taken true n part e k = omega (arith, e)
 all_taken false n part e k = absurd (let no_bucket : false ≡ true = k in cc)
 
-pub spent : IsSpentWhereShort
-spent holds group at amount rows b h short =
-    let held : paid_of_hold holds amount rows b ≡ held_in holds b =
-    share_all (held_in holds) b rows amount h (omega (arith, short)) in
-    let rest : paid_of_rest holds group at amount rows b ≡ eligible_amount group at b =
-    share_all (eligible_amount group at) b rows (amount - held_sum holds rows) h
-    (omega (arith, short)) in
-    let part : ℕ = paid_of_rest holds group at amount rows b in (
+-- what is due reaches all that is held in a bucket's unit, and all that is eligible
+pub spent_all : (holds : List Hold) (group at : ℕ) (due : Due) (rows : List Row) (b : Row) →
+    IsAmong b rows →
+    held_sum b.kind holds rows + sum_in b.kind (eligible_amount group at) rows
+    ≤ due_in b.kind due →
+    (paid_of_hold holds due rows b ≡ held_in holds b) ×
+    (eligible_amount group at (settled_row holds group at due rows b) ≡ 0)
+spent_all holds group at due rows b h reaches =
+    let left = due_left (held_in holds) rows due b.kind in
+    let held : paid_of_hold holds due rows b ≡ held_in holds b =
+    share_all (held_in holds) b rows due h (omega (arith, reaches)) in
+    let rest : paid_of_rest holds group at due rows b ≡ eligible_amount group at b =
+    share_all (eligible_amount group at) b rows (unheld holds due rows) h
+    (omega (arith, reaches, left)) in
+    let part : ℕ = paid_of_rest holds group at due rows b in (
       held,
-      emptied group at (held_in holds b - paid_of_hold holds amount rows b) b
-          (with_charge (with_charge_of_hold b (paid_of_hold holds amount rows b)) part) refl refl
+      emptied group at (held_in holds b - paid_of_hold holds due rows b) b
+          (with_charge (with_charge_of_hold b (paid_of_hold holds due rows b)) part) refl refl
           refl
           (is_eligible group at b) refl (all_taken (is_eligible group at b) b.available part rest)
           (omega (arith, held)),
     )
+
+pub spent : IsSpentWhereShort
+spent holds group at due rows b h short =
+    let left = due_left (held_in holds) rows due b.kind in
+    let last = due_left (eligible_amount group at) rows (unheld holds due rows) b.kind in
+    spent_all holds group at due rows b h (omega (arith, short, left, last))

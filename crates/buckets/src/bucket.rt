@@ -1,4 +1,6 @@
 ghost use Rattle.std.specs.Prelude.{◌≡◌, ℕ, ◌+◌, ◌-◌, ◌≤◌, ◌<◌, ◌==◌, ◌&&◌, IsTrue, ◌↔◌};
+ghost use Rattle.std.specs.Prelude.{if◌then◌else◌};
+ghost use Rattle.buckets.specs.Kinds.{is_alike, most_of, IsScopeOf};
 ghost use Rattle.buckets.specs.Row.{is_eligible, eligible_amount, with_hold, with_charge};
 ghost use Rattle.buckets.specs.Row.{with_charge_of_hold, with_release, with_end, new_row};
 ghost use Rattle.buckets.specs.Row.{IsBalanced};
@@ -6,18 +8,20 @@ ghost use Rattle.buckets.specs.Row.{IsBalanced};
 mod columns;
 
 pub use crate::bucket::columns::Columns;
+use crate::kind::BucketKind;
 use std::marker::Model;
-use units::{Moment, Money};
+use units::Moment;
 
-/// Money that was credited at once, and what became of it (TS 32.296, account balance management
-/// function).
+/// Money or blocks that were credited at once, and what became of them (TS 32.296, account balance
+/// management function).
 ///
 /// The credited amount is the sum of four columns, which the type keeps: what is available, what is
-/// reserved for live sessions, what was charged, and what expired at the bucket's end. All are
-/// micro-units.
+/// reserved for live sessions, what was charged, and what expired at the bucket's end. All are in
+/// the unit of its kind.
 #[derive(Clone, Debug, Drop)]
 pub struct Bucket {
     number: u32,
+    kind: BucketKind,
     from: Moment,
     until: Moment,
     scope: Option<u32>,
@@ -35,6 +39,7 @@ impl Model for Bucket {
 
     ghost view = { λ b. record {
       number = b.number;
+      kind = b.kind;
       from = b.from;
       until = b.until;
       scope = b.scope;
@@ -54,6 +59,13 @@ impl Bucket {
         ensures { result ≡ self.now.number }
     {
         self.number
+    }
+
+    /// What its columns count.
+    pub fn kind(&self) -> BucketKind
+        ensures { result ≡ self.now.kind }
+    {
+        self.kind
     }
 
     /// The first moment at which it may be used.
@@ -77,7 +89,7 @@ impl Bucket {
         self.scope
     }
 
-    /// The amount that it was made with, in micro-units.
+    /// The amount that it was made with, in its unit.
     pub fn credited(&self) -> u64
         ensures amount { result ≡ self.now.credited }
         ensures most { result ≤ 1_000_000_000_000_000 }
@@ -92,7 +104,7 @@ impl Bucket {
         self.available == 0 && self.reserved == 0
     }
 
-    /// What is neither reserved nor charged, before its end, in micro-units.
+    /// What is neither reserved nor charged, before its end.
     pub fn available(&self) -> u64
         ensures amount { result ≡ self.now.available }
         ensures most { result ≤ 1_000_000_000_000_000 }
@@ -100,7 +112,7 @@ impl Bucket {
         self.available
     }
 
-    /// What reservations of live sessions hold, in micro-units.
+    /// What reservations of live sessions hold.
     pub fn reserved(&self) -> u64
         ensures amount { result ≡ self.now.reserved }
         ensures most { result ≤ 1_000_000_000_000_000 }
@@ -108,7 +120,7 @@ impl Bucket {
         self.reserved
     }
 
-    /// What was charged, in micro-units.
+    /// What was charged.
     pub fn charged(&self) -> u64
         ensures amount { result ≡ self.now.charged }
         ensures most { result ≤ 1_000_000_000_000_000 }
@@ -117,7 +129,7 @@ impl Bucket {
     }
 
     /// What was neither reserved nor charged when it ended, with what reservations gave up after
-    /// that, in micro-units.
+    /// that.
     pub fn expired(&self) -> u64
         ensures amount { result ≡ self.now.expired }
         ensures most { result ≤ 1_000_000_000_000_000 }
@@ -127,21 +139,25 @@ impl Bucket {
 
     pub(crate) fn new(
         number: u32,
+        kind: BucketKind,
         from: Moment,
         until: Moment,
         scope: Option<u32>,
-        amount: Money,
+        amount: u64,
     ) -> Self
-        ensures row { result ≡ new_row number from until scope amount }
+        requires most { amount ≤ most_of kind }
+        requires scope { IsScopeOf kind scope }
+        ensures row { result ≡ new_row kind number from until scope amount }
         ensures balanced { IsBalanced result }
     {
         Bucket {
             number,
+            kind,
             from,
             until,
             scope,
-            credited: amount.micros(),
-            available: amount.micros(),
+            credited: amount,
+            available: amount,
             reserved: 0,
             charged: 0,
             expired: 0,
@@ -160,8 +176,7 @@ impl Bucket {
         self.from <= at && at < self.until && covered
     }
 
-    /// What it has available for the rating group at the moment, in micro-units: nothing where it
-    /// isn't eligible.
+    /// What it has available for the rating group at the moment: nothing where it isn't eligible.
     pub fn eligible_amount(&self, group: u32, at: Moment) -> u64
         ensures amount { result ≡ eligible_amount group at self.now }
         ensures most { result ≤ 1_000_000_000_000_000 }
@@ -171,6 +186,35 @@ impl Bucket {
         } else {
             0
         }
+    }
+
+    /// Whether its columns count the unit.
+    pub fn counts(&self, kind: BucketKind) -> bool
+        ensures { result ≡ is_alike self.now.kind kind }
+    {
+        self.kind.is_alike(kind)
+    }
+
+    /// The same, where it counts the unit.
+    pub fn eligible_in(&self, kind: BucketKind, group: u32, at: Moment) -> u64
+        ensures amount { result
+            ≡ if is_alike self.now.kind kind then eligible_amount group at self.now else 0 }
+        ensures most { result ≤ most_of kind }
+    {
+        if self.kind.is_alike(kind) {
+            self.eligible_amount(group, at)
+        } else {
+            0
+        }
+    }
+
+    /// What is held of it, where it counts the unit.
+    pub(crate) fn held_in(&self, kind: BucketKind, held: u64) -> u64
+        requires { held ≤ self.now.reserved }
+        ensures value { result ≡ if is_alike self.now.kind kind then held else 0 }
+        ensures most { result ≤ most_of kind }
+    {
+        if self.kind.is_alike(kind) { held } else { 0 }
     }
 
     pub(crate) fn hold(&mut self, amount: u64)

@@ -1,19 +1,24 @@
 ghost use Rattle.std.specs.Prelude.{◌≡◌, ℕ, ◌+◌, ◌-◌, ◌≤◌, ◌<◌, ◌^◌, ◌↔◌, ◌==◌, ◌&&◌, not, []};
 ghost use Rattle.std.specs.Prelude.{OnOk, OnErr, IfOk, IsErrOf, map, length, filter};
+ghost use Rattle.std.specs.Prelude.{Some, None};
+ghost use Rattle.buckets.specs.Kinds.{due, most_of, IsScopeOf};
 ghost use Rattle.buckets.specs.Row.{Row, with_end, new_row};
-ghost use Rattle.buckets.specs.Spend.{funds, held_rows, IsBelow, inserted, IsSound};
+ghost use Rattle.buckets.specs.Spend.{funds, allowance, held_rows, IsBelow, inserted, IsSound};
 ghost use Rattle.buckets.specs.Holding.{holds_of, IsWithin, charged_rows, released_rows};
-ghost use Rattle.buckets.specs.Holding.{uncollected, rest_of_holds, settled_rows};
+ghost use Rattle.buckets.specs.Holding.{uncollected, covered_blocks, unpaid, rest_of_holds};
+ghost use Rattle.buckets.specs.Holding.{held_sum};
+ghost use Rattle.buckets.specs.Holding.{settled_rows};
 
 mod tested;
 
 use crate::along;
 use crate::bucket::Bucket;
 use crate::holds::{HoldRoom, Holds};
+use crate::kind::{BucketKind, Due};
 use std::alloc::{AllocError, Global};
 use std::marker::Model;
 use thiserror::Error;
-use units::{Amount, Moment, Money};
+use units::{Amount, Blocks, Moment, Money};
 
 /// Why a call on a purse did nothing.
 #[derive(Clone, Copy, Debug, Drop, Error, PartialEq, Eq)]
@@ -100,24 +105,105 @@ impl Purse {
     ) -> Result<(), PurseFault>
         requires { IsBelow number self.old }
         ensures ok { OnOk result
-            (self.new ≡ inserted (new_row number from until scope amount) self.old) }
+            (self.new ≡ inserted (new_row BucketKind.Money number from until scope amount)
+            self.old) }
+        ensures memory { OnErr result (result ≡ Err PurseFault.Memory) }
+        ensures err { OnErr result (self.new ≡ self.old) }
+    {
+        self.add(
+            number,
+            BucketKind::Money,
+            from,
+            until,
+            scope,
+            amount.micros(),
+        )
+    }
+
+    /// Adds an allowance of so many blocks of a rating group, all of them available, under a number
+    /// above all others (TS 32.296, account balance management function).
+    ///
+    /// # Errors
+    /// `Memory` and no other: a growth was refused. Then the purse is unchanged.
+    pub fn allow(
+        &mut self,
+        number: u32,
+        from: Moment,
+        until: Moment,
+        group: u32,
+        blocks: Blocks,
+    ) -> Result<(), PurseFault>
+        requires below { IsBelow number self.old }
+        requires most { blocks.0 ≤ 1_000_000_000 }
+        ensures ok { OnOk result
+            (self.new ≡ inserted (new_row BucketKind.Blocks number from until (Some group) blocks.0)
+            self.old) }
+        ensures memory { OnErr result (result ≡ Err PurseFault.Memory) }
+        ensures err { OnErr result (self.new ≡ self.old) }
+    {
+        self.add(
+            number,
+            BucketKind::Blocks,
+            from,
+            until,
+            Some(group),
+            blocks.0,
+        )
+    }
+
+    /// Adds a bucket of either kind, as `credit` and `allow` do.
+    ///
+    /// # Errors
+    /// `Memory` and no other: a growth was refused. Then the purse is unchanged.
+    pub fn add(
+        &mut self,
+        number: u32,
+        kind: BucketKind,
+        from: Moment,
+        until: Moment,
+        scope: Option<u32>,
+        amount: u64,
+    ) -> Result<(), PurseFault>
+        requires below { IsBelow number self.old }
+        requires most { amount ≤ most_of kind }
+        requires scope { IsScopeOf kind scope }
+        ensures ok { OnOk result
+            (self.new ≡ inserted (new_row kind number from until scope amount) self.old) }
         ensures memory { OnErr result (result ≡ Err PurseFault.Memory) }
         ensures err { OnErr result (self.new ≡ self.old) }
     {
         let place = along::place_of(&self.buckets, until);
-        let bucket = Bucket::new(number, from, until, scope, amount);
+        let bucket = Bucket::new(number, kind, from, until, scope, amount);
         let Ok(()) = self.buckets.insert(place, bucket) else {
             return Err(PurseFault::Memory);
         };
         Ok(())
     }
 
-    /// What the buckets that are eligible for the rating group at the moment have available.
+    /// The money that the buckets which are eligible for the rating group at the moment have
+    /// available.
     pub fn funds(&self, group: u32, at: Moment) -> Amount
         ensures sum { result.0 ≡ funds group at self.now }
         ensures sound { IsSound self.now }
     {
-        Amount(along::sum_of(&self.buckets, group, at))
+        Amount(along::sum_of(&self.buckets, BucketKind::Money, group, at))
+    }
+
+    /// The blocks that the allowances of the rating group have available at the moment.
+    pub fn allowance(&self, group: u32, at: Moment) -> Blocks
+        ensures sum { result.0 ≡ allowance group at self.now }
+        ensures sound { IsSound self.now }
+    {
+        Blocks(along::sum_of(&self.buckets, BucketKind::Blocks, group, at) as u64)
+    }
+
+    /// The blocks that holds have of allowances.
+    pub fn held_blocks(&self, holds: &Holds) -> Blocks
+        requires { IsWithin holds.now self.now }
+        ensures value { result.0 ≡ held_sum BucketKind.Blocks holds.now self.now }
+        ensures most { result.0 ≤ 4_294_967_296_000_000_000 }
+    {
+        Blocks(along::held_sum_of(&self.buckets, BucketKind::Blocks, &holds.items) as u64)
     }
 
     /// Holds the amount in the eligible buckets, in their order (TS 32.299, session charging with
@@ -127,8 +213,8 @@ impl Purse {
     /// `NotCovered` exactly where the amount exceeds the funds, else `Memory`: a growth was
     /// refused. Then the purse is unchanged.
     pub fn hold(&mut self, group: u32, at: Moment, amount: Amount) -> Result<Holds, PurseFault>
-        ensures rows { OnOk result (self.new ≡ held_rows group at amount.0 self.old) }
-        ensures holds { IfOk result (λ h. h ≡ holds_of group at amount.0 self.old) }
+        ensures rows { OnOk result (self.new ≡ held_rows group at (due amount.0 0) self.old) }
+        ensures holds { IfOk result (λ h. h ≡ holds_of group at (due amount.0 0) self.old) }
         ensures within { IfOk result (λ h. IsWithin h self.new) }
         ensures not_covered { IsErrOf result PurseFault.NotCovered
             ↔ (funds group at self.old < amount.0) }
@@ -138,7 +224,33 @@ impl Purse {
             return Err(PurseFault::NotCovered);
         }
         let room = self.room()?;
-        Ok(self.hold_in(room, group, at, amount))
+        Ok(self.hold_in(room, group, at, amount, Blocks(0)))
+    }
+
+    /// Holds the blocks in the eligible allowances, in their order (TS 32.299, session charging
+    /// with unit reservation).
+    ///
+    /// # Errors
+    /// `NotCovered` exactly where the blocks exceed the allowance, else `Memory`: a growth was
+    /// refused. Then the purse is unchanged.
+    pub fn hold_blocks(
+        &mut self,
+        group: u32,
+        at: Moment,
+        blocks: Blocks,
+    ) -> Result<Holds, PurseFault>
+        ensures rows { OnOk result (self.new ≡ held_rows group at (due 0 blocks.0) self.old) }
+        ensures holds { IfOk result (λ h. h ≡ holds_of group at (due 0 blocks.0) self.old) }
+        ensures within { IfOk result (λ h. IsWithin h self.new) }
+        ensures not_covered { IsErrOf result PurseFault.NotCovered
+            ↔ (allowance group at self.old < blocks.0) }
+        ensures err { OnErr result (self.new ≡ self.old) }
+    {
+        if self.allowance(group, at).0 < blocks.0 {
+            return Err(PurseFault::NotCovered);
+        }
+        let room = self.room()?;
+        Ok(self.hold_in(room, group, at, Amount(0), blocks))
     }
 
     /// Memory for the holds that a later `hold_in` makes; its error is want of memory.
@@ -148,17 +260,26 @@ impl Purse {
         HoldRoom::new(self.alloc, self.buckets.len())
     }
 
-    /// Holds an amount that is covered, in memory that was taken before.
-    pub fn hold_in(&mut self, room: HoldRoom, group: u32, at: Moment, amount: Amount) -> Holds
+    /// Holds an amount and blocks that are covered, in memory that was taken before.
+    pub fn hold_in(
+        &mut self,
+        room: HoldRoom,
+        group: u32,
+        at: Moment,
+        amount: Amount,
+        blocks: Blocks,
+    ) -> Holds
         requires room { length self.old ≤ room }
         requires covered { amount.0 ≤ funds group at self.old }
-        ensures rows { self.new ≡ held_rows group at amount.0 self.old }
-        ensures holds { result ≡ holds_of group at amount.0 self.old }
+        requires allowed { blocks.0 ≤ allowance group at self.old }
+        ensures rows { self.new ≡ held_rows group at (due amount.0 blocks.0) self.old }
+        ensures holds { result ≡ holds_of group at (due amount.0 blocks.0) self.old }
         ensures within { IsWithin result self.new }
     {
+        let due = due_of(amount, blocks);
         let mut items = room.items;
-        along::write_parts(&mut items, &self.buckets, group, at, amount.0);
-        along::hold_along(&mut self.buckets, group, at, amount.0);
+        along::write_parts(&mut items, &self.buckets, group, at, due);
+        along::hold_along(&mut self.buckets, group, at, due);
         Holds { items }
     }
 
@@ -176,8 +297,10 @@ impl Purse {
     ) -> Result<Charged, PurseFault>
         requires { IsWithin holds.old self.old }
         ensures sound { IsSound self.old }
-        ensures rows { OnOk result (self.new ≡ charged_rows holds.old group at amount.0 self.old) }
-        ensures holds { OnOk result (holds.new ≡ rest_of_holds holds.old amount.0 self.old) }
+        ensures rows { OnOk result
+            (self.new ≡ charged_rows holds.old group at (due amount.0 0) self.old) }
+        ensures holds { OnOk result
+            (holds.new ≡ rest_of_holds holds.old (due amount.0 0) self.old) }
         ensures within { OnOk result (IsWithin holds.new self.new) }
         ensures uncollected { IfOk result
             (λ c. c.uncollected.0 ≡ uncollected holds.old group at amount.0 self.old) }
@@ -186,34 +309,88 @@ impl Purse {
         ensures err { OnErr result (self.new ≡ self.old) }
         ensures err_holds { OnErr result (holds.new ≡ holds.old) }
     {
-        let Ok(rest) = along::rest_of(self.alloc, &self.buckets, &holds.items, amount.0) else {
-            return Err(PurseFault::Memory);
-        };
-        let left = along::charge_holds_along(&mut self.buckets, &holds.items, amount.0);
-        let uncollected = along::charge_along(&mut self.buckets, group, at, left);
-        holds.items = rest;
-        Ok(Charged {
-            collected: Amount(amount.0 - uncollected),
-            uncollected: Amount(uncollected),
-        })
+        let unpaid = self.charge_due(holds, group, at, due_of(amount, Blocks(0)))?;
+        Ok(charged_of(amount, unpaid))
     }
 
-    /// Charges an amount as `charge` does and then gives up what is left of the holds: what a
-    /// report's settlement does to the purse. It takes no memory.
-    pub fn settle(&mut self, holds: Holds, group: u32, at: Moment, amount: Amount) -> Charged
+    /// Charges blocks to the holds that are lent, and what they don't reach to the eligible
+    /// allowances, each in order, and answers how many these cover. The holds are lowered by what
+    /// was taken of them.
+    ///
+    /// # Errors
+    /// `Memory` and no other: a growth was refused. Then purse and holds are unchanged.
+    pub fn charge_blocks(
+        &mut self,
+        holds: &mut Holds,
+        group: u32,
+        at: Moment,
+        blocks: Blocks,
+    ) -> Result<Blocks, PurseFault>
+        requires { IsWithin holds.old self.old }
+        ensures sound { IsSound self.old }
+        ensures rows { OnOk result
+            (self.new ≡ charged_rows holds.old group at (due 0 blocks.0) self.old) }
+        ensures holds { OnOk result
+            (holds.new ≡ rest_of_holds holds.old (due 0 blocks.0) self.old) }
+        ensures within { OnOk result (IsWithin holds.new self.new) }
+        ensures covered { IfOk result
+            (λ c. c.0 ≡ covered_blocks holds.old group at blocks.0 self.old) }
+        ensures memory { OnErr result (result ≡ Err PurseFault.Memory) }
+        ensures err { OnErr result (self.new ≡ self.old) }
+        ensures err_holds { OnErr result (holds.new ≡ holds.old) }
+    {
+        let unpaid = self.charge_due(holds, group, at, due_of(Amount(0), blocks))?;
+        Ok(Blocks((blocks.0 as u128 - unpaid.blocks) as u64))
+    }
+
+    /// Charges what is due in both units, and answers what is unpaid.
+    fn charge_due(
+        &mut self,
+        holds: &mut Holds,
+        group: u32,
+        at: Moment,
+        due: Due,
+    ) -> Result<Due, PurseFault>
+        requires { IsWithin holds.old self.old }
+        ensures sound { IsSound self.old }
+        ensures rows { OnOk result (self.new ≡ charged_rows holds.old group at due self.old) }
+        ensures holds { OnOk result (holds.new ≡ rest_of_holds holds.old due self.old) }
+        ensures within { OnOk result (IsWithin holds.new self.new) }
+        ensures unpaid { IfOk result (λ d. d ≡ unpaid holds.old group at due self.old) }
+        ensures memory { OnErr result (result ≡ Err PurseFault.Memory) }
+        ensures err { OnErr result (self.new ≡ self.old) }
+        ensures err_holds { OnErr result (holds.new ≡ holds.old) }
+    {
+        let Ok(rest) = along::rest_of(self.alloc, &self.buckets, &holds.items, due) else {
+            return Err(PurseFault::Memory);
+        };
+        let left = along::charge_holds_along(&mut self.buckets, &holds.items, due);
+        let unpaid = along::charge_along(&mut self.buckets, group, at, left);
+        holds.items = rest;
+        Ok(unpaid)
+    }
+
+    /// Charges an amount and blocks as `charge` and `charge_blocks` do and then gives up what is
+    /// left of the holds: what a report's settlement does to the purse. It takes no memory.
+    pub fn settle(
+        &mut self,
+        holds: Holds,
+        group: u32,
+        at: Moment,
+        amount: Amount,
+        blocks: Blocks,
+    ) -> Charged
         requires { IsWithin holds self.old }
         ensures sound { IsSound self.old }
-        ensures rows { self.new ≡ settled_rows holds group at amount.0 self.old }
+        ensures rows { self.new ≡ settled_rows holds group at (due amount.0 blocks.0) self.old }
         ensures uncollected { result.uncollected.0 ≡ uncollected holds group at amount.0 self.old }
         ensures collected { result.collected.0 + result.uncollected.0 ≡ amount.0 }
     {
-        let unheld = along::charge_holds_along(&mut self.buckets, &holds.items, amount.0);
-        let missing = along::charge_along(&mut self.buckets, group, at, unheld);
-        along::release_rest(&mut self.buckets, &holds.items, at, amount.0);
-        Charged {
-            collected: Amount(amount.0 - missing),
-            uncollected: Amount(missing),
-        }
+        let due = due_of(amount, blocks);
+        let unheld = along::charge_holds_along(&mut self.buckets, &holds.items, due);
+        let unpaid = along::charge_along(&mut self.buckets, group, at, unheld);
+        along::release_rest(&mut self.buckets, &holds.items, at, due);
+        charged_of(amount, unpaid)
     }
 
     /// A copy of the buckets, in the order of their use.
@@ -243,5 +420,27 @@ impl Purse {
         ensures { self.new ≡ map (with_end at) self.old }
     {
         along::expire_all(&mut self.buckets, at);
+    }
+}
+
+/// An amount of money, and blocks, as what is due.
+fn due_of(amount: Amount, blocks: Blocks) -> Due
+    ensures { result ≡ due amount.0 blocks.0 }
+{
+    Due {
+        money: amount.0,
+        blocks: blocks.0 as u128,
+    }
+}
+
+/// What became of an amount, by what is unpaid of it.
+fn charged_of(amount: Amount, unpaid: Due) -> Charged
+    requires { unpaid.money ≤ amount.0 }
+    ensures uncollected { result.uncollected.0 ≡ unpaid.money }
+    ensures collected { result.collected.0 + result.uncollected.0 ≡ amount.0 }
+{
+    Charged {
+        collected: Amount(amount.0 - unpaid.money),
+        uncollected: Amount(unpaid.money),
     }
 }

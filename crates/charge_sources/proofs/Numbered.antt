@@ -29,9 +29,9 @@ record AddsNone (n : ℕ) (d : Dated) : Type 0 where
 
 adds : (n t : ℕ) (f : Fact) →
     AddsOne n (record { at = t; fact = f }) ⊎ AddsNone n (record { at = t; fact = f })
-adds n t (Use s g u blocks rated left) =
+adds n t (Use s g u blocks covered rated left) =
     inl (record { row = _; is = refl; number = refl; counts = refl })
-adds n t (Credit m from until scope amount) = inr (record { is = refl; counts = refl })
+adds n t (Credit kind m from until scope amount) = inr (record { is = refl; counts = refl })
 adds n t (Grant s g p u c) = inr (record { is = refl; counts = refl })
 adds n t (Hold s g m amount) = inr (record { is = refl; counts = refl })
 adds n t (End s g) = inr (record { is = refl; counts = refl })

@@ -2,6 +2,7 @@
 use Rattle.std.proofs.Common.{◌≡◌, ℕ, ◌+◌, true, List, [], ◌∷◌, ◌++◌, refl, sym, subst, arith}
 use Rattle.std.proofs.Common.{Option}
 use Rattle.buckets.specs.declared.holds.Hold.{Hold}
+use Rattle.buckets.specs.declared.kind.BucketKind.{BucketKind}
 use Rattle.buckets.specs.Row.{Row, new_row}
 use Rattle.buckets.specs.Spend.{IsInOrder, AreDistinct, IsBelow, inserted}
 use Rattle.buckets.proofs.SharesAlong.{KeepsPlace, IsInOrder-map, IsInOrder-inserted}
@@ -27,14 +28,14 @@ pub no_credits : AreCredited [] 1
 no_credits = record { order = tt; distinct = tt; below = tt }
 
 -- one more
-pub more_credits : (t from until : ℕ) (scope : Option ℕ) (amount : ℕ) (ledger : Ledger) →
-    AreCredited (credits ledger) (next_bucket ledger) →
-    AreCredited (credits (credited t from until scope amount ledger))
-    (next_bucket (credited t from until scope amount ledger))
-more_credits t from until scope amount ledger h =
-    let b : Row = new_row (next_bucket ledger) from until scope amount in
-    let next : next_bucket ledger + 1 ≡ next_bucket (credited t from until scope amount ledger) =
-    omega arith in
+pub more_credits : (t : ℕ) (kind : BucketKind) (from until : ℕ) (scope : Option ℕ) (amount : ℕ)
+    (ledger : Ledger) → AreCredited (credits ledger) (next_bucket ledger) →
+    AreCredited (credits (credited t kind from until scope amount ledger))
+    (next_bucket (credited t kind from until scope amount ledger))
+more_credits t kind from until scope amount ledger h =
+    let b : Row = new_row kind (next_bucket ledger) from until scope amount in
+    let next : next_bucket ledger + 1
+    ≡ next_bucket (credited t kind from until scope amount ledger) = omega arith in
     record {
       order = IsInOrder-inserted b (credits ledger) h.below h.order;
       distinct = AreDistinct-inserted b (credits ledger) h.below h.distinct;

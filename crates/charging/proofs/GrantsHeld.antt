@@ -2,7 +2,7 @@
 use Rattle.std.proofs.Common.{◌≡◌, ℕ, ◌+◌, ◌≤◌, Bool, true, false, List, [], ◌∷◌, ◌++◌, refl, sym}
 use Rattle.std.proofs.Common.{ap, subst, ◌∙◌, arith, Option, Some, None}
 use Rattle.std.proofs.Common.{zero, suc}
-use Rattle.std.specs.Prelude.{if◌then◌else◌, ◌==◌, sum_by, find, slice_get, option_map}
+use Rattle.std.specs.Prelude.{if◌then◌else◌, ◌==◌, find, slice_get, option_map}
 use Rattle.std.specs.Prelude.{option_and_then}
 use Rattle.std.specs.List.{All}
 use Rattle.std.proofs.lemmas.List.Elements.{All-head, All-tail}
@@ -15,10 +15,14 @@ use Rattle.tariffs.specs.Tariffs.{GroupTariff, IsTariff}
 use Rattle.rating.specs.declared.grant.Grant.{Grant as RatedGrant}
 use Rattle.units.specs.declared.blocks.UsedPart.{UsedPart}
 use Rattle.buckets.specs.declared.holds.Hold.{Hold}
+use Rattle.buckets.specs.declared.kind.BucketKind.{BucketKind}
+use Rattle.buckets.specs.declared.kind.BucketKind.TheVariants.{Money, Blocks}
+use Rattle.buckets.specs.declared.kind.Due.{Due}
+use Rattle.buckets.specs.Kinds.{due_in}
 use Rattle.buckets.specs.Row.{Row, eligible_amount}
-use Rattle.buckets.specs.Share.{share, parts}
-use Rattle.buckets.specs.Spend.{funds}
-use Rattle.buckets.specs.Holding.{held_sum, holds_of, paid}
+use Rattle.buckets.specs.Share.{sum_in, share, parts}
+use Rattle.buckets.specs.Spend.{funds, allowance}
+use Rattle.buckets.specs.Holding.{held_in, held_sum, holds_of, paid}
 use Rattle.buckets.proofs.Parts.{sum_at, held_in-sum_at}
 use Rattle.reserving.specs.Ledger.{Fact, Ledger, or_else, inner, newest, last_recording, used}
 use Rattle.reserving.specs.Ledger.{counter, held, only, open_grant, grant_in, next_bucket}
@@ -27,18 +31,19 @@ use Rattle.reserving.specs.Pricing.{tariff_of, tariff_at, cycle_at, periods_at, 
 use Rattle.reserving.specs.Pricing.{validity_of}
 use Rattle.reserving.specs.Balance.{credits, buckets_at}
 use Rattle.reserving.specs.Requests.{credited}
-use Rattle.reserving.specs.Settlement.{charge_facts, settled_by}
-use Rattle.reserving.specs.Reservation.{reserved, grant_for}
-use Rattle.reserving.specs.Debiting.{event_price, debited}
+use Rattle.reserving.specs.Settlement.{charge_facts, due_of, settled_by}
+use Rattle.reserving.specs.Reservation.{reserved, grant_for, held_due}
+use Rattle.reserving.specs.Debiting.{rest_price, debited}
 use Rattle.reserving.proofs.Lists.{some_of}
 use Rattle.reserving.proofs.Keys.{is_key, own_key, key_session, key_group}
 use Rattle.reserving.proofs.SettledFacts.{held-hold_facts, credits-hold_facts}
 use Rattle.charging.specs.Quotas.{OpenGrant, grant_told, grant_open}
-use Rattle.buckets.proofs.Paid.{sum_by-share}
-use Rattle.charging.proofs.BucketSums.{sum_by-most, sum_by-moved, held_sum-parts}
+use Rattle.buckets.proofs.Paid.{sum_in-share}
+use Rattle.charging.proofs.BucketSums.{sum_in-most, sum_in-alike, sum_in-moved, held_sum-parts}
 use Rattle.charging.proofs.Steps.{is_quiet, with_grant, granted}
 use Rattle.charging.proofs.Credited.{AreCredited, in_order, distinct}
-use Rattle.charging.proofs.GrantPrices.{grant_price, HasBlocks, grant_covers, grant_within}
+use Rattle.charging.proofs.GrantPrices.{HasBlocks, PaysFor, pays_more, grant_pays, grant_within}
+use Rattle.charging.proofs.GrantPrices.{grant_allowed}
 use Rattle.charging.proofs.GrantsLeft.{held_together, LeavesGrant, leaves_both, leaves_same}
 use Rattle.charging.proofs.GrantsLeft.{leaves_one, leaves_charges, leaves_holds, tells}
 
@@ -79,15 +84,14 @@ numbered b t g is =
 
 -- ---- open grants
 
--- what is held for a grant is at least what its units can cost; its session is recorded
+-- what is held for a grant, blocks and money, pays for its units; its session is recorded
 pub record IsCovered (b : Shelf) (s : List ℕ) (g : ℕ) (ledger : Ledger) (x : OpenGrant) :
     Type 0 where
   pub terms : Terms
   pub granted : open_grant s g ledger ≡ Some terms
   pub recorded : last_recording s ledger ≡ None → ⊥
-  pub held : grant_price (tariff_in b terms.book g) terms.periods (used s g ledger) x.counter
-      x.units ≤
-      held_together s g ledger
+  pub held : PaysFor (tariff_in b terms.book g) terms.periods (used s g ledger) x.counter x.units
+      (held_together Blocks s g ledger) (held_together Money s g ledger)
 
 abbrev pub IsCoveredAt : Shelf → Ledger → List ℕ → ℕ → Type 0
 IsCoveredAt b ledger s g = (x : OpenGrant) → grant_open s g ledger ≡ Some x →
@@ -105,13 +109,13 @@ covered_left b s g new old left h x e =
       terms = before.terms;
       granted = left.terms ∙ before.granted;
       recorded = λ none. before.recorded (left.recorded none);
-      held = omega (
-        arith,
-        before.held,
-        left.held,
-        ap (λ n. grant_price (tariff_in b before.terms.book g) before.terms.periods n x.counter
-            x.units) left.used,
-      );
+      held = subst (λ n. PaysFor (tariff_in b before.terms.book g) before.terms.periods n
+          x.counter x.units (held_together Blocks s g new) (held_together Money s g new))
+          (sym left.used)
+          (pays_more (tariff_in b before.terms.book g) before.terms.periods (used s g old)
+          x.counter x.units (held_together Blocks s g old) (held_together Money s g old)
+          (held_together Blocks s g new) (held_together Money s g new) (left.held Blocks)
+          (left.held Money) before.held);
     }
 
 pub covered_none : (b : Shelf) → AreCovered b []
@@ -130,11 +134,11 @@ covered_quiet b t f ledger q h s g =
     untold (Barred barred) k = refl
     untold _ k = cc
 
-pub covered_credit : (b : Shelf) (t from until : ℕ) (scope : Option ℕ) (amount : ℕ)
-    (ledger : Ledger) → AreCovered b ledger →
-    AreCovered b (credited t from until scope amount ledger)
-covered_credit b t from until scope amount ledger h s g =
-    covered_left b s g (credited t from until scope amount ledger) ledger
+pub covered_credit : (b : Shelf) (t : ℕ) (kind : BucketKind) (from until : ℕ) (scope : Option ℕ)
+    (amount : ℕ) (ledger : Ledger) → AreCovered b ledger →
+    AreCovered b (credited t kind from until scope amount ledger)
+covered_credit b t kind from until scope amount ledger h s g =
+    covered_left b s g (credited t kind from until scope amount ledger) ledger
     (leaves_one s g t _ ledger refl) (h s g)
 
 -- ---- settlements
@@ -166,14 +170,14 @@ covered_end b t session group new old left h s g x = by_test (is_key session gro
         (left s g other)) (h s g) x e
 
 -- a use of a group leaves the grants of others
-leaves_use : (t : ℕ) (session : List ℕ) (group units blocks rated short : ℕ) (hs : List Hold)
-    (ledger : Ledger) (s : List ℕ) (g : ℕ) → is_key session group s g ≡ false →
-    LeavesGrant s g (record { at = t; fact = Use session group units blocks rated short }
+leaves_use : (t : ℕ) (session : List ℕ) (group units blocks covered rated short : ℕ)
+    (hs : List Hold) (ledger : Ledger) (s : List ℕ) (g : ℕ) → is_key session group s g ≡ false →
+    LeavesGrant s g (record { at = t; fact = Use session group units blocks covered rated short }
     ∷ charge_facts t hs ++ ledger) ledger
-leaves_use t session group units blocks rated short hs ledger s g other =
-    leaves_both s g (record { at = t; fact = Use session group units blocks rated short }
+leaves_use t session group units blocks covered rated short hs ledger s g other =
+    leaves_both s g (record { at = t; fact = Use session group units blocks covered rated short }
     ∷ charge_facts t hs ++ ledger) (charge_facts t hs ++ ledger) ledger
-    (leaves_one s g t (Use session group units blocks rated short)
+    (leaves_one s g t (Use session group units blocks covered rated short)
     (charge_facts t hs ++ ledger) other) (leaves_charges s g t hs ledger)
 
 pub covered_settle : (b : Shelf) (t : ℕ) (session : List ℕ) (group : ℕ) (used_parts : List UsedPart)
@@ -182,7 +186,7 @@ pub covered_settle : (b : Shelf) (t : ℕ) (session : List ℕ) (group : ℕ) (u
 covered_settle b t session group [] ledger h =
     covered_end b t session group ledger ledger (λ s g other. leaves_same s g ledger) h
 covered_settle b t session group (p ∷ ps) ledger h =
-    covered_end b t session group _ ledger (leaves_use t session group _ _ _ _ _ ledger) h
+    covered_end b t session group _ ledger (leaves_use t session group _ _ _ _ _ _ ledger) h
 
 -- ---- debits: of a session that has no grant
 
@@ -195,7 +199,7 @@ covered_debit b t session group units ledger new h s g x = by_test (is_key sessi
     more = debited b t session group units ledger
 
     hs : List Hold
-    hs = parts (paid [] group t (event_price b t group units ledger).amount.0
+    hs = parts (paid [] group t (due_of (rest_price b t group units ledger))
         (buckets_at (validity_of b) t ledger)) (buckets_at (validity_of b) t ledger)
 
     by_test : (k : Bool) → is_key session group s g ≡ k → grant_open s g more ≡ Some x →
@@ -207,28 +211,29 @@ covered_debit b t session group units ledger new h s g x = by_test (is_key sessi
         (before.recorded (ap (λ n. last_recording n ledger)
         (sym (key_session session group s g own)) ∙ new))
     by_test false other e = covered_left b s g more ledger
-        (leaves_use t session group units (event_price b t group units ledger).blocks
-        (event_price b t group units ledger).amount.0 0 hs ledger s g other) (h s g) x e
+        (leaves_use t session group units (rest_price b t group units ledger).blocks
+        (rest_price b t group units ledger).covered.0 (rest_price b t group units ledger).amount.0
+        0 hs ledger s g other) (h s g) x e
 
 -- ---- grants
 
--- what a grant's holds have together is its amount, as the funds have it
-granted_together : (b : Shelf) (t : ℕ) (s : List ℕ) (g units amount : ℕ) (ledger : Ledger) →
-    AreCredited (credits ledger) (next_bucket ledger) →
-    amount ≤ funds g t (buckets_at (validity_of b) t ledger) →
-    amount ≤ held_together s g (reserved b t s g units amount ledger)
-granted_together b t s g units amount ledger made le =
-    let all : sum_by (λ c. sum_at c.number hs) (credits ledger) ≡ amount =
-    sym (sum_by-moved (λ n. sum_at n hs) (validity_of b) t ledger (credits ledger))
+-- what a grant's holds have together is what it is due in each unit, as the buckets have it
+granted_together : (k : BucketKind) (b : Shelf) (t : ℕ) (s : List ℕ) (g units : ℕ) (due : Due)
+    (ledger : Ledger) → AreCredited (credits ledger) (next_bucket ledger) →
+    due_in k due ≤ sum_in k (eligible_amount g t) (buckets_at (validity_of b) t ledger) →
+    due_in k due ≤ held_together k s g (reserved b t s g units due ledger)
+granted_together k b t s g units due ledger made le =
+    let all : sum_in k (λ c. sum_at c.number hs) (credits ledger) ≡ due_in k due =
+    sym (sum_in-moved k (λ n. sum_at n hs) (validity_of b) t ledger (credits ledger))
     ∙ sym (summed rows)
-    ∙ held_sum-parts (share (eligible_amount g t) rows amount) rows
+    ∙ held_sum-parts k (share (eligible_amount g t) rows due) rows
     (distinct (validity_of b) t ledger made)
-    ∙ sum_by-share (eligible_amount g t) rows amount (in_order (validity_of b) t ledger made)
+    ∙ sum_in-share k (eligible_amount g t) rows due (in_order (validity_of b) t ledger made)
     ∙ omega (arith, le) in
     omega (
       arith,
       all,
-      sum_by-most (λ c. sum_at c.number hs) (λ c. held (only s g) c.number more)
+      sum_in-most k (λ c. sum_at c.number hs) (λ c. held (only s g) c.number more)
           (credits ledger) (λ c. omega (arith, own c.number)),
       same,
     )
@@ -237,41 +242,44 @@ granted_together b t s g units amount ledger made le =
     rows = buckets_at (validity_of b) t ledger
 
     hs : List Hold
-    hs = holds_of g t amount rows
+    hs = holds_of g t due rows
 
     more : Ledger
-    more = reserved b t s g units amount ledger
+    more = reserved b t s g units due ledger
 
     own : (n : ℕ) → held (only s g) n more ≡
         sum_at n hs + held (only s g) n (with_grant b t s g units ledger)
     own n = held-hold_facts (only s g) n t s g hs (with_grant b t s g units ledger) (own_key s g)
 
-    summed : (xs : List Row) → held_sum hs xs ≡ sum_by (λ x. sum_at x.number hs) xs
-    summed xs = ap (λ f. sum_by f xs) (λ i x. held_in-sum_at hs x i)
+    summed : (xs : List Row) → held_sum k hs xs ≡ sum_in k (λ x. sum_at x.number hs) xs
+    summed xs = sum_in-alike k (held_in hs) (λ x. sum_at x.number hs) xs (λ x. held_in-sum_at hs x)
 
-    same : held_together s g more ≡ sum_by (λ c. held (only s g) c.number more) (credits ledger)
-    same = ap (sum_by (λ c. held (only s g) c.number more))
+    same : held_together k s g more
+        ≡ sum_in k (λ c. held (only s g) c.number more) (credits ledger)
+    same = ap (sum_in k (λ c. held (only s g) c.number more))
         (credits-hold_facts t s g hs (with_grant b t s g units ledger))
 
 -- the grant itself
-covered_own : (b : Shelf) (t : ℕ) (s : List ℕ) (g units amount : ℕ) (ledger : Ledger) →
+covered_own : (b : Shelf) (t : ℕ) (s : List ℕ) (g units : ℕ) (due : Due) (ledger : Ledger) →
     AreCredited (credits ledger) (next_bucket ledger) → (last_recording s ledger ≡ None → ⊥) →
-    amount ≤ funds g t (buckets_at (validity_of b) t ledger) →
-    grant_price (tariff_in b (number_at b t) g) (periods_at b t) (used s g ledger)
-    (counter (cycle_at b g) g (cycle_at b g t) ledger) units ≤ amount →
-    IsCoveredAt b (reserved b t s g units amount ledger) s g
-covered_own b t s g units amount ledger made recorded funded priced x e =
-    subst (IsCovered b s g (reserved b t s g units amount ledger))
+    due.money ≤ funds g t (buckets_at (validity_of b) t ledger) →
+    due.blocks ≤ allowance g t (buckets_at (validity_of b) t ledger) →
+    PaysFor (tariff_in b (number_at b t) g) (periods_at b t) (used s g ledger)
+    (counter (cycle_at b g) g (cycle_at b g t) ledger) units due.blocks due.money →
+    IsCoveredAt b (reserved b t s g units due ledger) s g
+covered_own b t s g units due ledger made recorded funded allowed pays x e =
+    subst (IsCovered b s g more)
     (some_of here x (sym (left.grant ∙ opened) ∙ e)) (record {
       terms = terms_at b t;
       granted = left.terms ∙ given;
       recorded = λ none. recorded (left.recorded none);
-      held = omega (
-        arith,
-        priced,
-        granted_together b t s g units amount ledger made funded,
-        ap (λ n. grant_price (tariff_in b (number_at b t) g) (periods_at b t) n place units) usage,
-      );
+      held = subst (λ n. PaysFor (tariff_in b (number_at b t) g) (periods_at b t) n place units
+          (held_together Blocks s g more) (held_together Money s g more)) (sym usage)
+          (pays_more (tariff_in b (number_at b t) g) (periods_at b t) (used s g ledger) place
+          units due.blocks due.money (held_together Blocks s g more)
+          (held_together Money s g more)
+          (granted_together Blocks b t s g units due ledger made allowed)
+          (granted_together Money b t s g units due ledger made funded) pays);
     })
   where
     place : ℕ
@@ -283,8 +291,11 @@ covered_own b t s g units amount ledger made recorded funded priced x e =
     first : Ledger
     first = with_grant b t s g units ledger
 
-    left : LeavesGrant s g (reserved b t s g units amount ledger) first
-    left = leaves_holds s g t s g (holds_of g t amount (buckets_at (validity_of b) t ledger)) first
+    more : Ledger
+    more = reserved b t s g units due ledger
+
+    left : LeavesGrant s g more first
+    left = leaves_holds s g t s g (holds_of g t due (buckets_at (validity_of b) t ledger)) first
 
     opened : grant_open s g first ≡ Some here
     opened = λ i. inner (or_else (if own_key s g i then Some (Some here) else None)
@@ -294,7 +305,7 @@ covered_own b t s g units amount ledger made recorded funded priced x e =
     given = λ i. inner (or_else (if own_key s g i then Some (Some (terms_at b t)) else None)
         (newest (grant_in s g) ledger))
 
-    usage : used s g (reserved b t s g units amount ledger) ≡ used s g ledger
+    usage : used s g more ≡ used s g ledger
     usage = omega (arith, left.used)
 
 pub covered_grant : (b : Shelf) → IsShelf b →
@@ -313,24 +324,28 @@ covered_grant b is t session group asked ledger made recorded h s g =
     money : ℕ
     money = funds group t (buckets_at (validity_of b) t ledger)
 
+    free : ℕ
+    free = allowance group t (buckets_at (validity_of b) t ledger)
+
     grant : RatedGrant
     grant = grant_for b t group before asked ledger
 
     more : Ledger
-    more = reserved b t session group grant.units.0 grant.amount.0 ledger
+    more = reserved b t session group grant.units.0 (held_due grant) ledger
 
     own : IsCoveredAt b more session group
-    own = covered_own b t session group grant.units.0 grant.amount.0 ledger made recorded
-        (grant_within (tariff_at b t group) (periods_at b t) before place asked money)
-        (subst (λ (o : Option GroupTariff). grant_price o (periods_at b t) before place
-        grant.units.0 ≤ grant.amount.0) (sym (numbered b t group is))
-        (grant_covers (tariff_at b t group) (periods_at b t) before place asked money
+    own = covered_own b t session group grant.units.0 (held_due grant) ledger made recorded
+        (grant_within (tariff_at b t group) (periods_at b t) before place asked money free)
+        (grant_allowed (tariff_at b t group) (periods_at b t) before place asked money free)
+        (subst (λ (o : Option GroupTariff). PaysFor o (periods_at b t) before place
+        grant.units.0 grant.allowed.0 grant.amount.0) (sym (numbered b t group is))
+        (grant_pays (tariff_at b t group) (periods_at b t) before place asked money free
         (subst HasBlocks (numbered b t group is) (has_blocks b is (number_at b t) group))))
 
     others : is_key session group s g ≡ false → LeavesGrant s g more ledger
     others other = leaves_both s g more (with_grant b t session group grant.units.0 ledger) ledger
         (leaves_holds s g t session group
-        (holds_of group t grant.amount.0 (buckets_at (validity_of b) t ledger))
+        (holds_of group t (held_due grant) (buckets_at (validity_of b) t ledger))
         (with_grant b t session group grant.units.0 ledger))
         (leaves_one s g t (Grant session group (terms_at b t) grant.units.0 place) ledger other)
 

@@ -2,9 +2,12 @@
 -- it.
 use Rattle.std.proofs.Common.{◌≡◌, ℕ, ◌≤◌, Bool, true, false, List, [], ◌∷◌, ◌++◌, refl, ◌∙◌, arith}
 use Rattle.std.proofs.Common.{Option, Some, None}
-use Rattle.std.specs.Prelude.{if◌then◌else◌, ◌&&◌, not, sum_by}
+use Rattle.std.specs.Prelude.{if◌then◌else◌, ◌&&◌, not}
 use Rattle.buckets.specs.declared.holds.Hold.{Hold}
+use Rattle.buckets.specs.declared.kind.BucketKind.{BucketKind}
+use Rattle.buckets.specs.Kinds.{is_alike}
 use Rattle.buckets.specs.Row.{Row, new_row}
+use Rattle.buckets.specs.Share.{sum_in}
 use Rattle.reserving.specs.Ledger.{Fact, Ledger, or_else, is_same, last_recording, used, held}
 use Rattle.reserving.specs.Ledger.{counts_before, only, open_grant}
 use Rattle.reserving.specs.Ledger.Fact.{Credit, Grant, Hold as HoldFact, End, Use, Charge, Touch}
@@ -15,11 +18,11 @@ use Rattle.reserving.specs.Reservation.{hold_facts}
 use Rattle.reserving.proofs.Keys.{is_key, is_key-sym, key_session, key_group}
 use Rattle.reserving.proofs.Holds.{held_same}
 use Rattle.charging.specs.Quotas.{grant_open}
-use Rattle.charging.proofs.BucketSums.{sum_by-most, sum_by-inserted}
+use Rattle.charging.proofs.BucketSums.{sum_in-most, sum_in-inserted}
 
--- what is held for a session's group of all buckets together
-abbrev pub held_together : List ℕ → ℕ → Ledger → ℕ
-held_together s g ledger = sum_by (λ c. held (only s g) c.number ledger) (credits ledger)
+-- what is held for a session's group of all buckets of a kind together
+abbrev pub held_together : BucketKind → List ℕ → ℕ → Ledger → ℕ
+held_together k s g ledger = sum_in k (λ c. held (only s g) c.number ledger) (credits ledger)
 
 -- a grant is told alike, and no less is held for it
 pub record LeavesGrant (s : List ℕ) (g : ℕ) (new old : Ledger) : Type 0 where
@@ -27,7 +30,7 @@ pub record LeavesGrant (s : List ℕ) (g : ℕ) (new old : Ledger) : Type 0 wher
   pub terms : open_grant s g new ≡ open_grant s g old
   pub used : used s g new ≡ used s g old
   pub recorded : last_recording s new ≡ None → last_recording s old ≡ None
-  pub held : held_together s g old ≤ held_together s g new
+  pub held : (k : BucketKind) → held_together k s g old ≤ held_together k s g new
 
 pub leaves_both : (s : List ℕ) (g : ℕ) (new mid old : Ledger) → LeavesGrant s g new mid →
     LeavesGrant s g mid old → LeavesGrant s g new old
@@ -36,7 +39,7 @@ leaves_both s g new mid old x y = record {
   terms = x.terms ∙ y.terms;
   used = x.used ∙ y.used;
   recorded = λ e. y.recorded (x.recorded e);
-  held = omega (arith, x.held, y.held);
+  held = λ k. omega (arith, x.held k, y.held k);
 }
 
 pub leaves_same : (s : List ℕ) (g : ℕ) (ledger : Ledger) → LeavesGrant s g ledger ledger
@@ -45,7 +48,7 @@ leaves_same s g ledger = record {
   terms = refl;
   used = refl;
   recorded = λ e. e;
-  held = omega arith;
+  held = λ k. omega arith;
 }
 
 -- ---- one fact
@@ -54,7 +57,7 @@ leaves_same s g ledger = record {
 abbrev pub tells : List ℕ → ℕ → Fact → Bool
 tells s g (Grant session group terms units counter) = is_key session group s g
 tells s g (End session group) = is_key session group s g
-tells s g (Use session group units blocks rated uncollected) = is_key session group s g
+tells s g (Use session group units blocks covered rated uncollected) = is_key session group s g
 tells s g _ = false
 
 abbrev in_front : ℕ → Fact → Ledger → Ledger
@@ -75,36 +78,35 @@ other_counts s g session group other s' g' = by_test (only s g s' g') refl
         rw same refl
 
 each_most : (s : List ℕ) (g : ℕ) (new old : Ledger) (rows : List Row) →
-    ((n : ℕ) → held (only s g) n old ≤ held (only s g) n new) →
-    sum_by (λ c. held (only s g) c.number old) rows ≤
-    sum_by (λ c. held (only s g) c.number new) rows
-each_most s g new old rows le =
-    sum_by-most (λ c. held (only s g) c.number old) (λ c. held (only s g) c.number new) rows
+    ((n : ℕ) → held (only s g) n old ≤ held (only s g) n new) → (k : BucketKind) →
+    sum_in k (λ c. held (only s g) c.number old) rows ≤
+    sum_in k (λ c. held (only s g) c.number new) rows
+each_most s g new old rows le k =
+    sum_in-most k (λ c. held (only s g) c.number old) (λ c. held (only s g) c.number new) rows
     (λ c. le c.number)
 
 -- a bucket more
-credit_held : (t number from until : ℕ) (scope : Option ℕ) (amount : ℕ) (s : List ℕ) (g : ℕ)
-    (ledger : Ledger) → held_together s g ledger ≤
-    held_together s g (in_front t (Credit number from until scope amount) ledger)
-credit_held t number from until scope amount s g ledger =
-    let more : Ledger = in_front t (Credit number from until scope amount) ledger in
-    omega (
-      arith,
-      sum_by-inserted (λ c. held (only s g) c.number more)
-          (new_row number from until scope amount) (credits ledger),
-      each_most s g more ledger
-          (credits ledger) (λ n. omega arith),
-    )
+credit_held : (t : ℕ) (kind : BucketKind) (number from until : ℕ) (scope : Option ℕ) (amount : ℕ)
+    (s : List ℕ) (g : ℕ) (ledger : Ledger) (k : BucketKind) → held_together k s g ledger ≤
+    held_together k s g (in_front t (Credit kind number from until scope amount) ledger)
+credit_held t kind number from until scope amount s g ledger k =
+    let more : Ledger = in_front t (Credit kind number from until scope amount) ledger in
+    let all : held_together k s g more
+    ≡ (if is_alike kind k then held (only s g) number more else 0)
+    + sum_in k (λ c. held (only s g) c.number more) (credits ledger) =
+    sum_in-inserted k (λ c. held (only s g) c.number more)
+    (new_row kind number from until scope amount) (credits ledger) in
+    omega (arith, all, each_most s g more ledger (credits ledger) (λ n. omega arith) k)
 
 pub leaves_one : (s : List ℕ) (g t : ℕ) (f : Fact) (ledger : Ledger) → tells s g f ≡ false →
     LeavesGrant s g (in_front t f ledger) ledger
-leaves_one s g t (Credit number from until scope amount) ledger h =
+leaves_one s g t (Credit kind number from until scope amount) ledger h =
     record {
       grant = refl;
       terms = refl;
       used = omega arith;
       recorded = λ e. e;
-      held = credit_held t number from until scope amount s g ledger;
+      held = credit_held t kind number from until scope amount s g ledger;
     }
 leaves_one s g t (Grant session group terms units counter) ledger h = record {
   grant = rw h refl;
@@ -134,13 +136,14 @@ leaves_one s g t (End session group) ledger h = record {
             (only s g) n ledger (other_counts s g session group h),
       ));
 }
-leaves_one s g t (Use session group units blocks rated uncollected) ledger h = record {
+leaves_one s g t (Use session group units blocks covered rated uncollected) ledger h = record {
   grant = refl;
   terms = refl;
   used = (let none : (if is_key session group s g then units else 0) ≡ 0 =
       rw h refl in omega (arith, none));
   recorded = λ e. e;
-  held = each_most s g (in_front t (Use session group units blocks rated uncollected) ledger) ledger
+  held = each_most s g (in_front t (Use session group units blocks covered rated uncollected)
+      ledger) ledger
       (credits ledger) (λ n. omega arith);
 }
 leaves_one s g t (Charge bucket amount) ledger h =

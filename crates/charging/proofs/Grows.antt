@@ -3,6 +3,7 @@ use Rattle.std.proofs.Common.{ℕ, List, [], ◌∷◌, ◌++◌, Option, refl, 
 use Rattle.commands.specs.declared.request.Request.{Request}
 use Rattle.shelves.specs.Shelves.{Shelf}
 use Rattle.units.specs.declared.blocks.UsedPart.{UsedPart}
+use Rattle.buckets.specs.declared.kind.BucketKind.{BucketKind}
 use Rattle.reserving.specs.Ledger.{Dated, Ledger}
 use Rattle.reserving.specs.Requests.{credited}
 use Rattle.reserving.specs.Settlement.{settled_by}
@@ -27,7 +28,7 @@ keeps_extends : (b : Shelf) (old : Ledger) → Keeps b (λ reports ledger. Exten
 keeps_extends b old = record {
   quiet = λ t f reports ledger q n fits h. more old ledger _ h;
   touch = λ t s n reports ledger h. more old _ _ (more old ledger _ h);
-  credit = λ t from until scope amount reports ledger h. more old ledger _ h;
+  credit = λ t kind from until scope amount reports ledger h. more old ledger _ h;
   settle = λ t s g used_parts reports ledger touches h.
       settled_more b t s g used_parts old ledger h;
   grant = λ t s g asked reports ledger has h. many old _ _ (more old ledger _ h);
@@ -42,9 +43,9 @@ pub one_more : (d : Dated) (ledger : Ledger) → Extends ledger (d ∷ ledger)
 one_more d ledger = more ledger ledger d (same ledger)
 
 -- one credit more
-pub one_credit : (t from until : ℕ) (scope : Option ℕ) (amount : ℕ) (ledger : Ledger) →
-    Extends ledger (credited t from until scope amount ledger)
-one_credit t from until scope amount ledger = one_more _ ledger
+pub one_credit : (t : ℕ) (kind : BucketKind) (from until : ℕ) (scope : Option ℕ) (amount : ℕ)
+    (ledger : Ledger) → Extends ledger (credited t kind from until scope amount ledger)
+one_credit t kind from until scope amount ledger = one_more _ ledger
 
 -- by a request
 pub grown : (b : Shelf) (t : ℕ) (r : Request) (ledger : Ledger) →

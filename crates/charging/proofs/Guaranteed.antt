@@ -7,24 +7,26 @@ use Rattle.shelves.specs.Shelves.{Shelf, IsShelf, tariff_in}
 use Rattle.rating.specs.declared.grant.Grant.{Grant as RatedGrant}
 use Rattle.units.specs.declared.blocks.UsedPart.{UsedPart}
 use Rattle.buckets.specs.declared.holds.Hold.{Hold}
+use Rattle.buckets.specs.declared.kind.BucketKind.{BucketKind}
+use Rattle.buckets.specs.declared.kind.BucketKind.TheVariants.{Money, Blocks}
 use Rattle.buckets.specs.Holding.{held_sum, holds_of, uncollected}
 use Rattle.reserving.specs.Ledger.{Fact, Ledger, used, counter, held, only, next_bucket}
 use Rattle.reserving.specs.Ledger.Fact.{Touch, Close, Recorded, Barred}
 use Rattle.reserving.specs.Pricing.{cycle_at, terms_now, rated_with, validity_of}
 use Rattle.reserving.specs.Balance.{credits, buckets_at}
 use Rattle.reserving.specs.Sessions.{holds_at}
-use Rattle.reserving.specs.Settlement.{price_by}
+use Rattle.reserving.specs.Settlement.{price_by, coverable}
 use Rattle.reserving.specs.Settlement.{reported, report_price, charge_facts, settled_by, missing}
-use Rattle.reserving.specs.Reservation.{hold_facts, grant_for}
+use Rattle.reserving.specs.Reservation.{hold_facts, grant_for, held_due}
 use Rattle.reserving.specs.Debiting.{debited}
 use Rattle.charging.specs.SessionReports.{Report}
 use Rattle.charging.specs.Quotas.{OpenGrant, grant_open, IsWithinGrant, AreQuotasPaid}
-use Rattle.charging.proofs.BucketSums.{sum_by-moved, held_sum-parts}
+use Rattle.charging.proofs.BucketSums.{sum_in-moved, held_sum-parts}
 use Rattle.charging.proofs.Steps.{is_quiet, with_grant, granted, Keeps}
 use Rattle.charging.proofs.Credited.{AreCredited, distinct}
 use Rattle.charging.proofs.Paying.{IsPaying, paying_none, keeps_paying, before_charges-charges}
 use Rattle.charging.proofs.Paying.{paid_parts}
-use Rattle.charging.proofs.GrantPrices.{grant_price, report_within}
+use Rattle.charging.proofs.GrantPrices.{PaysFor, report_within}
 use Rattle.charging.proofs.GrantsLeft.{held_together}
 use Rattle.charging.proofs.GrantsHeld.{has_blocks, IsCovered, AreCovered, covered_none}
 use Rattle.charging.proofs.GrantsHeld.{covered_quiet, covered_credit, covered_settle, covered_debit}
@@ -60,13 +62,13 @@ quiet_quotas b t _ ledger q h = cc
 -- ---- a report
 
 -- what a session's reservation has together is what is held for it
-held_at : (v : ℕ → ℕ) (t : ℕ) (s : List ℕ) (g : ℕ) (ledger : Ledger) →
+held_at : (k : BucketKind) (v : ℕ → ℕ) (t : ℕ) (s : List ℕ) (g : ℕ) (ledger : Ledger) →
     AreCredited (credits ledger) (next_bucket ledger) →
-    held_sum (holds_at v t s g ledger) (buckets_at v t ledger) ≡ held_together s g ledger
-held_at v t s g ledger made =
-    held_sum-parts (λ c. held (only s g) c.number ledger) (buckets_at v t ledger)
+    held_sum k (holds_at v t s g ledger) (buckets_at v t ledger) ≡ held_together k s g ledger
+held_at k v t s g ledger made =
+    held_sum-parts k (λ c. held (only s g) c.number ledger) (buckets_at v t ledger)
     (distinct v t ledger made)
-    ∙ sum_by-moved (λ n. held (only s g) n ledger) v t ledger (credits ledger)
+    ∙ sum_in-moved k (λ n. held (only s g) n ledger) v t ledger (credits ledger)
 
 within_grant : (b : Shelf) → IsShelf b →
     (t : ℕ) (s : List ℕ) (g : ℕ) (used_parts : List UsedPart) (reports : List Report)
@@ -79,27 +81,24 @@ within_grant b is t s g used_parts reports ledger h x e le place_is =
     let covered : IsCovered b s g ledger x = h.covered s g x e in
     let place : ℕ = counter (cycle_at b g) g (cycle_at b g t) ledger in
     let before : ℕ = used s g ledger in
+    let free : ℕ = coverable (validity_of b) t s g ledger in
+    let blocks : ℕ = held_together Blocks s g ledger in
+    let money : ℕ = held_together Money s g ledger in
     let price : (report_price b t s g used_parts ledger).amount.0 ≡
-    (rated_with (tariff_in b covered.terms.book g) covered.terms.periods before place
+    (rated_with (tariff_in b covered.terms.book g) covered.terms.periods before place free
     used_parts).amount.0 =
-    ap (λ o. (price_by b g (unwrap_or o (terms_now b t)) before place used_parts).amount.0)
+    ap (λ o. (price_by b g (unwrap_or o (terms_now b t)) before place free used_parts).amount.0)
     covered.granted in
     let o : Option GroupTariff = tariff_in b covered.terms.book g in
-    let most : (rated_with o covered.terms.periods before place used_parts).amount.0 ≤
-    grant_price o covered.terms.periods before place x.units =
-    report_within o covered.terms.periods before place x.units used_parts
-    (has_blocks b is covered.terms.book g) le in
-    let moved : grant_price o covered.terms.periods before place x.units ≡
-    grant_price o covered.terms.periods before x.counter x.units =
-    ap (λ n. grant_price o covered.terms.periods before n x.units) place_is in
-    omega (
-      arith,
-      price,
-      most,
-      moved,
-      covered.held,
-      held_at (validity_of b) t s g ledger h.paying.credits,
-    )
+    let pays : PaysFor o covered.terms.periods before place x.units blocks money =
+    subst (λ n. PaysFor o covered.terms.periods before n x.units blocks money) (sym place_is)
+    covered.held in
+    let has : blocks ≤ free =
+    omega (arith, held_at Blocks (validity_of b) t s g ledger h.paying.credits) in
+    let most : (rated_with o covered.terms.periods before place free used_parts).amount.0 ≤ money =
+    report_within o covered.terms.periods before place x.units blocks money free used_parts
+    (has_blocks b is covered.terms.book g) le pays has in
+    omega (arith, price, most, held_at Money (validity_of b) t s g ledger h.paying.credits)
 
 settled_quotas : (b : Shelf) → IsShelf b →
     (t : ℕ) (s : List ℕ) (g : ℕ) (used_parts : List UsedPart) (reports : List Report)
@@ -121,7 +120,8 @@ granted_quotas : (b : Shelf) (t : ℕ) (s : List ℕ) (g : ℕ) (asked : Option 
     AreQuotasPaid b ledger → AreQuotasPaid b (granted b t s g asked ledger)
 granted_quotas b t s g asked ledger h =
     let grant : RatedGrant = grant_for b t g (used s g ledger) asked ledger in
-    AreQuotasPaid-holds b t s g (holds_of g t grant.amount.0 (buckets_at (validity_of b) t ledger))
+    AreQuotasPaid-holds b t s g (holds_of g t (held_due grant)
+    (buckets_at (validity_of b) t ledger))
     (with_grant b t s g grant.units.0 ledger) (tt, h)
 
 -- ---- each step
@@ -142,9 +142,9 @@ keeps_guaranteed b is = record {
         (covered_quiet b t (Touch s) ledger refl h.covered);
     quotas = (tt, (tt, h.quotas));
   };
-  credit = λ t from until scope amount reports ledger h. record {
-    paying = paying.credit t from until scope amount reports ledger h.paying;
-    covered = covered_credit b t from until scope amount ledger h.covered;
+  credit = λ t kind from until scope amount reports ledger h. record {
+    paying = paying.credit t kind from until scope amount reports ledger h.paying;
+    covered = covered_credit b t kind from until scope amount ledger h.covered;
     quotas = (tt, h.quotas);
   };
   settle = λ t s g used_parts reports ledger touches h. record {

@@ -20,6 +20,9 @@ use Rattle.shelves.specs.Shelves.{Shelf, book_at}
 use Rattle.tariffs.specs.Tariffs.{GroupTariff}
 use Rattle.rating.specs.declared.grant.Grant.{Grant as RatedGrant}
 use Rattle.units.specs.declared.blocks.UsedPart.{UsedPart}
+use Rattle.buckets.specs.declared.kind.BucketKind.TheVariants.{Money}
+use Rattle.buckets.specs.declared.kind.Due.{Due}
+use Rattle.reserving.specs.Settlement.{due_of}
 use Rattle.buckets.specs.declared.holds.Hold.{Hold}
 use Rattle.buckets.specs.Share.{parts}
 use Rattle.buckets.specs.Holding.{holds_of, paid}
@@ -32,7 +35,7 @@ use Rattle.reserving.specs.Sessions.{holds_at}
 use Rattle.reserving.specs.Pricing.{tariff_at, validity_of}
 use Rattle.reserving.specs.Requests.{recorded, touched, credited}
 use Rattle.reserving.specs.Settlement.{charge_facts, report_price, settled_by}
-use Rattle.reserving.specs.Reservation.{hold_facts, reserved, grant_for}
+use Rattle.reserving.specs.Reservation.{hold_facts, reserved, grant_for, held_due}
 use Rattle.reserving.specs.Debiting.{is_covered, debit_passes}
 use Rattle.reserving.proofs.Lists.{no_some}
 use Rattle.reserving.proofs.Keys.{is_same-refl}
@@ -53,14 +56,15 @@ use Rattle.charging.specs.Paid.{is_touched}
 use Rattle.charging.proofs.Steps.{with_grant, Keeps}
 
 -- a grant leaves its session recorded
-recorded_granted : (b : Shelf) (t : ℕ) (s : List ℕ) (g units amount : ℕ) (ledger : Ledger) →
-    last_recording s (reserved b t s g units amount ledger) ≡ last_recording s ledger
-recorded_granted b t s g units amount ledger =
+recorded_granted : (b : Shelf) (t : ℕ) (s : List ℕ) (g units : ℕ) (due : Due)
+    (ledger : Ledger) → last_recording s (reserved b t s g units due ledger) ≡
+    last_recording s ledger
+recorded_granted b t s g units due ledger =
     newest-front (recording_in s)
-    (hold_facts t s g (holds_of g t amount (buckets_at (validity_of b) t ledger)))
+    (hold_facts t s g (holds_of g t due (buckets_at (validity_of b) t ledger)))
     (with_grant b t s g units ledger)
     (each_hold (λ d. recording_in s d ≡ None) t s g
-    (holds_of g t amount (buckets_at (validity_of b) t ledger)) (λ x n. refl))
+    (holds_of g t due (buckets_at (validity_of b) t ledger)) (λ x n. refl))
 
 -- ---- a session's requests are of one that was touched
 
@@ -78,7 +82,7 @@ touched-settled b t s session g (p ∷ ps) ledger =
     let rows = buckets_at (validity_of b) t ledger in
     touched-charges s t (parts
     (paid (holds_at (validity_of b) t session g ledger) g t
-    (report_price b t session g (p ∷ ps) ledger).amount.0 rows) rows) ledger
+    (due_of (report_price b t session g (p ∷ ps) ledger)) rows) rows) ledger
 
 either-touched : (s : List ℕ) (c : Bool) (x y : Ledger) → is_touched s x ≡ true →
     is_touched s y ≡ true → is_touched s (if c then x else y) ≡ true
@@ -153,7 +157,7 @@ module _ (b : Shelf) (P : List Report → Ledger → Type 0) (k : Keeps b P)
   open_units tariff t s g asked ledger h =
       let grant : RatedGrant = grant_for b t g (used s g ledger) asked ledger in
       either_answered s (nat_lt 0 grant.units.0) _ _ (
-        λ e. h.0 (sym (recorded_granted b t s g grant.units.0 grant.amount.0 ledger) ∙ e),
+        λ e. h.0 (sym (recorded_granted b t s g grant.units.0 (held_due grant) ledger) ∙ e),
         k.grant t s g asked reports ledger h.0 h.1,
       ) h
 
@@ -244,9 +248,9 @@ module _ (b : Shelf) (P : List Report → Ledger → Type 0) (k : Keeps b P)
   kept_refund t s n r ledger h =
       unless_refused (refund_refusal (book_at b t) s r ledger) ledger (refunded t s n r ledger) h
       (λ free. either_decision (nat_lt 4294967295 (next_bucket ledger)) _ _ (λ p. h)
-      (λ p. kept_recorded t s n (credited t t 4102444800 None r.micros ledger)
+      (λ p. kept_recorded t s n (credited t Money t 4102444800 None r.micros ledger)
       (new_name s (last_recording s ledger) _ free)
-      (k.credit t t 4102444800 None r.micros reports ledger h)))
+      (k.credit t Money t 4102444800 None r.micros reports ledger h)))
 
 -- ---- updates and terminations
 

@@ -18,6 +18,7 @@ use Rattle.redemptions.specs.declared.voucher.Voucher.{Voucher}
 use Rattle.redemptions.specs.Adding.{addition}
 use Rattle.redemptions.specs.Redeeming.{redemption}
 use Rattle.shelves.specs.Shelves.{Shelf}
+use Rattle.buckets.specs.declared.kind.BucketKind.TheVariants.{Money}
 use Rattle.reserving.specs.Ledger.{Ledger}
 use Rattle.reserving.specs.Ledger.Fact.{Barred}
 use Rattle.decisions.specs.Decided.{Decision}
@@ -86,7 +87,7 @@ module _ (b : Shelf) (P : List Report → Ledger → Type 0) (k : Keeps b P) whe
       kept_unless (command.Credit c) t reports (kept_under (key_of (content.Credit c)) h)
       (content.Credit c) _ h (new_credit c t h) p
       (either_outcome (command.Credit c) t reports (is_out_of_range c t h.ledger) _ _ p
-      (k.credit t (from_of c t) (until_of c) c.scope c.amount reports h.ledger p))
+      (k.credit t Money (from_of c t) (until_of c) c.scope c.amount reports h.ledger p))
 
   -- a redemption credits
   kept_redeemed : (x : Redemption) (r : VoucherRedemption) (t : ℕ) (reports : List Report)
@@ -94,7 +95,7 @@ module _ (b : Shelf) (P : List Report → Ledger → Type 0) (k : Keeps b P) whe
       IsKept (command.Redeem r) t reports (redeemed_outcome x r t h)
   kept_redeemed x r t reports h p =
       either_outcome (command.Redeem r) t reports (is_full h.ledger) _ _ p
-      (k.credit t x.from x.until x.scope x.amount reports h.ledger p)
+      (k.credit t Money x.from x.until x.scope x.amount reports h.ledger p)
 
   kept_redemption : (o : Result Redemption RedeemRefusal) (r : VoucherRedemption) (t : ℕ)
       (reports : List Report) (h : History) → P reports h.ledger →

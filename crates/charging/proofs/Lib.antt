@@ -16,6 +16,8 @@ pub mod RunLemmas
 pub mod BucketSums
 pub mod Steps
 pub mod Credited
+pub mod Taking
+pub mod Coverable
 pub mod Paying
 pub mod GrantPrices
 pub mod GrantsLeft

@@ -23,6 +23,7 @@ use Rattle.redemptions.specs.declared.voucher.Voucher.{Voucher}
 use Rattle.redemptions.specs.Adding.{addition}
 use Rattle.redemptions.specs.Redeeming.{redemption}
 use Rattle.shelves.specs.Shelves.{Shelf}
+use Rattle.buckets.specs.declared.kind.BucketKind.TheVariants.{Money}
 use Rattle.reserving.specs.Ledger.{next_bucket}
 use Rattle.reserving.specs.Requests.{credited}
 use Rattle.reserving.proofs.Lists.{no_some}
@@ -77,7 +78,8 @@ credit_stays c t h = at (is_out_of_range c t h.ledger)
   where
     at : (v : Bool) → (if v then told (answer.Refused OutOfRange) h
         else keeping (content.Credit c) (answer.Bucket (next_bucket h.ledger))
-        (credited t (from_of c t) (until_of c) c.scope c.amount h.ledger) h).after.opened ≡ h.opened
+        (credited t Money (from_of c t) (until_of c) c.scope c.amount h.ledger) h).after.opened ≡
+        h.opened
     at true = refl
     at false = refl
 
@@ -87,7 +89,7 @@ redeemed_stays x r t h = at (is_full h.ledger)
   where
     at : (v : Bool) → (if v then told (answer.Refused OutOfRange) h
         else keeping (content.Redeem r) (answer.Bucket (next_bucket h.ledger))
-        (credited t x.from x.until x.scope x.amount h.ledger) h).after.opened ≡ h.opened
+        (credited t Money x.from x.until x.scope x.amount h.ledger) h).after.opened ≡ h.opened
     at true = refl
     at false = refl
 

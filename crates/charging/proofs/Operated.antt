@@ -14,6 +14,7 @@ use Rattle.commands.specs.declared.command.Content.TheVariants as content
 use Rattle.commands.specs.declared.command.Credit.{Credit}
 use Rattle.redemptions.specs.declared.voucher.Voucher.{Voucher}
 use Rattle.shelves.specs.Shelves.{Shelf}
+use Rattle.buckets.specs.declared.kind.BucketKind.TheVariants.{Money}
 use Rattle.reserving.specs.declared.charge.ChargeRow.{ChargeRow}
 use Rattle.reserving.specs.declared.session.SessionGroup.{SessionGroup}
 use Rattle.reserving.specs.Ledger.{Ledger, next_bucket}
@@ -337,9 +338,10 @@ credits_made (Ok (Some n)) c t from until old new p q usable makes = λ ledger l
     let made = makes ledger left before in (
       ap (λ v. v || is_full ledger) usable ∙ made.0,
       made.1,
-      subst (λ (u : ℕ). IsWith (credited t (from_of c t) u c.scope c.amount ledger) left t new) q
+      subst (λ (u : ℕ). IsWith (credited t Money (from_of c t) u c.scope c.amount ledger) left t
+          new) q
           (subst (λ (f : ℕ).
-          IsWith (credited t f until c.scope c.amount ledger) left t new) p made.2),
+          IsWith (credited t Money f until c.scope c.amount ledger) left t new) p made.2),
     )
 credits_made (Err e) c t from until old new p q usable makes = tt
 
@@ -380,7 +382,7 @@ module _ (b : Shelf) (list : List Accepted) (c : Credit) (t : ℕ) (old new : Ta
       (told (answer.Refused OutOfRange) h) (answer.Refused OutOfRange) old new
       (fresh-is ∙ ap (λ v. if v then told (answer.Refused OutOfRange) h
       else keeping (content.Credit c) (answer.Bucket (next_bucket h.ledger))
-      (credited t (from_of c t) (until_of c) c.scope c.amount h.ledger) h) refused)
+      (credited t Money (from_of c t) (until_of c) c.scope c.amount h.ledger) h) refused)
       refl refl same tables
 
   pub credit-done : (number : ℕ) (change : Change) → o ≡ Some number →
@@ -393,7 +395,7 @@ module _ (b : Shelf) (list : List Accepted) (c : Credit) (t : ℕ) (old new : Ta
   credit-done number change some shelf stands tells grown =
       let done = subst (λ (q : Option ℕ). Credits q c m h.ledger left x) some credit in
       let as_of : x.as_of ≡ m = subst (λ (q : Option ℕ). IfSome q (λ n. x.as_of ≡ m)) some stands in
-      let after : Ledger = credited t (from_of c t) (until_of c) c.scope c.amount h.ledger in
+      let after : Ledger = credited t Money (from_of c t) (until_of c) c.scope c.amount h.ledger in
       let allowed : is_out_of_range c t h.ledger ≡ false =
       ap (λ u. is_out_of_range c u h.ledger) (sym now) ∙ done.0 in
       served-loaded b list (command.Credit c) t c.account refl time le old new tables found loads
@@ -405,9 +407,10 @@ module _ (b : Shelf) (list : List Accepted) (c : Credit) (t : ℕ) (old new : Ta
       (record {
         shelf = shelf;
         at_moment = as_of ∙ now;
-        grows = one_credit t (from_of c t) (until_of c) c.scope c.amount h.ledger;
+        grows = one_credit t Money (from_of c t) (until_of c) c.scope c.amount h.ledger;
         rows = subst (λ (u : ℕ). IsWith
-            (credited u (from_of c u) (until_of c) c.scope c.amount h.ledger) left u x) now done.2;
+            (credited u Money (from_of c u) (until_of c) c.scope c.amount h.ledger) left u x) now
+            done.2;
         opened = account.opened;
         kept = (λ i. record { content = content.Credit c; answer = answer.Bucket (sym done.1 i) }
             ∷ h.kept) ∙ keeps-some (sym tells.kept_is) h.kept;

@@ -3,14 +3,19 @@ use Rattle.std.proofs.Common.{◌≡◌, ℕ, ◌+◌, ◌≤◌, List, [], ◌�
 use Rattle.std.proofs.Common.{refl, sym, ap, subst, ◌∙◌, arith, Option, Some, None}
 use Rattle.std.specs.Prelude.{if◌then◌else◌, is_some}
 use Rattle.std.proofs.lemmas.Bool.{leb-true}
+use Rattle.rating.specs.declared.report.Rated.{Rated}
 use Rattle.units.specs.declared.blocks.UsedPart.{UsedPart}
 use Rattle.shelves.specs.Shelves.{Shelf}
 use Rattle.buckets.specs.declared.holds.Hold.{Hold}
-use Rattle.buckets.specs.Row.{Row}
-use Rattle.buckets.specs.Share.{parts}
-use Rattle.buckets.specs.Spend.{funds}
-use Rattle.buckets.specs.Holding.{paid, uncollected, holds_of}
-use Rattle.buckets.proofs.Short.{spent}
+use Rattle.buckets.specs.declared.kind.BucketKind.{BucketKind}
+use Rattle.buckets.specs.declared.kind.BucketKind.TheVariants.{Money, Blocks}
+use Rattle.buckets.specs.declared.kind.Due.{Due}
+use Rattle.buckets.specs.Kinds.{due_in}
+use Rattle.buckets.specs.Row.{Row, eligible_amount}
+use Rattle.buckets.specs.Share.{parts, sum_in}
+use Rattle.buckets.specs.Spend.{IsInOrder, funds}
+use Rattle.buckets.specs.Holding.{paid, uncollected, holds_of, held_sum}
+use Rattle.buckets.proofs.Short.{spent_all}
 use Rattle.reserving.specs.Ledger.{Fact, Ledger, Recording, or_else, is_same, last_touch}
 use Rattle.reserving.specs.Ledger.{last_recording, next_bucket}
 use Rattle.reserving.specs.Ledger.Fact.{Touch, Close, Recorded, Barred}
@@ -18,18 +23,21 @@ use Rattle.reserving.specs.Balance.{credits, buckets_at}
 use Rattle.reserving.specs.Sessions.{holds_at}
 use Rattle.reserving.specs.Requests.{touched, credited}
 use Rattle.reserving.specs.Settlement.{charge_facts, reported, report_price, settled, settled_by}
+use Rattle.reserving.specs.Settlement.{due_of}
 use Rattle.reserving.specs.Reservation.{hold_facts, reserved}
-use Rattle.reserving.specs.Debiting.{event_price, is_covered, debited}
+use Rattle.reserving.specs.Debiting.{rest_price, is_covered, debited}
 use Rattle.reserving.proofs.Lists.{no_some}
 use Rattle.charging.specs.SessionReports.{Report, with_report}
-use Rattle.charging.specs.Paid.{before_charges, collected, is_touched, IsReport, IsEvent}
+use Rattle.charging.specs.Paid.{before_charges, taken, is_touched, IsReport, IsEvent}
 use Rattle.charging.specs.Paid.{without_last, ArePaid}
-use Rattle.buckets.proofs.Paid.{amounts, amounts-parts, sum_by-paid}
 use Rattle.reserving.specs.Pricing.{validity_of}
 use Rattle.charging.proofs.Steps.{is_quiet, is_touch, with_grant, Keeps}
 use Rattle.charging.proofs.Credited.{AreCredited, no_credits, more_credits, SameCredits}
 use Rattle.charging.proofs.Credited.{same_credits, quiet_credits, charge_credits, hold_credits}
 use Rattle.charging.proofs.Credited.{in_order}
+use Rattle.charging.proofs.Taking.{taken_parts}
+use Rattle.charging.proofs.Coverable.{money_paid, blocks_paid, report_covers, report_covers_all}
+use Rattle.charging.proofs.Coverable.{event_covers}
 
 -- ---- charges in front
 
@@ -37,11 +45,6 @@ pub before_charges-charges : (t : ℕ) (hs : List Hold) (ledger : Ledger) →
     before_charges ledger ≡ ledger → before_charges (charge_facts t hs ++ ledger) ≡ ledger
 before_charges-charges t [] ledger begins = begins
 before_charges-charges t (h ∷ hs) ledger begins = before_charges-charges t hs ledger begins
-
-collected-charges : (t : ℕ) (hs : List Hold) (ledger : Ledger) →
-    collected (charge_facts t hs ++ ledger) ≡ amounts hs + collected ledger
-collected-charges t [] ledger = omega arith
-collected-charges t (h ∷ hs) ledger = omega (arith, collected-charges t hs ledger)
 
 ArePaid-charges : (b : Shelf) (t : ℕ) (hs : List Hold) (reports : List Report) (ledger : Ledger) →
     ArePaid b reports ledger → ArePaid b reports (charge_facts t hs ++ ledger)
@@ -92,7 +95,7 @@ touches-holds t s g (x ∷ xs) ledger h = touches-holds t s g xs ledger h
 pub record IsPaying (b : Shelf) (reports : List Report) (ledger : Ledger) : Type 0 where
   pub credits : AreCredited (credits ledger) (next_bucket ledger)
   pub begins : before_charges ledger ≡ ledger
-  pub nothing : collected ledger ≡ 0
+  pub nothing : (k : BucketKind) → taken k ledger ≡ 0
   pub recorded : TouchesAreRecorded ledger
   pub paid : ArePaid b reports ledger
 
@@ -103,14 +106,14 @@ paying_quiet b t (Close s) reports ledger q n h =
     record {
       credits = same_credits _ ledger (quiet_credits t (Close s) ledger q) h.credits;
       begins = refl;
-      nothing = refl;
+      nothing = λ k. refl;
       recorded = h.recorded;
       paid = (tt, h.paid);
     }
 paying_quiet b t (Recorded s n) reports ledger q n' h = record {
   credits = same_credits _ ledger (quiet_credits t (Recorded s n) ledger q) h.credits;
   begins = refl;
-  nothing = refl;
+  nothing = λ k. refl;
   recorded = λ other e. h.recorded other
       (rest-none (if is_same s other then Some (record { number = n; at = t }) else None)
       (last_recording other ledger) e);
@@ -120,7 +123,7 @@ paying_quiet b t (Barred x) reports ledger q n h =
     record {
       credits = same_credits _ ledger (quiet_credits t (Barred x) ledger q) h.credits;
       begins = refl;
-      nothing = refl;
+      nothing = λ k. refl;
       recorded = h.recorded;
       paid = (tt, h.paid);
     }
@@ -134,19 +137,19 @@ paying_touch b t s n reports ledger h = record {
       (quiet_credits t (Recorded s n) (record { at = t; fact = Touch s } ∷ ledger) refl)
       (same_credits _ ledger (quiet_credits t (Touch s) ledger refl) h.credits);
   begins = refl;
-  nothing = refl;
+  nothing = λ k. refl;
   recorded = touches-touched t s n ledger h.recorded;
   paid = (tt, (tt, h.paid));
 }
 
-paying_credit : (b : Shelf) (t from until : ℕ) (scope : Option ℕ) (amount : ℕ)
-    (reports : List Report) (ledger : Ledger) → IsPaying b reports ledger →
-    IsPaying b reports (credited t from until scope amount ledger)
-paying_credit b t from until scope amount reports ledger h =
+paying_credit : (b : Shelf) (t : ℕ) (kind : BucketKind) (from until : ℕ) (scope : Option ℕ)
+    (amount : ℕ) (reports : List Report) (ledger : Ledger) → IsPaying b reports ledger →
+    IsPaying b reports (credited t kind from until scope amount ledger)
+paying_credit b t kind from until scope amount reports ledger h =
     record {
-      credits = more_credits t from until scope amount ledger h.credits;
+      credits = more_credits t kind from until scope amount ledger h.credits;
       begins = refl;
-      nothing = refl;
+      nothing = λ k. refl;
       recorded = h.recorded;
       paid = (tt, h.paid);
     }
@@ -155,10 +158,11 @@ paying_credit b t from until scope amount reports ledger h =
 abbrev pub paid_parts : Shelf → ℕ → List ℕ → ℕ → List UsedPart → Ledger → List Hold
 paid_parts b t s g used_parts ledger =
     parts (paid (holds_at (validity_of b) t s g ledger) g t
-    (report_price b t s g used_parts ledger).amount.0 (buckets_at (validity_of b) t ledger))
+    (due_of (report_price b t s g used_parts ledger)) (buckets_at (validity_of b) t ledger))
     (buckets_at (validity_of b) t ledger)
 
--- what a report's charges collect and what isn't collected are its price
+-- what a report's charges collect and what isn't collected are its price, and what they take of
+-- allowances are its covered blocks
 settled_is_paid : (b : Shelf) (t : ℕ) (s : List ℕ) (g : ℕ) (p : UsedPart) (ps : List UsedPart)
     (reports : List Report) (ledger : Ledger) → is_touched s ledger ≡ true →
     IsPaying b reports ledger →
@@ -167,17 +171,15 @@ settled_is_paid b t s g p ps reports ledger touches h = (
   tt,
   (
     record {
-      sum = omega (
+      sum = omega (arith, takes Money, h.nothing Money, money_paid holds g t all rows order);
+      allowed = omega (
         arith,
-        collected-charges t hs ledger,
-        h.nothing,
-        amounts-parts (paid holds g t rated rows) rows,
-        sum_by-paid holds g t rated rows
-            (in_order (validity_of b) t ledger h.credits),
+        takes Blocks,
+        h.nothing Blocks,
+        blocks_paid holds g t all rows order (report_covers b t s g (p ∷ ps) ledger),
       );
-      report = λ e. subst (IsReport b own t s g (reported (p ∷ ps))
-          (report_price b t s g (p ∷ ps) ledger).blocks rated (uncollected holds g t rated rows))
-          (sym before) report;
+      report = λ e. subst (IsReport b own t s g (reported (p ∷ ps)) price.blocks all.blocks
+          all.money (uncollected holds g t all.money rows)) (sym before) report;
       event = λ e. absurd (true≢false (sym is_touched_before ∙ e));
     },
     subst (λ v. ArePaid b (if v then reports else own ∷ reports) (charge_facts t hs ++ ledger))
@@ -191,11 +193,26 @@ settled_is_paid b t s g p ps reports ledger touches h = (
     holds : List Hold
     holds = holds_at (validity_of b) t s g ledger
 
-    rated : ℕ
-    rated = (report_price b t s g (p ∷ ps) ledger).amount.0
+    price : Rated
+    price = report_price b t s g (p ∷ ps) ledger
+
+    all : Due
+    all = due_of price
 
     hs : List Hold
     hs = paid_parts b t s g (p ∷ ps) ledger
+
+    takes : (k : BucketKind) → taken k (charge_facts t hs ++ ledger)
+        ≡ sum_in k (paid holds g t all rows) rows + taken k ledger
+    takes k = taken_parts k (paid holds g t all rows) (validity_of b) t ledger h.credits
+
+    order : IsInOrder rows
+    order = in_order (validity_of b) t ledger h.credits
+
+    reaches : 0 < uncollected holds g t all.money rows → (k : BucketKind) →
+        held_sum k holds rows + sum_in k (eligible_amount g t) rows ≤ due_in k all
+    reaches less Money = omega (arith, less)
+    reaches less Blocks = report_covers_all b t s g (p ∷ ps) ledger (omega (arith, less))
 
     own : Report
     own = record { at = t; session = s; group = g; parts = p ∷ ps }
@@ -206,27 +223,28 @@ settled_is_paid b t s g p ps reports ledger touches h = (
     is_touched_before : is_touched s (before_charges (charge_facts t hs ++ ledger)) ≡ true
     is_touched_before = ap (is_touched s) before ∙ touches
 
-    report : IsReport b own t s g (reported (p ∷ ps)) (report_price b t s g (p ∷ ps) ledger).blocks
-        rated (uncollected holds g t rated rows) ledger
+    report : IsReport b own t s g (reported (p ∷ ps)) price.blocks all.blocks all.money
+        (uncollected holds g t all.money rows) ledger
     report = record {
       moment = refl;
       session = refl;
       group = refl;
       units_are = refl;
       blocks_are = refl;
+      covered_is = refl;
       rated_is = refl;
       uncollected_is = refl;
-      short = λ less x among. spent holds g t rated rows x among less;
+      short = λ less x among. spent_all holds g t all rows x among (reaches less x.kind);
     }
 
 -- a settlement makes no bucket
-settled_credits : (v : ℕ → ℕ) (t : ℕ) (s : List ℕ) (g units blocks rated : ℕ) (ledger : Ledger) →
-    SameCredits (settled v t s g units blocks rated ledger) ledger
-settled_credits v t s g units blocks rated ledger =
+settled_credits : (v : ℕ → ℕ) (t : ℕ) (s : List ℕ) (g units blocks : ℕ) (due : Due)
+    (ledger : Ledger) → SameCredits (settled v t s g units blocks due ledger) ledger
+settled_credits v t s g units blocks due ledger =
     let same : SameCredits (charge_facts t
-    (parts (paid (holds_at v t s g ledger) g t rated (buckets_at v t ledger))
+    (parts (paid (holds_at v t s g ledger) g t due (buckets_at v t ledger))
     (buckets_at v t ledger)) ++ ledger) ledger =
-    charge_credits t (parts (paid (holds_at v t s g ledger) g t rated (buckets_at v t ledger))
+    charge_credits t (parts (paid (holds_at v t s g ledger) g t due (buckets_at v t ledger))
     (buckets_at v t ledger)) ledger in
     record { rows = same.rows; next = omega (arith, same.next) }
 
@@ -238,21 +256,19 @@ paying_settle b t s g [] reports ledger touches h = record {
   credits = same_credits (settled_by b t s g [] ledger) ledger
       (record { rows = refl; next = omega arith }) h.credits;
   begins = refl;
-  nothing = refl;
+  nothing = λ k. refl;
   recorded = h.recorded;
   paid = (tt, h.paid);
 }
 paying_settle b t s g (p ∷ ps) reports ledger touches h = record {
   credits = same_credits (settled_by b t s g (p ∷ ps) ledger) ledger
       (settled_credits (validity_of b) t s g (reported (p ∷ ps))
-      (report_price b t s g (p ∷ ps) ledger).blocks (report_price b t s g (p ∷ ps) ledger).amount.0
-      ledger) h.credits;
+      (report_price b t s g (p ∷ ps) ledger).blocks
+      (due_of (report_price b t s g (p ∷ ps) ledger)) ledger) h.credits;
   begins = refl;
-  nothing = refl;
+  nothing = λ k. refl;
   recorded = touches-charges t
-      (parts (paid (holds_at (validity_of b) t s g ledger) g t
-      (report_price b t s g (p ∷ ps) ledger).amount.0 (buckets_at (validity_of b) t ledger))
-      (buckets_at (validity_of b) t ledger)) ledger h.recorded;
+      (paid_parts b t s g (p ∷ ps) ledger) ledger h.recorded;
   paid = settled_is_paid b t s g p ps reports ledger touches h;
 }
 
@@ -266,21 +282,21 @@ paying_holds b t s g (x ∷ xs) reports ledger h = record {
   credits = same_credits (hold_facts t s g (x ∷ xs) ++ ledger) ledger
       (hold_credits t s g (x ∷ xs) ledger) h.credits;
   begins = refl;
-  nothing = refl;
+  nothing = λ k. refl;
   recorded = touches-holds t s g (x ∷ xs) ledger h.recorded;
   paid = (tt, ArePaid-holds b t s g xs reports ledger h.paid);
 }
 
-paying_reserved : (b : Shelf) (t : ℕ) (s : List ℕ) (g units amount : ℕ) (reports : List Report)
-    (ledger : Ledger) → IsPaying b reports ledger →
-    IsPaying b reports (reserved b t s g units amount ledger)
-paying_reserved b t s g units amount reports ledger h =
-    paying_holds b t s g (holds_of g t amount (buckets_at (validity_of b) t ledger)) reports
+paying_reserved : (b : Shelf) (t : ℕ) (s : List ℕ) (g units : ℕ) (due : Due)
+    (reports : List Report) (ledger : Ledger) → IsPaying b reports ledger →
+    IsPaying b reports (reserved b t s g units due ledger)
+paying_reserved b t s g units due reports ledger h =
+    paying_holds b t s g (holds_of g t due (buckets_at (validity_of b) t ledger)) reports
     (with_grant b t s g units ledger) (record {
       credits = same_credits (with_grant b t s g units ledger) ledger
           (record { rows = refl; next = omega arith }) h.credits;
       begins = refl;
-      nothing = refl;
+      nothing = λ k. refl;
       recorded = h.recorded;
       paid = (tt, h.paid);
     })
@@ -293,22 +309,26 @@ paying_debit b t s g units reports ledger new covered h = record {
   credits = same_credits (debited b t s g units ledger) ledger
       (record { rows = same.rows; next = omega (arith, same.next) }) h.credits;
   begins = refl;
-  nothing = refl;
+  nothing = λ k. refl;
   recorded = touches-charges t hs ledger h.recorded;
   paid = (
     record {
       sum = omega (
         arith,
-        collected-charges t hs ledger,
-        h.nothing,
-        amounts-parts (paid [] g t rated rows) rows,
-        sum_by-paid [] g t rated rows
-            (in_order (validity_of b) t ledger h.credits),
+        takes Money,
+        h.nothing Money,
+        money_paid [] g t all rows order,
         within,
       );
+      allowed = omega (
+        arith,
+        takes Blocks,
+        h.nothing Blocks,
+        blocks_paid [] g t all rows order (omega (arith, event_covers b t g units ledger)),
+      );
       report = λ e. absurd (true≢false (sym e ∙ untouched));
-      event = λ e. subst (IsEvent b t g units (event_price b t g units ledger).blocks rated 0)
-          (sym before) event;
+      event = λ e. subst (IsEvent b t g units price.blocks all.blocks all.money 0) (sym before)
+          event;
     },
     subst (λ v. ArePaid b (if v then without_last reports else reports)
         (charge_facts t hs ++ ledger)) (sym untouched)
@@ -319,17 +339,27 @@ paying_debit b t s g units reports ledger new covered h = record {
     rows : List Row
     rows = buckets_at (validity_of b) t ledger
 
-    rated : ℕ
-    rated = (event_price b t g units ledger).amount.0
+    price : Rated
+    price = rest_price b t g units ledger
+
+    all : Due
+    all = due_of price
 
     hs : List Hold
-    hs = parts (paid [] g t rated rows) rows
+    hs = parts (paid [] g t all rows) rows
+
+    takes : (k : BucketKind) → taken k (charge_facts t hs ++ ledger)
+        ≡ sum_in k (paid [] g t all rows) rows + taken k ledger
+    takes k = taken_parts k (paid [] g t all rows) (validity_of b) t ledger h.credits
+
+    order : IsInOrder rows
+    order = in_order (validity_of b) t ledger h.credits
 
     same : SameCredits (charge_facts t hs ++ ledger) ledger
     same = charge_credits t hs ledger
 
-    within : rated ≤ funds g t rows
-    within = leb-true rated (funds g t rows) covered
+    within : all.money ≤ funds g t rows
+    within = leb-true all.money (funds g t rows) covered
 
     before : before_charges (charge_facts t hs ++ ledger) ≡ ledger
     before = before_charges-charges t hs ledger h.begins
@@ -337,14 +367,20 @@ paying_debit b t s g units reports ledger new covered h = record {
     untouched : is_touched s (before_charges (charge_facts t hs ++ ledger)) ≡ false
     untouched = ap (is_touched s) before ∙ ap is_some (h.recorded s new)
 
-    event : IsEvent b t g units (event_price b t g units ledger).blocks rated 0 ledger
-    event = record { blocks_are = refl; rated_is = refl; covered = covered; whole = refl }
+    event : IsEvent b t g units price.blocks all.blocks all.money 0 ledger
+    event = record {
+      blocks_are = refl;
+      covered_is = refl;
+      rated_is = refl;
+      funded = covered;
+      whole = refl;
+    }
 
 pub paying_none : (b : Shelf) → IsPaying b [] []
 paying_none b = record {
   credits = no_credits;
   begins = refl;
-  nothing = refl;
+  nothing = λ k. refl;
   recorded = λ s e. refl;
   paid = refl;
 }

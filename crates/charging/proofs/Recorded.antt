@@ -3,6 +3,7 @@ use Rattle.std.proofs.Common.{◌≡◌, ℕ, Bool, true, false, true≢false, L
 use Rattle.std.proofs.Common.{ap, ◌∙◌, Option, Some, None}
 use Rattle.std.specs.Prelude.{if◌then◌else◌, ◌&&◌, ◌||◌, ◌==◌, is_some}
 use Rattle.units.specs.declared.blocks.UsedPart.{UsedPart}
+use Rattle.reserving.specs.Settlement.{due_of}
 use Rattle.buckets.specs.declared.holds.Hold.{Hold}
 use Rattle.buckets.specs.Holding.{paid}
 use Rattle.buckets.specs.Share.{parts}
@@ -15,7 +16,7 @@ use Rattle.reserving.specs.Requests.{recorded, touched}
 use Rattle.reserving.specs.Settlement.{charge_facts, report_price, settled_by}
 use Rattle.reserving.specs.Reservation.{hold_facts}
 use Rattle.reserving.specs.Balance.{buckets_at}
-use Rattle.reserving.specs.Debiting.{debited, event_price}
+use Rattle.reserving.specs.Debiting.{debited, rest_price}
 use Rattle.reserving.specs.Sessions.{holds_at}
 use Rattle.reserving.proofs.Lists.{no_some}
 use Rattle.reserving.proofs.Holds.{same_from}
@@ -154,10 +155,10 @@ settled_kept b t s g [] ledger touches h = plain t (End s g) ledger (end_plain s
 settled_kept b t s g (p ∷ ps) ledger touches h =
     let hs : List Hold = parts
     (paid (holds_at (validity_of b) t s g ledger) g t
-    (report_price b t s g (p ∷ ps) ledger).amount.0 (buckets_at (validity_of b) t ledger))
+    (due_of (report_price b t s g (p ∷ ps) ledger)) (buckets_at (validity_of b) t ledger))
     (buckets_at (validity_of b) t ledger) in
     plain t (End s g) _ (end_plain s g)
-    (named t s (Use s g _ _ _ _) _ (λ x y e. same_from s x (first_true (is_same s x) (g == y) e))
+    (named t s (Use s g _ _ _ _ _) _ (λ x y e. same_from s x (first_true (is_same s x) (g == y) e))
     (λ x. refl) (λ x. refl)
     (λ e. touched_recorded s ledger touches h (sym (charges_record s t hs ledger) ∙ e))
     (charges t hs ledger h))
@@ -175,7 +176,7 @@ granted_kept b t s g asked ledger has h =
 abbrev with_charges : Shelf → ℕ → ℕ → ℕ → Ledger → Ledger
 with_charges b t g units ledger =
     charge_facts t
-    (parts (paid [] g t (event_price b t g units ledger).amount.0
+    (parts (paid [] g t (due_of (rest_price b t g units ledger))
     (buckets_at (validity_of b) t ledger))
     (buckets_at (validity_of b) t ledger)) ++ ledger
 
@@ -184,7 +185,7 @@ event_kept : (b : Shelf) (t : ℕ) (s : List ℕ) (g units n : ℕ) (ledger : Le
 event_kept b t s g units n ledger h =
     let k : AreRecorded (with_charges b t g units ledger) =
     charges t
-    (parts (paid [] g t (event_price b t g units ledger).amount.0
+    (parts (paid [] g t (due_of (rest_price b t g units ledger))
     (buckets_at (validity_of b) t ledger)) (buckets_at (validity_of b) t ledger)) ledger h in
     record {
       groups = λ x y e q. at x y k (is_same s x) refl e q;
@@ -206,8 +207,8 @@ keeps_recorded : (b : Shelf) → Keeps b (λ reports ledger. AreRecorded ledger)
 keeps_recorded b = record {
   quiet = λ t f reports ledger q n fits h. quiet_kept t f ledger q n h;
   touch = λ t s n reports ledger h. touched_kept t s n ledger h;
-  credit = λ t from until scope amount reports ledger h.
-      plain t (Credit _ from until scope amount) ledger
+  credit = λ t kind from until scope amount reports ledger h.
+      plain t (Credit kind _ from until scope amount) ledger
       (record { names = λ x y. refl; touch = λ x u. refl; record_before = λ x u l e. e }) h;
   settle = λ t s g used_parts reports ledger touches h.
       settled_kept b t s g used_parts ledger touches h;

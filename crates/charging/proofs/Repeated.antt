@@ -25,6 +25,7 @@ use Rattle.redemptions.specs.declared.voucher.Voucher.{Voucher}
 use Rattle.redemptions.specs.Adding.{addition}
 use Rattle.redemptions.specs.Redeeming.{redemption}
 use Rattle.shelves.specs.Shelves.{Shelf}
+use Rattle.buckets.specs.declared.kind.BucketKind.TheVariants.{Money}
 use Rattle.reserving.specs.Ledger.{Ledger, next_bucket}
 use Rattle.reserving.specs.Requests.{credited}
 use Rattle.decisions.specs.Decided.{Decision}
@@ -114,7 +115,7 @@ of_credit : (P : Outcome → Type 0) (c : Credit) (t : ℕ) (h : History) →
     P (keeping (content.Credit c) given ledger h)) → P (credit_outcome c t h)
 of_credit P c t h same kept =
     let given : Answer = answer.Bucket (next_bucket h.ledger) in
-    let ledger : Ledger = credited t (from_of c t) (until_of c) c.scope c.amount h.ledger in
+    let ledger : Ledger = credited t Money (from_of c t) (until_of c) c.scope c.amount h.ledger in
     unless_both P (kept_under (key_of (content.Credit c)) h) (content.Credit c)
     (answer.Refused ContentDiffers) h (new_credit c t h) same (λ free.
     if_both P (is_out_of_range c t h.ledger) (told (answer.Refused OutOfRange) h)
@@ -129,7 +130,7 @@ of_redeemed : (P : Outcome → Type 0) (o : Result Redemption RedeemRefusal) (r 
 of_redeemed P (Err refusal) r t h same kept = same (answer.Refused (refused_as refusal))
 of_redeemed P (Ok x) r t h same kept =
     let given : Answer = answer.Bucket (next_bucket h.ledger) in
-    let ledger : Ledger = credited t x.from x.until x.scope x.amount h.ledger in
+    let ledger : Ledger = credited t Money x.from x.until x.scope x.amount h.ledger in
     if_both P (is_full h.ledger) (told (answer.Refused OutOfRange) h)
     (keeping (content.Redeem r) given ledger h) (same (answer.Refused OutOfRange))
     (kept given ledger)

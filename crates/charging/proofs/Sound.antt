@@ -9,7 +9,8 @@ use Rattle.reserving.specs.Ledger.{Fact, Ledger, last_recording}
 use Rattle.reserving.specs.Ledger.Fact.{Touch, Close, Recorded, Barred}
 use Rattle.reserving.specs.SoundLedger.{IsSoundLedger}
 use Rattle.reserving.specs.Balance.{buckets_at}
-use Rattle.reserving.specs.Debiting.{event_price, debited}
+use Rattle.reserving.specs.Settlement.{due_of}
+use Rattle.reserving.specs.Debiting.{rest_price, debited}
 use Rattle.reserving.proofs.Crediting.{IsSoundLedger-credited}
 use Rattle.reserving.proofs.SettledRows.{IsSoundLedger-settled_by}
 use Rattle.reserving.proofs.rows.Touching.{IsSoundLedger-touched, IsSoundLedger-recorded}
@@ -41,8 +42,8 @@ sound_debited : (b : Shelf) (t : ℕ) (s : List ℕ) (g units : ℕ) (reports : 
     (ledger : Ledger) → IsSoundHistory b reports ledger →
     IsSoundLedger (debited b t s g units ledger)
 sound_debited b t s g units reports ledger h =
-    IsSoundLedger-debited (validity_of b) t s g units (event_price b t g units ledger).blocks
-    (event_price b t g units ledger).amount.0 ledger
+    IsSoundLedger-debited (validity_of b) t s g units (rest_price b t g units ledger).blocks
+    (due_of (rest_price b t g units ledger)) ledger
     (all_made (validity_of b) t ledger h.paying.credits) h.sound
 
 -- a debit records nothing by itself
@@ -50,7 +51,8 @@ new_debited : (b : Shelf) (t : ℕ) (s : List ℕ) (g units : ℕ) (ledger : Led
     last_recording s ledger ≡ None → last_recording s (debited b t s g units ledger) ≡ None
 new_debited b t s g units ledger new =
     let rows : List Row = buckets_at (validity_of b) t ledger in
-    let hs : List Hold = parts (paid [] g t (event_price b t g units ledger).amount.0 rows) rows in
+    let hs : List Hold =
+    parts (paid [] g t (due_of (rest_price b t g units ledger)) rows) rows in
     charges_record s t hs ledger ∙ new
 
 pub sound_none : (b : Shelf) → IsSoundHistory b [] []
@@ -66,9 +68,9 @@ keeps_sound b = record {
     paying = paying.touch t s n reports ledger h.paying;
     sound = IsSoundLedger-touched t s n ledger h.sound;
   };
-  credit = λ t from until scope amount reports ledger h. record {
-    paying = paying.credit t from until scope amount reports ledger h.paying;
-    sound = IsSoundLedger-credited t from until scope amount ledger h.sound;
+  credit = λ t kind from until scope amount reports ledger h. record {
+    paying = paying.credit t kind from until scope amount reports ledger h.paying;
+    sound = IsSoundLedger-credited t kind from until scope amount ledger h.sound;
   };
   settle = λ t s g used_parts reports ledger touches h. record {
     paying = paying.settle t s g used_parts reports ledger touches h.paying;

@@ -3,12 +3,13 @@ use Rattle.std.proofs.Common.{◌≡◌, ℕ, Bool, true, false, List, ◌∷◌
 use Rattle.units.specs.declared.blocks.UsedPart.{UsedPart}
 use Rattle.shelves.specs.Shelves.{Shelf}
 use Rattle.rating.specs.declared.grant.Grant.{Grant as RatedGrant}
+use Rattle.buckets.specs.declared.kind.BucketKind.{BucketKind}
 use Rattle.reserving.specs.Ledger.{Fact, Ledger, last_recording, used, counter}
 use Rattle.reserving.specs.Ledger.Fact.{Grant, Touch, Close, Recorded, Barred}
 use Rattle.reserving.specs.Pricing.{cycle_at, terms_at}
 use Rattle.reserving.specs.Requests.{recorded, touched, credited}
 use Rattle.reserving.specs.Settlement.{settled_by}
-use Rattle.reserving.specs.Reservation.{reserved, grant_for}
+use Rattle.reserving.specs.Reservation.{reserved, grant_for, held_due}
 use Rattle.reserving.specs.Debiting.{debited, is_covered}
 use Rattle.charging.specs.SessionReports.{Report, with_report}
 use Rattle.charging.specs.Paid.{is_touched}
@@ -30,11 +31,11 @@ with_grant b t s g units ledger =
           (counter (cycle_at b g) g (cycle_at b g t) ledger);
     } ∷ ledger
 
--- the ledger with the grant of a session's group, as far as the funds cover it
+-- the ledger with the grant of a session's group, as far as the allowance and the funds cover it
 abbrev pub granted : Shelf → ℕ → List ℕ → ℕ → Option ℕ → Ledger → Ledger
 granted b t s g asked ledger = let grant : RatedGrant =
-    grant_for b t g (used s g ledger) asked ledger in reserved b t s g grant.units.0 grant.amount.0
-    ledger
+    grant_for b t g (used s g ledger) asked ledger in reserved b t s g grant.units.0
+    (held_due grant) ledger
 
 abbrev pub is_touch : Fact → Bool
 is_touch (Touch session) = true
@@ -54,8 +55,9 @@ pub record Keeps (b : Shelf) (P : List Report → Ledger → Type 0) : Type 0 wh
       P reports (record { at = t; fact = f } ∷ ledger)
   pub touch : (t : ℕ) (s : List ℕ) (n : ℕ) (reports : List Report) (ledger : Ledger) →
       P reports ledger → P reports (touched t s n ledger)
-  pub credit : (t from until : ℕ) (scope : Option ℕ) (amount : ℕ) (reports : List Report)
-      (ledger : Ledger) → P reports ledger → P reports (credited t from until scope amount ledger)
+  pub credit : (t : ℕ) (kind : BucketKind) (from until : ℕ) (scope : Option ℕ) (amount : ℕ)
+      (reports : List Report) (ledger : Ledger) → P reports ledger →
+      P reports (credited t kind from until scope amount ledger)
   -- of a session that was touched
   pub settle : (t : ℕ) (s : List ℕ) (g : ℕ) (parts : List UsedPart) (reports : List Report)
       (ledger : Ledger) → is_touched s ledger ≡ true → P reports ledger →

@@ -21,6 +21,7 @@ use Rattle.redemptions.specs.declared.redeeming.RedeemRefusal.{RedeemRefusal}
 use Rattle.redemptions.specs.Adding.{same_terms, addition}
 use Rattle.redemptions.specs.Redeeming.{redemption, after_redemption}
 use Rattle.shelves.specs.Shelves.{Shelf}
+use Rattle.buckets.specs.declared.kind.BucketKind.TheVariants.{Money}
 use Rattle.reserving.specs.Ledger.{Ledger, next_bucket}
 use Rattle.reserving.specs.Charges.{charge_rows}
 use Rattle.reserving.specs.Requests.{credited}
@@ -217,7 +218,7 @@ module _ (b : Shelf) (list : List Accepted) (r : VoucherRedemption) (t : ℕ) (o
       (told (answer.Refused OutOfRange) h) (answer.Refused OutOfRange) old new
       (redeem-is ∙ ap (λ v. if v then told (answer.Refused OutOfRange) h
       else keeping (content.Redeem r) (answer.Bucket (next_bucket h.ledger))
-      (credited t y.from y.until y.scope y.amount h.ledger) h) full)
+      (credited t Money y.from y.until y.scope y.amount h.ledger) h) full)
       refl refl same tables
 
   -- the voucher stands spent under its code, and each other one as it was
@@ -251,7 +252,7 @@ module _ (b : Shelf) (list : List Accepted) (r : VoucherRedemption) (t : ℕ) (o
       let done = subst (λ (q : Option ℕ). Makes q y.from y.until y.scope y.amount m h.ledger left x)
       some made in
       let as_of : x.as_of ≡ m = subst (λ (q : Option ℕ). IfSome q (λ n. x.as_of ≡ m)) some stands in
-      let after : Ledger = credited t y.from y.until y.scope y.amount h.ledger in
+      let after : Ledger = credited t Money y.from y.until y.scope y.amount h.ledger in
       served-loaded b list (command.Redeem r) t r.account refl time le old new tables found loads
       (keeping (content.Redeem r) (answer.Bucket (next_bucket h.ledger)) after h)
       (answer.Bucket number) x change refl
@@ -261,9 +262,9 @@ module _ (b : Shelf) (list : List Accepted) (r : VoucherRedemption) (t : ℕ) (o
       (record {
         shelf = shelf;
         at_moment = as_of ∙ now;
-        grows = one_credit t y.from y.until y.scope y.amount h.ledger;
+        grows = one_credit t Money y.from y.until y.scope y.amount h.ledger;
         rows = subst (λ (u : ℕ). IsWith
-            (credited u y.from y.until y.scope y.amount h.ledger) left u x) now done.2;
+            (credited u Money y.from y.until y.scope y.amount h.ledger) left u x) now done.2;
         opened = account.opened;
         kept = (λ i. record { content = content.Redeem r; answer = answer.Bucket (sym done.1 i) }
             ∷ h.kept) ∙ keeps-some (sym tells.kept_is) h.kept;

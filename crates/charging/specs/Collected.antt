@@ -1,14 +1,23 @@
--- What was collected of an account to date: by its charges, and from its buckets (TS 32.296,
--- account balance management function).
+-- What was collected of an account, and what allowances covered of it, to date: by its charges, and
+-- from its buckets (TS 32.296, account balance management function).
 use Rattle.std.specs.Prelude.{ℕ, sum_by}
+use Rattle.buckets.specs.declared.kind.BucketKind.{BucketKind}
+use Rattle.buckets.specs.declared.kind.BucketKind.TheVariants.{Money, Blocks}
+use Rattle.buckets.specs.Share.{sum_in}
+use Rattle.reserving.specs.declared.charge.ChargeRow.{ChargeRow}
 use Rattle.reserving.specs.Ledger.{Ledger}
 use Rattle.reserving.specs.Balance.{buckets_at}
 use Rattle.reserving.specs.Charges.{charge_rows}
 
--- by the charges of all reports and debits
-abbrev pub collected_to_date : Ledger → ℕ
-collected_to_date ledger = sum_by (λ c. c.collected.0) (charge_rows ledger)
+-- what a charge took of the buckets of a kind, in its unit: micro-units, or blocks
+abbrev pub taken_of : BucketKind → ChargeRow → ℕ
+taken_of Money c = c.collected.0
+taken_of Blocks c = c.covered.0
 
--- from all buckets, as they stand at a moment
-abbrev pub charged_to_date : (ℕ → ℕ) → ℕ → Ledger → ℕ
-charged_to_date v t ledger = sum_by (λ x. x.charged) (buckets_at v t ledger)
+-- by the charges of all reports and debits
+abbrev pub taken_to_date : BucketKind → Ledger → ℕ
+taken_to_date kind ledger = sum_by (taken_of kind) (charge_rows ledger)
+
+-- from all buckets of a kind, as they stand at a moment
+abbrev pub charged_to_date : BucketKind → (ℕ → ℕ) → ℕ → Ledger → ℕ
+charged_to_date kind v t ledger = sum_in kind (λ x. x.charged) (buckets_at v t ledger)

@@ -25,13 +25,13 @@ pub record IsAccounted (b : Shelf) (reports : List Report) (ledger : Ledger) (t 
     (told : ℕ → Option ChargeRow) : Type 0 where
   -- each bucket is what the ledger sums to, as of the account's last command
   pub buckets : (n : ℕ) → rows.buckets n ≡ bucket_in n (buckets_at (validity_of b) t ledger)
-  -- what was credited is available, reserved, charged or expired
+  -- what was credited of a bucket is available, reserved, charged or expired, in the bucket's unit
   pub balanced : Each IsBalanced (buckets_at (validity_of b) t ledger)
   -- the charges are the ledger's uses, by their numbers
   pub charges : (n : ℕ) → told n ≡ charge_in n (charge_rows ledger)
   -- of each use what is collected and what isn't are the price of the blocks that its report or
-  -- debit started, and something isn't only where its reservation and every eligible bucket are
-  -- empty
+  -- debit started and no allowance covered, allowances give just the blocks that are covered, and
+  -- something isn't collected only where its reservation and every eligible bucket are empty
   pub paid : ArePaid b reports ledger
   -- a use within its grant is collected whole
   pub quotas : AreQuotasPaid b ledger

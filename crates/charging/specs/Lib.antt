@@ -9,6 +9,7 @@ pub mod Runs
 pub mod Continued
 pub mod SessionReports
 pub mod Paid
+pub mod Allowed
 pub mod Quotas
 pub mod Isolation
 pub mod Repeats

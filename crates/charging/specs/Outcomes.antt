@@ -31,6 +31,7 @@ use Rattle.redemptions.specs.declared.voucher.Voucher.{Voucher}
 use Rattle.redemptions.specs.Adding.{addition}
 use Rattle.redemptions.specs.Redeeming.{DayEnds, redemption}
 use Rattle.shelves.specs.Shelves.{Shelf, book_at}
+use Rattle.buckets.specs.declared.kind.BucketKind.TheVariants.{Money}
 use Rattle.reserving.specs.Ledger.{Ledger, next_bucket}
 use Rattle.reserving.specs.Requests.{credited, with_bar}
 use Rattle.decisions.specs.Decided.{Decision}
@@ -118,7 +119,7 @@ new_credit c t h =
     if is_out_of_range c t h.ledger
     then told (answer.Refused OutOfRange) h
     else keeping (content.Credit c) (answer.Bucket (next_bucket h.ledger))
-    (credited t (from_of c t) (until_of c) c.scope c.amount h.ledger) h
+    (credited t Money (from_of c t) (until_of c) c.scope c.amount h.ledger) h
 
 abbrev pub credit_outcome : Credit → ℕ → History → Outcome
 credit_outcome c t h = unless_kept (kept_under (key_of (content.Credit c)) h) (content.Credit c)
@@ -147,7 +148,7 @@ redeemed_outcome x r t h =
     if is_full h.ledger
     then told (answer.Refused OutOfRange) h
     else keeping (content.Redeem r) (answer.Bucket (next_bucket h.ledger))
-    (credited t x.from x.until x.scope x.amount h.ledger) h
+    (credited t Money x.from x.until x.scope x.amount h.ledger) h
 
 abbrev pub redemption_outcome : Result Redemption RedeemRefusal → VoucherRedemption → ℕ → History →
     Outcome

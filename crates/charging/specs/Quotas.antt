@@ -26,14 +26,15 @@ grant_told s g d = told_by d.fact
 abbrev pub grant_open : List ℕ → ℕ → Ledger → Option OpenGrant
 grant_open s g ledger = inner (newest (grant_told s g) ledger)
 
--- a use that ends a grant, has at most its units and starts at its counter is collected whole
+-- a use that ends a grant, has at most its units and starts at its counter is collected whole: what
+-- the grant held of allowances and of money pays for it
 abbrev pub IsWithinGrant : Shelf → ℕ → List ℕ → ℕ → ℕ → ℕ → Ledger → Type 0
 IsWithinGrant b t s g units uncollected before =
     (x : OpenGrant) → grant_open s g before ≡ Some x → units ≤ x.units →
     counter (cycle_at b g) g (cycle_at b g t) before ≡ x.counter → uncollected ≡ 0
 
 abbrev pub IsQuotaPaid : Shelf → ℕ → Fact → Ledger → Type 0
-IsQuotaPaid b t (Use s g units blocks rated uncollected) older =
+IsQuotaPaid b t (Use s g units blocks covered rated uncollected) older =
     IsWithinGrant b t s g units uncollected (before_charges older)
 IsQuotaPaid b t _ older = Unit {0}
 

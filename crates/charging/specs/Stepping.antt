@@ -10,6 +10,7 @@ use Rattle.commands.specs.declared.command.Content.TheVariants as content
 use Rattle.commands.specs.declared.command.Credit.{Credit}
 use Rattle.commands.specs.declared.request.Request.{Request}
 use Rattle.shelves.specs.Shelves.{Shelf}
+use Rattle.buckets.specs.declared.kind.BucketKind.TheVariants.{Money}
 use Rattle.reserving.specs.Ledger.{Ledger, next_bucket}
 use Rattle.reserving.specs.Requests.{credited}
 use Rattle.reserving.specs.Rows.{AccountRows, IsAccount}
@@ -53,14 +54,14 @@ abbrev pub Makes : Option ℕ → ℕ → ℕ → Option ℕ → ℕ → ℕ →
 Makes None from until scope amount t ledger left new = is_full ledger ≡ true
 Makes (Some n) from until scope amount t ledger left new =
     (is_full ledger ≡ false) × (n ≡ next_bucket ledger)
-    × IsWith (credited t from until scope amount ledger) left t new
+    × IsWith (credited t Money from until scope amount ledger) left t new
 
 -- a credit's bucket is made under this number, and the same rows are left; None: it is out of range
 abbrev pub Credits : Option ℕ → Credit → ℕ → Ledger → LeftRows → AccountRows → Type 0
 Credits None c t ledger left new = is_out_of_range c t ledger ≡ true
 Credits (Some n) c t ledger left new =
     (is_out_of_range c t ledger ≡ false) × (n ≡ next_bucket ledger)
-    × IsWith (credited t (from_of c t) (until_of c) c.scope c.amount ledger) left t new
+    × IsWith (credited t Money (from_of c t) (until_of c) c.scope c.amount ledger) left t new
 
 -- what is kept under a request's key; reads have none
 abbrev pub kept_of_request : Request → Tables → Option KeptAnswer

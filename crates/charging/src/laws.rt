@@ -2,6 +2,7 @@
 
 ghost use Rattle.std.specs.Prelude.{◌≡◌, ℕ, List, []};
 ghost use Rattle.shelves.specs.Shelves.{Shelf, IsShelf};
+ghost use Rattle.buckets.specs.declared.kind.BucketKind.{BucketKind};
 ghost use Rattle.reserving.specs.Pricing.{validity_of};
 ghost use Rattle.reserving.specs.SoundLedger.{IsSoundLedger};
 ghost use Rattle.keepers.specs.Tables.{no_tables};
@@ -9,7 +10,8 @@ ghost use Rattle.charging.specs.Accepted.{Accepted, IsInTime};
 ghost use Rattle.charging.specs.Served.{history, AreTables};
 ghost use Rattle.charging.specs.SessionReports.{reports_of};
 ghost use Rattle.charging.specs.Paid.{ArePaid};
-ghost use Rattle.charging.specs.Collected.{collected_to_date, charged_to_date};
+ghost use Rattle.charging.specs.Allowed.{ReportsAreCovered, EventsAreCovered};
+ghost use Rattle.charging.specs.Collected.{taken_to_date, charged_to_date};
 ghost use Rattle.charging.specs.Quotas.{AreQuotasPaid};
 ghost use Rattle.charging.specs.Repeats.{AnswersOnce};
 ghost use Rattle.charging.specs.declared.running.DatedCommand.{DatedCommand};
@@ -30,30 +32,40 @@ pub fn soundness()
         IsSoundLedger (history b a list).ledger }
 {}
 
-/// Each report and each debit of an account has the price of the blocks that it started: what is
-/// collected of it and what isn't are that price, and something is uncollected only where its
-/// reservation is used up and no eligible bucket has anything left (RFC 8506 section 5.3; TS
-/// 32.296, account balance management function). The reports are those of the accepted updates and
+/// Each report and each debit of an account has the price of the started blocks that no allowance
+/// covered: what is collected of it and what isn't are that price, allowances give just the blocks
+/// that are covered, and something is uncollected only where its reservation is used up and no
+/// eligible bucket has anything left, neither money nor blocks (RFC 8506 section 5.3; TS 32.296,
+/// account balance management function). The reports are those of the accepted updates and
 /// terminations, in their order, each priced by the parts that it names.
 pub fn payment()
     ensures { (b : Shelf) (a : List ℕ) (list : List Accepted) →
         ArePaid b (reports_of b a list) (history b a list).ledger }
 {}
 
+/// Allowances before money: a report's price, and an event's, is due only where all blocks are
+/// covered that its reservation and the eligible allowances have, so that what an allowance could
+/// cover costs nothing (profile).
+pub fn allowances_before_money()
+    ensures reports { ReportsAreCovered }
+    ensures events { EventsAreCovered }
+{}
+
 /// A quota pays: a report that ends a grant, has at most its units and starts at its place of the
-/// group's counter is collected whole, whatever stood between (TS 32.299, session charging with
-/// unit reservation).
+/// group's counter is collected whole, whatever stood between: the blocks and the money that were
+/// held for it pay for it (TS 32.299, session charging with unit reservation).
 pub fn quota()
     ensures { (b : Shelf) → IsShelf b → (a : List ℕ) (list : List Accepted) →
         AreQuotasPaid b (history b a list).ledger }
 {}
 
-/// To date: what was collected by all charges of an account is what its buckets together show as
-/// charged, at any moment (TS 32.296, account balance management function).
+/// To date: what was collected by all charges of an account is what its buckets of money together
+/// show as charged, and the blocks that they covered are what its allowances show, at any moment
+/// (TS 32.296, account balance management function).
 pub fn collection()
-    ensures { (b : Shelf) (a : List ℕ) (list : List Accepted) (t : ℕ) →
-        collected_to_date (history b a list).ledger ≡
-        charged_to_date (validity_of b) t (history b a list).ledger }
+    ensures { (kind : BucketKind) (b : Shelf) (a : List ℕ) (list : List Accepted) (t : ℕ) →
+        taken_to_date kind (history b a list).ledger ≡
+        charged_to_date kind (validity_of b) t (history b a list).ledger }
 {}
 
 /// Repeats: once a request that isn't a read, a credit, a redemption or the addition of a voucher

@@ -15,7 +15,9 @@ mod voucher_commands;
 
 pub use crate::answers::Run;
 pub use crate::balances::{AccountState, account_state};
-pub use crate::laws::{beginning, collection, isolation, payment, quota, repeats, soundness};
+pub use crate::laws::{
+    allowances_before_money, beginning, collection, isolation, payment, quota, repeats, soundness,
+};
 pub use crate::running::{DatedCommand, run};
 pub use crate::stepping::step;
 pub use commands::{Answer, Command};

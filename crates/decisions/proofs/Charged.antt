@@ -10,6 +10,7 @@ use Rattle.commands.specs.declared.answer.ServiceOutcome.TheVariants as service
 use Rattle.commands.specs.Refunds.{Refunded as Refund}
 use Rattle.units.specs.declared.blocks.UsedPart.{UsedPart}
 use Rattle.tariffs.specs.Tariffs.{GroupTariff}
+use Rattle.buckets.specs.declared.kind.BucketKind.TheVariants.{Money}
 use Rattle.shelves.specs.Shelves.{Shelf}
 use Rattle.reserving.specs.declared.charge.ChargeRow.{ChargeRow}
 use Rattle.reserving.specs.declared.settle.Settled.{Settled}
@@ -135,12 +136,12 @@ not_fault {R} {E} {x} {e} r is fault = let both : Ok x ≡ Err e = sym is ∙ fa
 pub follows_refunded : (old middle new : AccountRows) (t : ℕ) (s : List ℕ) (n : ℕ) (r : Refund) →
     old.next_bucket ≤ 4294967295 →
     ((ledger : Ledger) (left : LeftRows) → IsWith ledger left t old →
-    IsWith (credited t t 4102444800 None r.micros ledger) left t middle) →
+    IsWith (credited t Money t 4102444800 None r.micros ledger) left t middle) →
     ((ledger : Ledger) (left : LeftRows) → NotLeft s left → IsWith ledger left t middle →
     IsWith (recorded t s n ledger) left t new) →
     Follows (IsNew s) (refunded t s n r) t old new Refunded true []
 follows_refunded old middle new t s n r few credits records = λ ledger left asked h.
-    let after : Ledger = credited t t 4102444800 None r.micros ledger in
+    let after : Ledger = credited t Money t 4102444800 None r.micros ledger in
     let decision : Decision = accepted Refunded (recorded t s n after) in
     let agrees : Agrees Refunded true [] decision ledger left t new = record {
       same = refl;
@@ -148,7 +149,7 @@ follows_refunded old middle new t s n r few credits records = λ ledger left ask
       rows = records after left asked (credits ledger left h);
       written = uncharged (recorded t s n after) ledger
           (charge_rows-recorded t s n after
-          ∙ charge_rows-credited t t 4102444800 None r.micros ledger);
+          ∙ charge_rows-credited t Money t 4102444800 None r.micros ledger);
     } in
     let same : refunded t s n r ledger ≡ decision =
     rw (ap (nat_lt 4294967295) (sym h.rows.next_bucket) ∙ one_more old.next_bucket few) refl

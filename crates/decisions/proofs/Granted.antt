@@ -13,7 +13,7 @@ use Rattle.commands.specs.declared.service.Service.{Service}
 use Rattle.commands.specs.declared.service.Requested.{Requested}
 use Rattle.reserving.specs.Ledger.{Ledger, is_barred, used}
 use Rattle.reserving.specs.Pricing.{tariff_of, wanted_units, wanted_with}
-use Rattle.reserving.specs.Reservation.{reserved, grant_for}
+use Rattle.reserving.specs.Reservation.{reserved, grant_for, held_due}
 use Rattle.reserving.specs.Results.{IsGrantOf}
 use Rattle.reserving.specs.Rows.{AccountRows, IsRowsOf}
 use Rattle.reserving.specs.Left.{LeftRows, joined, IsBeside, IsWith}
@@ -38,7 +38,7 @@ units_outcome tariff given switch validity fewer =
 
 grants_some : (b : Shelf) (tariff : GroupTariff) (t : ℕ) (s : List ℕ) (g : ℕ) (asked : Option ℕ)
     (grant : Grant) (ledger : Ledger) (left : LeftRows) (a : AccountRows) →
-    0 < grant.units.0 → IsWith (reserved b t s g grant.units.0 grant.amount.0 ledger) left t a →
+    0 < grant.units.0 → IsWith (reserved b t s g grant.units.0 (held_due grant) ledger) left t a →
     Grants (grant_answer b tariff t grant.units.0 asked)
     (granted_with b tariff t s g asked grant ledger) left t a
 grants_some b tariff t s g asked grant ledger left a some rows =
@@ -49,7 +49,7 @@ grants_some b tariff t s g asked grant ledger left a some rows =
         (if c then (let y : Answered =
         record {
           outcome = grant_answer b tariff t grant.units.0 asked;
-          after = reserved b t s g grant.units.0 grant.amount.0 ledger;
+          after = reserved b t s g grant.units.0 (held_due grant) ledger;
         } in y)
         else (let y : Answered = record {
           outcome = service.Failed CreditLimitReached;
@@ -76,10 +76,10 @@ grants_units b tariff t s g asked ledger left a given switch validity fewer outc
     same ∙ (λ i. units_outcome tariff given (is.switch i) (is.validity i) (final i))
     ∙ ap (λ n. grant_answer b tariff t n asked) is.units in
     let some : 0 < grant.units.0 = subst (λ n. 0 < n) is.units is.some in
-    let rows : IsRowsOf (reserved b t s g grant.units.0 grant.amount.0 ledger) (joined left a) =
-    subst (λ n. IsRowsOf (reserved b t s g n grant.amount.0 ledger) (joined left a))
+    let rows : IsRowsOf (reserved b t s g grant.units.0 (held_due grant) ledger) (joined left a) =
+    subst (λ n. IsRowsOf (reserved b t s g n (held_due grant) ledger) (joined left a))
     is.units is.rows in
-    let own : IsWith (reserved b t s g grant.units.0 grant.amount.0 ledger) left t a =
+    let own : IsWith (reserved b t s g grant.units.0 (held_due grant) ledger) left t a =
     record { apart = beside.apart; cycles = beside.cycles; rows = rows } in
     subst (λ o. Grants o (granted_units b tariff t s g asked ledger) left t a) (sym answer)
     (grants_some b tariff t s g asked grant ledger left a some own)
@@ -102,7 +102,7 @@ grants_nothing b tariff t s g asked ledger left a beside both =
               (grant_for b t g (used s g ledger) asked ledger).units.0 asked;
           after =
               reserved b t s g (grant_for b t g (used s g ledger) asked ledger).units.0
-              (grant_for b t g (used s g ledger) asked ledger).amount.0 ledger;
+              (held_due (grant_for b t g (used s g ledger) asked ledger)) ledger;
         } in y)
         else (let y : Answered = record {
           outcome = service.Failed CreditLimitReached;

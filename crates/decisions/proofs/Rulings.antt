@@ -20,7 +20,7 @@ use Rattle.reserving.specs.declared.charge.ChargeRow.{ChargeRow}
 use Rattle.reserving.specs.Ledger.{Ledger, is_barred, used}
 use Rattle.reserving.specs.Pricing.{tariff_of}
 use Rattle.reserving.specs.Requests.{recorded, touched, closed}
-use Rattle.reserving.specs.Reservation.{reserved, grant_for}
+use Rattle.reserving.specs.Reservation.{reserved, grant_for, held_due}
 use Rattle.reserving.specs.Charges.{charge_rows}
 use Rattle.reserving.specs.Rows.{AccountRows}
 use Rattle.reserving.specs.Left.{LeftRows, NotLeft, IsWith}
@@ -187,14 +187,14 @@ with_charges b tariff t s g asked grant ledger = at (nat_lt 0 grant.units.0)
     some : Answered
     some = record {
       outcome = grant_answer b tariff t grant.units.0 asked;
-      after = reserved b t s g grant.units.0 grant.amount.0 ledger;
+      after = reserved b t s g grant.units.0 (held_due grant) ledger;
     }
 
     none : Answered
     none = record { outcome = service.Failed CreditLimitReached; after = ledger }
 
     at : (c : Bool) → charge_rows (if c then some else none).after ≡ charge_rows ledger
-    at true = charge_rows-reserved b t s g grant.units.0 grant.amount.0 ledger
+    at true = charge_rows-reserved b t s g grant.units.0 (held_due grant) ledger
     at false = refl
 
 unless_charges : (b : Shelf) (tariff : GroupTariff) (t : ℕ) (s : List ℕ) (g : ℕ) (asked : Option ℕ)

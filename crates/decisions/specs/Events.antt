@@ -24,6 +24,7 @@ use Rattle.commands.specs.declared.answer.Outcome.TheVariants.{Failed}
 use Rattle.units.specs.Blocks.{started}
 use Rattle.tariffs.specs.Books.{Book}
 use Rattle.tariffs.specs.Tariffs.{GroupTariff}
+use Rattle.buckets.specs.declared.kind.BucketKind.TheVariants.{Money}
 use Rattle.shelves.specs.Shelves.{Shelf, book_at}
 use Rattle.reserving.specs.Ledger.{Ledger, is_barred, next_bucket}
 use Rattle.reserving.specs.Pricing.{tariff_of, tariff_at}
@@ -102,7 +103,7 @@ abbrev pub priced_by : Option GroupTariff → Shelf → ℕ → Event → Ledger
 priced_by None b t e ledger = Failed (Denied RatingFailed)
 priced_by (Some tariff) b t e ledger =
     Priced (record {
-      micros = (event_price b t e.group (event_units tariff e.requested) ledger).amount.0;
+      micros = (event_price b t e.group 0 (event_units tariff e.requested) ledger).amount.0;
       currency = (book_at b t).currency;
     })
 
@@ -147,7 +148,7 @@ abbrev pub refunded : ℕ → List ℕ → ℕ → Refund → Ledger → Decisio
 refunded t s n r ledger =
     if nat_lt 4294967295 (next_bucket ledger)
     then told (Failed UnableToComply) ledger
-    else accepted Refunded (recorded t s n (credited t t 4102444800 None r.micros ledger))
+    else accepted Refunded (recorded t s n (credited t Money t 4102444800 None r.micros ledger))
 
 abbrev pub refund_decision : Shelf → ℕ → List ℕ → ℕ → Refund → Ledger → Decision
 refund_decision b t s n r ledger =

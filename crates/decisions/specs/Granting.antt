@@ -21,7 +21,7 @@ use Rattle.tariffs.specs.Books.{Book}
 use Rattle.rating.specs.declared.grant.Grant.{Grant}
 use Rattle.shelves.specs.Shelves.{Shelf}
 use Rattle.reserving.specs.Pricing.{switch_at, validity_at, wanted_units, tariff_at}
-use Rattle.reserving.specs.Reservation.{reserved, grant_for}
+use Rattle.reserving.specs.Reservation.{reserved, grant_for, held_due}
 use Rattle.decisions.specs.Known.{is_known}
 use Rattle.decisions.specs.Reports.{units_of, asked_units}
 
@@ -55,7 +55,7 @@ granted_with b tariff t s g asked grant ledger =
     if nat_lt 0 grant.units.0
     then record {
       outcome = grant_answer b tariff t grant.units.0 asked;
-      after = reserved b t s g grant.units.0 grant.amount.0 ledger;
+      after = reserved b t s g grant.units.0 (held_due grant) ledger;
     }
     else record { outcome = service.Failed CreditLimitReached; after = ledger }
 

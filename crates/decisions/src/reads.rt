@@ -35,9 +35,7 @@ pub(crate) fn checked(account: &Account, event: &Event, moment: Moment) -> Outco
         return Outcome::Failed(Failure::Denied(ServiceFailure::RatingFailed));
     };
     let quantity = event_quantity(tariff, &event.requested);
-    // For the prover alone: looking at the value makes known here what its type keeps.
-    let _ranges = account.shelf().first();
-    let price = account.quote(event.group, Units(quantity.units()), moment);
+    let price = account.quote_rest(event.group, Units(quantity.units()), moment);
     Outcome::Checked(balance(price <= account.funds(event.group, moment)))
 }
 

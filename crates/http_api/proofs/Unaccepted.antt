@@ -38,6 +38,7 @@ use Rattle.redemptions.specs.Adding.{addition}
 use Rattle.redemptions.specs.Redeeming.{redemption}
 use Rattle.shelves.specs.Shelves.{Shelf, book_at}
 use Rattle.tariffs.specs.Tariffs.{GroupTariff}
+use Rattle.buckets.specs.declared.kind.BucketKind.TheVariants as kind
 use Rattle.reserving.specs.Ledger.{Ledger, is_barred, next_bucket}
 use Rattle.reserving.specs.Pricing.{tariff_at}
 use Rattle.reserving.specs.Requests.{credited, recorded, touched}
@@ -130,7 +131,7 @@ refund_apart : (b : Shelf) (t : ℕ) (s : List ℕ) (n : ℕ) (r : Money) (ledge
     IsApart (decided b t s n (Refund r) ledger)
 refund_apart b t s n r ledger =
     let full : Decision = decided_told (Failed UnableToComply) ledger in
-    let after : Ledger = recorded t s n (credited t t 4102444800 None r.micros ledger) in
+    let after : Ledger = recorded t s n (credited t kind.Money t 4102444800 None r.micros ledger) in
     unless_refused (refund_refusal (book_at b t) s r ledger) ledger (refunded t s n r ledger)
     (either (nat_lt 4294967295 (next_bucket ledger)) full (accepted Refunded after) (λ e. refl) no)
 
@@ -188,7 +189,8 @@ request_unaccepted b r t h =
 credit_unaccepted : (c : Credit) (t : ℕ) (h : History) → IsUnaccepted (credit_outcome c t h)
 credit_unaccepted c t h =
     let given : Answer = answer.Bucket (next_bucket h.ledger) in
-    let ledger : Ledger = credited t (from_of c t) (until_of c) c.scope c.amount h.ledger in
+    let ledger : Ledger = credited t kind.Money (from_of c t) (until_of c) c.scope
+    c.amount h.ledger in
     unless_both (kept_under (key_of (content.Credit c)) h) (content.Credit c)
     (answer.Refused ContentDiffers) h (new_credit c t h)
     (if_both (is_out_of_range c t h.ledger) (told (answer.Refused OutOfRange) h)
@@ -199,7 +201,7 @@ redemption_unaccepted : (o : Result Redemption RedeemRefusal) (r : VoucherRedemp
 redemption_unaccepted (Err refusal) r t h = λ e. refl
 redemption_unaccepted (Ok x) r t h =
     let given : Answer = answer.Bucket (next_bucket h.ledger) in
-    let ledger : Ledger = credited t x.from x.until x.scope x.amount h.ledger in
+    let ledger : Ledger = credited t kind.Money x.from x.until x.scope x.amount h.ledger in
     if_both (is_full h.ledger) (told (answer.Refused OutOfRange) h)
     (keeping (content.Redeem r) given ledger h) (λ e. refl) no
 

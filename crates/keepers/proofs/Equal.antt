@@ -6,8 +6,10 @@ use Rattle.std.specs.Cmp.Lexicographic.{pointwise}
 use Rattle.buckets.specs.declared.holds.Hold.{Hold}
 use Rattle.buckets.specs.Row.{Row}
 use Rattle.rating.specs.declared.grant.Periods.{Periods}
+use Rattle.buckets.specs.declared.kind.BucketKind.{BucketKind}
+use Rattle.buckets.specs.declared.kind.BucketKind.TheVariants.{Money, Blocks}
 use Rattle.reserving.specs.declared.session.Terms.{Terms}
-use Rattle.keepers.specs.Differing.{equal_terms}
+use Rattle.keepers.specs.Differing.{same_kind, equal_terms}
 use Rattle.reserving.specs.declared.session.Session.{Session}
 use Rattle.reserving.specs.declared.session.SessionState.{SessionState}
 use Rattle.reserving.specs.declared.session.SessionState.TheVariants.{Open, Ended, NeverOpened}
@@ -26,10 +28,17 @@ scope_from None (Some y) e = absurd (not_both e)
 scope_from (Some x) None e = absurd (not_both e)
 scope_from (Some x) (Some y) e = ap Some (number_from x y e)
 
+kind_from : (x y : BucketKind) → same_kind x y ≡ true → x ≡ y
+kind_from Money Money e = refl
+kind_from Money Blocks e = absurd (not_both e)
+kind_from Blocks Money e = absurd (not_both e)
+kind_from Blocks Blocks e = refl
+
 pub bucket_from : (x y : Row) → equal_bucket x y ≡ true → x ≡ y
 bucket_from x y e =
     let number = both (x.number == y.number) _ e in
-    let from = both (x.from == y.from) _ number.1 in
+    let kind = both (same_kind x.kind y.kind) _ number.1 in
+    let from = both (x.from == y.from) _ kind.1 in
     let until = both (x.until == y.until) _ from.1 in
     let scope = both (same_scope x.scope y.scope) _ until.1 in
     let credited = both (x.credited == y.credited) _ scope.1 in
@@ -38,6 +47,7 @@ bucket_from x y e =
     let charged = both (x.charged == y.charged) (x.expired == y.expired) reserved.1 in
     λ i. record {
       number = number_from x.number y.number number.0 i;
+      kind = kind_from x.kind y.kind kind.0 i;
       from = number_from x.from y.from from.0 i;
       until = number_from x.until y.until until.0 i;
       scope = scope_from x.scope y.scope scope.0 i;

@@ -65,12 +65,12 @@ inserted_none n b (x ∷ xs) e = at (nat_lt b.until x.until) e (inserted_none n 
 
 credited_none : (n : ℕ) (f : Fact) (xs : List Row) → bucket_in n (credited_by f xs) ≡ None →
     bucket_in n xs ≡ None
-credited_none n (Credit number from until scope amount) xs e =
-    inserted_none n (new_row number from until scope amount) xs e
+credited_none n (Credit kind number from until scope amount) xs e =
+    inserted_none n (new_row kind number from until scope amount) xs e
 credited_none n (Grant session group terms units counter) xs e = e
 credited_none n (Hold session group bucket amount) xs e = e
 credited_none n (End session group) xs e = e
-credited_none n (Use session group units blocks rated uncollected) xs e = e
+credited_none n (Use session group units blocks covered rated uncollected) xs e = e
 credited_none n (Charge bucket amount) xs e = e
 credited_none n (Touch session) xs e = e
 credited_none n (Close session) xs e = e

@@ -6,6 +6,8 @@ use Rattle.std.specs.Cmp.Lexicographic.{pointwise}
 use Rattle.buckets.specs.declared.holds.Hold.{Hold}
 use Rattle.buckets.specs.Row.{Row}
 use Rattle.rating.specs.declared.grant.Periods.{Periods}
+use Rattle.buckets.specs.declared.kind.BucketKind.{BucketKind}
+use Rattle.buckets.specs.declared.kind.BucketKind.TheVariants.{Money, Blocks}
 use Rattle.reserving.specs.declared.session.Terms.{Terms}
 use Rattle.reserving.specs.declared.session.Session.{Session}
 use Rattle.reserving.specs.declared.session.SessionState.{SessionState}
@@ -29,12 +31,17 @@ same_scope None None = true
 same_scope (Some x) (Some y) = x == y
 same_scope x y = false
 
+abbrev pub same_kind : BucketKind → BucketKind → Bool
+same_kind Money Money = true
+same_kind Blocks Blocks = true
+same_kind x y = false
+
 abbrev pub equal_bucket : Row → Row → Bool
 equal_bucket x y =
-    x.number == y.number && (x.from == y.from &&
+    x.number == y.number && (same_kind x.kind y.kind && (x.from == y.from &&
     (x.until == y.until && (same_scope x.scope y.scope && (x.credited == y.credited
     && (x.available == y.available &&
-    (x.reserved == y.reserved && (x.charged == y.charged && x.expired == y.expired)))))))
+    (x.reserved == y.reserved && (x.charged == y.charged && x.expired == y.expired))))))))
 
 abbrev pub equal_counter : Counter → Counter → Bool
 equal_counter x y = x.group == y.group && (x.cycle == y.cycle && x.blocks == y.blocks)

@@ -7,10 +7,10 @@ ghost use Rattle.std.specs.Cmp.Lexicographic.{pointwise};
 ghost use Rattle.keepers.specs.Keyed.{same_bucket, same_counter, same_session, same_group};
 ghost use Rattle.keepers.specs.Differing.{same_scope, equal_bucket, equal_counter, same_state};
 ghost use Rattle.keepers.specs.Differing.{equal_session, equal_hold, equal_periods};
-ghost use Rattle.keepers.specs.Differing.{equal_terms};
+ghost use Rattle.keepers.specs.Differing.{same_kind, equal_terms};
 ghost use Rattle.keepers.specs.Differing.{equal_reservation, equal_group};
 
-use buckets::{Bucket, Hold};
+use buckets::{Bucket, BucketKind, Hold};
 use rating::Periods;
 use reserving::{Counter, Reservation, Session, SessionGroup, SessionState, StoredAccount, Terms};
 
@@ -164,17 +164,29 @@ fn same_scope(x: Option<u32>, y: Option<u32>) -> bool
     }
 }
 
+fn same_kind(x: BucketKind, y: BucketKind) -> bool
+    ensures { result ≡ same_kind x y }
+{
+    match (x, y) {
+        (BucketKind::Money, BucketKind::Money) => true,
+        (BucketKind::Blocks, BucketKind::Blocks) => true,
+        _ => false,
+    }
+}
+
 fn equal_bucket(x: &Bucket, y: &Bucket) -> bool
     ensures { result ≡ equal_bucket x.now y.now }
 {
     x.number() == y.number()
-        && (x.from() == y.from()
-            && (x.until() == y.until()
-                && (same_scope(x.scope(), y.scope())
-                    && (x.credited() == y.credited()
-                        && (x.available() == y.available()
-                            && (x.reserved() == y.reserved()
-                                && (x.charged() == y.charged() && x.expired() == y.expired())))))))
+        && (same_kind(x.kind(), y.kind())
+            && (x.from() == y.from()
+                && (x.until() == y.until()
+                    && (same_scope(x.scope(), y.scope())
+                        && (x.credited() == y.credited()
+                            && (x.available() == y.available()
+                                && (x.reserved() == y.reserved()
+                                    && (x.charged() == y.charged()
+                                        && x.expired() == y.expired()))))))))
 }
 
 fn equal_counter(x: &Counter, y: &Counter) -> bool

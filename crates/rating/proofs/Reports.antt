@@ -1,5 +1,9 @@
 -- Reports, part by part.
-use Rattle.std.proofs.Common.{◌≡◌, ℕ, zero, suc, ◌+◌, ◌*◌, ◌/◌, ◌%◌, ◌<◌, List, [], ◌∷◌, ◌++◌, refl}
+use Rattle.std.proofs.Common.{◌≡◌, ℕ, zero, suc, ◌+◌, ◌-◌, ◌*◌, ◌/◌, ◌%◌, ◌<◌, List, [], ◌∷◌}
+use Rattle.std.proofs.Common.{◌++◌, refl, inl, inr}
+use Rattle.std.specs.Prelude.{min}
+use Rattle.std.proofs.lemmas.Bool.{cases_lt}
+use Rattle.tariffs.specs.declared.tiers.Tier.{Tier}
 use Rattle.std.proofs.Common.{ap, sym, ◌∙◌, arith, add-zero, zero-add, length, drop, get_or}
 use Rattle.std.proofs.Math.Nat.{add-mul-mod_self_left, mod-add-div}
 use Rattle.std.proofs.lemmas.List.{at_drop_more}
@@ -11,9 +15,9 @@ use Rattle.tariffs.specs.declared.group_prices.Side.TheVariants.{Before}
 use Rattle.tariffs.specs.GroupPrices.{GroupPrices, tiers_on}
 use Rattle.rating.specs.declared.report.Part.{Part}
 use Rattle.rating.specs.declared.report.Rated.{Rated}
-use Rattle.rating.specs.Rated.{rated_amount, report_blocks, report_amount, rated_report, units_of}
-use Rattle.rating.specs.Rated.{FollowsAt, part_of, CutsAlike}
-use Rattle.rating.proofs.Sums.{rated_cut}
+use Rattle.rating.specs.Rated.{rated_amount, uncovered_amount, report_blocks, report_amount}
+use Rattle.rating.specs.Rated.{rated_report, units_of, FollowsAt, part_of, CutsAlike, CoversNoMore}
+use Rattle.rating.proofs.Sums.{rated_none, rated_cut}
 
 -- only the place within its block tells where a number stands
 pub mod_mod : (a u block : ℕ) → (a % block + u) % block ≡ (a + u) % block
@@ -37,17 +41,18 @@ blocks_mod block a (part ∷ parts) =
     ∙ blocks_mod block (a + part.units.0) parts in
     rw (started_mod a part.units.0 block, rest) refl
 
-pub amount_mod : (t : GroupPrices) (a place : ℕ) (parts : List Part) →
-    report_amount t (a % t.tariff.block) place parts ≡ report_amount t a place parts
+pub amount_mod : (t : GroupPrices) (a place covered : ℕ) (parts : List Part) →
+    report_amount t (a % t.tariff.block) place covered parts ≡ report_amount t a place covered parts
 unfolding report_amount
-amount_mod t a place [] = refl
-amount_mod t a place (part ∷ parts) =
+amount_mod t a place covered [] = refl
+amount_mod t a place covered (part ∷ parts) =
     let next = place + started a part.units.0 t.tariff.block in
-    let rest : report_amount t (a % t.tariff.block + part.units.0) next parts
-    ≡ report_amount t (a + part.units.0) next parts =
-    sym (amount_mod t (a % t.tariff.block + part.units.0) next parts)
-    ∙ ap (λ u. report_amount t u next parts) (mod_mod a part.units.0 t.tariff.block)
-    ∙ amount_mod t (a + part.units.0) next parts in
+    let left = covered - started a part.units.0 t.tariff.block in
+    let rest : report_amount t (a % t.tariff.block + part.units.0) next left parts
+    ≡ report_amount t (a + part.units.0) next left parts =
+    sym (amount_mod t (a % t.tariff.block + part.units.0) next left parts)
+    ∙ ap (λ u. report_amount t u next left parts) (mod_mod a part.units.0 t.tariff.block)
+    ∙ amount_mod t (a + part.units.0) next left parts in
     rw (started_mod a part.units.0 t.tariff.block, rest) refl
 
 -- one more part of a report
@@ -62,21 +67,23 @@ blocks_step block a i parts d within =
     e ∙ ap (λ n. started a (get_or parts i d).units.0 block + n)
     (sym (blocks_mod block (a + (get_or parts i d).units.0) (drop (i + 1) parts)))
 
-pub amount_step : (t : GroupPrices) (a place i : ℕ) (parts : List Part) (d : Part) →
+pub amount_step : (t : GroupPrices) (a place covered i : ℕ) (parts : List Part) (d : Part) →
     i < length parts
-    → report_amount t a place (drop i parts)
-    ≡ rated_amount (tiers_on t (get_or parts i d).side) place
+    → report_amount t a place covered (drop i parts)
+    ≡ uncovered_amount (tiers_on t (get_or parts i d).side) place covered
     (started a (get_or parts i d).units.0 t.tariff.block)
     + report_amount t ((a + (get_or parts i d).units.0) % t.tariff.block)
-    (place + started a (get_or parts i d).units.0 t.tariff.block) (drop (i + 1) parts)
+    (place + started a (get_or parts i d).units.0 t.tariff.block)
+    (covered - started a (get_or parts i d).units.0 t.tariff.block) (drop (i + 1) parts)
 unfolding report_amount
-amount_step t a place i parts d within =
-    let e : report_amount t a place (drop i parts)
-    ≡ report_amount t a place (get_or parts i d ∷ drop (i + 1) parts) =
-    at_drop_more (report_amount t a place) parts i d within in
+amount_step t a place covered i parts d within =
+    let e : report_amount t a place covered (drop i parts)
+    ≡ report_amount t a place covered (get_or parts i d ∷ drop (i + 1) parts) =
+    at_drop_more (report_amount t a place covered) parts i d within in
     let n = started a (get_or parts i d).units.0 t.tariff.block in
-    e ∙ ap (λ m. rated_amount (tiers_on t (get_or parts i d).side) place n + m)
-    (sym (amount_mod t (a + (get_or parts i d).units.0) (place + n) (drop (i + 1) parts)))
+    e ∙ ap (λ m. uncovered_amount (tiers_on t (get_or parts i d).side) place covered n + m)
+    (sym
+    (amount_mod t (a + (get_or parts i d).units.0) (place + n) (covered - n) (drop (i + 1) parts)))
 
 abbrev pub no_part : Part
 no_part = record { side = Before; units = record { 0 = 0 } }
@@ -94,49 +101,57 @@ blocks_after block a i done n into total parts within n_is into_is h =
     ap (λ u. report_blocks block u (drop (i + 1) parts)) into_is in
     omega (arith, blocks_step block a i parts no_part within, rest, n_is, h)
 
-pub amount_after : (t : GroupPrices) (a place i done sum n price into total : ℕ) (parts : List Part)
-    → i < length parts
+pub amount_after : (t : GroupPrices) (a place i done left sum n price into next_left total : ℕ)
+    (parts : List Part) → i < length parts
     → n ≡ started a (get_or parts i no_part).units.0 t.tariff.block →
     into ≡ (a + (get_or parts i no_part).units.0) % t.tariff.block
-    → price ≡ rated_amount (tiers_on t (get_or parts i no_part).side) (place + done) n
-    → sum + report_amount t a (place + done) (drop i parts) ≡ total →
-    sum + price + report_amount t into (place + (done + n)) (drop (i + 1) parts) ≡ total
-amount_after t a place i done sum n price into total parts within n_is into_is price_is h =
+    → price ≡ uncovered_amount (tiers_on t (get_or parts i no_part).side) (place + done) left n →
+    next_left ≡ left - n
+    → sum + report_amount t a (place + done) left (drop i parts) ≡ total →
+    sum + price + report_amount t into (place + (done + n)) next_left (drop (i + 1) parts) ≡ total
+amount_after t a place i done left sum n price into next_left total parts within n_is into_is
+    price_is left_is h =
     let next : place + (done + n)
     ≡ place + done + started a (get_or parts i no_part).units.0 t.tariff.block =
     omega (arith, n_is) in
-    let rest : report_amount t into (place + (done + n)) (drop (i + 1) parts)
+    let over : next_left ≡ left - started a (get_or parts i no_part).units.0 t.tariff.block =
+    left_is ∙ ap (λ m. left - m) n_is in
+    let rest : report_amount t into (place + (done + n)) next_left (drop (i + 1) parts)
     ≡ report_amount t ((a + (get_or parts i no_part).units.0) % t.tariff.block)
     (place + done + started a (get_or parts i no_part).units.0 t.tariff.block)
+    (left - started a (get_or parts i no_part).units.0 t.tariff.block)
     (drop (i + 1) parts) =
-    λ j. report_amount t (into_is j) (next j) (drop (i + 1) parts) in
+    λ j. report_amount t (into_is j) (next j) (over j) (drop (i + 1) parts) in
     let here =
-    price_is ∙ ap (rated_amount (tiers_on t (get_or parts i no_part).side) (place + done))
-    n_is in
-    omega (arith, amount_step t a (place + done) i parts no_part within, rest, here, h)
+    price_is
+    ∙ ap (uncovered_amount (tiers_on t (get_or parts i no_part).side) (place + done) left) n_is in
+    omega (arith, amount_step t a (place + done) left i parts no_part within, rest, here, h)
 
 -- two reports after each other
-pub follows : (t : GroupPrices) (used place : ℕ) (parts more : List Part) →
-    FollowsAt t used place parts more
+pub follows : (t : GroupPrices) (used place covered : ℕ) (parts more : List Part) →
+    FollowsAt t used place covered parts more
 unfolding report_blocks report_amount
-follows t used place [] more =
+follows t used place covered [] more =
     let none : used + 0 ≡ used = add-zero used in
     let here : place + 0 ≡ place = add-zero place in
+    let all : covered - 0 ≡ covered = omega arith in
     record {
       blocks = rw none (sym (zero-add (report_blocks t.tariff.block used more)));
-      amount = rw (none, here) (sym (zero-add (report_amount t used place more)));
+      amount = rw (none, here, all) (sym (zero-add (report_amount t used place covered more)));
     }
-follows t used place (part ∷ parts) more =
+follows t used place covered (part ∷ parts) more =
     let n = started used part.units.0 t.tariff.block in
-    let rest : FollowsAt t (used + part.units.0) (place + n) parts more =
-    follows t (used + part.units.0) (place + n) parts more in
+    let rest : FollowsAt t (used + part.units.0) (place + n) (covered - n) parts more =
+    follows t (used + part.units.0) (place + n) (covered - n) parts more in
     let units : used + units_of (part ∷ parts) ≡ used + part.units.0 + units_of parts =
     omega (arith, sum_by-cons (λ (p : Part). p.units.0) part parts) in
     let places : place + (n + report_blocks t.tariff.block (used + part.units.0) parts)
     ≡ place + n + report_blocks t.tariff.block (used + part.units.0) parts = omega arith in
+    let lefts : covered - (n + report_blocks t.tariff.block (used + part.units.0) parts)
+    ≡ covered - n - report_blocks t.tariff.block (used + part.units.0) parts = omega arith in
     record {
       blocks = rw units (omega (arith, rest.blocks));
-      amount = rw (units, places) (omega (arith, rest.amount));
+      amount = rw (units, places, lefts) (omega (arith, rest.amount));
     }
 
 -- a part in two
@@ -150,12 +165,31 @@ cut_blocks t used side one two after some =
     let cut = started-add used one two t.tariff.block some in
     rw units (omega (arith, cut))
 
-cut_amount : (t : GroupPrices) (used place : ℕ) (side : Side) (one two : ℕ) (after : List Part)
-    → 0 < t.tariff.block
-    → report_amount t used place (part_of side one ∷ part_of side two ∷ after)
-    ≡ report_amount t used place (part_of side (one + two) ∷ after)
+-- covered blocks are split in order: the second has what the first leaves of them
+uncovered_cut : (ts : List Tier) (place covered n m : ℕ) →
+    uncovered_amount ts place covered (n + m)
+    ≡ uncovered_amount ts place covered n + uncovered_amount ts (place + n) (covered - n) m
+uncovered_cut ts place covered n m =
+    elim (cases_lt covered n) [
+      | inl less ↦ (
+          let all : n + m - covered ≡ (n - covered) + m = omega arith in
+          let here : place + covered + (n - covered) ≡ place + n + (covered - n) = omega arith in
+          let rest : m - (covered - n) ≡ m = omega arith in
+          rw (all, rest, ← here) (rated_cut ts (place + covered) (n - covered) m))
+      | inr more ↦ (
+          let none : n - covered ≡ 0 = omega arith in
+          let here : place + n + (covered - n) ≡ place + covered = omega arith in
+          let rest : m - (covered - n) ≡ n + m - covered = omega arith in
+          rw (none, here, rest, rated_none ts (place + covered))
+          (sym (zero-add (rated_amount ts (place + covered) (n + m - covered)))))
+    ]
+
+cut_amount : (t : GroupPrices) (used place covered : ℕ) (side : Side) (one two : ℕ)
+    (after : List Part) → 0 < t.tariff.block
+    → report_amount t used place covered (part_of side one ∷ part_of side two ∷ after)
+    ≡ report_amount t used place covered (part_of side (one + two) ∷ after)
 unfolding report_amount
-cut_amount t used place side one two after some =
+cut_amount t used place covered side one two after some =
     let units : used + (one + two) ≡ used + one + two = omega arith in
     let cut : started used (one + two) t.tariff.block
     ≡ started used one t.tariff.block + started (used + one) two t.tariff.block =
@@ -163,28 +197,36 @@ cut_amount t used place side one two after some =
     let places : place + (started used one t.tariff.block + started (used + one) two t.tariff.block)
     ≡ place + started used one t.tariff.block + started (used + one) two t.tariff.block =
     omega arith in
-    rw (units, cut, places)
+    let lefts : covered
+    - (started used one t.tariff.block + started (used + one) two t.tariff.block)
+    ≡ covered - started used one t.tariff.block - started (used + one) two t.tariff.block =
+    omega arith in
+    rw (units, cut, places, lefts)
     (omega (
       arith,
-      rated_cut (tiers_on t side) place (started used one t.tariff.block)
+      uncovered_cut (tiers_on t side) place covered (started used one t.tariff.block)
           (started (used + one) two t.tariff.block),
     ))
 
-report_is : (t : GroupPrices) (used place : ℕ) (xs ys : List Part) →
+report_is : (t : GroupPrices) (used place covered : ℕ) (xs ys : List Part) →
     report_blocks t.tariff.block used xs ≡ report_blocks t.tariff.block used ys
-    → report_amount t used place xs ≡ report_amount t used place ys →
-    rated_report t used place xs ≡ rated_report t used place ys
-report_is t used place xs ys blocks amount =
-    λ i. record { amount = record { 0 = amount i }; blocks = blocks i }
+    → report_amount t used place covered xs ≡ report_amount t used place covered ys →
+    rated_report t used place covered xs ≡ rated_report t used place covered ys
+report_is t used place covered xs ys blocks amount =
+    λ i. record {
+      amount = record { 0 = amount i };
+      blocks = blocks i;
+      covered = record { 0 = min (blocks i) covered };
+    }
 
 -- anywhere in a report
 pub cuts_alike : CutsAlike
-cuts_alike t used place before after side one two some =
+cuts_alike t used place covered before after side one two some =
     let xs = part_of side one ∷ part_of side two ∷ after in
     let ys = part_of side (one + two) ∷ after in
-    let x : FollowsAt t used place before xs = follows t used place before xs in
-    let y : FollowsAt t used place before ys = follows t used place before ys in
-    report_is t used place (before ++ xs) (before ++ ys)
+    let x : FollowsAt t used place covered before xs = follows t used place covered before xs in
+    let y : FollowsAt t used place covered before ys = follows t used place covered before ys in
+    report_is t used place covered (before ++ xs) (before ++ ys)
     (omega (
       arith,
       x.blocks,
@@ -196,17 +238,49 @@ cuts_alike t used place before after side one two some =
       x.amount,
       y.amount,
       cut_amount t (used + units_of before)
-          (place + report_blocks t.tariff.block used before) side one two after some,
+          (place + report_blocks t.tariff.block used before)
+          (covered - report_blocks t.tariff.block used before) side one two after some,
+    ))
+
+-- no more blocks are covered than are started
+uncovered_most : (ts : List Tier) (place covered n more : ℕ) →
+    uncovered_amount ts place covered n ≡ uncovered_amount ts place (min (n + more) covered) n
+uncovered_most ts place covered n more =
+    elim (cases_lt covered (n + more)) [
+      | inl less ↦ (let same : min (n + more) covered ≡ covered = omega arith in rw same refl)
+      | inr all ↦ (let same : min (n + more) covered ≡ n + more = omega arith in
+          let none : n - covered ≡ 0 = omega arith in
+          let none' : n - (n + more) ≡ 0 = omega arith in
+          rw (same, none, none', rated_none ts (place + covered))
+          (sym (rated_none ts (place + (n + more)))))
+    ]
+
+pub covers_no_more : CoversNoMore
+unfolding report_blocks report_amount
+covers_no_more t used place covered [] = refl
+covers_no_more t used place covered (part ∷ parts) =
+    let n = started used part.units.0 t.tariff.block in
+    let more = report_blocks t.tariff.block (used + part.units.0) parts in
+    let left : min (n + more) covered - n ≡ min more (covered - n) = omega arith in
+    rw left
+    (omega (
+      arith,
+      uncovered_most (tiers_on t part.side) place covered n more,
+      covers_no_more t (used + part.units.0) (place + n) (covered - n) parts,
     ))
 
 -- after the last part
-pub report_by : (t : GroupPrices) (used place : ℕ) (parts : List Part) (a p amount blocks : ℕ) →
+pub report_by : (t : GroupPrices) (used place covered : ℕ) (parts : List Part)
+    (a p left amount blocks cut : ℕ) → cut ≡ min blocks covered →
     blocks + report_blocks t.tariff.block a [] ≡ report_blocks t.tariff.block used parts
-    → amount + report_amount t a p [] ≡ report_amount t used place parts
-    → ◌≡◌ {A = Rated} (record { amount = record { 0 = amount }; blocks = blocks })
-    (rated_report t used place parts)
+    → amount + report_amount t a p left [] ≡ report_amount t used place covered parts
+    → ◌≡◌ {A = Rated}
+    (record { amount = record { 0 = amount }; blocks = blocks; covered = record { 0 = cut } })
+    (rated_report t used place covered parts)
 unfolding report_blocks report_amount
-report_by t used place parts a p amount blocks hb ha =
+report_by t used place covered parts a p left amount blocks cut hc hb ha =
     let b : blocks ≡ report_blocks t.tariff.block used parts = omega (arith, hb) in
-    let m : amount ≡ report_amount t used place parts = omega (arith, ha) in
-    λ i. record { amount = record { 0 = m i }; blocks = b i }
+    let m : amount ≡ report_amount t used place covered parts = omega (arith, ha) in
+    let k : cut ≡ min (report_blocks t.tariff.block used parts) covered =
+    hc ∙ ap (λ n. min n covered) b in
+    λ i. record { amount = record { 0 = m i }; blocks = b i; covered = record { 0 = k i } }

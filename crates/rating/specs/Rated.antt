@@ -1,5 +1,5 @@
 -- Rated amounts (TS 32.296, rating), block by block.
-use Rattle.std.specs.Prelude.{◌≡◌, ℕ, zero, suc, ◌+◌, ◌<◌, List, [], ◌∷◌, ◌++◌, sum_by}
+use Rattle.std.specs.Prelude.{◌≡◌, ℕ, zero, suc, ◌+◌, ◌-◌, ◌<◌, min, List, [], ◌∷◌, ◌++◌, sum_by}
 use Rattle.units.specs.Blocks.{started}
 use Rattle.tariffs.specs.Prices.{block_price}
 use Rattle.tariffs.specs.declared.tiers.Tier.{Tier}
@@ -13,25 +13,33 @@ unfoldable pub rated_amount : List Tier → ℕ → ℕ → ℕ
 rated_amount tiers place zero = 0
 rated_amount tiers place (suc n) = rated_amount tiers place n + block_price tiers (place + suc n)
 
+-- the same of n blocks the first of which are covered: these cost nothing, and each other block
+-- keeps its place
+abbrev pub uncovered_amount : List Tier → ℕ → ℕ → ℕ → ℕ
+uncovered_amount tiers place covered n = rated_amount tiers (place + covered) (n - covered)
+
 -- the blocks that the parts of a report start, each after the use that the one before left
 unfoldable pub report_blocks : ℕ → ℕ → List Part → ℕ
 report_blocks block used [] = 0
 report_blocks block used (part ∷ parts) =
     started used part.units.0 block + report_blocks block (used + part.units.0) parts
 
--- their rated amount: each part on its side, after the use and at the place that the one before
--- left
-unfoldable pub report_amount : GroupPrices → ℕ → ℕ → List Part → ℕ
-report_amount p used place [] = 0
-report_amount p used place (part ∷ parts) =
-    rated_amount (tiers_on p part.side) place (started used part.units.0 p.tariff.block)
-    + report_amount p (used + part.units.0) (place + started used part.units.0 p.tariff.block) parts
+-- their rated amount: each part on its side, after the use, at the place, and with what is left of
+-- the covered blocks, as the one before left them
+unfoldable pub report_amount : GroupPrices → ℕ → ℕ → ℕ → List Part → ℕ
+report_amount p used place covered [] = 0
+report_amount p used place covered (part ∷ parts) =
+    uncovered_amount (tiers_on p part.side) place covered
+    (started used part.units.0 p.tariff.block)
+    + report_amount p (used + part.units.0) (place + started used part.units.0 p.tariff.block)
+    (covered - started used part.units.0 p.tariff.block) parts
 
--- a report's price: its rated amount and its blocks
-abbrev pub rated_report : GroupPrices → ℕ → ℕ → List Part → Rated
-rated_report p used place parts = record {
-  amount = record { 0 = report_amount p used place parts };
+-- a report's price: its rated amount, its blocks, and how many of them are covered
+abbrev pub rated_report : GroupPrices → ℕ → ℕ → ℕ → List Part → Rated
+rated_report p used place covered parts = record {
+  amount = record { 0 = report_amount p used place covered parts };
   blocks = report_blocks p.tariff.block used parts;
+  covered = record { 0 = min (report_blocks p.tariff.block used parts) covered };
 }
 
 -- a part of some units on a side
@@ -42,25 +50,35 @@ part_of side units = record { side = side; units = record { 0 = units } }
 -- what they do as one
 abbrev pub CutsAlike : Type 0
 CutsAlike =
-    (p : GroupPrices) (used place : ℕ) (before after : List Part) (side : Side) (one two : ℕ) →
+    (p : GroupPrices) (used place covered : ℕ) (before after : List Part) (side : Side)
+    (one two : ℕ) →
     0 < p.tariff.block
-    → rated_report p used place (before ++ part_of side one ∷ part_of side two ∷ after)
-    ≡ rated_report p used place (before ++ part_of side (one + two) ∷ after)
+    → rated_report p used place covered (before ++ part_of side one ∷ part_of side two ∷ after)
+    ≡ rated_report p used place covered (before ++ part_of side (one + two) ∷ after)
 
 -- the units of a report
 abbrev pub units_of : List Part → ℕ
 units_of parts = sum_by (λ part. part.units.0) parts
 
--- two reports after each other start and cost what their parts do as one report
-pub record FollowsAt (p : GroupPrices) (used place : ℕ) (parts more : List Part) : Type 0 where
-  pub blocks : report_blocks p.tariff.block used (parts ++ more)
-      ≡ report_blocks p.tariff.block used parts
-      + report_blocks p.tariff.block (used + units_of parts) more
-  pub amount : report_amount p used place (parts ++ more)
-      ≡ report_amount p used place parts
-      + report_amount p (used + units_of parts)
-      (place + report_blocks p.tariff.block used parts) more
+-- two reports after each other start and cost what their parts do as one report; the second has
+-- what the first leaves of the covered blocks
+pub record FollowsAt (p : GroupPrices) (used place covered : ℕ) (parts more : List Part) : Type 0
+  where
+    pub blocks : report_blocks p.tariff.block used (parts ++ more)
+        ≡ report_blocks p.tariff.block used parts
+        + report_blocks p.tariff.block (used + units_of parts) more
+    pub amount : report_amount p used place covered (parts ++ more)
+        ≡ report_amount p used place covered parts
+        + report_amount p (used + units_of parts)
+        (place + report_blocks p.tariff.block used parts)
+        (covered - report_blocks p.tariff.block used parts) more
 
 abbrev pub FollowsOn : Type 0
-FollowsOn = (p : GroupPrices) (used place : ℕ) (parts more : List Part) →
-    FollowsAt p used place parts more
+FollowsOn = (p : GroupPrices) (used place covered : ℕ) (parts more : List Part) →
+    FollowsAt p used place covered parts more
+
+-- no more blocks are covered than are started
+abbrev pub CoversNoMore : Type 0
+CoversNoMore = (p : GroupPrices) (used place covered : ℕ) (parts : List Part) →
+    report_amount p used place covered parts
+    ≡ report_amount p used place (min (report_blocks p.tariff.block used parts) covered) parts

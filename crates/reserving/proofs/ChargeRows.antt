@@ -19,10 +19,14 @@ use Rattle.reserving.specs.Requests.{recorded, touched, closed, credited, with_b
 use Rattle.reserving.specs.Pricing.{cycle_at, terms_at, validity_of}
 use Rattle.reserving.specs.Balance.{buckets_at}
 use Rattle.reserving.specs.Sessions.{holds_at}
+use Rattle.reserving.specs.Settlement.{due_of}
+use Rattle.rating.specs.declared.report.Rated.{Rated}
+use Rattle.buckets.specs.declared.kind.BucketKind.{BucketKind}
+use Rattle.buckets.specs.declared.kind.Due.{Due}
 use Rattle.reserving.specs.Settlement.{reported, report_price, charge_facts, settled, settled_by}
 use Rattle.reserving.specs.Settlement.{missing, passes}
 use Rattle.reserving.specs.Reservation.{hold_facts, reserved}
-use Rattle.reserving.specs.Debiting.{event_price, charged_use, debited}
+use Rattle.reserving.specs.Debiting.{rest_price, charged_use, debited}
 use Rattle.reserving.specs.Results.{IsSettlementOf, IsDebitOf}
 use Rattle.reserving.specs.Rows.{AccountRows, EachIn}
 use Rattle.reserving.proofs.SettledFacts.{total-front, each_charge, each_hold}
@@ -49,9 +53,10 @@ pub charge_rows-closed : (t : ℕ) (s : List ℕ) (ledger : Ledger) →
     charge_rows (closed t s ledger) ≡ charge_rows ledger
 charge_rows-closed t s ledger = append-nil (charge_rows ledger)
 
-pub charge_rows-credited : (t from until : ℕ) (scope : Option ℕ) (amount : ℕ) (ledger : Ledger) →
-    charge_rows (credited t from until scope amount ledger) ≡ charge_rows ledger
-charge_rows-credited t from until scope amount ledger = append-nil (charge_rows ledger)
+pub charge_rows-credited : (t : ℕ) (kind : BucketKind) (from until : ℕ) (scope : Option ℕ)
+    (amount : ℕ) (ledger : Ledger) →
+    charge_rows (credited t kind from until scope amount ledger) ≡ charge_rows ledger
+charge_rows-credited t kind from until scope amount ledger = append-nil (charge_rows ledger)
 
 pub charge_rows-barred : (t : ℕ) (barred : Bool) (ledger : Ledger) →
     charge_rows (with_bar t barred ledger) ≡ charge_rows ledger
@@ -62,10 +67,11 @@ pub charge_rows-ended : (t : ℕ) (s : List ℕ) (g : ℕ) (ledger : Ledger) →
     charge_rows (record { at = t; fact = End s g } ∷ ledger) ≡ charge_rows ledger
 charge_rows-ended t s g ledger = append-nil (charge_rows ledger)
 
-pub charge_rows-reserved : (b : Shelf) (t : ℕ) (s : List ℕ) (g units amount : ℕ) (ledger : Ledger) →
-    charge_rows (reserved b t s g units amount ledger) ≡ charge_rows ledger
-charge_rows-reserved b t s g units amount ledger =
-    let hs : List Hold = holds_of g t amount (buckets_at (validity_of b) t ledger) in
+pub charge_rows-reserved : (b : Shelf) (t : ℕ) (s : List ℕ) (g units : ℕ) (due : Due)
+    (ledger : Ledger) →
+    charge_rows (reserved b t s g units due ledger) ≡ charge_rows ledger
+charge_rows-reserved b t s g units due ledger =
+    let hs : List Hold = holds_of g t due (buckets_at (validity_of b) t ledger) in
     let before : Ledger =
     record {
       at = t;
@@ -78,55 +84,63 @@ charge_rows-reserved b t s g units amount ledger =
 -- ---- a use
 
 -- the row of a use
-abbrev pub charge_row : (n t : ℕ) (s : List ℕ) (g blocks rated uncollected : ℕ) → ChargeRow
-charge_row n t s g blocks rated uncollected = record {
+abbrev pub charge_row : (n t : ℕ) (s : List ℕ) (g blocks : ℕ) (due : Due) (uncollected : ℕ) →
+    ChargeRow
+charge_row n t s g blocks due uncollected = record {
   number = n;
   moment = t;
   session = s;
   group = g;
   blocks = record { 0 = blocks };
-  rated = record { 0 = rated };
-  collected = record { 0 = rated - uncollected };
+  covered = record { 0 = due.blocks };
+  rated = record { 0 = due.money };
+  collected = record { 0 = due.money - uncollected };
   uncollected = record { 0 = uncollected };
 }
 
 -- a use in front of what the buckets paid for it
-used_row : (t : ℕ) (hs : List Hold) (s : List ℕ) (g units blocks rated left : ℕ) (ledger : Ledger) →
+used_row : (t : ℕ) (hs : List Hold) (s : List ℕ) (g units blocks : ℕ) (due : Due) (left : ℕ)
+    (ledger : Ledger) →
     charge_rows
-    (record { at = t; fact = Use s g units blocks rated left } ∷ charge_facts t hs ++ ledger)
-    ≡ charge_rows ledger ++ charge_row (next_charge ledger) t s g blocks rated left ∷ []
-used_row t hs s g units blocks rated left ledger =
+    (record { at = t; fact = Use s g units blocks due.blocks due.money left }
+    ∷ charge_facts t hs ++ ledger)
+    ≡ charge_rows ledger ++ charge_row (next_charge ledger) t s g blocks due left ∷ []
+used_row t hs s g units blocks due left ledger =
     let rows : charge_rows (charge_facts t hs ++ ledger) ≡ charge_rows ledger =
     charge_rows-front (charge_facts t hs) ledger (each_charge _ t hs (λ k n m. refl)) in
     let number : next_charge (charge_facts t hs ++ ledger) ≡ next_charge ledger =
     ap (λ n. n + 1)
     (total-front (λ d. uses_in d.fact) (charge_facts t hs) ledger
     (each_charge _ t hs (λ k n. refl))) in
-    λ i. rows i ++ charge_row (number i) t s g blocks rated left ∷ []
+    λ i. rows i ++ charge_row (number i) t s g blocks due left ∷ []
 
-pub charge_rows-settled : (v : ℕ → ℕ) (t : ℕ) (s : List ℕ) (g units blocks rated : ℕ)
-    (ledger : Ledger) →
-    charge_rows (settled v t s g units blocks rated ledger)
+pub charge_rows-settled : (v : ℕ → ℕ) (t : ℕ) (s : List ℕ) (g units blocks : ℕ)
+    (due : Due) (ledger : Ledger) →
+    charge_rows (settled v t s g units blocks due ledger)
     ≡ charge_rows ledger
-    ++ charge_row (next_charge ledger) t s g blocks rated
-    (uncollected (holds_at v t s g ledger) g t rated (buckets_at v t ledger)) ∷ []
-charge_rows-settled v t s g units blocks rated ledger =
+    ++ charge_row (next_charge ledger) t s g blocks due
+    (uncollected (holds_at v t s g ledger) g t due.money (buckets_at v t ledger)) ∷ []
+charge_rows-settled v t s g units blocks due ledger =
     let rows : List Row = buckets_at v t ledger in
     let holds : List Hold = holds_at v t s g ledger in
-    let hs : List Hold = parts (paid holds g t rated rows) rows in
+    let hs : List Hold = parts (paid holds g t due rows) rows in
     append-nil
     (charge_rows
-    (record { at = t; fact = Use s g units blocks rated (uncollected holds g t rated rows) }
+    (record {
+      at = t;
+      fact = Use s g units blocks due.blocks due.money
+          (uncollected holds g t due.money rows);
+    }
     ∷ charge_facts t hs ++ ledger))
-    ∙ used_row t hs s g units blocks rated (uncollected holds g t rated rows) ledger
+    ∙ used_row t hs s g units blocks due (uncollected holds g t due.money rows) ledger
 
-pub charge_rows-charged_use : (v : ℕ → ℕ) (t : ℕ) (s : List ℕ) (g units blocks rated : ℕ)
-    (ledger : Ledger) →
-    charge_rows (charged_use v t s g units blocks rated ledger)
-    ≡ charge_rows ledger ++ charge_row (next_charge ledger) t s g blocks rated 0 ∷ []
-charge_rows-charged_use v t s g units blocks rated ledger =
+pub charge_rows-charged_use : (v : ℕ → ℕ) (t : ℕ) (s : List ℕ) (g units blocks : ℕ)
+    (due : Due) (ledger : Ledger) →
+    charge_rows (charged_use v t s g units blocks due ledger)
+    ≡ charge_rows ledger ++ charge_row (next_charge ledger) t s g blocks due 0 ∷ []
+charge_rows-charged_use v t s g units blocks due ledger =
     let rows : List Row = buckets_at v t ledger in
-    used_row t (parts (paid [] g t rated rows) rows) s g units blocks rated 0 ledger
+    used_row t (parts (paid [] g t due rows) rows) s g units blocks due 0 ledger
 
 -- ---- reports
 
@@ -140,11 +154,11 @@ pub charge_rows-reported : (b : Shelf) (t : ℕ) (s : List ℕ) (g : ℕ) (p : U
     charge_rows (settled_by b t s g (p ∷ ps) ledger)
     ≡ charge_rows ledger
     ++ charge_row (next_charge ledger) t s g (report_price b t s g (p ∷ ps) ledger).blocks
-    (report_price b t s g (p ∷ ps) ledger).amount.0 (missing b t s g (p ∷ ps) ledger) ∷ []
+    (due_of (report_price b t s g (p ∷ ps) ledger)) (missing b t s g (p ∷ ps) ledger) ∷ []
 charge_rows-reported b t s g p ps ledger =
     charge_rows-settled (validity_of b) t s g (reported (p ∷ ps))
     (report_price b t s g (p ∷ ps) ledger).blocks
-    (report_price b t s g (p ∷ ps) ledger).amount.0 ledger
+    (due_of (report_price b t s g (p ∷ ps) ledger)) ledger
 
 -- ---- the rows, with what the calls answer
 
@@ -156,20 +170,23 @@ told_row n t s g x = record {
   session = s;
   group = g;
   blocks = x.blocks;
+  covered = x.covered;
   rated = x.rated;
   collected = x.collected;
   uncollected = x.uncollected;
 }
 
-told_is : (n t : ℕ) (s : List ℕ) (g blocks rated left : ℕ) (x : Settled) → x.blocks.0 ≡ blocks →
-    x.rated.0 ≡ rated → x.uncollected.0 ≡ left → x.collected.0 ≡ rated - left →
-    charge_row n t s g blocks rated left ≡ told_row n t s g x
-told_is n t s g blocks rated left x eb er eu ec = λ i. record {
+told_is : (n t : ℕ) (s : List ℕ) (g blocks : ℕ) (due : Due) (left : ℕ) (x : Settled) →
+    x.blocks.0 ≡ blocks → x.covered.0 ≡ due.blocks → x.rated.0 ≡ due.money →
+    x.uncollected.0 ≡ left → x.collected.0 ≡ due.money - left →
+    charge_row n t s g blocks due left ≡ told_row n t s g x
+told_is n t s g blocks due left x eb ev er eu ec = λ i. record {
   number = n;
   moment = t;
   session = s;
   group = g;
   blocks = record { 0 = sym eb i };
+  covered = record { 0 = sym ev i };
   rated = record { 0 = sym er i };
   collected = record { 0 = sym ec i };
   uncollected = record { 0 = sym eu i };
@@ -181,17 +198,17 @@ pub charge_rows-settlement : (b : Shelf) (t n : ℕ) (s : List ℕ) (g : ℕ) (p
     IsSettlementOf b t s g (p ∷ ps) ledger x →
     charge_rows (settled_by b t s g (p ∷ ps) ledger) ≡ charge_rows ledger ++ told_row n t s g x ∷ []
 charge_rows-settlement b t n s g p ps ledger x number is =
-    let rated : ℕ = (report_price b t s g (p ∷ ps) ledger).amount.0 in
+    let due : Due = due_of (report_price b t s g (p ∷ ps) ledger) in
     let left : ℕ = missing b t s g (p ∷ ps) ledger in
-    let collected : x.collected.0 ≡ rated - left =
+    let collected : x.collected.0 ≡ due.money - left =
     omega (arith, is.collected, is.rated, is.uncollected) in
     charge_rows-reported b t s g p ps ledger
     ∙ (λ i. charge_rows ledger
-    ++ charge_row (sym number i) t s g (report_price b t s g (p ∷ ps) ledger).blocks rated left
+    ++ charge_row (sym number i) t s g (report_price b t s g (p ∷ ps) ledger).blocks due left
     ∷ [])
     ∙ ap (λ r. charge_rows ledger ++ r ∷ [])
-    (told_is n t s g (report_price b t s g (p ∷ ps) ledger).blocks rated left x is.blocks
-    is.rated is.uncollected collected)
+    (told_is n t s g (report_price b t s g (p ∷ ps) ledger).blocks due left x is.blocks
+    is.covered is.rated is.uncollected collected)
 
 -- so does a debit
 pub charge_rows-debit : (b : Shelf) (t n : ℕ) (s : List ℕ) (g units : ℕ) (ledger : Ledger)
@@ -199,15 +216,13 @@ pub charge_rows-debit : (b : Shelf) (t n : ℕ) (s : List ℕ) (g units : ℕ) (
     IsDebitOf b t s g units ledger after x →
     charge_rows (debited b t s g units ledger) ≡ charge_rows ledger ++ told_row n t s g x ∷ []
 charge_rows-debit b t n s g units ledger after x number is =
-    let rated : ℕ = (event_price b t g units ledger).amount.0 in
-    let collected : x.collected.0 ≡ rated - 0 = omega (arith, is.collected, is.rated) in
-    charge_rows-charged_use (validity_of b) t s g units
-    (event_price b t g units ledger).blocks rated
-    ledger
+    let price : Rated = rest_price b t g units ledger in
+    let collected : x.collected.0 ≡ price.amount.0 - 0 = omega (arith, is.collected, is.rated) in
+    charge_rows-charged_use (validity_of b) t s g units price.blocks (due_of price) ledger
     ∙ (λ i. charge_rows ledger
-    ++ charge_row (sym number i) t s g (event_price b t g units ledger).blocks rated 0 ∷ [])
+    ++ charge_row (sym number i) t s g price.blocks (due_of price) 0 ∷ [])
     ∙ ap (λ r. charge_rows ledger ++ r ∷ [])
-    (told_is n t s g (event_price b t g units ledger).blocks rated 0 x is.blocks is.rated
+    (told_is n t s g price.blocks (due_of price) 0 x is.blocks is.covered_blocks is.rated
     is.uncollected collected)
 
 -- ---- numbers

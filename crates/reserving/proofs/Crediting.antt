@@ -16,6 +16,8 @@ use Rattle.reserving.specs.Rows.{AccountRows, IsAccount, IsRowsOf}
 use Rattle.reserving.specs.Requests.{credited}
 use Rattle.reserving.specs.Changes.{credited_account}
 use Rattle.buckets.specs.Row.{with_end, with_release}
+use Rattle.buckets.specs.declared.kind.BucketKind.{BucketKind}
+use Rattle.buckets.specs.Kinds.{most_of, IsScopeOf}
 use Rattle.reserving.specs.Sessions.{is_live_in}
 use Rattle.reserving.specs.Changes.{advanced, lapsed_in}
 use Rattle.reserving.proofs.InOrder.{parts-inserted, order_inserted}
@@ -65,14 +67,16 @@ IsBelow-inserted next b (x ∷ xs) lt h =
 
 -- ---- what each account keeps
 
-pub IsAccount-credited : (a : AccountRows) (from until : ℕ) (scope : Option ℕ) (amount : ℕ) →
-    a.next_bucket ≤ 4294967295 → amount ≤ 1000000000000000 → IsAccount a →
-    IsAccount (credited_account from until scope amount a)
-IsAccount-credited a from until scope amount le most is =
-    let b : Row = new_row a.next_bucket from until scope amount in
+pub IsAccount-credited : (a : AccountRows) (kind : BucketKind) (from until : ℕ) (scope : Option ℕ)
+    (amount : ℕ) →
+    a.next_bucket ≤ 4294967295 → amount ≤ most_of kind → IsScopeOf kind scope → IsAccount a →
+    IsAccount (credited_account kind from until scope amount a)
+IsAccount-credited a kind from until scope amount le most scoped is =
+    let b : Row = new_row kind a.next_bucket from until scope amount in
     record {
       shelf = is.shelf;
-      sound = IsSound-inserted b a.buckets is.below (record { sum = omega arith; most = most })
+      sound = IsSound-inserted b a.buckets is.below
+          (record { sum = omega arith; most = most; scope = scoped; number = omega arith })
           is.sound;
       below = IsBelow-inserted a.next_bucket b a.buckets (omega arith) is.below;
       next_bucket = omega arith;
@@ -96,14 +100,15 @@ later_row a t b =
     b))
 
 -- a new bucket at a moment
-new_later : (t n from until : ℕ) (scope : Option ℕ) (amount lapsed ch h : ℕ) → lapsed ≡ 0 → ch ≡ 0 →
-    h ≡ 0 → with_end t (with_release t (new_row n from until scope amount) lapsed)
-    ≡ balance_of t (new_row n from until scope amount) ch h
-new_later t n from until scope amount lapsed ch h el ec eh =
+new_later : (t n : ℕ) (kind : BucketKind) (from until : ℕ) (scope : Option ℕ)
+    (amount lapsed ch h : ℕ) → lapsed ≡ 0 → ch ≡ 0 →
+    h ≡ 0 → with_end t (with_release t (new_row kind n from until scope amount) lapsed)
+    ≡ balance_of t (new_row kind n from until scope amount) ch h
+new_later t n kind from until scope amount lapsed ch h el ec eh =
     rw (el, ec, eh) (at (nat_lt t until) refl)
   where
     b : Row
-    b = new_row n from until scope amount
+    b = new_row kind n from until scope amount
 
     at : (e : Bool) → nat_lt t until ≡ e →
         with_end t (if e then record b { reserved = 0 - 0; available = amount + 0 }
@@ -122,10 +127,11 @@ new_later t n from until scope amount lapsed ch h el ec eh =
         refl (omega arith))
 
 -- a bucket more leaves the ledger sound
-pub IsSoundLedger-credited : (t from until : ℕ) (scope : Option ℕ) (amount : ℕ)
+pub IsSoundLedger-credited : (t : ℕ) (kind : BucketKind) (from until : ℕ)
+    (scope : Option ℕ) (amount : ℕ)
     (ledger : Ledger) → IsSoundLedger ledger →
-    IsSoundLedger (credited t from until scope amount ledger)
-IsSoundLedger-credited t from until scope amount ledger sound = record {
+    IsSoundLedger (credited t kind from until scope amount ledger)
+IsSoundLedger-credited t kind from until scope amount ledger sound = record {
   touched = sound.touched;
   unknown = λ s e. let u : IsUnknown s ledger = sound.unknown s e in
       record { closed = u.closed; held = λ n. omega (arith, u.held n); granted = u.granted };
@@ -133,11 +139,12 @@ IsSoundLedger-credited t from until scope amount ledger sound = record {
   free = λ n p le. omega (arith, sound.free n p (omega (arith, le)));
 }
 
-pub IsRowsOf-credited : (ledger : Ledger) (a : AccountRows) (t from until : ℕ) (scope : Option ℕ)
+pub IsRowsOf-credited : (ledger : Ledger) (a : AccountRows) (t : ℕ) (kind : BucketKind)
+    (from until : ℕ) (scope : Option ℕ)
     (amount : ℕ) → IsAccount a → IsRowsOf ledger a → a.as_of ≤ t →
-    IsRowsOf (credited t from until scope amount ledger)
-    (advanced t (credited_account from until scope amount a))
-IsRowsOf-credited ledger a t from until scope amount is rows le = record {
+    IsRowsOf (credited t kind from until scope amount ledger)
+    (advanced t (credited_account kind from until scope amount a))
+IsRowsOf-credited ledger a t kind from until scope amount is rows le = record {
   barred = rows.barred;
   buckets =
       map-inserted (later_row a t) b a.buckets
@@ -150,20 +157,20 @@ IsRowsOf-credited ledger a t from until scope amount is rows le = record {
   counters = λ g c. rows.counters g c ∙ counted g c;
   next_bucket = omega (arith, rows.next_bucket);
   next_charge = omega (arith, rows.next_charge);
-  sound = IsSoundLedger-credited t from until scope amount ledger rows.sound;
+  sound = IsSoundLedger-credited t kind from until scope amount ledger rows.sound;
 }
   where
     v : ℕ → ℕ
     v = (validity_of a.shelf)
 
     more : Ledger
-    more = credited t from until scope amount ledger
+    more = credited t kind from until scope amount ledger
 
     b : Row
-    b = new_row a.next_bucket from until scope amount
+    b = new_row kind a.next_bucket from until scope amount
 
     b' : Row
-    b' = new_row (next_bucket ledger) from until scope amount
+    b' = new_row kind (next_bucket ledger) from until scope amount
 
     later : IsRowsOf ledger (advanced t a)
     later = IsRowsOf-advanced ledger a t is rows le
@@ -182,12 +189,12 @@ IsRowsOf-credited ledger a t from until scope amount is rows le = record {
     )
 
     first : later_row a t b ≡ bucket_at v t more b'
-    first = new_later t a.next_bucket from until scope amount
+    first = new_later t a.next_bucket kind from until scope amount
         (lapsed_in (is_live_in v t a.sessions) a.groups b) (charged (next_bucket ledger) more)
         (held (λ s g. is_live v t more s) (next_bucket ledger) more) given
         (omega (arith, rows.sound.fresh (next_bucket ledger) next))
         (omega (arith, unheld (λ s g. is_live v t more s)))
-        ∙ ap (λ n. balance_of t (new_row n from until scope amount)
+        ∙ ap (λ n. balance_of t (new_row kind n from until scope amount)
         (charged (next_bucket ledger) more)
         (held (λ s g. is_live v t more s) (next_bucket ledger) more)) rows.next_bucket
 

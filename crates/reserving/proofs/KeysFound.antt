@@ -103,6 +103,13 @@ pub unreserved : (s : List ℕ) (g : ℕ) (rows : List SessionGroup) →
 unreserved s g rows h =
     sym (ap (λ o. holds_in (unwrap_or o (new_group s g)).reservation) (unplaced (is_of s g) rows h))
 
+pub holds_at_place : (s : List ℕ) (g place : ℕ) (rows : List SessionGroup) (d : SessionGroup) →
+    position (is_of s g) rows ≡ Some place →
+    holds_in (get_or rows place d).reservation ≡ reserved_in s g rows
+holds_at_place s g place rows d h =
+    sym (ap (λ o. holds_in (unwrap_or o (new_group s g)).reservation)
+    (found_group s g place rows d h))
+
 -- a row that is found has its key
 pub found_session : (s : List ℕ) (g : ℕ) (rows : List SessionGroup) (x : SessionGroup) →
     group_in s g rows ≡ Some x → x.session ≡ s

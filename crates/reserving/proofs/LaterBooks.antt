@@ -45,11 +45,11 @@ touch_before from s (d ∷ older) x h e = by_fact d.fact (touch_before from s ol
         or_else (touch_in s (record { at = d.at; fact = f })) (last_touch s older) ≡ Some x →
         x < from
     by_fact (Touch session) rest e = at (is_same session s) rest e
-    by_fact (Credit number start until scope amount) rest e = rest e
+    by_fact (Credit kind number start until scope amount) rest e = rest e
     by_fact (Grant session group terms units place) rest e = rest e
     by_fact (Hold session group bucket amount) rest e = rest e
     by_fact (End session group) rest e = rest e
-    by_fact (Use session group units blocks rated uncollected) rest e = rest e
+    by_fact (Use session group units blocks covered rated uncollected) rest e = rest e
     by_fact (Charge bucket amount) rest e = rest e
     by_fact (Close session) rest e = rest e
     by_fact (Recorded session number) rest e = rest e
@@ -108,10 +108,10 @@ counts_same : (from : ℕ) (f h : ℕ → ℕ) (g c : ℕ) (d : Dated) → Agree
     d.at < from → (x : Fact) → d.fact ≡ x →
     counts_group f g c (record { at = d.at; fact = x })
     ≡ counts_group h g c (record { at = d.at; fact = x })
-counts_same from f h g c d agree lt (Use session group units blocks rated uncollected) e =
+counts_same from f h g c d agree lt (Use session group units blocks covered rated uncollected) e =
     λ i. group == g && agree d.at lt i == c
 counts_same from f h g c d agree lt (Touch session) e = refl
-counts_same from f h g c d agree lt (Credit number start until scope amount) e = refl
+counts_same from f h g c d agree lt (Credit kind number start until scope amount) e = refl
 counts_same from f h g c d agree lt (Grant session group terms units place) e = refl
 counts_same from f h g c d agree lt (Hold session group bucket amount) e = refl
 counts_same from f h g c d agree lt (End session group) e = refl

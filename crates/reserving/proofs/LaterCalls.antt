@@ -1,6 +1,6 @@
 -- What a book that is added later leaves of each step that a command takes on a ledger: the price
 -- of a report, a settlement, a grant, a debit.
-use Rattle.std.proofs.Common.{◌≡◌, ℕ, ◌<◌, ◌≤◌, Bool, true, false, List, [], ◌∷◌, ◌++◌, refl}
+use Rattle.std.proofs.Common.{◌≡◌, ℕ, ◌+◌, ◌<◌, ◌≤◌, Bool, true, false, List, [], ◌∷◌, ◌++◌, refl}
 use Rattle.std.proofs.Common.{sym, ap, subst, ◌∙◌, arith, Option, Some, None}
 use Rattle.std.specs.Prelude.{◌==◌, ◌&&◌, if◌then◌else◌, unwrap_or, option_and_then, nat_le}
 use Rattle.units.specs.declared.blocks.UsedPart.{UsedPart}
@@ -10,8 +10,10 @@ use Rattle.tariffs.specs.Tariffs.{GroupTariff}
 use Rattle.rating.specs.declared.report.Rated.{Rated}
 use Rattle.buckets.specs.Row.{Row}
 use Rattle.buckets.specs.Share.{parts}
-use Rattle.buckets.specs.Spend.{funds}
-use Rattle.buckets.specs.Holding.{paid, uncollected, holds_of}
+use Rattle.buckets.specs.declared.kind.Due.{Due}
+use Rattle.buckets.specs.declared.kind.BucketKind.TheVariants.{Blocks}
+use Rattle.buckets.specs.Spend.{funds, allowance}
+use Rattle.buckets.specs.Holding.{paid, uncollected, holds_of, held_sum}
 use Rattle.shelves.specs.Shelves.{Shelf, book_at, number_at, tariff_in, count}
 use Rattle.shelves.specs.Laws.{GoesOnFrom}
 use Rattle.shelves.proofs.Begun.{begun_few}
@@ -24,10 +26,10 @@ use Rattle.reserving.specs.Pricing.{validity_of, cycle_at, cycle_with, tariff_of
 use Rattle.reserving.specs.Pricing.{terms_now, periods_by, rated_with, grant_with}
 use Rattle.reserving.specs.Balance.{buckets_at}
 use Rattle.reserving.specs.Settlement.{reported, report_price, charge_facts, settled_by}
-use Rattle.reserving.specs.Settlement.{passes, passes_limit}
+use Rattle.reserving.specs.Settlement.{passes, passes_limit, coverable, due_of}
 use Rattle.reserving.specs.Ledger.{next_charge}
 use Rattle.reserving.specs.Reservation.{reserved, grant_for, hold_facts}
-use Rattle.reserving.specs.Debiting.{event_price, is_covered, untagged}
+use Rattle.reserving.specs.Debiting.{event_price, rest_price, is_covered, untagged}
 use Rattle.reserving.proofs.Lists.{no_some, some_of}
 use Rattle.reserving.proofs.LaterBooks.{IsBefore, AgreeBefore, buckets_same, count_same}
 
@@ -64,9 +66,9 @@ told_numbered n s g (d ∷ older) x h e =
         (λ y k. subst (λ (z : Terms). z.book ≤ n) (some_of terms y k) own) rest e
     by_fact (End session group) own rest e =
         told (is_same session s && group == g) None (λ y k. absurd (no_some y k)) rest e
-    by_fact (Credit number start until scope amount) own rest e = rest e
+    by_fact (Credit kind number start until scope amount) own rest e = rest e
     by_fact (Hold session group bucket amount) own rest e = rest e
-    by_fact (Use session group units blocks rated uncollected) own rest e = rest e
+    by_fact (Use session group units blocks covered rated uncollected) own rest e = rest e
     by_fact (Charge bucket amount) own rest e = rest e
     by_fact (Touch session) own rest e = rest e
     by_fact (Close session) own rest e = rest e
@@ -131,31 +133,40 @@ module _ (from : ℕ) (b u : Shelf) (on : GoesOnFrom from b u) (t : ℕ) (early 
         (inner_told (newest (grant_in session g) ledger) x e))
         (let few = begun_few b.later t in omega (arith, few))
 
+    -- the blocks that may cover a report
+    pub coverable_same : (session : List ℕ) (g : ℕ) →
+        coverable (validity_of b) t session g ledger ≡ coverable (validity_of u) t session g ledger
+    coverable_same session g =
+        λ i. held_sum Blocks
+        (parts (λ (x : Row). held (only session g) x.number ledger) (rows_same i)) (rows_same i)
+        + allowance g t (rows_same i)
+
     -- a report has one price
     pub price_same : (session : List ℕ) (g : ℕ) (used_parts : List UsedPart) →
         report_price b t session g used_parts ledger ≡ report_price u t session g used_parts ledger
     price_same session g used_parts =
         ap (λ (o : Option GroupTariff).
         rated_with o (priced_by b session g).periods (used session g ledger)
-        (counter (cycle_at b g) g (cycle_at b g t) ledger) used_parts)
+        (counter (cycle_at b g) g (cycle_at b g t) ledger)
+        (coverable (validity_of b) t session g ledger) used_parts)
         (tariff_same (priced_by b session g).book g (in_count session g))
         ∙ (λ i. rated_with
         (tariff_in u (unwrap_or (open_grant session g ledger) (terms_same i)).book g)
         (unwrap_or (open_grant session g ledger) (terms_same i)).periods (used session g ledger)
-        (place_same g i) used_parts)
+        (place_same g i) (coverable_same session g i) used_parts)
 
     abbrev settled_with : List ℕ → ℕ → ℕ → List Row → Rated → Ledger
     settled_with session g units rows r =
         record { at = t; fact = End session g }
         ∷ record {
           at = t;
-          fact = Use session g units r.blocks r.amount.0
+          fact = Use session g units r.blocks r.covered.0 r.amount.0
               (uncollected (parts (λ (x : Row). held (only session g) x.number ledger) rows) g t
               r.amount.0 rows);
         }
         ∷ charge_facts t
         (parts (paid (parts (λ (x : Row). held (only session g) x.number ledger) rows) g t
-        r.amount.0 rows) rows) ++ ledger
+        (due_of r) rows) rows) ++ ledger
 
     -- and one settlement
     pub settled_same : (session : List ℕ) (g : ℕ) (used_parts : List UsedPart) →
@@ -177,12 +188,12 @@ module _ (from : ℕ) (b u : Shelf) (on : GoesOnFrom from b u) (t : ℕ) (early 
         grant_for b t g used_before requested ledger ≡ grant_for u t g used_before requested ledger
     grant_same g used_before requested =
         λ i. grant_with (tariff_of (book_same i) g) (periods_by (book_same i) t) used_before
-        (place_same g i) requested (funds g t (rows_same i))
+        (place_same g i) requested (funds g t (rows_same i)) (allowance g t (rows_same i))
 
-    pub reserved_same : (session : List ℕ) (g units amount : ℕ) →
-        reserved b t session g units amount ledger ≡ reserved u t session g units amount ledger
-    reserved_same session g units amount =
-        λ i. hold_facts t session g (holds_of g t amount (rows_same i))
+    pub reserved_same : (session : List ℕ) (g units : ℕ) (due : Due) →
+        reserved b t session g units due ledger ≡ reserved u t session g units due ledger
+    reserved_same session g units due =
+        λ i. hold_facts t session g (holds_of g t due (rows_same i))
         ++ (record {
           at = t;
           fact = Grant session g
@@ -191,15 +202,21 @@ module _ (from : ℕ) (b u : Shelf) (on : GoesOnFrom from b u) (t : ℕ) (early 
         } ∷ ledger)
 
     -- an event has one price, and is covered alike
-    pub event_same : (g units : ℕ) → event_price b t g units ledger ≡ event_price u t g units ledger
-    event_same g units =
+    pub event_same : (g covered units : ℕ) →
+        event_price b t g covered units ledger ≡ event_price u t g covered units ledger
+    event_same g covered units =
         ap (λ (o : Option GroupTariff).
         rated_with o (terms_now b t).periods 0
-        (counter (cycle_at b g) g (cycle_at b g t) ledger) (untagged units))
+        (counter (cycle_at b g) g (cycle_at b g t) ledger) covered (untagged units))
         (tariff_same (number_at b t) g (let few = begun_few b.later t in omega (arith, few)))
         ∙ (λ i. rated_with (tariff_in u (terms_same i).book g) (terms_same i).periods 0
-        (place_same g i) (untagged units))
+        (place_same g i) covered (untagged units))
+
+    pub rest_same : (g units : ℕ) → rest_price b t g units ledger ≡ rest_price u t g units ledger
+    rest_same g units =
+        event_same g (allowance g t (buckets_at (validity_of b) t ledger)) units
+        ∙ ap (λ (rows : List Row). event_price u t g (allowance g t rows) units ledger) rows_same
 
     pub covered_same : (g units : ℕ) → is_covered b t g units ledger ≡ is_covered u t g units ledger
     covered_same g units =
-        λ i. nat_le (event_same g units i).amount.0 (funds g t (rows_same i))
+        λ i. nat_le (rest_same g units i).amount.0 (funds g t (rows_same i))

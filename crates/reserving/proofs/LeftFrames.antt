@@ -7,11 +7,13 @@ use Rattle.std.proofs.lemmas.List.Sorted.{IsPermutation-refl}
 use Rattle.units.specs.declared.blocks.UsedPart.{UsedPart}
 use Rattle.buckets.specs.declared.holds.Hold.{Hold}
 use Rattle.buckets.specs.Row.{Row, with_release, with_end}
-use Rattle.buckets.specs.Spend.{Each}
-use Rattle.buckets.specs.Holding.{held_in, settled_rows, released_rows}
+use Rattle.buckets.specs.Spend.{Each, allowance}
+use Rattle.buckets.specs.Holding.{held_in, settled_rows, released_rows, held_sum}
 use Rattle.buckets.proofs.SharesAlong.{KeepsPlace, with_end_keeps, with_release_number}
 use Rattle.buckets.proofs.SharesAlong.{with_release_until}
 use Rattle.rating.specs.declared.report.Rated.{Rated}
+use Rattle.buckets.specs.declared.kind.BucketKind.TheVariants.{Blocks}
+use Rattle.buckets.specs.declared.kind.Due.{Due}
 use Rattle.shelves.specs.Shelves.{Shelf}
 use Rattle.reserving.specs.declared.session.Session.{Session}
 use Rattle.reserving.specs.declared.session.SessionGroup.{SessionGroup}
@@ -22,11 +24,11 @@ use Rattle.reserving.specs.Pricing.{cycle_at, validity_of}
 use Rattle.reserving.specs.Keyed.{put}
 use Rattle.reserving.specs.Sessions.{session_in, is_open, is_of, group_in, is_counter, is_live_in}
 use Rattle.reserving.specs.Sessions.{is_live_row, holds_in, held_by}
-use Rattle.reserving.specs.Settlement.{reported, price_of, settled_by}
+use Rattle.reserving.specs.Settlement.{reported, price_of, settled_by, due_of}
 use Rattle.reserving.specs.Changes.{advanced, lapse, lapse_group, lapsed_in, group_or_new}
 use Rattle.reserving.specs.Changes.{new_group, used_in, reserved_in, count_in, price_in, with_use}
 use Rattle.reserving.specs.Changes.{with_count, ended_group, ended_rows, settled_account}
-use Rattle.reserving.specs.Changes.{settled_by_rows}
+use Rattle.reserving.specs.Changes.{settled_by_rows, coverable_in}
 use Rattle.reserving.specs.Rows.{AccountRows, EachIn, IsRowsOf}
 use Rattle.reserving.proofs.Advancing.{held_by-split, is_live_in-is}
 use Rattle.reserving.proofs.Lists.{not_both, EachIn-weaker}
@@ -36,6 +38,7 @@ use Rattle.reserving.specs.Left.{LeftRows, merged, joined, IsDead, IsLeft, AreOf
 use Rattle.reserving.specs.Sessions.{group_before, counter_before}
 use Rattle.reserving.proofs.LeftMerged.{map_merged, each_map, each_both, each_left, release_none}
 use Rattle.reserving.proofs.LeftMerged.{end_dead, settled_merged, released_merged}
+use Rattle.reserving.proofs.LeftMerged.{sum_in-merged, allowance_merged}
 use Rattle.reserving.proofs.LeftJoined.{find_behind, map_behind}
 use Rattle.reserving.proofs.Reordered.{put_behind}
 use Rattle.reserving.proofs.order.SameRows.{IsReordered, reordered_none, keys_settled}
@@ -221,13 +224,28 @@ module _ (left : LeftRows) (a : AccountRows) (h : IsLeft left a) where
         each_map (λ b. held_by (λ x. true) a.groups b ≡ 0) (λ b. held_in holds b ≡ 0) left.buckets
         (λ b e. omega (arith, e, one_held a.groups b)) unheld
 
-    settled_buckets : (rated : ℕ) →
-        settled_rows (reserved_in s g (left.groups ++ a.groups)) g a.as_of rated
+    pub cover_same : (t : ℕ) → coverable_in s g t (joined left a) ≡ coverable_in s g t a
+    cover_same t = λ i. held_same i + allowed_same i
+      where
+        held_same : held_sum Blocks (reserved_in s g (left.groups ++ a.groups))
+            (merged left.buckets a.buckets) ≡ held_sum Blocks holds a.buckets
+        held_same =
+            (λ i. held_sum Blocks (holds_same i) (merged left.buckets a.buckets))
+            ∙ sum_in-merged Blocks (held_in holds) left.buckets a.buckets holds_none
+
+        allowed_same : allowance g t (advanced t (joined left a)).buckets
+            ≡ allowance g t (advanced t a).buckets
+        allowed_same =
+            ap (λ (x : AccountRows). allowance g t x.buckets) (advanced_joined' t)
+            ∙ allowance_merged g t left.buckets (advanced t a).buckets h.dead
+
+    settled_buckets : (due : Due) →
+        settled_rows (reserved_in s g (left.groups ++ a.groups)) g a.as_of due
         (merged left.buckets a.buckets)
-        ≡ merged left.buckets (settled_rows holds g a.as_of rated a.buckets)
-    settled_buckets rated =
-        (λ i. settled_rows (holds_same i) g a.as_of rated (merged left.buckets a.buckets))
-        ∙ settled_merged holds g a.as_of rated left.buckets a.buckets h.dead holds_none
+        ≡ merged left.buckets (settled_rows holds g a.as_of due a.buckets)
+    settled_buckets due =
+        (λ i. settled_rows (holds_same i) g a.as_of due (merged left.buckets a.buckets))
+        ∙ settled_merged holds g a.as_of due left.buckets a.buckets h.dead holds_none
 
     ended_joined : ended_rows s g (joined left a) ≡ joined left (ended_rows s g a)
     ended_joined =
@@ -266,12 +284,12 @@ module _ (left : LeftRows) (a : AccountRows) (h : IsLeft left a) where
           (put_behind counter_before (is_counter g c) row left.counters a.counters
           (not_counted a.shelf a.as_of g left.counters cycles))
 
-      pub settled_joined : (units blocks rated : ℕ) →
-          IsReordered (settled_account s g units blocks rated (joined left a))
-          (joined left (settled_account s g units blocks rated a))
-      settled_joined units blocks rated = record {
+      pub settled_joined : (units blocks : ℕ) (due : Due) →
+          IsReordered (settled_account s g units blocks due (joined left a))
+          (joined left (settled_account s g units blocks due a))
+      settled_joined units blocks due = record {
         same = λ i. record (joined left a) {
-          buckets = settled_buckets rated i;
+          buckets = settled_buckets due i;
           counters = left.counters
               ++ with_count g (cycle_at a.shelf g a.as_of) blocks a.counters;
           groups = left.groups ++ with_use s g units a.groups;
@@ -287,7 +305,7 @@ module _ (left : LeftRows) (a : AccountRows) (h : IsLeft left a) where
       price_same used_parts =
           λ i. price_of a.shelf a.as_of g
           (option_map (λ (r : Reservation). r.terms) (row_same i).reservation)
-          (row_same i).used (count_same i) used_parts
+          (row_same i).used (count_same i) (cover_same a.as_of i) used_parts
 
       pub by_parts : (used_parts : List UsedPart) →
           IsReordered (settled_by_rows s g used_parts (joined left a))
@@ -297,10 +315,10 @@ module _ (left : LeftRows) (a : AccountRows) (h : IsLeft left a) where
       by_parts (p ∷ ps) =
           let x : Rated = price_in s g a.as_of (p ∷ ps) a in
           subst (λ (y : Rated). IsReordered
-          (settled_account s g (reported (p ∷ ps)) y.blocks y.amount.0 (joined left a))
-          (joined left (settled_account s g (reported (p ∷ ps)) x.blocks x.amount.0 a)))
+          (settled_account s g (reported (p ∷ ps)) y.blocks (due_of y) (joined left a))
+          (joined left (settled_account s g (reported (p ∷ ps)) x.blocks (due_of x) a)))
           (sym (price_same (p ∷ ps)))
-          (settled_joined (reported (p ∷ ps)) x.blocks x.amount.0)
+          (settled_joined (reported (p ∷ ps)) x.blocks (due_of x))
 
 pub advanced_joined : (t : ℕ) (left : LeftRows) (a : AccountRows) → IsLeft left a →
     advanced t (joined left a) ≡ joined left (advanced t a)

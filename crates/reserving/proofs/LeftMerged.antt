@@ -5,13 +5,17 @@ use Rattle.std.specs.Prelude.{if◌then◌else◌, nat_lt, sum_by, min}
 use Rattle.std.proofs.lemmas.List.Sums.{sum_by-cons}
 use Rattle.buckets.specs.declared.holds.Hold.{Hold}
 use Rattle.buckets.specs.Row.{Row, precedes, eligible_amount, is_eligible, with_charge}
-use Rattle.buckets.specs.Row.{with_charge_of_hold, with_release, with_end}
-use Rattle.buckets.specs.Share.{share, sum_before}
-use Rattle.buckets.specs.Spend.{Each, funds}
-use Rattle.buckets.specs.Holding.{held_in, held_sum, paid_of_hold, paid_of_rest, settled_row}
-use Rattle.buckets.specs.Holding.{settled_rows, released_rows}
+use Rattle.buckets.specs.Row.{with_charge_of_hold, with_release, with_end, is_paid_before}
+use Rattle.buckets.specs.Share.{share, sum_before, sum_in, left_over}
+use Rattle.buckets.specs.Spend.{Each, funds, allowance}
+use Rattle.buckets.specs.Holding.{held_in, paid_of_hold, paid_of_rest, settled_row}
+use Rattle.buckets.specs.Holding.{settled_rows, released_rows, unheld}
 use Rattle.buckets.proofs.SharesAlong.{KeepsPlace, released_keeps, with_release_number}
 use Rattle.buckets.proofs.SharesAlong.{with_release_until}
+use Rattle.buckets.specs.declared.kind.BucketKind.{BucketKind}
+use Rattle.buckets.specs.declared.kind.BucketKind.TheVariants.{Money, Blocks}
+use Rattle.buckets.specs.Kinds.{is_alike, due_in}
+use Rattle.buckets.specs.declared.kind.Due.{Due}
 use Rattle.reserving.specs.Left.{placed, merged, IsDead}
 
 -- ---- a change that keeps places
@@ -72,14 +76,14 @@ if_zero false n e = refl
 pub before_merged : (f : Row → ℕ) (left rows : List Row) (b : Row) → Each (λ x. f x ≡ 0) left →
     sum_before f b (merged left rows) ≡ sum_before f b rows
 before_merged f left rows b h =
-    sum_merged (λ x. if precedes x b then f x else 0) left rows
-    (each_map (λ x. f x ≡ 0) (λ x. (if precedes x b then f x else 0) ≡ 0) left
-    (λ x e. if_zero (precedes x b) (f x) e) h)
+    sum_merged (λ x. if is_paid_before x b then f x else 0) left rows
+    (each_map (λ x. f x ≡ 0) (λ x. (if is_paid_before x b then f x else 0) ≡ 0) left
+    (λ x e. if_zero (is_paid_before x b) (f x) e) h)
 
-pub share_merged : (f : Row → ℕ) (left rows : List Row) (amount : ℕ) (b : Row) →
-    Each (λ x. f x ≡ 0) left → share f (merged left rows) amount b ≡ share f rows amount b
-share_merged f left rows amount b h =
-    ap (λ n. min (f b) (amount - n)) (before_merged f left rows b h)
+pub share_merged : (f : Row → ℕ) (left rows : List Row) (due : Due) (b : Row) →
+    Each (λ x. f x ≡ 0) left → share f (merged left rows) due b ≡ share f rows due b
+share_merged f left rows due b h =
+    ap (λ n. min (f b) (due_in b.kind due - n)) (before_merged f left rows b h)
 
 -- ---- dead buckets
 
@@ -89,10 +93,31 @@ dead_amount group at left h =
     each_map IsDead (λ b. eligible_amount group at b ≡ 0) left
     (λ b d. if_zero (is_eligible group at b) b.available d.available) h
 
+-- the sum of a kind doesn't know of buckets that have nothing
+pub sum_in-merged : (kind : BucketKind) (f : Row → ℕ) (left rows : List Row) →
+    Each (λ b. f b ≡ 0) left → sum_in kind f (merged left rows) ≡ sum_in kind f rows
+sum_in-merged kind f left rows h =
+    sum_merged (λ b. if is_alike b.kind kind then f b else 0) left rows
+    (each_map (λ b. f b ≡ 0) (λ b. (if is_alike b.kind kind then f b else 0) ≡ 0) left
+    (λ b e. if_zero (is_alike b.kind kind) (f b) e) h)
+
+-- nor does what is left of what is due
+pub left_over-merged : (f : Row → ℕ) (left rows : List Row) (due : Due) →
+    Each (λ b. f b ≡ 0) left → left_over f (merged left rows) due ≡ left_over f rows due
+left_over-merged f left rows due h = λ i. record {
+  money = due.money - sum_in-merged Money f left rows h i;
+  blocks = due.blocks - sum_in-merged Blocks f left rows h i;
+}
+
 pub funds_merged : (group at : ℕ) (left rows : List Row) → Each IsDead left →
     funds group at (merged left rows) ≡ funds group at rows
 funds_merged group at left rows h =
-    sum_merged (eligible_amount group at) left rows (dead_amount group at left h)
+    sum_in-merged Money (eligible_amount group at) left rows (dead_amount group at left h)
+
+pub allowance_merged : (group at : ℕ) (left rows : List Row) → Each IsDead left →
+    allowance group at (merged left rows) ≡ allowance group at rows
+allowance_merged group at left rows h =
+    sum_in-merged Blocks (eligible_amount group at) left rows (dead_amount group at left h)
 
 pub release_none : (at : ℕ) (b : Row) (n : ℕ) → n ≡ 0 → with_release at b n ≡ b
 release_none at b n e = ap (with_release at b) e ∙ by_end (nat_lt at b.until)
@@ -123,49 +148,49 @@ end_dead at b d = by_end (nat_lt at b.until)
     by_end true = refl
     by_end false = λ i. record b { available = sym d.available i; expired = x i }
 
-settled_keeps : (holds : List Hold) (group at amount : ℕ) (rows : List Row) →
-    KeepsPlace (settled_row holds group at amount rows)
-settled_keeps holds group at amount rows = record {
+settled_keeps : (holds : List Hold) (group at : ℕ) (due : Due) (rows : List Row) →
+    KeepsPlace (settled_row holds group at due rows)
+settled_keeps holds group at due rows = record {
   number = λ b. with_release_number at
-      (with_charge (with_charge_of_hold b (paid_of_hold holds amount rows b))
-      (paid_of_rest holds group at amount rows b))
-      (held_in holds b - paid_of_hold holds amount rows b);
+      (with_charge (with_charge_of_hold b (paid_of_hold holds due rows b))
+      (paid_of_rest holds group at due rows b))
+      (held_in holds b - paid_of_hold holds due rows b);
   until = λ b. with_release_until at
-      (with_charge (with_charge_of_hold b (paid_of_hold holds amount rows b))
-      (paid_of_rest holds group at amount rows b))
-      (held_in holds b - paid_of_hold holds amount rows b);
+      (with_charge (with_charge_of_hold b (paid_of_hold holds due rows b))
+      (paid_of_rest holds group at due rows b))
+      (held_in holds b - paid_of_hold holds due rows b);
 }
 
 -- ---- what calls do to buckets
 
-settled_row_merged : (holds : List Hold) (group at amount : ℕ) (left rows : List Row) →
+settled_row_merged : (holds : List Hold) (group at : ℕ) (due : Due) (left rows : List Row) →
     Each IsDead left → Each (λ b. held_in holds b ≡ 0) left → (b : Row) →
-    settled_row holds group at amount (merged left rows) b
-    ≡ settled_row holds group at amount rows b
-settled_row_merged holds group at amount left rows dead none b =
-    let p : paid_of_hold holds amount (merged left rows) b ≡ paid_of_hold holds amount rows b =
-    share_merged (held_in holds) left rows amount b none in
-    let sum : held_sum holds (merged left rows) ≡ held_sum holds rows =
-    sum_merged (held_in holds) left rows none in
-    let q : paid_of_rest holds group at amount (merged left rows) b
-    ≡ paid_of_rest holds group at amount rows b =
-    share_merged (eligible_amount group at) left rows (amount - held_sum holds (merged left rows)) b
+    settled_row holds group at due (merged left rows) b
+    ≡ settled_row holds group at due rows b
+settled_row_merged holds group at due left rows dead none b =
+    let p : paid_of_hold holds due (merged left rows) b ≡ paid_of_hold holds due rows b =
+    share_merged (held_in holds) left rows due b none in
+    let rest : unheld holds due (merged left rows) ≡ unheld holds due rows =
+    left_over-merged (held_in holds) left rows due none in
+    let q : paid_of_rest holds group at due (merged left rows) b
+    ≡ paid_of_rest holds group at due rows b =
+    share_merged (eligible_amount group at) left rows (unheld holds due (merged left rows)) b
     (dead_amount group at left dead)
-    ∙ ap (λ n. share (eligible_amount group at) rows (amount - n) b) sum in
+    ∙ ap (λ d. share (eligible_amount group at) rows d b) rest in
     λ i. with_release at (with_charge (with_charge_of_hold b (p i)) (q i)) (held_in holds b - p i)
 
 pub min_none : (m n : ℕ) → m ≡ 0 → min m n ≡ 0
 min_none m n e = omega (arith, e)
 
 -- a dead bucket pays nothing
-pub settled_dead : (holds : List Hold) (group at amount : ℕ) (rows : List Row) (b : Row) →
-    IsDead b → held_in holds b ≡ 0 → settled_row holds group at amount rows b ≡ b
-settled_dead holds group at amount rows b dead none =
-    let p : paid_of_hold holds amount rows b ≡ 0 = min_none (held_in holds b) _ none in
-    let q : paid_of_rest holds group at amount rows b ≡ 0 =
+pub settled_dead : (holds : List Hold) (group at : ℕ) (due : Due) (rows : List Row) (b : Row) →
+    IsDead b → held_in holds b ≡ 0 → settled_row holds group at due rows b ≡ b
+settled_dead holds group at due rows b dead none =
+    let p : paid_of_hold holds due rows b ≡ 0 = min_none (held_in holds b) _ none in
+    let q : paid_of_rest holds group at due rows b ≡ 0 =
     min_none (eligible_amount group at b) _
     (if_zero (is_eligible group at b) b.available dead.available) in
-    let rest : held_in holds b - paid_of_hold holds amount rows b ≡ 0 = omega (arith, none) in
+    let rest : held_in holds b - paid_of_hold holds due rows b ≡ 0 = omega (arith, none) in
     let r0 : b.reserved - 0 ≡ b.reserved = omega arith in
     let a0 : b.available - 0 ≡ b.available = omega arith in
     let c0 : b.charged + 0 + 0 ≡ b.charged = omega arith in
@@ -173,17 +198,17 @@ settled_dead holds group at amount rows b dead none =
     ∙ release_none at (with_charge (with_charge_of_hold b 0) 0) 0 refl
     ∙ (λ i. record b { reserved = r0 i; available = a0 i; charged = c0 i })
 
-pub settled_merged : (holds : List Hold) (group at amount : ℕ) (left rows : List Row) →
+pub settled_merged : (holds : List Hold) (group at : ℕ) (due : Due) (left rows : List Row) →
     Each IsDead left → Each (λ b. held_in holds b ≡ 0) left →
-    settled_rows holds group at amount (merged left rows)
-    ≡ merged left (settled_rows holds group at amount rows)
-settled_merged holds group at amount left rows dead none =
-    (λ i. map (λ b. settled_row_merged holds group at amount left rows dead none b i)
+    settled_rows holds group at due (merged left rows)
+    ≡ merged left (settled_rows holds group at due rows)
+settled_merged holds group at due left rows dead none =
+    (λ i. map (λ b. settled_row_merged holds group at due left rows dead none b i)
     (merged left rows))
-    ∙ map_merged (settled_row holds group at amount rows) (settled_keeps holds group at amount rows)
+    ∙ map_merged (settled_row holds group at due rows) (settled_keeps holds group at due rows)
     left rows
-    (each_both IsDead (λ b. held_in holds b ≡ 0) (λ b. settled_row holds group at amount rows b ≡ b)
-    left (λ b d n. settled_dead holds group at amount rows b d n) dead none)
+    (each_both IsDead (λ b. held_in holds b ≡ 0) (λ b. settled_row holds group at due rows b ≡ b)
+    left (λ b d n. settled_dead holds group at due rows b d n) dead none)
 
 pub released_merged : (holds : List Hold) (at : ℕ) (left rows : List Row) →
     Each (λ b. held_in holds b ≡ 0) left →

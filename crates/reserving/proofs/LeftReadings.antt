@@ -5,10 +5,12 @@ use Rattle.std.specs.Prelude.{option_map}
 use Rattle.units.specs.declared.blocks.UsedPart.{UsedPart}
 use Rattle.buckets.specs.declared.holds.Hold.{Hold}
 use Rattle.buckets.specs.Row.{Row}
-use Rattle.buckets.specs.Spend.{Each, funds}
+use Rattle.buckets.specs.Spend.{Each, funds, allowance}
 use Rattle.buckets.specs.Holding.{held_in, uncollected}
 use Rattle.rating.specs.declared.grant.Grant.{Grant}
 use Rattle.rating.specs.declared.grant.Periods.{Periods}
+use Rattle.buckets.specs.declared.kind.BucketKind.TheVariants.{Money}
+use Rattle.buckets.specs.declared.kind.Due.{Due}
 use Rattle.shelves.specs.Shelves.{book_at}
 use Rattle.reserving.specs.declared.session.SessionGroup.{SessionGroup}
 use Rattle.reserving.specs.declared.session.Reservation.{Reservation}
@@ -19,17 +21,19 @@ use Rattle.reserving.specs.Quotas.{IsQuota}
 use Rattle.reserving.specs.Reservation.{grant_for}
 use Rattle.reserving.specs.Sessions.{is_of, is_live_in}
 use Rattle.reserving.specs.Settlement.{reported, price_of, passes, passes_limit, passes_after}
-use Rattle.reserving.specs.Debiting.{untagged, event_price, debit_passes}
+use Rattle.reserving.specs.Debiting.{untagged, event_price, rest_price, debit_passes}
 use Rattle.reserving.specs.Changes.{advanced, used_in, count_in, price_in, event_price_in}
+use Rattle.reserving.specs.Changes.{rest_price_in}
 use Rattle.reserving.specs.Rows.{AccountRows, EachIn}
 use Rattle.reserving.specs.Left.{LeftRows, merged, joined, IsDead, IsLeft, AreOfOtherCycles, IsWith}
 use Rattle.reserving.proofs.Advancing.{IsRowsOf-advanced, is_live_in-is}
 use Rattle.reserving.proofs.PassedLimits.{passes_after-none}
 use Rattle.reserving.proofs.calls.Settled.{passes_after_is}
-use Rattle.reserving.proofs.calls.Debited.{event_price_is, debit_passes_is}
+use Rattle.reserving.proofs.calls.Debited.{event_price_is, rest_price_is, debit_passes_is}
 use Rattle.reserving.proofs.ReservedCall.{new_told, QuotaOf}
-use Rattle.reserving.proofs.LeftMerged.{sum_merged, funds_merged}
-use Rattle.reserving.proofs.LeftFrames.{live, not_of_live, row_same, count_beside, advanced_joined}
+use Rattle.reserving.proofs.LeftMerged.{funds_merged, allowance_merged, sum_in-merged}
+use Rattle.reserving.proofs.LeftFrames.{cover_same, live, not_of_live, row_same, count_beside}
+use Rattle.reserving.proofs.LeftFrames.{advanced_joined}
 
 -- ---- funds
 
@@ -46,6 +50,20 @@ funds_told ledger left t a g le h =
     sym (funds_joined left a g t h.apart)
     ∙ ap (funds g t) (IsRowsOf-advanced ledger (joined left a) t h.apart.whole h.rows le).buckets
 
+pub allowance_joined : (left : LeftRows) (a : AccountRows) (g t : ℕ) → IsLeft left a →
+    allowance g t (advanced t (joined left a)).buckets ≡ allowance g t (advanced t a).buckets
+allowance_joined left a g t h =
+    ap (λ (x : AccountRows). allowance g t x.buckets) (advanced_joined t left a h)
+    ∙ allowance_merged g t left.buckets (advanced t a).buckets h.dead
+
+pub allowance_told : (ledger : Ledger) (left : LeftRows) (t : ℕ) (a : AccountRows) (g : ℕ) →
+    a.as_of ≤ t → IsWith ledger left t a →
+    allowance g t (advanced t a).buckets ≡ allowance g t (buckets_at (validity_of a.shelf) t ledger)
+allowance_told ledger left t a g le h =
+    sym (allowance_joined left a g t h.apart)
+    ∙ ap (allowance g t) (IsRowsOf-advanced ledger (joined left a) t h.apart.whole
+    h.rows le).buckets
+
 -- ---- whether a session is live
 
 pub live_told : (ledger : Ledger) (left : LeftRows) (t u : ℕ) (a : AccountRows) (s : List ℕ) →
@@ -56,18 +74,33 @@ live_told ledger left t u a s le h =
 
 -- ---- an event
 
-pub event_price_joined : (left : LeftRows) (a : AccountRows) (g units t : ℕ) →
+event_price_joined : (left : LeftRows) (a : AccountRows) (g covered units t : ℕ) →
     AreOfOtherCycles a.shelf t left.counters →
-    event_price_in g units t (joined left a) ≡ event_price_in g units t a
-event_price_joined left a g units t cycles =
+    event_price_in g covered units t (joined left a) ≡ event_price_in g covered units t a
+event_price_joined left a g covered units t cycles =
     λ i. price_of a.shelf t g None 0 (count_beside a.shelf t g left.counters a.counters cycles i)
-    (untagged units)
+    covered (untagged units)
 
-pub event_price_told : (ledger : Ledger) (left : LeftRows) (t : ℕ) (a : AccountRows) (g units : ℕ) →
-    IsWith ledger left t a → event_price_in g units t a ≡ event_price a.shelf t g units ledger
-event_price_told ledger left t a g units h =
-    sym (event_price_joined left a g units t h.cycles)
-    ∙ event_price_is ledger (joined left a) g units t h.rows
+pub event_price_told : (ledger : Ledger) (left : LeftRows) (t : ℕ) (a : AccountRows)
+    (g covered units : ℕ) → IsWith ledger left t a →
+    event_price_in g covered units t a ≡ event_price a.shelf t g covered units ledger
+event_price_told ledger left t a g covered units h =
+    sym (event_price_joined left a g covered units t h.cycles)
+    ∙ event_price_is ledger (joined left a) g covered units t h.rows
+
+pub rest_price_joined : (left : LeftRows) (a : AccountRows) (g units t : ℕ) → IsLeft left a →
+    AreOfOtherCycles a.shelf t left.counters →
+    rest_price_in g units t (joined left a) ≡ rest_price_in g units t a
+rest_price_joined left a g units t apart cycles =
+    ap (λ n. event_price_in g n units t (joined left a)) (allowance_joined left a g t apart)
+    ∙ event_price_joined left a g (allowance g t (advanced t a).buckets) units t cycles
+
+pub rest_price_told : (ledger : Ledger) (left : LeftRows) (t : ℕ) (a : AccountRows) (g units : ℕ) →
+    a.as_of ≤ t → IsWith ledger left t a →
+    rest_price_in g units t a ≡ rest_price a.shelf t g units ledger
+rest_price_told ledger left t a g units le h =
+    sym (rest_price_joined left a g units t h.apart h.cycles)
+    ∙ rest_price_is ledger (joined left a) g units t h.apart.whole h.rows le
 
 pub used_joined : (left : LeftRows) (a : AccountRows) (s : List ℕ) (g : ℕ) → IsLeft left a →
     EachIn (λ r. is_of s g r ≡ false) left.groups →
@@ -75,15 +108,16 @@ pub used_joined : (left : LeftRows) (a : AccountRows) (s : List ℕ) (g : ℕ) �
 used_joined left a s g h not_of = ap (λ (r : SessionGroup). r.used) (row_same left a h s g not_of)
 
 pub debit_passes_told : (ledger : Ledger) (left : LeftRows) (t : ℕ) (a : AccountRows) (s : List ℕ)
-    (g units : ℕ) → EachIn (λ r. is_of s g r ≡ false) left.groups → IsWith ledger left t a →
+    (g units : ℕ) → EachIn (λ r. is_of s g r ≡ false) left.groups → a.as_of ≤ t →
+    IsWith ledger left t a →
     debit_passes a.shelf t s g units ledger
     ≡ passes (used_in s g a.groups) units (count_in g (cycle_at a.shelf g t) a.counters)
-    (event_price_in g units t a).blocks a.next_charge
-debit_passes_told ledger left t a s g units not_of h =
-    debit_passes_is ledger (joined left a) s g units t h.rows
+    (rest_price_in g units t a).blocks a.next_charge
+debit_passes_told ledger left t a s g units not_of le h =
+    debit_passes_is ledger (joined left a) s g units t h.apart.whole h.rows le
     ∙ (λ i. passes (used_joined left a s g h.apart not_of i) units
     (count_beside a.shelf t g left.counters a.counters h.cycles i)
-    (event_price_joined left a g units t h.cycles i).blocks a.next_charge)
+    (rest_price_joined left a g units t h.apart h.cycles i).blocks a.next_charge)
 
 -- ---- a report
 
@@ -95,7 +129,8 @@ price_joined left a s g t used_parts h cycles not_of =
     λ i. price_of a.shelf t g
     (option_map (λ (r : Reservation). r.terms) (row_same left a h s g not_of i).reservation)
     (row_same left a h s g not_of i).used
-    (count_beside a.shelf t g left.counters a.counters cycles i) used_parts
+    (count_beside a.shelf t g left.counters a.counters cycles i)
+    (cover_same left a h s g not_of t i) used_parts
 
 pub passes_after_told : (charges : ℕ) (ledger : Ledger) (left : LeftRows) (t : ℕ) (a : AccountRows)
     (s : List ℕ) (g : ℕ) (used_parts : List UsedPart) → a.as_of ≤ t → IsWith ledger left t a →
@@ -129,11 +164,12 @@ passes_told ledger left t a s g used_parts le h alive some =
     (count_in g (cycle_at a.shelf g t) a.counters) (price_in s g t used_parts a).blocks) next
 
 -- what is collected of an amount doesn't know of dead buckets
-pub uncollected_merged : (holds : List Hold) (g t amount : ℕ) (left rows : List Row) →
+pub uncollected_merged : (holds : List Hold) (g t : ℕ) (due : Due) (left rows : List Row) →
     Each IsDead left → Each (λ b. held_in holds b ≡ 0) left →
-    uncollected holds g t amount (merged left rows) ≡ uncollected holds g t amount rows
-uncollected_merged holds g t amount left rows dead none =
-    λ i. amount - sum_merged (held_in holds) left rows none i - funds_merged g t left rows dead i
+    uncollected holds g t due.money (merged left rows) ≡ uncollected holds g t due.money rows
+uncollected_merged holds g t due left rows dead none =
+    λ i. due.money - sum_in-merged Money (held_in holds) left rows none i
+    - funds_merged g t left rows dead i
 
 -- ---- a quota
 
@@ -141,28 +177,36 @@ pub quota_joined : (left : LeftRows) (a : AccountRows) (used used' g t : ℕ) (r
     (units : ℕ) (grant : Grant) → IsLeft left a → AreOfOtherCycles a.shelf t left.counters →
     used' ≡ used →
     IsQuota (book_at a.shelf t) used g requested (periods_at a.shelf t)
-    (count_in g (cycle_at a.shelf g t) a.counters) (funds g t (advanced t a).buckets) units grant
+    (count_in g (cycle_at a.shelf g t) a.counters) (funds g t (advanced t a).buckets)
+    (allowance g t (advanced t a).buckets) units grant
     →
     IsQuota (book_at a.shelf t) used' g requested (periods_at a.shelf t)
     (count_in g (cycle_at a.shelf g t) (joined left a).counters)
-    (funds g t (advanced t (joined left a)).buckets) units grant
+    (funds g t (advanced t (joined left a)).buckets)
+    (allowance g t (advanced t (joined left a)).buckets) units grant
 quota_joined left a used used' g t requested units grant h cycles e q =
     let p : Periods = periods_at a.shelf t in
     let c : ℕ = cycle_at a.shelf g t in
     subst (λ n. IsQuota (book_at a.shelf t) n g requested p (count_in g c (joined left a).counters)
-    (funds g t (advanced t (joined left a)).buckets) units grant) (sym e)
+    (funds g t (advanced t (joined left a)).buckets)
+    (allowance g t (advanced t (joined left a)).buckets) units grant) (sym e)
     (subst (λ n. IsQuota (book_at a.shelf t) used g requested p n
-    (funds g t (advanced t (joined left a)).buckets) units grant)
+    (funds g t (advanced t (joined left a)).buckets)
+    (allowance g t (advanced t (joined left a)).buckets) units grant)
     (sym (count_beside a.shelf t g left.counters a.counters cycles))
     (subst (λ n. IsQuota (book_at a.shelf t) used g requested p (count_in g c a.counters)
-    n units grant)
-    (sym (funds_joined left a g t h)) q))
+    n
+    (allowance g t (advanced t (joined left a)).buckets) units grant)
+    (sym (funds_joined left a g t h))
+    (subst (λ n. IsQuota (book_at a.shelf t) used g requested p (count_in g c a.counters)
+    (funds g t (advanced t a).buckets) n units grant)
+    (sym (allowance_joined left a g t h)) q)))
 
 pub new_told_beside : (ledger : Ledger) (left : LeftRows) (t : ℕ) (a : AccountRows) (g : ℕ)
     (requested : Option ℕ) (units : ℕ) (grant : Grant) → a.as_of ≤ t → IsWith ledger left t a →
     IsQuota (book_at a.shelf t) 0 g requested (periods_at a.shelf t)
     (count_in g (cycle_at a.shelf g t) a.counters)
-    (funds g t (advanced t a).buckets) units grant →
+    (funds g t (advanced t a).buckets) (allowance g t (advanced t a).buckets) units grant →
     grant ≡ grant_for a.shelf t g 0 requested ledger
 new_told_beside ledger left t a g requested units grant le h q =
     new_told ledger (joined left a) g t requested units grant h.apart.whole h.rows le

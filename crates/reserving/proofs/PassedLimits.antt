@@ -1,17 +1,21 @@
 -- The limits of a report's stored numbers, before and after the settlement of another group of its
 -- session.
 use Rattle.std.proofs.Common.{◌≡◌, ℕ, ◌+◌, Bool, true, false, List, [], ◌∷◌, refl, ap, ◌∙◌, arith}
-use Rattle.std.proofs.Common.{Some, None}
-use Rattle.std.specs.Prelude.{if◌then◌else◌, ◌==◌, ◌&&◌, nat_lt}
+use Rattle.std.proofs.Common.{Option, Some, None}
+use Rattle.std.specs.Prelude.{if◌then◌else◌, ◌==◌, ◌&&◌, nat_lt, unwrap_or}
 use Rattle.std.proofs.Math.Bool.{and-false}
 use Rattle.std.proofs.lemmas.Bool.Decides.{nat_tests}
 use Rattle.units.specs.declared.blocks.UsedPart.{UsedPart}
-use Rattle.shelves.specs.Shelves.{Shelf}
+use Rattle.tariffs.specs.Tariffs.{GroupTariff}
+use Rattle.shelves.specs.Shelves.{Shelf, tariff_in}
+use Rattle.rating.specs.declared.grant.Periods.{Periods}
 use Rattle.rating.specs.declared.report.Rated.{Rated}
+use Rattle.buckets.specs.declared.kind.Due.{Due}
 use Rattle.reserving.specs.Ledger.{Ledger, is_same, used, counter, open_grant, next_charge, uses_in}
 use Rattle.reserving.specs.Ledger.{inner, or_else, newest, grant_in}
-use Rattle.reserving.specs.Pricing.{cycle_at, validity_of}
+use Rattle.reserving.specs.Pricing.{cycle_at, validity_of, terms_now, rated_with}
 use Rattle.reserving.specs.Settlement.{charge_facts, settled, settled_by, reported, price_of}
+use Rattle.reserving.specs.Settlement.{due_of, coverable}
 use Rattle.reserving.specs.Settlement.{report_price, passes, passes_limit, passes_after}
 use Rattle.reserving.specs.Settlement.{charge_count}
 use Rattle.reserving.proofs.Keys.{is_key}
@@ -26,13 +30,13 @@ none_counted : (t u : Bool) (n : ℕ) → u ≡ false → (if t then (if u then 
 none_counted true u n e = rw e refl
 none_counted false u n e = refl
 
-next_settled : (v : ℕ → ℕ) (t : ℕ) (s : List ℕ) (g units blocks rated : ℕ) (ledger : Ledger) →
-    next_charge (settled v t s g units blocks rated ledger) ≡ next_charge ledger + 1
-next_settled v t s g units blocks rated ledger =
+next_settled : (v : ℕ → ℕ) (t : ℕ) (s : List ℕ) (g units blocks : ℕ) (due : Due) (ledger : Ledger) →
+    next_charge (settled v t s g units blocks due ledger) ≡ next_charge ledger + 1
+next_settled v t s g units blocks due ledger =
     omega (
       arith,
-      total-front (λ d. uses_in d.fact) (charge_facts t (parts_paid v t s g rated ledger)) ledger
-          (each_charge _ t (parts_paid v t s g rated ledger) (λ b n. refl)),
+      total-front (λ d. uses_in d.fact) (charge_facts t (parts_paid v t s g due ledger)) ledger
+          (each_charge _ t (parts_paid v t s g due ledger) (λ b n. refl)),
     )
 
 -- what the settlement of another group leaves of all that limits a report
@@ -61,7 +65,7 @@ before_other b t s g h (p ∷ ps) ledger e =
     let key : is_key s h s g ≡ false = other_key s h g e in
     let price : Rated = report_price b t s h (p ∷ ps) ledger in
     let same =
-    other_settled (validity_of b) t s h (reported (p ∷ ps)) price.blocks price.amount.0 ledger s g
+    other_settled (validity_of b) t s h (reported (p ∷ ps)) price.blocks (due_of price) ledger s g
     key in
     let cycle : ℕ = cycle_at b g t in
     record {
@@ -69,13 +73,20 @@ before_other b t s g h (p ∷ ps) ledger e =
       count = omega (
         arith,
         counter-settled (cycle_at b g) g cycle (validity_of b) t s h (reported (p ∷ ps))
-            price.blocks price.amount.0 ledger,
+            price.blocks (due_of price) ledger,
         none_counted (cycle == cycle) (h == g) price.blocks e,
       );
       grant = same.grant;
       next = next_settled (validity_of b) t s h (reported (p ∷ ps)) price.blocks
-          price.amount.0 ledger;
+          (due_of price) ledger;
     }
+
+-- what is covered of a report's blocks doesn't tell how many they are
+pub blocks_alike : (o : Option GroupTariff) (p : Periods) (before place c d : ℕ)
+    (parts : List UsedPart) →
+    (rated_with o p before place c parts).blocks ≡ (rated_with o p before place d parts).blocks
+blocks_alike None p before place c d parts = refl
+blocks_alike (Some x) p before place c d parts = refl
 
 -- so it passes a limit after the settlement where it did before, behind the settlement's charge
 pub passes_after-other : (charges : ℕ) (b : Shelf) (t : ℕ) (s : List ℕ) (g : ℕ)
@@ -88,8 +99,16 @@ passes_after-other charges b t s g (p ∷ ps) h others ledger e =
     before_other b t s g h others ledger e in
     let next : next_charge (settled_by b t s h others ledger) + charges
     ≡ next_charge ledger + (charge_count others + charges) = omega (arith, k.next) in
-    λ i. passes (k.used i) (reported (p ∷ ps)) (k.count i)
-    (price_of b t g (k.grant i) (k.used i) (k.count i) (p ∷ ps)).blocks (next i)
+    (λ i. passes (k.used i) (reported (p ∷ ps)) (k.count i)
+    (price_of b t g (k.grant i) (k.used i) (k.count i)
+    (coverable (validity_of b) t s g (settled_by b t s h others ledger)) (p ∷ ps)).blocks (next i))
+    ∙ ap (λ n. passes (used s g ledger) (reported (p ∷ ps))
+    (counter (cycle_at b g) g (cycle_at b g t) ledger) n
+    (next_charge ledger + (charge_count others + charges)))
+    (blocks_alike (tariff_in b (unwrap_or (open_grant s g ledger) (terms_now b t)).book g) _
+    (used s g ledger) _
+    (coverable (validity_of b) t s g (settled_by b t s h others ledger))
+    (coverable (validity_of b) t s g ledger) (p ∷ ps))
 
 pub passes_after-none : (b : Shelf) (t : ℕ) (s : List ℕ) (g : ℕ) (parts : List UsedPart)
     (ledger : Ledger) → passes_after 0 b t s g parts ledger ≡ passes_limit b t s g parts ledger

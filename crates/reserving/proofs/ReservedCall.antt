@@ -1,4 +1,9 @@
 -- A grant's call, from any ledger whose rows the account is before it.
+use Rattle.std.proofs.Common.{◌+◌, ◌-◌}
+use Rattle.std.specs.Prelude.{min}
+use Rattle.buckets.specs.Spend.{allowance}
+use Rattle.reserving.specs.Reservation.{held_due}
+use Rattle.buckets.specs.declared.kind.Due.{Due}
 use Rattle.std.proofs.Common.{◌≡◌, ℕ, ◌<◌, ◌≤◌, Bool, true, false, List, map, refl, sym, ap, subst}
 use Rattle.std.proofs.Common.{◌∙◌, arith, Option, Some, None}
 use Rattle.std.specs.Prelude.{if◌then◌else◌, is_some, unwrap_or, option_map, not, nat_lt}
@@ -42,16 +47,16 @@ use Rattle.reserving.proofs.calls.RowParts.{or_new_later, group_later, put_later
 use Rattle.reserving.proofs.calls.RowParts.{held_by-with_group}
 use Rattle.reserving.proofs.rows.Reserved.{IsRowsOf-reserved}
 
-pub reserved_parts : (a : AccountRows) (s : List ℕ) (g amount : ℕ) (terms : Terms)
+pub reserved_parts : (a : AccountRows) (s : List ℕ) (g : ℕ) (due : Due) (terms : Terms)
     (holds : List Hold) (buckets : List Row) (groups : List SessionGroup) →
-    terms ≡ terms_at a.shelf a.as_of → buckets ≡ held_rows g a.as_of amount a.buckets →
-    holds ≡ holds_of g a.as_of amount a.buckets →
+    terms ≡ terms_at a.shelf a.as_of → buckets ≡ held_rows g a.as_of due a.buckets →
+    holds ≡ holds_of g a.as_of due a.buckets →
     groups ≡ with_reservation s g terms holds a.groups →
     (let x : AccountRows = record a { buckets = buckets; groups = groups } in x)
-    ≡ reserved_account s g amount a
-reserved_parts a s g amount terms holds buckets groups p b h k =
+    ≡ reserved_account s g due a
+reserved_parts a s g due terms holds buckets groups p b h k =
     let all : groups
-    ≡ with_reservation s g (terms_at a.shelf a.as_of) (holds_of g a.as_of amount a.buckets)
+    ≡ with_reservation s g (terms_at a.shelf a.as_of) (holds_of g a.as_of due a.buckets)
     a.groups = k ∙ (λ i. with_reservation s g (p i) (h i) a.groups) in
     λ i. record a { buckets = b i; groups = all i }
 
@@ -66,28 +71,28 @@ buckets_later a s g t =
     λ y. held_by-with_group (λ z. not (keeps z)) s g a.groups y in
     λ i. map (λ y. with_end t (with_release t y (given y i))) a.buckets
 
-pub reserved_later : (a : AccountRows) (s : List ℕ) (g t amount : ℕ) →
-    reserved_account s g amount (advanced t (with_group_row s g a))
-    ≡ reserved_account s g amount (advanced t a)
-reserved_later a s g t amount =
+pub reserved_later : (a : AccountRows) (s : List ℕ) (g t : ℕ) (due : Due) →
+    reserved_account s g due (advanced t (with_group_row s g a))
+    ≡ reserved_account s g due (advanced t a)
+reserved_later a s g t due =
     let keeps : List ℕ → Bool = is_live_in (validity_of a.shelf) t a.sessions in
-    let x : AccountRows = reserved_account s g amount (advanced t a) in
+    let x : AccountRows = reserved_account s g due (advanced t a) in
     let same : (advanced t (with_group_row s g a)).buckets ≡ (advanced t a).buckets =
     buckets_later a s g t in
     let row : group_or_new s g (map (lapse_group keeps) (with_group s g a.groups))
     ≡ group_or_new s g (map (lapse_group keeps) a.groups) = or_new_later keeps s g a.groups in
     let p : Terms = terms_at a.shelf t in
     let groups : with_reservation s g p
-    (holds_of g t amount (advanced t (with_group_row s g a)).buckets)
+    (holds_of g t due (advanced t (with_group_row s g a)).buckets)
     (map (lapse_group keeps) (with_group s g a.groups))
-    ≡ with_reservation s g p (holds_of g t amount (advanced t a).buckets)
+    ≡ with_reservation s g p (holds_of g t due (advanced t a).buckets)
     (map (lapse_group keeps) a.groups) =
     (λ i. put group_before (is_of s g)
     (record {
       session = s;
       group = g;
       used = (row i).used;
-      reservation = Some (record { terms = p; holds = holds_of g t amount (same i) });
+      reservation = Some (record { terms = p; holds = holds_of g t due (same i) });
     })
     (map (lapse_group keeps) (with_group s g a.groups)))
     ∙ put_later keeps s g
@@ -96,10 +101,10 @@ reserved_later a s g t amount =
       group = g;
       used = used_in s g (map (lapse_group keeps) a.groups);
       reservation =
-          Some (record { terms = p; holds = holds_of g t amount (advanced t a).buckets });
+          Some (record { terms = p; holds = holds_of g t due (advanced t a).buckets });
     })
     a.groups refl refl in
-    λ i. record x { buckets = held_rows g t amount (same i); groups = groups i }
+    λ i. record x { buckets = held_rows g t due (same i); groups = groups i }
 
 lapsed_free : (t : Bool) (r : SessionGroup) → r.reservation ≡ None →
     (if t then r else record r { reservation = None }).reservation ≡ None
@@ -140,70 +145,84 @@ covered_middle a middle s g t amount le m =
     subst (λ (x : AccountRows). amount ≤ funds g x.as_of x.buckets) (sym m)
     (subst (λ xs. amount ≤ funds g t xs) (sym (buckets_later a s g t)) le)
 
+pub allowed_middle : (a middle : AccountRows) (s : List ℕ) (g t blocks : ℕ) →
+    blocks ≤ allowance g t (advanced t a).buckets → middle ≡ advanced t (with_group_row s g a) →
+    blocks ≤ allowance g middle.as_of middle.buckets
+allowed_middle a middle s g t blocks le m =
+    subst (λ (x : AccountRows). blocks ≤ allowance g x.as_of x.buckets) (sym m)
+    (subst (λ xs. blocks ≤ allowance g t xs) (sym (buckets_later a s g t)) le)
+
 -- ---- the ledger with the grant
 
 pub rows_granted : (ledger : Ledger) (a middle after : AccountRows) (s : List ℕ)
-    (g t units amount : ℕ) →
+    (g t units : ℕ) (due : Due) →
     IsAccount a → IsRowsOf ledger a → a.as_of ≤ t →
     is_live_in (validity_of a.shelf) t a.sessions s ≡ true → reservation_in s g a.groups ≡ None →
-    middle ≡ advanced t (with_group_row s g a) → after ≡ reserved_account s g amount middle →
-    IsRowsOf (reserved a.shelf t s g units amount ledger) after
-rows_granted ledger a middle after s g t units amount account rows le live_in none m e =
+    middle ≡ advanced t (with_group_row s g a) → after ≡ reserved_account s g due middle →
+    IsRowsOf (reserved a.shelf t s g units due ledger) after
+rows_granted ledger a middle after s g t units due account rows le live_in none m e =
     let live : is_live (validity_of a.shelf) t ledger s ≡ true =
     sym (is_live_in-is ledger a t s rows le) ∙ live_in in
     let later : AccountRows = advanced t a in
-    subst (IsRowsOf (reserved a.shelf t s g units amount ledger))
-    (sym (e ∙ ap (reserved_account s g amount) m ∙ reserved_later a s g t amount))
-    (IsRowsOf-reserved ledger later s g units amount (IsAccount-advanced a t account)
+    subst (IsRowsOf (reserved a.shelf t s g units due ledger))
+    (sym (e ∙ ap (reserved_account s g due) m ∙ reserved_later a s g t due))
+    (IsRowsOf-reserved ledger later s g units due (IsAccount-advanced a t account)
     (IsRowsOf-advanced ledger a t account rows le) live
     (free_later (is_live_in (validity_of a.shelf) t a.sessions) s g a.groups none))
 
 -- ---- the greatest grant, by the book's look-up
 
 pub quota_none : (b : Book) (before g : ℕ) (requested : Option ℕ) (periods : Periods)
-    (place money units : ℕ) (grant : Grant) → None ≡ tariff_of b g → units ≡ 0 →
+    (place money free units : ℕ) (grant : Grant) → None ≡ tariff_of b g → units ≡ 0 →
     grant ≡ record {
+      allowed = record { 0 = 0 };
       blocks = record { 0 = 0 };
       units = record { 0 = 0 };
       amount = record { 0 = 0 };
-    } → IsQuota b before g requested periods place money units grant
-quota_none b before g requested periods place money units grant none zero is =
+    } → IsQuota b before g requested periods place money free units grant
+quota_none b before g requested periods place money free units grant none zero is =
     record {
       wanted = zero ∙ ap (λ o. wanted_with o requested) none;
-      grant = is ∙ ap (λ o. grant_with o periods before place requested money) none;
+      grant = is ∙ ap (λ o. grant_with o periods before place requested money free) none;
       greatest = λ x e. absurd (no_some x (none ∙ e));
     }
 
 pub quota_some : (b : Book) (before g : ℕ) (requested : Option ℕ) (periods : Periods)
-    (place money units : ℕ) (grant : Grant) (x : GroupTariff) → Some x ≡ tariff_of b g →
+    (place money free units : ℕ) (grant : Grant) (x : GroupTariff) → Some x ≡ tariff_of b g →
     units ≡ wanted_units x requested → units ≤ x.max_grant →
-    grant ≡ grant_of (prices_by x periods) before place units money →
-    IsGreatest (tiers_at x periods.before.0) (tiers_at x periods.after.0) place
-    (started before units x.block) money grant.blocks.0 → grant.units.0 ≤ units →
-    IsQuota b before g requested periods place money units grant
-quota_some b before g requested periods place money units grant x some wanted most is greatest
+    grant ≡ grant_of (prices_by x periods) before place units money free →
+    IsGreatest (tiers_at x periods.before.0) (tiers_at x periods.after.0)
+    (place + grant.allowed.0) (started before units x.block - grant.allowed.0) money
+    grant.blocks.0 → grant.units.0 ≤ units →
+    IsQuota b before g requested periods place money free units grant
+quota_some b before g requested periods place money free units grant x some wanted most is greatest
     within =
     let reckoned : grant
-    ≡ grant_of (prices_by x periods) before place (wanted_units x requested) money =
-    is ∙ ap (λ n. grant_of (prices_by x periods) before place n money) wanted in
+    ≡ grant_of (prices_by x periods) before place (wanted_units x requested) money free =
+    is ∙ ap (λ n. grant_of (prices_by x periods) before place n money free) wanted in
     let price : grant.amount.0
-    ≡ dearer (tiers_at x periods.before.0) (tiers_at x periods.after.0) place grant.blocks.0 =
+    ≡ dearer (tiers_at x periods.before.0) (tiers_at x periods.after.0)
+    (place + grant.allowed.0) grant.blocks.0 =
     ap (λ (y : Grant). y.amount.0) is
-    ∙ ap (dearer (tiers_at x periods.before.0) (tiers_at x periods.after.0) place)
-    (sym (ap (λ (y : Grant). y.blocks.0) is)) in
-    let found : IsGreatestFor x periods before place requested money grant = record {
+    ∙ ap (λ (y : Grant). dearer (tiers_at x periods.before.0) (tiers_at x periods.after.0)
+    (place + y.allowed.0) y.blocks.0) (sym is) in
+    let least : grant.allowed.0 ≡ min (started before units x.block) free =
+    ap (λ (y : Grant). y.allowed.0) is in
+    let found : IsGreatestFor x periods before place requested money free grant = record {
       greatest =
-          subst (λ n. IsGreatest (tiers_at x periods.before.0) (tiers_at x periods.after.0) place
-          (started before n x.block) money grant.blocks.0) wanted greatest;
+          subst (λ n. IsGreatest (tiers_at x periods.before.0) (tiers_at x periods.after.0)
+          (place + grant.allowed.0) (started before n x.block - grant.allowed.0) money
+          grant.blocks.0) wanted greatest;
       within = omega (arith, within, most);
       covered = omega (arith, price, greatest.covered);
+      allowed = omega (arith, least);
     } in
     record {
       wanted = wanted ∙ ap (λ o. wanted_with o requested) some;
-      grant = reckoned ∙ ap (λ o. grant_with o periods before place requested money) some;
+      grant = reckoned ∙ ap (λ o. grant_with o periods before place requested money free) some;
       greatest =
           λ y e. subst
-          (λ (z : GroupTariff). IsGreatestFor z periods before place requested money grant)
+          (λ (z : GroupTariff). IsGreatestFor z periods before place requested money free grant)
           (some_of x y (some ∙ e)) found;
     }
 
@@ -224,19 +243,22 @@ no_tariff b g p of none = by_tariff (tariff_of b g) refl
 
 -- the same by the prices that the book gives
 pub quota_by : (b : Book) (before g : ℕ) (requested : Option ℕ) (periods : Periods)
-    (place money units : ℕ) (grant : Grant) (q : GroupPrices) →
+    (place money free units : ℕ) (grant : Grant) (q : GroupPrices) →
     ArePricesOf b g periods.before.0 periods.after.0 q → units ≡ wanted_units q.tariff requested →
-    units ≤ q.tariff.max_grant → grant ≡ grant_of q before place units money →
-    IsGreatest q.before q.after place (started before units q.tariff.block) money grant.blocks.0 →
-    grant.units.0 ≤ units → IsQuota b before g requested periods place money units grant
-quota_by b before g requested periods place money units grant q f =
+    units ≤ q.tariff.max_grant → grant ≡ grant_of q before place units money free →
+    IsGreatest q.before q.after (place + grant.allowed.0)
+    (started before units q.tariff.block - grant.allowed.0) money grant.blocks.0 →
+    grant.units.0 ≤ units → IsQuota b before g requested periods place money free units grant
+quota_by b before g requested periods place money free units grant q f =
     subst (λ (z : GroupPrices). units ≡ wanted_units z.tariff requested →
-    units ≤ z.tariff.max_grant → grant ≡ grant_of z before place units money →
-    IsGreatest z.before z.after place (started before units z.tariff.block) money grant.blocks.0 →
-    grant.units.0 ≤ units → IsQuota b before g requested periods place money units grant)
+    units ≤ z.tariff.max_grant → grant ≡ grant_of z before place units money free →
+    IsGreatest z.before z.after (place + grant.allowed.0)
+    (started before units z.tariff.block - grant.allowed.0) money grant.blocks.0 →
+    grant.units.0 ≤ units → IsQuota b before g requested periods place money free units grant)
     (sym f.are)
     (λ wanted most is greatest within.
-    quota_some b before g requested periods place money units grant f.tariff (sym f.known) wanted
+    quota_some b before g requested periods place money free units grant f.tariff
+    (sym f.known) wanted
     most is greatest within)
 
 -- ---- the greatest grant, told from the rows and from the ledger
@@ -244,25 +266,28 @@ quota_by b before g requested periods place money units grant q f =
 abbrev pub QuotaOf : AccountRows → List ℕ → ℕ → ℕ → Option ℕ → ℕ → Grant → Type 0
 QuotaOf a s g t requested units grant =
     IsQuota (book_at a.shelf t) (used_in s g a.groups) g requested (periods_at a.shelf t)
-    (count_in g (cycle_at a.shelf g t) a.counters) (funds g t (advanced t a).buckets) units grant
+    (count_in g (cycle_at a.shelf g t) a.counters) (funds g t (advanced t a).buckets)
+    (allowance g t (advanced t a).buckets) units grant
 
 -- a quota that was reckoned with periods that are those of the moment
 pub quota_with : (a : AccountRows) (used g t : ℕ) (requested : Option ℕ) (units : ℕ) (grant : Grant)
     (periods : Periods) → periods ≡ periods_at a.shelf t →
     IsQuota (book_at a.shelf t) used g requested periods
     (count_in g (cycle_at a.shelf g t) a.counters)
-    (funds g t (advanced t a).buckets) units grant →
+    (funds g t (advanced t a).buckets) (allowance g t (advanced t a).buckets) units grant →
     IsQuota (book_at a.shelf t) used g requested (periods_at a.shelf t)
-    (count_in g (cycle_at a.shelf g t) a.counters) (funds g t (advanced t a).buckets) units grant
+    (count_in g (cycle_at a.shelf g t) a.counters) (funds g t (advanced t a).buckets)
+    (allowance g t (advanced t a).buckets) units grant
 quota_with a used g t requested units grant periods is q =
     subst (λ p. IsQuota (book_at a.shelf t) used g requested p
     (count_in g (cycle_at a.shelf g t) a.counters)
-    (funds g t (advanced t a).buckets) units grant) is q
+    (funds g t (advanced t a).buckets) (allowance g t (advanced t a).buckets) units grant) is q
 
 pub quota_of : (a : AccountRows) (s : List ℕ) (g t : ℕ) (requested : Option ℕ) (units : ℕ)
     (grant : Grant) (periods : Periods) → periods ≡ periods_at a.shelf t →
     IsQuota (book_at a.shelf t) (used_in s g a.groups) g requested periods
-    (count_in g (cycle_at a.shelf g t) a.counters) (funds g t (advanced t a).buckets) units grant →
+    (count_in g (cycle_at a.shelf g t) a.counters) (funds g t (advanced t a).buckets)
+    (allowance g t (advanced t a).buckets) units grant →
     QuotaOf a s g t requested units grant
 quota_of a s g t = quota_with a (used_in s g a.groups) g t
 
@@ -274,20 +299,22 @@ grant_told ledger a s g t requested units grant account rows le q =
     q.grant ∙
     (λ i. grant_with (tariff_at a.shelf t g) (periods_at a.shelf t) (used_in_is ledger a s g rows i)
     (count_in_is ledger a g (cycle_at a.shelf g t) rows i) requested
-    (funds g t ((IsRowsOf-advanced ledger a t account rows le).buckets i)))
+    (funds g t ((IsRowsOf-advanced ledger a t account rows le).buckets i))
+    (allowance g t ((IsRowsOf-advanced ledger a t account rows le).buckets i)))
 
 -- a session that used nothing yet
 pub new_told : (ledger : Ledger) (a : AccountRows) (g t : ℕ) (requested : Option ℕ) (units : ℕ)
     (grant : Grant) → IsAccount a → IsRowsOf ledger a → a.as_of ≤ t →
     IsQuota (book_at a.shelf t) 0 g requested (periods_at a.shelf t)
     (count_in g (cycle_at a.shelf g t) a.counters)
-    (funds g t (advanced t a).buckets) units grant →
+    (funds g t (advanced t a).buckets) (allowance g t (advanced t a).buckets) units grant →
     grant ≡ grant_for a.shelf t g 0 requested ledger
 new_told ledger a g t requested units grant account rows le q =
     q.grant ∙
     (λ i. grant_with (tariff_at a.shelf t g) (periods_at a.shelf t) 0
     (count_in_is ledger a g (cycle_at a.shelf g t) rows i) requested
-    (funds g t ((IsRowsOf-advanced ledger a t account rows le).buckets i)))
+    (funds g t ((IsRowsOf-advanced ledger a t account rows le).buckets i))
+    (allowance g t ((IsRowsOf-advanced ledger a t account rows le).buckets i)))
 
 -- a grant that is covered stays within the funds, also of a group without a tariff
 pub quota_covered : (a : AccountRows) (s : List ℕ) (g t : ℕ) (requested : Option ℕ) (units : ℕ)
@@ -301,14 +328,35 @@ quota_covered a s g t requested units grant q = by_tariff (tariff_at a.shelf t g
         let same : grant
         ≡ grant_with None (periods_at a.shelf t) (used_in s g a.groups)
         (count_in g (cycle_at a.shelf g t) a.counters) requested
-        (funds g t (advanced t a).buckets) =
+        (funds g t (advanced t a).buckets) (allowance g t (advanced t a).buckets) =
         q.grant ∙ ap
         (λ o. grant_with o (periods_at a.shelf t) (used_in s g a.groups)
         (count_in g (cycle_at a.shelf g t) a.counters) requested
-        (funds g t (advanced t a).buckets)) e in
+        (funds g t (advanced t a).buckets) (allowance g t (advanced t a).buckets)) e in
         let none : grant.amount.0 ≡ 0 = ap (λ (x : Grant). x.amount.0) same in
         omega (arith, none)
     by_tariff (Some x) e = (q.greatest x e).covered
+
+-- so do its blocks within the allowance
+pub quota_allowed : (a : AccountRows) (s : List ℕ) (g t : ℕ) (requested : Option ℕ) (units : ℕ)
+    (grant : Grant) → QuotaOf a s g t requested units grant →
+    grant.allowed.0 ≤ allowance g t (advanced t a).buckets
+quota_allowed a s g t requested units grant q = by_tariff (tariff_at a.shelf t g) refl
+  where
+    by_tariff : (o : Option GroupTariff) → tariff_at a.shelf t g ≡ o →
+        grant.allowed.0 ≤ allowance g t (advanced t a).buckets
+    by_tariff None e =
+        let same : grant
+        ≡ grant_with None (periods_at a.shelf t) (used_in s g a.groups)
+        (count_in g (cycle_at a.shelf g t) a.counters) requested
+        (funds g t (advanced t a).buckets) (allowance g t (advanced t a).buckets) =
+        q.grant ∙ ap
+        (λ o. grant_with o (periods_at a.shelf t) (used_in s g a.groups)
+        (count_in g (cycle_at a.shelf g t) a.counters) requested
+        (funds g t (advanced t a).buckets) (allowance g t (advanced t a).buckets)) e in
+        let none : grant.allowed.0 ≡ 0 = ap (λ (x : Grant). x.allowed.0) same in
+        omega (arith, none)
+    by_tariff (Some x) e = (q.greatest x e).allowed
 
 pub grant_is : (ledger : Ledger) (a middle after : AccountRows) (s : List ℕ) (g t : ℕ)
     (requested : Option ℕ) (wanted : ℕ) (grant : Grant) (at : Option ℕ) (validity : ℕ)
@@ -319,7 +367,7 @@ pub grant_is : (ledger : Ledger) (a middle after : AccountRows) (s : List ℕ) (
     0 < grant.units.0 → at ≡ switch_at a.shelf t → validity ≡ validity_at a.shelf t →
     fewer ≡ nat_lt grant.units.0 wanted →
     middle ≡ advanced t (with_group_row s g a) →
-    after ≡ reserved_account s g grant.amount.0 middle →
+    after ≡ reserved_account s g (held_due grant) middle →
     IsGrantOf a.shelf t s g requested ledger after grant.units.0 at validity fewer
 grant_is ledger a middle after s g t requested wanted grant at validity fewer account rows le live
     none q some switch valid few m e =
@@ -335,46 +383,46 @@ grant_is ledger a middle after s g t requested wanted grant at validity fewer ac
       validity = valid;
       fewer = few ∙ ap (nat_lt grant.units.0) q.wanted;
       greatest = λ x k.
-          subst (λ (n : ℕ). IsGreatest (tiers_at x (periods_at shelf t).before.0)
+          subst (λ (y : Grant). IsGreatest (tiers_at x (periods_at shelf t).before.0)
           (tiers_at x (periods_at shelf t).after.0)
-          (counter (cycle_at shelf g) g (cycle_at shelf g t) ledger)
-          (started (used s g ledger) (wanted_units x requested) x.block)
-          (funds g t (buckets_at (validity_of shelf) t ledger)) n)
-          (ap (λ (y : Grant). y.blocks.0) told)
+          (counter (cycle_at shelf g) g (cycle_at shelf g t) ledger + y.allowed.0)
+          (started (used s g ledger) (wanted_units x requested) x.block - y.allowed.0)
+          (funds g t (buckets_at (validity_of shelf) t ledger)) y.blocks.0) told
           (subst (λ xs. IsGreatest (tiers_at x (periods_at shelf t).before.0)
           (tiers_at x (periods_at shelf t).after.0)
-          (counter (cycle_at shelf g) g (cycle_at shelf g t) ledger)
-          (started (used s g ledger) (wanted_units x requested) x.block) (funds g t xs)
-          grant.blocks.0) now
+          (counter (cycle_at shelf g) g (cycle_at shelf g t) ledger + grant.allowed.0)
+          (started (used s g ledger) (wanted_units x requested) x.block - grant.allowed.0)
+          (funds g t xs) grant.blocks.0) now
           (subst (λ n. IsGreatest (tiers_at x (periods_at shelf t).before.0)
-          (tiers_at x (periods_at shelf t).after.0) n
-          (started (used s g ledger) (wanted_units x requested) x.block)
+          (tiers_at x (periods_at shelf t).after.0) (n + grant.allowed.0)
+          (started (used s g ledger) (wanted_units x requested) x.block - grant.allowed.0)
           (funds g t (advanced t a).buckets) grant.blocks.0)
           (count_in_is ledger a g (cycle_at shelf g t) rows)
           (subst (λ n. IsGreatest (tiers_at x (periods_at shelf t).before.0)
-          (tiers_at x (periods_at shelf t).after.0) (count_in g (cycle_at shelf g t) a.counters)
-          (started n (wanted_units x requested) x.block) (funds g t (advanced t a).buckets)
-          grant.blocks.0) (used_in_is ledger a s g rows)
+          (tiers_at x (periods_at shelf t).after.0)
+          (count_in g (cycle_at shelf g t) a.counters + grant.allowed.0)
+          (started n (wanted_units x requested) x.block - grant.allowed.0)
+          (funds g t (advanced t a).buckets) grant.blocks.0) (used_in_is ledger a s g rows)
           (q.greatest x k).greatest)));
-      rows = subst (λ n. IsRowsOf (reserved shelf t s g grant.units.0 n ledger) after)
-          (ap (λ (x : Grant). x.amount.0) told)
-          (rows_granted ledger a middle after s g t grant.units.0 grant.amount.0 account rows le
+      rows = subst (λ (y : Grant). IsRowsOf (reserved shelf t s g grant.units.0 (held_due y) ledger)
+          after) told
+          (rows_granted ledger a middle after s g t grant.units.0 (held_due grant) account rows le
           live none m e);
     }
 
 -- a grant of some units is of a group with a tariff, within its greatest grant
 pub within_grant : (b : Book) (before g : ℕ) (requested : Option ℕ) (periods : Periods)
-    (place money units : ℕ) (grant : Grant) →
-    IsQuota b before g requested periods place money units grant → 0 < grant.units.0 →
+    (place money free units : ℕ) (grant : Grant) →
+    IsQuota b before g requested periods place money free units grant → 0 < grant.units.0 →
     IsWithin (tariff_of b g) grant.units.0
-within_grant b before g requested periods place money units grant q some =
+within_grant b before g requested periods place money free units grant q some =
     by_tariff (tariff_of b g) refl
   where
     by_tariff : (o : Option GroupTariff) → tariff_of b g ≡ o →
         IsWithin (tariff_of b g) grant.units.0
     by_tariff None e =
-        let same : grant ≡ grant_with None periods before place requested money =
-        q.grant ∙ ap (λ o. grant_with o periods before place requested money) e in
+        let same : grant ≡ grant_with None periods before place requested money free =
+        q.grant ∙ ap (λ o. grant_with o periods before place requested money free) e in
         let none : grant.units.0 ≡ 0 = ap (λ (x : Grant). x.units.0) same in
         absurd (omega (arith, none))
     by_tariff (Some x) e =

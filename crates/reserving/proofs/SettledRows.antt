@@ -1,5 +1,12 @@
 -- What a settlement makes of an account's rows: those of the ledger with the settlement.
 use Rattle.std.proofs.Common.{◌≡◌, ℕ, ◌+◌, ◌<◌, ◌≤◌, Bool, true, false, List, [], ◌∷◌, ◌++◌}
+use Rattle.buckets.specs.declared.kind.BucketKind.TheVariants.{Blocks}
+use Rattle.buckets.specs.Spend.{allowance}
+use Rattle.buckets.specs.Holding.{held_sum}
+use Rattle.reserving.specs.Settlement.{due_of, coverable}
+use Rattle.reserving.specs.Changes.{coverable_in}
+use Rattle.reserving.proofs.Advancing.{IsRowsOf-advanced}
+use Rattle.buckets.specs.declared.kind.Due.{Due}
 use Rattle.std.proofs.Common.{map, refl, sym, ap, subst, ◌∙◌, arith, Option, Some, None}
 use Rattle.std.specs.Prelude.{if◌then◌else◌, ◌==◌, ◌&&◌, ◌||◌, not, unwrap_or, option_map}
 use Rattle.std.proofs.lemmas.Bool.{or_parts}
@@ -54,9 +61,9 @@ use Rattle.reserving.proofs.kept.Settled.{settled_number}
 -- ---- what wasn't named is 0
 
 none_units : (s : List ℕ) (g : ℕ) (f : Fact) → names_group s g f ≡ false → units_in s g f ≡ 0
-none_units s g (Use a b c d e f) h = rw h refl
+none_units s g (Use a b c d covered e f) h = rw h refl
 none_units s g (HoldFact a b c d) h = refl
-none_units s g (Credit a b c d e) h = refl
+none_units s g (Credit k a b c d e) h = refl
 none_units s g (Grant a b c d e) h = refl
 none_units s g (End a b) h = refl
 none_units s g (Charge a b) h = refl
@@ -115,9 +122,9 @@ open_none s g (d ∷ older) h =
         (λ i. inner (or_else (if k i then Some (Some p) else None) (newest (grant_in s g) older)))
         ∙ r
     by_fact at (End a b) k r = grant_ended (is_same a s && b == g) (newest (grant_in s g) older) r
-    by_fact at (Use a b c e x y) k r = r
+    by_fact at (Use a b c e covered x y) k r = r
     by_fact at (HoldFact a b c e) k r = r
-    by_fact at (Credit a b c e x) k r = r
+    by_fact at (Credit kind a b c e x) k r = r
     by_fact at (Charge a b) k r = r
     by_fact at (Touch a) k r = r
     by_fact at (Close a) k r = r
@@ -162,9 +169,9 @@ none_blocks f g c d h = by_fact d.at d.fact h
     by_fact : (at : ℕ) (fact : Fact) →
         counts_group f g c (record { at = at; fact = fact }) ≡ false →
         (if f at == c then blocks_in g fact else 0) ≡ 0
-    by_fact at (Use s' g' u b r x) e = both (f at == c) (g' == g) b e
+    by_fact at (Use s' g' u b covered r x) e = both (f at == c) (g' == g) b e
     by_fact at (HoldFact s' g' b n) e = if_none (f at == c)
-    by_fact at (Credit n a b x y) e = if_none (f at == c)
+    by_fact at (Credit k n a b x y) e = if_none (f at == c)
     by_fact at (Grant s' g' x y z) e = if_none (f at == c)
     by_fact at (End s' g') e = if_none (f at == c)
     by_fact at (Charge b n) e = if_none (f at == c)
@@ -273,17 +280,17 @@ and_not : (x : Bool) → (x && not x) ≡ false
 and_not true = refl
 and_not false = refl
 
-abbrev pub parts_paid : (ℕ → ℕ) → ℕ → List ℕ → ℕ → ℕ → Ledger → List Hold
-parts_paid v t session group rated ledger =
-    parts (paid (holds_at v t session group ledger) group t rated (buckets_at v t ledger))
+abbrev pub parts_paid : (ℕ → ℕ) → ℕ → List ℕ → ℕ → Due → Ledger → List Hold
+parts_paid v t session group due ledger =
+    parts (paid (holds_at v t session group ledger) group t due (buckets_at v t ledger))
     (buckets_at v t ledger)
 
-pub other_settled : (v : ℕ → ℕ) (t : ℕ) (session : List ℕ) (group units blocks rated : ℕ)
-    (ledger : Ledger)
+pub other_settled : (v : ℕ → ℕ) (t : ℕ) (session : List ℕ) (group units blocks : ℕ)
+    (due : Due) (ledger : Ledger)
     (s : List ℕ) (g : ℕ) → is_key session group s g ≡ false →
-    SameGroup s g ledger (settled v t session group units blocks rated ledger)
-other_settled v t session group units blocks rated ledger s g h =
-    let hs : List Hold = parts_paid v t session group rated ledger in
+    SameGroup s g ledger (settled v t session group units blocks due ledger)
+other_settled v t session group units blocks due ledger s g h =
+    let hs : List Hold = parts_paid v t session group due ledger in
     record {
       named = other_named session group s g t hs ledger h;
       used = omega (arith, other_used session group units s g t hs ledger h);
@@ -311,18 +318,18 @@ pub own_row : (s : List ℕ) (g : ℕ) (h : Bool) (u w : ℕ) (o p : Option Rese
 own_row s g h u w o p named used kept =
     λ i. if named i then Some (row_with s g (used i) (kept i)) else None
 
-own_settled : (v : ℕ → ℕ) (t : ℕ) (session : List ℕ) (group units blocks rated : ℕ)
-    (ledger : Ledger) →
-    group_at v t (settled v t session group units blocks rated ledger) session group
+own_settled : (v : ℕ → ℕ) (t : ℕ) (session : List ℕ) (group units blocks : ℕ)
+    (due : Due) (ledger : Ledger) →
+    group_at v t (settled v t session group units blocks due ledger) session group
     ≡ Some (record {
       session = session;
       group = group;
       used = used session group ledger + units;
       reservation = None;
     })
-own_settled v t session group units blocks rated ledger =
-    let after : Ledger = settled v t session group units blocks rated ledger in
-    let hs : List Hold = parts_paid v t session group rated ledger in
+own_settled v t session group units blocks due ledger =
+    let after : Ledger = settled v t session group units blocks due ledger in
+    let hs : List Hold = parts_paid v t session group due ledger in
     let named : has_group session group after ≡ true =
     own_named session group (charge_facts t hs ++ ledger) in
     let so_far : used session group after ≡ used session group ledger + units =
@@ -334,20 +341,20 @@ own_settled v t session group units blocks rated ledger =
     (newest (grant_in session group) (charge_facts t hs ++ ledger))) in
     own_row session group _ _ _ _ _ named so_far none
 
-groups-settled : (v : ℕ → ℕ) (t : ℕ) (session : List ℕ) (group units blocks rated : ℕ)
-    (ledger : Ledger)
+groups-settled : (v : ℕ → ℕ) (t : ℕ) (session : List ℕ) (group units blocks : ℕ)
+    (due : Due) (ledger : Ledger)
     (does : Row → Row) (rows : List SessionGroup) →
-    IsMoved does v t ledger (settled v t session group units blocks rated ledger) →
+    IsMoved does v t ledger (settled v t session group units blocks due ledger) →
     used_in session group rows ≡ used session group ledger →
     ((s : List ℕ) (g : ℕ) → group_in s g rows ≡ group_at v t ledger s g) →
     (s : List ℕ) (g : ℕ) →
     group_in s g (with_use session group units rows)
-    ≡ group_at v t (settled v t session group units blocks rated ledger) s g
-groups-settled v t session group units blocks rated ledger does rows moved so_far h s g =
+    ≡ group_at v t (settled v t session group units blocks due ledger) s g
+groups-settled v t session group units blocks due ledger does rows moved so_far h s g =
     by_test (is_key session group s g) refl
   where
     after : Ledger
-    after = settled v t session group units blocks rated ledger
+    after = settled v t session group units blocks due ledger
 
     row : SessionGroup
     row = record {
@@ -386,15 +393,15 @@ groups-settled v t session group units blocks rated ledger does rows moved so_fa
         (λ i. group_in (sym es i) (sym eg i) (put group_before (is_of session group) row rows))
         ∙ find-put group_before (is_of session group) row rows (own_key session group)
         ∙ (λ i. Some (used_is i))
-        ∙ sym (own_settled v t session group units blocks rated ledger)
+        ∙ sym (own_settled v t session group units blocks due ledger)
         ∙ (λ i. group_at v t after (es i) (eg i))
     by_test false q =
         find-put_other group_before (is_of session group) (is_of s g) row rows q
         (other_row session group s g q)
         ∙ h s g
         ∙ sym (same_group does v t ledger after s g moved
-        (same_sessions-settled v t session group units blocks rated ledger)
-        (other_settled v t session group units blocks rated ledger s g q))
+        (same_sessions-settled v t session group units blocks due ledger)
+        (other_settled v t session group units blocks due ledger s g q))
 
 -- ---- its counters
 
@@ -410,29 +417,29 @@ counted_once false true n e = cc
 counted_once false false n e = cc
 
 pub counter-settled : (f : ℕ → ℕ) (g c : ℕ) (v : ℕ → ℕ) (t : ℕ) (session : List ℕ)
-    (group units blocks rated : ℕ)
+    (group units blocks : ℕ) (due : Due)
     (ledger : Ledger) →
-    counter f g c (settled v t session group units blocks rated ledger)
+    counter f g c (settled v t session group units blocks due ledger)
     ≡ counter f g c ledger + (if f t == c then (if group == g then blocks else 0) else 0)
-counter-settled f g c v t session group units blocks rated ledger =
+counter-settled f g c v t session group units blocks due ledger =
     omega (
       arith,
       if_none (f t == c),
       total-front (λ d. if f d.at == c then blocks_in g d.fact else 0)
-          (charge_facts t (parts_paid v t session group rated ledger)) ledger
-          (each_charge _ t (parts_paid v t session group rated ledger) (λ b n. if_none (f t == c))),
+          (charge_facts t (parts_paid v t session group due ledger)) ledger
+          (each_charge _ t (parts_paid v t session group due ledger) (λ b n. if_none (f t == c))),
     )
 
 has_counter-settled : (f : ℕ → ℕ) (g c : ℕ) (v : ℕ → ℕ) (t : ℕ) (session : List ℕ)
-    (group units blocks rated : ℕ)
+    (group units blocks : ℕ) (due : Due)
     (ledger : Ledger) →
-    has_counter f g c (settled v t session group units blocks rated ledger)
+    has_counter f g c (settled v t session group units blocks due ledger)
     ≡ ((group == g && f t == c) || has_counter f g c ledger)
-has_counter-settled f g c v t session group units blocks rated ledger =
+has_counter-settled f g c v t session group units blocks due ledger =
     ap (λ x. (group == g && f t == c) || x)
     (any_dated-front (counts_group f g c)
-    (charge_facts t (parts_paid v t session group rated ledger)) ledger
-    (each_charge _ t (parts_paid v t session group rated ledger) (λ b n. refl)))
+    (charge_facts t (parts_paid v t session group due ledger)) ledger
+    (each_charge _ t (parts_paid v t session group due ledger) (λ b n. refl)))
 
 -- the cycle of a group is that of an equal group
 same_cycle : (f : ℕ → ℕ) (group g c : ℕ) → is_cycle group (f group) g c ≡ (group == g && f g == c)
@@ -516,18 +523,18 @@ counters_used cycle_of t group blocks ledger after rows counts names so_far h g 
         ∙ sym (λ i. (if named i then Some (same i) else None))
 
 counters-settled : (cycle_of : ℕ → ℕ → ℕ) (v : ℕ → ℕ) (t : ℕ) (session : List ℕ)
-    (group units blocks rated : ℕ) (ledger : Ledger) (rows : List Counter) →
+    (group units blocks : ℕ) (due : Due) (ledger : Ledger) (rows : List Counter) →
     count_in group (cycle_of group t) rows
     ≡ counter (cycle_of group) group (cycle_of group t) ledger →
     ((g c : ℕ) → counter_in g c rows ≡ counter_at (cycle_of g) ledger g c) →
     (g c : ℕ) →
     counter_in g c (with_count group (cycle_of group t) blocks rows)
-    ≡ counter_at (cycle_of g) (settled v t session group units blocks rated ledger) g c
-counters-settled cycle_of v t session group units blocks rated ledger rows so_far h =
+    ≡ counter_at (cycle_of g) (settled v t session group units blocks due ledger) g c
+counters-settled cycle_of v t session group units blocks due ledger rows so_far h =
     counters_used cycle_of t group blocks ledger
-    (settled v t session group units blocks rated ledger) rows
-    (λ f g c. counter-settled f g c v t session group units blocks rated ledger)
-    (λ f g c. has_counter-settled f g c v t session group units blocks rated ledger) so_far h
+    (settled v t session group units blocks due ledger) rows
+    (λ f g c. counter-settled f g c v t session group units blocks due ledger)
+    (λ f g c. has_counter-settled f g c v t session group units blocks due ledger) so_far h
 
 -- ---- the buckets' numbers
 
@@ -553,16 +560,16 @@ held_part p k n ledger h =
           (λ s g. split_by (p s g) (k s g)),
     )
 
-unknown-settled : (v : ℕ → ℕ) (t : ℕ) (session : List ℕ) (group units blocks rated : ℕ)
-    (ledger : Ledger)
+unknown-settled : (v : ℕ → ℕ) (t : ℕ) (session : List ℕ) (group units blocks : ℕ)
+    (due : Due) (ledger : Ledger)
     (s : List ℕ) → IsUnknown s ledger →
-    IsUnknown s (settled v t session group units blocks rated ledger)
-unknown-settled v t session group units blocks rated ledger s h =
-    let hs : List Hold = parts_paid v t session group rated ledger in
+    IsUnknown s (settled v t session group units blocks due ledger)
+unknown-settled v t session group units blocks due ledger s h =
+    let hs : List Hold = parts_paid v t session group due ledger in
     let p : List ℕ → ℕ → Bool = λ x g. is_same x s in
     let k : List ℕ → ℕ → Bool = λ x g. is_same x session && g == group in
     record {
-      closed = (same_sessions-settled v t session group units blocks rated ledger).closed s
+      closed = (same_sessions-settled v t session group units blocks due ledger).closed s
           ∙ h.closed;
       held = λ n. omega (
         arith,
@@ -598,29 +605,30 @@ made_in ledger a account rows =
     subst (λ n. IsBelow n (buckets_at (validity_of a.shelf) a.as_of ledger)) rows.next_bucket
     (subst (IsBelow a.next_bucket) rows.buckets account.below)
 
-pub IsSoundLedger-settled : (v : ℕ → ℕ) (t : ℕ) (session : List ℕ) (group units blocks rated : ℕ)
+pub IsSoundLedger-settled : (v : ℕ → ℕ) (t : ℕ) (session : List ℕ)
+    (group units blocks : ℕ) (due : Due)
     (ledger : Ledger) → IsBelow (next_bucket ledger) (buckets_at v t ledger) →
-    IsSoundLedger ledger → IsSoundLedger (settled v t session group units blocks rated ledger)
-IsSoundLedger-settled v t session group units blocks rated ledger below sound =
+    IsSoundLedger ledger → IsSoundLedger (settled v t session group units blocks due ledger)
+IsSoundLedger-settled v t session group units blocks due ledger below sound =
     let now : List Row = buckets_at v t ledger in
     let holds : List Hold = holds_at v t session group ledger in
-    let hs : List Hold = parts (paid holds group t rated now) now in
-    let after : Ledger = settled v t session group units blocks rated ledger in
+    let hs : List Hold = parts (paid holds group t due now) now in
+    let after : Ledger = settled v t session group units blocks due ledger in
     let same : SameSessions ledger after =
-    same_sessions-settled v t session group units blocks rated ledger in
+    same_sessions-settled v t session group units blocks due ledger in
     let next : next_bucket after ≡ next_bucket ledger =
     omega (arith, next_bucket-charges t hs ledger) in
     record {
       touched = same_touched ledger after same sound.touched;
       unknown =
-          λ s e. unknown-settled v t session group units blocks rated ledger s
+          λ s e. unknown-settled v t session group units blocks due ledger s
           (sound.unknown s (sym (same.recording s) ∙ e));
       fresh = λ n le.
           let made : next_bucket ledger ≤ n = subst (λ (m : ℕ). m ≤ n) next le in
           omega (
             arith,
             charged-charge_facts n t hs ledger,
-            sum_at_none (paid holds group t rated now) n now
+            sum_at_none (paid holds group t due now) n now
                 (differs_above (next_bucket ledger) n now below made),
             sound.fresh n made,
           );
@@ -649,42 +657,42 @@ IsSoundLedger-ended t session group ledger sound = record {
 -- ---- the rows of the ledger with the settlement
 
 pub IsRowsOf-settled : (ledger : Ledger) (a : AccountRows) (session : List ℕ)
-    (group units blocks rated : ℕ) →
+    (group units blocks : ℕ) (due : Due) →
     IsAccount a → IsRowsOf ledger a → is_live (validity_of a.shelf) a.as_of ledger session ≡ true →
-    IsRowsOf (settled (validity_of a.shelf) a.as_of session group units blocks rated ledger)
-    (settled_account session group units blocks rated a)
-IsRowsOf-settled ledger a session group units blocks rated account rows live =
+    IsRowsOf (settled (validity_of a.shelf) a.as_of session group units blocks due ledger)
+    (settled_account session group units blocks due a)
+IsRowsOf-settled ledger a session group units blocks due account rows live =
     let v : ℕ → ℕ = (validity_of a.shelf) in
     let t : ℕ = a.as_of in
-    let after : Ledger = settled v t session group units blocks rated ledger in
+    let after : Ledger = settled v t session group units blocks due ledger in
     let now : List Row = buckets_at v t ledger in
     let holds : List Hold = holds_at v t session group ledger in
-    let hs : List Hold = parts (paid holds group t rated now) now in
+    let hs : List Hold = parts (paid holds group t due now) now in
     let sound : IsSound now = subst IsSound rows.buckets account.sound in
     let same : SameSessions ledger after =
-    same_sessions-settled v t session group units blocks rated ledger in
-    let moved : buckets_at v t after ≡ settled_rows holds group t rated now =
-    buckets_at-settled v t session group units blocks rated ledger live sound.balanced
+    same_sessions-settled v t session group units blocks due ledger in
+    let moved : buckets_at v t after ≡ settled_rows holds group t due now =
+    buckets_at-settled v t session group units blocks due ledger live sound.balanced
     sound.distinct in
     let held_is : reserved_in session group a.groups ≡ holds =
     reserved_in_is ledger a session group account rows live in
-    let is_moved : IsMoved (settled_row holds group t rated now) v t ledger after =
-    record { rows = moved; number = settled_number holds group t rated now } in
+    let is_moved : IsMoved (settled_row holds group t due now) v t ledger after =
+    record { rows = moved; number = settled_number holds group t due now } in
     record {
       barred = rows.barred
           ∙ sym (is_barred-front (charge_facts t hs) ledger (each_charge _ t hs (λ b n. refl)));
-      buckets = (λ i. settled_rows (held_is i) group t rated (rows.buckets i)) ∙ sym moved;
+      buckets = (λ i. settled_rows (held_is i) group t due (rows.buckets i)) ∙ sym moved;
       sessions = λ s. rows.sessions s ∙ sym (same_session v t ledger after same s);
-      groups = groups-settled v t session group units blocks rated ledger
-          (settled_row holds group t rated now) a.groups is_moved
+      groups = groups-settled v t session group units blocks due ledger
+          (settled_row holds group t due now) a.groups is_moved
           (used_in_is ledger a session group rows) rows.groups;
       counters =
-          counters-settled (cycle_at a.shelf) v t session group units blocks rated ledger a.counters
+          counters-settled (cycle_at a.shelf) v t session group units blocks due ledger a.counters
           (count_in_is ledger a group (cycle_at a.shelf group t) rows) rows.counters;
       next_bucket = rows.next_bucket ∙ omega (arith, next_bucket-charges t hs ledger);
       next_charge =
           ap (λ n. n + 1) rows.next_charge ∙ omega (arith, next_charge-charges t hs ledger);
-      sound = IsSoundLedger-settled v t session group units blocks rated ledger
+      sound = IsSoundLedger-settled v t session group units blocks due ledger
           (made_in ledger a account rows) rows.sound;
     }
 
@@ -822,17 +830,26 @@ IsSoundLedger-settled_by b t session group [] ledger below sound =
 IsSoundLedger-settled_by b t session group (p ∷ ps) ledger below sound =
     IsSoundLedger-settled (validity_of b) t session group (reported (p ∷ ps))
     (report_price b t session group (p ∷ ps) ledger).blocks
-    (report_price b t session group (p ∷ ps) ledger).amount.0 ledger below sound
+    (due_of (report_price b t session group (p ∷ ps) ledger)) ledger below sound
+
+-- the blocks that may cover a report are by the rows what they are by the ledger
+coverable_in_is : (ledger : Ledger) (a : AccountRows) (s : List ℕ) (g : ℕ) → IsAccount a →
+    IsRowsOf ledger a → is_live (validity_of a.shelf) a.as_of ledger s ≡ true →
+    coverable_in s g a.as_of a ≡ coverable (validity_of a.shelf) a.as_of s g ledger
+coverable_in_is ledger a s g account rows live =
+    let now : a.as_of ≤ a.as_of = omega arith in
+    λ i. held_sum Blocks (reserved_in_is ledger a s g account rows live i) (rows.buckets i)
+    + allowance g a.as_of ((IsRowsOf-advanced ledger a a.as_of account rows now).buckets i)
 
 -- a report costs by the rows what it costs by the ledger
 pub price_in_is : (ledger : Ledger) (a : AccountRows) (s : List ℕ) (g : ℕ)
-    (used_parts : List UsedPart) → IsRowsOf ledger a →
+    (used_parts : List UsedPart) → IsAccount a → IsRowsOf ledger a →
     is_live (validity_of a.shelf) a.as_of ledger s ≡ true →
     price_in s g a.as_of used_parts a ≡ report_price a.shelf a.as_of s g used_parts ledger
-price_in_is ledger a s g used_parts rows live =
+price_in_is ledger a s g used_parts account rows live =
     λ i. price_of a.shelf a.as_of g (periods_in_is ledger a s g rows live i)
     (used_in_is ledger a s g rows i) (count_in_is ledger a g (cycle_at a.shelf g a.as_of) rows i)
-    used_parts
+    (coverable_in_is ledger a s g account rows live i) used_parts
 
 pub IsRowsOf-settled_by : (ledger : Ledger) (a : AccountRows) (session : List ℕ) (group : ℕ)
     (used_parts : List UsedPart) →
@@ -844,10 +861,10 @@ IsRowsOf-settled_by ledger a session group [] account rows live =
 IsRowsOf-settled_by ledger a session group (p ∷ ps) account rows live =
     let cost : price_in session group a.as_of (p ∷ ps) a
     ≡ report_price a.shelf a.as_of session group (p ∷ ps) ledger =
-    price_in_is ledger a session group (p ∷ ps) rows live in
+    price_in_is ledger a session group (p ∷ ps) account rows live in
     let x : Rated = price_in session group a.as_of (p ∷ ps) a in
     subst (λ (y : Rated). IsRowsOf
-    (settled (validity_of a.shelf) a.as_of session group (reported (p ∷ ps)) y.blocks y.amount.0
+    (settled (validity_of a.shelf) a.as_of session group (reported (p ∷ ps)) y.blocks (due_of y)
     ledger) (settled_by_rows session group (p ∷ ps) a)) cost
-    (IsRowsOf-settled ledger a session group (reported (p ∷ ps)) x.blocks x.amount.0 account rows
+    (IsRowsOf-settled ledger a session group (reported (p ∷ ps)) x.blocks (due_of x) account rows
     live)

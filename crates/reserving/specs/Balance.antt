@@ -8,8 +8,8 @@ use Rattle.reserving.specs.Ledger.Fact.{Credit}
 
 -- the buckets as they were credited, by end and then by number
 abbrev pub credited_by : Fact → List Row → List Row
-credited_by (Credit number from until scope amount) rows =
-    inserted (new_row number from until scope amount) rows
+credited_by (Credit kind number from until scope amount) rows =
+    inserted (new_row kind number from until scope amount) rows
 credited_by _ rows = rows
 
 abbrev pub credits : Ledger → List Row

@@ -1,12 +1,16 @@
 -- What each call makes of an account's rows.
 -- Source: profile; they follow the ledger's definitions.
 use Rattle.std.specs.Prelude.{ℕ, ◌+◌, ◌*◌, ◌≤◌, Bool, not, ◌&&◌, nat_lt, if◌then◌else◌, List, []}
-use Rattle.std.specs.Prelude.{◌∷◌, Option, Some, None, map, sum_by, unwrap_or, option_map}
+use Rattle.std.specs.Prelude.{◌∷◌, Option, Some, None, map, unwrap_or, option_map}
 use Rattle.units.specs.declared.blocks.UsedPart.{UsedPart}
 use Rattle.buckets.specs.declared.holds.Hold.{Hold}
 use Rattle.buckets.specs.Row.{Row, is_eligible, with_end, with_release, new_row}
-use Rattle.buckets.specs.Spend.{Each, inserted, held_rows}
-use Rattle.buckets.specs.Holding.{settled_rows, released_rows, holds_of}
+use Rattle.buckets.specs.declared.kind.BucketKind.{BucketKind}
+use Rattle.buckets.specs.declared.kind.BucketKind.TheVariants.{Blocks}
+use Rattle.buckets.specs.declared.kind.Due.{Due}
+use Rattle.buckets.specs.Share.{sum_in}
+use Rattle.buckets.specs.Spend.{Each, inserted, held_rows, allowance}
+use Rattle.buckets.specs.Holding.{settled_rows, released_rows, holds_of, held_sum}
 use Rattle.reserving.specs.declared.session.Session.{Session}
 use Rattle.reserving.specs.declared.session.SessionState.{SessionState}
 use Rattle.reserving.specs.declared.session.SessionState.TheVariants.{Open, Ended}
@@ -20,7 +24,7 @@ use Rattle.reserving.specs.Pricing.{cycle_at, terms_at, validity_of}
 use Rattle.reserving.specs.Keyed.{put}
 use Rattle.reserving.specs.Sessions.{is_session, is_of, group_in, is_counter, counter_in, is_open}
 use Rattle.reserving.specs.Sessions.{is_live_in, held_by, holds_in}
-use Rattle.reserving.specs.Settlement.{reported, price_of}
+use Rattle.reserving.specs.Settlement.{reported, price_of, due_of}
 use Rattle.reserving.specs.Debiting.{untagged}
 use Rattle.reserving.specs.Rows.{AccountRows}
 use Rattle.reserving.specs.Sessions.{group_before, session_before, counter_before}
@@ -109,9 +113,9 @@ ended_rows s g a = record a {
   groups = map (ended_group s g) a.groups;
 }
 
-abbrev pub settled_account : List ℕ → ℕ → ℕ → ℕ → ℕ → AccountRows → AccountRows
-settled_account s g units blocks rated a = record a {
-  buckets = settled_rows (reserved_in s g a.groups) g a.as_of rated a.buckets;
+abbrev pub settled_account : List ℕ → ℕ → ℕ → ℕ → Due → AccountRows → AccountRows
+settled_account s g units blocks due a = record a {
+  buckets = settled_rows (reserved_in s g a.groups) g a.as_of due a.buckets;
   counters = with_count g (cycle_at a.shelf g a.as_of) blocks a.counters;
   groups = with_use s g units a.groups;
   next_charge = a.next_charge + 1;
@@ -121,24 +125,35 @@ settled_account s g units blocks rated a = record a {
 abbrev pub terms_in : List ℕ → ℕ → List SessionGroup → Option Terms
 terms_in s g rows = option_map (λ r. r.terms) (group_or_new s g rows).reservation
 
+-- the blocks that may cover a report, by the rows
+abbrev pub coverable_in : List ℕ → ℕ → ℕ → AccountRows → ℕ
+coverable_in s g t a =
+    held_sum Blocks (reserved_in s g a.groups) a.buckets
+    + allowance g t (advanced t a).buckets
+
 -- what a report costs, by the rows
 abbrev pub price_in : List ℕ → ℕ → ℕ → List UsedPart → AccountRows → Rated
 price_in s g t used_parts a =
     price_of a.shelf t g (terms_in s g a.groups) (used_in s g a.groups)
-    (count_in g (cycle_at a.shelf g t) a.counters) used_parts
+    (count_in g (cycle_at a.shelf g t) a.counters) (coverable_in s g t a) used_parts
 
 abbrev pub settled_by_rows : List ℕ → ℕ → List UsedPart → AccountRows → AccountRows
 settled_by_rows s g [] a = ended_rows s g a
 settled_by_rows s g (p ∷ ps) a =
     settled_account s g (reported (p ∷ ps)) (price_in s g a.as_of (p ∷ ps) a).blocks
-    (price_in s g a.as_of (p ∷ ps) a).amount.0 a
+    (due_of (price_in s g a.as_of (p ∷ ps) a)) a
 
 -- ---- debits
 
--- what an event's units cost, by the rows
-abbrev pub event_price_in : ℕ → ℕ → ℕ → AccountRows → Rated
-event_price_in g units t a =
-    price_of a.shelf t g None 0 (count_in g (cycle_at a.shelf g t) a.counters) (untagged units)
+-- what an event's units cost, by the rows, where so many blocks are covered
+abbrev pub event_price_in : ℕ → ℕ → ℕ → ℕ → AccountRows → Rated
+event_price_in g covered units t a =
+    price_of a.shelf t g None 0 (count_in g (cycle_at a.shelf g t) a.counters) covered
+    (untagged units)
+
+-- what they cost beside the allowance
+abbrev pub rest_price_in : ℕ → ℕ → ℕ → AccountRows → Rated
+rest_price_in g units t a = event_price_in g (allowance g t (advanced t a).buckets) units t a
 
 -- an event's use leaves the group's reservation as it is
 abbrev pub with_event : List ℕ → ℕ → ℕ → List SessionGroup → List SessionGroup
@@ -151,9 +166,9 @@ with_event s g units rows =
       reservation = (group_or_new s g rows).reservation;
     }) rows
 
-abbrev pub debited_account : List ℕ → ℕ → ℕ → ℕ → ℕ → AccountRows → AccountRows
-debited_account s g units blocks rated a = record a {
-  buckets = settled_rows [] g a.as_of rated a.buckets;
+abbrev pub debited_account : List ℕ → ℕ → ℕ → ℕ → Due → AccountRows → AccountRows
+debited_account s g units blocks due a = record a {
+  buckets = settled_rows [] g a.as_of due a.buckets;
   counters = with_count g (cycle_at a.shelf g a.as_of) blocks a.counters;
   groups = with_event s g units a.groups;
   next_charge = a.next_charge + 1;
@@ -172,18 +187,18 @@ with_reservation s g terms holds rows =
       reservation = Some (record { terms = terms; holds = holds });
     }) rows
 
-abbrev pub reserved_account : List ℕ → ℕ → ℕ → AccountRows → AccountRows
-reserved_account s g amount a = record a {
-  buckets = held_rows g a.as_of amount a.buckets;
-  groups = with_reservation s g (terms_at a.shelf a.as_of) (holds_of g a.as_of amount a.buckets)
+abbrev pub reserved_account : List ℕ → ℕ → Due → AccountRows → AccountRows
+reserved_account s g due a = record a {
+  buckets = held_rows g a.as_of due a.buckets;
+  groups = with_reservation s g (terms_at a.shelf a.as_of) (holds_of g a.as_of due a.buckets)
       a.groups;
 }
 
 -- ---- credit
 
-abbrev pub credited_account : ℕ → ℕ → Option ℕ → ℕ → AccountRows → AccountRows
-credited_account from until scope amount a = record a {
-  buckets = inserted (new_row a.next_bucket from until scope amount) a.buckets;
+abbrev pub credited_account : BucketKind → ℕ → ℕ → Option ℕ → ℕ → AccountRows → AccountRows
+credited_account kind from until scope amount a = record a {
+  buckets = inserted (new_row kind a.next_bucket from until scope amount) a.buckets;
   next_bucket = a.next_bucket + 1;
 }
 
@@ -225,5 +240,7 @@ abbrev pub amount_later : ℕ → (ℕ → ℕ) → ℕ → List Session → Lis
 amount_later group v t sessions groups b =
     if is_eligible group t b then b.available + lapsed_in (is_live_in v t sessions) groups b else 0
 
-abbrev pub funds_later : ℕ → (ℕ → ℕ) → ℕ → List Session → List SessionGroup → List Row → ℕ
-funds_later group v t sessions groups rows = sum_by (amount_later group v t sessions groups) rows
+abbrev pub funds_later : BucketKind → ℕ → (ℕ → ℕ) → ℕ → List Session →
+    List SessionGroup → List Row → ℕ
+funds_later kind group v t sessions groups rows =
+    sum_in kind (amount_later group v t sessions groups) rows

@@ -6,34 +6,41 @@ use Rattle.shelves.specs.Shelves.{Shelf}
 use Rattle.rating.specs.declared.report.Rated.{Rated}
 use Rattle.buckets.specs.Row.{Row}
 use Rattle.buckets.specs.Share.{parts}
-use Rattle.buckets.specs.Spend.{funds}
+use Rattle.buckets.specs.declared.kind.Due.{Due}
+use Rattle.buckets.specs.Kinds.{due}
+use Rattle.buckets.specs.Spend.{funds, allowance}
 use Rattle.buckets.specs.Holding.{paid}
 use Rattle.reserving.specs.Ledger.{Ledger, used, counter, next_charge}
 use Rattle.reserving.specs.Ledger.Fact.{Use}
 use Rattle.reserving.specs.Pricing.{cycle_at, validity_of}
 use Rattle.reserving.specs.Balance.{buckets_at}
-use Rattle.reserving.specs.Settlement.{price_of, charge_facts, passes}
+use Rattle.reserving.specs.Settlement.{price_of, due_of, charge_facts, passes}
 
 abbrev pub untagged : ℕ → List UsedPart
 untagged units = record { units = record { 0 = units }; change = None } ∷ []
 
--- what an event's units cost: they start blocks from no use on, at the period of the moment, from
--- the group's counter in the cycle on
-abbrev pub event_price : Shelf → ℕ → ℕ → ℕ → Ledger → Rated
-event_price b t group units ledger =
+-- what an event's units cost, where so many blocks are covered: they start blocks from no use on,
+-- at the period of the moment, from the group's counter in the cycle on
+abbrev pub event_price : Shelf → ℕ → ℕ → ℕ → ℕ → Ledger → Rated
+event_price b t group covered units ledger =
     price_of b t group None 0 (counter (cycle_at b group) group (cycle_at b group t) ledger)
-    (untagged units)
+    covered (untagged units)
 
--- the eligible buckets have their price
+-- what they cost beside the allowance
+abbrev pub rest_price : Shelf → ℕ → ℕ → ℕ → Ledger → Rated
+rest_price b t group units ledger =
+    event_price b t group (allowance group t (buckets_at (validity_of b) t ledger)) units ledger
+
+-- the eligible buckets have this price
 abbrev pub is_covered : Shelf → ℕ → ℕ → ℕ → Ledger → Bool
 is_covered b t group units ledger =
-    nat_le (event_price b t group units ledger).amount.0
+    nat_le (rest_price b t group units ledger).amount.0
     (funds group t (buckets_at (validity_of b) t ledger))
 
-abbrev pub charged_use : (ℕ → ℕ) → ℕ → List ℕ → ℕ → ℕ → ℕ → ℕ → Ledger → Ledger
-charged_use v t session group units blocks rated ledger =
-    record { at = t; fact = Use session group units blocks rated 0 }
-    ∷ charge_facts t (parts (paid [] group t rated rows) rows) ++ ledger
+abbrev pub charged_use : (ℕ → ℕ) → ℕ → List ℕ → ℕ → ℕ → ℕ → Due → Ledger → Ledger
+charged_use v t session group units blocks due ledger =
+    record { at = t; fact = Use session group units blocks due.blocks due.money 0 }
+    ∷ charge_facts t (parts (paid [] group t due rows) rows) ++ ledger
   where
     rows : List Row
     rows = buckets_at v t ledger
@@ -41,12 +48,12 @@ charged_use v t session group units blocks rated ledger =
 -- the ledger with a debit that is covered
 abbrev pub debited : Shelf → ℕ → List ℕ → ℕ → ℕ → Ledger → Ledger
 debited b t session group units ledger =
-    charged_use (validity_of b) t session group units (event_price b t group units ledger).blocks
-    (event_price b t group units ledger).amount.0 ledger
+    charged_use (validity_of b) t session group units (rest_price b t group units ledger).blocks
+    (due_of (rest_price b t group units ledger)) ledger
 
 -- a stored number would pass its limit
 abbrev pub debit_passes : Shelf → ℕ → List ℕ → ℕ → ℕ → Ledger → Bool
 debit_passes b t session group units ledger =
     passes (used session group ledger) units
     (counter (cycle_at b group) group (cycle_at b group t) ledger)
-    (event_price b t group units ledger).blocks (next_charge ledger)
+    (rest_price b t group units ledger).blocks (next_charge ledger)

@@ -1,6 +1,7 @@
 -- Laws over the definitions alone.
 -- Source: profile.
 use Rattle.std.specs.Prelude.{◌≡◌, ℕ, ◌≤◌, ◌&&◌, Bool, true, not, List, [], ◌∷◌}
+use Rattle.buckets.specs.declared.kind.Due.{Due}
 use Rattle.buckets.specs.Row.{Row, IsBalanced, with_end, with_release}
 use Rattle.reserving.specs.Ledger.{Ledger, is_live, held}
 use Rattle.buckets.specs.Spend.{Each, AreDistinct}
@@ -56,8 +57,8 @@ IsDeadLater = (v : ℕ → ℕ) (t u : ℕ) (ledger : Ledger) → t ≤ u →
 -- and by a settlement
 abbrev pub IsDeadSettled : Type 0
 IsDeadSettled =
-    (v : ℕ → ℕ) (t : ℕ) (session : List ℕ) (group units blocks rated : ℕ) (ledger : Ledger) →
+    (v : ℕ → ℕ) (t : ℕ) (session : List ℕ) (group units blocks : ℕ) (due : Due) (ledger : Ledger) →
     is_live v t ledger session ≡ true → Each IsBalanced (buckets_at v t ledger) →
     AreDistinct (buckets_at v t ledger) →
     AreDeadKept (buckets_at v t ledger)
-    (buckets_at v t (settled v t session group units blocks rated ledger))
+    (buckets_at v t (settled v t session group units blocks due ledger))

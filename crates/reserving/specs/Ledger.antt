@@ -4,19 +4,21 @@ use Rattle.std.specs.Prelude.{ℕ, ◌+◌, ◌*◌, Bool, false, not, ◌==◌,
 use Rattle.std.specs.Prelude.{if◌then◌else◌, List, [], ◌∷◌, Option, Some, None, unwrap_or}
 use Rattle.std.specs.Cmp.Lexicographic.{pointwise}
 use Rattle.reserving.specs.declared.session.Terms.{Terms}
+use Rattle.buckets.specs.declared.kind.BucketKind.{BucketKind}
 
--- Credit: a bucket is made. Grant, Hold and End: a session gets units of a rating group, priced by
--- the book at the grant in the tariff periods at the grant and at the switch within its validity,
--- from this place of the group's counter on; what is held for it of each bucket; it is over. Use
--- and Charge: units are reported, start blocks, and are rated; what each bucket pays. Touch and
+-- Credit: a bucket of a kind is made. Grant, Hold and End: a session gets units of a rating group,
+-- priced by the book at the grant in the tariff periods at the grant and at the switch within its
+-- validity, from this place of the group's counter on; what is held for it of each bucket; it is
+-- over. Use and Charge: units are reported, start blocks, of which allowances cover some, and the
+-- others are rated; what each bucket pays. Holds and charges are in the bucket's unit. Touch and
 -- Close: a request of the session is accepted; the session ends. Recorded: a request of the session
 -- is kept under its number. Barred: the account is barred, or no longer.
 pub data Fact : Type 0 where
-  Credit : (number from until : ℕ) (scope : Option ℕ) (amount : ℕ) → Fact
+  Credit : (kind : BucketKind) (number from until : ℕ) (scope : Option ℕ) (amount : ℕ) → Fact
   Grant : (session : List ℕ) (group : ℕ) (terms : Terms) (units counter : ℕ) → Fact
   Hold : (session : List ℕ) (group bucket amount : ℕ) → Fact
   End : (session : List ℕ) (group : ℕ) → Fact
-  Use : (session : List ℕ) (group units blocks rated uncollected : ℕ) → Fact
+  Use : (session : List ℕ) (group units blocks covered rated uncollected : ℕ) → Fact
   Charge : (bucket amount : ℕ) → Fact
   Touch : (session : List ℕ) → Fact
   Close : (session : List ℕ) → Fact
@@ -76,7 +78,7 @@ abbrev pub charged : ℕ → Ledger → ℕ
 charged n ledger = total (λ d. charge_to n d.fact) ledger
 
 abbrev pub credits_in : Fact → ℕ
-credits_in (Credit number from until scope amount) = 1
+credits_in (Credit kind number from until scope amount) = 1
 credits_in _ = 0
 
 -- the number of the next bucket
@@ -86,7 +88,7 @@ next_bucket ledger = total (λ d. credits_in d.fact) ledger + 1
 -- ---- use
 
 abbrev pub units_in : List ℕ → ℕ → Fact → ℕ
-units_in s g (Use session group units blocks rated uncollected) =
+units_in s g (Use session group units blocks covered rated uncollected) =
     if is_same session s && group == g then units else 0
 units_in s g _ = 0
 
@@ -95,7 +97,8 @@ abbrev pub used : List ℕ → ℕ → Ledger → ℕ
 used s g ledger = total (λ d. units_in s g d.fact) ledger
 
 abbrev pub blocks_in : ℕ → Fact → ℕ
-blocks_in g (Use session group units blocks rated uncollected) = if group == g then blocks else 0
+blocks_in g (Use session group units blocks covered rated uncollected) =
+    if group == g then blocks else 0
 blocks_in g _ = 0
 
 -- the account's counter of a group in a cycle: the blocks of the uses whose moments lie in it
@@ -104,7 +107,7 @@ counter cycle_at g c ledger =
     total (λ d. if cycle_at d.at == c then blocks_in g d.fact else 0) ledger
 
 abbrev pub uses_in : Fact → ℕ
-uses_in (Use session group units blocks rated uncollected) = 1
+uses_in (Use session group units blocks covered rated uncollected) = 1
 uses_in _ = 0
 
 -- the number of the next charge row: each use is one
@@ -198,7 +201,8 @@ open_grant s g ledger = inner (newest (grant_in s g) ledger)
 
 abbrev pub names_group : List ℕ → ℕ → Fact → Bool
 names_group s g (Grant session group terms units counter) = is_same session s && group == g
-names_group s g (Use session group units blocks rated uncollected) = is_same session s && group == g
+names_group s g (Use session group units blocks covered rated uncollected) =
+    is_same session s && group == g
 names_group s g _ = false
 
 -- the session has a grant or a use of the group
@@ -209,7 +213,8 @@ abbrev pub counts_group : (ℕ → ℕ) → ℕ → ℕ → Dated → Bool
 counts_group cycle_at g c d = counted_by d.fact
   where
     counted_by : Fact → Bool
-    counted_by (Use session group units blocks rated uncollected) = group == g && cycle_at d.at == c
+    counted_by (Use session group units blocks covered rated uncollected) =
+        group == g && cycle_at d.at == c
     counted_by _ = false
 
 abbrev pub any_dated : (Dated → Bool) → Ledger → Bool

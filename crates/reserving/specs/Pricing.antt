@@ -119,12 +119,13 @@ rated_parts parts =
 abbrev pub prices_by : GroupTariff → Periods → GroupPrices
 prices_by t periods = prices_in t periods.before.0 periods.after.0
 
--- what a report costs after a use so far, from a place of the counter on; a group without a tariff
--- costs nothing
-abbrev pub rated_with : Option GroupTariff → Periods → ℕ → ℕ → List UsedPart → Rated
-rated_with None periods used place parts = record { amount = record { 0 = 0 }; blocks = 0 }
-rated_with (Some t) periods used place parts =
-    rated_report (prices_by t periods) used place (rated_parts parts)
+-- what a report costs after a use so far, from a place of the counter on, where its first blocks
+-- are covered; a group without a tariff costs nothing
+abbrev pub rated_with : Option GroupTariff → Periods → ℕ → ℕ → ℕ → List UsedPart → Rated
+rated_with None periods used place covered parts =
+    record { amount = record { 0 = 0 }; blocks = 0; covered = record { 0 = 0 } }
+rated_with (Some t) periods used place covered parts =
+    rated_report (prices_by t periods) used place covered (rated_parts parts)
 
 -- ---- grants
 
@@ -137,9 +138,14 @@ abbrev pub wanted_with : Option GroupTariff → Option ℕ → ℕ
 wanted_with None requested = 0
 wanted_with (Some t) requested = wanted_units t requested
 
--- the greatest grant that the funds cover; of a group without a tariff nothing is granted
-abbrev pub grant_with : Option GroupTariff → Periods → ℕ → ℕ → Option ℕ → ℕ → Grant
-grant_with None periods used place requested funds =
-    record { blocks = record { 0 = 0 }; units = record { 0 = 0 }; amount = record { 0 = 0 } }
-grant_with (Some t) periods used place requested funds =
-    grant_of (prices_by t periods) used place (wanted_units t requested) funds
+-- the greatest grant that an allowance and the funds cover; of a group without a tariff nothing is
+-- granted
+abbrev pub grant_with : Option GroupTariff → Periods → ℕ → ℕ → Option ℕ → ℕ → ℕ → Grant
+grant_with None periods used place requested funds allowance = record {
+  allowed = record { 0 = 0 };
+  blocks = record { 0 = 0 };
+  units = record { 0 = 0 };
+  amount = record { 0 = 0 };
+}
+grant_with (Some t) periods used place requested funds allowance =
+    grant_of (prices_by t periods) used place (wanted_units t requested) funds allowance

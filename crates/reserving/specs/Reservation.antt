@@ -3,7 +3,9 @@
 -- reservation).
 use Rattle.std.specs.Prelude.{ℕ, List, [], ◌∷◌, ◌++◌, Option}
 use Rattle.buckets.specs.declared.holds.Hold.{Hold}
-use Rattle.buckets.specs.Spend.{funds}
+use Rattle.buckets.specs.declared.kind.Due.{Due}
+use Rattle.buckets.specs.Kinds.{due}
+use Rattle.buckets.specs.Spend.{funds, allowance}
 use Rattle.buckets.specs.Holding.{holds_of}
 use Rattle.reserving.specs.Ledger.{Ledger, counter}
 use Rattle.reserving.specs.Ledger.Fact.{Grant, Hold as HoldFact}
@@ -20,19 +22,24 @@ hold_facts t session group (h ∷ hs) =
     ∷ hold_facts t session group hs
 
 -- the ledger with a grant
-abbrev pub reserved : Shelf → ℕ → List ℕ → ℕ → ℕ → ℕ → Ledger → Ledger
-reserved b t session group units amount ledger =
-    hold_facts t session group (holds_of group t amount (buckets_at (validity_of b) t ledger))
+abbrev pub reserved : Shelf → ℕ → List ℕ → ℕ → ℕ → Due → Ledger → Ledger
+reserved b t session group units due ledger =
+    hold_facts t session group (holds_of group t due (buckets_at (validity_of b) t ledger))
     ++ (record {
       at = t;
       fact = Grant session group (terms_at b t) units
           (counter (cycle_at b group) group (cycle_at b group t) ledger);
     } ∷ ledger)
 
--- what a session with this use would be granted: the greatest number of new blocks, each at the
--- dearer of its two prices, that the funds cover
+-- what a grant holds: its price, and its blocks of the allowance
+abbrev pub held_due : RatedGrant → Due
+held_due g = due g.amount.0 g.allowed.0
+
+-- what a session with this use would be granted: the blocks of the allowance, and after them the
+-- greatest number of new blocks, each at the dearer of its two prices, that the funds cover
 abbrev pub grant_for : Shelf → ℕ → ℕ → ℕ → Option ℕ → Ledger → RatedGrant
 grant_for b t group before requested ledger =
     grant_with (tariff_at b t group) (periods_at b t) before
     (counter (cycle_at b group) group (cycle_at b group t) ledger) requested
     (funds group t (buckets_at (validity_of b) t ledger))
+    (allowance group t (buckets_at (validity_of b) t ledger))

@@ -1,6 +1,7 @@
 -- What settlements and grants answer, as a ledger tells it.
 -- Source: RFC 8506 sections 5.2 to 5.4; TS 32.299, session charging with unit reservation.
-use Rattle.std.specs.Prelude.{◌≡◌, ℕ, ◌+◌, ◌<◌, ◌≤◌, Bool, true, false, nat_lt, List, Option, None}
+use Rattle.std.specs.Prelude.{◌≡◌, ℕ, ◌+◌, ◌-◌, ◌<◌, ◌≤◌, Bool, true, false, nat_lt, List, Option}
+use Rattle.std.specs.Prelude.{None}
 use Rattle.std.specs.Prelude.{Some}
 use Rattle.units.specs.declared.blocks.UsedPart.{UsedPart}
 use Rattle.units.specs.Blocks.{started}
@@ -16,14 +17,16 @@ use Rattle.reserving.specs.Pricing.{tariff_at, cycle_at, switch_at, validity_at,
 use Rattle.reserving.specs.Pricing.{wanted_units, wanted_with, validity_of}
 use Rattle.reserving.specs.Balance.{buckets_at}
 use Rattle.reserving.specs.Settlement.{report_price, missing}
-use Rattle.reserving.specs.Reservation.{reserved, grant_for}
-use Rattle.reserving.specs.Debiting.{event_price, is_covered, debit_passes, debited}
+use Rattle.reserving.specs.Reservation.{reserved, grant_for, held_due}
+use Rattle.reserving.specs.Debiting.{rest_price, is_covered, debit_passes, debited}
 use Rattle.reserving.specs.Rows.{AccountRows, IsRowsOf}
 
--- the blocks that a report starts, their price, and what of it is collected and isn't
+-- the blocks that a report starts, those that allowances cover, the price of the others, and what
+-- of it is collected and isn't
 pub record IsSettlementOf (b : Shelf) (t : ℕ) (session : List ℕ) (group : ℕ)
     (used_parts : List UsedPart) (ledger : Ledger) (s : Settled) : Type 0 where
   pub blocks : s.blocks.0 ≡ (report_price b t session group used_parts ledger).blocks
+  pub covered : s.covered.0 ≡ (report_price b t session group used_parts ledger).covered.0
   pub rated : s.rated.0 ≡ (report_price b t session group used_parts ledger).amount.0
   pub uncollected : s.uncollected.0 ≡ missing b t session group used_parts ledger
   pub collected : s.collected.0 + s.uncollected.0 ≡ s.rated.0
@@ -39,16 +42,18 @@ pub record IsGrantOf (b : Shelf) (t : ℕ) (session : List ℕ) (group : ℕ) (r
   pub switch : at ≡ switch_at b t
   pub validity : seconds ≡ validity_at b t
   pub fewer : final ≡ nat_lt given (wanted_with (tariff_at b t group) requested)
-  -- as many blocks as the funds cover, and no more
+  -- beside the blocks of the allowance as many as the funds cover, and no more
   pub greatest : (x : GroupTariff) → tariff_at b t group ≡ Some x →
       IsGreatest (tiers_at x (periods_at b t).before.0) (tiers_at x (periods_at b t).after.0)
-      (counter (cycle_at b group) group (cycle_at b group t) ledger)
-      (started (used session group ledger) (wanted_units x requested) x.block)
+      (counter (cycle_at b group) group (cycle_at b group t) ledger
+      + (grant_for b t group (used session group ledger) requested ledger).allowed.0)
+      (started (used session group ledger) (wanted_units x requested) x.block
+      - (grant_for b t group (used session group ledger) requested ledger).allowed.0)
       (funds group t (buckets_at (validity_of b) t ledger))
       (grant_for b t group (used session group ledger) requested ledger).blocks.0
   pub rows : IsRowsOf
       (reserved b t session group given
-      (grant_for b t group (used session group ledger) requested ledger).amount.0 ledger) after
+      (held_due (grant_for b t group (used session group ledger) requested ledger)) ledger) after
 
 -- what a reservation answers, and what it makes of the account: nothing is granted exactly where no
 -- unit is covered
@@ -77,8 +82,9 @@ pub record IsDebitOf (b : Shelf) (t : ℕ) (session : List ℕ) (group units : �
     (after : AccountRows) (s : Settled) : Type 0 where
   pub covered : is_covered b t group units ledger ≡ true
   pub within : debit_passes b t session group units ledger ≡ false
-  pub blocks : s.blocks.0 ≡ (event_price b t group units ledger).blocks
-  pub rated : s.rated.0 ≡ (event_price b t group units ledger).amount.0
+  pub blocks : s.blocks.0 ≡ (rest_price b t group units ledger).blocks
+  pub covered_blocks : s.covered.0 ≡ (rest_price b t group units ledger).covered.0
+  pub rated : s.rated.0 ≡ (rest_price b t group units ledger).amount.0
   pub collected : s.collected.0 ≡ s.rated.0
   pub uncollected : s.uncollected.0 ≡ 0
   pub rows : IsRowsOf (debited b t session group units ledger) after

@@ -10,7 +10,11 @@ use Rattle.rating.specs.declared.report.Rated.{Rated}
 use Rattle.buckets.specs.declared.holds.Hold.{Hold}
 use Rattle.buckets.specs.Row.{Row}
 use Rattle.buckets.specs.Share.{parts}
-use Rattle.buckets.specs.Holding.{paid, uncollected}
+use Rattle.buckets.specs.declared.kind.Due.{Due}
+use Rattle.buckets.specs.Kinds.{due}
+use Rattle.buckets.specs.declared.kind.BucketKind.TheVariants.{Blocks}
+use Rattle.buckets.specs.Spend.{allowance}
+use Rattle.buckets.specs.Holding.{held_sum, paid, uncollected}
 use Rattle.reserving.specs.Ledger.{Ledger, used, counter, open_grant, next_charge}
 use Rattle.reserving.specs.Ledger.Fact.{Use, Charge, End}
 use Rattle.reserving.specs.Pricing.{cycle_at, terms_now, rated_with, validity_of}
@@ -21,37 +25,50 @@ use Rattle.reserving.specs.Sessions.{holds_at}
 abbrev pub reported : List UsedPart → ℕ
 reported used_parts = sum_by (λ p. p.units.0) used_parts
 
--- what a report costs by the terms of a grant: by the book of their number, in their periods
-abbrev pub price_by : Shelf → ℕ → Terms → ℕ → ℕ → List UsedPart → Rated
-price_by b group x used place used_parts =
-    rated_with (tariff_in b x.book group) x.periods used place used_parts
+-- what a report costs by the terms of a grant: by the book of their number, in their periods; so
+-- many blocks may be covered
+abbrev pub price_by : Shelf → ℕ → Terms → ℕ → ℕ → ℕ → List UsedPart → Rated
+price_by b group x used place covered used_parts =
+    rated_with (tariff_in b x.book group) x.periods used place covered used_parts
 
 -- what a report costs: by the terms of its grant, or without one all by the book and the period at
 -- its moment
-abbrev pub price_of : Shelf → ℕ → ℕ → Option Terms → ℕ → ℕ → List UsedPart → Rated
-price_of b t group granted used place used_parts =
-    price_by b group (unwrap_or granted (terms_now b t)) used place used_parts
+abbrev pub price_of : Shelf → ℕ → ℕ → Option Terms → ℕ → ℕ → ℕ → List UsedPart → Rated
+price_of b t group granted used place covered used_parts =
+    price_by b group (unwrap_or granted (terms_now b t)) used place covered used_parts
+
+-- the blocks that may cover a report: those that its reservation holds, and the allowance
+abbrev pub coverable : (ℕ → ℕ) → ℕ → List ℕ → ℕ → Ledger → ℕ
+coverable v t session group ledger =
+    held_sum Blocks (holds_at v t session group ledger) (buckets_at v t ledger)
+    + allowance group t (buckets_at v t ledger)
+
+-- what is charged for a report: the price of its blocks that nothing covers, and those covered
+abbrev pub due_of : Rated → Due
+due_of r = due r.amount.0 r.covered.0
 
 -- the price of a report of a live session: its grant is its reservation, its use goes on after the
 -- session's use so far, and its blocks are counted from the group's counter in the cycle on
 abbrev pub report_price : Shelf → ℕ → List ℕ → ℕ → List UsedPart → Ledger → Rated
 report_price b t session group used_parts ledger =
     price_of b t group (open_grant session group ledger) (used session group ledger)
-    (counter (cycle_at b group) group (cycle_at b group t) ledger) used_parts
+    (counter (cycle_at b group) group (cycle_at b group t) ledger)
+    (coverable (validity_of b) t session group ledger) used_parts
 
 abbrev pub charge_facts : ℕ → List Hold → Ledger
 charge_facts t [] = []
 charge_facts t (h ∷ hs) = record { at = t; fact = Charge h.bucket h.amount } ∷ charge_facts t hs
 
 -- the ledger with a settlement
-abbrev pub settled : (ℕ → ℕ) → ℕ → List ℕ → ℕ → ℕ → ℕ → ℕ → Ledger → Ledger
-settled v t session group units blocks rated ledger =
+abbrev pub settled : (ℕ → ℕ) → ℕ → List ℕ → ℕ → ℕ → ℕ → Due → Ledger → Ledger
+settled v t session group units blocks due ledger =
     record { at = t; fact = End session group }
     ∷ record {
       at = t;
-      fact = Use session group units blocks rated (uncollected holds group t rated rows);
+      fact = Use session group units blocks due.blocks due.money
+          (uncollected holds group t due.money rows);
     }
-    ∷ charge_facts t (parts (paid holds group t rated rows) rows) ++ ledger
+    ∷ charge_facts t (parts (paid holds group t due rows) rows) ++ ledger
   where
     rows : List Row
     rows = buckets_at v t ledger
@@ -66,7 +83,7 @@ settled_by b t session group [] ledger = record { at = t; fact = End session gro
 settled_by b t session group (p ∷ ps) ledger =
     settled (validity_of b) t session group (reported (p ∷ ps))
     (report_price b t session group (p ∷ ps) ledger).blocks
-    (report_price b t session group (p ∷ ps) ledger).amount.0 ledger
+    (due_of (report_price b t session group (p ∷ ps) ledger)) ledger
 
 -- what of a report's price neither its holds nor any eligible bucket pays
 abbrev pub missing : Shelf → ℕ → List ℕ → ℕ → List UsedPart → Ledger → ℕ

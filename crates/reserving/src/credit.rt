@@ -3,11 +3,14 @@ ghost use Rattle.reserving.specs.Ledger.{Ledger};
 ghost use Rattle.reserving.specs.Rows.{IsAccount, IsRowsOf};
 ghost use Rattle.reserving.specs.Requests.{credited};
 ghost use Rattle.reserving.specs.Left.{LeftRows, IsWith};
+ghost use Rattle.std.specs.Prelude.{Some};
+ghost use Rattle.buckets.specs.Kinds.{most_of, IsScopeOf};
 ghost use Rattle.reserving.specs.Changes.{advanced, credited_account};
 
 use crate::account::Account;
 use crate::fault::AccountFault;
-use units::{Moment, Money};
+use buckets::BucketKind;
+use units::{Blocks, Moment, Money};
 
 impl<'b> Account<'b> {
     /// Adds a bucket of this amount, for use from and until these moments, by one rating group or
@@ -26,42 +29,84 @@ impl<'b> Account<'b> {
     ) -> Result<u32, AccountFault>
         requires { self.old.as_of ≤ moment }
         ensures rows { OnOk result
-            (self.new ≡ advanced moment (credited_account from until scope amount self.old)) }
+            (self.new ≡ advanced moment (credited_account BucketKind.Money from until scope
+            amount self.old)) }
         ensures number { IfOk result (λ n. n ≡ self.old.next_bucket) }
         ensures ledger { OnOk result ((ledger : Ledger) → IsRowsOf ledger self.old →
-            IsRowsOf (credited moment from until scope amount ledger) self.new) }
+            IsRowsOf (credited moment BucketKind.Money from until scope amount ledger) self.new) }
         ensures left { OnOk result ((ledger : Ledger) (left : LeftRows) →
             IsWith ledger left moment self.old →
-            IsWith (credited moment from until scope amount ledger) left moment self.new) }
+            IsWith (credited moment BucketKind.Money from until scope amount ledger) left
+            moment self.new) }
         ensures limit { IsErrOf result AccountFault.Limit ↔ (4294967295 < self.old.next_bucket) }
         ensures err { OnErr result (self.new ≡ self.old) }
     {
-        let number = self.credit_now(from, until, scope, amount)?;
+        let number = self.credit_now(BucketKind::Money, from, until, scope, amount.micros())?;
+        self.advance(moment);
+        Ok(number)
+    }
+
+    /// Adds an allowance of so many blocks of a rating group, for use from and until these moments,
+    /// and answers its number (TS 32.296, account balance management function).
+    ///
+    /// # Errors
+    /// `Limit` exactly where the bucket's number would pass 4,294,967,295, else `Memory`: a growth
+    /// was refused. Then the account is unchanged.
+    pub fn allow(
+        &mut self,
+        from: Moment,
+        until: Moment,
+        group: u32,
+        blocks: Blocks,
+        moment: Moment,
+    ) -> Result<u32, AccountFault>
+        requires moment { self.old.as_of ≤ moment }
+        requires most { blocks.0 ≤ 1_000_000_000 }
+        ensures rows { OnOk result
+            (self.new ≡ advanced moment
+            (credited_account BucketKind.Blocks from until (Some group) blocks.0 self.old)) }
+        ensures number { IfOk result (λ n. n ≡ self.old.next_bucket) }
+        ensures ledger { OnOk result ((ledger : Ledger) → IsRowsOf ledger self.old →
+            IsRowsOf (credited moment BucketKind.Blocks from until (Some group) blocks.0 ledger)
+            self.new) }
+        ensures left { OnOk result ((ledger : Ledger) (left : LeftRows) →
+            IsWith ledger left moment self.old →
+            IsWith (credited moment BucketKind.Blocks from until (Some group) blocks.0 ledger) left
+            moment self.new) }
+        ensures limit { IsErrOf result AccountFault.Limit ↔ (4294967295 < self.old.next_bucket) }
+        ensures err { OnErr result (self.new ≡ self.old) }
+    {
+        let number = self.credit_now(BucketKind::Blocks, from, until, Some(group), blocks.0)?;
         self.advance(moment);
         Ok(number)
     }
 
     fn credit_now(
         &mut self,
+        kind: BucketKind,
         from: Moment,
         until: Moment,
         scope: Option<u32>,
-        amount: Money,
+        amount: u64,
     ) -> Result<u32, AccountFault>
-        ensures rows { OnOk result (self.new ≡ credited_account from until scope amount self.old) }
+        requires most { amount ≤ most_of kind }
+        requires scope { IsScopeOf kind scope }
+        ensures rows { OnOk result
+            (self.new ≡ credited_account kind from until scope amount self.old) }
         ensures account { OnOk result (IsAccount self.old) }
-        ensures in_range { OnOk result
-            ((self.old.next_bucket ≤ 4294967295) × (amount ≤ 1000000000000000)) }
+        ensures in_range { OnOk result (self.old.next_bucket ≤ 4294967295) }
         ensures number { IfOk result (λ n. n ≡ self.old.next_bucket) }
         ensures limit { IsErrOf result AccountFault.Limit ↔ (4294967295 < self.old.next_bucket) }
         ensures err { OnErr result (self.new ≡ self.old) }
     {
-        // For the prover alone: looking at the value makes known here what its type keeps.
-        let _in_range = amount.micros();
         let Ok(number) = u32::try_from(self.rows.next_bucket) else {
             return Err(AccountFault::Limit);
         };
-        let Ok(()) = self.rows.purse.credit(number, from, until, scope, amount) else {
+        let Ok(()) = self
+            .rows
+            .purse
+            .add(number, kind, from, until, scope, amount)
+        else {
             return Err(AccountFault::Memory);
         };
         self.rows.next_bucket += 1;

@@ -4,11 +4,14 @@ ghost use Rattle.buckets.specs.Holding.{uncollected};
 ghost use Rattle.reserving.specs.Ledger.{Ledger};
 ghost use Rattle.reserving.specs.Pricing.{cycle_at};
 ghost use Rattle.reserving.specs.Sessions.{session_in, group_in, counter_in};
-ghost use Rattle.reserving.specs.Debiting.{event_price, is_covered, debit_passes};
-ghost use Rattle.reserving.specs.Rows.{IsRowsOf};
+ghost use Rattle.buckets.specs.Kinds.{due};
+ghost use Rattle.reserving.specs.Settlement.{due_of};
+ghost use Rattle.reserving.specs.Debiting.{event_price, rest_price, is_covered, debit_passes};
+ghost use Rattle.reserving.specs.Rows.{IsAccount, IsRowsOf};
 ghost use Rattle.reserving.specs.Left.{LeftRows, joined, IsBeside, IsWith};
 ghost use Rattle.reserving.specs.Results.{IsDebit};
 ghost use Rattle.reserving.specs.Changes.{advanced, used_in, count_in, event_price_in};
+ghost use Rattle.reserving.specs.Changes.{rest_price_in};
 ghost use Rattle.reserving.specs.Changes.{debited_account};
 
 use crate::account::Account;
@@ -19,32 +22,58 @@ use crate::settle::{RatedUse, Settled};
 use buckets::{Charged, Holds};
 use identifiers::SessionId;
 use rating::Rated;
-use units::{Amount, Moment, Units};
+use units::{Amount, Blocks, Moment, Units};
 
 impl<'b> Account<'b> {
     /// What the units of an event cost: they start blocks from no use on, at the period of the
     /// moment (RFC 8506 section 6.1; TS 32.296, rating function). It takes no memory and changes
     /// nothing.
     pub fn quote(&self, group: u32, units: Units, moment: Moment) -> Amount
-        ensures rows { result.0 ≡ (event_price_in group units.0 moment self.now).amount.0 }
+        ensures rows { result.0 ≡ (event_price_in group 0 units.0 moment self.now).amount.0 }
         ensures ledger { (ledger : Ledger) → IsRowsOf ledger self.now →
-            result.0 ≡ (event_price self.now.shelf moment group units.0 ledger).amount.0 }
+            result.0 ≡ (event_price self.now.shelf moment group 0 units.0 ledger).amount.0 }
         ensures left { (ledger : Ledger) (left : LeftRows) → IsWith ledger left moment self.now →
-            result.0 ≡ (event_price self.now.shelf moment group units.0 ledger).amount.0 }
+            result.0 ≡ (event_price self.now.shelf moment group 0 units.0 ledger).amount.0 }
     {
-        self.event_price(group, units, moment).amount
+        self.event_price(group, Blocks(0), units, moment).amount
     }
 
-    /// The blocks that an event's units start, and what these cost. A group that the book at the
-    /// moment doesn't have costs nothing.
-    fn event_price(&self, group: u32, units: Units, moment: Moment) -> Rated
-        ensures { result ≡ event_price_in group units.0 moment self.now }
+    /// What those of them cost that the allowance at the moment doesn't cover (RFC 8506 section
+    /// 6.2). It takes no memory and changes nothing.
+    pub fn quote_rest(&self, group: u32, units: Units, moment: Moment) -> Amount
+        requires { self.now.as_of ≤ moment }
+        ensures rows { result.0 ≡ (rest_price_in group units.0 moment self.now).amount.0 }
+        ensures ledger { (ledger : Ledger) → IsRowsOf ledger self.now →
+            result.0 ≡ (rest_price self.now.shelf moment group units.0 ledger).amount.0 }
+        ensures left { (ledger : Ledger) (left : LeftRows) → IsWith ledger left moment self.now →
+            result.0 ≡ (rest_price self.now.shelf moment group units.0 ledger).amount.0 }
+    {
+        self.rest_price(group, units, moment).amount
+    }
+
+    /// The blocks that an event's units start, and what those cost that the allowance doesn't
+    /// cover.
+    fn rest_price(&self, group: u32, units: Units, moment: Moment) -> Rated
+        requires { self.now.as_of ≤ moment }
+        ensures value { result ≡ rest_price_in group units.0 moment self.now }
+        ensures account { IsAccount self.now }
+    {
+        // For the prover alone: looking at the value makes known here what its type keeps.
+        let _kept = self.rows.next_charge;
+        self.event_price(group, self.allowance(group, moment), units, moment)
+    }
+
+    /// The blocks that an event's units start, and what these cost, where the first are covered. A
+    /// group that the book doesn't have costs nothing.
+    fn event_price(&self, group: u32, covered: Blocks, units: Units, moment: Moment) -> Rated
+        ensures { result ≡ event_price_in group covered.0 units.0 moment self.now }
     {
         let terms = terms_now(self.shelf, moment);
         let Some(prices) = prices_by(self.shelf, group, terms) else {
             return Rated {
                 amount: Amount(0),
                 blocks: 0,
+                covered: Blocks(0),
             };
         };
         let tally = Tally {
@@ -53,12 +82,12 @@ impl<'b> Account<'b> {
             indeterminate: 0,
             after: 0,
         };
-        price(&prices, 0, self.place_at(group, moment), &tally)
+        price(&prices, 0, self.place_at(group, moment), covered, &tally)
     }
 
-    /// Charges the units of an event at once, where the eligible buckets cover their price whole
-    /// (RFC 8506 section 6.3; TS 32.299, immediate event charging). None: they don't, and nothing
-    /// has changed.
+    /// Charges the units of an event at once, where the eligible buckets cover the price of what
+    /// the allowance leaves of their blocks (RFC 8506 section 6.3; TS 32.299, immediate event
+    /// charging). None: they don't, and nothing has changed.
     ///
     /// # Errors
     /// `Limit` only where the price is covered and the session's use, the group's counter or the
@@ -89,8 +118,8 @@ impl<'b> Account<'b> {
             (debit_passes self.old.shelf moment session.now group units.0 ledger ≡ true) }
         ensures by_rows { IfOk result
             (λ s. IfSome s (λ given. self.new ≡ debited_account session.now group units.0
-            (event_price_in group units.0 moment self.old).blocks
-            (event_price_in group units.0 moment self.old).amount.0 (advanced moment self.old))) }
+            (rest_price_in group units.0 moment self.old).blocks
+            (due_of (rest_price_in group units.0 moment self.old)) (advanced moment self.old))) }
         ensures uncovered { IfOk result (λ s. s ≡ None → self.new ≡ self.old) }
         ensures number { IfOk result
             (λ s. IfSome s (λ given. self.old.next_charge ≤ 4_294_967_295)) }
@@ -100,7 +129,7 @@ impl<'b> Account<'b> {
         ensures tariff { self.new.shelf ≡ self.old.shelf }
         ensures err { OnErr result (self.new ≡ self.old) }
     {
-        let price = self.event_price(group, units, moment);
+        let price = self.rest_price(group, units, moment);
         if self.funds(group, moment) < price.amount {
             return Ok(None);
         }
@@ -113,6 +142,7 @@ impl<'b> Account<'b> {
         let charged = self.charge_use(session, group, cycle, rated);
         Ok(Some(Settled {
             blocks: rated.blocks,
+            covered: rated.covered,
             rated: rated.amount,
             collected: charged.collected,
             uncollected: charged.uncollected,
@@ -136,18 +166,21 @@ impl<'b> Account<'b> {
             ≤ 4_000_000_000_000_000_000 }
         requires charges { self.old.next_charge < 4_294_967_296 }
         ensures rows { self.new
-            ≡ debited_account session.now group rated.units.0 rated.blocks.0 rated.amount.0
-            self.old }
+            ≡ debited_account session.now group rated.units.0 rated.blocks.0
+            (due rated.amount.0 rated.covered.0) self.old }
         ensures uncollected { result.uncollected.0
             ≡ uncollected [] group self.old.as_of rated.amount.0 self.old.buckets }
         ensures collected { result.collected.0 + result.uncollected.0 ≡ rated.amount.0 }
     {
         grouping::count_units(&mut self.rows.groups, session, group, rated.units.0);
         let none_held = Holds::none(self.rows.alloc);
-        let charged = self
-            .rows
-            .purse
-            .settle(none_held, group, self.rows.as_of, rated.amount);
+        let charged = self.rows.purse.settle(
+            none_held,
+            group,
+            self.rows.as_of,
+            rated.amount,
+            rated.covered,
+        );
         grouping::count_blocks(&mut self.rows.counters, group, cycle, rated.blocks.0);
         self.rows.next_charge += 1;
         charged

@@ -1,11 +1,14 @@
 ghost use Rattle.std.specs.Prelude.{◌≡◌, ◌≤◌, ◌<◌, ◌^◌, true, if◌then◌else◌};
-ghost use Rattle.buckets.specs.Spend.{Each, IsSound, funds};
+ghost use Rattle.buckets.specs.Kinds.{most_of, is_alike};
+ghost use Rattle.buckets.specs.Share.{sum_in};
+ghost use Rattle.buckets.specs.Spend.{Each, IsSound, funds, allowance};
 ghost use Rattle.buckets.specs.Row.{eligible_amount, is_eligible};
 ghost use Rattle.buckets.specs.Holding.{held_in};
 ghost use Rattle.reserving.specs.Ledger.{Ledger};
 ghost use Rattle.reserving.specs.Balance.{buckets_at};
 ghost use Rattle.reserving.specs.Sessions.{held_by, is_live_in, session_before};
-ghost use Rattle.reserving.specs.Rows.{AreAscending, IsRowsOf};
+ghost use Rattle.std.specs.Prelude.{◌*◌, ◌+◌};
+ghost use Rattle.reserving.specs.Rows.{AreAscending, IsAccount, IsRowsOf};
 ghost use Rattle.reserving.specs.Left.{LeftRows, IsWith};
 ghost use Rattle.reserving.specs.Changes.{advanced};
 ghost use Rattle.reserving.specs.Lapsed.{held_for, lapsed_for, lapsed_funds};
@@ -14,9 +17,9 @@ ghost use Rattle.reserving.specs.Pricing.{validity_of};
 use crate::account::Account;
 use crate::advance::is_live;
 use crate::session::{Session, SessionGroup};
-use buckets::{Bucket, Holds};
+use buckets::{Bucket, BucketKind, Holds};
 use shelves::TariffShelf;
-use units::{Amount, Moment};
+use units::{Amount, Blocks, Moment};
 
 impl<'b> Account<'b> {
     /// What the buckets that are eligible for the rating group at the moment have available then,
@@ -30,42 +33,67 @@ impl<'b> Account<'b> {
         ensures left { (ledger : Ledger) (left : LeftRows) → IsWith ledger left moment self.now →
             result.0 ≡ funds group moment (buckets_at (validity_of self.now.shelf) moment ledger) }
     {
+        Amount(self.sum_later(BucketKind::Money, group, moment))
+    }
+
+    /// The blocks that the allowances of the rating group have available at the moment (TS 32.296,
+    /// account balance management function). It takes no memory and changes nothing.
+    pub fn allowance(&self, group: u32, moment: Moment) -> Blocks
+        requires { self.now.as_of ≤ moment }
+        ensures rows { result.0 ≡ allowance group moment (advanced moment self.now).buckets }
+        ensures ledger { (ledger : Ledger) → IsRowsOf ledger self.now →
+            result.0 ≡ allowance group moment
+            (buckets_at (validity_of self.now.shelf) moment ledger) }
+        ensures left { (ledger : Ledger) (left : LeftRows) → IsWith ledger left moment self.now →
+            result.0 ≡ allowance group moment
+            (buckets_at (validity_of self.now.shelf) moment ledger) }
+        ensures most { result.0 ≤ 4_294_967_296_000_000_000 }
+    {
+        Blocks(self.sum_later(BucketKind::Blocks, group, moment) as u64)
+    }
+
+    /// What the buckets of a kind that are eligible for the rating group at the moment have
+    /// available then.
+    fn sum_later(&self, kind: BucketKind, group: u32, moment: Moment) -> u128
+        requires { self.now.as_of ≤ moment }
+        ensures rows { result
+            ≡ sum_in kind (eligible_amount group moment) (advanced moment self.now).buckets }
+        ensures most { result ≤ 4_294_967_296 * most_of kind }
+        ensures account { IsAccount self.now }
+    {
         let buckets = self.rows.purse.buckets();
         let given_up = lapsed_funds(
             buckets,
             &self.rows.groups,
             &self.rows.sessions,
+            kind,
             group,
             self.shelf,
             moment,
         );
-        Amount(free_funds(buckets, group, moment) + given_up)
+        free_funds(buckets, kind, group, moment) + given_up
     }
 }
 
-/// What the eligible buckets have available.
-fn free_funds(buckets: &[Bucket], group: u32, at: Moment) -> u128
-    ensures value { result ≡ funds group at buckets.now }
+/// What the eligible buckets of a kind have available.
+fn free_funds(buckets: &[Bucket], kind: BucketKind, group: u32, at: Moment) -> u128
+    ensures value { result ≡ sum_in kind (eligible_amount group at) buckets.now }
     ensures most { result < 2 ^ 126 }
 {
     let mut total = 0;
     for bucket in buckets {
-        total += free_of(bucket, group, at);
+        total += free_of(bucket, kind, group, at);
     }
     total
 }
 
-/// What an eligible bucket has available.
-fn free_of(bucket: &Bucket, group: u32, at: Moment) -> u128
-    ensures value { result ≡ eligible_amount group at bucket.now }
+/// What an eligible bucket has available, where it is of the kind.
+fn free_of(bucket: &Bucket, kind: BucketKind, group: u32, at: Moment) -> u128
+    ensures value { result
+        ≡ if is_alike bucket.now.kind kind then eligible_amount group at bucket.now else 0 }
     ensures most { result ≤ 1_000_000_000_000_000 }
 {
-    let available = bucket.available() as u128;
-    if bucket.is_eligible(group, at) {
-        available
-    } else {
-        0
-    }
+    bucket.eligible_in(kind, group, at) as u128
 }
 
 /// What the reservations of sessions that have ended by the moment hold of the eligible buckets.
@@ -73,6 +101,7 @@ fn lapsed_funds(
     buckets: &[Bucket],
     groups: &[SessionGroup],
     sessions: &[Session],
+    kind: BucketKind,
     group: u32,
     shelf: &TariffShelf,
     at: Moment,
@@ -81,15 +110,16 @@ fn lapsed_funds(
     requires held { Each (λ b. held_by (λ s. true) groups.now b ≡ b.reserved) buckets.now }
     requires order { AreAscending session_before sessions.now }
     ensures value { result
-        ≡ lapsed_funds (is_live_in (validity_of shelf.now) at sessions.now) group at
-        groups.now buckets.now }
+        ≡ lapsed_funds (is_live_in (validity_of shelf.now) at sessions.now) kind group at
+        groups.now
+        buckets.now }
     ensures most { result < 2 ^ 126 }
 {
     // For the prover alone: looking at the value makes known here what its type keeps.
     let _count = buckets.len();
     let mut total = 0;
     for row in groups {
-        total += lapsed_of(buckets, row, sessions, group, shelf, at);
+        total += lapsed_of(buckets, row, sessions, kind, group, shelf, at);
     }
     total
 }
@@ -100,16 +130,17 @@ fn lapsed_of(
     buckets: &[Bucket],
     row: &SessionGroup,
     sessions: &[Session],
+    kind: BucketKind,
     group: u32,
     shelf: &TariffShelf,
     at: Moment,
 ) -> u128
-    requires within { lapsed_for (is_live_in (validity_of shelf.now) at sessions.now) group at
-        row.now buckets.now
-        < 2 ^ 126 }
+    requires within { lapsed_for (is_live_in (validity_of shelf.now) at sessions.now) kind group at
+        row.now
+        buckets.now < 2 ^ 126 }
     requires order { AreAscending session_before sessions.now }
     ensures { result ≡ lapsed_for (is_live_in (validity_of shelf.now) at sessions.now)
-        group at row.now
+        kind group at row.now
         buckets.now }
 {
     let Some(reservation) = &row.reservation else {
@@ -118,26 +149,29 @@ fn lapsed_of(
     if is_live(sessions, &row.session, shelf, at) {
         return 0;
     }
-    held_for(buckets, &reservation.holds, group, at)
+    held_for(buckets, &reservation.holds, kind, group, at)
 }
 
 /// What holds have of the eligible buckets.
-fn held_for(buckets: &[Bucket], holds: &Holds, group: u32, at: Moment) -> u128
-    requires { held_for group at holds.now buckets.now < 2 ^ 126 }
-    ensures { result ≡ held_for group at holds.now buckets.now }
+fn held_for(buckets: &[Bucket], holds: &Holds, kind: BucketKind, group: u32, at: Moment) -> u128
+    requires { held_for kind group at holds.now buckets.now < 2 ^ 126 }
+    ensures { result ≡ held_for kind group at holds.now buckets.now }
 {
     let mut total = 0;
     for bucket in buckets {
-        total += held_if(bucket, holds, group, at);
+        total += held_if(bucket, holds, kind, group, at);
     }
     total
 }
 
-/// What holds have of a bucket, where it is eligible.
-fn held_if(bucket: &Bucket, holds: &Holds, group: u32, at: Moment) -> u128
-    ensures { result ≡ if is_eligible group at bucket.now then held_in holds.now bucket.now else 0 }
+/// What holds have of a bucket, where it is of the kind and eligible.
+fn held_if(bucket: &Bucket, holds: &Holds, kind: BucketKind, group: u32, at: Moment) -> u128
+    ensures { result
+        ≡ if is_alike bucket.now.kind kind
+        then (if is_eligible group at bucket.now then held_in holds.now bucket.now else 0)
+        else 0 }
 {
-    if bucket.is_eligible(group, at) {
+    if bucket.counts(kind) && bucket.is_eligible(group, at) {
         holds.of(bucket)
     } else {
         0

@@ -2,6 +2,7 @@
 
 ghost use Rattle.std.specs.Prelude.{◌≡◌, ℕ, ◌+◌, ◌≤◌, ◌^◌, ◌<◌, true, is_some, OnOk, OnErr};
 ghost use Rattle.std.specs.Prelude.{position, map, option_map, length, vec_len, vec_capacity};
+ghost use Rattle.buckets.specs.Holding.{IsWithin, held_sum};
 ghost use Rattle.reserving.specs.Sessions.{is_of, group_in, is_counter, counter_in, holds_in};
 ghost use Rattle.reserving.specs.Sessions.{group_before, counter_before};
 ghost use Rattle.reserving.specs.Rows.{AreApart, AreAscending};
@@ -11,9 +12,10 @@ ghost use Rattle.reserving.specs.Prepared.{with_group, with_counter};
 
 use crate::searching::{seek_counter, seek_group};
 use crate::session::{Counter, Reservation, SessionGroup, Terms};
-use buckets::Holds;
+use buckets::{BucketKind, Holds, Purse};
 use identifiers::SessionId;
 use std::alloc::{AllocError, Global};
+use units::Blocks;
 
 /// The place of the row of a session's group.
 fn place_of(groups: &[SessionGroup], session: &SessionId, group: u32) -> Option<usize>
@@ -66,6 +68,38 @@ fn terms_in(row: &SessionGroup) -> Option<Terms>
     match &row.reservation {
         Some(reservation) => Some(reservation.terms),
         None => None,
+    }
+}
+
+/// The blocks that the reservation of a session's group holds.
+pub(crate) fn held_blocks_of(
+    groups: &[SessionGroup],
+    purse: &Purse,
+    session: &SessionId,
+    group: u32,
+) -> Blocks
+    requires order { AreAscending group_before groups.now }
+    requires within { IsWithin (reserved_in session.now group groups.now) purse.now }
+    ensures value { result.0
+        ≡ held_sum BucketKind.Blocks (reserved_in session.now group groups.now) purse.now }
+    ensures most { result.0 ≤ 4_294_967_296_000_000_000 }
+{
+    let Some(place) = place_of(groups, session, group) else {
+        return Blocks(0);
+    };
+    held_blocks_in(&groups[place], purse)
+}
+
+/// The blocks that a row's reservation holds.
+fn held_blocks_in(row: &SessionGroup, purse: &Purse) -> Blocks
+    requires { IsWithin (holds_in row.now.reservation) purse.now }
+    ensures value { result.0
+        ≡ held_sum BucketKind.Blocks (holds_in row.now.reservation) purse.now }
+    ensures most { result.0 ≤ 4_294_967_296_000_000_000 }
+{
+    match &row.reservation {
+        Some(reservation) => purse.held_blocks(&reservation.holds),
+        None => Blocks(0),
     }
 }
 

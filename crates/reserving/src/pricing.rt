@@ -19,7 +19,7 @@ use crate::session::Terms;
 use rating::{Part, Periods, Rated, rate_report};
 use shelves::TariffShelf;
 use tariffs::{Prices, Side, Tariff, TariffBook};
-use units::{Moment, TariffChangeUsage, Units, UsedPart};
+use units::{Blocks, Moment, TariffChangeUsage, Units, UsedPart};
 
 /// The last moment that there is, 43,200 seconds past the last one of commands.
 const LAST_MOMENT: u64 = 4_102_488_000;
@@ -195,12 +195,12 @@ fn part(side: Side, units: u128) -> Part
 }
 
 /// What a report costs by the prices of its group, after a use so far and from a place of the
-/// counter on.
-pub(crate) fn price(prices: &Prices, used: u64, place: u64, tally: &Tally) -> Rated
+/// counter on, where its first blocks are covered.
+pub(crate) fn price(prices: &Prices, used: u64, place: u64, covered: Blocks, tally: &Tally) -> Rated
     requires { tally.now.untagged + tally.now.before + tally.now.indeterminate + tally.now.after
         < 2 ^ 64 }
     ensures { result
-        ≡ rated_report prices.now used place
+        ≡ rated_report prices.now used place covered.0
         (four_parts tally.now.untagged tally.now.before tally.now.indeterminate
         tally.now.after) }
 {
@@ -210,7 +210,7 @@ pub(crate) fn price(prices: &Prices, used: u64, place: u64, tally: &Tally) -> Ra
         part(Side::Before, tally.indeterminate),
         part(Side::After, tally.after),
     ];
-    rate_report(prices, Units(used), place, &parts)
+    rate_report(prices, Units(used), place, covered, &parts)
 }
 
 /// The units that are wanted of a group: what is requested, or its slice, and never more than its

@@ -1,13 +1,13 @@
 ghost use Rattle.std.specs.Prelude.{◌≡◌, ℕ, ◌+◌, ◌*◌, ◌≤◌, ◌<◌, ◌==◌, None, true, false, is_some};
 ghost use Rattle.std.specs.Prelude.{nat_lt, length, option_map, OnOk, OnErr, IfOk};
-ghost use Rattle.buckets.specs.Spend.{funds};
+ghost use Rattle.buckets.specs.Spend.{funds, allowance};
 ghost use Rattle.shelves.specs.Shelves.{book_at};
 ghost use Rattle.reserving.specs.Ledger.{Ledger};
 ghost use Rattle.reserving.specs.Sessions.{group_in, is_live_in};
 ghost use Rattle.reserving.specs.Pricing.{tariff_at, cycle_at, periods_at, terms_at, wanted_with};
 ghost use Rattle.reserving.specs.Pricing.{grant_with};
 ghost use Rattle.reserving.specs.Pricing.{validity_of};
-ghost use Rattle.reserving.specs.Reservation.{grant_for};
+ghost use Rattle.reserving.specs.Reservation.{grant_for, held_due};
 ghost use Rattle.reserving.specs.Quotas.{IsQuota};
 ghost use Rattle.reserving.specs.Changes.{advanced, used_in, count_in, reserved_account};
 ghost use Rattle.reserving.specs.Prepared.{with_group_row, reservation_in};
@@ -104,7 +104,7 @@ impl<'b> Account<'b> {
             book: self.shelf.number_at(moment),
             periods: window.periods,
         };
-        self.hold_quota(room, session, group, terms, quota.grant.amount);
+        self.hold_quota(room, session, group, terms, quota.grant);
         Ok(Granted::Units {
             units: quota.grant.units,
             switch: window.switch,
@@ -122,7 +122,8 @@ impl<'b> Account<'b> {
             (grant_with (tariff_at self.now.shelf moment group) (periods_at self.now.shelf moment) 0
             (count_in group (cycle_at self.now.shelf group moment) self.now.counters)
             (option_map (λ u. u.0) requested)
-            (funds group moment (advanced moment self.now).buckets)).units.0 }
+            (funds group moment (advanced moment self.now).buckets)
+            (allowance group moment (advanced moment self.now).buckets)).units.0 }
         ensures ledger { (ledger : Ledger) → IsRowsOf ledger self.now →
             result ≡ nat_lt 0
             (grant_for self.now.shelf moment group 0 (option_map (λ u. u.0) requested)
@@ -153,7 +154,9 @@ impl<'b> Account<'b> {
             (used_in session.now group self.now.groups) group
             (option_map (λ u. u.0) requested) periods
             (count_in group (cycle_at self.now.shelf group moment) self.now.counters)
-            (funds group moment (advanced moment self.now).buckets) result.wanted result.grant }
+            (funds group moment (advanced moment self.now).buckets)
+            (allowance group moment (advanced moment self.now).buckets) result.wanted
+            result.grant }
     {
         let used = grouping::used_of(&self.rows.groups, session, group);
         self.quota_after(used, group, requested, periods, moment)
@@ -173,7 +176,9 @@ impl<'b> Account<'b> {
         ensures { IsQuota (book_at self.now.shelf moment) used group
             (option_map (λ u. u.0) requested) periods
             (count_in group (cycle_at self.now.shelf group moment) self.now.counters)
-            (funds group moment (advanced moment self.now).buckets) result.wanted result.grant }
+            (funds group moment (advanced moment self.now).buckets)
+            (allowance group moment (advanced moment self.now).buckets) result.wanted
+            result.grant }
     {
         let Some(prices) = self
             .shelf
@@ -185,7 +190,8 @@ impl<'b> Account<'b> {
         let wanted = wanted_of(prices.tariff(), requested);
         let place = self.place_at(group, moment);
         let funds = self.funds(group, moment);
-        let grant = greatest_grant(&prices, Units(used), place, Units(wanted), funds);
+        let allowance = self.allowance(group, moment);
+        let grant = greatest_grant(&prices, Units(used), place, Units(wanted), funds, allowance);
         Quota { wanted, grant }
     }
 
@@ -209,7 +215,7 @@ impl<'b> Account<'b> {
         session: &SessionId,
         group: u32,
         terms: Terms,
-        amount: Amount,
+        grant: Grant,
     )
         requires terms { terms ≡ terms_at self.old.shelf self.old.as_of }
         requires of_book { AreOfBook (book_at self.old.shelf self.old.as_of) terms.periods }
@@ -219,13 +225,14 @@ impl<'b> Account<'b> {
         requires live { is_live_in (validity_of self.old.shelf) self.old.as_of self.old.sessions
             session.now ≡ true }
         requires room { length self.old.buckets ≤ room }
-        requires covered { amount.0 ≤ funds group self.old.as_of self.old.buckets }
-        ensures { self.new ≡ reserved_account session.now group amount.0 self.old }
+        requires covered { grant.amount.0 ≤ funds group self.old.as_of self.old.buckets }
+        requires allowed { grant.allowed.0 ≤ allowance group self.old.as_of self.old.buckets }
+        ensures { self.new ≡ reserved_account session.now group (held_due grant) self.old }
     {
         let holds = self
             .rows
             .purse
-            .hold_in(room, group, self.rows.as_of, amount);
+            .hold_in(room, group, self.rows.as_of, grant.amount, grant.allowed);
         grouping::reserve_group(&mut self.rows.groups, session, group, terms, holds);
     }
 }
@@ -236,6 +243,7 @@ impl Quota {
         ensures wanted { result.wanted ≡ 0 }
         ensures grant { result.grant
             ≡ record {
+              allowed = record { 0 = 0 };
               blocks = record { 0 = 0 };
               units = record { 0 = 0 };
               amount = record { 0 = 0 };
@@ -244,6 +252,7 @@ impl Quota {
         Quota {
             wanted: 0,
             grant: Grant {
+                allowed: Blocks(0),
                 blocks: Blocks(0),
                 units: Units(0),
                 amount: Amount(0),

@@ -7,7 +7,7 @@ use crate::grouping;
 use crate::live::cycle_of;
 use crate::pricing::{Tally, price, prices_by, reported_units, tally_of, terms_now};
 use crate::session::Terms;
-use buckets::Charged;
+use buckets::{BucketKind, Charged};
 use identifiers::SessionId;
 use rating::Rated;
 use units::{Amount, Blocks, Moment, Units, UsedPart};
@@ -18,7 +18,9 @@ use units::{Amount, Blocks, Moment, Units, UsedPart};
 pub struct Settled {
     /// The blocks that the report started.
     pub blocks: Blocks,
-    /// What they cost.
+    /// Those of them that the reservation's blocks and the allowances covered.
+    pub covered: Blocks,
+    /// What the others cost.
     pub rated: Amount,
     /// What the reservation's holds and the eligible buckets paid.
     pub collected: Amount,
@@ -36,11 +38,13 @@ const MOST_COUNTED: u128 = 4_000_000_000_000_000_000;
 /// The greatest number of a charge.
 const LAST_CHARGE: u64 = 4_294_967_295;
 
-/// A use as it is rated: its units, the blocks that they start, and what these cost.
+/// A use as it is rated: its units, the blocks that they start, those of them that are covered, and
+/// what the others cost.
 #[derive(Clone, Copy)]
 pub(crate) struct RatedUse {
     pub(crate) units: Units,
     pub(crate) blocks: Blocks,
+    pub(crate) covered: Blocks,
     pub(crate) amount: Amount,
 }
 
@@ -55,7 +59,9 @@ impl<'b> Account<'b> {
     ghost use Rattle.reserving.specs.Placed.{AreOfShelf};
     ghost use Rattle.reserving.specs.Left.{LeftRows, IsWith};
     ghost use Rattle.reserving.specs.Results.{IsSettlementOf};
-    ghost use Rattle.buckets.specs.Holding.{uncollected};
+    ghost use Rattle.buckets.specs.Kinds.{due};
+    ghost use Rattle.buckets.specs.Holding.{uncollected, held_sum};
+    ghost use Rattle.reserving.specs.Changes.{coverable_in};
     ghost use Rattle.units.specs.declared.blocks.UsedPart.{UsedPart};
     ghost use Rattle.units.specs.declared.blocks.TariffChangeUsage.TheVariants.{
       UnitBeforeTariffChange,
@@ -131,6 +137,7 @@ impl<'b> Account<'b> {
             self.end_reservation(session, group);
             return Ok(Settled {
                 blocks: Blocks(0),
+                covered: Blocks(0),
                 rated: Amount(0),
                 collected: Amount(0),
                 uncollected: Amount(0),
@@ -145,6 +152,7 @@ impl<'b> Account<'b> {
         let charged = self.settle_use(session, group, cycle, rated);
         Ok(Settled {
             blocks: rated.blocks,
+            covered: rated.covered,
             rated: rated.amount,
             collected: charged.collected,
             uncollected: charged.uncollected,
@@ -217,6 +225,7 @@ impl<'b> Account<'b> {
         parts: &[UsedPart],
         moment: Moment,
     ) -> Option<RatedUse>
+        requires { self.now.as_of ≤ moment }
         ensures account { IsAccount self.now }
         ensures none { result ≡ None →
             passes (used_in session.now group self.now.groups) (reported parts.now)
@@ -230,6 +239,8 @@ impl<'b> Account<'b> {
         ensures units { IfSome result (λ r. r.units.0 ≡ reported parts.now) }
         ensures blocks { IfSome result
             (λ r. r.blocks.0 ≡ (price_in session.now group moment parts.now self.now).blocks) }
+        ensures covered { IfSome result
+            (λ r. r.covered.0 ≡ (price_in session.now group moment parts.now self.now).covered.0) }
         ensures amount { IfSome result
             (λ r. r.amount.0 ≡ (price_in session.now group moment parts.now self.now).amount.0) }
     {
@@ -240,7 +251,8 @@ impl<'b> Account<'b> {
         }
         let tally = tally_of(parts);
         let place = self.place_at(group, moment);
-        let rated = self.price(session, group, used, place, &tally, moment);
+        let covered = self.coverable(session, group, moment);
+        let rated = self.price(session, group, used, place, covered, &tally, moment);
         self.within_limits(session, group, Units(units as u64), rated, moment)
     }
 
@@ -264,6 +276,7 @@ impl<'b> Account<'b> {
             self.now.next_charge ≡ false) }
         ensures units { IfSome result (λ r. r.units ≡ units) }
         ensures blocks { IfSome result (λ r. r.blocks.0 ≡ rated.blocks) }
+        ensures covered { IfSome result (λ r. r.covered ≡ rated.covered) }
         ensures amount { IfSome result (λ r. r.amount ≡ rated.amount) }
     {
         let used = grouping::used_of(&self.rows.groups, session, group) as u128 + units.0 as u128;
@@ -275,8 +288,28 @@ impl<'b> Account<'b> {
         Some(RatedUse {
             units,
             blocks: Blocks(rated.blocks as u64),
+            covered: rated.covered,
             amount: rated.amount,
         })
+    }
+
+    /// The blocks that may cover a report: those that its reservation holds, and the allowance.
+    fn coverable(&self, session: &SessionId, group: u32, moment: Moment) -> Blocks
+        requires { self.now.as_of ≤ moment }
+        ensures { result.0 ≡ coverable_in session.now group moment self.now }
+    {
+        let held = self.held_blocks(session, group);
+        Blocks(held.0 + self.allowance(group, moment).0)
+    }
+
+    /// The blocks that the reservation of a session's group holds.
+    fn held_blocks(&self, session: &SessionId, group: u32) -> Blocks
+        ensures value { result.0
+            ≡ held_sum BucketKind.Blocks (reserved_in session.now group self.now.groups)
+            self.now.buckets }
+        ensures most { result.0 ≤ 4_294_967_296_000_000_000 }
+    {
+        grouping::held_blocks_of(&self.rows.groups, &self.rows.purse, session, group)
     }
 
     /// What a report costs: by the terms of its grant, without one by the book and the period at the
@@ -287,6 +320,7 @@ impl<'b> Account<'b> {
         group: u32,
         used: u64,
         place: u64,
+        covered: Blocks,
         tally: &Tally,
         moment: Moment,
     ) -> Rated
@@ -298,16 +332,17 @@ impl<'b> Account<'b> {
             tally.now.indeterminate ≡ units_of (Some UnitIndeterminate) parts →
             tally.now.after ≡ units_of (Some UnitAfterTariffChange) parts →
             result ≡ price_of self.now.shelf moment group
-            (terms_in session.now group self.now.groups) used place parts }
+            (terms_in session.now group self.now.groups) used place covered.0 parts }
     {
         let terms = self.terms(session, group, moment);
         let Some(prices) = prices_by(self.shelf, group, terms) else {
             return Rated {
                 amount: Amount(0),
                 blocks: 0,
+                covered: Blocks(0),
             };
         };
-        price(&prices, used, place, tally)
+        price(&prices, used, place, covered, tally)
     }
 
     /// The terms that price a report: those of its grant, or what prices one without a grant.
@@ -340,8 +375,8 @@ impl<'b> Account<'b> {
             ≤ 4_000_000_000_000_000_000 }
         requires charges { self.old.next_charge < 4_294_967_296 }
         ensures rows { self.new
-            ≡ settled_account session.now group rated.units.0 rated.blocks.0 rated.amount.0
-            self.old }
+            ≡ settled_account session.now group rated.units.0 rated.blocks.0
+            (due rated.amount.0 rated.covered.0) self.old }
         ensures uncollected { result.uncollected.0
             ≡ uncollected (reserved_in session.now group self.old.groups) group self.old.as_of
             rated.amount.0 self.old.buckets }
@@ -357,7 +392,7 @@ impl<'b> Account<'b> {
         let charged = self
             .rows
             .purse
-            .settle(holds, group, self.rows.as_of, rated.amount);
+            .settle(holds, group, self.rows.as_of, rated.amount, rated.covered);
         grouping::count_blocks(&mut self.rows.counters, group, cycle, rated.blocks.0);
         self.rows.next_charge += 1;
         charged

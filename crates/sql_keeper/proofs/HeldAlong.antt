@@ -6,6 +6,7 @@ use Rattle.std.specs.Prelude.{unwrap_or}
 use Rattle.std.specs.List.{find, list_any}
 use Rattle.std.proofs.lemmas.Bool.{and_parts}
 use Rattle.buckets.specs.declared.holds.Hold.{Hold}
+use Rattle.buckets.specs.declared.kind.BucketKind.TheVariants.{Money}
 use Rattle.buckets.specs.Row.{Row, new_row}
 use Rattle.buckets.specs.Share.{parts}
 use Rattle.buckets.specs.Spend.{Each, AreDistinct}
@@ -18,7 +19,7 @@ use Rattle.sql_keeper.specs.GroupRows.{amount_of, is_held_of, are_held_of, holds
 use Rattle.sql_keeper.proofs.Overlays.{number_from}
 
 held_as_sum : (n : ℕ) (hs : List Hold) → held_at n hs ≡ sum_at n hs
-held_as_sum n hs = held_in-sum_at hs (new_row n 0 0 None 0)
+held_as_sum n hs = held_in-sum_at hs (new_row Money n 0 0 None 0)
 
 -- ---- a number that is there, and one that isn't
 

@@ -22,6 +22,7 @@ use Rattle.sqlite.specs.declared.error.Error.{Error}
 use Rattle.sqlite.specs.Listing.{understood}
 use Rattle.sqlite.specs.State.{State, ExecutesInside}
 use Rattle.sqlite.proofs.Callers.{IsPlain, command_of}
+use Rattle.buckets.specs.declared.kind.BucketKind.TheVariants.{Money}
 use Rattle.buckets.specs.Row.{Row as Bucket}
 use Rattle.sql_tables.specs.Keyed.{key_of, look, same_name}
 use Rattle.sql_tables.specs.Schema.{buckets, accounts, book_schema, key_index}
@@ -34,7 +35,7 @@ use Rattle.sql_tables.proofs.Steps.{or_false}
 use Rattle.sql_tables.proofs.Tabled.{puts_table}
 use Rattle.sql_tables.proofs.Ties.{agree_ties}
 use Rattle.sql_tables.proofs.Upserts.{pick}
-use Rattle.sql_rows.specs.Values.{nat, bucket_cells, bucket_values, bucket_key, bucket_in}
+use Rattle.sql_rows.specs.Values.{nat, money_cells, bucket_values, bucket_key, bucket_in}
 use Rattle.sql_rows.specs.Content.{Rows, Content, with_rows, with_bucket, rows_in, content_of}
 use Rattle.sql_rows.specs.Makes.{Makes}
 use Rattle.sql_rows.proofs.Stays.{only_changed, rows_turn, at_each}
@@ -75,14 +76,15 @@ put_plain : IsPlain (understood book_schema put_bucket_text)
 unfolding understood everything
 put_plain = (refl, refl)
 
-pub bucket_told : (v : Value) (b : Bucket) → bucket_in (v ∷ bucket_cells b) ≡ b
-bucket_told v b = go b.scope refl
+pub bucket_told : (v : Value) (b : Bucket) → b.kind ≡ Money → bucket_in (v ∷ money_cells b) ≡ b
+bucket_told v b counts = go b.scope refl ∙ ap (λ k. record b { kind = k }) (sym counts)
   where
-    go : (o : Option ℕ) → b.scope ≡ o → bucket_in (v ∷ bucket_cells b) ≡ b
+    go : (o : Option ℕ) → b.scope ≡ o → bucket_in (v ∷ money_cells b) ≡ record b { kind = Money }
     go None e = rw e refl
     go (Some n) e = rw e refl
 
-module _ (a : List ℕ) (b : Bucket) where
+-- a bucket of money
+module _ (a : List ℕ) (b : Bucket) (counts : b.kind ≡ Money) where
   abbrev values : Row
   values = bucket_values a b
 
@@ -114,7 +116,8 @@ module _ (a : List ℕ) (b : Bucket) where
       ∙ rows_turn a (content_of old) (with_bucket b) (λ r. r.buckets)
       (λ r f. record r { buckets = f }) (λ r. refl)
       (λ r. refl) (rows_in new) (λ x. at_each (same_name a x) _ _ _ (λ n.
-      put_tells bucket_in buckets values old new c b (bucket_told (Text a) b) (bucket_key x n)
+      put_tells bucket_in buckets values old new c b (bucket_told (Text a) b counts)
+      (bucket_key x n)
       (same_name a x && (nat_eq b.number n))
       (text_number a x b.number n) ∙ apart_if (same_name a x) (nat_eq b.number n) _ _))
 

@@ -34,7 +34,7 @@ use Rattle.sql_tables.proofs.Steps.{or_false}
 use Rattle.sql_tables.proofs.Tabled.{puts_table}
 use Rattle.sql_tables.proofs.Ties.{agree_ties}
 use Rattle.sql_tables.proofs.Upserts.{pick}
-use Rattle.sql_rows.specs.Values.{nat, charge_values, charge_key, charge_in}
+use Rattle.sql_rows.specs.Values.{nat, priced_cells, charge_values, charge_key, charge_in}
 use Rattle.sql_rows.specs.Content.{Rows, Content, with_rows, with_charge, rows_in, content_of}
 use Rattle.sql_rows.specs.Makes.{Makes}
 use Rattle.sql_rows.proofs.Stays.{only_changed, rows_turn, at_each}
@@ -74,7 +74,12 @@ put_plain : IsPlain (understood book_schema put_charge_text)
 unfolding understood everything
 put_plain = (refl, refl)
 
-module _ (a : List ℕ) (row : ChargeRow) where
+-- a charge without covered blocks
+pub charge_told : (v : Value) (row : ChargeRow) → row.covered.0 ≡ 0 →
+    charge_in (v ∷ priced_cells row) ≡ row
+charge_told v row none = ap (λ n. record row { covered = record { 0 = n } }) (sym none)
+
+module _ (a : List ℕ) (row : ChargeRow) (none : row.covered.0 ≡ 0) where
   abbrev values : Row
   values = charge_values a row
 
@@ -107,7 +112,8 @@ module _ (a : List ℕ) (row : ChargeRow) where
       ∙ rows_turn a (content_of old) (with_charge row) (λ r. r.charges)
       (λ r f. record r { charges = f }) (λ r. refl)
       (λ r. refl) (rows_in new) (λ x. at_each (same_name a x) _ _ _ (λ n.
-      put_tells charge_in charges values old new c row refl (charge_key x n)
+      put_tells charge_in charges values old new c row (charge_told (Text a) row none)
+      (charge_key x n)
       (same_name a x && (nat_eq row.number n))
       (text_number a x row.number n) ∙ apart_if (same_name a x) (nat_eq row.number n) _ _))
 

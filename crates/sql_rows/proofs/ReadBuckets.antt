@@ -31,8 +31,11 @@ use Rattle.sql_tables.proofs.Keys.{keys_split, int_tie, text_tie}
 use Rattle.sql_tables.proofs.Selected.{select_from, told}
 use Rattle.sql_tables.proofs.Selections.{meets}
 use Rattle.sql_tables.proofs.Steps.{and_apart, and_last, and_true}
+use Rattle.buckets.specs.declared.kind.BucketKind.{BucketKind}
+use Rattle.buckets.specs.declared.kind.BucketKind.TheVariants.{Money, Blocks}
 use Rattle.buckets.specs.Row.{Row as Bucket}
-use Rattle.sql_rows.specs.Values.{nat, nat_in, bucket_key, bucket_in, bucket_cells}
+use Rattle.sql_rows.specs.Values.{nat, nat_in, bucket_key, bucket_in, bucket_cells, cells_of}
+use Rattle.sql_rows.specs.Values.{money_cells}
 use Rattle.sql_rows.specs.Content.{rows_in}
 use Rattle.sql_rows.specs.Lists.{AreBuckets, is_live}
 use Rattle.sql_rows.proofs.PutBucket.{bucket_told}
@@ -56,8 +59,20 @@ same_columns : (r : Row) → bucket_in (drop 1 r) ≡ bucket_in (Null ∷ column
 same_columns [] = refl
 same_columns (v ∷ vs) = refl
 
+-- a bucket that is read counts money
+counted : (x : Bucket) (r : Row) → bucket_cells x ≡ columns r → x.kind ≡ Money
+counted x r is = go x.kind refl is
+  where
+    go : (k : BucketKind) → x.kind ≡ k → cells_of k (money_cells x) ≡ columns r → x.kind ≡ Money
+    go Money e is = e
+    go Blocks e is = absurd (let none : [] ≡ columns r = is in cc)
+
+money_read : (x : Bucket) (r : Row) → bucket_cells x ≡ columns r → money_cells x ≡ columns r
+money_read x r is = ap (λ k. cells_of k (money_cells x)) (sym (counted x r is)) ∙ is
+
 back : (x : Bucket) (r : Row) → bucket_cells x ≡ columns r → bucket_in (drop 1 r) ≡ x
-back x r is = same_columns r ∙ ap (λ w. bucket_in (Null ∷ w)) (sym is) ∙ bucket_told Null x
+back x r is = same_columns r ∙ ap (λ w. bucket_in (Null ∷ w)) (sym (money_read x r is))
+    ∙ bucket_told Null x (counted x r is)
 
 abbrev pub read_buckets_live_text : List ℕ
 read_buckets_live_text =
@@ -131,7 +146,8 @@ module _ (a : List ℕ) where
 
   wanted : (n : ℕ) (x : Bucket) (r : Row) → bucket_cells x ≡ columns r →
       rest n r ≡ nat_eq x.number n
-  wanted n x r is = ap (λ (w : Row). is_eq (value_cmp (nat n) (column w 0))) (sym is)
+  wanted n x r is =
+      ap (λ (w : Row). is_eq (value_cmp (nat n) (column w 0))) (sym (money_read x r is))
       ∙ int_tie x.number n
 
   lives : (r : Row) → is_live (bucket_in (drop 1 r)) ≡ true → extra r ≡ true
@@ -142,7 +158,8 @@ module _ (a : List ℕ) where
       is_live x ≡ true
   live_told x r e is =
       sym (either_told x.available x.reserved)
-      ∙ ap₂ either_above (ap (λ (w : Row). column w 5) is) (ap (λ (w : Row). column w 6) is) ∙ e
+      ∙ ap₂ either_above (ap (λ (w : Row). column w 5) (money_read x r is))
+      (ap (λ (w : Row). column w 6) (money_read x r is)) ∙ e
 
   pub live_read : (old new : State) (rows : List Row) (bs : List Bucket) →
       Answers read_buckets_live_text (Text a ∷ []) old new rows

@@ -1,6 +1,7 @@
 -- What the text of `read_charges_within` answers.
 use Rattle.std.specs.Prelude.{codes, option_map}
-use Rattle.std.proofs.Common.{◌≡◌, inl, inr, ℕ, pos, List, [], ◌∷◌, ◌++◌, map, drop, Bool, true}
+use Rattle.std.proofs.Common.{◌≡◌, inl, inr, ℕ, zero, suc, pos, List, [], ◌∷◌, ◌++◌, map, drop}
+use Rattle.std.proofs.Common.{Bool, true}
 use Rattle.std.proofs.Common.{false, ◌&&◌, ◌||◌, Some, None, Option, is_eq, refl, sym, ap, ap₂}
 use Rattle.std.proofs.Common.{subst, ◌∙◌, nat_eq, nat_lt}
 use Rattle.std.specs.Prelude.{nat_le}
@@ -33,9 +34,11 @@ use Rattle.sql_tables.proofs.Selected.{select_from, told}
 use Rattle.sql_tables.proofs.Selections.{meets}
 use Rattle.sql_tables.proofs.Steps.{and_apart, and_last, and_true}
 use Rattle.reserving.specs.declared.charge.ChargeRow.{ChargeRow}
-use Rattle.sql_rows.specs.Values.{nat, charge_key, charge_in, charge_cells}
+use Rattle.sql_rows.specs.Values.{nat, charge_key, charge_in, charge_cells, cells_beside}
+use Rattle.sql_rows.specs.Values.{priced_cells}
 use Rattle.sql_rows.specs.Content.{rows_in}
 use Rattle.sql_rows.specs.Lists.{AreCharges, is_within}
+use Rattle.sql_rows.proofs.PutCharge.{charge_told}
 use Rattle.sql_rows.proofs.Ranges.{is_beyond, is_up_to, lies_within, within_told, number_within}
 
 abbrev project : List Term
@@ -54,8 +57,22 @@ same_columns : (r : Row) → charge_in (drop 1 r) ≡ charge_in (Null ∷ column
 same_columns [] = refl
 same_columns (v ∷ vs) = refl
 
+-- no block of a charge that is read is covered
+uncovered : (x : ChargeRow) (r : Row) → charge_cells x ≡ columns r → x.covered.0 ≡ 0
+uncovered x r is = go x.covered.0 refl is
+  where
+    go : (n : ℕ) → x.covered.0 ≡ n → cells_beside n (priced_cells x) ≡ columns r →
+        x.covered.0 ≡ 0
+    go zero e is = e
+    go (suc n) e is = absurd (let none : [] ≡ columns r = is in cc)
+
+priced_read : (x : ChargeRow) (r : Row) → charge_cells x ≡ columns r →
+    priced_cells x ≡ columns r
+priced_read x r is = ap (λ n. cells_beside n (priced_cells x)) (sym (uncovered x r is)) ∙ is
+
 back : (x : ChargeRow) (r : Row) → charge_cells x ≡ columns r → charge_in (drop 1 r) ≡ x
-back x r is = same_columns r ∙ ap (λ w. charge_in (Null ∷ w)) (sym is) ∙ refl
+back x r is = same_columns r ∙ ap (λ w. charge_in (Null ∷ w)) (sym (priced_read x r is))
+    ∙ charge_told Null x (uncovered x r is)
 
 abbrev pub read_charges_within_text : List ℕ
 read_charges_within_text =
@@ -102,7 +119,8 @@ module _ (a : List ℕ) (after last : ℕ) where
 
   wanted : (n : ℕ) (x : ChargeRow) (r : Row) → charge_cells x ≡ columns r →
       rest n r ≡ nat_eq x.number n
-  wanted n x r is = ap (λ (w : Row). is_eq (value_cmp (nat n) (column w 0))) (sym is)
+  wanted n x r is =
+      ap (λ (w : Row). is_eq (value_cmp (nat n) (column w 0))) (sym (priced_read x r is))
       ∙ int_tie x.number n
 
   lies : (r : Row) → is_within after last (charge_in (drop 1 r)) ≡ true → extra r ≡ true
@@ -113,7 +131,7 @@ module _ (a : List ℕ) (after last : ℕ) where
       is_within after last x ≡ true
   lies_told x r e is =
       sym (within_told after last x.number)
-      ∙ ap (λ (w : Row). lies_within after last (column w 0)) is ∙ e
+      ∙ ap (λ (w : Row). lies_within after last (column w 0)) (priced_read x r is) ∙ e
 
   pub charges_read : (old new : State) (rows : List Row) (xs : List ChargeRow) →
       Answers read_charges_within_text (Text a ∷ nat after ∷ nat last ∷ []) old new rows

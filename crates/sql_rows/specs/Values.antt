@@ -1,11 +1,14 @@
 -- The values of a row, and the row that values are.
 -- Source: profile.
-use Rattle.std.specs.Prelude.{ℕ, pos, negsuc, Bool, true, false, List, [], ◌∷◌, Option, Some, None}
+use Rattle.std.specs.Prelude.{ℕ, zero, suc, pos, negsuc, Bool, true, false, List, [], ◌∷◌, Option}
+use Rattle.std.specs.Prelude.{Some, None}
 use Rattle.std.specs.Prelude.{is_some, if◌then◌else◌, ◌==◌}
 use Rattle.sqlite_value.specs.declared.value.Value.{Value}
 use Rattle.sqlite_value.specs.declared.value.Value.TheVariants.{Null, Int, Real, Text, Blob}
 use Rattle.sqlite_value.specs.Order.{Row as Values, column}
 use Rattle.sqlite.specs.Values.{or_null}
+use Rattle.buckets.specs.declared.kind.BucketKind.{BucketKind}
+use Rattle.buckets.specs.declared.kind.BucketKind.TheVariants.{Money, Blocks}
 use Rattle.buckets.specs.Row.{Row as Bucket}
 use Rattle.reserving.specs.declared.session.Session.{Session}
 use Rattle.reserving.specs.declared.session.SessionState.{SessionState}
@@ -114,18 +117,27 @@ head_in v = record {
 abbrev pub bucket_key : List ℕ → ℕ → Values
 bucket_key a n = Text a ∷ nat n ∷ []
 
--- the columns after the account's
-abbrev pub bucket_cells : Bucket → Values
-bucket_cells b =
+-- the columns of money after the account's
+abbrev pub money_cells : Bucket → Values
+money_cells b =
     nat b.number ∷ nat b.from ∷ nat b.until ∷ or_null nat b.scope ∷ nat b.credited
     ∷ nat b.available ∷ nat b.reserved ∷ nat b.charged ∷ nat b.expired ∷ []
 
+-- the columns of a bucket: one of blocks has none
+abbrev pub cells_of : BucketKind → Values → Values
+cells_of Money cells = cells
+cells_of Blocks cells = []
+
+abbrev pub bucket_cells : Bucket → Values
+bucket_cells b = cells_of b.kind (money_cells b)
+
 abbrev pub bucket_values : List ℕ → Bucket → Values
-bucket_values a b = Text a ∷ bucket_cells b
+bucket_values a b = Text a ∷ money_cells b
 
 abbrev pub bucket_in : Values → Bucket
 bucket_in v = record {
   number = nat_in (column v 1);
+  kind = Money;
   from = nat_in (column v 2);
   until = nat_in (column v 3);
   scope = optional_in (column v 4);
@@ -276,13 +288,22 @@ voucher_in v = record {
 abbrev pub charge_key : List ℕ → ℕ → Values
 charge_key a n = Text a ∷ nat n ∷ []
 
-abbrev pub charge_cells : ChargeRow → Values
-charge_cells r =
+-- the columns of a charge of money after the account's
+abbrev pub priced_cells : ChargeRow → Values
+priced_cells r =
     nat r.number ∷ nat r.moment ∷ Text r.session ∷ nat r.group ∷ nat r.blocks.0
     ∷ nat r.rated.0 ∷ nat r.collected.0 ∷ nat r.uncollected.0 ∷ []
 
+-- the columns of a charge: one with covered blocks has none
+abbrev pub cells_beside : ℕ → Values → Values
+cells_beside zero cells = cells
+cells_beside (suc n) cells = []
+
+abbrev pub charge_cells : ChargeRow → Values
+charge_cells r = cells_beside r.covered.0 (priced_cells r)
+
 abbrev pub charge_values : List ℕ → ChargeRow → Values
-charge_values a r = Text a ∷ charge_cells r
+charge_values a r = Text a ∷ priced_cells r
 
 abbrev pub charge_in : Values → ChargeRow
 charge_in v = record {
@@ -291,6 +312,7 @@ charge_in v = record {
   session = text_in (column v 3);
   group = nat_in (column v 4);
   blocks = record { 0 = nat_in (column v 5) };
+  covered = record { 0 = 0 };
   rated = record { 0 = nat_in (column v 6) };
   collected = record { 0 = nat_in (column v 7) };
   uncollected = record { 0 = nat_in (column v 8) };

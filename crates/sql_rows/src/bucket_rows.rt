@@ -9,7 +9,7 @@ ghost use Rattle.sql_tables.specs.Statements.{Attempts, HasBook, HasIdleBook, Is
 ghost use Rattle.sqlite.specs.Held.{state};
 
 use crate::decoding::moment_at;
-use buckets::{Bucket, Columns as BucketColumns};
+use buckets::{Bucket, BucketKind, Columns as BucketColumns};
 use identifiers::AccountNumber;
 use sql_tables::{
     ReadFault, has_columns, large, number_at, optional, optional_at, read, small_at, text, whole,
@@ -18,10 +18,21 @@ use sql_tables::{
 use sqlite::{Alter, Connection, Error, Row, Transaction};
 use std::alloc::Global;
 
+/// That a bucket counts money: there are no columns of one that counts blocks.
+fn money_alone(kind: BucketKind) -> Result<(), Error>
+    ensures { IfOk result (λ unit. kind ≡ BucketKind.Money) }
+{
+    match kind {
+        BucketKind::Money => Ok(()),
+        BucketKind::Blocks => Err(Error::IntegralValueOutOfRange(6)),
+    }
+}
+
 /// Puts a bucket of an account.
 ///
 /// # Errors
-/// An error of the store. Then nothing is committed.
+/// `IntegralValueOutOfRange` where the bucket counts blocks, else an error of the store. Then
+/// nothing is committed.
 pub fn put_bucket<S: Alter>(
     tx: &mut Transaction<'_, S>,
     account: &AccountNumber,
@@ -32,6 +43,7 @@ pub fn put_bucket<S: Alter>(
     ensures makes { Attempts (Makes (with_rows account.now (with_bucket bucket.now)))
         (state S.Store tx.old.conn.now) (state S.Store tx.new.conn.now) result }
 {
+    money_alone(bucket.kind())?;
     let of_account = text(account.as_str());
     let number = whole(bucket.number());
     let starts = large(bucket.from().seconds());
@@ -189,6 +201,7 @@ fn bucket_from(row: &Row) -> Result<BucketColumns, ReadFault>
     let expired = number_at(row, 8)?;
     Ok(BucketColumns {
         number,
+        kind: BucketKind::Money,
         from,
         until,
         scope,

@@ -17,11 +17,21 @@ use sqlite::{Alter, Connection, Error, Row, Transaction};
 use std::alloc::Global;
 use units::{Amount, Blocks};
 
+/// That no block of a charge is covered: there is no column of covered blocks.
+fn none_covered(covered: Blocks) -> Result<(), Error>
+    ensures { IfOk result (λ unit. covered.0 ≡ 0) }
+{
+    if covered.0 > 0 {
+        return Err(Error::IntegralValueOutOfRange(6));
+    }
+    Ok(())
+}
+
 /// Puts a charge of an account.
 ///
 /// # Errors
-/// `IntegralValueOutOfRange` where an amount or the number of blocks is 2^63 or more, else an error
-/// of the store. Then nothing is committed.
+/// `IntegralValueOutOfRange` where an amount or the number of blocks is 2^63 or more, or where
+/// blocks are covered, else an error of the store. Then nothing is committed.
 pub fn put_charge<S: Alter>(
     tx: &mut Transaction<'_, S>,
     account: &AccountNumber,
@@ -32,6 +42,7 @@ pub fn put_charge<S: Alter>(
     ensures makes { Attempts (Makes (with_rows account.now (with_charge charge.now)))
         (state S.Store tx.old.conn.now) (state S.Store tx.new.conn.now) result }
 {
+    none_covered(charge.covered)?;
     let of_account = text(account.as_str());
     let number = whole(charge.number);
     let moment = large(charge.moment.seconds());
@@ -147,6 +158,7 @@ fn charge_from(alloc: Global, row: &Row) -> Result<ChargeRow, ReadFault>
         session,
         group,
         blocks: Blocks(blocks),
+        covered: Blocks(0),
         rated: Amount(rated as u128),
         collected: Amount(collected as u128),
         uncollected: Amount(uncollected as u128),

@@ -3,7 +3,9 @@
 use Rattle.std.specs.Prelude.{◌≡◌, ℕ, ◌+◌, ◌++◌, List, [], ◌∷◌, Option, sum_by}
 use Rattle.std.specs.List.{filter}
 use Rattle.std.specs.Io.KnownBytes.{Appends}
+use Rattle.buckets.specs.declared.kind.BucketKind.TheVariants.{Money}
 use Rattle.buckets.specs.Row.{Row}
+use Rattle.buckets.specs.Share.{sum_in}
 use Rattle.tariffs.specs.Books.{Book}
 use Rattle.reserving.specs.ChargeColumns.{ChargeColumns}
 use Rattle.charge_sources.specs.Rows.{is_between}
@@ -56,10 +58,10 @@ head_text account month moment = title_line account month moment ++ heading
 abbrev pub foot_text : Sums → List Row → List ℕ
 foot_text sums buckets =
     total_line sums ++ bucket_heading ++ buckets_text buckets
-    ++ date_line (sum_by (λ b. b.charged) buckets)
+    ++ date_line (sum_in Money (λ b. b.charged) buckets)
 
 -- an account's statement of a month: its charges in the month, their sums, its buckets at the
--- moment, and what was collected to date
+-- moment, and what was collected of money to date
 abbrev pub statement_text : Book → List ℕ → ℕ → ℕ → List ChargeColumns → List Row → List ℕ
 statement_text book account month moment rows buckets =
     head_text account month moment

@@ -1,4 +1,6 @@
-ghost use Rattle.std.specs.Prelude.{◌≡◌, ◌++◌, sum_by, string_bytes, OnOk, IfOk};
+ghost use Rattle.std.specs.Prelude.{◌≡◌, ◌≤◌, ◌++◌, if◌then◌else◌, string_bytes, OnOk, IfOk};
+ghost use Rattle.buckets.specs.Kinds.{is_alike};
+ghost use Rattle.buckets.specs.Share.{sum_in};
 ghost use Rattle.statements.specs.Columns.{set};
 ghost use Rattle.statements.specs.Texts.{head_text, buckets_text, foot_text};
 ghost use Rattle.statements.specs.Lines.{title_line, charge_line, total_line, bucket_line};
@@ -6,7 +8,7 @@ ghost use Rattle.statements.specs.Lines.{date_line};
 
 use crate::columns::{Column, push_column, push_columns};
 use crate::rows::Sums;
-use buckets::Bucket;
+use buckets::{Bucket, BucketKind};
 use identifiers::AccountNumber;
 use reserving::ChargeRow;
 use std::alloc::{AllocError, Global};
@@ -113,13 +115,26 @@ pub(crate) fn head_text(
     Ok(text)
 }
 
-/// What was charged to buckets.
+/// What was charged to a bucket, in micro-units: nothing where it counts blocks.
+fn money_charged(bucket: &Bucket) -> u64
+    ensures value { result
+        ≡ if is_alike bucket.now.kind BucketKind.Money then bucket.now.charged else 0 }
+    ensures most { result ≤ 1_000_000_000_000_000 }
+{
+    if bucket.counts(BucketKind::Money) {
+        bucket.charged()
+    } else {
+        0
+    }
+}
+
+/// What was charged to buckets of money, in micro-units.
 fn charged_to(buckets: &[Bucket]) -> u128
-    ensures { result ≡ sum_by (λ b. b.charged) buckets.now }
+    ensures { result ≡ sum_in BucketKind.Money (λ b. b.charged) buckets.now }
 {
     let mut charged = 0u128;
     for bucket in buckets {
-        charged += bucket.charged() as u128;
+        charged += money_charged(bucket) as u128;
     }
     charged
 }

@@ -1,7 +1,7 @@
 //! Rows by their words: a row is a line, its kind and then its columns.
 
 use crate::tests::values::{at, large, perhaps, session_id, small, words_of};
-use buckets::{Bucket, Columns, Hold, Holds, Purse};
+use buckets::{Bucket, BucketKind, Columns, Hold, Holds, Purse};
 use calendar::Period;
 use rating::Periods;
 use reserving::{
@@ -41,6 +41,7 @@ fn bucket(rt: &impl Abort, words: &[&str]) -> Bucket {
     };
     let columns = Columns {
         number: small(rt, number),
+        kind: BucketKind::Money,
         from: at(rt, from),
         until: at(rt, until),
         scope: perhaps(rt, scope),
@@ -161,6 +162,7 @@ fn charge(rt: &impl Abort, alloc: Global, words: &[&str]) -> ChargeRow {
         session: session_id(rt, alloc, name),
         group: small(rt, of_group),
         blocks: Blocks(large(rt, blocks)),
+        covered: Blocks(0),
         rated: Amount(collected + uncollected),
         collected: Amount(collected),
         uncollected: Amount(uncollected),

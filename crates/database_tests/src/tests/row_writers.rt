@@ -32,6 +32,7 @@ pub(crate) fn push_columns(rt: &impl Abort, text: &mut String, row: &Columns) {
 fn columns_of(bucket: &Bucket) -> Columns {
     Columns {
         number: bucket.number(),
+        kind: bucket.kind(),
         from: bucket.from(),
         until: bucket.until(),
         scope: bucket.scope(),

@@ -7,9 +7,11 @@ use Rattle.std.proofs.lemmas.Cmp.{ranked, by_ranked}
 use Rattle.std.proofs.lemmas.Bool.Decides.{nat_tests}
 use Rattle.buckets.specs.declared.holds.Hold.{Hold}
 use Rattle.buckets.specs.Row.{Row, with_release, with_end}
-use Rattle.buckets.specs.Spend.{funds}
+use Rattle.buckets.specs.Spend.{funds, allowance}
 use Rattle.buckets.specs.Holding.{settled_rows, uncollected}
 use Rattle.rating.specs.declared.report.Rated.{Rated}
+use Rattle.buckets.specs.Kinds.{due}
+use Rattle.buckets.specs.declared.kind.Due.{Due}
 use Rattle.reserving.specs.declared.session.SessionGroup.{SessionGroup}
 use Rattle.reserving.specs.declared.session.Counter.{Counter}
 use Rattle.reserving.specs.declared.settle.Settled.{Settled}
@@ -18,12 +20,12 @@ use Rattle.reserving.specs.Pricing.{cycle_at, validity_of}
 use Rattle.reserving.specs.Balance.{buckets_at}
 use Rattle.reserving.specs.Keyed.{put}
 use Rattle.reserving.specs.Sessions.{is_of, is_live_in}
-use Rattle.reserving.specs.Settlement.{price_of, passes}
+use Rattle.reserving.specs.Settlement.{price_of, passes, due_of}
 use Rattle.reserving.specs.Debiting.{untagged, event_price, is_covered, debit_passes, charged_use}
-use Rattle.reserving.specs.Debiting.{debited}
+use Rattle.reserving.specs.Debiting.{debited, rest_price}
 use Rattle.reserving.specs.Changes.{lapse_group, lapsed_in, advanced, group_or_new, used_in}
 use Rattle.reserving.specs.Changes.{count_in, with_event, with_count, event_price_in}
-use Rattle.reserving.specs.Changes.{debited_account}
+use Rattle.reserving.specs.Changes.{debited_account, rest_price_in}
 use Rattle.reserving.specs.Prepared.{with_group, with_rows}
 use Rattle.reserving.specs.Rows.{AccountRows, IsAccount, IsRowsOf}
 use Rattle.reserving.specs.Results.{IsDebitOf}
@@ -47,51 +49,60 @@ at_least x y = by_ranked (x < y) (x ≡ y) (y < x) (nat_cmp x y) (ranked x y _ r
     t ∙ sym (ap (λ o. not (is_lt o)) e)))
 
 -- by the rows it is what it is by the ledger
-pub event_price_is : (ledger : Ledger) (a : AccountRows) (group units t : ℕ) → IsRowsOf ledger a →
-    event_price_in group units t a ≡ event_price a.shelf t group units ledger
-event_price_is ledger a group units t rows =
+pub event_price_is : (ledger : Ledger) (a : AccountRows) (group covered units t : ℕ) →
+    IsRowsOf ledger a →
+    event_price_in group covered units t a ≡ event_price a.shelf t group covered units ledger
+event_price_is ledger a group covered units t rows =
     λ i. price_of a.shelf t group None 0
-    (count_in_is ledger a group (cycle_at a.shelf group t) rows i) (untagged units)
+    (count_in_is ledger a group (cycle_at a.shelf group t) rows i) covered (untagged units)
+
+pub rest_price_is : (ledger : Ledger) (a : AccountRows) (group units t : ℕ) → IsAccount a →
+    IsRowsOf ledger a → a.as_of ≤ t →
+    rest_price_in group units t a ≡ rest_price a.shelf t group units ledger
+rest_price_is ledger a group units t account rows le =
+    event_price_is ledger a group (allowance group t (advanced t a).buckets) units t rows
+    ∙ (λ i. event_price a.shelf t group
+    (allowance group t ((IsRowsOf-advanced ledger a t account rows le).buckets i)) units ledger)
 
 pub debit_passes_is : (ledger : Ledger) (a : AccountRows) (s : List ℕ) (group units t : ℕ) →
-    IsRowsOf ledger a →
+    IsAccount a → IsRowsOf ledger a → a.as_of ≤ t →
     debit_passes a.shelf t s group units ledger
     ≡ passes (used_in s group a.groups) units
     (count_in group (cycle_at a.shelf group t) a.counters)
-    (event_price_in group units t a).blocks a.next_charge
-debit_passes_is ledger a s group units t rows =
+    (rest_price_in group units t a).blocks a.next_charge
+debit_passes_is ledger a s group units t account rows le =
     λ i. passes (sym (used_in_is ledger a s group rows) i) units
     (sym (count_in_is ledger a group (cycle_at a.shelf group t) rows) i)
-    (sym (event_price_is ledger a group units t rows) i).blocks (sym rows.next_charge i)
+    (sym (rest_price_is ledger a group units t account rows le) i).blocks (sym rows.next_charge i)
 
 -- the price is covered where the funds aren't less
 pub covered_is : (b : Bool) (ledger : Ledger) (a : AccountRows) (group units t paid price : ℕ) →
-    IsRowsOf ledger a →
+    IsAccount a → IsRowsOf ledger a → a.as_of ≤ t →
     paid ≡ funds group t (buckets_at (validity_of a.shelf) t ledger) →
-    price ≡ (event_price_in group units t a).amount.0 → is_lt (nat_cmp paid price) ≡ b →
+    price ≡ (rest_price_in group units t a).amount.0 → is_lt (nat_cmp paid price) ≡ b →
     is_covered a.shelf t group units ledger ≡ not b
-covered_is b ledger a group units t paid price rows p q h =
-    let cost : price ≡ (event_price a.shelf t group units ledger).amount.0 =
-    q ∙ ap (λ (x : Rated). x.amount.0) (event_price_is ledger a group units t rows) in
+covered_is b ledger a group units t paid price account rows le p q h =
+    let cost : price ≡ (rest_price a.shelf t group units ledger).amount.0 =
+    q ∙ ap (λ (x : Rated). x.amount.0) (rest_price_is ledger a group units t account rows le) in
     (λ i. nat_le (sym cost i) (sym p i)) ∙ at_least paid price ∙ ap not h
 
 -- ---- the rows
 
 -- the rows as the call leaves them, part by part
-pub debited_parts : (a : AccountRows) (s : List ℕ) (g cycle units blocks rated : ℕ)
+pub debited_parts : (a : AccountRows) (s : List ℕ) (g cycle units blocks : ℕ) (due : Due)
     (holds : List Hold) (buckets : List Row) (counters : List Counter) (groups : List SessionGroup)
     →
     cycle ≡ cycle_at a.shelf g a.as_of →
-    holds ≡ [] → buckets ≡ settled_rows holds g a.as_of rated a.buckets →
+    holds ≡ [] → buckets ≡ settled_rows holds g a.as_of due a.buckets →
     counters ≡ with_count g cycle blocks a.counters → groups ≡ with_event s g units a.groups →
     (let x : AccountRows = record a {
       buckets = buckets;
       counters = counters;
       groups = groups;
       next_charge = a.next_charge + 1;
-    } in x) ≡ debited_account s g units blocks rated a
-debited_parts a s g cycle units blocks rated holds buckets counters groups e h b c k =
-    charged_parts a g cycle blocks rated holds [] buckets counters groups
+    } in x) ≡ debited_account s g units blocks due a
+debited_parts a s g cycle units blocks due holds buckets counters groups e h b c k =
+    charged_parts a g cycle blocks due holds [] buckets counters groups
     (with_event s g units a.groups) e h b c k
 
 -- the buckets don't know of empty rows
@@ -105,10 +116,10 @@ buckets_later a s g c t =
     λ i. map (λ b. with_end t (with_release t b (given b i))) a.buckets
 
 -- a debit finds the empty rows as none
-pub debited_later : (a : AccountRows) (s : List ℕ) (g t units blocks rated : ℕ) →
-    debited_account s g units blocks rated (advanced t (with_rows s g (cycle_at a.shelf g t) a))
-    ≡ debited_account s g units blocks rated (advanced t a)
-debited_later a s g t units blocks rated =
+pub debited_later : (a : AccountRows) (s : List ℕ) (g t units blocks : ℕ) (due : Due) →
+    debited_account s g units blocks due (advanced t (with_rows s g (cycle_at a.shelf g t) a))
+    ≡ debited_account s g units blocks due (advanced t a)
+debited_later a s g t units blocks due =
     let keeps : List ℕ → Bool = is_live_in (validity_of a.shelf) t a.sessions in
     let c : ℕ = cycle_at a.shelf g t in
     let row : group_or_new s g (map (lapse_group keeps) (with_group s g a.groups))
@@ -126,45 +137,45 @@ debited_later a s g t units blocks rated =
     ∙ put_later keeps s g
     (record { session = s; group = g; used = new.used + units; reservation = new.reservation })
     a.groups refl refl in
-    let x : AccountRows = debited_account s g units blocks rated (advanced t a) in
+    let x : AccountRows = debited_account s g units blocks due (advanced t a) in
     λ i. record x {
-      buckets = settled_rows [] g t rated (buckets_later a s g c t i);
+      buckets = settled_rows [] g t due (buckets_later a s g c t i);
       counters = counted_later g c blocks a.counters i;
       groups = groups i;
     }
 
 -- the rows as the call leaves them
-pub debited_is : (a middle after : AccountRows) (s : List ℕ) (g c t units blocks rated : ℕ) →
+pub debited_is : (a middle after : AccountRows) (s : List ℕ) (g c t units blocks : ℕ) (due : Due) →
     c ≡ cycle_at a.shelf g t → middle ≡ advanced t (with_rows s g c a) →
-    after ≡ debited_account s g units blocks rated middle →
-    after ≡ debited_account s g units blocks rated (advanced t a)
-debited_is a middle after s g c t units blocks rated k m e =
-    e ∙ ap (debited_account s g units blocks rated) (m ∙ (λ i. advanced t (with_rows s g (k i) a)))
-    ∙ debited_later a s g t units blocks rated
+    after ≡ debited_account s g units blocks due middle →
+    after ≡ debited_account s g units blocks due (advanced t a)
+debited_is a middle after s g c t units blocks due k m e =
+    e ∙ ap (debited_account s g units blocks due) (m ∙ (λ i. advanced t (with_rows s g (k i) a)))
+    ∙ debited_later a s g t units blocks due
 
 -- the rows of the ledger with the debit
 pub rows_debited : (ledger : Ledger) (a middle after : AccountRows) (s : List ℕ)
-    (g c t units blocks rated : ℕ) →
+    (g c t units blocks : ℕ) (due : Due) →
     IsAccount a → IsRowsOf ledger a → a.as_of ≤ t → c ≡ cycle_at a.shelf g t →
-    blocks ≡ (event_price_in g units t a).blocks → rated ≡ (event_price_in g units t a).amount.0 →
+    blocks ≡ (rest_price_in g units t a).blocks → due ≡ due_of (rest_price_in g units t a) →
     middle ≡ advanced t (with_rows s g c a) →
-    after ≡ debited_account s g units blocks rated middle →
+    after ≡ debited_account s g units blocks due middle →
     IsRowsOf (debited a.shelf t s g units ledger) after
-rows_debited ledger a middle after s g c t units blocks rated account rows le k b r m e =
+rows_debited ledger a middle after s g c t units blocks due account rows le k b r m e =
     let later : AccountRows = advanced t a in
-    let cost : event_price_in g units t a ≡ event_price a.shelf t g units ledger =
-    event_price_is ledger a g units t rows in
-    let same : after ≡ debited_account s g units blocks rated later =
-    debited_is a middle after s g c t units blocks rated k m e in
-    let done : IsRowsOf (charged_use (validity_of a.shelf) t s g units blocks rated ledger) after =
-    subst (IsRowsOf (charged_use (validity_of a.shelf) t s g units blocks rated ledger)) (sym same)
-    (IsRowsOf-debited ledger later s g units blocks rated (IsAccount-advanced a t account)
+    let cost : rest_price_in g units t a ≡ rest_price a.shelf t g units ledger =
+    rest_price_is ledger a g units t account rows le in
+    let same : after ≡ debited_account s g units blocks due later =
+    debited_is a middle after s g c t units blocks due k m e in
+    let done : IsRowsOf (charged_use (validity_of a.shelf) t s g units blocks due ledger) after =
+    subst (IsRowsOf (charged_use (validity_of a.shelf) t s g units blocks due ledger)) (sym same)
+    (IsRowsOf-debited ledger later s g units blocks due (IsAccount-advanced a t account)
     (IsRowsOf-advanced ledger a t account rows le)) in
     subst (λ n. IsRowsOf
-    (charged_use (validity_of a.shelf) t s g units n (event_price a.shelf t g units ledger).amount.0
+    (charged_use (validity_of a.shelf) t s g units n (due_of (rest_price a.shelf t g units ledger))
     ledger) after) (b ∙ ap (λ (x : Rated). x.blocks) cost)
     (subst (λ n. IsRowsOf (charged_use (validity_of a.shelf) t s g units blocks n ledger) after)
-    (r ∙ ap (λ (x : Rated). x.amount.0) cost) done)
+    (r ∙ ap due_of cost) done)
 
 -- what is covered is collected whole
 all_collected : (rated collected missing held paid : ℕ) → nat_le rated paid ≡ true →
@@ -181,11 +192,12 @@ pub record IsDebitMade (a middle after : AccountRows) (s : List ℕ) (g c t unit
   pub cycle : c ≡ cycle_at a.shelf g t
   pub covers : is_lt (nat_cmp paid x.rated.0) ≡ false
   pub fits : passes (used_in s g a.groups) units (count_in g (cycle_at a.shelf g t) a.counters)
-      (event_price_in g units t a).blocks a.next_charge ≡ false
-  pub started : x.blocks.0 ≡ (event_price_in g units t a).blocks
-  pub price : x.rated.0 ≡ (event_price_in g units t a).amount.0
+      (rest_price_in g units t a).blocks a.next_charge ≡ false
+  pub started : x.blocks.0 ≡ (rest_price_in g units t a).blocks
+  pub cover : x.covered.0 ≡ (rest_price_in g units t a).covered.0
+  pub price : x.rated.0 ≡ (rest_price_in g units t a).amount.0
   pub brought : middle ≡ advanced t (with_rows s g c a)
-  pub debited : after ≡ debited_account s g units x.blocks.0 x.rated.0 middle
+  pub debited : after ≡ debited_account s g units x.blocks.0 (due x.rated.0 x.covered.0) middle
   pub missing : x.uncollected.0 ≡ uncollected [] g middle.as_of x.rated.0 middle.buckets
   pub whole : x.collected.0 + x.uncollected.0 ≡ x.rated.0
 
@@ -196,10 +208,11 @@ pub debit_is : (ledger : Ledger) (a middle after : AccountRows) (s : List ℕ) (
     IsDebitMade a middle after s g c t units paid x →
     IsDebitOf a.shelf t s g units ledger after x
 debit_is ledger a middle after s g c t units paid x account rows f made =
-    let cost : event_price_in g units t a ≡ event_price a.shelf t g units ledger =
-    event_price_is ledger a g units t rows in
+    let cost : rest_price_in g units t a ≡ rest_price a.shelf t g units ledger =
+    rest_price_is ledger a g units t account rows made.later in
     let covered : is_covered a.shelf t g units ledger ≡ true =
-    covered_is false ledger a g units t paid x.rated.0 rows f made.price made.covers in
+    covered_is false ledger a g units t paid x.rated.0 account rows made.later f made.price
+    made.covers in
     let buckets : middle.buckets ≡ buckets_at (validity_of a.shelf) t ledger =
     ap (λ (y : AccountRows). y.buckets) made.brought ∙ buckets_later a s g c t
     ∙ (IsRowsOf-advanced ledger a t account rows made.later).buckets in
@@ -212,11 +225,14 @@ debit_is ledger a middle after s g c t units paid x account rows f made =
     all_collected x.rated.0 x.collected.0 x.uncollected.0 _ _ enough missing made.whole in
     record {
       covered = covered;
-      within = debit_passes_is ledger a s g units t rows ∙ made.fits;
+      within = debit_passes_is ledger a s g units t account rows made.later ∙ made.fits;
       blocks = made.started ∙ ap (λ (y : Rated). y.blocks) cost;
+      covered_blocks = made.cover ∙ ap (λ (y : Rated). y.covered.0) cost;
       rated = made.price ∙ ap (λ (y : Rated). y.amount.0) cost;
       collected = whole.0;
       uncollected = whole.1;
-      rows = rows_debited ledger a middle after s g c t units x.blocks.0 x.rated.0 account rows
-          made.later made.cycle made.started made.price made.brought made.debited;
+      rows = rows_debited ledger a middle after s g c t units x.blocks.0
+          (due x.rated.0 x.covered.0) account rows
+          made.later made.cycle made.started (λ i. due (made.price i) (made.cover i))
+          made.brought made.debited;
     }

@@ -2,6 +2,7 @@
 use Rattle.std.proofs.Common.{◌≡◌, ℕ, ◌+◌, map, true, false, List, refl, ap, ◌∙◌, Option, Some}
 use Rattle.std.proofs.Common.{None}
 use Rattle.std.specs.Prelude.{if◌then◌else◌, option_map, unwrap_or}
+use Rattle.buckets.specs.declared.kind.Due.{Due}
 use Rattle.reserving.specs.declared.session.SessionGroup.{SessionGroup}
 use Rattle.reserving.specs.Sessions.{is_of, group_in}
 use Rattle.reserving.specs.Changes.{ended_group, new_group, with_use, used_in, ended_rows}
@@ -48,7 +49,7 @@ pub ended_free : (s : List ℕ) (g : ℕ) (middle after : AccountRows) → after
 ended_free s g middle after e =
     ap (λ (a : AccountRows). reservation_in s g a.groups) e ∙ free_ended s g middle.groups
 
-pub settled_free : (s : List ℕ) (g units blocks rated : ℕ) (middle after : AccountRows) →
-    after ≡ settled_account s g units blocks rated middle → reservation_in s g after.groups ≡ None
-settled_free s g units blocks rated middle after e =
+pub settled_free : (s : List ℕ) (g units blocks : ℕ) (due : Due) (middle after : AccountRows) →
+    after ≡ settled_account s g units blocks due middle → reservation_in s g after.groups ≡ None
+settled_free s g units blocks due middle after e =
     ap (λ (a : AccountRows). reservation_in s g a.groups) e ∙ free_used s g units middle.groups

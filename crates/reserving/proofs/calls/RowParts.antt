@@ -5,6 +5,7 @@ use Rattle.std.specs.Prelude.{if◌then◌else◌, unwrap_or, option_map, not}
 use Rattle.buckets.specs.declared.holds.Hold.{Hold}
 use Rattle.buckets.specs.Row.{Row, with_release, with_end}
 use Rattle.buckets.specs.Holding.{held_in, settled_rows, released_rows}
+use Rattle.buckets.specs.declared.kind.Due.{Due}
 use Rattle.reserving.specs.declared.session.SessionGroup.{SessionGroup}
 use Rattle.reserving.specs.declared.session.Reservation.{Reservation}
 use Rattle.reserving.specs.declared.session.Counter.{Counter}
@@ -38,10 +39,10 @@ ended_parts a s g holds buckets groups h b k =
     λ i. record a { buckets = moved i; groups = k i }
 
 -- what a charge leaves: the buckets, the counters, the groups and the next charge's number
-pub charged_parts : (a : AccountRows) (g cycle blocks rated : ℕ) (holds given : List Hold)
+pub charged_parts : (a : AccountRows) (g cycle blocks : ℕ) (due : Due) (holds given : List Hold)
     (buckets : List Row) (counters : List Counter) (groups leaves : List SessionGroup) →
     cycle ≡ cycle_at a.shelf g a.as_of →
-    holds ≡ given → buckets ≡ settled_rows holds g a.as_of rated a.buckets →
+    holds ≡ given → buckets ≡ settled_rows holds g a.as_of due a.buckets →
     counters ≡ with_count g cycle blocks a.counters → groups ≡ leaves →
     (let x : AccountRows = record a {
       buckets = buckets;
@@ -50,14 +51,14 @@ pub charged_parts : (a : AccountRows) (g cycle blocks rated : ℕ) (holds given 
       next_charge = a.next_charge + 1;
     } in x)
     ≡ (let y : AccountRows = record a {
-      buckets = settled_rows given g a.as_of rated a.buckets;
+      buckets = settled_rows given g a.as_of due a.buckets;
       counters = with_count g (cycle_at a.shelf g a.as_of) blocks a.counters;
       groups = leaves;
       next_charge = a.next_charge + 1;
     } in y)
-charged_parts a g cycle blocks rated holds given buckets counters groups leaves e h b c k =
-    let moved : buckets ≡ settled_rows given g a.as_of rated a.buckets =
-    b ∙ ap (λ x. settled_rows x g a.as_of rated a.buckets) h in
+charged_parts a g cycle blocks due holds given buckets counters groups leaves e h b c k =
+    let moved : buckets ≡ settled_rows given g a.as_of due a.buckets =
+    b ∙ ap (λ x. settled_rows x g a.as_of due a.buckets) h in
     let counted : counters ≡ with_count g (cycle_at a.shelf g a.as_of) blocks a.counters =
     c ∙ ap (λ x. with_count g x blocks a.counters) e in
     λ i. record a {
@@ -67,20 +68,20 @@ charged_parts a g cycle blocks rated holds given buckets counters groups leaves 
       next_charge = a.next_charge + 1;
     }
 
-pub settled_parts : (a : AccountRows) (s : List ℕ) (g cycle units blocks rated : ℕ)
+pub settled_parts : (a : AccountRows) (s : List ℕ) (g cycle units blocks : ℕ) (due : Due)
     (holds : List Hold) (buckets : List Row) (counters : List Counter) (groups : List SessionGroup)
     →
     cycle ≡ cycle_at a.shelf g a.as_of →
-    holds ≡ reserved_in s g a.groups → buckets ≡ settled_rows holds g a.as_of rated a.buckets →
+    holds ≡ reserved_in s g a.groups → buckets ≡ settled_rows holds g a.as_of due a.buckets →
     counters ≡ with_count g cycle blocks a.counters → groups ≡ with_use s g units a.groups →
     (let x : AccountRows = record a {
       buckets = buckets;
       counters = counters;
       groups = groups;
       next_charge = a.next_charge + 1;
-    } in x) ≡ settled_account s g units blocks rated a
-settled_parts a s g cycle units blocks rated holds buckets counters groups e h b c k =
-    charged_parts a g cycle blocks rated holds (reserved_in s g a.groups) buckets counters groups
+    } in x) ≡ settled_account s g units blocks due a
+settled_parts a s g cycle units blocks due holds buckets counters groups e h b c k =
+    charged_parts a g cycle blocks due holds (reserved_in s g a.groups) buckets counters groups
     (with_use s g units a.groups) e h b c k
 
 -- ---- rows without facts
@@ -195,6 +196,25 @@ kept_periods true r h = refl
 kept_periods false r h = cc
 
 -- a session that keeps its reservations keeps their periods
+kept_holds : (b : Bool) (x : SessionGroup) → b ≡ true →
+    holds_in (if b then x else record x { reservation = None }).reservation ≡ holds_in x.reservation
+kept_holds b x e = ap (λ t. holds_in (if t then x else record x { reservation = None }).reservation)
+    e
+
+-- a live session's reservation stays
+pub reserved_later : (keeps : List ℕ → Bool) (s : List ℕ) (g : ℕ) (rows : List SessionGroup) →
+    keeps s ≡ true → reserved_in s g (map (lapse_group keeps) rows) ≡ reserved_in s g rows
+reserved_later keeps s g rows h =
+    ap (λ o. holds_in (unwrap_or o (new_group s g)).reservation)
+    (find-map (is_of s g) (lapse_group keeps) rows (key_kept keeps s g))
+    ∙ by_row (group_in s g rows) refl
+  where
+    by_row : (o : Option SessionGroup) → group_in s g rows ≡ o →
+        holds_in (unwrap_or (option_map (lapse_group keeps) o) (new_group s g)).reservation
+        ≡ holds_in (unwrap_or o (new_group s g)).reservation
+    by_row (Some x) e = kept_holds (keeps x.session) x (ap keeps (found_session s g rows x e) ∙ h)
+    by_row None e = refl
+
 pub periods_later : (keeps : List ℕ → Bool) (s : List ℕ) (g : ℕ) (rows : List SessionGroup) →
     keeps s ≡ true → terms_in s g (map (lapse_group keeps) rows) ≡ terms_in s g rows
 periods_later keeps s g rows h =
@@ -265,10 +285,10 @@ counted_later g c blocks rows =
     (or_new_cycle g c rows))))
 
 -- a settlement finds the empty rows as none
-pub settled_later : (a : AccountRows) (s : List ℕ) (g t units blocks rated : ℕ) →
-    settled_account s g units blocks rated (advanced t (with_rows s g (cycle_at a.shelf g t) a))
-    ≡ settled_account s g units blocks rated (advanced t a)
-settled_later a s g t units blocks rated =
+pub settled_later : (a : AccountRows) (s : List ℕ) (g t units blocks : ℕ) (due : Due) →
+    settled_account s g units blocks due (advanced t (with_rows s g (cycle_at a.shelf g t) a))
+    ≡ settled_account s g units blocks due (advanced t a)
+settled_later a s g t units blocks due =
     let keeps : List ℕ → Bool = is_live_in (validity_of a.shelf) t a.sessions in
     let c : ℕ = cycle_at a.shelf g t in
     let row : group_or_new s g (map (lapse_group keeps) (with_group s g a.groups))
@@ -289,10 +309,10 @@ settled_later a s g t units blocks rated =
     let given : (b : Row) →
     lapsed_in keeps (with_group s g a.groups) b ≡ lapsed_in keeps a.groups b =
     λ b. held_by-with_group (λ x. not (keeps x)) s g a.groups b in
-    let x : AccountRows = settled_account s g units blocks rated (advanced t a) in
+    let x : AccountRows = settled_account s g units blocks due (advanced t a) in
     λ i. record x {
       buckets =
-          settled_rows (holds_in (row i).reservation) g t rated
+          settled_rows (holds_in (row i).reservation) g t due
           (map (λ b. with_end t (with_release t b (given b i))) a.buckets);
       counters = counted_later g c blocks a.counters i;
       groups = groups i;

@@ -5,6 +5,22 @@ use Rattle.reserving.specs.Ledger.{open_grant}
 use Rattle.reserving.specs.Pricing.{terms_now}
 -- A settlement's call, from any ledger whose rows the account is before it.
 use Rattle.reserving.specs.Pricing.{validity_of}
+use Rattle.std.specs.Prelude.{if◌then◌else◌}
+use Rattle.std.proofs.Common.{◌-◌}
+use Rattle.buckets.specs.declared.kind.BucketKind.{BucketKind}
+use Rattle.buckets.specs.declared.kind.BucketKind.TheVariants.{Blocks}
+use Rattle.buckets.specs.declared.holds.Hold.{Hold}
+use Rattle.buckets.specs.Kinds.{is_alike}
+use Rattle.buckets.specs.Spend.{allowance}
+use Rattle.buckets.specs.Holding.{held_sum, held_in}
+use Rattle.buckets.proofs.Dues.{sum_in-cons}
+use Rattle.buckets.proofs.Parts.{sum_at, held_in-sum_at}
+use Rattle.reserving.specs.Settlement.{due_of}
+use Rattle.reserving.specs.Changes.{coverable_in}
+use Rattle.reserving.proofs.rows.TwoAdvances.{advanced_twice}
+use Rattle.reserving.proofs.rows.LaterFunds.{later_kind}
+use Rattle.reserving.proofs.rows.Lapsing.{ends_keep}
+use Rattle.buckets.specs.declared.kind.Due.{Due}
 use Rattle.std.proofs.Common.{◌≡◌, ℕ, ◌+◌, ◌≤◌, Bool, true, false, List, [], ◌∷◌, map, refl, sym}
 use Rattle.std.proofs.Common.{ap, subst, ◌∙◌, arith, Option, Some, None}
 use Rattle.std.specs.Prelude.{is_some, not}
@@ -22,7 +38,10 @@ use Rattle.reserving.specs.Sessions.{is_counter, counter_before}
 use Rattle.tariffs.specs.Tariffs.{GroupTariff}
 use Rattle.rating.specs.declared.grant.Periods.{Periods}
 use Rattle.rating.specs.declared.report.Rated.{Rated}
-use Rattle.rating.specs.Rated.{rated_amount, report_blocks, report_amount}
+use Rattle.rating.specs.Rated.{uncovered_amount, report_blocks, report_amount}
+use Rattle.rating.proofs.Sums.{rated_none}
+use Rattle.tariffs.specs.Tariffs.{tiers_at}
+use Rattle.tariffs.specs.declared.tiers.Tier.{Tier}
 use Rattle.reserving.specs.Pricing.{rated_with}
 use Rattle.reserving.specs.Settlement.{settled_by, reported, price_of, report_price, passes}
 use Rattle.reserving.specs.Settlement.{passes_limit, passes_after}
@@ -38,7 +57,8 @@ use Rattle.reserving.proofs.rows.Complete.{reserved_in_is}
 use Rattle.reserving.proofs.PassedLimits.{passes_after-none}
 use Rattle.reserving.proofs.kept.Settled.{or_new_cycle}
 use Rattle.reserving.proofs.SettledRows.{used_in_is, count_in_is, price_in_is, IsRowsOf-settled_by}
-use Rattle.reserving.proofs.calls.RowParts.{or_new_later, group_later, used_later, periods_later}
+use Rattle.reserving.proofs.calls.RowParts.{reserved_later, or_new_later, group_later, used_later}
+use Rattle.reserving.proofs.calls.RowParts.{periods_later}
 use Rattle.reserving.proofs.calls.RowParts.{count_later, held_by-with_group, settled_later}
 
 -- ---- a report without parts
@@ -60,17 +80,34 @@ rows_ended ledger a middle after s g t used_parts account rows le live_in empty 
     (IsRowsOf-settled_by ledger (advanced t a) s g [] account' rows' live))
 
 -- a report without parts costs nothing
-no_blocks : (o : Option GroupTariff) (p : Periods) (before place : ℕ) →
-    (rated_with o p before place []).blocks ≡ 0
+no_blocks : (o : Option GroupTariff) (p : Periods) (before place c : ℕ) →
+    (rated_with o p before place c []).blocks ≡ 0
 unfolding report_blocks
-no_blocks None p before place = refl
-no_blocks (Some x) p before place = refl
+no_blocks None p before place c = refl
+no_blocks (Some x) p before place c = refl
 
-no_amount : (o : Option GroupTariff) (p : Periods) (before place : ℕ) →
-    (rated_with o p before place []).amount.0 ≡ 0
-unfolding report_amount rated_amount
-no_amount None p before place = refl
-no_amount (Some x) p before place = refl
+no_covered : (o : Option GroupTariff) (p : Periods) (before place c : ℕ) →
+    (rated_with o p before place c []).covered.0 ≡ 0
+unfolding report_blocks
+no_covered None p before place c = refl
+no_covered (Some x) p before place c = omega arith
+
+zero_amount : (ts : List Tier) (place c : ℕ) → uncovered_amount ts place c 0 ≡ 0
+zero_amount ts place c = let none : 0 - c ≡ 0 = omega arith in
+    rw none (rated_none ts (place + c))
+
+no_amount : (o : Option GroupTariff) (p : Periods) (before place c : ℕ) →
+    (rated_with o p before place c []).amount.0 ≡ 0
+unfolding report_amount
+no_amount None p before place c = refl
+no_amount (Some x) p before place c =
+    omega (
+      arith,
+      zero_amount (tiers_at x p.before.0) place c,
+      zero_amount (tiers_at x p.before.0) (place + 0) (c - 0),
+      zero_amount (tiers_at x p.before.0) (place + 0 + 0) (c - 0 - 0),
+      zero_amount (tiers_at x p.after.0) (place + 0 + 0 + 0) (c - 0 - 0 - 0),
+    )
 
 -- the terms that price a report
 abbrev terms_of : AccountRows → ℕ → List ℕ → ℕ → Ledger → Terms
@@ -78,14 +115,18 @@ terms_of a t s g ledger = unwrap_or (open_grant s g ledger) (terms_now a.shelf t
 
 pub nothing_settled : (ledger : Ledger) (a : AccountRows) (s : List ℕ) (g t : ℕ)
     (used_parts : List UsedPart) (x : Settled) → used_parts ≡ [] → x.blocks.0 ≡ 0 →
-    x.rated.0 ≡ 0 → x.uncollected.0 ≡ 0 → IsSettlementOf a.shelf t s g used_parts ledger x
-nothing_settled ledger a s g t used_parts x empty none free whole =
+    x.covered.0 ≡ 0 → x.rated.0 ≡ 0 → x.uncollected.0 ≡ 0 →
+    IsSettlementOf a.shelf t s g used_parts ledger x
+nothing_settled ledger a s g t used_parts x empty none bare free whole =
     let blocks : (report_price a.shelf t s g [] ledger).blocks ≡ 0 =
-    no_blocks (tariff_in a.shelf (terms_of a t s g ledger).book g) _ (used s g ledger) _ in
+    no_blocks (tariff_in a.shelf (terms_of a t s g ledger).book g) _ (used s g ledger) _ _ in
+    let covered : (report_price a.shelf t s g [] ledger).covered.0 ≡ 0 =
+    no_covered (tariff_in a.shelf (terms_of a t s g ledger).book g) _ (used s g ledger) _ _ in
     let amount : (report_price a.shelf t s g [] ledger).amount.0 ≡ 0 =
-    no_amount (tariff_in a.shelf (terms_of a t s g ledger).book g) _ (used s g ledger) _ in
+    no_amount (tariff_in a.shelf (terms_of a t s g ledger).book g) _ (used s g ledger) _ _ in
     subst (λ ps. IsSettlementOf a.shelf t s g ps ledger x) (sym empty) (record {
       blocks = none ∙ sym blocks;
+      covered = bare ∙ sym covered;
       rated = free ∙ sym amount;
       uncollected = omega (arith, amount, whole);
       collected = x.sum;
@@ -101,6 +142,48 @@ pub within_counted : (before units count blocks charge : ℕ) →
     passes before units count blocks charge ≡ false → count + blocks ≤ 4000000000000000000
 within_counted before units count blocks charge h = grind (arith, nat_tests)
 
+-- time leaves what holds have of the buckets of a kind
+held_sum-later : (kind : BucketKind) (holds : List Hold) (t : ℕ) (f : Row → ℕ) (rows : List Row) →
+    held_sum kind holds (map (λ b. with_end t (with_release t b (f b))) rows)
+    ≡ held_sum kind holds rows
+held_sum-later kind holds t f [] = refl
+held_sum-later kind holds t f (b ∷ bs) =
+    sum_in-cons kind (held_in holds) (with_end t (with_release t b (f b)))
+    (map (λ x. with_end t (with_release t x (f x))) bs)
+    ∙ (λ i. (if is_alike (later_kind t (f b) b i) kind then same i else 0)
+    + held_sum-later kind holds t f bs i)
+    ∙ sym (sum_in-cons kind (held_in holds) b bs)
+  where
+    same : held_in holds (with_end t (with_release t b (f b))) ≡ held_in holds b
+    same =
+        held_in-sum_at holds (with_end t (with_release t b (f b)))
+        ∙ ap (λ n. sum_at n holds) ((ends_keep t f).number b)
+        ∙ sym (held_in-sum_at holds b)
+
+-- the blocks that may cover a report stay too
+coverable_later : (a : AccountRows) (s : List ℕ) (g t : ℕ) →
+    is_live_in (validity_of a.shelf) t a.sessions s ≡ true →
+    coverable_in s g t a ≡ coverable_in s g t (advanced t a)
+coverable_later a s g t live_in = λ i. held i + allowed i
+  where
+    keeps : List ℕ → Bool
+    keeps = is_live_in (validity_of a.shelf) t a.sessions
+
+    now : t ≤ t
+    now = omega arith
+
+    held : held_sum Blocks (reserved_in s g a.groups) a.buckets
+        ≡ held_sum Blocks (reserved_in s g (advanced t a).groups) (advanced t a).buckets
+    held =
+        sym (held_sum-later Blocks (reserved_in s g a.groups) t
+        (lapsed_in keeps a.groups) a.buckets)
+        ∙ (λ i. held_sum Blocks (sym (reserved_later keeps s g a.groups live_in) i)
+        (advanced t a).buckets)
+
+    allowed : allowance g t (advanced t a).buckets
+        ≡ allowance g t (advanced t (advanced t a)).buckets
+    allowed = ap (λ (x : AccountRows). allowance g t x.buckets) (sym (advanced_twice a t t now))
+
 -- the price by the rows stays as time goes on to a moment at which the session is live
 pub price_later : (a : AccountRows) (s : List ℕ) (g t : ℕ) (used_parts : List UsedPart) →
     is_live_in (validity_of a.shelf) t a.sessions s ≡ true →
@@ -109,7 +192,7 @@ price_later a s g t used_parts live_in =
     let keeps : List ℕ → Bool = is_live_in (validity_of a.shelf) t a.sessions in
     λ i. price_of a.shelf t g (sym (periods_later keeps s g a.groups live_in) i)
     (sym (used_later keeps s g a.groups) i) (count_in g (cycle_at a.shelf g t) a.counters)
-    used_parts
+    (coverable_later a s g t live_in i) used_parts
 
 -- it is the price by the ledger
 pub price_is : (ledger : Ledger) (a : AccountRows) (s : List ℕ) (g t : ℕ)
@@ -120,7 +203,7 @@ price_is ledger a s g t used_parts account rows le live_in =
     let live : is_live (validity_of a.shelf) t ledger s ≡ true =
     sym (is_live_in-is ledger a t s rows le) ∙ live_in in
     price_later a s g t used_parts live_in
-    ∙ price_in_is ledger (advanced t a) s g used_parts
+    ∙ price_in_is ledger (advanced t a) s g used_parts (IsAccount-advanced a t account)
     (IsRowsOf-advanced ledger a t account rows le) live
 
 pub passes_after_is : (charges : ℕ) (ledger : Ledger) (a : AccountRows) (s : List ℕ) (g t : ℕ)
@@ -182,27 +265,27 @@ count_middle a middle s g c t m = ap (λ x. count_in g c x.counters) m ∙ count
 pub with_parts : (a : AccountRows) (s : List ℕ) (g : ℕ) (used_parts : List UsedPart) →
     (used_parts ≡ [] → ⊥) →
     settled_account s g (reported used_parts) (price_in s g a.as_of used_parts a).blocks
-    (price_in s g a.as_of used_parts a).amount.0 a ≡ settled_by_rows s g used_parts a
+    (due_of (price_in s g a.as_of used_parts a)) a ≡ settled_by_rows s g used_parts a
 with_parts a s g [] some = absurd (some refl)
 with_parts a s g (p ∷ ps) some = refl
 
 -- the rows as the call leaves them
-pub settled_is : (a middle after : AccountRows) (s : List ℕ) (g c t units blocks rated : ℕ)
+pub settled_is : (a middle after : AccountRows) (s : List ℕ) (g c t units blocks : ℕ) (due : Due)
     (used_parts : List UsedPart) →
     is_live_in (validity_of a.shelf) t a.sessions s ≡ true → (used_parts ≡ [] → ⊥) →
     c ≡ cycle_at a.shelf g t →
     units ≡ reported used_parts → blocks ≡ (price_in s g t used_parts a).blocks →
-    rated ≡ (price_in s g t used_parts a).amount.0 →
+    due ≡ due_of (price_in s g t used_parts a) →
     middle ≡ advanced t (with_rows s g c a) →
-    after ≡ settled_account s g units blocks rated middle →
+    after ≡ settled_account s g units blocks due middle →
     after ≡ settled_by_rows s g used_parts (advanced t a)
-settled_is a middle after s g c t units blocks rated used_parts live_in some k u b r m e =
+settled_is a middle after s g c t units blocks due used_parts live_in some k u b r m e =
     let cost : price_in s g t used_parts a ≡ price_in s g t used_parts (advanced t a) =
     price_later a s g t used_parts live_in in
-    e ∙ ap (settled_account s g units blocks rated) (m ∙ (λ i. advanced t (with_rows s g (k i) a)))
-    ∙ settled_later a s g t units blocks rated
+    e ∙ ap (settled_account s g units blocks due) (m ∙ (λ i. advanced t (with_rows s g (k i) a)))
+    ∙ settled_later a s g t units blocks due
     ∙ (λ i. settled_account s g (u i) ((b ∙ ap (λ (x : Rated). x.blocks) cost) i)
-    ((r ∙ ap (λ (x : Rated). x.amount.0) cost) i) (advanced t a))
+    ((r ∙ ap due_of cost) i) (advanced t a))
     ∙ with_parts (advanced t a) s g used_parts some
 
 pub ended_is : (a middle after : AccountRows) (s : List ℕ) (g t : ℕ) (used_parts : List UsedPart) →
@@ -213,16 +296,16 @@ ended_is a middle after s g t used_parts empty m e =
 
 -- the rows of the ledger with the settlement
 pub rows_settled : (ledger : Ledger) (a middle after : AccountRows) (s : List ℕ)
-    (g c t units blocks rated : ℕ) (used_parts : List UsedPart) →
+    (g c t units blocks : ℕ) (due : Due) (used_parts : List UsedPart) →
     IsAccount a → IsRowsOf ledger a → a.as_of ≤ t →
     is_live_in (validity_of a.shelf) t a.sessions s ≡ true →
     (used_parts ≡ [] → ⊥) → c ≡ cycle_at a.shelf g t →
     units ≡ reported used_parts → blocks ≡ (price_in s g t used_parts a).blocks →
-    rated ≡ (price_in s g t used_parts a).amount.0 →
+    due ≡ due_of (price_in s g t used_parts a) →
     middle ≡ advanced t (with_rows s g c a) →
-    after ≡ settled_account s g units blocks rated middle →
+    after ≡ settled_account s g units blocks due middle →
     IsRowsOf (settled_by a.shelf t s g used_parts ledger) after
-rows_settled ledger a middle after s g c t units blocks rated used_parts account rows le live_in
+rows_settled ledger a middle after s g c t units blocks due used_parts account rows le live_in
     some k u b r m e =
     let live : is_live (validity_of a.shelf) t ledger s ≡ true =
     sym (is_live_in-is ledger a t s rows le) ∙ live_in in
@@ -230,14 +313,15 @@ rows_settled ledger a middle after s g c t units blocks rated used_parts account
     let account' : IsAccount later = IsAccount-advanced a t account in
     let rows' : IsRowsOf ledger later = IsRowsOf-advanced ledger a t account rows le in
     let same : after ≡ settled_by_rows s g used_parts later =
-    settled_is a middle after s g c t units blocks rated used_parts live_in some k u b r m e in
+    settled_is a middle after s g c t units blocks due used_parts live_in some k u b r m e in
     subst (IsRowsOf (settled_by a.shelf t s g used_parts ledger)) (sym same)
     (IsRowsOf-settled_by ledger later s g used_parts account' rows' live)
 
 -- what the call answers, by the account's rows before it and as it finds them at the moment
 pub record IsTold (a middle : AccountRows) (s : List ℕ) (g c t : ℕ) (used_parts : List UsedPart)
-    (blocks rated without paid : ℕ) : Type 0 where
+    (blocks covered rated without paid : ℕ) : Type 0 where
   pub blocks_are : blocks ≡ (price_in s g t used_parts a).blocks
+  pub covered_is : covered ≡ (price_in s g t used_parts a).covered.0
   pub rated_is : rated ≡ (price_in s g t used_parts a).amount.0
   pub brought : middle ≡ advanced t (with_rows s g c a)
   pub missing : without
@@ -248,7 +332,8 @@ pub settlement_is : (ledger : Ledger) (a middle : AccountRows) (s : List ℕ) (g
     (used_parts : List UsedPart) (x : Settled) →
     IsAccount a → IsRowsOf ledger a → a.as_of ≤ t →
     is_live_in (validity_of a.shelf) t a.sessions s ≡ true →
-    IsTold a middle s g c t used_parts x.blocks.0 x.rated.0 x.uncollected.0 x.collected.0 →
+    IsTold a middle s g c t used_parts x.blocks.0 x.covered.0 x.rated.0 x.uncollected.0
+    x.collected.0 →
     IsSettlementOf a.shelf t s g used_parts ledger x
 settlement_is ledger a middle s g c t used_parts x account rows le live_in told =
     let v : ℕ → ℕ = (validity_of a.shelf) in
@@ -271,6 +356,7 @@ settlement_is ledger a middle s g c t used_parts x account rows le live_in told 
     ∙ reserved_in_is ledger later s g account' rows' live in
     record {
       blocks = told.blocks_are ∙ ap (λ (y : Rated). y.blocks) cost;
+      covered = told.covered_is ∙ ap (λ (y : Rated). y.covered.0) cost;
       rated = rated;
       uncollected =
           told.missing

@@ -2,6 +2,7 @@
 use Rattle.std.proofs.Common.{◌≡◌, ℕ, ◌+◌, Bool, true, false, List, map, refl, sym, ap, ◌∙◌, Option}
 use Rattle.std.proofs.Common.{Some, None}
 use Rattle.std.specs.Prelude.{if◌then◌else◌, ◌==◌, option_map, unwrap_or}
+use Rattle.buckets.specs.declared.kind.Due.{Due}
 use Rattle.reserving.specs.declared.session.SessionGroup.{SessionGroup}
 use Rattle.reserving.specs.Keyed.{put}
 use Rattle.reserving.specs.Ledger.{is_same}
@@ -112,19 +113,19 @@ pub others_advanced : (a after : AccountRows) (s : List ℕ) (g t : ℕ) → aft
 others_advanced a after s g t e h =
     ap (λ x. reservation_in s g x.groups) e ∙ free_later _ s g a.groups h
 
-pub others_reserved : (a middle after : AccountRows) (s : List ℕ) (g g' t amount : ℕ) →
-    middle ≡ advanced t (with_group_row s g' a) → after ≡ reserved_account s g' amount middle →
+pub others_reserved : (a middle after : AccountRows) (s : List ℕ) (g g' t : ℕ) (due : Due) →
+    middle ≡ advanced t (with_group_row s g' a) → after ≡ reserved_account s g' due middle →
     (g == g') ≡ false → reservation_in s g a.groups ≡ None → reservation_in s g after.groups ≡ None
-others_reserved a middle after s g g' t amount m e n h =
-    ap (λ x. reservation_in s g x.groups) (e ∙ ap (reserved_account s g' amount) m)
+others_reserved a middle after s g g' t due m e n h =
+    ap (λ x. reservation_in s g x.groups) (e ∙ ap (reserved_account s g' due) m)
     ∙ still_reserved _ s g g' _ _ a.groups n h
 
 pub others_settled : (a middle after : AccountRows) (s : List ℕ) (g : ℕ) (s' : List ℕ)
-    (g' cycle t units blocks rated : ℕ) → middle ≡ advanced t (with_rows s' g' cycle a) →
-    after ≡ settled_account s' g' units blocks rated middle →
+    (g' cycle t units blocks : ℕ) (due : Due) → middle ≡ advanced t (with_rows s' g' cycle a) →
+    after ≡ settled_account s' g' units blocks due middle →
     reservation_in s g a.groups ≡ None → reservation_in s g after.groups ≡ None
-others_settled a middle after s g s' g' cycle t units blocks rated m e h =
-    ap (λ x. reservation_in s g x.groups) (e ∙ ap (settled_account s' g' units blocks rated) m)
+others_settled a middle after s g s' g' cycle t units blocks due m e h =
+    ap (λ x. reservation_in s g x.groups) (e ∙ ap (settled_account s' g' units blocks due) m)
     ∙ still_used _ s g s' g' units a.groups h
 
 pub others_ended : (a middle after : AccountRows) (s : List ℕ) (g : ℕ) (s' : List ℕ) (g' t : ℕ) →

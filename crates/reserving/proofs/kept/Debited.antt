@@ -3,6 +3,7 @@ use Rattle.std.proofs.Common.{◌≡◌, ℕ, ◌+◌, ◌<◌, ◌≤◌, List,
 use Rattle.buckets.specs.Row.{Row}
 use Rattle.buckets.specs.Spend.{Each}
 use Rattle.buckets.specs.Holding.{held_in, IsWithin, settled_row}
+use Rattle.buckets.specs.declared.kind.Due.{Due}
 use Rattle.reserving.specs.declared.session.SessionGroup.{SessionGroup}
 use Rattle.reserving.specs.declared.session.Counter.{Counter}
 use Rattle.reserving.specs.Pricing.{cycle_at}
@@ -52,12 +53,12 @@ held_event s g units rows b =
     held_by-put s g row rows b in
     omega arith
 
-pub IsAccount-debited : (a : AccountRows) (session : List ℕ) (group units blocks rated : ℕ) →
+pub IsAccount-debited : (a : AccountRows) (session : List ℕ) (group units blocks : ℕ) (due : Due) →
     used_in session group a.groups + units ≤ 1000000000000000000 →
     count_in group (cycle_at a.shelf group a.as_of) a.counters + blocks ≤ 4000000000000000000 →
     a.next_charge < 4294967296 →
-    IsAccount a → IsAccount (debited_account session group units blocks rated a)
-IsAccount-debited a session group units blocks rated used_fits count_fits charge_fits h =
+    IsAccount a → IsAccount (debited_account session group units blocks due a)
+IsAccount-debited a session group units blocks due used_fits count_fits charge_fits h =
     let cycle : ℕ = cycle_at a.shelf group a.as_of in
     let row : SessionGroup =
     record {
@@ -69,12 +70,12 @@ IsAccount-debited a session group units blocks rated used_fits count_fits charge
     let count : Counter =
     record { group = group; cycle = cycle; blocks = count_in group cycle a.counters + blocks }
     in
-    let does : Row → Row = settled_row [] group a.as_of rated a.buckets in
+    let does : Row → Row = settled_row [] group a.as_of due a.buckets in
     record {
       shelf = h.shelf;
-      sound = IsSound-settled [] group a.as_of rated a.buckets (within_none a.buckets) h.sound;
+      sound = IsSound-settled [] group a.as_of due a.buckets (within_none a.buckets) h.sound;
       below = IsBelow-map a.next_bucket does a.buckets
-          (settled_number [] group a.as_of rated a.buckets) h.below;
+          (settled_number [] group a.as_of due a.buckets) h.below;
       next_bucket = h.next_bucket;
       next_charge = omega arith;
       sessions = h.sessions;
@@ -90,11 +91,11 @@ IsAccount-debited a session group units blocks rated used_fits count_fits charge
           count_fits h.counted;
       held = each_same a.groups (with_event session group units a.groups) does a.buckets
           (held_event session group units a.groups)
-          (settled_number [] group a.as_of rated a.buckets)
-          (λ b. settled_reserved [] group a.as_of rated a.buckets b ∙ omega arith) h.held;
+          (settled_number [] group a.as_of due a.buckets)
+          (λ b. settled_reserved [] group a.as_of due a.buckets b ∙ omega arith) h.held;
       named = λ b le. held_event session group units a.groups b ∙ h.named b le;
       order = order_map does a.buckets (with_event session group units a.groups)
-          (settled_number [] group a.as_of rated a.buckets)
+          (settled_number [] group a.as_of due a.buckets)
           (EachIn-put _ group_before (is_of session group) row a.groups
           (order_or_new session group a.buckets a.groups h.order) h.order);
     }

@@ -23,6 +23,9 @@ use Rattle.reserving.specs.Pricing.{tariff_of, tariff_at, cycle_at, periods_at, 
 use Rattle.reserving.specs.Pricing.{validity_of}
 use Rattle.reserving.specs.Sessions.{session_in, is_of, group_in, is_counter, is_live_in}
 use Rattle.buckets.specs.Holding.{holds_of}
+use Rattle.buckets.specs.declared.kind.BucketKind.{BucketKind}
+use Rattle.buckets.specs.Kinds.{most_of, IsScopeOf}
+use Rattle.buckets.specs.declared.kind.Due.{Due}
 use Rattle.reserving.specs.Keyed.{put}
 use Rattle.reserving.specs.Changes.{advanced, with_session, touched_account, closed_account}
 use Rattle.reserving.specs.Changes.{lapse_group, is_other, new_group, group_or_new, ended_group}
@@ -251,13 +254,13 @@ IsPriced-closed a s is = record {
   order = ordered_closed a s is.order;
 }
 
-pub IsPriced-settled : (a : AccountRows) (session : List ℕ) (group units blocks rated : ℕ) →
+pub IsPriced-settled : (a : AccountRows) (session : List ℕ) (group units blocks : ℕ) (due : Due) →
     used_in session group a.groups + units ≤ 1000000000000000000 →
     count_in group (cycle_at a.shelf group a.as_of) a.counters + blocks ≤ 4000000000000000000 →
     a.next_charge < 4294967296 →
-    IsPriced a → IsPriced (settled_account session group units blocks rated a)
-IsPriced-settled a session group units blocks rated used_fits count_fits charge_fits is = record {
-  account = IsAccount-settled a session group units blocks rated used_fits count_fits charge_fits
+    IsPriced a → IsPriced (settled_account session group units blocks due a)
+IsPriced-settled a session group units blocks due used_fits count_fits charge_fits is = record {
+  account = IsAccount-settled a session group units blocks due used_fits count_fits charge_fits
       is.account;
   placed = placed_used a session group units None refl is.placed;
   order = ordered_counter a.sessions (with_use session group units a.groups) a.counters group
@@ -266,13 +269,13 @@ IsPriced-settled a session group units blocks rated used_fits count_fits charge_
       is.order);
 }
 
-pub IsPriced-debited : (a : AccountRows) (session : List ℕ) (group units blocks rated : ℕ) →
+pub IsPriced-debited : (a : AccountRows) (session : List ℕ) (group units blocks : ℕ) (due : Due) →
     used_in session group a.groups + units ≤ 1000000000000000000 →
     count_in group (cycle_at a.shelf group a.as_of) a.counters + blocks ≤ 4000000000000000000 →
     a.next_charge < 4294967296 →
-    IsPriced a → IsPriced (debited_account session group units blocks rated a)
-IsPriced-debited a session group units blocks rated used_fits count_fits charge_fits is = record {
-  account = IsAccount-debited a session group units blocks rated used_fits count_fits charge_fits
+    IsPriced a → IsPriced (debited_account session group units blocks due a)
+IsPriced-debited a session group units blocks due used_fits count_fits charge_fits is = record {
+  account = IsAccount-debited a session group units blocks due used_fits count_fits charge_fits
       is.account;
   placed = placed_used a session group units (group_or_new session group a.groups).reservation
       (placed_at a.shelf session group a.groups is.placed) is.placed;
@@ -314,22 +317,23 @@ IsPriced-with_rows a session group cycle is = record {
       (group_or_new session group a.groups) (or_new_key session group a.groups) is.order);
 }
 
-pub IsPriced-credited : (a : AccountRows) (from until : ℕ) (scope : Option ℕ) (amount : ℕ) →
-    a.next_bucket ≤ 4294967295 → amount ≤ 1000000000000000 → IsPriced a →
-    IsPriced (credited_account from until scope amount a)
-IsPriced-credited a from until scope amount le most is = record {
-  account = IsAccount-credited a from until scope amount le most is.account;
+pub IsPriced-credited : (a : AccountRows) (kind : BucketKind) (from until : ℕ) (scope : Option ℕ)
+    (amount : ℕ) →
+    a.next_bucket ≤ 4294967295 → amount ≤ most_of kind → IsScopeOf kind scope → IsPriced a →
+    IsPriced (credited_account kind from until scope amount a)
+IsPriced-credited a kind from until scope amount le most scoped is = record {
+  account = IsAccount-credited a kind from until scope amount le most scoped is.account;
   placed = is.placed;
   order = is.order;
 }
 
-pub IsPriced-reserved : (a : AccountRows) (session : List ℕ) (group amount : ℕ) →
+pub IsPriced-reserved : (a : AccountRows) (session : List ℕ) (group : ℕ) (due : Due) →
     reservation_in session group a.groups ≡ None →
     AreOfBook (book_at a.shelf a.as_of) (periods_at a.shelf a.as_of) →
     is_some (tariff_at a.shelf a.as_of group) ≡ true →
-    IsPriced a → IsPriced (reserved_account session group amount a)
-IsPriced-reserved a session group amount none of some is = record {
-  account = IsAccount-reserved a session group amount none is.account;
+    IsPriced a → IsPriced (reserved_account session group due a)
+IsPriced-reserved a session group due none of some is = record {
+  account = IsAccount-reserved a session group due none is.account;
   placed = placed_put a.shelf session group
       (record {
         session = session;
@@ -337,7 +341,7 @@ IsPriced-reserved a session group amount none of some is = record {
         used = used_in session group a.groups;
         reservation = Some (record {
           terms = terms_at a.shelf a.as_of;
-          holds = holds_of group a.as_of amount a.buckets;
+          holds = holds_of group a.as_of due a.buckets;
         });
       }) a.groups (terms_there a.shelf group (terms_at a.shelf a.as_of)
       (terms_at-of a.shelf a.as_of is.account.shelf of) some) is.placed;

@@ -7,11 +7,12 @@ use Rattle.std.specs.List.{list_any}
 use Rattle.buckets.specs.declared.holds.Hold.{Hold}
 use Rattle.buckets.specs.Row.{Row, with_charge, with_charge_of_hold, with_release}
 use Rattle.buckets.specs.Spend.{Each, IsSound}
-use Rattle.buckets.specs.Holding.{held_in, held_sum, IsWithin, paid_of_hold, paid_of_rest}
-use Rattle.buckets.specs.Holding.{settled_row, settled_rows}
+use Rattle.buckets.specs.Holding.{held_in, IsWithin, paid_of_hold, paid_of_rest}
+use Rattle.buckets.specs.Holding.{settled_row, settled_rows, unheld}
 use Rattle.buckets.proofs.SharesAlong.{with_release_number}
 use Rattle.buckets.proofs.Kept.{IsSound-charge, IsSound-charge_of_hold, IsSound-release}
 use Rattle.buckets.proofs.Settling.{left_within, settled_rows-along, IsSound-release_rest}
+use Rattle.buckets.specs.declared.kind.Due.{Due}
 use Rattle.reserving.specs.declared.session.SessionGroup.{SessionGroup}
 use Rattle.reserving.specs.declared.session.Counter.{Counter}
 use Rattle.reserving.specs.Pricing.{cycle_at}
@@ -34,29 +35,29 @@ pub use Rattle.reserving.proofs.rows.Lapsing.{IsBelow-map, released_reserved}
 
 -- ---- the purse
 
-pub IsSound-settled : (holds : List Hold) (group t amount : ℕ) (rows : List Row) →
-    IsWithin holds rows → IsSound rows → IsSound (settled_rows holds group t amount rows)
-IsSound-settled holds group t amount rows w h =
-    let left : ℕ = amount - held_sum holds rows in
-    subst IsSound (settled_rows-along holds group t amount rows h.order)
-    (IsSound-release_rest holds t amount _ (left_within holds group t amount left rows w)
-    (IsSound-charge group t left _ (IsSound-charge_of_hold holds amount rows w h)))
+pub IsSound-settled : (holds : List Hold) (group t : ℕ) (due : Due) (rows : List Row) →
+    IsWithin holds rows → IsSound rows → IsSound (settled_rows holds group t due rows)
+IsSound-settled holds group t due rows w h =
+    let left : Due = unheld holds due rows in
+    subst IsSound (settled_rows-along holds group t due rows h.order)
+    (IsSound-release_rest holds t due _ (left_within holds group t due left rows w)
+    (IsSound-charge group t left _ (IsSound-charge_of_hold holds due rows w h)))
 
-pub settled_reserved : (holds : List Hold) (group t rated : ℕ) (rows : List Row) (b : Row) →
-    (settled_row holds group t rated rows b).reserved ≡ b.reserved - held_in holds b
-settled_reserved holds group t rated rows b =
-    let part : paid_of_hold holds rated rows b ≤ held_in holds b = omega arith in
+pub settled_reserved : (holds : List Hold) (group t : ℕ) (due : Due) (rows : List Row) (b : Row) →
+    (settled_row holds group t due rows b).reserved ≡ b.reserved - held_in holds b
+settled_reserved holds group t due rows b =
+    let part : paid_of_hold holds due rows b ≤ held_in holds b = omega arith in
     released_reserved t
-    (with_charge (with_charge_of_hold b (paid_of_hold holds rated rows b))
-    (paid_of_rest holds group t rated rows b))
-    (held_in holds b - paid_of_hold holds rated rows b) ∙ omega arith
+    (with_charge (with_charge_of_hold b (paid_of_hold holds due rows b))
+    (paid_of_rest holds group t due rows b))
+    (held_in holds b - paid_of_hold holds due rows b) ∙ omega arith
 
-pub settled_number : (holds : List Hold) (group t rated : ℕ) (rows : List Row) (b : Row) →
-    (settled_row holds group t rated rows b).number ≡ b.number
-settled_number holds group t rated rows b =
+pub settled_number : (holds : List Hold) (group t : ℕ) (due : Due) (rows : List Row) (b : Row) →
+    (settled_row holds group t due rows b).number ≡ b.number
+settled_number holds group t due rows b =
     with_release_number t
-    (with_charge (with_charge_of_hold b (paid_of_hold holds rated rows b))
-    (paid_of_rest holds group t rated rows b)) (held_in holds b - paid_of_hold holds rated rows b)
+    (with_charge (with_charge_of_hold b (paid_of_hold holds due rows b))
+    (paid_of_rest holds group t due rows b)) (held_in holds b - paid_of_hold holds due rows b)
 
 -- ---- what the rows hold
 
@@ -180,20 +181,20 @@ AreApart-put_counter g c r rows key h =
 
 -- ---- a settlement
 
-pub IsAccount-settled : (a : AccountRows) (session : List ℕ) (group units blocks rated : ℕ) →
+pub IsAccount-settled : (a : AccountRows) (session : List ℕ) (group units blocks : ℕ) (due : Due) →
     used_in session group a.groups + units ≤ 1000000000000000000 →
     count_in group (cycle_at a.shelf group a.as_of) a.counters + blocks ≤ 4000000000000000000 →
     a.next_charge < 4294967296 →
-    IsAccount a → IsAccount (settled_account session group units blocks rated a)
-IsAccount-settled a session group units blocks rated used_fits count_fits charge_fits h =
+    IsAccount a → IsAccount (settled_account session group units blocks due a)
+IsAccount-settled a session group units blocks due used_fits count_fits charge_fits h =
     let holds : List Hold = reserved_in session group a.groups in
     let within : IsWithin holds a.buckets = within_of session group a.groups a.buckets h.held in
     let cycle : ℕ = cycle_at a.shelf group a.as_of in
     record {
       shelf = h.shelf;
-      sound = IsSound-settled holds group a.as_of rated a.buckets within h.sound;
-      below = IsBelow-map a.next_bucket (settled_row holds group a.as_of rated a.buckets) a.buckets
-          (settled_number holds group a.as_of rated a.buckets) h.below;
+      sound = IsSound-settled holds group a.as_of due a.buckets within h.sound;
+      below = IsBelow-map a.next_bucket (settled_row holds group a.as_of due a.buckets) a.buckets
+          (settled_number holds group a.as_of due a.buckets) h.below;
       next_bucket = h.next_bucket;
       next_charge = omega arith;
       sessions = h.sessions;
@@ -227,7 +228,7 @@ IsAccount-settled a session group units blocks rated used_fits count_fits charge
             blocks = count_in group cycle a.counters + blocks;
           }) a.counters count_fits h.counted;
       held = each_ended session group a.groups (with_use session group units a.groups)
-          (settled_row holds group a.as_of rated a.buckets) a.buckets
+          (settled_row holds group a.as_of due a.buckets) a.buckets
           (record {
             held =
                 λ b. held_by-put session group
@@ -239,8 +240,8 @@ IsAccount-settled a session group units blocks rated used_fits count_fits charge
                 }) a.groups b
                 ∙ omega arith;
           })
-          (settled_number holds group a.as_of rated a.buckets)
-          (settled_reserved holds group a.as_of rated a.buckets) h.held;
+          (settled_number holds group a.as_of due a.buckets)
+          (settled_reserved holds group a.as_of due a.buckets) h.held;
       named = λ b le. omega (
         arith,
         held_by-put session group
@@ -252,9 +253,9 @@ IsAccount-settled a session group units blocks rated used_fits count_fits charge
             }) a.groups b,
         h.named b le,
       );
-      order = order_map (settled_row holds group a.as_of rated a.buckets) a.buckets
+      order = order_map (settled_row holds group a.as_of due a.buckets) a.buckets
           (with_use session group units a.groups)
-          (settled_number holds group a.as_of rated a.buckets)
+          (settled_number holds group a.as_of due a.buckets)
           (EachIn-put _ group_before (is_of session group)
           (record {
             session = session;

@@ -6,6 +6,7 @@ use Rattle.buckets.specs.Row.{Row, IsBalanced, with_end}
 use Rattle.buckets.specs.Spend.{Each, AreDistinct}
 use Rattle.buckets.specs.Holding.{held_in, settled_row}
 use Rattle.buckets.proofs.Parts.{sum_at, sum_at-parts, held_in-sum_at}
+use Rattle.buckets.specs.declared.kind.Due.{Due}
 use Rattle.reserving.specs.Ledger.{Ledger, is_same, is_live, held, only}
 use Rattle.reserving.specs.Balance.{credits, bucket_at, buckets_at}
 use Rattle.reserving.specs.Sessions.{holds_at}
@@ -74,37 +75,37 @@ one_none v t session group n ledger live e =
           n ledger (one_split (λ s. is_live v t ledger s) session group live),
     )
 
-each_dead : (v : ℕ → ℕ) (t : ℕ) (session : List ℕ) (group rated : ℕ) (ledger : Ledger)
+each_dead : (v : ℕ → ℕ) (t : ℕ) (session : List ℕ) (group : ℕ) (due : Due) (ledger : Ledger)
     (holds : List Hold)
     (rows cs : List Row) → is_live v t ledger session ≡ true →
     Each (λ b. sum_at b.number holds ≡ held (only session group) b.number ledger)
     (map (bucket_at v t ledger) cs) →
-    Each (λ b. IsDead b → settled_row holds group t rated rows b ≡ b)
+    Each (λ b. IsDead b → settled_row holds group t due rows b ≡ b)
     (map (bucket_at v t ledger) cs)
-each_dead v t session group rated ledger holds rows [] live h = tt
-each_dead v t session group rated ledger holds rows (c ∷ cs) live h =
-    (one, each_dead v t session group rated ledger holds rows cs live h.1)
+each_dead v t session group due ledger holds rows [] live h = tt
+each_dead v t session group due ledger holds rows (c ∷ cs) live h =
+    (one, each_dead v t session group due ledger holds rows cs live h.1)
   where
     one : IsDead (bucket_at v t ledger c) →
-        settled_row holds group t rated rows (bucket_at v t ledger c) ≡ bucket_at v t ledger c
+        settled_row holds group t due rows (bucket_at v t ledger c) ≡ bucket_at v t ledger c
     one d =
         let none : held_in holds (bucket_at v t ledger c) ≡ 0 =
         held_in-sum_at holds (bucket_at v t ledger c) ∙ h.0
         ∙ one_none v t session group c.number ledger live d.reserved in
-        settled_dead holds group t rated rows (bucket_at v t ledger c) d none
+        settled_dead holds group t due rows (bucket_at v t ledger c) d none
 
-pub dead_settled : (v : ℕ → ℕ) (t : ℕ) (session : List ℕ) (group units blocks rated : ℕ)
-    (ledger : Ledger) →
+pub dead_settled : (v : ℕ → ℕ) (t : ℕ) (session : List ℕ) (group units blocks : ℕ)
+    (due : Due) (ledger : Ledger) →
     is_live v t ledger session ≡ true → Each IsBalanced (buckets_at v t ledger) →
     AreDistinct (buckets_at v t ledger) →
     AreDeadKept (buckets_at v t ledger)
-    (buckets_at v t (settled v t session group units blocks rated ledger))
-dead_settled v t session group units blocks rated ledger live balanced distinct =
+    (buckets_at v t (settled v t session group units blocks due ledger))
+dead_settled v t session group units blocks due ledger live balanced distinct =
     let rows : List Row = buckets_at v t ledger in
     let holds : List Hold = holds_at v t session group ledger in
     subst (AreDeadKept rows)
-    (sym (buckets_at-settled v t session group units blocks rated ledger live balanced
+    (sym (buckets_at-settled v t session group units blocks due ledger live balanced
     distinct))
-    (kept_by (settled_row holds group t rated rows) rows
-    (each_dead v t session group rated ledger holds rows (credits ledger) live
+    (kept_by (settled_row holds group t due rows) rows
+    (each_dead v t session group due ledger holds rows (credits ledger) live
     (sum_at-parts (λ b. held (only session group) b.number ledger) rows distinct)))

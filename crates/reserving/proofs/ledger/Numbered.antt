@@ -21,9 +21,9 @@ record IsOneUse (n : ℕ) (d : Dated) : Type 0 where
   count : length (charge_of n d) ≡ uses_in d.fact
 
 one_use : (n t : ℕ) (f : Fact) → IsOneUse n (record { at = t; fact = f })
-one_use n t (Use session group units blocks rated uncollected) =
+one_use n t (Use session group units blocks covered rated uncollected) =
     record { numbered = (refl, tt); count = refl }
-one_use n t (Credit number from until scope amount) = record { numbered = tt; count = refl }
+one_use n t (Credit kind number from until scope amount) = record { numbered = tt; count = refl }
 one_use n t (Grant session group terms units counter) = record { numbered = tt; count = refl }
 one_use n t (Hold session group bucket amount) = record { numbered = tt; count = refl }
 one_use n t (End session group) = record { numbered = tt; count = refl }

@@ -9,6 +9,7 @@ use Rattle.buckets.specs.Spend.{Each, AreDistinct}
 use Rattle.buckets.specs.Holding.{held_in, paid_of_hold, paid_of_rest, paid, settled_row}
 use Rattle.buckets.specs.Holding.{settled_rows, released_rows}
 use Rattle.buckets.proofs.Parts.{sum_at, sum_at-parts, held_in-sum_at}
+use Rattle.buckets.specs.declared.kind.Due.{Due}
 use Rattle.reserving.specs.Ledger.{Ledger, charged, held, only, is_live, is_same}
 use Rattle.reserving.specs.Ledger.Fact.{End}
 use Rattle.reserving.specs.Balance.{credits, balance_of, bucket_at, buckets_at}
@@ -46,11 +47,12 @@ eligible_le false a x m h = omega arith
 -- ---- the ledger with the settlement
 
 -- neither the end of a reservation, a use nor a charge tells of sessions
-pub same_sessions-settled : (v : ℕ → ℕ) (t : ℕ) (session : List ℕ) (group units blocks rated : ℕ)
-    (ledger : Ledger) → SameSessions ledger (settled v t session group units blocks rated ledger)
-same_sessions-settled v t session group units blocks rated ledger =
+pub same_sessions-settled : (v : ℕ → ℕ) (t : ℕ) (session : List ℕ)
+    (group units blocks : ℕ) (due : Due)
+    (ledger : Ledger) → SameSessions ledger (settled v t session group units blocks due ledger)
+same_sessions-settled v t session group units blocks due ledger =
     let hs : List Hold =
-    parts (paid (holds_at v t session group ledger) group t rated (buckets_at v t ledger))
+    parts (paid (holds_at v t session group ledger) group t due (buckets_at v t ledger))
     (buckets_at v t ledger) in
     record {
       touch = λ s. newest-front _ (charge_facts t hs) ledger (each_charge _ t hs (λ b n. refl));
@@ -94,36 +96,36 @@ split_at v t session group ledger c live holding =
       holding,
     )
 
-bucket_at-settled : (v : ℕ → ℕ) (t : ℕ) (session : List ℕ) (group units blocks rated : ℕ)
-    (ledger : Ledger)
+bucket_at-settled : (v : ℕ → ℕ) (t : ℕ) (session : List ℕ) (group units blocks : ℕ)
+    (due : Due) (ledger : Ledger)
     (c : Row) →
     (let holds : List Hold = holds_at v t session group ledger in
     let rows : List Row = buckets_at v t ledger in
     is_live v t ledger session ≡ true →
     IsBalanced (bucket_at v t ledger c) →
     sum_at c.number holds ≡ held (only session group) c.number ledger →
-    sum_at c.number (parts (paid holds group t rated rows) rows)
-    ≡ paid holds group t rated rows (bucket_at v t ledger c) →
-    bucket_at v t (settled v t session group units blocks rated ledger) c
-    ≡ settled_row holds group t rated rows (bucket_at v t ledger c))
-bucket_at-settled v t session group units blocks rated ledger c live balanced holding sum =
+    sum_at c.number (parts (paid holds group t due rows) rows)
+    ≡ paid holds group t due rows (bucket_at v t ledger c) →
+    bucket_at v t (settled v t session group units blocks due ledger) c
+    ≡ settled_row holds group t due rows (bucket_at v t ledger c))
+bucket_at-settled v t session group units blocks due ledger c live balanced holding sum =
     let holds : List Hold = holds_at v t session group ledger in
     let rows : List Row = buckets_at v t ledger in
-    let after : Ledger = settled v t session group units blocks rated ledger in
+    let after : Ledger = settled v t session group units blocks due ledger in
     let n : ℕ = c.number in
-    let hs : List Hold = parts (paid holds group t rated rows) rows in
+    let hs : List Hold = parts (paid holds group t due rows) rows in
     let ch : ℕ = charged n ledger in
     let all : List ℕ → ℕ → Bool = λ s g. is_live v t ledger s in
     let others' : List ℕ → ℕ → Bool =
     λ s g. is_live v t after s && not (is_same s session && g == group) in
     let h : ℕ = held_in holds (bucket_at v t ledger c) in
     let r : ℕ = held (others v t session group ledger) n ledger in
-    let s1 : ℕ = paid_of_hold holds rated rows (bucket_at v t ledger c) in
-    let s2 : ℕ = paid_of_rest holds group t rated rows (bucket_at v t ledger c) in
+    let s1 : ℕ = paid_of_hold holds due rows (bucket_at v t ledger c) in
+    let s2 : ℕ = paid_of_rest holds group t due rows (bucket_at v t ledger c) in
     let split : held all n ledger ≡ r + h = split_at v t session group ledger c live holding in
     let same : others' ≡ others v t session group ledger =
     λ i s g. same_live v t ledger after
-    (same_sessions-settled v t session group units blocks rated ledger) s i
+    (same_sessions-settled v t session group units blocks due ledger) s i
     && not (is_same s session && g == group) in
     let held' : 0 + (0 + held others' n (charge_facts t hs ++ ledger)) ≡ r =
     omega (arith, held-charge_facts others' n t hs ledger ∙ ap (λ p. held p n ledger) same) in
@@ -140,8 +142,8 @@ bucket_at-settled v t session group units blocks rated ledger c live balanced ho
     ∙ ap (λ x. with_release t (with_charge (with_charge_of_hold (balance_of t c ch x) s1) s2)
     (h - s1)) (sym split)
 
-each_settled : (v : ℕ → ℕ) (t : ℕ) (session : List ℕ) (group units blocks rated : ℕ)
-    (ledger : Ledger)
+each_settled : (v : ℕ → ℕ) (t : ℕ) (session : List ℕ) (group units blocks : ℕ)
+    (due : Due) (ledger : Ledger)
     (cs : List Row) →
     (let holds : List Hold = holds_at v t session group ledger in
     let rows : List Row = buckets_at v t ledger in
@@ -149,41 +151,41 @@ each_settled : (v : ℕ → ℕ) (t : ℕ) (session : List ℕ) (group units blo
     Each IsBalanced (map (bucket_at v t ledger) cs) →
     Each (λ b. sum_at b.number holds ≡ held (only session group) b.number ledger)
     (map (bucket_at v t ledger) cs) →
-    Each (λ b. sum_at b.number (parts (paid holds group t rated rows) rows)
-    ≡ paid holds group t rated rows b) (map (bucket_at v t ledger) cs) →
-    map (bucket_at v t (settled v t session group units blocks rated ledger)) cs
-    ≡ map (settled_row holds group t rated rows) (map (bucket_at v t ledger) cs))
-each_settled v t session group units blocks rated ledger [] live balanced holding sums = refl
-each_settled v t session group units blocks rated ledger (c ∷ cs) live balanced holding sums =
-    let one : bucket_at v t (settled v t session group units blocks rated ledger) c
-    ≡ settled_row (holds_at v t session group ledger) group t rated (buckets_at v t ledger)
+    Each (λ b. sum_at b.number (parts (paid holds group t due rows) rows)
+    ≡ paid holds group t due rows b) (map (bucket_at v t ledger) cs) →
+    map (bucket_at v t (settled v t session group units blocks due ledger)) cs
+    ≡ map (settled_row holds group t due rows) (map (bucket_at v t ledger) cs))
+each_settled v t session group units blocks due ledger [] live balanced holding sums = refl
+each_settled v t session group units blocks due ledger (c ∷ cs) live balanced holding sums =
+    let one : bucket_at v t (settled v t session group units blocks due ledger) c
+    ≡ settled_row (holds_at v t session group ledger) group t due (buckets_at v t ledger)
     (bucket_at v t ledger c)
-    = bucket_at-settled v t session group units blocks rated ledger c live balanced.0 holding.0
+    = bucket_at-settled v t session group units blocks due ledger c live balanced.0 holding.0
     sums.0 in
-    let rest : map (bucket_at v t (settled v t session group units blocks rated ledger)) cs
-    ≡ map (settled_row (holds_at v t session group ledger) group t rated
+    let rest : map (bucket_at v t (settled v t session group units blocks due ledger)) cs
+    ≡ map (settled_row (holds_at v t session group ledger) group t due
     (buckets_at v t ledger)) (map (bucket_at v t ledger) cs)
-    = each_settled v t session group units blocks rated ledger cs live balanced.1 holding.1 sums.1
+    = each_settled v t session group units blocks due ledger cs live balanced.1 holding.1 sums.1
     in
     λ i. one i ∷ rest i
 
 -- the buckets of a ledger with a settlement
-pub buckets_at-settled : (v : ℕ → ℕ) (t : ℕ) (session : List ℕ) (group units blocks rated : ℕ)
+pub buckets_at-settled : (v : ℕ → ℕ) (t : ℕ) (session : List ℕ) (group units blocks : ℕ) (due : Due)
     (ledger : Ledger) →
     is_live v t ledger session ≡ true →
     Each IsBalanced (buckets_at v t ledger) →
     AreDistinct (buckets_at v t ledger) →
-    buckets_at v t (settled v t session group units blocks rated ledger)
-    ≡ settled_rows (holds_at v t session group ledger) group t rated (buckets_at v t ledger)
-buckets_at-settled v t session group units blocks rated ledger live balanced distinct =
+    buckets_at v t (settled v t session group units blocks due ledger)
+    ≡ settled_rows (holds_at v t session group ledger) group t due (buckets_at v t ledger)
+buckets_at-settled v t session group units blocks due ledger live balanced distinct =
     let holds : List Hold = holds_at v t session group ledger in
     let rows : List Row = buckets_at v t ledger in
-    let hs : List Hold = parts (paid holds group t rated rows) rows in
-    ap (map (bucket_at v t (settled v t session group units blocks rated ledger)))
+    let hs : List Hold = parts (paid holds group t due rows) rows in
+    ap (map (bucket_at v t (settled v t session group units blocks due ledger)))
     (credits-charge_facts t hs ledger)
-    ∙ each_settled v t session group units blocks rated ledger (credits ledger) live balanced
+    ∙ each_settled v t session group units blocks due ledger (credits ledger) live balanced
     (sum_at-parts (λ b. held (only session group) b.number ledger) rows distinct)
-    (sum_at-parts (paid holds group t rated rows) rows distinct)
+    (sum_at-parts (paid holds group t due rows) rows distinct)
 
 -- ---- the ledger with the reservation's end alone
 

@@ -10,6 +10,8 @@ use Rattle.std.specs.List.Sorted.{IsPermutation}
 use Rattle.std.proofs.lemmas.List.Sorted.{IsPermutation-refl}
 use Rattle.shelves.specs.Shelves.{Shelf}
 use Rattle.rating.specs.declared.report.Rated.{Rated}
+use Rattle.buckets.specs.Kinds.{due}
+use Rattle.buckets.specs.declared.kind.Due.{Due}
 use Rattle.reserving.specs.declared.session.SessionGroup.{SessionGroup}
 use Rattle.reserving.specs.declared.settle.Settled.{Settled}
 use Rattle.reserving.specs.Ledger.{Ledger}
@@ -21,7 +23,7 @@ use Rattle.reserving.specs.Settlement.{passes}
 use Rattle.reserving.specs.Debiting.{is_covered}
 use Rattle.reserving.specs.Changes.{advanced, group_or_new, used_in, count_in, with_event}
 use Rattle.reserving.specs.Changes.{with_count}
-use Rattle.reserving.specs.Changes.{event_price_in, debited_account}
+use Rattle.reserving.specs.Changes.{rest_price_in, debited_account}
 use Rattle.reserving.specs.Prepared.{with_rows}
 use Rattle.reserving.specs.Rows.{AccountRows, EachIn, IsAccount}
 use Rattle.reserving.specs.Results.{IsDebitOf}
@@ -41,17 +43,18 @@ use Rattle.reserving.proofs.LeftTests.{none_each}
 use Rattle.reserving.proofs.LeftFrames.{row_same, count_joined, count_beside, advanced_joined}
 use Rattle.reserving.proofs.LeftMore.{with_advanced}
 use Rattle.reserving.proofs.left.Settled.{most_charge}
-use Rattle.reserving.proofs.LeftReadings.{used_joined, event_price_joined, uncollected_merged}
+use Rattle.reserving.proofs.LeftReadings.{used_joined, rest_price_joined, uncollected_merged}
 
 none_held : (left : List Row) → Each IsDead left → Each (λ b. held_in [] b ≡ 0) left
 none_held left dead = each_map IsDead (λ b. held_in [] b ≡ 0) left (λ b d. refl) dead
 
-pub debited_joined : (left : LeftRows) (a : AccountRows) (s : List ℕ) (g units blocks rated : ℕ) →
+pub debited_joined : (left : LeftRows) (a : AccountRows) (s : List ℕ)
+    (g units blocks : ℕ) (due : Due) →
     IsLeft left a → AreOfOtherCycles a.shelf a.as_of left.counters →
     EachIn (λ r. is_of s g r ≡ false) left.groups →
-    IsReordered (debited_account s g units blocks rated (joined left a))
-    (joined left (debited_account s g units blocks rated a))
-debited_joined left a s g units blocks rated h cycles not_of =
+    IsReordered (debited_account s g units blocks due (joined left a))
+    (joined left (debited_account s g units blocks due a))
+debited_joined left a s g units blocks due h cycles not_of =
     let row : SessionGroup = group_or_new s g a.groups in
     let new : SessionGroup =
     record { session = s; group = g; used = row.used + units; reservation = row.reservation } in
@@ -67,7 +70,7 @@ debited_joined left a s g units blocks rated h cycles not_of =
     record {
       same = λ i. record (joined left a) {
         buckets =
-            settled_merged [] g a.as_of rated left.buckets a.buckets h.dead
+            settled_merged [] g a.as_of due left.buckets a.buckets h.dead
             (none_held left.buckets h.dead) i;
         counters = left.counters ++ with_count g (cycle_at a.shelf g a.as_of) blocks a.counters;
         groups = left.groups ++ with_event s g units a.groups;
@@ -86,6 +89,7 @@ debit_reordered b t s g units ledger y z x r keys h = record {
   covered = h.covered;
   within = h.within;
   blocks = h.blocks;
+  covered_blocks = h.covered_blocks;
   rated = h.rated;
   collected = h.collected;
   uncollected = h.uncollected;
@@ -93,13 +97,14 @@ debit_reordered b t s g units ledger y z x r keys h = record {
 }
 
 pub covered_beside : (b : Bool) (ledger : Ledger) (left : LeftRows) (t : ℕ) (a : AccountRows)
-    (g units paid price : ℕ) → IsWith ledger left t a →
+    (g units paid price : ℕ) → a.as_of ≤ t → IsWith ledger left t a →
     paid ≡ funds g t (buckets_at (validity_of a.shelf) t ledger) →
-    price ≡ (event_price_in g units t a).amount.0 → is_lt (nat_cmp paid price) ≡ b →
+    price ≡ (rest_price_in g units t a).amount.0 → is_lt (nat_cmp paid price) ≡ b →
     is_covered a.shelf t g units ledger ≡ not b
-covered_beside b ledger left t a g units paid price h p q k =
-    covered_is b ledger (joined left a) g units t paid price h.rows p
-    (q ∙ ap (λ (x : Rated). x.amount.0) (sym (event_price_joined left a g units t h.cycles))) k
+covered_beside b ledger left t a g units paid price le h p q k =
+    covered_is b ledger (joined left a) g units t paid price h.apart.whole h.rows le p
+    (q ∙ ap (λ (x : Rated). x.amount.0) (sym (rest_price_joined left a g units t h.apart h.cycles)))
+    k
 
 pub debit_beside : (ledger : Ledger) (left : LeftRows) (a middle after : AccountRows) (s : List ℕ)
     (g c t units paid : ℕ) (x : Settled) →
@@ -111,46 +116,47 @@ debit_beside ledger left a middle after s g c t units paid x h gone f made =
     let whole : AccountRows = joined left a in
     let later : AccountRows = advanced t a in
     let blocks : ℕ = x.blocks.0 in
-    let rated : ℕ = x.rated.0 in
+    let owed : Due = due x.rated.0 x.covered.0 in
     let not_of : EachIn (λ y. is_of s g y ≡ false) left.groups =
     none_each (is_of s g) left.groups gone in
     let with_later : IsWith ledger left t later = with_advanced ledger left t a made.later h in
     let count : count_in g (cycle_at a.shelf g t) whole.counters
     ≡ count_in g (cycle_at a.shelf g t) a.counters =
     count_beside a.shelf t g left.counters a.counters h.cycles in
-    let cost : event_price_in g units t whole ≡ event_price_in g units t a =
-    event_price_joined left a g units t h.cycles in
-    let is : after ≡ debited_account s g units blocks rated later =
-    debited_is a middle after s g c t units blocks rated made.cycle made.brought made.debited in
-    let same : debited_account s g units blocks rated (advanced t (with_rows s g c whole))
-    ≡ debited_account s g units blocks rated (joined left later) =
-    (λ i. debited_account s g units blocks rated (advanced t (with_rows s g (made.cycle i) whole)))
-    ∙ debited_later whole s g t units blocks rated
-    ∙ ap (debited_account s g units blocks rated) (advanced_joined t left a h.apart) in
-    let moved : IsReordered (debited_account s g units blocks rated (joined left later))
+    let cost : rest_price_in g units t whole ≡ rest_price_in g units t a =
+    rest_price_joined left a g units t h.apart h.cycles in
+    let is : after ≡ debited_account s g units blocks owed later =
+    debited_is a middle after s g c t units blocks owed made.cycle made.brought made.debited in
+    let same : debited_account s g units blocks owed (advanced t (with_rows s g c whole))
+    ≡ debited_account s g units blocks owed (joined left later) =
+    (λ i. debited_account s g units blocks owed (advanced t (with_rows s g (made.cycle i) whole)))
+    ∙ debited_later whole s g t units blocks owed
+    ∙ ap (debited_account s g units blocks owed) (advanced_joined t left a h.apart) in
+    let moved : IsReordered (debited_account s g units blocks owed (joined left later))
     (joined left after) =
-    subst (λ y. IsReordered (debited_account s g units blocks rated (joined left later))
+    subst (λ y. IsReordered (debited_account s g units blocks owed (joined left later))
     (joined left y)) (sym is)
-    (debited_joined left later s g units blocks rated with_later.apart h.cycles not_of) in
+    (debited_joined left later s g units blocks owed with_later.apart h.cycles not_of) in
     let buckets : (advanced t (with_rows s g c whole)).buckets ≡ merged left.buckets later.buckets =
     buckets_later whole s g c t
     ∙ ap (λ (y : AccountRows). y.buckets) (advanced_joined t left a h.apart) in
     let un' : x.uncollected.0
-    ≡ uncollected [] g t rated (advanced t (with_rows s g c whole)).buckets =
-    made.missing ∙ (λ i. uncollected [] g (made.brought i).as_of rated (made.brought i).buckets)
-    ∙ ap (uncollected [] g t rated) (buckets_later a s g c t)
-    ∙ sym (ap (uncollected [] g t rated) buckets
-    ∙ uncollected_merged [] g t rated left.buckets later.buckets h.apart.dead
+    ≡ uncollected [] g t owed.money (advanced t (with_rows s g c whole)).buckets =
+    made.missing ∙ (λ i. uncollected [] g (made.brought i).as_of owed.money
+    (made.brought i).buckets)
+    ∙ ap (uncollected [] g t owed.money) (buckets_later a s g c t)
+    ∙ sym (ap (uncollected [] g t owed.money) buckets
+    ∙ uncollected_merged [] g t owed left.buckets later.buckets h.apart.dead
     (none_held left.buckets h.apart.dead)) in
     let fits' : passes (used_in s g whole.groups) units
-    (count_in g (cycle_at a.shelf g t) whole.counters) (event_price_in g units t whole).blocks
+    (count_in g (cycle_at a.shelf g t) whole.counters) (rest_price_in g units t whole).blocks
     a.next_charge ≡ false =
     (λ i. passes (used_joined left a s g h.apart not_of i) units (count i) (cost i).blocks
     a.next_charge) ∙ made.fits in
     let debited : IsDebitOf a.shelf t s g units ledger
-    (debited_account s g units blocks rated (advanced t (with_rows s g c whole))) x =
+    (debited_account s g units blocks owed (advanced t (with_rows s g c whole))) x =
     debit_is ledger whole (advanced t (with_rows s g c whole))
-    (debited_account s g units blocks rated (advanced t (with_rows s g c whole))) s g c t units
+    (debited_account s g units blocks owed (advanced t (with_rows s g c whole))) s g c t units
     paid x
     h.apart.whole h.rows f (record {
       later = made.later;
@@ -158,6 +164,7 @@ debit_beside ledger left a middle after s g c t units paid x h gone f made =
       covers = made.covers;
       fits = fits';
       started = made.started ∙ ap (λ (y : Rated). y.blocks) (sym cost);
+      cover = made.cover ∙ ap (λ (y : Rated). y.covered.0) (sym cost);
       price = made.price ∙ ap (λ (y : Rated). y.amount.0) (sym cost);
       brought = refl;
       debited = refl;
@@ -167,21 +174,21 @@ debit_beside ledger left a middle after s g c t units paid x h gone f made =
     let used : used_in s g (joined left later).groups ≡ used_in s g a.groups =
     used_joined left later s g with_later.apart not_of
     ∙ used_later (is_live_in (validity_of a.shelf) t a.sessions) s g a.groups in
-    let blocks_are : blocks ≡ (event_price_in g units t a).blocks = made.started in
+    let blocks_are : blocks ≡ (rest_price_in g units t a).blocks = made.started in
     let within : used_in s g a.groups + units ≤ 1000000000000000000 =
     within_used (used_in s g a.groups) units (count_in g (cycle_at a.shelf g t) a.counters)
-    (event_price_in g units t a).blocks a.next_charge made.fits in
-    let counted : count_in g (cycle_at a.shelf g t) a.counters + (event_price_in g units t a).blocks
+    (rest_price_in g units t a).blocks a.next_charge made.fits in
+    let counted : count_in g (cycle_at a.shelf g t) a.counters + (rest_price_in g units t a).blocks
     ≤ 4000000000000000000 =
     within_counted (used_in s g a.groups) units (count_in g (cycle_at a.shelf g t) a.counters)
-    (event_price_in g units t a).blocks a.next_charge made.fits in
-    let account : IsAccount (debited_account s g units blocks rated (joined left later)) =
-    IsAccount-debited (joined left later) s g units blocks rated
+    (rest_price_in g units t a).blocks a.next_charge made.fits in
+    let account : IsAccount (debited_account s g units blocks owed (joined left later)) =
+    IsAccount-debited (joined left later) s g units blocks owed
     (omega (arith, used, within)) (omega (arith, count, counted, blocks_are))
     (most_charge (used_in s g a.groups) units
-    (count_in g (cycle_at a.shelf g t) a.counters) (event_price_in g units t a).blocks
+    (count_in g (cycle_at a.shelf g t) a.counters) (rest_price_in g units t a).blocks
     a.next_charge made.fits) with_later.apart.whole in
-    let beside : IsBeside left t (debited_account s g units blocks rated later) = record {
+    let beside : IsBeside left t (debited_account s g units blocks owed later) = record {
       apart = record {
         dead = with_later.apart.dead;
         over = with_later.apart.over;
@@ -189,16 +196,16 @@ debit_beside ledger left a middle after s g c t units paid x h gone f made =
         free = with_later.apart.free;
         others = with_later.apart.others;
         whole = IsAccount-reordered
-            (debited_account s g units blocks rated (joined left later))
-            (joined left (debited_account s g units blocks rated later))
-            (debited_joined left later s g units blocks rated with_later.apart h.cycles not_of)
+            (debited_account s g units blocks owed (joined left later))
+            (joined left (debited_account s g units blocks owed later))
+            (debited_joined left later s g units blocks owed with_later.apart h.cycles not_of)
             account;
       };
       cycles = h.cycles;
     } in (
       subst (IsBeside left t) (sym is) beside,
       debit_reordered a.shelf t s g units ledger
-          (debited_account s g units blocks rated (joined left later)) (joined left after) x moved
-          (keys_of (debited_account s g units blocks rated (joined left later)) account)
+          (debited_account s g units blocks owed (joined left later)) (joined left after) x moved
+          (keys_of (debited_account s g units blocks owed (joined left later)) account)
           (subst (λ y. IsDebitOf a.shelf t s g units ledger y x) same debited),
     )

@@ -3,11 +3,12 @@ use Rattle.std.proofs.Common.{◌≡◌, ℕ, ◌<◌, ◌≤◌, Bool, true, fa
 use Rattle.std.proofs.Common.{Option, None}
 use Rattle.std.specs.Prelude.{nat_lt}
 use Rattle.rating.specs.declared.grant.Grant.{Grant}
+use Rattle.buckets.specs.declared.kind.Due.{Due}
 use Rattle.reserving.specs.declared.session.SessionGroup.{SessionGroup}
 use Rattle.shelves.specs.Shelves.{Shelf}
 use Rattle.reserving.specs.Ledger.{Ledger, used}
 use Rattle.reserving.specs.Pricing.{switch_at, validity_at, validity_of}
-use Rattle.reserving.specs.Reservation.{grant_for}
+use Rattle.reserving.specs.Reservation.{grant_for, held_due}
 use Rattle.reserving.specs.Sessions.{is_of, is_live_in}
 use Rattle.reserving.specs.Changes.{advanced, reserved_account}
 use Rattle.reserving.specs.Prepared.{with_group_row, reservation_in}
@@ -31,18 +32,18 @@ free_joined left a s g h not_of none =
     ap (λ (r : SessionGroup). r.reservation) (row_same left a h s g not_of) ∙ none
 
 -- a reservation that is made leaves the rows that were left
-pub left_reserved : (left : LeftRows) (a : AccountRows) (s : List ℕ) (g amount : ℕ) →
+pub left_reserved : (left : LeftRows) (a : AccountRows) (s : List ℕ) (g : ℕ) (due : Due) →
     IsLeft left a → is_live_in (validity_of a.shelf) a.as_of a.sessions s ≡ true →
-    reservation_in s g a.groups ≡ None → IsLeft left (reserved_account s g amount a)
-left_reserved left a s g amount h alive none = record {
+    reservation_in s g a.groups ≡ None → IsLeft left (reserved_account s g due a)
+left_reserved left a s g due h alive none = record {
   dead = h.dead;
   over = h.over;
   apart = h.apart;
   free = h.free;
   others = h.others;
-  whole = IsAccount-reordered (reserved_account s g amount (joined left a))
-      (joined left (reserved_account s g amount a)) (reserved_joined left a s g amount h alive)
-      (IsAccount-reserved (joined left a) s g amount
+  whole = IsAccount-reordered (reserved_account s g due (joined left a))
+      (joined left (reserved_account s g due a)) (reserved_joined left a s g due h alive)
+      (IsAccount-reserved (joined left a) s g due
       (free_joined left a s g h (not_of_live left a a.as_of s g h alive) none) h.whole);
 }
 
@@ -81,14 +82,14 @@ pub grant_beside : (ledger : Ledger) (left : LeftRows) (a middle after : Account
     0 < grant.units.0 → at ≡ switch_at a.shelf t → validity ≡ validity_at a.shelf t →
     fewer ≡ nat_lt grant.units.0 wanted →
     middle ≡ advanced t (with_group_row s g a) →
-    after ≡ reserved_account s g grant.amount.0 middle →
+    after ≡ reserved_account s g (held_due grant) middle →
     IsBeside left t after ×
     IsGrantOf a.shelf t s g requested ledger (joined left after) grant.units.0 at validity fewer
 grant_beside ledger left a middle after s g t requested wanted grant at validity fewer h le alive
     none q some switch valid few m e =
     let whole : AccountRows = joined left a in
     let later : AccountRows = advanced t a in
-    let amount : ℕ = grant.amount.0 in
+    let due : Due = held_due grant in
     let not_of : EachIn (λ r. is_of s g r ≡ false) left.groups =
     not_of_live left a t s g h.apart alive in
     let with_later : IsWith ledger left t later = with_advanced ledger left t a le h in
@@ -96,29 +97,29 @@ grant_beside ledger left a middle after s g t requested wanted grant at validity
     live_later ledger left a s t le h with_later alive in
     let free : reservation_in s g later.groups ≡ None =
     free_later (is_live_in (validity_of a.shelf) t a.sessions) s g a.groups none in
-    let is : after ≡ reserved_account s g amount later =
-    e ∙ ap (reserved_account s g amount) m ∙ reserved_later a s g t amount in
-    let same : reserved_account s g amount (advanced t (with_group_row s g whole))
-    ≡ reserved_account s g amount (joined left later) =
-    reserved_later whole s g t amount
-    ∙ ap (reserved_account s g amount) (advanced_joined t left a h.apart) in
-    let moved : IsReordered (reserved_account s g amount (joined left later)) (joined left after) =
-    subst (λ x. IsReordered (reserved_account s g amount (joined left later)) (joined left x))
-    (sym is) (reserved_joined left later s g amount with_later.apart alive_later) in
-    let account : IsAccount (reserved_account s g amount (joined left later)) =
-    IsAccount-reserved (joined left later) s g amount
+    let is : after ≡ reserved_account s g due later =
+    e ∙ ap (reserved_account s g due) m ∙ reserved_later a s g t due in
+    let same : reserved_account s g due (advanced t (with_group_row s g whole))
+    ≡ reserved_account s g due (joined left later) =
+    reserved_later whole s g t due
+    ∙ ap (reserved_account s g due) (advanced_joined t left a h.apart) in
+    let moved : IsReordered (reserved_account s g due (joined left later)) (joined left after) =
+    subst (λ x. IsReordered (reserved_account s g due (joined left later)) (joined left x))
+    (sym is) (reserved_joined left later s g due with_later.apart alive_later) in
+    let account : IsAccount (reserved_account s g due (joined left later)) =
+    IsAccount-reserved (joined left later) s g due
     (free_joined left later s g with_later.apart
     (not_of_live left later t s g with_later.apart alive_later) free) with_later.apart.whole in
-    let beside : IsBeside left t (reserved_account s g amount later) =
+    let beside : IsBeside left t (reserved_account s g due later) =
     record {
-      apart = left_reserved left later s g amount with_later.apart alive_later free;
+      apart = left_reserved left later s g due with_later.apart alive_later free;
       cycles = h.cycles;
     } in
     let granted : IsGrantOf a.shelf t s g requested ledger
-    (reserved_account s g amount (advanced t (with_group_row s g whole))) grant.units.0 at
+    (reserved_account s g due (advanced t (with_group_row s g whole))) grant.units.0 at
     validity fewer =
     grant_is ledger whole (advanced t (with_group_row s g whole))
-    (reserved_account s g amount (advanced t (with_group_row s g whole))) s g t requested wanted
+    (reserved_account s g due (advanced t (with_group_row s g whole))) s g t requested wanted
     grant at validity fewer
     h.apart.whole h.rows le (live left a h.apart t s ∙ alive)
     (free_joined left a s g h.apart not_of none)
@@ -126,9 +127,9 @@ grant_beside ledger left a middle after s g t requested wanted grant at validity
     valid few refl refl in (
       subst (IsBeside left t) (sym is) beside,
       grant_reordered a.shelf t s g requested ledger
-          (reserved_account s g amount (joined left later)) (joined left after) grant.units.0 at
+          (reserved_account s g due (joined left later)) (joined left after) grant.units.0 at
           validity fewer moved
-          (keys_of (reserved_account s g amount (joined left later)) account)
+          (keys_of (reserved_account s g due (joined left later)) account)
           (subst (λ x. IsGrantOf a.shelf t s g requested ledger x grant.units.0 at validity fewer)
           same granted),
     )

@@ -11,6 +11,7 @@ use Rattle.buckets.specs.Share.{share, parts}
 use Rattle.buckets.specs.Spend.{Each, held_rows}
 use Rattle.buckets.specs.Holding.{holds_of}
 use Rattle.buckets.proofs.SharesAlong.{KeepsPlace}
+use Rattle.buckets.specs.declared.kind.Due.{Due}
 use Rattle.reserving.specs.declared.session.SessionGroup.{SessionGroup}
 use Rattle.reserving.specs.Keyed.{put}
 use Rattle.reserving.specs.Pricing.{terms_at, validity_of}
@@ -32,15 +33,15 @@ parts_merged : (f : Row → ℕ) (left rows : List Row) → Each (λ b. f b ≡ 
 parts_merged f [] rows h = refl
 parts_merged f (b ∷ bs) rows h = parts_placed f b (merged bs rows) h.0 ∙ parts_merged f bs rows h.1
 
-pub holds_merged : (group at amount : ℕ) (left rows : List Row) → Each IsDead left →
-    holds_of group at amount (merged left rows) ≡ holds_of group at amount rows
-holds_merged group at amount left rows dead =
+pub holds_merged : (group at : ℕ) (due : Due) (left rows : List Row) → Each IsDead left →
+    holds_of group at due (merged left rows) ≡ holds_of group at due rows
+holds_merged group at due left rows dead =
     (λ i. parts
-    (λ b. share_merged (eligible_amount group at) left rows amount b
+    (λ b. share_merged (eligible_amount group at) left rows due b
     (dead_amount group at left dead) i) (merged left rows))
-    ∙ parts_merged (share (eligible_amount group at) rows amount) left rows
+    ∙ parts_merged (share (eligible_amount group at) rows due) left rows
     (each_map (λ b. eligible_amount group at b ≡ 0)
-    (λ b. share (eligible_amount group at) rows amount b ≡ 0) left
+    (λ b. share (eligible_amount group at) rows due b ≡ 0) left
     (λ b e. min_none (eligible_amount group at b) _ e) (dead_amount group at left dead))
 
 -- ---- buckets
@@ -54,33 +55,33 @@ hold_none b n e =
 hold_keeps : (f : Row → ℕ) → KeepsPlace (λ b. with_hold b (f b))
 hold_keeps f = record { number = λ b. refl; until = λ b. refl }
 
-pub held_merged : (group at amount : ℕ) (left rows : List Row) → Each IsDead left →
-    held_rows group at amount (merged left rows) ≡ merged left (held_rows group at amount rows)
-held_merged group at amount left rows dead =
+pub held_merged : (group at : ℕ) (due : Due) (left rows : List Row) → Each IsDead left →
+    held_rows group at due (merged left rows) ≡ merged left (held_rows group at due rows)
+held_merged group at due left rows dead =
     (λ i. map
     (λ b. with_hold b
-    (share_merged (eligible_amount group at) left rows amount b (dead_amount group at left dead)
+    (share_merged (eligible_amount group at) left rows due b (dead_amount group at left dead)
     i)) (merged left rows))
-    ∙ map_merged (λ b. with_hold b (share (eligible_amount group at) rows amount b))
-    (hold_keeps (share (eligible_amount group at) rows amount)) left rows
+    ∙ map_merged (λ b. with_hold b (share (eligible_amount group at) rows due b))
+    (hold_keeps (share (eligible_amount group at) rows due)) left rows
     (each_map (λ b. eligible_amount group at b ≡ 0)
-    (λ b. with_hold b (share (eligible_amount group at) rows amount b) ≡ b) left
+    (λ b. with_hold b (share (eligible_amount group at) rows due b) ≡ b) left
     (λ b e. hold_none b _ (min_none (eligible_amount group at b) _ e))
     (dead_amount group at left dead))
 
 -- ---- the grant
 
-pub reserved_joined : (left : LeftRows) (a : AccountRows) (s : List ℕ) (g amount : ℕ) →
+pub reserved_joined : (left : LeftRows) (a : AccountRows) (s : List ℕ) (g : ℕ) (due : Due) →
     IsLeft left a → is_live_in (validity_of a.shelf) a.as_of a.sessions s ≡ true →
-    IsReordered (reserved_account s g amount (joined left a))
-    (joined left (reserved_account s g amount a))
-reserved_joined left a s g amount h alive =
+    IsReordered (reserved_account s g due (joined left a))
+    (joined left (reserved_account s g due a))
+reserved_joined left a s g due h alive =
     let p : Terms = terms_at a.shelf a.as_of in
     let not_of : EachIn (λ r. is_of s g r ≡ false) left.groups =
     not_of_live left a a.as_of s g h alive in
-    let hs : List Hold = holds_of g a.as_of amount a.buckets in
-    let same : holds_of g a.as_of amount (merged left.buckets a.buckets) ≡ hs =
-    holds_merged g a.as_of amount left.buckets a.buckets h.dead in
+    let hs : List Hold = holds_of g a.as_of due a.buckets in
+    let same : holds_of g a.as_of due (merged left.buckets a.buckets) ≡ hs =
+    holds_merged g a.as_of due left.buckets a.buckets h.dead in
     let row : SessionGroup =
     record {
       session = s;
@@ -88,7 +89,7 @@ reserved_joined left a s g amount h alive =
       used = used_in s g a.groups;
       reservation = Some (record { terms = p; holds = hs });
     } in
-    let moved : with_reservation s g p (holds_of g a.as_of amount (merged left.buckets a.buckets))
+    let moved : with_reservation s g p (holds_of g a.as_of due (merged left.buckets a.buckets))
     (left.groups ++ a.groups) ≡ put group_before (is_of s g) row (left.groups ++ a.groups) =
     (λ i. put group_before (is_of s g)
     (record {
@@ -99,7 +100,7 @@ reserved_joined left a s g amount h alive =
     }) (left.groups ++ a.groups)) in
     record {
       same = λ i. record (joined left a) {
-        buckets = held_merged g a.as_of amount left.buckets a.buckets h.dead i;
+        buckets = held_merged g a.as_of due left.buckets a.buckets h.dead i;
         groups = left.groups ++ with_reservation s g p hs a.groups;
       };
       counters = IsPermutation-refl (left.counters ++ a.counters);

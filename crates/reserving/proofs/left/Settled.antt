@@ -4,11 +4,12 @@ use Rattle.std.proofs.Common.{subst, ◌∙◌, arith}
 use Rattle.std.proofs.lemmas.Bool.Decides.{nat_tests}
 use Rattle.units.specs.declared.blocks.UsedPart.{UsedPart}
 use Rattle.rating.specs.declared.report.Rated.{Rated}
+use Rattle.buckets.specs.declared.kind.Due.{Due}
 use Rattle.reserving.specs.declared.session.SessionGroup.{SessionGroup}
 use Rattle.reserving.specs.Ledger.{Ledger, is_live}
 use Rattle.reserving.specs.Pricing.{cycle_at, validity_of}
 use Rattle.reserving.specs.Sessions.{is_of, is_live_in}
-use Rattle.reserving.specs.Settlement.{reported, passes, settled_by}
+use Rattle.reserving.specs.Settlement.{reported, passes, settled_by, due_of}
 use Rattle.reserving.specs.Changes.{advanced, used_in, count_in, price_in, ended_rows}
 use Rattle.reserving.specs.Changes.{settled_account, settled_by_rows}
 use Rattle.reserving.specs.Prepared.{with_rows}
@@ -48,10 +49,10 @@ with_settled ledger left a s g (p ∷ ps) h alive fits =
     with_facts (settled_by a.shelf a.as_of s g (p ∷ ps) ledger) ledger left a.as_of a
     (settled_by_rows s g (p ∷ ps) a) refl refl h
     (IsAccount-reordered
-    (settled_account s g (reported (p ∷ ps)) x.blocks x.amount.0 (joined left a))
-    (joined left (settled_account s g (reported (p ∷ ps)) x.blocks x.amount.0 a))
-    (settled_joined left a h.apart s g not_of h.cycles (reported (p ∷ ps)) x.blocks x.amount.0)
-    (IsAccount-settled (joined left a) s g (reported (p ∷ ps)) x.blocks x.amount.0
+    (settled_account s g (reported (p ∷ ps)) x.blocks (due_of x) (joined left a))
+    (joined left (settled_account s g (reported (p ∷ ps)) x.blocks (due_of x) a))
+    (settled_joined left a h.apart s g not_of h.cycles (reported (p ∷ ps)) x.blocks (due_of x))
+    (IsAccount-settled (joined left a) s g (reported (p ∷ ps)) x.blocks (due_of x)
     (omega (arith, used, fits.used)) (omega (arith, count, fits.counted)) fits.charges
     h.apart.whole))
     (settled_with_left ledger left a s g (p ∷ ps) h.apart h.cycles alive h.rows)
@@ -111,24 +112,24 @@ pub most_charge : (before units count blocks charge : ℕ) →
 most_charge before units count blocks charge h = grind (arith, nat_tests)
 
 pub left_settled : (ledger : Ledger) (left : LeftRows) (a middle after : AccountRows) (s : List ℕ)
-    (g c t units blocks rated : ℕ) (used_parts : List UsedPart) →
+    (g c t units blocks : ℕ) (due : Due) (used_parts : List UsedPart) →
     IsWith ledger left t a → a.as_of ≤ t → is_live_in (validity_of a.shelf) t a.sessions s ≡ true →
     (used_parts ≡ [] → ⊥) → c ≡ cycle_at a.shelf g t →
     units ≡ reported used_parts → blocks ≡ (price_in s g t used_parts a).blocks →
-    rated ≡ (price_in s g t used_parts a).amount.0 →
+    due ≡ due_of (price_in s g t used_parts a) →
     passes (used_in s g a.groups) units (count_in g (cycle_at a.shelf g t) a.counters) blocks
     a.next_charge ≡ false →
     middle ≡ advanced t (with_rows s g c a) →
-    after ≡ settled_account s g units blocks rated middle →
+    after ≡ settled_account s g units blocks due middle →
     IsWith (settled_by a.shelf t s g used_parts ledger) left t after
-left_settled ledger left a middle after s g c t units blocks rated used_parts h le alive some k u b
+left_settled ledger left a middle after s g c t units blocks due used_parts h le alive some k u b
     r fits m e =
     let later : AccountRows = advanced t a in
     let with_later : IsWith ledger left t later = with_advanced ledger left t a le h in
     let cost : price_in s g t used_parts a ≡ price_in s g t used_parts later =
     price_later a s g t used_parts alive in
     let same : after ≡ settled_by_rows s g used_parts later =
-    settled_is a middle after s g c t units blocks rated used_parts alive some k u b r m e in
+    settled_is a middle after s g c t units blocks due used_parts alive some k u b r m e in
     let blocks_are : blocks ≡ (price_in s g t used_parts later).blocks =
     b ∙ ap (λ (x : Rated). x.blocks) cost in
     let used : used_in s g later.groups ≡ used_in s g a.groups =

@@ -4,6 +4,7 @@ use Rattle.units.specs.declared.blocks.UsedPart.{UsedPart}
 use Rattle.buckets.specs.declared.holds.Hold.{Hold}
 use Rattle.buckets.specs.Holding.{uncollected}
 use Rattle.rating.specs.declared.report.Rated.{Rated}
+use Rattle.buckets.specs.Kinds.{due}
 use Rattle.reserving.specs.declared.session.SessionGroup.{SessionGroup}
 use Rattle.reserving.specs.declared.settle.Settled.{Settled}
 use Rattle.reserving.specs.Ledger.{Ledger}
@@ -31,7 +32,8 @@ held_later a s g c t =
 pub settlement_beside : (ledger : Ledger) (left : LeftRows) (a middle : AccountRows) (s : List ℕ)
     (g c t : ℕ) (used_parts : List UsedPart) (x : Settled) →
     IsWith ledger left t a → a.as_of ≤ t → is_live_in (validity_of a.shelf) t a.sessions s ≡ true →
-    IsTold a middle s g c t used_parts x.blocks.0 x.rated.0 x.uncollected.0 x.collected.0 →
+    IsTold a middle s g c t used_parts x.blocks.0 x.covered.0 x.rated.0 x.uncollected.0
+    x.collected.0 →
     IsSettlementOf a.shelf t s g used_parts ledger x
 settlement_beside ledger left a middle s g c t used_parts x h le alive told =
     let whole : AccountRows = joined left a in
@@ -56,13 +58,14 @@ settlement_beside ledger left a middle s g c t used_parts x h le alive told =
     ∙ (λ i. uncollected (reserved_in s g (told.brought i).groups) g (told.brought i).as_of rated
     (told.brought i).buckets)
     ∙ (λ i. uncollected (held_later a s g c t i) g t rated (buckets_later a s g c t i))
-    ∙ sym (uncollected_merged holds g t rated left.buckets later.buckets h.apart.dead
+    ∙ sym (uncollected_merged holds g t (due rated 0) left.buckets later.buckets h.apart.dead
     (holds_none left later with_later.apart s g not_of))
     ∙ (λ i. uncollected (sym held i) g t rated (sym buckets i)) in
     settlement_is ledger whole (advanced t (with_rows s g c whole)) s g c t used_parts x
     h.apart.whole h.rows le (live left a h.apart t s ∙ alive)
     (record {
       blocks_are = told.blocks_are ∙ ap (λ (y : Rated). y.blocks) (sym cost);
+      covered_is = told.covered_is ∙ ap (λ (y : Rated). y.covered.0) (sym cost);
       rated_is = told.rated_is ∙ ap (λ (y : Rated). y.amount.0) (sym cost);
       brought = refl;
       missing = missing;

@@ -10,6 +10,7 @@ use Rattle.buckets.specs.Share.{share}
 use Rattle.buckets.specs.Spend.{Each}
 use Rattle.buckets.specs.Holding.{held_in, settled_row, paid_of_hold, paid_of_rest}
 use Rattle.buckets.proofs.SharesAlong.{with_release_until}
+use Rattle.buckets.specs.declared.kind.Due.{Due}
 use Rattle.reserving.specs.declared.session.Session.{Session}
 use Rattle.reserving.specs.declared.session.SessionGroup.{SessionGroup}
 use Rattle.reserving.specs.declared.session.SessionState.TheVariants.{Open, Ended}
@@ -213,9 +214,9 @@ settled_calm t b p q n h k =
     let none : b.available ≡ 0 = h ended in
     released_available t (with_charge (with_charge_of_hold b p) q) n ended ∙ omega (arith, none)
 
-pub calm_settled : (a : AccountRows) (s : List ℕ) (g units blocks rated : ℕ) → IsCalm a →
-    IsCalm (settled_account s g units blocks rated a)
-calm_settled a s g units blocks rated h = record {
+pub calm_settled : (a : AccountRows) (s : List ℕ) (g units blocks : ℕ) (due : Due) → IsCalm a →
+    IsCalm (settled_account s g units blocks due a)
+calm_settled a s g units blocks due h = record {
   sessions = h.sessions;
   groups = EachIn-put
       (λ r. is_live_in (validity_of a.shelf) a.as_of a.sessions r.session ≡ false →
@@ -223,13 +224,13 @@ calm_settled a s g units blocks rated h = record {
       group_before (is_of s g) _ a.groups (λ k. refl) h.groups;
   buckets = rows_map (λ b. nat_lt a.as_of b.until ≡ false → b.available ≡ 0)
       (λ b. nat_lt a.as_of b.until ≡ false → b.available ≡ 0)
-      (settled_row (holds_in (group_or_new s g a.groups).reservation) g a.as_of rated a.buckets)
+      (settled_row (holds_in (group_or_new s g a.groups).reservation) g a.as_of due a.buckets)
       a.buckets
       (λ b e. settled_calm a.as_of b
-      (paid_of_hold (holds_in (group_or_new s g a.groups).reservation) rated a.buckets b)
-      (paid_of_rest (holds_in (group_or_new s g a.groups).reservation) g a.as_of rated a.buckets b)
+      (paid_of_hold (holds_in (group_or_new s g a.groups).reservation) due a.buckets b)
+      (paid_of_rest (holds_in (group_or_new s g a.groups).reservation) g a.as_of due a.buckets b)
       (held_in (holds_in (group_or_new s g a.groups).reservation) b
-      - paid_of_hold (holds_in (group_or_new s g a.groups).reservation) rated a.buckets b) e)
+      - paid_of_hold (holds_in (group_or_new s g a.groups).reservation) due a.buckets b) e)
       h.buckets;
 }
 
@@ -267,10 +268,10 @@ calm_ended a s g h = record {
       (held_in (holds_in (group_or_new s g a.groups).reservation) b) e) h.buckets;
 }
 
-pub calm_reserved : (a : AccountRows) (s : List ℕ) (g amount : ℕ) →
+pub calm_reserved : (a : AccountRows) (s : List ℕ) (g : ℕ) (due : Due) →
     is_live_in (validity_of a.shelf) a.as_of a.sessions s ≡ true → IsCalm a →
-    IsCalm (reserved_account s g amount a)
-calm_reserved a s g amount live h = record {
+    IsCalm (reserved_account s g due a)
+calm_reserved a s g due live h = record {
   sessions = h.sessions;
   groups = EachIn-put
       (λ r. is_live_in (validity_of a.shelf) a.as_of a.sessions r.session ≡ false →
@@ -278,7 +279,7 @@ calm_reserved a s g amount live h = record {
       group_before (is_of s g) _ a.groups (λ k. absurd (not_both (sym k ∙ live))) h.groups;
   buckets = rows_map (λ b. nat_lt a.as_of b.until ≡ false → b.available ≡ 0)
       (λ b. nat_lt a.as_of b.until ≡ false → b.available ≡ 0)
-      (λ b. with_hold b (share (eligible_amount g a.as_of) a.buckets amount b)) a.buckets
+      (λ b. with_hold b (share (eligible_amount g a.as_of) a.buckets due b)) a.buckets
       (λ b e k. let none : b.available ≡ 0 = e k in omega arith) h.buckets;
 }
 

@@ -5,6 +5,7 @@ use Rattle.std.specs.Prelude.{not, nat_lt, unwrap_or, if◌then◌else◌}
 use Rattle.std.proofs.lemmas.Bool.Decides.{nat_tests}
 use Rattle.identifiers.proofs.Equality.{equal_names}
 use Rattle.buckets.specs.Holding.{held_in, settled_row, paid_of_hold, paid_of_rest}
+use Rattle.buckets.specs.declared.kind.Due.{Due}
 use Rattle.reserving.specs.declared.session.Session.{Session}
 use Rattle.reserving.specs.declared.session.SessionGroup.{SessionGroup}
 use Rattle.reserving.specs.declared.session.SessionState.{SessionState}
@@ -37,9 +38,9 @@ kept_reservation keeps s g rows h k = at (group_in s g rows) refl
         EachIn-found (λ r. keeps r.session ≡ false → r.reservation ≡ None) (is_of s g) rows x h e
         (ap keeps (found_session s g rows x e) ∙ k)
 
-pub calm_debited : (a : AccountRows) (s : List ℕ) (g units blocks rated : ℕ) → IsCalm a →
-    IsCalm (debited_account s g units blocks rated a)
-calm_debited a s g units blocks rated h = record {
+pub calm_debited : (a : AccountRows) (s : List ℕ) (g units blocks : ℕ) (due : Due) → IsCalm a →
+    IsCalm (debited_account s g units blocks due a)
+calm_debited a s g units blocks due h = record {
   sessions = h.sessions;
   groups = EachIn-put
       (λ r. is_live_in (validity_of a.shelf) a.as_of a.sessions r.session ≡ false →
@@ -49,10 +50,10 @@ calm_debited a s g units blocks rated h = record {
       h.groups;
   buckets = rows_map (λ b. nat_lt a.as_of b.until ≡ false → b.available ≡ 0)
       (λ b. nat_lt a.as_of b.until ≡ false → b.available ≡ 0)
-      (settled_row [] g a.as_of rated a.buckets) a.buckets
-      (λ b e. settled_calm a.as_of b (paid_of_hold [] rated a.buckets b)
-      (paid_of_rest [] g a.as_of rated a.buckets b)
-      (held_in [] b - paid_of_hold [] rated a.buckets b) e) h.buckets;
+      (settled_row [] g a.as_of due a.buckets) a.buckets
+      (λ b e. settled_calm a.as_of b (paid_of_hold [] due a.buckets b)
+      (paid_of_rest [] g a.as_of due a.buckets b)
+      (held_in [] b - paid_of_hold [] due a.buckets b) e) h.buckets;
 }
 
 -- ---- a recorded request

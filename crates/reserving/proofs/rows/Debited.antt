@@ -9,6 +9,7 @@ use Rattle.buckets.specs.Spend.{Each, AreDistinct, IsSound, IsBelow}
 use Rattle.buckets.specs.Holding.{held_in, paid, paid_of_hold, paid_of_rest, settled_row}
 use Rattle.buckets.specs.Holding.{settled_rows}
 use Rattle.buckets.proofs.Parts.{sum_at, sum_at-parts, sum_at_none}
+use Rattle.buckets.specs.declared.kind.Due.{Due}
 use Rattle.reserving.specs.declared.session.SessionGroup.{SessionGroup}
 use Rattle.reserving.specs.declared.session.Terms.{Terms}
 use Rattle.reserving.specs.Ledger.{Ledger, charged, open_grant, held, only, used, counter}
@@ -42,16 +43,16 @@ use Rattle.reserving.proofs.SettledRows.{count_in_is, open_none, if_none, counte
 use Rattle.reserving.proofs.SettledRows.{differs_above, made_in}
 
 -- what each bucket pays of an event's price
-abbrev shares : (ℕ → ℕ) → ℕ → ℕ → ℕ → Ledger → List Hold
-shares v t group rated ledger =
-    parts (paid [] group t rated (buckets_at v t ledger)) (buckets_at v t ledger)
+abbrev shares : (ℕ → ℕ) → ℕ → ℕ → Due → Ledger → List Hold
+shares v t group due ledger =
+    parts (paid [] group t due (buckets_at v t ledger)) (buckets_at v t ledger)
 
 -- neither a use nor a charge tells of sessions
-same_sessions-debited : (v : ℕ → ℕ) (t : ℕ) (session : List ℕ) (group units blocks rated : ℕ)
+same_sessions-debited : (v : ℕ → ℕ) (t : ℕ) (session : List ℕ) (group units blocks : ℕ) (due : Due)
     (ledger : Ledger) →
-    SameSessions ledger (charged_use v t session group units blocks rated ledger)
-same_sessions-debited v t session group units blocks rated ledger =
-    let hs : List Hold = shares v t group rated ledger in
+    SameSessions ledger (charged_use v t session group units blocks due ledger)
+same_sessions-debited v t session group units blocks due ledger =
+    let hs : List Hold = shares v t group due ledger in
     record {
       touch = λ s. newest-front _ (charge_facts t hs) ledger (each_charge _ t hs (λ b n. refl));
       closed = λ s. any-front _ (charge_facts t hs) ledger (each_charge _ t hs (λ b n. refl));
@@ -60,31 +61,31 @@ same_sessions-debited v t session group units blocks rated ledger =
 
 -- ---- its buckets
 
-bucket_at-debited : (v : ℕ → ℕ) (t : ℕ) (session : List ℕ) (group units blocks rated : ℕ)
-    (ledger : Ledger)
+bucket_at-debited : (v : ℕ → ℕ) (t : ℕ) (session : List ℕ) (group units blocks : ℕ)
+    (due : Due) (ledger : Ledger)
     (c : Row) →
     (let rows : List Row = buckets_at v t ledger in
     IsBalanced (bucket_at v t ledger c) →
-    sum_at c.number (parts (paid [] group t rated rows) rows)
-    ≡ paid [] group t rated rows (bucket_at v t ledger c) →
-    bucket_at v t (charged_use v t session group units blocks rated ledger) c
-    ≡ settled_row [] group t rated rows (bucket_at v t ledger c))
-bucket_at-debited v t session group units blocks rated ledger c balanced sum =
+    sum_at c.number (parts (paid [] group t due rows) rows)
+    ≡ paid [] group t due rows (bucket_at v t ledger c) →
+    bucket_at v t (charged_use v t session group units blocks due ledger) c
+    ≡ settled_row [] group t due rows (bucket_at v t ledger c))
+bucket_at-debited v t session group units blocks due ledger c balanced sum =
     let rows : List Row = buckets_at v t ledger in
-    let after : Ledger = charged_use v t session group units blocks rated ledger in
+    let after : Ledger = charged_use v t session group units blocks due ledger in
     let n : ℕ = c.number in
-    let hs : List Hold = shares v t group rated ledger in
+    let hs : List Hold = shares v t group due ledger in
     let ch : ℕ = charged n ledger in
     let all : List ℕ → ℕ → Bool = λ s g. is_live v t ledger s in
     let all' : List ℕ → ℕ → Bool = λ s g. is_live v t after s in
     let h : ℕ = held_in [] (bucket_at v t ledger c) in
     let r : ℕ = held all n ledger in
-    let s1 : ℕ = paid_of_hold [] rated rows (bucket_at v t ledger c) in
-    let s2 : ℕ = paid_of_rest [] group t rated rows (bucket_at v t ledger c) in
+    let s1 : ℕ = paid_of_hold [] due rows (bucket_at v t ledger c) in
+    let s2 : ℕ = paid_of_rest [] group t due rows (bucket_at v t ledger c) in
     let none : r ≡ r + h = omega arith in
     let same : all' ≡ all =
     λ i s g. same_live v t ledger after
-    (same_sessions-debited v t session group units blocks rated ledger) s i in
+    (same_sessions-debited v t session group units blocks due ledger) s i in
     let held' : 0 + held all' n (charge_facts t hs ++ ledger) ≡ r =
     omega (arith, held-charge_facts all' n t hs ledger ∙ ap (λ p. held p n ledger) same) in
     let charged' : 0 + charged n (charge_facts t hs ++ ledger) ≡ s1 + s2 + ch =
@@ -100,64 +101,66 @@ bucket_at-debited v t session group units blocks rated ledger c balanced sum =
     ∙ ap (λ x. with_release t (with_charge (with_charge_of_hold (balance_of t c ch x) s1) s2)
     (h - s1)) (sym none)
 
-each_debited : (v : ℕ → ℕ) (t : ℕ) (session : List ℕ) (group units blocks rated : ℕ)
-    (ledger : Ledger)
+each_debited : (v : ℕ → ℕ) (t : ℕ) (session : List ℕ) (group units blocks : ℕ)
+    (due : Due) (ledger : Ledger)
     (cs : List Row) →
     (let rows : List Row = buckets_at v t ledger in
     Each IsBalanced (map (bucket_at v t ledger) cs) →
-    Each (λ b. sum_at b.number (parts (paid [] group t rated rows) rows)
-    ≡ paid [] group t rated rows b) (map (bucket_at v t ledger) cs) →
-    map (bucket_at v t (charged_use v t session group units blocks rated ledger)) cs
-    ≡ map (settled_row [] group t rated rows) (map (bucket_at v t ledger) cs))
-each_debited v t session group units blocks rated ledger [] balanced sums = refl
-each_debited v t session group units blocks rated ledger (c ∷ cs) balanced sums =
-    let one : bucket_at v t (charged_use v t session group units blocks rated ledger) c
-    ≡ settled_row [] group t rated (buckets_at v t ledger) (bucket_at v t ledger c)
-    = bucket_at-debited v t session group units blocks rated ledger c balanced.0 sums.0 in
-    let rest : map (bucket_at v t (charged_use v t session group units blocks rated ledger)) cs
-    ≡ map (settled_row [] group t rated (buckets_at v t ledger)) (map (bucket_at v t ledger) cs)
-    = each_debited v t session group units blocks rated ledger cs balanced.1 sums.1 in
+    Each (λ b. sum_at b.number (parts (paid [] group t due rows) rows)
+    ≡ paid [] group t due rows b) (map (bucket_at v t ledger) cs) →
+    map (bucket_at v t (charged_use v t session group units blocks due ledger)) cs
+    ≡ map (settled_row [] group t due rows) (map (bucket_at v t ledger) cs))
+each_debited v t session group units blocks due ledger [] balanced sums = refl
+each_debited v t session group units blocks due ledger (c ∷ cs) balanced sums =
+    let one : bucket_at v t (charged_use v t session group units blocks due ledger) c
+    ≡ settled_row [] group t due (buckets_at v t ledger) (bucket_at v t ledger c)
+    = bucket_at-debited v t session group units blocks due ledger c balanced.0 sums.0 in
+    let rest : map (bucket_at v t (charged_use v t session group units blocks due ledger)) cs
+    ≡ map (settled_row [] group t due (buckets_at v t ledger)) (map (bucket_at v t ledger) cs)
+    = each_debited v t session group units blocks due ledger cs balanced.1 sums.1 in
     λ i. one i ∷ rest i
 
-buckets_at-debited : (v : ℕ → ℕ) (t : ℕ) (session : List ℕ) (group units blocks rated : ℕ)
-    (ledger : Ledger) →
+buckets_at-debited : (v : ℕ → ℕ) (t : ℕ) (session : List ℕ) (group units blocks : ℕ)
+    (due : Due) (ledger : Ledger) →
     Each IsBalanced (buckets_at v t ledger) →
     AreDistinct (buckets_at v t ledger) →
-    buckets_at v t (charged_use v t session group units blocks rated ledger)
-    ≡ settled_rows [] group t rated (buckets_at v t ledger)
-buckets_at-debited v t session group units blocks rated ledger balanced distinct =
+    buckets_at v t (charged_use v t session group units blocks due ledger)
+    ≡ settled_rows [] group t due (buckets_at v t ledger)
+buckets_at-debited v t session group units blocks due ledger balanced distinct =
     let rows : List Row = buckets_at v t ledger in
-    ap (map (bucket_at v t (charged_use v t session group units blocks rated ledger)))
-    (credits-charge_facts t (shares v t group rated ledger) ledger)
-    ∙ each_debited v t session group units blocks rated ledger (credits ledger) balanced
-    (sum_at-parts (paid [] group t rated rows) rows distinct)
+    ap (map (bucket_at v t (charged_use v t session group units blocks due ledger)))
+    (credits-charge_facts t (shares v t group due ledger) ledger)
+    ∙ each_debited v t session group units blocks due ledger (credits ledger) balanced
+    (sum_at-parts (paid [] group t due rows) rows distinct)
 
 -- ---- its groups
 
-same_grant : (v : ℕ → ℕ) (t : ℕ) (session : List ℕ) (group units blocks rated : ℕ) (ledger : Ledger)
-    (s : List ℕ) (g : ℕ) →
-    open_grant s g (charged_use v t session group units blocks rated ledger) ≡ open_grant s g ledger
-same_grant v t session group units blocks rated ledger s g =
-    ap inner (newest-front (grant_in s g) (charge_facts t (shares v t group rated ledger)) ledger
-    (each_charge _ t (shares v t group rated ledger) (λ b n. refl)))
-
-same_held : (v : ℕ → ℕ) (t : ℕ) (session : List ℕ) (group units blocks rated : ℕ) (ledger : Ledger)
-    (p : List ℕ → ℕ → Bool) (n : ℕ) →
-    held p n (charged_use v t session group units blocks rated ledger) ≡ held p n ledger
-same_held v t session group units blocks rated ledger p n =
-    omega (arith, held-charge_facts p n t (shares v t group rated ledger) ledger)
-
-other_debited : (v : ℕ → ℕ) (t : ℕ) (session : List ℕ) (group units blocks rated : ℕ)
+same_grant : (v : ℕ → ℕ) (t : ℕ) (session : List ℕ) (group units blocks : ℕ) (due : Due)
     (ledger : Ledger)
+    (s : List ℕ) (g : ℕ) →
+    open_grant s g (charged_use v t session group units blocks due ledger) ≡ open_grant s g ledger
+same_grant v t session group units blocks due ledger s g =
+    ap inner (newest-front (grant_in s g) (charge_facts t (shares v t group due ledger)) ledger
+    (each_charge _ t (shares v t group due ledger) (λ b n. refl)))
+
+same_held : (v : ℕ → ℕ) (t : ℕ) (session : List ℕ) (group units blocks : ℕ) (due : Due)
+    (ledger : Ledger)
+    (p : List ℕ → ℕ → Bool) (n : ℕ) →
+    held p n (charged_use v t session group units blocks due ledger) ≡ held p n ledger
+same_held v t session group units blocks due ledger p n =
+    omega (arith, held-charge_facts p n t (shares v t group due ledger) ledger)
+
+other_debited : (v : ℕ → ℕ) (t : ℕ) (session : List ℕ) (group units blocks : ℕ)
+    (due : Due) (ledger : Ledger)
     (s : List ℕ) (g : ℕ) → is_key session group s g ≡ false →
-    SameGroup s g ledger (charged_use v t session group units blocks rated ledger)
-other_debited v t session group units blocks rated ledger s g h =
-    let hs : List Hold = shares v t group rated ledger in
+    SameGroup s g ledger (charged_use v t session group units blocks due ledger)
+other_debited v t session group units blocks due ledger s g h =
+    let hs : List Hold = shares v t group due ledger in
     record {
       named = other_named session group s g t hs ledger h;
       used = other_used session group units s g t hs ledger h;
-      grant = same_grant v t session group units blocks rated ledger s g;
-      held = same_held v t session group units blocks rated ledger (only s g);
+      grant = same_grant v t session group units blocks due ledger s g;
+      held = same_held v t session group units blocks due ledger (only s g);
     }
 
 either_reservation : (h l : Bool) (hs : List Hold) (p : Option Terms) (used : ℕ) (s : List ℕ)
@@ -180,46 +183,46 @@ reservation_is ledger a s g rows =
     (used s g ledger) s g
     (open_none s g ledger)
 
-own_debited : (v : ℕ → ℕ) (t : ℕ) (session : List ℕ) (group units blocks rated : ℕ)
-    (ledger : Ledger)
+own_debited : (v : ℕ → ℕ) (t : ℕ) (session : List ℕ) (group units blocks : ℕ)
+    (due : Due) (ledger : Ledger)
     (does : Row → Row) →
-    IsMoved does v t ledger (charged_use v t session group units blocks rated ledger) →
-    group_at v t (charged_use v t session group units blocks rated ledger) session group
+    IsMoved does v t ledger (charged_use v t session group units blocks due ledger) →
+    group_at v t (charged_use v t session group units blocks due ledger) session group
     ≡ Some (record {
       session = session;
       group = group;
       used = used session group ledger + units;
       reservation = reservation_at v t ledger session group;
     })
-own_debited v t session group units blocks rated ledger does moved =
-    let after : Ledger = charged_use v t session group units blocks rated ledger in
-    let hs : List Hold = shares v t group rated ledger in
+own_debited v t session group units blocks due ledger does moved =
+    let after : Ledger = charged_use v t session group units blocks due ledger in
+    let hs : List Hold = shares v t group due ledger in
     let named : has_group session group after ≡ true =
     own_named session group (charge_facts t hs ++ ledger) in
     let so_far : used session group after ≡ used session group ledger + units =
     own_used session group units t hs ledger in
     let kept : reservation_at v t after session group ≡ reservation_at v t ledger session group =
     same_reservation does v t ledger after session group moved
-    (same_sessions-debited v t session group units blocks rated ledger)
-    (same_grant v t session group units blocks rated ledger session group)
-    (same_held v t session group units blocks rated ledger (only session group)) in
+    (same_sessions-debited v t session group units blocks due ledger)
+    (same_grant v t session group units blocks due ledger session group)
+    (same_held v t session group units blocks due ledger (only session group)) in
     own_row session group _ _ _ _ _ named so_far kept
 
-groups-debited : (v : ℕ → ℕ) (t : ℕ) (session : List ℕ) (group units blocks rated : ℕ)
-    (ledger : Ledger)
+groups-debited : (v : ℕ → ℕ) (t : ℕ) (session : List ℕ) (group units blocks : ℕ)
+    (due : Due) (ledger : Ledger)
     (does : Row → Row) (rows : List SessionGroup) →
-    IsMoved does v t ledger (charged_use v t session group units blocks rated ledger) →
+    IsMoved does v t ledger (charged_use v t session group units blocks due ledger) →
     used_in session group rows ≡ used session group ledger →
     (group_or_new session group rows).reservation ≡ reservation_at v t ledger session group →
     ((s : List ℕ) (g : ℕ) → group_in s g rows ≡ group_at v t ledger s g) →
     (s : List ℕ) (g : ℕ) →
     group_in s g (with_event session group units rows)
-    ≡ group_at v t (charged_use v t session group units blocks rated ledger) s g
-groups-debited v t session group units blocks rated ledger does rows moved so_far kept h s g =
+    ≡ group_at v t (charged_use v t session group units blocks due ledger) s g
+groups-debited v t session group units blocks due ledger does rows moved so_far kept h s g =
     by_test (is_key session group s g) refl
   where
     after : Ledger
-    after = charged_use v t session group units blocks rated ledger
+    after = charged_use v t session group units blocks due ledger
 
     row : SessionGroup
     row = record {
@@ -251,121 +254,122 @@ groups-debited v t session group units blocks rated ledger does rows moved so_fa
         (λ i. group_in (sym es i) (sym eg i) (put group_before (is_of session group) row rows))
         ∙ find-put group_before (is_of session group) row rows (own_key session group)
         ∙ (λ i. Some (row_is i))
-        ∙ sym (own_debited v t session group units blocks rated ledger does moved)
+        ∙ sym (own_debited v t session group units blocks due ledger does moved)
         ∙ (λ i. group_at v t after (es i) (eg i))
     by_test false q =
         find-put_other group_before (is_of session group) (is_of s g) row rows q
         (other_row session group s g q)
         ∙ h s g
         ∙ sym (same_group does v t ledger after s g moved
-        (same_sessions-debited v t session group units blocks rated ledger)
-        (other_debited v t session group units blocks rated ledger s g q))
+        (same_sessions-debited v t session group units blocks due ledger)
+        (other_debited v t session group units blocks due ledger s g q))
 
 -- ---- its counters
 
-counter-debited : (v : ℕ → ℕ) (t : ℕ) (session : List ℕ) (group units blocks rated : ℕ)
-    (ledger : Ledger)
+counter-debited : (v : ℕ → ℕ) (t : ℕ) (session : List ℕ) (group units blocks : ℕ)
+    (due : Due) (ledger : Ledger)
     (f : ℕ → ℕ) (g c : ℕ) →
-    counter f g c (charged_use v t session group units blocks rated ledger)
+    counter f g c (charged_use v t session group units blocks due ledger)
     ≡ counter f g c ledger + (if f t == c then (if group == g then blocks else 0) else 0)
-counter-debited v t session group units blocks rated ledger f g c =
-    let hs : List Hold = shares v t group rated ledger in
+counter-debited v t session group units blocks due ledger f g c =
+    let hs : List Hold = shares v t group due ledger in
     omega (
       arith,
       total-front (λ d. if f d.at == c then blocks_in g d.fact else 0) (charge_facts t hs) ledger
           (each_charge _ t hs (λ b n. if_none (f t == c))),
     )
 
-has_counter-debited : (v : ℕ → ℕ) (t : ℕ) (session : List ℕ) (group units blocks rated : ℕ)
-    (ledger : Ledger)
+has_counter-debited : (v : ℕ → ℕ) (t : ℕ) (session : List ℕ) (group units blocks : ℕ)
+    (due : Due) (ledger : Ledger)
     (f : ℕ → ℕ) (g c : ℕ) →
-    has_counter f g c (charged_use v t session group units blocks rated ledger)
+    has_counter f g c (charged_use v t session group units blocks due ledger)
     ≡ ((group == g && f t == c) || has_counter f g c ledger)
-has_counter-debited v t session group units blocks rated ledger f g c =
-    let hs : List Hold = shares v t group rated ledger in
+has_counter-debited v t session group units blocks due ledger f g c =
+    let hs : List Hold = shares v t group due ledger in
     ap (λ x. (group == g && f t == c) || x)
     (any_dated-front (counts_group f g c) (charge_facts t hs) ledger
     (each_charge _ t hs (λ b n. refl)))
 
 -- ---- the rows of the ledger with the debit
 
-unknown-debited : (v : ℕ → ℕ) (t : ℕ) (session : List ℕ) (group units blocks rated : ℕ)
-    (ledger : Ledger)
+unknown-debited : (v : ℕ → ℕ) (t : ℕ) (session : List ℕ) (group units blocks : ℕ)
+    (due : Due) (ledger : Ledger)
     (s : List ℕ) → IsUnknown s ledger →
-    IsUnknown s (charged_use v t session group units blocks rated ledger)
-unknown-debited v t session group units blocks rated ledger s h = record {
-  closed = (same_sessions-debited v t session group units blocks rated ledger).closed s ∙ h.closed;
-  held = λ n. same_held v t session group units blocks rated ledger (λ x g. is_same x s) n
+    IsUnknown s (charged_use v t session group units blocks due ledger)
+unknown-debited v t session group units blocks due ledger s h = record {
+  closed = (same_sessions-debited v t session group units blocks due ledger).closed s ∙ h.closed;
+  held = λ n. same_held v t session group units blocks due ledger (λ x g. is_same x s) n
       ∙ h.held n;
-  granted = λ g. same_grant v t session group units blocks rated ledger s g ∙ h.granted g;
+  granted = λ g. same_grant v t session group units blocks due ledger s g ∙ h.granted g;
 }
 
 -- the ledger stays sound
-pub IsSoundLedger-debited : (v : ℕ → ℕ) (t : ℕ) (session : List ℕ) (group units blocks rated : ℕ)
+pub IsSoundLedger-debited : (v : ℕ → ℕ) (t : ℕ) (session : List ℕ)
+    (group units blocks : ℕ) (due : Due)
     (ledger : Ledger) → IsBelow (next_bucket ledger) (buckets_at v t ledger) →
-    IsSoundLedger ledger → IsSoundLedger (charged_use v t session group units blocks rated ledger)
-IsSoundLedger-debited v t session group units blocks rated ledger below sound =
+    IsSoundLedger ledger → IsSoundLedger (charged_use v t session group units blocks due ledger)
+IsSoundLedger-debited v t session group units blocks due ledger below sound =
     let now : List Row = buckets_at v t ledger in
-    let hs : List Hold = shares v t group rated ledger in
-    let after : Ledger = charged_use v t session group units blocks rated ledger in
+    let hs : List Hold = shares v t group due ledger in
+    let after : Ledger = charged_use v t session group units blocks due ledger in
     let same : SameSessions ledger after =
-    same_sessions-debited v t session group units blocks rated ledger in
+    same_sessions-debited v t session group units blocks due ledger in
     let next : next_bucket after ≡ next_bucket ledger =
     omega (arith, next_bucket-charges t hs ledger) in
     record {
       touched = same_touched ledger after same sound.touched;
       unknown =
-          λ s e. unknown-debited v t session group units blocks rated ledger s
+          λ s e. unknown-debited v t session group units blocks due ledger s
           (sound.unknown s (sym (same.recording s) ∙ e));
       fresh = λ n le.
           let made : next_bucket ledger ≤ n = subst (λ (m : ℕ). m ≤ n) next le in
           omega (
             arith,
             charged-charge_facts n t hs ledger,
-            sum_at_none (paid [] group t rated now) n now
+            sum_at_none (paid [] group t due now) n now
                 (differs_above (next_bucket ledger) n now below made),
             sound.fresh n made,
           );
-      free = λ n counts le. same_held v t session group units blocks rated ledger counts n
+      free = λ n counts le. same_held v t session group units blocks due ledger counts n
           ∙ sound.free n counts (subst (λ (m : ℕ). m ≤ n) next le);
     }
 
 pub IsRowsOf-debited : (ledger : Ledger) (a : AccountRows) (session : List ℕ)
-    (group units blocks rated : ℕ) →
+    (group units blocks : ℕ) (due : Due) →
     IsAccount a → IsRowsOf ledger a →
-    IsRowsOf (charged_use (validity_of a.shelf) a.as_of session group units blocks rated ledger)
-    (debited_account session group units blocks rated a)
-IsRowsOf-debited ledger a session group units blocks rated account rows =
+    IsRowsOf (charged_use (validity_of a.shelf) a.as_of session group units blocks due ledger)
+    (debited_account session group units blocks due a)
+IsRowsOf-debited ledger a session group units blocks due account rows =
     let v : ℕ → ℕ = (validity_of a.shelf) in
     let t : ℕ = a.as_of in
-    let after : Ledger = charged_use v t session group units blocks rated ledger in
+    let after : Ledger = charged_use v t session group units blocks due ledger in
     let now : List Row = buckets_at v t ledger in
-    let hs : List Hold = shares v t group rated ledger in
+    let hs : List Hold = shares v t group due ledger in
     let sound : IsSound now = subst IsSound rows.buckets account.sound in
     let same : SameSessions ledger after =
-    same_sessions-debited v t session group units blocks rated ledger in
-    let moved : buckets_at v t after ≡ settled_rows [] group t rated now =
-    buckets_at-debited v t session group units blocks rated ledger sound.balanced sound.distinct
+    same_sessions-debited v t session group units blocks due ledger in
+    let moved : buckets_at v t after ≡ settled_rows [] group t due now =
+    buckets_at-debited v t session group units blocks due ledger sound.balanced sound.distinct
     in
-    let is_moved : IsMoved (settled_row [] group t rated now) v t ledger after =
-    record { rows = moved; number = settled_number [] group t rated now } in
+    let is_moved : IsMoved (settled_row [] group t due now) v t ledger after =
+    record { rows = moved; number = settled_number [] group t due now } in
     record {
       barred = rows.barred
           ∙ sym (is_barred-front (charge_facts t hs) ledger (each_charge _ t hs (λ b n. refl)));
-      buckets = ap (settled_rows [] group t rated) rows.buckets ∙ sym moved;
+      buckets = ap (settled_rows [] group t due) rows.buckets ∙ sym moved;
       sessions = λ s. rows.sessions s ∙ sym (same_session v t ledger after same s);
-      groups = groups-debited v t session group units blocks rated ledger
-          (settled_row [] group t rated now) a.groups is_moved
+      groups = groups-debited v t session group units blocks due ledger
+          (settled_row [] group t due now) a.groups is_moved
           (used_in_is ledger a session group rows) (reservation_is ledger a session group rows)
           rows.groups;
       counters =
           counters_used (cycle_at a.shelf) t group blocks ledger after a.counters
-          (counter-debited v t session group units blocks rated ledger)
-          (has_counter-debited v t session group units blocks rated ledger)
+          (counter-debited v t session group units blocks due ledger)
+          (has_counter-debited v t session group units blocks due ledger)
           (count_in_is ledger a group (cycle_at a.shelf group t) rows) rows.counters;
       next_bucket = rows.next_bucket ∙ omega (arith, next_bucket-charges t hs ledger);
       next_charge =
           ap (λ n. n + 1) rows.next_charge ∙ omega (arith, next_charge-charges t hs ledger);
-      sound = IsSoundLedger-debited v t session group units blocks rated ledger
+      sound = IsSoundLedger-debited v t session group units blocks due ledger
           (made_in ledger a account rows) rows.sound;
     }

@@ -2,9 +2,11 @@
 use Rattle.std.proofs.Common.{◌≡◌, ℕ, ◌+◌, ◌-◌, Bool, true, false, List, [], ◌∷◌, map, refl, sym}
 use Rattle.std.proofs.Common.{◌∙◌, arith}
 use Rattle.std.specs.Prelude.{if◌then◌else◌, ◌&&◌, nat_lt, nat_le}
-use Rattle.std.proofs.lemmas.List.Sums.{sum_by-cons}
 use Rattle.buckets.specs.Row.{Row, is_eligible, eligible_amount, covers, with_end, with_release}
-use Rattle.buckets.specs.Spend.{funds}
+use Rattle.buckets.specs.declared.kind.BucketKind.{BucketKind}
+use Rattle.buckets.specs.Share.{sum_in}
+use Rattle.buckets.proofs.Dues.{sum_in-cons}
+use Rattle.buckets.specs.Kinds.{is_alike}
 use Rattle.reserving.specs.declared.session.Session.{Session}
 use Rattle.reserving.specs.declared.session.SessionGroup.{SessionGroup}
 use Rattle.reserving.specs.Sessions.{is_live_in, held_by}
@@ -30,18 +32,29 @@ amount_is group t n b = at (nat_lt t b.until) refl
     at true e = rw (e, e) refl
     at false e = rw (e, e) (no_end (nat_le b.from t) (covers b.scope group) 0 (b.available + n))
 
-pub funds_later-is : (group : ℕ) (v : ℕ → ℕ) (t : ℕ) (sessions : List Session)
-    (groups : List SessionGroup)
-    (rows : List Row) →
-    funds_later group v t sessions groups rows
-    ≡ funds group t
+-- time leaves the kind of a bucket
+pub later_kind : (t n : ℕ) (b : Row) → (with_end t (with_release t b n)).kind ≡ b.kind
+later_kind t n b = at (nat_lt t b.until) refl
+  where
+    at : (e : Bool) → nat_lt t b.until ≡ e →
+        (with_end t (if e then record b { reserved = b.reserved - n; available = b.available + n }
+        else record b { reserved = b.reserved - n; expired = b.expired + n })).kind ≡ b.kind
+    at true e = rw e refl
+    at false e = rw e refl
+
+pub funds_later-is : (kind : BucketKind) (group : ℕ) (v : ℕ → ℕ) (t : ℕ) (sessions : List Session)
+    (groups : List SessionGroup) (rows : List Row) →
+    funds_later kind group v t sessions groups rows
+    ≡ sum_in kind (eligible_amount group t)
     (map (λ b. with_end t (with_release t b (lapsed_in (is_live_in v t sessions) groups b))) rows)
-funds_later-is group v t sessions groups [] = refl
-funds_later-is group v t sessions groups (b ∷ bs) =
-    sum_by-cons (amount_later group v t sessions groups) b bs
-    ∙ (λ i. sym (amount_is group t (lapsed_in (is_live_in v t sessions) groups b) b) i
-    + funds_later-is group v t sessions groups bs i)
-    ∙ sym (sum_by-cons (eligible_amount group t)
+funds_later-is kind group v t sessions groups [] = refl
+funds_later-is kind group v t sessions groups (b ∷ bs) =
+    sum_in-cons kind (amount_later group v t sessions groups) b bs
+    ∙ (λ i. (if is_alike (sym (later_kind t (lapsed_in (is_live_in v t sessions) groups b) b) i)
+    kind
+    then sym (amount_is group t (lapsed_in (is_live_in v t sessions) groups b) b) i else 0)
+    + funds_later-is kind group v t sessions groups bs i)
+    ∙ sym (sum_in-cons kind (eligible_amount group t)
     (with_end t (with_release t b (lapsed_in (is_live_in v t sessions) groups b)))
     (map (λ x. with_end t (with_release t x (lapsed_in (is_live_in v t sessions) groups x)))
     bs))

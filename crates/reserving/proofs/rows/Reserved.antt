@@ -11,6 +11,7 @@ use Rattle.buckets.specs.Holding.{held_in, holds_of}
 use Rattle.buckets.proofs.Parts.{sum_at, sum_at-parts, held_in-sum_at, sum_at_none}
 use Rattle.buckets.proofs.SharesAlong.{by_shares-along}
 use Rattle.buckets.proofs.Kept.{IsSound-hold, eligible_within}
+use Rattle.buckets.specs.declared.kind.Due.{Due}
 use Rattle.reserving.specs.declared.session.SessionGroup.{SessionGroup}
 use Rattle.reserving.specs.declared.session.Reservation.{Reservation}
 use Rattle.reserving.specs.declared.session.Counter.{Counter}
@@ -59,9 +60,8 @@ balance_by-held true c ch h s q =
 balance_by-held false c ch h s q =
     with_columns c _ _ _ _ _ _ _ _ (omega arith) (omega arith) refl (omega arith)
 
-abbrev holds_for : Shelf → ℕ → ℕ → ℕ → Ledger → List Hold
-holds_for shelf t group amount ledger = holds_of group t amount
-    (buckets_at (validity_of shelf) t ledger)
+abbrev holds_for : Shelf → ℕ → ℕ → Due → Ledger → List Hold
+holds_for shelf t group due ledger = holds_of group t due (buckets_at (validity_of shelf) t ledger)
 
 abbrev granted : Shelf → ℕ → List ℕ → ℕ → ℕ → Ledger → Ledger
 granted shelf t session group units ledger =
@@ -71,10 +71,10 @@ granted shelf t session group units ledger =
           (counter (cycle_at shelf group) group (cycle_at shelf group t) ledger);
     } ∷ ledger
 
-same_sessions-reserved : (shelf : Shelf) (t : ℕ) (session : List ℕ) (group units amount : ℕ)
-    (ledger : Ledger) → SameSessions ledger (reserved shelf t session group units amount ledger)
-same_sessions-reserved shelf t session group units amount ledger =
-    let hs : List Hold = holds_for shelf t group amount ledger in
+same_sessions-reserved : (shelf : Shelf) (t : ℕ) (session : List ℕ) (group units : ℕ) (due : Due)
+    (ledger : Ledger) → SameSessions ledger (reserved shelf t session group units due ledger)
+same_sessions-reserved shelf t session group units due ledger =
+    let hs : List Hold = holds_for shelf t group due ledger in
     let before : Ledger = granted shelf t session group units ledger in
     record {
       touch = λ s. newest-front _ (hold_facts t session group hs) before
@@ -86,28 +86,28 @@ same_sessions-reserved shelf t session group units amount ledger =
           (each_hold _ t session group hs (λ b n. refl));
     }
 
-bucket_at-reserved : (shelf : Shelf) (t : ℕ) (session : List ℕ) (group units amount : ℕ)
+bucket_at-reserved : (shelf : Shelf) (t : ℕ) (session : List ℕ) (group units : ℕ) (due : Due)
     (ledger : Ledger) (c : Row) →
     (let rows : List Row = buckets_at (validity_of shelf) t ledger in
     is_live (validity_of shelf) t ledger session ≡ true →
-    sum_at c.number (holds_of group t amount rows)
-    ≡ share (eligible_amount group t) rows amount (bucket_at (validity_of shelf) t ledger c) →
-    bucket_at (validity_of shelf) t (reserved shelf t session group units amount ledger) c
+    sum_at c.number (holds_of group t due rows)
+    ≡ share (eligible_amount group t) rows due (bucket_at (validity_of shelf) t ledger c) →
+    bucket_at (validity_of shelf) t (reserved shelf t session group units due ledger) c
     ≡ with_hold (bucket_at (validity_of shelf) t ledger c)
-    (share (eligible_amount group t) rows amount (bucket_at (validity_of shelf) t ledger c)))
-bucket_at-reserved shelf t session group units amount ledger c live sum =
+    (share (eligible_amount group t) rows due (bucket_at (validity_of shelf) t ledger c)))
+bucket_at-reserved shelf t session group units due ledger c live sum =
     let v : ℕ → ℕ = (validity_of shelf) in
     let rows : List Row = buckets_at v t ledger in
     let n : ℕ = c.number in
-    let hs : List Hold = holds_of group t amount rows in
+    let hs : List Hold = holds_of group t due rows in
     let before : Ledger = granted shelf t session group units ledger in
-    let after : Ledger = reserved shelf t session group units amount ledger in
+    let after : Ledger = reserved shelf t session group units due ledger in
     let all : List ℕ → ℕ → Bool = λ s g. is_live v t ledger s in
     let all' : List ℕ → ℕ → Bool = λ s g. is_live v t after s in
     let same : all' ≡ all =
     λ i s g. same_live v t ledger after
-    (same_sessions-reserved shelf t session group units amount ledger) s i in
-    let s : ℕ = share (eligible_amount group t) rows amount (bucket_at v t ledger c) in
+    (same_sessions-reserved shelf t session group units due ledger) s i in
+    let s : ℕ = share (eligible_amount group t) rows due (bucket_at v t ledger c) in
     let held' : held all' n (hold_facts t session group hs ++ before) ≡ s + held all n ledger =
     ap (λ p. held p n (hold_facts t session group hs ++ before)) same
     ∙ omega (arith, held-hold_facts all n t session group hs before live, sum) in
@@ -120,46 +120,46 @@ bucket_at-reserved shelf t session group units amount ledger c live sum =
     ∙ ap (λ x. balance_of t c x (s + held all n ledger)) charged'
     ∙ balance_by-held (nat_lt t c.until) c (charged n ledger) (held all n ledger) s within
 
-each_reserved : (shelf : Shelf) (t : ℕ) (session : List ℕ) (group units amount : ℕ)
-    (ledger : Ledger)
+each_reserved : (shelf : Shelf) (t : ℕ) (session : List ℕ) (group units : ℕ)
+    (due : Due) (ledger : Ledger)
     (cs : List Row) →
     (let rows : List Row = buckets_at (validity_of shelf) t ledger in
     is_live (validity_of shelf) t ledger session ≡ true →
-    Each (λ b. sum_at b.number (holds_of group t amount rows)
-    ≡ share (eligible_amount group t) rows amount b)
+    Each (λ b. sum_at b.number (holds_of group t due rows)
+    ≡ share (eligible_amount group t) rows due b)
     (map (bucket_at (validity_of shelf) t ledger) cs)
     →
-    map (bucket_at (validity_of shelf) t (reserved shelf t session group units amount ledger)) cs
-    ≡ map (λ b. with_hold b (share (eligible_amount group t) rows amount b))
+    map (bucket_at (validity_of shelf) t (reserved shelf t session group units due ledger)) cs
+    ≡ map (λ b. with_hold b (share (eligible_amount group t) rows due b))
     (map (bucket_at (validity_of shelf) t ledger) cs))
-each_reserved shelf t session group units amount ledger [] live sums = refl
-each_reserved shelf t session group units amount ledger (c ∷ cs) live sums =
-    λ i. bucket_at-reserved shelf t session group units amount ledger c live sums.0 i
-    ∷ each_reserved shelf t session group units amount ledger cs live sums.1 i
+each_reserved shelf t session group units due ledger [] live sums = refl
+each_reserved shelf t session group units due ledger (c ∷ cs) live sums =
+    λ i. bucket_at-reserved shelf t session group units due ledger c live sums.0 i
+    ∷ each_reserved shelf t session group units due ledger cs live sums.1 i
 
 -- the buckets of a ledger with a grant
-buckets_at-reserved : (shelf : Shelf) (t : ℕ) (session : List ℕ) (group units amount : ℕ)
+buckets_at-reserved : (shelf : Shelf) (t : ℕ) (session : List ℕ) (group units : ℕ) (due : Due)
     (ledger : Ledger) →
     is_live (validity_of shelf) t ledger session ≡ true →
     AreDistinct (buckets_at (validity_of shelf) t ledger) →
-    buckets_at (validity_of shelf) t (reserved shelf t session group units amount ledger)
-    ≡ held_rows group t amount (buckets_at (validity_of shelf) t ledger)
-buckets_at-reserved shelf t session group units amount ledger live distinct =
+    buckets_at (validity_of shelf) t (reserved shelf t session group units due ledger)
+    ≡ held_rows group t due (buckets_at (validity_of shelf) t ledger)
+buckets_at-reserved shelf t session group units due ledger live distinct =
     let rows : List Row = buckets_at (validity_of shelf) t ledger in
-    let hs : List Hold = holds_of group t amount rows in
-    ap (map (bucket_at (validity_of shelf) t (reserved shelf t session group units amount ledger)))
+    let hs : List Hold = holds_of group t due rows in
+    ap (map (bucket_at (validity_of shelf) t (reserved shelf t session group units due ledger)))
     (credits-hold_facts t session group hs (granted shelf t session group units ledger))
-    ∙ each_reserved shelf t session group units amount ledger (credits ledger) live
-    (sum_at-parts (share (eligible_amount group t) rows amount) rows distinct)
+    ∙ each_reserved shelf t session group units due ledger (credits ledger) live
+    (sum_at-parts (share (eligible_amount group t) rows due) rows distinct)
 
 -- ---- the groups
 
-other_reserved : (shelf : Shelf) (t : ℕ) (session : List ℕ) (group units amount : ℕ)
-    (ledger : Ledger)
+other_reserved : (shelf : Shelf) (t : ℕ) (session : List ℕ) (group units : ℕ)
+    (due : Due) (ledger : Ledger)
     (s : List ℕ) (g : ℕ) → is_key session group s g ≡ false →
-    SameGroup s g ledger (reserved shelf t session group units amount ledger)
-other_reserved shelf t session group units amount ledger s g h =
-    let hs : List Hold = holds_for shelf t group amount ledger in
+    SameGroup s g ledger (reserved shelf t session group units due ledger)
+other_reserved shelf t session group units due ledger s g h =
+    let hs : List Hold = holds_for shelf t group due ledger in
     let before : Ledger = granted shelf t session group units ledger in
     let p : Terms = terms_at shelf t in
     record {
@@ -191,51 +191,52 @@ parts_each F G does (b ∷ bs) k e =
     λ i. (if nat_lt 0 (amount i) then one i ∷ parts_each F G does bs k e.1 i
     else parts_each F G does bs k e.1 i)
 
-each_own : (shelf : Shelf) (t : ℕ) (session : List ℕ) (group units amount : ℕ) (ledger : Ledger)
+each_own : (shelf : Shelf) (t : ℕ) (session : List ℕ) (group units : ℕ) (due : Due)
+    (ledger : Ledger)
     (G : Row → ℕ) (xs : List Row) →
     Each (λ b. held (only session group) b.number ledger ≡ 0) xs →
-    Each (λ b. sum_at b.number (holds_for shelf t group amount ledger) ≡ G b) xs →
+    Each (λ b. sum_at b.number (holds_for shelf t group due ledger) ≡ G b) xs →
     Each (λ b. held (only session group) b.number
-    (reserved shelf t session group units amount ledger) ≡ G b) xs
-each_own shelf t session group units amount ledger G [] none h = tt
-each_own shelf t session group units amount ledger G (b ∷ bs) none h = (
+    (reserved shelf t session group units due ledger) ≡ G b) xs
+each_own shelf t session group units due ledger G [] none h = tt
+each_own shelf t session group units due ledger G (b ∷ bs) none h = (
   omega (
     arith,
     held-hold_facts (only session group) b.number t session group
-        (holds_for shelf t group amount ledger) (granted shelf t session group units ledger)
+        (holds_for shelf t group due ledger) (granted shelf t session group units ledger)
         (own_key session group),
     none.0,
     h.0,
   ),
-  each_own shelf t session group units amount ledger G bs none.1 h.1,
+  each_own shelf t session group units due ledger G bs none.1 h.1,
 )
 
 abbrev reservation_for : Shelf → ℕ → List Hold → Reservation
 reservation_for shelf t holds = record { terms = terms_at shelf t; holds = holds }
 
-own_reserved : (shelf : Shelf) (t : ℕ) (session : List ℕ) (group units amount : ℕ)
-    (ledger : Ledger) →
+own_reserved : (shelf : Shelf) (t : ℕ) (session : List ℕ) (group units : ℕ)
+    (due : Due) (ledger : Ledger) →
     is_live (validity_of shelf) t ledger session ≡ true →
     AreDistinct (buckets_at (validity_of shelf) t ledger) →
     Each (λ b. held (only session group) b.number ledger ≡ 0)
     (buckets_at (validity_of shelf) t ledger) →
-    group_at (validity_of shelf) t (reserved shelf t session group units amount ledger) session
+    group_at (validity_of shelf) t (reserved shelf t session group units due ledger) session
     group
     ≡ Some (record {
       session = session;
       group = group;
       used = used session group ledger;
-      reservation = Some (reservation_for shelf t (holds_for shelf t group amount ledger));
+      reservation = Some (reservation_for shelf t (holds_for shelf t group due ledger));
     })
-own_reserved shelf t session group units amount ledger live distinct free =
+own_reserved shelf t session group units due ledger live distinct free =
     let v : ℕ → ℕ = (validity_of shelf) in
-    let after : Ledger = reserved shelf t session group units amount ledger in
+    let after : Ledger = reserved shelf t session group units due ledger in
     let before : Ledger = granted shelf t session group units ledger in
     let rows : List Row = buckets_at v t ledger in
-    let hs : List Hold = holds_for shelf t group amount ledger in
+    let hs : List Hold = holds_for shelf t group due ledger in
     let own : is_key session group session group ≡ true = own_key session group in
     let p : Terms = terms_at shelf t in
-    let G : Row → ℕ = share (eligible_amount group t) rows amount in
+    let G : Row → ℕ = share (eligible_amount group t) rows due in
     let named : has_group session group after ≡ true =
     any-front (names_group session group) (hold_facts t session group hs) before
     (each_hold _ t session group hs (λ b n. refl))
@@ -253,36 +254,36 @@ own_reserved shelf t session group units amount ledger live distinct free =
     (or_else (if own i then Some (Some p) else None) (newest (grant_in session group) ledger)))
     in
     let is_live' : is_live v t after session ≡ true =
-    same_live v t ledger after (same_sessions-reserved shelf t session group units amount ledger)
+    same_live v t ledger after (same_sessions-reserved shelf t session group units due ledger)
     session ∙ live in
     let holds : holds_at v t session group after ≡ hs =
     ap (parts (λ b. held (only session group) b.number after))
-    (buckets_at-reserved shelf t session group units amount ledger live distinct)
+    (buckets_at-reserved shelf t session group units due ledger live distinct)
     ∙ parts_each (λ n. held (only session group) n after) G (λ b. with_hold b (G b)) rows
     (λ b. refl)
-    (each_own shelf t session group units amount ledger G rows free
+    (each_own shelf t session group units due ledger G rows free
     (sum_at-parts G rows distinct)) in
     let reservation : reservation_at v t after session group ≡ Some (reservation_for shelf t hs) =
     λ i. (if is_live' i then reservation_of (holds i) (grant i) else None) in
     own_row session group _ _ _ _ _ named so_far reservation
 
-groups-reserved : (shelf : Shelf) (t : ℕ) (session : List ℕ) (group units amount : ℕ)
+groups-reserved : (shelf : Shelf) (t : ℕ) (session : List ℕ) (group units : ℕ) (due : Due)
     (ledger : Ledger) (rows : List SessionGroup) (holds : List Hold) →
     is_live (validity_of shelf) t ledger session ≡ true →
     AreDistinct (buckets_at (validity_of shelf) t ledger) →
     Each (λ b. held (only session group) b.number ledger ≡ 0)
     (buckets_at (validity_of shelf) t ledger) →
-    holds ≡ holds_for shelf t group amount ledger →
+    holds ≡ holds_for shelf t group due ledger →
     used_in session group rows ≡ used session group ledger →
     ((s : List ℕ) (g : ℕ) → group_in s g rows ≡ group_at (validity_of shelf) t ledger s g) →
     (s : List ℕ) (g : ℕ) →
     group_in s g (with_reservation session group (terms_at shelf t) holds rows)
-    ≡ group_at (validity_of shelf) t (reserved shelf t session group units amount ledger) s g
-groups-reserved shelf t session group units amount ledger rows holds live distinct free eh so_far
+    ≡ group_at (validity_of shelf) t (reserved shelf t session group units due ledger) s g
+groups-reserved shelf t session group units due ledger rows holds live distinct free eh so_far
     h s g = by_test (is_key session group s g) refl
   where
     after : Ledger
-    after = reserved shelf t session group units amount ledger
+    after = reserved shelf t session group units due ledger
 
     row : SessionGroup
     row = record {
@@ -294,10 +295,10 @@ groups-reserved shelf t session group units amount ledger rows holds live distin
 
     moved : IsMoved
         (λ b. with_hold b
-        (share (eligible_amount group t) (buckets_at (validity_of shelf) t ledger) amount b))
+        (share (eligible_amount group t) (buckets_at (validity_of shelf) t ledger) due b))
         (validity_of shelf) t ledger after
     moved = record {
-      rows = buckets_at-reserved shelf t session group units amount ledger live distinct;
+      rows = buckets_at-reserved shelf t session group units due ledger live distinct;
       number = λ b. refl;
     }
 
@@ -313,7 +314,7 @@ groups-reserved shelf t session group units amount ledger rows holds live distin
           session = session;
           group = group;
           used = used session group ledger;
-          reservation = Some (reservation_for shelf t (holds_for shelf t group amount ledger));
+          reservation = Some (reservation_for shelf t (holds_for shelf t group due ledger));
         } in
         r) = λ i. record {
           session = session;
@@ -325,7 +326,7 @@ groups-reserved shelf t session group units amount ledger rows holds live distin
         (λ i. group_in (sym es i) (sym eg i) (put group_before (is_of session group) row rows))
         ∙ find-put group_before (is_of session group) row rows (own_key session group)
         ∙ (λ i. Some (same i))
-        ∙ sym (own_reserved shelf t session group units amount ledger live distinct free)
+        ∙ sym (own_reserved shelf t session group units due ledger live distinct free)
         ∙ (λ i. group_at (validity_of shelf) t after (es i) (eg i))
     by_test false q =
         find-put_other group_before (is_of session group) (is_of s g) row rows q
@@ -333,21 +334,21 @@ groups-reserved shelf t session group units amount ledger rows holds live distin
         ∙ h s g
         ∙ sym (same_group
         (λ b. with_hold b
-        (share (eligible_amount group t) (buckets_at (validity_of shelf) t ledger) amount b))
+        (share (eligible_amount group t) (buckets_at (validity_of shelf) t ledger) due b))
         (validity_of shelf) t ledger after s g moved
-        (same_sessions-reserved shelf t session group units amount ledger)
-        (other_reserved shelf t session group units amount ledger s g q))
+        (same_sessions-reserved shelf t session group units due ledger)
+        (other_reserved shelf t session group units due ledger s g q))
 
 -- ---- counters, and what isn't known
 
 counter_reserved : (shelf : Shelf) (cycle_of : ℕ → ℕ) (t : ℕ) (session : List ℕ)
-    (group units amount : ℕ) (ledger : Ledger) (g c : ℕ) →
+    (group units : ℕ) (due : Due) (ledger : Ledger) (g c : ℕ) →
     counter_at cycle_of ledger g c
-    ≡ counter_at cycle_of (reserved shelf t session group units amount ledger) g c
-counter_reserved shelf cycle_of t session group units amount ledger g c =
-    let hs : List Hold = holds_for shelf t group amount ledger in
+    ≡ counter_at cycle_of (reserved shelf t session group units due ledger) g c
+counter_reserved shelf cycle_of t session group units due ledger g c =
+    let hs : List Hold = holds_for shelf t group due ledger in
     let before : Ledger = granted shelf t session group units ledger in
-    let after : Ledger = reserved shelf t session group units amount ledger in
+    let after : Ledger = reserved shelf t session group units due ledger in
     let count : counter cycle_of g c ledger ≡ counter cycle_of g c after =
     omega (
       arith,
@@ -381,15 +382,15 @@ touched_live v t ledger s h live none = by_touch (last_touch s ledger) refl
         cc
     by_touch (Some x) e = no_some x (sym (ap (option_map (λ r. r.at)) none) ∙ h x e)
 
-unknown-reserved : (shelf : Shelf) (t : ℕ) (session : List ℕ) (group units amount : ℕ)
+unknown-reserved : (shelf : Shelf) (t : ℕ) (session : List ℕ) (group units : ℕ) (due : Due)
     (ledger : Ledger) (s : List ℕ) → is_same session s ≡ false → IsUnknown s ledger →
-    IsUnknown s (reserved shelf t session group units amount ledger)
-unknown-reserved shelf t session group units amount ledger s other h =
-    let hs : List Hold = holds_for shelf t group amount ledger in
+    IsUnknown s (reserved shelf t session group units due ledger)
+unknown-reserved shelf t session group units due ledger s other h =
+    let hs : List Hold = holds_for shelf t group due ledger in
     let before : Ledger = granted shelf t session group units ledger in
     let p : List ℕ → ℕ → Bool = λ x g. is_same x s in
     record {
-      closed = (same_sessions-reserved shelf t session group units amount ledger).closed s
+      closed = (same_sessions-reserved shelf t session group units due ledger).closed s
           ∙ h.closed;
       held = λ n. omega (
         arith,
@@ -397,21 +398,22 @@ unknown-reserved shelf t session group units amount ledger s other h =
         h.held n,
       );
       granted =
-          λ g. (other_reserved shelf t session group units amount ledger s g
+          λ g. (other_reserved shelf t session group units due ledger s g
           (ap (λ x. x && group == g) other)).grant ∙ h.granted g;
     }
 
-held_above : (shelf : Shelf) (t : ℕ) (session : List ℕ) (group units amount : ℕ) (ledger : Ledger)
-    (n : ℕ) (p : List ℕ → ℕ → Bool) → sum_at n (holds_for shelf t group amount ledger) ≡ 0 →
-    held p n ledger ≡ 0 → held p n (reserved shelf t session group units amount ledger) ≡ 0
-held_above shelf t session group units amount ledger n p sum none = by_test (p session group) refl
+held_above : (shelf : Shelf) (t : ℕ) (session : List ℕ) (group units : ℕ) (due : Due)
+    (ledger : Ledger)
+    (n : ℕ) (p : List ℕ → ℕ → Bool) → sum_at n (holds_for shelf t group due ledger) ≡ 0 →
+    held p n ledger ≡ 0 → held p n (reserved shelf t session group units due ledger) ≡ 0
+held_above shelf t session group units due ledger n p sum none = by_test (p session group) refl
   where
     by_test : (b : Bool) → p session group ≡ b →
-        held p n (reserved shelf t session group units amount ledger) ≡ 0
+        held p n (reserved shelf t session group units due ledger) ≡ 0
     by_test true e =
         omega (
           arith,
-          held-hold_facts p n t session group (holds_for shelf t group amount ledger)
+          held-hold_facts p n t session group (holds_for shelf t group due ledger)
               (granted shelf t session group units ledger) e,
           sum,
           none,
@@ -419,24 +421,25 @@ held_above shelf t session group units amount ledger n p sum none = by_test (p s
     by_test false e =
         omega (
           arith,
-          held-hold_facts_other p n t session group (holds_for shelf t group amount ledger)
+          held-hold_facts_other p n t session group (holds_for shelf t group due ledger)
               (granted shelf t session group units ledger) e,
           none,
         )
 
 -- ---- the ledger stays sound: a grant is of a recorded session
 
-pub IsSoundLedger-reserved : (shelf : Shelf) (t : ℕ) (session : List ℕ) (group units amount : ℕ)
+pub IsSoundLedger-reserved : (shelf : Shelf) (t : ℕ) (session : List ℕ)
+    (group units : ℕ) (due : Due)
     (ledger : Ledger) → IsBelow (next_bucket ledger) (buckets_at (validity_of shelf) t ledger) →
     (last_recording session ledger ≡ None → ⊥) → IsSoundLedger ledger →
-    IsSoundLedger (reserved shelf t session group units amount ledger)
-IsSoundLedger-reserved shelf t session group units amount ledger below has sound =
+    IsSoundLedger (reserved shelf t session group units due ledger)
+IsSoundLedger-reserved shelf t session group units due ledger below has sound =
     let now : List Row = buckets_at (validity_of shelf) t ledger in
-    let hs : List Hold = holds_for shelf t group amount ledger in
+    let hs : List Hold = holds_for shelf t group due ledger in
     let before : Ledger = granted shelf t session group units ledger in
-    let after : Ledger = reserved shelf t session group units amount ledger in
+    let after : Ledger = reserved shelf t session group units due ledger in
     let same : SameSessions ledger after =
-    same_sessions-reserved shelf t session group units amount ledger in
+    same_sessions-reserved shelf t session group units due ledger in
     let next : next_bucket after ≡ next_bucket ledger =
     omega (
       arith,
@@ -447,7 +450,7 @@ IsSoundLedger-reserved shelf t session group units amount ledger below has sound
       touched = same_touched ledger after same sound.touched;
       unknown = λ s e.
           let nothing : last_recording s ledger ≡ None = sym (same.recording s) ∙ e in
-          unknown-reserved shelf t session group units amount ledger s
+          unknown-reserved shelf t session group units due ledger s
           (not_true (is_same session s)
           (λ q. has (ap (λ x. last_recording x ledger) (same_from session s q) ∙ nothing)))
           (sound.unknown s nothing);
@@ -458,30 +461,30 @@ IsSoundLedger-reserved shelf t session group units amount ledger below has sound
       );
       free = λ n counts le.
           let made : next_bucket ledger ≤ n = subst (λ (m : ℕ). m ≤ n) next le in
-          held_above shelf t session group units amount ledger n counts
-          (sum_at_none (share (eligible_amount group t) now amount) n now
+          held_above shelf t session group units due ledger n counts
+          (sum_at_none (share (eligible_amount group t) now due) n now
           (differs_above (next_bucket ledger) n now below made)) (sound.free n counts made);
     }
 
 -- ---- the rows of the ledger with the grant
 
 pub IsRowsOf-reserved : (ledger : Ledger) (a : AccountRows) (session : List ℕ)
-    (group units amount : ℕ) →
+    (group units : ℕ) (due : Due) →
     IsAccount a → IsRowsOf ledger a → is_live (validity_of a.shelf) a.as_of ledger session ≡ true →
     reservation_in session group a.groups ≡ None →
-    IsRowsOf (reserved a.shelf a.as_of session group units amount ledger)
-    (reserved_account session group amount a)
-IsRowsOf-reserved ledger a session group units amount account rows live none =
+    IsRowsOf (reserved a.shelf a.as_of session group units due ledger)
+    (reserved_account session group due a)
+IsRowsOf-reserved ledger a session group units due account rows live none =
     let shelf : Shelf = a.shelf in
     let v : ℕ → ℕ = (validity_of shelf) in
     let t : ℕ = a.as_of in
-    let after : Ledger = reserved shelf t session group units amount ledger in
+    let after : Ledger = reserved shelf t session group units due ledger in
     let before : Ledger = granted shelf t session group units ledger in
     let now : List Row = buckets_at v t ledger in
-    let hs : List Hold = holds_for shelf t group amount ledger in
+    let hs : List Hold = holds_for shelf t group due ledger in
     let sound : IsSound now = subst IsSound rows.buckets account.sound in
     let same : SameSessions ledger after =
-    same_sessions-reserved shelf t session group units amount ledger in
+    same_sessions-reserved shelf t session group units due ledger in
     let free : Each (λ b. held (only session group) b.number ledger ≡ 0) now =
     held_free ledger a session group account rows live (ap is_some none) in
     record {
@@ -489,16 +492,16 @@ IsRowsOf-reserved ledger a session group units amount account rows live none =
           ∙ sym (is_barred-front (hold_facts t session group hs) before
           (each_hold _ t session group hs (λ b n. refl)));
       buckets =
-          ap (held_rows group t amount) rows.buckets
-          ∙ sym (buckets_at-reserved shelf t session group units amount ledger live sound.distinct);
+          ap (held_rows group t due) rows.buckets
+          ∙ sym (buckets_at-reserved shelf t session group units due ledger live sound.distinct);
       sessions = λ s. rows.sessions s ∙ sym (same_session v t ledger after same s);
-      groups = groups-reserved shelf t session group units amount ledger a.groups
-          (holds_of group t amount a.buckets) live sound.distinct free
-          (ap (holds_of group t amount) rows.buckets) (used_in_is ledger a session group rows)
+      groups = groups-reserved shelf t session group units due ledger a.groups
+          (holds_of group t due a.buckets) live sound.distinct free
+          (ap (holds_of group t due) rows.buckets) (used_in_is ledger a session group rows)
           rows.groups;
       counters =
           λ g c. rows.counters g c
-          ∙ counter_reserved shelf (cycle_at shelf g) t session group units amount ledger g c;
+          ∙ counter_reserved shelf (cycle_at shelf g) t session group units due ledger g c;
       next_bucket =
           rows.next_bucket
           ∙ omega (
@@ -513,7 +516,7 @@ IsRowsOf-reserved ledger a session group units amount account rows live none =
             total-front (λ d. uses_in d.fact) (hold_facts t session group hs) before
                 (each_hold _ t session group hs (λ b n. refl)),
           );
-      sound = IsSoundLedger-reserved shelf t session group units amount ledger
+      sound = IsSoundLedger-reserved shelf t session group units due ledger
           (made_in ledger a account rows)
           (touched_live v t ledger session (rows.sound.touched session) live) rows.sound;
     }
@@ -536,13 +539,13 @@ each_held rows after hs G (b ∷ bs) e s h =
       each_held rows after hs G bs e s.1 h.1,
     )
 
-pub IsAccount-reserved : (a : AccountRows) (session : List ℕ) (group amount : ℕ) →
+pub IsAccount-reserved : (a : AccountRows) (session : List ℕ) (group : ℕ) (due : Due) →
     reservation_in session group a.groups ≡ None → IsAccount a →
-    IsAccount (reserved_account session group amount a)
-IsAccount-reserved a session group amount none h =
+    IsAccount (reserved_account session group due a)
+IsAccount-reserved a session group due none h =
     let t : ℕ = a.as_of in
-    let hs : List Hold = holds_of group t amount a.buckets in
-    let G : Row → ℕ = share (eligible_amount group t) a.buckets amount in
+    let hs : List Hold = holds_of group t due a.buckets in
+    let G : Row → ℕ = share (eligible_amount group t) a.buckets due in
     let row : SessionGroup =
     record {
       session = session;
@@ -559,8 +562,8 @@ IsAccount-reserved a session group amount none h =
     record {
       shelf = h.shelf;
       sound = subst IsSound
-          (sym (by_shares-along with_hold (eligible_amount group t) a.buckets amount h.sound.order))
-          (IsSound-hold group t amount a.buckets h.sound);
+          (sym (by_shares-along with_hold (eligible_amount group t) a.buckets due h.sound.order))
+          (IsSound-hold group t due a.buckets h.sound);
       below = IsBelow-map a.next_bucket (λ b. with_hold b (G b)) a.buckets (λ b. refl) h.below;
       next_bucket = h.next_bucket;
       next_charge = h.next_charge;

@@ -19,12 +19,14 @@ use Rattle.tariffs.specs.declared.tiers.Tier.{Tier}
 use Rattle.rating.specs.Granted.{dearer, greatest_covered}
 use Rattle.rating.specs.Rated.{rated_amount, report_blocks, report_amount}
 use Rattle.buckets.specs.Row.{Row}
+use Rattle.buckets.specs.declared.kind.BucketKind.TheVariants.{Money, Blocks}
 use Rattle.reserving.specs.Ledger.{Ledger, used, is_live}
 use Rattle.reserving.specs.Ledger.Fact.{Credit, Touch}
 use Rattle.reserving.specs.Pricing.{switch_at, validity_at, validity_of}
 use Rattle.reserving.specs.Balance.{buckets_at}
 use Rattle.reserving.specs.Settlement.{settled_by, missing}
-use Rattle.reserving.specs.Reservation.{reserved, grant_for}
+use Rattle.reserving.specs.Reservation.{reserved, grant_for, held_due}
+use Rattle.reserving.specs.Settlement.{report_price}
 
 abbrev week : List Bool
 week = true ∷ true ∷ true ∷ true ∷ true ∷ false ∷ false ∷ []
@@ -103,7 +105,7 @@ report n = part None n ∷ []
 abbrev opened : ℕ → ℕ → Ledger
 opened t credit =
     record { at = t; fact = Touch s }
-    ∷ record { at = 1767571200; fact = Credit 1 1767571200 4102444800 None credit } ∷ []
+    ∷ record { at = 1767571200; fact = Credit Money 1 1767571200 4102444800 None credit } ∷ []
 
 abbrev units_granted : ℕ → ℕ → ℕ → Ledger → ℕ
 units_granted t g wanted ledger =
@@ -113,12 +115,13 @@ units_granted t g wanted ledger =
 abbrev granted : ℕ → ℕ → ℕ → Ledger → Ledger
 granted t g wanted ledger =
     reserved shelf t s g (units_granted t g wanted ledger)
-    (grant_for shelf t g (used s g ledger) (Some wanted) ledger).amount.0 ledger
+    (held_due (grant_for shelf t g (used s g ledger) (Some wanted) ledger)) ledger
 
 abbrev bucket : (number from until credited available reserved charged expired : ℕ) → Row
 bucket number from until credited available reserved charged expired =
     record {
       number = number;
+      kind = Money;
       from = from;
       until = until;
       scope = None;
@@ -215,8 +218,8 @@ begun_settled = refl
 
 -- two buckets are held in order; what is released after the first one's end is expired
 abbrev two : Ledger
-two = record { at = 1767571200; fact = Credit 2 1767571200 4102444800 None 300000 }
-    ∷ record { at = 1767571200; fact = Credit 1 1767571200 1767607800 None 150000 } ∷ []
+two = record { at = 1767571200; fact = Credit Money 2 1767571200 4102444800 None 300000 }
+    ∷ record { at = 1767571200; fact = Credit Money 1 1767571200 1767607800 None 150000 } ∷ []
 
 abbrev two_granted : Ledger
 two_granted = granted 1767607200 10 180 (record { at = 1767607200; fact = Touch s } ∷ two)
@@ -281,7 +284,7 @@ two_books = record {
 abbrev granted_on : Shelf → ℕ → ℕ → Ledger → Ledger
 granted_on shelf t wanted ledger =
     reserved shelf t s 10 (grant_for shelf t 10 (used s 10 ledger) (Some wanted) ledger).units.0
-    (grant_for shelf t 10 (used s 10 ledger) (Some wanted) ledger).amount.0 ledger
+    (held_due (grant_for shelf t 10 (used s 10 ledger) (Some wanted) ledger)) ledger
 
 -- five minutes before the second book begins, five minutes are held at the first one's price, and
 -- its beginning is no switch
@@ -316,3 +319,74 @@ after_settled : buckets_at (validity_of two_books) 1767657700
 unfolding switch_within minutes_from dearer greatest_covered rated_amount report_blocks
     report_amount
 after_settled = refl
+
+-- ---- allowances
+
+abbrev allowance_row : (number until credited available reserved charged expired : ℕ) → Row
+allowance_row number until credited available reserved charged expired =
+    record (bucket number 1767571200 until credited available reserved charged expired)
+    { kind = Blocks; scope = Some 10 }
+
+-- 1,000,000 and three blocks: of five blocks three are held of the allowance, two in money
+abbrev allowed : Ledger
+allowed =
+    record { at = 1767607200; fact = Touch s }
+    ∷ record { at = 1767571200; fact = Credit Blocks 2 1767571200 4102444800 (Some 10) 3 }
+    ∷ record { at = 1767571200; fact = Credit Money 1 1767571200 4102444800 None 1000000 } ∷ []
+
+allowed_units : units_granted 1767607200 10 300 allowed ≡ 300
+unfolding switch_within minutes_from dearer greatest_covered
+allowed_units = refl
+
+allowed_held : buckets_at (validity_of shelf) 1767607200 (granted 1767607200 10 300 allowed)
+    ≡ bucket 1 1767571200 4102444800 1000000 800000 200000 0 0
+    ∷ allowance_row 2 4102444800 3 0 3 0 0 ∷ []
+unfolding switch_within minutes_from dearer greatest_covered
+allowed_held = refl
+
+-- of four blocks used three are covered, and the fourth is paid
+allowed_settled : buckets_at (validity_of shelf) 1767607500
+    (settled_by shelf 1767607500 s 10 (report 240) (granted 1767607200 10 300 allowed))
+    ≡ bucket 1 1767571200 4102444800 1000000 900000 0 100000 0
+    ∷ allowance_row 2 4102444800 3 0 0 3 0 ∷ []
+unfolding switch_within minutes_from dearer greatest_covered rated_amount report_blocks
+    report_amount
+allowed_settled = refl
+
+-- no money, and two blocks until 10:10
+abbrev two_blocks : Ledger
+two_blocks =
+    record { at = 1767607200; fact = Touch s }
+    ∷ record { at = 1767571200; fact = Credit Blocks 1 1767571200 1767607800 (Some 10) 2 } ∷ []
+
+two_blocks_units : units_granted 1767607200 10 600 two_blocks ≡ 120
+unfolding switch_within minutes_from dearer greatest_covered
+two_blocks_units = refl
+
+-- held blocks cover a report after their bucket's end; the third block is uncollected
+two_blocks_missing : missing shelf 1767608100 s 10 (report 180)
+    (granted 1767607200 10 600 two_blocks) ≡ 100000
+unfolding switch_within minutes_from dearer greatest_covered rated_amount report_blocks
+    report_amount
+two_blocks_missing = refl
+
+two_blocks_settled : buckets_at (validity_of shelf) 1767608100
+    (settled_by shelf 1767608100 s 10 (report 180) (granted 1767607200 10 600 two_blocks))
+    ≡ allowance_row 1 1767607800 2 0 0 2 0 ∷ []
+unfolding switch_within minutes_from dearer greatest_covered rated_amount report_blocks
+    report_amount
+two_blocks_settled = refl
+
+-- with one block used the other expires, and nothing is rated
+one_block_price : (report_price shelf 1767608100 s 10 (report 60)
+    (granted 1767607200 10 600 two_blocks)).amount.0 ≡ 0
+unfolding switch_within minutes_from dearer greatest_covered rated_amount report_blocks
+    report_amount
+one_block_price = refl
+
+one_block_settled : buckets_at (validity_of shelf) 1767608100
+    (settled_by shelf 1767608100 s 10 (report 60) (granted 1767607200 10 600 two_blocks))
+    ≡ allowance_row 1 1767607800 2 0 0 1 1 ∷ []
+unfolding switch_within minutes_from dearer greatest_covered rated_amount report_blocks
+    report_amount
+one_block_settled = refl

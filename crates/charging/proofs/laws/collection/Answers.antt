@@ -6,6 +6,6 @@ use Rattle.charging.specs.Served.{history}
 use Rattle.charging.proofs.laws.collection.Goals as goal
 
 pub returns : goal.returns
-returns c = λ b a list t.
+returns c = λ kind b a list t.
     collected_is_charged b (reports_of b a list) (history b a list).ledger
-    (kept_history b (IsCollecting b) (keeps_collecting b) (collecting_none b) a list) t
+    (kept_history b (IsCollecting b) (keeps_collecting b) (collecting_none b) a list) kind t

@@ -28,7 +28,7 @@ overflow_cast-result c =
     let few : started 0 c.units.result c.in-Some-tariff_of.tariff.now.block ≤ 1000000000 =
     subst (λ n. started 0 n c.in-Some-tariff_of.tariff.now.block ≤ 1000000000) units
     right.few in
-    let fits : (event_price_in c.args.event.now.group c.units.result c.args.moment
+    let fits : (event_price_in c.args.event.now.group 0 c.units.result c.args.moment
     c.args.account.now).amount.0 < 2 ^ 64 =
     price_fits c.args.account.now c.in-Some-tariff_of.tariff.now c.args.moment
     c.args.event.now.group c.units.result

@@ -11,6 +11,7 @@ loop-row-init c =
       total = omega arith;
       most =
           lapsed_funds-most (is_live_in (validity_of c.args.shelf.now) c.args.at
-          c.args.sessions.now) c.args.group
+          c.args.sessions.now) c.args.kind
+          c.args.group
           c.args.at c.args.groups.now c.args.buckets.now short c.requires.sound c.requires.held;
     }

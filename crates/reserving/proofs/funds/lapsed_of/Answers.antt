@@ -6,5 +6,5 @@ use Rattle.reserving.proofs.funds.lapsed_of.Goals as goal
 pub returns-in_default : goal.returns-in_default
 returns-in_default c =
     lapsed_for-none (is_live_in (validity_of c.args.shelf.now) c.args.at c.args.sessions.now)
-    c.args.group
-    c.args.at c.args.row.now c.args.buckets.now c.in_default.is
+    c.args.kind
+    c.args.group c.args.at c.args.row.now c.args.buckets.now c.in_default.is

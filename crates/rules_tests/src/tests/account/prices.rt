@@ -122,6 +122,8 @@ impl Teller for Rater<'_> {
             "grant" => grant(rt, alloc, self.book, &mut words),
             "rate" => rated(rt, alloc, self.book, &mut words),
             "report" => reported(rt, alloc, self.book, &mut words),
+            "allowed" => allowed(rt, alloc, self.book, &mut words),
+            "covered" => covered(rt, alloc, self.book, &mut words),
             _ => otherwise(rt, alloc, self.book, &mut words),
         }
     }
@@ -137,8 +139,21 @@ fn grant(rt: &impl Abort, alloc: Global, book: &TariffBook, words: &mut Words<'_
     grant_text(
         rt,
         alloc,
-        greatest_grant(&prices, used, place, wanted, funds),
+        greatest_grant(&prices, used, place, wanted, funds, Blocks(0)),
     )
+}
+
+/// `GROUP BEFORE USED PLACE WANTED FUNDS ALLOWANCE`: the blocks of the greatest grant that the
+/// allowance covers, those after them, its units and its price.
+fn allowed(rt: &impl Abort, alloc: Global, book: &TariffBook, words: &mut Words<'_>) -> String {
+    let (group, before) = (words.number(rt), words.number(rt));
+    let (used, place) = (Units(words.number(rt)), words.number(rt));
+    let (wanted, funds) = (Units(words.number(rt)), Amount(words.number(rt)));
+    let prices = prices_of(rt, book, group, Period(before), PEAK);
+    let allowance = Blocks(words.number(rt));
+    let grant = greatest_grant(&prices, used, place, wanted, funds, allowance);
+    let text = grant_text(rt, alloc, grant);
+    format!(in alloc; "{} {text}", grant.allowed.0).expect(rt, "memory")
 }
 
 fn grant_text(rt: &impl Abort, alloc: Global, grant: Grant) -> String {
@@ -159,9 +174,22 @@ fn rated(rt: &impl Abort, alloc: Global, book: &TariffBook, words: &mut Words<'_
 fn reported(rt: &impl Abort, alloc: Global, book: &TariffBook, words: &mut Words<'_>) -> String {
     let (group, used, place) = (words.number(rt), Units(words.number(rt)), words.number(rt));
     let parts = [part(rt, words), part(rt, words), NONE, NONE];
-    let rated = rate_report(&prices_of(rt, book, group, OFF, PEAK), used, place, &parts);
+    let prices = prices_of(rt, book, group, OFF, PEAK);
+    let rated = rate_report(&prices, used, place, Blocks(0), &parts);
     let (amount, blocks) = (rated.amount.0, rated.blocks);
     format!(in alloc; "{amount} {blocks}").expect(rt, "memory")
+}
+
+/// `GROUP USED PLACE COVERED SIDE UNITS SIDE UNITS`: the rated amount and the blocks of a report of
+/// two parts whose first blocks may be covered, and how many are.
+fn covered(rt: &impl Abort, alloc: Global, book: &TariffBook, words: &mut Words<'_>) -> String {
+    let (group, used, place) = (words.number(rt), Units(words.number(rt)), words.number(rt));
+    let most = Blocks(words.number(rt));
+    let parts = [part(rt, words), part(rt, words), NONE, NONE];
+    let prices = prices_of(rt, book, group, OFF, PEAK);
+    let rated = rate_report(&prices, used, place, most, &parts);
+    let (amount, blocks, covered) = (rated.amount.0, rated.blocks, rated.covered.0);
+    format!(in alloc; "{amount} {blocks} {covered}").expect(rt, "memory")
 }
 
 fn part(rt: &impl Abort, words: &mut Words<'_>) -> Part {
@@ -206,10 +234,30 @@ report 10 61 2 after 59 after 0 => 0 0
 report 20 0 0 after 103809024 after 0 => 0 99
 report 20 103809024 99 after 2097152 after 0 => 10000 2";
 
+/// Five blocks within the dearer period: an allowance of three, and of more than are wanted; none
+/// of it and no funds but for one block; an allowance alone.
+/// Group 20: two blocks that an allowance covers keep the last free place and the one after it.
+const ALLOWED: &str = "\
+allowed 10 1 0 0 300 1000000 3 => 3 2 300 200000
+allowed 10 1 0 0 300 1000000 1000000000 => 5 0 300 0
+allowed 10 1 0 0 300 100000 0 => 0 1 60 100000
+allowed 10 1 0 0 600 0 2 => 2 0 120 0
+allowed 20 1 103809024 99 4194304 50000 2 => 2 2 4194304 20000";
+
+/// Four minutes of which three are covered; three of which three may be, and nothing is due; five
+/// before the dearer period and two in it, of which six are covered.
+/// Group 20: the last free block is covered, and the one after it isn't free.
+const COVERED: &str = "\
+covered 10 0 0 3 after 240 after 0 => 100000 4 3
+covered 10 0 0 3 after 180 after 0 => 0 3 3
+covered 10 0 0 3 after 60 after 0 => 0 1 1
+covered 10 0 0 6 before 300 after 90 => 100000 7 6
+covered 20 103809024 99 1 after 2097152 after 0 => 10000 2 1";
+
 #[test]
 fn prices_of_the_worked_book(rt: HostRuntime) {
     let book = book(&rt, rt.alloc(), BOOK);
-    for cases in &[GRANTS, RATES, REPORTS] {
+    for cases in &[GRANTS, ALLOWED, RATES, REPORTS, COVERED] {
         try_table(&rt, rt.alloc(), &mut Rater { book: &book }, cases);
     }
 }
@@ -288,7 +336,7 @@ fn granted_otherwise(prices: &Prices, funds: u128) -> u64 {
     for place in 0..20 {
         let (before, after) = (prices.tiers(Side::Before), prices.tiers(Side::After));
         let (blocks, amount) = covered_by_blocks(before, after, place, funds);
-        let grant = greatest_grant(prices, Units(0), place, Units(20), Amount(funds));
+        let grant = greatest_grant(prices, Units(0), place, Units(20), Amount(funds), Blocks(0));
         if (grant.blocks.0, grant.units.0, grant.amount.0) != (blocks, blocks, amount) {
             count = count.saturating_add(1);
         }

@@ -7,7 +7,7 @@ use crate::tests::values::{TEN, end, moment, money};
 use buckets::{Charged, Purse};
 use std::alloc::Global;
 use std::process::Abort;
-use units::{Amount, Moment};
+use units::{Amount, Blocks, Moment};
 
 /// Two buckets, the first of which ends at 10:10.
 fn two_buckets(rt: &impl Abort, alloc: Global) -> Purse {
@@ -68,8 +68,9 @@ fn settle_more(rt: &impl Abort, alloc: Global, purse: &mut Purse) -> String {
     let room = purse.room().expect(rt, "memory");
     let funds = purse.funds(10, ten);
     assert!(rt; funds.0 == 250_000);
-    let holds = purse.hold_in(room, 10, ten, Amount(200_000));
-    charged_text(rt, alloc, purse.settle(holds, 10, ten, Amount(500_000)))
+    let holds = purse.hold_in(room, 10, ten, Amount(200_000), Blocks(0));
+    let charged = purse.settle(holds, 10, ten, Amount(500_000), Blocks(0));
+    charged_text(rt, alloc, charged)
 }
 
 #[test]

@@ -4,8 +4,9 @@
 //! which the first 100 of a month are free and the others cost 10000; events at 90000. 1767607200
 //! is 10:00 of a Monday.
 //!
-//! A line is a moment, a call with its words, what it gives, and the buckets, each as its credited
-//! amount and what of it is available, reserved, charged and expired.
+//! A line is a moment, a call with its words, what it gives, and the buckets, each as what was
+//! credited and what of it is available, reserved, charged and expired: micro-units of money, or
+//! blocks of an allowance.
 
 ghost use Rattle.std.specs.Prelude.{◌≡◌, ◌≤◌, true, None};
 ghost use Rattle.reserving.specs.Pricing.{validity_of};
@@ -20,7 +21,7 @@ use reserving::{Account, Granted, Session, SessionGroup, Settled};
 use shelves::TariffShelf;
 use std::alloc::Global;
 use std::process::Abort;
-use units::{Moment, TariffChangeUsage, Units, UsedPart};
+use units::{Blocks, Moment, TariffChangeUsage, Units, UsedPart};
 use worked_book::BOOK;
 
 /// Whether no request of the session is recorded.
@@ -118,6 +119,17 @@ fn credit(rt: &impl Abort, alloc: Global, account: &mut Account, text: &str, at:
     let (until, amount) = (end(rt, words.number(rt)), money(rt, words.number(rt)));
     must_be_later(rt, account, at);
     let number = account.credit(at, until, None, amount, at);
+    format!(in alloc; "{}", number.expect(rt, "a bucket")).expect(rt, "memory")
+}
+
+/// `UNTIL GROUP BLOCKS`: the bucket's number.
+fn allow(rt: &impl Abort, alloc: Global, account: &mut Account, text: &str, at: Moment) -> String {
+    let mut words = Words::of(text);
+    let (until, group) = (end(rt, words.number(rt)), words.number(rt));
+    let blocks: u64 = words.number(rt);
+    must_be_later(rt, account, at);
+    assert!(rt; 1 <= blocks && blocks <= 1_000_000_000);
+    let number = account.allow(at, until, group, Blocks(blocks), at);
     format!(in alloc; "{}", number.expect(rt, "a bucket")).expect(rt, "memory")
 }
 
@@ -300,6 +312,7 @@ fn outcome(
     let (name, text) = (words.word(), words.rest());
     match name {
         "credit" => credit(rt, alloc, account, text, at),
+        "allow" => allow(rt, alloc, account, text, at),
         "reserve" => reserve(rt, alloc, account, text, at),
         "settle" => settle(rt, alloc, account, text, at),
         "debit" => debit(rt, alloc, account, text, at),
@@ -565,15 +578,55 @@ fn events_and_limits(rt: HostRuntime) {
     play_all(&rt, rt.alloc(), BOOK, &[EVENTS, EVENT, BESIDE, LIMITS]);
 }
 
+/// Three blocks of five are held of the allowance; of four used three are covered.
+const ALLOWANCE: &str = "\
+1767571200 credit 4102444800 1000000 => 1 (1000000; 1000000, 0, 0, 0)
+1767571200 allow 4102444800 10 3 => 2 (1000000; 1000000, 0, 0, 0) (3; 3, 0, 0, 0)
+1767607200 open s34 => opened (1000000; 1000000, 0, 0, 0) (3; 3, 0, 0, 0)
+1767607200 reserve s34 10 300 => 300 None 3600 all (1000000; 800000, 200000, 0, 0) (3; 0, 3, 0, 0)
+1767607500 settle s34 10 240 => 4 100000 100000 0 (1000000; 900000, 0, 100000, 0) (3; 0, 0, 3, 0)";
+
+/// Two blocks, and no money. They are held, and cover a report after their bucket's end.
+const BLOCKS: &str = "\
+1767571200 allow 1767607800 10 2 => 1 (2; 2, 0, 0, 0)
+1767607200 open s35 => opened (2; 2, 0, 0, 0)
+1767607200 reserve s35 10 600 => 120 None 3600 fewer (2; 0, 2, 0, 0)
+1767608100 settle s35 10 180 => 3 100000 0 100000 (2; 0, 0, 2, 0)";
+
+/// As before, with one block used: the other one expires.
+const BLOCK_LEFT: &str = "\
+1767571200 allow 1767607800 10 2 => 1 (2; 2, 0, 0, 0)
+1767607200 open s35 => opened (2; 2, 0, 0, 0)
+1767607200 reserve s35 10 600 => 120 None 3600 fewer (2; 0, 2, 0, 0)
+1767608100 settle s35 10 60 => 1 0 0 0 (2; 0, 0, 1, 1)";
+
+#[test]
+fn allowances_before_money(rt: HostRuntime) {
+    play_all(&rt, rt.alloc(), BOOK, &[ALLOWANCE, BLOCKS, BLOCK_LEFT]);
+}
+
 /// From Tuesday 00:00 on a minute by night costs 60,000. What was granted before is settled by the
-/// book of its grant.
+/// book of its grant, and an allowance counts blocks under both.
 const BOOKS: &str = "\
 1767571200 credit 4102444800 1000000 => 1 (1000000; 1000000, 0, 0, 0)
 1767657300 open s32 => opened (1000000; 1000000, 0, 0, 0)
 1767657300 reserve s32 10 300 => 300 None 3600 all (1000000; 750000, 250000, 0, 0)
 1767657660 settle s32 10 300 => 5 250000 250000 0 (1000000; 750000, 0, 250000, 0)
 1767657660 reserve s32 10 300 => 300 None 3600 all (1000000; 450000, 300000, 250000, 0)
-1767657700 settle s32 10 300 => 5 300000 300000 0 (1000000; 450000, 0, 550000, 0)";
+1767657700 settle s32 10 300 => 5 300000 300000 0 (1000000; 450000, 0, 550000, 0)
+1767657700 allow 4102444800 10 2 => 2 (1000000; 450000, 0, 550000, 0) (2; 2, 0, 0, 0)
+1767657700 reserve s32 10 180 => 180 None 3600 all (1000000; 390000, 60000, 550000, 0)
+   (2; 0, 2, 0, 0)
+1767657720 settle s32 10 180 => 3 60000 60000 0 (1000000; 390000, 0, 610000, 0) (2; 0, 0, 2, 0)";
+
+/// An allowance that is bought under the second book covers blocks of a grant of the first one; the
+/// others cost what they cost at the grant.
+const BOUGHT: &str = "\
+1767571200 credit 4102444800 1000000 => 1 (1000000; 1000000, 0, 0, 0)
+1767657300 open s => opened (1000000; 1000000, 0, 0, 0)
+1767657300 reserve s 10 300 => 300 None 3600 all (1000000; 750000, 250000, 0, 0)
+1767657650 allow 4102444800 10 2 => 2 (1000000; 750000, 250000, 0, 0) (2; 2, 0, 0, 0)
+1767657660 settle s 10 300 => 5 150000 150000 0 (1000000; 850000, 0, 150000, 0) (2; 0, 0, 2, 0)";
 
 /// Adds the worked book with the night at 60,000, from Tuesday 00:00 on.
 fn add_dearer(rt: &impl Abort, alloc: Global, shelf: &mut TariffShelf) {
@@ -590,4 +643,5 @@ fn a_grant_is_settled_by_its_own_book(rt: HostRuntime) {
     let mut shelf = shelf(&rt, alloc, BOOK);
     add_dearer(&rt, alloc, &mut shelf);
     play(&rt, alloc, &shelf, BOOKS);
+    play(&rt, alloc, &shelf, BOUGHT);
 }

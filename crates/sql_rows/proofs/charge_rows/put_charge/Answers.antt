@@ -10,8 +10,11 @@ use Rattle.sql_rows.proofs.charge_rows.put_charge.Goals as goal
 
 pub returns-clause-makes : goal.returns-clause-makes
 returns-clause-makes g c =
-    makes_charge c.args.account.now c.args.charge.now _
-    (bound_charge c.args.account.now c.args.charge.now _ _ _ _ _ _ _ _ _
+    let none : c.args.charge.now.covered.0 ≡ 0 =
+    sym (ap (λ (x : ChargeRow). x.covered.0) c.charge.view_is)
+    ∙ c.in_ok-none_covered.ensures in
+    makes_charge c.args.account.now c.args.charge.now none _
+    (bound_charge c.args.account.now c.args.charge.now none _ _ _ _ _ _ _ _ _
     (c.text-of_account.ensures ∙ ap Text c.as_str.ensures.value)
     (c.whole-number.ensures ∙ ap (λ (x : ChargeRow). nat x.number) c.charge.view_is)
     (c.large-moment.ensures ∙ ap nat c.seconds.ensures.value

@@ -1,3 +1,6 @@
+use Rattle.std.proofs.Common.{[]}
+use Rattle.buckets.specs.Holding.{uncollected}
+use Rattle.buckets.specs.Kinds.{due}
 use Rattle.std.proofs.Common.{◌≤◌, ◌+◌, sym, ap, subst, ◌∙◌}
 use Rattle.buckets.specs.Holding.{IsWithin}
 use Rattle.reserving.specs.Pricing.{cycle_at}
@@ -23,24 +26,32 @@ invariant_of-self c =
     let now : AccountRows = c.args.self.now in
     let is =
     debited_parts a c.args.session.now c.args.group c.args.cycle c.args.rated.units.0
-    c.args.rated.blocks.0 c.args.rated.amount.0 c.none-none_held.result
+    c.args.rated.blocks.0 (due c.args.rated.amount.0 c.args.rated.covered.0) c.none-none_held.result
     c.settle-charged.new.self c.count_blocks.new.counters.items c.count_units.new.groups.items
     (c.requires.cycle
     ∙ sym (ap (λ (x : AccountRows). cycle_at x.shelf c.args.group x.as_of) c.self.view_is))
     c.none-none_held.ensures c.settle-charged.ensures.rows c.count_blocks.ensures
     c.count_units.ensures
     ∙ ap (debited_account c.args.session.now c.args.group c.args.rated.units.0 c.args.rated.blocks.0
-    c.args.rated.amount.0) c.self.view_is in
+    (due c.args.rated.amount.0 c.args.rated.covered.0)) c.self.view_is in
     record {
       priced = subst IsPriced (sym is)
           (IsPriced-debited now c.args.session.now c.args.group c.args.rated.units.0
-          c.args.rated.blocks.0 c.args.rated.amount.0 c.requires.used
+          c.args.rated.blocks.0 (due c.args.rated.amount.0 c.args.rated.covered.0) c.requires.used
           (subst (λ x.
           count_in c.args.group x now.counters + c.args.rated.blocks.0 ≤ 4000000000000000000)
           c.requires.cycle c.requires.counted) c.requires.charges
           (subst IsPriced c.self.view_is c.self.invariant.priced));
       calm = λ e. subst IsCalm (sym is)
           (calm_debited now c.args.session.now c.args.group c.args.rated.units.0
-          c.args.rated.blocks.0 c.args.rated.amount.0
+          c.args.rated.blocks.0 (due c.args.rated.amount.0 c.args.rated.covered.0)
           (subst IsCalm c.self.view_is (c.self.invariant.calm e)));
     }
+
+pub returns-clause-uncollected : goal.returns-clause-uncollected
+returns-clause-uncollected c =
+    c.settle-charged.ensures.uncollected
+    ∙ ap (λ hs. uncollected hs c.args.group c.self.inside.rows.as_of c.args.rated.amount.0
+    c.self.inside.rows.purse) c.none-none_held.ensures
+    ∙ ap (λ (x : AccountRows). uncollected [] c.args.group x.as_of c.args.rated.amount.0 x.buckets)
+    c.self.view_is

@@ -1,3 +1,5 @@
+use Rattle.std.proofs.Common.{arith}
+use Rattle.buckets.specs.declared.kind.BucketKind.TheVariants.{Money}
 use Rattle.std.proofs.Common.{sym, ap, ◌∙◌, subst}
 use Rattle.reserving.specs.Rows.{IsRowsOf}
 use Rattle.reserving.specs.Requests.{credited}
@@ -10,18 +12,27 @@ use Rattle.reserving.proofs.account.Account.credit.Goals as goal
 
 pub returns-clause-ledger : goal.returns-clause-ledger
 returns-clause-ledger c = λ ledger rows.
-    subst (IsRowsOf
-    (credited c.args.moment c.args.from c.args.until c.args.scope c.args.amount ledger))
+    subst (λ n. IsRowsOf
+    (credited c.args.moment Money c.args.from c.args.until c.args.scope n ledger)
+    c.advance.new.self) c.micros.ensures.value
+    (subst (IsRowsOf
+    (credited c.args.moment Money c.args.from c.args.until c.args.scope c.micros.result ledger))
     (ap (advanced c.args.moment) (sym c.in_ok-number.ensures.rows) ∙ sym c.advance.ensures.rows)
-    (IsRowsOf-credited ledger c.args.self.now c.args.moment c.args.from c.args.until c.args.scope
-    c.args.amount c.in_ok-number.ensures.account rows c.requires)
+    (IsRowsOf-credited ledger c.args.self.now c.args.moment Money c.args.from
+    c.args.until c.args.scope
+    c.micros.result c.in_ok-number.ensures.account rows c.requires))
 
 pub returns-clause-left : goal.returns-clause-left
 returns-clause-left c = λ ledger left with_left.
-    subst (λ (x : AccountRows). IsWith
-    (credited c.args.moment c.args.from c.args.until c.args.scope c.args.amount ledger) left
+    subst (λ n. IsWith
+    (credited c.args.moment Money c.args.from c.args.until c.args.scope n ledger) left
+    c.args.moment c.advance.new.self) c.micros.ensures.value
+    (subst (λ (x : AccountRows). IsWith
+    (credited c.args.moment Money c.args.from c.args.until c.args.scope c.micros.result ledger) left
     c.args.moment x)
     (ap (advanced c.args.moment) (sym c.in_ok-number.ensures.rows) ∙ sym c.advance.ensures.rows)
-    (with_credited ledger left c.args.moment c.args.self.now c.args.from c.args.until c.args.scope
-    c.args.amount c.in_ok-number.ensures.in_range.0 c.in_ok-number.ensures.in_range.1 c.requires
-    with_left)
+    (with_credited ledger left c.args.moment c.args.self.now Money c.args.from
+    c.args.until c.args.scope
+    c.micros.result c.in_ok-number.ensures.in_range (omega (arith, c.micros.ensures.in_range)) tt
+    c.requires
+    with_left))

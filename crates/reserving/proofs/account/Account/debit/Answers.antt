@@ -2,11 +2,13 @@ use Rattle.std.proofs.Common.{◌≡◌, ◌+◌, true, false, sym, ap, ◌∙�
 use Rattle.std.specs.Ordering.{is_lt, nat_cmp}
 use Rattle.units.specs.declared.blocks.Units.{Units}
 use Rattle.units.specs.declared.money.Amount.{Amount}
+use Rattle.units.specs.declared.blocks.Blocks.{Blocks}
 use Rattle.rating.specs.declared.report.Rated.{Rated}
+use Rattle.buckets.specs.Kinds.{due}
 use Rattle.reserving.specs.Pricing.{cycle_at}
 use Rattle.reserving.specs.Settlement.{passes}
 use Rattle.reserving.specs.Sessions.{session_in}
-use Rattle.reserving.specs.Changes.{advanced, used_in, count_in, event_price_in, debited_account}
+use Rattle.reserving.specs.Changes.{advanced, used_in, count_in, rest_price_in, debited_account}
 use Rattle.reserving.specs.Prepared.{with_rows}
 use Rattle.reserving.specs.declared.settle.Settled.{Settled}
 use Rattle.reserving.specs.Rows.{AccountRows}
@@ -24,28 +26,29 @@ use Rattle.reserving.proofs.account.Account.debit.Goals as goal
 
 pub returns-then-lt-clause-debit : goal.returns-then-lt-clause-debit
 returns-then-lt-clause-debit c = λ ledger rows.
-    let price : c.event_price-price.result.amount.0
-    ≡ (event_price_in c.args.group c.args.units.0 c.args.moment c.args.self.now).amount.0 =
-    ap (λ (x : Rated). x.amount.0) c.event_price-price.ensures in
+    let price : c.rest_price-price.result.amount.0
+    ≡ (rest_price_in c.args.group c.args.units.0 c.args.moment c.args.self.now).amount.0 =
+    ap (λ (x : Rated). x.amount.0) c.rest_price-price.ensures.value in
     covered_is true ledger c.args.self.now c.args.group c.args.units.0 c.args.moment
-    c.funds.result.0 c.event_price-price.result.amount.0 rows
-    (c.funds.ensures.ledger ledger rows) price
+    c.funds.result.0 c.rest_price-price.result.amount.0 c.rest_price-price.ensures.account rows
+    c.requires (c.funds.ensures.ledger ledger rows) price
     (sym c.lt.ensures ∙ c.if-lt.true)
 
 pub returns-in_default-clause-limit : goal.returns-in_default-clause-limit
 returns-in_default-clause-limit c = λ e ledger rows.
     let a : AccountRows = c.args.self.now in
-    let price : c.event_price-price.result.amount.0
-    ≡ (event_price_in c.args.group c.args.units.0 c.args.moment c.args.self.now).amount.0 =
-    ap (λ (x : Rated). x.amount.0) c.event_price-price.ensures in (
+    let price : c.rest_price-price.result.amount.0
+    ≡ (rest_price_in c.args.group c.args.units.0 c.args.moment c.args.self.now).amount.0 =
+    ap (λ (x : Rated). x.amount.0) c.rest_price-price.ensures.value in (
       covered_is false ledger c.args.self.now c.args.group c.args.units.0 c.args.moment
-          c.funds.result.0 c.event_price-price.result.amount.0 rows
+          c.funds.result.0 c.rest_price-price.result.amount.0 c.within_limits.ensures.account
+          rows c.requires
           (c.funds.ensures.ledger ledger rows) price (sym c.lt.ensures ∙ c.if-lt.false),
       debit_passes_is ledger c.args.self.now c.args.session.now c.args.group c.args.units.0
-          c.args.moment rows
+          c.args.moment c.within_limits.ensures.account rows c.requires
           ∙ (λ i. passes (used_in c.args.session.now c.args.group a.groups) c.args.units.0
           (count_in c.args.group (cycle_at a.shelf c.args.group c.args.moment) a.counters)
-          (sym c.event_price-price.ensures i).blocks a.next_charge)
+          (sym c.rest_price-price.ensures.value i).blocks a.next_charge)
           ∙ c.within_limits.ensures.none c.in_default.is,
     )
 
@@ -76,7 +79,7 @@ charge_use-charged-requires-clause-used c =
       units,
       within_used (used_in c.args.session.now c.args.group c.args.self.now.groups) c.args.units.0
           (count_in c.args.group (cycle_at c.args.self.now.shelf c.args.group c.args.moment)
-          c.args.self.now.counters) c.event_price-price.result.blocks c.args.self.now.next_charge
+          c.args.self.now.counters) c.rest_price-price.result.blocks c.args.self.now.next_charge
           c.in-Some.ensures.some,
     )
 
@@ -99,54 +102,63 @@ charge_use-charged-requires-clause-counted c =
       within_counted (used_in c.args.session.now c.args.group c.args.self.now.groups)
           c.args.units.0
           (count_in c.args.group (cycle_at c.args.self.now.shelf c.args.group c.args.moment)
-          c.args.self.now.counters) c.event_price-price.result.blocks c.args.self.now.next_charge
+          c.args.self.now.counters) c.rest_price-price.result.blocks c.args.self.now.next_charge
           c.in-Some.ensures.some,
     )
 
 -- the units' blocks and their price, by the rows
-started : (c : goal.After-result-5-1) →
+started : (c : goal.After-result-6-1) →
     c.in-Some.rated.blocks.0
-    ≡ (event_price_in c.args.group c.args.units.0 c.args.moment c.args.self.now).blocks
-started c = c.in-Some.ensures.blocks ∙ ap (λ (x : Rated). x.blocks) c.event_price-price.ensures
+    ≡ (rest_price_in c.args.group c.args.units.0 c.args.moment c.args.self.now).blocks
+started c = c.in-Some.ensures.blocks ∙ ap (λ (x : Rated). x.blocks) c.rest_price-price.ensures.value
 
-price : (c : goal.After-result-5-1) →
+price : (c : goal.After-result-6-1) →
     c.in-Some.rated.amount.0
-    ≡ (event_price_in c.args.group c.args.units.0 c.args.moment c.args.self.now).amount.0
+    ≡ (rest_price_in c.args.group c.args.units.0 c.args.moment c.args.self.now).amount.0
 price c =
     ap (λ (x : Amount). x.0) c.in-Some.ensures.amount
-    ∙ ap (λ (x : Rated). x.amount.0) c.event_price-price.ensures
+    ∙ ap (λ (x : Rated). x.amount.0) c.rest_price-price.ensures.value
 
-brought : (c : goal.After-result-5-1) →
+cover : (c : goal.After-result-6-1) →
+    c.in-Some.rated.covered.0
+    ≡ (rest_price_in c.args.group c.args.units.0 c.args.moment c.args.self.now).covered.0
+cover c =
+    ap (λ (x : Blocks). x.0) c.in-Some.ensures.covered
+    ∙ ap (λ (x : Rated). x.covered.0) c.rest_price-price.ensures.value
+
+brought : (c : goal.After-result-6-1) →
     c.advance.new.self
     ≡ advanced c.args.moment
     (with_rows c.args.session.now c.args.group c.cycle_at-cycle.result c.args.self.now)
 brought c = c.advance.ensures.rows ∙ ap (advanced c.args.moment) c.in_ok-make_rows.ensures.ok
 
-debited : (c : goal.After-result-5-1) →
+debited : (c : goal.After-result-6-1) →
     c.charge_use-charged.new.self
     ≡ debited_account c.args.session.now c.args.group c.args.units.0 c.in-Some.rated.blocks.0
-    c.in-Some.rated.amount.0 c.advance.new.self
+    (due c.in-Some.rated.amount.0 c.in-Some.rated.covered.0) c.advance.new.self
 debited c =
     c.charge_use-charged.ensures.rows
     ∙ (λ i. debited_account c.args.session.now c.args.group (c.in-Some.ensures.units i).0
-    c.in-Some.rated.blocks.0 c.in-Some.rated.amount.0 c.advance.new.self)
+    c.in-Some.rated.blocks.0 (due c.in-Some.rated.amount.0 c.in-Some.rated.covered.0)
+    c.advance.new.self)
 
-abbrev Sums : (c : goal.After-result-5-1) → Type 0
+abbrev Sums : (c : goal.After-result-6-1) → Type 0
 Sums c =
     c.charge_use-charged.result.collected.0 + c.charge_use-charged.result.uncollected.0
     ≡ c.in-Some.rated.amount.0
 
-abbrev answered : (c : goal.After-result-5-1) → Sums c → Settled
+abbrev answered : (c : goal.After-result-6-1) → Sums c → Settled
 answered c sum =
     record {
       blocks = c.in-Some.rated.blocks;
+      covered = c.in-Some.rated.covered;
       rated = c.in-Some.rated.amount;
       collected = c.charge_use-charged.result.collected;
       uncollected = c.charge_use-charged.result.uncollected;
       sum = sum;
     }
 
-made : (c : goal.After-result-5-1) (sum : Sums c) →
+made : (c : goal.After-result-6-1) (sum : Sums c) →
     IsDebitMade c.args.self.now c.advance.new.self c.charge_use-charged.new.self c.args.session.now
     c.args.group c.cycle_at-cycle.result c.args.moment c.args.units.0 c.funds.result.0
     (answered c sum)
@@ -160,8 +172,9 @@ made c sum =
       fits = ap
           (λ (x : Rated). passes (used_in c.args.session.now c.args.group a.groups) c.args.units.0
           (count_in c.args.group (cycle_at a.shelf c.args.group c.args.moment) a.counters) x.blocks
-          a.next_charge) (sym c.event_price-price.ensures) ∙ c.in-Some.ensures.some;
+          a.next_charge) (sym c.rest_price-price.ensures.value) ∙ c.in-Some.ensures.some;
       started = started c;
+      cover = cover c;
       price = price c;
       brought = brought c;
       debited = debited c;
@@ -183,7 +196,7 @@ returns-clause-new c = λ x h.
     ap (λ (a : AccountRows). a.sessions)
     (c.charge_use-charged.ensures.rows
     ∙ ap (debited_account c.args.session.now c.args.group c.in-Some.rated.units.0
-    c.in-Some.rated.blocks.0 c.in-Some.rated.amount.0)
+    c.in-Some.rated.blocks.0 (due c.in-Some.rated.amount.0 c.in-Some.rated.covered.0))
     (c.advance.ensures.rows ∙ ap (advanced c.args.moment) c.in_ok-make_rows.ensures.ok)) in
     ap (session_in x) middle ∙ session_in-advanced x c.args.moment c.args.self.now h
 
@@ -191,34 +204,34 @@ pub returns-clause-number : goal.returns-clause-number
 returns-clause-number c =
     charge-numbered (used_in c.args.session.now c.args.group c.args.self.now.groups) c.args.units.0
     (count_in c.args.group (cycle_at c.args.self.now.shelf c.args.group c.args.moment)
-    c.args.self.now.counters) c.event_price-price.result.blocks c.args.self.now.next_charge
+    c.args.self.now.counters) c.rest_price-price.result.blocks c.args.self.now.next_charge
     c.in-Some.ensures.some
 
 pub returns-then-lt-clause-left : goal.returns-then-lt-clause-left
 returns-then-lt-clause-left c = λ ledger left gone h.
-    let price : c.event_price-price.result.amount.0
-    ≡ (event_price_in c.args.group c.args.units.0 c.args.moment c.args.self.now).amount.0 =
-    ap (λ (x : Rated). x.amount.0) c.event_price-price.ensures in (
+    let price : c.rest_price-price.result.amount.0
+    ≡ (rest_price_in c.args.group c.args.units.0 c.args.moment c.args.self.now).amount.0 =
+    ap (λ (x : Rated). x.amount.0) c.rest_price-price.ensures.value in (
       record { apart = h.apart; cycles = h.cycles },
       covered_beside true ledger left c.args.moment c.args.self.now c.args.group c.args.units.0
-          c.funds.result.0 c.event_price-price.result.amount.0 h
+          c.funds.result.0 c.rest_price-price.result.amount.0 c.requires h
           (c.funds.ensures.left ledger left h) price (sym c.lt.ensures ∙ c.if-lt.true),
     )
 
 pub returns-in_default-clause-limit_left : goal.returns-in_default-clause-limit_left
 returns-in_default-clause-limit_left c = λ e ledger left gone h.
     let a : AccountRows = c.args.self.now in
-    let price : c.event_price-price.result.amount.0
-    ≡ (event_price_in c.args.group c.args.units.0 c.args.moment c.args.self.now).amount.0 =
-    ap (λ (x : Rated). x.amount.0) c.event_price-price.ensures in (
+    let price : c.rest_price-price.result.amount.0
+    ≡ (rest_price_in c.args.group c.args.units.0 c.args.moment c.args.self.now).amount.0 =
+    ap (λ (x : Rated). x.amount.0) c.rest_price-price.ensures.value in (
       covered_beside false ledger left c.args.moment a c.args.group c.args.units.0 c.funds.result.0
-          c.event_price-price.result.amount.0 h (c.funds.ensures.left ledger left h) price
+          c.rest_price-price.result.amount.0 c.requires h (c.funds.ensures.left ledger left h) price
           (sym c.lt.ensures ∙ c.if-lt.false),
       debit_passes_told ledger left c.args.moment a c.args.session.now c.args.group c.args.units.0
-          (none_each (is_of c.args.session.now c.args.group) left.groups gone) h
+          (none_each (is_of c.args.session.now c.args.group) left.groups gone) c.requires h
           ∙ (λ i. passes (used_in c.args.session.now c.args.group a.groups) c.args.units.0
           (count_in c.args.group (cycle_at a.shelf c.args.group c.args.moment) a.counters)
-          (sym c.event_price-price.ensures i).blocks a.next_charge)
+          (sym c.rest_price-price.ensures.value i).blocks a.next_charge)
           ∙ c.within_limits.ensures.none c.in_default.is,
     )
 
@@ -234,6 +247,8 @@ returns-clause-by_rows c =
     let a : AccountRows = c.args.self.now in
     debited_is a c.advance.new.self c.charge_use-charged.new.self c.args.session.now c.args.group
     c.cycle_at-cycle.result c.args.moment c.args.units.0 c.in-Some.rated.blocks.0
-    c.in-Some.rated.amount.0 c.cycle_at-cycle.ensures (brought c) (debited c)
-    ∙ (λ i. debited_account c.args.session.now c.args.group c.args.units.0 (started c i) (price c i)
+    (due c.in-Some.rated.amount.0 c.in-Some.rated.covered.0) c.cycle_at-cycle.ensures
+    (brought c) (debited c)
+    ∙ (λ i. debited_account c.args.session.now c.args.group c.args.units.0 (started c i)
+    (due (price c i) (cover c i))
     (advanced c.args.moment a))

@@ -13,6 +13,7 @@ use Rattle.reserving.proofs.kept.Placed.{IsPriced-reserved}
 use Rattle.reserving.specs.Calm.{IsCalm}
 use Rattle.reserving.specs.Sessions.{is_live_in}
 use Rattle.reserving.proofs.rows.Calm.{calm_reserved}
+use Rattle.reserving.specs.Reservation.{held_due}
 use Rattle.reserving.proofs.account.Account.hold_quota.Goals as goal
 
 pub invariant_of-self : goal.invariant_of-self
@@ -32,16 +33,16 @@ invariant_of-self c =
     subst (λ (x : AccountRows). is_some (tariff_at x.shelf x.as_of c.args.group) ≡ true)
     (sym c.self.view_is) c.requires.tariff in
     let is =
-    reserved_parts a c.args.session.now c.args.group c.args.amount.0 c.args.terms
+    reserved_parts a c.args.session.now c.args.group (held_due c.args.grant) c.args.terms
     c.hold_in-holds.result c.hold_in-holds.new.self c.reserve_group.new.groups.items terms
     c.hold_in-holds.ensures.rows c.hold_in-holds.ensures.holds c.reserve_group.ensures in
     record {
       priced = subst IsPriced (sym is)
-          (IsPriced-reserved a c.args.session.now c.args.group c.args.amount.0 none
+          (IsPriced-reserved a c.args.session.now c.args.group (held_due c.args.grant) none
           (subst (λ (x : Terms). AreOfBook (book_at a.shelf a.as_of) x.periods) terms same) some
           c.self.invariant.priced);
       calm = λ e. subst IsCalm (sym is)
-          (calm_reserved a c.args.session.now c.args.group c.args.amount.0
+          (calm_reserved a c.args.session.now c.args.group (held_due c.args.grant)
           (subst (λ (x : AccountRows). is_live_in (validity_of x.shelf) x.as_of x.sessions
           c.args.session.now ≡ true) (sym c.self.view_is) c.requires.live)
           (c.self.invariant.calm e));
@@ -53,7 +54,7 @@ returns c =
     let terms : c.args.terms ≡ terms_at a.shelf a.as_of =
     subst (λ (x : AccountRows). c.args.terms ≡ terms_at x.shelf x.as_of) (sym c.self.view_is)
     c.requires.terms in
-    reserved_parts a c.args.session.now c.args.group c.args.amount.0 c.args.terms
+    reserved_parts a c.args.session.now c.args.group (held_due c.args.grant) c.args.terms
     c.hold_in-holds.result c.hold_in-holds.new.self c.reserve_group.new.groups.items terms
     c.hold_in-holds.ensures.rows c.hold_in-holds.ensures.holds c.reserve_group.ensures
-    ∙ ap (reserved_account c.args.session.now c.args.group c.args.amount.0) c.self.view_is
+    ∙ ap (reserved_account c.args.session.now c.args.group (held_due c.args.grant)) c.self.view_is

@@ -1,3 +1,5 @@
+use Rattle.std.proofs.Common.{◌+◌, ◌-◌}
+use Rattle.buckets.specs.Spend.{allowance}
 use Rattle.std.proofs.Common.{◌≤◌, ℕ, ap, subst, ◌∙◌}
 use Rattle.std.specs.Prelude.{option_map, IfSome, IfNone}
 use Rattle.units.specs.declared.blocks.Units.{Units}
@@ -31,6 +33,7 @@ returns-in_default c =
     (count_in c.args.group (cycle_at c.args.self.now.shelf c.args.group c.args.moment)
     c.args.self.now.counters)
     (funds c.args.group c.args.moment (advanced c.args.moment c.args.self.now).buckets)
+    (allowance c.args.group c.args.moment (advanced c.args.moment c.args.self.now).buckets)
     c.none.result.wanted c.none.result.grant
     (no_tariff (book_at c.args.self.now.shelf c.args.moment) c.args.group c.args.periods
     c.requires.of_book none)
@@ -52,10 +55,13 @@ returns c =
     c.args.self.now.counters in
     let money : ℕ =
     funds c.args.group c.args.moment (advanced c.args.moment c.args.self.now).buckets in
+    let free : ℕ =
+    allowance c.args.group c.args.moment (advanced c.args.moment c.args.self.now).buckets in
     let wanted : ℕ = c.wanted_of-wanted.result in
     let grant : Grant = c.greatest_grant-grant.result in
     quota_by (book_at c.args.self.now.shelf c.args.moment) c.args.used c.args.group
-    (option_map (λ (u : Units). u.0) c.args.requested) c.args.periods place money wanted grant q
+    (option_map (λ (u : Units). u.0) c.args.requested) c.args.periods place money free
+    wanted grant q
     found
     (c.wanted_of-wanted.ensures.value
     ∙ ap (λ t. wanted_units t (option_map (λ (u : Units). u.0) c.args.requested))
@@ -63,10 +69,12 @@ returns c =
     (subst (λ t. wanted ≤ t.max_grant) c.tariff.ensures c.wanted_of-wanted.ensures.most)
     (c.greatest_grant-grant.ensures.value
     ∙ (λ i. grant_of q c.args.used (c.place_at-place.ensures i) wanted
-    (c.funds-funds.ensures.rows i)))
-    (subst (λ n. IsGreatest q.before q.after place (started c.args.used wanted q.tariff.block) n
+    (c.funds-funds.ensures.rows i) (c.allowance-allowance.ensures.rows i)))
+    (subst (λ n. IsGreatest q.before q.after (place + grant.allowed.0)
+    (started c.args.used wanted q.tariff.block - grant.allowed.0) n
     grant.blocks.0) c.funds-funds.ensures.rows
-    (subst (λ n. IsGreatest q.before q.after n (started c.args.used wanted q.tariff.block)
+    (subst (λ n. IsGreatest q.before q.after (n + grant.allowed.0)
+    (started c.args.used wanted q.tariff.block - grant.allowed.0)
     c.funds-funds.result.0 grant.blocks.0)
     c.place_at-place.ensures c.greatest_grant-grant.ensures.greatest))
     c.greatest_grant-grant.ensures.within

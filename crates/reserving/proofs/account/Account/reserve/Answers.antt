@@ -11,11 +11,12 @@ use Rattle.reserving.specs.Prepared.{with_group_row}
 use Rattle.reserving.specs.Rows.{AccountRows}
 use Rattle.reserving.proofs.ReservedCall.{group_there, free_middle, covered_middle, QuotaOf}
 use Rattle.reserving.proofs.ReservedCall.{quota_of, grant_told, quota_covered, grant_is}
-use Rattle.reserving.proofs.ReservedCall.{within_grant}
+use Rattle.reserving.proofs.ReservedCall.{within_grant, allowed_middle, quota_allowed}
 use Rattle.reserving.proofs.calls.StillFree.{others_advanced, others_reserved}
 use Rattle.reserving.specs.Left.{IsWith}
 use Rattle.reserving.proofs.left.Granted.{nothing_beside, grant_beside}
 use Rattle.reserving.proofs.rows.Calm.{live_middle}
+use Rattle.reserving.specs.Reservation.{held_due}
 use Rattle.reserving.proofs.account.Account.reserve.Goals as goal
 
 -- where nothing is granted, the quota was reckoned with the window's periods
@@ -59,6 +60,19 @@ hold_quota-requires-clause-covered c =
     covered_middle c.args.self.now c.advance-2.new.self c.args.session.now c.args.group
     c.args.moment c.quota-quota.result.grant.amount.0
     (quota_covered c.args.self.now c.args.session.now c.args.group c.args.moment
+    (option_map (λ (u : Units). u.0) c.args.requested) _ c.quota-quota.result.grant
+    (quota_of c.args.self.now c.args.session.now c.args.group c.args.moment _ _ _ _
+    (c.window_at-window.ensures.periods
+    ∙ ap (λ (b : Book). periods_by b c.args.moment) c.book_at.ensures.value
+    ∙ ap (λ (x : AccountRows). periods_at x.shelf c.args.moment) c.self.view_is)
+    c.quota-quota.ensures.quota))
+    (c.advance-2.ensures.rows ∙ ap (advanced c.args.moment) c.in_ok-room.ensures.ok)
+
+pub hold_quota-requires-clause-allowed : goal.hold_quota-requires-clause-allowed
+hold_quota-requires-clause-allowed c =
+    allowed_middle c.args.self.now c.advance-2.new.self c.args.session.now c.args.group
+    c.args.moment c.quota-quota.result.grant.allowed.0
+    (quota_allowed c.args.self.now c.args.session.now c.args.group c.args.moment
     (option_map (λ (u : Units). u.0) c.args.requested) _ c.quota-quota.result.grant
     (quota_of c.args.self.now c.args.session.now c.args.group c.args.moment _ _ _ _
     (c.window_at-window.ensures.periods
@@ -120,13 +134,13 @@ returns-clause-within c =
     let some : 0 < c.quota-quota.result.grant.units.0 = omega (arith, c.if-quota-eq0.false) in
     within_grant (book_at c.args.self.now.shelf c.args.moment)
     (used_in c.args.session.now c.args.group c.args.self.now.groups) c.args.group
-    (option_map (λ (u : Units). u.0) c.args.requested) c.window_at-window.result.periods _ _
+    (option_map (λ (u : Units). u.0) c.args.requested) c.window_at-window.result.periods _ _ _
     c.quota-quota.result.wanted c.quota-quota.result.grant c.quota-quota.ensures.quota some
 
 pub returns-clause-others : goal.returns-clause-others
 returns-clause-others c = λ g n h.
     others_reserved c.args.self.now c.advance-2.new.self c.hold_quota.new.self c.args.session.now g
-    c.args.group c.args.moment c.quota-quota.result.grant.amount.0
+    c.args.group c.args.moment (held_due c.quota-quota.result.grant)
     (c.advance-2.ensures.rows ∙ ap (advanced c.args.moment) c.in_ok-room.ensures.ok)
     c.hold_quota.ensures n h
 
@@ -139,7 +153,7 @@ pub returns-clause-sessions : goal.returns-clause-sessions
 returns-clause-sessions c =
     ap (λ (x : AccountRows). x.sessions)
     (c.hold_quota.ensures
-    ∙ ap (reserved_account c.args.session.now c.args.group c.quota-quota.result.grant.amount.0)
+    ∙ ap (reserved_account c.args.session.now c.args.group (held_due c.quota-quota.result.grant))
     (c.advance-2.ensures.rows ∙ ap (advanced c.args.moment) c.in_ok-room.ensures.ok))
 
 pub returns-then-quota-eq0-clause-sessions : goal.returns-then-quota-eq0-clause-sessions

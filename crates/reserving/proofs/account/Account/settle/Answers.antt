@@ -1,9 +1,10 @@
 use Rattle.std.proofs.Common.{false, ◌≡◌, refl, sym, ap, ◌∙◌, arith}
+use Rattle.buckets.specs.Kinds.{due}
 use Rattle.reserving.specs.Changes.{advanced, used_in, count_in, price_in, settled_account}
 use Rattle.reserving.specs.Changes.{ended_rows}
 use Rattle.reserving.specs.Pricing.{cycle_at}
 use Rattle.reserving.specs.Rows.{AccountRows}
-use Rattle.reserving.specs.Settlement.{passes, reported}
+use Rattle.reserving.specs.Settlement.{passes, reported, due_of}
 use Rattle.reserving.proofs.Lists.{is_nothing, is_something}
 use Rattle.reserving.proofs.calls.Settled.{rows_ended, nothing_settled, within_used, within_counted}
 use Rattle.reserving.proofs.calls.Settled.{passes_is, there_later, counter_there, used_middle}
@@ -28,7 +29,7 @@ pub returns-then-is_empty-clause-settled : goal.returns-then-is_empty-clause-set
 returns-then-is_empty-clause-settled c = λ ledger rows.
     nothing_settled ledger c.args.self.now c.args.session.now c.args.group c.args.moment
     c.args.parts.now _
-    (is_nothing c.args.parts.now (sym c.is_empty.ensures ∙ c.if-is_empty.true)) refl refl refl
+    (is_nothing c.args.parts.now (sym c.is_empty.ensures ∙ c.if-is_empty.true)) refl refl refl refl
 
 pub returns-in_default-clause-limit : goal.returns-in_default-clause-limit
 returns-in_default-clause-limit c = λ e ledger rows.
@@ -88,26 +89,35 @@ settle_use-charged-requires-clause-counted c =
           c.in-Some.ensures.some,
     )
 
+-- what is charged
+due_is' : (c : goal.After-result-7-1) →
+    due c.in-Some.rated.amount.0 c.in-Some.rated.covered.0
+    ≡ due_of (price_in c.args.session.now c.args.group c.args.moment c.args.parts.now
+    c.args.self.now)
+due_is' c = λ i. due (c.in-Some.ensures.amount i) (c.in-Some.ensures.covered i)
+
 pub returns-clause-rows : goal.returns-clause-rows
 returns-clause-rows c = λ ledger rows.
     rows_settled ledger c.args.self.now c.advance-2.new.self c.settle_use-charged.new.self
     c.args.session.now c.args.group c.cycle_at-cycle.result c.args.moment
-    c.in-Some.rated.units.0 c.in-Some.rated.blocks.0 c.in-Some.rated.amount.0 c.args.parts.now
+    c.in-Some.rated.units.0 c.in-Some.rated.blocks.0
+    (due c.in-Some.rated.amount.0 c.in-Some.rated.covered.0) c.args.parts.now
     c.rate.ensures.account rows c.requires.moment c.requires.live
     (is_something c.args.parts.now (sym c.is_empty.ensures ∙ c.if-is_empty.false))
     c.cycle_at-cycle.ensures
-    c.in-Some.ensures.units c.in-Some.ensures.blocks c.in-Some.ensures.amount
+    c.in-Some.ensures.units c.in-Some.ensures.blocks (due_is' c)
     (c.advance-2.ensures.rows ∙ ap (advanced c.args.moment) c.in_ok-make_rows.ensures.ok)
     c.settle_use-charged.ensures.rows
 
 -- what is answered, by the account's rows
-told : (c : goal.After-result-6-1) →
+told : (c : goal.After-result-7-1) →
     IsTold c.args.self.now c.advance-2.new.self c.args.session.now c.args.group
     c.cycle_at-cycle.result c.args.moment c.args.parts.now c.in-Some.rated.blocks.0
-    c.in-Some.rated.amount.0 c.settle_use-charged.result.uncollected.0
+    c.in-Some.rated.covered.0 c.in-Some.rated.amount.0 c.settle_use-charged.result.uncollected.0
     c.settle_use-charged.result.collected.0
 told c = record {
   blocks_are = c.in-Some.ensures.blocks;
+  covered_is = c.in-Some.ensures.covered;
   rated_is = c.in-Some.ensures.amount;
   brought =
       c.advance-2.ensures.rows ∙ ap (advanced c.args.moment) c.in_ok-make_rows.ensures.ok;
@@ -122,7 +132,7 @@ returns-clause-settled c = λ ledger rows.
     c.rate.ensures.account rows c.requires.moment c.requires.live (told c)
 
 -- what is reported stays within the limits
-within : (c : goal.After-result-6-1) →
+within : (c : goal.After-result-7-1) →
     passes (used_in c.args.session.now c.args.group c.args.self.now.groups)
     (reported c.args.parts.now)
     (count_in c.args.group (cycle_at c.args.self.now.shelf c.args.group c.args.moment)
@@ -147,7 +157,7 @@ returns-clause-sessions c =
     ap (λ (x : AccountRows). x.sessions)
     (c.settle_use-charged.ensures.rows
     ∙ ap (settled_account c.args.session.now c.args.group c.in-Some.rated.units.0
-    c.in-Some.rated.blocks.0 c.in-Some.rated.amount.0)
+    c.in-Some.rated.blocks.0 (due c.in-Some.rated.amount.0 c.in-Some.rated.covered.0))
     (c.advance-2.ensures.rows ∙ ap (advanced c.args.moment) c.in_ok-make_rows.ensures.ok))
 
 pub returns-then-is_empty-clause-sessions : goal.returns-then-is_empty-clause-sessions
@@ -159,7 +169,8 @@ returns-then-is_empty-clause-sessions c =
 pub returns-clause-free : goal.returns-clause-free
 returns-clause-free c =
     settled_free c.args.session.now c.args.group c.in-Some.rated.units.0 c.in-Some.rated.blocks.0
-    c.in-Some.rated.amount.0 c.advance-2.new.self c.settle_use-charged.new.self
+    (due c.in-Some.rated.amount.0 c.in-Some.rated.covered.0) c.advance-2.new.self
+    c.settle_use-charged.new.self
     c.settle_use-charged.ensures.rows
 
 pub returns-then-is_empty-clause-free : goal.returns-then-is_empty-clause-free
@@ -171,7 +182,7 @@ pub returns-clause-others : goal.returns-clause-others
 returns-clause-others c = λ s g h.
     others_settled c.args.self.now c.advance-2.new.self c.settle_use-charged.new.self s g
     c.args.session.now c.args.group _ c.args.moment c.in-Some.rated.units.0
-    c.in-Some.rated.blocks.0 c.in-Some.rated.amount.0
+    c.in-Some.rated.blocks.0 (due c.in-Some.rated.amount.0 c.in-Some.rated.covered.0)
     (c.advance-2.ensures.rows ∙ ap (advanced c.args.moment) c.in_ok-make_rows.ensures.ok)
     c.settle_use-charged.ensures.rows h
 
@@ -193,11 +204,12 @@ pub returns-clause-left : goal.returns-clause-left
 returns-clause-left c = λ ledger left h.
     left_settled ledger left c.args.self.now c.advance-2.new.self c.settle_use-charged.new.self
     c.args.session.now c.args.group c.cycle_at-cycle.result c.args.moment
-    c.in-Some.rated.units.0 c.in-Some.rated.blocks.0 c.in-Some.rated.amount.0 c.args.parts.now
+    c.in-Some.rated.units.0 c.in-Some.rated.blocks.0
+    (due c.in-Some.rated.amount.0 c.in-Some.rated.covered.0) c.args.parts.now
     h c.requires.moment c.requires.live
     (is_something c.args.parts.now (sym c.is_empty.ensures ∙ c.if-is_empty.false))
     c.cycle_at-cycle.ensures
-    c.in-Some.ensures.units c.in-Some.ensures.blocks c.in-Some.ensures.amount c.in-Some.ensures.some
+    c.in-Some.ensures.units c.in-Some.ensures.blocks (due_is' c) c.in-Some.ensures.some
     (c.advance-2.ensures.rows ∙ ap (advanced c.args.moment) c.in_ok-make_rows.ensures.ok)
     c.settle_use-charged.ensures.rows
 
@@ -205,7 +217,7 @@ pub returns-then-is_empty-clause-settled_left : goal.returns-then-is_empty-claus
 returns-then-is_empty-clause-settled_left c = λ ledger left h.
     nothing_settled ledger c.args.self.now c.args.session.now c.args.group c.args.moment
     c.args.parts.now _
-    (is_nothing c.args.parts.now (sym c.is_empty.ensures ∙ c.if-is_empty.true)) refl refl refl
+    (is_nothing c.args.parts.now (sym c.is_empty.ensures ∙ c.if-is_empty.true)) refl refl refl refl
 
 pub returns-in_default-clause-limit_left : goal.returns-in_default-clause-limit_left
 returns-in_default-clause-limit_left c = λ e ledger left h.
@@ -237,9 +249,10 @@ pub returns-clause-by_rows : goal.returns-clause-by_rows
 returns-clause-by_rows c =
     settled_is c.args.self.now c.advance-2.new.self c.settle_use-charged.new.self c.args.session.now
     c.args.group c.cycle_at-cycle.result c.args.moment c.in-Some.rated.units.0
-    c.in-Some.rated.blocks.0 c.in-Some.rated.amount.0 c.args.parts.now
+    c.in-Some.rated.blocks.0 (due c.in-Some.rated.amount.0 c.in-Some.rated.covered.0)
+    c.args.parts.now
     c.requires.live (is_something c.args.parts.now (sym c.is_empty.ensures ∙ c.if-is_empty.false))
     c.cycle_at-cycle.ensures
-    c.in-Some.ensures.units c.in-Some.ensures.blocks c.in-Some.ensures.amount
+    c.in-Some.ensures.units c.in-Some.ensures.blocks (due_is' c)
     (c.advance-2.ensures.rows ∙ ap (advanced c.args.moment) c.in_ok-make_rows.ensures.ok)
     c.settle_use-charged.ensures.rows

@@ -1,8 +1,9 @@
 use Rattle.std.proofs.Common.{◌≤◌, ◌+◌, sym, ap, subst, ◌∙◌}
-use Rattle.buckets.specs.Holding.{IsWithin}
+use Rattle.buckets.specs.Holding.{IsWithin, uncollected}
+use Rattle.buckets.specs.Kinds.{due}
 use Rattle.reserving.specs.Pricing.{cycle_at}
 use Rattle.reserving.specs.Rows.{AccountRows}
-use Rattle.reserving.specs.Changes.{count_in, settled_account}
+use Rattle.reserving.specs.Changes.{count_in, settled_account, reserved_in}
 use Rattle.reserving.proofs.kept.Settled.{within_of}
 use Rattle.reserving.proofs.calls.RowParts.{settled_parts}
 use Rattle.reserving.specs.Inside.{rows_of}
@@ -24,7 +25,8 @@ invariant_of-self c =
     let now : AccountRows = c.args.self.now in
     let is =
     settled_parts a c.args.session.now c.args.group c.args.cycle c.args.rated.units.0
-    c.args.rated.blocks.0 c.args.rated.amount.0 c.use_group-holds.result
+    c.args.rated.blocks.0 (due c.args.rated.amount.0 c.args.rated.covered.0)
+    c.use_group-holds.result
     c.settle-charged.new.self c.count_blocks.new.counters.items
     c.use_group-holds.new.groups.items
     (c.requires.cycle
@@ -32,17 +34,26 @@ invariant_of-self c =
     c.use_group-holds.ensures.holds c.settle-charged.ensures.rows c.count_blocks.ensures
     c.use_group-holds.ensures.groups
     ∙ ap (settled_account c.args.session.now c.args.group c.args.rated.units.0 c.args.rated.blocks.0
-    c.args.rated.amount.0) c.self.view_is in
+    (due c.args.rated.amount.0 c.args.rated.covered.0)) c.self.view_is in
     record {
       priced = subst IsPriced (sym is)
           (IsPriced-settled now c.args.session.now c.args.group c.args.rated.units.0
-          c.args.rated.blocks.0 c.args.rated.amount.0 c.requires.used
+          c.args.rated.blocks.0 (due c.args.rated.amount.0 c.args.rated.covered.0) c.requires.used
           (subst (λ x.
           count_in c.args.group x now.counters + c.args.rated.blocks.0 ≤ 4000000000000000000)
           c.requires.cycle c.requires.counted) c.requires.charges
           (subst IsPriced c.self.view_is c.self.invariant.priced));
       calm = λ e. subst IsCalm (sym is)
           (calm_settled now c.args.session.now c.args.group c.args.rated.units.0
-          c.args.rated.blocks.0 c.args.rated.amount.0
+          c.args.rated.blocks.0 (due c.args.rated.amount.0 c.args.rated.covered.0)
           (subst IsCalm c.self.view_is (c.self.invariant.calm e)));
     }
+
+pub returns-clause-uncollected : goal.returns-clause-uncollected
+returns-clause-uncollected c =
+    c.settle-charged.ensures.uncollected
+    ∙ ap (λ hs. uncollected hs c.args.group c.self.inside.rows.as_of c.args.rated.amount.0
+    c.self.inside.rows.purse) c.use_group-holds.ensures.holds
+    ∙ ap (λ (x : AccountRows). uncollected
+    (reserved_in c.args.session.now c.args.group x.groups) c.args.group x.as_of
+    c.args.rated.amount.0 x.buckets) c.self.view_is

@@ -3,7 +3,7 @@ use Rattle.std.specs.Prelude.{option_map, nat_lt}
 use Rattle.units.specs.declared.blocks.Units.{Units}
 use Rattle.tariffs.specs.Books.{Book}
 use Rattle.rating.specs.declared.grant.Grant.{Grant}
-use Rattle.buckets.specs.Spend.{funds}
+use Rattle.buckets.specs.Spend.{funds, allowance}
 use Rattle.shelves.specs.Shelves.{book_at}
 use Rattle.reserving.specs.Pricing.{periods_at, cycle_at, periods_by}
 use Rattle.reserving.specs.Quotas.{IsQuota}
@@ -28,6 +28,7 @@ quota_told : (c : goal.After-struct_known-1) →
     (count_in c.args.group (cycle_at c.args.self.now.shelf c.args.group c.args.moment)
     c.args.self.now.counters)
     (funds c.args.group c.args.moment (advanced c.args.moment c.args.self.now).buckets)
+    (allowance c.args.group c.args.moment (advanced c.args.moment c.args.self.now).buckets)
     c.quota_after-quota.result.wanted (grant c)
 quota_told c =
     quota_with c.args.self.now 0 c.args.group c.args.moment (requested c) _ _ _

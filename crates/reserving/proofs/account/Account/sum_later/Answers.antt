@@ -1,0 +1,40 @@
+use Rattle.std.proofs.Common.{◌+◌, map, ap, ◌∙◌, subst, arith}
+use Rattle.buckets.proofs.Counted.{sum_in-most}
+use Rattle.reserving.specs.Rows.{IsAccount}
+use Rattle.reserving.specs.Placed.{IsPriced}
+use Rattle.reserving.proofs.Advanced.{IsAccount-advanced}
+use Rattle.buckets.specs.Row.{with_end, with_release, eligible_amount}
+use Rattle.buckets.specs.Share.{sum_in}
+use Rattle.reserving.specs.Sessions.{is_live_in}
+use Rattle.reserving.specs.Changes.{advanced, lapsed_in}
+use Rattle.reserving.proofs.rows.LapsedFunds.{lapsed_funds-is}
+use Rattle.reserving.specs.Pricing.{validity_of}
+use Rattle.reserving.proofs.account.Account.sum_later.Goals as goal
+
+pub returns-clause-rows : goal.returns-clause-rows
+returns-clause-rows c =
+    (λ i. c.free_funds.ensures.value i + c.lapsed_funds-given_up.ensures.value i)
+    ∙ lapsed_funds-is c.args.kind c.args.group (validity_of c.self.inside.shelf.now) c.args.moment
+    c.deref-2.result.now c.deref.result.now c.buckets-buckets.result.now
+    ∙ (λ i. sum_in c.args.kind (eligible_amount c.args.group c.args.moment)
+    (map (λ b. with_end c.args.moment
+    (with_release c.args.moment b
+    (lapsed_in (is_live_in (validity_of c.self.inside.shelf.now) c.args.moment
+    (c.deref-2.ensures.value i)) (c.deref.ensures.value i) b)))
+    (c.buckets-buckets.ensures.value i)))
+    ∙ ap (λ a. sum_in c.args.kind (eligible_amount c.args.group c.args.moment)
+    (advanced c.args.moment a).buckets) c.self.view_is
+
+pub returns-clause-account : goal.returns-clause-account
+returns-clause-account c = (subst IsPriced c.self.view_is c.self.invariant.priced).account
+
+pub returns-clause-most : goal.returns-clause-most
+returns-clause-most c =
+    let later : IsAccount (advanced c.args.moment c.args.self.now) =
+    IsAccount-advanced c.args.self.now c.args.moment (returns-clause-account c) in
+    omega (
+      arith,
+      returns-clause-rows c,
+      sum_in-most c.args.kind c.args.group c.args.moment
+          (advanced c.args.moment c.args.self.now).buckets later.sound,
+    )
