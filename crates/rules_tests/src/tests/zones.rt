@@ -3,7 +3,7 @@
 //! clock shows comes from tables of changes that zic compiled (`tools/zones`).
 
 use crate::tests::tables::{Teller, try_table};
-use crate::tests::zone_rows::{AT_NEW_YEAR, NORTHERN, OFFICES, SOUTHERN};
+use crate::tests::zone_rows::{at_new_year, northern, offices, southern};
 use calendar::{Calendar, Cycle, Entry, Period, SummerTime, YearlyChange, Zone};
 use std::alloc::Global;
 use std::process::Abort;
@@ -207,21 +207,21 @@ fn try_clocks(rt: &impl Abort, alloc: Global, cases: &str) {
 
 #[test]
 fn clocks_of_offices(rt: HostRuntime) {
-    try_clocks(&rt, rt.alloc(), OFFICES);
+    try_clocks(&rt, rt.alloc(), offices::ROWS);
 }
 
 /// Each zone has a change that is in another year on UTC's clock.
 #[test]
 fn clocks_at_new_year(rt: HostRuntime) {
-    try_clocks(&rt, rt.alloc(), AT_NEW_YEAR);
+    try_clocks(&rt, rt.alloc(), at_new_year::ROWS);
 }
 
 #[test]
 fn clocks_of_northern_zones(rt: HostRuntime) {
-    try_clocks(&rt, rt.alloc(), NORTHERN);
+    try_clocks(&rt, rt.alloc(), northern::ROWS);
 }
 
 #[test]
 fn clocks_of_southern_zones(rt: HostRuntime) {
-    try_clocks(&rt, rt.alloc(), SOUTHERN);
+    try_clocks(&rt, rt.alloc(), southern::ROWS);
 }
