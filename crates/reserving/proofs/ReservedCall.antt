@@ -337,6 +337,13 @@ quota_covered a s g t requested units grant q = by_tariff (tariff_at a.shelf t g
         omega (arith, none)
     by_tariff (Some x) e = (q.greatest x e).covered
 
+-- the group of a grant has a tariff, also once the account is brought to its moment
+pub tariff_middle : (a middle : AccountRows) (s : List ℕ) (g t units : ℕ) →
+    IsWithin (tariff_at a.shelf t g) units → middle ≡ advanced t (with_group_row s g a) →
+    is_some (tariff_at middle.shelf middle.as_of g) ≡ true
+tariff_middle a middle s g t units within m =
+    ap (λ (x : AccountRows). is_some (tariff_at x.shelf x.as_of g)) m ∙ ap is_some within.known
+
 -- so do its blocks within the allowance
 pub quota_allowed : (a : AccountRows) (s : List ℕ) (g t : ℕ) (requested : Option ℕ) (units : ℕ)
     (grant : Grant) → QuotaOf a s g t requested units grant →

@@ -12,6 +12,7 @@ use Rattle.reserving.specs.Rows.{AccountRows}
 use Rattle.reserving.proofs.ReservedCall.{group_there, free_middle, covered_middle, QuotaOf}
 use Rattle.reserving.proofs.ReservedCall.{quota_of, grant_told, quota_covered, grant_is}
 use Rattle.reserving.proofs.ReservedCall.{within_grant, allowed_middle, quota_allowed}
+use Rattle.reserving.proofs.ReservedCall.{tariff_middle}
 use Rattle.reserving.proofs.calls.StillFree.{others_advanced, others_reserved}
 use Rattle.reserving.specs.Left.{IsWith}
 use Rattle.reserving.proofs.left.Granted.{nothing_beside, grant_beside}
@@ -79,6 +80,17 @@ hold_quota-requires-clause-allowed c =
     ∙ ap (λ (b : Book). periods_by b c.args.moment) c.book_at.ensures.value
     ∙ ap (λ (x : AccountRows). periods_at x.shelf c.args.moment) c.self.view_is)
     c.quota-quota.ensures.quota))
+    (c.advance-2.ensures.rows ∙ ap (advanced c.args.moment) c.in_ok-room.ensures.ok)
+
+pub hold_quota-requires-clause-tariff : goal.hold_quota-requires-clause-tariff
+hold_quota-requires-clause-tariff c =
+    let some : 0 < c.quota-quota.result.grant.units.0 = omega (arith, c.if-quota-eq0.false) in
+    tariff_middle c.args.self.now c.advance-2.new.self c.args.session.now c.args.group
+    c.args.moment c.quota-quota.result.grant.units.0
+    (within_grant (book_at c.args.self.now.shelf c.args.moment)
+    (used_in c.args.session.now c.args.group c.args.self.now.groups) c.args.group
+    (option_map (λ (u : Units). u.0) c.args.requested) c.window_at-window.result.periods _ _ _
+    c.quota-quota.result.wanted c.quota-quota.result.grant c.quota-quota.ensures.quota some)
     (c.advance-2.ensures.rows ∙ ap (advanced c.args.moment) c.in_ok-room.ensures.ok)
 
 -- what a grant of some units comes from
