@@ -59,6 +59,7 @@ avp_there avp.ValueDigits = refl
 avp_there avp.Exponent = refl
 avp_there avp.CurrencyCode = refl
 avp_there avp.Amount = refl
+avp_there avp.Blocks = refl
 avp_there avp.From = refl
 avp_there avp.Until = refl
 avp_there avp.Scope = refl

@@ -26,6 +26,7 @@ name_of avp.ValueDigits = codes "Value-Digits"
 name_of avp.Exponent = codes "Exponent"
 name_of avp.CurrencyCode = codes "Currency-Code"
 name_of avp.Amount = codes "Amount"
+name_of avp.Blocks = codes "Blocks"
 name_of avp.From = codes "From"
 name_of avp.Until = codes "Until"
 name_of avp.Scope = codes "Scope"
@@ -39,8 +40,8 @@ all_avps =
     avp.SessionId ∷ avp.RequestType ∷ avp.RequestNumber ∷ avp.SubscriptionId
     ∷ avp.SubscriptionIdType ∷ avp.SubscriptionIdData ∷ avp.RequestedAction ∷ avp.Services
     ∷ avp.RatingGroup ∷ avp.RequestedUnit ∷ avp.UsedUnit ∷ avp.Money ∷ avp.UnitValue
-    ∷ avp.ValueDigits ∷ avp.Exponent ∷ avp.CurrencyCode ∷ avp.Amount ∷ avp.From ∷ avp.Until
-    ∷ avp.Scope ∷ avp.Reference ∷ avp.VoucherCode ∷ avp.Month ∷ []
+    ∷ avp.ValueDigits ∷ avp.Exponent ∷ avp.CurrencyCode ∷ avp.Amount ∷ avp.Blocks ∷ avp.From
+    ∷ avp.Until ∷ avp.Scope ∷ avp.Reference ∷ avp.VoucherCode ∷ avp.Month ∷ []
 
 -- the one of this name
 abbrev pub avp_named : List ℕ → Option Avp

@@ -42,13 +42,17 @@ pub enum Avp {
     CurrencyCode,
     /// Amount (profile): what a credit gives, in micro-units.
     Amount,
-    /// From (profile): from when a credit or a bucket can be used, in seconds since 1970.
+    /// Blocks (profile): how many blocks of its rating group an allowance gives.
+    Blocks,
+    /// From (profile): from when a credit, an allowance or a bucket can be used, in seconds since
+    /// 1970.
     From,
-    /// Until (profile): until when a credit or a bucket can be used, in seconds since 1970.
+    /// Until (profile): until when a credit, an allowance or a bucket can be used, in seconds since
+    /// 1970.
     Until,
-    /// Scope (profile): the one rating group that a credit or a bucket pays for.
+    /// Scope (profile): the one rating group that a credit, an allowance or a bucket pays for.
     Scope,
-    /// Reference (profile): the operator's name for a credit or a redemption.
+    /// Reference (profile): the operator's name for a credit, an allowance or a redemption.
     Reference,
     /// Voucher-Code (profile): the code of a voucher.
     VoucherCode,
@@ -57,7 +61,7 @@ pub enum Avp {
 }
 
 /// All members, in the order of the type.
-const ALL: [Avp; 23] = [
+const ALL: [Avp; 24] = [
     Avp::SessionId,
     Avp::RequestType,
     Avp::RequestNumber,
@@ -75,6 +79,7 @@ const ALL: [Avp; 23] = [
     Avp::Exponent,
     Avp::CurrencyCode,
     Avp::Amount,
+    Avp::Blocks,
     Avp::From,
     Avp::Until,
     Avp::Scope,
@@ -112,6 +117,7 @@ impl Avp {
             Avp::Exponent => "Exponent",
             Avp::CurrencyCode => "Currency-Code",
             Avp::Amount => "Amount",
+            Avp::Blocks => "Blocks",
             Avp::From => "From",
             Avp::Until => "Until",
             Avp::Scope => "Scope",

@@ -539,6 +539,7 @@ avp_ascii avp.ValueDigits = refl
 avp_ascii avp.Exponent = refl
 avp_ascii avp.CurrencyCode = refl
 avp_ascii avp.Amount = refl
+avp_ascii avp.Blocks = refl
 avp_ascii avp.From = refl
 avp_ascii avp.Until = refl
 avp_ascii avp.Scope = refl
