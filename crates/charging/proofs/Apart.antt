@@ -193,6 +193,7 @@ own_is : (a : List ℕ) (all : List DatedCommand) (c : Command) → is_own a all
 own_is a all (command.Ccr r) e = own_named a r.account e
 own_is a all (command.OpenAccount n) e = own_named a n e
 own_is a all (command.Credit c) e = own_named a c.account e
+own_is a all (command.Allow x) e = own_named a x.account e
 own_is a all (command.Bar n) e = own_named a n e
 own_is a all (command.Unbar n) e = own_named a n e
 own_is a all (command.AddVoucher v) e = tt
@@ -212,6 +213,7 @@ same_standing : (b : Shelf) (a : List ℕ) (all : List DatedCommand) (run alone 
 same_standing b a all run alone (command.Ccr r) e fair alike = refl
 same_standing b a all run alone (command.OpenAccount n) e fair alike = refl
 same_standing b a all run alone (command.Credit c) e fair alike = refl
+same_standing b a all run alone (command.Allow x) e fair alike = refl
 same_standing b a all run alone (command.Bar n) e fair alike = refl
 same_standing b a all run alone (command.Unbar n) e fair alike = refl
 same_standing b a all run alone (command.AddVoucher v) e fair alike = alike v.code e
@@ -229,6 +231,7 @@ other_code : (a : List ℕ) (all : List DatedCommand) (c : Command) → is_own a
 other_code a all (command.Ccr r) e fair code mine = refl
 other_code a all (command.OpenAccount n) e fair code mine = refl
 other_code a all (command.Credit c) e fair code mine = refl
+other_code a all (command.Allow x) e fair code mine = refl
 other_code a all (command.Bar n) e fair code mine = refl
 other_code a all (command.Unbar n) e fair code mine = refl
 other_code a all (command.AddVoucher v) e fair code mine = at (same_name v.code code) refl

@@ -3,6 +3,8 @@ use Rattle.std.proofs.Common.{ℕ, Bool, true, false, List, [], ◌∷◌, refl,
 use Rattle.std.specs.Prelude.{if◌then◌else◌, Result, Ok, Err}
 use Rattle.commands.specs.declared.answer.Answer.{Answer}
 use Rattle.commands.specs.declared.answer.Answer.TheVariants as answer
+use Rattle.commands.specs.declared.answer.Refusal.{Refusal}
+use Rattle.commands.specs.declared.allowance.Allowance.{Allowance}
 use Rattle.commands.specs.declared.command.Command.{Command}
 use Rattle.commands.specs.declared.command.Command.TheVariants as command
 use Rattle.commands.specs.declared.command.Content.{Content}
@@ -18,7 +20,7 @@ use Rattle.redemptions.specs.declared.voucher.Voucher.{Voucher}
 use Rattle.redemptions.specs.Adding.{addition}
 use Rattle.redemptions.specs.Redeeming.{redemption}
 use Rattle.shelves.specs.Shelves.{Shelf}
-use Rattle.buckets.specs.declared.kind.BucketKind.TheVariants.{Money}
+use Rattle.buckets.specs.declared.kind.BucketKind.TheVariants.{Money, Blocks}
 use Rattle.reserving.specs.Ledger.{Ledger}
 use Rattle.reserving.specs.Ledger.Fact.{Barred}
 use Rattle.decisions.specs.Decided.{Decision}
@@ -31,6 +33,8 @@ use Rattle.charging.specs.Outcomes.{told, keeping, unless_kept, decided_by, requ
 use Rattle.charging.specs.Outcomes.{from_of, until_of, is_full, is_out_of_range, new_credit}
 use Rattle.charging.specs.Outcomes.{credit_outcome, addition_outcome, book_days, redeemed_outcome}
 use Rattle.charging.specs.Outcomes.{redemption_outcome, new_redemption, redeem_outcome}
+use Rattle.charging.specs.Outcomes.{begin_of, end_of, allowance_refusal, allowed_unless}
+use Rattle.charging.specs.Outcomes.{allowance_outcome}
 use Rattle.charging.specs.Outcomes.{opened_outcome, unopened_outcome, outcome}
 use Rattle.charging.specs.Served.{history, standing}
 use Rattle.charging.specs.SessionReports.{Report, with_ask, with_reports, reports_of}
@@ -89,6 +93,21 @@ module _ (b : Shelf) (P : List Report → Ledger → Type 0) (k : Keeps b P) whe
       (either_outcome (command.Credit c) t reports (is_out_of_range c t h.ledger) _ _ p
       (k.credit t Money (from_of c t) (until_of c) c.scope c.amount reports h.ledger p))
 
+  -- an allowance is a credit in blocks
+  kept_allowed : (o : Option Refusal) (a : Allowance) (t : ℕ) (reports : List Report)
+      (h : History) → P reports h.ledger →
+      IsKept (command.Allow a) t reports (allowed_unless o a t h)
+  kept_allowed (Some refusal) a t reports h p = p
+  kept_allowed None a t reports h p =
+      k.credit t Blocks (begin_of a t) (end_of a) (Some a.scope) a.blocks reports h.ledger p
+
+  kept_allowance : (a : Allowance) (t : ℕ) (reports : List Report) (h : History) →
+      P reports h.ledger → IsKept (command.Allow a) t reports (allowance_outcome b a t h)
+  kept_allowance a t reports h p =
+      kept_unless (command.Allow a) t reports (kept_under (key_of (content.Allow a)) h)
+      (content.Allow a) _ h (allowed_unless (allowance_refusal b a t h.ledger) a t h) p
+      (kept_allowed (allowance_refusal b a t h.ledger) a t reports h p)
+
   -- a redemption credits
   kept_redeemed : (x : Redemption) (r : VoucherRedemption) (t : ℕ) (reports : List Report)
       (h : History) → P reports h.ledger →
@@ -124,6 +143,7 @@ module _ (b : Shelf) (P : List Report → Ledger → Type 0) (k : Keeps b P) whe
   kept_opened s h (command.Ccr r) t reports p = kept_request r t reports h p
   kept_opened s h (command.OpenAccount n) t reports p = p
   kept_opened s h (command.Credit c) t reports p = kept_credit c t reports h p
+  kept_opened s h (command.Allow a) t reports p = kept_allowance a t reports h p
   kept_opened s h (command.Bar n) t reports p =
       k.quiet t (Barred true) reports h.ledger refl refl tt p
   kept_opened s h (command.Unbar n) t reports p =
@@ -139,6 +159,7 @@ module _ (b : Shelf) (P : List Report → Ledger → Type 0) (k : Keeps b P) whe
   kept_unopened s h (command.Ccr r) t reports p = p
   kept_unopened s h (command.OpenAccount n) t reports p = p
   kept_unopened s h (command.Credit c) t reports p = p
+  kept_unopened s h (command.Allow a) t reports p = p
   kept_unopened s h (command.Bar n) t reports p = p
   kept_unopened s h (command.Unbar n) t reports p = p
   kept_unopened s h (command.AddVoucher v) t reports p =

@@ -3,7 +3,8 @@ use Rattle.std.proofs.Common.{◌≡◌, ℕ, Bool, true, false, true≢false, L
 use Rattle.std.proofs.Common.{arith, Option, Some, None}
 use Rattle.std.specs.Prelude.{if◌then◌else◌, IsTrue, ◌↔◌}
 use Rattle.std.specs.Bool.{Decides}
-use Rattle.commands.proofs.Exact.{request_exact, credit_exact, redemption_exact}
+use Rattle.commands.proofs.Exact.{request_exact, credit_exact, allowance_exact}
+use Rattle.commands.proofs.Exact.{redemption_exact}
 use Rattle.commands.specs.declared.answer.Answer.{Answer}
 use Rattle.commands.specs.declared.answer.Answer.TheVariants as answer
 use Rattle.commands.specs.declared.answer.Failure.{Failure}
@@ -11,6 +12,7 @@ use Rattle.commands.specs.declared.answer.Failure.TheVariants.{InvalidAvpValue}
 use Rattle.commands.specs.declared.answer.Outcome.{Outcome as RequestOutcome}
 use Rattle.commands.specs.declared.answer.Refusal.TheVariants.{ContentDiffers}
 use Rattle.commands.specs.declared.avp.Avp.TheVariants.{RequestNumber}
+use Rattle.commands.specs.declared.allowance.Allowance.{Allowance}
 use Rattle.commands.specs.declared.command.Content.{Content}
 use Rattle.commands.specs.declared.command.Content.TheVariants as content
 use Rattle.commands.specs.declared.command.Credit.{Credit}
@@ -36,6 +38,7 @@ use Rattle.charging.specs.Histories.{History, kept_under}
 use Rattle.charging.specs.Accepted.{Outcome}
 use Rattle.charging.specs.Outcomes.{told, keeping, same_content, repeated, unless_kept, failed}
 use Rattle.charging.specs.Outcomes.{decided_by, request_outcome, new_credit, credit_outcome}
+use Rattle.charging.specs.Outcomes.{new_allowance, allowance_outcome}
 use Rattle.charging.specs.Outcomes.{new_redemption, redeem_outcome}
 
 -- ---- equal contents
@@ -45,6 +48,7 @@ abbrev kind : Content → ℕ
 kind (content.Request r) = 0
 kind (content.Credit c) = 1
 kind (content.Redeem r) = 2
+kind (content.Allow a) = 3
 
 -- contents of two kinds aren't equal
 two_kinds : (x y : Content) → (kind x ≡ kind y → ⊥) → Decides false (x ≡ y)
@@ -60,11 +64,13 @@ content_exact (content.Request r) (content.Request q) =
     request_in : Content → Request
     request_in (content.Request x) = x
     request_in (content.Credit x) = r
+    request_in (content.Allow x) = r
     request_in (content.Redeem x) = r
 
     request_of : content.Request r ≡ content.Request q → r ≡ q
     request_of e = ap request_in e
 content_exact (content.Request r) (content.Credit d) = two_kinds _ _ (λ e. omega (arith, e))
+content_exact (content.Request r) (content.Allow d) = two_kinds _ _ (λ e. omega (arith, e))
 content_exact (content.Request r) (content.Redeem d) = two_kinds _ _ (λ e. omega (arith, e))
 content_exact (content.Credit c) (content.Request q) = two_kinds _ _ (λ e. omega (arith, e))
 content_exact (content.Credit c) (content.Credit d) =
@@ -73,13 +79,32 @@ content_exact (content.Credit c) (content.Credit d) =
     credit_in : Content → Credit
     credit_in (content.Request x) = c
     credit_in (content.Credit x) = x
+    credit_in (content.Allow x) = c
     credit_in (content.Redeem x) = c
 
     credit_of : content.Credit c ≡ content.Credit d → c ≡ d
     credit_of e = ap credit_in e
+content_exact (content.Credit c) (content.Allow d) = two_kinds _ _ (λ e. omega (arith, e))
 content_exact (content.Credit c) (content.Redeem d) = two_kinds _ _ (λ e. omega (arith, e))
+content_exact (content.Allow c) (content.Request q) = two_kinds _ _ (λ e. omega (arith, e))
+content_exact (content.Allow c) (content.Credit q) = two_kinds _ _ (λ e. omega (arith, e))
+content_exact (content.Allow c) (content.Allow d) = (
+  λ e. ap content.Allow ((allowance_exact c d).0 e),
+  λ e. (allowance_exact c d).1 (allowance_of e),
+)
+  where
+    allowance_in : Content → Allowance
+    allowance_in (content.Request x) = c
+    allowance_in (content.Credit x) = c
+    allowance_in (content.Allow x) = x
+    allowance_in (content.Redeem x) = c
+
+    allowance_of : content.Allow c ≡ content.Allow d → c ≡ d
+    allowance_of e = ap allowance_in e
+content_exact (content.Allow c) (content.Redeem q) = two_kinds _ _ (λ e. omega (arith, e))
 content_exact (content.Redeem c) (content.Request q) = two_kinds _ _ (λ e. omega (arith, e))
 content_exact (content.Redeem c) (content.Credit q) = two_kinds _ _ (λ e. omega (arith, e))
+content_exact (content.Redeem c) (content.Allow q) = two_kinds _ _ (λ e. omega (arith, e))
 content_exact (content.Redeem c) (content.Redeem d) = (
   λ e. ap content.Redeem ((redemption_exact c d).0 e),
   λ e. (redemption_exact c d).1 (redemption_of e),
@@ -88,6 +113,7 @@ content_exact (content.Redeem c) (content.Redeem d) = (
     redemption_in : Content → VoucherRedemption
     redemption_in (content.Request x) = c
     redemption_in (content.Credit x) = c
+    redemption_in (content.Allow x) = c
     redemption_in (content.Redeem x) = x
 
     redemption_of : content.Redeem c ≡ content.Redeem d → c ≡ d
@@ -203,6 +229,23 @@ pub credit-fresh : (c : Credit) (t : ℕ) (h : History) →
     kept_under (key_of (content.Credit c)) h ≡ None → credit_outcome c t h ≡ new_credit c t h
 credit-fresh c t h e = ap
     (λ o. unless_kept o (content.Credit c) (answer.Refused ContentDiffers) h (new_credit c t h)) e
+
+-- ---- an allowance
+
+pub allowance-repeated : (b : Shelf) (a : Allowance) (t : ℕ) (h : History) (kept : KeptAnswer) →
+    kept_under (key_of (content.Allow a)) h ≡ Some kept →
+    allowance_outcome b a t h ≡
+    told (repeated kept (content.Allow a) (answer.Refused ContentDiffers)) h
+allowance-repeated b a t h kept e =
+    ap (λ o. unless_kept o (content.Allow a) (answer.Refused ContentDiffers) h
+    (new_allowance b a t h)) e
+
+pub allowance-fresh : (b : Shelf) (a : Allowance) (t : ℕ) (h : History) →
+    kept_under (key_of (content.Allow a)) h ≡ None →
+    allowance_outcome b a t h ≡ new_allowance b a t h
+allowance-fresh b a t h e =
+    ap (λ o. unless_kept o (content.Allow a) (answer.Refused ContentDiffers) h
+    (new_allowance b a t h)) e
 
 -- ---- a redemption
 

@@ -9,6 +9,7 @@ pub mod NeverOpened
 pub mod KeptKeys
 pub mod Requested
 pub mod Operated
+pub mod Allowing
 pub mod Vouchered
 pub mod ByNumber
 pub mod Stated

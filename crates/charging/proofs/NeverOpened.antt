@@ -10,6 +10,8 @@ use Rattle.commands.specs.declared.answer.Answer.TheVariants as answer
 use Rattle.commands.specs.declared.answer.Failure.TheVariants.{InvalidAvpValue}
 use Rattle.commands.specs.declared.answer.Refusal.TheVariants.{ContentDiffers, OutOfRange}
 use Rattle.commands.specs.declared.avp.Avp.TheVariants.{RequestNumber}
+use Rattle.commands.specs.declared.allowance.Allowance.{Allowance}
+use Rattle.commands.specs.declared.answer.Refusal.{Refusal}
 use Rattle.commands.specs.declared.command.Content.{Content}
 use Rattle.commands.specs.declared.command.Content.TheVariants as content
 use Rattle.commands.specs.declared.command.Credit.{Credit}
@@ -37,6 +39,7 @@ use Rattle.charging.specs.Accepted.{Accepted, Outcome, concerned_by, names}
 use Rattle.charging.specs.Outcomes.{outcome, opened_outcome, unopened_outcome, told, keeping}
 use Rattle.charging.specs.Outcomes.{unless_kept, failed, decided_by, request_outcome, from_of}
 use Rattle.charging.specs.Outcomes.{until_of, is_full, is_out_of_range, new_credit}
+use Rattle.charging.specs.Outcomes.{allowance_refusal, allowed_unless, new_allowance}
 use Rattle.charging.specs.Outcomes.{addition_outcome, book_days, redeemed_outcome}
 use Rattle.charging.specs.Outcomes.{redemption_outcome, new_redemption}
 use Rattle.charging.specs.Served.{history, standing}
@@ -83,6 +86,11 @@ credit_stays c t h = at (is_out_of_range c t h.ledger)
     at true = refl
     at false = refl
 
+allowed_stays : (o : Option Refusal) (a : Allowance) (t : ℕ) (h : History) →
+    (allowed_unless o a t h).after.opened ≡ h.opened
+allowed_stays (Some refusal) a t h = refl
+allowed_stays None a t h = refl
+
 redeemed_stays : (x : Redemption) (r : VoucherRedemption) (t : ℕ) (h : History) →
     (redeemed_outcome x r t h).after.opened ≡ h.opened
 redeemed_stays x r t h = at (is_full h.ledger)
@@ -111,6 +119,10 @@ opened_stays b s h (command.OpenAccount n) t = refl
 opened_stays b s h (command.Credit c) t =
     kept_stays (kept_under (key_of (content.Credit c)) h) (content.Credit c)
     (answer.Refused ContentDiffers) h (new_credit c t h) (credit_stays c t h)
+opened_stays b s h (command.Allow a) t =
+    kept_stays (kept_under (key_of (content.Allow a)) h) (content.Allow a)
+    (answer.Refused ContentDiffers) h (new_allowance b a t h)
+    (allowed_stays (allowance_refusal b a t h.ledger) a t h)
 opened_stays b s h (command.Bar n) t = refl
 opened_stays b s h (command.Unbar n) t = refl
 opened_stays b s h (command.AddVoucher v) t =
@@ -132,6 +144,7 @@ unopened_empty : (s : Option Voucher) (h : History) (c : Command) → IsEmpty h 
 unopened_empty s h (command.Ccr r) e = e
 unopened_empty s h (command.OpenAccount n) e = e
 unopened_empty s h (command.Credit c) e = e
+unopened_empty s h (command.Allow a) e = e
 unopened_empty s h (command.Bar n) e = e
 unopened_empty s h (command.Unbar n) e = e
 unopened_empty s h (command.AddVoucher v) e =

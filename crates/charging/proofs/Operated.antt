@@ -329,7 +329,7 @@ credit-again b list c t old new kept given time le tables is answers same =
 pub credits_made : {E : Type 0} (r : Result (Option ℕ) E) (c : Credit) (t from until : ℕ)
     (old new : AccountRows) → from ≡ from_of c t → until ≡ until_of c → is_unusable c t ≡ false →
     IfOk r (λ o. (ledger : Ledger) (left : LeftRows) → IsWith ledger left t old →
-    Makes o from until c.scope c.amount t ledger left new) →
+    Makes o Money from until c.scope c.amount t ledger left new) →
     IfOk r (λ o. (ledger : Ledger) (left : LeftRows) → IsWith ledger left t old →
     Credits o c t ledger left new)
 credits_made (Ok None) c t from until old new p q usable makes = λ ledger left before.

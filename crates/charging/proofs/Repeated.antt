@@ -6,12 +6,15 @@ use Rattle.std.proofs.lemmas.Option.{none-some}
 use Rattle.std.specs.Prelude.{if◌then◌else◌, Result, Ok, Err}
 use Rattle.std.specs.List.{find}
 use Rattle.std.specs.Cmp.Lexicographic.{bytes_decides}
-use Rattle.commands.proofs.Exact.{request_exact, credit_exact, redemption_exact}
+use Rattle.commands.proofs.Exact.{request_exact, credit_exact, allowance_exact}
+use Rattle.commands.proofs.Exact.{redemption_exact}
 use Rattle.commands.specs.declared.answer.Answer.{Answer}
 use Rattle.commands.specs.declared.answer.Answer.TheVariants as answer
 use Rattle.commands.specs.declared.answer.Failure.TheVariants.{UserUnknown, InvalidAvpValue}
 use Rattle.commands.specs.declared.answer.Refusal.TheVariants.{ContentDiffers, OutOfRange}
 use Rattle.commands.specs.declared.avp.Avp.TheVariants.{RequestNumber}
+use Rattle.commands.specs.declared.answer.Refusal.{Refusal}
+use Rattle.commands.specs.declared.allowance.Allowance.{Allowance}
 use Rattle.commands.specs.declared.command.Command.{Command}
 use Rattle.commands.specs.declared.command.Command.TheVariants as command
 use Rattle.commands.specs.declared.command.Content.{Content}
@@ -25,7 +28,7 @@ use Rattle.redemptions.specs.declared.voucher.Voucher.{Voucher}
 use Rattle.redemptions.specs.Adding.{addition}
 use Rattle.redemptions.specs.Redeeming.{redemption}
 use Rattle.shelves.specs.Shelves.{Shelf}
-use Rattle.buckets.specs.declared.kind.BucketKind.TheVariants.{Money}
+use Rattle.buckets.specs.declared.kind.BucketKind.TheVariants.{Money, Blocks}
 use Rattle.reserving.specs.Ledger.{Ledger, next_bucket}
 use Rattle.reserving.specs.Requests.{credited}
 use Rattle.decisions.specs.Decided.{Decision}
@@ -38,6 +41,8 @@ use Rattle.charging.specs.declared.running.DatedCommand.{DatedCommand}
 use Rattle.charging.specs.Outcomes.{told, keeping, repeated, unless_kept, failed, decided_by}
 use Rattle.charging.specs.Outcomes.{request_outcome, from_of, until_of, is_full, is_out_of_range}
 use Rattle.charging.specs.Outcomes.{new_credit, credit_outcome, book_days, refused_as}
+use Rattle.charging.specs.Outcomes.{begin_of, end_of, allowance_refusal, allowed_unless}
+use Rattle.charging.specs.Outcomes.{new_allowance, allowance_outcome}
 use Rattle.charging.specs.Outcomes.{redemption_outcome, new_redemption, redeem_outcome}
 use Rattle.charging.specs.Outcomes.{opened_outcome, unopened_outcome, outcome}
 use Rattle.charging.specs.Served.{history, standing, moment_of, accepts, answer_to}
@@ -122,6 +127,25 @@ of_credit P c t h same kept =
     (keeping (content.Credit c) given ledger h) (same (answer.Refused OutOfRange))
     (kept given ledger free))
 
+-- of what an allowance comes to
+of_allowed : (P : Outcome → Type 0) (o : Option Refusal) (a : Allowance) (t : ℕ) (h : History) →
+    ((given : Answer) → P (told given h)) →
+    ((given : Answer) (ledger : Ledger) → P (keeping (content.Allow a) given ledger h)) →
+    P (allowed_unless o a t h)
+of_allowed P (Some refusal) a t h same kept = same (answer.Refused refusal)
+of_allowed P None a t h same kept = kept (answer.Bucket (next_bucket h.ledger))
+    (credited t Blocks (begin_of a t) (end_of a) (Some a.scope) a.blocks h.ledger)
+
+of_allowance : (P : Outcome → Type 0) (b : Shelf) (a : Allowance) (t : ℕ) (h : History) →
+    ((given : Answer) → P (told given h)) →
+    ((given : Answer) (ledger : Ledger) → kept_under (key_of (content.Allow a)) h ≡ None →
+    P (keeping (content.Allow a) given ledger h)) → P (allowance_outcome b a t h)
+of_allowance P b a t h same kept =
+    unless_both P (kept_under (key_of (content.Allow a)) h) (content.Allow a)
+    (answer.Refused ContentDiffers) h (new_allowance b a t h) same (λ free.
+    of_allowed P (allowance_refusal b a t h.ledger) a t h same
+    (λ given ledger. kept given ledger free))
+
 -- of what a redemption comes to
 of_redeemed : (P : Outcome → Type 0) (o : Result Redemption RedeemRefusal) (r : VoucherRedemption)
     (t : ℕ) (h : History) → ((given : Answer) → P (told given h)) →
@@ -165,6 +189,10 @@ keeps_opened b kept s h (command.Credit c) t keeps =
     of_credit (λ o. Keeps kept o.after) c t h (λ given. keeps)
     (λ given ledger free. keeps_kept kept
     (record { content = content.Credit c; answer = given }) h ledger keeps free)
+keeps_opened b kept s h (command.Allow a) t keeps =
+    of_allowance (λ o. Keeps kept o.after) b a t h (λ given. keeps)
+    (λ given ledger free. keeps_kept kept
+    (record { content = content.Allow a; answer = given }) h ledger keeps free)
 keeps_opened b kept s h (command.Bar n) t keeps =
     record { there = keeps.there; found = keeps.found }
 keeps_opened b kept s h (command.Unbar n) t keeps =
@@ -253,6 +281,17 @@ first_redemption b s r t h = at h.opened refl
         (λ given ledger free. first_kept (content.Redeem r) given ledger h there)
     at false there = no
 
+first_allowance : (b : Shelf) (a : Allowance) (t : ℕ) (h : History) →
+    IsKeptFirst (content.Allow a) (outcome b None h (command.Allow a) t)
+first_allowance b a t h = at h.opened refl
+  where
+    at : (there : Bool) → h.opened ≡ there →
+        IsKeptFirst (content.Allow a)
+        (if there then allowance_outcome b a t h else unopened_outcome None h (command.Allow a))
+    at true there = of_allowance (IsKeptFirst (content.Allow a)) b a t h (λ given. no)
+        (λ given ledger free. first_kept (content.Allow a) given ledger h there)
+    at false there = no
+
 -- ---- the repeat
 
 unread : (read : Bool) (x y : Outcome) → not read ≡ true → (if read then x else y) ≡ y
@@ -283,6 +322,17 @@ repeat_credit b c given t h keeps =
     (new_credit c t h)) keeps.found
     ∙ ap (λ same. told (if same then given else answer.Refused ContentDiffers) h)
     ((credit_exact c c).1 refl)
+
+repeat_allowance : (b : Shelf) (a : Allowance) (given : Answer) (t : ℕ) (h : History) →
+    Keeps (record { content = content.Allow a; answer = given }) h →
+    outcome b None h (command.Allow a) t ≡ told given h
+repeat_allowance b a given t h keeps =
+    ap (λ o. if o then allowance_outcome b a t h
+    else unopened_outcome None h (command.Allow a)) keeps.there
+    ∙ ap (λ found. unless_kept found (content.Allow a) (answer.Refused ContentDiffers) h
+    (new_allowance b a t h)) keeps.found
+    ∙ ap (λ same. told (if same then given else answer.Refused ContentDiffers) h)
+    ((allowance_exact a a).1 refl)
 
 repeat_redemption : (b : Shelf) (s : Option Voucher) (r : VoucherRedemption) (given : Answer)
     (t : ℕ) (h : History) → Keeps (record { content = content.Redeem r; answer = given }) h →
@@ -341,6 +391,17 @@ answers-once b list (command.Credit c) t between u key taken =
     (first_credit b c t (history b c.account list) taken)) in
     record { answer = λ i. (told_again i).answer; accepted = λ i. (told_again i).accepted }
 answers-once b list (command.OpenAccount n) t between u key taken = no key
+answers-once b list (command.Allow a) t between u key taken =
+    let given : Answer = answer_to b list (command.Allow a) t in
+    let kept : KeptAnswer = record { content = content.Allow a; answer = given } in
+    let after : List Accepted =
+    after_commands b (record { moment = t; command = command.Allow a } ∷ list) between in
+    let told_again : outcome b None (history b a.account after) (command.Allow a) u ≡
+    told given (history b a.account after) =
+    repeat_allowance b a given u (history b a.account after)
+    (kept_between b kept a.account list (command.Allow a) t between refl
+    (first_allowance b a t (history b a.account list) taken)) in
+    record { answer = λ i. (told_again i).answer; accepted = λ i. (told_again i).accepted }
 answers-once b list (command.Bar n) t between u key taken = no key
 answers-once b list (command.Unbar n) t between u key taken = no key
 answers-once b list (command.AddVoucher v) t between u key taken =

@@ -186,7 +186,7 @@ module _ (b : Shelf) (list : List Accepted) (r : VoucherRedemption) (t : ℕ) (o
     (redeems : redemption (book_days b) (old.vouchers r.code) r.account t ≡ Ok y)
     (o : Option ℕ) (x : AccountRows) (makes : (ledger : Ledger) (left : LeftRows) →
     IsWith ledger left m found.account →
-    Makes o y.from y.until y.scope y.amount m ledger left x) where
+    Makes o Money y.from y.until y.scope y.amount m ledger left x) where
   abbrev h : History
   h = history b r.account list
 
@@ -200,7 +200,7 @@ module _ (b : Shelf) (list : List Accepted) (r : VoucherRedemption) (t : ℕ) (o
   abbrev left : LeftRows
   left = left_of t (priced b account.are.listed)
 
-  made : Makes o y.from y.until y.scope y.amount m h.ledger left x
+  made : Makes o Money y.from y.until y.scope y.amount m h.ledger left x
   made = makes h.ledger left
       (subst (λ (u : ℕ). IsWith h.ledger left u found.account) (sym now) account.with_left)
 
@@ -212,7 +212,7 @@ module _ (b : Shelf) (list : List Accepted) (r : VoucherRedemption) (t : ℕ) (o
       IsServed b list (command.Redeem r) t old new (answer.Refused OutOfRange)
   redeem-told none same =
       let full : is_full h.ledger ≡ true =
-      subst (λ (q : Option ℕ). Makes q y.from y.until y.scope y.amount m h.ledger left x) none
+      subst (λ (q : Option ℕ). Makes q Money y.from y.until y.scope y.amount m h.ledger left x) none
       made in
       served-told b list (command.Redeem r) t r.account refl time le
       (told (answer.Refused OutOfRange) h) (answer.Refused OutOfRange) old new
@@ -249,7 +249,7 @@ module _ (b : Shelf) (list : List Accepted) (r : VoucherRedemption) (t : ℕ) (o
       (IsMadeFrom found.before (stored x) (old.rows found.number) → new ≡ changed change old) →
       IsServed b list (command.Redeem r) t old new (answer.Bucket number)
   redeem-done number change some shelf stands tells grown =
-      let done = subst (λ (q : Option ℕ). Makes q y.from y.until y.scope y.amount m h.ledger left x)
+      let done = subst (λ (q : Option ℕ). Makes q Money y.from y.until y.scope y.amount m h.ledger left x)
       some made in
       let as_of : x.as_of ≡ m = subst (λ (q : Option ℕ). IfSome q (λ n. x.as_of ≡ m)) some stands in
       let after : Ledger = credited t Money y.from y.until y.scope y.amount h.ledger in

@@ -49,6 +49,7 @@ keeps_terms : (ends : DayEnds) (c : Command) (t : ℕ) (found : Option Voucher)
 keeps_terms ends (command.Ccr r) t found terms e = e
 keeps_terms ends (command.OpenAccount n) t found terms e = e
 keeps_terms ends (command.Credit c) t found terms e = e
+keeps_terms ends (command.Allow a) t found terms e = e
 keeps_terms ends (command.Bar n) t found terms e = e
 keeps_terms ends (command.Unbar n) t found terms e = e
 keeps_terms ends (command.AddVoucher v) t None terms e = absurd (none-some terms e)

@@ -39,6 +39,7 @@ abbrev pub concerned_by : Command → Concerned
 concerned_by (command.Ccr r) = one r.account
 concerned_by (command.OpenAccount n) = one n
 concerned_by (command.Credit c) = one c.account
+concerned_by (command.Allow a) = one a.account
 concerned_by (command.Bar n) = one n
 concerned_by (command.Unbar n) = one n
 concerned_by (command.AddVoucher v) = none
@@ -62,6 +63,7 @@ abbrev pub is_opening : Command → Bool
 is_opening (command.OpenAccount n) = true
 is_opening (command.Ccr r) = false
 is_opening (command.Credit c) = false
+is_opening (command.Allow a) = false
 is_opening (command.Bar n) = false
 is_opening (command.Unbar n) = false
 is_opening (command.AddVoucher v) = false
@@ -97,6 +99,7 @@ abbrev pub names_code : List ℕ → Command → Bool
 names_code code (command.Ccr r) = false
 names_code code (command.OpenAccount n) = false
 names_code code (command.Credit c) = false
+names_code code (command.Allow a) = false
 names_code code (command.Bar n) = false
 names_code code (command.Unbar n) = false
 names_code code (command.AddVoucher v) = same_name v.code code
@@ -109,6 +112,7 @@ abbrev pub voucher_after : DayEnds → Command → ℕ → Option Voucher → Op
 voucher_after ends (command.Ccr r) t found = found
 voucher_after ends (command.OpenAccount n) t found = found
 voucher_after ends (command.Credit c) t found = found
+voucher_after ends (command.Allow a) t found = found
 voucher_after ends (command.Bar n) t found = found
 voucher_after ends (command.Unbar n) t found = found
 voucher_after ends (command.AddVoucher v) t found = after_addition (addition found v.terms) found
@@ -130,6 +134,7 @@ abbrev pub standing_for : DayEnds → Command → List Accepted → Option Vouch
 standing_for ends (command.Ccr r) list = None
 standing_for ends (command.OpenAccount n) list = None
 standing_for ends (command.Credit c) list = None
+standing_for ends (command.Allow a) list = None
 standing_for ends (command.Bar n) list = None
 standing_for ends (command.Unbar n) list = None
 standing_for ends (command.AddVoucher v) list = voucher_under ends v.code list

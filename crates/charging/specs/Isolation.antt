@@ -23,6 +23,7 @@ abbrev pub is_redemption_of : List ℕ → List ℕ → Command → Bool
 is_redemption_of a code (command.Ccr r) = false
 is_redemption_of a code (command.OpenAccount n) = false
 is_redemption_of a code (command.Credit c) = false
+is_redemption_of a code (command.Allow x) = false
 is_redemption_of a code (command.Bar n) = false
 is_redemption_of a code (command.Unbar n) = false
 is_redemption_of a code (command.AddVoucher v) = false
@@ -40,6 +41,7 @@ abbrev pub adds_for : List ℕ → List DatedCommand → Command → Bool
 adds_for a ds (command.Ccr r) = false
 adds_for a ds (command.OpenAccount n) = false
 adds_for a ds (command.Credit c) = false
+adds_for a ds (command.Allow x) = false
 adds_for a ds (command.Bar n) = false
 adds_for a ds (command.Unbar n) = false
 adds_for a ds (command.AddVoucher v) = redeems a v.code ds

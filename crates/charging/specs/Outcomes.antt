@@ -3,7 +3,8 @@
 -- operators' commands, vouchers, keys and repeats: profile).
 use Rattle.std.specs.Prelude.{ℕ, ◌==◌, ◌||◌, nat_le, nat_lt, Bool, true, false, if◌then◌else◌, ◌∷◌}
 use Rattle.std.specs.Prelude.{Option, Some, None, Result, Ok, Err, unwrap_or}
-use Rattle.commands.specs.Alike.{same_request, same_credit, same_redemption}
+use Rattle.commands.specs.Alike.{same_request, same_credit, same_allowance, same_redemption}
+use Rattle.commands.specs.declared.allowance.Allowance.{Allowance}
 use Rattle.commands.specs.declared.avp.Avp.TheVariants.{RequestNumber}
 use Rattle.commands.specs.declared.answer.Answer.{Answer}
 use Rattle.commands.specs.declared.answer.Answer.TheVariants as answer
@@ -14,6 +15,7 @@ use Rattle.commands.specs.declared.answer.Refusal.{Refusal}
 use Rattle.commands.specs.declared.answer.Refusal.TheVariants.{AccountExists, AccountUnknown}
 use Rattle.commands.specs.declared.answer.Refusal.TheVariants.{VoucherUnknown, VoucherSpent}
 use Rattle.commands.specs.declared.answer.Refusal.TheVariants.{ContentDiffers, OutOfRange}
+use Rattle.commands.specs.declared.answer.Refusal.TheVariants.{ScopeUnknown}
 use Rattle.commands.specs.declared.command.Command.{Command}
 use Rattle.commands.specs.declared.command.Command.TheVariants as command
 use Rattle.commands.specs.declared.command.Content.{Content}
@@ -31,11 +33,12 @@ use Rattle.redemptions.specs.declared.voucher.Voucher.{Voucher}
 use Rattle.redemptions.specs.Adding.{addition}
 use Rattle.redemptions.specs.Redeeming.{DayEnds, redemption}
 use Rattle.shelves.specs.Shelves.{Shelf, book_at}
-use Rattle.buckets.specs.declared.kind.BucketKind.TheVariants.{Money}
+use Rattle.buckets.specs.declared.kind.BucketKind.TheVariants.{Money, Blocks}
 use Rattle.reserving.specs.Ledger.{Ledger, next_bucket}
 use Rattle.reserving.specs.Requests.{credited, with_bar}
 use Rattle.decisions.specs.Decided.{Decision}
 use Rattle.decisions.specs.Decisions.{decision, answer_of, is_read}
+use Rattle.decisions.specs.Known.{is_known}
 use Rattle.keepers.specs.declared.key.KeptAnswer.{KeptAnswer}
 use Rattle.keepers.specs.Keys.{key_of}
 use Rattle.charging.specs.Balances.{account_balance}
@@ -64,6 +67,7 @@ keeping kept given ledger h =
 abbrev pub same_content : Content → Content → Bool
 same_content (content.Request r) (content.Request q) = same_request r q
 same_content (content.Credit c) (content.Credit d) = same_credit c d
+same_content (content.Allow a) (content.Allow d) = same_allowance a d
 same_content (content.Redeem r) (content.Redeem q) = same_redemption r q
 same_content x y = false
 
@@ -125,6 +129,40 @@ abbrev pub credit_outcome : Credit → ℕ → History → Outcome
 credit_outcome c t h = unless_kept (kept_under (key_of (content.Credit c)) h) (content.Credit c)
     (answer.Refused ContentDiffers) h (new_credit c t h)
 
+-- ---- allowances
+
+-- without a beginning an allowance is usable from the moment on, without an end for good
+abbrev pub begin_of : Allowance → ℕ → ℕ
+begin_of a t = unwrap_or a.from t
+
+abbrev pub end_of : Allowance → ℕ
+end_of a = unwrap_or a.until 4102444800
+
+-- there is no moment left at which it could be used
+abbrev pub is_over : Allowance → ℕ → Bool
+is_over a t = nat_le (end_of a) (begin_of a t) || nat_le (end_of a) t
+
+-- why it is refused: out of range as a credit is, or else for a rating group that the book at the
+-- moment doesn't have
+abbrev pub allowance_refusal : Shelf → Allowance → ℕ → Ledger → Option Refusal
+allowance_refusal b a t ledger =
+    if is_over a t || is_full ledger then Some OutOfRange
+    else (if is_known (book_at b t) a.scope then None else Some ScopeUnknown)
+
+-- else it is a credit in blocks of the group
+abbrev pub allowed_unless : Option Refusal → Allowance → ℕ → History → Outcome
+allowed_unless (Some refusal) a t h = told (answer.Refused refusal) h
+allowed_unless None a t h = keeping (content.Allow a) (answer.Bucket (next_bucket h.ledger))
+    (credited t Blocks (begin_of a t) (end_of a) (Some a.scope) a.blocks h.ledger) h
+
+abbrev pub new_allowance : Shelf → Allowance → ℕ → History → Outcome
+new_allowance b a t h = allowed_unless (allowance_refusal b a t h.ledger) a t h
+
+abbrev pub allowance_outcome : Shelf → Allowance → ℕ → History → Outcome
+allowance_outcome b a t h =
+    unless_kept (kept_under (key_of (content.Allow a)) h) (content.Allow a)
+    (answer.Refused ContentDiffers) h (new_allowance b a t h)
+
 -- ---- vouchers
 
 -- a voucher that is new is accepted; one that is there with the same terms changes nothing
@@ -174,6 +212,7 @@ abbrev pub opened_outcome : Shelf → Option Voucher → History → Command →
 opened_outcome b standing h (command.Ccr r) t = request_outcome b r t h
 opened_outcome b standing h (command.OpenAccount n) t = told (answer.Refused AccountExists) h
 opened_outcome b standing h (command.Credit c) t = credit_outcome c t h
+opened_outcome b standing h (command.Allow a) t = allowance_outcome b a t h
 opened_outcome b standing h (command.Bar n) t =
     done answer.Done (with_ledger (with_bar t true h.ledger) h)
 opened_outcome b standing h (command.Unbar n) t =
@@ -191,6 +230,7 @@ unopened_outcome standing h (command.Ccr r) = told (failed r UserUnknown) h
 unopened_outcome standing h (command.OpenAccount n) =
     done answer.Done (record { opened = true; ledger = h.ledger; kept = h.kept })
 unopened_outcome standing h (command.Credit c) = told (answer.Refused AccountUnknown) h
+unopened_outcome standing h (command.Allow a) = told (answer.Refused AccountUnknown) h
 unopened_outcome standing h (command.Bar n) = told (answer.Refused AccountUnknown) h
 unopened_outcome standing h (command.Unbar n) = told (answer.Refused AccountUnknown) h
 unopened_outcome standing h (command.AddVoucher v) =

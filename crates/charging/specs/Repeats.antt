@@ -13,11 +13,12 @@ use Rattle.charging.specs.declared.running.DatedCommand.{DatedCommand}
 use Rattle.charging.specs.Served.{AreTables, answer_to, accepts}
 use Rattle.charging.specs.Runs.{after_commands}
 
--- commands that can be repeated: requests that aren't reads, credits and redemptions by their keys,
--- and additions of vouchers by their codes
+-- commands that can be repeated: requests that aren't reads, credits, allowances and redemptions by
+-- their keys, and additions of vouchers by their codes
 abbrev pub has_key : Command → Bool
 has_key (command.Ccr r) = not (is_read r.ask)
 has_key (command.Credit c) = true
+has_key (command.Allow a) = true
 has_key (command.OpenAccount n) = false
 has_key (command.Bar n) = false
 has_key (command.Unbar n) = false

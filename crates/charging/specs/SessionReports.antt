@@ -49,6 +49,7 @@ abbrev pub with_reports : Shelf → ℕ → Command → List Report → List Rep
 with_reports b t (command.Ccr r) reports = with_ask b t r.session r.ask reports
 with_reports b t (command.OpenAccount n) reports = reports
 with_reports b t (command.Credit c) reports = reports
+with_reports b t (command.Allow a) reports = reports
 with_reports b t (command.Bar n) reports = reports
 with_reports b t (command.Unbar n) reports = reports
 with_reports b t (command.AddVoucher v) reports = reports

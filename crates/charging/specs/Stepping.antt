@@ -1,16 +1,19 @@
 -- What the parts of a step come to, for every list of accepted commands whose tables a keeper
 -- holds.
 -- Source: profile.
-use Rattle.std.specs.Prelude.{◌≡◌, ℕ, ◌≤◌, Bool, true, false, List, Option, Some, None, Result}
+use Rattle.std.specs.Prelude.{◌≡◌, ℕ, ◌≤◌, Bool, true, false, List, Option, Some, None, Result, Ok, Err}
 use Rattle.std.specs.Prelude.{◌&&◌, is_some, if◌then◌else◌, MatchResult}
 use Rattle.commands.specs.declared.answer.Answer.{Answer}
+use Rattle.commands.specs.declared.answer.Refusal.{Refusal}
+use Rattle.commands.specs.declared.allowance.Allowance.{Allowance}
 use Rattle.commands.specs.declared.command.Command.{Command}
 use Rattle.commands.specs.declared.command.Command.TheVariants.{Bar, Unbar}
 use Rattle.commands.specs.declared.command.Content.TheVariants as content
 use Rattle.commands.specs.declared.command.Credit.{Credit}
 use Rattle.commands.specs.declared.request.Request.{Request}
 use Rattle.shelves.specs.Shelves.{Shelf}
-use Rattle.buckets.specs.declared.kind.BucketKind.TheVariants.{Money}
+use Rattle.buckets.specs.declared.kind.BucketKind.{BucketKind}
+use Rattle.buckets.specs.declared.kind.BucketKind.TheVariants.{Money, Blocks}
 use Rattle.reserving.specs.Ledger.{Ledger, next_bucket}
 use Rattle.reserving.specs.Requests.{credited}
 use Rattle.reserving.specs.Rows.{AccountRows, IsAccount}
@@ -25,6 +28,7 @@ use Rattle.keepers.specs.Tables.{Tables}
 use Rattle.keepers.specs.Change.{IsLoad}
 use Rattle.charging.specs.Accepted.{Accepted, last_moment, IsInTime}
 use Rattle.charging.specs.Outcomes.{from_of, until_of, is_full, is_out_of_range}
+use Rattle.charging.specs.Outcomes.{begin_of, end_of, allowance_refusal}
 use Rattle.charging.specs.Served.{AreTables, IsServed}
 
 -- a command is served at a moment that isn't before that of the last accepted command, or the
@@ -50,11 +54,12 @@ pub record IsTaken (b : Shelf) (t : ℕ) (a : List ℕ) (tables : Tables)
   pub account : IsAccount found.account
 
 -- a bucket is made under this number, and the same rows are left; None: there is no number
-abbrev pub Makes : Option ℕ → ℕ → ℕ → Option ℕ → ℕ → ℕ → Ledger → LeftRows → AccountRows → Type 0
-Makes None from until scope amount t ledger left new = is_full ledger ≡ true
-Makes (Some n) from until scope amount t ledger left new =
+abbrev pub Makes : Option ℕ → BucketKind → ℕ → ℕ → Option ℕ → ℕ → ℕ → Ledger → LeftRows →
+    AccountRows → Type 0
+Makes None kind from until scope amount t ledger left new = is_full ledger ≡ true
+Makes (Some n) kind from until scope amount t ledger left new =
     (is_full ledger ≡ false) × (n ≡ next_bucket ledger)
-    × IsWith (credited t Money from until scope amount ledger) left t new
+    × IsWith (credited t kind from until scope amount ledger) left t new
 
 -- a credit's bucket is made under this number, and the same rows are left; None: it is out of range
 abbrev pub Credits : Option ℕ → Credit → ℕ → Ledger → LeftRows → AccountRows → Type 0
@@ -62,6 +67,14 @@ Credits None c t ledger left new = is_out_of_range c t ledger ≡ true
 Credits (Some n) c t ledger left new =
     (is_out_of_range c t ledger ≡ false) × (n ≡ next_bucket ledger)
     × IsWith (credited t Money (from_of c t) (until_of c) c.scope c.amount ledger) left t new
+
+-- an allowance's bucket is made under this number, and the same rows are left; or it is refused
+abbrev pub Allows : Shelf → Result ℕ Refusal → Allowance → ℕ → Ledger → LeftRows → AccountRows →
+    Type 0
+Allows b (Err refusal) a t ledger left new = allowance_refusal b a t ledger ≡ Some refusal
+Allows b (Ok n) a t ledger left new =
+    (allowance_refusal b a t ledger ≡ None) × (n ≡ next_bucket ledger)
+    × IsWith (credited t Blocks (begin_of a t) (end_of a) (Some a.scope) a.blocks ledger) left t new
 
 -- what is kept under a request's key; reads have none
 abbrev pub kept_of_request : Request → Tables → Option KeptAnswer

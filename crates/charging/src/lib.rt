@@ -2,6 +2,7 @@
 //! commands, and leaves the tables of that history.
 #![tactic(auto)]
 
+mod allowances;
 mod answers;
 mod balances;
 mod committing;

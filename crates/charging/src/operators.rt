@@ -6,6 +6,7 @@ ghost use Rattle.commands.specs.declared.answer.Answer.TheVariants as answer;
 ghost use Rattle.commands.specs.declared.command.Command.TheVariants as command;
 ghost use Rattle.commands.specs.declared.command.Content.TheVariants as content;
 ghost use Rattle.shelves.specs.Shelves.{Shelf};
+ghost use Rattle.buckets.specs.declared.kind.BucketKind.{BucketKind};
 ghost use Rattle.reserving.specs.Ledger.{Ledger};
 ghost use Rattle.reserving.specs.Left.{LeftRows, IsWith};
 ghost use Rattle.keepers.specs.Keys.{key_of};
@@ -156,7 +157,7 @@ pub(crate) fn make_bucket(
     requires later { account.old.as_of ≤ moment }
     ensures makes { IfOk result (λ number. (ledger : Ledger) (left : LeftRows) →
         IsWith ledger left moment account.old →
-        Makes number from until scope amount moment ledger left account.new) }
+        Makes number BucketKind.Money from until scope amount moment ledger left account.new) }
     ensures moment { IfOk result (λ number. IfSome number (λ n. account.new.as_of ≡ moment)) }
     ensures tariff { account.new.shelf ≡ account.old.shelf }
 {

@@ -4,6 +4,7 @@ ghost use Rattle.std.specs.Prelude.{◌≡◌, IfOk, OnErr};
 ghost use Rattle.charging.specs.Served.{Serves};
 ghost use Rattle.charging.specs.Repeats.{IsAnsweredAgain};
 
+use crate::allowances::serve_allowance;
 use crate::balances::tell_balance;
 use crate::operators::{open_account, serve_credit, set_barred, sweep};
 use crate::requests::serve_request;
@@ -57,6 +58,7 @@ fn serve<K: Keeper>(
         Command::Ccr(request) => serve_request(alloc, keeper, shelf, request, moment),
         Command::OpenAccount(number) => open_account(alloc, keeper, shelf, number, moment),
         Command::Credit(credit) => serve_credit(alloc, keeper, shelf, credit, moment),
+        Command::Allow(allowance) => serve_allowance(alloc, keeper, shelf, allowance, moment),
         Command::Bar(number) => set_barred(alloc, keeper, shelf, number, true, moment),
         Command::Unbar(number) => set_barred(alloc, keeper, shelf, number, false, moment),
         Command::AddVoucher(addition) => add_voucher(keeper, addition, moment),

@@ -13,6 +13,7 @@ use Rattle.commands.specs.declared.service.Service.{Service}
 use Rattle.commands.specs.declared.request.Ask.{Ask}
 use Rattle.commands.specs.declared.request.Event.{Event}
 use Rattle.commands.specs.declared.request.Request.{Request}
+use Rattle.commands.specs.declared.allowance.Allowance.{Allowance}
 use Rattle.commands.specs.declared.command.Credit.{Credit}
 use Rattle.commands.specs.declared.command.VoucherRedemption.{VoucherRedemption}
 use Rattle.units.specs.declared.blocks.UnitKind.{UnitKind}
@@ -23,7 +24,7 @@ use Rattle.commands.specs.contracts.used.UsedPartsPartialEq.TheImpl.{ghosts as r
 use Rattle.commands.specs.contracts.service.ServicePartialEq.TheImpl.{ghosts as service}
 use Rattle.commands.specs.contracts.request.EventPartialEq.TheImpl.{ghosts as event}
 use Rattle.commands.specs.contracts.request.AskPartialEq.TheImpl.{ghosts as ask}
-use Rattle.commands.specs.Alike.{same_request, same_credit, same_redemption}
+use Rattle.commands.specs.Alike.{same_request, same_credit, same_allowance, same_redemption}
 
 pub kind_exact : (a b : UnitKind) → Decides (kind.eq a b) (a ≡ b)
 kind_exact a b = search rules
@@ -91,6 +92,34 @@ credit_sound a b e =
 
 pub credit_exact : (a b : Credit) → Decides (same_credit a b) (a ≡ b)
 credit_exact a b = (credit_sound a b, λ e. subst (λ c. same_credit a c ≡ true) e (search rules))
+
+allowance_path : (a b : Allowance) → a.account ≡ b.account → a.blocks ≡ b.blocks →
+    a.from ≡ b.from → a.until ≡ b.until → a.scope ≡ b.scope → a.reference ≡ b.reference → a ≡ b
+allowance_path a b account blocks from until scope reference i =
+    record {
+      account = account i;
+      blocks = blocks i;
+      from = from i;
+      until = until i;
+      scope = scope i;
+      reference = reference i;
+    }
+
+allowance_sound : (a b : Allowance) → same_allowance a b ≡ true → a ≡ b
+allowance_sound a b e =
+    let account = and_parts (same_name a.account b.account) _ e in
+    let blocks = and_parts (nat_eq a.blocks b.blocks) _ account.1 in
+    let from = and_parts (option_eq nat_eq a.from b.from) _ blocks.1 in
+    let until = and_parts (option_eq nat_eq a.until b.until) _ from.1 in
+    let scope = and_parts (nat_eq a.scope b.scope) (same_name a.reference b.reference) until.1 in
+    allowance_path a b ((bytes_decides a.account b.account).0 account.0)
+    ((unsigned_Decides a.blocks b.blocks).0 blocks.0) ((option_exact a.from b.from).0 from.0)
+    ((option_exact a.until b.until).0 until.0) ((unsigned_Decides a.scope b.scope).0 scope.0)
+    ((bytes_decides a.reference b.reference).0 scope.1)
+
+pub allowance_exact : (a b : Allowance) → Decides (same_allowance a b) (a ≡ b)
+allowance_exact a b =
+    (allowance_sound a b, λ e. subst (λ c. same_allowance a c ≡ true) e (search rules))
 
 pub redemption_exact : (a b : VoucherRedemption) → Decides (same_redemption a b) (a ≡ b)
 redemption_exact a b = search rules

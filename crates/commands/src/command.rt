@@ -1,13 +1,14 @@
 ghost use Rattle.std.specs.Prelude.{◌≡◌, ◌↔◌, ◌≤◌, IsSome, IfSome, IsTrue, unwrap_or};
 ghost use Rattle.commands.specs.Kept.{is_kept};
 
+use crate::allowance::Allowance;
 use crate::request::Request;
 use identifiers::{AccountNumber, Reference, VoucherCode};
 use redemptions::VoucherTerms;
 use std::marker::Model;
 use units::{Moment, Money};
 
-/// From when a credit can be used: a moment of a command, 0 to 4,102,444,799.
+/// From when a credit or an allowance can be used: a moment of a command, 0 to 4,102,444,799.
 ///
 /// Contracts see the moment.
 #[derive(Clone, Copy, Debug, PartialEq, Eq)]
@@ -49,7 +50,8 @@ impl CreditStart {
     }
 }
 
-/// Until when a credit can be used: 1 to 4,102,444,799, or 4,102,444,800, which is "no end".
+/// Until when a credit or an allowance can be used: 1 to 4,102,444,799, or 4,102,444,800, which is
+/// "no end".
 ///
 /// Contracts see the moment.
 #[derive(Clone, Copy, Debug, PartialEq, Eq)]
@@ -224,6 +226,8 @@ pub enum Command {
     OpenAccount(AccountNumber),
     /// Gives an account money.
     Credit(Credit),
+    /// Gives an account blocks of a rating group, which are used before money.
+    Allow(Allowance),
     /// Bars an account: initial requests and direct debits are denied, and updates are granted
     /// nothing. What running sessions report is still charged.
     Bar(AccountNumber),
@@ -246,6 +250,8 @@ pub enum Content {
     Request(Request),
     /// Of a credit, under its reference.
     Credit(KeptCredit),
+    /// Of an allowance, under its reference.
+    Allow(Allowance),
     /// Of a redemption, under its reference.
     Redeem(VoucherRedemption),
 }
@@ -266,6 +272,28 @@ pub fn is_kept_credit(kept: &Content, credit: &Credit) -> bool
     match kept {
         Content::Request(_) => false,
         Content::Credit(one) => same_credit(one.credit(), credit),
+        Content::Allow(_) => false,
+        Content::Redeem(_) => false,
+    }
+}
+
+/// Whether two allowances are the same: an allowance that comes again with the same content is a
+/// repeat (profile).
+pub fn same_allowance(a: &Allowance, b: &Allowance) -> bool
+    ensures { IsTrue result ↔ (a.now ≡ b.now) }
+{
+    a == b
+}
+
+/// Whether what is kept is this allowance.
+#[tactic(auto, using(crate::proofs::Exact::allowance_exact))]
+pub fn is_kept_allowance(kept: &Content, allowance: &Allowance) -> bool
+    ensures { IsTrue result ↔ (kept.now ≡ Content.Allow allowance.now) }
+{
+    match kept {
+        Content::Request(_) => false,
+        Content::Credit(_) => false,
+        Content::Allow(one) => same_allowance(one, allowance),
         Content::Redeem(_) => false,
     }
 }
@@ -286,12 +314,13 @@ pub fn is_kept_redemption(kept: &Content, redemption: &VoucherRedemption) -> boo
     match kept {
         Content::Request(_) => false,
         Content::Credit(_) => false,
+        Content::Allow(_) => false,
         Content::Redeem(one) => same_redemption(one, redemption),
     }
 }
 
 /// Whether what is kept of two commands is the same.
-#[tactic(auto, using(crate::proofs::Exact::request_exact, crate::proofs::Exact::credit_exact, crate::proofs::Exact::redemption_exact))]
+#[tactic(auto, using(crate::proofs::Exact::request_exact, crate::proofs::Exact::credit_exact, crate::proofs::Exact::allowance_exact, crate::proofs::Exact::redemption_exact))]
 pub fn same_content(one: &Content, other: &Content) -> bool
     ensures { IsTrue result ↔ (one.now ≡ other.now) }
 {

@@ -4,6 +4,7 @@
 //! value one text.
 #![tactic(auto)]
 
+mod allowance;
 mod answer;
 mod avp;
 mod balance;
@@ -14,6 +15,7 @@ mod request;
 mod service;
 mod used;
 
+pub use crate::allowance::{Allowance, AllowanceBlocks};
 pub use crate::answer::{
     Answer, Balance, Cost, Failure, FinalUnit, Granted, Outcome, Refusal, RequestAnswer,
     ServiceAnswer, ServiceAnswers, ServiceFailure, ServiceOutcome,
@@ -22,8 +24,8 @@ pub use crate::avp::Avp;
 pub use crate::balance::{AccountBalance, BucketBalance, BucketBalances};
 pub use crate::command::{
     Command, Content, Credit, CreditEnd, CreditStart, KeptCredit, VoucherAddition,
-    VoucherRedemption, is_kept_credit, is_kept_redemption, same_content, same_credit,
-    same_redemption,
+    VoucherRedemption, is_kept_allowance, is_kept_credit, is_kept_redemption, same_allowance,
+    same_content, same_credit, same_redemption,
 };
 pub use crate::quantity::Quantity;
 pub use crate::request::{Ask, Event, EventAction, Refund, Request, RequestKind, same_request};

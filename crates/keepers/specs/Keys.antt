@@ -18,6 +18,7 @@ use Rattle.keepers.specs.declared.key.Key.TheVariants.{Request, Reference}
 abbrev pub key_of : Content → Key
 key_of (content.Request r) = Request r.session r.number
 key_of (content.Credit c) = Reference c.reference
+key_of (content.Allow a) = Reference a.reference
 key_of (content.Redeem r) = Reference r.reference
 
 abbrev pub same_key : Key → Key → Bool

@@ -2,7 +2,7 @@
 
 ghost use Rattle.std.specs.Prelude.{◌≡◌, IfOk};
 
-use commands::{Answer, Ask, Content, Credit, KeptCredit, Request, VoucherRedemption};
+use commands::{Allowance, Answer, Ask, Content, Credit, KeptCredit, Request, VoucherRedemption};
 use redemptions::Voucher;
 use std::alloc::AllocError;
 
@@ -44,6 +44,12 @@ fn copy_kept(credit: &KeptCredit) -> Result<KeptCredit, AllocError>
     credit.clone()
 }
 
+fn copy_allowance(allowance: &Allowance) -> Result<Allowance, AllocError>
+    ensures { IfOk result (λ copy. copy ≡ allowance.now) }
+{
+    allowance.clone()
+}
+
 /// The same redemption once more.
 pub fn copy_redemption(redemption: &VoucherRedemption) -> Result<VoucherRedemption, AllocError>
     ensures { IfOk result (λ copy. copy ≡ redemption.now) }
@@ -65,6 +71,7 @@ pub fn copy_content(content: &Content) -> Result<Content, AllocError>
     match content {
         Content::Request(request) => Ok(Content::Request(copy_request(request)?)),
         Content::Credit(credit) => Ok(Content::Credit(copy_kept(credit)?)),
+        Content::Allow(allowance) => Ok(Content::Allow(copy_allowance(allowance)?)),
         Content::Redeem(redemption) => Ok(Content::Redeem(copy_redemption(redemption)?)),
     }
 }

@@ -40,6 +40,7 @@ impl Key {
                 })
             }
             Content::Credit(kept) => Ok(Key::Reference(kept.credit().reference.clone()?)),
+            Content::Allow(allowance) => Ok(Key::Reference(allowance.reference.clone()?)),
             Content::Redeem(redemption) => Ok(Key::Reference(redemption.reference.clone()?)),
         }
     }

@@ -1,0 +1,195 @@
+//! Allowances: operators give accounts blocks of a rating group, which are used before money.
+
+ghost use Rattle.std.specs.Prelude.{◌≡◌, ◌≤◌, IfOk, IfSome, None, Some};
+ghost use Rattle.commands.specs.declared.answer.Answer.TheVariants as answer;
+ghost use Rattle.commands.specs.declared.command.Command.TheVariants as command;
+ghost use Rattle.commands.specs.declared.command.Content.TheVariants as content;
+ghost use Rattle.shelves.specs.Shelves.{Shelf, book_at};
+ghost use Rattle.buckets.specs.declared.kind.BucketKind.{BucketKind};
+ghost use Rattle.reserving.specs.Ledger.{Ledger};
+ghost use Rattle.reserving.specs.Left.{LeftRows, IsWith};
+ghost use Rattle.decisions.specs.Known.{is_known};
+ghost use Rattle.keepers.specs.Keys.{key_of};
+ghost use Rattle.keepers.specs.Change.{IsLoad};
+ghost use Rattle.keepers.specs.Keeping.{Keeps, Reads};
+ghost use Rattle.charging.specs.Outcomes.{is_over, repeated};
+ghost use Rattle.charging.specs.Stepping.{ServesAt, Allows, Makes};
+
+use crate::committing::{commit, moment_on};
+use commands::{Allowance, AllowanceBlocks, Answer, Content, Refusal, is_kept_allowance};
+use keepers::{Keeper, KeptAnswer, Key, Loaded, StoreFault};
+use reserving::{Account, AccountFault};
+use shelves::TariffShelf;
+use std::alloc::{AllocError, Global};
+use units::Moment;
+
+/// Gives an account an allowance, under a reference.
+pub(crate) fn serve_allowance<K: Keeper>(
+    alloc: Global,
+    keeper: &mut K,
+    shelf: &TariffShelf,
+    allowance: Allowance,
+    moment: Moment,
+) -> Result<Answer, StoreFault>
+    ensures served { K.clean keeper.new →
+        ServesAt shelf.now (command.Allow allowance) moment (K.content keeper.old)
+        (K.content keeper.new) result }
+    ensures kept { Keeps K.content K.failed K.clean keeper.old keeper.new result }
+{
+    let kept = find_allowance(keeper, &allowance)?;
+    if let Some(kept) = kept {
+        let conflict = Answer::Refused(Refusal::ContentDiffers);
+        return Ok(repeated_allowance(kept, &allowance, conflict));
+    }
+    let Some(loaded) = keeper.load(shelf, &allowance.account, moment)? else {
+        return Ok(Answer::Refused(Refusal::AccountUnknown));
+    };
+    allow_account(alloc, keeper, loaded, allowance, moment)
+}
+
+/// The answer to an allowance whose reference is kept: its first answer where it is the same one.
+fn repeated_allowance(kept: KeptAnswer, allowance: &Allowance, conflict: Answer) -> Answer
+    ensures { result ≡ repeated kept (content.Allow allowance.now) conflict }
+{
+    if is_kept_allowance(&kept.content, allowance) {
+        kept.answer
+    } else {
+        conflict
+    }
+}
+
+/// What is kept under an allowance's reference.
+fn find_allowance<K: Keeper>(
+    keeper: &mut K,
+    allowance: &Allowance,
+) -> Result<Option<KeptAnswer>, StoreFault>
+    ensures { Reads K.content K.failed K.clean keeper.old keeper.new
+        (λ found. found ≡
+        (K.content keeper.old).answers allowance.now.account
+        (key_of (content.Allow allowance.now)))
+        result }
+{
+    let key = Key::Reference(allowance.reference.clone()?);
+    keeper.find_answer(&allowance.account, &key)
+}
+
+/// Whether there is no moment left at which an allowance could be used.
+fn is_over(allowance: &Allowance, moment: Moment) -> bool
+    ensures { result ≡ is_over allowance.now moment }
+{
+    let from = allowance.from_at(moment);
+    let until = allowance.end();
+    until <= from || until <= moment
+}
+
+/// Whether the book at a moment has a tariff for the rating group.
+fn is_known(account: &Account, group: u32, moment: Moment) -> bool
+    ensures { result ≡ is_known (book_at account.now.shelf moment) group }
+{
+    account.shelf().book_at(moment).tariff(group).is_some()
+}
+
+/// Makes a bucket of blocks on an account: its number, or None where there is none left.
+fn make_allowance(
+    account: &mut Account,
+    from: Moment,
+    until: Moment,
+    group: u32,
+    blocks: AllowanceBlocks,
+    moment: Moment,
+) -> Result<Option<u32>, AllocError>
+    requires later { account.old.as_of ≤ moment }
+    ensures makes { IfOk result (λ number. (ledger : Ledger) (left : LeftRows) →
+        IsWith ledger left moment account.old →
+        Makes number BucketKind.Blocks from until (Some group) blocks moment ledger left
+        account.new) }
+    ensures moment { IfOk result (λ number. IfSome number (λ n. account.new.as_of ≡ moment)) }
+    ensures tariff { account.new.shelf ≡ account.old.shelf }
+{
+    match account.allow(from, until, group, blocks.blocks(), moment) {
+        Ok(number) => Ok(Some(number)),
+        Err(AccountFault::Limit) => Ok(None),
+        Err(AccountFault::Memory) => Err(AllocError),
+    }
+}
+
+/// What became of an allowance on an account: the number of its bucket, or why it is refused. Its
+/// group is looked for last, on an account that isn't committed where there is none.
+fn add_allowance(
+    account: &mut Account,
+    allowance: &Allowance,
+    moment: Moment,
+) -> Result<Result<u32, Refusal>, AllocError>
+    requires later { account.old.as_of ≤ moment }
+    ensures allows { IfOk result (λ made. (ledger : Ledger) (left : LeftRows) →
+        IsWith ledger left moment account.old →
+        Allows account.old.shelf made allowance.now moment ledger left account.new) }
+    ensures moment { IfOk result (λ made. IfOk made (λ n. account.new.as_of ≡ moment)) }
+    ensures tariff { account.new.shelf ≡ account.old.shelf }
+{
+    if is_over(allowance, moment) {
+        return Ok(Err(Refusal::OutOfRange));
+    }
+    let from = allowance.from_at(moment);
+    let until = allowance.end();
+    let made = make_allowance(
+        account,
+        from,
+        until,
+        allowance.scope,
+        allowance.blocks,
+        moment,
+    )?;
+    let Some(number) = made else {
+        return Ok(Err(Refusal::OutOfRange));
+    };
+    if is_known(account, allowance.scope, moment) {
+        Ok(Ok(number))
+    } else {
+        Ok(Err(Refusal::ScopeUnknown))
+    }
+}
+
+/// What is kept of an allowance that made this bucket.
+fn kept_allowance(allowance: Allowance, number: u32) -> KeptAnswer
+    ensures { result ≡ record { content = content.Allow allowance; answer = answer.Bucket number } }
+{
+    KeptAnswer {
+        content: Content::Allow(allowance),
+        answer: Answer::Bucket(number),
+    }
+}
+
+/// Gives an allowance to an account that has nothing kept under the allowance's reference.
+fn allow_account<K: Keeper>(
+    alloc: Global,
+    keeper: &mut K,
+    mut loaded: Loaded,
+    allowance: Allowance,
+    moment: Moment,
+) -> Result<Answer, StoreFault>
+    ensures served { K.clean keeper.new → (b : Shelf) →
+        IsLoad b moment allowance.account ((K.content keeper.old).rows allowance.account)
+        (Some loaded.entry) → (K.content keeper.old).answers allowance.account
+        (key_of (content.Allow allowance)) ≡ None →
+        ServesAt b (command.Allow allowance) moment (K.content keeper.old)
+        (K.content keeper.new) result }
+    ensures kept { Keeps K.content K.failed K.clean keeper.old keeper.new result }
+{
+    let moment = moment_on(&loaded.account, moment);
+    match add_allowance(&mut loaded.account, &allowance, moment) {
+        Ok(Ok(number)) => {
+            let kept = kept_allowance(allowance, number);
+            commit(keeper, loaded, Vec::new(alloc), Some(kept), None)?;
+            Ok(Answer::Bucket(number))
+        }
+        Ok(Err(refusal)) => {
+            keeper.abandon(loaded);
+            Ok(Answer::Refused(refusal))
+        }
+        Err(AllocError) => {
+            keeper.abandon(loaded);
+            Err(StoreFault::Memory)
+        }
+    }
+}

@@ -1,0 +1,92 @@
+//! Allowances: blocks of one rating group that an account uses before money.
+
+ghost use Rattle.std.specs.Prelude.{◌≡◌, ◌≤◌, ◌↔◌, IsSome, IfSome, unwrap_or};
+
+use crate::command::{CreditEnd, CreditStart};
+use identifiers::{AccountNumber, Reference};
+use std::marker::Model;
+use units::{Blocks, Moment};
+
+/// How many blocks an allowance has: 1 to 1,000,000,000.
+///
+/// Contracts see the number.
+#[derive(Clone, Copy, Debug, PartialEq, Eq)]
+pub struct AllowanceBlocks {
+    number: u64,
+}
+
+impl Model for AllowanceBlocks {
+    ghost use Rattle.std.specs.Prelude.{ℕ, ◌≤◌};
+
+    ghost Value = { ℕ };
+
+    ghost view = { λ b. b.number };
+
+    ghost invariant = { λ b. (1 ≤ b.number) × (b.number ≤ 1_000_000_000) };
+
+    ghost inverse = { λ n. record { number = n } };
+}
+
+impl AllowanceBlocks {
+    /// So many blocks; None at 0 and above 1,000,000,000.
+    pub fn new(blocks: Blocks) -> Option<AllowanceBlocks>
+        ensures in_range { IsSome result ↔ ((1 ≤ blocks.0) × (blocks.0 ≤ 1_000_000_000)) }
+        ensures value { IfSome result (λ b. b ≡ blocks.0) }
+    {
+        let number = blocks.0;
+        if 1 <= number && number <= 1_000_000_000 {
+            Some(AllowanceBlocks { number })
+        } else {
+            None
+        }
+    }
+
+    /// The blocks.
+    pub fn blocks(self) -> Blocks
+        ensures value { result.0 ≡ self }
+        ensures in_range { (1 ≤ result.0) × (result.0 ≤ 1_000_000_000) }
+    {
+        Blocks(self.number)
+    }
+}
+
+/// An allowance by an operator: a new bucket of blocks for the account (TS 32.296, account balance
+/// management function).
+#[derive(Clone, Debug, Drop, PartialEq, Eq)]
+pub struct Allowance {
+    /// The account that gets the bucket.
+    pub account: AccountNumber,
+    /// How many blocks the bucket is opened with.
+    pub blocks: AllowanceBlocks,
+    /// From when it can be used; None: from the moment of the command.
+    pub from: Option<CreditStart>,
+    /// Until when it can be used; None: without an end.
+    pub until: Option<CreditEnd>,
+    /// The rating group whose blocks it covers.
+    pub scope: u32,
+    /// The operator's name for it: an allowance with the same reference is a repeat. Credits and
+    /// redemptions have their references among the same names.
+    pub reference: Reference,
+}
+
+impl Allowance {
+    /// From when it can be used, as a command of this moment.
+    pub fn from_at(&self, moment: Moment) -> Moment
+        ensures { result ≡ unwrap_or self.now.from moment }
+    {
+        match self.from {
+            None => moment,
+            Some(start) => start.moment(),
+        }
+    }
+
+    /// Until when it can be used.
+    pub fn end(&self) -> Moment
+        ensures { result ≡ unwrap_or self.now.until 4_102_444_800 }
+    {
+        match self.until {
+            None => Moment::no_end(),
+            Some(end) => end.moment(),
+        }
+    }
+}
