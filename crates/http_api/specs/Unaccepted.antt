@@ -19,6 +19,7 @@ abbrev pub is_read_command : Command → Bool
 is_read_command (command.Ccr r) = is_read r.ask
 is_read_command (command.OpenAccount n) = false
 is_read_command (command.Credit c) = false
+is_read_command (command.Allow a) = false
 is_read_command (command.Bar n) = false
 is_read_command (command.Unbar n) = false
 is_read_command (command.AddVoucher v) = false

@@ -26,6 +26,7 @@ pub(crate) fn is_read_command(command: &Command) -> bool
         Command::Ccr(request) => is_read(&request.ask),
         Command::OpenAccount(_) => false,
         Command::Credit(_) => false,
+        Command::Allow(_) => false,
         Command::Bar(_) => false,
         Command::Unbar(_) => false,
         Command::AddVoucher(_) => false,

@@ -132,6 +132,10 @@ fn put_texts<S: Alter>(
             let reference = &kept.credit().reference;
             put_answer_reference(tx, account, reference, of_content, of_answer)
         }
+        Content::Allow(allowance) => {
+            let reference = &allowance.reference;
+            put_answer_reference(tx, account, reference, of_content, of_answer)
+        }
         Content::Redeem(redemption) => {
             let reference = &redemption.reference;
             put_answer_reference(tx, account, reference, of_content, of_answer)

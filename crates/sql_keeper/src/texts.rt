@@ -21,6 +21,7 @@ fn account_of(content: &Content) -> &AccountNumber
     match content {
         Content::Request(request) => &request.account,
         Content::Credit(kept) => &kept.credit().account,
+        Content::Allow(allowance) => &allowance.account,
         Content::Redeem(redemption) => &redemption.account,
     }
 }

@@ -36,9 +36,12 @@ use Rattle.wire_requests.specs.Spelled.{request_text}
 use Rattle.wire_requests.specs.Reading.{session_at, request_in, request_of}
 use Rattle.wire_requests.proofs.RequestsAgain.{and_three, visible_small, requests_again}
 use Rattle.wire.specs.Credits.{reference_at, credit_at, credit_data, credit_text, IsCredit}
+use Rattle.wire.proofs.AllowancesAgain.{at_most, allowance_content_again}
+use Rattle.wire.proofs.AllowancesAgain.{allowance_content_account}
 use Rattle.wire.proofs.RedeemedAgain.{reference_utf8, redemption_content_again, redemption_account}
 use Rattle.wire.specs.Contents.{content_text, content_of, request_content_in, credit_content_in}
-use Rattle.wire.specs.Contents.{operator_content_when, content_when, account_of, IsContent}
+use Rattle.wire.specs.Contents.{given_content_when, operator_content_when, content_when}
+use Rattle.wire.specs.Contents.{account_of, IsContent}
 use Rattle.wire.specs.Contents.{ContentsReadAgain, ReadsWritten, CreditsAreInOrder}
 
 abbrev credit_members : ℕ → Option Data → List ℕ → Option Data → Option Data → Members
@@ -76,16 +79,17 @@ module _ (amount : ℕ) (from : Option Data) (reference : List ℕ) (scope until
       ∙ get_skip (name_of avp.SessionId) (name_of avp.Scope) scope _ refl
       ∙ get_skip (name_of avp.SessionId) (name_of avp.Until) until no_members refl
 
+  no_blocks : get (name_of avp.Blocks)
+      (object (credit_members amount from reference scope until)) ≡ None
+  no_blocks = get_skip (name_of avp.Blocks) (name_of avp.From) from _ refl
+      ∙ get_skip (name_of avp.Blocks) (name_of avp.Scope) scope _ refl
+      ∙ get_skip (name_of avp.Blocks) (name_of avp.Until) until no_members refl
+
   no_code : get (name_of avp.VoucherCode)
       (object (credit_members amount from reference scope until)) ≡ None
   no_code = get_skip (name_of avp.VoucherCode) (name_of avp.From) from _ refl
       ∙ get_skip (name_of avp.VoucherCode) (name_of avp.Scope) scope _ refl
       ∙ get_skip (name_of avp.VoucherCode) (name_of avp.Until) until no_members refl
-
-at_most : (low most : ℕ) (o : Option ℕ) → IfSome o (λ n. (low ≤ n) × (n ≤ most)) →
-    IfSome o (λ n. n ≤ most)
-at_most low most None h = tt
-at_most low most (Some n) h = h.1
 
 abbrev members_of : Credit → Members
 members_of c = credit_members c.amount (option_map whole c.from) c.reference
@@ -146,6 +150,8 @@ credit_content_again c is =
           (option_map whole c.until),
       no_code c.amount (option_map whole c.from) c.reference (option_map whole c.scope)
           (option_map whole c.until),
+      no_blocks c.amount (option_map whole c.from) c.reference (option_map whole c.scope)
+          (option_map whole c.until),
       credit_again c is,
     ) refl
 
@@ -181,6 +187,7 @@ pub contents_again : ContentsReadAgain content_text
 contents_again (content.Request r) is =
     request_content_again (request_text r) r (requests_again r is)
 contents_again (content.Credit c) is = credit_content_again c is
+contents_again (content.Allow a) is = allowance_content_again a is
 contents_again (content.Redeem r) is = redemption_content_again r is
 
 -- ---- what is read is of the account, and is what was written
@@ -209,14 +216,19 @@ credit_account account d c h =
     let reference = bind_ok (reference_at d) _ c scope.2 in
     sym (ap (λ (x : Credit). x.account) (same_value _ c reference.2))
 
-operator_account : (account : List ℕ) (d : Data) (o : Option Data) (c : Content) →
-    operator_content_when account d o ≡ Ok c → account_of c ≡ account
+given_account : (account : List ℕ) (d : Data) (o : Option Data) (c : Content) →
+    given_content_when account d o ≡ Ok c → account_of c ≡ account
 unfolding credit_content_in
-operator_account account d (Some v) c h = redemption_account account d c account_of (λ r. refl) h
-operator_account account d None c h =
+given_account account d (Some v) c h = allowance_content_account account d c h
+given_account account d None c h =
     let k = bind_ok (credit_at account d) _ c h in
     subst (λ (x : Content). account_of x ≡ account) (same_value _ c k.2)
     (credit_account account d k.0 k.1)
+
+operator_account : (account : List ℕ) (d : Data) (o : Option Data) (c : Content) →
+    operator_content_when account d o ≡ Ok c → account_of c ≡ account
+operator_account account d (Some v) c h = redemption_account account d c account_of (λ r. refl) h
+operator_account account d None c h = given_account account d (get (name_of avp.Blocks) d) c h
 
 when_account : (account : List ℕ) (d : Data) (o : Option Data) (c : Content) →
     content_when account d o ≡ Ok c → account_of c ≡ account

@@ -1,2 +1,3 @@
 pub mod ContentsAgain
+pub mod AllowancesAgain
 pub mod RedeemedAgain

@@ -6,6 +6,7 @@ use Rattle.serde_json.specs.Find.{get}
 use Rattle.commands.specs.Names.{name_of}
 use Rattle.commands.specs.declared.avp.Avp.TheVariants as avp
 use Rattle.commands.specs.declared.command.Credit.{Credit}
+use Rattle.commands.specs.declared.allowance.Allowance.{Allowance}
 use Rattle.commands.specs.declared.command.VoucherRedemption.{VoucherRedemption}
 use Rattle.commands.specs.declared.command.Content.{Content}
 use Rattle.commands.specs.declared.command.Content.TheVariants as content
@@ -18,12 +19,14 @@ use Rattle.wire_requests.specs.Reading.{request_in}
 use Rattle.wire_requests.specs.Spelled.{request_text}
 use Rattle.wire_requests.specs.Rules.{IsRequest}
 use Rattle.wire.specs.Credits.{credit_at, credit_text, IsCredit}
+use Rattle.wire.specs.Allowances.{allowance_at, allowance_text, IsAllowance}
 use Rattle.wire.specs.Redeemed.{kept_redemption_at, redemption_text, IsRedemption}
 
 -- the text that is kept
 abbrev pub content_text : Content → List ℕ
 content_text (content.Request r) = request_text r
 content_text (content.Credit c) = credit_text c
+content_text (content.Allow a) = allowance_text a
 content_text (content.Redeem r) = redemption_text r
 
 -- a request that is kept is one of the account that it is kept under
@@ -38,6 +41,11 @@ credit_content_in account d = do
   c ← credit_at account d
   Ok (content.Credit c)
 
+unfoldable pub allowance_content_in : List ℕ → Data → Result Content WireFault
+allowance_content_in account d = do
+  a ← allowance_at account d
+  Ok (content.Allow a)
+
 -- so is a redemption
 unfoldable pub redemption_content_in : List ℕ → Data → Result Content WireFault
 redemption_content_in account d = do
@@ -45,18 +53,25 @@ redemption_content_in account d = do
   where_holds (pointwise nat_eq r.account account) (Invalid avp.SubscriptionIdData)
       (content.Redeem r)
 
+-- what a kept text without a Voucher-Code is, by the member that stands: an allowance has Blocks
+abbrev pub given_content_when : List ℕ → Data → Option Data → Result Content WireFault
+given_content_when account d (Some blocks) = allowance_content_in account d
+given_content_when account d None = credit_content_in account d
+
 -- what a kept text of an operator's command is, by the member that stands: a redemption has a
 -- Voucher-Code
 abbrev pub operator_content_when : List ℕ → Data → Option Data → Result Content WireFault
 operator_content_when account d (Some code) = redemption_content_in account d
-operator_content_when account d None = credit_content_in account d
+operator_content_when account d None =
+    given_content_when account d (get (name_of avp.Blocks) d)
 
 -- what a kept text is, by the member that stands: a request has a Session-Id
 abbrev pub content_when : List ℕ → Data → Option Data → Result Content WireFault
 content_when account d (Some session) = request_content_in account d
 content_when account d None = operator_content_when account d (get (name_of avp.VoucherCode) d)
 
--- the content that a kept text is; the account of a credit is known from where it is kept
+-- the content that a kept text is; the account of a credit or an allowance is known from where it
+-- is kept
 unfoldable pub content_of : List ℕ → List ℕ → Result Content WireFault
 content_of account bytes = do
   d ← document_at bytes
@@ -65,11 +80,13 @@ content_of account bytes = do
 abbrev pub account_of : Content → List ℕ
 account_of (content.Request r) = r.account
 account_of (content.Credit c) = c.account
+account_of (content.Allow a) = a.account
 account_of (content.Redeem r) = r.account
 
 abbrev pub IsContent : Content → Type 0
 IsContent (content.Request r) = IsRequest r
 IsContent (content.Credit c) = IsCredit c
+IsContent (content.Allow a) = IsAllowance a
 IsContent (content.Redeem r) = IsRedemption r
 
 -- what was written is read again
@@ -84,6 +101,9 @@ ReadsWritten account bytes returned = (c : Content)
 -- what was written has its members in byte order
 abbrev pub CreditsAreInOrder : (Credit → Data) → Type 0
 CreditsAreInOrder spelled = (c : Credit) → IsCredit c → AreInByteOrder (spelled c)
+
+abbrev pub AllowancesAreInOrder : (Allowance → Data) → Type 0
+AllowancesAreInOrder spelled = (a : Allowance) → IsAllowance a → AreInByteOrder (spelled a)
 
 abbrev pub RedemptionsAreInOrder : (VoucherRedemption → Data) → Type 0
 RedemptionsAreInOrder spelled = (r : VoucherRedemption) → IsRedemption r →

@@ -1,4 +1,5 @@
 pub mod Requests
 pub mod Credits
+pub mod Allowances
 pub mod Redeemed
 pub mod Contents

@@ -4,16 +4,19 @@ ghost use Rattle.serde_json.specs.View.{view};
 ghost use Rattle.commands.specs.Names.{name_of};
 ghost use Rattle.json_fields.specs.Gives.{Gives};
 ghost use Rattle.wire.specs.Credits.{credit_data};
+ghost use Rattle.wire.specs.Allowances.{allowance_data};
 ghost use Rattle.wire.specs.Redeemed.{redemption_data};
 ghost use Rattle.wire.specs.Contents.{content_text, content_of, request_content_in};
-ghost use Rattle.wire.specs.Contents.{credit_content_in, redemption_content_in};
+ghost use Rattle.wire.specs.Contents.{credit_content_in, allowance_content_in};
+ghost use Rattle.wire.specs.Contents.{redemption_content_in, given_content_when};
 ghost use Rattle.wire.specs.Contents.{operator_content_when, content_when, account_of};
 ghost use Rattle.wire.specs.Contents.{ContentsReadAgain, ReadsWritten, CreditsAreInOrder};
-ghost use Rattle.wire.specs.Contents.{RedemptionsAreInOrder};
+ghost use Rattle.wire.specs.Contents.{AllowancesAreInOrder, RedemptionsAreInOrder};
 
+use crate::allowances::{allowance_in, allowance_written};
 use crate::credits::{credit_in, credit_written};
 use crate::redeeming::{kept_redemption_in, redemption_written};
-use commands::{Avp, Content, KeptCredit, Request, VoucherRedemption};
+use commands::{Allowance, Avp, Content, KeptCredit, Request, VoucherRedemption};
 use identifiers::AccountNumber;
 use json_fields::{WireFault, document, is_text};
 use serde_json::Value;
@@ -26,6 +29,15 @@ fn write_credit(alloc: Global, credit: &KeptCredit) -> Result<String, AllocError
         (λ s. content_of credit.now.account (string_bytes s) ≡ Ok (Content.Credit credit.now)) }
 {
     let text = credit_written(alloc, credit)?;
+    Ok(text)
+}
+
+fn write_allowance(alloc: Global, allowance: &Allowance) -> Result<String, AllocError>
+    ensures text { IfOk result (λ s. string_bytes s ≡ content_text (Content.Allow allowance.now)) }
+    ensures read_again { IfOk result
+        (λ s. content_of allowance.now.account (string_bytes s) ≡ Ok (Content.Allow allowance.now)) }
+{
+    let text = allowance_written(alloc, allowance)?;
     Ok(text)
 }
 
@@ -49,9 +61,9 @@ fn write_redemption(alloc: Global, redemption: &VoucherRedemption) -> Result<Str
     Ok(text)
 }
 
-/// The text that is kept of an accepted command: of a request its text, of a credit its body, of a
-/// redemption its body with its voucher's code, as compact JSON with the members in the byte order
-/// of their names. It is read again as the same content.
+/// The text that is kept of an accepted command: of a request its text, of a credit or an allowance
+/// its body, of a redemption its body with its voucher's code, as compact JSON with the members in
+/// the byte order of their names. It is read again as the same content.
 pub fn write_content(alloc: Global, content: &Content) -> Result<String, AllocError>
     ensures text { IfOk result (λ s. string_bytes s ≡ content_text content.now) }
     ensures read_again { IfOk result
@@ -60,6 +72,7 @@ pub fn write_content(alloc: Global, content: &Content) -> Result<String, AllocEr
     match content {
         Content::Request(request) => write_kept_request(alloc, request),
         Content::Credit(credit) => write_credit(alloc, credit),
+        Content::Allow(allowance) => write_allowance(alloc, allowance),
         Content::Redeem(redemption) => write_redemption(alloc, redemption),
     }
 }
@@ -92,6 +105,17 @@ fn credit_content(
     Ok(Content::Credit(KeptCredit::new(credit)))
 }
 
+#[tactic(auto, unfolding(crate::specs::Contents::allowance_content_in))]
+fn allowance_content(
+    alloc: Global,
+    account: AccountNumber,
+    parent: &Value,
+) -> Result<Content, WireFault>
+    ensures { Gives (λ c. c) result (allowance_content_in account (view parent.now)) }
+{
+    Ok(Content::Allow(allowance_in(alloc, account, parent)?))
+}
+
 #[tactic(auto, unfolding(crate::specs::Contents::redemption_content_in))]
 fn redemption_content(
     alloc: Global,
@@ -108,6 +132,22 @@ fn redemption_content(
     }
 }
 
+/// What a kept object without a Voucher-Code is, by the member that stands.
+fn given_content(
+    alloc: Global,
+    account: AccountNumber,
+    parent: &Value,
+) -> Result<Content, WireFault>
+    ensures { Gives (λ c. c) result
+        (given_content_when account (view parent.now)
+        (get (name_of Avp.Blocks) (view parent.now))) }
+{
+    match parent.get(Avp::Blocks.name()) {
+        Some(_) => allowance_content(alloc, account, parent),
+        None => credit_content(alloc, account, parent),
+    }
+}
+
 /// What a kept object of an operator's command is, by the member that stands.
 fn operator_content(
     alloc: Global,
@@ -120,7 +160,7 @@ fn operator_content(
 {
     match parent.get(Avp::VoucherCode.name()) {
         Some(_) => redemption_content(alloc, account, parent),
-        None => credit_content(alloc, account, parent),
+        None => given_content(alloc, account, parent),
     }
 }
 
@@ -146,9 +186,9 @@ fn content(alloc: Global, account: AccountNumber, bytes: &[u8]) -> Result<Conten
 /// The content of this account whose text the bytes are, as `write_content` writes it.
 ///
 /// # Errors
-/// The first fault of the request, where the text has a Session-Id, of the redemption, where it has
-/// a Voucher-Code alone, or of the credit; `NotRequest` also where the bytes say a content and
-/// aren't its text; `Memory` where memory ran out.
+/// The first fault of the request, where the text has a Session-Id, else of the redemption, where it
+/// has a Voucher-Code, else of the allowance, where it has Blocks, else of the credit; `NotRequest`
+/// also where the bytes say a content and aren't its text; `Memory` where memory ran out.
 pub fn read_content(
     alloc: Global,
     account: AccountNumber,
@@ -178,6 +218,12 @@ pub fn content_again()
 #[tactic(auto, using(crate::proofs::ContentsAgain::credits_in_order))]
 pub fn credit_in_order()
     ensures { CreditsAreInOrder credit_data }
+{}
+
+/// The members of an allowance as it is kept stand in the byte order of their names.
+#[tactic(auto, using(crate::proofs::AllowancesAgain::allowances_in_order))]
+pub fn allowance_in_order()
+    ensures { AllowancesAreInOrder allowance_data }
 {}
 
 /// The members of a redemption as it is kept stand in the byte order of their names.

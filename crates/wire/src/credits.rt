@@ -72,14 +72,14 @@ fn end_of(moment: Option<Moment>) -> Option<CreditEnd>
     }
 }
 
-fn start(parent: &Value) -> Result<Option<CreditStart>, WireFault>
+pub(crate) fn start(parent: &Value) -> Result<Option<CreditStart>, WireFault>
     ensures { Says (λ s. s) result (optional_at Avp.From 0 4_102_444_799 (view parent.now)) }
 {
     let moment = moment_at(parent, Avp::From, 0, 4_102_444_799)?;
     Ok(start_of(moment))
 }
 
-fn end(parent: &Value) -> Result<Option<CreditEnd>, WireFault>
+pub(crate) fn end(parent: &Value) -> Result<Option<CreditEnd>, WireFault>
     ensures { Says (λ e. e) result (optional_at Avp.Until 1 4_102_444_800 (view parent.now)) }
 {
     let moment = moment_at(parent, Avp::Until, 1, 4_102_444_800)?;
@@ -134,7 +134,7 @@ fn group_of(scope: Option<u32>) -> Option<u64>
     }
 }
 
-fn started(start: Option<CreditStart>) -> Option<Moment>
+pub(crate) fn started(start: Option<CreditStart>) -> Option<Moment>
     ensures value { result ≡ start }
     ensures within { IfSome start (λ m. m ≤ 4_102_444_799) }
 {
@@ -144,7 +144,7 @@ fn started(start: Option<CreditStart>) -> Option<Moment>
     }
 }
 
-fn ended(end: Option<CreditEnd>) -> Option<Moment>
+pub(crate) fn ended(end: Option<CreditEnd>) -> Option<Moment>
     ensures value { result ≡ end }
     ensures within { IfSome end (λ m. (1 ≤ m) × (m ≤ 4_102_444_800)) }
 {

@@ -2,13 +2,16 @@
 //! a command.
 #![tactic(auto)]
 
+mod allowances;
 mod contents;
 mod credits;
 mod redeeming;
 mod requests;
 
+pub use crate::allowances::read_allow;
 pub use crate::contents::{
-    content_again, credit_in_order, read_content, redemption_in_order, write_content,
+    allowance_in_order, content_again, credit_in_order, read_content, redemption_in_order,
+    write_content,
 };
 pub use crate::credits::read_credit;
 pub use crate::redeeming::read_redeem;

@@ -6,7 +6,7 @@ use identifiers::{AccountNumber, VoucherCode};
 use std::alloc::Global;
 use std::process::Abort;
 use units::Moment;
-use wire::{read_content, read_credit, read_redeem, write_content};
+use wire::{read_allow, read_content, read_credit, read_redeem, write_content};
 
 fn account(rt: &impl Abort, alloc: Global) -> AccountNumber {
     AccountNumber::new(alloc, "49151")
@@ -25,6 +25,7 @@ fn account_of(rt: &impl Abort, content: &Content) -> AccountNumber {
     let account = match content {
         Content::Request(request) => &request.account,
         Content::Credit(kept) => &kept.credit().account,
+        Content::Allow(allowance) => &allowance.account,
         Content::Redeem(redemption) => &redemption.account,
     };
     account.clone().expect(rt, "memory")
@@ -61,6 +62,14 @@ pub(crate) fn kept_credit(rt: &impl Abort, alloc: Global, body: &str) -> String 
     kept(rt, alloc, &content)
 }
 
+/// What is kept of the allowance that a body is, or its fault.
+pub(crate) fn kept_allowance(rt: &impl Abort, alloc: Global, body: &str) -> String {
+    match read_allow(alloc, account(rt, alloc), body.as_bytes()) {
+        Ok(allowance) => kept(rt, alloc, &Content::Allow(allowance)),
+        Err(fault) => format!(in alloc; "{fault}").expect(rt, "memory"),
+    }
+}
+
 /// The redemption of a voucher by a body.
 fn redemption(rt: &impl Abort, alloc: Global, body: &str) -> Content {
     let code = code(rt, alloc);
@@ -89,6 +98,53 @@ const CREDITS: &str = r##"{"Amount":1000000,"Reference":"r1"} -> {"Amount":10000
 {"Amount":1,"From":4102444799,"Until":1,"Scope":7,"Reference":"r1"} -> {"Amount":1,
   "From":4102444799,"Reference":"r1","Scope":7,"Until":1}"##;
 
+/// The body of an allowance, and what is kept of it. Each is read again, also one that could never
+/// be used.
+const ALLOWANCES: &str = r##"{"Blocks":3,"Scope":10,"Reference":"a1"} -> {"Blocks":3,
+  "Reference":"a1","Scope":10}
+{"Blocks":1,"From":0,"Until":1,"Scope":0,"Reference":"!"} -> {"Blocks":1,"From":0,"Reference":"!",
+  "Scope":0,"Until":1}
+{ "Reference" : "a\"b\\c\/d" , "Until" : 4102444800 , "Scope" : 4294967295 , "From" : 4102444799 ,
+   "Blocks" : 1000000000 , "More" : [ ] } -> {"Blocks":1000000000,"From":4102444799,
+  "Reference":"a\"b\\c/d","Scope":4294967295,"Until":4102444800}
+{"Blocks":2,"Until":1767607800,"Scope":10,
+  "Reference":"rrrrrrrrrrrrrrrrrrrrrrrrrrrrrrrrrrrrrrrrrrrrrrrrrrrrrrrrrrrrrrrr"} -> {"Blocks":2,
+  "Reference":"rrrrrrrrrrrrrrrrrrrrrrrrrrrrrrrrrrrrrrrrrrrrrrrrrrrrrrrrrrrrrrrr","Scope":10,
+  "Until":1767607800}
+{"Amount":7,"Blocks":5,"From":1767571200,"Scope":30,"Reference":"\u0072"} -> {"Blocks":5,
+  "From":1767571200,"Reference":"r","Scope":30}
+{"Blocks":1,"Blocks":2,"Scope":30,"Reference":"r"} -> {"Blocks":2,"Reference":"r","Scope":30}
+{"Blocks":1,"From":4102444799,"Until":1,"Scope":7,"Reference":"r1"} -> {"Blocks":1,
+  "From":4102444799,"Reference":"r1","Scope":7,"Until":1}"##;
+
+/// A body that is no allowance, and its first fault, in the order of the members.
+const NO_ALLOWANCES: &str = r##" -> no JSON object
+[] -> no JSON object
+{} -> Blocks is missing
+{"Blocks":null,"From":-1} -> Blocks is invalid
+{"Blocks":0,"Scope":10,"Reference":"r"} -> Blocks is invalid
+{"Blocks":1000000001,"Scope":10,"Reference":"r"} -> Blocks is invalid
+{"Blocks":"3","Scope":10,"Reference":"r"} -> Blocks is invalid
+{"Blocks":3.0,"Scope":10,"Reference":"r"} -> Blocks is invalid
+{"Amount":3,"Scope":10,"Reference":"r"} -> Blocks is missing
+{"Blocks":3,"From":4102444800,"Until":0,"Reference":"r"} -> From is invalid
+{"Blocks":3,"From":-1,"Scope":10,"Reference":"r"} -> From is invalid
+{"Blocks":3,"From":null,"Scope":10,"Reference":"r"} -> From is invalid
+{"Blocks":3,"From":0,"Until":0,"Reference":"r"} -> Until is invalid
+{"Blocks":3,"Until":4102444801,"Scope":10,"Reference":"r"} -> Until is invalid
+{"Blocks":3,"From":0,"Until":1,"Reference":""} -> Scope is missing
+{"Blocks":3,"Scope":null,"Reference":"r"} -> Scope is invalid
+{"Blocks":3,"Scope":-1,"Reference":"r"} -> Scope is invalid
+{"Blocks":3,"Scope":4294967296,"Reference":"r"} -> Scope is invalid
+{"Blocks":3,"Scope":"10"} -> Scope is invalid
+{"Blocks":3,"Scope":10} -> Reference is missing
+{"Blocks":3,"Scope":10,"Reference":""} -> Reference is invalid
+{"Blocks":3,"Scope":10,"Reference":"a b"} -> Reference is invalid
+{"Blocks":3,"Scope":10,
+  "Reference":"rrrrrrrrrrrrrrrrrrrrrrrrrrrrrrrrrrrrrrrrrrrrrrrrrrrrrrrrrrrrrrrrr"} ->
+   Reference is invalid
+{"Blocks":3,"Scope":10,"Reference":1} -> Reference is invalid"##;
+
 /// The body of a redemption, and what is kept of it.
 const REDEMPTIONS: &str =
     r##"{"Subscription-Id-Data":"49151","Reference":"v1"} -> {"Reference":"v1",
@@ -99,7 +155,13 @@ const REDEMPTIONS: &str =
 #[test]
 fn texts(rt: HostRuntime) {
     try_told(&rt, rt.alloc(), Told::KeptCredit, CREDITS);
+    try_told(&rt, rt.alloc(), Told::KeptAllowance, ALLOWANCES);
     try_told(&rt, rt.alloc(), Told::KeptRedemption, REDEMPTIONS);
+}
+
+#[test]
+fn allowances_at_fault(rt: HostRuntime) {
+    try_told(&rt, rt.alloc(), Told::KeptAllowance, NO_ALLOWANCES);
 }
 
 /// Whether a credit can begin at a moment, and end there.
@@ -161,8 +223,8 @@ x -> no JSON object
 {"Amount":1,"From":4102444800,"Reference":"r1"} -> From is invalid
 {"Amount":1,"Reference":"r1","Until":0} -> Until is invalid"##;
 
-/// What a text is tells its members: a request has a Session-Id, a redemption a Voucher-Code, a
-/// credit neither.
+/// What a text is tells its members: a request has a Session-Id, a redemption a Voucher-Code, an
+/// allowance Blocks, a credit none of them.
 const KINDS: &str = r##"{"Reference":"v1","Subscription-Id-Data":"49151",
   "Voucher-Code":"000000000001"} -> Redeem(VoucherRedemption { code: VoucherCode {
    text: "000000000001" }, account: AccountNumber { text: "49151" }, reference: Reference {
@@ -170,6 +232,14 @@ const KINDS: &str = r##"{"Reference":"v1","Subscription-Id-Data":"49151",
 {"Amount":1,"Reference":"v1"} -> Credit(KeptCredit { credit: Credit { account: AccountNumber {
    text: "49151" }, amount: Money { micros: 1 }, from: None, until: None, scope: None,
    reference: Reference { text: "v1" } } })
+{"Blocks":1,"Reference":"v1","Scope":10} -> Allow(Allowance { account: AccountNumber {
+   text: "49151" }, blocks: AllowanceBlocks { number: 1 }, from: None, until: None, scope: 10,
+   reference: Reference { text: "v1" } })
+{"Blocks":1000000000,"From":0,"Reference":"v1","Scope":4294967295,
+  "Until":4102444800} -> Allow(Allowance { account: AccountNumber { text: "49151" },
+   blocks: AllowanceBlocks { number: 1000000000 }, from: Some(CreditStart { moment: Moment {
+   seconds: 0 } }), until: Some(CreditEnd { moment: Moment { seconds: 4102444800 } }),
+   scope: 4294967295, reference: Reference { text: "v1" } })
 {"CC-Request-Number":4,"CC-Request-Type":3,"Multiple-Services-Credit-Control":[],"Session-Id":"s1",
   "Subscription-Id":{"Subscription-Id-Data":"49151","Subscription-Id-Type":0}} -> Request(Request {
    session: SessionId { text: "s1" }, number: 4, account: AccountNumber { text: "49151" },
@@ -184,6 +254,20 @@ const KINDS: &str = r##"{"Reference":"v1","Subscription-Id-Data":"49151",
 {"Reference":"v1","Subscription-Id-Data":"49151","Voucher-Code":"000000000001",
   "Z":1} -> no JSON object
 {"Amount":1,"Reference":"v1","Subscription-Id-Data":"49151",
+  "Voucher-Code":"000000000001"} -> no JSON object
+{"Blocks":1,"Reference":"v1"} -> Scope is missing
+{"Blocks":0,"Reference":"v1","Scope":10} -> Blocks is invalid
+{"Blocks":1,"From":4102444800,"Reference":"v1","Scope":10} -> From is invalid
+{"Blocks":1,"Reference":"v1","Scope":10,"Until":0} -> Until is invalid
+{"Blocks":1,"Scope":10} -> Reference is missing
+{"Blocks":1,"Scope":10,"Reference":"v1"} -> no JSON object
+{"Blocks":1, "Reference":"v1","Scope":10} -> no JSON object
+{"Amount":1,"Blocks":1,"Reference":"v1","Scope":10} -> no JSON object
+{"Amount":1,"Blocks":null,"Reference":"v1","Scope":10} -> Blocks is invalid
+{"Blocks":1,"Reference":"v1","Scope":10,"Session-Id":"s1"} -> CC-Request-Type is missing
+{"Blocks":1,"Reference":"v1","Scope":10,
+  "Voucher-Code":"000000000001"} -> Subscription-Id-Data is missing
+{"Blocks":1,"Reference":"v1","Subscription-Id-Data":"49151",
   "Voucher-Code":"000000000001"} -> no JSON object"##;
 
 #[test]
@@ -192,20 +276,28 @@ fn values(rt: HostRuntime) {
     try_told(&rt, rt.alloc(), Told::ContentShown, KINDS);
 }
 
+/// What a body is: an allowance where it says one, else a credit.
+fn given(rt: &impl Abort, alloc: Global, body: &str) -> Content {
+    match read_allow(alloc, account(rt, alloc), body.as_bytes()) {
+        Ok(allowance) => Content::Allow(allowance),
+        Err(_) => credit(rt, alloc, body),
+    }
+}
+
 fn is_content(rt: &impl Abort, alloc: Global, body: &str, content: &Content) -> bool {
-    let other = credit(rt, alloc, body);
+    let other = given(rt, alloc, body);
     same_content(content, &other)
 }
 
-/// Whether `A = B` are the same content as credits.
+/// Whether `A = B` are the same content as credits or allowances.
 pub(crate) fn compared(rt: &impl Abort, alloc: Global, pair: &str) -> String {
     let (one, other) = pair.split_once(" = ").expect(rt, "two bodies");
-    let content = credit(rt, alloc, one);
+    let content = given(rt, alloc, one);
     let are_same = is_content(rt, alloc, other, &content);
     same(rt, alloc, are_same)
 }
 
-/// Whether two credits are the same content: an absent member is other content than its meaning.
+/// Whether two bodies are the same content: an absent member is other content than its meaning.
 const PAIRS: &str =
     r##"{"Amount":1,"Scope":5,"Reference":"r"} = {"More":1,"Reference":"r","Scope":5,
   "Amount":1} -> same
@@ -214,9 +306,21 @@ const PAIRS: &str =
 {"Amount":1,"Reference":"r"} = {"Amount":1,"Until":4102444800,"Reference":"r"} -> other
 {"Amount":1,"Reference":"r"} = {"Amount":1,"From":0,"Reference":"r"} -> other
 {"Amount":1,"Reference":"r"} = {"Amount":1,"Scope":0,"Reference":"r"} -> other
-{"Amount":1,"From":5,"Reference":"r"} = {"Amount":1,"Until":5,"Reference":"r"} -> other"##;
+{"Amount":1,"From":5,"Reference":"r"} = {"Amount":1,"Until":5,"Reference":"r"} -> other
+{"Blocks":1,"Scope":5,"Reference":"r"} = {"Amount":7,"Reference":"r","Scope":5,
+  "Blocks":1} -> same
+{"Blocks":1,"Scope":5,"Reference":"r"} = {"Amount":1,"Scope":5,"Reference":"r"} -> other
+{"Amount":1,"Scope":5,"Reference":"r"} = {"Blocks":1,"Scope":5,"Reference":"r"} -> other
+{"Blocks":1,"Scope":5,"Reference":"r"} = {"Blocks":2,"Scope":5,"Reference":"r"} -> other
+{"Blocks":1,"Scope":5,"Reference":"r"} = {"Blocks":1,"Scope":6,"Reference":"r"} -> other
+{"Blocks":1,"Scope":5,"Reference":"r"} = {"Blocks":1,"Scope":5,"Reference":"R"} -> other
+{"Blocks":1,"Scope":5,"Reference":"r"} = {"Blocks":1,"From":0,"Scope":5,"Reference":"r"} -> other
+{"Blocks":1,"Scope":5,"Reference":"r"} = {"Blocks":1,"Until":4102444800,"Scope":5,
+  "Reference":"r"} -> other
+{"Blocks":1,"From":5,"Scope":5,"Reference":"r"} = {"Blocks":1,"Until":5,"Scope":5,
+  "Reference":"r"} -> other"##;
 
 #[test]
 fn contents_of_two(rt: HostRuntime) {
-    try_told(&rt, rt.alloc(), Told::Credits, PAIRS);
+    try_told(&rt, rt.alloc(), Told::Given, PAIRS);
 }

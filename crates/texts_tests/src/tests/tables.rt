@@ -21,14 +21,16 @@ pub(crate) enum Told {
     Requests,
     /// What is kept of the credit that a body is.
     KeptCredit,
+    /// What is kept of the allowance that a body is, or its fault.
+    KeptAllowance,
     /// What is kept of the redemption that a body is.
     KeptRedemption,
     /// Whether a credit can begin and end at a moment.
     Bounds,
     /// The value of a kept text.
     ContentShown,
-    /// Whether two bodies of credits are the same content.
-    Credits,
+    /// Whether two bodies of credits or allowances are the same content.
+    Given,
     /// The value of the answer that a text is, which writes the same text.
     Answer,
     /// The vouchers of a file, or its fault.
@@ -54,10 +56,11 @@ fn tell(rt: &impl Abort, alloc: Global, what: Told, text: &str) -> String {
         Told::RequestShown => requests::shown(rt, alloc, text),
         Told::Requests => requests::compared(rt, alloc, text),
         Told::KeptCredit => contents::kept_credit(rt, alloc, text),
+        Told::KeptAllowance => contents::kept_allowance(rt, alloc, text),
         Told::KeptRedemption => contents::kept_redemption(rt, alloc, text),
         Told::Bounds => contents::bounds(rt, alloc, text),
         Told::ContentShown => contents::shown(rt, alloc, text),
-        Told::Credits => contents::compared(rt, alloc, text),
+        Told::Given => contents::compared(rt, alloc, text),
         Told::Answer => answers::shown(rt, alloc, text),
         Told::File => files::told(rt, alloc, text),
         Told::Bytes => files::no_text_told(rt, alloc, text),

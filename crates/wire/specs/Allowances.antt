@@ -1,0 +1,60 @@
+-- The body of an allowance, and an allowance as it is kept.
+-- Source: profile.
+use Rattle.std.specs.Prelude.{◌≡◌, ℕ, ◌≤◌, List, true, Option, option_map, IfSome, Result, Ok}
+use Rattle.serde_json.specs.Data.{Data, string, object, no_members, member}
+use Rattle.serde_json.specs.Written.{compact_text}
+use Rattle.identifiers.specs.Texts.{is_reference}
+use Rattle.commands.specs.Names.{name_of}
+use Rattle.commands.specs.declared.avp.Avp.TheVariants as avp
+use Rattle.commands.specs.declared.allowance.Allowance.{Allowance}
+use Rattle.json_fields.specs.declared.fault.WireFault.{WireFault}
+use Rattle.json_fields.specs.Gives.{◌>>=◌}
+use Rattle.json_fields.specs.Fields.{document_at, number_at, optional_at}
+use Rattle.json_fields.specs.Spelling.{whole, perhaps}
+use Rattle.wire.specs.Credits.{reference_at}
+
+-- Blocks, From, Until, Scope and Reference, in this order: 1 to 10^9 blocks, from a moment of a
+-- command on, until one or "no end", of one rating group
+unfoldable pub allowance_at : List ℕ → Data → Result Allowance WireFault
+allowance_at account d = do
+  blocks ← number_at avp.Blocks 1 1_000_000_000 d
+  from ← optional_at avp.From 0 4_102_444_799 d
+  until ← optional_at avp.Until 1 4_102_444_800 d
+  scope ← number_at avp.Scope 0 4_294_967_295 d
+  reference ← reference_at d
+  Ok (record {
+    account = account;
+    blocks = blocks;
+    from = from;
+    until = until;
+    scope = scope;
+    reference = reference;
+  })
+
+-- the allowance that the body of an operator's request is, or the first fault
+unfoldable pub allowance_of : List ℕ → List ℕ → Result Allowance WireFault
+allowance_of account bytes = do
+  d ← document_at bytes
+  allowance_at account d
+
+-- ---- as it is kept
+
+unfoldable pub allowance_data : Allowance → Data
+allowance_data a = object
+    (member (name_of avp.Blocks) (whole a.blocks)
+    (perhaps (name_of avp.From) (option_map whole a.from)
+    (member (name_of avp.Reference) (string a.reference)
+    (member (name_of avp.Scope) (whole a.scope)
+    (perhaps (name_of avp.Until) (option_map whole a.until) no_members)))))
+
+unfoldable pub allowance_text : Allowance → List ℕ
+allowance_text a = compact_text (allowance_data a)
+
+-- the ranges of an allowance's body
+pub record IsAllowance (a : Allowance) : Type 0 where
+  pub some : 1 ≤ a.blocks
+  pub blocks : a.blocks ≤ 1_000_000_000
+  pub from : IfSome a.from (λ m. m ≤ 4_102_444_799)
+  pub until : IfSome a.until (λ m. (1 ≤ m) × (m ≤ 4_102_444_800))
+  pub scope : a.scope ≤ 4_294_967_295
+  pub reference : is_reference a.reference ≡ true
