@@ -97,7 +97,7 @@ unless_refused from n None ledger d p q = q
 unless_refused from n (Some failure) ledger d p q = p
 
 module _ (from : ℕ) (b u : Shelf) (on : GoesOnFrom from b u) (t : ℕ) (early : t < from) where
-  book_same : book_at b t ≡ book_at u t
+  pub book_same : book_at b t ≡ book_at u t
   book_same = sym (on.before t early).book
 
   abbrev IsEarlyLedger : Ledger → Type 0

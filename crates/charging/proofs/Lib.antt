@@ -28,3 +28,7 @@ pub mod KeptHistories
 pub mod Accounted
 pub mod Sound
 pub mod Collecting
+pub mod EarlyLedgers
+pub mod EarlyDecisions
+pub mod EarlyOutcomes
+pub mod EarlyHistories
