@@ -32,3 +32,4 @@ pub mod EarlyLedgers
 pub mod EarlyDecisions
 pub mod EarlyOutcomes
 pub mod EarlyHistories
+pub mod JoinedRuns

@@ -1,0 +1,148 @@
+-- A run before books are added to the shelf and one after it are one run over the shelf after it.
+use Rattle.std.proofs.Common.{◌≡◌, ℕ, suc, ◌≤◌, ◌<◌, Bool, true, false, List, [], ◌∷◌, ◌++◌, refl}
+use Rattle.std.proofs.Common.{sym, ap, subst, ◌∙◌, arith, take, drop, length}
+use Rattle.std.specs.Prelude.{if◌then◌else◌}
+use Rattle.std.proofs.lemmas.List.{append_assoc, take-append-drop}
+use Rattle.commands.specs.declared.answer.Answer.{Answer}
+use Rattle.shelves.specs.Shelves.{Shelf}
+use Rattle.shelves.specs.Laws.{GoesOnFrom}
+use Rattle.keepers.specs.Tables.{Tables}
+use Rattle.charging.specs.Accepted.{Accepted, last_moment, IsInTime}
+use Rattle.charging.specs.declared.running.DatedCommand.{DatedCommand}
+use Rattle.charging.specs.Served.{AreTables, moment_of, answer_to, accepts}
+use Rattle.charging.specs.Runs.{after_command, answers_to, after_commands, IsRun}
+use Rattle.charging.specs.LaterBooks.{LeaveTheSame, AnsweredRun, answered, AreBefore, AreInTurn}
+use Rattle.charging.specs.LaterBooks.{together, IsAccountedRun}
+use Rattle.charging.proofs.RunLemmas.{time-more, commands_after, IsSoFar, run-of}
+use Rattle.charging.proofs.Accounted.{accounted_from}
+use Rattle.charging.proofs.EarlyHistories.{accepted_before, leave_the_same}
+
+-- ---- the answers of a run
+
+answers_after : (b : Shelf) (list : List Accepted) (xs ys : List DatedCommand) →
+    answers_to b list (xs ++ ys) ≡
+    answers_to b list xs ++ answers_to b (after_commands b list xs) ys
+answers_after b list [] ys = refl
+answers_after b list (x ∷ xs) ys =
+    ap (λ (given : List Answer). answer_to b list x.command (moment_of list x.moment) ∷ given)
+    (answers_after b (after_command b list x) xs ys)
+
+answers_count : (b : Shelf) (list : List Accepted) (ds : List DatedCommand) →
+    length (answers_to b list ds) ≡ length ds
+answers_count b list [] = refl
+answers_count b list (d ∷ ds) = ap suc (answers_count b (after_command b list d) ds)
+
+-- its moments don't fall
+last_grows : (b : Shelf) (list : List Accepted) (ds : List DatedCommand) →
+    last_moment list ≤ last_moment (after_commands b list ds)
+last_grows b list [] = omega arith
+last_grows b list (d ∷ ds) =
+    let one : last_moment list ≤ last_moment (after_command b list d) =
+    at (accepts b list d.command (moment_of list d.moment)) in
+    let rest : last_moment (after_command b list d) ≤ last_moment (after_commands b list (d ∷ ds)) =
+    last_grows b (after_command b list d) ds in
+    omega (arith, one, rest)
+  where
+    at : (v : Bool) → last_moment list ≤ last_moment
+        (if v then record { moment = moment_of list d.moment; command = d.command } ∷ list
+        else list)
+    at true = omega arith
+    at false = omega arith
+
+-- ---- a run before the new books begin
+
+-- the answers are the same, and what is accepted
+record IsSameRun (b u : Shelf) (list : List Accepted) (ds : List DatedCommand) : Type 0 where
+  answers : answers_to b list ds ≡ answers_to u list ds
+  after : after_commands b list ds ≡ after_commands u list ds
+
+module _ (from : ℕ) (b u : Shelf) (on : GoesOnFrom from b u) where
+  last_before : (list : List Accepted) (d : DatedCommand) → last_moment list < from →
+      d.moment < from → last_moment (after_command b list d) < from
+  last_before list d last early = at (accepts b list d.command (moment_of list d.moment))
+    where
+      at : (v : Bool) → last_moment
+          (if v then record { moment = moment_of list d.moment; command = d.command } ∷ list
+          else list) < from
+      at true = omega (arith, last, early)
+      at false = last
+
+  run_same : (list : List Accepted) (ds : List DatedCommand) → IsInTime list →
+      last_moment list < from → AreBefore from ds → IsSameRun b u list ds
+  run_same list [] time last before = record { answers = refl; after = refl }
+  run_same list (d ∷ ds) time last before =
+      let t : ℕ = moment_of list d.moment in
+      let early : t < from = omega (arith, last, before.0) in
+      let same : LeaveTheSame from b u list =
+      leave_the_same from b u on list (accepted_before from list time last) in
+      let next : after_command b list d ≡ after_command u list d =
+      ap (λ v. if v then record { moment = t; command = d.command } ∷ list else list)
+      (same.acceptance d.command t early) in
+      let rest : IsSameRun b u (after_command b list d) ds =
+      run_same (after_command b list d) ds (time-more b list d time)
+      (last_before list d last before.0) before.1 in
+      let answers : answers_to b (after_command b list d) ds ≡
+      answers_to u (after_command u list d) ds =
+      rest.answers ∙ ap (λ (l : List Accepted). answers_to u l ds) next in
+      record {
+        answers = λ i. same.answers d.command t early i ∷ answers i;
+        after = rest.after ∙ ap (λ (l : List Accepted). after_commands u l ds) next;
+      }
+
+-- ---- both runs
+
+-- the answers of both are those of the commands together, and so are the tables
+both_so_far : (list : List Accepted) (x y : AnsweredRun) → AreInTurn list x y →
+    IsSoFar y.shelf list (answered x ++ answered y) y.new (x.given ++ y.given)
+both_so_far list x y h =
+    let from : ℕ = h.books.from in
+    let mid : List Accepted = after_commands x.shelf list (answered x) in
+    let last : last_moment mid < from =
+    subst (λ m. m < from) h.first.tables.last h.books.later in
+    let begun : last_moment list < from =
+    (let grows = last_grows x.shelf list (answered x) in omega (arith, last, grows)) in
+    let same : IsSameRun x.shelf y.shelf list (answered x) =
+    run_same from x.shelf y.shelf h.books.goes_on list (answered x) h.time begun h.before in
+    let found : AreTables y.shelf mid x.new =
+    (leave_the_same from x.shelf y.shelf h.books.goes_on mid
+    (accepted_before from mid h.first.time last)).tables x.new h.first.tables in
+    let second : IsRun y.shelf mid y.commands y.new y.given =
+    h.second mid h.first.time
+    (subst (λ (tables : Tables). AreTables y.shelf mid tables) (sym h.between) found) in
+    let after : after_commands y.shelf mid (answered y) ≡
+    after_commands y.shelf list (answered x ++ answered y) =
+    ap (λ (l : List Accepted). after_commands y.shelf l (answered y)) same.after
+    ∙ sym (commands_after y.shelf list (answered x) (answered y)) in
+    record {
+      answers = (λ i. h.first.answers i ++ second.answers i)
+          ∙ (λ i. same.answers i ++ answers_to y.shelf (same.after i) (answered y))
+          ∙ sym (answers_after y.shelf list (answered x) (answered y));
+      tables = subst (λ (l : List Accepted). AreTables y.shelf l y.new) after second.tables;
+      time = subst IsInTime after second.time;
+    }
+
+pub one_run : (list : List Accepted) (x y : AnsweredRun) → AreInTurn list x y →
+    IsAccountedRun list (together x y)
+one_run list x y h =
+    let so = both_so_far list x y h in
+    let run : IsRun y.shelf list (answered x ++ y.commands) y.new (x.given ++ y.given) =
+    run-of y.shelf list (answered x ++ y.commands) (answered x ++ answered y)
+    (drop (length y.given) y.commands) y.new (x.given ++ y.given)
+    (append_assoc (answered x) (answered y) (drop (length y.given) y.commands)
+    ∙ ap (λ (ds : List DatedCommand). answered x ++ ds)
+    (take-append-drop (length y.given) y.commands))
+    (ap length so.answers ∙ answers_count y.shelf list (answered x ++ answered y)) so in
+    record {
+      tables = (leave_the_same h.books.from x.shelf y.shelf h.books.goes_on list
+          (accepted_before h.books.from list h.time begun)).tables x.old h.tables;
+      run = run;
+      accounted = accounted_from y.shelf list (answered x ++ y.commands) y.new
+          (x.given ++ y.given) h.shelf run;
+    }
+  where
+    begun : last_moment list < h.books.from
+    begun =
+        let grows = last_grows x.shelf list (answered x) in
+        let last : last_moment (after_commands x.shelf list (answered x)) < h.books.from =
+        subst (λ m. m < h.books.from) h.first.tables.last h.books.later in
+        omega (arith, last, grows)
