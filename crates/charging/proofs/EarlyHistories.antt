@@ -2,7 +2,7 @@
 -- shelves the same histories, vouchers, reports, answers and tables.
 use Rattle.std.proofs.Common.{◌≡◌, ℕ, ◌≤◌, ◌<◌, Bool, true, false, List, [], ◌∷◌, refl, sym, ap}
 use Rattle.std.proofs.Common.{subst, ◌∙◌, arith, Option, Some, None}
-use Rattle.std.specs.Prelude.{if◌then◌else◌}
+use Rattle.std.specs.Prelude.{◌↔◌, if◌then◌else◌}
 use Rattle.commands.specs.declared.answer.Answer.TheVariants as answer
 use Rattle.commands.specs.declared.command.Command.{Command}
 use Rattle.commands.specs.declared.command.Command.TheVariants as command
@@ -17,8 +17,7 @@ use Rattle.shelves.specs.Laws.{GoesOnFrom}
 use Rattle.shelves.proofs.Adding.{addable, nothing_before}
 use Rattle.reserving.specs.Ledger.{Ledger}
 use Rattle.reserving.specs.Charges.{charge_rows}
-use Rattle.reserving.specs.Stored.{priced}
-use Rattle.reserving.proofs.LaterBooks.{rows_go_on}
+use Rattle.reserving.proofs.LaterBooks.{IsBefore}
 use Rattle.decisions.specs.Known.{is_known}
 use Rattle.decisions.specs.Reports.{parts_of}
 use Rattle.keepers.specs.Tables.{Head, Rows, Tables, charge_in}
@@ -36,6 +35,7 @@ use Rattle.charging.specs.LaterBooks.{GoesOnAfter, IsAddition, LeaveTheSame, Cha
 use Rattle.charging.proofs.EarlyLedgers.{IsEarly}
 use Rattle.charging.proofs.EarlyDecisions.{book_same}
 use Rattle.charging.proofs.EarlyOutcomes.{redemption_same, outcome_same, outcome_early}
+use Rattle.charging.proofs.EarlyRows.{rows_on, rows_back}
 
 -- each accepted command was before a moment
 abbrev pub AreAccepted : ℕ → List Accepted → Type 0
@@ -198,32 +198,61 @@ module _ (from : ℕ) (b u : Shelf) (on : GoesOnFrom from b u) where
 
   -- ---- tables
 
-  rows_same : (ledger : Ledger) (t : ℕ) (r : Rows) → IsEarly from (count b) ledger →
-      AreRowsAt b ledger t r → AreRowsAt u ledger t r
-  rows_same ledger t r is x = record {
-    listed = x.listed;
-    are = x.are;
-    kept = x.kept;
-    moment = x.moment;
-    rows = rows_go_on from ledger (priced b x.listed) u on is.before x.rows;
-  }
+  rows_same : (ledger : Ledger) (t : ℕ) (r : Rows) → IsBefore from ledger →
+      AreRowsAt b ledger t r ↔ AreRowsAt u ledger t r
+  rows_same ledger t r before = (
+    λ x. record {
+      listed = x.listed;
+      are = x.are;
+      kept = x.kept;
+      moment = x.moment;
+      rows = rows_on from b u on ledger before x.listed x.rows;
+    },
+    λ x. record {
+      listed = x.listed;
+      are = x.are;
+      kept = x.kept;
+      moment = x.moment;
+      rows = rows_back from b u on ledger before x.listed x.rows;
+    },
+  )
 
-  row_same : (o : Option Head) (t : ℕ) (h : History) (r : Rows) → IsEarly from (count b) h.ledger →
-      IsRowOf o b t h r → IsRowOf o u t h r
-  row_same None t h r is x = x
-  row_same (Some head) t h r is x = (x.0, rows_same h.ledger t r is x.1)
+  row_same : (o : Option Head) (t : ℕ) (h : History) (r : Rows) → IsBefore from h.ledger →
+      IsRowOf o b t h r ↔ IsRowOf o u t h r
+  row_same None t h r before = (λ x. x, λ x. x)
+  row_same (Some head) t h r before = (
+    λ x. (x.0, (rows_same h.ledger t r before).0 x.1),
+    λ x. (x.0, (rows_same h.ledger t r before).1 x.1),
+  )
 
-  tables_same : (list : List Accepted) (tables : Tables) → AreAccepted from list →
+  account_same : (a : List ℕ) (list : List Accepted) (r : Rows) → AreAccepted from list →
+      IsRow b (as_of a list) (history b a list) r ↔ IsRow u (as_of a list) (history u a list) r
+  account_same a list r all =
+      subst (λ h. IsRow b (as_of a list) (history b a list) r ↔ IsRow u (as_of a list) h r)
+      (history_same a list all)
+      (row_same r.head (as_of a list) (history b a list) r (history_early a list all).before)
+
+  tables_on : (list : List Accepted) (tables : Tables) → AreAccepted from list →
       AreTables b list tables → AreTables u list tables
-  tables_same list tables all x = record {
+  tables_on list tables all x = record {
     last = x.last;
-    accounts = λ a. subst (λ h. IsRow u (as_of a list) h (tables.rows a)) (history_same a list all)
-        (row_same (tables.rows a).head (as_of a list) (history b a list) (tables.rows a)
-        (history_early a list all) (x.accounts a));
+    accounts = λ a. (account_same a list (tables.rows a) all).0 (x.accounts a);
     answers = λ a k. x.answers a k ∙ ap (kept_under k) (history_same a list all);
     charges = λ a n. x.charges a n
         ∙ (λ i. charge_in n (charge_rows (history_same a list all i).ledger));
     vouchers = λ code. x.vouchers code ∙ voucher_same code list all;
+    count = x.count;
+  }
+
+  tables_back : (list : List Accepted) (tables : Tables) → AreAccepted from list →
+      AreTables u list tables → AreTables b list tables
+  tables_back list tables all x = record {
+    last = x.last;
+    accounts = λ a. (account_same a list (tables.rows a) all).1 (x.accounts a);
+    answers = λ a k. x.answers a k ∙ ap (kept_under k) (sym (history_same a list all));
+    charges = λ a n. x.charges a n
+        ∙ (λ i. charge_in n (charge_rows (sym (history_same a list all) i).ledger));
+    vouchers = λ code. x.vouchers code ∙ sym (voucher_same code list all);
     count = x.count;
   }
 
@@ -234,13 +263,12 @@ module _ (from : ℕ) (b u : Shelf) (on : GoesOnFrom from b u) where
     histories = λ a. history_same a list all;
     reports = λ a. reports_same a list all;
     vouchers = λ code. voucher_same code list all;
-    tables = λ tables x. tables_same list tables all x;
+    tables = λ tables. (tables_on list tables all, tables_back list tables all);
     answers = λ c t early. answer_same (concerned_by c) c t list early all;
     acceptance = λ c t early. accepts_same (concerned_by c) c t list early all;
   }
 
-pub nothing_changes : (s u : Shelf) (list : List Accepted) → IsInTime list →
-    ChangeNothingBefore s u list
+pub nothing_changes : (s u : Shelf) (list : List Accepted) → ChangeNothingBefore s u list
 nothing_changes s u list time on =
     leave_the_same on.from s u on.goes_on list (accepted_before on.from list time on.later)
 

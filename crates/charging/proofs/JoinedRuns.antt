@@ -12,7 +12,7 @@ use Rattle.charging.specs.declared.running.DatedCommand.{DatedCommand}
 use Rattle.charging.specs.Served.{AreTables, moment_of, answer_to, accepts}
 use Rattle.charging.specs.Runs.{after_command, answers_to, after_commands, IsRun}
 use Rattle.charging.specs.LaterBooks.{LeaveTheSame, AnsweredRun, answered, AreBefore, AreInTurn}
-use Rattle.charging.specs.LaterBooks.{together, IsAccountedRun}
+use Rattle.charging.specs.LaterBooks.{AreOneRun}
 use Rattle.charging.proofs.RunLemmas.{time-more, commands_after, IsSoFar, run-of}
 use Rattle.charging.proofs.Accounted.{accounted_from}
 use Rattle.charging.proofs.EarlyHistories.{accepted_before, leave_the_same}
@@ -104,8 +104,8 @@ both_so_far list x y h =
     let same : IsSameRun x.shelf y.shelf list (answered x) =
     run_same from x.shelf y.shelf h.books.goes_on list (answered x) h.time begun h.before in
     let found : AreTables y.shelf mid x.new =
-    (leave_the_same from x.shelf y.shelf h.books.goes_on mid
-    (accepted_before from mid h.first.time last)).tables x.new h.first.tables in
+    ((leave_the_same from x.shelf y.shelf h.books.goes_on mid
+    (accepted_before from mid h.first.time last)).tables x.new).0 h.first.tables in
     let second : IsRun y.shelf mid y.commands y.new y.given =
     h.second mid h.first.time
     (subst (λ (tables : Tables). AreTables y.shelf mid tables) (sym h.between) found) in
@@ -121,8 +121,7 @@ both_so_far list x y h =
       time = subst IsInTime after second.time;
     }
 
-pub one_run : (list : List Accepted) (x y : AnsweredRun) → AreInTurn list x y →
-    IsAccountedRun list (together x y)
+pub one_run : (list : List Accepted) (x y : AnsweredRun) → AreOneRun list x y
 one_run list x y h =
     let so = both_so_far list x y h in
     let run : IsRun y.shelf list (answered x ++ y.commands) y.new (x.given ++ y.given) =
@@ -133,8 +132,8 @@ one_run list x y h =
     (take-append-drop (length y.given) y.commands))
     (ap length so.answers ∙ answers_count y.shelf list (answered x ++ answered y)) so in
     record {
-      tables = (leave_the_same h.books.from x.shelf y.shelf h.books.goes_on list
-          (accepted_before h.books.from list h.time begun)).tables x.old h.tables;
+      tables = ((leave_the_same h.books.from x.shelf y.shelf h.books.goes_on list
+          (accepted_before h.books.from list h.time begun)).tables x.old).0 h.tables;
       run = run;
       accounted = accounted_from y.shelf list (answered x ++ y.commands) y.new
           (x.given ++ y.given) h.shelf run;

@@ -31,5 +31,6 @@ pub mod Collecting
 pub mod EarlyLedgers
 pub mod EarlyDecisions
 pub mod EarlyOutcomes
+pub mod EarlyRows
 pub mod EarlyHistories
 pub mod JoinedRuns

@@ -1,7 +1,7 @@
 -- A tariff book that is added to the shelf later changes nothing of any history before it: a run
 -- before it and one after it are one run over the shelf after it.
 -- Source: profile; prices are those of the rating function (TS 32.296).
-use Rattle.std.specs.Prelude.{◌≡◌, ℕ, ◌<◌, List, [], ◌∷◌, ◌++◌, Option, Some, None, take, length}
+use Rattle.std.specs.Prelude.{◌≡◌, ◌↔◌, ℕ, ◌<◌, List, [], ◌∷◌, ◌++◌, Option, Some, None, take, length}
 use Rattle.commands.specs.declared.answer.Answer.{Answer}
 use Rattle.commands.specs.declared.command.Command.{Command}
 use Rattle.tariffs.specs.Books.{Book}
@@ -42,13 +42,13 @@ pub record LeaveTheSame (from : ℕ) (s u : Shelf) (list : List Accepted) : Type
   pub histories : (a : List ℕ) → history s a list ≡ history u a list
   pub reports : (a : List ℕ) → reports_of s a list ≡ reports_of u a list
   pub vouchers : (code : List ℕ) → voucher s code list ≡ voucher u code list
-  pub tables : (tables : Tables) → AreTables s list tables → AreTables u list tables
+  pub tables : (tables : Tables) → AreTables s list tables ↔ AreTables u list tables
   pub answers : (c : Command) (t : ℕ) → t < from → answer_to s list c t ≡ answer_to u list c t
   pub acceptance : (c : Command) (t : ℕ) → t < from → accepts s list c t ≡ accepts u list c t
 
 -- so where the books of the second shelf that the first doesn't have begin after these commands
 abbrev pub ChangeNothingBefore : Shelf → Shelf → List Accepted → Type 0
-ChangeNothingBefore s u list = (on : GoesOnAfter (last_moment list) s u) →
+ChangeNothingBefore s u list = IsInTime list → (on : GoesOnAfter (last_moment list) s u) →
     LeaveTheSame on.from s u list
 
 -- ---- two runs
@@ -101,3 +101,7 @@ pub record IsAccountedRun (list : List Accepted) (x : AnsweredRun) : Type 0 wher
       IsAccounted x.shelf (reports_of x.shelf a (after_commands x.shelf list (answered x)))
       (history x.shelf a (after_commands x.shelf list (answered x))).ledger head.as_of
       (x.new.rows a) (x.new.charges a)
+
+-- so the two runs are one
+abbrev pub AreOneRun : List Accepted → AnsweredRun → AnsweredRun → Type 0
+AreOneRun list x y = AreInTurn list x y → IsAccountedRun list (together x y)

@@ -2,9 +2,9 @@
 
 ghost use Rattle.std.specs.Prelude.{ℕ, List};
 ghost use Rattle.shelves.specs.Shelves.{Shelf};
-ghost use Rattle.charging.specs.Accepted.{Accepted, IsInTime};
+ghost use Rattle.charging.specs.Accepted.{Accepted};
 ghost use Rattle.charging.specs.LaterBooks.{GoesOnAfter, IsAddition, ChangeNothingBefore};
-ghost use Rattle.charging.specs.LaterBooks.{AnsweredRun, AreInTurn, together, IsAccountedRun};
+ghost use Rattle.charging.specs.LaterBooks.{AnsweredRun, AreOneRun};
 
 /// A tariff book that is added to the shelf later changes nothing of any history before it: what
 /// commands left that were accepted before it begins, and what one of a moment before it is
@@ -14,8 +14,6 @@ ghost use Rattle.charging.specs.LaterBooks.{AnsweredRun, AreInTurn, together, Is
 /// rating function; profile).
 pub fn later_books()
     ensures additions { (last : ℕ) (s u : Shelf) → IsAddition last s u → GoesOnAfter last s u }
-    ensures before { (s u : Shelf) (list : List Accepted) → IsInTime list →
-        ChangeNothingBefore s u list }
-    ensures runs { (list : List Accepted) (x y : AnsweredRun) → AreInTurn list x y →
-        IsAccountedRun list (together x y) }
+    ensures before { (s u : Shelf) (list : List Accepted) → ChangeNothingBefore s u list }
+    ensures runs { (list : List Accepted) (x y : AnsweredRun) → AreOneRun list x y }
 {}
