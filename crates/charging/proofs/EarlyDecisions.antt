@@ -5,15 +5,11 @@ use Rattle.std.proofs.Common.{◌∙◌, Option, Some, None}
 use Rattle.std.specs.Prelude.{if◌then◌else◌, not, ◌&&◌, ◌||◌, nat_lt, option_map}
 use Rattle.std.specs.List.{list_any}
 use Rattle.commands.specs.declared.answer.Failure.{Failure}
-use Rattle.commands.specs.declared.answer.Failure.TheVariants.{Denied, UnableToComply}
+use Rattle.commands.specs.declared.answer.Failure.TheVariants.{UnableToComply}
 use Rattle.commands.specs.declared.answer.Failure.TheVariants.{UnknownSessionId}
-use Rattle.commands.specs.declared.answer.Outcome.{Outcome}
 use Rattle.commands.specs.declared.answer.Outcome.TheVariants.{Services, Checked, Priced, Failed}
-use Rattle.commands.specs.declared.answer.ServiceAnswer.{ServiceAnswer}
 use Rattle.commands.specs.declared.answer.ServiceFailure.TheVariants.{EndUserServiceDenied}
 use Rattle.commands.specs.declared.answer.ServiceFailure.TheVariants.{CreditLimitReached}
-use Rattle.commands.specs.declared.answer.ServiceFailure.TheVariants.{RatingFailed}
-use Rattle.commands.specs.declared.answer.ServiceOutcome.{ServiceOutcome}
 use Rattle.commands.specs.declared.answer.ServiceOutcome.TheVariants as service
 use Rattle.commands.specs.declared.avp.Avp.TheVariants.{RequestNumber}
 use Rattle.commands.specs.declared.request.Ask.{Ask}
@@ -42,7 +38,6 @@ use Rattle.reserving.specs.Ledger.{next_bucket, or_else}
 use Rattle.reserving.specs.Ledger.Fact.{Use}
 use Rattle.reserving.specs.Pricing.{validity_of, tariff_of, tariff_at, switch_by, validity_by}
 use Rattle.reserving.specs.Pricing.{wanted_units}
-use Rattle.reserving.specs.Balance.{buckets_at}
 use Rattle.reserving.specs.Requests.{recorded, touched, closed, credited}
 use Rattle.reserving.specs.Settlement.{settled_by, due_of, charge_facts, passes}
 use Rattle.reserving.specs.Reservation.{reserved, grant_for, held_due}
@@ -58,16 +53,16 @@ use Rattle.decisions.specs.Reports.{units_of, asked_units, parts_of, units_fault
 use Rattle.decisions.specs.Settling.{settled_service, settled_services, any_passes}
 use Rattle.decisions.specs.Settling.{settled_answers}
 use Rattle.decisions.specs.Granting.{Answered, grant_answer, granted_with, granted_units}
-use Rattle.decisions.specs.Granting.{granted_unless_barred, granted_if, granted_by, granted}
+use Rattle.decisions.specs.Granting.{granted_if, granted_by, granted}
 use Rattle.decisions.specs.Granting.{grant_answers, after_grants, any_grants, first_denial}
 use Rattle.decisions.specs.Granting.{final_unit}
-use Rattle.decisions.specs.Events.{event_units, debit_refusal, charged, charged_if_covered}
+use Rattle.decisions.specs.Events.{event_units, debit_refusal, charged}
 use Rattle.decisions.specs.Events.{charged_by, charged_unless_barred, debit_decision, balance_of}
 use Rattle.decisions.specs.Events.{checked_by, priced_by, read_refusal, check_decision}
 use Rattle.decisions.specs.Events.{enquiry_decision, decided_action, refund_refusal, refunded}
 use Rattle.decisions.specs.Events.{refund_decision}
 use Rattle.decisions.specs.Decisions.{initial_refusal, opened, opened_unless_barred}
-use Rattle.decisions.specs.Decisions.{initial_decision, limit_refusal, early_refusal}
+use Rattle.decisions.specs.Decisions.{initial_decision, limit_refusal}
 use Rattle.decisions.specs.Decisions.{session_refusal, settled_touched, updated, update_decision}
 use Rattle.decisions.specs.Decisions.{ended, termination_decision, decided, decision}
 use Rattle.charging.proofs.EarlyLedgers.{IsEarly, early_recorded, early_touched, early_closed}

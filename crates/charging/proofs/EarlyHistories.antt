@@ -1,9 +1,8 @@
 -- What accepted commands have left that were all before books which are added later: over both
 -- shelves the same histories, vouchers, reports, answers and tables.
-use Rattle.std.proofs.Common.{◌≡◌, ℕ, ◌≤◌, ◌<◌, Bool, true, false, List, [], ◌∷◌, refl, sym, ap}
+use Rattle.std.proofs.Common.{◌≡◌, ℕ, ◌<◌, Bool, true, false, List, [], ◌∷◌, refl, sym, ap}
 use Rattle.std.proofs.Common.{subst, ◌∙◌, arith, Option, Some, None}
 use Rattle.std.specs.Prelude.{◌↔◌, if◌then◌else◌}
-use Rattle.commands.specs.declared.answer.Answer.TheVariants as answer
 use Rattle.commands.specs.declared.command.Command.{Command}
 use Rattle.commands.specs.declared.command.Command.TheVariants as command
 use Rattle.commands.specs.declared.request.Ask.{Ask}
@@ -23,12 +22,12 @@ use Rattle.decisions.specs.Reports.{parts_of}
 use Rattle.keepers.specs.Tables.{Head, Rows, Tables, charge_in}
 use Rattle.keepers.specs.Change.{AreRowsAt}
 use Rattle.charging.specs.Histories.{History, no_history, kept_under}
-use Rattle.charging.specs.Accepted.{Accepted, Outcome, Concerned, one, each, none, concerned_by}
+use Rattle.charging.specs.Accepted.{Accepted, Concerned, one, each, none, concerned_by}
 use Rattle.charging.specs.Accepted.{names, names_code, voucher_after, last_moment, as_of, IsInTime}
 use Rattle.charging.specs.Accepted.{IsRowOf, IsRow}
 use Rattle.charging.specs.Outcomes.{book_days, outcome}
-use Rattle.charging.specs.Served.{AreTables, history, voucher, standing, answer_on, answer_to}
-use Rattle.charging.specs.Served.{accepts_on, accepts}
+use Rattle.charging.specs.Served.{AreTables, history, voucher, standing, answer_on}
+use Rattle.charging.specs.Served.{accepts_on}
 use Rattle.charging.specs.SessionReports.{Report, with_report, with_services, with_ask}
 use Rattle.charging.specs.SessionReports.{with_reports, reports_of}
 use Rattle.charging.specs.LaterBooks.{GoesOnAfter, IsAddition, LeaveTheSame, ChangeNothingBefore}

@@ -1,6 +1,6 @@
 -- A command of a moment before books that are added later comes to the same over both shelves, on a
 -- history that is before them too, and leaves such a one.
-use Rattle.std.proofs.Common.{◌≡◌, ℕ, ◌<◌, Bool, true, false, List, ◌∷◌, refl, ap, Option, Some}
+use Rattle.std.proofs.Common.{◌≡◌, ℕ, ◌<◌, Bool, true, false, List, refl, ap, Option, Some}
 use Rattle.std.proofs.Common.{None}
 use Rattle.std.specs.Prelude.{if◌then◌else◌, map, Result, Ok, Err}
 use Rattle.calendar.specs.Timetable.{day_end}
@@ -40,7 +40,7 @@ use Rattle.charging.specs.Accepted.{Outcome}
 use Rattle.charging.specs.Outcomes.{told, keeping, unless_kept, failed, decided_by}
 use Rattle.charging.specs.Outcomes.{request_outcome, from_of, until_of, is_full, is_out_of_range}
 use Rattle.charging.specs.Outcomes.{new_credit, credit_outcome, addition_outcome, book_days}
-use Rattle.charging.specs.Outcomes.{redeemed_outcome, redemption_outcome, new_redemption}
+use Rattle.charging.specs.Outcomes.{redemption_outcome, new_redemption}
 use Rattle.charging.specs.Outcomes.{redeem_outcome, opened_outcome, unopened_outcome, outcome}
 use Rattle.charging.proofs.EarlyLedgers.{IsEarly, early_credited, early_barred}
 use Rattle.charging.proofs.EarlyDecisions.{book_same, decision_same, decision_early}

@@ -1,11 +1,11 @@
 -- The rows of a ledger whose facts are before books that are added later are the same over both
 -- shelves.
-use Rattle.std.proofs.Common.{◌≡◌, ℕ, ◌<◌, List, [], ◌∷◌, refl, sym, ap, ◌∙◌, Some, None}
+use Rattle.std.proofs.Common.{◌≡◌, ℕ, [], ◌∷◌, refl, sym, ap, ◌∙◌, Some, None}
 use Rattle.std.specs.Prelude.{◌==◌, ◌&&◌, ◌||◌, if◌then◌else◌}
 use Rattle.tariffs.specs.Books.{Book}
 use Rattle.shelves.specs.Shelves.{Shelf}
 use Rattle.shelves.specs.Laws.{GoesOnFrom}
-use Rattle.reserving.specs.Ledger.{Fact, Dated, Ledger, counts_group, has_counter}
+use Rattle.reserving.specs.Ledger.{Fact, Ledger, counts_group, has_counter}
 use Rattle.reserving.specs.Ledger.Fact.{Credit, Grant, Hold, End, Use, Charge, Touch, Close}
 use Rattle.reserving.specs.Ledger.Fact.{Recorded, Barred}
 use Rattle.reserving.specs.Pricing.{validity_of, cycle_at, cycle_with, tariff_of}

@@ -1,6 +1,6 @@
 -- A run before books are added to the shelf and one after it are one run over the shelf after it.
 use Rattle.std.proofs.Common.{◌≡◌, ℕ, suc, ◌≤◌, ◌<◌, Bool, true, false, List, [], ◌∷◌, ◌++◌, refl}
-use Rattle.std.proofs.Common.{sym, ap, subst, ◌∙◌, arith, take, drop, length}
+use Rattle.std.proofs.Common.{sym, ap, subst, ◌∙◌, arith, drop, length}
 use Rattle.std.specs.Prelude.{if◌then◌else◌}
 use Rattle.std.proofs.lemmas.List.{append_assoc, take-append-drop}
 use Rattle.commands.specs.declared.answer.Answer.{Answer}

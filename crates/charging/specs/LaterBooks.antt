@@ -1,7 +1,7 @@
 -- A tariff book that is added to the shelf later changes nothing of any history before it: a run
 -- before it and one after it are one run over the shelf after it.
 -- Source: profile; prices are those of the rating function (TS 32.296).
-use Rattle.std.specs.Prelude.{◌≡◌, ◌↔◌, ℕ, ◌<◌, List, [], ◌∷◌, ◌++◌, Option, Some, None, take, length}
+use Rattle.std.specs.Prelude.{◌≡◌, ◌↔◌, ℕ, ◌<◌, List, [], ◌∷◌, ◌++◌, Some, None, take, length}
 use Rattle.commands.specs.declared.answer.Answer.{Answer}
 use Rattle.commands.specs.declared.command.Command.{Command}
 use Rattle.tariffs.specs.Books.{Book}
