@@ -11,7 +11,7 @@ use Rattle.charging.specs.Accepted.{Accepted, last_moment, IsInTime}
 use Rattle.charging.specs.declared.running.DatedCommand.{DatedCommand}
 use Rattle.charging.specs.Served.{AreTables, moment_of, answer_to, accepts}
 use Rattle.charging.specs.Runs.{after_command, answers_to, after_commands, IsRun}
-use Rattle.charging.specs.LaterBooks.{LeaveTheSame, AnsweredRun, answered, AreBefore, AreInTurn}
+use Rattle.charging.specs.LaterBooks.{LeaveTheSame, AnsweredRun, answered_of, AreBefore, AreInTurn}
 use Rattle.charging.specs.LaterBooks.{AreOneRun}
 use Rattle.charging.proofs.RunLemmas.{time-more, commands_after, IsSoFar, run-of}
 use Rattle.charging.proofs.Accounted.{accounted_from}
@@ -91,57 +91,73 @@ module _ (from : ℕ) (b u : Shelf) (on : GoesOnFrom from b u) where
 
 -- ---- both runs
 
+-- the list before the first run is before the new books, too
+begun : (list : List Accepted) (x y : AnsweredRun) (h : AreInTurn list x y) →
+    last_moment list < h.books.from
+begun list x y h =
+    let grows : last_moment list ≤ last_moment (after_commands x.shelf list (answered_of x)) =
+    last_grows x.shelf list (answered_of x) in
+    let last : last_moment (after_commands x.shelf list (answered_of x)) < h.books.from =
+    subst (λ m. m < h.books.from) h.first.tables.last h.books.later in
+    omega (arith, last, grows)
+
+-- the second run goes on from the list after the first, over its own shelf
+second_run : (list : List Accepted) (x y : AnsweredRun) → AreInTurn list x y →
+    IsRun y.shelf (after_commands x.shelf list (answered_of x)) y.commands y.new y.given
+second_run list x y h =
+    let mid : List Accepted = after_commands x.shelf list (answered_of x) in
+    let last : last_moment mid < h.books.from =
+    subst (λ m. m < h.books.from) h.first.tables.last h.books.later in
+    let same : LeaveTheSame h.books.from x.shelf y.shelf mid =
+    leave_the_same h.books.from x.shelf y.shelf h.books.goes_on mid
+    (accepted_before h.books.from mid h.first.time last) in
+    h.second mid h.first.time
+    (subst (λ (tables : Tables). AreTables y.shelf mid tables) (sym h.between)
+    ((same.tables x.new).0 h.first.tables))
+
 -- the answers of both are those of the commands together, and so are the tables
 both_so_far : (list : List Accepted) (x y : AnsweredRun) → AreInTurn list x y →
-    IsSoFar y.shelf list (answered x ++ answered y) y.new (x.given ++ y.given)
+    IsSoFar y.shelf list (answered_of x ++ answered_of y) y.new (x.given ++ y.given)
 both_so_far list x y h =
-    let from : ℕ = h.books.from in
-    let mid : List Accepted = after_commands x.shelf list (answered x) in
-    let last : last_moment mid < from =
-    subst (λ m. m < from) h.first.tables.last h.books.later in
-    let begun : last_moment list < from =
-    (let grows = last_grows x.shelf list (answered x) in omega (arith, last, grows)) in
-    let same : IsSameRun x.shelf y.shelf list (answered x) =
-    run_same from x.shelf y.shelf h.books.goes_on list (answered x) h.time begun h.before in
-    let found : AreTables y.shelf mid x.new =
-    ((leave_the_same from x.shelf y.shelf h.books.goes_on mid
-    (accepted_before from mid h.first.time last)).tables x.new).0 h.first.tables in
-    let second : IsRun y.shelf mid y.commands y.new y.given =
-    h.second mid h.first.time
-    (subst (λ (tables : Tables). AreTables y.shelf mid tables) (sym h.between) found) in
-    let after : after_commands y.shelf mid (answered y) ≡
-    after_commands y.shelf list (answered x ++ answered y) =
-    ap (λ (l : List Accepted). after_commands y.shelf l (answered y)) same.after
-    ∙ sym (commands_after y.shelf list (answered x) (answered y)) in
+    let u : Shelf = y.shelf in
+    let ds : List DatedCommand = answered_of x in
+    let es : List DatedCommand = answered_of y in
+    let mid : List Accepted = after_commands x.shelf list ds in
+    let same : IsSameRun x.shelf u list ds =
+    run_same h.books.from x.shelf u h.books.goes_on list ds h.time (begun list x y h) h.before in
+    let second : IsRun u mid y.commands y.new y.given = second_run list x y h in
+    let after : after_commands u mid es ≡ after_commands u list (ds ++ es) =
+    ap (λ (l : List Accepted). after_commands u l es) same.after
+    ∙ sym (commands_after u list ds es) in
     record {
       answers = (λ i. h.first.answers i ++ second.answers i)
-          ∙ (λ i. same.answers i ++ answers_to y.shelf (same.after i) (answered y))
-          ∙ sym (answers_after y.shelf list (answered x) (answered y));
-      tables = subst (λ (l : List Accepted). AreTables y.shelf l y.new) after second.tables;
+          ∙ (λ i. same.answers i ++ answers_to u (same.after i) es)
+          ∙ sym (answers_after u list ds es);
+      tables = subst (λ (l : List Accepted). AreTables u l y.new) after second.tables;
       time = subst IsInTime after second.time;
     }
 
+-- the commands of both that were answered are a beginning of all
+both_runs : (list : List Accepted) (x y : AnsweredRun) → AreInTurn list x y →
+    IsRun y.shelf list (answered_of x ++ y.commands) y.new (x.given ++ y.given)
+both_runs list x y h =
+    let ds : List DatedCommand = answered_of x in
+    let es : List DatedCommand = answered_of y in
+    let rest : List DatedCommand = drop (length y.given) y.commands in
+    let so : IsSoFar y.shelf list (ds ++ es) y.new (x.given ++ y.given) = both_so_far list x y h in
+    let all : (ds ++ es) ++ rest ≡ ds ++ y.commands = append_assoc ds es rest
+    ∙ ap (λ (cs : List DatedCommand). ds ++ cs) (take-append-drop (length y.given) y.commands) in
+    run-of y.shelf list (ds ++ y.commands) (ds ++ es) rest y.new (x.given ++ y.given) all
+    (ap length so.answers ∙ answers_count y.shelf list (ds ++ es)) so
+
 pub one_run : (list : List Accepted) (x y : AnsweredRun) → AreOneRun list x y
 one_run list x y h =
-    let so = both_so_far list x y h in
-    let run : IsRun y.shelf list (answered x ++ y.commands) y.new (x.given ++ y.given) =
-    run-of y.shelf list (answered x ++ y.commands) (answered x ++ answered y)
-    (drop (length y.given) y.commands) y.new (x.given ++ y.given)
-    (append_assoc (answered x) (answered y) (drop (length y.given) y.commands)
-    ∙ ap (λ (ds : List DatedCommand). answered x ++ ds)
-    (take-append-drop (length y.given) y.commands))
-    (ap length so.answers ∙ answers_count y.shelf list (answered x ++ answered y)) so in
+    let same : LeaveTheSame h.books.from x.shelf y.shelf list =
+    leave_the_same h.books.from x.shelf y.shelf h.books.goes_on list
+    (accepted_before h.books.from list h.time (begun list x y h)) in
     record {
-      tables = ((leave_the_same h.books.from x.shelf y.shelf h.books.goes_on list
-          (accepted_before h.books.from list h.time begun)).tables x.old).0 h.tables;
-      run = run;
-      accounted = accounted_from y.shelf list (answered x ++ y.commands) y.new
-          (x.given ++ y.given) h.shelf run;
+      tables = (same.tables x.old).0 h.tables;
+      run = both_runs list x y h;
+      accounted = accounted_from y.shelf list (answered_of x ++ y.commands) y.new
+          (x.given ++ y.given) h.shelf (both_runs list x y h);
     }
-  where
-    begun : last_moment list < h.books.from
-    begun =
-        let grows = last_grows x.shelf list (answered x) in
-        let last : last_moment (after_commands x.shelf list (answered x)) < h.books.from =
-        subst (λ m. m < h.books.from) h.first.tables.last h.books.later in
-        omega (arith, last, grows)

@@ -63,8 +63,8 @@ pub record AnsweredRun : Type 0 where
   pub given : List Answer
 
 -- those of the commands that were answered
-abbrev pub answered : AnsweredRun → List DatedCommand
-answered x = take (length x.given) x.commands
+abbrev pub answered_of : AnsweredRun → List DatedCommand
+answered_of x = take (length x.given) x.commands
 
 -- commands are handed in before a moment
 abbrev pub AreBefore : ℕ → List DatedCommand → Type 0
@@ -79,15 +79,15 @@ pub record AreInTurn (list : List Accepted) (x y : AnsweredRun) : Type 0 where
   pub first : IsRun x.shelf list x.commands x.new x.given
   pub shelf : IsShelf y.shelf
   pub books : GoesOnAfter x.new.last x.shelf y.shelf
-  pub before : AreBefore books.from (answered x)
+  pub before : AreBefore books.from (answered_of x)
   pub between : y.old ≡ x.new
   pub second : Runs y.shelf y.commands y.old y.new y.given
 
 -- both as one over the second one's shelf
-abbrev pub together : AnsweredRun → AnsweredRun → AnsweredRun
-together x y = record {
+abbrev pub joined_run : AnsweredRun → AnsweredRun → AnsweredRun
+joined_run x y = record {
   shelf = y.shelf;
-  commands = answered x ++ y.commands;
+  commands = answered_of x ++ y.commands;
   old = x.old;
   new = y.new;
   given = x.given ++ y.given;
@@ -98,10 +98,10 @@ pub record IsAccountedRun (list : List Accepted) (x : AnsweredRun) : Type 0 wher
   pub tables : AreTables x.shelf list x.old
   pub run : IsRun x.shelf list x.commands x.new x.given
   pub accounted : (a : List ℕ) (head : Head) → (x.new.rows a).head ≡ Some head →
-      IsAccounted x.shelf (reports_of x.shelf a (after_commands x.shelf list (answered x)))
-      (history x.shelf a (after_commands x.shelf list (answered x))).ledger head.as_of
+      IsAccounted x.shelf (reports_of x.shelf a (after_commands x.shelf list (answered_of x)))
+      (history x.shelf a (after_commands x.shelf list (answered_of x))).ledger head.as_of
       (x.new.rows a) (x.new.charges a)
 
 -- so the two runs are one
 abbrev pub AreOneRun : List Accepted → AnsweredRun → AnsweredRun → Type 0
-AreOneRun list x y = AreInTurn list x y → IsAccountedRun list (together x y)
+AreOneRun list x y = AreInTurn list x y → IsAccountedRun list (joined_run x y)
