@@ -152,7 +152,8 @@ module _ (from : ℕ) (b u : Shelf) (on : GoesOnFrom from b u) (t : ℕ) (early 
 
   with_same : (tariff : GroupTariff) (s : List ℕ) (g : ℕ) (asked : Option ℕ) (grant : Grant)
       (ledger : Ledger) → IsEarlyLedger ledger →
-      granted_with b tariff t s g asked grant ledger ≡ granted_with u tariff t s g asked grant ledger
+      granted_with b tariff t s g asked grant ledger ≡
+      granted_with u tariff t s g asked grant ledger
   with_same tariff s g asked grant ledger h =
       let held : reserved b t s g grant.units.0 (held_due grant) ledger ≡
       reserved u t s g grant.units.0 (held_due grant) ledger =

@@ -68,10 +68,10 @@ module _ (from : ℕ) (b u : Shelf) (on : GoesOnFrom from b u) (ledger : Ledger)
     barred = rows.barred;
     buckets = rows.buckets
         ∙ sym (buckets_same from (validity_of b) (validity_of u) listed.as_of ledger valid before);
-    sessions = λ s. rows.sessions s
-        ∙ sym (session_same from (validity_of b) (validity_of u) listed.as_of ledger valid before s);
-    groups = λ s g. rows.groups s g
-        ∙ sym (group_same from (validity_of b) (validity_of u) listed.as_of ledger valid before s g);
+    sessions = λ s. rows.sessions s ∙ sym
+        (session_same from (validity_of b) (validity_of u) listed.as_of ledger valid before s);
+    groups = λ s g. rows.groups s g ∙ sym
+        (group_same from (validity_of b) (validity_of u) listed.as_of ledger valid before s g);
     counters = λ g c. rows.counters g c
         ∙ sym (counter_same from (cycle_at b g) (cycle_at u g) g c ledger (cycles g) before);
     next_bucket = rows.next_bucket;
