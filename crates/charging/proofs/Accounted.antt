@@ -1,19 +1,20 @@
 -- What the tables of a run tell of an account, and of a command that comes again.
-use Rattle.std.proofs.Common.{◌≡◌, ℕ, List, ◌∷◌, sym, subst, ◌∙◌, take, length}
+use Rattle.std.proofs.Common.{◌≡◌, ℕ, List, ◌∷◌, sym, subst, ◌∙◌, take, length, Some}
 use Rattle.std.specs.Prelude.{Result, Ok, Err, IfOk}
 use Rattle.commands.specs.declared.answer.Answer.{Answer}
 use Rattle.commands.specs.declared.command.Command.{Command}
 use Rattle.shelves.specs.Shelves.{Shelf, IsShelf}
 use Rattle.reserving.proofs.Lists.{some_of}
 use Rattle.keepers.specs.declared.fault.StoreFault.{StoreFault}
-use Rattle.keepers.specs.Tables.{Tables, head_of}
+use Rattle.keepers.specs.Tables.{Head, Tables, head_of}
 use Rattle.keepers.specs.Change.{AreRowsAt}
 use Rattle.keepers.proofs.Told.{buckets_told}
 use Rattle.charging.specs.Accepted.{Accepted, as_of, IsInTime}
 use Rattle.charging.specs.declared.running.DatedCommand.{DatedCommand}
 use Rattle.charging.specs.Served.{AreTables, history, moment_of, IsServed, Serves}
 use Rattle.charging.specs.Runs.{after_commands, IsRun, Runs}
-use Rattle.charging.specs.Headline.{AreAccounted}
+use Rattle.charging.specs.SessionReports.{reports_of}
+use Rattle.charging.specs.Headline.{IsAccounted, AreAccounted}
 use Rattle.charging.specs.Repeats.{IsAnsweredAgain}
 use Rattle.charging.proofs.AcceptedTables.{row_some}
 use Rattle.charging.proofs.Paying.{IsPaying, paying_none, keeps_paying}
@@ -21,12 +22,15 @@ use Rattle.charging.proofs.Guaranteed.{IsGuaranteed, guaranteed_none, keeps_guar
 use Rattle.charging.proofs.KeptHistories.{kept_history}
 use Rattle.charging.proofs.Repeated.{answers-once}
 
-pub accounted : (b : Shelf) (commands : List DatedCommand) (old new : Tables)
-    (given : List Answer) →
-    IsShelf b → Runs b commands old new given → AreAccounted b commands old new given
-accounted b commands old new given ranges runs list time tables a head found =
+-- after a run from a list of accepted commands on
+pub accounted_from : (b : Shelf) (list : List Accepted) (commands : List DatedCommand)
+    (new : Tables) (given : List Answer) → IsShelf b → IsRun b list commands new given →
+    (a : List ℕ) (head : Head) → (new.rows a).head ≡ Some head →
+    IsAccounted b (reports_of b a (after_commands b list (take (length given) commands)))
+    (history b a (after_commands b list (take (length given) commands))).ledger head.as_of
+    (new.rows a) (new.charges a)
+accounted_from b list commands new given ranges run a head found =
     let after : List Accepted = after_commands b list (take (length given) commands) in
-    let run : IsRun b list commands new given = runs list time tables in
     let row = row_some b (as_of a after) (history b a after) (new.rows a) head found
     (run.tables.accounts a) in
     let same : head ≡ head_of row.1.listed =
@@ -42,6 +46,12 @@ accounted b commands old new given ranges runs list time tables a head found =
       quotas = (kept_history b (IsGuaranteed b) (keeps_guaranteed b ranges)
           (guaranteed_none b) a after).quotas;
     }
+
+pub accounted : (b : Shelf) (commands : List DatedCommand) (old new : Tables)
+    (given : List Answer) →
+    IsShelf b → Runs b commands old new given → AreAccounted b commands old new given
+accounted b commands old new given ranges runs list time tables =
+    accounted_from b list commands new given ranges (runs list time tables)
 
 pub answered_again : (b : Shelf) (c : Command) (t : ℕ) (old new : Tables) (given : Answer) →
     ((list : List Accepted) → IsInTime list → AreTables b list old →

@@ -29,3 +29,9 @@ pub mod KeptHistories
 pub mod Accounted
 pub mod Sound
 pub mod Collecting
+pub mod EarlyLedgers
+pub mod EarlyDecisions
+pub mod EarlyOutcomes
+pub mod EarlyRows
+pub mod EarlyHistories
+pub mod JoinedRuns

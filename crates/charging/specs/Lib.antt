@@ -15,3 +15,4 @@ pub mod Isolation
 pub mod Repeats
 pub mod Headline
 pub mod Collected
+pub mod LaterBooks

@@ -2,6 +2,7 @@
 //! commands, and leaves the tables of that history.
 #![tactic(auto)]
 
+mod additions;
 mod allowances;
 mod answers;
 mod balances;
@@ -14,6 +15,7 @@ mod running;
 mod stepping;
 mod voucher_commands;
 
+pub use crate::additions::later_books;
 pub use crate::answers::Run;
 pub use crate::balances::{AccountState, account_state};
 pub use crate::laws::{
