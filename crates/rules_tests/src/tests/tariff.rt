@@ -5,5 +5,5 @@ mod faults;
 mod limits;
 mod lookups;
 mod one_prices;
-mod shelf;
+pub(crate) mod shelf;
 mod switches;

@@ -15,7 +15,8 @@ ghost use Rattle.reserving.specs.Prepared.{reservation_in};
 
 use crate::tests::account::rows::buckets_text;
 use crate::tests::tables::{Teller, Words, try_table};
-use crate::tests::values::{account, book, end, moment, money, session_id, shelf};
+use crate::tests::tariff::shelf::later_book;
+use crate::tests::values::{account, end, moment, money, session_id, shelf};
 use identifiers::SessionId;
 use reserving::{Account, Granted, Session, SessionGroup, Settled};
 use shelves::TariffShelf;
@@ -203,11 +204,12 @@ fn reserve(
     described(rt, alloc, granted.expect(rt, "a grant"))
 }
 
-/// The blocks, their price, and what of it is collected and isn't.
+/// The blocks, the price of those that no allowance covers, what of it is collected and isn't, and
+/// how many are covered.
 fn charged(rt: &impl Abort, alloc: Global, settled: Settled) -> String {
-    let (blocks, rated) = (settled.blocks.0, settled.rated.0);
+    let (blocks, rated, covered) = (settled.blocks.0, settled.rated.0, settled.covered.0);
     let (collected, uncollected) = (settled.collected.0, settled.uncollected.0);
-    let text = format!(in alloc; "{blocks} {rated} {collected} {uncollected}");
+    let text = format!(in alloc; "{blocks} {rated} {collected} {uncollected} {covered}");
     text.expect(rt, "memory")
 }
 
@@ -251,6 +253,15 @@ fn quote(rt: &impl Abort, alloc: Global, account: &Account, text: &str, at: Mome
     let mut words = Words::of(text);
     let (group, units) = (words.number(rt), Units(words.number(rt)));
     let price = account.quote(group, units, at);
+    format!(in alloc; "{}", price.0).expect(rt, "memory")
+}
+
+/// `GROUP UNITS`: what those of their blocks would cost as an event that no allowance covers.
+fn rest(rt: &impl Abort, alloc: Global, account: &Account, text: &str, at: Moment) -> String {
+    let mut words = Words::of(text);
+    let (group, units) = (words.number(rt), Units(words.number(rt)));
+    must_be_later(rt, account, at);
+    let price = account.quote_rest(group, units, at);
     format!(in alloc; "{}", price.0).expect(rt, "memory")
 }
 
@@ -362,6 +373,7 @@ fn reading(rt: &impl Abort, alloc: Global, account: &Account, call: &str, at: Mo
     match name {
         "limit" => limit(rt, alloc, account, text, at),
         "quote" => quote(rt, alloc, account, text, at),
+        "rest" => rest(rt, alloc, account, text, at),
         "funds" => funds(rt, alloc, account, text, at),
         "session" => session(rt, alloc, account, text, at),
         _ => counters(rt, alloc, account),
@@ -402,7 +414,7 @@ const SWITCH: &str = "\
 1767598200 credit 4102444800 1000000 => 1 (1000000; 1000000, 0, 0, 0)
 1767598200 open s1 => opened (1000000; 1000000, 0, 0, 0)
 1767598200 reserve s1 10 600 => 600 Some(1767600000) 3600 all (1000000; 0, 1000000, 0, 0)
-1767600300 settle s1 10 300:before 90:after => 7 450000 450000 0 (1000000; 550000, 0, 450000, 0)";
+1767600300 settle s1 10 300:before 90:after => 7 450000 450000 0 0 (1000000; 550000, 0, 450000, 0)";
 
 /// 250,000 micro-units cover two minutes of ten. Five are used, and half their price isn't
 /// collected.
@@ -412,7 +424,7 @@ const SHORT: &str = "\
 1767607200 funds 10 => 250000 true (250000; 250000, 0, 0, 0)
 1767607200 reserve s3 10 600 => 120 None 3600 fewer (250000; 50000, 200000, 0, 0)
 1767607500 touch s3 1 => touched (250000; 50000, 200000, 0, 0)
-1767607500 settle s3 10 300 => 5 500000 250000 250000 (250000; 0, 0, 250000, 0)
+1767607500 settle s3 10 300 => 5 500000 250000 250000 0 (250000; 0, 0, 250000, 0)
 1767607500 close s3 => closed (250000; 0, 0, 250000, 0)
 1767607500 session s3 => 1 Ended false (250000; 0, 0, 250000, 0)";
 
@@ -421,9 +433,9 @@ const STARTED: &str = "\
 1767607200 credit 4102444800 1000000 => 1 (1000000; 1000000, 0, 0, 0)
 1767607200 open s5 => opened (1000000; 1000000, 0, 0, 0)
 1767607200 reserve s5 10 600 => 600 None 3600 all (1000000; 0, 1000000, 0, 0)
-1767607500 settle s5 10 61 => 2 200000 200000 0 (1000000; 800000, 0, 200000, 0)
+1767607500 settle s5 10 61 => 2 200000 200000 0 0 (1000000; 800000, 0, 200000, 0)
 1767607500 reserve s5 10 600 => 539 None 3600 fewer (1000000; 0, 800000, 200000, 0)
-1767607560 settle s5 10 59 => 0 0 0 0 (1000000; 800000, 0, 200000, 0)";
+1767607560 settle s5 10 59 => 0 0 0 0 0 (1000000; 800000, 0, 200000, 0)";
 
 /// Two buckets are held in the order of their ends. What is given up after the first one's end is
 /// expired.
@@ -433,7 +445,7 @@ const BUCKETS: &str = "\
 1767607200 open s6 => opened (150000; 150000, 0, 0, 0) (300000; 300000, 0, 0, 0)
 1767607200 reserve s6 10 180 => 180 None 3600 all (150000; 0, 150000, 0, 0)
    (300000; 150000, 150000, 0, 0)
-1767608100 settle s6 10 60 => 1 100000 100000 0 (150000; 0, 0, 100000, 50000)
+1767608100 settle s6 10 60 => 1 100000 100000 0 0 (150000; 0, 0, 100000, 50000)
    (300000; 300000, 0, 0, 0)";
 
 /// The first 100 blocks of the month are free: 99 are granted and used, and then two more. January
@@ -442,9 +454,9 @@ const MONTH: &str = "\
 1767607200 credit 4102444800 50000 => 1 (50000; 50000, 0, 0, 0)
 1767607200 open s7 => opened (50000; 50000, 0, 0, 0)
 1767607200 reserve s7 20 103809024 => 103809024 None 3600 all (50000; 50000, 0, 0, 0)
-1767607500 settle s7 20 103809024 => 99 0 0 0 (50000; 50000, 0, 0, 0)
+1767607500 settle s7 20 103809024 => 99 0 0 0 0 (50000; 50000, 0, 0, 0)
 1767607500 reserve s7 20 2097152 => 2097152 None 3600 all (50000; 40000, 10000, 0, 0)
-1767607800 settle s7 20 2097152 => 2 10000 10000 0 (50000; 40000, 0, 10000, 0)
+1767607800 settle s7 20 2097152 => 2 10000 10000 0 0 (50000; 40000, 0, 10000, 0)
 1767607800 counters of all => 20 684 101; (50000; 40000, 0, 10000, 0)";
 
 /// 40,000 micro-units cover no minute: the request is recorded, and no session lives that could be
@@ -470,8 +482,8 @@ const TWO_GROUPS: &str = "\
 1767607200 open s17 => opened (500000; 500000, 0, 0, 0)
 1767607200 reserve s17 10 180 => 180 None 3600 all (500000; 200000, 300000, 0, 0)
 1767607200 reserve s17 30 2 => 2 None 3600 all (500000; 20000, 480000, 0, 0)
-1767607500 settle s17 30 1 => 1 90000 90000 0 (500000; 110000, 300000, 90000, 0)
-1767607500 settle s17 10 60 => 1 100000 100000 0 (500000; 310000, 0, 190000, 0)
+1767607500 settle s17 30 1 => 1 90000 90000 0 0 (500000; 110000, 300000, 90000, 0)
+1767607500 settle s17 10 60 => 1 100000 100000 0 0 (500000; 310000, 0, 190000, 0)
 1767607500 reserve s17 30 3 => 3 None 3600 all (500000; 40000, 270000, 190000, 0)";
 
 /// A barred account keeps what it holds, until its session's time is over.
@@ -491,13 +503,13 @@ const EVENTS: &str = "\
 1767607200 debit e8 30 1 => not covered (89999; 89999, 0, 0, 0)
 1767607200 counters of all =>  (89999; 89999, 0, 0, 0)
 1767607200 credit 4102444800 1 => 2 (89999; 89999, 0, 0, 0) (1; 1, 0, 0, 0)
-1767607200 debit e8 30 1 => 1 90000 90000 0 (89999; 0, 0, 89999, 0) (1; 0, 0, 1, 0)
+1767607200 debit e8 30 1 => 1 90000 90000 0 0 (89999; 0, 0, 89999, 0) (1; 0, 0, 1, 0)
 1767607200 counters of all => 30 0 1; (89999; 0, 0, 89999, 0) (1; 0, 0, 1, 0)";
 
 /// An event is charged whole from one bucket.
 const EVENT: &str = "\
 1767571200 credit 4102444800 90000 => 1 (90000; 90000, 0, 0, 0)
-1767607200 debit e8 30 1 => 1 90000 90000 0 (90000; 0, 0, 90000, 0)";
+1767607200 debit e8 30 1 => 1 90000 90000 0 0 (90000; 0, 0, 90000, 0)";
 
 /// What is held isn't there for an event, and its charge leaves what is held. Each event starts a
 /// block of its own, whatever was used before.
@@ -505,11 +517,11 @@ const BESIDE: &str = "\
 1767607200 credit 4102444800 350000 => 1 (350000; 350000, 0, 0, 0)
 1767607200 open s21 => opened (350000; 350000, 0, 0, 0)
 1767607200 reserve s21 10 60 => 60 None 3600 all (350000; 250000, 100000, 0, 0)
-1767607200 debit s21 10 1 => 1 100000 100000 0 (350000; 150000, 100000, 100000, 0)
+1767607200 debit s21 10 1 => 1 100000 100000 0 0 (350000; 150000, 100000, 100000, 0)
 1767607200 quote 10 1 => 100000 (350000; 150000, 100000, 100000, 0)
 1767607200 debit s21 10 61 => not covered (350000; 150000, 100000, 100000, 0)
-1767607260 settle s21 10 59 => 0 0 0 0 (350000; 250000, 0, 100000, 0)
-1767607260 debit s21 10 61 => 2 200000 200000 0 (350000; 50000, 0, 300000, 0)";
+1767607260 settle s21 10 59 => 0 0 0 0 0 (350000; 250000, 0, 100000, 0)
+1767607260 debit s21 10 61 => 2 200000 200000 0 0 (350000; 50000, 0, 300000, 0)";
 
 /// A session uses at most 10^18 units of a group, and the greatest number of a charge is
 /// 4,294,967,295.
@@ -520,7 +532,7 @@ const LIMITS: &str = "\
 1767607200 limit s22 10 4294967294 1 => false
 1767607200 limit s22 10 4294967295 1 => true
 1767607200 settle s22 30 999999999999999999 => 999999999999999999 89999999999999999910000 0
-   89999999999999999910000
+   89999999999999999910000 0
 1767607200 limit s22 30 0 1 => false
 1767607200 limit s22 30 0 2 => true
 1767607200 limit s22 10 4294967293 1 => false
@@ -544,7 +556,7 @@ const CLOCK_PUT_AHEAD: &str = "\
 1774742400 credit 4102444800 1000000 => 1 (1000000; 1000000, 0, 0, 0)
 1774744200 open s1 => opened (1000000; 1000000, 0, 0, 0)
 1774744200 reserve s1 10 600 => 600 Some(1774746000) 3600 all (1000000; 0, 1000000, 0, 0)
-1774746060 settle s1 10 120:before 60:after => 3 200000 200000 0 (1000000; 800000, 0, 200000, 0)";
+1774746060 settle s1 10 120:before 60:after => 3 200000 200000 0 0 (1000000; 800000, 0, 200000, 0)";
 
 /// At 02:15 a grant is valid until 03:00, where 02:00 comes again with the cheaper price; then
 /// another is made, and its switch is the second 02:30.
@@ -552,10 +564,10 @@ const CLOCK_PUT_BACK: &str = "\
 1792886400 credit 4102444800 1000000 => 1 (1000000; 1000000, 0, 0, 0)
 1792887300 open s1 => opened (1000000; 1000000, 0, 0, 0)
 1792887300 reserve s1 10 600 => 600 Some(1792888200) 2700 all (1000000; 0, 1000000, 0, 0)
-1792888500 settle s1 10 120:before 120:after => 4 300000 300000 0 (1000000; 700000, 0, 300000, 0)
+1792888500 settle s1 10 120:before 120:after => 4 300000 300000 0 0 (1000000; 700000, 0, 300000, 0)
 1792890000 open s2 => opened (1000000; 700000, 0, 300000, 0)
 1792890000 reserve s2 10 60 => 60 Some(1792891800) 3600 all (1000000; 600000, 100000, 300000, 0)
-1792891860 settle s2 10 30:before 30:after => 1 50000 50000 0 (1000000; 650000, 0, 350000, 0)";
+1792891860 settle s2 10 30:before 30:after => 1 50000 50000 0 0 (1000000; 650000, 0, 350000, 0)";
 
 fn play_all(rt: &impl Abort, alloc: Global, document: &str, scenarios: &[&str]) {
     let shelf = shelf(rt, alloc, document);
@@ -584,25 +596,83 @@ const ALLOWANCE: &str = "\
 1767571200 allow 4102444800 10 3 => 2 (1000000; 1000000, 0, 0, 0) (3; 3, 0, 0, 0)
 1767607200 open s34 => opened (1000000; 1000000, 0, 0, 0) (3; 3, 0, 0, 0)
 1767607200 reserve s34 10 300 => 300 None 3600 all (1000000; 800000, 200000, 0, 0) (3; 0, 3, 0, 0)
-1767607500 settle s34 10 240 => 4 100000 100000 0 (1000000; 900000, 0, 100000, 0) (3; 0, 0, 3, 0)";
+1767607500 settle s34 10 240 => 4 100000 100000 0 3 (1000000; 900000, 0, 100000, 0)
+   (3; 0, 0, 3, 0)";
 
 /// Two blocks, and no money. They are held, and cover a report after their bucket's end.
 const BLOCKS: &str = "\
 1767571200 allow 1767607800 10 2 => 1 (2; 2, 0, 0, 0)
 1767607200 open s35 => opened (2; 2, 0, 0, 0)
 1767607200 reserve s35 10 600 => 120 None 3600 fewer (2; 0, 2, 0, 0)
-1767608100 settle s35 10 180 => 3 100000 0 100000 (2; 0, 0, 2, 0)";
+1767608100 settle s35 10 180 => 3 100000 0 100000 2 (2; 0, 0, 2, 0)";
 
 /// As before, with one block used: the other one expires.
 const BLOCK_LEFT: &str = "\
 1767571200 allow 1767607800 10 2 => 1 (2; 2, 0, 0, 0)
 1767607200 open s35 => opened (2; 2, 0, 0, 0)
 1767607200 reserve s35 10 600 => 120 None 3600 fewer (2; 0, 2, 0, 0)
-1767608100 settle s35 10 60 => 1 0 0 0 (2; 0, 0, 1, 1)";
+1767608100 settle s35 10 60 => 1 0 0 0 1 (2; 0, 0, 1, 1)";
+
+/// An allowance that ends at 10:10. A second before that it covers what a report starts beyond the
+/// grant; at its end only what is held is covered, and what is left of it expires.
+const ENDING: &str = "\
+1767571200 credit 4102444800 1000000 => 1 (1000000; 1000000, 0, 0, 0)
+1767571200 allow 1767607800 10 6 => 2 (6; 6, 0, 0, 0) (1000000; 1000000, 0, 0, 0)
+1767607200 open a => opened (6; 6, 0, 0, 0) (1000000; 1000000, 0, 0, 0)
+1767607200 open b => opened (6; 6, 0, 0, 0) (1000000; 1000000, 0, 0, 0)
+1767607200 reserve a 10 60 => 60 None 3600 all (6; 5, 1, 0, 0) (1000000; 1000000, 0, 0, 0)
+1767607200 reserve b 10 60 => 60 None 3600 all (6; 4, 2, 0, 0) (1000000; 1000000, 0, 0, 0)
+1767607799 settle a 10 120 => 2 0 0 0 2 (6; 3, 1, 2, 0) (1000000; 1000000, 0, 0, 0)
+1767607800 settle b 10 120 => 2 100000 100000 0 1 (6; 0, 0, 3, 3) (1000000; 900000, 0, 100000, 0)";
+
+/// Of three events one is covered, since the other block is held; the money covers one more. The
+/// held block covers its session's report.
+const EVENTS_ALLOWED: &str = "\
+1767571200 credit 4102444800 90000 => 1 (90000; 90000, 0, 0, 0)
+1767571200 allow 4102444800 30 2 => 2 (90000; 90000, 0, 0, 0) (2; 2, 0, 0, 0)
+1767607200 open s => opened (90000; 90000, 0, 0, 0) (2; 2, 0, 0, 0)
+1767607200 reserve s 30 1 => 1 None 3600 all (90000; 90000, 0, 0, 0) (2; 1, 1, 0, 0)
+1767607200 quote 30 3 => 270000 (90000; 90000, 0, 0, 0) (2; 1, 1, 0, 0)
+1767607200 rest 30 3 => 180000 (90000; 90000, 0, 0, 0) (2; 1, 1, 0, 0)
+1767607200 debit e 30 3 => not covered (90000; 90000, 0, 0, 0) (2; 1, 1, 0, 0)
+1767607200 debit e 30 2 => 2 90000 90000 0 1 (90000; 0, 0, 90000, 0) (2; 0, 1, 1, 0)
+1767607260 settle s 30 1 => 1 0 0 0 1 (90000; 0, 0, 90000, 0) (2; 0, 0, 2, 0)";
+
+/// An allowance of another group covers nothing.
+const OTHER_GROUP: &str = "\
+1767571200 allow 4102444800 10 1 => 1 (1; 1, 0, 0, 0)
+1767607200 rest 30 1 => 90000 (1; 1, 0, 0, 0)
+1767607200 debit e 30 1 => not covered (1; 1, 0, 0, 0)
+1767607200 open s => opened (1; 1, 0, 0, 0)
+1767607200 reserve s 30 1 => nothing (1; 1, 0, 0, 0)
+1767607260 settle s 30 1 => 1 90000 0 90000 0 (1; 1, 0, 0, 0)
+1767607260 debit e 10 1 => 1 0 0 0 1 (1; 0, 0, 1, 0)";
+
+/// An allowance of 10^9 blocks, the most, and one event more.
+const MOST_BLOCKS: &str = "\
+1767571200 allow 4102444800 30 1000000000 => 1 (1000000000; 1000000000, 0, 0, 0)
+1767607200 rest 30 1000000001 => 90000 (1000000000; 1000000000, 0, 0, 0)
+1767607200 debit e 30 1000000001 => not covered (1000000000; 1000000000, 0, 0, 0)
+1767607200 credit 4102444800 90000 => 2 (1000000000; 1000000000, 0, 0, 0) (90000; 90000, 0, 0, 0)
+1767607200 debit e 30 1000000001 => 1000000001 90000 90000 0 1000000000
+   (1000000000; 0, 0, 1000000000, 0) (90000; 0, 0, 90000, 0)
+1767607200 counters of all => 30 0 1000000001; (1000000000; 0, 0, 1000000000, 0)
+   (90000; 0, 0, 90000, 0)";
 
 #[test]
 fn allowances_before_money(rt: HostRuntime) {
-    play_all(&rt, rt.alloc(), BOOK, &[ALLOWANCE, BLOCKS, BLOCK_LEFT]);
+    play_all(
+        &rt,
+        rt.alloc(),
+        BOOK,
+        &[ALLOWANCE, BLOCKS, BLOCK_LEFT, ENDING],
+    );
+    play_all(
+        &rt,
+        rt.alloc(),
+        BOOK,
+        &[EVENTS_ALLOWED, OTHER_GROUP, MOST_BLOCKS],
+    );
 }
 
 /// From Tuesday 00:00 on a minute by night costs 60,000. What was granted before is settled by the
@@ -611,13 +681,13 @@ const BOOKS: &str = "\
 1767571200 credit 4102444800 1000000 => 1 (1000000; 1000000, 0, 0, 0)
 1767657300 open s32 => opened (1000000; 1000000, 0, 0, 0)
 1767657300 reserve s32 10 300 => 300 None 3600 all (1000000; 750000, 250000, 0, 0)
-1767657660 settle s32 10 300 => 5 250000 250000 0 (1000000; 750000, 0, 250000, 0)
+1767657660 settle s32 10 300 => 5 250000 250000 0 0 (1000000; 750000, 0, 250000, 0)
 1767657660 reserve s32 10 300 => 300 None 3600 all (1000000; 450000, 300000, 250000, 0)
-1767657700 settle s32 10 300 => 5 300000 300000 0 (1000000; 450000, 0, 550000, 0)
+1767657700 settle s32 10 300 => 5 300000 300000 0 0 (1000000; 450000, 0, 550000, 0)
 1767657700 allow 4102444800 10 2 => 2 (1000000; 450000, 0, 550000, 0) (2; 2, 0, 0, 0)
 1767657700 reserve s32 10 180 => 180 None 3600 all (1000000; 390000, 60000, 550000, 0)
    (2; 0, 2, 0, 0)
-1767657720 settle s32 10 180 => 3 60000 60000 0 (1000000; 390000, 0, 610000, 0) (2; 0, 0, 2, 0)";
+1767657720 settle s32 10 180 => 3 60000 60000 0 2 (1000000; 390000, 0, 610000, 0) (2; 0, 0, 2, 0)";
 
 /// An allowance that is bought under the second book covers blocks of a grant of the first one; the
 /// others cost what they cost at the grant.
@@ -626,22 +696,99 @@ const BOUGHT: &str = "\
 1767657300 open s => opened (1000000; 1000000, 0, 0, 0)
 1767657300 reserve s 10 300 => 300 None 3600 all (1000000; 750000, 250000, 0, 0)
 1767657650 allow 4102444800 10 2 => 2 (1000000; 750000, 250000, 0, 0) (2; 2, 0, 0, 0)
-1767657660 settle s 10 300 => 5 150000 150000 0 (1000000; 850000, 0, 150000, 0) (2; 0, 0, 2, 0)";
+1767657660 settle s 10 300 => 5 150000 150000 0 2 (1000000; 850000, 0, 150000, 0) (2; 0, 0, 2, 0)";
 
-/// Adds the worked book with the night at 60,000, from Tuesday 00:00 on.
-fn add_dearer(rt: &impl Abort, alloc: Global, shelf: &mut TariffShelf) {
-    let text = BOOK.replace(alloc, "price = 50000", "price = 60000");
-    let text = text.expect(rt, "memory");
-    let dearer = book(rt, alloc, text.as_str());
-    let (from, after) = (moment(rt, 1_767_657_600), moment(rt, 1_767_571_200));
-    shelf.add(from, dearer, after).expect(rt, "a later book");
+/// The worked book, and from Tuesday 00:00 on one with dearer minutes.
+const TUESDAY: &str = "\
+1767657600 price = 50000 -> price = 60000 & price = 100000 -> price = 120000";
+
+/// The same from ten past eight on Monday on.
+const PAST_EIGHT: &str = "\
+1767600600 price = 50000 -> price = 60000 & price = 100000 -> price = 120000";
+
+/// At 07:30 three blocks of ten are held of an allowance, and seven at the price from 08:00 on. The
+/// report comes under the second book: of its blocks the one without a part of the day and two of
+/// the three before 08:00 are covered, the third costs 50,000 and the four after 08:00 cost 100,000
+/// each, by the book of the grant. The next minute costs what the second book says.
+const MIXED: &str = "\
+1767571200 credit 4102444800 1000000 => 1 (1000000; 1000000, 0, 0, 0)
+1767571200 allow 4102444800 10 3 => 2 (1000000; 1000000, 0, 0, 0) (3; 3, 0, 0, 0)
+1767598200 open s => opened (1000000; 1000000, 0, 0, 0) (3; 3, 0, 0, 0)
+1767598200 reserve s 10 600 => 600 Some(1767600000) 3600 all (1000000; 300000, 700000, 0, 0)
+   (3; 0, 3, 0, 0)
+1767600900 settle s 10 200:after 30 210:before => 8 450000 450000 0 3
+   (1000000; 550000, 0, 450000, 0) (3; 0, 0, 3, 0)
+1767600900 counters of all => 10 0 8; (1000000; 550000, 0, 450000, 0) (3; 0, 0, 3, 0)
+1767600900 reserve s 10 100 => 100 None 3600 all (1000000; 430000, 120000, 450000, 0)
+   (3; 0, 0, 3, 0)
+1767600960 settle s 10 100 => 1 120000 120000 0 0 (1000000; 430000, 0, 570000, 0) (3; 0, 0, 3, 0)";
+
+/// Two books a second apart, of which the first is valid for a minute.
+const SECOND_BOOKS: &str = "\
+1767657600 price = 50000 -> price = 60000 & validity = 3600 -> validity = 60
+1767657601 price = 50000 -> price = 70000";
+
+/// A grant under each of three books, each held, valid and settled by its own; a session lives for
+/// twice the validity of the book at its last request.
+const SECONDS: &str = "\
+1767571200 credit 4102444800 1000000 => 1 (1000000; 1000000, 0, 0, 0)
+1767657599 open a => opened (1000000; 1000000, 0, 0, 0)
+1767657599 reserve a 10 60 => 60 None 3600 all (1000000; 950000, 50000, 0, 0)
+1767657600 open b => opened (1000000; 950000, 50000, 0, 0)
+1767657600 reserve b 10 60 => 60 None 60 all (1000000; 890000, 110000, 0, 0)
+1767657601 open c => opened (1000000; 890000, 110000, 0, 0)
+1767657601 reserve c 10 60 => 60 None 3600 all (1000000; 820000, 180000, 0, 0)
+1767657661 settle a 10 60 => 1 50000 50000 0 0 (1000000; 820000, 130000, 50000, 0)
+1767657661 settle b 10 60 => 1 60000 60000 0 0 (1000000; 820000, 70000, 110000, 0)
+1767657661 settle c 10 60 => 1 70000 70000 0 0 (1000000; 820000, 0, 180000, 0)
+1767657719 session b => 0 Open true (1000000; 820000, 0, 180000, 0)
+1767657720 session b => 0 Open false (1000000; 820000, 0, 180000, 0)
+1767664798 session a => 0 Open true (1000000; 820000, 0, 180000, 0)
+1767664799 session a => 0 Open false (1000000; 820000, 0, 180000, 0)
+1767664800 session c => 0 Open true (1000000; 820000, 0, 180000, 0)
+1767664801 session c => 0 Open false (1000000; 820000, 0, 180000, 0)";
+
+/// A book with a group more: events in blocks of two, at five micro-units.
+const MORE_GROUPS: &str = r#"1767657600 id = 30 -> id = 40|unit = "events"|block = 2|slice = 2|
+  max_grant = 20|cycle = "none"|final = "terminate"|price = [{period = "off",
+   tiers = [{price = 5}]}, {period = "peak", tiers = [{price = 5}]}]|[[group]]|id = 30"#;
+
+/// A group that a later book brings is granted, covered and charged from its first moment on.
+const BROUGHT: &str = "\
+1767571200 credit 4102444800 100 => 1 (100; 100, 0, 0, 0)
+1767657599 funds 40 => 100 false (100; 100, 0, 0, 0)
+1767657600 funds 40 => 100 true (100; 100, 0, 0, 0)
+1767657600 allow 4102444800 40 2 => 2 (100; 100, 0, 0, 0) (2; 2, 0, 0, 0)
+1767657600 open s => opened (100; 100, 0, 0, 0) (2; 2, 0, 0, 0)
+1767657600 reserve s 40 7 => 7 None 3600 all (100; 90, 10, 0, 0) (2; 0, 2, 0, 0)
+1767657660 settle s 40 5 => 3 5 5 0 2 (100; 95, 0, 5, 0) (2; 0, 0, 2, 0)
+1767657660 debit e 40 1 => 1 5 5 0 0 (100; 90, 0, 10, 0) (2; 0, 0, 2, 0)
+1767657660 counters of all => 40 0 4; (100; 90, 0, 10, 0) (2; 0, 0, 2, 0)";
+
+/// Adds a book: `FROM CHANGES`, the changes of the worked book.
+fn add_book(rt: &impl Abort, alloc: Global, shelf: &mut TariffShelf, text: &str) {
+    let mut words = Words::of(text);
+    let (from, after) = (moment(rt, words.number(rt)), moment(rt, 0));
+    let later = later_book(rt, alloc, words.rest());
+    shelf.add(from, later, after).expect(rt, "a later book");
+}
+
+/// Plays scenarios over the worked book and later ones, a line each.
+fn play_over(rt: &impl Abort, alloc: Global, books: &str, scenarios: &[&str]) {
+    let mut shelf = shelf(rt, alloc, BOOK);
+    let books = books.replace(alloc, "\n  ", "").expect(rt, "memory");
+    for line in books.as_str().lines() {
+        add_book(rt, alloc, &mut shelf, line);
+    }
+    for lines in scenarios {
+        play(rt, alloc, &shelf, lines);
+    }
 }
 
 #[test]
 fn a_grant_is_settled_by_its_own_book(rt: HostRuntime) {
-    let alloc = rt.alloc();
-    let mut shelf = shelf(&rt, alloc, BOOK);
-    add_dearer(&rt, alloc, &mut shelf);
-    play(&rt, alloc, &shelf, BOOKS);
-    play(&rt, alloc, &shelf, BOUGHT);
+    play_over(&rt, rt.alloc(), TUESDAY, &[BOOKS, BOUGHT]);
+    play_over(&rt, rt.alloc(), PAST_EIGHT, &[MIXED]);
+    play_over(&rt, rt.alloc(), SECOND_BOOKS, &[SECONDS]);
+    play_over(&rt, rt.alloc(), MORE_GROUPS, &[BROUGHT]);
 }

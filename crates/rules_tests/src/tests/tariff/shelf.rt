@@ -16,7 +16,7 @@ use worked_book::BOOK;
 
 /// The worked book with these changes, or as it is. In their texts `|` stands for the end of a
 /// line.
-fn later_book(rt: &impl Abort, alloc: Global, changes: &str) -> TariffBook {
+pub(crate) fn later_book(rt: &impl Abort, alloc: Global, changes: &str) -> TariffBook {
     if changes.is_empty() {
         return book(rt, alloc, BOOK);
     }
