@@ -62,6 +62,7 @@ module _ (from : ℕ) (b u : Shelf) (on : GoesOnFrom from b u) where
   after_same (command.Ccr r) t early found = refl
   after_same (command.OpenAccount n) t early found = refl
   after_same (command.Credit c) t early found = refl
+  after_same (command.Allow a) t early found = refl
   after_same (command.Bar n) t early found = refl
   after_same (command.Unbar n) t early found = refl
   after_same (command.AddVoucher v) t early found = refl
@@ -87,6 +88,7 @@ module _ (from : ℕ) (b u : Shelf) (on : GoesOnFrom from b u) where
   standing_same (command.Ccr r) list all = refl
   standing_same (command.OpenAccount n) list all = refl
   standing_same (command.Credit c) list all = refl
+  standing_same (command.Allow a) list all = refl
   standing_same (command.Bar n) list all = refl
   standing_same (command.Unbar n) list all = refl
   standing_same (command.AddVoucher v) list all = voucher_same v.code list all
@@ -172,6 +174,7 @@ module _ (from : ℕ) (b u : Shelf) (on : GoesOnFrom from b u) where
   reported_same t early (command.Ccr r) reports = ask_same t early r.session r.ask reports
   reported_same t early (command.OpenAccount n) reports = refl
   reported_same t early (command.Credit c) reports = refl
+  reported_same t early (command.Allow a) reports = refl
   reported_same t early (command.Bar n) reports = refl
   reported_same t early (command.Unbar n) reports = refl
   reported_same t early (command.AddVoucher v) reports = refl

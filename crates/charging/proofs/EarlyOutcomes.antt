@@ -2,12 +2,15 @@
 -- history that is before them too, and leaves such a one.
 use Rattle.std.proofs.Common.{◌≡◌, ℕ, ◌<◌, Bool, true, false, List, refl, ap, Option, Some}
 use Rattle.std.proofs.Common.{None}
-use Rattle.std.specs.Prelude.{if◌then◌else◌, map, Result, Ok, Err}
+use Rattle.std.specs.Prelude.{if◌then◌else◌, ◌||◌, map, Result, Ok, Err}
 use Rattle.calendar.specs.Timetable.{day_end}
+use Rattle.commands.specs.declared.allowance.Allowance.{Allowance}
 use Rattle.commands.specs.declared.answer.Answer.{Answer}
 use Rattle.commands.specs.declared.answer.Answer.TheVariants as answer
 use Rattle.commands.specs.declared.answer.Failure.TheVariants.{InvalidAvpValue}
-use Rattle.commands.specs.declared.answer.Refusal.TheVariants.{ContentDiffers}
+use Rattle.commands.specs.declared.answer.Refusal.{Refusal}
+use Rattle.commands.specs.declared.answer.Refusal.TheVariants.{ContentDiffers, OutOfRange}
+use Rattle.commands.specs.declared.answer.Refusal.TheVariants.{ScopeUnknown}
 use Rattle.commands.specs.declared.avp.Avp.TheVariants.{RequestNumber}
 use Rattle.commands.specs.declared.command.Command.{Command}
 use Rattle.commands.specs.declared.command.Command.TheVariants as command
@@ -25,13 +28,14 @@ use Rattle.redemptions.specs.declared.voucher.Voucher.{Voucher}
 use Rattle.redemptions.specs.Adding.{addition}
 use Rattle.redemptions.specs.Standing.{is_spent}
 use Rattle.redemptions.specs.Redeeming.{moment_in_time, end_after, redemption_until, redemption}
-use Rattle.buckets.specs.declared.kind.BucketKind.TheVariants.{Money}
+use Rattle.buckets.specs.declared.kind.BucketKind.TheVariants.{Money, Blocks}
 use Rattle.shelves.specs.Shelves.{Shelf, count}
 use Rattle.shelves.specs.Laws.{GoesOnFrom}
 use Rattle.reserving.specs.Ledger.{is_barred}
 use Rattle.reserving.proofs.LaterCalls.{rows_same}
 use Rattle.decisions.specs.Decided.{Decision}
 use Rattle.decisions.specs.Decisions.{decision, answer_of, is_read}
+use Rattle.decisions.specs.Known.{is_known}
 use Rattle.keepers.specs.declared.key.KeptAnswer.{KeptAnswer}
 use Rattle.keepers.specs.Keys.{key_of}
 use Rattle.charging.specs.Balances.{by_number, bucket_balance}
@@ -40,6 +44,8 @@ use Rattle.charging.specs.Accepted.{Outcome}
 use Rattle.charging.specs.Outcomes.{told, keeping, unless_kept, failed, decided_by}
 use Rattle.charging.specs.Outcomes.{request_outcome, from_of, until_of, is_full, is_out_of_range}
 use Rattle.charging.specs.Outcomes.{new_credit, credit_outcome, addition_outcome, book_days}
+use Rattle.charging.specs.Outcomes.{begin_of, end_of, is_over, allowance_refusal, allowed_unless}
+use Rattle.charging.specs.Outcomes.{new_allowance, allowance_outcome}
 use Rattle.charging.specs.Outcomes.{redemption_outcome, new_redemption}
 use Rattle.charging.specs.Outcomes.{redeem_outcome, opened_outcome, unopened_outcome, outcome}
 use Rattle.charging.proofs.EarlyLedgers.{IsEarly, early_credited, early_barred}
@@ -69,6 +75,16 @@ module _ (from : ℕ) (b u : Shelf) (on : GoesOnFrom from b u) (t : ℕ) (early 
       (failed r (InvalidAvpValue RequestNumber)) h (decided_by r d h))
       (decision_same from b u on t early r h.ledger is)
 
+  -- whether the book at the moment has a group
+  allowance_same : (a : Allowance) (h : History) →
+      allowance_outcome b a t h ≡ allowance_outcome u a t h
+  allowance_same a h =
+      λ i. unless_kept (kept_under (key_of (content.Allow a)) h) (content.Allow a)
+      (answer.Refused ContentDiffers) h (allowed_unless
+      (if is_over a t || is_full h.ledger then Some OutOfRange
+      else (if is_known (book_same from b u on t early i) a.scope then None
+      else Some ScopeUnknown)) a t h)
+
   redeem_same : (found : Option Voucher) (r : VoucherRedemption) (h : History) →
       redeem_outcome b found r t h ≡ redeem_outcome u found r t h
   redeem_same found r h =
@@ -83,6 +99,7 @@ module _ (from : ℕ) (b u : Shelf) (on : GoesOnFrom from b u) (t : ℕ) (early 
   opened_same found h (command.Ccr r) is = request_same r h is
   opened_same found h (command.OpenAccount n) is = refl
   opened_same found h (command.Credit c) is = refl
+  opened_same found h (command.Allow a) is = allowance_same a h
   opened_same found h (command.Bar n) is = refl
   opened_same found h (command.Unbar n) is = refl
   opened_same found h (command.AddVoucher v) is = refl
@@ -129,6 +146,7 @@ unopened_early : (from n : ℕ) (found : Option Voucher) (h : History) (c : Comm
 unopened_early from n found h (command.Ccr r) is = is
 unopened_early from n found h (command.OpenAccount a) is = is
 unopened_early from n found h (command.Credit c) is = is
+unopened_early from n found h (command.Allow a) is = is
 unopened_early from n found h (command.Bar a) is = is
 unopened_early from n found h (command.Unbar a) is = is
 unopened_early from n found h (command.AddVoucher v) is =
@@ -158,6 +176,18 @@ module _ (from : ℕ) (b u : Shelf) (on : GoesOnFrom from b u) (t : ℕ) (early 
       (early_credited from (count b) t early Money (from_of c t) (until_of c) c.scope c.amount
       h.ledger is))
 
+  allowance_early : (a : Allowance) (h : History) → IsEarly from (count b) h.ledger →
+      IsEarlyOutcome from (count b) (allowance_outcome b a t h)
+  allowance_early a h is =
+      unless_early from (count b) (kept_under (key_of (content.Allow a)) h) (content.Allow a) _ h
+      (new_allowance b a t h) is (by_refusal (allowance_refusal b a t h.ledger))
+    where
+      by_refusal : (o : Option Refusal) → IsEarlyOutcome from (count b) (allowed_unless o a t h)
+      by_refusal (Some refusal) = is
+      by_refusal None =
+          early_credited from (count b) t early Blocks (begin_of a t) (end_of a) (Some a.scope)
+          a.blocks h.ledger is
+
   redemption_early : (o : Result Redemption RedeemRefusal) (r : VoucherRedemption) (h : History) →
       IsEarly from (count b) h.ledger →
       IsEarlyOutcome from (count b) (redemption_outcome o r t h)
@@ -172,6 +202,7 @@ module _ (from : ℕ) (b u : Shelf) (on : GoesOnFrom from b u) (t : ℕ) (early 
   opened_early found h (command.Ccr r) is = request_early r h is
   opened_early found h (command.OpenAccount a) is = is
   opened_early found h (command.Credit c) is = credit_early c h is
+  opened_early found h (command.Allow a) is = allowance_early a h is
   opened_early found h (command.Bar a) is =
       early_barred from (count b) t early true h.ledger is
   opened_early found h (command.Unbar a) is =

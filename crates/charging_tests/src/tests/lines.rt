@@ -1,7 +1,8 @@
 //! Commands as lines of text: `MOMENT open ACCOUNT`, `MOMENT credit ACCOUNT BODY`, `MOMENT
-//! credit-nothing ACCOUNT REFERENCE`, `MOMENT bar ACCOUNT`, `MOMENT unbar ACCOUNT`, `MOMENT add
-//! CODE AMOUNT DAYS SCOPE` with `-` for no days and no scope, `MOMENT redeem ACCOUNT CODE
-//! REFERENCE`, `MOMENT sweep`, `MOMENT balance ACCOUNT`, and a request as `MOMENT BODY`.
+//! credit-nothing ACCOUNT REFERENCE`, `MOMENT allow ACCOUNT BODY`, `MOMENT bar ACCOUNT`, `MOMENT
+//! unbar ACCOUNT`, `MOMENT add CODE AMOUNT DAYS SCOPE` with `-` for no days and no scope, `MOMENT
+//! redeem ACCOUNT CODE REFERENCE`, `MOMENT sweep`, `MOMENT balance ACCOUNT`, and a request as
+//! `MOMENT BODY`.
 
 use charging::DatedCommand;
 use commands::{Command, Credit, VoucherAddition, VoucherRedemption};
@@ -10,7 +11,7 @@ use redemptions::VoucherTerms;
 use std::alloc::Global;
 use std::process::Abort;
 use units::{Moment, Money};
-use wire::{read_credit, read_request};
+use wire::{read_allow, read_credit, read_request};
 
 /// The first word of these, and the others.
 pub(crate) fn first_word<'w>(rt: &impl Abort, words: &'w str) -> (&'w str, &'w str) {
@@ -55,6 +56,13 @@ fn credit(rt: &impl Abort, alloc: Global, words: &str) -> Command {
     let (number, body) = first_word(rt, words);
     let number = account(rt, alloc, number);
     Command::Credit(read_credit(alloc, number, body.as_bytes()).expect(rt, "a credit"))
+}
+
+/// `ACCOUNT BODY`
+fn allowance(rt: &impl Abort, alloc: Global, words: &str) -> Command {
+    let (number, body) = first_word(rt, words);
+    let number = account(rt, alloc, number);
+    Command::Allow(read_allow(alloc, number, body.as_bytes()).expect(rt, "an allowance"))
 }
 
 /// `ACCOUNT REFERENCE`: a credit of 0, which no body can tell.
@@ -104,6 +112,7 @@ fn command(rt: &impl Abort, alloc: Global, name: &str, words: &str) -> Command {
         "open" => Command::OpenAccount(account(rt, alloc, words)),
         "credit" => credit(rt, alloc, words),
         "credit-nothing" => nothing(rt, alloc, words),
+        "allow" => allowance(rt, alloc, words),
         "bar" => Command::Bar(account(rt, alloc, words)),
         "unbar" => Command::Unbar(account(rt, alloc, words)),
         "add" => addition(rt, alloc, words),
