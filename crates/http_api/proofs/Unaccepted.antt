@@ -4,9 +4,11 @@ use Rattle.std.proofs.Common.{subst, ◌∙◌, Option, Some, None, Result, Ok, 
 use Rattle.std.specs.Prelude.{if◌then◌else◌, nat_lt, ◌||◌}
 use Rattle.commands.specs.declared.answer.Answer.{Answer}
 use Rattle.commands.specs.declared.answer.Answer.TheVariants as answer
+use Rattle.commands.specs.declared.allowance.Allowance.{Allowance}
 use Rattle.commands.specs.declared.answer.Failure.{Failure}
 use Rattle.commands.specs.declared.answer.Failure.TheVariants.{InvalidAvpValue, UnableToComply}
 use Rattle.commands.specs.declared.answer.Outcome.TheVariants.{Services, Refunded, Failed}
+use Rattle.commands.specs.declared.answer.Refusal.{Refusal}
 use Rattle.commands.specs.declared.answer.Refusal.TheVariants.{ContentDiffers, OutOfRange}
 use Rattle.commands.specs.declared.answer.ServiceAnswer.{ServiceAnswer}
 use Rattle.commands.specs.declared.answer.ServiceFailure.TheVariants.{EndUserServiceDenied}
@@ -59,6 +61,8 @@ use Rattle.charging.specs.Accepted.{Accepted, Concerned, one, each, none, Outcom
 use Rattle.charging.specs.Outcomes.{told, keeping, unless_kept, failed, decided_by}
 use Rattle.charging.specs.Outcomes.{request_outcome, from_of, until_of, is_full, is_out_of_range}
 use Rattle.charging.specs.Outcomes.{new_credit, credit_outcome, addition_outcome, book_days}
+use Rattle.charging.specs.Outcomes.{allowance_refusal, allowed_unless, new_allowance}
+use Rattle.charging.specs.Outcomes.{allowance_outcome}
 use Rattle.charging.specs.Outcomes.{redemption_outcome, new_redemption, redeem_outcome}
 use Rattle.charging.specs.Outcomes.{opened_outcome, unopened_outcome, outcome}
 use Rattle.charging.specs.Served.{IsServed, history, standing, answer_on, answer_to, accepts_on}
@@ -196,6 +200,18 @@ credit_unaccepted c t h =
     (if_both (is_out_of_range c t h.ledger) (told (answer.Refused OutOfRange) h)
     (keeping (content.Credit c) given ledger h) (λ e. refl) no)
 
+allowed_unaccepted : (o : Option Refusal) (a : Allowance) (t : ℕ) (h : History) →
+    IsUnaccepted (allowed_unless o a t h)
+allowed_unaccepted (Some refusal) a t h = λ e. refl
+allowed_unaccepted None a t h = no
+
+allowance_unaccepted : (b : Shelf) (a : Allowance) (t : ℕ) (h : History) →
+    IsUnaccepted (allowance_outcome b a t h)
+allowance_unaccepted b a t h =
+    unless_both (kept_under (key_of (content.Allow a)) h) (content.Allow a)
+    (answer.Refused ContentDiffers) h (new_allowance b a t h)
+    (allowed_unaccepted (allowance_refusal b a t h.ledger) a t h)
+
 redemption_unaccepted : (o : Result Redemption RedeemRefusal) (r : VoucherRedemption) (t : ℕ)
     (h : History) → IsUnaccepted (redemption_outcome o r t h)
 redemption_unaccepted (Err refusal) r t h = λ e. refl
@@ -222,6 +238,7 @@ opened_unaccepted : (b : Shelf) (s : Option Voucher) (h : History) (c : Command)
 opened_unaccepted b s h (command.Ccr r) t = request_unaccepted b r t h
 opened_unaccepted b s h (command.OpenAccount n) t = λ e. refl
 opened_unaccepted b s h (command.Credit c) t = credit_unaccepted c t h
+opened_unaccepted b s h (command.Allow a) t = allowance_unaccepted b a t h
 opened_unaccepted b s h (command.Bar n) t = no
 opened_unaccepted b s h (command.Unbar n) t = no
 opened_unaccepted b s h (command.AddVoucher v) t = addition_unaccepted (addition s v.terms) h
@@ -234,6 +251,7 @@ unopened_unaccepted : (s : Option Voucher) (h : History) (c : Command) →
 unopened_unaccepted s h (command.Ccr r) = λ e. refl
 unopened_unaccepted s h (command.OpenAccount n) = no
 unopened_unaccepted s h (command.Credit c) = λ e. refl
+unopened_unaccepted s h (command.Allow a) = λ e. refl
 unopened_unaccepted s h (command.Bar n) = λ e. refl
 unopened_unaccepted s h (command.Unbar n) = λ e. refl
 unopened_unaccepted s h (command.AddVoucher v) = addition_unaccepted (addition s v.terms) h
@@ -263,6 +281,7 @@ read_opened : (b : Shelf) (s : Option Voucher) (h : History) (c : Command) (t : 
 read_opened b s h (command.Ccr r) t is = read_request b r t h is
 read_opened b s h (command.OpenAccount n) t is = no is
 read_opened b s h (command.Credit c) t is = no is
+read_opened b s h (command.Allow a) t is = no is
 read_opened b s h (command.Bar n) t is = no is
 read_opened b s h (command.Unbar n) t is = no is
 read_opened b s h (command.AddVoucher v) t is = no is
@@ -275,6 +294,7 @@ read_unopened : (s : Option Voucher) (h : History) (c : Command) → is_read_com
 read_unopened s h (command.Ccr r) is = refl
 read_unopened s h (command.OpenAccount n) is = no is
 read_unopened s h (command.Credit c) is = no is
+read_unopened s h (command.Allow a) is = no is
 read_unopened s h (command.Bar n) is = no is
 read_unopened s h (command.Unbar n) is = no is
 read_unopened s h (command.AddVoucher v) is = no is
@@ -307,6 +327,7 @@ sweep_reads : (c : Command) → concerned_by c ≡ each → is_read_command c �
 sweep_reads (command.Ccr r) e = absurd (cc)
 sweep_reads (command.OpenAccount n) e = refl
 sweep_reads (command.Credit c) e = refl
+sweep_reads (command.Allow a) e = refl
 sweep_reads (command.Bar n) e = refl
 sweep_reads (command.Unbar n) e = refl
 sweep_reads (command.AddVoucher v) e = refl
