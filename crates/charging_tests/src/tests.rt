@@ -1,3 +1,4 @@
+mod allowances;
 mod balances;
 mod deciding;
 mod denials;
