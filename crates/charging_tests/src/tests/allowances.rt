@@ -28,7 +28,7 @@ buckets: (1000000; 900000, 0, 100000, 0) (3; 0, 0, 3, 0)
 counters: 10 0 4;
 charges: 1 at 1767607500 of s34 10 4 100000 100000 0 covered 3;"##;
 
-/// Two blocks until half past ten pay two minutes of ten.
+/// Two blocks until ten past ten pay two minutes of ten.
 const TWO_BLOCKS: &str = r##"1767571200 open 49151
 = {"Result-Code":2001}
 1767571200 allow 49151 {"Blocks":2,"Reference":"a1","Scope":10,"Until":1767607800}
