@@ -1,4 +1,3 @@
-mod allowances;
 mod balances;
 mod deciding;
 mod denials;

@@ -1,19 +1,15 @@
 //! Commands as lines of text: `MOMENT open ACCOUNT`, `MOMENT credit ACCOUNT BODY`, `MOMENT
-//! credit-nothing ACCOUNT REFERENCE`, `MOMENT allow ACCOUNT BLOCKS FROM UNTIL SCOPE REFERENCE` with
-//! `-` for no beginning and no end, `MOMENT bar ACCOUNT`, `MOMENT unbar ACCOUNT`, `MOMENT add CODE
-//! AMOUNT DAYS SCOPE` with `-` for no days and no scope, `MOMENT redeem ACCOUNT CODE REFERENCE`,
-//! `MOMENT sweep`, `MOMENT balance ACCOUNT`, and a request as `MOMENT BODY`.
+//! credit-nothing ACCOUNT REFERENCE`, `MOMENT bar ACCOUNT`, `MOMENT unbar ACCOUNT`, `MOMENT add
+//! CODE AMOUNT DAYS SCOPE` with `-` for no days and no scope, `MOMENT redeem ACCOUNT CODE
+//! REFERENCE`, `MOMENT sweep`, `MOMENT balance ACCOUNT`, and a request as `MOMENT BODY`.
 
 use charging::DatedCommand;
-use commands::{
-    Allowance, AllowanceBlocks, Command, Credit, CreditEnd, CreditStart, VoucherAddition,
-    VoucherRedemption,
-};
+use commands::{Command, Credit, VoucherAddition, VoucherRedemption};
 use identifiers::{AccountNumber, Reference, VoucherCode};
 use redemptions::VoucherTerms;
 use std::alloc::Global;
 use std::process::Abort;
-use units::{Blocks, Moment, Money};
+use units::{Moment, Money};
 use wire::{read_credit, read_request};
 
 /// The first word of these, and the others.
@@ -75,51 +71,6 @@ fn nothing(rt: &impl Abort, alloc: Global, words: &str) -> Command {
     })
 }
 
-/// A moment as the beginning of a credit, or `-`.
-fn beginning(rt: &impl Abort, word: &str) -> Option<CreditStart> {
-    if word == "-" {
-        return None;
-    }
-    let start = CreditStart::new(moment(rt, word));
-    Some(start.expect(rt, "a beginning"))
-}
-
-/// A moment as the end of a credit, or `-`.
-fn end(rt: &impl Abort, word: &str) -> Option<CreditEnd> {
-    if word == "-" {
-        return None;
-    }
-    let end = CreditEnd::new(moment(rt, word));
-    Some(end.expect(rt, "an end"))
-}
-
-fn blocks(rt: &impl Abort, word: &str) -> AllowanceBlocks {
-    let blocks = Blocks(word.parse::<u64>().expect(rt, "blocks"));
-    AllowanceBlocks::new(blocks).expect(rt, "1 to 1,000,000,000 blocks")
-}
-
-/// `ACCOUNT BLOCKS FROM UNTIL SCOPE REFERENCE`
-fn allowance(rt: &impl Abort, alloc: Global, words: &str) -> Command {
-    let (number, words) = first_word(rt, words);
-    let (count, words) = first_word(rt, words);
-    let (from, words) = first_word(rt, words);
-    let (until, words) = first_word(rt, words);
-    let (group, name) = first_word(rt, words);
-    let (from, until) = (beginning(rt, from), end(rt, until));
-    let (blocks, scope) = (
-        blocks(rt, count),
-        group.parse::<u32>().expect(rt, "a group"),
-    );
-    Command::Allow(Allowance {
-        account: account(rt, alloc, number),
-        blocks,
-        from,
-        until,
-        scope,
-        reference: reference(rt, alloc, name),
-    })
-}
-
 /// `AMOUNT DAYS SCOPE`
 fn terms(rt: &impl Abort, words: &str) -> VoucherTerms {
     let (amount, words) = first_word(rt, words);
@@ -153,7 +104,6 @@ fn command(rt: &impl Abort, alloc: Global, name: &str, words: &str) -> Command {
         "open" => Command::OpenAccount(account(rt, alloc, words)),
         "credit" => credit(rt, alloc, words),
         "credit-nothing" => nothing(rt, alloc, words),
-        "allow" => allowance(rt, alloc, words),
         "bar" => Command::Bar(account(rt, alloc, words)),
         "unbar" => Command::Unbar(account(rt, alloc, words)),
         "add" => addition(rt, alloc, words),

@@ -67,17 +67,13 @@ fn push_groups(rt: &impl Abort, text: &mut String, rows: &[SessionGroup]) {
 }
 
 /// A charge's number, moment, session and group, its blocks, and its amounts: rated, collected,
-/// uncollected; and how many of the blocks allowances covered, where they covered any.
+/// uncollected.
 fn push_charge(rt: &impl Abort, text: &mut String, row: &ChargeRow) {
     let (at, id) = (row.moment.seconds(), row.session.as_str());
     write!(text, " {} at {at} of {id} {}", row.number, row.group).expect(rt, "memory");
     let (rated, collected) = (row.rated.0, row.collected.0);
     let (blocks, uncollected) = (row.blocks.0, row.uncollected.0);
-    write!(text, " {blocks} {rated} {collected} {uncollected}").expect(rt, "memory");
-    if row.covered.0 != 0 {
-        write!(text, " covered {}", row.covered.0).expect(rt, "memory");
-    }
-    push(rt, text, ";");
+    write!(text, " {blocks} {rated} {collected} {uncollected};").expect(rt, "memory");
 }
 
 /// Each charge.
