@@ -67,10 +67,10 @@ allow-again b list a t old new kept given time le tables is answers same =
 -- ---- on an account that was loaded
 
 module _ (b : Shelf) (a : Allowance) (t : ℕ) (ledger : Ledger) where
-  by_group : Bool → Option Refusal
+  abbrev by_group : Bool → Option Refusal
   by_group known = if known then None else Some ScopeUnknown
 
-  by_range : Bool → Option Refusal
+  abbrev by_range : Bool → Option Refusal
   by_range out = if out then Some OutOfRange else by_group (is_known (book_at b t) a.scope)
 
   -- there is no moment left
