@@ -68,8 +68,8 @@ pub fn collection()
         charged_to_date kind (validity_of b) t (history b a list).ledger }
 {}
 
-/// Repeats: once a request that isn't a read, a credit, an allowance, a redemption or the addition of
-/// a voucher is accepted, it has one answer for good. Whatever commands stand between, the same
+/// Repeats: once a request that isn't a read, a credit, an allowance, a redemption or the addition
+/// of a voucher is accepted, it has one answer for good. Whatever commands stand between, the same
 /// command is answered as the first time and isn't accepted again (RFC 8506 section 8.2; references
 /// of credits, allowances and redemptions, and codes of vouchers: profile).
 pub fn repeats()

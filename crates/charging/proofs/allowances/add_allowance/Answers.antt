@@ -1,4 +1,4 @@
-use Rattle.std.proofs.Common.{◌≡◌, Bool, true, false, sym, ap, ◌∙◌}
+use Rattle.std.proofs.Common.{◌≡◌, true, false, sym, ap, ◌∙◌}
 use Rattle.shelves.specs.Shelves.{Shelf, book_at}
 use Rattle.decisions.specs.Known.{is_known}
 use Rattle.charging.specs.Outcomes.{is_over}

@@ -40,6 +40,7 @@ returns-clause-served g c = λ clean.
     let fresh = (λ i. ((same_load ∙ same) i).answers c.args.allowance.account
     (key_of (content.Allow c.args.allowance))) ∙ sym (c.in_ok-kept.ensures.found clean_find)
     ∙ c.in_default.is in
-    subst (λ (x : Tables). ServesAt c.args.shelf.now (command.Allow c.args.allowance) c.args.moment x
-    (g.K.Keeper.content c.allow_account.new.keeper) c.allow_account.result) (same_load ∙ same)
+    subst (λ (x : Tables). ServesAt c.args.shelf.now (command.Allow c.args.allowance)
+    c.args.moment x (g.K.Keeper.content c.allow_account.new.keeper) c.allow_account.result)
+    (same_load ∙ same)
     (c.allow_account.ensures.served clean c.args.shelf.now loads fresh)
