@@ -252,7 +252,7 @@ const TUESDAY: &str = "\
 1767657600 price = 50000 -> price = 60000 & price = 100000 -> price = 120000";
 
 /// A grant of five minutes before it is settled at 50,000 each, the next one held and settled at
-/// 60,000, and midnight is no switch.
+/// 60,000. Midnight is no switch, and a sweep at it changes nothing.
 const LATER_BOOK: &str = r##"1767571200 open 49151
 = {"Result-Code":2001}
 1767571200 credit 49151 {"Amount":1000000,"Reference":"c1"}
@@ -263,6 +263,11 @@ const LATER_BOOK: &str = r##"1767571200 open 49151
 = {"CC-Request-Number":0,"CC-Request-Type":1,
   "Multiple-Services-Credit-Control":[{"Granted-Service-Unit":{"CC-Time":300},"Rating-Group":10,
   "Result-Code":2001,"Validity-Time":3600}],"Result-Code":2001,"Session-Id":"s32"}
+buckets: (1000000; 750000, 250000, 0, 0)
+
+1767657600 sweep
+= {"Accounts":1,"Result-Code":2001}
+last: 1767657600
 buckets: (1000000; 750000, 250000, 0, 0)
 
 1767657660 {"Session-Id":"s32","CC-Request-Type":2,"CC-Request-Number":1,
