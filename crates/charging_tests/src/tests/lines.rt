@@ -33,7 +33,7 @@ pub(crate) fn code(rt: &impl Abort, alloc: Global, word: &str) -> VoucherCode {
     code.expect(rt, "a code")
 }
 
-fn moment(rt: &impl Abort, word: &str) -> Moment {
+pub(crate) fn moment(rt: &impl Abort, word: &str) -> Moment {
     let seconds = word.parse::<u64>().expect(rt, "seconds");
     Moment::of_command(seconds).expect(rt, "a moment")
 }

@@ -6,7 +6,7 @@
 //! list. A line that begins with two spaces goes on with the one before it. A line of a table that
 //! isn't there is told as `no such table`.
 
-use crate::tests::lines::{all_commands, is_command};
+use crate::tests::lines::{all_commands, first_word, is_command, moment};
 use crate::tests::rows::{push, push_rows};
 use charging::run;
 use commands::Answer;
@@ -15,6 +15,7 @@ use shelves::TariffShelf;
 use std::alloc::Global;
 use std::process::Abort;
 use tariffs::TariffBook;
+use units::Moment;
 use wire::write_answer;
 
 /// The shelf of the scenarios: the worked book alone.
@@ -132,9 +133,39 @@ fn try_parts(
     }
 }
 
+/// The worked book with these changes, joined by `&`, each `OLD -> NEW`. In them `|` stands for the
+/// end of a line.
+fn changed_book(rt: &impl Abort, alloc: Global, changes: &str) -> TariffBook {
+    let mut text = String::from_str(alloc, worked_book::BOOK).expect(rt, "memory");
+    let changes = changes.replace(alloc, "|", "\n").expect(rt, "memory");
+    for change in changes.as_str().split(" & ") {
+        let (old, new) = change.split_once(" -> ").expect(rt, "a change");
+        assert!(rt; text.as_str().contains(old), "{change}");
+        text = text.as_str().replace(alloc, old, new).expect(rt, "memory");
+    }
+    TariffBook::read(alloc, text.as_str().as_bytes()).expect(rt, "a later book")
+}
+
+/// Adds a book: the moment from which it holds, and its changes of the worked book.
+fn add_book(rt: &impl Abort, alloc: Global, shelf: &mut TariffShelf, line: &str) {
+    let (from, changes) = first_word(rt, line);
+    let book = changed_book(rt, alloc, changes);
+    let added = shelf.add(moment(rt, from), book, Moment::first());
+    added.expect(rt, "a book that may follow");
+}
+
 /// Tries a scenario over a new keeper. It is told by texts, each going on after the one before it.
 pub(crate) fn try_all(rt: &impl Abort, alloc: Global, texts: &[&str]) {
-    let shelf = shelf(rt, alloc);
+    try_over(rt, alloc, "", texts);
+}
+
+/// The same over the worked book and later ones, a line each.
+pub(crate) fn try_over(rt: &impl Abort, alloc: Global, books: &str, texts: &[&str]) {
+    let mut shelf = shelf(rt, alloc);
+    let books = whole_lines(rt, alloc, books);
+    for line in books.as_str().lines() {
+        add_book(rt, alloc, &mut shelf, line);
+    }
     let mut keeper = MemoryKeeper::new(alloc);
     for text in texts {
         let text = whole_lines(rt, alloc, text);

@@ -1,6 +1,6 @@
 //! Sessions: grants, reports and their settlement.
 
-use crate::tests::scenarios::try_all;
+use crate::tests::scenarios::{try_all, try_over};
 
 /// A grant at 07:30 is held at the price from 08:00 on. Five minutes are used before the switch,
 /// and two begun after it.
@@ -247,6 +247,92 @@ charges: 1 at 1767607200 of s1 10 1 100000 100000 0; 2 at 1767607200 of s1 30 1 
    3 at 1767607260 of s1 10 1 100000 100000 0; 4 at 1767607260 of s1 30 1 90000 90000 0;
 49152 charges:"##;
 
+/// From Tuesday 00:00 on minutes cost more.
+const TUESDAY: &str = "\
+1767657600 price = 50000 -> price = 60000 & price = 100000 -> price = 120000";
+
+/// A grant of five minutes before it is settled at 50,000 each, the next one held and settled at
+/// 60,000. Midnight is no switch, and a sweep at it changes nothing.
+const LATER_BOOK: &str = r##"1767571200 open 49151
+= {"Result-Code":2001}
+1767571200 credit 49151 {"Amount":1000000,"Reference":"c1"}
+= {"Bucket":1,"Result-Code":2001}
+1767657300 {"Session-Id":"s32","CC-Request-Type":1,"CC-Request-Number":0,
+  "Subscription-Id":{"Subscription-Id-Type":0,"Subscription-Id-Data":"49151"},
+  "Multiple-Services-Credit-Control":[{"Rating-Group":10,"Requested-Service-Unit":{"CC-Time":300}}]}
+= {"CC-Request-Number":0,"CC-Request-Type":1,
+  "Multiple-Services-Credit-Control":[{"Granted-Service-Unit":{"CC-Time":300},"Rating-Group":10,
+  "Result-Code":2001,"Validity-Time":3600}],"Result-Code":2001,"Session-Id":"s32"}
+buckets: (1000000; 750000, 250000, 0, 0)
+
+1767657600 sweep
+= {"Accounts":1,"Result-Code":2001}
+last: 1767657600
+buckets: (1000000; 750000, 250000, 0, 0)
+
+1767657660 {"Session-Id":"s32","CC-Request-Type":2,"CC-Request-Number":1,
+  "Subscription-Id":{"Subscription-Id-Type":0,"Subscription-Id-Data":"49151"},
+  "Multiple-Services-Credit-Control":[{"Rating-Group":10,"Requested-Service-Unit":{"CC-Time":300},
+  "Used-Service-Unit":[{"CC-Time":300}]}]}
+= {"CC-Request-Number":1,"CC-Request-Type":2,
+  "Multiple-Services-Credit-Control":[{"Granted-Service-Unit":{"CC-Time":300},"Rating-Group":10,
+  "Result-Code":2001,"Validity-Time":3600}],"Result-Code":2001,"Session-Id":"s32"}
+buckets: (1000000; 450000, 300000, 250000, 0)
+
+1767657700 {"Session-Id":"s32","CC-Request-Type":3,"CC-Request-Number":2,
+  "Subscription-Id":{"Subscription-Id-Type":0,"Subscription-Id-Data":"49151"},
+  "Multiple-Services-Credit-Control":[{"Rating-Group":10,"Used-Service-Unit":[{"CC-Time":300}]}]}
+= {"CC-Request-Number":2,"CC-Request-Type":3,"Multiple-Services-Credit-Control":[{"Rating-Group":10,
+  "Result-Code":2001}],"Result-Code":2001,"Session-Id":"s32"}
+buckets: (1000000; 450000, 0, 550000, 0)
+charges: 1 at 1767657660 of s32 10 5 250000 250000 0;
+   2 at 1767657700 of s32 10 5 300000 300000 0;"##;
+
+/// From Tuesday 00:00 on there is a group of events in blocks of two, at five micro-units.
+const MORE_GROUPS: &str = r##"1767657600 id = 30 -> id = 40|unit = "events"|block = 2|slice = 2|
+  max_grant = 20|cycle = "none"|final = "terminate"|price = [{period = "off",
+   tiers = [{price = 5}]}, {period = "peak", tiers = [{price = 5}]}]|[[group]]|id = 30"##;
+
+/// A second before it the group is unknown, which denies the session for good; from then on the
+/// group is granted and charged.
+const NEW_GROUP: &str = r##"1767571200 open 49151
+= {"Result-Code":2001}
+1767571200 credit 49151 {"Amount":100,"Reference":"c1"}
+= {"Bucket":1,"Result-Code":2001}
+1767657599 {"Session-Id":"s40","CC-Request-Type":1,"CC-Request-Number":0,
+  "Subscription-Id":{"Subscription-Id-Type":0,"Subscription-Id-Data":"49151"},
+  "Multiple-Services-Credit-Control":[{"Rating-Group":40,
+  "Requested-Service-Unit":{"CC-Service-Specific-Units":7}}]}
+= {"CC-Request-Number":0,"CC-Request-Type":1,"Result-Code":5031,"Session-Id":"s40"}
+buckets: (100; 100, 0, 0, 0)
+sessions: s40 0 1767657599 NeverOpened;
+
+1767657600 {"Session-Id":"s40","CC-Request-Type":1,"CC-Request-Number":0,
+  "Subscription-Id":{"Subscription-Id-Type":0,"Subscription-Id-Data":"49151"},
+  "Multiple-Services-Credit-Control":[{"Rating-Group":40,
+  "Requested-Service-Unit":{"CC-Service-Specific-Units":7}}]}
+= {"CC-Request-Number":0,"CC-Request-Type":1,"Result-Code":5031,"Session-Id":"s40"}
+unchanged
+
+1767657600 {"Session-Id":"s41","CC-Request-Type":1,"CC-Request-Number":0,
+  "Subscription-Id":{"Subscription-Id-Type":0,"Subscription-Id-Data":"49151"},
+  "Multiple-Services-Credit-Control":[{"Rating-Group":40,
+  "Requested-Service-Unit":{"CC-Service-Specific-Units":7}}]}
+= {"CC-Request-Number":0,"CC-Request-Type":1,
+  "Multiple-Services-Credit-Control":[{"Granted-Service-Unit":{"CC-Service-Specific-Units":7},
+  "Rating-Group":40,"Result-Code":2001,"Validity-Time":3600}],"Result-Code":2001,"Session-Id":"s41"}
+buckets: (100; 80, 20, 0, 0)
+
+1767657660 {"Session-Id":"s41","CC-Request-Type":3,"CC-Request-Number":1,
+  "Subscription-Id":{"Subscription-Id-Type":0,"Subscription-Id-Data":"49151"},
+  "Multiple-Services-Credit-Control":[{"Rating-Group":40,
+  "Used-Service-Unit":[{"CC-Service-Specific-Units":5}]}]}
+= {"CC-Request-Number":1,"CC-Request-Type":3,"Multiple-Services-Credit-Control":[{"Rating-Group":40,
+  "Result-Code":2001}],"Result-Code":2001,"Session-Id":"s41"}
+buckets: (100; 85, 0, 15, 0)
+counters: 40 0 3;
+charges: 1 at 1767657660 of s41 40 3 15 15 0;"##;
+
 #[test]
 fn grants_and_settlements(rt: HostRuntime) {
     let alloc = rt.alloc();
@@ -257,4 +343,6 @@ fn grants_and_settlements(rt: HostRuntime) {
     try_all(&rt, alloc, &[GROUPS]);
     try_all(&rt, alloc, &[LARGE]);
     try_all(&rt, alloc, &[NUMBERED]);
+    try_over(&rt, alloc, TUESDAY, &[LATER_BOOK]);
+    try_over(&rt, alloc, MORE_GROUPS, &[NEW_GROUP]);
 }

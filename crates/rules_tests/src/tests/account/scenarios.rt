@@ -702,7 +702,11 @@ const BOUGHT: &str = "\
 const TUESDAY: &str = "\
 1767657600 price = 50000 -> price = 60000 & price = 100000 -> price = 120000";
 
-/// The same from ten past eight on Monday on.
+/// The same with a dearer night, where the periods have other names and numbers.
+const OTHER_PERIODS: &str = r#"1767657600 ["off", "peak"] -> ["peak", "low"] & "off" -> "low" &
+   price = 50000 -> price = 60000"#;
+
+/// The dearer minutes from ten past eight on Monday on.
 const PAST_EIGHT: &str = "\
 1767600600 price = 50000 -> price = 60000 & price = 100000 -> price = 120000";
 
@@ -788,6 +792,7 @@ fn play_over(rt: &impl Abort, alloc: Global, books: &str, scenarios: &[&str]) {
 #[test]
 fn a_grant_is_settled_by_its_own_book(rt: HostRuntime) {
     play_over(&rt, rt.alloc(), TUESDAY, &[BOOKS, BOUGHT]);
+    play_over(&rt, rt.alloc(), OTHER_PERIODS, &[BOOKS, BOUGHT]);
     play_over(&rt, rt.alloc(), PAST_EIGHT, &[MIXED]);
     play_over(&rt, rt.alloc(), SECOND_BOOKS, &[SECONDS]);
     play_over(&rt, rt.alloc(), MORE_GROUPS, &[BROUGHT]);
