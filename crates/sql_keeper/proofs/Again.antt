@@ -7,7 +7,7 @@ use Rattle.sqlite_trees.specs.declared.store.Store.{Ghosts}
 use Rattle.sqlite_catalog.specs.Listing.{Lists}
 use Rattle.sqlite_catalog.proofs.ReadLemmas.{lists_once}
 use Rattle.sqlite.specs.Held.{Held, state}
-use Rattle.sql_tables.specs.Schema.{book_schema}
+use Rattle.sql_tables.specs.Schema.{book_schema, latest}
 use Rattle.sql_tables.specs.Statements.{AreStored}
 use Rattle.sql_rows.specs.Values.{Meta}
 use Rattle.sql_rows.specs.Content.{content_of}
@@ -20,7 +20,7 @@ use Rattle.sql_keeper.specs.Writes.{meta_at, meta_with}
 
 left_by : (text : List ℕ) (old new : Trees) (row : Meta) → IsLeft text old
     → new catalog_tree ≡ old catalog_tree
-    → AreStored new → (content_of new).meta ≡ Some row → row.version ≡ 1 → row.book ≡ text
+    → AreStored new → (content_of new).meta ≡ Some row → row.version ≡ latest → row.book ≡ text
     → row.last ≤ 4_102_488_000 → IsLeft text new
 left_by text old new row left catalog stored is version book last = record {
   lists = subst (λ rows. Lists rows book_schema) (sym catalog) left.lists;
@@ -60,7 +60,8 @@ ruled text trees left = record {
   row = left.kept.row;
   is = left.kept.is;
   ruled = record {
-    version = omega (arith, left.kept.version);
+    version =
+        let is : left.kept.row.version ≡ 1 = left.kept.version in omega (arith, is);
     book = subst IsUtf8 (sym left.kept.book) left.utf8;
     last = left.kept.last;
   };

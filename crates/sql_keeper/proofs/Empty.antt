@@ -12,7 +12,7 @@ use Rattle.sqlite_trees.specs.Objects.{catalog_tree}
 use Rattle.sqlite_trees.specs.Tree.{Trees}
 use Rattle.sqlite_catalog.specs.Listing.{Lists}
 use Rattle.sql_tables.specs.Keyed.{look, table_of}
-use Rattle.sql_tables.specs.Schema.{book_schema}
+use Rattle.sql_tables.specs.Schema.{book_schema, latest}
 use Rattle.sql_tables.specs.Stages.{AreEmpty, BuildsAll}
 use Rattle.sql_tables.specs.Statements.{Attempts}
 use Rattle.sql_tables.specs.Schema as table
@@ -108,13 +108,13 @@ pub builds_book : {A B D E : Type 0} (text : List ℕ) (first : ℕ) → first �
     (a b c : State) (u : A) (v : B) (w : D)
     → Attempts {A = A} {E = E} BuildsAll a b (Ok u)
     → Attempts {A = B} {E = E}
-    (Makes (with_meta (record { version = 1; book = text; last = first }))) b c (Ok v)
+    (Makes (with_meta (record { version = latest; book = text; last = first }))) b c (Ok v)
     → Attempts {A = D} {E = E} (BuildsBook text) a c (Ok w)
 builds_book text first is a b c u v w one two = record {
   done = λ clean.
       let built : BuildsAll a b = one.done (omega (arith, two.survives.clean, clean)) in
       let put : Makes (with_meta (first_meta text)) b c =
-      subst (λ n. Makes (with_meta (record { version = 1; book = text; last = n })) b c) is
+      subst (λ n. Makes (with_meta (record { version = latest; book = text; last = n })) b c) is
       (two.done clean) in
       record {
         made = new_book text b.now.trees c.now.trees built.empty built.lists put.turns;

@@ -14,7 +14,8 @@ use Rattle.sqlite.specs.Effect.{Database}
 use Rattle.sqlite.specs.Held.{Held, state}
 use Rattle.sqlite.specs.State.{State, HasCleanDisk, IsLive, Survives}
 use Rattle.sqlite.proofs.StateLemmas.{survives_then}
-use Rattle.sql_tables.specs.Schema.{book_schema}
+use Rattle.sql_tables.specs.Schema.{book_schema, latest, schema_at}
+use Rattle.sql_tables.specs.Stages.{AreStoredAt}
 use Rattle.sql_tables.specs.Statements.{HasIdleBook, IsStill, OnlyReads}
 use Rattle.sql_tables.specs.Texts.{stage}
 use Rattle.sql_rows.specs.Content.{content_of}
@@ -22,7 +23,7 @@ use Rattle.sql_rows.specs.Ruled.{IsRefusedMeta}
 use Rattle.sql_rows.specs.Texts.{meta_of}
 use Rattle.sql_rows.specs.Values.{Meta}
 use Rattle.sql_rows.specs.declared.meta_rows.Meta.{Meta as MetaRow}
-use Rattle.sql_opening.specs.Opens.{IsFound, IsNoVersion, IsTold}
+use Rattle.sql_opening.specs.Opens.{IsFound, IsNoVersion, IsTold, IsVersion}
 use Rattle.sql_opening.specs.declared.fault.OpenFault.{OpenFault}
 use Rattle.sql_opening.specs.declared.fault.OpenFault.TheVariants.{Foreign, Version, Rules}
 use Rattle.sqlite_schema.specs.declared.schema.Schema.{Schema}
@@ -195,7 +196,7 @@ book_refused text bytes same fault means told other version first is = (
 
 -- ---- what is read before
 
-module _ (old mid new : State) (found : HasCleanDisk mid → IsFound old mid)
+module _ (v : ℕ) (old mid new : State) (found : HasCleanDisk mid → IsFound v old mid)
     (one : Survives old mid (λ _. ⊥))
     (only : OnlyReads mid new) (two : Survives mid new (λ _. mid.is_open ≡ false)) where
   open_between : HasCleanDisk new → IsTrue mid.is_open
@@ -244,6 +245,30 @@ module _ (old mid new : State) (found : HasCleanDisk mid → IsFound old mid)
     survives = reads_survived;
   }
 
+-- the latest is a version
+known : IsVersion latest
+known = let one : 1 ≤ 1 = omega arith in (one, one)
+
+-- each version is the latest as long as there is one alone
+one_version : (v : ℕ) → IsVersion v → v ≡ latest
+one_version v known =
+    let high : v ≤ 1 = known.1 in
+    let same : v ≡ 1 = omega (arith, known.0, high) in same
+
+-- the tables that an opening asks for
+pub idle_book : (v : ℕ) (old mid : State) → (HasCleanDisk mid → IsFound v old mid)
+    → HasIdleBook mid
+idle_book v old mid found clean on =
+    let it = found clean in
+    let same = one_version v it.version in
+    record {
+      book = record {
+        schema = it.schema ∙ ap schema_at same;
+        stored = subst (λ n. AreStoredAt n mid.now.trees) same it.stored;
+      };
+      settled = it.settled;
+    }
+
 -- no table was found
 pub finds_none : (old new : State) (e : OpenFault) → IsNoVersion e
     → (HasCleanDisk new → IsTold old.now e) → Survives old new (λ _. ⊥) → FindsMeta old new (Err e)
@@ -251,8 +276,10 @@ finds_none old new e told means survives = record {
   found = λ clean. tt;
   idle = tt;
   told = told;
-  foreign = λ clean is. subst (IsTold old.now) is (means clean);
-  rules = λ clean is ruled. subst (IsTold old.now) is (means clean) ruled.stored;
+  foreign = λ clean is. subst (IsTold old.now) is (means clean) latest known;
+  rules = λ clean is ruled.
+      let it = subst (IsTold old.now) is (means clean) in
+      it.3 (subst (λ n. AreStoredAt n old.now.trees) (sym (one_version it.0 it.1)) ruled.stored);
   survives = survives;
 }
 

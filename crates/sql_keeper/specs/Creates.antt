@@ -6,15 +6,15 @@ use Rattle.sqlite_trees.specs.Tree.{Trees}
 use Rattle.sqlite_catalog.specs.Listing.{Lists}
 use Rattle.sqlite.specs.State.{State, HasCleanDisk, Shows, Survives}
 use Rattle.keepers.specs.Tables.{no_tables}
-use Rattle.sql_tables.specs.Schema.{book_schema}
+use Rattle.sql_tables.specs.Schema.{book_schema, latest}
 use Rattle.sql_tables.specs.Statements.{AreStored, HasIdleBook, IsBook, IsStill}
 use Rattle.sql_rows.specs.Values.{Meta}
 use Rattle.sql_rows.specs.Content.{content_of}
 use Rattle.sql_keeper.specs.Content.{tables_of}
 
--- what is kept once of new tables: their first version, the text of the book, and the first moment
+-- what is kept once of new tables: their version, the text of the book, and the first moment
 abbrev pub first_meta : List ℕ → Meta
-first_meta text = record { version = 1; book = text; last = 0 }
+first_meta text = record { version = latest; book = text; last = 0 }
 
 -- the tables of this book before any command: the database lists them, and no rowid stands twice
 pub record IsNewBook (text : List ℕ) (trees : Trees) : Type 0 where

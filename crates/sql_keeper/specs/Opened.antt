@@ -9,7 +9,7 @@ use Rattle.sqlite_trees.specs.Objects.{catalog_tree}
 use Rattle.sqlite_catalog.specs.Listing.{Lists}
 use Rattle.sqlite.specs.Held.{Held, state}
 use Rattle.sqlite.specs.State.{HasCleanDisk, Survives}
-use Rattle.sql_tables.specs.Schema.{book_schema}
+use Rattle.sql_tables.specs.Schema.{book_schema, latest}
 use Rattle.sql_tables.specs.Statements.{AreStored, IsStill}
 use Rattle.sql_tables.specs.Texts.{stage}
 use Rattle.sql_rows.specs.Ruled.{IsRuledMeta}
@@ -34,16 +34,16 @@ pub record IsFresh {S : Type 0} (k : KeeperState S) (shelf : Shelf) : Type 0 whe
 
 -- ---- left
 
--- what is kept once: the first version of the tables, the text of the book, and a moment
+-- what is kept once: the version of the tables, the text of the book, and a moment
 pub record IsKept (trees : Trees) (text : List ℕ) : Type 0 where
   pub row : Meta
   pub is : (content_of trees).meta ≡ Some row
-  pub version : row.version ≡ 1
+  pub version : row.version ≡ latest
   pub book : row.book ≡ text
   pub last : row.last ≤ 4_102_488_000
 
 -- the tables of a book as they are found again: the database lists ours, no rowid stands twice
--- there, and it keeps their first version with the text, which is one of characters and a book's
+-- there, and it keeps their version with the text, which is one of characters and a book's
 pub record IsLeft (text : List ℕ) (trees : Trees) : Type 0 where
   pub lists : Lists (trees catalog_tree) book_schema
   pub stored : AreStored trees
@@ -82,16 +82,16 @@ pub record IsNotCreated {S : Type 0} (g : Ghosts S) (text : List ℕ) (old new :
 pub record IsOtherVersion (trees : Trees) : Type 0 where
   pub row : Meta
   pub is : (content_of trees).meta ≡ Some row
-  pub other : ¬ (row.version ≡ 1)
+  pub other : ¬ (row.version ≡ latest)
 
 -- in the rules of who opens it: no rowid stands twice, and what is kept once is there and in its
--- rules, with the text of a book where it is of the first version
+-- rules, with the text of a book where it is of the latest version
 pub record IsRuled (trees : Trees) : Type 0 where
   pub stored : AreStored trees
   pub row : Meta
   pub is : (content_of trees).meta ≡ Some row
   pub ruled : IsRuledMeta row
-  pub book : row.version ≡ 1 → IsBookText row.book
+  pub book : row.version ≡ latest → IsBookText row.book
 
 -- the keeper holds what was there, and nothing was written
 pub record IsOpened {S : Type 0} (g : Ghosts S) (old : Held S) (k : KeeperState S)

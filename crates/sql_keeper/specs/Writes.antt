@@ -18,6 +18,7 @@ use Rattle.keepers.specs.Differing.{equal_bucket, equal_counter, equal_session, 
 use Rattle.keepers.specs.Keys.{key_of}
 use Rattle.keepers.specs.declared.key.Key.TheVariants.{Request, Reference}
 use Rattle.redemptions.specs.declared.voucher.Voucher.{Voucher}
+use Rattle.sql_tables.specs.Schema.{latest}
 use Rattle.sql_rows.specs.declared.head.Head.{Head as HeadColumns}
 use Rattle.sql_rows.specs.Values.{Meta, Group, PeriodNames, Kept, Voucher as VoucherRow}
 use Rattle.sql_rows.specs.Values.{request_kind, reference_kind}
@@ -100,10 +101,10 @@ AreTexts a None t = Unit {0}
 AreTexts a (Some k) None = ⊥
 AreTexts a (Some k) (Some t) = kept_in a t ≡ Some k
 
--- what is kept once: the first version of the tables, the text of the book, and the moment of the
+-- what is kept once: the version of the tables, the text of the book, and the moment of the
 -- last accepted command
 abbrev pub meta_at : List ℕ → ℕ → Meta
-meta_at text t = record { version = 1; book = text; last = t }
+meta_at text t = record { version = latest; book = text; last = t }
 
 abbrev pub meta_with : List ℕ → Change → Meta
 meta_with text change = meta_at text change.moment

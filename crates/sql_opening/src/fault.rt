@@ -7,7 +7,7 @@ use thiserror::Error;
 /// kept once, then the version.
 #[derive(Clone, Copy, Debug, Drop, Error, PartialEq, Eq)]
 pub enum OpenFault {
-    /// The database hasn't this system's tables, or has others.
+    /// The database hasn't the tables of a version of this system, or has others.
     #[error("the database is not one of this system")]
     Foreign,
     /// The version of its tables isn't known.

@@ -1,6 +1,6 @@
 -- What the text of an index makes of the schema.
-use Rattle.std.proofs.Common.{◌≡◌, ◌⊎◌, inl, inr, ℕ, List, [], ◌∷◌, Some, None, Option, Ok, Err}
-use Rattle.std.proofs.Common.{Result, refl, sym, ap, ap₂, subst, ◌∙◌}
+use Rattle.std.proofs.Common.{◌≡◌, ℕ, List, [], Some, None, Ok}
+use Rattle.std.proofs.Common.{refl, sym, ap, ap₂, subst, ◌∙◌}
 use Rattle.std.specs.Prelude.{slice_get}
 use Rattle.sqlite_trees.specs.Objects.{catalog_tree}
 use Rattle.sqlite_trees.specs.Tree.{Trees}
@@ -17,7 +17,7 @@ use Rattle.sqlite.specs.Effect.{Database}
 use Rattle.sqlite.specs.Listing.{understood}
 use Rattle.sqlite.specs.State.{State, Executes, Writes, mode_of}
 use Rattle.sqlite.proofs.Callers.{IsPlain, command_of, statement_of, runs_as}
-use Rattle.sql_tables.specs.Schema.{counters, counters_cycle, sessions, sessions_state, book_schema}
+use Rattle.sql_tables.specs.Schema.{counters, counters_cycle, sessions, sessions_state}
 use Rattle.sql_tables.specs.Texts.{counters_cycle_text, sessions_state_text, stage}
 use Rattle.sql_tables.proofs.Steps.{went, same_value}
 
@@ -100,6 +100,7 @@ cycle_defined = refl
 
 pub makes_cycle : (old new : State) (count : ℕ) → old.now.schema ≡ stage 11
     → Executes counters_cycle_text [] old new (Ok count)
-    → Indexes (stage 11) book_schema old.now.trees new.now
-makes_cycle = makes_index (stage 11) book_schema counters counters_cycle 3 counters_cycle_text
-    cycle_is cycle_plain refl cycle_defined refl
+    → Indexes (stage 11) (stage 12) old.now.trees new.now
+makes_cycle = makes_index (stage 11)
+    (stage 12) counters counters_cycle 3 counters_cycle_text cycle_is cycle_plain
+    refl cycle_defined refl

@@ -1,8 +1,8 @@
 -- The texts that make the tables; they stand in the database as they are written here.
 -- Source: profile.
-use Rattle.std.specs.Prelude.{ℕ, List, [], codes, ◌++◌, take}
+use Rattle.std.specs.Prelude.{ℕ, List, [], ◌∷◌, codes, ◌++◌, take}
 use Rattle.sqlite_schema.specs.declared.schema.Schema.{Schema}
-use Rattle.sql_tables.specs.Schema.{book_schema}
+use Rattle.sql_tables.specs.Schema.{latest, pieces_to, schema_of}
 
 abbrev pub meta_text : List ℕ
 meta_text =
@@ -151,11 +151,12 @@ sessions_state_text = codes "CREATE INDEX sessions_state ON sessions (account, s
 abbrev pub counters_cycle_text : List ℕ
 counters_cycle_text = codes "CREATE INDEX counters_cycle ON counters (account, cycle)"
 
--- the first of the tables, with the indexes of their keys; 11: all of them, with the first index
--- more
+-- the texts that each version adds, one for each of its pieces
+abbrev pub texts : List (List (List ℕ))
+texts = (meta_text ∷ accounts_text ∷ buckets_text ∷ counters_text ∷ sessions_text
+    ∷ session_groups_text ∷ holds_text ∷ answers_text ∷ vouchers_text ∷ charges_text
+    ∷ sessions_state_text ∷ counters_cycle_text ∷ []) ∷ []
+
+-- the schema after the first pieces
 abbrev pub stage : ℕ → Schema
-stage tables = record {
-  tables = take tables book_schema.tables;
-  indexes = take tables book_schema.indexes;
-  views = [];
-}
+stage pieces = schema_of (take pieces (pieces_to latest))

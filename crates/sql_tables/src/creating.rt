@@ -1,5 +1,5 @@
 ghost use Rattle.std.specs.Prelude.{◌≡◌, ◌⊎◌, false, IsTrue, IfOk, OnOk, OnErr};
-ghost use Rattle.sql_tables.specs.Stages.{AreEmpty, Builds, BuildsAll, CommitsAll, HasStage};
+ghost use Rattle.sql_tables.specs.Stages.{Adds, AreEmpty, BuildsAll, CommitsAll, HasStage};
 ghost use Rattle.sql_tables.specs.Stages.{IsBlank};
 ghost use Rattle.sql_tables.specs.Schema.{book_schema};
 ghost use Rattle.sql_tables.specs.Statements.{Attempts};
@@ -15,7 +15,7 @@ use std::alloc::Global;
 fn create_meta<S: Alter>(tx: &mut Transaction<'_, S>) -> Result<usize, Error>
     requires stage { HasStage 0 (state S.Store tx.old.conn.now) }
     ensures same_reference { tx.new.conn.ghost_name ≡ tx.old.conn.ghost_name }
-    ensures makes { Attempts (Builds 1) (state S.Store tx.old.conn.now)
+    ensures makes { Attempts (Adds 0 1) (state S.Store tx.old.conn.now)
         (state S.Store tx.new.conn.now) result }
 {
     write(
@@ -34,7 +34,7 @@ fn create_meta<S: Alter>(tx: &mut Transaction<'_, S>) -> Result<usize, Error>
 fn create_accounts<S: Alter>(tx: &mut Transaction<'_, S>) -> Result<usize, Error>
     requires stage { HasStage 1 (state S.Store tx.old.conn.now) }
     ensures same_reference { tx.new.conn.ghost_name ≡ tx.old.conn.ghost_name }
-    ensures makes { Attempts (Builds 2) (state S.Store tx.old.conn.now)
+    ensures makes { Attempts (Adds 1 2) (state S.Store tx.old.conn.now)
         (state S.Store tx.new.conn.now) result }
 {
     write(
@@ -55,7 +55,7 @@ fn create_accounts<S: Alter>(tx: &mut Transaction<'_, S>) -> Result<usize, Error
 fn create_buckets<S: Alter>(tx: &mut Transaction<'_, S>) -> Result<usize, Error>
     requires stage { HasStage 2 (state S.Store tx.old.conn.now) }
     ensures same_reference { tx.new.conn.ghost_name ≡ tx.old.conn.ghost_name }
-    ensures makes { Attempts (Builds 3) (state S.Store tx.old.conn.now)
+    ensures makes { Attempts (Adds 2 3) (state S.Store tx.old.conn.now)
         (state S.Store tx.new.conn.now) result }
 {
     write(
@@ -83,7 +83,7 @@ fn create_buckets<S: Alter>(tx: &mut Transaction<'_, S>) -> Result<usize, Error>
 fn create_counters<S: Alter>(tx: &mut Transaction<'_, S>) -> Result<usize, Error>
     requires stage { HasStage 3 (state S.Store tx.old.conn.now) }
     ensures same_reference { tx.new.conn.ghost_name ≡ tx.old.conn.ghost_name }
-    ensures makes { Attempts (Builds 4) (state S.Store tx.old.conn.now)
+    ensures makes { Attempts (Adds 3 4) (state S.Store tx.old.conn.now)
         (state S.Store tx.new.conn.now) result }
 {
     write(
@@ -104,7 +104,7 @@ fn create_counters<S: Alter>(tx: &mut Transaction<'_, S>) -> Result<usize, Error
 fn create_sessions<S: Alter>(tx: &mut Transaction<'_, S>) -> Result<usize, Error>
     requires stage { HasStage 4 (state S.Store tx.old.conn.now) }
     ensures same_reference { tx.new.conn.ghost_name ≡ tx.old.conn.ghost_name }
-    ensures makes { Attempts (Builds 5) (state S.Store tx.old.conn.now)
+    ensures makes { Attempts (Adds 4 5) (state S.Store tx.old.conn.now)
         (state S.Store tx.new.conn.now) result }
 {
     write(
@@ -126,7 +126,7 @@ fn create_sessions<S: Alter>(tx: &mut Transaction<'_, S>) -> Result<usize, Error
 fn create_session_groups<S: Alter>(tx: &mut Transaction<'_, S>) -> Result<usize, Error>
     requires stage { HasStage 5 (state S.Store tx.old.conn.now) }
     ensures same_reference { tx.new.conn.ghost_name ≡ tx.old.conn.ghost_name }
-    ensures makes { Attempts (Builds 6) (state S.Store tx.old.conn.now)
+    ensures makes { Attempts (Adds 5 6) (state S.Store tx.old.conn.now)
         (state S.Store tx.new.conn.now) result }
 {
     write(
@@ -150,7 +150,7 @@ fn create_session_groups<S: Alter>(tx: &mut Transaction<'_, S>) -> Result<usize,
 fn create_holds<S: Alter>(tx: &mut Transaction<'_, S>) -> Result<usize, Error>
     requires stage { HasStage 6 (state S.Store tx.old.conn.now) }
     ensures same_reference { tx.new.conn.ghost_name ≡ tx.old.conn.ghost_name }
-    ensures makes { Attempts (Builds 7) (state S.Store tx.old.conn.now)
+    ensures makes { Attempts (Adds 6 7) (state S.Store tx.old.conn.now)
         (state S.Store tx.new.conn.now) result }
 {
     write(
@@ -173,7 +173,7 @@ fn create_holds<S: Alter>(tx: &mut Transaction<'_, S>) -> Result<usize, Error>
 fn create_answers<S: Alter>(tx: &mut Transaction<'_, S>) -> Result<usize, Error>
     requires stage { HasStage 7 (state S.Store tx.old.conn.now) }
     ensures same_reference { tx.new.conn.ghost_name ≡ tx.old.conn.ghost_name }
-    ensures makes { Attempts (Builds 8) (state S.Store tx.old.conn.now)
+    ensures makes { Attempts (Adds 7 8) (state S.Store tx.old.conn.now)
         (state S.Store tx.new.conn.now) result }
 {
     write(
@@ -196,7 +196,7 @@ fn create_answers<S: Alter>(tx: &mut Transaction<'_, S>) -> Result<usize, Error>
 fn create_vouchers<S: Alter>(tx: &mut Transaction<'_, S>) -> Result<usize, Error>
     requires stage { HasStage 8 (state S.Store tx.old.conn.now) }
     ensures same_reference { tx.new.conn.ghost_name ≡ tx.old.conn.ghost_name }
-    ensures makes { Attempts (Builds 9) (state S.Store tx.old.conn.now)
+    ensures makes { Attempts (Adds 8 9) (state S.Store tx.old.conn.now)
         (state S.Store tx.new.conn.now) result }
 {
     write(
@@ -218,7 +218,7 @@ fn create_vouchers<S: Alter>(tx: &mut Transaction<'_, S>) -> Result<usize, Error
 fn create_charges<S: Alter>(tx: &mut Transaction<'_, S>) -> Result<usize, Error>
     requires stage { HasStage 9 (state S.Store tx.old.conn.now) }
     ensures same_reference { tx.new.conn.ghost_name ≡ tx.old.conn.ghost_name }
-    ensures makes { Attempts (Builds 10) (state S.Store tx.old.conn.now)
+    ensures makes { Attempts (Adds 9 10) (state S.Store tx.old.conn.now)
         (state S.Store tx.new.conn.now) result }
 {
     write(
@@ -245,7 +245,7 @@ fn create_charges<S: Alter>(tx: &mut Transaction<'_, S>) -> Result<usize, Error>
 fn create_sessions_state<S: Alter>(tx: &mut Transaction<'_, S>) -> Result<usize, Error>
     requires stage { HasStage 10 (state S.Store tx.old.conn.now) }
     ensures same_reference { tx.new.conn.ghost_name ≡ tx.old.conn.ghost_name }
-    ensures makes { Attempts (Builds 11) (state S.Store tx.old.conn.now)
+    ensures makes { Attempts (Adds 10 11) (state S.Store tx.old.conn.now)
         (state S.Store tx.new.conn.now) result }
 {
     write(
@@ -259,7 +259,7 @@ fn create_sessions_state<S: Alter>(tx: &mut Transaction<'_, S>) -> Result<usize,
 fn create_counters_cycle<S: Alter>(tx: &mut Transaction<'_, S>) -> Result<usize, Error>
     requires stage { HasStage 11 (state S.Store tx.old.conn.now) }
     ensures same_reference { tx.new.conn.ghost_name ≡ tx.old.conn.ghost_name }
-    ensures makes { Attempts BuildsAll (state S.Store tx.old.conn.now)
+    ensures makes { Attempts (Adds 11 12) (state S.Store tx.old.conn.now)
         (state S.Store tx.new.conn.now) result }
 {
     write(
@@ -273,7 +273,7 @@ fn create_counters_cycle<S: Alter>(tx: &mut Transaction<'_, S>) -> Result<usize,
 fn create_money<S: Alter>(tx: &mut Transaction<'_, S>) -> Result<(), Error>
     requires stage { HasStage 0 (state S.Store tx.old.conn.now) }
     ensures same_reference { tx.new.conn.ghost_name ≡ tx.old.conn.ghost_name }
-    ensures makes { Attempts (Builds 4) (state S.Store tx.old.conn.now)
+    ensures makes { Attempts (Adds 0 4) (state S.Store tx.old.conn.now)
         (state S.Store tx.new.conn.now) result }
 {
     create_meta(tx)?;
@@ -287,7 +287,7 @@ fn create_money<S: Alter>(tx: &mut Transaction<'_, S>) -> Result<(), Error>
 fn create_sessions_tables<S: Alter>(tx: &mut Transaction<'_, S>) -> Result<(), Error>
     requires stage { HasStage 4 (state S.Store tx.old.conn.now) }
     ensures same_reference { tx.new.conn.ghost_name ≡ tx.old.conn.ghost_name }
-    ensures makes { Attempts (Builds 8) (state S.Store tx.old.conn.now)
+    ensures makes { Attempts (Adds 4 8) (state S.Store tx.old.conn.now)
         (state S.Store tx.new.conn.now) result }
 {
     create_sessions(tx)?;
@@ -301,13 +301,26 @@ fn create_sessions_tables<S: Alter>(tx: &mut Transaction<'_, S>) -> Result<(), E
 fn create_rest<S: Alter>(tx: &mut Transaction<'_, S>) -> Result<(), Error>
     requires stage { HasStage 8 (state S.Store tx.old.conn.now) }
     ensures same_reference { tx.new.conn.ghost_name ≡ tx.old.conn.ghost_name }
-    ensures makes { Attempts BuildsAll (state S.Store tx.old.conn.now)
+    ensures makes { Attempts (Adds 8 12) (state S.Store tx.old.conn.now)
         (state S.Store tx.new.conn.now) result }
 {
     create_vouchers(tx)?;
     create_charges(tx)?;
     create_sessions_state(tx)?;
     create_counters_cycle(tx)?;
+    Ok(())
+}
+
+/// Makes what version 1 has, in a database that has no table.
+fn create_first<S: Alter>(tx: &mut Transaction<'_, S>) -> Result<(), Error>
+    requires stage { HasStage 0 (state S.Store tx.old.conn.now) }
+    ensures same_reference { tx.new.conn.ghost_name ≡ tx.old.conn.ghost_name }
+    ensures makes { Attempts (Adds 0 12) (state S.Store tx.old.conn.now)
+        (state S.Store tx.new.conn.now) result }
+{
+    create_money(tx)?;
+    create_sessions_tables(tx)?;
+    create_rest(tx)?;
     Ok(())
 }
 
@@ -321,13 +334,10 @@ pub fn create_each<S: Alter>(tx: &mut Transaction<'_, S>) -> Result<(), Error>
     ensures makes { Attempts BuildsAll (state S.Store tx.old.conn.now)
         (state S.Store tx.new.conn.now) result }
 {
-    create_money(tx)?;
-    create_sessions_tables(tx)?;
-    create_rest(tx)?;
-    Ok(())
+    create_first(tx)
 }
 
-/// Makes the ten tables and their indexes in a database that has none: all of them or nothing, also
+/// Makes the tables and their indexes in a database that has none: all of them or nothing, also
 /// over a crash.
 ///
 /// # Errors
@@ -350,7 +360,7 @@ pub fn create_tables<S: Alter>(conn: &mut Connection<S>) -> Result<(), Error>
     tx.commit()
 }
 
-/// A database in memory that has the ten tables, all empty.
+/// A database in memory that has the tables, all empty.
 ///
 /// # Errors
 /// An error of the store, also where memory was refused.

@@ -1,4 +1,4 @@
-//! The ten tables of a database, and what a statement on one of them leaves.
+//! The tables of a database, and what a statement on one of them leaves.
 #![tactic(auto)]
 
 mod creating;
