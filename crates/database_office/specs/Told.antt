@@ -29,6 +29,7 @@ open_line opening.Version = codes "ocs: open fault 2"
 open_line opening.Rules = codes "ocs: open fault 3"
 open_line opening.Store = codes "ocs: open fault 4"
 open_line opening.Memory = codes "ocs: open fault 5"
+open_line opening.Older = codes "ocs: open fault 6"
 
 -- a fault's line, without its line feed
 abbrev pub fault_line : DatabaseFault → List ℕ

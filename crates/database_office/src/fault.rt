@@ -81,6 +81,7 @@ fn open_line(fault: OpenFault) -> &'static str
         OpenFault::Rules => "ocs: open fault 3",
         OpenFault::Store => "ocs: open fault 4",
         OpenFault::Memory => "ocs: open fault 5",
+        OpenFault::Older => "ocs: open fault 6",
     }
 }
 

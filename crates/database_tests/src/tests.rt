@@ -12,5 +12,6 @@ mod statements;
 mod sweeps;
 mod ten;
 mod values;
+mod versions;
 mod views;
 mod vouchers;

@@ -81,8 +81,10 @@ told_of first second one two same e k told plain is =
 pub version_plain : (v : ℕ) → IsVersion v → IsTrue (is_plain (schema_at v))
 version_plain zero known = absurd (omega (arith, known.0))
 version_plain (suc zero) known = refl
-version_plain (suc (suc n)) known =
-    let high : suc (suc n) ≤ 1 = known.1 in absurd (omega (arith, high))
+version_plain (suc (suc zero)) known = refl
+version_plain (suc (suc (suc zero))) known = refl
+version_plain (suc (suc (suc (suc n)))) known =
+    let high : suc (suc (suc (suc n))) ≤ 3 = known.1 in absurd (omega (arith, high))
 
 -- what a test of a schema tells, of the one that it is
 pub same_as : (first second : Schema) (v : ℕ) (same : Bool) → IsVersion v → first ≡ schema_at v
@@ -93,9 +95,16 @@ same_as first second v same known is equal all = (
   (λ ours. all (subst (λ s. IsTrue (is_plain s)) (sym is) (version_plain v known)) (is ∙ sym ours)),
 )
 
-pub no_version : (s : Schema) (one : Bool) → (s ≡ schema_at 1 → IsTrue one) → one ≡ false
+pub no_version : (s : Schema) (one two three : Bool)
+    → (s ≡ schema_at 1 → IsTrue one) → (s ≡ schema_at 2 → IsTrue two)
+    → (s ≡ schema_at 3 → IsTrue three) → one ≡ false → two ≡ false → three ≡ false
     → (v : ℕ) → IsVersion v → ¬ (s ≡ schema_at v)
-no_version s one is1 no1 zero known is = absurd (omega (arith, known.0))
-no_version s one is1 no1 (suc zero) known is = both_ways one no1 (is1 is)
-no_version s one is1 no1 (suc (suc n)) known is =
-    let high : suc (suc n) ≤ 1 = known.1 in absurd (omega (arith, high))
+no_version s one two three is1 is2 is3 no1 no2 no3 zero known is = absurd (omega (arith, known.0))
+no_version s one two three is1 is2 is3 no1 no2 no3 (suc zero) known is =
+    both_ways one no1 (is1 is)
+no_version s one two three is1 is2 is3 no1 no2 no3 (suc (suc zero)) known is =
+    both_ways two no2 (is2 is)
+no_version s one two three is1 is2 is3 no1 no2 no3 (suc (suc (suc zero))) known is =
+    both_ways three no3 (is3 is)
+no_version s one two three is1 is2 is3 no1 no2 no3 (suc (suc (suc (suc n)))) known is =
+    let high : suc (suc (suc (suc n))) ≤ 3 = known.1 in absurd (omega (arith, high))

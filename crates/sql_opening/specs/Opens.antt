@@ -1,6 +1,6 @@
 -- What is tested of a database that was made elsewhere.
 -- Source: profile.
-use Rattle.std.specs.Prelude.{◌≡◌, ◌≤◌, ℕ, ◌+◌, List, take, codes, None, [], ◌∷◌, pos, negsuc, false}
+use Rattle.std.specs.Prelude.{◌≡◌, ◌≤◌, ◌<◌, ℕ, ◌+◌, List, take, codes, None, [], ◌∷◌, pos, negsuc, false}
 use Rattle.std.specs.Prelude.{Result, IfErr, OnOk, ◌++◌, ⊤}
 use Rattle.std.specs.List.{AllByRecursion}
 use Rattle.sqlite_value.specs.declared.value.Value.TheVariants.{Int}
@@ -19,7 +19,7 @@ use Rattle.sql_tables.specs.Schema.{latest, schema_at}
 use Rattle.sql_tables.specs.Stages.{AreStoredAt}
 use Rattle.sql_opening.specs.declared.fault.OpenFault.{OpenFault}
 use Rattle.sql_opening.specs.declared.fault.OpenFault.TheVariants.{Foreign, Version, Rules, Store}
-use Rattle.sql_opening.specs.declared.fault.OpenFault.TheVariants.{Memory}
+use Rattle.sql_opening.specs.declared.fault.OpenFault.TheVariants.{Memory, Older}
 
 -- one of the versions that there are
 abbrev pub IsVersion : ℕ → Type 0
@@ -39,13 +39,14 @@ abbrev pub IsNoVersion : OpenFault → Type 0
 IsNoVersion fault = ¬ (fault ≡ Version)
 
 -- what a fault says of a database that was there: its tables are those of no version, or they are
--- those of one, and a rowid stands twice
+-- those of one, and a rowid stands twice; or they are those of a version before the latest
 abbrev pub IsTold : Database → OpenFault → Type 0
 IsTold db Foreign = (v : ℕ) → IsVersion v → ¬ (db.schema ≡ schema_at v)
 IsTold db Version = ⊥
 IsTold db Rules = (v : ℕ) × IsVersion v × (db.schema ≡ schema_at v) × ¬ AreStoredAt v db.trees
 IsTold db Store = ⊤
 IsTold db Memory = ⊤
+IsTold db Older = (v : ℕ) × IsVersion v × (v < latest) × (db.schema ≡ schema_at v)
 
 -- where it answers, the first tables have no rowid twice; whatever it answers, nothing is changed
 pub record Finds {A : Type 0} (v k : ℕ) (old new : State) (result : Result A OpenFault) : Type 0
@@ -104,7 +105,11 @@ rowids_texts = codes "SELECT rowid FROM meta ORDER BY rowid"
     ∷ codes "SELECT rowid FROM holds ORDER BY rowid"
     ∷ codes "SELECT rowid FROM answers ORDER BY rowid"
     ∷ codes "SELECT rowid FROM vouchers ORDER BY rowid"
-    ∷ codes "SELECT rowid FROM charges ORDER BY rowid" ∷ []
+    ∷ codes "SELECT rowid FROM charges ORDER BY rowid"
+    ∷ codes "SELECT rowid FROM books ORDER BY rowid"
+    ∷ codes "SELECT rowid FROM grant_books ORDER BY rowid"
+    ∷ codes "SELECT rowid FROM allowance_buckets ORDER BY rowid"
+    ∷ codes "SELECT rowid FROM covered ORDER BY rowid" ∷ []
 
 -- the database has the tables of a version and no others, no rowid of theirs stands twice, no
 -- transaction is open, and nothing was changed to find that

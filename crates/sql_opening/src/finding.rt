@@ -11,18 +11,23 @@ ghost use Rattle.sql_opening.specs.Opens.{rowids_texts};
 use crate::fault::OpenFault;
 use crate::rising::{fault_of, rowids_differ};
 use crate::same::same_schema;
-use sql_tables::create_in_memory;
+use sql_tables::create_in_memory_at;
 use sqlite::{Alter, Connection};
 use std::alloc::Global;
 
-/// Whether the tables of the database are those of version 1, and no others.
-fn has_first<S: Alter>(conn: &Connection<S>, alloc: Global) -> Result<bool, OpenFault>
-    ensures has { IfOk result (λ same. IsTrue same → conn.now.schema ≡ schema_at 1) }
-    ensures all { IfOk result (λ same. conn.now.schema ≡ schema_at 1 → IsTrue same) }
+/// Whether the tables of the database are those of this version, and no others.
+fn has_version<S: Alter>(
+    conn: &Connection<S>,
+    alloc: Global,
+    version: u32,
+) -> Result<bool, OpenFault>
+    requires known { IsVersion version }
+    ensures has { IfOk result (λ same. IsTrue same → conn.now.schema ≡ schema_at version) }
+    ensures all { IfOk result (λ same. conn.now.schema ≡ schema_at version → IsTrue same) }
     ensures told { IfErr result IsNoVersion }
     ensures means { IfErr result (IsTold (state S.Store conn.now).now) }
 {
-    let ours = match create_in_memory(alloc) {
+    let ours = match create_in_memory_at(alloc, version) {
         Ok(ours) => ours,
         Err(error) => return Err(fault_of(error)),
     };
@@ -36,7 +41,15 @@ fn version_of<S: Alter>(conn: &Connection<S>, alloc: Global) -> Result<u32, Open
     ensures told { IfErr result IsNoVersion }
     ensures means { IfErr result (IsTold (state S.Store conn.now).now) }
 {
-    let first = has_first(conn, alloc)?;
+    let third = has_version(conn, alloc, 3)?;
+    if third {
+        return Ok(3);
+    }
+    let second = has_version(conn, alloc, 2)?;
+    if second {
+        return Ok(2);
+    }
+    let first = has_version(conn, alloc, 1)?;
     if first {
         return Ok(1);
     }
@@ -46,7 +59,7 @@ fn version_of<S: Alter>(conn: &Connection<S>, alloc: Global) -> Result<u32, Open
 /// The text that selects the rowids of a table in order, by the table's place among those of all
 /// versions.
 fn rowids_text(at: usize) -> &'static str
-    requires { at < 10 }
+    requires { at < 14 }
     ensures { result.now ≡ slice_index_or rowids_texts at [] }
 {
     match at {
@@ -59,7 +72,11 @@ fn rowids_text(at: usize) -> &'static str
         6 => "SELECT rowid FROM holds ORDER BY rowid",
         7 => "SELECT rowid FROM answers ORDER BY rowid",
         8 => "SELECT rowid FROM vouchers ORDER BY rowid",
-        _ => "SELECT rowid FROM charges ORDER BY rowid",
+        9 => "SELECT rowid FROM charges ORDER BY rowid",
+        10 => "SELECT rowid FROM books ORDER BY rowid",
+        11 => "SELECT rowid FROM grant_books ORDER BY rowid",
+        12 => "SELECT rowid FROM allowance_buckets ORDER BY rowid",
+        _ => "SELECT rowid FROM covered ORDER BY rowid",
     }
 }
 

@@ -35,6 +35,17 @@ pub(crate) fn flag_at(row: &Row, at: usize) -> Result<bool, ReadFault>
     }
 }
 
+/// Tests that a column holds the number 1.
+pub(crate) fn one_at(row: &Row, at: usize) -> Result<(), ReadFault>
+    ensures { IfOk result (λ unit. column row.now at ≡ nat 1) }
+{
+    let number = small_at(row, at)?;
+    match number {
+        1 => Ok(()),
+        _ => Err(ReadFault::Rules),
+    }
+}
+
 /// The session's name in a column.
 pub(crate) fn session_at(alloc: Global, row: &Row, at: usize) -> Result<SessionId, ReadFault>
     ensures { IfOk result (λ s. column row.now at ≡ Text s) }

@@ -1,14 +1,13 @@
 -- What a CREATE TABLE makes of the schema, and each of the tables in turn.
 use Rattle.std.proofs.Common.{◌≡◌, ℕ, List, [], false}
 use Rattle.std.proofs.Common.{None, Ok, refl, sym, ap, subst, ◌∙◌}
-use Rattle.sqlite_trees.specs.Objects.{catalog_tree}
 use Rattle.sqlite_trees.specs.Tree.{Trees}
 use Rattle.sqlite_schema.specs.declared.schema.Table.{Table}
 use Rattle.sqlite_schema.specs.declared.schema.Schema.{Schema}
 use Rattle.sqlite_schema.specs.declared.command.Command.TheVariants.{CreateTable}
 use Rattle.sqlite_resolve.specs.Compile.{table_defined_by}
 use Rattle.sqlite_catalog.specs.Change.{created, next_tree, KeepsRows}
-use Rattle.sqlite_catalog.specs.Listing.{Lists}
+use Rattle.sqlite_catalog.specs.Listing.{IsSound}
 use Rattle.sqlite_tied.specs.Compute.{everything}
 use Rattle.sqlite.specs.Does.{Tally, lacks_sequence}
 use Rattle.sqlite.specs.Effect.{Database}
@@ -17,17 +16,20 @@ use Rattle.sqlite.specs.State.{State, Writes, Executes}
 use Rattle.sqlite.proofs.Callers.{IsPlain, command_of, statement_of, runs_as}
 use Rattle.sql_tables.proofs.Steps.{went, same_value}
 use Rattle.sql_tables.specs.Schema.{meta, accounts, buckets, counters, sessions, session_groups}
-use Rattle.sql_tables.specs.Schema.{holds, answers, vouchers, charges}
+use Rattle.sql_tables.specs.Schema.{holds, answers, vouchers, charges, books, grant_books}
+use Rattle.sql_tables.specs.Schema.{allowance_buckets, covered}
 use Rattle.sql_tables.specs.Texts.{meta_text, accounts_text, buckets_text, counters_text}
 use Rattle.sql_tables.specs.Texts.{sessions_text, session_groups_text, holds_text, answers_text}
-use Rattle.sql_tables.specs.Texts.{vouchers_text, charges_text, stage}
+use Rattle.sql_tables.specs.Texts.{vouchers_text, charges_text, books_text, grant_books_text}
+use Rattle.sql_tables.specs.Texts.{allowance_buckets_text, covered_text, stage}
 
--- the table is the last of the schema, and empty, and the others have their rows
+-- the table is the last of the schema, and empty, and the others have their rows; the database
+-- lists the schema, and obeys it
 pub record Makes (stage : Schema) (table : Table) (old : Trees) (new : Database) : Type 0 where
   pub schema : new.schema ≡ created stage table
   pub empty : new.trees (next_tree stage) ≡ []
   pub others : KeepsRows stage.tables old new.trees
-  pub lists : Lists (new.trees catalog_tree) (created stage table)
+  pub sound : IsSound (created stage table) new.trees
 
 -- the text makes this table
 pub record IsText (stage : Schema) (table : Table) (text : List ℕ) : Type 0 where
@@ -56,7 +58,7 @@ makes stage table text means old new count has h =
     let is : new.now.schema ≡ created stage table = ap (λ (d : Database). d.schema) now ∙ schema in
     record {
       schema = is;
-      lists = subst (Lists (new.now.trees catalog_tree)) is w.sound.lists;
+      sound = subst (λ s. IsSound s new.now.trees) is w.sound;
       empty = ap (λ (d : Database). d.trees (next_tree stage)) now
           ∙ subst (λ s. first.0.trees (next_tree s) ≡ []) has made.empty;
       others = subst (λ (d : Database). KeepsRows stage.tables old.now.trees d.trees) (sym now)
@@ -154,3 +156,43 @@ charges_is =
 pub charges_next : created (stage 9) (record charges { tree = 0 }) ≡ stage 10
 unfolding understood everything
 charges_next = refl
+
+-- ---- version 2
+
+pub books_is : IsText (stage 12) (record books { tree = 0 }) books_text
+unfolding understood everything
+books_is =
+    record { command = refl; whole = refl; plain = (refl, refl); defined = refl; uncounted = refl }
+
+pub books_next : created (stage 12) (record books { tree = 0 }) ≡ stage 13
+unfolding understood everything
+books_next = refl
+
+pub grant_books_is : IsText (stage 13) (record grant_books { tree = 0 }) grant_books_text
+unfolding understood everything
+grant_books_is =
+    record { command = refl; whole = refl; plain = (refl, refl); defined = refl; uncounted = refl }
+
+pub grant_books_next : created (stage 13) (record grant_books { tree = 0 }) ≡ stage 14
+unfolding understood everything
+grant_books_next = refl
+
+-- ---- version 3
+
+pub allowance_buckets_is : IsText (stage 14) (record allowance_buckets { tree = 0 }) allowance_buckets_text
+unfolding understood everything
+allowance_buckets_is =
+    record { command = refl; whole = refl; plain = (refl, refl); defined = refl; uncounted = refl }
+
+pub allowance_buckets_next : created (stage 14) (record allowance_buckets { tree = 0 }) ≡ stage 15
+unfolding understood everything
+allowance_buckets_next = refl
+
+pub covered_is : IsText (stage 15) (record covered { tree = 0 }) covered_text
+unfolding understood everything
+covered_is =
+    record { command = refl; whole = refl; plain = (refl, refl); defined = refl; uncounted = refl }
+
+pub covered_next : created (stage 15) (record covered { tree = 0 }) ≡ stage 16
+unfolding understood everything
+covered_next = refl

@@ -2,7 +2,6 @@
 use Rattle.std.proofs.Common.{◌≡◌, ℕ, List, [], Some, None, Ok}
 use Rattle.std.proofs.Common.{refl, sym, ap, ap₂, subst, ◌∙◌}
 use Rattle.std.specs.Prelude.{slice_get}
-use Rattle.sqlite_trees.specs.Objects.{catalog_tree}
 use Rattle.sqlite_trees.specs.Tree.{Trees}
 use Rattle.sqlite_schema.specs.declared.schema.Table.{Table}
 use Rattle.sqlite_schema.specs.declared.schema.Index.{Index}
@@ -10,7 +9,7 @@ use Rattle.sqlite_schema.specs.declared.schema.Schema.{Schema}
 use Rattle.sqlite_schema.specs.declared.command.Command.TheVariants.{CreateIndex}
 use Rattle.sqlite_resolve.specs.Compile.{index_defined_by}
 use Rattle.sqlite_catalog.specs.Change.{indexed, KeepsRows}
-use Rattle.sqlite_catalog.specs.Listing.{Lists}
+use Rattle.sqlite_catalog.specs.Listing.{IsSound}
 use Rattle.sqlite_tied.specs.Compute.{everything}
 use Rattle.sqlite.specs.Does.{Tally, AtPlace, Defines, MakesIndex}
 use Rattle.sqlite.specs.Effect.{Database}
@@ -24,7 +23,7 @@ use Rattle.sql_tables.proofs.Steps.{went, same_value}
 -- the schema has the index, and the tables have their rows
 pub record Indexes (before after : Schema) (old : Trees) (new : Database) : Type 0 where
   pub schema : new.schema ≡ after
-  pub lists : Lists (new.trees catalog_tree) after
+  pub sound : IsSound after new.trees
   pub rows : KeepsRows before.tables old new.trees
 
 module _ (before after : Schema) (table : Table) (index : Index) (place : ℕ) (text : List ℕ)
@@ -52,7 +51,7 @@ module _ (before after : Schema) (table : Table) (index : Index) (place : ℕ) (
       ∙ next in
       record {
         schema = schema;
-        lists = subst (Lists (new.now.trees catalog_tree)) schema w.sound.lists;
+        sound = subst (λ s. IsSound s new.now.trees) schema w.sound;
         rows = subst (λ (d : Database). KeepsRows before.tables old.now.trees d.trees) (sym now)
             (subst (λ (s : Schema). KeepsRows s.tables old.now.trees all.0.trees) has made.rows);
       }

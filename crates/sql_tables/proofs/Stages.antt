@@ -2,12 +2,11 @@
 use Rattle.std.proofs.Common.{◌≡◌, ℕ, suc, List, [], ◌∷◌, ◌++◌, Ok, Err, Result}
 use Rattle.std.proofs.Common.{OnOk, IsTrue, refl, sym, ap, subst, ◌∙◌, arith}
 use Rattle.std.specs.List.{AllByRecursion}
-use Rattle.sqlite_trees.specs.Objects.{catalog_tree}
 use Rattle.sqlite_trees.specs.Tree.{Trees}
 use Rattle.sqlite_trees.proofs.ListLemmas.{all-append}
 use Rattle.sqlite_schema.specs.declared.schema.Table.{Table}
 use Rattle.sqlite_catalog.specs.Change.{created, next_tree, KeepsRows}
-use Rattle.sqlite_catalog.specs.Listing.{Lists}
+use Rattle.sqlite_catalog.specs.Listing.{IsSound}
 use Rattle.sqlite.specs.declared.error.Error.{Error}
 use Rattle.sqlite.specs.State.{State, ExecutesInside}
 use Rattle.sqlite.specs.Steps.{IsEmpty}
@@ -34,7 +33,7 @@ adds_table k t text is next tree one old new (Ok count) has x =
     let m = makes (stage k) (record t { tree = 0 }) text is old new count (has x.1.was_open) x.0 in
     record {
       schema = m.schema ∙ next;
-      lists = subst (Lists (new.now.trees catalog_tree)) next m.lists;
+      sound = subst (λ s. IsSound s new.now.trees) next m.sound;
       rows = m.others;
       empty = subst (λ ts. AreEmpty ts new.now.trees) (sym one)
           (ap new.now.trees (sym tree) ∙ m.empty, tt);
@@ -61,7 +60,7 @@ adds_index k text none indexes old new (Ok count) has x =
     let m = indexes old new count (has x.1.was_open) x in
     record {
       schema = m.schema;
-      lists = m.lists;
+      sound = m.sound;
       rows = m.rows;
       empty = subst (λ ts. AreEmpty ts new.now.trees) (sym none) tt;
       shows = x.1;
@@ -108,7 +107,7 @@ adds_on k l m first all a b c one two =
     let kept = subst (λ ts. KeepsRows ts b.now.trees c.now.trees) first two.rows in
     record {
       schema = two.schema;
-      lists = two.lists;
+      sound = two.sound;
       rows = keeps_then (stage k).tables a.now.trees b.now.trees c.now.trees one.rows
           (keeps_first (stage k).tables (tables_between k l) b.now.trees c.now.trees kept);
       empty = subst (λ ts. AreEmpty ts c.now.trees) (sym all)
@@ -156,22 +155,22 @@ none_stored : (ts : List Table) (trees : Trees) → AreEmpty ts trees → AllByR
 none_stored [] trees h = tt
 none_stored (t ∷ ts) trees h = (subst IsStored (sym h.0) (tt, tt), none_stored ts trees h.1)
 
-adds_all : (old new : State) → Adds 0 12 old new → BuildsAll old new
+adds_all : (old new : State) → Adds 0 16 old new → BuildsAll old new
 adds_all old new all = record {
   book = record {
     schema = all.schema;
     stored = none_stored book_schema.tables new.now.trees all.empty;
   };
-  lists = all.lists;
+  lists = all.sound.lists;
   empty = all.empty;
   shows = all.shows;
 }
 
-pub builds_all : {A E : Type 0} (old new : State) (r : Result A E) → Attempts (Adds 0 12) old new r
+pub builds_all : {A E : Type 0} (old new : State) (r : Result A E) → Attempts (Adds 0 16) old new r
     → Attempts BuildsAll old new r
 builds_all old new r = done_as _ BuildsAll old new r (λ clean. go r)
   where
-    go : {A E : Type 0} (r : Result A E) → OnOk r (Adds 0 12 old new) → OnOk r (BuildsAll old new)
+    go : {A E : Type 0} (r : Result A E) → OnOk r (Adds 0 16 old new) → OnOk r (BuildsAll old new)
     go (Ok x) all = adds_all old new all
     go (Err e) all = tt
 

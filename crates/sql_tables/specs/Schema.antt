@@ -233,6 +233,43 @@ counters_cycle = record {
   is_unique = false;
 }
 
+-- ---- the tables of version 2
+
+-- the tariff books after the first, each from its moment on
+abbrev pub books : Table
+books = table (codes "books") 22
+    (number (codes "number") ∷ number (codes "starts") ∷ text (codes "content") ∷ []) (1 ∷ [])
+    (at_least_zero 1 ∷ at_least_zero 2 ∷ [])
+    []
+
+-- the book of each reservation
+abbrev pub grant_books : Table
+grant_books = table (codes "grant_books") 24
+    (text (codes "account") ∷ text (codes "session") ∷ number (codes "rating_group") ∷
+    number (codes "book") ∷ [])
+    (1 ∷ 2 ∷ 3 ∷ [])
+    (at_least_zero 3 ∷ at_least_zero 4 ∷ [])
+    (belongs (1 ∷ 2 ∷ 3 ∷ []) (codes "session_groups")
+    (codes "account" ∷ codes "session" ∷ codes "rating_group" ∷ []) ∷ [])
+
+-- ---- the tables of version 3
+
+-- the buckets that hold blocks
+abbrev pub allowance_buckets : Table
+allowance_buckets = table (codes "allowance_buckets") 26
+    (text (codes "account") ∷ number (codes "number") ∷ [])
+    (1 ∷ 2 ∷ [])
+    (at_least_zero 2 ∷ [])
+    (belongs (1 ∷ 2 ∷ []) (codes "buckets") (codes "account" ∷ codes "number" ∷ []) ∷ [])
+
+-- the blocks of a charge that such buckets paid
+abbrev pub covered : Table
+covered = table (codes "covered") 28
+    (text (codes "account") ∷ number (codes "number") ∷ number (codes "blocks") ∷ [])
+    (1 ∷ 2 ∷ [])
+    (at_least_zero 2 ∷ at_least_zero 3 ∷ [])
+    (belongs (1 ∷ 2 ∷ []) (codes "charges") (codes "account" ∷ codes "number" ∷ []) ∷ [])
+
 -- ---- versions
 
 -- what one text makes
@@ -244,7 +281,9 @@ pub data Piece : Type 0 where
 abbrev pub versions : List (List Piece)
 versions = (ATable meta ∷ ATable accounts ∷ ATable buckets ∷ ATable counters ∷ ATable sessions
     ∷ ATable session_groups ∷ ATable holds ∷ ATable answers ∷ ATable vouchers ∷ ATable charges
-    ∷ AnIndex sessions_state ∷ AnIndex counters_cycle ∷ []) ∷ []
+    ∷ AnIndex sessions_state ∷ AnIndex counters_cycle ∷ [])
+    ∷ (ATable books ∷ ATable grant_books ∷ [])
+    ∷ (ATable allowance_buckets ∷ ATable covered ∷ []) ∷ []
 
 -- the version that is made today
 abbrev pub latest : ℕ

@@ -1,10 +1,11 @@
-//! The statements over the ten tables: rows of each kind are put, read, put again with other
+//! The statements over the tables: rows of each kind are put, read, put again with other
 //! values, and removed. What is wanted was reckoned by hand.
 
 ghost use Rattle.database_tests.specs.Ready.{IsReady};
 ghost use Rattle.sqlite.specs.Held.{state};
 
 mod answers;
+mod beside;
 mod groups;
 mod heads;
 mod rows;
@@ -13,6 +14,9 @@ mod tables;
 use crate::tests::row_readers::{Given, head};
 use crate::tests::statements::answers::{
     Names, keep_answers, keep_vouchers, tell_answers, tell_vouchers,
+};
+use crate::tests::statements::beside::{
+    end_beside, keep_beside, keep_books, tell_beside, tell_books,
 };
 use crate::tests::statements::groups::{keep_free, keep_reserved, tell_groups};
 use crate::tests::statements::heads::{keep_account, keep_meta, tell_accounts, tell_meta};
@@ -207,6 +211,47 @@ hold 20 1 5
 hold 20 2 9
 ";
 
+/// What stands beside the rows of the groups, the buckets and the charges that are there; and the
+/// books after the first.
+fn try_beside<S: Alter>(
+    rt: &impl Abort,
+    alloc: Global,
+    conn: &mut Connection<S>,
+    account: &AccountNumber,
+    text: &mut String,
+)
+    requires ready { IsReady (state S.Store conn.old) }
+    ensures ready { IsReady (state S.Store conn.new) }
+{
+    let session = session_id(rt, alloc, "s1");
+    tell_beside(rt, alloc, conn, account, &session, text);
+    keep_beside(rt, conn, account, &session);
+    tell_beside(rt, alloc, conn, account, &session, text);
+    end_beside(rt, conn, account, &session);
+    tell_beside(rt, alloc, conn, account, &session, text);
+    tell_books(rt, alloc, conn, text);
+    keep_books(rt, conn);
+    tell_books(rt, alloc, conn, text);
+}
+
+/// Where nothing is, where all is, and where some of it ended; and books in the order of their
+/// numbers.
+const BESIDE: &str = "allowances: false false
+from 2 to 2
+book of 20: 2
+allowances: false true 2
+covered 1 2
+covered 2 5
+from 2 to 2
+covered 2 5
+allowances: false false
+covered 2 5
+from 2 to 2
+covered 2 5
+book 2 200 a second
+book 3 300 a third
+";
+
 /// A request and an operator's command of the same name; and vouchers.
 fn try_answers<S: Alter>(
     rt: &impl Abort,
@@ -263,6 +308,7 @@ fn try_all<S: Alter>(
     try_heads(rt, alloc, conn, (names.account, other), text);
     try_rows(rt, alloc, conn, (names.account, other), text);
     try_groups(rt, alloc, conn, names.account, text);
+    try_beside(rt, alloc, conn, names.account, text);
     try_answers(rt, alloc, conn, names, text);
 }
 
@@ -280,7 +326,7 @@ fn rows_are_put_and_read(rt: HostRuntime) {
     let mut conn = new_tables(&rt, alloc);
     try_all(&rt, alloc, &mut conn, &names, &other, &mut text);
     let parts = [
-        NO_ROWS, NO_ANSWERS, HEADS, NO_ROWS, ROWS, GROUPS, NO_ANSWERS, ANSWERS,
+        NO_ROWS, NO_ANSWERS, HEADS, NO_ROWS, ROWS, GROUPS, BESIDE, NO_ANSWERS, ANSWERS,
     ];
     let wanted = parts.concat(alloc).expect(&rt, "room");
     assert_eq!(rt; text.as_str(), wanted.as_str());
