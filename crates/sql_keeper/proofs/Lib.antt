@@ -7,6 +7,8 @@ pub mod Changed
 pub mod ChargePages
 pub mod Commits
 pub mod Committed
+pub mod Counted
+pub mod Dated
 pub mod DeadRows
 pub mod Empty
 pub mod GroupRows
@@ -15,12 +17,14 @@ pub mod HeldAlong
 pub mod InTurn
 pub mod LiveGroups
 pub mod LiveRows
+pub mod Migrated
 pub mod Numbers
 pub mod Opens
 pub mod Overlays
 pub mod Puts
 pub mod Redeemed
 pub mod Repeating
+pub mod Shelved
 pub mod Swept
 pub mod SweptReads
 pub mod Whole

@@ -22,7 +22,7 @@ use Rattle.keepers.specs.declared.fault.StoreFault.TheVariants.{Store}
 use Rattle.keepers.specs.Tables.{Rows, Tables}
 use Rattle.keepers.specs.Change.{IsLoadedFrom, IsLoad, IsView}
 use Rattle.keepers.specs.Keeping.{Reads}
-use Rattle.sql_keeper.specs.Content.{head_in, rows_of}
+use Rattle.sql_keeper.specs.Content.{head_in, rows_of, Names}
 use Rattle.sql_keeper.specs.LiveRows.{AreLiveBuckets, AreLiveRowsLoaded, IsAccountOf, IsLiveAccount}
 use Rattle.sql_keeper.specs.LiveRows.{IsLoadOf, IsReadAccount, account_with}
 use Rattle.sql_keeper.specs.LiveGroups.{AreLiveGroups}
@@ -74,7 +74,7 @@ find_kept q p b same (x ∷ xs) = at b (p x) (q x) refl refl (same x) (find_kept
 -- ---- all of it
 
 -- an account that finds under each key what was read
-pub live_read : (names : List (List ℕ)) (shelf : Shelf) (t : ℕ) (told : Stored) (x : ReadRows)
+pub live_read : (names : Names) (shelf : Shelf) (t : ℕ) (told : Stored) (x : ReadRows)
     (w : StoredRows) → IsReadAccount names shelf t told (Some x)
     → w ≡ in_key_order (account_with x.head x.rows x.counters.items)
     → FindsSame (account_with x.head x.rows x.counters.items) w
@@ -83,8 +83,8 @@ live_read names shelf t told x w (head, live, counters) is found =
     let groups : AreLiveGroups names told w.sessions w.groups = record {
       groups = λ s g.
           ap (option_map group_row) (found.groups s g) ∙ live.groups.groups s g
-          ∙ ap (λ o. if is_some o then option_map (group_told names true) (told.groups s g)
-          else None) (sym (found.sessions s));
+          ∙ ap (λ o. if is_some o then option_map (group_told names true (told.grant_books s g))
+          (told.groups s g) else None) (sym (found.sessions s));
       holds = λ s g n.
           ap (held_of n) (found.groups s g) ∙ live.groups.holds s g n
           ∙ ap (λ o. if is_some o then held_in (is_reserved (told.groups s g)) (told.holds s g n)
@@ -115,7 +115,7 @@ live_loaded names shelf t rows w (head, live, counters) =
       counters = counters;
     }
 
-pub load_made : {E : Type 0} (names : List (List ℕ)) (shelf : Shelf) (t : ℕ) (a : List ℕ)
+pub load_made : {E : Type 0} (names : Names) (shelf : Shelf) (t : ℕ) (a : List ℕ)
     (rows : Stored) (o : Option StoredRows) (r : Result (Option Loaded) E)
     → IfOk r (IsLoadOf shelf a o) → IsLiveAccount names shelf t rows o
     → IfOk r (IsLoad shelf t a (rows_of names rows))

@@ -8,9 +8,9 @@ use Rattle.sql_tables.specs.Statements.{Attempts}
 use Rattle.reserving.specs.declared.charge.ChargeRow.{ChargeRow}
 use Rattle.reserving.specs.Stored.{StoredRows}
 use Rattle.sql_rows.specs.Content.{Content}
-use Rattle.sql_rows.specs.Each.{with_charges}
 use Rattle.sql_rows.specs.Makes.{Makes, MakesIfOpen}
-use Rattle.sql_keeper.specs.Writes.{with_stored}
+use Rattle.sql_keeper.specs.Content.{Names}
+use Rattle.sql_keeper.specs.Writes.{with_all_paid, with_stored}
 
 made_then : (f g : Content → Content) (a b c : State) → Makes f a b → Makes g b c →
     Makes (λ x. g (f x)) a c
@@ -74,15 +74,15 @@ module _ {A B E : Type 0} (f g : Content → Content) (a b c : State) (u : A) (r
   }
 
 -- the charges of the same list
-pub puts_charges : {A E : Type 0} (a : List ℕ) (xs ys : List ChargeRow) → ys ≡ xs
+pub puts_paid : {A E : Type 0} (a : List ℕ) (xs ys : List ChargeRow) → ys ≡ xs
     → (old new : State) (r : Result A E)
-    → Attempts {A = A} {E = E} (MakesIfOpen (with_charges a ys)) old new r
-    → Attempts {A = A} {E = E} (MakesIfOpen (with_charges a xs)) old new r
-puts_charges {A} {E} a xs ys is old new r =
-    subst (λ zs. Attempts {A = A} {E = E} (MakesIfOpen (with_charges a zs)) old new r) is
+    → Attempts {A = A} {E = E} (MakesIfOpen (with_all_paid a ys)) old new r
+    → Attempts {A = A} {E = E} (MakesIfOpen (with_all_paid a xs)) old new r
+puts_paid {A} {E} a xs ys is old new r =
+    subst (λ zs. Attempts {A = A} {E = E} (MakesIfOpen (with_all_paid a zs)) old new r) is
 
 -- the same rows
-pub puts_stored : {A E : Type 0} (a : List ℕ) (names : List (List ℕ)) (v w : StoredRows) → v ≡ w
+pub puts_stored : {A E : Type 0} (a : List ℕ) (names : Names) (v w : StoredRows) → v ≡ w
     → (old new : State) (r : Result A E)
     → Attempts {A = A} {E = E} (Makes (with_stored a names v)) old new r
     → Attempts {A = A} {E = E} (Makes (with_stored a names w)) old new r

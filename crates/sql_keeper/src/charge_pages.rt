@@ -11,10 +11,11 @@ ghost use Rattle.sqlite.specs.Held.{state};
 
 use crate::faults::counted;
 use crate::keeper::SqlKeeper;
+use crate::paid_charges::cover_all;
 use charge_sources::{ChargePage, ChargePages, ChargeSource, ChargeVisitor, show_pages};
 use identifiers::AccountNumber;
 use keepers::StoreFault;
-use sql_rows::{Head, read_account, read_charges_within};
+use sql_rows::{Head, read_account, read_charges_within, read_covered_within};
 use sql_tables::ReadFault;
 use sqlite::{Alter, Connection};
 use std::alloc::Global;
@@ -67,7 +68,9 @@ fn read_page<S: Alter>(
 {
     let number = read_last_number(conn, account)?;
     let last = end_of_page(after);
-    let rows = read_charges_within(conn, alloc, account, after, last.min(number))?;
+    let mut rows = read_charges_within(conn, alloc, account, after, last.min(number))?;
+    let covered = read_covered_within(conn, alloc, account, after, last.min(number))?;
+    cover_all(&mut rows, &covered);
     let is_last = number <= last;
     Ok(ChargePage {
         rows,

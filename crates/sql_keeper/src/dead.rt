@@ -3,11 +3,14 @@
 ghost use Rattle.keepers.specs.Change.{AreDeadOf};
 ghost use Rattle.keepers.specs.Keeping.{Reads as Finds};
 ghost use Rattle.sql_keeper.specs.Dead.{AreDead};
+ghost use Rattle.sql_keeper.specs.Content.{told_buckets};
 ghost use Rattle.sql_keeper.specs.Inside.{tables_in, failed_in, clean_in};
+ghost use Rattle.sql_keeper.specs.LiveGroups.{Gathers};
 ghost use Rattle.sql_rows.specs.Content.{rows_in};
-ghost use Rattle.sql_tables.specs.Statements.{HasIdleBook, Reads};
+ghost use Rattle.sql_tables.specs.Statements.{HasIdleBook};
 ghost use Rattle.sqlite.specs.Held.{state};
 
+use crate::counted_buckets::read_kinds;
 use crate::faults::counted;
 use crate::keeper::SqlKeeper;
 use crate::rebuilding::buckets_of;
@@ -25,11 +28,13 @@ fn dead_of<S: Alter>(
     account: &AccountNumber,
 ) -> Result<Vec<Bucket>, ReadFault>
     requires idle { HasIdleBook (state S.Store conn.old) }
-    ensures { Reads (λ trees found. AreDead (rows_in trees account.now).buckets found.items)
+    ensures { Gathers
+        (λ trees found. AreDead (told_buckets (rows_in trees account.now)) found.items)
         (state S.Store conn.old) (state S.Store conn.new) result }
 {
     let rows = read_buckets_dead(conn, alloc, account)?;
-    buckets_of(alloc, &rows)
+    let counted = read_kinds(conn, account, rows)?;
+    buckets_of(alloc, &counted)
 }
 
 impl<S: Alter> SqlKeeper<S> {

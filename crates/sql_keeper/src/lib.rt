@@ -2,11 +2,14 @@
 //! change before it is written.
 #![tactic(auto)]
 
+mod add_fault;
 mod added_vouchers;
+mod adding_books;
 mod asking;
 mod books;
 mod charge_pages;
 mod committing;
+mod counted_buckets;
 mod create_fault;
 mod creating;
 mod dead;
@@ -20,8 +23,10 @@ mod laws;
 mod live_groups;
 mod live_rows;
 mod loading;
+mod migrating;
 mod new_rows;
 mod opening;
+mod paid_charges;
 mod putting;
 mod rebuilding;
 mod rebuilding_groups;
@@ -31,6 +36,7 @@ mod testing;
 mod texts;
 mod voucher_puts;
 
+pub use crate::add_fault::AddFault;
 pub use crate::create_fault::CreateFault;
 pub use crate::faults::counted;
 pub use crate::keeper::SqlKeeper;

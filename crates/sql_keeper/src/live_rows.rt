@@ -2,6 +2,7 @@
 
 ghost use Rattle.std.specs.Prelude.{◌≡◌, ℕ, List, ◌++◌, map, filter, IfOk};
 ghost use Rattle.calendar.specs.contracts.cycle.CyclePartialEq.TheImpl.{ghosts as cycles};
+ghost use Rattle.sql_keeper.specs.Content.{shelf_names};
 ghost use Rattle.sql_keeper.specs.LiveGroups.{Gathers};
 ghost use Rattle.sql_keeper.specs.Repeating.{AreEachRepeating, AreRepeating, repeats_in};
 ghost use Rattle.sql_keeper.specs.LiveRows.{account_with, AreCountersAt, AreLiveBuckets};
@@ -13,6 +14,7 @@ ghost use Rattle.sql_tables.specs.Statements.{HasIdleBook, Reads};
 ghost use Rattle.sqlite.specs.Held.{state};
 ghost use Rattle.shelves.specs.Shelves.{Shelf};
 
+use crate::counted_buckets::read_kinds;
 use crate::live_groups::read_live_groups;
 use crate::rebuilding::buckets_of;
 use buckets::Purse;
@@ -63,18 +65,19 @@ fn purse_of(alloc: Global, rows: &[BucketColumns]) -> Result<Purse, ReadFault>
     }
 }
 
-/// The buckets of an account that aren't dead.
+/// The buckets of an account that aren't dead, with what they count.
 fn read_purse<S: Alter>(
     conn: &mut Connection<S>,
     alloc: Global,
     account: &AccountNumber,
 ) -> Result<Purse, ReadFault>
     requires idle { HasIdleBook (state S.Store conn.old) }
-    ensures { Reads (λ trees purse. AreLiveBuckets (rows_in trees account.now) purse)
+    ensures { Gathers (λ trees purse. AreLiveBuckets (rows_in trees account.now) purse)
         (state S.Store conn.old) (state S.Store conn.new) result }
 {
     let rows = read_buckets_live(conn, alloc, account)?;
-    purse_of(alloc, &rows)
+    let counted = read_kinds(conn, account, rows)?;
+    purse_of(alloc, &counted)
 }
 
 /// How often the counter of a rating group begins again: never for a group that the book doesn't
@@ -190,10 +193,10 @@ fn read_live_rows<S: Alter>(
     conn: &mut Connection<S>,
     alloc: Global,
     account: &AccountNumber,
-    names: &TariffBook,
+    names: &TariffShelf,
 ) -> Result<LiveRows, ReadFault>
     requires idle { HasIdleBook (state S.Store conn.old) }
-    ensures { Gathers (λ trees x. AreLiveRows names.now.periods (rows_in trees account.now)
+    ensures { Gathers (λ trees x. AreLiveRows (shelf_names names.now) (rows_in trees account.now)
         x.purse x.sessions.items x.groups.items)
         (state S.Store conn.old) (state S.Store conn.new) result }
 {
@@ -212,12 +215,12 @@ fn read_rows_at<S: Alter>(
     conn: &mut Connection<S>,
     alloc: Global,
     account: &AccountNumber,
-    names: &TariffBook,
+    names: &TariffShelf,
     shelf: &TariffShelf,
     moment: Moment,
 ) -> Result<Option<ReadRows>, ReadFault>
     requires idle { HasIdleBook (state S.Store conn.old) }
-    ensures { Gathers (λ trees o. IsReadAccount names.now.periods shelf.now moment
+    ensures { Gathers (λ trees o. IsReadAccount (shelf_names names.now) shelf.now moment
         (rows_in trees account.now) o)
         (state S.Store conn.old) (state S.Store conn.new) result }
 {
@@ -290,12 +293,12 @@ pub(crate) fn read_live_account<S: Alter>(
     conn: &mut Connection<S>,
     alloc: Global,
     account: &AccountNumber,
-    names: &TariffBook,
+    names: &TariffShelf,
     shelf: &TariffShelf,
     moment: Moment,
 ) -> Result<Option<StoredAccount>, ReadFault>
     requires idle { HasIdleBook (state S.Store conn.old) }
-    ensures { Gathers (λ trees o. IsLiveAccount names.now.periods shelf.now moment
+    ensures { Gathers (λ trees o. IsLiveAccount (shelf_names names.now) shelf.now moment
         (rows_in trees account.now) o)
         (state S.Store conn.old) (state S.Store conn.new) result }
 {

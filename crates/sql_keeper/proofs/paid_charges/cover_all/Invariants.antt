@@ -1,0 +1,10 @@
+use Rattle.std.proofs.Common.{◌≡◌, ◌++◌, take, drop, map}
+use Rattle.sql_rows.specs.Texts.{covered_row}
+use Rattle.sql_keeper.specs.Covered.{covered_charge}
+use Rattle.sql_keeper.proofs.paid_charges.cover_all.Given as goal
+
+abbrev pub invariant-loop-charge : goal.invariant-loop-charge
+invariant-loop-charge l =
+    take l.charge-index l.charge-items
+    ++ map (covered_charge (map covered_row l.covered)) (drop l.charge-index l.charge-items)
+    ≡ map (covered_charge (map covered_row l.covered)) l.fn.charges.items
