@@ -10,6 +10,7 @@ pub mod KeptKeys
 pub mod Requested
 pub mod Operated
 pub mod Allowing
+mod WorkedAllowances
 pub mod Vouchered
 pub mod ByNumber
 pub mod Stated

@@ -1,5 +1,6 @@
 -- Rated amounts (TS 32.296, rating), block by block.
 use Rattle.std.specs.Prelude.{◌≡◌, ℕ, zero, suc, ◌+◌, ◌-◌, ◌<◌, min, List, [], ◌∷◌, ◌++◌, sum_by}
+use Rattle.std.specs.Prelude.{length, drop}
 use Rattle.units.specs.Blocks.{started}
 use Rattle.tariffs.specs.Prices.{block_price}
 use Rattle.tariffs.specs.declared.tiers.Tier.{Tier}
@@ -82,3 +83,28 @@ abbrev pub CoversNoMore : Type 0
 CoversNoMore = (p : GroupPrices) (used place covered : ℕ) (parts : List Part) →
     report_amount p used place covered parts
     ≡ report_amount p used place (min (report_blocks p.tariff.block used parts) covered) parts
+
+-- the prices of n blocks, each at its own place after one on the counter
+unfoldable pub block_prices : List Tier → ℕ → ℕ → List ℕ
+block_prices tiers place zero = []
+block_prices tiers place (suc n) = block_price tiers (place + 1) ∷ block_prices tiers (place + 1) n
+
+-- the prices of the blocks that a report starts, each on its part's side and at its own place
+unfoldable pub report_prices : GroupPrices → ℕ → ℕ → List Part → List ℕ
+report_prices p used place [] = []
+report_prices p used place (part ∷ parts) =
+    block_prices (tiers_on p part.side) place (started used part.units.0 p.tariff.block)
+    ++ report_prices p (used + part.units.0) (place + started used part.units.0 p.tariff.block)
+    parts
+
+-- each started block has its price at its own place, and the rated amount is the sum of these
+-- prices without the first ones, which are covered
+pub record CoversAt (p : GroupPrices) (used place covered : ℕ) (parts : List Part) : Type 0 where
+  pub blocks : report_blocks p.tariff.block used parts
+      ≡ length (report_prices p used place parts)
+  pub amount : report_amount p used place covered parts
+      ≡ sum_by (λ price. price) (drop covered (report_prices p used place parts))
+
+abbrev pub CoversTheFirst : Type 0
+CoversTheFirst = (p : GroupPrices) (used place covered : ℕ) (parts : List Part) →
+    CoversAt p used place covered parts
