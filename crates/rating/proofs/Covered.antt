@@ -1,15 +1,13 @@
 -- Covered blocks, price by price.
-use Rattle.std.proofs.Common.{◌≡◌, ℕ, zero, suc, ◌+◌, ◌-◌, ◌≤◌, List, [], ◌∷◌, ◌++◌, refl, ap, sym}
-use Rattle.std.proofs.Common.{◌∙◌, arith, length, drop, inl, inr}
-use Rattle.std.proofs.lemmas.Bool.{cases_lt}
+use Rattle.std.proofs.Common.{◌≡◌, ℕ, zero, suc, ◌+◌, ◌-◌, List, [], ◌∷◌, ◌++◌, refl, ap, sym}
+use Rattle.std.proofs.Common.{◌∙◌, arith, length, drop}
 use Rattle.std.proofs.lemmas.List.{length-append}
 use Rattle.std.proofs.lemmas.List.Sums.{sum_by-append, sum_by-cons}
 use Rattle.std.specs.Prelude.{sum_by}
 use Rattle.tariffs.specs.declared.tiers.Tier.{Tier}
 use Rattle.tariffs.specs.Prices.{block_price}
-use Rattle.tariffs.specs.GroupPrices.{GroupPrices, tiers_on}
+use Rattle.tariffs.specs.GroupPrices.{tiers_on}
 use Rattle.units.specs.Blocks.{started}
-use Rattle.rating.specs.declared.report.Part.{Part}
 use Rattle.rating.specs.Rated.{rated_amount, uncovered_amount, report_blocks, report_amount}
 use Rattle.rating.specs.Rated.{block_prices, report_prices, CoversAt, CoversTheFirst}
 use Rattle.rating.proofs.Sums.{rated_none, rated_cut}
@@ -17,20 +15,33 @@ use Rattle.rating.proofs.Sums.{rated_none, rated_cut}
 abbrev total : List ℕ → ℕ
 total prices = sum_by (λ price. price) prices
 
+all_of : (n : ℕ) → n ≡ n - 0
+all_of n = omega arith
+
+less_one : (n m : ℕ) → n - m ≡ suc n - suc m
+less_one n m = omega arith
+
 -- what is dropped of two lists one after another
 drop_of : (xs ys : List ℕ) (n : ℕ) → drop n (xs ++ ys) ≡ drop n xs ++ drop (n - length xs) ys
-drop_of [] ys zero = refl
-drop_of [] ys (suc n) = refl
-drop_of (x ∷ xs) ys zero = refl
-drop_of (x ∷ xs) ys (suc n) = drop_of xs ys n
+drop_of [] ys zero = ap (λ k. drop k ys) (all_of zero)
+drop_of [] ys (suc n) = ap (λ k. drop k ys) (all_of (suc n))
+drop_of (x ∷ xs) ys zero = ap (λ k. x ∷ xs ++ drop k ys) (none_of (length (x ∷ xs)))
+  where
+    none_of : (m : ℕ) → 0 ≡ 0 - m
+    none_of m = omega arith
+drop_of (x ∷ xs) ys (suc n) =
+    drop_of xs ys n ∙ ap (λ k. drop n xs ++ drop k ys) (less_one n (length xs))
 
 -- the first of some blocks, and then the others
 rated_first : (ts : List Tier) (place n : ℕ) →
     rated_amount ts place (suc n) ≡ block_price ts (place + 1) + rated_amount ts (place + 1) n
 unfolding rated_amount
 rated_first ts place n =
-    let one : rated_amount ts place 1 ≡ block_price ts (place + 1) = refl in
-    omega (arith, rated_cut ts place 1 n, one)
+    let one : rated_amount ts place 1 ≡ 0 + block_price ts (place + 1) = refl in
+    let next : suc n ≡ 1 + n = omega arith in
+    let all : rated_amount ts place (suc n) ≡ rated_amount ts place (1 + n) =
+    ap (rated_amount ts place) next in
+    omega (arith, all, rated_cut ts place 1 n, one)
 
 prices_length : (ts : List Tier) (place n : ℕ) → n ≡ length (block_prices ts place n)
 unfolding block_prices
@@ -57,10 +68,14 @@ uncovered_sum ts place zero n =
     let here : place + 0 ≡ place = omega arith in
     let all : n - 0 ≡ n = omega arith in
     rw (here, all) (prices_sum ts place n)
-uncovered_sum ts place (suc covered) zero = rated_none ts (place + suc covered)
+uncovered_sum ts place (suc covered) zero =
+    let none : 0 - suc covered ≡ 0 = omega arith in
+    ap (λ k. rated_amount ts (place + suc covered) k) none
+    ∙ rated_none ts (place + suc covered)
 uncovered_sum ts place (suc covered) (suc n) =
     let here : place + suc covered ≡ place + 1 + covered = omega arith in
-    ap (λ k. rated_amount ts k (n - covered)) here ∙ uncovered_sum ts (place + 1) covered n
+    let left : suc n - suc covered ≡ n - covered = sym (less_one n covered) in
+    (λ i. rated_amount ts (here i) (left i)) ∙ uncovered_sum ts (place + 1) covered n
 
 pub covers_the_first : CoversTheFirst
 unfolding report_blocks report_amount report_prices
