@@ -3,8 +3,12 @@
 use Rattle.std.specs.Prelude.{ℕ, List, [], ◌∷◌, map, nat_lt, if◌then◌else◌}
 use Rattle.std.specs.List.Sorted.{IsNonDecreasingBy, IsPermutation}
 use Rattle.buckets.specs.Row.{Row}
+use Rattle.buckets.specs.declared.kind.BucketKind.{BucketKind}
+use Rattle.buckets.specs.declared.kind.BucketKind.TheVariants as kind
 use Rattle.commands.specs.declared.balance.AccountBalance.{AccountBalance}
 use Rattle.commands.specs.declared.balance.BucketBalance.{BucketBalance}
+use Rattle.commands.specs.declared.balance.BucketUnit.{BucketUnit}
+use Rattle.commands.specs.declared.balance.BucketUnit.TheVariants.{MicroUnits, Blocks}
 use Rattle.shelves.specs.Shelves.{Shelf}
 use Rattle.reserving.specs.Ledger.{Ledger, is_barred}
 use Rattle.reserving.specs.Balance.{buckets_at}
@@ -19,6 +23,11 @@ abbrev pub by_number : List Row → List Row
 by_number [] = []
 by_number (b ∷ bs) = numbered b (by_number bs)
 
+-- what the amounts of a bucket of a kind count
+abbrev pub unit_of : BucketKind → BucketUnit
+unit_of kind.Money = MicroUnits
+unit_of kind.Blocks = Blocks
+
 -- a bucket as it is told
 abbrev pub bucket_balance : Row → BucketBalance
 bucket_balance b = record {
@@ -26,6 +35,7 @@ bucket_balance b = record {
   from = b.from;
   until = b.until;
   scope = b.scope;
+  unit = unit_of b.kind;
   credited = b.credited;
   available = b.available;
   reserved = b.reserved;

@@ -1,16 +1,16 @@
-//! Balances: what became of an account's money.
+//! Balances: what became of an account's money and of its allowances.
 
 ghost use Rattle.std.specs.Prelude.{◌≡◌, ◌++◌, IfOk, OnOk, map};
 ghost use Rattle.std.specs.List.Sorted.{IsNonDecreasingBy, IsPermutation};
 ghost use Rattle.commands.specs.declared.command.Command.TheVariants as command;
 ghost use Rattle.keepers.specs.Keeping.{Keeps, Reads};
-ghost use Rattle.charging.specs.Balances.{AreByNumber, bucket_balance};
+ghost use Rattle.charging.specs.Balances.{AreByNumber, bucket_balance, unit_of};
 ghost use Rattle.charging.specs.States.{IsStateOf, TellsState, TellsStateAt};
 ghost use Rattle.charging.specs.Stepping.{ServesAt};
 
 use crate::committing::moment_on;
-use buckets::Bucket;
-use commands::{AccountBalance, Answer, BucketBalance, BucketBalances, Refusal};
+use buckets::{Bucket, BucketKind};
+use commands::{AccountBalance, Answer, BucketBalance, BucketBalances, BucketUnit, Refusal};
 use identifiers::AccountNumber;
 use keepers::{Keeper, StoreFault};
 use reserving::Account;
@@ -18,7 +18,7 @@ use shelves::TariffShelf;
 use std::alloc::{AllocError, Global};
 use units::Moment;
 
-/// What became of an account's money, as of a moment.
+/// What became of an account's money and of its allowances, as of a moment.
 #[derive(Debug, Drop)]
 pub struct AccountState {
     /// The moment.
@@ -162,10 +162,20 @@ fn bucket_balance(bucket: &Bucket) -> BucketBalance
         from: bucket.from(),
         until: bucket.until(),
         scope: bucket.scope(),
+        unit: unit_of(bucket.kind()),
         credited: bucket.credited(),
         available: bucket.available(),
         reserved: bucket.reserved(),
         charged: bucket.charged(),
         expired: bucket.expired(),
+    }
+}
+
+fn unit_of(kind: BucketKind) -> BucketUnit
+    ensures { result ≡ unit_of kind }
+{
+    match kind {
+        BucketKind::Money => BucketUnit::MicroUnits,
+        BucketKind::Blocks => BucketUnit::Blocks,
     }
 }

@@ -114,6 +114,12 @@ moment = codes "Moment"
 abbrev pub number : List ℕ
 number = codes "Number"
 
+abbrev pub unit : List ℕ
+unit = codes "Unit"
+
+abbrev pub blocks_unit : List ℕ
+blocks_unit = codes "blocks"
+
 abbrev pub credited : List ℕ
 credited = codes "Credited"
 

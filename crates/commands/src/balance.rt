@@ -4,8 +4,18 @@ use identifiers::AccountNumber;
 use std::marker::Model;
 use units::Moment;
 
-/// What became of a bucket's money (TS 32.296, account balance management function). All amounts
-/// are micro-units.
+/// What the columns of a bucket count (TS 32.296, account balance management function: monetary and
+/// non-monetary units).
+#[derive(Clone, Copy, Debug, PartialEq, Eq)]
+pub enum BucketUnit {
+    /// Micro-units of money.
+    MicroUnits,
+    /// Blocks of one rating group: an allowance.
+    Blocks,
+}
+
+/// What became of a bucket (TS 32.296, account balance management function). All amounts are in the
+/// bucket's unit.
 #[derive(Clone, Copy, Debug)]
 pub struct BucketBalance {
     /// Its number within the account.
@@ -16,6 +26,8 @@ pub struct BucketBalance {
     pub until: Moment,
     /// The one rating group that it pays for, or none where it pays for all.
     pub scope: Option<u32>,
+    /// What its amounts count.
+    pub unit: BucketUnit,
     /// What was credited.
     pub credited: u64,
     /// What may still be used.
@@ -61,7 +73,7 @@ impl BucketBalances {
     }
 }
 
-/// What became of an account's money, as of a moment.
+/// What became of an account's money and of its allowances, as of a moment.
 #[derive(Clone, Debug, Drop)]
 pub struct AccountBalance {
     /// The account's number (Subscription-Id-Data, RFC 8506 section 8.48).

@@ -21,7 +21,7 @@ pub use crate::answer::{
     ServiceAnswer, ServiceAnswers, ServiceFailure, ServiceOutcome,
 };
 pub use crate::avp::Avp;
-pub use crate::balance::{AccountBalance, BucketBalance, BucketBalances};
+pub use crate::balance::{AccountBalance, BucketBalance, BucketBalances, BucketUnit};
 pub use crate::command::{
     Command, Content, Credit, CreditEnd, CreditStart, KeptCredit, VoucherAddition,
     VoucherRedemption, is_kept_allowance, is_kept_credit, is_kept_redemption, same_allowance,

@@ -66,19 +66,25 @@ pub const MOMENT: &str = "Moment";
 /// The number of a bucket within its account (profile).
 pub const NUMBER: &str = "Number";
 
-/// What a bucket was credited, in micro-units (profile).
+/// What the amounts of a bucket count, where they aren't micro-units (profile).
+pub const UNIT: &str = "Unit";
+
+/// The unit of a bucket whose amounts are blocks (profile).
+pub const BLOCKS_UNIT: &str = "blocks";
+
+/// What a bucket was credited, in its unit (profile).
 pub const CREDITED: &str = "Credited";
 
-/// What of a bucket may still be used, in micro-units (profile).
+/// What of a bucket may still be used, in its unit (profile).
 pub const AVAILABLE: &str = "Available";
 
-/// What reservations of live sessions hold of a bucket, in micro-units (profile).
+/// What reservations of live sessions hold of a bucket, in its unit (profile).
 pub const RESERVED: &str = "Reserved";
 
-/// What of a bucket was charged, in micro-units (profile).
+/// What of a bucket was charged, in its unit (profile).
 pub const CHARGED: &str = "Charged";
 
-/// What was left of a bucket at its end, or given up after it, in micro-units (profile).
+/// What was left of a bucket at its end, or given up after it, in its unit (profile).
 pub const EXPIRED: &str = "Expired";
 
 /// Each name and each number is that of one value: what is written is found again, and what is

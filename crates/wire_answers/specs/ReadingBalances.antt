@@ -1,7 +1,7 @@
 -- Reading a balance that was written.
-use Rattle.std.specs.Prelude.{ℕ, List, [], ◌∷◌, Bool, Option, Result, Ok}
+use Rattle.std.specs.Prelude.{ℕ, List, [], ◌∷◌, Bool, Option, Some, None, Result, Ok}
 use Rattle.serde_json.specs.Data.{Data, Items}
-use Rattle.serde_json.specs.Find.{as_array, as_bool}
+use Rattle.serde_json.specs.Find.{get, as_array, as_bool}
 use Rattle.identifiers.specs.Texts.{is_account_number}
 use Rattle.commands.specs.declared.avp.Avp.TheVariants as avp
 use Rattle.commands.specs.Names.{name_of, account, available, barred, buckets, charged, credited}
@@ -9,6 +9,8 @@ use Rattle.commands.specs.Names.{expired, moment, reserved}
 use Rattle.commands.specs.Names as names
 use Rattle.commands.specs.declared.balance.AccountBalance.{AccountBalance}
 use Rattle.commands.specs.declared.balance.BucketBalance.{BucketBalance}
+use Rattle.commands.specs.declared.balance.BucketUnit.{BucketUnit}
+use Rattle.commands.specs.declared.balance.BucketUnit.TheVariants.{MicroUnits, Blocks}
 use Rattle.json_fields.specs.declared.fault.WireFault.{WireFault}
 use Rattle.json_fields.specs.declared.fault.WireFault.TheVariants.{NotRequest}
 use Rattle.json_fields.specs.Fields.{optional_in}
@@ -16,7 +18,7 @@ use Rattle.json_fields.specs.Gives.{◌>>=◌, or_fault, where_holds, read_each}
 use Rattle.wire_answers.specs.declared.reading_balances.Amounts.{Amounts}
 use Rattle.wire_answers.specs.Members.{member_in, number_in, text_in}
 
--- micro-units
+-- micro-units or blocks
 abbrev pub amount_in : List ℕ → Data → Result ℕ WireFault
 amount_in name d = number_in name 0 18446744073709551615 d
 
@@ -25,6 +27,11 @@ moment_in name d = number_in name 0 4102488000 d
 
 abbrev pub scope_in : Data → Result (Option ℕ) WireFault
 scope_in d = optional_in (name_of avp.Scope) NotRequest 0 4294967295 d
+
+-- which unit a Unit names is seen where its text is compared
+abbrev pub unit_when : Option Data → BucketUnit
+unit_when None = MicroUnits
+unit_when (Some v) = Blocks
 
 unfoldable pub flag_in : List ℕ → Data → Result Bool WireFault
 flag_in name d = do
@@ -52,6 +59,7 @@ bucket_with amounts d = do
     from = f;
     until = u;
     scope = s;
+    unit = unit_when (get names.unit d);
     credited = amounts.credited;
     available = amounts.available;
     reserved = amounts.reserved;

@@ -4,16 +4,19 @@ ghost use Rattle.std.specs.Prelude.{◌≡◌, ◌++◌, ◌≤◌, IfSome, OnOk
 ghost use Rattle.std.specs.List.{AllByRecursion};
 ghost use Rattle.serde_json.specs.Data.{array, boolean};
 ghost use Rattle.identifiers.specs.Texts.{is_account_number};
-ghost use Rattle.commands.specs.Names.{buckets};
+ghost use Rattle.commands.specs.Names.{buckets, unit};
 ghost use Rattle.json_fields.specs.Spelling.{whole};
 ghost use Rattle.json_fields.specs.Tokens.{Adds, tokens_of, item_tokens, member_tokens};
+ghost use Rattle.json_fields.specs.Tokens.{perhaps_tokens};
 ghost use Rattle.wire_answers.specs.SpelledBalances.{balance_data, bucket_data, bucket_items};
+ghost use Rattle.wire_answers.specs.SpelledBalances.{unit_data};
 ghost use Rattle.wire_answers.specs.Rules.{IsAccountBalance, IsBucketBalance};
 
 use commands::names::{
-    ACCOUNT, AVAILABLE, BARRED, BUCKETS, CHARGED, CREDITED, EXPIRED, MOMENT, NUMBER, RESERVED,
+    ACCOUNT, AVAILABLE, BARRED, BLOCKS_UNIT, BUCKETS, CHARGED, CREDITED, EXPIRED, MOMENT, NUMBER,
+    RESERVED, UNIT,
 };
-use commands::{AccountBalance, Avp, BucketBalance, BucketBalances};
+use commands::{AccountBalance, Avp, BucketBalance, BucketBalances, BucketUnit};
 use json::Writer;
 use json_fields::{put_number, put_perhaps, put_text};
 use std::alloc::AllocError;
@@ -26,11 +29,11 @@ fn put_flag(out: &mut Writer, name: &str, flag: bool) -> Result<(), AllocError>
     Ok(())
 }
 
-fn put_amount(out: &mut Writer, name: &str, micros: u64) -> Result<(), AllocError>
-    ensures adds { Adds result out.old out.new (member_tokens name.now (whole micros)) }
-    ensures rule { micros ≤ 18446744073709551615 }
+fn put_amount(out: &mut Writer, name: &str, amount: u64) -> Result<(), AllocError>
+    ensures adds { Adds result out.old out.new (member_tokens name.now (whole amount)) }
+    ensures rule { amount ≤ 18446744073709551615 }
 {
-    put_number(out, name, micros)
+    put_number(out, name, amount)
 }
 
 fn scope_of(bucket: &BucketBalance) -> Option<u64>
@@ -40,6 +43,15 @@ fn scope_of(bucket: &BucketBalance) -> Option<u64>
     match bucket.scope {
         None => None,
         Some(group) => Some(group as u64),
+    }
+}
+
+fn put_unit(out: &mut Writer, counted: BucketUnit) -> Result<(), AllocError>
+    ensures { Adds result out.old out.new (perhaps_tokens unit (unit_data counted)) }
+{
+    match counted {
+        BucketUnit::MicroUnits => Ok(()),
+        BucketUnit::Blocks => put_text(out, UNIT, BLOCKS_UNIT),
     }
 }
 
@@ -57,6 +69,7 @@ fn put_bucket(out: &mut Writer, bucket: &BucketBalance) -> Result<(), AllocError
     put_number(out, NUMBER, bucket.number as u64)?;
     put_amount(out, RESERVED, bucket.reserved)?;
     put_perhaps(out, Avp::Scope.name(), scope_of(bucket))?;
+    put_unit(out, bucket.unit)?;
     put_number(out, Avp::Until.name(), bucket.until.seconds())?;
     out.end_object()?;
     Ok(())

@@ -1,15 +1,18 @@
 ghost use Rattle.std.specs.Prelude.{◌≡◌};
+ghost use Rattle.serde_json.specs.Find.{get};
 ghost use Rattle.serde_json.specs.View.{view, items_view};
+ghost use Rattle.commands.specs.Names.{unit};
 ghost use Rattle.json_fields.specs.Gives.{Gives, Says};
 ghost use Rattle.wire_answers.specs.ReadingBalances.{account_in, amount_in, amounts_in, balance_at};
 ghost use Rattle.wire_answers.specs.ReadingBalances.{bucket_at, bucket_with, buckets_from};
 ghost use Rattle.wire_answers.specs.ReadingBalances.{buckets_in, flag_in, moment_in, scope_in};
+ghost use Rattle.wire_answers.specs.ReadingBalances.{unit_when};
 
 use crate::members;
 use commands::names::{
-    ACCOUNT, AVAILABLE, BARRED, BUCKETS, CHARGED, CREDITED, EXPIRED, MOMENT, NUMBER, RESERVED,
+    ACCOUNT, AVAILABLE, BARRED, BUCKETS, CHARGED, CREDITED, EXPIRED, MOMENT, NUMBER, RESERVED, UNIT,
 };
-use commands::{AccountBalance, Avp, BucketBalance, BucketBalances};
+use commands::{AccountBalance, Avp, BucketBalance, BucketBalances, BucketUnit};
 use identifiers::AccountNumber;
 use json_fields::{WireFault, read_each};
 use serde_json::Value;
@@ -75,6 +78,16 @@ fn scope(parent: &Value) -> Result<Option<u32>, WireFault>
     }
 }
 
+/// What the amounts count: which unit the member names is seen where its text is compared.
+fn unit(parent: &Value) -> BucketUnit
+    ensures { result ≡ unit_when (get unit (view parent.now)) }
+{
+    match parent.get(UNIT) {
+        None => BucketUnit::MicroUnits,
+        Some(_) => BucketUnit::Blocks,
+    }
+}
+
 #[tactic(auto, unfolding(crate::specs::ReadingBalances::bucket_with))]
 fn bucket_with(amounts: &Amounts, parent: &Value) -> Result<BucketBalance, WireFault>
     ensures { Says (λ b. b) result (bucket_with amounts.now (view parent.now)) }
@@ -88,6 +101,7 @@ fn bucket_with(amounts: &Amounts, parent: &Value) -> Result<BucketBalance, WireF
         from,
         until,
         scope,
+        unit: unit(parent),
         credited: amounts.credited,
         available: amounts.available,
         reserved: amounts.reserved,

@@ -3,7 +3,7 @@
 use crate::tests::scenarios::try_all;
 
 /// Of five blocks three are held of the allowance and two of money; of four that are used three are
-/// covered.
+/// covered. A balance tells both buckets, each in its unit.
 const MIXED: &str = r##"1767571200 open 49151
 = {"Result-Code":2001}
 1767571200 credit 49151 {"Amount":1000000,"Reference":"c1"}
@@ -26,7 +26,14 @@ groups: s34 10 used 0 holds 1 200000 2 3;
   "Result-Code":2001}],"Result-Code":2001,"Session-Id":"s34"}
 buckets: (1000000; 900000, 0, 100000, 0) (3; 0, 0, 3, 0)
 counters: 10 0 4;
-charges: 1 at 1767607500 of s34 10 4 100000 100000 0 covered 3;"##;
+charges: 1 at 1767607500 of s34 10 4 100000 100000 0 covered 3;
+
+1767607500 balance 49151
+= {"Account":"49151","Barred":false,"Buckets":[{"Available":900000,"Charged":100000,
+  "Credited":1000000,"Expired":0,"From":1767571200,"Number":1,"Reserved":0,"Until":4102444800},
+  {"Available":0,"Charged":3,"Credited":3,"Expired":0,"From":1767571200,"Number":2,"Reserved":0,
+  "Scope":10,"Unit":"blocks","Until":4102444800}],"Moment":1767607500}
+unchanged"##;
 
 /// Two blocks until ten past ten pay two minutes of ten.
 const TWO_BLOCKS: &str = r##"1767571200 open 49151

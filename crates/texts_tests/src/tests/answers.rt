@@ -112,8 +112,15 @@ const SHOWN: &str = r##"{"CC-Request-Number":0,"CC-Request-Type":1,
   "From":5,"Number":1,"Reserved":4,"Scope":30,"Until":9}],"Moment":7} -> Balance(AccountBalance {
    account: AccountNumber { text: "49151" }, barred: true, buckets: BucketBalances { list: [
   BucketBalance { number: 1, from: Moment { seconds: 5 }, until: Moment { seconds: 9 },
-   scope: Some(30), credited: 15, available: 1, reserved: 4, charged: 2, expired: 8 }] },
-   moment: Moment { seconds: 7 } })
+   scope: Some(30), unit: MicroUnits, credited: 15, available: 1, reserved: 4, charged: 2,
+   expired: 8 }] }, moment: Moment { seconds: 7 } })
+{"Account":"49151","Barred":false,"Buckets":[{"Available":0,"Charged":3,"Credited":3,"Expired":0,
+  "From":1767571200,"Number":2,"Reserved":0,"Scope":10,"Unit":"blocks","Until":4102444800}],
+  "Moment":1767607500} -> Balance(AccountBalance { account: AccountNumber { text: "49151" },
+   barred: false, buckets: BucketBalances { list: [BucketBalance { number: 2, from: Moment {
+   seconds: 1767571200 }, until: Moment { seconds: 4102444800 }, scope: Some(10), unit: Blocks,
+   credited: 3, available: 0, reserved: 0, charged: 3, expired: 0 }] }, moment: Moment {
+   seconds: 1767607500 } })
 {"Refusal":"O1"} -> Refused(AccountExists)
 {"Refusal":"O2"} -> Refused(AccountUnknown)
 {"Refusal":"O4"} -> Refused(VoucherSpent)
@@ -195,11 +202,11 @@ const SHOWN: &str = r##"{"CC-Request-Number":0,"CC-Request-Type":1,
   "From":1767571200,"Number":4294967295,"Reserved":1,"Scope":30,"Until":4102444800}],
   "Moment":1767608100} -> Balance(AccountBalance { account: AccountNumber { text: "49151" },
    barred: true, buckets: BucketBalances { list: [BucketBalance { number: 1, from: Moment {
-   seconds: 1767571200 }, until: Moment { seconds: 1767607800 }, scope: None, credited: 150000,
-   available: 0, reserved: 0, charged: 100000, expired: 50000 }, BucketBalance {
+   seconds: 1767571200 }, until: Moment { seconds: 1767607800 }, scope: None, unit: MicroUnits,
+   credited: 150000, available: 0, reserved: 0, charged: 100000, expired: 50000 }, BucketBalance {
    number: 4294967295, from: Moment { seconds: 1767571200 }, until: Moment { seconds: 4102444800 },
-   scope: Some(30), credited: 1000000000000000, available: 999999999999999, reserved: 1,
-   charged: 0, expired: 0 }] }, moment: Moment { seconds: 1767608100 } })"##;
+   scope: Some(30), unit: MicroUnits, credited: 1000000000000000, available: 999999999999999,
+   reserved: 1, charged: 0, expired: 0 }] }, moment: Moment { seconds: 1767608100 } })"##;
 
 /// Texts that aren't the very bytes of an answer.
 const FAULTS: &str = r##"x -> no JSON object
@@ -216,6 +223,11 @@ const FAULTS: &str = r##"x -> no JSON object
 {"Account":"49151","Barred":true,"Buckets":{},"Moment":7} -> no JSON object
 {"Account":"49151","Barred":true,"Buckets":[{}],"Moment":7} -> no JSON object
 {"Account":"49151","Barred":true,"Buckets":[]} -> no JSON object
+{"Account":"49151","Barred":true,"Buckets":[{"Available":1,"Charged":2,"Credited":15,"Expired":8,
+  "From":5,"Number":1,"Reserved":4,"Scope":30,"Unit":"micros","Until":9}],
+  "Moment":7} -> no JSON object
+{"Account":"49151","Barred":true,"Buckets":[{"Available":1,"Charged":2,"Credited":15,"Expired":8,
+  "From":5,"Number":1,"Reserved":4,"Scope":30,"Unit":null,"Until":9}],"Moment":7} -> no JSON object
 {"Refusal":"O8"} -> no JSON object
 {"Refusal":1} -> no JSON object
 {"CC-Request-Type":4,"Result-Code":2001,"Session-Id":"r9"} -> no JSON object
