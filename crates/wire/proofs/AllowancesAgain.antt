@@ -81,7 +81,8 @@ allowance_again a is =
     rw (
       number_found avp.Blocks 1 1_000_000_000 d a.blocks refl is.some is.blocks,
       optional_found avp.From 0 4_102_444_799 d a.from
-          (from_is a.blocks from a.reference a.scope until) (from_zero 4_102_444_799 a.from is.from),
+          (from_is a.blocks from a.reference a.scope until)
+          (from_zero 4_102_444_799 a.from is.from),
       optional_found avp.Until 1 4_102_444_800 d a.until
           (until_is a.blocks from a.reference a.scope until) is.until,
       number_found avp.Scope 0 4_294_967_295 d a.scope

@@ -35,7 +35,8 @@ fn write_credit(alloc: Global, credit: &KeptCredit) -> Result<String, AllocError
 fn write_allowance(alloc: Global, allowance: &Allowance) -> Result<String, AllocError>
     ensures text { IfOk result (λ s. string_bytes s ≡ content_text (Content.Allow allowance.now)) }
     ensures read_again { IfOk result
-        (λ s. content_of allowance.now.account (string_bytes s) ≡ Ok (Content.Allow allowance.now)) }
+        (λ s. content_of allowance.now.account (string_bytes s)
+        ≡ Ok (Content.Allow allowance.now)) }
 {
     let text = allowance_written(alloc, allowance)?;
     Ok(text)
@@ -186,9 +187,10 @@ fn content(alloc: Global, account: AccountNumber, bytes: &[u8]) -> Result<Conten
 /// The content of this account whose text the bytes are, as `write_content` writes it.
 ///
 /// # Errors
-/// The first fault of the request, where the text has a Session-Id, else of the redemption, where it
-/// has a Voucher-Code, else of the allowance, where it has Blocks, else of the credit; `NotRequest`
-/// also where the bytes say a content and aren't its text; `Memory` where memory ran out.
+/// The first fault of the request, where the text has a Session-Id, else of the redemption, where
+/// it has a Voucher-Code, else of the allowance, where it has Blocks, else of the credit;
+/// `NotRequest` also where the bytes say a content and aren't its text; `Memory` where memory ran
+/// out.
 pub fn read_content(
     alloc: Global,
     account: AccountNumber,
