@@ -12,6 +12,7 @@ returns-clause-adds c = (
     c.in_ok-put_number-3.ensures.0,
     c.name-3.ensures,
     c.seconds-2.ensures.value,
+    c.in_ok-put_unit.ensures.0,
     c.in_ok-put_perhaps.ensures.0,
     c.name-2.ensures,
     c.scope_of.ensures.value,
@@ -29,6 +30,7 @@ returns-clause-adds c = (
   rw (
     c.in_ok-end_object.ensures.room.0,
     c.in_ok-put_number-3.ensures.1,
+    c.in_ok-put_unit.ensures.1,
     c.in_ok-put_perhaps.ensures.1,
     c.in_ok-put_amount-5.ensures.adds.1,
     c.in_ok-put_number-2.ensures.1,
