@@ -1,10 +1,11 @@
 -- The lines of a statement.
 -- Source: profile.
-use Rattle.std.specs.Prelude.{ℕ, ◌++◌, List, [], ◌∷◌, codes}
+use Rattle.std.specs.Prelude.{ℕ, ◌++◌, List, [], ◌∷◌, codes, unwrap_or}
 use Rattle.std.specs.Fmt.{decimal}
 use Rattle.buckets.specs.Row.{Row}
 use Rattle.reserving.specs.ChargeColumns.{ChargeColumns}
 use Rattle.statements.specs.Columns.{column_text, columns_text, set}
+use Rattle.statements.specs.declared.columns.Column.{Column}
 use Rattle.statements.specs.declared.rows.Sums.{Sums}
 
 abbrev pub title_line : List ℕ → ℕ → ℕ → List ℕ
@@ -28,16 +29,35 @@ total_line s =
     ++ columns_text (set 10 s.blocks ∷ set 19 s.rated ∷ set 19 s.collected
     ∷ set 19 s.uncollected ∷ [])
 
+-- ---- buckets, each amount in the bucket's unit
+
+abbrev pub amount_names : List ℕ
+amount_names =
+    codes "         CREDITED        AVAILABLE         RESERVED          CHARGED          EXPIRED\n"
+
+abbrev pub amounts_of : Row → List Column
+amounts_of b =
+    set 16 b.credited ∷ set 16 b.available ∷ set 16 b.reserved ∷ set 16 b.charged
+    ∷ set 16 b.expired ∷ []
+
 abbrev pub bucket_heading : List ℕ
-bucket_heading =
-    codes
-    "    BUCKET         CREDITED        AVAILABLE         RESERVED          CHARGED          EXPIRED\n"
+bucket_heading = codes "    BUCKET" ++ amount_names
 
 abbrev pub bucket_line : Row → List ℕ
-bucket_line b =
-    column_text (set 10 b.number)
-    ++ columns_text (set 16 b.credited ∷ set 16 b.available ∷ set 16 b.reserved ∷ set 16 b.charged
-    ∷ set 16 b.expired ∷ [])
+bucket_line b = column_text (set 10 b.number) ++ columns_text (amounts_of b)
+
+abbrev pub allowance_heading : List ℕ
+allowance_heading = codes " ALLOWANCE      GROUP" ++ amount_names
+
+-- an allowance has a rating group
+abbrev pub allowance_line : Row → List ℕ
+allowance_line b =
+    column_text (set 10 b.number) ++ columns_text (set 10 (unwrap_or b.scope 0) ∷ amounts_of b)
+
+-- ---- to date
 
 abbrev pub date_line : ℕ → List ℕ
 date_line n = codes "COLLECTED TO DATE " ++ (decimal n ++ codes "\n")
+
+abbrev pub covered_line : ℕ → List ℕ
+covered_line n = codes "COVERED TO DATE " ++ (decimal n ++ codes "\n")

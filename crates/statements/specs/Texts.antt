@@ -1,9 +1,12 @@
 -- The text of a statement and of an export.
 -- Source: profile.
-use Rattle.std.specs.Prelude.{◌≡◌, ℕ, ◌+◌, ◌++◌, List, [], ◌∷◌, Option, sum_by}
-use Rattle.std.specs.List.{filter}
+use Rattle.std.specs.Prelude.{◌≡◌, ℕ, ◌+◌, ◌++◌, List, [], ◌∷◌, Bool, Option, sum_by}
+use Rattle.std.specs.Prelude.{if◌then◌else◌}
+use Rattle.std.specs.List.{filter, list_any}
 use Rattle.std.specs.Io.KnownBytes.{Appends}
-use Rattle.buckets.specs.declared.kind.BucketKind.TheVariants.{Money}
+use Rattle.buckets.specs.declared.kind.BucketKind.{BucketKind}
+use Rattle.buckets.specs.declared.kind.BucketKind.TheVariants.{Money, Blocks}
+use Rattle.buckets.specs.Kinds.{is_alike}
 use Rattle.buckets.specs.Row.{Row}
 use Rattle.buckets.specs.Share.{sum_in}
 use Rattle.tariffs.specs.Books.{Book}
@@ -12,7 +15,8 @@ use Rattle.charge_sources.specs.Rows.{is_between}
 use Rattle.statements.specs.Months.{is_of_month}
 use Rattle.statements.specs.Records.{header_record, charge_record}
 use Rattle.statements.specs.Lines.{title_line, heading, charge_line, total_line, bucket_heading}
-use Rattle.statements.specs.Lines.{bucket_line, date_line}
+use Rattle.statements.specs.Lines.{bucket_line, allowance_heading, allowance_line, date_line}
+use Rattle.statements.specs.Lines.{covered_line}
 use Rattle.statements.specs.declared.rows.Form.{Form}
 use Rattle.statements.specs.declared.rows.Form.TheVariants.{Lines, Records}
 use Rattle.statements.specs.declared.rows.Sums.{Sums}
@@ -47,9 +51,31 @@ sums_of rows = record {
   uncollected = sum_by (λ c. c.uncollected.0) rows;
 }
 
-abbrev pub buckets_text : List Row → List ℕ
-buckets_text [] = []
-buckets_text (b ∷ rest) = bucket_line b ++ buckets_text rest
+-- ---- buckets
+
+abbrev pub line_of : BucketKind → Row → List ℕ
+line_of Money b = bucket_line b
+line_of Blocks b = allowance_line b
+
+-- the lines of the buckets of a kind
+abbrev pub buckets_text : BucketKind → List Row → List ℕ
+buckets_text kind [] = []
+buckets_text kind (b ∷ rest) =
+    (if is_alike b.kind kind then line_of kind b else []) ++ buckets_text kind rest
+
+abbrev pub has_allowance : List Row → Bool
+has_allowance rows = list_any (λ b. is_alike b.kind Blocks) rows
+
+-- of allowances nothing is told where there is none
+abbrev pub allowances_text : List Row → List ℕ
+allowances_text rows =
+    if has_allowance rows then allowance_heading ++ buckets_text Blocks rows else []
+
+abbrev pub covered_text : List Row → List ℕ
+covered_text rows =
+    if has_allowance rows then covered_line (sum_in Blocks (λ b. b.charged) rows) else []
+
+-- ---- the texts
 
 -- what precedes the charges, and what follows them
 abbrev pub head_text : List ℕ → ℕ → ℕ → List ℕ
@@ -57,11 +83,11 @@ head_text account month moment = title_line account month moment ++ heading
 
 abbrev pub foot_text : Sums → List Row → List ℕ
 foot_text sums buckets =
-    total_line sums ++ bucket_heading ++ buckets_text buckets
-    ++ date_line (sum_in Money (λ b. b.charged) buckets)
+    total_line sums ++ bucket_heading ++ buckets_text Money buckets ++ allowances_text buckets
+    ++ date_line (sum_in Money (λ b. b.charged) buckets) ++ covered_text buckets
 
 -- an account's statement of a month: its charges in the month, their sums, its buckets at the
--- moment, and what was collected of money to date
+-- moment, those of money before its allowances, and what was collected and covered to date
 abbrev pub statement_text : Book → List ℕ → ℕ → ℕ → List ChargeColumns → List Row → List ℕ
 statement_text book account month moment rows buckets =
     head_text account month moment

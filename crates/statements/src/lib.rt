@@ -3,6 +3,7 @@
 
 mod columns;
 mod fault;
+mod foot;
 mod lines;
 mod records;
 mod rows;

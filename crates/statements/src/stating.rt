@@ -10,7 +10,8 @@ ghost use Rattle.statements.specs.Texts.{statement_text, export_text, WritesBegi
 ghost use Rattle.std.specs.Prelude.{List};
 
 use crate::fault::StatementFault;
-use crate::lines::{foot_text, head_text};
+use crate::foot::foot_text;
+use crate::lines::head_text;
 use crate::records::header_record;
 use crate::rows::{Form, MonthRows, Sums};
 use buckets::Bucket;

@@ -4,7 +4,7 @@
 use crate::tests::accounts::{FIRST_EVENT, HALF_PAID, ask_all, many_events, moment, shelf};
 use crate::tests::broken::Broken;
 use crate::tests::trials::{Trial, try_below};
-use buckets::Bucket;
+use buckets::{Bucket, BucketKind, Columns};
 use identifiers::AccountNumber;
 use keepers::{Keeper, MemoryKeeper};
 use shelves::TariffShelf;
@@ -24,6 +24,22 @@ ACCOUNT 49151 MONTH 202601 MOMENT 1767607500
     BUCKET         CREDITED        AVAILABLE         RESERVED          CHARGED          EXPIRED
          1           250000                0                0           250000                0
 COLLECTED TO DATE 250000
+";
+
+/// The same beside an allowance, of which all was used.
+const ALLOWED: &str = "\
+ACCOUNT 49151 MONTH 202601 MOMENT 1767607500
+    MOMENT      GROUP     BLOCKS               RATED           COLLECTED         UNCOLLECTED
+1767607500         10          5              500000              250000              250000
+                TOTAL          5              500000              250000              250000
+    BUCKET         CREDITED        AVAILABLE         RESERVED          CHARGED          EXPIRED
+         1           250000                0                0           250000                0
+ ALLOWANCE      GROUP         CREDITED        AVAILABLE         RESERVED          \
+CHARGED          EXPIRED
+         2         10                3                0                0                \
+3                0
+COLLECTED TO DATE 250000
+COVERED TO DATE 3
 ";
 
 /// Its export.
@@ -128,6 +144,31 @@ fn half_paid_month<'a>(
     }
 }
 
+/// An allowance of three blocks, of which all was used.
+fn used_allowance(rt: &impl Abort) -> Bucket {
+    let columns = Columns {
+        number: 2,
+        kind: BucketKind::Blocks,
+        from: moment(rt, 1_767_571_200),
+        until: Moment::no_end(),
+        scope: Some(10),
+        credited: 3,
+        available: 0,
+        reserved: 0,
+        charged: 3,
+        expired: 0,
+    };
+    Bucket::from_columns(&columns).expect(rt, "a bucket")
+}
+
+/// The statement of that account, with an allowance.
+fn allowed_month<'a>(rt: &impl Abort, alloc: Global, shelf: &'a TariffShelf) -> Writing<'a> {
+    let mut month = half_paid_month(rt, alloc, shelf, false, ALLOWED);
+    let allowance = used_allowance(rt);
+    month.buckets.push(allowance).expect(rt, "memory");
+    month
+}
+
 /// It has taken exactly these bytes; where it takes all, the whole text.
 #[test]
 fn a_writer_that_fails_at_each_byte(rt: HostRuntime) {
@@ -145,6 +186,7 @@ fn a_writer_that_fails_at_each_byte(rt: HostRuntime) {
         &mut half_paid_month(&rt, alloc, &shelf, true, EXPORT),
         97,
     );
+    try_below(&rt, alloc, &mut allowed_month(&rt, alloc, &shelf), 774);
 }
 
 /// An export of a source that fails after so many rows.
