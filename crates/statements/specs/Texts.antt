@@ -57,11 +57,13 @@ abbrev pub line_of : BucketKind → Row → List ℕ
 line_of Money b = bucket_line b
 line_of Blocks b = allowance_line b
 
--- the lines of the buckets of a kind
+-- the lines of the buckets of a kind: another has none
+abbrev pub line_among : BucketKind → Row → List ℕ
+line_among kind b = if is_alike b.kind kind then line_of kind b else []
+
 abbrev pub buckets_text : BucketKind → List Row → List ℕ
 buckets_text kind [] = []
-buckets_text kind (b ∷ rest) =
-    (if is_alike b.kind kind then line_of kind b else []) ++ buckets_text kind rest
+buckets_text kind (b ∷ rest) = line_among kind b ++ buckets_text kind rest
 
 abbrev pub has_allowance : List Row → Bool
 has_allowance rows = list_any (λ b. is_alike b.kind Blocks) rows

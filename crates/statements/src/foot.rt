@@ -6,8 +6,8 @@ ghost use Rattle.std.specs.List.{list_any};
 ghost use Rattle.buckets.specs.Kinds.{is_alike};
 ghost use Rattle.buckets.specs.Share.{sum_in};
 ghost use Rattle.statements.specs.Lines.{amount_names};
-ghost use Rattle.statements.specs.Texts.{line_of, buckets_text, has_allowance, allowances_text};
-ghost use Rattle.statements.specs.Texts.{covered_text, foot_text};
+ghost use Rattle.statements.specs.Texts.{line_of, line_among, buckets_text, has_allowance};
+ghost use Rattle.statements.specs.Texts.{allowances_text, covered_text, foot_text};
 
 use crate::lines::{allowance_line, bucket_line, covered_line, date_line, total_line};
 use crate::rows::Sums;
@@ -58,8 +58,8 @@ fn push_line(
     kind: BucketKind,
     bucket: &Bucket,
 ) -> Result<(), AllocError>
-    ensures { OnOk result (string_bytes text.new ≡ string_bytes text.old
-        ++ (if is_alike bucket.now.kind kind then line_of kind bucket.now else [])) }
+    ensures { OnOk result
+        (string_bytes text.new ≡ string_bytes text.old ++ line_among kind bucket.now) }
 {
     if !bucket.counts(kind) {
         return Ok(());
