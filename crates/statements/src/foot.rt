@@ -5,7 +5,8 @@ ghost use Rattle.std.specs.Prelude.{◌≡◌, ◌≤◌, ◌++◌, if◌then◌
 ghost use Rattle.std.specs.List.{list_any};
 ghost use Rattle.buckets.specs.Kinds.{is_alike};
 ghost use Rattle.buckets.specs.Share.{sum_in};
-ghost use Rattle.statements.specs.Lines.{amount_names};
+ghost use Rattle.buckets.specs.declared.kind.BucketKind.TheVariants.{Blocks};
+ghost use Rattle.statements.specs.Lines.{allowance_heading, amount_names};
 ghost use Rattle.statements.specs.Texts.{line_of, line_among, buckets_text, has_allowance};
 ghost use Rattle.statements.specs.Texts.{allowances_text, covered_text, foot_text};
 
@@ -104,7 +105,17 @@ fn push_names(text: &mut String, names: &str) -> Result<(), AllocError>
     Ok(())
 }
 
-/// Adds the lines of allowances, after their names, where there is one.
+/// Adds the lines of allowances, after their names.
+fn push_listed(alloc: Global, text: &mut String, buckets: &[Bucket]) -> Result<(), AllocError>
+    ensures { OnOk result (string_bytes text.new ≡ string_bytes text.old
+        ++ (allowance_heading ++ buckets_text Blocks buckets.now)) }
+{
+    push_names(text, " ALLOWANCE      GROUP")?;
+    push_buckets(alloc, text, BucketKind::Blocks, buckets)?;
+    Ok(())
+}
+
+/// Adds the lines of allowances, where there is one.
 fn push_allowances(alloc: Global, text: &mut String, buckets: &[Bucket]) -> Result<(), AllocError>
     ensures { OnOk result
         (string_bytes text.new ≡ string_bytes text.old ++ allowances_text buckets.now) }
@@ -112,8 +123,7 @@ fn push_allowances(alloc: Global, text: &mut String, buckets: &[Bucket]) -> Resu
     if !has_allowance(buckets) {
         return Ok(());
     }
-    push_names(text, " ALLOWANCE      GROUP")?;
-    push_buckets(alloc, text, BucketKind::Blocks, buckets)
+    push_listed(alloc, text, buckets)
 }
 
 /// Adds what allowances covered to date, where there is one.
