@@ -2,17 +2,18 @@
 # tools/words compares them with what the program says of its words.
 
 _ocs_commands() {
-    echo once init serve import open bar unbar sweep credit statement replay help
+    echo once init migrate book serve import open bar unbar sweep credit allow statement replay help
 }
 
 # The options of a command, or of the program where it is none.
 _ocs_options() {
     case $1 in
         once) echo --credit --price --block -h --help ;;
-        init | replay) echo -h --help ;;
+        init | migrate | replay) echo -h --help ;;
+        book) echo --from -h --help ;;
         serve) echo --port --connections --at -h --help ;;
         import | open | bar | unbar | sweep) echo --at -h --help ;;
-        credit) echo --until --scope --at -h --help ;;
+        credit | allow) echo --until --scope --at -h --help ;;
         statement) echo --csv --at -h --help ;;
         help) ;;
         *) echo -h --help -V --version ;;
@@ -22,8 +23,8 @@ _ocs_options() {
 # How many paths a command takes; they are the first of its operands.
 _ocs_paths() {
     case $1 in
-        init | import | replay) echo 2 ;;
-        serve | open | bar | unbar | sweep | credit | statement) echo 1 ;;
+        init | book | import | replay) echo 2 ;;
+        migrate | serve | open | bar | unbar | sweep | credit | allow | statement) echo 1 ;;
         *) echo 0 ;;
     esac
 }

@@ -19,20 +19,31 @@ MONTH = "202601"
 SHARE = 25
 # Tables with a row or more of an account, each before those that it leads to.
 TABLES = (
-    "holds", "session_groups", "sessions", "answers", "charges", "counters", "buckets", "accounts",
+    "holds", "grant_books", "session_groups", "sessions", "answers", "covered", "charges",
+    "counters", "allowance_buckets", "buckets", "accounts",
 )
+COLUMNS = ("credited", "available", "reserved", "charged", "expired")
+# Buckets of money, allowances, and charges with their covered blocks, each as its sums are told.
 SUMS = {
-    "buckets": ("credited", "available", "reserved", "charged", "expired"),
-    "charges": ("blocks", "rated", "collected", "uncollected"),
+    "money": COLUMNS,
+    "allowances": COLUMNS,
+    "charges": ("blocks", "rated", "collected", "uncollected", "covered"),
 }
-HEADER = ["moment", "session", "group", "blocks", "rated", "collected", "uncollected"]
+HEADER = ["moment", "session", "group", "blocks", "rated", "collected", "uncollected", "covered"]
 AMOUNTS = ("Credited", "Available", "Reserved", "Charged", "Expired")
 MEMBERS = ("Number", "From", "Until", "Scope", *AMOUNTS)
-BUCKETS = """SELECT account, number, starts, ends, scope,
+ALLOWANCES = "(SELECT account, number FROM allowance_buckets)"
+BUCKETS = f"""SELECT account, (account, number) IN {ALLOWANCES}, number, starts, ends, scope,
 credited, available, reserved, charged, expired
 FROM buckets ORDER BY account, number"""
-CHARGES = """SELECT account, session, moment, rating_group, blocks, rated, collected, uncollected
-FROM charges ORDER BY account, number"""
+CHARGES = """SELECT account, session, moment, rating_group, charges.blocks, rated, collected,
+uncollected, coalesce(covered.blocks, 0) AS covered
+FROM charges LEFT JOIN covered USING (account, number) ORDER BY account, number"""
+FROM = {
+    "money": f"buckets WHERE (account, number) NOT IN {ALLOWANCES}",
+    "allowances": f"buckets WHERE (account, number) IN {ALLOWANCES}",
+    "charges": f"({CHARGES})",
+}
 
 
 def shell(place, asked):
@@ -56,7 +67,8 @@ def by_account(rows):
 
 
 class Rows:
-    """The database's rows and their sums, by account."""
+    """The database's rows and their sums, by account. A bucket's first field is 1 where it counts
+    blocks."""
 
     def __init__(self, place):
         self.place = place
@@ -67,7 +79,7 @@ class Rows:
     def sums_of(self, table):
         """The sums of a table's amounts, by account."""
         names = ", ".join(f"sum({name})" for name in SUMS[table])
-        told = shell(self.place, f"SELECT account, {names} FROM {table} GROUP BY account")
+        told = shell(self.place, f"SELECT account, {names} FROM {FROM[table]} GROUP BY account")
         return {account: whole(row) for account, *row in told}
 
     def sum(self, table, account):
@@ -75,16 +87,22 @@ class Rows:
         names = SUMS[table]
         return dict(zip(names, self.sums[table].get(account, (0,) * len(names))))
 
-    def check(self, people):
+    def of(self, account, is_blocks):
+        """An account's buckets of money, or its allowances."""
+        return [row[1:] for row in self.buckets[account] if row[0] == is_blocks]
+
+    def check(self, people, moment):
         """Compares the rows with the rules that they stand under, and with what was reckoned."""
         agree("the file", shell(self.place, "PRAGMA integrity_check"), [("ok",)])
         agree("references", shell(self.place, "PRAGMA foreign_key_check"), [])
         self.check_answers(people)
         self.check_counters(people)
+        self.check_grants(people, moment)
         held = "SELECT account, sum(amount) FROM holds GROUP BY account"
         self.held = {account: int(amount) for account, amount in shell(self.place, held)}
         for person in people:
             self.check_buckets(person)
+            self.check_allowances(person, moment)
             self.check_charges(person)
 
     def check_answers(self, people):
@@ -98,9 +116,31 @@ class Rows:
         }
         agree("requests that have an answer", sorted(set(found) ^ set(wanted)), [])
         agree("answers", [key for key in wanted if found[key] != wanted[key]], [])
-        credits = sum(person.credits + len(person.codes) for person in people)
+        given = sum(person.credits + person.allowances + len(person.codes) for person in people)
         found = len(shell(self.place, asked + "2"))
-        agree("credits and redemptions that have an answer", found, credits)
+        agree("credits, allowances and redemptions that have an answer", found, given)
+
+    def check_books(self, later):
+        """The books after the first, each with its beginning and its text, byte for byte."""
+        texts = shell(self.place, "SELECT number, starts, hex(content) FROM books ORDER BY number")
+        wanted = [
+            (str(number), str(start), text.encode().hex().upper())
+            for number, (start, text) in enumerate(later, 2)
+        ]
+        agree("books", texts, wanted)
+
+    def check_grants(self, people, moment):
+        """Each grant that stands has its book, and no other."""
+        asked = "SELECT account, session, rating_group, book FROM grant_books"
+        found = sorted((*row[:2], *whole(row[2:])) for row in shell(self.place, asked))
+        wanted = sorted(
+            (person.number, *grant)
+            for person in people
+            for grant in person.account.grants_at(moment)
+        )
+        agree("books of grants", found, wanted)
+        reserved = "SELECT count(*) FROM session_groups WHERE reserved = 1"
+        agree("grants", shell(self.place, reserved), [(str(len(wanted)),)])
 
     def check_vouchers(self, people, vouchers):
         """Each voucher of the file stands as it says, spent by the account that redeemed it."""
@@ -125,52 +165,80 @@ class Rows:
     def check_buckets(self, person):
         """What was credited is available, reserved, charged or expired; the reserved is held."""
         rows = self.buckets[person.number]
-        numbers = [row[0] for row in rows]
+        numbers = [row[1] for row in rows]
         agree(f"numbers of buckets, {person.number}", numbers, [*range(1, len(rows) + 1)])
-        found = [(row[4], *row[1:4]) for row in rows]
+        found = [(row[5], *row[2:5], "blocks" if row[0] else "money") for row in rows]
         agree(f"buckets of {person.number}", found, person.account.buckets)
         for row in rows:
-            agree(f"a bucket of {person.number}, {row}", sum(row[5:]), row[4])
-        sums = self.sum("buckets", person.number)
-        agree(f"holds of {person.number}", self.held.get(person.number, 0), sums["reserved"])
+            agree(f"a bucket of {person.number}, {row}", sum(row[6:]), row[5])
+        reserved = sum(row[7] for row in rows)
+        agree(f"holds of {person.number}", self.held.get(person.number, 0), reserved)
+
+    def check_allowances(self, person, moment):
+        """What is left, held and used of each allowance is as reckoned."""
+        found = [(row[0], *row[4:]) for row in self.of(person.number, 1)]
+        wanted = [(one.number, *one.columns(moment)) for one in person.account.allowances]
+        agree(f"allowances of {person.number}", found, wanted)
 
     def check_charges(self, person):
-        """Each charge is rated as reckoned, and collected or not; buckets paid the collected."""
+        """Each charge is covered and rated as reckoned, and collected or not; money paid what was
+        collected, allowances what was covered."""
         rows = self.charges[person.number]
-        found = [(moment, session, *rest) for session, moment, *rest, _, _ in rows]
+        found = [(moment, session, *rest, covered)
+                 for session, moment, *rest, _, _, covered in rows]
         agree(f"charges of {person.number}", found, person.account.charges)
         for row in rows:
             agree(f"a charge of {person.number}, {row}", row[5] + row[6], row[4])
         sums = self.sum("charges", person.number)
-        rated = sum(charge[-1] for charge in person.account.charges)
+        rated = sum(charge[4] for charge in person.account.charges)
         agree(f"rated of {person.number}", sums["rated"], rated)
-        charged = self.sum("buckets", person.number)["charged"]
+        charged = self.sum("money", person.number)["charged"]
         agree(f"collected of {person.number}", sums["collected"], charged)
+        charged = self.sum("allowances", person.number)["charged"]
+        agree(f"covered of {person.number}", sums["covered"], charged)
 
 
 def check_balance(rows, person, moment, told):
     """A balance over HTTP has the account's buckets."""
     balance = json.loads(told)
-    found = [tuple(bucket.get(name) for name in MEMBERS) for bucket in balance.pop("Buckets")]
+    found = [
+        (int(bucket.get("Unit") == "blocks"), *(bucket.get(name) for name in MEMBERS))
+        for bucket in balance.pop("Buckets")
+    ]
     agree(f"the balance of {person.number}", found, rows.buckets[person.number])
     wanted = {"Account": person.number, "Barred": person.barred, "Moment": moment}
     agree(f"the balance of {person.number}", balance, wanted)
 
 
 def check_statement(rows, number, moment, told):
-    """A statement has the charges, their sums, the buckets and what they paid."""
+    """A statement has the charges, their sums, the buckets and what they paid; allowances stand
+    apart from money, where there are any."""
     title, _, *lines = told.splitlines()
     agree("a title", title, f"ACCOUNT {number} MONTH {MONTH} MOMENT {moment}")
     words = [line.split() for line in lines]
     total = next(at for at, line in enumerate(words) if line[0] == "TOTAL")
     found = [whole(line) for line in words[:total]]
-    agree(f"charges told of {number}", found, [row[1:] for row in rows.charges[number]])
+    agree(f"charges told of {number}", found, [row[1:-1] for row in rows.charges[number]])
     charged = rows.sum("charges", number)
-    agree(f"the total of {number}", whole(words[total][1:]), tuple(charged.values()))
-    found = [whole(line) for line in words[total + 2 : -1]]
-    wanted = [(row[0], *row[4:]) for row in rows.buckets[number]]
-    agree(f"buckets told of {number}", found, wanted)
-    agree(f"collected to date, {number}", lines[-1], f"COLLECTED TO DATE {charged['collected']}")
+    agree(f"the total of {number}", whole(words[total][1:]), tuple(charged.values())[:-1])
+    agree(f"buckets told of {number}", lines[total + 1 :], foot(rows, number, charged))
+
+
+def row_of(row, heads):
+    """A line of the foot of a statement: its first numbers in 10 places, its amounts in 16."""
+    return " ".join(f"{field:>{10 if at < heads else 16}}" for at, field in enumerate(row))
+
+
+def foot(rows, number, charged):
+    """The lines of a statement after its total."""
+    columns = [name.upper() for name in COLUMNS]
+    money = [(row[0], *row[4:]) for row in rows.of(number, 0)]
+    blocks = [(row[0], *row[3:]) for row in rows.of(number, 1)]
+    told = [row_of(row, 1) for row in (("BUCKET", *columns), *money)]
+    if blocks:
+        told += [row_of(row, 2) for row in (("ALLOWANCE", "GROUP", *columns), *blocks)]
+    told.append(f"COLLECTED TO DATE {charged['collected']}")
+    return told + ([f"COVERED TO DATE {charged['covered']}"] if blocks else [])
 
 
 def check_export(rows, number, told):
@@ -206,7 +274,7 @@ def keep_rows(place, people):
     """Takes the rows of all other accounts, and all vouchers, out of a database."""
     numbers = ", ".join(f"'{person.number}'" for person in people)
     words = [f"DELETE FROM {table} WHERE account NOT IN ({numbers})" for table in TABLES]
-    shell(place, "; ".join(["DELETE FROM vouchers", *words, "VACUUM"]))
+    shell(place, "; ".join(["DELETE FROM vouchers", *words]))
 
 
 def check_person(rows, person, moment, place):

@@ -16,6 +16,7 @@ from hostile_streams import SECONDS, Answer, Ended, need
 
 MEMORY = 8 << 30
 BOOK = offices.TOP / "tests/scenarios/worked-debits/book.toml"
+LATER_BOOK = offices.TOP / "examples/later-book.toml"
 # Monday 2026-01-05 07:30, half an hour before a tariff switch, and later moments.
 BEGUN, LATER = 1_767_598_200, 1_767_610_000
 MOMENTS = (1_767_599_700, 1_767_600_900, 1_767_607_800)
@@ -34,8 +35,16 @@ UNDUE = (
     "SELECT * FROM buckets AS b WHERE reserved <> (SELECT ifnull(sum(amount), 0) FROM holds AS h"
     " WHERE h.account = b.account AND h.bucket = b.number)",
     "SELECT * FROM accounts AS a WHERE (SELECT ifnull(sum(charged), 0) FROM buckets AS b WHERE"
-    " b.account = a.account) <> (SELECT ifnull(sum(collected), 0) FROM charges AS c WHERE"
-    " c.account = a.account)")
+    " b.account = a.account AND (b.account, b.number) NOT IN (SELECT account, number FROM"
+    " allowance_buckets)) <> (SELECT ifnull(sum(collected), 0) FROM charges AS c WHERE"
+    " c.account = a.account)",
+    "SELECT * FROM accounts AS a WHERE (SELECT ifnull(sum(charged), 0) FROM buckets AS b JOIN"
+    " allowance_buckets USING (account, number) WHERE b.account = a.account) <> (SELECT"
+    " ifnull(sum(blocks), 0) FROM covered AS c WHERE c.account = a.account)",
+    "SELECT account, session, rating_group FROM session_groups WHERE reserved = 1 EXCEPT"
+    " SELECT account, session, rating_group FROM grant_books",
+    "SELECT account, session, rating_group FROM grant_books EXCEPT"
+    " SELECT account, session, rating_group FROM session_groups WHERE reserved = 1")
 
 
 @dataclass(frozen=True)
@@ -134,6 +143,14 @@ def opening():
     return [(*one, "--at", BEGUN) for one in words]
 
 
+def allowances():
+    """The words that give accounts free blocks, of groups that the first book has."""
+    given = (
+        ("49151", 40, "free", "--scope", 10), ("0", 10**9, "free", "--scope", 20),
+        ("49151", 3, "few", "--scope", 30, "--until", MOMENTS[1] + 30))
+    return [("allow", "db", *one, "--at", BEGUN) for one in given]
+
+
 def lines_of(path):
     """The requests of a file of lines."""
     lines = path.read_bytes().split(b"\n")
@@ -149,11 +166,13 @@ def prepare(built, base):
     books, vouchers = ([path.read_bytes() for path in sorted(offices.TOP.glob(f"*/**/*.{kind}"))]
                        for kind in ("toml", "csv"))
     shutil.copy(BOOK, base / "book.toml")
+    shutil.copy(LATER_BOOK, base / "later.toml")
     codes = "".join(f"{code:012},{10**5 * code},{code},\n" for code in range(1, 9))
     (base / "vouchers").write_text("code,amount,days,scope\n" + codes)
     made = ("init", "db", "book.toml"), ("import", "db", "vouchers", "--at", BEGUN)
+    later = ("book", "db", "later.toml", "--from", MOMENTS[1])
     due = set()
-    for words in (*made, *opening()):
+    for words in (*made, later, *opening(), *allowances()):
         need((ended := run(built, base, *words)).status == 0, words, ended)
         due.add(run(built, base, *STATEMENT).out)
     asked = lines_of(tests / "streams/all-05.in")[:60]

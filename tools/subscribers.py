@@ -13,6 +13,8 @@ MIB = 1 << 20
 # What is wanted of a group at once, by its kind of unit.
 WANTED = {"time": (30, 1800), "octets": (MIB // 2, 60 * MIB), "events": (1, 6)}
 AMOUNTS = (250_000, 1_000_000, 5_000_000, 20_000_000)
+# Free blocks that are given at once.
+FREE = (1, 120)
 DENIED_BY_BAR = 4010
 
 
@@ -32,12 +34,13 @@ def vouchers(chance, count):
 class Subscriber:
     """An account and who uses it: at most one session at a time, and events."""
 
-    def __init__(self, book, number, seed):
+    def __init__(self, shelf, number, seed):
         self.chance = random.Random(f"{seed} {number}")
-        self.book, self.number = book, number
-        self.account = Account(book, number)
+        self.shelf, self.number = shelf, number
+        self.book = shelf.first
+        self.account = Account(shelf, number)
         self.session, self.barred, self.checked = None, False, None
-        self.given = self.credits = 0
+        self.given = self.credits = self.allowances = 0
         self.codes = []
 
     def happens(self, share):
@@ -54,6 +57,19 @@ class Subscriber:
             body["Scope"] = scope
         return body
 
+    def allowance(self, moment, group):
+        """An allowance's body; at times its blocks end within some hours."""
+        self.allowances += 1
+        body = {"Blocks": self.chance.randint(*FREE), "Scope": group}
+        body["Reference"] = f"free-{self.allowances}"
+        if self.happens(0.5):
+            body["Until"] = moment + self.chance.randint(1, 10 * 3600)
+        return body
+
+    def any_group(self, moment):
+        """A group of the book of a moment."""
+        return self.chance.choice(sorted(self.shelf.at(moment).groups))
+
     def redemption(self):
         """A redemption's body."""
         return {"Subscription-Id-Data": self.number, "Reference": f"card-{len(self.codes) + 1}"}
@@ -66,7 +82,9 @@ class Subscriber:
             yield self.credit(moment, self.chance.randint(1, 2_000_000), hours, scope)
 
     def requests(self, moment):
-        """The requests of a moment, each to be sent once the one before it is answered."""
+        """The requests of a moment, each to be sent once the one before it is answered. Groups are
+        those of the book of the moment."""
+        self.book = self.shelf.at(moment)
         if self.session is None and self.happens(0.2):
             yield self.initial()
         elif self.session is not None and self.happens(0.7):

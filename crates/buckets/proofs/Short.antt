@@ -1,5 +1,5 @@
 -- What is short: all holds are used up, and what is eligible is empty.
-use Rattle.std.proofs.Common.{◌≡◌, ℕ, ◌+◌, ◌-◌, ◌≤◌, Bool, true, false, List, [], ◌∷◌, refl}
+use Rattle.std.proofs.Common.{◌≡◌, ℕ, ◌+◌, ◌-◌, ◌≤◌, ◌<◌, Bool, true, false, List, [], ◌∷◌, refl}
 use Rattle.std.proofs.Common.{◌∙◌, arith, inl, inr}
 use Rattle.std.specs.Prelude.{if◌then◌else◌, nat_lt, nat_le, ◌==◌, ◌&&◌, ◌||◌}
 use Rattle.std.proofs.lemmas.Bool.Decides.{nat_tests}
@@ -16,6 +16,7 @@ use Rattle.buckets.specs.Share.{sum_in, sum_before, share}
 use Rattle.buckets.specs.Holding.{held_in, held_sum, unheld, paid_of_hold, paid_of_rest}
 use Rattle.buckets.specs.Holding.{settled_row}
 use Rattle.buckets.specs.Laws.{IsAmong, IsSpentWhereShort}
+use Rattle.buckets.specs.Laws.{HoldsPayFirst, EarlierHoldsPayFirst, EarlierPayFirst}
 use Rattle.buckets.proofs.Dues.{sum_in-cons, due_left}
 
 before_itself : (t : Bool) (u n : ℕ) → (t && (nat_lt u u || (u == u && nat_lt n n))) ≡ false
@@ -144,3 +145,129 @@ spent holds group at due rows b h short =
     let left = due_left (held_in holds) rows due b.kind in
     let last = due_left (eligible_amount group at) rows (unheld holds due rows) b.kind in
     spent_all holds group at due rows b h (omega (arith, short, left, last))
+
+-- ---- the first pay first
+
+alike_trans : (j k l : BucketKind) → is_alike j k ≡ true → is_alike k l ≡ true →
+    is_alike j l ≡ true
+alike_trans Money Money l h m = m
+alike_trans Blocks Blocks l h m = m
+alike_trans Money Blocks l h m = absurd (let differ : false ≡ true = h in cc)
+alike_trans Blocks Money l h m = absurd (let differ : false ≡ true = h in cc)
+
+alike_due : (j k : BucketKind) (d : Due) → is_alike j k ≡ true → due_in j d ≡ due_in k d
+alike_due Money Money d h = refl
+alike_due Blocks Blocks d h = refl
+alike_due Money Blocks d h = absurd (let differ : false ≡ true = h in cc)
+alike_due Blocks Money d h = absurd (let differ : false ≡ true = h in cc)
+
+alike_sum : (j k : BucketKind) (f : Row → ℕ) (rows : List Row) → is_alike j k ≡ true →
+    sum_in j f rows ≡ sum_in k f rows
+alike_sum Money Money f rows h = refl
+alike_sum Blocks Blocks f rows h = refl
+alike_sum Money Blocks f rows h = absurd (let differ : false ≡ true = h in cc)
+alike_sum Blocks Money f rows h = absurd (let differ : false ≡ true = h in cc)
+
+precedes_trans : (u v w m n o : ℕ) → (nat_lt u v || (u == v && nat_lt m n)) ≡ true →
+    (nat_lt v w || (v == w && nat_lt n o)) ≡ true → (nat_lt u w || (u == w && nat_lt m o)) ≡ true
+precedes_trans u v w m n o h k = grind (arith, nat_tests, h, k)
+
+both : (s t : Bool) → s ≡ true → t ≡ true → (s && t) ≡ true
+both true true h k = refl
+both true false h k = k
+both false t h k = h
+
+first_of : (s t : Bool) → (s && t) ≡ true → s ≡ true
+first_of true t h = refl
+first_of false t h = h
+
+second_of : (s t : Bool) → (s && t) ≡ true → t ≡ true
+second_of true t h = h
+second_of false t h = absurd (let differ : false ≡ true = h in cc)
+
+before_trans : (x a b : Row) → is_paid_before x a ≡ true → is_paid_before a b ≡ true →
+    is_paid_before x b ≡ true
+before_trans x a b h k =
+    both (is_alike x.kind b.kind) (precedes x b)
+    (alike_trans x.kind a.kind b.kind (first_of (is_alike x.kind a.kind) (precedes x a) h)
+    (first_of (is_alike a.kind b.kind) (precedes a b) k))
+    (precedes_trans x.until a.until b.until x.number a.number b.number
+    (second_of (is_alike x.kind a.kind) (precedes x a) h)
+    (second_of (is_alike a.kind b.kind) (precedes a b) k))
+
+part_most : (s t : Bool) (n : ℕ) → (s ≡ true → t ≡ true) →
+    (if s then n else 0) ≤ (if t then n else 0)
+part_most true true n h = omega arith
+part_most true false n h = absurd (let differ : false ≡ true = h refl in cc)
+part_most false true n h = omega arith
+part_most false false n h = omega arith
+
+before_more : (f : Row → ℕ) (a b : Row) (rows : List Row) → is_paid_before a b ≡ true →
+    sum_before f a rows ≤ sum_before f b rows
+before_more f a b [] k = omega arith
+before_more f a b (x ∷ xs) k =
+    omega (
+      arith,
+      part_most (is_paid_before x a) (is_paid_before x b) (f x) (λ h. before_trans x a b h k),
+      before_more f a b xs k,
+      sum_by-cons (λ y. if is_paid_before y a then f y else 0) x xs,
+      sum_by-cons (λ y. if is_paid_before y b then f y else 0) x xs,
+    )
+
+-- what stands before a bucket, and its own, stand before each bucket after it
+before_both : (f : Row → ℕ) (a b : Row) (rows : List Row) → IsAmong a rows →
+    is_paid_before a b ≡ true → sum_before f a rows + f a ≤ sum_before f b rows
+before_both f a b [] h k = absurd h
+before_both f a b (x ∷ xs) (inl e) k =
+    let none : (if is_paid_before x a then f x else 0) ≡ 0 =
+    rw (e, before_itself (is_alike a.kind a.kind) a.until a.number) refl in
+    let whole : (if is_paid_before x b then f x else 0) ≡ f a = rw (e, k) refl in
+    omega (
+      arith,
+      none,
+      whole,
+      before_more f a b xs k,
+      sum_by-cons (λ y. if is_paid_before y a then f y else 0) x xs,
+      sum_by-cons (λ y. if is_paid_before y b then f y else 0) x xs,
+    )
+before_both f a b (x ∷ xs) (inr h) k =
+    omega (
+      arith,
+      part_most (is_paid_before x a) (is_paid_before x b) (f x) (λ h1. before_trans x a b h1 k),
+      before_both f a b xs h k,
+      sum_by-cons (λ y. if is_paid_before y a then f y else 0) x xs,
+      sum_by-cons (λ y. if is_paid_before y b then f y else 0) x xs,
+    )
+
+-- a bucket of which something is taken follows none of its unit that has something left
+share_first : (f : Row → ℕ) (a b : Row) (rows : List Row) (due : Due) → IsAmong a rows →
+    is_paid_before a b ≡ true → 0 < share f rows due b → share f rows due a ≡ f a
+share_first f a b rows due h k some =
+    let within : sum_before f a rows + f a ≤ sum_before f b rows = before_both f a b rows h k in
+    let same = alike_due a.kind b.kind due
+    (first_of (is_alike a.kind b.kind) (precedes a b) k) in
+    omega (arith, within, some, same)
+
+pub holds_first : HoldsPayFirst
+holds_first holds group at due rows a b h alike some =
+    let left = due_left (held_in holds) rows due b.kind in
+    let same = alike_due a.kind b.kind due alike in
+    let sums = alike_sum a.kind b.kind (held_in holds) rows alike in
+    share_all (held_in holds) a rows due h (omega (arith, some, left, same, sums))
+
+pub earlier_holds_first : EarlierHoldsPayFirst
+earlier_holds_first holds due rows a b h k some =
+    share_first (held_in holds) a b rows due h k some
+
+pub earlier_first : EarlierPayFirst
+earlier_first holds group at due rows a b h k some =
+    let alike = first_of (is_alike a.kind b.kind) (precedes a b) k in
+    let held : paid_of_hold holds due rows a ≡ held_in holds a =
+    holds_first holds group at due rows a b h alike some in
+    let rest : paid_of_rest holds group at due rows a ≡ eligible_amount group at a =
+    share_first (eligible_amount group at) a b rows (unheld holds due rows) h k some in
+    let part : ℕ = paid_of_rest holds group at due rows a in
+    emptied group at (held_in holds a - paid_of_hold holds due rows a) a
+    (with_charge (with_charge_of_hold a (paid_of_hold holds due rows a)) part) refl refl refl
+    (is_eligible group at a) refl (all_taken (is_eligible group at a) a.available part rest)
+    (omega (arith, held))

@@ -429,10 +429,11 @@ served b a all run alone (d ∷ ds) fair alike =
     (is_own a all d.command) refl fair.0 alike
     (λ next there. served b a all (after_command b run d) next ds fair.1 there)
 
-show_alike : (b : Shelf) (t : ℕ) (a : List ℕ) (mine : List ℕ → Bool) (run alone : List Accepted)
-    (x y : Tables) → IsShelf b → LeaveAlike b a mine run alone → AreTables b run x →
-    AreTables b alone y → last_moment run ≤ t → ShowAlike b t a x y
-show_alike b t a mine run alone x y shelf alike p q le =
+show_alike : (b : Shelf) (t : ℕ) (a : List ℕ) (all : List DatedCommand)
+    (run alone : List Accepted) (x y : Tables) → IsShelf b →
+    LeaveAlike b a (λ code. redeems a code all) run alone → AreTables b run x →
+    AreTables b alone y → last_moment run ≤ t → ShowAlike b t a all x y
+show_alike b t a all run alone x y shelf alike p q le =
     let early : as_of a run ≤ t = let last = as_of-last a run alike.run_time in omega arith in
     let early' : as_of a alone ≤ t = let last = as_of-last a alone alike.alone_time in let later =
     alike.later in omega arith in
@@ -451,6 +452,7 @@ show_alike b t a mine run alone x y shelf alike p q le =
       answers = λ k. p.answers a k ∙ ap (kept_under k) alike.same ∙ sym (q.answers a k);
       charges = λ n. p.charges a n ∙ ap (λ h. charge_in n (charge_rows h.ledger)) alike.same
           ∙ sym (q.charges a n);
+      vouchers = λ code e. p.vouchers code ∙ alike.vouchers code e ∙ sym (q.vouchers code);
     }
 
 pub isolated : (b : Shelf) → IsShelf b → (a : List ℕ) (ds : List DatedCommand) → HasOwnCodes a ds →
@@ -466,8 +468,7 @@ isolated b shelf a ds codes =
     }) in
     record {
       answers = all.answers;
-      tables = λ t x y p q le. show_alike b t a (λ code. redeems a code ds)
-          (after_commands b [] ds)
+      tables = λ t x y p q le. show_alike b t a ds (after_commands b [] ds)
           (after_commands b [] (own_commands b (is_own a ds) [] ds)) x y shelf all.alike p q le;
       unmoved = own_unmoved b (is_own a ds) [] ds;
     }

@@ -1,38 +1,24 @@
 -- A run before books are added to the shelf and one after it are one run over the shelf after it.
-use Rattle.std.proofs.Common.{◌≡◌, ℕ, suc, ◌≤◌, ◌<◌, Bool, true, false, List, [], ◌∷◌, ◌++◌, refl}
+use Rattle.std.proofs.Common.{◌≡◌, ℕ, ◌≤◌, ◌<◌, Bool, true, false, List, [], ◌∷◌, ◌++◌, refl}
 use Rattle.std.proofs.Common.{sym, ap, subst, ◌∙◌, arith, drop, length}
 use Rattle.std.specs.Prelude.{if◌then◌else◌}
 use Rattle.std.proofs.lemmas.List.{append_assoc, take-append-drop}
-use Rattle.commands.specs.declared.answer.Answer.{Answer}
 use Rattle.shelves.specs.Shelves.{Shelf}
 use Rattle.shelves.specs.Laws.{GoesOnFrom}
 use Rattle.keepers.specs.Tables.{Tables}
 use Rattle.charging.specs.Accepted.{Accepted, last_moment, IsInTime}
 use Rattle.charging.specs.declared.running.DatedCommand.{DatedCommand}
-use Rattle.charging.specs.Served.{AreTables, moment_of, answer_to, accepts}
+use Rattle.charging.specs.Served.{AreTables, moment_of, accepts}
 use Rattle.charging.specs.Runs.{after_command, answers_to, after_commands, IsRun}
 use Rattle.charging.specs.LaterBooks.{LeaveTheSame, AnsweredRun, answered_of, AreBefore, AreInTurn}
 use Rattle.charging.specs.LaterBooks.{AreOneRun}
-use Rattle.charging.proofs.RunLemmas.{time-more, commands_after, IsSoFar, run-of}
+use Rattle.charging.proofs.RunLemmas.{time-more, commands_after, answers_after, answers_count}
+use Rattle.charging.proofs.RunLemmas.{IsSoFar, run-of}
 use Rattle.charging.proofs.Accounted.{accounted_from}
 use Rattle.charging.proofs.EarlyHistories.{accepted_before, leave_the_same}
 
--- ---- the answers of a run
+-- ---- a run's moments don't fall
 
-answers_after : (b : Shelf) (list : List Accepted) (xs ys : List DatedCommand) →
-    answers_to b list (xs ++ ys) ≡
-    answers_to b list xs ++ answers_to b (after_commands b list xs) ys
-answers_after b list [] ys = refl
-answers_after b list (x ∷ xs) ys =
-    ap (λ (given : List Answer). answer_to b list x.command (moment_of list x.moment) ∷ given)
-    (answers_after b (after_command b list x) xs ys)
-
-answers_count : (b : Shelf) (list : List Accepted) (ds : List DatedCommand) →
-    length (answers_to b list ds) ≡ length ds
-answers_count b list [] = refl
-answers_count b list (d ∷ ds) = ap suc (answers_count b (after_command b list d) ds)
-
--- its moments don't fall
 last_grows : (b : Shelf) (list : List Accepted) (ds : List DatedCommand) →
     last_moment list ≤ last_moment (after_commands b list ds)
 last_grows b list [] = omega arith

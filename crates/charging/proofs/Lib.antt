@@ -36,3 +36,9 @@ pub mod EarlyOutcomes
 pub mod EarlyRows
 pub mod EarlyHistories
 pub mod JoinedRuns
+pub mod RedeemedCodes
+pub mod StepsAt
+pub mod DeadFacts
+pub mod DeadRows
+pub mod Opened
+pub mod BalanceOrder

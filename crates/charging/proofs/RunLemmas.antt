@@ -1,7 +1,7 @@
 -- The answers and the list of accepted commands as a run goes on.
 use Rattle.std.proofs.Common.{◌≡◌, ◌+◌, ◌≤◌, Bool, true, false, List, [], ◌∷◌, ◌++◌, length, take}
-use Rattle.std.proofs.Common.{refl, sym, ap, subst, ◌∙◌, arith}
-use Rattle.std.proofs.lemmas.List.{length-append}
+use Rattle.std.proofs.Common.{refl, sym, ap, subst, ◌∙◌, arith, suc, drop}
+use Rattle.std.proofs.lemmas.List.{length-append, append_assoc, take-append-drop}
 use Rattle.std.proofs.Math.Seq.{take-append_seam}
 use Rattle.std.proofs.Math.Nat.{le-max_right}
 use Rattle.std.specs.Prelude.{if◌then◌else◌}
@@ -11,7 +11,7 @@ use Rattle.keepers.specs.Tables.{Tables}
 use Rattle.charging.specs.Accepted.{Accepted, last_moment, IsInTime}
 use Rattle.charging.specs.declared.running.DatedCommand.{DatedCommand}
 use Rattle.charging.specs.Served.{AreTables, moment_of, answer_to, accepts, IsServed}
-use Rattle.charging.specs.Runs.{after_command, answers_to, after_commands, IsRun}
+use Rattle.charging.specs.Runs.{after_command, answers_to, after_commands, IsRun, IsRunOfBoth}
 
 -- ---- one command more
 
@@ -90,3 +90,44 @@ begun-length commands ds rest given all count =
     let long : length ds + length rest ≡ length commands = sym (length-append ds rest)
     ∙ ap length all in
     omega (arith, long, count)
+
+-- ---- one run after another
+
+pub answers_after : (b : Shelf) (list : List Accepted) (xs ys : List DatedCommand) →
+    answers_to b list (xs ++ ys) ≡
+    answers_to b list xs ++ answers_to b (after_commands b list xs) ys
+answers_after b list [] ys = refl
+answers_after b list (x ∷ xs) ys =
+    ap (λ (given : List Answer). answer_to b list x.command (moment_of list x.moment) ∷ given)
+    (answers_after b (after_command b list x) xs ys)
+
+pub answers_count : (b : Shelf) (list : List Accepted) (ds : List DatedCommand) →
+    length (answers_to b list ds) ≡ length ds
+answers_count b list [] = refl
+answers_count b list (d ∷ ds) = ap suc (answers_count b (after_command b list d) ds)
+
+both_so_far : (b : Shelf) (list : List Accepted) (xs ys : List DatedCommand) (new : Tables)
+    (given more : List Answer) → given ≡ answers_to b list xs →
+    IsSoFar b (after_commands b list xs) ys new more →
+    IsSoFar b list (xs ++ ys) new (given ++ more)
+both_so_far b list xs ys new given more first second = record {
+  answers = (λ i. first i ++ second.answers i) ∙ sym (answers_after b list xs ys);
+  tables = subst (λ (l : List Accepted). AreTables b l new) (sym (commands_after b list xs ys))
+      second.tables;
+  time = subst IsInTime (sym (commands_after b list xs ys)) second.time;
+}
+
+pub run_of_both : IsRunOfBoth
+run_of_both b list first second between new given more h runs =
+    let xs : List DatedCommand = take (length given) first in
+    let ys : List DatedCommand = take (length more) second in
+    let rest : List DatedCommand = drop (length more) second in
+    let next : IsRun b (after_commands b list xs) second new more =
+    runs (after_commands b list xs) h.time h.tables in
+    let so : IsSoFar b list (xs ++ ys) new (given ++ more) =
+    both_so_far b list xs ys new given more h.answers
+    (record { answers = next.answers; tables = next.tables; time = next.time }) in
+    let all : (xs ++ ys) ++ rest ≡ xs ++ second = append_assoc xs ys rest
+    ∙ ap (λ (cs : List DatedCommand). xs ++ cs) (take-append-drop (length more) second) in
+    run-of b list (xs ++ second) (xs ++ ys) rest new (given ++ more) all
+    (ap length so.answers ∙ answers_count b list (xs ++ ys)) so

@@ -99,13 +99,15 @@ pub record AreRowsBroughtTo (b : Shelf) (t : ℕ) (rows brought : Rows) : Type 0
   pub at : AreListed (advanced_stored b t listed) brought
 
 -- the tables of two runs show an account alike, at a moment that isn't before the last accepted
--- command
-pub record ShowAlike (b : Shelf) (t : ℕ) (a : List ℕ) (x y : Tables) : Type 0 where
+-- command, and so the vouchers whose codes redemptions for it name among these commands
+pub record ShowAlike (b : Shelf) (t : ℕ) (a : List ℕ) (ds : List DatedCommand)
+    (x y : Tables) : Type 0 where
   pub opened : is_some (x.rows a).head ≡ is_some (y.rows a).head
   pub rows : (v w : Rows) → AreRowsBroughtTo b t (x.rows a) v → AreRowsBroughtTo b t (y.rows a) w →
       TellTheSame v w
   pub answers : (k : Key) → x.answers a k ≡ y.answers a k
   pub charges : (n : ℕ) → x.charges a n ≡ y.charges a n
+  pub vouchers : (code : List ℕ) → redeems a code ds ≡ true → x.vouchers code ≡ y.vouchers code
 
 -- in a run from nothing an account's answers are those of its own commands alone, and so are its
 -- rows
@@ -114,7 +116,7 @@ pub record IsIsolated (b : Shelf) (a : List ℕ) (ds : List DatedCommand) : Type
       answers_to b [] (own_commands b (is_own a ds) [] ds)
   pub tables : (t : ℕ) (x y : Tables) → AreTables b (after_commands b [] ds) x →
       AreTables b (after_commands b [] (own_commands b (is_own a ds) [] ds)) y →
-      last_moment (after_commands b [] ds) ≤ t → ShowAlike b t a x y
+      last_moment (after_commands b [] ds) ≤ t → ShowAlike b t a ds x y
   -- where moments never fall, its own commands are those of the run as they were handed in
   pub unmoved : DontFall 0 ds →
       own_commands b (is_own a ds) [] ds ≡ filter (λ d. is_own a ds d.command) ds

@@ -16,3 +16,7 @@ pub mod Repeats
 pub mod Headline
 pub mod Collected
 pub mod LaterBooks
+pub mod RedeemedCodes
+pub mod DeadRows
+pub mod Opening
+pub mod BalanceOrder

@@ -1,7 +1,7 @@
 -- A run of dated commands: the answers, and the list of accepted commands after it.
 -- Source: profile.
-use Rattle.std.specs.Prelude.{◌≡◌, ◌≤◌, ◌<◌, ◌+◌, ℕ, List, [], ◌∷◌, Some, take, length, min, IfNone}
-use Rattle.std.specs.Prelude.{IfSome}
+use Rattle.std.specs.Prelude.{◌≡◌, ◌≤◌, ◌<◌, ◌+◌, ℕ, List, [], ◌∷◌, ◌++◌, Some, take, length, min}
+use Rattle.std.specs.Prelude.{IfNone, IfSome}
 use Rattle.commands.specs.declared.answer.Answer.{Answer}
 use Rattle.charging.specs.declared.answers.Run.{Run}
 use Rattle.charging.specs.declared.running.DatedCommand.{DatedCommand}
@@ -39,6 +39,15 @@ pub record IsRun (b : Shelf) (list : List Accepted) (commands : List DatedComman
 abbrev pub Runs : Shelf → List DatedCommand → Tables → Tables → List Answer → Type 0
 Runs b commands old new given = (list : List Accepted) → IsInTime list → AreTables b list old →
     IsRun b list commands new given
+
+-- one run after another is a run: of the commands that the first one answered, and of the second
+-- one's
+abbrev pub IsRunOfBoth : Type 0
+IsRunOfBoth =
+    (b : Shelf) (list : List Accepted) (first second : List DatedCommand) (between new : Tables)
+    (given more : List Answer) → IsRun b list first between given →
+    Runs b second between new more →
+    IsRun b list (take (length given) first ++ second) new (given ++ more)
 
 -- what a run leaves of a keeper, and where it stops
 pub record RunsOver {K : Type 0} (content : K → Tables) (failed : K → ℕ) (clean : K → Type 0)

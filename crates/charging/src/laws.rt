@@ -7,6 +7,12 @@ ghost use Rattle.reserving.specs.Pricing.{validity_of};
 ghost use Rattle.reserving.specs.SoundLedger.{IsSoundLedger};
 ghost use Rattle.keepers.specs.Tables.{no_tables};
 ghost use Rattle.charging.specs.Accepted.{Accepted, IsInTime};
+ghost use Rattle.charging.specs.Runs.{IsRunOfBoth};
+ghost use Rattle.charging.specs.DeadRows.{DeadRowsStay};
+ghost use Rattle.charging.specs.Opening.{SessionsOpenByGrants};
+ghost use Rattle.charging.specs.BalanceOrder.{BalancesAreByNumber};
+ghost use Rattle.charging.specs.RedeemedCodes.{IsLeftByThese, AreRedeemedOnce};
+ghost use Rattle.charging.specs.RedeemedCodes.{IsRedeemedAtMostOnce};
 ghost use Rattle.charging.specs.Served.{history, AreTables};
 ghost use Rattle.charging.specs.SessionReports.{reports_of};
 ghost use Rattle.charging.specs.Paid.{ArePaid};
@@ -24,12 +30,33 @@ pub fn beginning()
     ensures tables { (b : Shelf) → AreTables b [] no_tables }
 {}
 
+/// One run after another is a run: where the second goes on from what the first one left, the
+/// answers of both, one after the other, are those of the commands that the first one answered and
+/// of the second one's, and the tables are those of all of them.
+pub fn runs_chain()
+    ensures { IsRunOfBoth }
+{}
+
 /// What the ledger of each history is: a session's last touch is recorded, a session without a
 /// record was neither closed nor has anything held or granted, and nothing is charged or held of a
 /// bucket that isn't made yet (profile).
 pub fn soundness()
     ensures { (b : Shelf) (a : List ℕ) (list : List Accepted) →
         IsSoundLedger (history b a list).ledger }
+{}
+
+/// Dead rows are dead for good: a bucket that has nothing available and nothing reserved, a session
+/// that is over or was never opened, and what it used of each group stand as they are, whatever
+/// commands come, and at every later moment (RFC 8506 section 8.2; profile).
+pub fn dead_rows_stay()
+    ensures { DeadRowsStay }
+{}
+
+/// An initial request opens a session exactly where one of its grants is made: services are granted
+/// in the order of the request, each on what the one before it left. Where none is, the request is
+/// denied for its first service's reason (RFC 8506 section 5.2.1).
+pub fn sessions_open_by_grants()
+    ensures { SessionsOpenByGrants }
 {}
 
 /// Each report and each debit of an account has the price of the started blocks that no allowance
@@ -68,6 +95,12 @@ pub fn collection()
         charged_to_date kind (validity_of b) t (history b a list).ledger }
 {}
 
+/// A balance tells each bucket of an account once, in the order of their numbers, as the account's
+/// ledger has it at the moment (TS 32.296, account balance management function).
+pub fn balances_by_number()
+    ensures { BalancesAreByNumber }
+{}
+
 /// Repeats: once a request that isn't a read, a credit, an allowance, a redemption or the addition
 /// of a voucher is accepted, it has one answer for good. Whatever commands stand between, the same
 /// command is answered as the first time and isn't accepted again (RFC 8506 section 8.2; references
@@ -76,10 +109,22 @@ pub fn repeats()
     ensures { AnswersOnce }
 {}
 
-/// Isolation: in a run of commands from nothing an account's answers and rows are those of its own
-/// commands alone: those that name it, and the additions of the vouchers that it redeems, where no
-/// redemption for another account names the code of one. Others and sweeps reach it through the
-/// moments of its commands, and where moments never fall not at all (profile).
+/// A code is redeemed at most once, by whichever accounts: in a run from nothing on at most one
+/// accepted command redeems it, in a run from any accepted commands on one more at most, and none
+/// where the voucher is spent. What stands under each code is what the accepted additions and
+/// redemptions leave of it (profile).
+pub fn codes_redeemed_once()
+    ensures left { IsLeftByThese }
+    ensures more { (shelf : Shelf) (code : List ℕ) (list : List Accepted)
+        (commands : List DatedCommand) → AreRedeemedOnce shelf code list commands }
+    ensures once { IsRedeemedAtMostOnce }
+{}
+
+/// Isolation: in a run of commands from nothing an account's answers and rows, and what stands under
+/// the codes that it redeems, are those of its own commands alone: those that name it, and the
+/// additions of the vouchers that it redeems, where no redemption for another account names the
+/// code of one. Others and sweeps reach it through the moments of its commands, and where moments
+/// never fall not at all (profile).
 pub fn isolation()
     ensures { (shelf : Shelf) → IsShelf shelf → (account : List ℕ) (commands : List DatedCommand) →
         HasOwnCodes account commands → IsIsolated shelf account commands }

@@ -3,17 +3,11 @@ use Rattle.std.proofs.Common.{◌≡◌, Result, Ok, Err, ap}
 use Rattle.office.specs.declared.fault.OfficeFault.{OfficeFault}
 use Rattle.office.specs.declared.status.Status.{Status}
 use Rattle.database_office.specs.declared.fault.DatabaseFault.{DatabaseFault}
-use Rattle.database_office.specs.declared.fault.DatabaseFault.TheVariants.{File, Clock, Book, Open}
-use Rattle.database_office.specs.declared.fault.DatabaseFault.TheVariants.{Net, Memory, Office}
+use Rattle.database_office.specs.declared.fault.DatabaseFault.TheVariants.{Office}
 
 office_fault : OfficeFault → DatabaseFault → OfficeFault
-office_fault other File = other
-office_fault other Clock = other
-office_fault other (Book fault) = other
-office_fault other (Open fault) = other
-office_fault other Net = other
-office_fault other Memory = other
 office_fault other (Office fault) = fault
+office_fault other _ = other
 
 told_fault : OfficeFault → Result Status DatabaseFault → OfficeFault
 told_fault other (Ok status) = other

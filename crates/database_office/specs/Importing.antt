@@ -14,9 +14,7 @@ use Rattle.vouchers.specs.Faults.{is_in_file}
 use Rattle.vouchers.specs.Files.{MayStopAt, vouchers_in}
 use Rattle.database_office.specs.Opening.{IsUnanswered}
 use Rattle.database_office.specs.declared.fault.DatabaseFault.{DatabaseFault}
-use Rattle.database_office.specs.declared.fault.DatabaseFault.TheVariants.{File, Clock}
-use Rattle.database_office.specs.declared.fault.DatabaseFault.TheVariants.{Book as BookFault, Open}
-use Rattle.database_office.specs.declared.fault.DatabaseFault.TheVariants.{Net, Memory, Office}
+use Rattle.database_office.specs.declared.fault.DatabaseFault.TheVariants.{Office}
 use Rattle.database_office.specs.declared.importing.ImportFault.{ImportFault}
 use Rattle.database_office.specs.declared.importing.ImportFault.TheVariants.{Vouchers, Database}
 
@@ -36,15 +34,10 @@ pub record IsFileBegun (b : Shelf) (text : List ℕ) (t : ℕ) (old new : Tables
 -- over a keeper, a fault of the database is the store's or the writer's
 abbrev pub IsOverKeeper : Shelf → List ℕ → ℕ → Tables → Tables → Option (List ℕ) →
     Option (List ℕ) → DatabaseFault → Type 0
-IsOverKeeper b text t old new before after File = ⊥
-IsOverKeeper b text t old new before after Clock = ⊥
-IsOverKeeper b text t old new before after (BookFault fault) = ⊥
-IsOverKeeper b text t old new before after (Open fault) = ⊥
-IsOverKeeper b text t old new before after Net = ⊥
-IsOverKeeper b text t old new before after Memory = ⊥
 IsOverKeeper b text t old new before after (Office (Store fault)) = IsFileBegun b text t old new
 IsOverKeeper b text t old new before after (Office (Write fault)) =
     IsFileImported b text t old new (λ counts. WritesBeginning before after (counts_line counts))
+IsOverKeeper b text t old new before after _ = ⊥
 
 -- one of the text is its first, or reading it stopped, which it may do at that record: then no
 -- table has changed

@@ -5,28 +5,20 @@ use Rattle.sql_keeper.specs.Books.{IsBookFault}
 use Rattle.sql_keeper.specs.declared.create_fault.CreateFault.{CreateFault}
 use Rattle.database_office.specs.Told.{making_fault}
 use Rattle.database_office.specs.declared.fault.DatabaseFault.{DatabaseFault}
-use Rattle.database_office.specs.declared.fault.DatabaseFault.TheVariants.{File, Clock, Book, Open}
-use Rattle.database_office.specs.declared.fault.DatabaseFault.TheVariants.{Net, Memory, Office}
+use Rattle.database_office.specs.declared.fault.DatabaseFault.TheVariants.{File, Book, Open, Memory}
 
 -- the fault is the book's: memory was refused, or it is the first of the text
 abbrev pub IsTextFault : List ℕ → DatabaseFault → Type 0
-IsTextFault text File = ⊥
-IsTextFault text Clock = ⊥
 IsTextFault text (Book fault) = IsBookFault text fault
-IsTextFault text (Open fault) = ⊥
-IsTextFault text Net = ⊥
-IsTextFault text Memory = ⊥
-IsTextFault text (Office fault) = ⊥
+IsTextFault text _ = ⊥
 
 -- one of a file, of a book, of the tables of a database, or of memory
 abbrev pub IsInitFault : DatabaseFault → Type 0
 IsInitFault File = Unit {0}
-IsInitFault Clock = ⊥
 IsInitFault (Book fault) = Unit {0}
 IsInitFault (Open fault) = Unit {0}
-IsInitFault Net = ⊥
 IsInitFault Memory = Unit {0}
-IsInitFault (Office fault) = ⊥
+IsInitFault _ = ⊥
 
 -- this is so of why the tables weren't made, which is told as the fault
 pub record IsNotMade (left : CreateFault → Type 0) (fault : DatabaseFault) : Type 0 where

@@ -5,8 +5,8 @@ use Rattle.sql_opening.specs.declared.fault.OpenFault.{OpenFault}
 use Rattle.office.specs.declared.fault.OfficeFault.{OfficeFault}
 use Rattle.office.specs.declared.fault.OfficeFault.TheVariants as office
 use Rattle.database_office.specs.declared.fault.DatabaseFault.{DatabaseFault}
-use Rattle.database_office.specs.declared.fault.DatabaseFault.TheVariants.{File, Clock, Book, Open}
-use Rattle.database_office.specs.declared.fault.DatabaseFault.TheVariants.{Net, Memory, Office}
+use Rattle.database_office.specs.declared.fault.DatabaseFault.TheVariants.{File, Clock, Open}
+use Rattle.database_office.specs.declared.fault.DatabaseFault.TheVariants.{Memory, Office}
 
 -- this is so of why the tables weren't opened, which is told as the fault
 pub record IsNotFound (left : OpenFault → Type 0) (fault : DatabaseFault) : Type 0 where
@@ -17,32 +17,23 @@ pub record IsNotFound (left : OpenFault → Type 0) (fault : DatabaseFault) : Ty
 -- one of a file, of the tables of its database, or of memory
 abbrev pub IsUnopened : DatabaseFault → Type 0
 IsUnopened File = Unit {0}
-IsUnopened Clock = ⊥
-IsUnopened (Book fault) = ⊥
 IsUnopened (Open fault) = Unit {0}
-IsUnopened Net = ⊥
 IsUnopened Memory = Unit {0}
-IsUnopened (Office fault) = ⊥
+IsUnopened _ = ⊥
 
 -- one of the office's
 abbrev pub IsOfficeFault : DatabaseFault → Type 0
-IsOfficeFault File = ⊥
-IsOfficeFault Clock = ⊥
-IsOfficeFault (Book fault) = ⊥
-IsOfficeFault (Open fault) = ⊥
-IsOfficeFault Net = ⊥
-IsOfficeFault Memory = ⊥
 IsOfficeFault (Office fault) = Unit {0}
+IsOfficeFault _ = ⊥
 
 -- one of a command over a database: of the clock only where the words say no moment
 abbrev pub IsCommandFault : Option ℕ → DatabaseFault → Type 0
 IsCommandFault at File = Unit {0}
 IsCommandFault at Clock = at ≡ None
-IsCommandFault at (Book fault) = ⊥
 IsCommandFault at (Open fault) = Unit {0}
-IsCommandFault at Net = ⊥
 IsCommandFault at Memory = Unit {0}
 IsCommandFault at (Office fault) = Unit {0}
+IsCommandFault at _ = ⊥
 
 -- the command wasn't carried out, so it has no answer
 abbrev pub IsUncarried : OfficeFault → Type 0
@@ -50,20 +41,10 @@ IsUncarried (office.Store fault) = Unit {0}
 IsUncarried (office.Write fault) = ⊥
 
 abbrev pub IsUnanswered : DatabaseFault → Type 0
-IsUnanswered File = Unit {0}
-IsUnanswered Clock = Unit {0}
-IsUnanswered (Book fault) = Unit {0}
-IsUnanswered (Open fault) = Unit {0}
-IsUnanswered Net = Unit {0}
-IsUnanswered Memory = Unit {0}
 IsUnanswered (Office fault) = IsUncarried fault
+IsUnanswered _ = Unit {0}
 
 -- it came before the office was asked
 abbrev pub IsUnasked : DatabaseFault → Type 0
-IsUnasked File = Unit {0}
-IsUnasked Clock = Unit {0}
-IsUnasked (Book fault) = Unit {0}
-IsUnasked (Open fault) = Unit {0}
-IsUnasked Net = Unit {0}
-IsUnasked Memory = Unit {0}
 IsUnasked (Office fault) = ⊥
+IsUnasked _ = Unit {0}

@@ -3,14 +3,20 @@
 use Rattle.std.specs.Prelude.{ℕ, List, codes}
 use Rattle.book_fields.specs.declared.fault.BookFault.{BookFault}
 use Rattle.book_fields.specs.declared.fault.BookFault.TheVariants as book
+use Rattle.shelves.specs.declared.fault.ShelfFault.{ShelfFault}
+use Rattle.shelves.specs.declared.fault.ShelfFault.TheVariants as shelf
 use Rattle.sql_opening.specs.declared.fault.OpenFault.{OpenFault}
 use Rattle.sql_opening.specs.declared.fault.OpenFault.TheVariants as opening
 use Rattle.sql_keeper.specs.declared.create_fault.CreateFault.{CreateFault}
 use Rattle.sql_keeper.specs.declared.create_fault.CreateFault.TheVariants as create
+use Rattle.sql_keeper.specs.declared.add_fault.AddFault.{AddFault}
+use Rattle.sql_keeper.specs.declared.add_fault.AddFault.TheVariants as add
 use Rattle.office.specs.Told.{fault_line as office_line}
+use Rattle.office.specs.declared.fault.OfficeFault.TheVariants.{Store}
 use Rattle.database_office.specs.declared.fault.DatabaseFault.{DatabaseFault}
 use Rattle.database_office.specs.declared.fault.DatabaseFault.TheVariants.{File, Clock, Book, Open}
-use Rattle.database_office.specs.declared.fault.DatabaseFault.TheVariants.{Net, Memory, Office}
+use Rattle.database_office.specs.declared.fault.DatabaseFault.TheVariants.{Shelf, Net, Memory}
+use Rattle.database_office.specs.declared.fault.DatabaseFault.TheVariants.{Office}
 
 abbrev pub book_line : BookFault → List ℕ
 book_line book.NotToml = codes "ocs: book fault 1"
@@ -29,6 +35,15 @@ open_line opening.Version = codes "ocs: open fault 2"
 open_line opening.Rules = codes "ocs: open fault 3"
 open_line opening.Store = codes "ocs: open fault 4"
 open_line opening.Memory = codes "ocs: open fault 5"
+open_line opening.Older = codes "ocs: open fault 6"
+
+abbrev pub shelf_line : ShelfFault → List ℕ
+shelf_line shelf.Memory = codes "ocs: shelf fault 1"
+shelf_line shelf.Full = codes "ocs: shelf fault 2"
+shelf_line shelf.TooEarly = codes "ocs: shelf fault 3"
+shelf_line shelf.OtherZone = codes "ocs: shelf fault 4"
+shelf_line shelf.GroupMissing = codes "ocs: shelf fault 5"
+shelf_line shelf.GroupDiffers = codes "ocs: shelf fault 6"
 
 -- a fault's line, without its line feed
 abbrev pub fault_line : DatabaseFault → List ℕ
@@ -36,6 +51,7 @@ fault_line File = codes "ocs: file fault"
 fault_line Clock = codes "ocs: clock fault"
 fault_line (Book fault) = book_line fault
 fault_line (Open fault) = open_line fault
+fault_line (Shelf fault) = shelf_line fault
 fault_line Net = codes "ocs: net fault"
 fault_line Memory = codes "ocs: memory fault"
 fault_line (Office fault) = office_line fault
@@ -46,3 +62,9 @@ making_fault (create.Book fault) = Book fault
 making_fault create.Present = Open opening.Foreign
 making_fault create.Store = Open opening.Store
 making_fault create.Memory = Open opening.Memory
+
+-- a book that isn't added is told by its cause, one of the store as of a command
+abbrev pub adding_fault : AddFault → DatabaseFault
+adding_fault (add.Book fault) = Book fault
+adding_fault (add.Shelf fault) = Shelf fault
+adding_fault (add.Store fault) = Office (Store fault)

@@ -1,9 +1,12 @@
 ghost use Rattle.std.specs.Prelude.{◌≡◌};
+ghost use Rattle.database_office.specs.Adding.{IsAddingFault};
 ghost use Rattle.database_office.specs.Opening.{IsUnopened};
-ghost use Rattle.database_office.specs.Told.{book_line, fault_line, making_fault, open_line};
+ghost use Rattle.database_office.specs.Told.{adding_fault, book_line, fault_line, making_fault};
+ghost use Rattle.database_office.specs.Told.{open_line, shelf_line};
 
 use office::OfficeFault;
-use sql_keeper::CreateFault;
+use shelves::ShelfFault;
+use sql_keeper::{AddFault, CreateFault};
 use sql_opening::OpenFault;
 use sqlite::{Error, ErrorCode};
 use std::io;
@@ -26,6 +29,9 @@ pub enum DatabaseFault {
     /// The database isn't made or opened for this system.
     #[error("open fault {}", .0.number())]
     Open(OpenFault),
+    /// The book may not follow those of the database.
+    #[error("shelf fault {}", .0.number())]
+    Shelf(ShelfFault),
     /// The port can't be listened to.
     #[error("the port can't be listened to")]
     Net,
@@ -47,6 +53,7 @@ impl DatabaseFault {
             DatabaseFault::Clock => "ocs: clock fault",
             DatabaseFault::Book(fault) => book_line(fault),
             DatabaseFault::Open(fault) => open_line(fault),
+            DatabaseFault::Shelf(fault) => shelf_line(fault),
             DatabaseFault::Net => "ocs: net fault",
             DatabaseFault::Memory => "ocs: memory fault",
             DatabaseFault::Office(fault) => fault.line(),
@@ -81,6 +88,21 @@ fn open_line(fault: OpenFault) -> &'static str
         OpenFault::Rules => "ocs: open fault 3",
         OpenFault::Store => "ocs: open fault 4",
         OpenFault::Memory => "ocs: open fault 5",
+        OpenFault::Older => "ocs: open fault 6",
+    }
+}
+
+/// The line that tells a fault of a shelf.
+fn shelf_line(fault: ShelfFault) -> &'static str
+    ensures { result.now ≡ shelf_line fault }
+{
+    match fault {
+        ShelfFault::Memory => "ocs: shelf fault 1",
+        ShelfFault::Full => "ocs: shelf fault 2",
+        ShelfFault::TooEarly => "ocs: shelf fault 3",
+        ShelfFault::OtherZone => "ocs: shelf fault 4",
+        ShelfFault::GroupMissing => "ocs: shelf fault 5",
+        ShelfFault::GroupDiffers => "ocs: shelf fault 6",
     }
 }
 
@@ -113,5 +135,17 @@ pub(crate) fn making_fault(fault: CreateFault) -> DatabaseFault
         CreateFault::Present => DatabaseFault::Open(OpenFault::Foreign),
         CreateFault::Store => DatabaseFault::Open(OpenFault::Store),
         CreateFault::Memory => DatabaseFault::Open(OpenFault::Memory),
+    }
+}
+
+/// The fault of a book that isn't added.
+pub(crate) fn adding_fault(fault: AddFault) -> DatabaseFault
+    ensures value { result ≡ adding_fault fault }
+    ensures told { IsAddingFault result }
+{
+    match fault {
+        AddFault::Book(fault) => DatabaseFault::Book(fault),
+        AddFault::Shelf(fault) => DatabaseFault::Shelf(fault),
+        AddFault::Store(fault) => DatabaseFault::Office(OfficeFault::Store(fault)),
     }
 }

@@ -12,6 +12,7 @@ use Rattle.json_fields.specs.declared.fault.WireFault.{WireFault}
 use Rattle.json_fields.specs.declared.fault.WireFault.TheVariants.{Invalid}
 use Rattle.json_fields.specs.Gives.{Fails, ◌>>=◌, or_fault}
 use Rattle.wire.specs.Requests.{command_of}
+use Rattle.wire.specs.Allowances.{allowance_of}
 use Rattle.wire.specs.Credits.{credit_of}
 use Rattle.wire.specs.Redeemed.{redemption_of}
 use Rattle.http_heads.specs.Methods.{is_get}
@@ -22,7 +23,7 @@ use Rattle.http_answers.specs.declared.asking.Asked.TheVariants as told
 use Rattle.http_answers.specs.declared.asking.StatementAsked.{StatementAsked}
 use Rattle.http_answers.specs.declared.routes.Route.{Route}
 use Rattle.http_answers.specs.declared.routes.Route.TheVariants.{Ccr, Account, Statement, Credits}
-use Rattle.http_answers.specs.declared.routes.Route.TheVariants.{Redeem, Sweep}
+use Rattle.http_answers.specs.declared.routes.Route.TheVariants.{Allowances, Redeem, Sweep}
 use Rattle.http_answers.specs.Routes.{route_of, serves}
 
 -- a request is refused, read as a command or with a fault, or asks for a statement
@@ -73,6 +74,10 @@ abbrev pub credit_asked : List ℕ → List ℕ → Result Command WireFault
 credit_asked target body =
     account_in target >>= λ a. credit_of a body >>= λ c. Ok (command.Credit c)
 
+abbrev pub allowance_asked : List ℕ → List ℕ → Result Command WireFault
+allowance_asked target body =
+    account_in target >>= λ a. allowance_of a body >>= λ x. Ok (command.Allow x)
+
 abbrev pub redemption_asked : List ℕ → List ℕ → Result Command WireFault
 redemption_asked target body =
     code_in target >>= λ c. redemption_of c body >>= λ r. Ok (command.Redeem r)
@@ -92,6 +97,7 @@ asking_by Ccr method target body = reads (command_of body)
 asking_by Account method target body = reads (account_asked method target)
 asking_by Statement method target body = stated (statement_in target)
 asking_by Credits method target body = reads (credit_asked target body)
+asking_by Allowances method target body = reads (allowance_asked target body)
 asking_by Redeem method target body = reads (redemption_asked target body)
 asking_by Sweep method target body = reads (Ok command.Sweep)
 

@@ -12,7 +12,7 @@ use Rattle.matchit.specs.declared.InsertError.{InsertError}
 use Rattle.http_heads.specs.Methods.{is_get, is_post, is_put}
 use Rattle.http_answers.specs.declared.routes.Route.{Route}
 use Rattle.http_answers.specs.declared.routes.Route.TheVariants.{Ccr, Account, Statement, Credits}
-use Rattle.http_answers.specs.declared.routes.Route.TheVariants.{Redeem, Sweep}
+use Rattle.http_answers.specs.declared.routes.Route.TheVariants.{Allowances, Redeem, Sweep}
 
 abbrev pub Routes : Type 0
 Routes = RowsOf (RouteOf Route)
@@ -29,10 +29,11 @@ added text value rows = added_read (parse_route text) value rows
 unfoldable pub table : Routes
 table = added (codes "/sweep") Sweep
     (added (codes "/vouchers/{code}/redeem") Redeem
+    (added (codes "/accounts/{a}/allowances") Allowances
     (added (codes "/accounts/{a}/credits") Credits
     (added (codes "/accounts/{a}/statement/{yyyymm}") Statement
     (added (codes "/accounts/{a}") Account
-    (added (codes "/ccr") Ccr [])))))
+    (added (codes "/ccr") Ccr []))))))
 
 -- the methods of each row
 abbrev pub serves : Route → List ℕ → Bool
@@ -40,6 +41,7 @@ serves Ccr method = is_post method
 serves Account method = is_get method || is_put method
 serves Statement method = is_get method
 serves Credits method = is_post method
+serves Allowances method = is_post method
 serves Redeem method = is_post method
 serves Sweep method = is_post method
 

@@ -6,9 +6,9 @@ ghost use Rattle.json_fields.specs.declared.fault.WireFault.{WireFault};
 ghost use Rattle.http_heads.specs.Requests.{seen};
 ghost use Rattle.http_answers.specs.Routes.{table};
 ghost use Rattle.http_answers.specs.Asking.{is_slash, second_part, fourth_part, account_command};
-ghost use Rattle.http_answers.specs.Asking.{account_in, account_asked, code_in, credit_asked};
-ghost use Rattle.http_answers.specs.Asking.{month_in, redemption_asked, statement_in, reads};
-ghost use Rattle.http_answers.specs.Asking.{stated, asking_by, asked_of, IsAsked};
+ghost use Rattle.http_answers.specs.Asking.{account_in, account_asked, allowance_asked, code_in};
+ghost use Rattle.http_answers.specs.Asking.{credit_asked, month_in, redemption_asked, statement_in};
+ghost use Rattle.http_answers.specs.Asking.{reads, stated, asking_by, asked_of, IsAsked};
 ghost use Rattle.http_answers.specs.declared.asking.StatementAsked.{StatementAsked};
 
 use crate::routes::{Route, is_get, route_of};
@@ -18,7 +18,7 @@ use http_heads::Request;
 use identifiers::{AccountNumber, VoucherCode};
 use matchit::Router;
 use std::alloc::Global;
-use wire::{WireFault, read_credit, read_redeem, read_request};
+use wire::{WireFault, read_allow, read_credit, read_redeem, read_request};
 use written_numbers::Month;
 
 /// A statement that is asked for.
@@ -127,6 +127,14 @@ fn read_credits(alloc: Global, target: &str, body: &[u8]) -> Result<Command, Wir
     Ok(Command::Credit(read_credit(alloc, account, body)?))
 }
 
+/// The allowance of the account in a path.
+fn read_allowance(alloc: Global, target: &str, body: &[u8]) -> Result<Command, WireFault>
+    ensures { Gives (λ c. c) result (allowance_asked target.now body.now) }
+{
+    let account = account_in(alloc, target)?;
+    Ok(Command::Allow(read_allow(alloc, account, body)?))
+}
+
 /// The redemption of the voucher in a path.
 fn read_redemption(alloc: Global, target: &str, body: &[u8]) -> Result<Command, WireFault>
     ensures { Gives (λ c. c) result (redemption_asked target.now body.now) }
@@ -176,6 +184,7 @@ fn asked_by(alloc: Global, route: Route, method: &Method, target: &str, body: &[
         Route::Account => told(read_account(alloc, method, target)),
         Route::Statement => told_statement(read_statement(alloc, target)),
         Route::Credits => told(read_credits(alloc, target, body)),
+        Route::Allowances => told(read_allowance(alloc, target, body)),
         Route::Redeem => told(read_redemption(alloc, target, body)),
         Route::Sweep => Asked::Does(Command::Sweep),
     }

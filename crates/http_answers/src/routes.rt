@@ -18,6 +18,8 @@ pub enum Route {
     Statement,
     /// `/accounts/{a}/credits`: the credits of an account.
     Credits,
+    /// `/accounts/{a}/allowances`: the allowances of an account.
+    Allowances,
     /// `/vouchers/{code}/redeem`: the redemption of a voucher.
     Redeem,
     /// `/sweep`: a sweep.
@@ -55,6 +57,7 @@ impl Route {
             Route::Account => is_get(method) || is_put(method),
             Route::Statement => is_get(method),
             Route::Credits => is_post(method),
+            Route::Allowances => is_post(method),
             Route::Redeem => is_post(method),
             Route::Sweep => is_post(method),
         }
@@ -82,6 +85,7 @@ fn api_router(alloc: Global) -> Result<Router<Route>, InsertError>
         Route::Statement,
     )?;
     add(&mut router, "/accounts/{a}/credits", Route::Credits)?;
+    add(&mut router, "/accounts/{a}/allowances", Route::Allowances)?;
     add(&mut router, "/vouchers/{code}/redeem", Route::Redeem)?;
     add(&mut router, "/sweep", Route::Sweep)?;
     Ok(router)

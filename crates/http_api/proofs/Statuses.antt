@@ -14,7 +14,7 @@ use Rattle.http_answers.specs.Routes.{route_of, serves}
 use Rattle.http_answers.specs.declared.asking.StatementAsked.{StatementAsked}
 use Rattle.http_answers.specs.declared.routes.Route.{Route}
 use Rattle.http_answers.specs.declared.routes.Route.TheVariants.{Ccr, Account, Statement, Credits}
-use Rattle.http_answers.specs.declared.routes.Route.TheVariants.{Redeem, Sweep}
+use Rattle.http_answers.specs.declared.routes.Route.TheVariants.{Allowances, Redeem, Sweep}
 use Rattle.http_api.specs.Replies.{Reply, reply_at, statement_at, IsReply}
 
 -- ---- what a request asks
@@ -35,6 +35,7 @@ by_says Ccr method target body = tt
 by_says Account method target body = tt
 by_says Statement method target body = stated_says (statement_in target)
 by_says Credits method target body = tt
+by_says Allowances method target body = tt
 by_says Redeem method target body = tt
 by_says Sweep method target body = tt
 

@@ -120,14 +120,9 @@ keeps_of old new e = subst (Keeps old) (sym e) (Keeps-refl old)
 -- nothing is told of what is done, but the faults of connections
 done_said : (texts : List Text) (said : ProgramWords) (old new : Option (List ℕ)) →
     IsSaid texts said → IsToldAtEnd said old new → Keeps old new ⊎ ServesConnections texts old new
-done_said texts (words.Once once) old new h told = inl (keeps_of old new told)
-done_said texts (words.Init init) old new h told = inl (keeps_of old new told)
 done_said texts (words.Serve serve) old new h told =
     inr (record { serve = serve; says = h; told = told })
-done_said texts (words.Import import) old new h told = inl (keeps_of old new told)
-done_said texts (words.Office office) old new h told = inl (keeps_of old new told)
-done_said texts (words.Statement statement) old new h told = inl (keeps_of old new told)
-done_said texts (words.Replay replay) old new h told = inl (keeps_of old new told)
+done_said texts _ old new h told = inl (keeps_of old new told)
 
 pub told_said : (texts : List Text) (said : ProgramWords) (before after : Option (List ℕ))
     (status : Status) (old new : Option (List ℕ)) → IsSaid texts said →
@@ -154,12 +149,7 @@ once_said texts said P once h if k =
 pub not_once : (texts : List Text) (said : ProgramWords) → IsSaid texts said →
     ((once : OnceWords) → IsSaid texts (words.Once once) → ⊥) → IfOnce said (λ _. ⊥)
 not_once texts (words.Once once) h other = other once h
-not_once texts (words.Init init) h other = tt
-not_once texts (words.Serve serve) h other = tt
-not_once texts (words.Import import) h other = tt
-not_once texts (words.Office office) h other = tt
-not_once texts (words.Statement statement) h other = tt
-not_once texts (words.Replay replay) h other = tt
+not_once texts _ h other = tt
 
 pub ends_read : (status : Status) → IsEndBy status → status ≡ Unread → ⊥
 ends_read status end e = subst IsEndBy e end
@@ -168,13 +158,9 @@ ends_read status end e = subst IsEndBy e end
 
 refused_told : (said : ProgramWords) (before after old new : Option (List ℕ)) →
     IsRefused said before after → IsToldAtEnd said old new → Keeps old new
-refused_told (words.Once once) before after old new refused told = absurd refused
-refused_told (words.Init init) before after old new refused told = absurd refused
-refused_told (words.Serve serve) before after old new refused told = absurd refused
-refused_told (words.Import import) before after old new refused told = absurd refused
 refused_told (words.Office office) before after old new refused told = keeps_of old new told
 refused_told (words.Statement statement) before after old new refused told = keeps_of old new told
-refused_told (words.Replay replay) before after old new refused told = absurd refused
+refused_told _ before after old new refused told = absurd refused
 
 -- what ends by itself
 pub ended_told : (said : ProgramWords) (before after : Option (List ℕ)) (status : Status)
@@ -215,12 +201,7 @@ answered_ends Unread old new printed = subst IsRead (sym printed.is) (is_read pr
 -- nothing is printed before a fault of a file of vouchers
 silent_vouchers : (said : ProgramWords) (f : VoucherFault) → IsSilent said (program.Vouchers f)
 silent_vouchers (words.Once once) f = tt
-silent_vouchers (words.Init init) f = tt
-silent_vouchers (words.Serve serve) f = tt
-silent_vouchers (words.Import import) f = tt
-silent_vouchers (words.Office office) f = tt
-silent_vouchers (words.Statement statement) f = tt
-silent_vouchers (words.Replay replay) f = tt
+silent_vouchers _ f = tt
 
 -- a fault by its line, or want of memory for that
 tells_as : (said : ProgramWords) (before after : Option (List ℕ)) (f : ProgramFault)
@@ -265,26 +246,21 @@ pub once_ends : (said : ProgramWords) (before after : Option (List ℕ))
     status ≡ Failed → IfOnce said P
 once_ends (words.Once once) before after status P ended failed =
     absurd (subst (IsEnded ⊥) failed ended)
-once_ends (words.Init init) before after status P ended failed = tt
-once_ends (words.Serve serve) before after status P ended failed = tt
-once_ends (words.Import import) before after status P ended failed = tt
-once_ends (words.Office office) before after status P ended failed = tt
-once_ends (words.Statement statement) before after status P ended failed = tt
-once_ends (words.Replay replay) before after status P ended failed = tt
+once_ends _ before after status P ended failed = tt
 
 -- words that print one line are never refused
 pub line_ends : (said : ProgramWords) (before after : Option (List ℕ)) (status : Status)
     (P : List ℕ → Type 0) → IsEnded (IsRefused said before after) status → status ≡ Failed →
     IfSome (line_of said) P
-line_ends (words.Once once) before after status P ended failed = tt
 line_ends (words.Init init) before after status P ended failed =
+    absurd (subst (IsEnded ⊥) failed ended)
+line_ends (words.Migrate migrate) before after status P ended failed =
+    absurd (subst (IsEnded ⊥) failed ended)
+line_ends (words.Book book) before after status P ended failed =
     absurd (subst (IsEnded ⊥) failed ended)
 line_ends (words.Serve serve) before after status P ended failed =
     absurd (subst (IsEnded ⊥) failed ended)
-line_ends (words.Import import) before after status P ended failed = tt
-line_ends (words.Office office) before after status P ended failed = tt
-line_ends (words.Statement statement) before after status P ended failed = tt
-line_ends (words.Replay replay) before after status P ended failed = tt
+line_ends _ before after status P ended failed = tt
 
 -- what is so of one said of all that the words say
 pub line_said : (texts : List Text) (said other : ProgramWords) (P : List ℕ → Type 0) →

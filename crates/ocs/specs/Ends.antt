@@ -23,53 +23,30 @@ use Rattle.operator.specs.declared.parsed.ProgramWords.TheVariants as words
 -- this is so of the words of `once`
 abbrev pub IfOnce : ProgramWords → (OnceWords → Type 0) → Type 0
 IfOnce (words.Once once) says = says once
-IfOnce (words.Init init) says = Unit {0}
-IfOnce (words.Serve serve) says = Unit {0}
-IfOnce (words.Import import) says = Unit {0}
-IfOnce (words.Office office) says = Unit {0}
-IfOnce (words.Statement statement) says = Unit {0}
-IfOnce (words.Replay replay) says = Unit {0}
+IfOnce _ says = Unit {0}
 
 -- their command adds a file of vouchers
 abbrev pub Imports : ProgramWords → Type 0
-Imports (words.Once once) = ⊥
-Imports (words.Init init) = ⊥
-Imports (words.Serve serve) = ⊥
 Imports (words.Import import) = Unit {0}
-Imports (words.Office office) = ⊥
-Imports (words.Statement statement) = ⊥
-Imports (words.Replay replay) = ⊥
+Imports _ = ⊥
 
 -- it works over a database
 abbrev pub Stores : ProgramWords → Type 0
 Stores (words.Once once) = ⊥
-Stores (words.Init init) = Unit {0}
-Stores (words.Serve serve) = Unit {0}
-Stores (words.Import import) = Unit {0}
-Stores (words.Office office) = Unit {0}
-Stores (words.Statement statement) = Unit {0}
-Stores (words.Replay replay) = Unit {0}
+Stores _ = Unit {0}
 
 -- a refusal of it is printed: of an operator's command, or that the account of a statement isn't
 -- there; no other is refused
 abbrev pub IsRefused : ProgramWords → Option (List ℕ) → Option (List ℕ) → Type 0
-IsRefused (words.Once once) old new = ⊥
-IsRefused (words.Init init) old new = ⊥
-IsRefused (words.Serve serve) old new = ⊥
-IsRefused (words.Import import) old new = ⊥
 IsRefused (words.Office office) old new = PrintsAnswer Failed old new
 IsRefused (words.Statement statement) old new = Appends old new unknown_line
-IsRefused (words.Replay replay) old new = ⊥
+IsRefused _ old new = ⊥
 
 -- an import has printed its counts, an operator's command its answer, with which it ends so
 abbrev pub HasPrinted : ProgramWords → Option (List ℕ) → Option (List ℕ) → Status → Type 0
-HasPrinted (words.Once once) old new status = Unit {0}
-HasPrinted (words.Init init) old new status = Unit {0}
-HasPrinted (words.Serve serve) old new status = Unit {0}
 HasPrinted (words.Import import) old new status = PrintsCounts old new
 HasPrinted (words.Office office) old new status = PrintsAnswer status old new
-HasPrinted (words.Statement statement) old new status = Unit {0}
-HasPrinted (words.Replay replay) old new status = Unit {0}
+HasPrinted _ old new status = Unit {0}
 
 -- the words say something that is so
 pub record Says (texts : List Text) (Is : ProgramWords → Type 0) : Type 0 where

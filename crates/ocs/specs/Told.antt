@@ -52,13 +52,11 @@ invalid_line = codes "ocs: a word is not one that its place takes"
 
 -- the line of words that print one alone
 abbrev pub line_of : ProgramWords → Option (List ℕ)
-line_of (words.Once once) = None
 line_of (words.Init init) = Some (codes "ok\n")
+line_of (words.Migrate migrate) = Some (codes "version 3\n")
+line_of (words.Book book) = Some (codes "ok\n")
 line_of (words.Serve serve) = Some (listening_line serve.port)
-line_of (words.Import import) = None
-line_of (words.Office office) = None
-line_of (words.Statement statement) = None
-line_of (words.Replay replay) = None
+line_of _ = None
 
 -- ---- what isn't printed
 
@@ -72,35 +70,30 @@ AreUnread (Write fault) = ⊥
 -- this is so of a fault of lines
 abbrev pub IfLines : ProgramFault → (LinesFault → Type 0) → Type 0
 IfLines (program.Lines fault) says = says fault
-IfLines (program.Stream fault) says = Unit {0}
-IfLines (program.Database fault) says = Unit {0}
-IfLines (program.Vouchers fault) says = Unit {0}
+IfLines _ says = Unit {0}
 
 -- of a stream's
 abbrev pub IfStream : ProgramFault → (StreamFault → Type 0) → Type 0
-IfStream (program.Lines fault) says = Unit {0}
 IfStream (program.Stream fault) says = says fault
-IfStream (program.Database fault) says = Unit {0}
-IfStream (program.Vouchers fault) says = Unit {0}
+IfStream _ says = Unit {0}
 
 -- of a database's
 abbrev pub IfDatabase : ProgramFault → (DatabaseFault → Type 0) → Type 0
-IfDatabase (program.Lines fault) says = Unit {0}
-IfDatabase (program.Stream fault) says = Unit {0}
 IfDatabase (program.Database fault) says = says fault
-IfDatabase (program.Vouchers fault) says = Unit {0}
+IfDatabase _ says = Unit {0}
 
--- nothing is printed before this fault: of `once` and `replay` the lines weren't read, of `init` the
--- database isn't made, of `serve` the port isn't listened to, of a statement the office isn't asked,
--- of others there is no answer; so it is of each fault that the words don't come to
+-- nothing is printed before this fault: of `once` and `replay` the lines weren't read, of `init`,
+-- `migrate` and `book` the database isn't made or changed, of `serve` the port isn't listened to, of a
+-- statement the office isn't asked, of others there is no answer; so it is of each fault that the
+-- words don't come to
 abbrev pub IsSilent : ProgramWords → ProgramFault → Type 0
 IsSilent (words.Once once) fault = IfLines fault AreUnread
-IsSilent (words.Init init) fault = IfStream fault (λ _. ⊥)
 IsSilent (words.Serve serve) fault = IfDatabase fault IsUnlistened
 IsSilent (words.Import import) fault = IfDatabase fault IsUnanswered
 IsSilent (words.Office office) fault = IfDatabase fault IsUnanswered
 IsSilent (words.Statement statement) fault = IfDatabase fault IsUnasked
 IsSilent (words.Replay replay) fault = IfLines fault AreUnread
+IsSilent _ fault = IfStream fault (λ _. ⊥)
 
 -- then the output is as it was
 abbrev pub LeavesOutput : ProgramWords → Option (List ℕ) → Option (List ℕ) → ProgramFault → Type 0
@@ -182,13 +175,8 @@ IsToldOf fault.Memory status old new = TellsFault ⊥ ⊥ (λ _. Unit {0}) old n
 
 -- what is told of what ends well, or is refused
 abbrev pub IsToldAtEnd : ProgramWords → Option (List ℕ) → Option (List ℕ) → Type 0
-IsToldAtEnd (words.Once once) old new = new ≡ old
-IsToldAtEnd (words.Init init) old new = new ≡ old
 IsToldAtEnd (words.Serve serve) old new = ConnectionsTold serve.connections old new
-IsToldAtEnd (words.Import import) old new = new ≡ old
-IsToldAtEnd (words.Office office) old new = new ≡ old
-IsToldAtEnd (words.Statement statement) old new = new ≡ old
-IsToldAtEnd (words.Replay replay) old new = new ≡ old
+IsToldAtEnd _ old new = new ≡ old
 
 abbrev pub IsToldBy : ProgramWords → Option (List ℕ) → Option (List ℕ) → Status →
     Option (List ℕ) → Option (List ℕ) → Type 0

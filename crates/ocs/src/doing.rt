@@ -13,8 +13,9 @@ ghost use Rattle.ocs.specs.Told.{IfLines, IsReached, IsReachedByLines, IsSilent,
 ghost use Rattle.ocs.specs.Told.{AreUnread, line_of};
 
 use crate::fault::ProgramFault;
+use crate::making::{answer_book, answer_init, answer_migrate};
 use crate::serving::answer_serve;
-use crate::storing::{answer_import, answer_init, answer_office, answer_replay, answer_statement};
+use crate::storing::{answer_import, answer_office, answer_replay, answer_statement};
 use keepers::MemoryKeeper;
 use office::Status;
 use one_price::once_book;
@@ -58,6 +59,8 @@ pub(crate) fn do_said<I: Read, O: Write, E: Write>(
     match said {
         ProgramWords::Once(once) => answer_once(rt.alloc(), once, input, output),
         ProgramWords::Init(init) => answer_init(rt, &init, output),
+        ProgramWords::Migrate(migrate) => answer_migrate(rt, &migrate, output),
+        ProgramWords::Book(book) => answer_book(rt, &book, output),
         ProgramWords::Serve(serve) => answer_serve(rt, &serve, output, errors),
         ProgramWords::Import(import) => answer_import(rt, import, output),
         ProgramWords::Office(office) => answer_office(rt, office, output),

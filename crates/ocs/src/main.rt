@@ -3,6 +3,7 @@
 
 mod doing;
 mod fault;
+mod making;
 mod serving;
 mod storing;
 mod telling;

@@ -1,54 +1,26 @@
-//! What words say that work over a database.
+//! What words say that work over what a database holds.
 
-ghost use Rattle.std.specs.Prelude.{◌≡◌, ◌++◌, ◌∷◌, [], codes, IfErr, IfOk, None, OnErr, OnOk};
+ghost use Rattle.std.specs.Prelude.{◌≡◌, IfErr, IfOk, None, OnOk};
 ghost use Rattle.std.specs.Io.KnownBytes.{Appends};
 ghost use Rattle.database_office.specs.Opening.{IsUnanswered, IsUnasked};
 ghost use Rattle.office.specs.Months.{unknown_line};
 ghost use Rattle.office.specs.Printed.{IsEnded, PrintsAnswer, PrintsCounts};
-ghost use Rattle.office.specs.Written.{WritesBeginning};
 ghost use Rattle.office.specs.declared.status.Status.TheVariants.{Failed};
 ghost use Rattle.request_lines.specs.Served.{AnswersLines};
-ghost use Rattle.ocs.specs.Told.{IfDatabase, IfLines, IfStream, IsReached, IsReachedByLines};
-ghost use Rattle.ocs.specs.Told.{AreUnread};
+ghost use Rattle.ocs.specs.Told.{AreUnread, IfDatabase, IfLines, IsReached, IsReachedByLines};
 
 use crate::fault::ProgramFault;
-use byte_streams::{StreamFault, write_whole};
+use byte_streams::StreamFault;
 use database_office::{
-    ImportFault, Office, command_office, import_office, make_database, open_file, open_office,
-    state_office,
+    ImportFault, Office, command_office, import_office, open_file, open_office, state_office,
 };
 use keepers::Keeper;
 use office::Status;
-use operator::{ImportWords, InitWords, OfficeWords, ReplayWords, StatementWords};
+use operator::{ImportWords, OfficeWords, ReplayWords, StatementWords};
 use request_lines::{LinesFault, lines};
 use shelves::TariffShelf;
 use std::alloc::Global;
 use std::io::{BufReader, Read, Write};
-
-/// Makes the database of a tariff book, and says that it is made.
-#[tactic(auto, using(office::proofs::Beginnings::nothing_written, office::proofs::Beginnings::some_written))]
-pub(crate) fn answer_init<O: Write>(
-    rt: &HostRuntime,
-    init: &InitWords,
-    output: &mut O,
-) -> Result<Status, ProgramFault>
-    ensures ended { IfOk result (IsEnded ⊥) }
-    ensures reached { IfErr result (IsReached ⊥ (Unit {0})) }
-    ensures done { OnOk result (Appends (O.contents output.old) (O.contents output.new)
-        (codes "ok\n")) }
-    ensures begun { OnErr result (WritesBeginning (O.contents output.old) (O.contents output.new)
-        (codes "ok\n")) }
-    ensures unwritten { IfErr result (λ fault.
-        IfStream fault (λ _. ⊥) → output.new ≡ output.old) }
-{
-    if let Err(fault) = make_database(rt, init) {
-        return Err(ProgramFault::Database(fault));
-    }
-    match write_whole(output, b"ok\n") {
-        Ok(()) => Ok(Status::Done),
-        Err(fault) => Err(ProgramFault::Stream(fault)),
-    }
-}
 
 /// Carries out an operator's command.
 #[tactic(auto, using(crate::proofs::EndLemmas::answered_ends))]

@@ -40,29 +40,19 @@ pub record TellsFaults (count : ℕ) (old new : Option (List ℕ)) : Type 0 wher
 -- a fault of the database, of the port, or of the line that tells it
 abbrev pub IsServeFault : DatabaseFault → Type 0
 IsServeFault database.File = Unit {0}
-IsServeFault database.Clock = ⊥
-IsServeFault (database.Book fault) = ⊥
 IsServeFault (database.Open fault) = Unit {0}
 IsServeFault database.Net = Unit {0}
 IsServeFault database.Memory = Unit {0}
-IsServeFault (database.Office fault) = ⊥
+IsServeFault _ = ⊥
 
 -- one after which nothing is told of the port
 abbrev pub IsUnlistened : DatabaseFault → Type 0
 IsUnlistened database.File = ⊥
-IsUnlistened database.Clock = Unit {0}
-IsUnlistened (database.Book fault) = Unit {0}
-IsUnlistened (database.Open fault) = Unit {0}
-IsUnlistened database.Net = Unit {0}
 IsUnlistened database.Memory = ⊥
-IsUnlistened (database.Office fault) = Unit {0}
+IsUnlistened _ = Unit {0}
 
 -- one of telling it
 abbrev pub IsTellFault : DatabaseFault → Type 0
 IsTellFault database.File = Unit {0}
-IsTellFault database.Clock = ⊥
-IsTellFault (database.Book fault) = ⊥
-IsTellFault (database.Open fault) = ⊥
-IsTellFault database.Net = ⊥
 IsTellFault database.Memory = Unit {0}
-IsTellFault (database.Office fault) = ⊥
+IsTellFault _ = ⊥

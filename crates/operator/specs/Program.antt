@@ -43,6 +43,13 @@ abbrev pub init_app : App
 init_app = with_rule (with_rule (new_app (codes "init"))
     (operand (codes "DB"))) (operand (codes "BOOK"))
 
+abbrev pub migrate_app : App
+migrate_app = with_rule (new_app (codes "migrate")) (operand (codes "DB"))
+
+abbrev pub book_app : App
+book_app = with_rule (with_rule (with_rule (new_app (codes "book"))
+    (operand (codes "DB"))) (operand (codes "FILE"))) (needed (codes "from"))
+
 abbrev pub serve_app : App
 serve_app = with_rule (with_rule (with_rule (with_rule (new_app (codes "serve"))
     (operand (codes "DB"))) (needed (codes "port"))) (needed (codes "connections"))) at
@@ -68,6 +75,16 @@ abbrev pub credit_app : App
 credit_app = with_rule (with_rule (with_rule credit_operands_app
     (option (codes "until"))) (option (codes "scope"))) at
 
+abbrev pub allow_operands_app : App
+allow_operands_app = with_rule (with_rule (with_rule (with_rule (new_app (codes "allow"))
+    (operand (codes "DB"))) (operand (codes "ACCOUNT"))) (operand (codes "BLOCKS")))
+    (operand (codes "REFERENCE"))
+
+-- an allowance is of one rating group
+abbrev pub allow_app : App
+allow_app = with_rule (with_rule (with_rule allow_operands_app
+    (option (codes "until"))) (needed (codes "scope"))) at
+
 abbrev pub statement_app : App
 statement_app = with_rule (with_rule (with_rule (with_rule (with_rule (new_app (codes "statement"))
     (operand (codes "DB"))) (operand (codes "ACCOUNT"))) (operand (codes "YYYYMM")))
@@ -86,8 +103,11 @@ top_app = let empty = new_app (codes "ocs") in
 abbrev pub first_app : App
 first_app = with_subcommand (with_subcommand top_app once_app.top) init_app.top
 
+abbrev pub books_app : App
+books_app = with_subcommand (with_subcommand first_app migrate_app.top) book_app.top
+
 abbrev pub files_app : App
-files_app = with_subcommand (with_subcommand first_app serve_app.top) import_app.top
+files_app = with_subcommand (with_subcommand books_app serve_app.top) import_app.top
 
 abbrev pub accounts_app : App
 accounts_app = with_subcommand (with_subcommand (with_subcommand files_app
@@ -95,7 +115,8 @@ accounts_app = with_subcommand (with_subcommand (with_subcommand files_app
     (account_app (codes "unbar")).top
 
 abbrev pub office_app : App
-office_app = with_subcommand (with_subcommand accounts_app sweep_app.top) credit_app.top
+office_app = with_subcommand (with_subcommand (with_subcommand accounts_app
+    sweep_app.top) credit_app.top) allow_app.top
 
 abbrev pub program_app : App
 program_app = with_subcommand (with_subcommand office_app statement_app.top) replay_app.top

@@ -11,6 +11,7 @@ use Rattle.clap.specs.declared.error.kind.ErrorKind.TheVariants.{OutOfMemory}
 use Rattle.operator.specs.declared.fault.ValueFault.TheVariants as value
 use Rattle.operator.specs.declared.fault.WordsFault.{WordsFault}
 use Rattle.operator.specs.declared.fault.WordsFault.TheVariants.{Unread, Invalid, Memory}
+use Rattle.operator.specs.declared.parsed.BookWords.{BookWords}
 use Rattle.operator.specs.declared.parsed.ImportWords.{ImportWords}
 use Rattle.operator.specs.declared.parsed.OfficeCommand.{OfficeCommand}
 use Rattle.operator.specs.declared.parsed.OfficeCommand.TheVariants as office
@@ -70,16 +71,19 @@ pub record IsServeInRange (serve : ServeWords) : Type 0 where
   pub connections : (1 ≤ serve.connections) × (serve.connections ≤ 1_000_000)
   pub at : IsAtInRange serve.at
 
+-- a book holds from a moment of a command on
+abbrev pub IsBookInRange : BookWords → Type 0
+IsBookInRange book = book.from ≤ 4_102_444_799
+
 abbrev pub IsImportInRange : ImportWords → Type 0
 IsImportInRange import = IsAtInRange import.at
 
--- a credit is of 1 micro-unit or more
+-- a credit is of 1 micro-unit or more, an allowance of 1 to 10^9 blocks
 abbrev pub IsOfficeCommandInRange : OfficeCommand → Type 0
 IsOfficeCommandInRange (office.Credit credit) = 1 ≤ credit.amount
-IsOfficeCommandInRange (office.Open account) = Unit {0}
-IsOfficeCommandInRange (office.Bar account) = Unit {0}
-IsOfficeCommandInRange (office.Unbar account) = Unit {0}
-IsOfficeCommandInRange office.Sweep = Unit {0}
+IsOfficeCommandInRange (office.Allow allowance) =
+    (1 ≤ allowance.blocks) × (allowance.blocks ≤ 1_000_000_000)
+IsOfficeCommandInRange _ = Unit {0}
 
 pub record IsOfficeInRange (words : OfficeWords) : Type 0 where
   pub command : IsOfficeCommandInRange words.command
@@ -90,9 +94,9 @@ IsStatementInRange statement = IsAtInRange statement.at
 
 abbrev pub IsInRange : ProgramWords → Type 0
 IsInRange (words.Once once) = IsOnceInRange once
-IsInRange (words.Init init) = Unit {0}
+IsInRange (words.Book book) = IsBookInRange book
 IsInRange (words.Serve serve) = IsServeInRange serve
 IsInRange (words.Import import) = IsImportInRange import
 IsInRange (words.Office office) = IsOfficeInRange office
 IsInRange (words.Statement statement) = IsStatementInRange statement
-IsInRange (words.Replay replay) = Unit {0}
+IsInRange _ = Unit {0}

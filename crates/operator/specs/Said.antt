@@ -3,6 +3,7 @@
 -- Source: profile.
 use Rattle.std.specs.Prelude.{ℕ, ◌&&◌, nat_le, Bool, List, [], Option, Some, None, Result, Ok, Err}
 use Rattle.std.specs.Prelude.{codes, unwrap_or}
+use Rattle.commands.specs.declared.allowance.Allowance.{Allowance}
 use Rattle.commands.specs.declared.command.Credit.{Credit}
 use Rattle.clap.specs.Words.{Row, Text, first_of}
 use Rattle.first_fault.specs.Steps.{◌>>=◌, or_fault, where_holds}
@@ -23,6 +24,8 @@ use Rattle.operator.specs.declared.parsed.OfficeWords.{OfficeWords}
 use Rattle.operator.specs.declared.parsed.ProgramWords.{ProgramWords}
 use Rattle.operator.specs.declared.parsed.ProgramWords.TheVariants as words
 use Rattle.operator.specs.declared.parsed.InitWords.{InitWords}
+use Rattle.operator.specs.declared.parsed.MigrateWords.{MigrateWords}
+use Rattle.operator.specs.declared.parsed.BookWords.{BookWords}
 use Rattle.operator.specs.declared.parsed.ServeWords.{ServeWords}
 use Rattle.operator.specs.declared.parsed.ImportWords.{ImportWords}
 use Rattle.operator.specs.declared.parsed.StatementWords.{StatementWords}
@@ -64,6 +67,14 @@ until_of rows = optional_in 1 4_102_444_800 (first_of (codes "until") rows)
 -- the rating group that a credit pays for, where it is told
 abbrev pub scope_of : List Row → Result (Option ℕ) ValueFault
 scope_of rows = optional_in 0 4_294_967_295 (first_of (codes "scope") rows)
+
+-- the rating group of an allowance, which must be told
+abbrev pub group_of : List Row → Result ℕ ValueFault
+group_of rows = number_at 0 4_294_967_295 (codes "scope") rows
+
+-- the moment from which a book holds
+abbrev pub from_of : List Row → Result ℕ ValueFault
+from_of rows = number_at 0 4_102_444_799 (codes "from") rows
 
 unfoldable pub path_at : Text → List Row → Result Text ValueFault
 path_at id rows = do
@@ -107,6 +118,18 @@ init_said rows = do
   book ← path_at (codes "BOOK") rows
   Ok (record { database = database; book = book })
 
+unfoldable pub migrate_said : List Row → Result MigrateWords ValueFault
+migrate_said rows = do
+  database ← database_of rows
+  Ok (record { database = database })
+
+unfoldable pub book_said : List Row → Result BookWords ValueFault
+book_said rows = do
+  database ← database_of rows
+  file ← path_at (codes "FILE") rows
+  from ← from_of rows
+  Ok (record { database = database; file = file; from = from })
+
 unfoldable pub serve_said : List Row → Result ServeWords ValueFault
 serve_said rows = do
   database ← database_of rows
@@ -139,12 +162,30 @@ credit_said rows = do
     reference = reference;
   })
 
+-- so is an allowance
+unfoldable pub allowance_said : List Row → Result Allowance ValueFault
+allowance_said rows = do
+  account ← account_of rows
+  blocks ← number_at 1 1_000_000_000 (codes "BLOCKS") rows
+  reference ← reference_of rows
+  until ← until_of rows
+  group ← group_of rows
+  Ok (record {
+    account = account;
+    blocks = blocks;
+    from = None;
+    until = until;
+    scope = group;
+    reference = reference;
+  })
+
 abbrev pub office_command_said : OfficeName → List Row → Result OfficeCommand ValueFault
 office_command_said office_name.Open rows = account_of rows >>= λ a. Ok (office.Open a)
 office_command_said office_name.Bar rows = account_of rows >>= λ a. Ok (office.Bar a)
 office_command_said office_name.Unbar rows = account_of rows >>= λ a. Ok (office.Unbar a)
 office_command_said office_name.Sweep rows = Ok office.Sweep
 office_command_said office_name.Credit rows = credit_said rows >>= λ c. Ok (office.Credit c)
+office_command_said office_name.Allow rows = allowance_said rows >>= λ a. Ok (office.Allow a)
 
 -- an operator's command, on a database and at a moment
 unfoldable pub office_said : OfficeName → List Row → Result OfficeWords ValueFault
@@ -182,6 +223,8 @@ said_as words said = said >>= λ x. Ok (words x)
 abbrev pub command_said : CommandName → List Row → Result ProgramWords ValueFault
 command_said name.Once rows = said_as words.Once (once_said rows)
 command_said name.Init rows = said_as words.Init (init_said rows)
+command_said name.Migrate rows = said_as words.Migrate (migrate_said rows)
+command_said name.Book rows = said_as words.Book (book_said rows)
 command_said name.Serve rows = said_as words.Serve (serve_said rows)
 command_said name.Import rows = said_as words.Import (import_said rows)
 command_said (name.Office office) rows = said_as words.Office (office_said office rows)

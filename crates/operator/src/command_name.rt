@@ -8,6 +8,8 @@ ghost use Rattle.operator.specs.Commands.{command_name, command_named, office_na
 pub(crate) enum CommandName {
     Once,
     Init,
+    Migrate,
+    Book,
     Serve,
     Import,
     Office(OfficeName),
@@ -23,12 +25,15 @@ pub(crate) enum OfficeName {
     Unbar,
     Sweep,
     Credit,
+    Allow,
 }
 
 /// All commands of the program.
-const COMMANDS: [CommandName; 11] = [
+const COMMANDS: [CommandName; 14] = [
     CommandName::Once,
     CommandName::Init,
+    CommandName::Migrate,
+    CommandName::Book,
     CommandName::Serve,
     CommandName::Import,
     CommandName::Office(OfficeName::Open),
@@ -36,6 +41,7 @@ const COMMANDS: [CommandName; 11] = [
     CommandName::Office(OfficeName::Unbar),
     CommandName::Office(OfficeName::Sweep),
     CommandName::Office(OfficeName::Credit),
+    CommandName::Office(OfficeName::Allow),
     CommandName::Statement,
     CommandName::Replay,
 ];
@@ -56,6 +62,7 @@ impl OfficeName {
             OfficeName::Unbar => "unbar",
             OfficeName::Sweep => "sweep",
             OfficeName::Credit => "credit",
+            OfficeName::Allow => "allow",
         }
     }
 }
@@ -68,6 +75,8 @@ impl CommandName {
         match self {
             CommandName::Once => "once",
             CommandName::Init => "init",
+            CommandName::Migrate => "migrate",
+            CommandName::Book => "book",
             CommandName::Serve => "serve",
             CommandName::Import => "import",
             CommandName::Office(office) => office.name(),

@@ -15,8 +15,8 @@ mod values;
 pub use crate::dated::{DatedLine, dated_line};
 pub use crate::fault::WordsFault;
 pub use crate::parsed::{
-    ImportWords, InitWords, OfficeCommand, OfficeWords, OnceWords, ProgramWords, ReplayWords,
-    ServeWords, StatementWords,
+    BookWords, ImportWords, InitWords, MigrateWords, OfficeCommand, OfficeWords, OnceWords,
+    ProgramWords, ReplayWords, ServeWords, StatementWords,
 };
 pub use crate::path::FilePath;
 pub use crate::reading::program_words;

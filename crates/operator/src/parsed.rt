@@ -2,7 +2,7 @@ ghost use Rattle.std.specs.Prelude.{◌≡◌};
 ghost use Rattle.operator.specs.Office.{command_of};
 
 use crate::path::FilePath;
-use commands::{Command, Credit};
+use commands::{Allowance, Command, Credit};
 use identifiers::AccountNumber;
 use units::{Moment, Money};
 use written_numbers::Month;
@@ -25,6 +25,24 @@ pub struct InitWords {
     pub database: FilePath,
     /// The book's TOML.
     pub book: FilePath,
+}
+
+/// What the words of `migrate` say: a database that is brought to the latest version.
+#[derive(Debug, Drop)]
+pub struct MigrateWords {
+    /// The path of the database.
+    pub database: FilePath,
+}
+
+/// What the words of `book` say: a tariff book more for a database.
+#[derive(Debug, Drop)]
+pub struct BookWords {
+    /// The path of the database to which the book is added.
+    pub database: FilePath,
+    /// The book's TOML.
+    pub file: FilePath,
+    /// The moment from which the book holds, 0 to 4,102,444,799.
+    pub from: Moment,
 }
 
 /// What the words of `serve` say: connections on a port of 127.0.0.1.
@@ -62,6 +80,8 @@ pub enum OfficeCommand {
     Unbar(AccountNumber),
     /// Gives an account money, from the moment of the command on.
     Credit(Credit),
+    /// Gives an account blocks of a rating group, from the moment of the command on.
+    Allow(Allowance),
     /// Brings each account to the moment of the command.
     Sweep,
 }
@@ -76,6 +96,7 @@ impl OfficeCommand {
             OfficeCommand::Bar(account) => Command::Bar(account),
             OfficeCommand::Unbar(account) => Command::Unbar(account),
             OfficeCommand::Credit(credit) => Command::Credit(credit),
+            OfficeCommand::Allow(allowance) => Command::Allow(allowance),
             OfficeCommand::Sweep => Command::Sweep,
         }
     }
@@ -123,11 +144,15 @@ pub enum ProgramWords {
     Once(OnceWords),
     /// `init`: a new database for a tariff book.
     Init(InitWords),
+    /// `migrate`: a database of an older version, brought to the latest.
+    Migrate(MigrateWords),
+    /// `book`: a tariff book more, which holds from a moment on.
+    Book(BookWords),
     /// `serve`: requests over HTTP, from connections on a port.
     Serve(ServeWords),
     /// `import`: the vouchers of a file.
     Import(ImportWords),
-    /// `open`, `bar`, `unbar`, `sweep` and `credit`.
+    /// `open`, `bar`, `unbar`, `sweep`, `credit` and `allow`.
     Office(OfficeWords),
     /// `statement`: the charges of an account in a month.
     Statement(StatementWords),

@@ -1,10 +1,11 @@
 ghost use Rattle.std.specs.Prelude.{◌≡◌, IfOk, false};
 ghost use Rattle.clap.specs.Words.{app_of, with_rule, with_subcommand};
 ghost use Rattle.clap.specs.declared.builder.command.Command.TheViews.{out-Command as fields_of};
-ghost use Rattle.operator.specs.Program.{account_app, accounts_app, at, credit_app};
+ghost use Rattle.operator.specs.Program.{account_app, accounts_app, allow_app, allow_operands_app};
+ghost use Rattle.operator.specs.Program.{at, book_app, books_app, credit_app};
 ghost use Rattle.operator.specs.Program.{credit_operands_app, files_app, first_app, import_app};
-ghost use Rattle.operator.specs.Program.{init_app, office_app, once_app, program_app, replay_app};
-ghost use Rattle.operator.specs.Program.{serve_app, statement_app, sweep_app, top_app};
+ghost use Rattle.operator.specs.Program.{init_app, migrate_app, office_app, once_app, program_app};
+ghost use Rattle.operator.specs.Program.{replay_app, serve_app, statement_app, sweep_app, top_app};
 
 use crate::arguments::{with_flag, with_operand, with_option};
 use clap::Command;
@@ -46,6 +47,27 @@ fn init_command<'a>(alloc: Global) -> Result<Command<'a>, AllocError>
     let command = Command::new(alloc, "init").about("Creates a database for a tariff book");
     let command = with_operand(alloc, command, "DB", DATABASE)?;
     with_operand(alloc, command, "BOOK", "The tariff book, as TOML")
+}
+
+fn migrate_command<'a>(alloc: Global) -> Result<Command<'a>, AllocError>
+    ensures app { IfOk result (λ c. app_of c ≡ migrate_app) }
+    ensures local { IfOk result (λ c. (fields_of c).has_globals ≡ false) }
+{
+    let command = Command::new(alloc, "migrate").about(
+        "Brings a database of an older version to the latest",
+    );
+    with_operand(alloc, command, "DB", DATABASE)
+}
+
+fn book_command<'a>(alloc: Global) -> Result<Command<'a>, AllocError>
+    ensures app { IfOk result (λ c. app_of c ≡ book_app) }
+    ensures local { IfOk result (λ c. (fields_of c).has_globals ≡ false) }
+{
+    let command = Command::new(alloc, "book").about("Adds a tariff book to a database");
+    let command = with_operand(alloc, command, "DB", DATABASE)?;
+    let command = with_operand(alloc, command, "FILE", "The tariff book, as TOML")?;
+    let from = "The moment from which the book holds, in seconds since 1970";
+    with_option(alloc, command, "from", "T", true, from)
 }
 
 fn serve_command<'a>(alloc: Global) -> Result<Command<'a>, AllocError>
@@ -119,6 +141,31 @@ fn credit_command<'a>(alloc: Global) -> Result<Command<'a>, AllocError>
     with_at(alloc, command)
 }
 
+/// The command `allow` with its operands.
+fn allow_operands<'a>(alloc: Global) -> Result<Command<'a>, AllocError>
+    ensures app { IfOk result (λ c. app_of c ≡ allow_operands_app) }
+    ensures local { IfOk result (λ c. (fields_of c).has_globals ≡ false) }
+{
+    let command = Command::new(alloc, "allow").about("Gives an account blocks of a rating group");
+    let command = with_operand(alloc, command, "DB", DATABASE)?;
+    let command = with_operand(alloc, command, "ACCOUNT", ACCOUNT)?;
+    let command = with_operand(alloc, command, "BLOCKS", "1 to 10^9 blocks")?;
+    let reference = "Names the allowance, so that it isn't given twice, 1 to 64 bytes";
+    with_operand(alloc, command, "REFERENCE", reference)
+}
+
+fn allow_command<'a>(alloc: Global) -> Result<Command<'a>, AllocError>
+    ensures app { IfOk result (λ c. app_of c ≡ allow_app) }
+    ensures local { IfOk result (λ c. (fields_of c).has_globals ≡ false) }
+{
+    let command = allow_operands(alloc)?;
+    let until = "Until when they can be used, in seconds since 1970; without it there is no end";
+    let command = with_option(alloc, command, "until", "T", false, until)?;
+    let scope = "The rating group whose blocks they are";
+    let command = with_option(alloc, command, "scope", "G", true, scope)?;
+    with_at(alloc, command)
+}
+
 fn statement_command<'a>(alloc: Global) -> Result<Command<'a>, AllocError>
     ensures app { IfOk result (λ c. app_of c ≡ statement_app) }
     ensures local { IfOk result (λ c. (fields_of c).has_globals ≡ false) }
@@ -176,17 +223,27 @@ fn first_program<'a>(alloc: Global) -> Result<Command<'a>, AllocError>
     with_command(program, init_command(alloc)?)
 }
 
-/// The program with `once`, `init`, `serve` and `import`.
+/// The program with `once`, `init`, `migrate` and `book`.
+fn books_program<'a>(alloc: Global) -> Result<Command<'a>, AllocError>
+    ensures app { IfOk result (λ c. app_of c ≡ books_app) }
+    ensures local { IfOk result (λ c. (fields_of c).has_globals ≡ false) }
+{
+    let program = first_program(alloc)?;
+    let program = with_command(program, migrate_command(alloc)?)?;
+    with_command(program, book_command(alloc)?)
+}
+
+/// The same with `serve` and `import`.
 fn files_program<'a>(alloc: Global) -> Result<Command<'a>, AllocError>
     ensures app { IfOk result (λ c. app_of c ≡ files_app) }
     ensures local { IfOk result (λ c. (fields_of c).has_globals ≡ false) }
 {
-    let program = first_program(alloc)?;
+    let program = books_program(alloc)?;
     let program = with_command(program, serve_command(alloc)?)?;
     with_command(program, import_command(alloc)?)
 }
 
-/// The program with `once`, `init`, `serve`, `import`, `open`, `bar` and `unbar`.
+/// The same with `open`, `bar` and `unbar`.
 fn account_program<'a>(alloc: Global) -> Result<Command<'a>, AllocError>
     ensures app { IfOk result (λ c. app_of c ≡ accounts_app) }
     ensures local { IfOk result (λ c. (fields_of c).has_globals ≡ false) }
@@ -207,7 +264,8 @@ fn office_program<'a>(alloc: Global) -> Result<Command<'a>, AllocError>
 {
     let program = account_program(alloc)?;
     let program = with_command(program, sweep_command(alloc)?)?;
-    with_command(program, credit_command(alloc)?)
+    let program = with_command(program, credit_command(alloc)?)?;
+    with_command(program, allow_command(alloc)?)
 }
 
 /// The program with all its commands.

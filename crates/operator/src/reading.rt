@@ -12,7 +12,8 @@ use crate::fault::{ValueFault, WordsFault};
 use crate::parsed::ProgramWords;
 use crate::program::program;
 use crate::saying::{
-    import_words, init_words, office_words, once_said, replay_words, serve_words, statement_words,
+    book_words, import_words, init_words, migrate_words, office_words, once_said, replay_words,
+    serve_words, statement_words,
 };
 use clap::error::ErrorKind;
 use clap::{ArgMatches, Error};
@@ -113,6 +114,8 @@ fn said_of(
     match command {
         CommandName::Once => Ok(ProgramWords::Once(once_said(matches)?)),
         CommandName::Init => Ok(ProgramWords::Init(init_words(alloc, matches)?)),
+        CommandName::Migrate => Ok(ProgramWords::Migrate(migrate_words(alloc, matches)?)),
+        CommandName::Book => Ok(ProgramWords::Book(book_words(alloc, matches)?)),
         CommandName::Serve => Ok(ProgramWords::Serve(serve_words(alloc, matches)?)),
         CommandName::Import => Ok(ProgramWords::Import(import_words(alloc, matches)?)),
         CommandName::Office(name) => {

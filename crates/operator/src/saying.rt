@@ -1,24 +1,26 @@
 ghost use Rattle.std.specs.Prelude.{◌≡◌, ◌≤◌, IfOk};
 ghost use Rattle.clap.specs.Words.{found_of, rows_of};
 ghost use Rattle.first_fault.specs.Steps.{GivesUnless};
-ghost use Rattle.operator.specs.Read.{IsImportInRange, IsOfficeCommandInRange, IsOfficeInRange};
-ghost use Rattle.operator.specs.Read.{IsOnceInRange, IsServeInRange, IsStatementInRange};
-ghost use Rattle.operator.specs.Said.{credit_said, import_said, init_said, office_command_said};
-ghost use Rattle.operator.specs.Said.{office_said, once_said, replay_said, serve_said};
-ghost use Rattle.operator.specs.Said.{statement_said};
+ghost use Rattle.operator.specs.Read.{IsBookInRange, IsImportInRange, IsOfficeCommandInRange};
+ghost use Rattle.operator.specs.Read.{IsOfficeInRange, IsOnceInRange, IsServeInRange};
+ghost use Rattle.operator.specs.Read.{IsStatementInRange};
+ghost use Rattle.operator.specs.Said.{allowance_said, book_said, credit_said, import_said};
+ghost use Rattle.operator.specs.Said.{init_said, migrate_said, office_command_said, office_said};
+ghost use Rattle.operator.specs.Said.{once_said, replay_said, serve_said, statement_said};
 ghost use Rattle.operator.specs.declared.fault.ValueFault.TheVariants.{Memory};
 
 use crate::command_name::OfficeName;
 use crate::fault::ValueFault;
 use crate::parsed::{
-    ImportWords, InitWords, OfficeCommand, OfficeWords, OnceWords, ReplayWords, ServeWords,
-    StatementWords,
+    BookWords, ImportWords, InitWords, MigrateWords, OfficeCommand, OfficeWords, OnceWords,
+    ReplayWords, ServeWords, StatementWords,
 };
 use crate::values::{
-    account, amount_at, at, database, has_flag, month, number_at, path_at, reference, scope, until,
+    account, amount_at, at, blocks, database, first_moment, group, has_flag, month, number_at,
+    path_at, reference, scope, until,
 };
 use clap::ArgMatches;
-use commands::Credit;
+use commands::{Allowance, Credit};
 use std::alloc::Global;
 
 /// The words of `once`.
@@ -46,6 +48,35 @@ pub(crate) fn init_words(alloc: Global, matches: &ArgMatches<'_>) -> Result<Init
     let database = database(alloc, matches)?;
     let book = path_at(alloc, matches, "BOOK")?;
     Ok(InitWords { database, book })
+}
+
+/// The words of `migrate`.
+#[tactic(auto, unfolding(crate::specs::Said::migrate_said))]
+pub(crate) fn migrate_words(
+    alloc: Global,
+    matches: &ArgMatches<'_>,
+) -> Result<MigrateWords, ValueFault>
+    ensures { GivesUnless Memory (λ w. w) result (migrate_said (rows_of (found_of matches.now))) }
+{
+    let database = database(alloc, matches)?;
+    Ok(MigrateWords { database })
+}
+
+/// The words of `book`.
+#[tactic(auto, unfolding(crate::specs::Said::book_said))]
+pub(crate) fn book_words(alloc: Global, matches: &ArgMatches<'_>) -> Result<BookWords, ValueFault>
+    ensures value { GivesUnless Memory (λ w. w) result
+        (book_said (rows_of (found_of matches.now))) }
+    ensures in_range { IfOk result IsBookInRange }
+{
+    let database = database(alloc, matches)?;
+    let file = path_at(alloc, matches, "FILE")?;
+    let from = first_moment(matches)?;
+    Ok(BookWords {
+        database,
+        file,
+        from,
+    })
 }
 
 /// The words of `serve`.
@@ -120,6 +151,7 @@ fn office_command(
         OfficeName::Unbar => Ok(OfficeCommand::Unbar(account(alloc, matches)?)),
         OfficeName::Sweep => Ok(OfficeCommand::Sweep),
         OfficeName::Credit => Ok(OfficeCommand::Credit(credit(alloc, matches)?)),
+        OfficeName::Allow => Ok(OfficeCommand::Allow(allowance(alloc, matches)?)),
     }
 }
 
@@ -138,6 +170,28 @@ fn credit(alloc: Global, matches: &ArgMatches<'_>) -> Result<Credit, ValueFault>
     Ok(Credit {
         account,
         amount,
+        from: None,
+        until,
+        scope,
+        reference,
+    })
+}
+
+/// The allowance that the words say.
+#[tactic(auto, unfolding(crate::specs::Said::allowance_said))]
+fn allowance(alloc: Global, matches: &ArgMatches<'_>) -> Result<Allowance, ValueFault>
+    ensures value { GivesUnless Memory (λ a. a) result
+        (allowance_said (rows_of (found_of matches.now))) }
+    ensures in_range { IfOk result (λ a. (1 ≤ a.blocks) × (a.blocks ≤ 1_000_000_000)) }
+{
+    let account = account(alloc, matches)?;
+    let blocks = blocks(matches)?;
+    let reference = reference(alloc, matches)?;
+    let until = until(matches)?;
+    let scope = group(matches)?;
+    Ok(Allowance {
+        account,
+        blocks,
         from: None,
         until,
         scope,

@@ -1,18 +1,18 @@
 ghost use Rattle.std.specs.Prelude.{◌≡◌, ◌≤◌, IfOk, IfSome, codes, option_map};
 ghost use Rattle.clap.specs.Words.{found_of, first_of, rows_of};
 ghost use Rattle.first_fault.specs.Steps.{GivesUnless, Says};
-ghost use Rattle.operator.specs.Said.{account_of, at_of, database_of, has_flag, month_at};
-ghost use Rattle.operator.specs.Said.{number_at, number_in, optional_in, path_at, reference_of};
-ghost use Rattle.operator.specs.Said.{scope_of, until_of, word};
+ghost use Rattle.operator.specs.Said.{account_of, at_of, database_of, from_of, group_of, has_flag};
+ghost use Rattle.operator.specs.Said.{month_at, number_at, number_in, optional_in, path_at};
+ghost use Rattle.operator.specs.Said.{reference_of, scope_of, until_of, word};
 ghost use Rattle.operator.specs.declared.fault.ValueFault.TheVariants.{Memory};
 
 use crate::fault::ValueFault;
 use crate::path::FilePath;
 use clap::ArgMatches;
-use commands::CreditEnd;
+use commands::{AllowanceBlocks, CreditEnd};
 use identifiers::{AccountNumber, Reference};
 use std::alloc::Global;
-use units::{Moment, Money};
+use units::{Blocks, Moment, Money};
 use written_numbers::{Month, number};
 
 /// The first word of an operand or an option, where it is there.
@@ -88,6 +88,25 @@ pub(crate) fn amount_at(matches: &ArgMatches<'_>, id: &str) -> Result<Money, Val
     Money::new(micros).ok_or(ValueFault::Invalid)
 }
 
+/// The blocks of an allowance, 1 to 10^9.
+pub(crate) fn blocks(matches: &ArgMatches<'_>) -> Result<AllowanceBlocks, ValueFault>
+    ensures value { Says (λ b. b) result
+        (number_at 1 1_000_000_000 (codes "BLOCKS") (rows_of (found_of matches.now))) }
+    ensures in_range { IfOk result (λ b. (1 ≤ b) × (b ≤ 1_000_000_000)) }
+{
+    let number = number_at(matches, 1, 1_000_000_000, "BLOCKS")?;
+    AllowanceBlocks::new(Blocks(number)).ok_or(ValueFault::Invalid)
+}
+
+/// The moment of `--from`.
+pub(crate) fn first_moment(matches: &ArgMatches<'_>) -> Result<Moment, ValueFault>
+    ensures value { Says (λ t. t) result (from_of (rows_of (found_of matches.now))) }
+    ensures in_range { IfOk result (λ t. t ≤ 4_102_444_799) }
+{
+    let seconds = number_at(matches, 0, 4_102_444_799, "from")?;
+    Moment::of_command(seconds).ok_or(ValueFault::Invalid)
+}
+
 /// The moment of `--at`, where it is there.
 pub(crate) fn at(matches: &ArgMatches<'_>) -> Result<Option<Moment>, ValueFault>
     ensures value { Says (λ t. t) result (at_of (rows_of (found_of matches.now))) }
@@ -122,6 +141,14 @@ pub(crate) fn scope(matches: &ArgMatches<'_>) -> Result<Option<u32>, ValueFault>
     }
 }
 
+/// The rating group of `--scope`, which must be there.
+pub(crate) fn group(matches: &ArgMatches<'_>) -> Result<u32, ValueFault>
+    ensures { Says (λ g. g) result (group_of (rows_of (found_of matches.now))) }
+{
+    let number = number_at(matches, 0, 4_294_967_295, "scope")?;
+    Ok(number as u32)
+}
+
 /// The path that an operand says.
 #[tactic(auto, unfolding(crate::specs::Said::path_at))]
 pub(crate) fn path_at(
@@ -154,7 +181,7 @@ pub(crate) fn account(alloc: Global, matches: &ArgMatches<'_>) -> Result<Account
     AccountNumber::new(alloc, text)?.ok_or(ValueFault::Invalid)
 }
 
-/// The credit's reference.
+/// The reference of a credit or an allowance.
 #[tactic(auto, unfolding(crate::specs::Said::reference_of))]
 pub(crate) fn reference(alloc: Global, matches: &ArgMatches<'_>) -> Result<Reference, ValueFault>
     ensures { GivesUnless Memory (λ r. r) result

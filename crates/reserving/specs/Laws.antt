@@ -1,9 +1,10 @@
 -- Laws over the definitions alone.
 -- Source: profile.
-use Rattle.std.specs.Prelude.{◌≡◌, ℕ, ◌≤◌, ◌&&◌, Bool, true, not, List, [], ◌∷◌}
+use Rattle.std.specs.Prelude.{◌≡◌, ℕ, ◌≤◌, ◌+◌, ◌&&◌, ◌==◌, Bool, true, false, not, List, [], ◌∷◌}
 use Rattle.buckets.specs.declared.kind.Due.{Due}
 use Rattle.buckets.specs.Row.{Row, IsBalanced, with_end, with_release}
-use Rattle.reserving.specs.Ledger.{Ledger, is_live, held}
+use Rattle.reserving.specs.Ledger.{Fact, Ledger, is_same, is_live, any, hold_of, held}
+use Rattle.reserving.specs.Ledger.Fact.{End}
 use Rattle.buckets.specs.Spend.{Each, AreDistinct}
 use Rattle.reserving.specs.Balance.{bucket_at, buckets_at}
 use Rattle.reserving.specs.Settlement.{settled}
@@ -62,3 +63,29 @@ IsDeadSettled =
     AreDistinct (buckets_at v t ledger) →
     AreDeadKept (buckets_at v t ledger)
     (buckets_at v t (settled v t session group units blocks due ledger))
+
+-- ---- what is reserved of a bucket, in the words of its holds
+
+-- the fact ends this reservation
+abbrev pub is_end_of : List ℕ → ℕ → Fact → Bool
+is_end_of s g (End session group) = is_same s session && g == group
+is_end_of s g _ = false
+
+-- the sum of a bucket's holds that count, of reservations that no fact after the hold ended
+abbrev pub held_unended : (List ℕ → ℕ → Bool) → ℕ → Ledger → Ledger → ℕ
+held_unended counts n newer [] = 0
+held_unended counts n newer (d ∷ older) =
+    hold_of (λ s g. counts s g && not (any (is_end_of s g) newer)) n d.fact
+    + held_unended counts n (d ∷ newer) older
+
+-- what is held of a bucket is that sum
+abbrev pub IsHeldUnended : Type 0
+IsHeldUnended = (counts : List ℕ → ℕ → Bool) (n : ℕ) (ledger : Ledger) →
+    held counts n ledger ≡ held_unended counts n [] ledger
+
+-- so what is reserved of it is the sum of its holds whose session is live and whose reservation
+-- hasn't ended
+abbrev pub IsReservedUnended : Type 0
+IsReservedUnended = (v : ℕ → ℕ) (t : ℕ) (ledger : Ledger) (c : Row) →
+    (bucket_at v t ledger c).reserved
+    ≡ held_unended (λ s g. is_live v t ledger s) c.number [] ledger

@@ -12,13 +12,13 @@ use Rattle.sql_rows.specs.Content.{Content, content_of}
 use Rattle.sql_rows.specs.Makes.{Turns}
 use Rattle.sql_keeper.specs.Additions.{BecomesAdded, with_addition}
 use Rattle.sql_keeper.specs.Commits.{CommitsWhole, Transacts}
-use Rattle.sql_keeper.specs.Content.{tables_of, voucher_in}
+use Rattle.sql_keeper.specs.Content.{tables_of, voucher_in, Names}
 use Rattle.sql_keeper.specs.Writes.{row_of}
 use Rattle.sql_keeper.proofs.Redeemed.{told_over}
 
 -- ---- a voucher that is added
 
-addition_read : (names : List (List ℕ)) (text code : List ℕ) (terms : VoucherTerms)
+addition_read : (names : Names) (text code : List ℕ) (terms : VoucherTerms)
     (t : ℕ) (c : Content)
     → tables_of names (with_addition text code terms t c)
     ≡ with_added code terms t (tables_of names c)
@@ -36,6 +36,7 @@ become_added text code terms t last old new turns = record {
       ∙ addition_read names text code terms t (content_of old);
   meta = ap (λ (c : Content). c.meta) turns.content;
   last = last;
+  books = ap (λ (c : Content). c.books) turns.content;
   catalog = turns.catalog;
   stored = turns.stored;
 }

@@ -1,5 +1,8 @@
 -- What was left of a book's tables is found again.
-use Rattle.std.proofs.Common.{◌≡◌, ◌≤◌, ◌∙◌, arith, List, ℕ, Some, sym, ap, subst, refl}
+use Rattle.std.proofs.Common.{◌≡◌, ◌≤◌, ◌<◌, ◌∙◌, arith, List, ℕ, zero, suc, Option, Some, None}
+use Rattle.std.proofs.Common.{sym, ap, subst, refl, length}
+use Rattle.shelves.specs.Shelves.{IsShelf, Shelf, one_book, with_book}
+use Rattle.sqlite_schema.specs.declared.schema.Schema.{Schema}
 use Rattle.std.specs.Str.{IsUtf8}
 use Rattle.sqlite_trees.specs.Tree.{Trees}
 use Rattle.sqlite_trees.specs.Objects.{catalog_tree}
@@ -7,32 +10,52 @@ use Rattle.sqlite_trees.specs.declared.store.Store.{Ghosts}
 use Rattle.sqlite_catalog.specs.Listing.{Lists}
 use Rattle.sqlite_catalog.proofs.ReadLemmas.{lists_once}
 use Rattle.sqlite.specs.Held.{Held, state}
-use Rattle.sql_tables.specs.Schema.{book_schema}
+use Rattle.sql_tables.specs.Schema.{book_schema, latest, schema_at}
+use Rattle.sql_opening.specs.Opens.{IsVersion}
 use Rattle.sql_tables.specs.Statements.{AreStored}
-use Rattle.sql_rows.specs.Values.{Meta}
+use Rattle.sql_rows.specs.Values.{DatedBook as DatedText, Meta}
 use Rattle.sql_rows.specs.Content.{content_of}
 use Rattle.sql_opening.specs.declared.fault.OpenFault.{OpenFault}
 use Rattle.sql_keeper.specs.Again.{AreLeftAgain, IsFoundAgain}
-use Rattle.sql_keeper.specs.Books.{IsBookText}
+use Rattle.sql_keeper.specs.Books.{IsBookOf}
 use Rattle.sql_keeper.specs.Creates.{first_meta}
 use Rattle.sql_keeper.specs.Opened.{IsLeft, IsRuled}
+use Rattle.sql_keeper.specs.Shelves.{AreLater, HasShelf, IsShelfOf}
 use Rattle.sql_keeper.specs.Writes.{meta_at, meta_with}
+use Rattle.sql_keeper.proofs.Shelving.{dated_shelf}
 
 left_by : (text : List ℕ) (old new : Trees) (row : Meta) → IsLeft text old
     → new catalog_tree ≡ old catalog_tree
-    → AreStored new → (content_of new).meta ≡ Some row → row.version ≡ 1 → row.book ≡ text
-    → row.last ≤ 4_102_488_000 → IsLeft text new
-left_by text old new row left catalog stored is version book last = record {
+    → AreStored new → (content_of new).meta ≡ Some row → row.version ≡ latest → row.book ≡ text
+    → row.last ≤ 4_102_488_000 → HasShelf text (content_of new).books → IsLeft text new
+left_by text old new row left catalog stored is version book last shelf = record {
   lists = subst (λ rows. Lists rows book_schema) (sym catalog) left.lists;
   stored = stored;
   kept = record { row = row; is = is; version = version; book = book; last = last };
   utf8 = left.utf8;
-  book = left.book;
+  shelf = shelf;
+}
+
+-- the shelf of the same rows
+same_shelf : (text : List ℕ) (old new : Trees) → (content_of new).books ≡ (content_of old).books
+    → HasShelf text (content_of old).books → HasShelf text (content_of new).books
+same_shelf text old new same has =
+    (has.0, subst (λ rows. IsShelfOf text rows has.0) (sym same) has.1)
+
+-- a book alone is a shelf
+pub alone_shelf : (text : List ℕ) (rows : ℕ → Option DatedText) (s : Shelf) → IsShelf s
+    → s ≡ one_book s.first → IsBookOf text s.first → ((n : ℕ) → rows n ≡ None)
+    → IsShelfOf text rows s
+alone_shelf text rows s is alone read none = record {
+  is = is;
+  first = read;
+  later = subst (AreLater rows 2) (sym (ap (λ (x : Shelf). x.later) alone)) tt;
+  none = λ n other. none n;
 }
 
 pub left_again : AreLeftAgain
 left_again = record {
-  made = λ text new utf8 book b. record {
+  made = λ text new utf8 shelf b. record {
     lists = b.lists;
     stored = b.stored;
     kept = record {
@@ -43,15 +66,40 @@ left_again = record {
       last = omega arith;
     };
     utf8 = utf8;
-    book = book;
+    shelf = (
+      shelf.0,
+      alone_shelf text (content_of new).books shelf.0 shelf.1.is shelf.1.alone
+          shelf.1.first b.books,
+    );
   };
   committed = λ names text change old new left b.
-      left_by text old new (meta_with text change) left b.catalog b.stored b.meta refl refl b.last;
+      left_by text old new (meta_with text change) left b.catalog b.stored b.meta refl refl b.last
+      (same_shelf text old new b.books left.shelf);
   added = λ text code terms t old new left b.
-      left_by text old new (meta_at text t) left b.catalog b.stored b.meta refl refl b.last;
+      left_by text old new (meta_at text t) left b.catalog b.stored b.meta refl refl b.last
+      (same_shelf text old new b.books left.shelf);
   swept = λ names text shelf t old new left b.
-      left_by text old new (meta_at text t) left b.catalog b.stored b.meta refl refl b.last;
+      left_by text old new (meta_at text t) left b.catalog b.stored b.meta refl refl b.last
+      (same_shelf text old new b.books left.shelf);
+  dated = λ text more n from old new left may b.
+      left_by text old new left.kept.row left b.catalog b.stored (b.meta ∙ left.kept.is)
+      left.kept.version left.kept.book left.kept.last (
+        with_book may.shelf from may.book,
+        subst (λ rows. IsShelfOf text rows (with_book may.shelf from may.book)) (sym b.books)
+            (dated_shelf text more (content_of old).books n from may.shelf may.book may.is may.read
+            may.number may.range may.behind),
+      );
 }
+
+-- an older version has fewer tables than the latest
+older_differs : (v : ℕ) → IsVersion v → v < latest → schema_at v ≡ book_schema → ⊥
+older_differs zero known less is = omega (arith, known.0)
+older_differs (suc zero) known less is =
+    let no : 10 ≡ 14 = ap (λ (s : Schema). length s.tables) is in omega (arith, no)
+older_differs (suc (suc zero)) known less is =
+    let no : 12 ≡ 14 = ap (λ (s : Schema). length s.tables) is in omega (arith, no)
+older_differs (suc (suc (suc n))) known less is =
+    let low : suc (suc (suc n)) < 3 = less in omega (arith, low)
 
 -- what is left is in the rules of who opens it
 ruled : (text : List ℕ) (trees : Trees) → IsLeft text trees → IsRuled trees
@@ -60,11 +108,12 @@ ruled text trees left = record {
   row = left.kept.row;
   is = left.kept.is;
   ruled = record {
-    version = omega (arith, left.kept.version);
+    version =
+        let is : left.kept.row.version ≡ 3 = left.kept.version in omega (arith, is);
     book = subst IsUtf8 (sym left.kept.book) left.utf8;
     last = left.kept.last;
   };
-  book = λ first. subst IsBookText (sym left.kept.book) left.book;
+  shelf = λ first. subst (λ t. HasShelf t (content_of trees).books) (sym left.kept.book) left.shelf;
 }
 
 pub found_again : {S : Type 0} (g : Ghosts S) (old new : Held S) (text : List ℕ) (fault : OpenFault)
@@ -77,4 +126,8 @@ found_again g old new text fault left sound clean refused = (
       let row : other.row ≡ left.kept.row = cc same in
       other.other (ap (λ (m : Meta). m.version) row ∙ left.kept.version),
   λ is. refused.rules clean is (ruled text (state g old).now.trees left),
+  λ is.
+      let it = refused.older clean is in
+      older_differs it.version it.known it.older
+      (sym it.schema ∙ lists_once _ _ _ sound.lists left.lists),
 )

@@ -1,13 +1,14 @@
 -- What a change writes reads as the change.
 use Rattle.std.proofs.Common.{◌≡◌, ℕ, Bool, true, false, cond, List, [], ◌∷◌, refl, sym, ap, ◌∙◌}
 use Rattle.std.proofs.Common.{subst, Option, Some, None}
-use Rattle.std.specs.Prelude.{if◌then◌else◌, ◌&&◌, ◌+◌, nat_eq, option_map, option_and_then}
+use Rattle.std.specs.Prelude.{if◌then◌else◌, ◌&&◌, ◌+◌, nat_eq, nat_lt, option_map, option_and_then}
 use Rattle.std.specs.Prelude.{unwrap_or, is_some, not, ◌||◌, ◌==◌}
 use Rattle.std.specs.List.{list_any}
 use Rattle.std.proofs.lemmas.Bool.{and_parts, not-true}
 use Rattle.std.proofs.lemmas.Option.{same_Some}
 use Rattle.identifiers.specs.Texts.{same_name}
 use Rattle.calendar.specs.declared.week.Period.{Period}
+use Rattle.buckets.specs.Kinds.{IsScopeOf}
 use Rattle.rating.specs.declared.grant.Periods.{Periods}
 use Rattle.reserving.specs.declared.charge.ChargeRow.{ChargeRow}
 use Rattle.reserving.specs.declared.session.Session.{Session}
@@ -40,33 +41,38 @@ use Rattle.sql_tables.proofs.Steps.{and_true}
 use Rattle.sql_rows.specs.Values.{Meta, Group, Kept, request_kind, reference_kind}
 use Rattle.sql_rows.specs.Content.{Rows as Stored, Content, with_rows, with_meta, with_account}
 use Rattle.sql_rows.specs.Content.{with_head, with_answer}
-use Rattle.sql_rows.specs.Each.{with_buckets, with_counters, with_sessions}
+use Rattle.sql_rows.specs.Each.{with_counters, with_sessions}
 use Rattle.sql_keeper.specs.Content.{periods_in, terms_in, group_in as stored_group, is_reserved}
-use Rattle.sql_keeper.specs.Content.{held_in}
+use Rattle.sql_keeper.specs.Content.{held_in, Names}
 use Rattle.sql_keeper.specs.Content.{rows_of, is_numbered, charge_of, kept_in, answer_in}
-use Rattle.sql_keeper.specs.Content.{voucher_in, tables_of}
+use Rattle.sql_keeper.specs.Content.{voucher_in, tables_of, names_numbered, told_buckets}
+use Rattle.sql_keeper.specs.Content.{told_charge}
 use Rattle.sql_keeper.specs.Content as content
-use Rattle.sql_keeper.specs.Writes.{name_at, names_at, columns_of, head_of, with_stored, with_texts}
+use Rattle.sql_keeper.specs.Writes.{name_at, names_at, names_held, columns_of, head_of}
+use Rattle.sql_keeper.specs.Writes.{with_all_counted, with_stored, with_texts}
 use Rattle.sql_keeper.specs.Writes.{with_kept, with_redeemed, AreTexts, with_change, new_rows}
 use Rattle.sql_keeper.specs.Writes.{new_sessions, equal_beside, is_written_session}
 use Rattle.sql_keeper.specs.Tests.{IsNamed, MayStand, AreWritable, AreNumbered, first_number}
 use Rattle.sql_keeper.specs.Laws.{AreChangesRead}
-use Rattle.sql_keeper.proofs.Overlays.{name_from, not_both, with_opened, opened, over_buckets}
-use Rattle.sql_keeper.proofs.Overlays.{over_counters, over_sessions, over_charges, buckets_over}
-use Rattle.sql_keeper.proofs.Overlays.{counters_over, sessions_over, charges_over}
-use Rattle.sql_keeper.proofs.Groups.{amount_at, amount_in, over_groups, groups_over, held_is}
+use Rattle.sql_keeper.proofs.CountedPuts.{AreScoped, scoped, over_counted, counted_over, counted_told}
+use Rattle.sql_keeper.proofs.CountedPuts.{over_paid, paid_over, paid_told}
+use Rattle.sql_keeper.proofs.Overlays.{name_from, not_both, with_opened, opened, over_counters}
+use Rattle.sql_keeper.proofs.Overlays.{over_sessions, counters_over, sessions_over}
+use Rattle.sql_keeper.proofs.Groups.{amount_at, amount_in, book_over, book_put, over_groups}
+use Rattle.sql_keeper.proofs.Groups.{groups_over, held_is}
 use Rattle.sql_keeper.proofs.Numbers.{numbered_apart, seen_after, begins}
 use Rattle.sql_keeper.proofs.Redeemed.{redeemed_read}
 
 -- ---- the rows of an account
 
-abbrev pub over_stored : List (List ℕ) → StoredRows → Stored → Stored
+abbrev pub over_stored : Names → StoredRows → Stored → Stored
 over_stored names w r = over_groups names w.groups (over_sessions w.sessions
-    (over_counters w.counters (over_buckets w.buckets (with_head (head_of w) r))))
+    (over_counters w.counters (over_counted w.buckets (with_head (head_of w) r))))
 
--- no two rows have one key
+-- no two rows have one key, and each allowance is of one rating group
 pub record AreKeyed (w : StoredRows) : Type 0 where
   pub buckets : AreApart same_bucket w.buckets
+  pub scoped : AreScoped w.buckets
   pub counters : AreApart same_counter w.counters
   pub sessions : AreApart same_session w.sessions
   pub groups : AreApart same_group w.groups
@@ -74,28 +80,29 @@ pub record AreKeyed (w : StoredRows) : Type 0 where
 pub keyed : (w : StoredRows) → IsStored w → AreKeyed w
 keyed w h = record {
   buckets = distinct_apart w.buckets h.sound.distinct;
+  scoped = scoped w.buckets h.sound.balanced;
   counters = h.counters;
   sessions = h.sessions;
   groups = h.groups;
 }
 
-pub stored_over : (a : List ℕ) (names : List (List ℕ)) (sessions : List Session) (w : StoredRows)
+pub stored_over : (a : List ℕ) (names : Names) (sessions : List Session) (w : StoredRows)
     (c : Content) → AreKeyed w → AreWritable names sessions w.groups
     → with_stored a names w c ≡ opened a (over_stored names w) c
 stored_over a names among w c h may =
     let head = with_head (head_of w) in
-    let first = λ (r : Stored). over_buckets w.buckets (head r) in
+    let first = λ (r : Stored). over_counted w.buckets (head r) in
     let second = λ (r : Stored). over_counters w.counters (first r) in
     let third = λ (r : Stored). over_sessions w.sessions (second r) in
     let opening = with_account a (head_of w) c in
-    let buckets = with_buckets a w.buckets opening in
+    let buckets = with_all_counted a w.buckets opening in
     let counters = with_counters a w.counters buckets in
     let sessions = with_sessions a w.sessions counters in
     groups_over a names among w.groups sessions h.groups may
     ∙ ap (with_rows a (over_groups names w.groups)) (sessions_over a w.sessions counters h.sessions
     ∙ ap (with_rows a (over_sessions w.sessions)) (counters_over a w.counters buckets h.counters
-    ∙ ap (with_rows a (over_counters w.counters)) (buckets_over a w.buckets opening h.buckets
-    ∙ with_opened a (over_buckets w.buckets) head c)
+    ∙ ap (with_rows a (over_counters w.counters)) (counted_over a w.buckets opening h.buckets
+    ∙ with_opened a (over_counted w.buckets) head c)
     ∙ with_opened a (over_counters w.counters) first c)
     ∙ with_opened a (over_sessions w.sessions) second c)
     ∙ with_opened a (over_groups names w.groups) third c
@@ -111,19 +118,23 @@ periods_back : (names : List (List ℕ)) (p : Periods) → IsNamed names p.befor
 periods_back names p e f =
     λ i. record { before = period_back names p.before e i; after = period_back names p.after f i }
 
-terms_back : (names : List (List ℕ)) (x : Terms) → x.book ≡ 1 → IsNamed names x.periods.before →
-    IsNamed names x.periods.after → terms_in names (names_at names x.periods) ≡ x
-terms_back names x first e f =
-    λ i. record { book = sym first i; periods = periods_back names x.periods e f i }
+terms_back : (names : Names) (x : Terms) → IsNamed (names_numbered names x.book) x.periods.before
+    → IsNamed (names_numbered names x.book) x.periods.after
+    → terms_in names x.book (names_at (names_numbered names x.book) x.periods) ≡ x
+terms_back names x e f = λ i. record {
+  book = x.book;
+  periods = periods_back (names_numbered names x.book) x.periods e f i;
+}
 
 -- ---- groups
 
-none_reserved : (names : List (List ℕ)) (b : Bool) → content.reserved_in names b None ≡ None
-none_reserved names true = refl
-none_reserved names false = refl
+none_reserved : (names : Names) (b : Bool) (book : Option ℕ) →
+    content.reserved_in names b book None ≡ None
+none_reserved names true book = refl
+none_reserved names false book = refl
 
 -- the session of a group that isn't written stays as it is
-module _ (names : List (List ℕ)) (w : StoredRows) (r : Stored)
+module _ (names : Names) (w : StoredRows) (r : Stored)
     (free : (s : List ℕ) (g : ℕ) (x : GroupRow) → (rows_of names r).groups s g ≡ Some x →
     group_in s g w.groups ≡ None → (x.terms ≡ None) × (session_in s w.sessions ≡ None))
     (may : (s : List ℕ) (g : ℕ) (x : SessionGroup) → group_in s g w.groups ≡ Some x →
@@ -136,8 +147,9 @@ module _ (names : List (List ℕ)) (w : StoredRows) (r : Stored)
   unfolding open_after
   same_open s g y there none =
       ap (λ o. is_open_row (first_of o (r.sessions s)))
-      (free s g (stored_group names (is_open_row (r.sessions s)) y)
-      (ap (option_map (stored_group names (is_open_row (r.sessions s)))) there) none).1
+      (free s g (stored_group names (is_open_row (r.sessions s)) (r.grant_books s g) y)
+      (ap (option_map (stored_group names (is_open_row (r.sessions s)) (r.grant_books s g))) there)
+      none).1
 
   still_open : (s : List ℕ) → is_open_row (session_in s w.sessions) ≡ true → open_after s ≡ true
   unfolding open_after
@@ -149,31 +161,35 @@ module _ (names : List (List ℕ)) (w : StoredRows) (r : Stored)
       at (Some x) e = e
 
   pub groups_read : (s : List ℕ) (g : ℕ)
-      → option_map (stored_group names (open_after s))
+      → option_map
+      (stored_group names (open_after s) (book_over (group_in s g w.groups) (r.grant_books s g)))
       (first_of (option_map (columns_of names) (group_in s g w.groups)) (r.groups s g))
       ≡ first_of (option_map group_row (group_in s g w.groups))
-      (option_map (stored_group names (is_open_row (r.sessions s))) (r.groups s g))
+      (option_map (stored_group names (is_open_row (r.sessions s)) (r.grant_books s g))
+      (r.groups s g))
   groups_read s g = at (group_in s g w.groups) (r.groups s g) refl refl
     where
       back : (o : Option Reservation) (used : ℕ) → MayStand names w.sessions s o
-          → stored_group names (open_after s) (record {
-            used = used;
-            periods = option_map (λ (x : Reservation). names_at names x.terms.periods) o;
-          }) ≡ record { used = used; terms = option_map (λ (x : Reservation). x.terms) o }
-      back None used m = λ i. record { used = used; terms = none_reserved names (open_after s) i }
+          → stored_group names (open_after s) (book_put o)
+          (record { used = used; periods = option_map (names_held names) o })
+          ≡ record { used = used; terms = option_map (λ (x : Reservation). x.terms) o }
+      back None used m =
+          λ i. record { used = used; terms = none_reserved names (open_after s) None i }
       back (Some x) used m = rw (still_open s m.live) (λ i. record {
         used = used;
-        terms = Some (terms_back names x.terms m.book m.before m.after i);
+        terms = Some (terms_back names x.terms m.before m.after i);
       })
 
       at : (o : Option SessionGroup) (p : Option Group) → group_in s g w.groups ≡ o
-          → r.groups s g ≡ p → option_map (stored_group names (open_after s))
+          → r.groups s g ≡ p
+          → option_map (stored_group names (open_after s) (book_over o (r.grant_books s g)))
           (first_of (option_map (columns_of names) o) p)
           ≡ first_of (option_map group_row o)
-          (option_map (stored_group names (is_open_row (r.sessions s))) p)
+          (option_map (stored_group names (is_open_row (r.sessions s)) (r.grant_books s g)) p)
       at (Some x) p e f = ap Some (back x.reservation x.used (may s g x e))
       at None None e f = refl
-      at None (Some y) e f = λ i. Some (stored_group names (same_open s g y f e i) y)
+      at None (Some y) e f =
+          λ i. Some (stored_group names (same_open s g y f e i) (r.grant_books s g) y)
 
   pub holds_read : (s : List ℕ) (g n : ℕ)
       → held_in (open_after s && is_reserved
@@ -189,7 +205,7 @@ module _ (names : List (List ℕ)) (w : StoredRows) (r : Stored)
 
       back : (o : Option Reservation) → MayStand names w.sessions s o
           → held_in (open_after s
-          && is_some (option_map (λ (x : Reservation). names_at names x.terms.periods) o))
+          && is_some (option_map (names_held names) o))
           (amount_at n (holds_in o)) ≡ tables.held_at n (holds_in o)
       back None m = not_held (open_after s) None
       back (Some x) m = rw (still_open s m.live) (sym (held_is n x.holds m.holds))
@@ -205,15 +221,17 @@ module _ (names : List (List ℕ)) (w : StoredRows) (r : Stored)
       at None (Some y) e f =
           λ i. held_in (same_open s g y f e i && is_some y.periods) (r.holds s g n)
 
-  pub rows_read : rows_of names (over_stored names w r) ≡ over w (rows_of names r)
+  pub rows_read : AreScoped w.buckets →
+      rows_of names (over_stored names w r) ≡ over w (rows_of names r)
   unfolding open_after
-  rows_read = λ i. record (over w (rows_of names r)) {
+  rows_read each = λ i. record (over w (rows_of names r)) {
+    buckets = λ n. counted_told n w.buckets r each i;
     groups = λ s g. groups_read s g i;
     holds = λ s g n. holds_read s g n i;
   }
 
 -- the rows that differ, written alone, read as all of them
-module _ (names : List (List ℕ)) (before after : StoredRows) (r : Stored)
+module _ (names : Names) (before after : StoredRows) (r : Stored)
     (made : IsMadeFrom before after (rows_of names r)) (earlier : AreKeyed before)
     (later : AreKeyed after)
     (may : (s : List ℕ) (g : ℕ) (x : SessionGroup) → group_in s g after.groups ≡ Some x →
@@ -310,24 +328,28 @@ module _ (names : List (List ℕ)) (before after : StoredRows) (r : Stored)
       at (Some x) e = by_test x (list_any (same_beside x) before.groups) e refl
 
   new_groups_read : (s : List ℕ) (g : ℕ)
-      → option_map (stored_group names (is_open_now s))
+      → option_map
+      (stored_group names (is_open_now s) (book_over (group_in s g new.groups) (r.grant_books s g)))
       (first_of (option_map (columns_of names) (group_in s g new.groups)) (r.groups s g))
       ≡ first_of (option_map group_row (group_in s g after.groups))
-      (option_map (stored_group names (is_open_before s)) (r.groups s g))
+      (option_map (stored_group names (is_open_before s) (r.grant_books s g)) (r.groups s g))
   new_groups_read s g =
-      by_group (λ o. option_map (stored_group names (is_open_now s))
+      by_group (λ o.
+      option_map (stored_group names (is_open_now s) (book_over o (r.grant_books s g)))
       (first_of (option_map (columns_of names) o) (r.groups s g))
       ≡ first_of (option_map group_row (group_in s g after.groups))
-      (option_map (stored_group names (is_open_before s)) (r.groups s g))) s g
-      (ap (λ b. option_map (stored_group names b)
+      (option_map (stored_group names (is_open_before s) (r.grant_books s g)) (r.groups s g))) s g
+      (ap (λ b. option_map
+      (stored_group names b (book_over (group_in s g after.groups) (r.grant_books s g)))
       (first_of (option_map (columns_of names) (group_in s g after.groups)) (r.groups s g)))
       (opened_same s)
       ∙ groups_read names after r made.free may s g)
       (λ x is stood stays.
-      ap (λ b. option_map (stored_group names b) (r.groups s g)) stays
+      ap (λ b. option_map (stored_group names b (r.grant_books s g)) (r.groups s g)) stays
       ∙ made.groups s g x stood
       ∙ ap (λ o. first_of (option_map group_row o)
-      (option_map (stored_group names (is_open_before s)) (r.groups s g))) (sym is))
+      (option_map (stored_group names (is_open_before s) (r.grant_books s g)) (r.groups s g)))
+      (sym is))
 
   new_holds_read : (s : List ℕ) (g n : ℕ)
       → held_in (is_open_now s && is_reserved
@@ -352,9 +374,11 @@ module _ (names : List (List ℕ)) (before after : StoredRows) (r : Stored)
 
   pub new_rows_read : rows_of names (over_stored names new r) ≡ over after (rows_of names r)
   new_rows_read = λ i. record (over after (rows_of names r)) {
-    buckets = λ n. differing_over same_bucket (λ b. b.number == n) (one_bucket n) equal_bucket
-        bucket_from before.buckets after.buckets (r.buckets n) earlier.buckets later.buckets
-        (made.buckets n) i;
+    buckets = λ n. (counted_told n new.buckets r (each_filter (λ b. IsScopeOf b.kind b.scope) _
+        after.buckets later.scoped)
+        ∙ differing_over same_bucket (λ b. b.number == n) (one_bucket n) equal_bucket bucket_from
+        before.buckets after.buckets (told_buckets r n) earlier.buckets later.buckets
+        (made.buckets n)) i;
     counters = λ g n. differing_over same_counter (is_counter g n) (one_counter g n) equal_counter
         counter_from before.counters after.counters (r.counters g n) earlier.counters
         later.counters (made.counters g n) i;
@@ -367,13 +391,14 @@ module _ (names : List (List ℕ)) (before after : StoredRows) (r : Stored)
 pub new_keyed : (before after : StoredRows) → AreKeyed after → AreKeyed (new_rows before after)
 new_keyed before after h = record {
   buckets = apart_filter same_bucket _ after.buckets h.buckets;
+  scoped = each_filter (λ b. IsScopeOf b.kind b.scope) _ after.buckets h.scoped;
   counters = apart_filter same_counter _ after.counters h.counters;
   sessions = apart_filter same_session _ after.sessions h.sessions;
   groups = apart_filter same_group _ after.groups h.groups;
 }
 
 -- the test of a group that is found
-pub may_at : (names : List (List ℕ)) (sessions : List Session) (gs : List SessionGroup)
+pub may_at : (names : Names) (sessions : List Session) (gs : List SessionGroup)
     → AreWritable names sessions gs → (s : List ℕ) (g : ℕ) (x : SessionGroup)
     → group_in s g gs ≡ Some x → MayStand names sessions s x.reservation
 may_at names sessions [] h s g x e = absurd (cc)
@@ -414,13 +439,13 @@ kept_over a None t g c = refl
 kept_over a (Some k) None g c = refl
 kept_over a (Some k) (Some t) g c = texts_over a (key_of k.content) t g c
 
-texts_rows : (names : List (List ℕ)) (key : Key) (t : Kept) (r : Stored) →
+texts_rows : (names : Names) (key : Key) (t : Kept) (r : Stored) →
     rows_of names (put_texts key t r) ≡ rows_of names r
 unfolding put_texts
 texts_rows names (Request s n) t r = refl
 texts_rows names (Reference x) t r = refl
 
-kept_rows : (names : List (List ℕ)) (kept : Option KeptAnswer) (t : Option Kept) (r : Stored) →
+kept_rows : (names : Names) (kept : Option KeptAnswer) (t : Option Kept) (r : Stored) →
     rows_of names (put_kept kept t r) ≡ rows_of names r
 unfolding put_kept
 kept_rows names None t r = refl
@@ -467,14 +492,14 @@ kept_answer a k (Some x) None r h = absurd h
 kept_answer a k (Some x) (Some t) r h = texts_answer a (key_of x.content) k t x r h
 
 pub same_texts : (a : List ℕ) (k : Key)
-    (names : List (List ℕ)) (w : StoredRows) (cs : List ChargeRow) (r : Stored) →
-    answer_in a k (over_charges cs (over_stored names w r)) ≡ answer_in a k r
+    (names : Names) (w : StoredRows) (cs : List ChargeRow) (r : Stored) →
+    answer_in a k (over_paid cs (over_stored names w r)) ≡ answer_in a k r
 same_texts a (Request s n) names w cs r = refl
 same_texts a (Reference x) names w cs r = refl
 
 -- ---- all of it
 
-module _ (names : List (List ℕ)) (m : Meta) (change : Change) (texts : Option Kept) (c : Content)
+module _ (names : Names) (m : Meta) (change : Change) (texts : Option Kept) (c : Content)
     (loaded : IsStored change.before) (kept : IsStored change.after)
     (may : AreWritable names change.after.sessions change.after.groups)
     (numbers : AreNumbered (first_number (c.rows change.number).head) change.after.next_charge
@@ -484,25 +509,25 @@ module _ (names : List (List ℕ)) (m : Meta) (change : Change) (texts : Option 
 
   row_after : Stored → Stored
   row_after r = put_kept change.kept texts
-      (over_charges change.charges.items (over_stored names written_rows r))
+      (over_paid change.charges.items (over_stored names written_rows r))
 
   content_after : with_change names m change texts c
       ≡ with_redeemed change.redeemed (opened change.number row_after (with_meta m c))
   unfolding row_after
   content_after =
       ap (with_redeemed change.redeemed) (ap (with_kept change.number change.kept texts)
-      (charges_over change.number change.charges.items (with_stored change.number names written_rows
+      (paid_over change.number change.charges.items (with_stored change.number names written_rows
       (with_meta m c)) (numbered_apart (first_number (c.rows change.number).head)
       change.after.next_charge change.charges.items numbers)
-      ∙ ap (with_rows change.number (over_charges change.charges.items))
+      ∙ ap (with_rows change.number (over_paid change.charges.items))
       (stored_over change.number names change.after.sessions written_rows (with_meta m c)
       (new_keyed change.before change.after (keyed change.after kept))
       (each_filter (λ x. MayStand names change.after.sessions x.session x.reservation) _
       change.after.groups may))
-      ∙ with_opened change.number (over_charges change.charges.items)
+      ∙ with_opened change.number (over_paid change.charges.items)
       (over_stored names written_rows) (with_meta m c))
       ∙ kept_over change.number change.kept texts
-      (λ r. over_charges change.charges.items (over_stored names written_rows r)) (with_meta m c))
+      (λ r. over_paid change.charges.items (over_stored names written_rows r)) (with_meta m c))
 
   module _ (last : m.last ≡ change.moment)
       (made : IsMadeFrom change.before change.after (rows_of names (c.rows change.number))) where
@@ -515,7 +540,7 @@ module _ (names : List (List ℕ)) (m : Meta) (change : Change) (texts : Option 
         subst (λ a. IsMadeFrom change.before change.after (rows_of names (c.rows a)))
         (name_from change.number x e) made in
         kept_rows names change.kept texts
-        (over_charges change.charges.items (over_stored names written_rows (c.rows x)))
+        (over_paid change.charges.items (over_stored names written_rows (c.rows x)))
         ∙ new_rows_read names change.before change.after (c.rows x) made_here
         (keyed change.before loaded) (keyed change.after kept)
         (may_at names change.after.sessions change.after.groups may)
@@ -527,7 +552,7 @@ module _ (names : List (List ℕ)) (m : Meta) (change : Change) (texts : Option 
     unfolding row_after
     answers_at x k true e =
         kept_answer x k change.kept texts
-        (over_charges change.charges.items (over_stored names written_rows (c.rows x)))
+        (over_paid change.charges.items (over_stored names written_rows (c.rows x)))
         (subst (λ a. AreTexts a change.kept texts) (name_from change.number x e) told)
         ∙ ap (kept_after change.kept k)
         (same_texts x k names written_rows change.charges.items (c.rows x))
@@ -540,11 +565,13 @@ module _ (names : List (List ℕ)) (m : Meta) (change : Change) (texts : Option 
     unfolding row_after
     charges_at x n true e =
         kept_charges n change.kept texts
-        (over_charges change.charges.items (over_stored names written_rows (c.rows x)))
+        (over_paid change.charges.items (over_stored names written_rows (c.rows x)))
+        ∙ ap (λ o. if nat_lt 0 n && nat_lt n change.after.next_charge then o else None)
+        (paid_told n change.charges.items (over_stored names written_rows (c.rows x)))
         ∙ seen_after n (first_number (c.rows x).head) change.after.next_charge change.charges.items
         (is_numbered n (c.rows x).head) (subst (λ a. AreNumbered (first_number (c.rows a).head)
         change.after.next_charge change.charges.items) (name_from change.number x e) numbers)
-        (begins n (c.rows x).head) ((c.rows x).charges n)
+        (begins n (c.rows x).head) (told_charge (c.rows x) n)
     charges_at x n false e = refl
 
     -- the tables with what is written are those with the change

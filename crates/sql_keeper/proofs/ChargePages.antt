@@ -1,8 +1,9 @@
 -- The charges that are read for a page are the account's.
 use Rattle.std.proofs.Common.{◌≡◌, ℕ, ◌+◌, ◌-◌, ◌<◌, ◌≤◌, Bool, true, false, cond, List, [], ◌∷◌}
 use Rattle.std.proofs.Common.{Some, None, Option, refl, sym, ap, ◌∙◌, subst, arith, nat_lt}
-use Rattle.std.specs.Prelude.{◌==◌, ◌&&◌, if◌then◌else◌, min, nat_le}
-use Rattle.std.specs.List.{filter}
+use Rattle.std.specs.Prelude.{◌==◌, ◌&&◌, if◌then◌else◌, map, min, nat_le, option_map}
+use Rattle.std.specs.Prelude.{nat_eq}
+use Rattle.std.specs.List.{filter, find}
 use Rattle.std.proofs.lemmas.Bool.{and_parts, and_from, true≢false}
 use Rattle.std.proofs.Math.Nat.{min-le_left, min-le_right, min-eq_left, min-eq_right, le-min}
 use Rattle.std.proofs.lemmas.Bool.Decides.{nat_tests}
@@ -16,9 +17,14 @@ use Rattle.charge_sources.proofs.Parted.{page_is}
 use Rattle.sql_tables.specs.Selects.{only as those}
 use Rattle.sql_rows.specs.declared.head.Head.{Head}
 use Rattle.sql_rows.specs.Content.{Rows as Stored}
-use Rattle.sql_rows.specs.Lists.{AreCharges, NumbersRise, is_within}
-use Rattle.sql_keeper.specs.ChargePages.{IsPageRead, last_number}
-use Rattle.sql_keeper.specs.Content.{charge_of, is_numbered}
+use Rattle.sql_rows.specs.Lists.{AreCharges, AreCovered, NumbersRise, is_within}
+use Rattle.sql_rows.specs.Texts.{covered_row}
+use Rattle.sql_rows.specs.Values.{CoveredRow}
+use Rattle.sql_rows.specs.declared.covered_rows.CoveredColumns.{CoveredColumns}
+use Rattle.sql_keeper.specs.ChargePages.{AreTold, IsPageRead, end_of_page, last_number}
+use Rattle.sql_keeper.specs.Content.{charge_of, is_numbered, told_charge}
+use Rattle.sql_keeper.specs.Content as content
+use Rattle.sql_keeper.specs.Covered.{blocks_under, covered_charge}
 
 -- numbers up to the last are those that are seen
 numbered_is : (n : ℕ) (o : Option Head) → is_numbered n o ≡ (nat_lt 0 n && nat_le n (last_number o))
@@ -52,6 +58,83 @@ found_number n (c ∷ rest) x e = at (c.number == n) refl e (found_number n rest
         let is : c ≡ x = cc in
         sym (ap (λ (r : ChargeRow). r.number) is) ∙ grind (arith, nat_tests, e)
     at false e same later = later same
+
+-- ---- charges with the blocks that were covered
+
+covered_found : (cs : List CoveredColumns) (n : ℕ) (xs : List ChargeRow)
+    → charge_in n (map (covered_charge cs) xs) ≡ option_map (covered_charge cs) (charge_in n xs)
+covered_found cs n [] = refl
+covered_found cs n (x ∷ xs) = go (covered_found cs n xs) (x.number == n)
+  where
+    go : charge_in n (map (covered_charge cs) xs) ≡ option_map (covered_charge cs) (charge_in n xs)
+        → (t : Bool)
+        → cond t (Some (covered_charge cs x)) (charge_in n (map (covered_charge cs) xs))
+        ≡ option_map (covered_charge cs) (cond t (Some x) (charge_in n xs))
+    go later true = refl
+    go later false = later
+
+-- what is read of covered blocks tells them
+under_read : (n : ℕ) (cs : List CoveredColumns)
+    → blocks_under n cs ≡ option_map (λ (x : CoveredRow). x.blocks)
+    (find (λ (x : CoveredRow). nat_eq x.number n) (map covered_row cs))
+under_read n [] = refl
+under_read n (c ∷ cs) = go (under_read n cs) (nat_eq c.number n)
+  where
+    go : blocks_under n cs ≡ option_map (λ (x : CoveredRow). x.blocks)
+        (find (λ (x : CoveredRow). nat_eq x.number n) (map covered_row cs))
+        → (t : Bool)
+        → option_map (λ (x : CoveredColumns). x.blocks)
+        (cond t (Some c) (find (λ (x : CoveredColumns). nat_eq x.number n) cs))
+        ≡ option_map (λ (x : CoveredRow). x.blocks)
+        (cond t (Some (covered_row c))
+        (find (λ (x : CoveredRow). nat_eq x.number n) (map covered_row cs)))
+    go later true = refl
+    go later false = later
+
+module _ (r : Stored) (after last : ℕ) (xs : List ChargeRow) (cs : List CoveredColumns)
+    (charges : AreCharges (is_within after last) r xs)
+    (covered : AreCovered after last r (map covered_row cs)) where
+  blocks_are : (n : ℕ) (x : ChargeRow) → is_within after last x ≡ true → charge_in n xs ≡ Some x →
+      blocks_under x.number cs ≡ r.covered n
+  blocks_are n x within found =
+      let is = found_number n xs x found in
+      ap (λ m. blocks_under m cs) is
+      ∙ under_read n cs
+      ∙ covered n
+      ∙ ap (λ t. if t then r.covered n else None)
+      (ap (λ m. nat_lt after m && nat_le m last) (sym is) ∙ within)
+
+  told_under : (n : ℕ) (o : Option ChargeRow) → charge_in n xs ≡ those (is_within after last) o
+      → option_map (covered_charge cs) (charge_in n xs)
+      ≡ those (is_within after last) (option_map (content.charge_in (r.covered n)) o)
+  told_under n None e = ap (option_map (covered_charge cs)) e
+  told_under n (Some x) e = at (is_within after last x) refl e
+    where
+      at : (t : Bool) → is_within after last x ≡ t → charge_in n xs ≡ (if t then Some x else None)
+          → option_map (covered_charge cs) (charge_in n xs)
+          ≡ (if t then Some (content.charge_in (r.covered n) x) else None)
+      at true k f = ap (option_map (covered_charge cs)) f
+          ∙ ap (λ b. Some (content.charge_in b x)) (blocks_are n x k f)
+      at false k f = ap (option_map (covered_charge cs)) f
+
+  -- the charges that were read, with their covered blocks, are those of the tables
+  covered_told : AreTold (is_within after last) r (map (covered_charge cs) xs)
+  covered_told n = covered_found cs n xs ∙ told_under n (r.charges n) (charges n)
+
+  pub told_with : (ys : List ChargeRow) → ys ≡ map (covered_charge cs) xs →
+      AreTold (is_within after last) r ys
+  told_with ys is = subst (AreTold (is_within after last) r) (sym is) covered_told
+
+-- the numbers stay
+rise_covered : (cs : List CoveredColumns) (xs : List ChargeRow) → NumbersRise xs →
+    NumbersRise (map (covered_charge cs) xs)
+rise_covered cs [] rise = tt
+rise_covered cs (x ∷ []) rise = tt
+rise_covered cs (x ∷ y ∷ zs) rise = (rise.0, rise_covered cs (y ∷ zs) rise.1)
+
+pub rise_with : (cs : List CoveredColumns) (xs ys : List ChargeRow) →
+    ys ≡ map (covered_charge cs) xs → NumbersRise xs → NumbersRise ys
+rise_with cs xs ys is rise = subst NumbersRise (sym is) (rise_covered cs xs rise)
 
 abbrev BeginFrom : ℕ → List ChargeRow → Type 0
 BeginFrom least [] = Unit {0}
@@ -90,7 +173,7 @@ narrowed n m last low = at (nat_le n (min last m)) (nat_le n last) refl refl
 
 module _ (r : Stored) (after last : ℕ) (items all : List ChargeRow)
     (are : AreAll (λ n. charge_of n r) all)
-    (read : AreCharges (is_within after (min last (last_number r.head))) r items) where
+    (read : AreTold (is_within after (min last (last_number r.head))) r items) where
   numbered_below : (n : ℕ) → is_numbered n r.head ≡ true → n ≤ last_number r.head
   numbered_below n e =
       let both =
@@ -130,7 +213,7 @@ module _ (r : Stored) (after last : ℕ) (items all : List ChargeRow)
           absurd (true≢false (sym (below_numbered n some low) ∙ e))
 
   tells : (n : ℕ) → charge_in n items ≡ only (lies_within after last) (charge_in n all)
-  tells n = at (is_numbered n r.head) refl (r.charges n) (read n) (are.listed n)
+  tells n = at (is_numbered n r.head) refl (told_charge r n) (read n) (are.listed n)
     where
       at : (t : Bool) → is_numbered n r.head ≡ t → (o : Option ChargeRow) →
           charge_in n items ≡ those (is_within after (min last (last_number r.head))) o →
@@ -147,7 +230,8 @@ module _ (r : Stored) (after last : ℕ) (items all : List ChargeRow)
   rows_are rise =
       page_is after last items are (rises_from 0 items rise (begin_anywhere items)) tells
 
--- what is read is a page
+-- ---- a page
+
 pub page_made : (r : Stored) (after : ℕ) (page : ChargePage) → after ≤ 4294967295 →
     IsPageRead r after page →
     IsPage (λ n. charge_of n r) after page
@@ -193,4 +277,21 @@ page_made r after page small read = record {
             absurd (grind (arith, nat_tests, low, most, less))
 
     none : (n : ℕ) → is_numbered n r.head ≡ false → charge_of n r ≡ None
-    none n e = ap (λ t. if t then r.charges n else None) e
+    none n e = ap (λ t. if t then told_charge r n else None) e
+
+-- of what was read in turn
+pub page_told : (r : Stored) (after number up_to : ℕ) (page : ChargePage) → after ≤ 4294967295
+    → number ≤ 4294967295 → page.last ≡ end_of_page after
+    → page.is_last ≡ nat_le number page.last → up_to ≡ min page.last number
+    → NumbersRise page.rows.items → number ≡ last_number r.head
+    → AreTold (is_within after up_to) r page.rows.items
+    → IsPage (λ n. charge_of n r) after page
+page_told r after number up_to page small low last is_last least order is told =
+    page_made r after page small (record {
+      last = last;
+      small = subst (λ m. m ≤ 4294967295) is low;
+      is_last = is_last ∙ ap (λ m. nat_le m page.last) is;
+      rows = subst (λ m. AreTold (is_within after m) r page.rows.items)
+          (least ∙ ap (min page.last) is) told;
+      order = order;
+    })

@@ -7,6 +7,8 @@ use Rattle.keepers.specs.declared.key.KeptAnswer.{KeptAnswer}
 use Rattle.keepers.specs.declared.loaded.Change.{Change}
 use Rattle.keepers.specs.declared.loaded.Redeemed.{Redeemed}
 use Rattle.keepers.specs.Keys.{key_of}
+use Rattle.buckets.specs.Row.{Row as Bucket}
+use Rattle.buckets.specs.declared.kind.BucketKind.{BucketKind}
 use Rattle.buckets.specs.declared.holds.Hold.{Hold}
 use Rattle.reserving.specs.declared.session.SessionGroup.{SessionGroup}
 use Rattle.reserving.specs.Sessions.{holds_in}
@@ -15,80 +17,99 @@ use Rattle.sqlite.specs.Effect.{Database}
 use Rattle.sqlite.specs.State.{State, HasCleanDisk}
 use Rattle.sqlite_trees.specs.Tree.{Trees}
 use Rattle.sql_tables.specs.Statements.{OnlyReads}
-use Rattle.sql_rows.specs.Values.{Meta, Kept}
+use Rattle.sql_rows.specs.Values.{DatedBook, Meta, Kept}
 use Rattle.sql_rows.specs.declared.head.Head.{Head as HeadColumns}
 use Rattle.sql_rows.specs.Content.{Content, content_of, rows_in, with_rows, with_meta, with_account}
-use Rattle.sql_rows.specs.Content.{with_bucket, with_counter, with_session, with_group, with_hold}
-use Rattle.sql_rows.specs.Content.{without_holds, with_charge}
-use Rattle.sql_rows.specs.Each.{with_each, with_buckets, with_counters, with_sessions, with_charges}
+use Rattle.sql_rows.specs.Content.{with_counter, with_session, with_group, with_hold}
+use Rattle.sql_rows.specs.Content.{with_bucket, without_holds}
+use Rattle.sql_rows.specs.Values.{plain_bucket}
+use Rattle.sql_rows.specs.Each.{with_each, with_counters, with_sessions}
 use Rattle.sql_rows.specs.Makes.{Turns}
-use Rattle.sql_keeper.specs.Content.{tables_of}
+use Rattle.sql_keeper.specs.Content.{tables_of, Names}
 use Rattle.sql_keeper.specs.Commits.{Becomes}
 use Rattle.sql_keeper.specs.Tests.{AreNumbered, AreWritable, first_number}
 use Rattle.sql_keeper.specs.Writes.{AreTexts, columns_of, head_of, meta_with, with_change}
-use Rattle.sql_keeper.specs.Writes.{with_held_group, with_kept, with_redeemed, with_stored}
-use Rattle.sql_keeper.specs.Writes.{new_rows, with_texts}
+use Rattle.sql_keeper.specs.Writes.{with_all_counted, with_all_paid, with_book_of, with_counted}
+use Rattle.sql_keeper.specs.Writes.{with_held_group, with_kept, with_paid, with_redeemed}
+use Rattle.sql_keeper.specs.Writes.{with_scoped, with_stored, new_rows, with_texts}
 use Rattle.sql_keeper.proofs.Changed.{changes_read}
 
--- ---- what is kept once
+-- ---- what is kept once, and the later books
+
+-- what is kept beside the rows of accounts
+pub record Beside : Type 0 where
+  pub meta : Option Meta
+  pub books : ℕ → Option DatedBook
+
+abbrev pub beside : Content → Beside
+beside c = record { meta = c.meta; books = c.books }
 
 each_meta : {X : Type 0} (change : X → Content → Content)
-    → ((x : X) (c : Content) → (change x c).meta ≡ c.meta)
-    → (xs : List X) (c : Content) → (with_each change xs c).meta ≡ c.meta
+    → ((x : X) (c : Content) → beside (change x c) ≡ beside c)
+    → (xs : List X) (c : Content) → beside (with_each change xs c) ≡ beside c
 each_meta change same [] c = refl
 each_meta change same (x ∷ xs) c = each_meta change same xs (change x c) ∙ same x c
 
-texts_meta : (a : List ℕ) (k : Key) (t : Kept) (c : Content) → (with_texts a k t c).meta ≡ c.meta
+texts_meta : (a : List ℕ) (k : Key) (t : Kept) (c : Content) →
+    beside (with_texts a k t c) ≡ beside c
 texts_meta a (Request s n) t c = refl
 texts_meta a (Reference x) t c = refl
 
 kept_meta : (a : List ℕ) (kept : Option KeptAnswer) (t : Option Kept) (c : Content)
-    → (with_kept a kept t c).meta ≡ c.meta
+    → beside (with_kept a kept t c) ≡ beside c
 kept_meta a None t c = refl
 kept_meta a (Some k) None c = refl
 kept_meta a (Some k) (Some t) c = texts_meta a (key_of k.content) t c
 
 redeemed_meta : (redeemed : Option Redeemed) (c : Content) →
-    (with_redeemed redeemed c).meta ≡ c.meta
+    beside (with_redeemed redeemed c) ≡ beside c
 redeemed_meta None c = refl
 redeemed_meta (Some r) c = refl
 
-held_meta : (a : List ℕ) (names : List (List ℕ)) (r : SessionGroup) (c : Content)
-    → (with_held_group a names r c).meta ≡ c.meta
+held_meta : (a : List ℕ) (names : Names) (r : SessionGroup) (c : Content)
+    → beside (with_held_group a names r c) ≡ beside c
 held_meta a names r c =
     each_meta (λ (x : Hold).
     with_rows a (with_hold r.session r.group x.bucket x.amount)) (λ x c. refl)
     (holds_in r.reservation) (with_rows a (without_holds r.session r.group)
-    (with_rows a (with_group r.session r.group (columns_of names r)) c))
+    (with_rows a (with_book_of r.session r.group r.reservation)
+    (with_rows a (with_group r.session r.group (columns_of names r)) c)))
 
-stored_meta : (a : List ℕ) (names : List (List ℕ)) (w : StoredRows) (c : Content)
-    → (with_stored a names w c).meta ≡ c.meta
+scoped_meta : (a : List ℕ) (o : Option ℕ) (k : BucketKind) (n : ℕ) (c : Content) →
+    beside (with_scoped a o k n c) ≡ beside c
+scoped_meta a None k n c = refl
+scoped_meta a (Some g) k n c = refl
+
+counted_meta : (a : List ℕ) (b : Bucket) (c : Content) → beside (with_counted a b c) ≡ beside c
+counted_meta a b c =
+    scoped_meta a b.scope b.kind b.number (with_rows a (with_bucket (plain_bucket b)) c)
+
+stored_meta : (a : List ℕ) (names : Names) (w : StoredRows) (c : Content)
+    → beside (with_stored a names w c) ≡ beside c
 stored_meta a names w c =
     let opening = with_account a (head_of w) c in
-    let money = with_buckets a w.buckets opening in
+    let money = with_all_counted a w.buckets opening in
     let counted = with_counters a w.counters money in
     each_meta (with_held_group a names) (held_meta a names) w.groups
     (with_sessions a w.sessions counted)
     ∙ each_meta (λ x. with_rows a (with_session x)) (λ x c. refl) w.sessions counted
     ∙ each_meta (λ x. with_rows a (with_counter x)) (λ x c. refl) w.counters money
-    ∙ each_meta (λ x. with_rows a (with_bucket x)) (λ x c. refl) w.buckets opening
+    ∙ each_meta (with_counted a) (counted_meta a) w.buckets opening
 
-change_meta : (names : List (List ℕ)) (m : Meta) (change : Change)
-    (texts : Option Kept) (c : Content)
-    → (with_change names m change texts c).meta ≡ Some m
+change_meta : (names : Names) (m : Meta) (change : Change) (texts : Option Kept) (c : Content)
+    → beside (with_change names m change texts c) ≡ beside (with_meta m c)
 change_meta names m change texts c =
     let rows = new_rows change.before change.after in
     let stored = with_stored change.number names rows (with_meta m c) in
-    let charged = with_charges change.number change.charges.items stored in
+    let charged = with_all_paid change.number change.charges.items stored in
     redeemed_meta change.redeemed (with_kept change.number change.kept texts charged)
     ∙ kept_meta change.number change.kept texts charged
-    ∙ each_meta (λ x. with_rows change.number (with_charge x))
-    (λ x c. refl) change.charges.items stored
+    ∙ each_meta (with_paid change.number) (λ x c. refl) change.charges.items stored
     ∙ stored_meta change.number names rows (with_meta m c)
 
 -- ---- a change that passed the tests
 
-module _ (names : List (List ℕ)) (text : List ℕ) (change : Change) (texts : Option Kept)
+module _ (names : Names) (text : List ℕ) (change : Change) (texts : Option Kept)
     (head : Option HeadColumns) (loaded : IsStored change.before) (stored : IsStored change.after)
     (may : AreWritable names change.after.sessions change.after.groups)
     (numbers : AreNumbered (first_number head) change.after.next_charge change.charges.items)
@@ -102,9 +123,11 @@ module _ (names : List (List ℕ)) (text : List ℕ) (change : Change) (texts : 
         ∙ changes_read names (meta_with text change) change texts (content_of old) loaded stored may
         (subst (λ h. AreNumbered (first_number h) change.after.next_charge change.charges.items) is
         numbers) told refl made;
-    meta = ap (λ (c : Content). c.meta) turns.content
-        ∙ change_meta names (meta_with text change) change texts (content_of old);
+    meta = ap (λ (c : Content). c.meta) turns.content ∙ ap (λ (b : Beside). b.meta)
+        (change_meta names (meta_with text change) change texts (content_of old));
     last = last;
+    books = ap (λ (c : Content). c.books) turns.content ∙ ap (λ (b : Beside). b.books)
+        (change_meta names (meta_with text change) change texts (content_of old));
     catalog = turns.catalog;
     stored = turns.stored;
   }

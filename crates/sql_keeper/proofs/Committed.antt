@@ -72,7 +72,7 @@ module _ {S A : Type 0} (g : Ghosts S) (old new : KeeperState S)
   abbrev CommitsIn : Result A StoreFault → Type 0
   CommitsIn r = CommitsWhole (Become text) (state g old.connection) (state g new.connection) r
 
-  stays_in : (r : Result A StoreFault) → CommitsIn r → StaysOpen (state g new.connection)
+  pub stays_in : (r : Result A StoreFault) → CommitsIn r → StaysOpen (state g new.connection)
   stays_in r commits = stays_survived (state g old.connection) (state g new.connection)
       (λ db. IsTrue (state g old.connection).is_open →
       Become text (state g old.connection).now.trees db) keeper.stays commits.survives
@@ -88,7 +88,7 @@ module _ {S A : Type 0} (g : Ghosts S) (old new : KeeperState S)
   was_open (Ok x) commits clean on = (commits.done clean).0
   was_open (Err e) commits clean on = (commits.err clean on).was_open
 
-  was_clean : (r : Result A StoreFault) → CommitsIn r → IsClean (state g new.connection)
+  pub was_clean : (r : Result A StoreFault) → CommitsIn r → IsClean (state g new.connection)
       → IsClean (state g old.connection)
   was_clean r commits clean = record {
     disk = omega (arith, commits.survives.clean, clean.disk);
@@ -96,7 +96,7 @@ module _ {S A : Type 0} (g : Ghosts S) (old new : KeeperState S)
         (open_of (state g new.connection) (stays_in r commits) clean));
   }
 
-  same_tables : (r : Result A StoreFault) → CommitsIn r → new.names ≡ old.names
+  pub same_tables : (r : Result A StoreFault) → CommitsIn r → new.names ≡ old.names
       → IsClean (state g new.connection)
       → IsTrue (state g new.connection).is_open → OnErr r (tables_in g new ≡ tables_in g old)
   same_tables (Ok x) commits names clean on = tt

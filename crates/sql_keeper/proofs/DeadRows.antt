@@ -3,7 +3,6 @@ use Rattle.std.proofs.Common.{◌≡◌, ◌<◌, ℕ, ◌==◌, List, [], ◌�
 use Rattle.std.proofs.Common.{Option, Some, None, Result, Ok, Err, IfOk, refl, sym, ap, ◌∙◌, subst}
 use Rattle.std.proofs.Common.{arith, nat_eq, nat_lt, ltb-true, ltb-false, eqb-true}
 use Rattle.std.proofs.lemmas.Bool.{eqb-false}
-use Rattle.std.specs.List.{find}
 use Rattle.std.specs.Prelude.{if◌then◌else◌}
 use Rattle.buckets.specs.Row.{Row}
 use Rattle.reserving.specs.Rows.{AreApart, EachIn}
@@ -11,7 +10,6 @@ use Rattle.reserving.specs.Left.{is_dead, only}
 use Rattle.keepers.specs.Keyed.{same_bucket}
 use Rattle.sql_tables.specs.Selects.{only as those}
 use Rattle.sql_rows.specs.Lists.{BucketsRise, is_dead as is_spent}
-use Rattle.sql_keeper.specs.Dead.{AreDead}
 
 some_or_none : (a : ℕ) (p q : Bool) → nat_lt 0 a ≡ p → (a == 0) ≡ q → p ≡ not q
 some_or_none a true true e f =
@@ -56,27 +54,10 @@ others : (m : Row) (bs : List Row) → BucketsRise (m ∷ bs) → EachIn (λ y. 
 others m [] rise = tt
 others m (b ∷ bs) rise = (other m b rise.0, others m bs (rises_over m b bs rise.0 rise.1))
 
-apart : (bs : List Row) → BucketsRise bs → AreApart same_bucket bs
+pub apart : (bs : List Row) → BucketsRise bs → AreApart same_bucket bs
 apart [] rise = tt
 apart (b ∷ bs) rise = (others b bs rise, apart bs (tail b bs rise))
   where
     tail : (b : Row) (bs : List Row) → BucketsRise (b ∷ bs) → BucketsRise bs
     tail b [] rise = tt
     tail b (x ∷ xs) rise = rise.1
-
-dead_rows : (buckets : ℕ → Option Row) (bs : List Row)
-    → ((n : ℕ) → find (λ b. nat_eq b.number n) bs ≡ those is_spent (buckets n)) → BucketsRise bs
-    → AreDead buckets bs
-dead_rows buckets bs found rise = record {
-  found = λ n. found n ∙ those_are is_spent is_dead spent_is_dead (buckets n);
-  apart = apart bs rise;
-}
-
--- values made of the rows
-pub dead_made : {V E : Type 0} (items : V → List Row) (buckets : ℕ → Option Row) (rows : List Row)
-    (r : Result V E)
-    → ((n : ℕ) → find (λ b. nat_eq b.number n) rows ≡ those is_spent (buckets n)) → BucketsRise rows
-    → IfOk r (λ v. items v ≡ rows) → IfOk r (λ v. AreDead buckets (items v))
-dead_made items buckets rows (Ok v) found rise is =
-    subst (AreDead buckets) (sym is) (dead_rows buckets rows found rise)
-dead_made items buckets rows (Err e) found rise is = tt

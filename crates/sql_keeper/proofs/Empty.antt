@@ -1,6 +1,6 @@
 -- New tables hold nothing.
-use Rattle.std.proofs.Common.{◌≡◌, ℕ, List, [], None, refl, ap, sym, ◌∙◌, subst, Ok, arith}
-use Rattle.std.specs.Prelude.{length, option_map}
+use Rattle.std.proofs.Common.{◌≡◌, ℕ, List, [], None, refl, ap, sym, ◌∙◌, subst, Ok, arith, false}
+use Rattle.std.specs.Prelude.{is_some, length, option_map}
 use Rattle.std.specs.FinMap.{get, get-empty}
 use Rattle.sqlite_value.specs.Order.{Row, row_cmp}
 use Rattle.sqlite_schema.specs.declared.schema.Table.{Table}
@@ -12,7 +12,7 @@ use Rattle.sqlite_trees.specs.Objects.{catalog_tree}
 use Rattle.sqlite_trees.specs.Tree.{Trees}
 use Rattle.sqlite_catalog.specs.Listing.{Lists}
 use Rattle.sql_tables.specs.Keyed.{look, table_of}
-use Rattle.sql_tables.specs.Schema.{book_schema}
+use Rattle.sql_tables.specs.Schema.{book_schema, latest}
 use Rattle.sql_tables.specs.Stages.{AreEmpty, BuildsAll}
 use Rattle.sql_tables.specs.Statements.{Attempts}
 use Rattle.sql_tables.specs.Schema as table
@@ -23,7 +23,7 @@ use Rattle.sql_keeper.specs.Content.{answer_in, tables_of}
 use Rattle.sql_keeper.specs.Creates.{first_meta, BuildsBook, IsNewBook}
 use Rattle.sql_keeper.specs.Laws.{AreNewTablesEmpty}
 
-none_stored : (t : Table) (trees : Trees) → trees t.tree ≡ [] → (key : Row) →
+pub none_stored : (t : Table) (trees : Trees) → trees t.tree ≡ [] → (key : Row) →
     look t trees key ≡ None
 none_stored t trees e key = ap (λ rows. get (table_of t.primary rows) key) e ∙ get-empty row_cmp key
 
@@ -37,10 +37,19 @@ nothing = record {
   holds = λ s g n. None;
   answers = λ kind name number. None;
   charges = λ n. None;
+  grant_books = λ s g. None;
+  allowances = λ n. false;
+  covered = λ n. None;
 }
 
 abbrev no_content : Content
-no_content = record { meta = None; rows = λ a. nothing; vouchers = λ code. None; count = 0 }
+no_content = record {
+  meta = None;
+  rows = λ a. nothing;
+  vouchers = λ code. None;
+  books = λ n. None;
+  count = 0;
+}
 
 empty_content : (trees : Trees) → AreEmpty book_schema.tables trees → content_of trees ≡ no_content
 empty_content trees e =
@@ -54,6 +63,10 @@ empty_content trees e =
     let at_answers = e.1.1.1.1.1.1.1.0 in
     let at_vouchers = e.1.1.1.1.1.1.1.1.0 in
     let at_charges = e.1.1.1.1.1.1.1.1.1.0 in
+    let at_books = e.1.1.1.1.1.1.1.1.1.1.0 in
+    let at_grants = e.1.1.1.1.1.1.1.1.1.1.1.0 in
+    let at_allowances = e.1.1.1.1.1.1.1.1.1.1.1.1.0 in
+    let at_covered = e.1.1.1.1.1.1.1.1.1.1.1.1.1.0 in
     λ i. record {
       meta = option_map values.meta_in (none_stored table.meta trees at_meta values.meta_key i);
       rows = λ a. record {
@@ -73,9 +86,17 @@ empty_content trees e =
             (none_stored table.answers trees at_answers (values.answer_key a kind name number) i);
         charges = λ n. option_map values.charge_in
             (none_stored table.charges trees at_charges (values.charge_key a n) i);
+        grant_books = λ s g. option_map values.grant_book_in
+            (none_stored table.grant_books trees at_grants (values.group_key a s g) i);
+        allowances = λ n. is_some (option_map values.allowance_in
+            (none_stored table.allowance_buckets trees at_allowances (values.bucket_key a n) i));
+        covered = λ n. option_map values.covered_in
+            (none_stored table.covered trees at_covered (values.charge_key a n) i);
       };
       vouchers = λ code. option_map values.voucher_in
           (none_stored table.vouchers trees at_vouchers (values.voucher_key code) i);
+      books = λ n. option_map values.book_in
+          (none_stored table.books trees at_books (values.book_key n) i);
       count = length (at_accounts i);
     }
 
@@ -85,8 +106,37 @@ none_kept a (Reference x) = refl
 
 pub new_empty : AreNewTablesEmpty
 new_empty names =
-    ap (tables_of names) (empty_content (λ t. [])
-    (refl, (refl, (refl, (refl, (refl, (refl, (refl, (refl, (refl, (refl, tt)))))))))))
+    ap (tables_of names) (empty_content (λ t. []) (
+      refl,
+      (
+        refl,
+        (
+          refl,
+          (
+            refl,
+            (
+              refl,
+              (
+                refl,
+                (
+                  refl,
+                  (
+                    refl,
+                    (
+                      refl,
+                      (
+                        refl,
+                        (refl, (refl, (refl, (refl, tt)))),
+                      ),
+                    ),
+                  ),
+                ),
+              ),
+            ),
+          ),
+        ),
+      ),
+    ))
     ∙ (λ i. record (tables_of names no_content) { answers = λ a k. none_kept a k i })
 
 -- the row of meta in tables without rows
@@ -102,19 +152,21 @@ new_book text old new e lists turns = record {
       ∙ (λ i. record (tables_of names (with_meta (first_meta text) no_content)) {
         answers = λ a k. none_kept a k i;
       });
+  books = λ n. ap (λ (c : Content). c.books n)
+      (turns.content ∙ ap (with_meta (first_meta text)) (empty_content old e));
 }
 
 pub builds_book : {A B D E : Type 0} (text : List ℕ) (first : ℕ) → first ≡ 0 →
     (a b c : State) (u : A) (v : B) (w : D)
     → Attempts {A = A} {E = E} BuildsAll a b (Ok u)
     → Attempts {A = B} {E = E}
-    (Makes (with_meta (record { version = 1; book = text; last = first }))) b c (Ok v)
+    (Makes (with_meta (record { version = latest; book = text; last = first }))) b c (Ok v)
     → Attempts {A = D} {E = E} (BuildsBook text) a c (Ok w)
 builds_book text first is a b c u v w one two = record {
   done = λ clean.
       let built : BuildsAll a b = one.done (omega (arith, two.survives.clean, clean)) in
       let put : Makes (with_meta (first_meta text)) b c =
-      subst (λ n. Makes (with_meta (record { version = 1; book = text; last = n })) b c) is
+      subst (λ n. Makes (with_meta (record { version = latest; book = text; last = n })) b c) is
       (two.done clean) in
       record {
         made = new_book text b.now.trees c.now.trees built.empty built.lists put.turns;

@@ -20,7 +20,8 @@ use Rattle.keepers.specs.Tables.{held_at}
 use Rattle.sql_rows.specs.Values.{Group}
 use Rattle.sql_rows.specs.Content.{Rows, Content, with_rows, with_group, with_hold, without_holds}
 use Rattle.sql_rows.specs.Each.{with_holds}
-use Rattle.sql_keeper.specs.Writes.{columns_of, with_held_group, with_groups}
+use Rattle.sql_keeper.specs.Content.{Names}
+use Rattle.sql_keeper.specs.Writes.{columns_of, with_book_of, with_held_group, with_groups}
 use Rattle.sql_keeper.specs.Tests.{MayStand, AreWritable}
 use Rattle.sql_keeper.proofs.Overlays.{number_from, with_twice, each}
 use Rattle.sql_keeper.proofs.Overlays.{each_over}
@@ -134,12 +135,28 @@ held_is n (x ∷ xs) h = held_cons n x xs ∙ at (nat_eq x.bucket n) refl (held_
         (number_from x.bucket n e) (holds_apart_from x.bucket xs h.1)))
     at false e rest = zero_plus (held_at n xs) ∙ rest
 
--- ---- a group with what is held there
+-- ---- a group with the book of its reservation, and with what is held there
 
-abbrev pub put_group : List (List ℕ) → SessionGroup → Rows → Rows
+abbrev pub book_put : Option Reservation → Option ℕ
+book_put None = None
+book_put (Some x) = Some x.terms.book
+
+abbrev booked : List ℕ → ℕ → Option Reservation → Rows → Rows
+booked s g o r = record r {
+  grant_books = λ t h. if same_name s t && nat_eq g h then book_put o else r.grant_books t h;
+}
+
+book_is : (s : List ℕ) (g : ℕ) (o : Option Reservation) (r : Rows) →
+    with_book_of s g o r ≡ booked s g o r
+book_is s g None r = refl
+book_is s g (Some x) r = refl
+
+abbrev pub put_group : Names → SessionGroup → Rows → Rows
 put_group names r x = record x {
   groups = λ t h. if same_name r.session t && nat_eq r.group h then Some (columns_of names r)
       else x.groups t h;
+  grant_books = λ t h. if same_name r.session t && nat_eq r.group h then book_put r.reservation
+      else x.grant_books t h;
   holds = λ t h n. if same_name r.session t && nat_eq r.group h
       then amount_at n (holds_in r.reservation) else x.holds t h n;
 }
@@ -150,17 +167,21 @@ held_put : (p : Bool) (o before : Option ℕ) →
 held_put true o before = first_alone o
 held_put false o before = refl
 
-group_put : (a : List ℕ) (names : List (List ℕ)) (r : SessionGroup) (c : Content)
+group_put : (a : List ℕ) (names : Names) (r : SessionGroup) (c : Content)
     → AreHolds (holds_in r.reservation)
     → with_held_group a names r c ≡ with_rows a (put_group names r) c
 group_put a names r c h =
     let one = with_group r.session r.group (columns_of names r) in
+    let book = with_book_of r.session r.group r.reservation in
     let two = without_holds r.session r.group in
     let three = over_holds r.session r.group (holds_in r.reservation) in
-    holds_over a r.session r.group (holds_in r.reservation) (with_rows a two (with_rows a one c)) h
-    ∙ with_twice a three two (with_rows a one c)
-    ∙ with_twice a (λ x. three (two x)) one c
-    ∙ (λ i. with_rows a (λ x. record (one x) {
+    let opening = with_rows a book (with_rows a one c) in
+    holds_over a r.session r.group (holds_in r.reservation) (with_rows a two opening) h
+    ∙ with_twice a three two opening
+    ∙ with_twice a (λ x. three (two x)) book (with_rows a one c)
+    ∙ with_twice a (λ x. three (two (book x))) one c
+    ∙ (λ i. with_rows a (λ x. three (two (book_is r.session r.group r.reservation (one x) i))) c)
+    ∙ (λ i. with_rows a (λ x. record (booked r.session r.group r.reservation (one x)) {
       holds = λ t h n. held_put (same_name r.session t && nat_eq r.group h)
           (amount_at n (holds_in r.reservation)) (x.holds t h n) i;
     }) c)
@@ -172,18 +193,24 @@ abbrev pub amount_in : ℕ → Option SessionGroup → Option ℕ → Option ℕ
 amount_in n None before = before
 amount_in n (Some r) before = amount_at n (holds_in r.reservation)
 
-abbrev pub over_groups : List (List ℕ) → List SessionGroup → Rows → Rows
+-- and of its book
+abbrev pub book_over : Option SessionGroup → Option ℕ → Option ℕ
+book_over None before = before
+book_over (Some r) before = book_put r.reservation
+
+abbrev pub over_groups : Names → List SessionGroup → Rows → Rows
 over_groups names gs x = record x {
   groups = λ s g. first_of (option_map (columns_of names) (group_in s g gs)) (x.groups s g);
+  grant_books = λ s g. book_over (group_in s g gs) (x.grant_books s g);
   holds = λ s g n. amount_in n (group_in s g gs) (x.holds s g n);
 }
 
-may_hold : (names : List (List ℕ)) (sessions : List Session) (s : List ℕ) (o : Option Reservation) →
+may_hold : (names : Names) (sessions : List Session) (s : List ℕ) (o : Option Reservation) →
     MayStand names sessions s o → AreHolds (holds_in o)
 may_hold names sessions s None h = tt
 may_hold names sessions s (Some r) h = h.holds
 
-groups_each : (a : List ℕ) (names : List (List ℕ)) (sessions : List Session)
+groups_each : (a : List ℕ) (names : Names) (sessions : List Session)
     (gs : List SessionGroup) (c : Content) → AreWritable names sessions gs
     → with_groups a names gs c ≡ each a (put_group names) gs c
 unfolding each
@@ -193,7 +220,7 @@ groups_each a names sessions (r ∷ rs) c h =
     ∙ ap (each a (put_group names) rs)
     (group_put a names r c (may_hold names sessions r.session r.reservation h.0))
 
-column_over : (names : List (List ℕ)) (s : List ℕ) (g : ℕ) (x : SessionGroup)
+column_over : (names : Names) (s : List ℕ) (g : ℕ) (x : SessionGroup)
     (xs : List SessionGroup) (before : Option Group) → EachIn (λ y. same_group x y ≡ false) xs
     → first_of (option_map (columns_of names) (group_in s g xs))
     (if is_of s g x then Some (columns_of names x) else before)
@@ -221,7 +248,20 @@ amount_over n s g x xs before h = at (is_of s g x) refl
         (none_more same_group (is_of s g) (one_group s g) x xs e h)
     at false e = refl
 
-pub groups_over : (a : List ℕ) (names : List (List ℕ)) (sessions : List Session)
+books_over : (s : List ℕ) (g : ℕ) (x : SessionGroup) (xs : List SessionGroup)
+    (before : Option ℕ) → EachIn (λ y. same_group x y ≡ false) xs
+    → book_over (group_in s g xs) (if is_of s g x then book_put x.reservation else before)
+    ≡ book_over (group_in s g (x ∷ xs)) before
+books_over s g x xs before h = at (is_of s g x) refl
+  where
+    at : (t : Bool) → is_of s g x ≡ t
+        → book_over (group_in s g xs) (if t then book_put x.reservation else before)
+        ≡ book_over (cond t (Some x) (group_in s g xs)) before
+    at true e = ap (λ o. book_over o (book_put x.reservation))
+        (none_more same_group (is_of s g) (one_group s g) x xs e h)
+    at false e = refl
+
+pub groups_over : (a : List ℕ) (names : Names) (sessions : List Session)
     (gs : List SessionGroup) (c : Content)
     → AreApart (λ x y. is_of x.session x.group y) gs → AreWritable names sessions gs
     → with_groups a names gs c ≡ with_rows a (over_groups names gs) c
@@ -230,5 +270,6 @@ groups_over a names sessions gs c apart h =
     ∙ each_over a same_group (put_group names) (over_groups names) (λ r. refl)
     (λ x xs r k i. record r {
       groups = λ s g. column_over names s g x xs (r.groups s g) k i;
+      grant_books = λ s g. books_over s g x xs (r.grant_books s g) k i;
       holds = λ s g n. amount_over n s g x xs (r.holds s g n) k i;
     }) gs c apart

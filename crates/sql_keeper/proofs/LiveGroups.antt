@@ -22,13 +22,14 @@ use Rattle.keepers.specs.Tables.{GroupRow, group_row, held_of}
 use Rattle.sql_tables.specs.Keyed.{same_name}
 use Rattle.sql_tables.specs.Selects.{only}
 use Rattle.sql_tables.specs.Statements.{HasIdleBook, OnlyReads}
+use Rattle.sql_rows.specs.declared.grant_book_rows.GrantBook.{GrantBook}
 use Rattle.sql_rows.specs.declared.group_rows.GroupColumns.{GroupColumns}
 use Rattle.sql_rows.specs.declared.hold_rows.HeldColumns.{HeldColumns}
 use Rattle.sql_rows.specs.Content.{Rows as Stored, rows_in}
-use Rattle.sql_rows.specs.Lists.{AreGroups, AreHolds}
-use Rattle.sql_rows.specs.Texts.{group_at, hold_at}
+use Rattle.sql_rows.specs.Lists.{AreGrantBooks, AreGroups, AreHolds}
+use Rattle.sql_rows.specs.Texts.{grant_book_at, group_at, hold_at}
 use Rattle.sql_rows.specs.Values.{Group}
-use Rattle.sql_keeper.specs.Content.{group_in as group_told, is_reserved, held_in}
+use Rattle.sql_keeper.specs.Content.{group_in as group_told, is_reserved, held_in, Names}
 use Rattle.sql_keeper.specs.GroupRows.{AreGroupsOf, AreSessionGroups}
 use Rattle.sql_keeper.specs.LiveGroups.{Gathers, is_among, AreLiveGroups, AreOpenGroupsLoaded}
 use Rattle.sql_keeper.proofs.GroupRows.{session_groups}
@@ -37,7 +38,7 @@ use Rattle.sql_keeper.proofs.InTurn.{gathers_from}
 
 -- ---- one session more
 
-none_told : (names : List (List ℕ)) (rows : Stored) → AreLiveGroups names rows [] []
+none_told : (names : Names) (rows : Stored) → AreLiveGroups names rows [] []
 none_told names rows = record { groups = λ s g. refl; holds = λ s g n. refl }
 
 among_more : (s : List ℕ) (ss : List Session) (x : Session)
@@ -74,20 +75,22 @@ joined_holds n true true None b e amount r h k = k
 joined_holds n true false None b e amount r h k = k ∙ h
 joined_holds n false q None b e amount r h k = k
 
-more_told : (names : List (List ℕ)) (rows : Stored) (ss : List Session) (x : Session)
+more_told : (names : Names) (rows : Stored) (ss : List Session) (x : Session)
     (xs ys : List SessionGroup) → AreLiveGroups names rows ss xs
     → AreSessionGroups names rows x.id ys → AreLiveGroups names rows (ss ++ x ∷ []) (xs ++ ys)
 more_told names rows ss x xs ys before here = record {
   groups = λ s g.
       ap (option_map group_row) (find-append (is_of s g) xs ys)
       ∙ joined_rows (is_among s ss) (same_name x.id s) (group_in s g xs) (group_in s g ys)
-      (option_map (group_told names true) (rows.groups s g)) (before.groups s g) (here.groups s g)
-      ∙ ap (λ t. if t then option_map (group_told names true) (rows.groups s g) else None)
+      (option_map (group_told names true (rows.grant_books s g)) (rows.groups s g))
+      (before.groups s g) (here.groups s g)
+      ∙ ap (λ t. if t then option_map (group_told names true (rows.grant_books s g)) (rows.groups s g)
+      else None)
       (sym (among_more s ss x));
   holds = λ s g n.
       ap (held_of n) (find-append (is_of s g) xs ys)
       ∙ joined_holds n (is_among s ss) (same_name x.id s) (group_in s g xs) (group_in s g ys)
-      (option_map (group_told names true) (rows.groups s g))
+      (option_map (group_told names true (rows.grant_books s g)) (rows.groups s g))
       (held_in (is_reserved (rows.groups s g)) (rows.holds s g n)) (before.groups s g)
       (before.holds s g n) (here.holds s g n)
       ∙ ap (λ t. if t then held_in (is_reserved (rows.groups s g)) (rows.holds s g n) else 0)
@@ -105,40 +108,44 @@ among_open x (Some r) e = ap is_some e ∙ go (is_open r.state)
     go true = refl
     go false = refl
 
-none_reserved : (names : List (List ℕ)) (o : Option Group)
-    → has_reservation (option_map (group_told names false) o) ≡ false
-none_reserved names None = refl
-none_reserved names (Some x) = refl
+none_reserved : (names : Names) (book : Option ℕ) (o : Option Group)
+    → has_reservation (option_map (group_told names false book) o) ≡ false
+none_reserved names book None = refl
+none_reserved names book (Some x) = refl
 
-loaded_rows : (names : List (List ℕ)) (open_is : Bool) (o : Option Group)
-    → (if open_is then option_map (group_told names true) o else None)
-    ≡ (if open_is || has_reservation (option_map (group_told names open_is) o)
-    then option_map (group_told names open_is) o else None)
-loaded_rows names true o = refl
-loaded_rows names false o =
-    ap (λ t. if t then option_map (group_told names false) o else None)
-    (sym (none_reserved names o))
+loaded_rows : (names : Names) (open_is : Bool) (book : Option ℕ) (o : Option Group)
+    → (if open_is then option_map (group_told names true book) o else None)
+    ≡ (if open_is || has_reservation (option_map (group_told names open_is book) o)
+    then option_map (group_told names open_is book) o else None)
+loaded_rows names true book o = refl
+loaded_rows names false book o =
+    ap (λ t. if t then option_map (group_told names false book) o else None)
+    (sym (none_reserved names book o))
 
-loaded_holds : (names : List (List ℕ)) (open_is : Bool) (o : Option Group) (amount : Option ℕ)
+loaded_holds : (names : Names) (open_is : Bool) (book : Option ℕ) (o : Option Group)
+    (amount : Option ℕ)
     → (if open_is then held_in (is_reserved o) amount else 0)
-    ≡ (if open_is || has_reservation (option_map (group_told names open_is) o)
+    ≡ (if open_is || has_reservation (option_map (group_told names open_is book) o)
     then held_in (open_is && is_reserved o) amount else 0)
-loaded_holds names true o amount = refl
-loaded_holds names false o amount =
-    ap (λ t. if t then held_in (false && is_reserved o) amount else 0) (sym (none_reserved names o))
+loaded_holds names true book o amount = refl
+loaded_holds names false book o amount =
+    ap (λ t. if t then held_in (false && is_reserved o) amount else 0)
+    (sym (none_reserved names book o))
 
 pub open_loaded : AreOpenGroupsLoaded
 open_loaded names rows sessions xs open_ones told = record {
   groups = λ s g.
       told.groups s g
-      ∙ ap (λ t. if t then option_map (group_told names true) (rows.groups s g) else None)
+      ∙ ap (λ t. if t then option_map (group_told names true (rows.grant_books s g)) (rows.groups s g)
+      else None)
       (among_open (session_in s sessions) (rows.sessions s) (open_ones s))
-      ∙ loaded_rows names (is_open_row (rows.sessions s)) (rows.groups s g);
+      ∙ loaded_rows names (is_open_row (rows.sessions s)) (rows.grant_books s g) (rows.groups s g);
   holds = λ s g n.
       told.holds s g n
       ∙ ap (λ t. if t then held_in (is_reserved (rows.groups s g)) (rows.holds s g n) else 0)
       (among_open (session_in s sessions) (rows.sessions s) (open_ones s))
-      ∙ loaded_holds names (is_open_row (rows.sessions s)) (rows.groups s g) (rows.holds s g n);
+      ∙ loaded_holds names (is_open_row (rows.sessions s)) (rows.grant_books s g) (rows.groups s g)
+      (rows.holds s g n);
 }
 
 -- ---- reads in turn
@@ -152,31 +159,40 @@ told_before P old mid new first second clean on =
     subst (λ (d : Database). P d.trees) before.now_is
 
 -- the rows of a session and what is held for it, read one after the other
-pub gathered : {V E : Type 0} (items : V → List SessionGroup) (names : List (List ℕ)) (a s : List ℕ)
-    (buckets : List Row) (cs : List GroupColumns) (held : List HeldColumns) (old mid new : State)
-    (r : Result V E) → AreDistinct buckets → HaveRead old mid → HaveRead mid new
+pub gathered : {V E : Type 0} (items : V → List SessionGroup) (names : Names) (a s : List ℕ)
+    (buckets : List Row) (cs : List GroupColumns) (held : List HeldColumns) (books : List GrantBook)
+    (old mid late new : State) (r : Result V E) → AreDistinct buckets → HaveRead old mid
+    → HaveRead mid late → HaveRead late new
     → (HasCleanDisk mid → AreGroups (rows_in old.now.trees a) s (map group_at cs))
-    → (HasCleanDisk new → AreHolds (rows_in mid.now.trees a) s (map hold_at held))
-    → IfOk r (λ v. AreGroupsOf names buckets held s (map group_at cs) (items v))
+    → (HasCleanDisk late → AreHolds (rows_in mid.now.trees a) s (map hold_at held))
+    → (HasCleanDisk new → AreGrantBooks (rows_in late.now.trees a) s (map grant_book_at books))
+    → IfOk r (λ v. AreGroupsOf names buckets held books s (map group_at cs) (items v))
     → Gathers (λ trees v. AreSessionGroups names (rows_in trees a) s (items v)) old new r
-gathered items names a s buckets cs held old mid new r distinct first second groups holds made =
+gathered items names a s buckets cs held books old mid late new r distinct first second third
+    groups holds numbers made =
+    let two = have_read_then old mid late first second in
     gathers_from (λ trees v. AreSessionGroups names (rows_in trees a) s (items v)) old new r
-    (have_read_then old mid new first second)
-    (λ clean on. IfOk-weaker r (λ v. AreGroupsOf names buckets held s (map group_at cs) (items v))
+    (have_read_then old late new two third)
+    (λ clean on.
+    let before = third.only.cleanness clean in
+    let open_late = (third.only.still clean on).was_open in
+    IfOk-weaker r (λ v. AreGroupsOf names buckets held books s (map group_at cs) (items v))
     (λ v. AreSessionGroups names (rows_in old.now.trees a) s (items v))
-    (λ v all. session_groups names (rows_in old.now.trees a) s buckets held (map group_at cs)
-    (items v) distinct (groups (second.only.cleanness clean))
-    (told_before (λ trees. AreHolds (rows_in trees a) s (map hold_at held)) old mid new first.only
-    second.only clean on (holds clean)) all) made)
+    (λ v all. session_groups names (rows_in old.now.trees a) s buckets held books (map group_at cs)
+    (items v) distinct (groups (second.only.cleanness before))
+    (told_before (λ trees. AreHolds (rows_in trees a) s (map hold_at held)) old mid late first.only
+    second.only before open_late (holds before))
+    (told_before (λ trees. AreGrantBooks (rows_in trees a) s (map grant_book_at books)) old late new
+    two.only third.only clean on (numbers clean)) all) made)
 
 -- what the sessions so far have
-pub record HasGathered (names : List (List ℕ)) (a : List ℕ) (ss : List Session)
+pub record HasGathered (names : Names) (a : List ℕ) (ss : List Session)
     (xs : List SessionGroup) (old new : State) : Type 0 where
   pub found : HasCleanDisk new → IsTrue new.is_open →
       AreLiveGroups names (rows_in old.now.trees a) ss xs
   pub reads : HaveRead old new
 
-pub none_yet : (names : List (List ℕ)) (a : List ℕ) (xs : List SessionGroup) (s : State) → xs ≡ []
+pub none_yet : (names : Names) (a : List ℕ) (xs : List SessionGroup) (s : State) → xs ≡ []
     → HasIdleBook s → HasGathered names a [] xs s s
 none_yet names a xs s none idle = record {
   found = λ clean on.
@@ -185,7 +201,7 @@ none_yet names a xs s none idle = record {
   reads = none_read s idle;
 }
 
-pub one_more : {V E : Type 0} (items : V → List SessionGroup) (names : List (List ℕ)) (a : List ℕ)
+pub one_more : {V E : Type 0} (items : V → List SessionGroup) (names : Names) (a : List ℕ)
     (ss : List Session) (x : Session) (xs : List SessionGroup) (old mid new : State) (v : V)
     → HasGathered names a ss xs old mid
     → Gathers {A = V} {E = E}
@@ -204,7 +220,7 @@ one_more {V} {E} items names a ss x xs old mid new v before here = record {
 
 -- the next of the sessions
 pub next_gathered : {V E : Type 0} (items : V → List SessionGroup)
-    (names : List (List ℕ)) (a : List ℕ) (ss : List Session) (i : ℕ) (x : Session)
+    (names : Names) (a : List ℕ) (ss : List Session) (i : ℕ) (x : Session)
     (xs ys : List SessionGroup) (old mid new : State) (v : V)
     → i < length ss → x ≡ get_or ss i x → ys ≡ xs ++ items v
     → HasGathered names a (take i ss) xs old mid → Gathers {A = V} {E = E}
@@ -217,7 +233,7 @@ next_gathered {V} {E} items names a ss i x xs ys old mid new v less is more befo
     (one_more {V = V} {E = E} items names a (take i ss) x xs old mid new v before here))
 
 pub all_gathered : {V E : Type 0} (items : V → List SessionGroup)
-    (names : List (List ℕ)) (a : List ℕ)
+    (names : Names) (a : List ℕ)
     (ss : List Session) (i : ℕ) (v : V) (old new : State) → length ss ≤ i
     → HasGathered names a (take i ss) (items v) old new
     → Gathers {A = V} {E = E}

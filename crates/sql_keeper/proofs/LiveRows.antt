@@ -7,7 +7,6 @@ use Rattle.std.specs.List.{find}
 use Rattle.buckets.specs.Row.{Row}
 use Rattle.shelves.specs.Shelves.{Shelf}
 use Rattle.reserving.specs.declared.session.Session.{Session}
-use Rattle.reserving.specs.Left.{is_dead}
 use Rattle.reserving.specs.Sessions.{is_open}
 use Rattle.reserving.specs.Rows.{AccountRows}
 use Rattle.reserving.specs.Stored.{StoredRows, stored}
@@ -15,42 +14,21 @@ use Rattle.reserving.specs.Restored.{in_key_order, FindsSame}
 use Rattle.keepers.specs.Tables.{group_row, held_of}
 use Rattle.reserving.proofs.LeftParted.{either_none}
 use Rattle.sql_rows.specs.Content.{Rows as Stored}
-use Rattle.sql_rows.specs.Lists.{AreBuckets, is_live}
 use Rattle.keepers.specs.declared.loaded.Loaded.{Loaded}
 use Rattle.keepers.specs.declared.fault.StoreFault.{StoreFault}
 use Rattle.keepers.specs.declared.fault.StoreFault.TheVariants.{Store}
 use Rattle.keepers.specs.Tables.{Rows, Tables}
 use Rattle.keepers.specs.Change.{IsLoadedFrom, IsLoad, IsView}
 use Rattle.keepers.specs.Keeping.{Reads}
-use Rattle.sql_keeper.specs.Content.{head_in, rows_of}
+use Rattle.sql_keeper.specs.Content.{head_in, rows_of, Names}
 use Rattle.sql_keeper.specs.LiveRows.{AreLiveBuckets, AreLiveRowsLoaded, IsAccountOf, IsLiveAccount}
 use Rattle.sql_keeper.specs.LiveRows.{IsLoadOf, IsReadAccount, account_with}
 use Rattle.sql_keeper.specs.LiveGroups.{AreLiveGroups}
 use Rattle.sql_keeper.specs.Content.{group_in as group_told, is_reserved, held_in}
 use Rattle.sql_keeper.specs.Writes.{head_of}
 use Rattle.sql_keeper.specs.declared.live_rows.ReadRows.{ReadRows}
-use Rattle.sql_keeper.proofs.DeadRows.{those_are, spent_is_dead}
+use Rattle.sql_keeper.proofs.DeadRows.{those_are}
 use Rattle.sql_keeper.proofs.LiveGroups.{open_loaded}
-
--- ---- buckets
-
-twice : (b : Bool) → not (not b) ≡ b
-twice true = refl
-twice false = refl
-
-live_is : (b : Row) → is_live b ≡ not (is_dead b)
-live_is b = sym (twice (is_live b)) ∙ ap not (spent_is_dead b)
-
-pub live_buckets : (rows : Stored) (bs : List Row) → AreBuckets is_live rows bs →
-    AreLiveBuckets rows bs
-live_buckets rows bs found n = found n
-    ∙ those_are is_live (λ b. not (is_dead b)) live_is (rows.buckets n)
-
-pub live_made : {E : Type 0} (rows : Stored) (bs : List Row) (r : Result (List Row) E)
-    → AreBuckets is_live rows bs → IfOk r (λ p. p ≡ bs) → IfOk r (AreLiveBuckets rows)
-live_made rows bs (Ok p) found is =
-    subst (AreLiveBuckets rows) (sym is) (live_buckets rows bs found)
-live_made rows bs (Err e) found is = tt
 
 -- ---- counters
 
@@ -74,7 +52,7 @@ find_kept q p b same (x ∷ xs) = at b (p x) (q x) refl refl (same x) (find_kept
 -- ---- all of it
 
 -- an account that finds under each key what was read
-pub live_read : (names : List (List ℕ)) (shelf : Shelf) (t : ℕ) (told : Stored) (x : ReadRows)
+pub live_read : (names : Names) (shelf : Shelf) (t : ℕ) (told : Stored) (x : ReadRows)
     (w : StoredRows) → IsReadAccount names shelf t told (Some x)
     → w ≡ in_key_order (account_with x.head x.rows x.counters.items)
     → FindsSame (account_with x.head x.rows x.counters.items) w
@@ -83,8 +61,8 @@ live_read names shelf t told x w (head, live, counters) is found =
     let groups : AreLiveGroups names told w.sessions w.groups = record {
       groups = λ s g.
           ap (option_map group_row) (found.groups s g) ∙ live.groups.groups s g
-          ∙ ap (λ o. if is_some o then option_map (group_told names true) (told.groups s g)
-          else None) (sym (found.sessions s));
+          ∙ ap (λ o. if is_some o then option_map (group_told names true (told.grant_books s g))
+          (told.groups s g) else None) (sym (found.sessions s));
       holds = λ s g n.
           ap (held_of n) (found.groups s g) ∙ live.groups.holds s g n
           ∙ ap (λ o. if is_some o then held_in (is_reserved (told.groups s g)) (told.holds s g n)
@@ -115,7 +93,7 @@ live_loaded names shelf t rows w (head, live, counters) =
       counters = counters;
     }
 
-pub load_made : {E : Type 0} (names : List (List ℕ)) (shelf : Shelf) (t : ℕ) (a : List ℕ)
+pub load_made : {E : Type 0} (names : Names) (shelf : Shelf) (t : ℕ) (a : List ℕ)
     (rows : Stored) (o : Option StoredRows) (r : Result (Option Loaded) E)
     → IfOk r (IsLoadOf shelf a o) → IsLiveAccount names shelf t rows o
     → IfOk r (IsLoad shelf t a (rows_of names rows))

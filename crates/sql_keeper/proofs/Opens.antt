@@ -1,11 +1,12 @@
 -- A keeper that is made or opened, and what was read of its database.
 use Rattle.std.proofs.Common.{◌≡◌, ◌≤◌, ◌⊎◌, inl, inr, ◌∙◌, ap, refl, sym, subst, ℕ, List, Some}
-use Rattle.std.proofs.Common.{None, IsTrue, false, arith}
-use Rattle.std.specs.Prelude.{Ok, Err, Result, IfErr, IfOk, OnOk}
+use Rattle.std.proofs.Common.{None, IsTrue, true, false, arith, ◌<◌, Bool, nat_lt, ltb-true}
+use Rattle.std.proofs.Common.{ltb-false}
+use Rattle.std.specs.Prelude.{Ok, Err, Result, IfErr, IfOk, OnOk, map, zero, suc, Vec}
+use Rattle.std.specs.Global.{Global}
 use Rattle.std.specs.Str.{IsUtf8}
 use Rattle.std.specs.String.{string_bytes}
-use Rattle.tariffs.specs.Books.{Book}
-use Rattle.shelves.specs.Shelves.{Shelf, one_book}
+use Rattle.shelves.specs.Shelves.{Shelf}
 use Rattle.sqlite_trees.specs.declared.store.Store.{Ghosts}
 use Rattle.sqlite_trees.specs.Tree.{Trees}
 use Rattle.sqlite_trees.specs.Objects.{catalog_tree}
@@ -14,33 +15,41 @@ use Rattle.sqlite.specs.Effect.{Database}
 use Rattle.sqlite.specs.Held.{Held, state}
 use Rattle.sqlite.specs.State.{State, HasCleanDisk, IsLive, Survives}
 use Rattle.sqlite.proofs.StateLemmas.{survives_then}
-use Rattle.sql_tables.specs.Schema.{book_schema}
-use Rattle.sql_tables.specs.Statements.{HasIdleBook, IsStill, OnlyReads}
+use Rattle.sql_tables.specs.Schema.{book_schema, latest, schema_at}
+use Rattle.sql_tables.specs.Stages.{AreStoredAt}
+use Rattle.sql_tables.specs.Statements.{AreStored, HasIdleBook, IsStill, OnlyReads, Reads}
+use Rattle.sql_tables.proofs.Keeps.{only_reads_then}
+use Rattle.sql_tables.proofs.Telling.{survive_then}
 use Rattle.sql_tables.specs.Texts.{stage}
 use Rattle.sql_rows.specs.Content.{content_of}
-use Rattle.sql_rows.specs.Ruled.{IsRefusedMeta}
-use Rattle.sql_rows.specs.Texts.{meta_of}
+use Rattle.sql_rows.specs.Ruled.{AreRuledBooks, IsRefusedMeta}
+use Rattle.sql_rows.specs.Lists.{AreBooks}
+use Rattle.sql_rows.specs.Texts.{book_at, meta_of}
+use Rattle.sql_rows.specs.declared.book_rows.BookColumns.{BookColumns}
 use Rattle.sql_rows.specs.Values.{Meta}
 use Rattle.sql_rows.specs.declared.meta_rows.Meta.{Meta as MetaRow}
-use Rattle.sql_opening.specs.Opens.{IsFound, IsNoVersion, IsTold}
+use Rattle.sql_opening.specs.Opens.{IsFound, IsNoVersion, IsTold, IsVersion}
 use Rattle.sql_opening.specs.declared.fault.OpenFault.{OpenFault}
-use Rattle.sql_opening.specs.declared.fault.OpenFault.TheVariants.{Foreign, Version, Rules}
+use Rattle.sql_opening.specs.declared.fault.OpenFault.TheVariants.{Foreign, Version, Rules, Older}
+use Rattle.sql_opening.specs.declared.fault.OpenFault.TheVariants.{Memory as Memory'}
 use Rattle.sqlite_schema.specs.declared.schema.Schema.{Schema}
 use Rattle.sql_tables.specs.Ours.{has_ours}
-use Rattle.book_fields.specs.declared.fault.BookFault.{BookFault}
-use Rattle.book_fields.specs.declared.fault.BookFault.TheVariants.{Memory as WantOfMemory}
-use Rattle.sql_keeper.specs.Books.{IsBookFault, IsBookOf, IsBookText}
+use Rattle.sql_keeper.specs.Books.{IsBookOf, IsBookText}
 use Rattle.keepers.specs.Tables.{no_tables}
-use Rattle.sql_keeper.specs.Content.{tables_of}
+use Rattle.sql_keeper.specs.Content.{shelf_names, tables_of}
 use Rattle.sql_keeper.specs.Creates.{CreatesBook, IsNewBook, first_meta}
 use Rattle.sql_keeper.specs.Faults.{IsCreateFault}
-use Rattle.sql_keeper.specs.Finds.{FindsBook, FindsMeta, IsUnruledAt}
+use Rattle.sql_keeper.specs.Finds.{FindsBooks, IsUnruledAt, ReadsBooks}
 use Rattle.sql_keeper.specs.Inside.{KeeperState, IsClean}
 use Rattle.sql_keeper.specs.Opened.{IsCreated, IsFresh, IsKept, IsLeft, IsNotCreated, IsOpened}
-use Rattle.sql_keeper.specs.Opened.{IsRuled}
-use Rattle.sql_keeper.specs.declared.books.ReadBook.{ReadBook}
+use Rattle.sql_keeper.specs.Opened.{IsOtherVersion, IsRuled}
+use Rattle.sql_keeper.specs.Shelves.{HasShelf, IsAlone, IsNoShelf, IsShelfOf, IsShelfRead}
+use Rattle.sql_keeper.specs.declared.books.ReadBooks.{ReadBooks}
 use Rattle.sql_keeper.specs.declared.create_fault.CreateFault.{CreateFault}
 use Rattle.sql_keeper.specs.declared.create_fault.CreateFault.TheVariants.{Store, Memory}
+use Rattle.sql_keeper.proofs.Again.{alone_shelf}
+use Rattle.sql_keeper.proofs.Shelved.{shelf_ruled}
+use Rattle.sql_keeper.proofs.InTurn.{have_read, have_read_then}
 use Rattle.sql_keeper.proofs.Whole.{not_shut, survives_self}
 
 -- ---- the tables of a book
@@ -75,20 +84,19 @@ store_told text schema f (inr is) none book =
 
 -- ---- a keeper before its first call
 
-module _ {S : Type 0} (g : Ghosts S) (k : KeeperState S) (conn : Held S) (shelf given : Shelf)
-    (own : Book) (text bytes : List ℕ) (connection : k.connection ≡ conn) (is : shelf ≡ given)
-    (alone : given ≡ one_book own) (names : k.names ≡ own.periods) (told : k.text ≡ bytes)
-    (none : k.failures ≡ 0) (read : IsBookOf text own) (kept : bytes ≡ text)
+module _ {S : Type 0} (g : Ghosts S) (k : KeeperState S) (conn : Held S) (shelf given own : Shelf)
+    (text bytes : List ℕ) (connection : k.connection ≡ conn) (is : shelf ≡ given)
+    (same : given ≡ own) (names : k.names ≡ shelf_names own) (told : k.text ≡ bytes)
+    (none : k.failures ≡ 0) (read : IsBookOf text own.first) (kept : bytes ≡ text)
     (live : IsLive (state g conn)) (utf8 : IsUtf8 bytes) where
-  first : own ≡ shelf.first
-  first = sym (ap (λ (s : Shelf). s.first) (is ∙ alone))
+  own_is : own ≡ shelf
+  own_is = sym (is ∙ same)
 
   pub fresh : IsFresh k shelf
   fresh = record {
     read = subst (λ t. IsBookOf t shelf.first) (sym (told ∙ kept))
-        (subst (IsBookOf text) first read);
-    alone = ap (λ (s : Shelf). s.later) (is ∙ alone);
-    names = names ∙ ap (λ (b : Book). b.periods) first;
+        (subst (λ (s : Shelf). IsBookOf text s.first) own_is read);
+    names = names ∙ ap shelf_names own_is;
     uncounted = none;
   }
 
@@ -99,12 +107,13 @@ module _ {S : Type 0} (g : Ghosts S) (k : KeeperState S) (conn : Held S) (shelf 
       subst (Lists ((state g conn).now.trees catalog_tree)) (idle clean on).book.schema
       (live on).0.lists
 
-  pub created : {A E : Type 0} (old : Held S) (u : A) → old.schema ≡ stage 0
-      → old.in_transaction ≡ false
+  pub created : {A E : Type 0} (old : Held S) (u : A) → IsAlone text own
+      → old.schema ≡ stage 0 → old.in_transaction ≡ false
       → CreatesBook {A = A} {E = E} text (state g old) (state g conn) (Ok u)
       → IsCreated g text old k shelf
-  created old u blank plain c = record {
+  created old u alone blank plain c = record {
     fresh = fresh;
+    alone = ap (λ (x : Shelf). x.later) (sym own_is ∙ alone.alone);
     of_text = told ∙ kept;
     blank = blank;
     plain = plain;
@@ -129,33 +138,47 @@ module _ {S : Type 0} (g : Ghosts S) (k : KeeperState S) (conn : Held S) (shelf 
             last = omega arith;
           };
           utf8 = subst IsUtf8 kept utf8;
-          book = (own, read);
+          shelf = (
+            own,
+            alone_shelf text (content_of (state g conn).now.trees).books own alone.is
+                alone.alone alone.first made.2.books,
+          );
         });
     survives = subst (λ h. Survives (state g old) (state g h) (IsNewBook text))
         (sym connection) c.survives;
   }
 
   pub opened : (old : Held S) → (HasCleanDisk (state g conn) → IsKept (state g conn).now.trees bytes
+      × IsShelfOf bytes (content_of (state g conn).now.trees).books own
       × IsStill (state g old) (state g conn) × IsTrue (state g conn).is_open)
       → Survives (state g old) (state g conn) (λ _. ⊥) → HasIdleBook (state g conn)
       → IsOpened g old k shelf
   opened old found survives idle = record {
     fresh = fresh;
+    books = subst (λ h. HasCleanDisk (state g h) →
+        IsShelfOf k.text (content_of (state g h).now.trees).books shelf) (sym connection)
+        (λ clean. subst (λ t. IsShelfOf t (content_of (state g conn).now.trees).books shelf)
+        (sym told) (subst (IsShelfOf bytes (content_of (state g conn).now.trees).books) own_is
+        (found clean).1));
     left = subst (λ h. HasCleanDisk (state g h) → IsLeft k.text (state g h).now.trees)
         (sym connection) (λ clean.
         let it = found clean in
         record {
-          lists = listed clean it.2 idle;
-          stored = (idle clean it.2).book.stored;
+          lists = listed clean it.3 idle;
+          stored = (idle clean it.3).book.stored;
           kept = subst (IsKept (state g conn).now.trees) (sym told) it.0;
           utf8 = subst IsUtf8 (sym told) utf8;
-          book = subst IsBookText (sym (told ∙ kept)) (own, read);
+          shelf = (
+            own,
+            subst (λ t. IsShelfOf t (content_of (state g conn).now.trees).books own)
+                (sym told) it.1,
+          );
         });
     clean = subst (λ h. HasCleanDisk (state g h) → IsClean (state g h)) (sym connection)
-        (λ clean. record { disk = clean; open_still = inr (found clean).2 });
+        (λ clean. record { disk = clean; open_still = inr (found clean).3 });
     still =
         subst (λ h. HasCleanDisk (state g h) → IsStill (state g old) (state g h)) (sym connection)
-        (λ clean. (found clean).1);
+        (λ clean. (found clean).2);
     survives = subst (λ h. Survives (state g old) (state g h) (λ _. ⊥)) (sym connection) survives;
   }
 
@@ -180,22 +203,9 @@ pub refused_ruled : (s : State) (fault : OpenFault) → IsRefusedMeta (content_o
     → IsUnruledAt s fault
 refused_ruled s fault refused is ruled = subst IsRefusedMeta ruled.is refused ruled.ruled
 
--- its text is no book
-pub book_refused : (text bytes : List ℕ) → text ≡ bytes → (fault : BookFault)
-    → IsBookFault text fault → (told : OpenFault) → (told ≡ Rules → ¬ (fault ≡ WantOfMemory))
-    → (version : ℕ) → version ≡ 1 → told ≡ Rules → (version ≡ 1) × ¬ IsBookText bytes
-book_refused text bytes same fault means told other version first is = (
-  first,
-  λ book.
-      let of_text = subst (λ t. IsBookText t) (sym same) book in
-      let no : Err fault ≡ Ok of_text.0 = sym (means.document of_text.1.0 of_text.1.1 (other is))
-      ∙ of_text.1.2 in
-      absurd (cc),
-)
-
 -- ---- what is read before
 
-module _ (old mid new : State) (found : HasCleanDisk mid → IsFound old mid)
+module _ (v : ℕ) (old mid new : State) (found : HasCleanDisk mid → IsFound v old mid)
     (one : Survives old mid (λ _. ⊥))
     (only : OnlyReads mid new) (two : Survives mid new (λ _. mid.is_open ≡ false)) where
   open_between : HasCleanDisk new → IsTrue mid.is_open
@@ -216,104 +226,306 @@ module _ (old mid new : State) (found : HasCleanDisk mid → IsFound old mid)
         committed_is = then'.committed_is ∙ first.committed_is;
       }
 
-  pub finds_meta : (r : Result MetaRow OpenFault)
-      → (HasCleanDisk new → IfOk r (λ m. (content_of mid.now.trees).meta ≡ Some (meta_of m)))
-      → (HasCleanDisk new → OnOk r (IsTrue new.is_open)) → IfErr r IsNoVersion
-      → IfErr r (λ fault. ¬ (fault ≡ Foreign)) → (HasCleanDisk new → IfErr r (IsUnruledAt mid))
-      → FindsMeta old new r
-  finds_meta (Ok m) is on told ours rules = record {
-    found = λ clean. (
-      subst (λ (d : Database). (content_of d.trees).meta ≡ Some (meta_of m))
-          (sym (only.still clean (on clean)).now_is) (is clean),
-      still_read clean (on clean),
-      on clean,
-    );
+  -- what the keeper goes by
+  pub finds_books : (r : Result ReadBooks OpenFault) → ReadsBooks mid new r → FindsBooks old new r
+  finds_books (Ok b) reads = record {
+    found = λ clean.
+        let it = reads.found clean in
+        let same = sym (only.still clean it.2).now_is in (
+          subst (λ (d : Database). IsKept d.trees (string_bytes b.text)) same it.0,
+          subst (λ (d : Database).
+              IsShelfOf (string_bytes b.text) (content_of d.trees).books b.own) same it.1,
+          still_read clean it.2,
+          it.2,
+        );
+    given = reads.given;
+    read = reads.read;
     idle = only.idle;
-    told = tt;
     foreign = λ clean. tt;
+    version = λ clean. tt;
     rules = λ clean. tt;
+    older = λ clean. tt;
     survives = reads_survived;
   }
-  finds_meta (Err e) is on told ours rules = record {
+  finds_books (Err e) reads = record {
     found = λ clean. tt;
+    given = tt;
+    read = tt;
     idle = tt;
-    told = told;
-    foreign = λ clean is. absurd (ours is);
-    rules = λ clean is ruled. rules clean is (subst (λ (d : Database). IsRuled d.trees)
+    foreign = λ clean is. absurd (reads.ours.0 is);
+    version = λ clean is. subst (λ (d : Database). IsOtherVersion d.trees)
+        (found (only.cleanness clean)).unchanged.0.now_is (reads.version clean is);
+    rules = λ clean is ruled. reads.rules clean is (subst (λ (d : Database). IsRuled d.trees)
         (sym (found (only.cleanness clean)).unchanged.0.now_is) ruled);
+    older = λ clean is. absurd (reads.ours.1 is);
     survives = reads_survived;
   }
+
+-- the latest is a version
+known : IsVersion latest
+known = let low : 1 ≤ 3 = omega arith in let high : 3 ≤ 3 = omega arith in (low, high)
+
+-- the tables that an opening asks for
+pub idle_book : (v : ℕ) (old mid : State) → v ≡ latest → (HasCleanDisk mid → IsFound v old mid)
+    → HasIdleBook mid
+idle_book v old mid same found clean on =
+    let it = found clean in
+    record {
+      book = record {
+        schema = it.schema ∙ ap schema_at same;
+        stored = subst (λ n. AreStoredAt n mid.now.trees) same it.stored;
+      };
+      settled = it.settled;
+    }
+
+-- the tables of a version are the first of the latest one's
+stored_to : (v : ℕ) (trees : Trees) → IsVersion v → AreStored trees → AreStoredAt v trees
+stored_to zero trees known h = absurd (omega (arith, known.0))
+stored_to (suc zero) trees known h = (
+  h.0,
+  (
+    h.1.0,
+    (
+      h.1.1.0,
+      (
+        h.1.1.1.0,
+        (
+          h.1.1.1.1.0,
+          (
+            h.1.1.1.1.1.0,
+            (
+              h.1.1.1.1.1.1.0,
+              (
+                h.1.1.1.1.1.1.1.0,
+                (
+                  h.1.1.1.1.1.1.1.1.0,
+                  (h.1.1.1.1.1.1.1.1.1.0, tt),
+                ),
+              ),
+            ),
+          ),
+        ),
+      ),
+    ),
+  ),
+)
+stored_to (suc (suc zero)) trees known h = (
+  h.0,
+  (
+    h.1.0,
+    (
+      h.1.1.0,
+      (
+        h.1.1.1.0,
+        (
+          h.1.1.1.1.0,
+          (
+            h.1.1.1.1.1.0,
+            (
+              h.1.1.1.1.1.1.0,
+              (
+                h.1.1.1.1.1.1.1.0,
+                (
+                  h.1.1.1.1.1.1.1.1.0,
+                  (h.1.1.1.1.1.1.1.1.1.0, (h.1.1.1.1.1.1.1.1.1.1.0, (h.1.1.1.1.1.1.1.1.1.1.1.0, tt))),
+                ),
+              ),
+            ),
+          ),
+        ),
+      ),
+    ),
+  ),
+)
+stored_to (suc (suc (suc zero))) trees known h = h
+stored_to (suc (suc (suc (suc n)))) trees known h =
+    let high : suc (suc (suc (suc n))) ≤ 3 = known.1 in absurd (omega (arith, high))
 
 -- no table was found
 pub finds_none : (old new : State) (e : OpenFault) → IsNoVersion e
-    → (HasCleanDisk new → IsTold old.now e) → Survives old new (λ _. ⊥) → FindsMeta old new (Err e)
+    → (HasCleanDisk new → IsTold old.now e) → Survives old new (λ _. ⊥)
+    → FindsBooks old new (Err e)
 finds_none old new e told means survives = record {
   found = λ clean. tt;
+  given = tt;
+  read = tt;
   idle = tt;
-  told = told;
-  foreign = λ clean is. subst (IsTold old.now) is (means clean);
-  rules = λ clean is ruled. subst (IsTold old.now) is (means clean) ruled.stored;
+  foreign = λ clean is. subst (IsTold old.now) is (means clean) latest known;
+  version = λ clean is. absurd (told.0 is);
+  rules = λ clean is ruled.
+      let it = subst (IsTold old.now) is (means clean) in
+      it.3 (stored_to it.0 old.now.trees it.1 ruled.stored);
+  older = λ clean is.
+      let it = subst (IsTold old.now) is (means clean) in
+      record { version = it.0; known = it.1; older = it.2; schema = it.3 };
   survives = survives;
 }
 
-pub finds_book : (old new : State) (m : MetaRow) (r : Result ReadBook OpenFault)
-    → FindsMeta old new (Ok m) → OnOk r (m.version ≡ 1)
-    → IfOk r (λ b. IsBookOf (string_bytes b.text) b.own)
-    → IfOk r (λ b. b.given ≡ one_book b.own)
-    → IfOk r (λ b. string_bytes b.text ≡ string_bytes m.book)
-    → IfErr r (λ fault. fault ≡ Version → ¬ (m.version ≡ 1))
-    → IfErr r (λ fault. ¬ (fault ≡ Foreign)) → m.last ≤ 4_102_488_000
-    → IfErr r (λ fault. fault ≡ Rules → (m.version ≡ 1) × ¬ IsBookText (string_bytes m.book))
-    → FindsBook old new r
-finds_book old new m (Ok b) finds version read given text told ours last rules = record {
-  found = λ clean.
-      let f = finds.found clean in (
-        record { row = meta_of m; is = f.0; version = version; book = sym text; last = last },
-        f.1,
-        f.2,
-      );
-  read = read;
-  given = given;
-  idle = finds.idle;
-  foreign = λ clean. tt;
-  version = λ clean. tt;
-  rules = λ clean. tt;
-  survives = finds.survives;
-}
-finds_book old new m (Err e) finds version read given text told ours last rules = record {
+-- an older version was found
+pub finds_older : (v : ℕ) (old new : State) → ¬ (v ≡ latest)
+    → (HasCleanDisk new → IsFound v old new) → Survives old new (λ _. ⊥)
+    → FindsBooks old new (Err Older)
+finds_older v old new other found survives = record {
   found = λ clean. tt;
-  read = tt;
   given = tt;
+  read = tt;
   idle = tt;
-  foreign = λ clean is. absurd (ours is);
-  version = λ clean is.
-      let f = finds.found clean in
+  foreign = λ clean is. absurd (cc);
+  version = λ clean is. absurd (cc);
+  rules = λ clean is. absurd (cc);
+  older = λ clean is.
+      let it = found clean in
       record {
-        row = meta_of m;
-        is = subst (λ (d : Database). (content_of d.trees).meta ≡ Some (meta_of m)) f.1.now_is f.0;
-        other = told is;
+        version = v;
+        known = it.version;
+        older = below (nat_lt v 3) refl it.version.1;
+        schema = subst (λ (d : Database). d.schema ≡ schema_at v) it.unchanged.0.now_is it.schema;
       };
-  rules = λ clean is ruled.
-      let f = finds.found clean in
-      let refused = rules is in
-      let at : (content_of old.now.trees).meta ≡ Some (meta_of m) =
-      subst (λ (d : Database). (content_of d.trees).meta ≡ Some (meta_of m)) f.1.now_is f.0 in
-      let same : Some ruled.row ≡ Some (meta_of m) = sym ruled.is ∙ at in
-      let row : ruled.row ≡ meta_of m = cc same in
-      refused.1 (subst (λ (x : Meta). IsBookText x.book) row
-      (ruled.book (ap (λ (x : Meta). x.version) row ∙ refused.0)));
-  survives = finds.survives;
+  survives = survives;
+}
+  where
+    below : (t : Bool) → nat_lt v 3 ≡ t → v ≤ 3 → v < 3
+    below true e high = ltb-true v 3 e
+    below false e high =
+        let least = ltb-false v 3 e in absurd (other (omega (arith, least, high)))
+
+-- ---- several reads
+
+-- what is kept once wasn't read
+pub reads_no_meta : {A : Type 0} (told : Trees → A → Type 0) (old new : State) (e : OpenFault)
+    → Reads {A = A} {E = OpenFault} told old new (Err e) → IsNoVersion e
+    → ¬ (e ≡ Foreign) → (HasCleanDisk new → IsUnruledAt old e)
+    → ReadsBooks old new (Err e)
+reads_no_meta told old new e reads no_version ours rules = record {
+  found = λ clean. tt;
+  given = tt;
+  read = tt;
+  only = reads.only;
+  version = λ clean is. absurd (no_version.0 is);
+  rules = rules;
+  ours = (ours, no_version.1);
+  survives = reads.survives;
 }
 
-pub finds_no_book : (old new : State) (e : OpenFault) → FindsMeta old new (Err e) →
-    FindsBook old new (Err e)
-finds_no_book old new e finds = record {
-  found = λ clean. tt;
-  read = tt;
-  given = tt;
-  idle = tt;
-  foreign = finds.foreign;
-  version = λ clean is. absurd (finds.told is);
-  rules = finds.rules;
-  survives = finds.survives;
-}
+module _ {E : Type 0} (old mid : State) (m : MetaRow)
+    (meta : Reads {A = MetaRow} {E = E}
+    (λ trees m. (content_of trees).meta ≡ Some (meta_of m)) old mid (Ok m)) where
+  -- it is of another version
+  pub reads_other : (e : OpenFault) → (e ≡ Version) × (¬ (m.version ≡ latest))
+      → ReadsBooks old mid (Err e)
+  reads_other e other = record {
+    found = λ clean. tt;
+    given = tt;
+    read = tt;
+    only = meta.only;
+    version = λ clean is. record { row = meta_of m; is = meta.found clean; other = other.1 };
+    rules = λ clean is. absurd (let no : Version ≡ Rules = sym other.0 ∙ is in cc);
+    ours = (
+      (λ is. let no : Version ≡ Foreign = sym other.0 ∙ is in cc),
+      (λ is. let no : Version ≡ Older = sym other.0 ∙ is in cc),
+    );
+    survives = meta.survives;
+  }
+
+  -- what was read first is told of the state before
+  told_first : (P : Trees → Type 0) → HasCleanDisk mid → P mid.now.trees → P old.now.trees
+  told_first P clean = subst (λ (d : Database). P d.trees)
+      (meta.only.still clean (meta.stays clean)).now_is
+
+  told_last : (P : Trees → Type 0) → HasCleanDisk mid → P old.now.trees → P mid.now.trees
+  told_last P clean = subst (λ (d : Database). P d.trees)
+      (sym (meta.only.still clean (meta.stays clean)).now_is)
+
+  -- the later books weren't read
+  pub reads_no_books : {A : Type 0} (told : Trees → A → Type 0) (new : State) (e : OpenFault)
+      → Reads {A = A} {E = OpenFault} told mid new (Err e) → IsNoVersion e
+      → ¬ (e ≡ Foreign) → m.version ≡ latest
+      → (HasCleanDisk new → e ≡ Rules → ¬ AreRuledBooks (content_of mid.now.trees).books)
+      → ReadsBooks old new (Err e)
+  reads_no_books told new e reads no_version ours version rules =
+      let read = have_read (λ trees m. (content_of trees).meta ≡ Some (meta_of m)) old mid m meta in
+      record {
+        found = λ clean. tt;
+        given = tt;
+        read = tt;
+        only = only_reads_then old mid new read.only reads.only;
+        version = λ clean is. absurd (no_version.0 is);
+        rules = λ clean is ruled.
+            let before = reads.only.cleanness clean in
+            let row : ruled.row ≡ meta_of m = cc (sym ruled.is ∙ meta.found before) in
+            let has = ruled.shelf (ap (λ (x : Meta). x.version) row ∙ version) in
+            rules clean is (told_last (λ trees. AreRuledBooks (content_of trees).books) before
+            (shelf_ruled ruled.row.book (content_of old.now.trees).books has.0 has.1));
+        ours = (ours, no_version.1);
+        survives = survive_then old mid new read.stays read.survives reads.survives;
+      }
+
+  -- both were
+  pub reads_books : (new : State) (rows : Vec BookColumns Global) (items : List BookColumns)
+      → items ≡ rows.items → (text : List ℕ) → text ≡ string_bytes m.book
+      → m.version ≡ latest → m.last ≤ 4_102_488_000
+      → Reads {A = Vec BookColumns Global} {E = OpenFault}
+      (λ trees xs. AreBooks (content_of trees) (map book_at xs.items)) mid new (Ok rows)
+      → (r : Result ReadBooks OpenFault)
+      → IfOk r (λ b. IsShelfRead text (map book_at items) b.own)
+      → IfOk r (λ b. b.given ≡ b.own) → IfOk r (λ b. string_bytes b.text ≡ text)
+      → IfErr r (λ fault. fault ≡ Rules → IsNoShelf text (map book_at items))
+      → IfErr r (λ fault. ¬ (fault ≡ Rules) → fault ≡ Memory') → ReadsBooks old new r
+  reads_books new rows items same text is version last reads (Ok b) shelf given told rules either =
+      let read = have_read (λ trees m. (content_of trees).meta ≡ Some (meta_of m)) old mid m meta in
+      let both = have_read_then old mid new read
+      (have_read {E = OpenFault} _ mid new rows reads) in
+      record {
+        found = λ clean.
+            let before = reads.only.cleanness clean in (
+              record {
+                row = meta_of m;
+                is = meta.found before;
+                version = version;
+                book = sym is ∙ sym told;
+                last = last;
+              },
+              subst (λ t. IsShelfOf t (content_of old.now.trees).books b.own) (sym told)
+                  (told_first (λ trees. IsShelfOf text (content_of trees).books b.own) before
+                  (subst (λ f. IsShelfOf text f b.own)
+                  (λ i n. reads.found clean n i)
+                  (subst (λ l. IsShelfRead text (map book_at l) b.own) same shelf))),
+              reads.stays clean,
+            );
+        given = given;
+        read = subst (λ t. IsBookOf t b.own.first) (sym told) shelf.first;
+        only = both.only;
+        version = λ clean. tt;
+        rules = λ clean. tt;
+        ours = tt;
+        survives = both.survives;
+      }
+  reads_books new rows items same text is version last reads (Err e) shelf given told rules either =
+      let read = have_read (λ trees m. (content_of trees).meta ≡ Some (meta_of m)) old mid m meta in
+      let both = have_read_then old mid new read
+      (have_read {E = OpenFault} _ mid new rows reads) in
+      record {
+        found = λ clean. tt;
+        given = tt;
+        read = tt;
+        only = both.only;
+        version = λ clean is. absurd (let no : Version ≡ Memory' =
+            sym is ∙ either (λ rule. let no : Version ≡ Rules = sym is ∙ rule in cc) in cc);
+        rules = λ clean rule ruled.
+            let before = reads.only.cleanness clean in
+            let row : ruled.row ≡ meta_of m = cc (sym ruled.is ∙ meta.found before) in
+            let has : HasShelf text (content_of old.now.trees).books =
+            subst (λ t. HasShelf t (content_of old.now.trees).books)
+            (ap (λ (x : Meta). x.book) row ∙ sym is)
+            (ruled.shelf (ap (λ (x : Meta). x.version) row ∙ version)) in
+            let at_mid = told_last (λ trees. HasShelf text (content_of trees).books) before has in
+            subst (λ l. IsNoShelf text (map book_at l)) same (rules rule)
+            (subst (λ f. HasShelf text f) (λ i n. sym (reads.found clean n) i) at_mid);
+        ours = (
+          (λ is. absurd (let no : Foreign ≡ Memory' =
+              sym is ∙ either (λ rule. let no : Foreign ≡ Rules = sym is ∙ rule in cc) in cc)),
+          (λ is. absurd (let no : Older ≡ Memory' =
+              sym is ∙ either (λ rule. let no : Older ≡ Rules = sym is ∙ rule in cc) in cc)),
+        );
+        survives = both.survives;
+      }

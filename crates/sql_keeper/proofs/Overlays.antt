@@ -4,23 +4,19 @@ use Rattle.std.proofs.Common.{◌∙◌, true≢false, Option, Some}
 use Rattle.std.specs.Prelude.{if◌then◌else◌, ◌+◌, nat_eq, is_some}
 use Rattle.std.specs.List.{find}
 use Rattle.identifiers.specs.Texts.{same_name}
-use Rattle.buckets.specs.Row.{Row as Bucket}
 use Rattle.reserving.specs.declared.charge.ChargeRow.{ChargeRow}
 use Rattle.reserving.specs.declared.session.Session.{Session}
 use Rattle.reserving.specs.declared.session.Counter.{Counter}
 use Rattle.reserving.specs.Sessions.{is_session, session_in, is_counter, counter_in}
 use Rattle.reserving.specs.Rows.{EachIn, AreApart}
-use Rattle.reserving.specs.Left.{bucket_in, first_of}
+use Rattle.reserving.specs.Left.{first_of}
 pub use Rattle.reserving.proofs.Holds.{same_from as name_from}
 pub use Rattle.reserving.proofs.Keys.{same_number as number_from, number_same as number_itself}
 use Rattle.reserving.proofs.LeftParted.{one_session, one_counter}
 use Rattle.reserving.proofs.LeftTests.{none_more}
-use Rattle.keepers.specs.Tables.{charge_in}
-use Rattle.keepers.specs.Keyed.{same_bucket, same_session, same_counter}
-use Rattle.keepers.proofs.Found.{one_bucket}
-use Rattle.sql_rows.specs.Content.{Rows, Content, with_rows, with_bucket, with_counter}
-use Rattle.sql_rows.specs.Content.{with_session, with_charge}
-use Rattle.sql_rows.specs.Each.{with_buckets, with_counters, with_sessions, with_charges}
+use Rattle.keepers.specs.Keyed.{same_session, same_counter}
+use Rattle.sql_rows.specs.Content.{Rows, Content, with_rows, with_counter, with_session}
+use Rattle.sql_rows.specs.Each.{with_counters, with_sessions}
 
 -- ---- a name and a number that two rows share
 
@@ -90,23 +86,11 @@ module _ {X : Type 0} (a : List ℕ) (same : X → X → Bool) (f : X → Rows �
       ∙ with_twice a (over xs) (f x) c
       ∙ (λ i. with_rows a (λ r. step x xs r h.0 i) c)
 
-abbrev pub over_buckets : List Bucket → Rows → Rows
-over_buckets xs r = record r { buckets = λ n. first_of (bucket_in n xs) (r.buckets n) }
-
 abbrev pub over_counters : List Counter → Rows → Rows
 over_counters xs r = record r { counters = λ g c. first_of (counter_in g c xs) (r.counters g c) }
 
 abbrev pub over_sessions : List Session → Rows → Rows
 over_sessions xs r = record r { sessions = λ s. first_of (session_in s xs) (r.sessions s) }
-
-abbrev pub over_charges : List ChargeRow → Rows → Rows
-over_charges xs r = record r { charges = λ n. first_of (charge_in n xs) (r.charges n) }
-
-buckets_each : (a : List ℕ) (xs : List Bucket) (c : Content) →
-    with_buckets a xs c ≡ each a with_bucket xs c
-unfolding each
-buckets_each a [] c = refl
-buckets_each a (x ∷ xs) c = buckets_each a xs (with_rows a (with_bucket x) c)
 
 counters_each : (a : List ℕ) (xs : List Counter) (c : Content) →
     with_counters a xs c ≡ each a with_counter xs c
@@ -119,22 +103,6 @@ sessions_each : (a : List ℕ) (xs : List Session) (c : Content) →
 unfolding each
 sessions_each a [] c = refl
 sessions_each a (x ∷ xs) c = sessions_each a xs (with_rows a (with_session x) c)
-
-charges_each : (a : List ℕ) (xs : List ChargeRow) (c : Content) →
-    with_charges a xs c ≡ each a with_charge xs c
-unfolding each
-charges_each a [] c = refl
-charges_each a (x ∷ xs) c = charges_each a xs (with_rows a (with_charge x) c)
-
-pub buckets_over : (a : List ℕ) (xs : List Bucket) (c : Content) → AreApart same_bucket xs →
-    with_buckets a xs c ≡ with_rows a (over_buckets xs) c
-buckets_over a xs c h =
-    buckets_each a xs c
-    ∙ each_over a same_bucket with_bucket over_buckets (λ r. refl)
-    (λ x xs r apart i. record r {
-      buckets = λ n.
-          one_over same_bucket (λ b. nat_eq b.number n) (one_bucket n) x xs (r.buckets n) apart i;
-    }) xs c h
 
 pub counters_over : (a : List ℕ) (xs : List Counter) (c : Content) → AreApart same_counter xs →
     with_counters a xs c ≡ with_rows a (over_counters xs) c
@@ -160,16 +128,6 @@ sessions_over a xs c h =
 abbrev pub same_charge : ChargeRow → ChargeRow → Bool
 same_charge x y = nat_eq y.number x.number
 
-one_charge : (n : ℕ) (x y : ChargeRow) → nat_eq x.number n ≡ true → nat_eq y.number n ≡ true →
+pub one_charge : (n : ℕ) (x y : ChargeRow) → nat_eq x.number n ≡ true → nat_eq y.number n ≡ true →
     nat_eq y.number x.number ≡ true
 one_charge n x y p q = ap (nat_eq y.number) (number_from x.number n p) ∙ q
-
-pub charges_over : (a : List ℕ) (xs : List ChargeRow) (c : Content) → AreApart same_charge xs →
-    with_charges a xs c ≡ with_rows a (over_charges xs) c
-charges_over a xs c h =
-    charges_each a xs c
-    ∙ each_over a same_charge with_charge over_charges (λ r. refl)
-    (λ x xs r apart i. record r {
-      charges = λ n.
-          one_over same_charge (λ b. nat_eq b.number n) (one_charge n) x xs (r.charges n) apart i;
-    }) xs c h

@@ -1,18 +1,20 @@
 -- Puts one after another.
 use Rattle.std.proofs.Common.{◌≡◌, ◌∙◌, ap, refl, subst, ℕ, List, arith, Ok, Err, Result}
-use Rattle.std.proofs.Common.{OnErr}
+use Rattle.std.proofs.Common.{OnErr, Bool, true, false, sym}
+use Rattle.std.specs.Prelude.{◌==◌, if◌then◌else◌}
 use Rattle.std.proofs.lemmas.Result.{on_ok_weaker}
 use Rattle.sqlite.specs.State.{State, KeepsCommit}
 use Rattle.sqlite.proofs.StateLemmas.{survives_then}
 use Rattle.sql_tables.specs.Statements.{Attempts}
 use Rattle.reserving.specs.declared.charge.ChargeRow.{ChargeRow}
 use Rattle.reserving.specs.Stored.{StoredRows}
-use Rattle.sql_rows.specs.Content.{Content}
-use Rattle.sql_rows.specs.Each.{with_charges}
+use Rattle.sql_rows.specs.Content.{Content, Rows, with_rows, with_covered, without_covered}
 use Rattle.sql_rows.specs.Makes.{Makes, MakesIfOpen}
-use Rattle.sql_keeper.specs.Writes.{with_stored}
+use Rattle.sql_keeper.specs.Content.{Names}
+use Rattle.sql_keeper.specs.Writes.{with_all_paid, with_blocks, with_stored}
+use Rattle.sql_keeper.proofs.Overlays.{number_from}
 
-made_then : (f g : Content → Content) (a b c : State) → Makes f a b → Makes g b c →
+pub made_then : (f g : Content → Content) (a b c : State) → Makes f a b → Makes g b c →
     Makes (λ x. g (f x)) a c
 made_then f g a b c one two = record {
   turns = record {
@@ -74,17 +76,42 @@ module _ {A B E : Type 0} (f g : Content → Content) (a b c : State) (u : A) (r
   }
 
 -- the charges of the same list
-pub puts_charges : {A E : Type 0} (a : List ℕ) (xs ys : List ChargeRow) → ys ≡ xs
+pub puts_paid : {A E : Type 0} (a : List ℕ) (xs ys : List ChargeRow) → ys ≡ xs
     → (old new : State) (r : Result A E)
-    → Attempts {A = A} {E = E} (MakesIfOpen (with_charges a ys)) old new r
-    → Attempts {A = A} {E = E} (MakesIfOpen (with_charges a xs)) old new r
-puts_charges {A} {E} a xs ys is old new r =
-    subst (λ zs. Attempts {A = A} {E = E} (MakesIfOpen (with_charges a zs)) old new r) is
+    → Attempts {A = A} {E = E} (MakesIfOpen (with_all_paid a ys)) old new r
+    → Attempts {A = A} {E = E} (MakesIfOpen (with_all_paid a xs)) old new r
+puts_paid {A} {E} a xs ys is old new r =
+    subst (λ zs. Attempts {A = A} {E = E} (MakesIfOpen (with_all_paid a zs)) old new r) is
 
 -- the same rows
-pub puts_stored : {A E : Type 0} (a : List ℕ) (names : List (List ℕ)) (v w : StoredRows) → v ≡ w
+pub puts_stored : {A E : Type 0} (a : List ℕ) (names : Names) (v w : StoredRows) → v ≡ w
     → (old new : State) (r : Result A E)
     → Attempts {A = A} {E = E} (Makes (with_stored a names v)) old new r
     → Attempts {A = A} {E = E} (Makes (with_stored a names w)) old new r
 puts_stored {A} {E} a names v w is old new r =
     subst (λ rows. Attempts {A = A} {E = E} (Makes (with_stored a names rows)) old new r) is
+
+-- the covered blocks of a charge: none, or some
+pub puts_none : {A E : Type 0} (a : List ℕ) (n m k l : ℕ) (old new : State) (r : Result A E)
+    → n ≡ k → m ≡ l → m ≡ 0
+    → Attempts {A = A} {E = E} (Makes (with_rows a (without_covered n))) old new r
+    → Attempts {A = A} {E = E} (Makes (with_rows a (with_blocks k l))) old new r
+puts_none {A} {E} a n m k l old new r number same none =
+    let zero : (l == 0) ≡ true = ap (λ v. v == 0) (sym same ∙ none) in
+    subst (λ (f : Rows → Rows). Attempts {A = A} {E = E} (Makes (with_rows a f)) old new r)
+    (ap without_covered number ∙ (λ i x. if sym zero i then without_covered k x
+    else with_covered (record { number = k; blocks = l }) x))
+
+pub puts_some : {A E : Type 0} (a : List ℕ) (n m k l : ℕ) (old new : State) (r : Result A E)
+    → n ≡ k → m ≡ l → (m ≡ 0 → ⊥) → Attempts {A = A} {E = E}
+    (Makes (with_rows a (with_covered (record { number = n; blocks = m })))) old new r
+    → Attempts {A = A} {E = E} (Makes (with_rows a (with_blocks k l))) old new r
+puts_some {A} {E} a n m k l old new r number same some =
+    subst (λ (f : Rows → Rows). Attempts {A = A} {E = E} (Makes (with_rows a f)) old new r)
+    ((λ i. with_covered (record { number = number i; blocks = same i }))
+    ∙ (λ i x. if sym (at (l == 0) refl) i then without_covered k x
+    else with_covered (record { number = k; blocks = l }) x))
+  where
+    at : (t : Bool) → (l == 0) ≡ t → (l == 0) ≡ false
+    at true e = absurd (some (same ∙ number_from l 0 e))
+    at false e = e

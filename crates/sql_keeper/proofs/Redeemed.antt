@@ -5,7 +5,7 @@ use Rattle.identifiers.specs.Texts.{same_name}
 use Rattle.keepers.specs.declared.loaded.Redeemed.{Redeemed}
 use Rattle.keepers.specs.Change.{redeemed_over}
 use Rattle.sql_rows.specs.Content.{Content}
-use Rattle.sql_keeper.specs.Content.{tables_of, voucher_in}
+use Rattle.sql_keeper.specs.Content.{tables_of, voucher_in, Names}
 use Rattle.sql_keeper.specs.Writes.{row_of, with_redeemed}
 
 -- what stands under a code once a row more does
@@ -14,7 +14,7 @@ pub told_over : {A B : Type 0} (f : A → B) (b : Bool) (x : A) (o : Option A)
 told_over f true x o = refl
 told_over f false x o = refl
 
-pub redeemed_read : (names : List (List ℕ)) (redeemed : Option Redeemed) (c : Content)
+pub redeemed_read : (names : Names) (redeemed : Option Redeemed) (c : Content)
     → tables_of names (with_redeemed redeemed c)
     ≡ record (tables_of names c) {
       vouchers = λ code. redeemed_over redeemed code (option_map voucher_in (c.vouchers code));

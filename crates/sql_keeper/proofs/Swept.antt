@@ -23,7 +23,7 @@ use Rattle.keepers.proofs.Taking.{taken}
 use Rattle.sql_rows.specs.declared.head.Head.{Head as HeadColumns}
 use Rattle.sql_rows.specs.Content.{Rows as Stored, Content, with_meta}
 use Rattle.sql_keeper.specs.Content.{head_in, rows_of, is_numbered, charge_of, answer_in, last_in}
-use Rattle.sql_keeper.specs.Content.{voucher_in, tables_of}
+use Rattle.sql_keeper.specs.Content.{voucher_in, tables_of, Names}
 use Rattle.sql_keeper.specs.Laws.{AreSweepsRead}
 use Rattle.sql_keeper.specs.LiveRows.{IsLiveAccount}
 use Rattle.sql_keeper.specs.Sweeps.{rows_at, AreSweptRows, IsSweptOf, AreAllSwept, with_accounts}
@@ -33,12 +33,13 @@ use Rattle.sql_keeper.specs.Writes.{head_of, meta_at, with_stored}
 use Rattle.sql_keeper.specs.declared.swept_rows.SweptAccount.{SweptAccount}
 use Rattle.sql_keeper.proofs.Changed.{over_stored, stored_over, keyed, rows_read, may_at}
 use Rattle.sql_keeper.proofs.Changed.{same_texts}
+use Rattle.sql_keeper.specs.Content.{told_charge}
 use Rattle.sql_keeper.proofs.LiveRows.{live_loaded}
 use Rattle.sql_keeper.proofs.Overlays.{name_from, opened}
 
 -- ---- one account
 
-module _ (names : List (List ℕ)) (shelf : Shelf) (t : ℕ) (rows : Stored)
+module _ (names : Names) (shelf : Shelf) (t : ℕ) (rows : Stored)
     (ranges : IsShelf shelf) where
   module _ (before : StoredRows) (live : IsLiveAccount names shelf t rows (Some before))
       (kept : IsStored before) (ledger : Ledger) (u : ℕ) (early : u ≤ t)
@@ -87,7 +88,8 @@ module _ (names : List (List ℕ)) (shelf : Shelf) (t : ℕ) (rows : Stored)
       let made : IsMadeFrom s.before w (rows_of names rows) =
       subst (λ x. IsMadeFrom s.before x (rows_of names rows)) is both.0 in
       subst (AreRowsAt shelf ledger t)
-      (sym (rows_read names w rows made.free (may_at names w.sessions w.groups s.may)))
+      (sym (rows_read names w rows made.free (may_at names w.sessions w.groups s.may)
+      (keyed w s.stored).scoped))
       (subst (λ x. AreRowsAt shelf ledger t (over x (rows_of names rows))) is both.1)
 
 next_is : (shelf : Shelf) (t : ℕ) (w : StoredRows) → (rows_at shelf t w).next_charge ≡ w.next_charge
@@ -103,7 +105,7 @@ numbered_still : (n : ℕ) (h k : HeadColumns) (rows : Stored) → k.next_charge
 numbered_still n h k rows same there =
     let tests : is_numbered n (Some k) ≡ is_numbered n rows.head =
     ap (λ m. nat_lt 0 n && nat_lt n m) same ∙ sym (ap (is_numbered n) there) in
-    ap (λ b. if b then rows.charges n else None) tests
+    ap (λ b. if b then told_charge rows n else None) tests
 
 -- ---- an account after all of a list are written
 
@@ -113,19 +115,19 @@ swept_at a xs = find (λ x. same_name x.number a) xs
 abbrev same_account : SweptAccount → SweptAccount → Bool
 same_account x y = same_name y.number x.number
 
-abbrev row_after : List (List ℕ) → Option SweptAccount → Stored → Stored
+abbrev row_after : Names → Option SweptAccount → Stored → Stored
 row_after names None r = r
 row_after names (Some x) r = over_stored names x.rows r
 
 -- the row may be written
-abbrev MayBePut : List (List ℕ) → SweptAccount → Type 0
+abbrev MayBePut : Names → SweptAccount → Type 0
 MayBePut names x = IsStored x.rows × AreWritable names x.rows.sessions x.rows.groups
 
 -- the account is there
 abbrev IsThere : Content → SweptAccount → Type 0
 IsThere c x = is_some (c.rows x.number).head ≡ true
 
-module _ (names : List (List ℕ)) where
+module _ (names : Names) where
   abbrev one_after : SweptAccount → Content → Content
   one_after x c = opened x.number (over_stored names x.rows) c
 
@@ -139,6 +141,13 @@ module _ (names : List (List ℕ)) where
   meta_after (x ∷ xs) c may =
       ap (λ d. (with_accounts names xs d).meta) (step x c may.0)
       ∙ meta_after xs (one_after x c) may.1
+
+  books_after : (xs : List SweptAccount) (c : Content) → EachIn (MayBePut names) xs →
+      (with_accounts names xs c).books ≡ c.books
+  books_after [] c may = refl
+  books_after (x ∷ xs) c may =
+      ap (λ d. (with_accounts names xs d).books) (step x c may.0)
+      ∙ books_after xs (one_after x c) may.1
 
   vouchers_after : (xs : List SweptAccount) (c : Content) → EachIn (MayBePut names) xs
       → (with_accounts names xs c).vouchers ≡ c.vouchers
@@ -228,7 +237,7 @@ found_one P a (y ∷ ys) x h e = at (same_name y.number a) refl e (found_one P a
         subst (λ z. P z × (z.number ≡ a)) is (h.0, name_from y.number a k)
     at false k f rest = rest f
 
-module _ (names : List (List ℕ)) (text : List ℕ) (shelf : Shelf) (t : ℕ) (c : Content)
+module _ (names : Names) (text : List ℕ) (shelf : Shelf) (t : ℕ) (c : Content)
     (xs : List SweptAccount) (ranges : IsShelf shelf) (all : AreAllSwept names shelf t c xs) where
   may : EachIn (MayBePut names) xs
   may = EachIn-weaker (IsSweptOf names shelf t c) (MayBePut names) xs
@@ -301,6 +310,9 @@ module _ (names : List (List ℕ)) (text : List ℕ) (shelf : Shelf) (t : ℕ) (
 
   pub swept_meta : (with_sweep names text t xs c).meta ≡ Some (meta_at text t)
   swept_meta = meta_after names xs (with_meta (meta_at text t) c) may
+
+  pub swept_books : (with_sweep names text t xs c).books ≡ c.books
+  swept_books = books_after names xs (with_meta (meta_at text t) c) may
 
 pub sweeps_read : AreSweepsRead
 sweeps_read names text shelf t c xs ranges all = swept names text shelf t c xs ranges all

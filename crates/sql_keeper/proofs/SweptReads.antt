@@ -19,7 +19,7 @@ use Rattle.sql_rows.specs.Content.{Content, content_of}
 use Rattle.sql_rows.specs.Lists.{AreAccounts}
 use Rattle.sql_rows.specs.Makes.{Turns}
 use Rattle.sql_keeper.specs.Commits.{Transacts}
-use Rattle.sql_keeper.specs.Content.{tables_of}
+use Rattle.sql_keeper.specs.Content.{tables_of, Names}
 use Rattle.sql_keeper.specs.LiveGroups.{Gathers}
 use Rattle.sql_keeper.specs.LiveRows.{IsLiveAccount}
 use Rattle.sql_keeper.specs.Sweeps.{AreSweptRows, IsSweptOf, IsSweptAs, IsSweptFrom, AreSweptOf}
@@ -28,11 +28,11 @@ use Rattle.sql_keeper.specs.declared.swept_rows.SweptAccount.{SweptAccount}
 use Rattle.sql_keeper.proofs.InTurn.{HaveRead, none_read, have_gathered, have_read_then}
 use Rattle.sql_keeper.proofs.InTurn.{gathers_from}
 use Rattle.sql_keeper.proofs.LiveGroups.{told_before}
-use Rattle.sql_keeper.proofs.Swept.{sweeps_read, swept_meta}
+use Rattle.sql_keeper.proofs.Swept.{sweeps_read, swept_books, swept_meta}
 
 -- ---- one account
 
-pub swept_made : {E : Type 0} (names : List (List ℕ)) (shelf : Shelf) (t : ℕ)
+pub swept_made : {E : Type 0} (names : Names) (shelf : Shelf) (t : ℕ)
     (c : Content) (a : List ℕ) (o : Option StoredRows) (r : Result SweptAccount E)
     → IfOk r (IsSweptFrom names shelf t a o)
     → IsLiveAccount names shelf t (c.rows a) o → IfOk r (IsSweptAs names shelf t c a)
@@ -63,7 +63,7 @@ numbers_length : (xs : List SweptAccount) →
 numbers_length [] = refl
 numbers_length (y ∷ ys) = ap suc (numbers_length ys)
 
-module _ (names : List (List ℕ)) (shelf : Shelf) (t : ℕ) where
+module _ (names : Names) (shelf : Shelf) (t : ℕ) where
   more_swept : (c : Content) (numbers : List (List ℕ)) (a : List ℕ) (xs : List SweptAccount)
       (x : SweptAccount)
       → AreSweptOf names shelf t c numbers xs → IsSweptAs names shelf t c a x
@@ -147,7 +147,7 @@ module _ (names : List (List ℕ)) (shelf : Shelf) (t : ℕ) where
 
 -- ---- what is written
 
-become : (names : List (List ℕ)) (text : List ℕ) (shelf : Shelf) (t : ℕ) (xs : List SweptAccount)
+become : (names : Names) (text : List ℕ) (shelf : Shelf) (t : ℕ) (xs : List SweptAccount)
     → IsShelf shelf → t ≤ 4_102_488_000 → (old new : Trees)
     → AreAllSwept names shelf t (content_of old) xs → Turns (with_sweep names text t xs) old new
     → BecomesSwept names text shelf t old new
@@ -159,11 +159,13 @@ become names text shelf t xs ranges last old new all turns = record {
   meta = ap (λ (c : Content). c.meta) turns.content
       ∙ swept_meta names text shelf t (content_of old) xs ranges all;
   last = last;
+  books = ap (λ (c : Content). c.books) turns.content
+      ∙ swept_books names text shelf t (content_of old) xs ranges all;
   catalog = turns.catalog;
   stored = turns.stored;
 }
 
-module _ {V E : Type 0} (items : V → List SweptAccount) (names : List (List ℕ)) (text : List ℕ)
+module _ {V E : Type 0} (items : V → List SweptAccount) (names : Names) (text : List ℕ)
     (shelf : Shelf) (t : ℕ) (v : V) (xs : List SweptAccount) (is : xs ≡ items v)
     (ranges : IsShelf shelf) (last : t ≤ 4_102_488_000) (old mid : State)
     (reads : Gathers {A = V} {E = E}

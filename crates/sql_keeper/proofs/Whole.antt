@@ -1,11 +1,11 @@
 -- What is committed whole.
-use Rattle.std.proofs.Common.{◌≡◌, ◌⊎◌, inl, inr, ◌∙◌, ap, sym, IsTrue, Bool, true, false}
+use Rattle.std.proofs.Common.{◌≡◌, ◌⊎◌, inl, inr, ◌∙◌, ap, sym, subst, IsTrue, Bool, true, false}
 use Rattle.std.proofs.Common.{true≢false, Ok, Err, Result, refl, arith}
 use Rattle.sqlite.specs.Effect.{Database}
 use Rattle.sqlite.specs.State.{State, HasCleanDisk, Survives}
 use Rattle.sqlite.proofs.StateLemmas.{survives_then, survives_weaker}
 use Rattle.sqlite_trees.specs.Tree.{Trees}
-use Rattle.sql_tables.specs.Statements.{HasIdleBook, OnlyReads}
+use Rattle.sql_tables.specs.Statements.{HasIdleBook, IsStill, OnlyReads}
 use Rattle.sql_rows.specs.Content.{Content}
 use Rattle.sql_rows.specs.Makes.{Turns}
 use Rattle.sql_keeper.specs.Asks.{IsHanded}
@@ -68,6 +68,54 @@ module _ (change : Content → Content) (Become : Trees → Trees → Type 0) (o
         };
     idle = t.idle;
     survives = survives_both t.survives;
+  }
+
+-- what is committed after what was only read
+module _ (Become : Trees → Trees → Type 0) (old mid new : State)
+    (only : OnlyReads old mid) (stops : Survives old mid (λ _. old.is_open ≡ false))
+    (on : HasCleanDisk mid → IsTrue mid.is_open) where
+  still_between : Survives mid new (λ db. IsTrue mid.is_open → Become mid.now.trees db)
+      → HasCleanDisk new → IsStill old mid
+  still_between s clean =
+      let mid_clean : HasCleanDisk mid = omega (arith, s.clean, clean) in
+      only.still mid_clean (on mid_clean)
+
+  survives_all : Survives mid new (λ db. IsTrue mid.is_open → Become mid.now.trees db)
+      → Survives old new (λ db. IsTrue old.is_open → Become old.now.trees db)
+  survives_all s =
+      survives_then old mid new (λ _. old.is_open ≡ false)
+      (λ db. IsTrue mid.is_open → Become mid.now.trees db)
+      (λ db. IsTrue old.is_open → Become old.now.trees db)
+      (λ clean db shut was. absurd (not_shut old.is_open was shut))
+      (λ clean db become was. subst (λ (d : Database). Become d.trees db)
+      (still_between s clean).now_is (become (on (omega (arith, s.clean, clean))))) stops s
+
+  pub commits_after : {A E : Type 0} (r : Result A E) → CommitsWhole Become mid new r
+      → CommitsWhole Become old new r
+  commits_after (Ok x) c = record {
+    done = λ clean.
+        let d = c.done clean in
+        let s = still_between c.survives clean in (
+          s.was_open,
+          d.1,
+          subst (λ (d : Database). Become d.trees new.now.trees) s.now_is d.2,
+        );
+    err = λ clean still. tt;
+    idle = c.idle;
+    survives = survives_all c.survives;
+  }
+  commits_after (Err e) c = record {
+    done = λ clean. tt;
+    err = λ clean still'.
+        let k = c.err clean still' in
+        let s = still_between c.survives clean in
+        record {
+          was_open = s.was_open;
+          now_is = k.now_is ∙ s.now_is;
+          committed_is = k.committed_is ∙ s.committed_is;
+        };
+    idle = c.idle;
+    survives = survives_all c.survives;
   }
 
 -- what isn't written

@@ -8,7 +8,7 @@ use Rattle.redemptions.specs.Standing.{unspent}
 use Rattle.keepers.specs.Change.{with_voucher as with_added}
 use Rattle.sql_tables.specs.Statements.{AreStored}
 use Rattle.sql_rows.specs.Content.{Content, content_of, with_meta, with_voucher}
-use Rattle.sql_keeper.specs.Content.{tables_of}
+use Rattle.sql_keeper.specs.Content.{tables_of, Names}
 use Rattle.sql_keeper.specs.Writes.{meta_at, row_of}
 
 -- what is written: the moment, and a voucher that no account has redeemed
@@ -17,15 +17,15 @@ with_addition text code terms t c =
     with_voucher code (row_of (unspent terms)) (with_meta (meta_at text t) c)
 
 -- the tables hold the voucher; they would be found again: the catalog is the same, and so are the
--- version and the text of the book, no rowid stands twice, and the moment is in the range of
--- moments
+-- version and the books, no rowid stands twice, and the moment is in the range of moments
 pub record BecomesAdded (text code : List ℕ) (terms : VoucherTerms) (t : ℕ)
     (old new : Trees) : Type 0
   where
-    pub tables : (names : List (List ℕ))
+    pub tables : (names : Names)
         → tables_of names (content_of new)
         ≡ with_added code terms t (tables_of names (content_of old))
     pub meta : (content_of new).meta ≡ Some (meta_at text t)
     pub last : t ≤ 4_102_488_000
+    pub books : (content_of new).books ≡ (content_of old).books
     pub catalog : new catalog_tree ≡ old catalog_tree
     pub stored : AreStored new

@@ -1,11 +1,13 @@
 -- The charges of an account that a page has, by what the tables hold.
 -- Source: profile.
 use Rattle.std.specs.Prelude.{◌≡◌, refl, if◌then◌else◌, ℕ, ◌+◌, ◌-◌, ◌≤◌, min, Option, Some, None}
-use Rattle.std.specs.Prelude.{nat_le}
+use Rattle.std.specs.Prelude.{nat_eq, nat_le, Bool, List}
+use Rattle.std.specs.List.{find}
 use Rattle.sql_rows.specs.declared.head.Head.{Head}
 use Rattle.sql_rows.specs.Content.{Rows as Stored}
-use Rattle.sql_rows.specs.Lists.{AreCharges, NumbersRise, is_within}
-use Rattle.sql_keeper.specs.Content.{is_numbered}
+use Rattle.sql_rows.specs.Lists.{NumbersRise, is_within}
+use Rattle.sql_tables.specs.Selects.{only as those}
+use Rattle.sql_keeper.specs.Content.{is_numbered, told_charge}
 use Rattle.reserving.specs.declared.charge.ChargeRow.{ChargeRow}
 use Rattle.charge_sources.specs.declared.pages.ChargePage.{ChargePage}
 
@@ -18,12 +20,16 @@ last_number (Some h) = h.next_charge - 1
 abbrev pub end_of_page : ℕ → ℕ
 end_of_page after = min (after + 256) 4294967295
 
+-- the charges that pass the test, with the blocks that were covered
+abbrev pub AreTold : (ChargeRow → Bool) → Stored → List ChargeRow → Type 0
+AreTold test r xs = (n : ℕ) → find (λ x. nat_eq x.number n) xs ≡ those test (told_charge r n)
+
 -- what is read for a page
 pub record IsPageRead (r : Stored) (after : ℕ) (page : ChargePage) : Type 0 where
   pub last : page.last ≡ end_of_page after
   pub small : last_number r.head ≤ 4294967295
   pub is_last : page.is_last ≡ nat_le (last_number r.head) page.last
-  pub rows : AreCharges (is_within after (min page.last (last_number r.head))) r page.rows.items
+  pub rows : AreTold (is_within after (min page.last (last_number r.head))) r page.rows.items
   pub order : NumbersRise page.rows.items
 
 -- no charge has the number 0

@@ -9,15 +9,15 @@ use Rattle.keepers.specs.declared.loaded.Change.{Change}
 use Rattle.keepers.specs.Change.{IsMadeFrom, changed}
 use Rattle.sql_tables.specs.Statements.{AreStored, HasIdleBook, IsStill}
 use Rattle.sql_rows.specs.Content.{Content, content_of, with_account}
-use Rattle.sql_rows.specs.Each.{with_buckets, with_counters}
+use Rattle.sql_rows.specs.Each.{with_counters}
 use Rattle.sql_rows.specs.Makes.{Commits, Turns}
-use Rattle.sql_keeper.specs.Content.{tables_of}
-use Rattle.sql_keeper.specs.Writes.{head_of, meta_with}
+use Rattle.sql_keeper.specs.Content.{tables_of, Names}
+use Rattle.sql_keeper.specs.Writes.{head_of, meta_with, with_all_counted}
 
 -- an account, its buckets and its counters as they become
 abbrev pub with_money : List ℕ → StoredRows → Content → Content
 with_money a w c =
-    with_counters a w.counters (with_buckets a w.buckets (with_account a (head_of w) c))
+    with_counters a w.counters (with_all_counted a w.buckets (with_account a (head_of w) c))
 
 -- outside a transaction: the change is committed, or nothing is changed, and a stop leaves what was
 -- left before or the change
@@ -31,9 +31,9 @@ pub record Transacts {A E : Type 0} (change : Content → Content) (old new : St
     pub survives : Survives old new (λ db. IsTrue old.is_open × Turns change old.now.trees db)
 
 -- the tables hold the change, if it is one of the rows that were there; they would be found again:
--- the catalog is the same, and so are the version and the text of the book, no rowid stands twice,
--- and the moment is in the range of moments
-pub record Becomes (names : List (List ℕ)) (text : List ℕ) (change : Change)
+-- the catalog is the same, and so are the version and the books, no rowid stands twice, and the
+-- moment is in the range of moments
+pub record Becomes (names : Names) (text : List ℕ) (change : Change)
     (old new : Trees) : Type 0
   where
     pub tables : IsMadeFrom change.before change.after
@@ -41,6 +41,7 @@ pub record Becomes (names : List (List ℕ)) (text : List ℕ) (change : Change)
         → tables_of names (content_of new) ≡ changed change (tables_of names (content_of old))
     pub meta : (content_of new).meta ≡ Some (meta_with text change)
     pub last : change.moment ≤ 4_102_488_000
+    pub books : (content_of new).books ≡ (content_of old).books
     pub catalog : new catalog_tree ≡ old catalog_tree
     pub stored : AreStored new
 
@@ -55,6 +56,6 @@ pub record CommitsWhole {A E : Type 0} (Become : Trees → Trees → Type 0) (ol
   pub survives : Survives old new (λ db. IsTrue old.is_open → Become old.now.trees db)
 
 -- so a change is
-abbrev pub CommitsChange : {A E : Type 0} → List (List ℕ) → List ℕ → Change → State → State →
+abbrev pub CommitsChange : {A E : Type 0} → Names → List ℕ → Change → State → State →
     Result A E → Type 0
 CommitsChange names text change = CommitsWhole (Becomes names text change)

@@ -1,11 +1,15 @@
 -- What a keeper over a database holds, told by the rows of its tables.
 -- Source: profile.
-use Rattle.std.specs.Prelude.{ℕ, ◌&&◌, Bool, false, List, Option, Some, None, Result, Ok, Err}
-use Rattle.std.specs.Prelude.{unwrap_or, option_map, option_and_then, is_some, nat_lt}
-use Rattle.std.specs.Prelude.{if◌then◌else◌}
+use Rattle.std.specs.Prelude.{ℕ, zero, suc, ◌&&◌, Bool, false, List, [], map, slice_get, Option}
+use Rattle.std.specs.Prelude.{Some, None, Result, Ok, Err, unwrap_or, option_map}
+use Rattle.std.specs.Prelude.{option_and_then, is_some, nat_lt, if◌then◌else◌}
 use Rattle.calendar.specs.declared.week.Period.{Period}
 use Rattle.rating.specs.declared.grant.Periods.{Periods}
 use Rattle.tariffs.specs.Names.{period_named}
+use Rattle.shelves.specs.Shelves.{Shelf, dated_books}
+use Rattle.buckets.specs.Row.{Row as Bucket}
+use Rattle.buckets.specs.declared.kind.BucketKind.{BucketKind}
+use Rattle.buckets.specs.declared.kind.BucketKind.TheVariants.{Money, Blocks}
 use Rattle.reserving.specs.declared.charge.ChargeRow.{ChargeRow}
 use Rattle.reserving.specs.declared.session.Terms.{Terms}
 use Rattle.reserving.specs.Left.{is_open_row}
@@ -26,6 +30,19 @@ use Rattle.sql_rows.specs.Content.{Rows as Stored, Content}
 
 -- ---- periods, which stand by their names
 
+-- the names of the periods of each book, in the order of the books' numbers; the first is 1
+abbrev pub Names : Type 0
+Names = List (List (List ℕ))
+
+-- those of the book of a number; none where there is no such book
+abbrev pub names_numbered : Names → ℕ → List (List ℕ)
+names_numbered names zero = []
+names_numbered names (suc i) = unwrap_or (slice_get names i) []
+
+-- those of each book of a shelf
+abbrev pub shelf_names : Shelf → Names
+shelf_names s = map (λ d. d.book.periods) (dated_books s)
+
 -- the period of a name, by its place among the book's names; the first where it is none of them
 abbrev pub period_in : List (List ℕ) → List ℕ → Period
 period_in names name = unwrap_or (period_named names name) (record { 0 = 0 })
@@ -43,16 +60,22 @@ head_in h = record {
   next_charge = h.next_charge;
 }
 
--- the terms of a reservation: the tables keep no number of a book, so it is one of the first book
-abbrev pub terms_in : List (List ℕ) → PeriodNames → Terms
-terms_in names p = record { book = 1; periods = periods_in names p }
+-- the number of a reservation's book, which has a row of its own; without one it is the first
+abbrev pub book_in : Option ℕ → ℕ
+book_in book = unwrap_or book 1
+
+-- the terms of a reservation of the book of a number, whose periods have these names there
+abbrev pub terms_in : Names → ℕ → PeriodNames → Terms
+terms_in names n p = record { book = n; periods = periods_in (names_numbered names n) p }
 
 -- a reservation stands as long as its session is open
-abbrev pub reserved_in : List (List ℕ) → Bool → Option PeriodNames → Option Terms
-reserved_in names is_open periods = if is_open then option_map (terms_in names) periods else None
+abbrev pub reserved_in : Names → Bool → Option ℕ → Option PeriodNames → Option Terms
+reserved_in names is_open book periods =
+    if is_open then option_map (terms_in names (book_in book)) periods else None
 
-abbrev pub group_in : List (List ℕ) → Bool → Group → GroupRow
-group_in names is_open x = record { used = x.used; terms = reserved_in names is_open x.periods }
+abbrev pub group_in : Names → Bool → Option ℕ → Group → GroupRow
+group_in names is_open book x =
+    record { used = x.used; terms = reserved_in names is_open book x.periods }
 
 abbrev pub is_reserved : Option Group → Bool
 is_reserved None = false
@@ -62,13 +85,25 @@ is_reserved (Some x) = is_some x.periods
 abbrev pub held_in : Bool → Option ℕ → ℕ
 held_in has_reservation amount = if has_reservation then unwrap_or amount 0 else 0
 
-abbrev pub rows_of : List (List ℕ) → Stored → Rows
+-- what a bucket counts: blocks where it is of one rating group and a row of its own says so, else
+-- money
+abbrev pub kind_in : Bool → BucketKind
+kind_in is_allowance = if is_allowance then Blocks else Money
+
+abbrev pub bucket_in : Bool → Bucket → Bucket
+bucket_in is_allowance b = record b { kind = kind_in (is_some b.scope && is_allowance) }
+
+abbrev pub told_buckets : Stored → ℕ → Option Bucket
+told_buckets r n = option_map (bucket_in (r.allowances n)) (r.buckets n)
+
+abbrev pub rows_of : Names → Stored → Rows
 rows_of names r = record {
   head = option_map head_in r.head;
-  buckets = r.buckets;
+  buckets = told_buckets r;
   counters = r.counters;
   sessions = r.sessions;
-  groups = λ s g. option_map (group_in names (is_open_row (r.sessions s))) (r.groups s g);
+  groups = λ s g.
+      option_map (group_in names (is_open_row (r.sessions s)) (r.grant_books s g)) (r.groups s g);
   holds = λ s g n.
       held_in (is_open_row (r.sessions s) && is_reserved (r.groups s g)) (r.holds s g n);
 }
@@ -79,8 +114,18 @@ abbrev pub is_numbered : ℕ → Option HeadColumns → Bool
 is_numbered n None = false
 is_numbered n (Some h) = nat_lt 0 n && nat_lt n h.next_charge
 
+-- the blocks of a charge that were covered, which have a row of their own; without one none were
+abbrev pub covered_in : Option ℕ → ℕ
+covered_in blocks = unwrap_or blocks 0
+
+abbrev pub charge_in : Option ℕ → ChargeRow → ChargeRow
+charge_in covered x = record x { covered = record { 0 = covered_in covered } }
+
+abbrev pub told_charge : Stored → ℕ → Option ChargeRow
+told_charge r n = option_map (charge_in (r.covered n)) (r.charges n)
+
 abbrev pub charge_of : ℕ → Stored → Option ChargeRow
-charge_of n r = if is_numbered n r.head then r.charges n else None
+charge_of n r = if is_numbered n r.head then told_charge r n else None
 
 -- ---- kept answers, which stand as texts
 
@@ -117,7 +162,7 @@ abbrev pub last_in : Option Meta → ℕ
 last_in None = 0
 last_in (Some m) = m.last
 
-abbrev pub tables_of : List (List ℕ) → Content → Tables
+abbrev pub tables_of : Names → Content → Tables
 tables_of names c = record {
   last = last_in c.meta;
   rows = λ a. rows_of names (c.rows a);

@@ -1,27 +1,29 @@
 -- The tables of a book, made whole or not at all.
 -- Source: profile.
-use Rattle.std.specs.Prelude.{◌≡◌, ℕ, List, Some, true, IsTrue, OnOk, OnErr, Result}
+use Rattle.std.specs.Prelude.{◌≡◌, ℕ, List, Some, None, true, IsTrue, OnOk, OnErr, Result}
 use Rattle.sqlite_trees.specs.Objects.{catalog_tree}
 use Rattle.sqlite_trees.specs.Tree.{Trees}
 use Rattle.sqlite_catalog.specs.Listing.{Lists}
 use Rattle.sqlite.specs.State.{State, HasCleanDisk, Shows, Survives}
 use Rattle.keepers.specs.Tables.{no_tables}
-use Rattle.sql_tables.specs.Schema.{book_schema}
+use Rattle.sql_tables.specs.Schema.{book_schema, latest}
 use Rattle.sql_tables.specs.Statements.{AreStored, HasIdleBook, IsBook, IsStill}
 use Rattle.sql_rows.specs.Values.{Meta}
 use Rattle.sql_rows.specs.Content.{content_of}
-use Rattle.sql_keeper.specs.Content.{tables_of}
+use Rattle.sql_keeper.specs.Content.{tables_of, Names}
 
--- what is kept once of new tables: their first version, the text of the book, and the first moment
+-- what is kept once of new tables: their version, the text of the book, and the first moment
 abbrev pub first_meta : List ℕ → Meta
-first_meta text = record { version = 1; book = text; last = 0 }
+first_meta text = record { version = latest; book = text; last = 0 }
 
--- the tables of this book before any command: the database lists them, and no rowid stands twice
+-- the tables of this book before any command: the database lists them, no rowid stands twice, and
+-- there is no other book
 pub record IsNewBook (text : List ℕ) (trees : Trees) : Type 0 where
   pub lists : Lists (trees catalog_tree) book_schema
   pub stored : AreStored trees
   pub meta : (content_of trees).meta ≡ Some (first_meta text)
-  pub tables : (names : List (List ℕ)) → tables_of names (content_of trees) ≡ no_tables
+  pub tables : (names : Names) → tables_of names (content_of trees) ≡ no_tables
+  pub books : (n : ℕ) → (content_of trees).books n ≡ None
 
 -- inside a transaction
 pub record BuildsBook (text : List ℕ) (old new : State) : Type 0 where

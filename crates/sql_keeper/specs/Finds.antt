@@ -1,20 +1,17 @@
 -- What is read of a database before a keeper is made over it.
 -- Source: profile.
-use Rattle.std.specs.Prelude.{◌≡◌, Some, IfErr, IfOk, OnOk, IsTrue, Result}
+use Rattle.std.specs.Prelude.{◌≡◌, Some, IfErr, IfOk, OnOk, IsTrue, Result, false}
 use Rattle.std.specs.String.{string_bytes}
-use Rattle.shelves.specs.Shelves.{one_book}
 use Rattle.sqlite.specs.State.{State, HasCleanDisk, Survives}
 use Rattle.sql_tables.specs.Schema.{book_schema}
-use Rattle.sql_tables.specs.Statements.{HasIdleBook, IsStill}
-use Rattle.sql_rows.specs.declared.meta_rows.Meta.{Meta as MetaRow}
+use Rattle.sql_tables.specs.Statements.{HasIdleBook, IsStill, OnlyReads}
 use Rattle.sql_rows.specs.Content.{content_of}
-use Rattle.sql_rows.specs.Texts.{meta_of}
-use Rattle.sql_opening.specs.Opens.{IsNoVersion}
 use Rattle.sql_opening.specs.declared.fault.OpenFault.{OpenFault}
-use Rattle.sql_opening.specs.declared.fault.OpenFault.TheVariants.{Foreign, Version, Rules}
+use Rattle.sql_opening.specs.declared.fault.OpenFault.TheVariants.{Foreign, Version, Rules, Older}
 use Rattle.sql_keeper.specs.Books.{IsBookOf}
-use Rattle.sql_keeper.specs.Opened.{IsKept, IsOtherVersion, IsRuled}
-use Rattle.sql_keeper.specs.declared.books.ReadBook.{ReadBook}
+use Rattle.sql_keeper.specs.Opened.{IsKept, IsOlder, IsOtherVersion, IsRuled}
+use Rattle.sql_keeper.specs.Shelves.{IsShelfOf}
+use Rattle.sql_keeper.specs.declared.books.ReadBooks.{ReadBooks}
 
 -- the fault is told of tables that aren't ours alone
 abbrev pub IsForeignAt : State → OpenFault → Type 0
@@ -24,26 +21,36 @@ IsForeignAt s fault = fault ≡ Foreign → ¬ (s.now.schema ≡ book_schema)
 abbrev pub IsUnruledAt : State → OpenFault → Type 0
 IsUnruledAt s fault = fault ≡ Rules → ¬ IsRuled s.now.trees
 
--- the tables are ours, and this is kept once; nothing was written
-pub record FindsMeta (old new : State) (result : Result MetaRow OpenFault) : Type 0 where
-  pub found : HasCleanDisk new →
-      IfOk result (λ m. ((content_of new.now.trees).meta ≡ Some (meta_of m))
-      × IsStill old new × IsTrue new.is_open)
-  pub idle : OnOk result (HasIdleBook new)
-  pub told : IfErr result IsNoVersion
-  pub foreign : HasCleanDisk new → IfErr result (IsForeignAt old)
-  pub rules : HasCleanDisk new → IfErr result (IsUnruledAt old)
-  pub survives : Survives old new (λ _. ⊥)
+-- the fault is told of tables of an older version alone
+abbrev pub IsOlderAt : State → OpenFault → Type 0
+IsOlderAt s fault = fault ≡ Older → IsOlder s.now
 
--- the same with the book of the text that is kept
-pub record FindsBook (old new : State) (result : Result ReadBook OpenFault) : Type 0 where
+-- several reads of tables of the latest version: what is kept once there, and the shelf of the
+-- texts that are kept; nothing was written
+pub record ReadsBooks (old new : State) (result : Result ReadBooks OpenFault) : Type 0 where
+  pub found : HasCleanDisk new → IfOk result (λ r. IsKept old.now.trees (string_bytes r.text)
+      × IsShelfOf (string_bytes r.text) (content_of old.now.trees).books r.own
+      × IsTrue new.is_open)
+  pub given : IfOk result (λ r. r.given ≡ r.own)
+  pub read : IfOk result (λ r. IsBookOf (string_bytes r.text) r.own.first)
+  pub only : OnlyReads old new
+  pub version : HasCleanDisk new →
+      IfErr result (λ fault. fault ≡ Version → IsOtherVersion old.now.trees)
+  pub rules : HasCleanDisk new → IfErr result (IsUnruledAt old)
+  pub ours : IfErr result (λ fault. (¬ (fault ≡ Foreign)) × (¬ (fault ≡ Older)))
+  pub survives : Survives old new (λ _. old.is_open ≡ false)
+
+-- the tables are ours, of the latest version, and this is their shelf; nothing was written
+pub record FindsBooks (old new : State) (result : Result ReadBooks OpenFault) : Type 0 where
   pub found : HasCleanDisk new → IfOk result (λ r. IsKept new.now.trees (string_bytes r.text)
+      × IsShelfOf (string_bytes r.text) (content_of new.now.trees).books r.own
       × IsStill old new × IsTrue new.is_open)
-  pub read : IfOk result (λ r. IsBookOf (string_bytes r.text) r.own)
-  pub given : IfOk result (λ r. r.given ≡ one_book r.own)
+  pub given : IfOk result (λ r. r.given ≡ r.own)
+  pub read : IfOk result (λ r. IsBookOf (string_bytes r.text) r.own.first)
   pub idle : OnOk result (HasIdleBook new)
   pub foreign : HasCleanDisk new → IfErr result (IsForeignAt old)
   pub version : HasCleanDisk new →
       IfErr result (λ fault. fault ≡ Version → IsOtherVersion old.now.trees)
   pub rules : HasCleanDisk new → IfErr result (IsUnruledAt old)
+  pub older : HasCleanDisk new → IfErr result (IsOlderAt old)
   pub survives : Survives old new (λ _. ⊥)

@@ -14,11 +14,13 @@ use Rattle.reserving.specs.declared.session.Terms.{Terms}
 use Rattle.reserving.specs.Sessions.{group_in}
 use Rattle.keepers.specs.Tables.{group_row, held_of}
 use Rattle.sql_tables.specs.Keyed.{same_name}
+use Rattle.sql_rows.specs.declared.grant_book_rows.GrantBook.{GrantBook}
 use Rattle.sql_rows.specs.declared.hold_rows.HeldColumns.{HeldColumns}
 use Rattle.sql_rows.specs.Content.{Rows as Stored}
 use Rattle.sql_rows.specs.Lists.{GroupAt}
 use Rattle.sql_rows.specs.Values.{PeriodNames}
-use Rattle.sql_keeper.specs.Content.{group_in as group_told, is_reserved, held_in}
+use Rattle.sql_keeper.specs.Content.{group_in as group_told, is_reserved, held_in, Names}
+use Rattle.sql_keeper.specs.Content.{names_numbered}
 
 -- ---- what is held for a session
 
@@ -47,10 +49,15 @@ pub record ArePeriodsOf (names : List (List ℕ)) (p : PeriodNames) (periods : P
   pub before : period_named names p.before ≡ Some periods.before
   pub after : period_named names p.after ≡ Some periods.after
 
--- the terms of a reservation with these names: it is of the first book
-pub record AreTermsOf (names : List (List ℕ)) (p : PeriodNames) (x : Terms) : Type 0 where
-  pub book : x.book ≡ 1
-  pub periods : ArePeriodsOf names p x.periods
+-- the number of the book that a reservation goes by
+abbrev pub book_of : ℕ → List GrantBook → Option ℕ
+book_of g books = option_map (λ (x : GrantBook). x.book) (find (λ x. x.group == g) books)
+
+-- the terms of a reservation of this book with these names, which its periods have there
+pub record AreTermsOf (names : Names) (number : Option ℕ) (p : PeriodNames) (x : Terms) : Type 0
+  where
+    pub book : number ≡ Some x.book
+    pub periods : ArePeriodsOf (names_numbered names x.book) p x.periods
 
 -- the holds of a rating group stand in the order of the buckets, and there is no other hold of it
 pub record AreHoldsOf (buckets : List Row) (held : List HeldColumns) (g : ℕ)
@@ -60,32 +67,33 @@ pub record AreHoldsOf (buckets : List Row) (held : List HeldColumns) (g : ℕ)
     pub all : are_held_of buckets g held ≡ true
 
 -- a reservation is there where it has names of periods
-abbrev pub IsReservationOf : List (List ℕ) → List Row → List HeldColumns → ℕ → Option PeriodNames
-    → Option Reservation → Type 0
-IsReservationOf names buckets held g None None = Unit {0}
-IsReservationOf names buckets held g None (Some r) = ⊥
-IsReservationOf names buckets held g (Some p) None = ⊥
-IsReservationOf names buckets held g (Some p) (Some r) =
-    AreTermsOf names p r.terms × AreHoldsOf buckets held g r.holds
+abbrev pub IsReservationOf : Names → List Row → List HeldColumns → List GrantBook → ℕ
+    → Option PeriodNames → Option Reservation → Type 0
+IsReservationOf names buckets held books g None None = Unit {0}
+IsReservationOf names buckets held books g None (Some r) = ⊥
+IsReservationOf names buckets held books g (Some p) None = ⊥
+IsReservationOf names buckets held books g (Some p) (Some r) =
+    AreTermsOf names (book_of g books) p r.terms × AreHoldsOf buckets held g r.holds
 
 -- what a session has of a rating group is that of the row
-pub record IsGroupOf (names : List (List ℕ)) (buckets : List Row)
-    (held : List HeldColumns) (s : List ℕ) (c : GroupAt) (x : SessionGroup) : Type 0 where
+pub record IsGroupOf (names : Names) (buckets : List Row) (held : List HeldColumns)
+    (books : List GrantBook) (s : List ℕ) (c : GroupAt) (x : SessionGroup) : Type 0 where
   pub session : x.session ≡ s
   pub group : x.group ≡ c.group
   pub used : x.used ≡ c.row.used
-  pub reservation : IsReservationOf names buckets held c.group c.row.periods x.reservation
+  pub reservation : IsReservationOf names buckets held books c.group c.row.periods x.reservation
 
 -- so is each of a list
-abbrev pub AreGroupsOf : List (List ℕ) → List Row → List HeldColumns → List ℕ → List GroupAt
-    → List SessionGroup → Type 0
-AreGroupsOf names buckets held s cs xs = AllZip (IsGroupOf names buckets held s) cs xs
+abbrev pub AreGroupsOf : Names → List Row → List HeldColumns → List GrantBook → List ℕ
+    → List GroupAt → List SessionGroup → Type 0
+AreGroupsOf names buckets held books s cs xs = AllZip (IsGroupOf names buckets held books s) cs xs
 
 -- all that one session has, as of an open one, and nothing of another
-pub record AreSessionGroups (names : List (List ℕ)) (rows : Stored) (s : List ℕ)
+pub record AreSessionGroups (names : Names) (rows : Stored) (s : List ℕ)
     (xs : List SessionGroup)
     : Type 0 where
   pub groups : (t : List ℕ) (g : ℕ) → option_map group_row (group_in t g xs) ≡
-      (if same_name s t then option_map (group_told names true) (rows.groups t g) else None)
+      (if same_name s t
+      then option_map (group_told names true (rows.grant_books t g)) (rows.groups t g) else None)
   pub holds : (t : List ℕ) (g n : ℕ) → held_of n (group_in t g xs) ≡
       (if same_name s t then held_in (is_reserved (rows.groups t g)) (rows.holds t g n) else 0)

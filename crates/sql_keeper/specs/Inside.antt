@@ -9,21 +9,21 @@ use Rattle.sql_tables.specs.Statements.{HasIdleBook}
 use Rattle.sql_rows.specs.Content.{content_of}
 use Rattle.keepers.specs.Faults.{max_failures}
 use Rattle.keepers.specs.Tables.{Tables}
-use Rattle.sql_keeper.specs.Content.{tables_of}
+use Rattle.sql_keeper.specs.Content.{tables_of, Names}
 
 pub record KeeperState (S : Type 0) : Type 0 where
   pub connection : Held S
-  -- the names of the book's periods
-  pub names : List (List ℕ)
-  -- the book's text
+  -- the names of the periods of each book
+  pub names : Names
+  -- the text of the first book
   pub text : List ℕ
   -- how many calls met a failure of the store
   pub failures : ℕ
 
 abbrev pub keeper_code : {S : Type 0} → Coded S → Coded (KeeperState S)
 keeper_code {S} store =
-    code_by (Held S × (List (List ℕ) × (List ℕ × ℕ)))
-    (coded× (held_code store) (coded× (coded_list (coded_list coded_ℕ))
+    code_by (Held S × (Names × (List ℕ × ℕ)))
+    (coded× (held_code store) (coded× (coded_list (coded_list (coded_list coded_ℕ)))
     (coded× (coded_list coded_ℕ) coded_ℕ)))
     (λ k. (k.connection, (k.names, (k.text, k.failures))))
     (λ p. record { connection = p.0; names = p.1.0; text = p.1.1.0; failures = p.1.1.1 })

@@ -8,7 +8,7 @@ use Rattle.keepers.specs.Tables.{no_tables}
 use Rattle.keepers.specs.Change.{IsMadeFrom, IsSwept, changed}
 use Rattle.sql_rows.specs.Values.{Meta, Kept}
 use Rattle.sql_rows.specs.Content.{Content, content_of}
-use Rattle.sql_keeper.specs.Content.{tables_of}
+use Rattle.sql_keeper.specs.Content.{tables_of, Names}
 use Rattle.sql_keeper.specs.Sweeps.{AreAllSwept, with_sweep}
 use Rattle.sql_keeper.specs.Writes.{AreTexts, with_change}
 use Rattle.sql_keeper.specs.Tests.{AreWritable, AreNumbered, first_number}
@@ -18,7 +18,7 @@ use Rattle.sql_keeper.specs.declared.swept_rows.SweptAccount.{SweptAccount}
 -- were there
 abbrev pub AreChangesRead : Type 0
 AreChangesRead =
-    (names : List (List ℕ)) (m : Meta) (change : Change) (texts : Option Kept) (c : Content)
+    (names : Names) (m : Meta) (change : Change) (texts : Option Kept) (c : Content)
     → IsStored change.before → IsStored change.after
     → AreWritable names change.after.sessions change.after.groups
     → AreNumbered (first_number (c.rows change.number).head) change.after.next_charge
@@ -31,11 +31,11 @@ AreChangesRead =
 -- there
 abbrev pub AreSweepsRead : Type 0
 AreSweepsRead =
-    (names : List (List ℕ)) (text : List ℕ) (shelf : Shelf) (t : ℕ) (c : Content)
+    (names : Names) (text : List ℕ) (shelf : Shelf) (t : ℕ) (c : Content)
     (xs : List SweptAccount)
     → IsShelf shelf → AreAllSwept names shelf t c xs
     → IsSwept shelf t (tables_of names c) (tables_of names (with_sweep names text t xs c))
 
 -- tables without rows hold nothing
 abbrev pub AreNewTablesEmpty : Type 0
-AreNewTablesEmpty = (names : List (List ℕ)) → tables_of names (content_of (λ t. [])) ≡ no_tables
+AreNewTablesEmpty = (names : Names) → tables_of names (content_of (λ t. [])) ≡ no_tables

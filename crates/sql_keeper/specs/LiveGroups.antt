@@ -12,7 +12,7 @@ use Rattle.keepers.specs.Tables.{Rows, group_row, held_of}
 use Rattle.sql_tables.specs.Statements.{OnlyReads}
 use Rattle.sql_rows.specs.Content.{Rows as Stored}
 use Rattle.sql_rows.specs.Lists.{AreSessions}
-use Rattle.sql_keeper.specs.Content.{group_in as group_told, is_reserved, held_in, rows_of}
+use Rattle.sql_keeper.specs.Content.{group_in as group_told, is_reserved, held_in, rows_of, Names}
 
 -- outside a transaction, several reads in turn, or none: while the connection stays open, what they
 -- answer is told by the tables; whether they answer or not, they change nothing
@@ -32,10 +32,11 @@ is_among s sessions = is_some (session_in s sessions)
 
 -- what the sessions of a list have of rating groups, and what their reservations hold: all of it,
 -- each as of a session that is open, and of no other session
-pub record AreLiveGroups (names : List (List ℕ)) (rows : Stored) (sessions : List Session)
+pub record AreLiveGroups (names : Names) (rows : Stored) (sessions : List Session)
     (xs : List SessionGroup) : Type 0 where
   pub groups : (s : List ℕ) (g : ℕ) → option_map group_row (group_in s g xs) ≡
-      (if is_among s sessions then option_map (group_told names true) (rows.groups s g) else None)
+      (if is_among s sessions
+      then option_map (group_told names true (rows.grant_books s g)) (rows.groups s g) else None)
   pub holds : (s : List ℕ) (g n : ℕ) → held_of n (group_in s g xs) ≡
       (if is_among s sessions
       then held_in (is_reserved (rows.groups s g)) (rows.holds s g n) else 0)
@@ -50,6 +51,6 @@ pub record AreLoadedGroups (r : Rows) (xs : List SessionGroup) : Type 0 where
 -- what the open sessions have is what is loaded
 abbrev pub AreOpenGroupsLoaded : Type 0
 AreOpenGroupsLoaded =
-    (names : List (List ℕ)) (rows : Stored) (sessions : List Session) (xs : List SessionGroup)
+    (names : Names) (rows : Stored) (sessions : List Session) (xs : List SessionGroup)
     → AreSessions (λ x. is_open x.state) rows sessions → AreLiveGroups names rows sessions xs
     → AreLoadedGroups (rows_of names rows) xs

@@ -17,15 +17,16 @@ use Rattle.reserving.specs.Rows.{AccountRows}
 use Rattle.sql_rows.specs.Content.{Rows as Stored}
 use Rattle.sql_rows.specs.Lists.{AreSessions}
 use Rattle.sql_rows.specs.declared.head.Head.{Head as HeadColumns}
-use Rattle.sql_keeper.specs.Content.{rows_of}
+use Rattle.sql_keeper.specs.Content.{told_buckets, rows_of, Names}
 use Rattle.sql_keeper.specs.LiveGroups.{AreLiveGroups}
 use Rattle.sql_keeper.specs.Writes.{head_of}
 use Rattle.sql_keeper.specs.declared.live_rows.LiveRows.{LiveRows}
 use Rattle.sql_keeper.specs.declared.live_rows.ReadRows.{ReadRows}
 
--- the buckets that aren't dead: each by its number, and no other
+-- the buckets that aren't dead, with what they count: each by its number, and no other
 abbrev pub AreLiveBuckets : Stored → List Row → Type 0
-AreLiveBuckets rows bs = (n : ℕ) → bucket_in n bs ≡ only (λ b. not (is_dead b)) (rows.buckets n)
+AreLiveBuckets rows bs = (n : ℕ) → bucket_in n bs
+    ≡ only (λ b. not (is_dead b)) (told_buckets rows n)
 
 -- the counters of the cycles at the moment: each by its rating group and cycle, and no other
 abbrev pub AreCountersAt : Shelf → ℕ → Stored → List Counter → Type 0
@@ -34,7 +35,7 @@ AreCountersAt shelf t rows cs = (g c : ℕ) →
 
 -- all that may still change whatever the moment: the buckets that aren't dead, the open sessions,
 -- and what they have of rating groups; the names are those of the periods of reservations
-pub record AreLiveRows (names : List (List ℕ)) (rows : Stored) (bs : List Row) (ss : List Session)
+pub record AreLiveRows (names : Names) (rows : Stored) (bs : List Row) (ss : List Session)
     (xs : List SessionGroup) : Type 0 where
   pub buckets : AreLiveBuckets rows bs
   pub sessions : AreSessions (λ x. is_open x.state) rows ss
@@ -55,7 +56,7 @@ account_with h x cs = record {
 
 -- what is read of an account: its head, and all of it that may still change at the moment; there is
 -- none where it has no head
-abbrev pub IsReadAccount : List (List ℕ) → Shelf → ℕ → Stored → Option ReadRows → Type 0
+abbrev pub IsReadAccount : Names → Shelf → ℕ → Stored → Option ReadRows → Type 0
 IsReadAccount names shelf t rows None = rows.head ≡ None
 IsReadAccount names shelf t rows (Some x) =
     (rows.head ≡ Some x.head)
@@ -64,7 +65,7 @@ IsReadAccount names shelf t rows (Some x) =
 
 -- the account, with all of it that may still change at the moment; there is none where it has no
 -- head
-abbrev pub IsLiveAccount : List (List ℕ) → Shelf → ℕ → Stored → Option StoredRows → Type 0
+abbrev pub IsLiveAccount : Names → Shelf → ℕ → Stored → Option StoredRows → Type 0
 IsLiveAccount names shelf t rows None = rows.head ≡ None
 IsLiveAccount names shelf t rows (Some w) =
     (rows.head ≡ Some (head_of w)) × AreLiveRows names rows w.buckets w.sessions w.groups
@@ -73,7 +74,7 @@ IsLiveAccount names shelf t rows (Some w) =
 -- it is what a load asks of the account's rows, once the shelf prices it
 abbrev pub AreLiveRowsLoaded : Type 0
 AreLiveRowsLoaded =
-    (names : List (List ℕ)) (shelf : Shelf) (t : ℕ) (rows : Stored) (w : StoredRows)
+    (names : Names) (shelf : Shelf) (t : ℕ) (rows : Stored) (w : StoredRows)
     → IsLiveAccount names shelf t rows (Some w)
     → IsLoadedFrom shelf t (rows_of names rows) (priced shelf w)
 

@@ -11,7 +11,7 @@ use Rattle.keepers.specs.Change.{IsSwept}
 use Rattle.sql_rows.specs.Content.{Rows as Stored, Content, content_of, with_meta}
 use Rattle.sql_rows.specs.Each.{with_each}
 use Rattle.sql_rows.specs.Lists.{AreAccounts}
-use Rattle.sql_keeper.specs.Content.{tables_of}
+use Rattle.sql_keeper.specs.Content.{tables_of, Names}
 use Rattle.sql_keeper.specs.LiveRows.{IsLiveAccount}
 use Rattle.sql_keeper.specs.Tests.{AreWritable}
 use Rattle.sql_keeper.specs.Writes.{meta_at, with_stored}
@@ -24,7 +24,7 @@ abbrev pub rows_at : Shelf → ℕ → StoredRows → StoredRows
 rows_at shelf t w = if nat_le w.as_of t then advanced_stored shelf t w else w
 
 -- these are what may still change of an account, at the moment, and they may be written
-pub record AreSweptRows (names : List (List ℕ)) (shelf : Shelf) (t : ℕ) (rows : Stored)
+pub record AreSweptRows (names : Names) (shelf : Shelf) (t : ℕ) (rows : Stored)
     (w : StoredRows)
     : Type 0 where
   pub before : StoredRows
@@ -34,17 +34,17 @@ pub record AreSweptRows (names : List (List ℕ)) (shelf : Shelf) (t : ℕ) (row
   pub stored : IsStored w
   pub may : AreWritable names w.sessions w.groups
 
-abbrev pub IsSweptOf : List (List ℕ) → Shelf → ℕ → Content → SweptAccount → Type 0
+abbrev pub IsSweptOf : Names → Shelf → ℕ → Content → SweptAccount → Type 0
 IsSweptOf names shelf t c x = AreSweptRows names shelf t (c.rows x.number) x.rows
 
 -- the account of this number
-pub record IsSweptAs (names : List (List ℕ)) (shelf : Shelf) (t : ℕ) (c : Content) (number : List ℕ)
+pub record IsSweptAs (names : Names) (shelf : Shelf) (t : ℕ) (c : Content) (number : List ℕ)
     (x : SweptAccount) : Type 0 where
   pub number_is : x.number ≡ number
   pub swept : IsSweptOf names shelf t c x
 
 -- what was read of it, where anything was
-pub record IsSweptOfRows (names : List (List ℕ)) (shelf : Shelf) (t : ℕ) (number : List ℕ)
+pub record IsSweptOfRows (names : Names) (shelf : Shelf) (t : ℕ) (number : List ℕ)
     (before : StoredRows) (x : SweptAccount) : Type 0 where
   pub number_is : x.number ≡ number
   pub kept : IsStored before
@@ -52,19 +52,19 @@ pub record IsSweptOfRows (names : List (List ℕ)) (shelf : Shelf) (t : ℕ) (nu
   pub stored : IsStored x.rows
   pub may : AreWritable names x.rows.sessions x.rows.groups
 
-abbrev pub IsSweptFrom : List (List ℕ) → Shelf → ℕ → List ℕ → Option StoredRows →
+abbrev pub IsSweptFrom : Names → Shelf → ℕ → List ℕ → Option StoredRows →
     SweptAccount → Type 0
 IsSweptFrom names shelf t number None x = ⊥
 IsSweptFrom names shelf t number (Some before) x = IsSweptOfRows names shelf t number before x
 
 -- the accounts of these numbers, in turn
-pub record AreSweptOf (names : List (List ℕ)) (shelf : Shelf) (t : ℕ) (c : Content)
+pub record AreSweptOf (names : Names) (shelf : Shelf) (t : ℕ) (c : Content)
     (numbers : List (List ℕ)) (xs : List SweptAccount) : Type 0 where
   pub numbers_are : map (λ (x : SweptAccount). x.number) xs ≡ numbers
   pub each : EachIn (IsSweptOf names shelf t c) xs
 
 -- all accounts, each once
-pub record AreAllSwept (names : List (List ℕ)) (shelf : Shelf) (t : ℕ) (c : Content)
+pub record AreAllSwept (names : Names) (shelf : Shelf) (t : ℕ) (c : Content)
     (xs : List SweptAccount)
     : Type 0 where
   pub all : AreAccounts c (map (λ (x : SweptAccount). x.number) xs)
@@ -73,23 +73,24 @@ pub record AreAllSwept (names : List (List ℕ)) (shelf : Shelf) (t : ℕ) (c : 
 -- ---- what is written
 
 -- the rows of each account as they become
-abbrev pub with_accounts : List (List ℕ) → List SweptAccount → Content → Content
+abbrev pub with_accounts : Names → List SweptAccount → Content → Content
 with_accounts names = with_each (λ x. with_stored x.number names x.rows)
 
 -- and the moment
-abbrev pub with_sweep : List (List ℕ) → List ℕ → ℕ → List SweptAccount → Content → Content
+abbrev pub with_sweep : Names → List ℕ → ℕ → List SweptAccount → Content → Content
 with_sweep names text t xs c = with_accounts names xs (with_meta (meta_at text t) c)
 
 -- ---- what becomes of the tables
 
 -- each account is brought to the moment; the tables would be found again: the catalog is the same,
--- and so are the version and the text of the book, no rowid stands twice, and the moment is in the
--- range of moments
-pub record BecomesSwept (names : List (List ℕ)) (text : List ℕ) (shelf : Shelf) (t : ℕ)
+-- and so are the version and the books, no rowid stands twice, and the moment is in the range of
+-- moments
+pub record BecomesSwept (names : Names) (text : List ℕ) (shelf : Shelf) (t : ℕ)
     (old new : Trees)
     : Type 0 where
   pub tables : IsSwept shelf t (tables_of names (content_of old)) (tables_of names (content_of new))
   pub meta : (content_of new).meta ≡ Some (meta_at text t)
   pub last : t ≤ 4_102_488_000
+  pub books : (content_of new).books ≡ (content_of old).books
   pub catalog : new catalog_tree ≡ old catalog_tree
   pub stored : AreStored new

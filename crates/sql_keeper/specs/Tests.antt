@@ -13,27 +13,27 @@ use Rattle.reserving.specs.Sessions.{session_in}
 use Rattle.reserving.specs.Rows.{EachIn}
 use Rattle.reserving.specs.Left.{is_open_row}
 use Rattle.sql_rows.specs.declared.head.Head.{Head as HeadColumns}
+use Rattle.sql_keeper.specs.Content.{Names, names_numbered}
 use Rattle.sql_keeper.specs.Writes.{name_at}
 
 -- the name at the period's place is its own
 abbrev pub IsNamed : List (List ℕ) → Period → Type 0
 IsNamed names p = period_named names (name_at names p) ≡ Some p
 
--- a reservation stands in an open session, it is of the first book, its periods have names, and it
--- holds of each bucket once
-pub record IsWritable (names : List (List ℕ)) (sessions : List Session) (s : List ℕ)
+-- a reservation stands in an open session, its periods have names in its book, and it holds of each
+-- bucket once
+pub record IsWritable (names : Names) (sessions : List Session) (s : List ℕ)
     (r : Reservation) : Type 0 where
   pub live : is_open_row (session_in s sessions) ≡ true
-  pub book : r.terms.book ≡ 1
-  pub before : IsNamed names r.terms.periods.before
-  pub after : IsNamed names r.terms.periods.after
+  pub before : IsNamed (names_numbered names r.terms.book) r.terms.periods.before
+  pub after : IsNamed (names_numbered names r.terms.book) r.terms.periods.after
   pub holds : AreHolds r.holds
 
-abbrev pub MayStand : List (List ℕ) → List Session → List ℕ → Option Reservation → Type 0
+abbrev pub MayStand : Names → List Session → List ℕ → Option Reservation → Type 0
 MayStand names sessions s None = Unit {0}
 MayStand names sessions s (Some r) = IsWritable names sessions s r
 
-abbrev pub AreWritable : List (List ℕ) → List Session → List SessionGroup → Type 0
+abbrev pub AreWritable : Names → List Session → List SessionGroup → Type 0
 AreWritable names sessions groups =
     EachIn (λ r. MayStand names sessions r.session r.reservation) groups
 

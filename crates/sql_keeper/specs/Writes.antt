@@ -1,9 +1,13 @@
 -- What a change writes, one row after another.
 -- Source: profile.
-use Rattle.std.specs.Prelude.{◌≡◌, ℕ, List, [], Option, Some, None, unwrap_or, option_map}
-use Rattle.std.specs.Prelude.{slice_get, ◌&&◌, Bool, not, is_some}
+use Rattle.std.specs.Prelude.{◌≡◌, ◌==◌, ℕ, List, [], Option, Some, None, unwrap_or, if◌then◌else◌}
+use Rattle.std.specs.Prelude.{option_map, slice_get, ◌&&◌, Bool, not, is_some}
 use Rattle.calendar.specs.declared.week.Period.{Period}
+use Rattle.buckets.specs.Row.{Row}
+use Rattle.buckets.specs.declared.kind.BucketKind.{BucketKind}
+use Rattle.buckets.specs.declared.kind.BucketKind.TheVariants.{Money, Blocks}
 use Rattle.rating.specs.declared.grant.Periods.{Periods}
+use Rattle.reserving.specs.declared.charge.ChargeRow.{ChargeRow}
 use Rattle.reserving.specs.declared.session.Session.{Session}
 use Rattle.reserving.specs.declared.session.SessionGroup.{SessionGroup}
 use Rattle.reserving.specs.declared.session.Reservation.{Reservation}
@@ -18,15 +22,17 @@ use Rattle.keepers.specs.Differing.{equal_bucket, equal_counter, equal_session, 
 use Rattle.keepers.specs.Keys.{key_of}
 use Rattle.keepers.specs.declared.key.Key.TheVariants.{Request, Reference}
 use Rattle.redemptions.specs.declared.voucher.Voucher.{Voucher}
+use Rattle.sql_tables.specs.Schema.{latest}
 use Rattle.sql_rows.specs.declared.head.Head.{Head as HeadColumns}
 use Rattle.sql_rows.specs.Values.{Meta, Group, PeriodNames, Kept, Voucher as VoucherRow}
-use Rattle.sql_rows.specs.Values.{request_kind, reference_kind}
-use Rattle.sql_rows.specs.Content.{Content, with_rows, with_meta, with_account, with_group}
-use Rattle.sql_rows.specs.Content.{without_holds, with_answer, with_voucher}
-use Rattle.sql_rows.specs.Each.{with_each, with_buckets, with_counters, with_sessions, with_holds}
-use Rattle.sql_rows.specs.Each.{with_charges}
+use Rattle.sql_rows.specs.Values.{request_kind, reference_kind, plain_bucket, plain_charge}
+use Rattle.sql_rows.specs.Content.{Content, Rows, with_rows, with_meta, with_account, with_group}
+use Rattle.sql_rows.specs.Content.{without_holds, with_answer, with_voucher, with_bucket}
+use Rattle.sql_rows.specs.Content.{with_charge, with_grant_book, without_grant_book, with_allowance}
+use Rattle.sql_rows.specs.Content.{without_allowance, with_covered, without_covered}
+use Rattle.sql_rows.specs.Each.{with_each, with_counters, with_sessions, with_holds}
 use Rattle.sql_keeper.specs.declared.new_rows.NewRows.{NewRows}
-use Rattle.sql_keeper.specs.Content.{kept_in}
+use Rattle.sql_keeper.specs.Content.{kept_in, Names, names_numbered}
 
 -- ---- periods by their names
 
@@ -36,11 +42,18 @@ name_at names p = unwrap_or (slice_get names p.0) []
 abbrev pub names_at : List (List ℕ) → Periods → PeriodNames
 names_at names p = record { before = name_at names p.before; after = name_at names p.after }
 
-abbrev pub columns_of : List (List ℕ) → SessionGroup → Group
-columns_of names r = record {
-  used = r.used;
-  periods = option_map (λ (x : Reservation). names_at names x.terms.periods) r.reservation;
-}
+-- the names of the periods of a reservation, in its book
+abbrev pub names_held : Names → Reservation → PeriodNames
+names_held names x = names_at (names_numbered names x.terms.book) x.terms.periods
+
+abbrev pub columns_of : Names → SessionGroup → Group
+columns_of names r =
+    record { used = r.used; periods = option_map (names_held names) r.reservation }
+
+-- the book of a reservation, where there is one
+abbrev pub with_book_of : List ℕ → ℕ → Option Reservation → Rows → Rows
+with_book_of s g None = without_grant_book s g
+with_book_of s g (Some x) = with_grant_book s g x.terms.book
 
 abbrev pub head_of : StoredRows → HeadColumns
 head_of w = record {
@@ -50,20 +63,52 @@ head_of w = record {
   next_charge = w.next_charge;
 }
 
--- what a session has of a rating group, and in place of what was held there what its reservation
--- holds
-abbrev pub with_held_group : List ℕ → List (List ℕ) → SessionGroup → Content → Content
+-- what a session has of a rating group, with the book of its reservation, and in place of what was
+-- held there what its reservation holds
+abbrev pub with_held_group : List ℕ → Names → SessionGroup → Content → Content
 with_held_group a names r c =
     with_holds a r.session r.group (holds_in r.reservation)
     (with_rows a (without_holds r.session r.group)
-    (with_rows a (with_group r.session r.group (columns_of names r)) c))
+    (with_rows a (with_book_of r.session r.group r.reservation)
+    (with_rows a (with_group r.session r.group (columns_of names r)) c)))
 
-abbrev pub with_groups : List ℕ → List (List ℕ) → List SessionGroup → Content → Content
+abbrev pub with_groups : List ℕ → Names → List SessionGroup → Content → Content
 with_groups a names = with_each (with_held_group a names)
 
 abbrev pub with_texts : List ℕ → Key → Kept → Content → Content
 with_texts a (Request s n) k c = with_rows a (with_answer request_kind s n k) c
 with_texts a (Reference x) k c = with_rows a (with_answer reference_kind x 0 k) c
+
+-- ---- buckets and charges, with what stands beside them
+
+-- what a bucket counts
+abbrev pub with_kind : BucketKind → ℕ → Rows → Rows
+with_kind Money n = without_allowance n
+with_kind Blocks n = with_allowance n
+
+-- it stands beside a bucket of one rating group alone
+abbrev pub with_scoped : List ℕ → Option ℕ → BucketKind → ℕ → Content → Content
+with_scoped a None k n c = c
+with_scoped a (Some g) k n c = with_rows a (with_kind k n) c
+
+abbrev pub with_counted : List ℕ → Row → Content → Content
+with_counted a b c = with_scoped a b.scope b.kind b.number
+    (with_rows a (with_bucket (plain_bucket b)) c)
+
+abbrev pub with_all_counted : List ℕ → List Row → Content → Content
+with_all_counted a = with_each (with_counted a)
+
+-- the covered blocks of a charge, where there are any
+abbrev pub with_blocks : ℕ → ℕ → Rows → Rows
+with_blocks n m r =
+    if m == 0 then without_covered n r else with_covered (record { number = n; blocks = m }) r
+
+abbrev pub with_paid : List ℕ → ChargeRow → Content → Content
+with_paid a x c = with_rows a (with_blocks x.number x.covered.0)
+    (with_rows a (with_charge (plain_charge x)) c)
+
+abbrev pub with_all_paid : List ℕ → List ChargeRow → Content → Content
+with_all_paid a = with_each (with_paid a)
 
 -- ---- vouchers
 
@@ -84,10 +129,10 @@ with_redeemed (Some r) c = with_voucher r.code (row_of r.voucher) c
 -- ---- all of a change
 
 -- the rows of an account as they become
-abbrev pub with_stored : List ℕ → List (List ℕ) → StoredRows → Content → Content
+abbrev pub with_stored : List ℕ → Names → StoredRows → Content → Content
 with_stored a names w c =
     with_groups a names w.groups (with_sessions a w.sessions (with_counters a w.counters
-    (with_buckets a w.buckets (with_account a (head_of w) c))))
+    (with_all_counted a w.buckets (with_account a (head_of w) c))))
 
 -- what is kept of a command, as the texts that stand for it
 abbrev pub with_kept : List ℕ → Option KeptAnswer → Option Kept → Content → Content
@@ -100,10 +145,10 @@ AreTexts a None t = Unit {0}
 AreTexts a (Some k) None = ⊥
 AreTexts a (Some k) (Some t) = kept_in a t ≡ Some k
 
--- what is kept once: the first version of the tables, the text of the book, and the moment of the
+-- what is kept once: the version of the tables, the text of the book, and the moment of the
 -- last accepted command
 abbrev pub meta_at : List ℕ → ℕ → Meta
-meta_at text t = record { version = 1; book = text; last = t }
+meta_at text t = record { version = latest; book = text; last = t }
 
 abbrev pub meta_with : List ℕ → Change → Meta
 meta_with text change = meta_at text change.moment
@@ -139,8 +184,8 @@ with_new after new = record after {
 }
 
 -- all of a change
-abbrev pub with_change : List (List ℕ) → Meta → Change → Option Kept → Content → Content
+abbrev pub with_change : Names → Meta → Change → Option Kept → Content → Content
 with_change names m change texts c =
     with_redeemed change.redeemed (with_kept change.number change.kept texts
-    (with_charges change.number change.charges.items
+    (with_all_paid change.number change.charges.items
     (with_stored change.number names (new_rows change.before change.after) (with_meta m c))))

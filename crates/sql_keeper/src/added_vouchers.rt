@@ -17,7 +17,7 @@ use identifiers::VoucherCode;
 use keepers::StoreFault;
 use redemptions::VoucherTerms;
 use sql_rows::{put_meta, put_voucher};
-use sql_tables::ReadFault;
+use sql_tables::{LATEST, ReadFault};
 use sqlite::{Alter, Connection, Error, Transaction};
 use units::Moment;
 
@@ -34,7 +34,7 @@ fn put_addition<S: Alter>(
     ensures makes { Attempts (Makes (with_addition text.now code.now terms moment))
         (state S.Store tx.old.conn.now) (state S.Store tx.new.conn.now) result }
 {
-    put_meta(tx, 1, text, moment)?;
+    put_meta(tx, LATEST, text, moment)?;
     let code = code.as_str();
     put_voucher(tx, code, terms.amount(), terms.days(), terms.scope(), None)
 }

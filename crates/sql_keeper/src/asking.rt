@@ -19,7 +19,8 @@ use sqlite::{Alter, Connection};
 use std::alloc::Global;
 use units::Moment;
 
-fn last_of<S: Alter>(conn: &mut Connection<S>) -> Result<Moment, ReadFault>
+/// The moment of the last accepted command; the first moment where there was none.
+pub(crate) fn last_of<S: Alter>(conn: &mut Connection<S>) -> Result<Moment, ReadFault>
     requires idle { HasIdleBook (state S.Store conn.old) }
     ensures { Reads (λ trees t. t ≡ last_in (content_of trees).meta)
         (state S.Store conn.old) (state S.Store conn.new) result }

@@ -1,20 +1,23 @@
 //! The charges of an account, read a page at a time.
 
-ghost use Rattle.std.specs.Prelude.{◌≡◌, IfOk};
+ghost use Rattle.std.specs.Prelude.{◌≡◌, min, IfOk};
 ghost use Rattle.charge_sources.specs.Pages.{IsPage};
-ghost use Rattle.sql_keeper.specs.ChargePages.{end_of_page, last_number};
+ghost use Rattle.sql_keeper.specs.ChargePages.{AreTold, end_of_page, last_number};
 ghost use Rattle.sql_keeper.specs.Content.{charge_of};
 ghost use Rattle.sql_keeper.specs.LiveGroups.{Gathers};
 ghost use Rattle.sql_rows.specs.Content.{rows_in};
+ghost use Rattle.sql_rows.specs.Lists.{NumbersRise, is_within};
 ghost use Rattle.sql_tables.specs.Statements.{HasIdleBook, Reads};
 ghost use Rattle.sqlite.specs.Held.{state};
 
 use crate::faults::counted;
 use crate::keeper::SqlKeeper;
+use crate::paid_charges::cover_all;
 use charge_sources::{ChargePage, ChargePages, ChargeSource, ChargeVisitor, show_pages};
 use identifiers::AccountNumber;
 use keepers::StoreFault;
-use sql_rows::{Head, read_account, read_charges_within};
+use reserving::ChargeRow;
+use sql_rows::{Head, read_account, read_charges_within, read_covered_within};
 use sql_tables::ReadFault;
 use sqlite::{Alter, Connection};
 use std::alloc::Global;
@@ -41,6 +44,13 @@ fn end_of_page(after: u32) -> u32
     after.saturating_add(256)
 }
 
+/// The lesser of two numbers.
+fn lesser(one: u32, other: u32) -> u32
+    ensures { result ≡ min one other }
+{
+    one.min(other)
+}
+
 fn read_last_number<S: Alter>(
     conn: &mut Connection<S>,
     account: &AccountNumber,
@@ -51,6 +61,27 @@ fn read_last_number<S: Alter>(
 {
     let head = read_account(conn, account)?;
     last_number(&head)
+}
+
+/// The charges of an account beyond a number and up to another, in the order of their numbers, with
+/// the blocks that were covered.
+fn read_told_within<S: Alter>(
+    conn: &mut Connection<S>,
+    alloc: Global,
+    account: &AccountNumber,
+    after: u32,
+    last: u32,
+) -> Result<Vec<ChargeRow>, ReadFault>
+    requires idle { HasIdleBook (state S.Store conn.old) }
+    ensures reads { Gathers (λ trees rows.
+        AreTold (is_within after last) (rows_in trees account.now) rows.items)
+        (state S.Store conn.old) (state S.Store conn.new) result }
+    ensures order { IfOk result (λ rows. NumbersRise rows.items) }
+{
+    let mut rows = read_charges_within(conn, alloc, account, after, last)?;
+    let covered = read_covered_within(conn, alloc, account, after, last)?;
+    cover_all(&mut rows, &covered);
+    Ok(rows)
 }
 
 /// The charges of an account beyond this number, as many as a page has.
@@ -67,7 +98,8 @@ fn read_page<S: Alter>(
 {
     let number = read_last_number(conn, account)?;
     let last = end_of_page(after);
-    let rows = read_charges_within(conn, alloc, account, after, last.min(number))?;
+    let up_to = lesser(last, number);
+    let rows = read_told_within(conn, alloc, account, after, up_to)?;
     let is_last = number <= last;
     Ok(ChargePage {
         rows,

@@ -5,6 +5,7 @@ ghost use Rattle.keepers.specs.Change.{IsMadeFrom, changed};
 ghost use Rattle.keepers.specs.Keeping.{Keeps};
 ghost use Rattle.sql_rows.specs.Texts.{kept_of};
 ghost use Rattle.sql_tables.specs.Statements.{HasIdleBook};
+ghost use Rattle.sql_keeper.specs.Content.{shelf_names};
 ghost use Rattle.sql_keeper.specs.Commits.{Becomes, CommitsChange, Transacts};
 ghost use Rattle.sql_keeper.specs.Inside.{clean_in, failed_in, tables_in};
 ghost use Rattle.sql_keeper.specs.Stops.{IsWhole, trees_in};
@@ -18,16 +19,16 @@ use crate::putting::put_change;
 use crate::testing::may_be_written;
 use crate::texts::kept_texts;
 use keepers::{Change, StoreFault};
+use shelves::TariffShelf;
 use sql_rows::{Kept, read_account};
 use sql_tables::ReadFault;
 use sqlite::{Alter, Connection, Error};
 use std::alloc::Global;
-use tariffs::TariffBook;
 
 /// Writes a change in one transaction.
 fn write_change<S: Alter>(
     conn: &mut Connection<S>,
-    book: &TariffBook,
+    books: &TariffShelf,
     text: &str,
     change: &Change,
     new: &NewRows,
@@ -37,12 +38,12 @@ fn write_change<S: Alter>(
     requires idle { HasIdleBook (state S.Store conn.old) }
     requires new { with_new change.now.after new.now ≡ new_rows change.now.before change.now.after }
     ensures plain { conn.new.in_transaction ≡ false }
-    ensures transacts { Transacts (with_change book.now.periods (meta_with text.now change.now)
-        change.now (option_map kept_of texts.now))
+    ensures transacts { Transacts (with_change (shelf_names books.now)
+        (meta_with text.now change.now) change.now (option_map kept_of texts.now))
         (state S.Store conn.old) (state S.Store conn.new) result }
 {
     let mut tx = conn.transaction();
-    put_change(&mut tx, book, text, change, new, texts)?;
+    put_change(&mut tx, books, text, change, new, texts)?;
     tx.commit()
 }
 
@@ -52,14 +53,14 @@ fn write_change<S: Alter>(
 fn make_change<S: Alter>(
     conn: &mut Connection<S>,
     alloc: Global,
-    book: &TariffBook,
+    books: &TariffShelf,
     text: &str,
     change: &Change,
 ) -> Result<(), ReadFault>
     requires plain { conn.old.in_transaction ≡ false }
     requires idle { HasIdleBook (state S.Store conn.old) }
     ensures plain { conn.new.in_transaction ≡ false }
-    ensures commits { CommitsChange book.now.periods text.now change.now
+    ensures commits { CommitsChange (shelf_names books.now) text.now change.now
         (state S.Store conn.old) (state S.Store conn.new) result }
 {
     // For the prover alone: looking at the value makes known here what its type keeps.
@@ -67,12 +68,12 @@ fn make_change<S: Alter>(
     let _loaded = change.before.as_of();
     let _moment = change.moment.seconds();
     let head = read_account(conn, &change.number)?;
-    if !may_be_written(book, &head, change) {
+    if !may_be_written(books, &head, change) {
         return Err(ReadFault::Rules);
     }
     let texts = kept_texts(alloc, &change.number, &change.kept)?;
     let new = new_rows(alloc, &change.before, &change.after)?;
-    write_change(conn, book, text, change, &new, &texts)?;
+    write_change(conn, books, text, change, &new, &texts)?;
     Ok(())
 }
 
@@ -95,7 +96,7 @@ impl<S: Alter> SqlKeeper<S> {
             (Becomes self.old.names self.old.text change (trees_in S.Store self.old)) }
     {
         let text = self.text.as_str();
-        let made = make_change(&mut self.connection, self.alloc, &self.book, text, &change);
+        let made = make_change(&mut self.connection, self.alloc, &self.shelf, text, &change);
         counted(&mut self.failures, made)
     }
 }

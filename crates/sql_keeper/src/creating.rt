@@ -8,7 +8,7 @@ ghost use Rattle.sqlite.specs.Held.{state};
 ghost use Rattle.sqlite.specs.State.{HasCleanDisk};
 
 use sql_rows::put_meta;
-use sql_tables::create_each;
+use sql_tables::{LATEST, create_each};
 use sqlite::{Alter, Connection, Error, Transaction};
 use units::Moment;
 
@@ -20,7 +20,7 @@ fn put_book<S: Alter>(tx: &mut Transaction<'_, S>, text: &str) -> Result<(), Err
         (state S.Store tx.old.conn.now) (state S.Store tx.new.conn.now) result }
 {
     create_each(tx)?;
-    put_meta(tx, 1, text, Moment::first())?;
+    put_meta(tx, LATEST, text, Moment::first())?;
     Ok(())
 }
 

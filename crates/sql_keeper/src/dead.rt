@@ -3,9 +3,11 @@
 ghost use Rattle.keepers.specs.Change.{AreDeadOf};
 ghost use Rattle.keepers.specs.Keeping.{Reads as Finds};
 ghost use Rattle.sql_keeper.specs.Dead.{AreDead};
+ghost use Rattle.sql_keeper.specs.Content.{told_buckets};
 ghost use Rattle.sql_keeper.specs.Inside.{tables_in, failed_in, clean_in};
+ghost use Rattle.sql_keeper.specs.LiveGroups.{Gathers};
 ghost use Rattle.sql_rows.specs.Content.{rows_in};
-ghost use Rattle.sql_tables.specs.Statements.{HasIdleBook, Reads};
+ghost use Rattle.sql_tables.specs.Statements.{HasIdleBook};
 ghost use Rattle.sqlite.specs.Held.{state};
 
 use crate::faults::counted;
@@ -14,7 +16,7 @@ use crate::rebuilding::buckets_of;
 use buckets::Bucket;
 use identifiers::AccountNumber;
 use keepers::StoreFault;
-use sql_rows::read_buckets_dead;
+use sql_rows::{read_allowances, read_buckets_dead};
 use sql_tables::ReadFault;
 use sqlite::{Alter, Connection};
 use std::alloc::Global;
@@ -25,11 +27,13 @@ fn dead_of<S: Alter>(
     account: &AccountNumber,
 ) -> Result<Vec<Bucket>, ReadFault>
     requires idle { HasIdleBook (state S.Store conn.old) }
-    ensures { Reads (λ trees found. AreDead (rows_in trees account.now).buckets found.items)
+    ensures { Gathers
+        (λ trees found. AreDead (told_buckets (rows_in trees account.now)) found.items)
         (state S.Store conn.old) (state S.Store conn.new) result }
 {
     let rows = read_buckets_dead(conn, alloc, account)?;
-    buckets_of(alloc, &rows)
+    let allowances = read_allowances(conn, alloc, account)?;
+    buckets_of(alloc, &rows, &allowances)
 }
 
 impl<S: Alter> SqlKeeper<S> {

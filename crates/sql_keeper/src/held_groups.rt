@@ -6,20 +6,28 @@ ghost use Rattle.sql_tables.specs.Statements.{Attempts, HasBook, IsInside};
 ghost use Rattle.sql_rows.specs.Content.{with_group, with_rows};
 ghost use Rattle.sql_rows.specs.Each.{with_holds};
 ghost use Rattle.sql_rows.specs.Makes.{Makes, MakesIfOpen};
-ghost use Rattle.sql_keeper.specs.Writes.{columns_of, name_at, with_groups, with_held_group};
+ghost use Rattle.sql_keeper.specs.Content.{names_numbered, shelf_names};
+ghost use Rattle.sql_keeper.specs.Writes.{columns_of, name_at, with_book_of, with_groups};
+ghost use Rattle.sql_keeper.specs.Writes.{with_held_group};
 ghost use Rattle.sqlite.specs.Held.{state};
 
 use calendar::Period;
 use identifiers::AccountNumber;
-use reserving::SessionGroup;
-use sql_rows::{put_group_free, put_group_reserved, put_holds, remove_holds};
+use reserving::{SessionGroup, Terms};
+use shelves::TariffShelf;
+use sql_rows::{
+    put_grant_book, put_group_free, put_group_reserved, put_holds, remove_grant_book, remove_holds,
+};
 use sqlite::{Alter, Error, Transaction};
-use tariffs::TariffBook;
 
-/// The name of a period; the empty text for one that the book doesn't have.
-fn name_of(book: &TariffBook, period: Period) -> &str
-    ensures { result.now ≡ name_at book.now.periods period }
+/// The name of a period in the book of a number; the empty text for one that it doesn't have, or
+/// where there is no such book.
+fn name_of(books: &TariffShelf, number: u8, period: Period) -> &str
+    ensures { result.now ≡ name_at (names_numbered (shelf_names books.now) number) period }
 {
+    let Some(book) = books.book(number) else {
+        return "";
+    };
     match book.period_name(period) {
         Some(name) => name,
         None => "",
@@ -30,20 +38,21 @@ fn name_of(book: &TariffBook, period: Period) -> &str
 fn put_columns<S: Alter>(
     tx: &mut Transaction<'_, S>,
     account: &AccountNumber,
-    book: &TariffBook,
+    books: &TariffShelf,
     row: &SessionGroup,
 ) -> Result<usize, Error>
     requires book { HasBook (state S.Store tx.old.conn.now) }
     ensures same_reference { tx.new.conn.ghost_name ≡ tx.old.conn.ghost_name }
     ensures makes { Attempts (Makes (with_rows account.now
-        (with_group row.now.session row.now.group (columns_of book.now.periods row.now))))
+        (with_group row.now.session row.now.group (columns_of (shelf_names books.now) row.now))))
         (state S.Store tx.old.conn.now) (state S.Store tx.new.conn.now) result }
 {
     match &row.reservation {
         None => put_group_free(tx, account, &row.session, row.group, row.used),
         Some(reservation) => {
-            let before = name_of(book, reservation.terms.periods.before);
-            let after = name_of(book, reservation.terms.periods.after);
+            let Terms { book, periods } = reservation.terms;
+            let before = name_of(books, book, periods.before);
+            let after = name_of(books, book, periods.after);
             put_group_reserved(
                 tx,
                 account,
@@ -53,6 +62,28 @@ fn put_columns<S: Alter>(
                 before,
                 after,
             )
+        }
+    }
+}
+
+/// Puts the number of the book that a session's reservation in a rating group goes by; there is
+/// none where it has no reservation.
+fn put_number<S: Alter>(
+    tx: &mut Transaction<'_, S>,
+    account: &AccountNumber,
+    row: &SessionGroup,
+) -> Result<usize, Error>
+    requires book { HasBook (state S.Store tx.old.conn.now) }
+    ensures same_reference { tx.new.conn.ghost_name ≡ tx.old.conn.ghost_name }
+    ensures makes { Attempts (Makes (with_rows account.now
+        (with_book_of row.now.session row.now.group row.now.reservation)))
+        (state S.Store tx.old.conn.now) (state S.Store tx.new.conn.now) result }
+{
+    match &row.reservation {
+        None => remove_grant_book(tx, account, &row.session, row.group),
+        Some(reservation) => {
+            let number = u32::from(reservation.terms.book);
+            put_grant_book(tx, account, &row.session, row.group, number)
         }
     }
 }
@@ -79,20 +110,21 @@ fn put_held<S: Alter>(
     }
 }
 
-/// Puts what a session has of a rating group, and what its reservation holds in the place of what
-/// was held there.
+/// Puts what a session has of a rating group, the number of its reservation's book, and what its
+/// reservation holds in the place of what was held there.
 fn put_group<S: Alter>(
     tx: &mut Transaction<'_, S>,
     account: &AccountNumber,
-    book: &TariffBook,
+    books: &TariffShelf,
     row: &SessionGroup,
 ) -> Result<(), Error>
     requires book { HasBook (state S.Store tx.old.conn.now) }
     ensures same_reference { tx.new.conn.ghost_name ≡ tx.old.conn.ghost_name }
-    ensures makes { Attempts (Makes (with_held_group account.now book.now.periods row.now))
+    ensures makes { Attempts (Makes (with_held_group account.now (shelf_names books.now) row.now))
         (state S.Store tx.old.conn.now) (state S.Store tx.new.conn.now) result }
 {
-    put_columns(tx, account, book, row)?;
+    put_columns(tx, account, books, row)?;
+    put_number(tx, account, row)?;
     remove_holds(tx, account, &row.session, row.group)?;
     put_held(tx, account, row)
 }
@@ -101,17 +133,18 @@ fn put_group<S: Alter>(
 pub(crate) fn put_groups<S: Alter>(
     tx: &mut Transaction<'_, S>,
     account: &AccountNumber,
-    book: &TariffBook,
+    books: &TariffShelf,
     rows: &[SessionGroup],
 ) -> Result<(), Error>
     requires open { IsInside (state S.Store tx.old.conn.now) }
     requires book { HasBook (state S.Store tx.old.conn.now) }
     ensures same_reference { tx.new.conn.ghost_name ≡ tx.old.conn.ghost_name }
-    ensures makes { Attempts (MakesIfOpen (with_groups account.now book.now.periods rows.now))
+    ensures makes { Attempts
+        (MakesIfOpen (with_groups account.now (shelf_names books.now) rows.now))
         (state S.Store tx.old.conn.now) (state S.Store tx.new.conn.now) result }
 {
     'rows: for row in rows {
-        put_group(tx, account, book, row)?;
+        put_group(tx, account, books, row)?;
     }
     Ok(())
 }

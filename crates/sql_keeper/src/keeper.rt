@@ -3,10 +3,10 @@
 ghost use Rattle.std.specs.Prelude.{◌≡◌};
 ghost use Rattle.sql_keeper.specs.Inside.{failed_in};
 
+use shelves::TariffShelf;
 use sqlite::{Alter, Connection};
 use std::alloc::Global;
 use std::marker::Model;
-use tariffs::TariffBook;
 
 /// A keeper over a database. Between calls no transaction is open, so what it holds is what was
 /// committed last.
@@ -15,7 +15,7 @@ use tariffs::TariffBook;
 /// clean as long as the connection is open still. Nothing but a failure of the disk shuts it.
 pub struct SqlKeeper<S: Alter> {
     pub(crate) connection: Connection<S>,
-    pub(crate) book: TariffBook,
+    pub(crate) shelf: TariffShelf,
     pub(crate) text: String,
     pub(crate) failures: u64,
     pub(crate) alloc: Global,
@@ -23,6 +23,7 @@ pub struct SqlKeeper<S: Alter> {
 
 impl<S: Alter> Model for SqlKeeper<S> {
     ghost use Rattle.std.specs.String.{string_bytes};
+    ghost use Rattle.sql_keeper.specs.Content.{shelf_names};
     ghost use Rattle.sql_keeper.specs.Inside.{KeeperState, keeper_code, IsKeeper};
 
     ghost Value = { KeeperState S };
@@ -31,14 +32,14 @@ impl<S: Alter> Model for SqlKeeper<S> {
 
     ghost view = { λ k. record {
       connection = k.connection;
-      names = k.book.periods;
+      names = shelf_names k.shelf;
       text = string_bytes k.text;
       failures = k.failures;
     } };
 
     ghost invariant = { λ k. IsKeeper S.Store (record {
       connection = k.connection;
-      names = k.book.periods;
+      names = shelf_names k.shelf;
       text = string_bytes k.text;
       failures = k.failures;
     }) };
@@ -49,7 +50,7 @@ impl<S: Alter + Drop> Drop for SqlKeeper<S> {
     fn drop(self) {
         let SqlKeeper {
             connection: _,
-            book: _,
+            shelf: _,
             text: _,
             failures: _,
             alloc: _,
@@ -72,7 +73,7 @@ impl<S: Alter> SqlKeeper<S> {
     {
         let SqlKeeper {
             connection,
-            book: _,
+            shelf: _,
             text: _,
             failures: _,
             alloc: _,

@@ -1,7 +1,7 @@
 ghost use Rattle.std.specs.Prelude.{ℕ, List};
 ghost use Rattle.sqlite.specs.Held.{Held};
 ghost use Rattle.sql_opening.specs.declared.fault.OpenFault.{OpenFault};
-ghost use Rattle.sql_keeper.specs.Again.{AreLeftAgain, IsFoundAgain};
+ghost use Rattle.sql_keeper.specs.Again.{AreLeftAgain, AreShelvesOne, IsFoundAgain};
 ghost use Rattle.sql_keeper.specs.Laws.{AreChangesRead, AreNewTablesEmpty, AreSweepsRead};
 ghost use Rattle.sql_keeper.specs.LiveGroups.{AreOpenGroupsLoaded};
 ghost use Rattle.sql_keeper.specs.LiveRows.{AreLiveRowsLoaded};
@@ -41,6 +41,12 @@ pub fn live_rows_are_loaded()
 #[tactic(auto, using(crate::proofs::Again::left_again))]
 pub fn tables_are_left_again()
     ensures { AreLeftAgain }
+{}
+
+/// The rows of a database are those of one shelf at most, so that an open finds the shelf that was
+/// answered before.
+pub fn shelves_are_one()
+    ensures { AreShelvesOne }
 {}
 
 /// Where the connection shows what was left, none of the faults 1 to 3 is told.

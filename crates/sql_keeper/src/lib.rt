@@ -2,11 +2,14 @@
 //! change before it is written.
 #![tactic(auto)]
 
+mod add_fault;
 mod added_vouchers;
+mod adding_books;
 mod asking;
 mod books;
 mod charge_pages;
 mod committing;
+mod counted_buckets;
 mod create_fault;
 mod creating;
 mod dead;
@@ -20,8 +23,10 @@ mod laws;
 mod live_groups;
 mod live_rows;
 mod loading;
+mod migrating;
 mod new_rows;
 mod opening;
+mod paid_charges;
 mod putting;
 mod rebuilding;
 mod rebuilding_groups;
@@ -31,12 +36,13 @@ mod testing;
 mod texts;
 mod voucher_puts;
 
+pub use crate::add_fault::AddFault;
 pub use crate::create_fault::CreateFault;
 pub use crate::faults::counted;
 pub use crate::keeper::SqlKeeper;
 pub use crate::laws::{
     changes_are_read, left_tables_are_found, live_rows_are_loaded, new_tables_are_empty,
-    open_groups_are_loaded, sweeps_are_read, tables_are_left_again,
+    open_groups_are_loaded, shelves_are_one, sweeps_are_read, tables_are_left_again,
 };
 pub use crate::testing::may_be_written;
 pub use crate::texts::kept_texts;

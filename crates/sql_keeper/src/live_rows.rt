@@ -1,28 +1,26 @@
 //! What may still change of an account, read from the tables.
 
-ghost use Rattle.std.specs.Prelude.{◌≡◌, ℕ, List, ◌++◌, map, filter, IfOk};
+ghost use Rattle.std.specs.Prelude.{◌≡◌, ℕ, ◌++◌, filter, IfOk};
 ghost use Rattle.calendar.specs.contracts.cycle.CyclePartialEq.TheImpl.{ghosts as cycles};
+ghost use Rattle.sql_keeper.specs.Content.{Names, shelf_names};
 ghost use Rattle.sql_keeper.specs.LiveGroups.{Gathers};
 ghost use Rattle.sql_keeper.specs.Repeating.{AreEachRepeating, AreRepeating, repeats_in};
 ghost use Rattle.sql_keeper.specs.LiveRows.{account_with, AreCountersAt, AreLiveBuckets};
 ghost use Rattle.sql_keeper.specs.LiveRows.{AreLiveRows, IsReadAccount, IsLiveAccount};
 ghost use Rattle.reserving.specs.Restored.{in_key_order, FindsSame};
 ghost use Rattle.sql_rows.specs.Content.{Rows as Stored, rows_in};
-ghost use Rattle.sql_rows.specs.Texts.{bucket_row};
 ghost use Rattle.sql_tables.specs.Statements.{HasIdleBook, Reads};
 ghost use Rattle.sqlite.specs.Held.{state};
 ghost use Rattle.shelves.specs.Shelves.{Shelf};
 
+use crate::counted_buckets::read_counted;
 use crate::live_groups::read_live_groups;
-use crate::rebuilding::buckets_of;
-use buckets::Purse;
+use buckets::{Bucket, Purse};
 use calendar::Cycle;
 use identifiers::AccountNumber;
 use reserving::{Counter, GivenRows, Session, SessionGroup, StoredAccount};
 use shelves::TariffShelf;
-use sql_rows::{
-    BucketColumns, Head, read_account, read_buckets_live, read_counters_in, read_sessions_open,
-};
+use sql_rows::{Head, read_account, read_buckets_live, read_counters_in, read_sessions_open};
 use sql_tables::ReadFault;
 use sqlite::{Alter, Connection};
 use std::alloc::Global;
@@ -51,30 +49,30 @@ pub(crate) struct ReadRows {
     pub counters: Vec<Counter>,
 }
 
-/// The purse of these rows. They are out of the rules where they don't stand in the order of their
-/// use.
-fn purse_of(alloc: Global, rows: &[BucketColumns]) -> Result<Purse, ReadFault>
-    ensures { IfOk result (λ purse. purse ≡ map bucket_row rows.now) }
+/// The purse of these buckets. They are out of the rules where they don't stand in the order of
+/// their use.
+fn purse_of(alloc: Global, buckets: Vec<Bucket>) -> Result<Purse, ReadFault>
+    ensures { IfOk result (λ purse. purse ≡ buckets.items) }
 {
-    let buckets = buckets_of(alloc, rows)?;
     match Purse::from_buckets(alloc, buckets) {
         Some(purse) => Ok(purse),
         None => Err(ReadFault::Rules),
     }
 }
 
-/// The buckets of an account that aren't dead.
+/// The buckets of an account that aren't dead, with what they count.
 fn read_purse<S: Alter>(
     conn: &mut Connection<S>,
     alloc: Global,
     account: &AccountNumber,
 ) -> Result<Purse, ReadFault>
     requires idle { HasIdleBook (state S.Store conn.old) }
-    ensures { Reads (λ trees purse. AreLiveBuckets (rows_in trees account.now) purse)
+    ensures { Gathers (λ trees purse. AreLiveBuckets (rows_in trees account.now) purse)
         (state S.Store conn.old) (state S.Store conn.new) result }
 {
     let rows = read_buckets_live(conn, alloc, account)?;
-    purse_of(alloc, &rows)
+    let buckets = read_counted(conn, alloc, account, &rows)?;
+    purse_of(alloc, buckets)
 }
 
 /// How often the counter of a rating group begins again: never for a group that the book doesn't
@@ -190,10 +188,10 @@ fn read_live_rows<S: Alter>(
     conn: &mut Connection<S>,
     alloc: Global,
     account: &AccountNumber,
-    names: &TariffBook,
+    names: &TariffShelf,
 ) -> Result<LiveRows, ReadFault>
     requires idle { HasIdleBook (state S.Store conn.old) }
-    ensures { Gathers (λ trees x. AreLiveRows names.now.periods (rows_in trees account.now)
+    ensures { Gathers (λ trees x. AreLiveRows (shelf_names names.now) (rows_in trees account.now)
         x.purse x.sessions.items x.groups.items)
         (state S.Store conn.old) (state S.Store conn.new) result }
 {
@@ -212,12 +210,12 @@ fn read_rows_at<S: Alter>(
     conn: &mut Connection<S>,
     alloc: Global,
     account: &AccountNumber,
-    names: &TariffBook,
+    names: &TariffShelf,
     shelf: &TariffShelf,
     moment: Moment,
 ) -> Result<Option<ReadRows>, ReadFault>
     requires idle { HasIdleBook (state S.Store conn.old) }
-    ensures { Gathers (λ trees o. IsReadAccount names.now.periods shelf.now moment
+    ensures { Gathers (λ trees o. IsReadAccount (shelf_names names.now) shelf.now moment
         (rows_in trees account.now) o)
         (state S.Store conn.old) (state S.Store conn.new) result }
 {
@@ -265,7 +263,7 @@ fn live_account_of(
     alloc: Global,
     read: Option<ReadRows>,
 ) -> Result<Option<StoredAccount>, ReadFault>
-    ensures { (names : List (List ℕ)) (shelf : Shelf) (t : ℕ) (rows : Stored) →
+    ensures { (names : Names) (shelf : Shelf) (t : ℕ) (rows : Stored) →
         IsReadAccount names shelf t rows read → IfOk result (IsLiveAccount names shelf t rows) }
 {
     let Some(read) = read else {
@@ -290,12 +288,12 @@ pub(crate) fn read_live_account<S: Alter>(
     conn: &mut Connection<S>,
     alloc: Global,
     account: &AccountNumber,
-    names: &TariffBook,
+    names: &TariffShelf,
     shelf: &TariffShelf,
     moment: Moment,
 ) -> Result<Option<StoredAccount>, ReadFault>
     requires idle { HasIdleBook (state S.Store conn.old) }
-    ensures { Gathers (λ trees o. IsLiveAccount names.now.periods shelf.now moment
+    ensures { Gathers (λ trees o. IsLiveAccount (shelf_names names.now) shelf.now moment
         (rows_in trees account.now) o)
         (state S.Store conn.old) (state S.Store conn.new) result }
 {

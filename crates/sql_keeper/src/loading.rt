@@ -4,7 +4,7 @@ ghost use Rattle.std.specs.Prelude.{◌≡◌, IfOk};
 ghost use Rattle.keepers.specs.Change.{IsLoad, IsView};
 ghost use Rattle.keepers.specs.Keeping.{Reads as Finds};
 ghost use Rattle.reserving.specs.Stored.{priced};
-ghost use Rattle.sql_keeper.specs.Content.{rows_of};
+ghost use Rattle.sql_keeper.specs.Content.{rows_of, shelf_names};
 ghost use Rattle.sql_keeper.specs.Inside.{tables_in, failed_in, clean_in};
 ghost use Rattle.sql_keeper.specs.LiveGroups.{Gathers};
 ghost use Rattle.sql_keeper.specs.LiveRows.{IsAccountOf, IsLoadOf};
@@ -22,7 +22,6 @@ use shelves::TariffShelf;
 use sql_tables::ReadFault;
 use sqlite::{Alter, Connection};
 use std::alloc::Global;
-use tariffs::TariffBook;
 use units::Moment;
 
 /// A copy of the rows as an account that the shelf prices. A reservation that has no prices there
@@ -80,14 +79,14 @@ fn account_of<'b>(
 fn load_of<'b, S: Alter>(
     conn: &mut Connection<S>,
     alloc: Global,
-    names: &TariffBook,
+    names: &TariffShelf,
     shelf: &'b TariffShelf,
     account: &AccountNumber,
     moment: Moment,
 ) -> Result<Option<Loaded<'b>>, ReadFault>
     requires idle { HasIdleBook (state S.Store conn.old) }
     ensures { Gathers (λ trees found. IsLoad shelf.now moment account.now
-        (rows_of names.now.periods (rows_in trees account.now)) found)
+        (rows_of (shelf_names names.now) (rows_in trees account.now)) found)
         (state S.Store conn.old) (state S.Store conn.new) result }
 {
     let rows = read_live_account(conn, alloc, account, names, shelf, moment)?;
@@ -114,7 +113,7 @@ impl<S: Alter> SqlKeeper<S> {
         let read = load_of(
             &mut self.connection,
             self.alloc,
-            &self.book,
+            &self.shelf,
             shelf,
             account,
             moment,

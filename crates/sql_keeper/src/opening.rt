@@ -1,47 +1,50 @@
 //! A keeper over a database: of one that is made for it, or of one that was.
 
-ghost use Rattle.std.specs.Prelude.{◌≡◌, ◌≤◌, ◌⊎◌, false, Some, IfErr, IfOk, OnOk};
+ghost use Rattle.std.specs.Prelude.{◌≡◌, ◌≤◌, ◌⊎◌, false, map, Some, IfErr, IfOk, OnOk};
 ghost use Rattle.std.specs.String.{string_bytes};
-ghost use Rattle.shelves.specs.Shelves.{one_book};
 ghost use Rattle.sql_opening.specs.Opens.{IsNoVersion};
-ghost use Rattle.sql_opening.specs.declared.fault.OpenFault.TheVariants.{Foreign, Rules, Version};
+ghost use Rattle.sql_opening.specs.declared.fault.OpenFault.TheVariants.{Foreign, Rules};
+ghost use Rattle.sql_opening.specs.declared.fault.OpenFault.TheVariants.{Version};
 ghost use Rattle.sql_rows.specs.Content.{content_of};
-ghost use Rattle.sql_rows.specs.Texts.{meta_of};
+ghost use Rattle.sql_rows.specs.Lists.{AreBooks};
+ghost use Rattle.sql_rows.specs.Ruled.{AreRuledBooks};
+ghost use Rattle.sql_rows.specs.Texts.{book_at, meta_of};
+ghost use Rattle.sql_tables.specs.Schema.{latest};
 ghost use Rattle.sql_tables.specs.Statements.{HasIdleBook, Reads};
 ghost use Rattle.sql_tables.specs.Texts.{stage};
-ghost use Rattle.sql_keeper.specs.Books.{IsBookOf, IsBookText};
+ghost use Rattle.sql_keeper.specs.Books.{IsBookText};
+ghost use Rattle.sql_keeper.specs.Content.{shelf_names};
 ghost use Rattle.sql_keeper.specs.Creates.{CreatesBook};
 ghost use Rattle.sql_keeper.specs.Faults.{IsCreateFault};
-ghost use Rattle.sql_keeper.specs.Finds.{FindsBook, FindsMeta, IsUnruledAt};
+ghost use Rattle.sql_keeper.specs.Finds.{FindsBooks, IsUnruledAt, ReadsBooks};
 ghost use Rattle.sql_keeper.specs.Inside.{StaysOpen};
 ghost use Rattle.sql_keeper.specs.Opened.{IsCreated, IsNotCreated, IsNotOpened, IsOpened};
 ghost use Rattle.sqlite.specs.Held.{state};
 ghost use Rattle.sqlite.specs.State.{HasCleanDisk, IsLive};
 
-use crate::books::{ReadBook, read_book};
+use crate::books::{ReadBooks, read_book, read_shelves};
 use crate::create_fault::CreateFault;
 use crate::creating::create_book;
 use crate::keeper::SqlKeeper;
 use shelves::TariffShelf;
 use sql_opening::{OpenFault, find_tables};
-use sql_rows::{Meta, read_meta};
-use sql_tables::{ReadFault, has_ours, is_blank};
+use sql_rows::{BookColumns, Meta, read_books, read_meta};
+use sql_tables::{LATEST, ReadFault, has_ours, is_blank};
 use sqlite::{Alter, Connection, Error, ErrorCode};
 use std::alloc::Global;
-use tariffs::BookFault;
 
 /// A keeper before its first call, and the shelf that it goes by.
-fn keeper_of<S: Alter>(
+pub(crate) fn keeper_of<S: Alter>(
     alloc: Global,
     connection: Connection<S>,
-    read: ReadBook,
+    read: ReadBooks,
 ) -> (SqlKeeper<S>, TariffShelf)
     requires plain { connection.in_transaction ≡ false }
     requires idle { HasIdleBook (state S.Store connection) }
     requires stays { StaysOpen (state S.Store connection) }
     ensures connection { result.0.connection ≡ connection }
     ensures shelf { result.1 ≡ read.given }
-    ensures names { result.0.names ≡ read.own.periods }
+    ensures names { result.0.names ≡ shelf_names read.own }
     ensures text { result.0.text ≡ string_bytes read.text }
     ensures uncounted { result.0.failures ≡ 0 }
     ensures live { IsLive (state S.Store connection) }
@@ -50,7 +53,7 @@ fn keeper_of<S: Alter>(
     let _listed = connection.schema();
     let keeper = SqlKeeper {
         connection,
-        book: read.own,
+        shelf: read.own,
         text: read.text,
         failures: 0,
         alloc,
@@ -89,6 +92,29 @@ fn make_tables<S: Alter>(conn: &mut Connection<S>, text: &str) -> Result<(), Cre
     }
 }
 
+/// The fault of an error of the store.
+pub(crate) fn open_fault(error: Error) -> OpenFault
+    ensures { (result ≡ OpenFault.Store) ⊎ (result ≡ OpenFault.Memory) }
+{
+    match error {
+        Error::SqliteFailure(ErrorCode::OutOfMemory) => OpenFault::Memory,
+        _ => OpenFault::Store,
+    }
+}
+
+/// The fault of rows that weren't read.
+pub(crate) fn read_fault(fault: ReadFault) -> OpenFault
+    ensures told { IsNoVersion result }
+    ensures ours { ¬ (result ≡ Foreign) }
+    ensures rules { result ≡ Rules → fault ≡ ReadFault.Rules }
+{
+    match fault {
+        ReadFault::Rules => OpenFault::Rules,
+        ReadFault::Memory => OpenFault::Memory,
+        ReadFault::Store(error) => open_fault(error),
+    }
+}
+
 /// What is kept once.
 fn find_meta<S: Alter>(conn: &mut Connection<S>) -> Result<Meta, OpenFault>
     requires idle { HasIdleBook (state S.Store conn.old) }
@@ -102,64 +128,67 @@ fn find_meta<S: Alter>(conn: &mut Connection<S>) -> Result<Meta, OpenFault>
     match read_meta(conn) {
         Ok(Some(meta)) => Ok(meta),
         Ok(None) => Err(OpenFault::Rules),
-        Err(ReadFault::Rules) => Err(OpenFault::Rules),
-        Err(ReadFault::Memory) => Err(OpenFault::Memory),
-        Err(ReadFault::Store(Error::SqliteFailure(ErrorCode::OutOfMemory))) => {
-            Err(OpenFault::Memory)
-        }
-        Err(ReadFault::Store(_)) => Err(OpenFault::Store),
+        Err(fault) => Err(read_fault(fault)),
     }
 }
 
-/// What is kept once in a database of this system.
-fn meta_in<S: Alter>(alloc: Global, conn: &mut Connection<S>) -> Result<Meta, OpenFault>
-    ensures plain { OnOk result (conn.new.in_transaction ≡ false) }
-    ensures finds { FindsMeta (state S.Store conn.old) (state S.Store conn.new) result }
-{
-    find_tables(conn, alloc)?;
-    find_meta(conn)
-}
-
-/// The fault of a text that is no book.
-fn book_fault(fault: BookFault) -> OpenFault
-    ensures told { ¬ (result ≡ Version) × ¬ (result ≡ Foreign) }
-    ensures rules { result ≡ Rules → ¬ (fault ≡ BookFault.Memory) }
-{
-    match fault {
-        BookFault::Memory => OpenFault::Memory,
-        _ => OpenFault::Rules,
-    }
-}
-
-/// The book of what is kept once.
-fn find_book(alloc: Global, meta: &Meta) -> Result<ReadBook, OpenFault>
-    ensures version { OnOk result (meta.now.version ≡ 1) }
-    ensures read { IfOk result (λ r. IsBookOf (string_bytes r.text) r.own) }
-    ensures given { IfOk result (λ r. r.given ≡ one_book r.own) }
-    ensures text { IfOk result (λ r. string_bytes r.text ≡ string_bytes meta.now.book) }
-    ensures told { IfErr result (λ fault. fault ≡ Version → ¬ (meta.now.version ≡ 1)) }
+/// The books after the first.
+fn find_books<S: Alter>(
+    conn: &mut Connection<S>,
+    alloc: Global,
+) -> Result<Vec<BookColumns>, OpenFault>
+    requires idle { HasIdleBook (state S.Store conn.old) }
+    ensures reads { Reads (λ trees xs. AreBooks (content_of trees) (map book_at xs.items))
+        (state S.Store conn.old) (state S.Store conn.new) result }
+    ensures told { IfErr result IsNoVersion }
     ensures ours { IfErr result (λ fault. ¬ (fault ≡ Foreign)) }
+    ensures rules { HasCleanDisk (state S.Store conn.new) → IfErr result (λ fault. fault ≡ Rules →
+        ¬ AreRuledBooks (content_of (state S.Store conn.old).now.trees).books) }
+{
+    match read_books(conn, alloc) {
+        Ok(books) => Ok(books),
+        Err(fault) => Err(read_fault(fault)),
+    }
+}
+
+/// The version is that of the tables, and the moment in the range of moments.
+fn is_of_latest(meta: &Meta) -> Result<(), OpenFault>
+    ensures version { OnOk result (meta.now.version ≡ latest) }
+    ensures told { IfErr result (λ fault. (fault ≡ Version) × (¬ (meta.now.version ≡ latest))) }
     ensures last { meta.now.last ≤ 4_102_488_000 }
-    ensures rules { IfErr result (λ fault. fault ≡ Rules →
-        (meta.now.version ≡ 1) × ¬ IsBookText (string_bytes meta.now.book)) }
 {
     let _moment = meta.last.seconds();
-    if meta.version != 1 {
+    if meta.version != LATEST {
         return Err(OpenFault::Version);
     }
-    match read_book(alloc, meta.book.as_str()) {
-        Ok(read) => Ok(read),
-        Err(fault) => Err(book_fault(fault)),
-    }
+    Ok(())
 }
 
-/// The book of a database of this system.
-fn book_in<S: Alter>(alloc: Global, conn: &mut Connection<S>) -> Result<ReadBook, OpenFault>
-    ensures plain { OnOk result (conn.new.in_transaction ≡ false) }
-    ensures finds { FindsBook (state S.Store conn.old) (state S.Store conn.new) result }
+/// The shelf of a database whose tables are those of the latest version.
+pub(crate) fn latest_books<S: Alter>(
+    alloc: Global,
+    conn: &mut Connection<S>,
+) -> Result<ReadBooks, OpenFault>
+    requires idle { HasIdleBook (state S.Store conn.old) }
+    ensures mode { conn.old.in_transaction ≡ false → conn.new.in_transaction ≡ false }
+    ensures reads { ReadsBooks (state S.Store conn.old) (state S.Store conn.new) result }
 {
-    let meta = meta_in(alloc, conn)?;
-    find_book(alloc, &meta)
+    let meta = find_meta(conn)?;
+    is_of_latest(&meta)?;
+    let rows = find_books(conn, alloc)?;
+    read_shelves(alloc, meta.book.as_str(), &rows)
+}
+
+/// The shelf of a database of this system.
+fn books_in<S: Alter>(alloc: Global, conn: &mut Connection<S>) -> Result<ReadBooks, OpenFault>
+    ensures plain { OnOk result (conn.new.in_transaction ≡ false) }
+    ensures finds { FindsBooks (state S.Store conn.old) (state S.Store conn.new) result }
+{
+    let version = find_tables(conn, alloc)?;
+    if version != LATEST {
+        return Err(OpenFault::Older);
+    }
+    latest_books(alloc, conn)
 }
 
 impl<S: Alter> SqlKeeper<S> {
@@ -191,14 +220,16 @@ impl<S: Alter> SqlKeeper<S> {
         }
     }
 
-    /// Opens the database of a book, and answers its keeper, and the shelf of this one book apart.
-    /// It writes nothing.
+    /// Opens the database of books, and answers its keeper, and the shelf of these books apart. It
+    /// writes nothing.
     ///
     /// # Errors
-    /// The connection is given back. `Foreign`, the tables aren't exactly those of this system, and
-    /// only then; `Version`, the version of its tables isn't 1, and only then; `Rules`, a rowid
-    /// stands twice, or what is kept once isn't there, is out of its rules or has no text of a
-    /// book, and only then; `Store`, also where a transaction is open; `Memory`.
+    /// The connection is given back. `Foreign`, the tables aren't exactly those of a version of
+    /// this system, and only then; `Older`, they are those of a version before the latest, and only
+    /// then; `Version`, another version than the latest is kept, and only then; `Rules`, a rowid
+    /// stands twice, or what is kept once isn't there or is out of its rules, or the texts that are
+    /// kept aren't those of a shelf, and only then; `Store`, also where a transaction is open;
+    /// `Memory`.
     pub fn open(
         alloc: Global,
         mut connection: Connection<S>,
@@ -206,7 +237,7 @@ impl<S: Alter> SqlKeeper<S> {
         ensures opened { IfOk result (λ made. IsOpened S.Store connection made.0 made.1) }
         ensures refused { IfErr result (λ left. IsNotOpened S.Store connection left.1 left.0) }
     {
-        match book_in(alloc, &mut connection) {
+        match books_in(alloc, &mut connection) {
             Ok(read) => Ok(keeper_of(alloc, connection, read)),
             Err(fault) => Err((fault, connection)),
         }

@@ -6,24 +6,28 @@ ghost use Rattle.sql_tables.specs.Statements.{Attempts, HasBook, IsInside};
 ghost use Rattle.sql_rows.specs.Content.{with_account};
 ghost use Rattle.sql_rows.specs.Makes.{Makes, MakesIfOpen};
 ghost use Rattle.sql_rows.specs.Texts.{kept_of};
+ghost use Rattle.sql_keeper.specs.Content.{shelf_names};
 ghost use Rattle.sql_keeper.specs.Commits.{with_money};
 ghost use Rattle.sql_keeper.specs.Writes.{head_of, meta_with, with_change, with_kept, with_stored};
 ghost use Rattle.sql_keeper.specs.Writes.{new_rows, with_new, with_texts};
 ghost use Rattle.sqlite.specs.Held.{state};
 
+use crate::counted_buckets::put_counted;
 use crate::held_groups::put_groups;
 use crate::new_rows::NewRows;
+use crate::paid_charges::put_paid;
 use crate::voucher_puts::put_redeemed;
 use commands::Content;
 use identifiers::AccountNumber;
 use keepers::{Change, KeptAnswer};
 use reserving::StoredAccount;
+use shelves::TariffShelf;
 use sql_rows::{
-    Head, Kept, put_account, put_answer_reference, put_answer_request, put_buckets, put_charges,
-    put_counters, put_meta, put_sessions,
+    Head, Kept, put_account, put_answer_reference, put_answer_request, put_counters, put_meta,
+    put_sessions,
 };
+use sql_tables::LATEST;
 use sqlite::{Alter, Error, Transaction};
-use tariffs::TariffBook;
 
 /// What is kept of an account once.
 fn head_of(rows: &StoredAccount) -> Head
@@ -50,7 +54,7 @@ fn put_money<S: Alter>(
 {
     let head = head_of(rows);
     put_account(tx, account, &head)?;
-    put_buckets(tx, account, rows.purse().buckets())?;
+    put_counted(tx, account, rows.purse().buckets())?;
     put_counters(tx, account, rows.counters())
 }
 
@@ -68,7 +72,7 @@ fn put_new_money<S: Alter>(
 {
     let head = head_of(rows);
     put_account(tx, account, &head)?;
-    put_buckets(tx, account, &new.buckets)?;
+    put_counted(tx, account, &new.buckets)?;
     put_counters(tx, account, &new.counters)
 }
 
@@ -76,36 +80,36 @@ fn put_new_money<S: Alter>(
 fn put_new<S: Alter>(
     tx: &mut Transaction<'_, S>,
     account: &AccountNumber,
-    book: &TariffBook,
+    books: &TariffShelf,
     rows: &StoredAccount,
     new: &NewRows,
 ) -> Result<(), Error>
     requires book { HasBook (state S.Store tx.old.conn.now) }
     ensures same_reference { tx.new.conn.ghost_name ≡ tx.old.conn.ghost_name }
     ensures makes { Attempts
-        (Makes (with_stored account.now book.now.periods (with_new rows.now new.now)))
+        (Makes (with_stored account.now (shelf_names books.now) (with_new rows.now new.now)))
         (state S.Store tx.old.conn.now) (state S.Store tx.new.conn.now) result }
 {
     put_new_money(tx, account, rows, new)?;
     put_sessions(tx, account, &new.sessions)?;
-    put_groups(tx, account, book, &new.groups)
+    put_groups(tx, account, books, &new.groups)
 }
 
 /// Puts the rows of an account.
 pub(crate) fn put_stored<S: Alter>(
     tx: &mut Transaction<'_, S>,
     account: &AccountNumber,
-    book: &TariffBook,
+    books: &TariffShelf,
     rows: &StoredAccount,
 ) -> Result<(), Error>
     requires book { HasBook (state S.Store tx.old.conn.now) }
     ensures same_reference { tx.new.conn.ghost_name ≡ tx.old.conn.ghost_name }
-    ensures makes { Attempts (Makes (with_stored account.now book.now.periods rows.now))
+    ensures makes { Attempts (Makes (with_stored account.now (shelf_names books.now) rows.now))
         (state S.Store tx.old.conn.now) (state S.Store tx.new.conn.now) result }
 {
     put_money(tx, account, rows)?;
     put_sessions(tx, account, rows.sessions())?;
-    put_groups(tx, account, book, rows.groups())
+    put_groups(tx, account, books, rows.groups())
 }
 
 /// Puts the texts that are kept of a command under its key.
@@ -173,7 +177,7 @@ fn put_kept<S: Alter>(
 /// what is kept, and the voucher that is redeemed.
 pub(crate) fn put_change<S: Alter>(
     tx: &mut Transaction<'_, S>,
-    book: &TariffBook,
+    books: &TariffShelf,
     text: &str,
     change: &Change,
     new: &NewRows,
@@ -182,14 +186,14 @@ pub(crate) fn put_change<S: Alter>(
     requires book { HasBook (state S.Store tx.old.conn.now) }
     requires new { with_new change.now.after new.now ≡ new_rows change.now.before change.now.after }
     ensures same_reference { tx.new.conn.ghost_name ≡ tx.old.conn.ghost_name }
-    ensures makes { Attempts (Makes (with_change book.now.periods (meta_with text.now change.now)
-        change.now (option_map kept_of texts.now)))
+    ensures makes { Attempts (Makes (with_change (shelf_names books.now)
+        (meta_with text.now change.now) change.now (option_map kept_of texts.now)))
         (state S.Store tx.old.conn.now) (state S.Store tx.new.conn.now) result }
 {
     let account = &change.number;
-    put_meta(tx, 1, text, change.moment)?;
-    put_new(tx, account, book, &change.after, new)?;
-    put_charges(tx, account, &change.charges)?;
+    put_meta(tx, LATEST, text, change.moment)?;
+    put_new(tx, account, books, &change.after, new)?;
+    put_paid(tx, account, &change.charges)?;
     put_kept(tx, account, &change.kept, texts)?;
     put_redeemed(tx, &change.redeemed)
 }

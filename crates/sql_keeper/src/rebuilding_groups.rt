@@ -2,9 +2,10 @@
 
 ghost use Rattle.std.specs.Prelude.{◌≡◌, ◌==◌, ◌&&◌, Some, IfOk, map, option_map};
 ghost use Rattle.std.specs.List.{list_any};
+ghost use Rattle.sql_keeper.specs.Content.{shelf_names};
 ghost use Rattle.sql_keeper.specs.GroupRows.{AreGroupsOf, AreHoldsOf, ArePeriodsOf, AreTermsOf};
 ghost use Rattle.sql_keeper.specs.GroupRows.{IsGroupOf, IsReservationOf, amount_of, are_held_of};
-ghost use Rattle.sql_keeper.specs.GroupRows.{holds_along, is_held_of};
+ghost use Rattle.sql_keeper.specs.GroupRows.{book_of, holds_along, is_held_of};
 ghost use Rattle.sql_rows.specs.Texts.{group_at, names_of};
 ghost use Rattle.tariffs.specs.Names.{period_named};
 
@@ -13,7 +14,8 @@ use calendar::Period;
 use identifiers::SessionId;
 use rating::Periods;
 use reserving::{Reservation, SessionGroup, Terms};
-use sql_rows::{GroupColumns, HeldColumns, PeriodNames};
+use shelves::TariffShelf;
+use sql_rows::{GrantBook, GroupColumns, HeldColumns, PeriodNames};
 use sql_tables::ReadFault;
 use std::alloc::Global;
 use tariffs::TariffBook;
@@ -33,12 +35,47 @@ fn periods_of(book: &TariffBook, names: &PeriodNames) -> Result<Periods, ReadFau
     Ok(Periods { before, after })
 }
 
-/// The terms of a reservation with these names of periods: it is of the first book.
-fn terms_of(book: &TariffBook, names: &PeriodNames) -> Result<Terms, ReadFault>
-    ensures { IfOk result (λ x. AreTermsOf book.now.periods (names_of names.now) x) }
+/// The number of the book that the reservation of a rating group goes by, where a row says it.
+fn number_of(numbers: &[GrantBook], group: u32) -> Option<u32>
+    ensures { result ≡ book_of group numbers.now }
 {
+    match numbers.iter().find(|row| row.group == group) {
+        Some(row) => Some(row.book),
+        None => None,
+    }
+}
+
+/// The number as one that a shelf may have.
+fn small_number(number: Option<u32>) -> Result<u8, ReadFault>
+    ensures { IfOk result (λ n. number ≡ Some n) }
+{
+    let Some(number) = number else {
+        return Err(ReadFault::Rules);
+    };
+    match u8::try_from(number) {
+        Ok(number) => Ok(number),
+        Err(_) => Err(ReadFault::Rules),
+    }
+}
+
+/// The terms of a reservation of the book of this number, with these names of periods. Without a
+/// number, or with one that the shelf doesn't have, it is out of the rules.
+fn terms_of(
+    books: &TariffShelf,
+    number: Option<u32>,
+    names: &PeriodNames,
+) -> Result<Terms, ReadFault>
+    ensures { IfOk result (λ x. AreTermsOf (shelf_names books.now) number (names_of names.now) x) }
+{
+    let number = small_number(number)?;
+    let Some(book) = books.book(number) else {
+        return Err(ReadFault::Rules);
+    };
     let periods = periods_of(book, names)?;
-    Ok(Terms { book: 1, periods })
+    Ok(Terms {
+        book: number,
+        periods,
+    })
 }
 
 /// What is held of a bucket for a rating group, in micro-units; 0 where nothing is.
@@ -124,18 +161,20 @@ fn holds_of(
 /// The reservation of a rating group, where it has names of periods.
 fn reservation_of(
     alloc: Global,
-    book: &TariffBook,
+    books: &TariffShelf,
     buckets: &[Bucket],
     row: &GroupColumns,
     held: &[HeldColumns],
+    numbers: &[GrantBook],
 ) -> Result<Option<Reservation>, ReadFault>
-    ensures { IfOk result (λ o. IsReservationOf book.now.periods buckets.now held.now row.now.group
-        (option_map names_of row.now.periods) o) }
+    ensures { IfOk result (λ o. IsReservationOf (shelf_names books.now) buckets.now held.now
+        numbers.now row.now.group (option_map names_of row.now.periods) o) }
 {
     match &row.periods {
         None => Ok(None),
         Some(names) => {
-            let terms = terms_of(book, names)?;
+            let number = number_of(numbers, row.group);
+            let terms = terms_of(books, number, names)?;
             let holds = holds_of(alloc, buckets, row.group, held)?;
             Ok(Some(Reservation { terms, holds }))
         }
@@ -144,16 +183,17 @@ fn reservation_of(
 
 fn group_of(
     alloc: Global,
-    book: &TariffBook,
+    books: &TariffShelf,
     buckets: &[Bucket],
     session: &SessionId,
     row: &GroupColumns,
     held: &[HeldColumns],
+    numbers: &[GrantBook],
 ) -> Result<SessionGroup, ReadFault>
-    ensures { IfOk result
-        (λ x. IsGroupOf book.now.periods buckets.now held.now session.now (group_at row.now) x) }
+    ensures { IfOk result (λ x. IsGroupOf (shelf_names books.now) buckets.now held.now numbers.now
+        session.now (group_at row.now) x) }
 {
-    let reservation = reservation_of(alloc, book, buckets, row, held)?;
+    let reservation = reservation_of(alloc, books, buckets, row, held, numbers)?;
     let session = session.clone()?;
     Ok(SessionGroup {
         session,
@@ -166,18 +206,19 @@ fn group_of(
 /// What a session has of rating groups, of each row in turn.
 pub(crate) fn groups_of(
     alloc: Global,
-    book: &TariffBook,
+    books: &TariffShelf,
     buckets: &[Bucket],
     session: &SessionId,
     rows: &[GroupColumns],
     held: &[HeldColumns],
+    numbers: &[GrantBook],
 ) -> Result<Vec<SessionGroup>, ReadFault>
-    ensures { IfOk result (λ xs. AreGroupsOf book.now.periods buckets.now held.now session.now
-        (map group_at rows.now) xs.items) }
+    ensures { IfOk result (λ xs. AreGroupsOf (shelf_names books.now) buckets.now held.now
+        numbers.now session.now (map group_at rows.now) xs.items) }
 {
     let mut groups = Vec::new(alloc);
     'rows: for row in rows {
-        let group = group_of(alloc, book, buckets, session, row, held)?;
+        let group = group_of(alloc, books, buckets, session, row, held, numbers)?;
         let Ok(()) = groups.push(group) else {
             return Err(ReadFault::Memory);
         };

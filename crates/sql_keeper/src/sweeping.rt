@@ -6,6 +6,7 @@ ghost use Rattle.keepers.specs.Keeping.{Keeps};
 ghost use Rattle.sql_rows.specs.Content.{content_of};
 ghost use Rattle.sql_rows.specs.Makes.{Makes, MakesIfOpen};
 ghost use Rattle.sql_tables.specs.Statements.{Attempts, HasBook, HasIdleBook, IsInside};
+ghost use Rattle.sql_keeper.specs.Content.{shelf_names};
 ghost use Rattle.sql_keeper.specs.Commits.{CommitsWhole, Transacts};
 ghost use Rattle.sql_keeper.specs.Inside.{clean_in, failed_in, tables_in};
 ghost use Rattle.sql_keeper.specs.Stops.{IsWhole, trees_in};
@@ -20,22 +21,21 @@ use crate::swept_rows::{SweptAccount, read_sweep};
 use keepers::StoreFault;
 use shelves::TariffShelf;
 use sql_rows::put_meta;
-use sql_tables::ReadFault;
+use sql_tables::{LATEST, ReadFault};
 use sqlite::{Alter, Connection, Error, Transaction};
 use std::alloc::Global;
-use tariffs::TariffBook;
 use units::Moment;
 
 /// Puts the rows of each of these accounts.
 fn put_accounts<S: Alter>(
     tx: &mut Transaction<'_, S>,
-    names: &TariffBook,
+    names: &TariffShelf,
     accounts: &[SweptAccount],
 ) -> Result<(), Error>
     requires open { IsInside (state S.Store tx.old.conn.now) }
     requires book { HasBook (state S.Store tx.old.conn.now) }
     ensures same_reference { tx.new.conn.ghost_name ≡ tx.old.conn.ghost_name }
-    ensures makes { Attempts (MakesIfOpen (with_accounts names.now.periods accounts.now))
+    ensures makes { Attempts (MakesIfOpen (with_accounts (shelf_names names.now) accounts.now))
         (state S.Store tx.old.conn.now) (state S.Store tx.new.conn.now) result }
 {
     'accounts: for account in accounts {
@@ -47,24 +47,25 @@ fn put_accounts<S: Alter>(
 /// Puts all that a sweep writes: the moment, and the rows of each account.
 fn put_sweep<S: Alter>(
     tx: &mut Transaction<'_, S>,
-    names: &TariffBook,
+    names: &TariffShelf,
     text: &str,
     moment: Moment,
     accounts: &[SweptAccount],
 ) -> Result<(), Error>
     requires book { HasBook (state S.Store tx.old.conn.now) }
     ensures same_reference { tx.new.conn.ghost_name ≡ tx.old.conn.ghost_name }
-    ensures makes { Attempts (Makes (with_sweep names.now.periods text.now moment accounts.now))
+    ensures makes { Attempts
+        (Makes (with_sweep (shelf_names names.now) text.now moment accounts.now))
         (state S.Store tx.old.conn.now) (state S.Store tx.new.conn.now) result }
 {
-    put_meta(tx, 1, text, moment)?;
+    put_meta(tx, LATEST, text, moment)?;
     put_accounts(tx, names, accounts)
 }
 
 /// Writes a sweep in one transaction.
 fn write_sweep<S: Alter>(
     conn: &mut Connection<S>,
-    names: &TariffBook,
+    names: &TariffShelf,
     text: &str,
     moment: Moment,
     accounts: &[SweptAccount],
@@ -72,7 +73,7 @@ fn write_sweep<S: Alter>(
     requires plain { conn.old.in_transaction ≡ false }
     requires idle { HasIdleBook (state S.Store conn.old) }
     ensures plain { conn.new.in_transaction ≡ false }
-    ensures transacts { Transacts (with_sweep names.now.periods text.now moment accounts.now)
+    ensures transacts { Transacts (with_sweep (shelf_names names.now) text.now moment accounts.now)
         (state S.Store conn.old) (state S.Store conn.new) result }
 {
     let mut tx = conn.transaction();
@@ -86,7 +87,7 @@ fn write_sweep<S: Alter>(
 fn make_sweep<S: Alter>(
     conn: &mut Connection<S>,
     alloc: Global,
-    names: &TariffBook,
+    names: &TariffShelf,
     text: &str,
     shelf: &TariffShelf,
     moment: Moment,
@@ -94,7 +95,7 @@ fn make_sweep<S: Alter>(
     requires plain { conn.old.in_transaction ≡ false }
     requires idle { HasIdleBook (state S.Store conn.old) }
     ensures plain { conn.new.in_transaction ≡ false }
-    ensures commits { CommitsWhole (BecomesSwept names.now.periods text.now shelf.now moment)
+    ensures commits { CommitsWhole (BecomesSwept (shelf_names names.now) text.now shelf.now moment)
         (state S.Store conn.old) (state S.Store conn.new) result }
     ensures count { HasCleanDisk (state S.Store conn.new) →
         IfOk result (λ n. n ≡ (content_of (state S.Store conn.old).now.trees).count) }
@@ -131,7 +132,7 @@ impl<S: Alter> SqlKeeper<S> {
             (trees_in S.Store self.old)) }
     {
         let text = self.text.as_str();
-        let (alloc, names) = (self.alloc, &self.book);
+        let (alloc, names) = (self.alloc, &self.shelf);
         let made = make_sweep(&mut self.connection, alloc, names, text, shelf, moment);
         counted(&mut self.failures, made)
     }

@@ -3,6 +3,7 @@
 ghost use Rattle.std.specs.Prelude.{◌≡◌, IfOk};
 ghost use Rattle.sql_tables.specs.Statements.{HasIdleBook};
 ghost use Rattle.sql_rows.specs.Content.{content_of};
+ghost use Rattle.sql_keeper.specs.Content.{shelf_names};
 ghost use Rattle.sql_keeper.specs.LiveGroups.{Gathers};
 ghost use Rattle.sql_keeper.specs.Sweeps.{AreAllSwept, AreSweptOf, IsSweptFrom, rows_at};
 ghost use Rattle.sqlite.specs.Held.{state};
@@ -16,7 +17,6 @@ use sql_rows::read_accounts;
 use sql_tables::ReadFault;
 use sqlite::{Alter, Connection};
 use std::alloc::Global;
-use tariffs::TariffBook;
 use units::Moment;
 
 /// An account that was brought to a moment.
@@ -44,11 +44,11 @@ fn advanced_to(rows: StoredAccount, shelf: &TariffShelf, moment: Moment) -> Stor
 fn swept_of(
     account: &AccountNumber,
     rows: Option<StoredAccount>,
-    names: &TariffBook,
+    names: &TariffShelf,
     shelf: &TariffShelf,
     moment: Moment,
 ) -> Result<SweptAccount, ReadFault>
-    ensures { IfOk result (IsSweptFrom names.now.periods shelf.now moment account.now rows) }
+    ensures { IfOk result (IsSweptFrom (shelf_names names.now) shelf.now moment account.now rows) }
 {
     let Some(before) = rows else {
         return Err(ReadFault::Rules);
@@ -70,13 +70,13 @@ fn read_each<S: Alter>(
     conn: &mut Connection<S>,
     alloc: Global,
     accounts: &[AccountNumber],
-    names: &TariffBook,
+    names: &TariffShelf,
     shelf: &TariffShelf,
     moment: Moment,
 ) -> Result<Vec<SweptAccount>, ReadFault>
     requires idle { HasIdleBook (state S.Store conn.old) }
-    ensures { Gathers (λ trees xs. AreSweptOf names.now.periods shelf.now moment (content_of trees)
-        accounts.now xs.items)
+    ensures { Gathers (λ trees xs. AreSweptOf (shelf_names names.now) shelf.now moment
+        (content_of trees) accounts.now xs.items)
         (state S.Store conn.old) (state S.Store conn.new) result }
 {
     let mut swept = Vec::new(alloc);
@@ -98,13 +98,13 @@ fn read_each<S: Alter>(
 pub(crate) fn read_sweep<S: Alter>(
     conn: &mut Connection<S>,
     alloc: Global,
-    names: &TariffBook,
+    names: &TariffShelf,
     shelf: &TariffShelf,
     moment: Moment,
 ) -> Result<Vec<SweptAccount>, ReadFault>
     requires idle { HasIdleBook (state S.Store conn.old) }
-    ensures { Gathers (λ trees xs. AreAllSwept names.now.periods shelf.now moment (content_of trees)
-        xs.items)
+    ensures { Gathers (λ trees xs. AreAllSwept (shelf_names names.now) shelf.now moment
+        (content_of trees) xs.items)
         (state S.Store conn.old) (state S.Store conn.new) result }
 {
     let accounts = read_accounts(conn, alloc)?;

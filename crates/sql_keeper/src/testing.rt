@@ -3,15 +3,16 @@
 ghost use Rattle.std.specs.Prelude.{◌≡◌, IsTrue, option_map};
 ghost use Rattle.reserving.specs.Sessions.{session_in};
 ghost use Rattle.reserving.specs.Left.{is_open_row};
+ghost use Rattle.sql_keeper.specs.Content.{names_numbered, shelf_names};
 ghost use Rattle.sql_keeper.specs.Tests.{AreNumbered, AreWritable, IsNamed, IsWritable, MayStand};
 ghost use Rattle.sql_keeper.specs.Tests.{first_number};
 
 use calendar::Period;
 use identifiers::SessionId;
 use keepers::Change;
-use reserving::{ChargeRow, Reservation, Session, SessionGroup, SessionState};
+use reserving::{ChargeRow, Reservation, Session, SessionGroup, SessionState, Terms};
+use shelves::TariffShelf;
 use sql_rows::Head;
-use tariffs::TariffBook;
 
 /// The number of the next charge of an account; of the first one where it isn't there yet.
 fn first_number(head: &Option<Head>) -> u64
@@ -55,49 +56,55 @@ fn is_open(sessions: &[Session], id: &SessionId) -> bool
     false
 }
 
-/// Whether the book has a name for a period.
-fn is_named(book: &TariffBook, period: Period) -> bool
-    ensures { IsTrue result → IsNamed book.now.periods period }
+/// Whether the book of a number has a name for a period.
+fn is_named(books: &TariffShelf, number: u8, period: Period) -> bool
+    ensures { IsTrue result → IsNamed (names_numbered (shelf_names books.now) number) period }
 {
-    book.period_name(period).is_some()
+    match books.book(number) {
+        None => false,
+        Some(book) => book.period_name(period).is_some(),
+    }
 }
 
-/// Whether a reservation reads as it is written: it stands in an open session, it is of the first
-/// book, the only one whose reservations the tables keep, and its periods have names.
+/// Whether a reservation reads as it is written: it stands in an open session, and its periods have
+/// names in its book, which is on the shelf.
 fn is_writable(
-    book: &TariffBook,
+    books: &TariffShelf,
     sessions: &[Session],
     session: &SessionId,
     reservation: &Reservation,
 ) -> bool
-    ensures { IsTrue result → IsWritable book.now.periods sessions.now session.now reservation.now }
+    ensures { IsTrue result →
+        IsWritable (shelf_names books.now) sessions.now session.now reservation.now }
 {
     // For the prover alone: looking at the value makes known here what its type keeps.
     let _holds = reservation.holds.as_slice();
-    if reservation.terms.book != 1 {
-        return false;
-    }
-    let periods = reservation.terms.periods;
-    is_open(sessions, session) && is_named(book, periods.before) && is_named(book, periods.after)
+    let Terms { book, periods } = reservation.terms;
+    is_open(sessions, session)
+        && is_named(books, book, periods.before)
+        && is_named(books, book, periods.after)
 }
 
-fn may_stand(book: &TariffBook, sessions: &[Session], row: &SessionGroup) -> bool
+fn may_stand(books: &TariffShelf, sessions: &[Session], row: &SessionGroup) -> bool
     ensures { IsTrue result →
-        MayStand book.now.periods sessions.now row.now.session row.now.reservation }
+        MayStand (shelf_names books.now) sessions.now row.now.session row.now.reservation }
 {
     match &row.reservation {
         None => true,
-        Some(reservation) => is_writable(book, sessions, &row.session, reservation),
+        Some(reservation) => is_writable(books, sessions, &row.session, reservation),
     }
 }
 
-/// Whether each reservation stands in an open session, of the first book and with periods that
-/// have names.
-pub(crate) fn are_writable(book: &TariffBook, sessions: &[Session], groups: &[SessionGroup]) -> bool
-    ensures { IsTrue result → AreWritable book.now.periods sessions.now groups.now }
+/// Whether each reservation stands in an open session, with periods that have names in its book.
+pub(crate) fn are_writable(
+    books: &TariffShelf,
+    sessions: &[Session],
+    groups: &[SessionGroup],
+) -> bool
+    ensures { IsTrue result → AreWritable (shelf_names books.now) sessions.now groups.now }
 {
     'groups: for group in groups {
-        if !may_stand(book, sessions, group) {
+        if !may_stand(books, sessions, group) {
             return false;
         }
     }
@@ -105,15 +112,15 @@ pub(crate) fn are_writable(book: &TariffBook, sessions: &[Session], groups: &[Se
 }
 
 /// Whether a change may be written over an account with this head, so that what is written reads as
-/// the change: each reservation stands in an open session, of the first book and with periods that
-/// it names, and the charges are numbered on.
-pub fn may_be_written(book: &TariffBook, head: &Option<Head>, change: &Change) -> bool
+/// the change: each reservation stands in an open session, with periods that have names in its
+/// book, and the charges are numbered on.
+pub fn may_be_written(books: &TariffShelf, head: &Option<Head>, change: &Change) -> bool
     ensures reservations { IsTrue result →
-        AreWritable book.now.periods change.now.after.sessions change.now.after.groups }
+        AreWritable (shelf_names books.now) change.now.after.sessions change.now.after.groups }
     ensures numbers { IsTrue result →
         AreNumbered (first_number head.now) change.now.after.next_charge change.now.charges.items }
 {
     let rows = &change.after;
-    are_writable(book, rows.sessions(), rows.groups())
+    are_writable(books, rows.sessions(), rows.groups())
         && are_numbered(&change.charges, first_number(head), rows.next_charge())
 }

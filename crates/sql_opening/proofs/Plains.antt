@@ -7,7 +7,8 @@ use Rattle.std.proofs.lemmas.Bool.{and_parts, both_ways}
 use Rattle.sqlite_schema.specs.declared.schema.Schema.{Schema}
 use Rattle.sqlite_sql.specs.Term.{Term}
 use Rattle.sql_opening.specs.Plain.{is_plain, is_plain_term}
-use Rattle.sql_tables.specs.Schema.{book_schema}
+use Rattle.sql_tables.specs.Schema.{schema_at}
+use Rattle.sql_opening.specs.Opens.{IsVersion}
 
 -- of lists in which nothing of the kind can stand
 pub all_plain : {X : Type 0} (xs : List X) → IsTrue (list_all (λ _. true) xs)
@@ -75,14 +76,35 @@ pub told_of : (first second one two : List Term) (same : Bool) → first ≡ one
 told_of first second one two same e k told plain is =
     told (subst (λ t. IsTrue (list_all is_plain_term t)) e plain) (sym e ∙ is ∙ k)
 
--- ---- our schema
+-- ---- our schemas
 
-pub book_is_plain : IsTrue (is_plain book_schema)
-book_is_plain = refl
+pub version_plain : (v : ℕ) → IsVersion v → IsTrue (is_plain (schema_at v))
+version_plain zero known = absurd (omega (arith, known.0))
+version_plain (suc zero) known = refl
+version_plain (suc (suc zero)) known = refl
+version_plain (suc (suc (suc zero))) known = refl
+version_plain (suc (suc (suc (suc n)))) known =
+    let high : suc (suc (suc (suc n))) ≤ 3 = known.1 in absurd (omega (arith, high))
 
-pub not_ours : (first second : Schema) (same : Bool) → first ≡ book_schema
-    → (IsTrue (is_plain first) → first ≡ second → IsTrue same) → same ≡ false
-    → ¬ (second ≡ book_schema)
-not_ours first second same is told none ours =
-    both_ways same none
-    (told (subst (λ s. IsTrue (is_plain s)) (sym is) book_is_plain) (is ∙ sym ours))
+-- what a test of a schema tells, of the one that it is
+pub same_as : (first second : Schema) (v : ℕ) (same : Bool) → IsVersion v → first ≡ schema_at v
+    → (IsTrue same → first ≡ second) → (IsTrue (is_plain first) → first ≡ second → IsTrue same)
+    → (IsTrue same → second ≡ schema_at v) × (second ≡ schema_at v → IsTrue same)
+same_as first second v same known is equal all = (
+  (λ yes'. sym (equal yes') ∙ is),
+  (λ ours. all (subst (λ s. IsTrue (is_plain s)) (sym is) (version_plain v known)) (is ∙ sym ours)),
+)
+
+pub no_version : (s : Schema) (one two three : Bool)
+    → (s ≡ schema_at 1 → IsTrue one) → (s ≡ schema_at 2 → IsTrue two)
+    → (s ≡ schema_at 3 → IsTrue three) → one ≡ false → two ≡ false → three ≡ false
+    → (v : ℕ) → IsVersion v → ¬ (s ≡ schema_at v)
+no_version s one two three is1 is2 is3 no1 no2 no3 zero known is = absurd (omega (arith, known.0))
+no_version s one two three is1 is2 is3 no1 no2 no3 (suc zero) known is =
+    both_ways one no1 (is1 is)
+no_version s one two three is1 is2 is3 no1 no2 no3 (suc (suc zero)) known is =
+    both_ways two no2 (is2 is)
+no_version s one two three is1 is2 is3 no1 no2 no3 (suc (suc (suc zero))) known is =
+    both_ways three no3 (is3 is)
+no_version s one two three is1 is2 is3 no1 no2 no3 (suc (suc (suc (suc n)))) known is =
+    let high : suc (suc (suc (suc n))) ≤ 3 = known.1 in absurd (omega (arith, high))

@@ -23,7 +23,7 @@ use Rattle.sqlite.specs.State.{State, Shown}
 use Rattle.sqlite.proofs.Callers.{reads_as}
 use Rattle.sql_tables.specs.Keyed.{IsStored}
 use Rattle.sqlite_schema.specs.declared.schema.Table.{Table}
-use Rattle.sql_tables.specs.Schema.{book_schema}
+use Rattle.sql_tables.specs.Schema.{schema_at}
 use Rattle.sql_tables.proofs.Steps.{bare}
 use Rattle.sql_opening.specs.Opens.{rowids_of, IsRowids}
 use Rattle.sql_opening.specs.Rises.{AreRising}
@@ -89,11 +89,11 @@ stored_ids rows h = (
   all_from_map (λ r. IsTrue (is_int (rowid r))) (λ (r : Row). rowid r ∷ []) rows h.1,
 )
 
-pub rows_stand : (text : List ℕ) (table : Table) → IsRowids text table
-    → (old new : State) (rows : List Row) → old.now.schema ≡ book_schema
+pub rows_stand : (v : ℕ) (text : List ℕ) (table : Table) → IsRowids v text table
+    → (old new : State) (rows : List Row) → old.now.schema ≡ schema_at v
     → Shown text [] old new rows → IsStored rows → IsStored (old.now.trees table.tree)
-rows_stand text table is old new rows has h stored =
-    let read = reads_as text [] old new book_schema has
+rows_stand v text table is old new rows has h stored =
+    let read = reads_as text [] old new (schema_at v) has
     (Select (record { lets = []; body = rowids_of table.tree }) (codes "rowid" ∷ []))
     is.command is.plain is.listing rows h in
     let p = shown_ids table.tree old.now.trees rows (read.answer Null) in
@@ -163,11 +163,11 @@ sorted_ids tree rows sorted k d low high =
     ∙ sym (ap₂ (λ a b. is_lt (output_cmp (rowids_of tree) a b)) one two)
     ∙ sorted k (both d) low wide
 
-pub rows_rise : (text : List ℕ) (table : Table) → IsRowids text table
-    → (old new : State) (rows : List Row) → old.now.schema ≡ book_schema
+pub rows_rise : (v : ℕ) (text : List ℕ) (table : Table) → IsRowids v text table
+    → (old new : State) (rows : List Row) → old.now.schema ≡ schema_at v
     → Shown text [] old new rows → IsStored (old.now.trees table.tree) → AreRising rows
-rows_rise text table is old new rows has h stored =
-    let read = reads_as text [] old new book_schema has
+rows_rise v text table is old new rows has h stored =
+    let read = reads_as text [] old new (schema_at v) has
     (Select (record { lets = []; body = rowids_of table.tree }) (codes "rowid" ∷ []))
     is.command is.plain is.listing rows h in
     let a = read.answer Null in

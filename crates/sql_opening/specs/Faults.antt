@@ -3,7 +3,7 @@
 use Rattle.std.specs.Prelude.{ℕ}
 use Rattle.sql_opening.specs.declared.fault.OpenFault.{OpenFault}
 use Rattle.sql_opening.specs.declared.fault.OpenFault.TheVariants.{Foreign, Version, Rules, Store}
-use Rattle.sql_opening.specs.declared.fault.OpenFault.TheVariants.{Memory}
+use Rattle.sql_opening.specs.declared.fault.OpenFault.TheVariants.{Memory, Older}
 
 -- the number under which a fault is told
 abbrev pub number_of : OpenFault → ℕ
@@ -12,3 +12,4 @@ number_of Version = 2
 number_of Rules = 3
 number_of Store = 4
 number_of Memory = 5
+number_of Older = 6

@@ -1,6 +1,6 @@
 -- What is tested of a database that was made elsewhere.
 -- Source: profile.
-use Rattle.std.specs.Prelude.{◌≡◌, ℕ, ◌+◌, List, take, codes, None, [], ◌∷◌, pos, negsuc, false}
+use Rattle.std.specs.Prelude.{◌≡◌, ◌≤◌, ◌<◌, ℕ, ◌+◌, List, take, codes, None, [], ◌∷◌, pos, negsuc, false}
 use Rattle.std.specs.Prelude.{Result, IfErr, OnOk, ◌++◌, ⊤}
 use Rattle.std.specs.List.{AllByRecursion}
 use Rattle.sqlite_value.specs.declared.value.Value.TheVariants.{Int}
@@ -15,39 +15,56 @@ use Rattle.sqlite.proofs.Callers.{command_of}
 use Rattle.sqlite.specs.Effect.{Database}
 use Rattle.sqlite.specs.State.{State, HasCleanDisk, IsUnchanged, Survives}
 use Rattle.sql_tables.specs.Keyed.{IsStored}
-use Rattle.sql_tables.specs.Schema.{book_schema}
-use Rattle.sql_tables.specs.Statements.{AreStored, IsIdle}
+use Rattle.sql_tables.specs.Schema.{latest, schema_at}
+use Rattle.sql_tables.specs.Stages.{AreStoredAt}
 use Rattle.sql_opening.specs.declared.fault.OpenFault.{OpenFault}
 use Rattle.sql_opening.specs.declared.fault.OpenFault.TheVariants.{Foreign, Version, Rules, Store}
-use Rattle.sql_opening.specs.declared.fault.OpenFault.TheVariants.{Memory}
+use Rattle.sql_opening.specs.declared.fault.OpenFault.TheVariants.{Memory, Older}
 
--- the schema is ours, and the first tables have no rowid twice
-pub record IsStoredTo (k : ℕ) (s : State) : Type 0 where
-  pub schema : s.now.schema ≡ book_schema
+-- one of the versions that there are
+abbrev pub IsVersion : ℕ → Type 0
+IsVersion v = (1 ≤ v) × (v ≤ latest)
+
+-- the schema is that of a version, and the first of its tables have no rowid twice
+pub record IsStoredTo (v k : ℕ) (s : State) : Type 0 where
+  pub schema : s.now.schema ≡ schema_at v
   pub stored : AllByRecursion (λ (t : Table). IsStored (s.now.trees t.tree))
-      (take k book_schema.tables)
+      (take k (schema_at v).tables)
 
-abbrev pub HasStoredTo : ℕ → State → Type 0
-HasStoredTo k s = HasCleanDisk s → IsStoredTo k s
+abbrev pub HasStoredTo : ℕ → ℕ → State → Type 0
+HasStoredTo v k s = HasCleanDisk s → IsStoredTo v k s
 
--- the version is read by whoever opens, not with the tables
+-- which version the database says it has is read by whoever opens it, not with the tables; nor is
+-- it refused with them for being an older one
 abbrev pub IsNoVersion : OpenFault → Type 0
-IsNoVersion fault = ¬ (fault ≡ Version)
+IsNoVersion fault = (¬ (fault ≡ Version)) × (¬ (fault ≡ Older))
 
--- what a fault says of a database that was there: its tables aren't ours, or a rowid stands twice
+-- what a fault says of a database that was there: its tables are those of no version, or they are
+-- those of one, and a rowid stands twice; or they are those of a version before the latest
 abbrev pub IsTold : Database → OpenFault → Type 0
-IsTold db Foreign = ¬ (db.schema ≡ book_schema)
+IsTold db Foreign = (v : ℕ) → IsVersion v → ¬ (db.schema ≡ schema_at v)
 IsTold db Version = ⊥
-IsTold db Rules = ¬ AreStored db.trees
+IsTold db Rules = (v : ℕ) × IsVersion v × (db.schema ≡ schema_at v) × ¬ AreStoredAt v db.trees
 IsTold db Store = ⊤
 IsTold db Memory = ⊤
+IsTold db Older = (v : ℕ) × IsVersion v × (v < latest) × (db.schema ≡ schema_at v)
 
 -- where it answers, the first tables have no rowid twice; whatever it answers, nothing is changed
-pub record Finds {A : Type 0} (k : ℕ) (old new : State) (result : Result A OpenFault) : Type 0 where
-  pub found : HasCleanDisk new → OnOk result (IsUnchanged old new × IsStoredTo k new)
-  pub told : IfErr result IsNoVersion
-  pub means : HasCleanDisk new → IfErr result (IsTold old.now)
-  pub survives : Survives old new (λ _. ⊥)
+pub record Finds {A : Type 0} (v k : ℕ) (old new : State) (result : Result A OpenFault) : Type 0
+  where
+    pub found : HasCleanDisk new → OnOk result (IsUnchanged old new × IsStoredTo v k new)
+    pub told : IfErr result IsNoVersion
+    pub means : HasCleanDisk new → IfErr result (IsTold old.now)
+    pub survives : Survives old new (λ _. ⊥)
+
+-- where it answers, no table of the version has a rowid twice
+pub record FindsAll {A : Type 0} (v : ℕ) (old new : State) (result : Result A OpenFault) : Type 0
+  where
+    pub found : HasCleanDisk new → OnOk result (IsUnchanged old new
+        × (new.now.schema ≡ schema_at v) × AreStoredAt v new.now.trees)
+    pub told : IfErr result IsNoVersion
+    pub means : HasCleanDisk new → IfErr result (IsTold old.now)
+    pub survives : Survives old new (λ _. ⊥)
 
 -- the rowids of a table, in order
 abbrev pub rowids_of : ℕ → Query
@@ -63,22 +80,43 @@ rowids_of tree = record {
   offset = lit (Int (pos 0));
 }
 
--- the text selects the rowids of this table, in order
-pub record IsRowids (text : List ℕ) (table : Table) : Type 0 where
-  pub command : command_of (understood book_schema text)
+-- over the schema of a version the text selects the rowids of this table, in order
+pub record IsRowids (v : ℕ) (text : List ℕ) (table : Table) : Type 0 where
+  pub command : command_of (understood (schema_at v) text)
       ≡ Select (record { lets = []; body = rowids_of table.tree }) (codes "rowid" ∷ [])
-  pub listing : reads_listing book_schema text ≡ false
-  pub plain : IsPlain (understood book_schema text)
+  pub listing : reads_listing (schema_at v) text ≡ false
+  pub plain : IsPlain (understood (schema_at v) text)
 
--- the text selects the rowids of the table at this place
-pub record IsNext (text : List ℕ) (k : ℕ) : Type 0 where
+-- the text selects the rowids of the table at this place of the version
+pub record IsNext (v : ℕ) (text : List ℕ) (k : ℕ) : Type 0 where
   pub table : Table
   pub rest : List Table
-  pub all : book_schema.tables ≡ take k book_schema.tables ++ table ∷ rest
-  pub next : take (k + 1) book_schema.tables ≡ take k book_schema.tables ++ table ∷ []
-  pub rowids : IsRowids text table
+  pub all : (schema_at v).tables ≡ take k (schema_at v).tables ++ table ∷ rest
+  pub next : take (k + 1) (schema_at v).tables ≡ take k (schema_at v).tables ++ table ∷ []
+  pub rowids : IsRowids v text table
 
--- the database has our tables, no transaction is open, and nothing was changed to find that
-pub record IsFound (old new : State) : Type 0 where
-  pub idle : IsIdle new
+-- the texts for the tables of all versions, in their order
+abbrev pub rowids_texts : List (List ℕ)
+rowids_texts = codes "SELECT rowid FROM meta ORDER BY rowid"
+    ∷ codes "SELECT rowid FROM accounts ORDER BY rowid"
+    ∷ codes "SELECT rowid FROM buckets ORDER BY rowid"
+    ∷ codes "SELECT rowid FROM counters ORDER BY rowid"
+    ∷ codes "SELECT rowid FROM sessions ORDER BY rowid"
+    ∷ codes "SELECT rowid FROM session_groups ORDER BY rowid"
+    ∷ codes "SELECT rowid FROM holds ORDER BY rowid"
+    ∷ codes "SELECT rowid FROM answers ORDER BY rowid"
+    ∷ codes "SELECT rowid FROM vouchers ORDER BY rowid"
+    ∷ codes "SELECT rowid FROM charges ORDER BY rowid"
+    ∷ codes "SELECT rowid FROM books ORDER BY rowid"
+    ∷ codes "SELECT rowid FROM grant_books ORDER BY rowid"
+    ∷ codes "SELECT rowid FROM allowance_buckets ORDER BY rowid"
+    ∷ codes "SELECT rowid FROM covered ORDER BY rowid" ∷ []
+
+-- the database has the tables of a version and no others, no rowid of theirs stands twice, no
+-- transaction is open, and nothing was changed to find that
+pub record IsFound (v : ℕ) (old new : State) : Type 0 where
+  pub version : IsVersion v
+  pub schema : new.now.schema ≡ schema_at v
+  pub stored : AreStoredAt v new.now.trees
+  pub settled : new.now ≡ new.committed
   pub unchanged : IsUnchanged old new

@@ -7,7 +7,7 @@ use thiserror::Error;
 /// kept once, then the version.
 #[derive(Clone, Copy, Debug, Drop, Error, PartialEq, Eq)]
 pub enum OpenFault {
-    /// The database hasn't this system's tables, or has others.
+    /// The database hasn't the tables of a version of this system, or has others.
     #[error("the database is not one of this system")]
     Foreign,
     /// The version of its tables isn't known.
@@ -22,10 +22,13 @@ pub enum OpenFault {
     /// Memory was refused.
     #[error("out of memory")]
     Memory,
+    /// The tables are those of an older version of this system.
+    #[error("the tables are of an older version")]
+    Older,
 }
 
 impl OpenFault {
-    /// Its number, 1 to 5, as programs print it: `open fault 1`.
+    /// Its number, 1 to 6, as programs print it: `open fault 1`.
     pub fn number(self) -> u8
         ensures { result ≡ number_of self }
     {
@@ -35,6 +38,7 @@ impl OpenFault {
             OpenFault::Rules => 3,
             OpenFault::Store => 4,
             OpenFault::Memory => 5,
+            OpenFault::Older => 6,
         }
     }
 }

@@ -1,160 +1,111 @@
 //! Whether a database is one of this system.
 
-ghost use Rattle.std.specs.Prelude.{◌≡◌, false, true, IfErr, IsTrue, OnOk};
+ghost use Rattle.std.specs.Prelude.{◌≡◌, ◌<◌, [], false, true, slice_index_or, IfErr, IfOk, IsTrue};
+ghost use Rattle.std.specs.Prelude.{OnOk};
 ghost use Rattle.sqlite.specs.Held.{state};
 ghost use Rattle.sqlite.specs.State.{HasCleanDisk, Survives};
-ghost use Rattle.sql_tables.specs.Schema.{book_schema};
-ghost use Rattle.sql_opening.specs.Opens.{Finds, HasStoredTo, IsFound, IsNoVersion, IsTold};
+ghost use Rattle.sql_tables.specs.Schema.{schema_at};
+ghost use Rattle.sql_opening.specs.Opens.{FindsAll, IsFound, IsNoVersion, IsTold, IsVersion};
+ghost use Rattle.sql_opening.specs.Opens.{rowids_texts};
 
 use crate::fault::OpenFault;
 use crate::rising::{fault_of, rowids_differ};
 use crate::same::same_schema;
-use sql_tables::create_in_memory;
+use sql_tables::create_in_memory_at;
 use sqlite::{Alter, Connection};
 use std::alloc::Global;
 
-/// Tests that the tables of the database are ours, and no others.
-fn has_our_tables<S: Alter>(conn: &Connection<S>, alloc: Global) -> Result<(), OpenFault>
-    ensures ours { OnOk result (conn.now.schema ≡ book_schema) }
+/// Whether the tables of the database are those of this version, and no others.
+fn has_version<S: Alter>(
+    conn: &Connection<S>,
+    alloc: Global,
+    version: u32,
+) -> Result<bool, OpenFault>
+    requires known { IsVersion version }
+    ensures has { IfOk result (λ same. IsTrue same → conn.now.schema ≡ schema_at version) }
+    ensures all { IfOk result (λ same. conn.now.schema ≡ schema_at version → IsTrue same) }
     ensures told { IfErr result IsNoVersion }
     ensures means { IfErr result (IsTold (state S.Store conn.now).now) }
 {
-    let ours = match create_in_memory(alloc) {
+    let ours = match create_in_memory_at(alloc, version) {
         Ok(ours) => ours,
         Err(error) => return Err(fault_of(error)),
     };
-    if same_schema(ours.schema(), conn.schema()) {
-        Ok(())
-    } else {
-        Err(OpenFault::Foreign)
+    Ok(same_schema(ours.schema(), conn.schema()))
+}
+
+/// The version whose tables the database has, and no others.
+fn version_of<S: Alter>(conn: &Connection<S>, alloc: Global) -> Result<u32, OpenFault>
+    ensures version { IfOk result IsVersion }
+    ensures has { IfOk result (λ v. conn.now.schema ≡ schema_at v) }
+    ensures told { IfErr result IsNoVersion }
+    ensures means { IfErr result (IsTold (state S.Store conn.now).now) }
+{
+    let third = has_version(conn, alloc, 3)?;
+    if third {
+        return Ok(3);
+    }
+    let second = has_version(conn, alloc, 2)?;
+    if second {
+        return Ok(2);
+    }
+    let first = has_version(conn, alloc, 1)?;
+    if first {
+        return Ok(1);
+    }
+    Err(OpenFault::Foreign)
+}
+
+/// The text that selects the rowids of a table in order, by the table's place among those of all
+/// versions.
+fn rowids_text(at: usize) -> &'static str
+    requires { at < 14 }
+    ensures { result.now ≡ slice_index_or rowids_texts at [] }
+{
+    match at {
+        0 => "SELECT rowid FROM meta ORDER BY rowid",
+        1 => "SELECT rowid FROM accounts ORDER BY rowid",
+        2 => "SELECT rowid FROM buckets ORDER BY rowid",
+        3 => "SELECT rowid FROM counters ORDER BY rowid",
+        4 => "SELECT rowid FROM sessions ORDER BY rowid",
+        5 => "SELECT rowid FROM session_groups ORDER BY rowid",
+        6 => "SELECT rowid FROM holds ORDER BY rowid",
+        7 => "SELECT rowid FROM answers ORDER BY rowid",
+        8 => "SELECT rowid FROM vouchers ORDER BY rowid",
+        9 => "SELECT rowid FROM charges ORDER BY rowid",
+        10 => "SELECT rowid FROM books ORDER BY rowid",
+        11 => "SELECT rowid FROM grant_books ORDER BY rowid",
+        12 => "SELECT rowid FROM allowance_buckets ORDER BY rowid",
+        _ => "SELECT rowid FROM covered ORDER BY rowid",
     }
 }
 
-/// Tests that no rowid of `meta` stands twice.
-fn meta_differ<S: Alter>(conn: &mut Connection<S>) -> Result<(), OpenFault>
-    requires { HasStoredTo 0 (state S.Store conn.old) }
-    ensures { Finds 1 (state S.Store conn.old) (state S.Store conn.new) result }
+/// Tests that no rowid stands twice in a table of a version.
+fn tables_differ<S: Alter>(conn: &mut Connection<S>, version: u32) -> Result<(), OpenFault>
+    requires known { IsVersion version }
+    requires has { conn.old.schema ≡ schema_at version }
+    ensures { FindsAll version (state S.Store conn.old) (state S.Store conn.new) result }
 {
-    rowids_differ(conn, "SELECT rowid FROM meta ORDER BY rowid")
-}
-
-/// Tests that no rowid of `accounts` stands twice.
-fn accounts_differ<S: Alter>(conn: &mut Connection<S>) -> Result<(), OpenFault>
-    requires { HasStoredTo 1 (state S.Store conn.old) }
-    ensures { Finds 2 (state S.Store conn.old) (state S.Store conn.new) result }
-{
-    rowids_differ(conn, "SELECT rowid FROM accounts ORDER BY rowid")
-}
-
-/// Tests that no rowid of `buckets` stands twice.
-fn buckets_differ<S: Alter>(conn: &mut Connection<S>) -> Result<(), OpenFault>
-    requires { HasStoredTo 2 (state S.Store conn.old) }
-    ensures { Finds 3 (state S.Store conn.old) (state S.Store conn.new) result }
-{
-    rowids_differ(conn, "SELECT rowid FROM buckets ORDER BY rowid")
-}
-
-/// Tests that no rowid of `counters` stands twice.
-fn counters_differ<S: Alter>(conn: &mut Connection<S>) -> Result<(), OpenFault>
-    requires { HasStoredTo 3 (state S.Store conn.old) }
-    ensures { Finds 4 (state S.Store conn.old) (state S.Store conn.new) result }
-{
-    rowids_differ(conn, "SELECT rowid FROM counters ORDER BY rowid")
-}
-
-/// Tests that no rowid of `sessions` stands twice.
-fn sessions_differ<S: Alter>(conn: &mut Connection<S>) -> Result<(), OpenFault>
-    requires { HasStoredTo 4 (state S.Store conn.old) }
-    ensures { Finds 5 (state S.Store conn.old) (state S.Store conn.new) result }
-{
-    rowids_differ(conn, "SELECT rowid FROM sessions ORDER BY rowid")
-}
-
-/// Tests that no rowid of `session_groups` stands twice.
-fn session_groups_differ<S: Alter>(conn: &mut Connection<S>) -> Result<(), OpenFault>
-    requires { HasStoredTo 5 (state S.Store conn.old) }
-    ensures { Finds 6 (state S.Store conn.old) (state S.Store conn.new) result }
-{
-    rowids_differ(conn, "SELECT rowid FROM session_groups ORDER BY rowid")
-}
-
-/// Tests that no rowid of `holds` stands twice.
-fn holds_differ<S: Alter>(conn: &mut Connection<S>) -> Result<(), OpenFault>
-    requires { HasStoredTo 6 (state S.Store conn.old) }
-    ensures { Finds 7 (state S.Store conn.old) (state S.Store conn.new) result }
-{
-    rowids_differ(conn, "SELECT rowid FROM holds ORDER BY rowid")
-}
-
-/// Tests that no rowid of `answers` stands twice.
-fn answers_differ<S: Alter>(conn: &mut Connection<S>) -> Result<(), OpenFault>
-    requires { HasStoredTo 7 (state S.Store conn.old) }
-    ensures { Finds 8 (state S.Store conn.old) (state S.Store conn.new) result }
-{
-    rowids_differ(conn, "SELECT rowid FROM answers ORDER BY rowid")
-}
-
-/// Tests that no rowid of `vouchers` stands twice.
-fn vouchers_differ<S: Alter>(conn: &mut Connection<S>) -> Result<(), OpenFault>
-    requires { HasStoredTo 8 (state S.Store conn.old) }
-    ensures { Finds 9 (state S.Store conn.old) (state S.Store conn.new) result }
-{
-    rowids_differ(conn, "SELECT rowid FROM vouchers ORDER BY rowid")
-}
-
-/// Tests that no rowid of `charges` stands twice.
-fn charges_differ<S: Alter>(conn: &mut Connection<S>) -> Result<(), OpenFault>
-    requires { HasStoredTo 9 (state S.Store conn.old) }
-    ensures { Finds 10 (state S.Store conn.old) (state S.Store conn.new) result }
-{
-    rowids_differ(conn, "SELECT rowid FROM charges ORDER BY rowid")
-}
-
-/// Tests that no rowid of the tables of accounts and their money stands twice.
-fn money_differs<S: Alter>(conn: &mut Connection<S>) -> Result<(), OpenFault>
-    requires { HasStoredTo 0 (state S.Store conn.old) }
-    ensures { Finds 4 (state S.Store conn.old) (state S.Store conn.new) result }
-{
-    meta_differ(conn)?;
-    accounts_differ(conn)?;
-    buckets_differ(conn)?;
-    counters_differ(conn)?;
+    let count = conn.schema().tables.len();
+    rowids_differ(conn, version, rowids_text(0))?;
+    'tables: for at in 1..count {
+        rowids_differ(conn, version, rowids_text(at))?;
+    }
     Ok(())
 }
 
-/// Tests that no rowid of the tables of sessions, and of what is kept of them stands twice.
-fn session_tables_differ<S: Alter>(conn: &mut Connection<S>) -> Result<(), OpenFault>
-    requires { HasStoredTo 4 (state S.Store conn.old) }
-    ensures { Finds 8 (state S.Store conn.old) (state S.Store conn.new) result }
-{
-    sessions_differ(conn)?;
-    session_groups_differ(conn)?;
-    holds_differ(conn)?;
-    answers_differ(conn)?;
-    Ok(())
-}
-
-/// Tests that no rowid of the tables of vouchers and charges stands twice.
-fn other_tables_differ<S: Alter>(conn: &mut Connection<S>) -> Result<(), OpenFault>
-    requires { HasStoredTo 8 (state S.Store conn.old) }
-    ensures { Finds 10 (state S.Store conn.old) (state S.Store conn.new) result }
-{
-    vouchers_differ(conn)?;
-    charges_differ(conn)?;
-    Ok(())
-}
-
-/// Tests that the database has this system's ten tables and their indexes, and no other table, and
-/// that no rowid of theirs stands twice: then each statement of this system does what it says. Each
-/// row is looked at once. Nothing is changed, whatever is answered.
+/// Which version's tables the database has: it tests that it has exactly those and their indexes,
+/// and that no rowid of theirs stands twice. Then each statement that is written for the version
+/// does what it says. Each row is looked at once. Nothing is changed, whatever is answered.
 ///
 /// # Errors
-/// `Foreign` only where the tables aren't exactly ours, `Rules` only where a rowid of ours stands
-/// twice or is no integer; `Store` where the store failed or a transaction is open; `Memory` where
-/// memory was refused.
-pub fn find_tables<S: Alter>(conn: &mut Connection<S>, alloc: Global) -> Result<(), OpenFault>
+/// `Foreign` only where the tables are exactly those of no version, `Rules` only where they are
+/// those of one and a rowid stands twice or is no integer; `Store` where the store failed or a
+/// transaction is open; `Memory` where memory was refused.
+pub fn find_tables<S: Alter>(conn: &mut Connection<S>, alloc: Global) -> Result<u32, OpenFault>
     ensures found { HasCleanDisk (state S.Store conn.new) →
-        OnOk result (IsFound (state S.Store conn.old) (state S.Store conn.new)) }
+        IfOk result (λ v. IsFound v (state S.Store conn.old) (state S.Store conn.new)) }
+    ensures version { IfOk result IsVersion }
     ensures idle { OnOk result (conn.new.in_transaction ≡ false) }
     ensures told { IfErr result IsNoVersion }
     ensures means { HasCleanDisk (state S.Store conn.new) →
@@ -164,12 +115,10 @@ pub fn find_tables<S: Alter>(conn: &mut Connection<S>, alloc: Global) -> Result<
     if !conn.is_autocommit() {
         return Err(OpenFault::Store);
     }
-    has_our_tables(conn, alloc)?;
-    money_differs(conn)?;
-    session_tables_differ(conn)?;
-    other_tables_differ(conn)?;
+    let version = version_of(conn, alloc)?;
+    tables_differ(conn, version)?;
     if conn.is_autocommit() {
-        Ok(())
+        Ok(version)
     } else {
         Err(OpenFault::Store)
     }

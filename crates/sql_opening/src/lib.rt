@@ -1,5 +1,5 @@
-//! Tests of a database that was made elsewhere: whether it has this system's tables and no other,
-//! and whether a rowid of one of them stands twice.
+//! Tests of a database that was made elsewhere: which version's tables it has and no other, and
+//! whether a rowid of one of them stands twice.
 #![tactic(auto)]
 
 mod fault;

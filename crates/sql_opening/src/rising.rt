@@ -8,8 +8,9 @@ ghost use Rattle.sqlite.specs.Given.{IsPlain};
 ghost use Rattle.sqlite.specs.Held.{Held, state};
 ghost use Rattle.sqlite.specs.Listing.{understood};
 ghost use Rattle.sqlite.specs.State.{HasCleanDisk, IsUnchanged, Shown, Survives};
-ghost use Rattle.sql_tables.specs.Schema.{book_schema};
+ghost use Rattle.sql_tables.specs.Schema.{schema_at};
 ghost use Rattle.sql_opening.specs.Opens.{Finds, HasStoredTo, IsNext, IsNoVersion, IsTold};
+ghost use Rattle.sql_opening.specs.Opens.{IsVersion};
 ghost use Rattle.sql_opening.specs.Rises.{AreRising, Climbs, IsAbove};
 
 use crate::fault::OpenFault;
@@ -94,13 +95,21 @@ fn are_rising<S: Alter>(conn: &mut Connection<S>, sql: &str) -> Result<bool, Err
     Err(Error::SqliteFailure(ErrorCode::TooBig))
 }
 
-/// Tests that no rowid of one more table stands twice; `sql` selects its rowids in order.
-pub(crate) fn rowids_differ<S: Alter>(conn: &mut Connection<S>, sql: &str) -> Result<(), OpenFault>
-    requires plain { IsPlain (understood book_schema sql.now) }
-    requires ours { HasCleanDisk (state S.Store conn.old) → conn.old.schema ≡ book_schema }
-    ensures { (k : ℕ) → IsNext sql.now k → HasStoredTo k (state S.Store conn.old)
-        → Finds (k + 1) (state S.Store conn.old) (state S.Store conn.new) result }
+/// Tests that no rowid of one more table of a version stands twice; `sql` selects its rowids in
+/// order.
+pub(crate) fn rowids_differ<S: Alter>(
+    conn: &mut Connection<S>,
+    version: u32,
+    sql: &str,
+) -> Result<(), OpenFault>
+    requires known { IsVersion version }
+    requires plain { IsPlain (understood (schema_at version) sql.now) }
+    requires ours { HasCleanDisk (state S.Store conn.old) → conn.old.schema ≡ schema_at version }
+    ensures { (k : ℕ) → IsNext version sql.now k → HasStoredTo version k (state S.Store conn.old)
+        → Finds version (k + 1) (state S.Store conn.old) (state S.Store conn.new) result }
 {
+    // For the prover alone: the version whose schema the text is read over.
+    let _version = version;
     match are_rising(conn, sql) {
         Ok(true) => Ok(()),
         Ok(false) => Err(OpenFault::Rules),

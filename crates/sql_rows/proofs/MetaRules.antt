@@ -38,7 +38,7 @@ below_zero : (n : ℕ) → is_false (binary (Compare Ge Binary) (Int (negsuc n))
 unfolding binary
 below_zero n = ap (λ o. is_false (from_truth (Some (is_ge o)))) (value_cmp-Int (negsuc n) (pos 0))
 
-whole_in : (v : Value) → is_of kind.Integer v ≡ true → not (is_null v) ≡ true
+pub whole_in : (v : Value) → is_of kind.Integer v ≡ true → not (is_null v) ≡ true
     → not (is_false (binary (Compare Ge Binary) v (Int (pos 0)))) ≡ true → v ≡ nat (nat_in v)
 whole_in Null kinds full rule = absurd (cc)
 whole_in (Int (pos n)) kinds full rule = refl
@@ -48,7 +48,7 @@ whole_in (Real x) kinds full rule = absurd (cc)
 whole_in (Text t) kinds full rule = absurd (cc)
 whole_in (Blob b) kinds full rule = absurd (cc)
 
-text_of : (v : Value) → is_of kind.Text v ≡ true → not (is_null v) ≡ true → v ≡ Text (text_in v)
+pub text_of : (v : Value) → is_of kind.Text v ≡ true → not (is_null v) ≡ true → v ≡ Text (text_in v)
 text_of Null kinds full = absurd (cc)
 text_of (Int n) kinds full = absurd (cc)
 text_of (Real x) kinds full = absurd (cc)
@@ -57,10 +57,10 @@ text_of (Blob b) kinds full = absurd (cc)
 
 -- ---- the row
 
-abbrev full_at : Row → ℕ → Bool
+abbrev pub full_at : Row → ℕ → Bool
 full_at row at = not (is_null (column row at))
 
-abbrev right_at : Row → ℕ → Bool
+abbrev pub right_at : Row → ℕ → Bool
 right_at row at = not (is_false (binary (Compare Ge Binary) (column row at) (Int (pos 0))))
 
 abbrev AreFull : Row → Type 0

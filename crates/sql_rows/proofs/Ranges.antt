@@ -1,5 +1,6 @@
 -- What SQL's tests say of numbers that lie beyond one and up to another.
 use Rattle.std.proofs.Common.{◌≡◌, ℕ, pos, negsuc, Bool, true, false, not, ◌&&◌, cond, Less, Equal}
+use Rattle.std.proofs.Common.{Ordering}
 use Rattle.std.proofs.Common.{Greater, Some, is_eq, refl, sym, ap, ap₂, ◌∙◌, arith, nat_lt}
 use Rattle.std.specs.Prelude.{nat_le}
 use Rattle.std.specs.Ordering.{int_cmp, is_gt, is_le}
@@ -8,11 +9,13 @@ use Rattle.std.proofs.lemmas.Bool.Decides.{nat_tests}
 use Rattle.sqlite_value.specs.declared.value.Value.{Value}
 use Rattle.sqlite_value.specs.declared.value.Value.TheVariants.{Null, Int, Real, Text, Blob}
 use Rattle.sqlite_value.specs.declared.keys.Collation.TheVariants.{Binary}
-use Rattle.sqlite_value.proofs.OrderLemmas.{value_cmp-Int}
+use Rattle.sqlite_value.specs.Order.{value_cmp}
+use Rattle.sqlite_value.proofs.OrderLemmas.{value_cmp-Int, value_cmp_total}
 use Rattle.sqlite_sql.specs.Ops.{binary, is_true, from_truth}
 use Rattle.sqlite_sql.specs.declared.ops.BinaryOp.TheVariants.{Compare}
 use Rattle.sqlite_sql.specs.declared.ops.CompareOp.TheVariants.{Gt, Le}
 use Rattle.sql_tables.proofs.Steps.{truth_told}
+use Rattle.sql_tables.proofs.Ties.{equal_is}
 use Rattle.sql_rows.specs.Values.{nat, nat_in}
 
 abbrev pub is_beyond : Value → Value → Bool
@@ -73,3 +76,44 @@ number_within after last (Int (negsuc m)) h = absurd (not_none after last h)
 number_within after last (Real x) h = absurd (not_none after last h)
 number_within after last (Text t) h = absurd (not_none after last h)
 number_within after last (Blob b) h = absurd (not_none after last h)
+
+-- ---- a value that ties with a number lies where the number does
+
+abbrev is_number : Value → Bool
+is_number Null = false
+is_number (Int n) = true
+is_number (Real x) = true
+is_number (Text t) = false
+is_number (Blob b) = false
+
+tied_number : (n : ℕ) (v : Value) → is_eq (value_cmp (nat n) v) ≡ true → is_number v ≡ true
+unfolding value_cmp
+tied_number n (Int m) tie = refl
+tied_number n (Real x) tie = refl
+tied_number n Null tie = absurd (cc)
+tied_number n (Text t) tie = absurd (cc)
+tied_number n (Blob b) tie = absurd (cc)
+
+abbrev compared : Ordering → Ordering → Bool
+compared o p = is_true (from_truth (Some (is_gt o))) && is_true (from_truth (Some (is_le p)))
+
+compared_told : (after last : ℕ) (v : Value) → is_number v ≡ true → lies_within after last v
+    ≡ compared (value_cmp v (nat after)) (value_cmp v (nat last))
+unfolding binary
+compared_told after last (Int n) h = refl
+compared_told after last (Real x) h = refl
+compared_told after last Null h = absurd (cc)
+compared_told after last (Text t) h = absurd (cc)
+compared_told after last (Blob b) h = absurd (cc)
+
+pub tied_within : (after last n : ℕ) (v : Value) → is_eq (value_cmp (nat n) v) ≡ true
+    → (nat_lt after n && nat_le n last) ≡ true → lies_within after last v ≡ true
+tied_within after last n v tie h =
+    let equal = equal_is (value_cmp (nat n) v) tie in
+    let one = value_cmp_total.congr (nat n) v (nat after) equal in
+    let two = value_cmp_total.congr (nat n) v (nat last) equal in
+    compared_told after last v (tied_number n v tie)
+    ∙ ap₂ compared (sym one) (sym two)
+    ∙ sym (compared_told after last (nat n) refl)
+    ∙ within_told after last n
+    ∙ h

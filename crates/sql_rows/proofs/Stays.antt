@@ -2,17 +2,19 @@
 use Rattle.std.proofs.Common.{◌≡◌, ◌≢◌, ℕ, List, [], ◌∷◌, Bool, true, false, Some, None, Option}
 use Rattle.std.proofs.Common.{length, refl, sym, ap, ◌∙◌, eq-eqb}
 use Rattle.std.specs.List.{AllByRecursion}
-use Rattle.std.specs.Prelude.{if◌then◌else◌, ◌==◌}
+use Rattle.std.specs.Prelude.{if◌then◌else◌, is_some, ◌==◌}
 use Rattle.sqlite_schema.specs.declared.schema.Table.{Table}
 use Rattle.sql_tables.specs.Keyed.{same_name}
 use Rattle.sqlite_trees.specs.Tree.{Trees}
 use Rattle.sql_tables.specs.Schema.{meta, accounts, buckets, counters, sessions, session_groups}
-use Rattle.sql_tables.specs.Schema.{holds, answers, vouchers, charges, book_schema}
+use Rattle.sql_tables.specs.Schema.{holds, answers, vouchers, charges, books, grant_books}
+use Rattle.sql_tables.specs.Schema.{allowance_buckets, covered, book_schema}
 use Rattle.sql_tables.proofs.Found.{kept_tells}
 use Rattle.sql_rows.specs.Values.{meta_key, head_key, bucket_key, counter_key, session_key}
 use Rattle.sql_rows.specs.Values.{group_key, hold_key, answer_key, voucher_key, charge_key, meta_in}
 use Rattle.sql_rows.specs.Values.{head_in, bucket_in, counter_in, session_in, group_in, hold_in}
-use Rattle.sql_rows.specs.Values.{answer_in, voucher_in, charge_in}
+use Rattle.sql_rows.specs.Values.{answer_in, voucher_in, charge_in, book_key, book_in}
+use Rattle.sql_rows.specs.Values.{grant_book_in, allowance_in, covered_in}
 use Rattle.sql_rows.specs.Content.{Rows, Content, rows_in, content_of, with_rows}
 
 pub meta_kept : (old new : Trees) → new meta.tree ≡ old meta.tree →
@@ -61,6 +63,25 @@ pub charges_kept : (old new : Trees) → new charges.tree ≡ old charges.tree �
     (rows_in new x).charges n ≡ (rows_in old x).charges n
 charges_kept old new e x n = kept_tells charge_in charges old new e (charge_key x n)
 
+pub grant_books_kept : (old new : Trees) → new grant_books.tree ≡ old grant_books.tree →
+    (x : List ℕ) (s : List ℕ) (g : ℕ) →
+    (rows_in new x).grant_books s g ≡ (rows_in old x).grant_books s g
+grant_books_kept old new e x s g =
+    kept_tells grant_book_in grant_books old new e (group_key x s g)
+
+pub allowances_kept : (old new : Trees) → new allowance_buckets.tree ≡ old allowance_buckets.tree →
+    (x : List ℕ) (n : ℕ) → (rows_in new x).allowances n ≡ (rows_in old x).allowances n
+allowances_kept old new e x n =
+    ap is_some (kept_tells allowance_in allowance_buckets old new e (bucket_key x n))
+
+pub covered_kept : (old new : Trees) → new covered.tree ≡ old covered.tree → (x : List ℕ) (n : ℕ) →
+    (rows_in new x).covered n ≡ (rows_in old x).covered n
+covered_kept old new e x n = kept_tells covered_in covered old new e (charge_key x n)
+
+pub books_kept : (old new : Trees) → new books.tree ≡ old books.tree → (n : ℕ) →
+    (content_of new).books n ≡ (content_of old).books n
+books_kept old new e n = kept_tells book_in books old new e (book_key n)
+
 -- the trees, but one of them new
 abbrev pub swapped : ℕ → Trees → Trees → Trees
 swapped at old new t = if t == at then new t else old t
@@ -88,8 +109,14 @@ only_changed at old new same = λ i. record {
     holds = λ s g n. holds_kept mix new (is holds same.1.1.1.1.1.1.0) x s g n i;
     answers = λ l t m. answers_kept mix new (is answers same.1.1.1.1.1.1.1.0) x l t m i;
     charges = λ n. charges_kept mix new (is charges same.1.1.1.1.1.1.1.1.1.0) x n i;
+    grant_books = λ s g.
+        grant_books_kept mix new (is grant_books same.1.1.1.1.1.1.1.1.1.1.1.0) x s g i;
+    allowances = λ n.
+        allowances_kept mix new (is allowance_buckets same.1.1.1.1.1.1.1.1.1.1.1.1.0) x n i;
+    covered = λ n. covered_kept mix new (is covered same.1.1.1.1.1.1.1.1.1.1.1.1.1.0) x n i;
   };
   vouchers = λ code. vouchers_kept mix new (is vouchers same.1.1.1.1.1.1.1.1.0) code i;
+  books = λ n. books_kept mix new (is books same.1.1.1.1.1.1.1.1.1.1.0) n i;
   count = length (is accounts same.1.0 i);
 }
   where

@@ -1,97 +1,51 @@
 -- What SQL's tests say of numbers.
-use Rattle.std.proofs.Common.{◌≡◌, ℕ, ℤ, pos, negsuc, zero, suc, ◌<◌, Bool, true, false, not, ◌&&◌}
-use Rattle.std.proofs.Common.{◌||◌, cond, Ordering, Less, Equal, Greater, Some, None, Option, is_eq}
-use Rattle.std.proofs.Common.{refl, sym, ap, ap₂, ◌∙◌, arith, nat_eq, nat_lt, ltb-true, eqb-true}
+use Rattle.std.proofs.Common.{◌≡◌, ℕ, pos, negsuc, Bool, true, false, cond, Less, Equal, Greater}
+use Rattle.std.proofs.Common.{Some, refl, sym, ap, ◌∙◌, arith, nat_eq, nat_lt, eqb-true}
 use Rattle.std.specs.Prelude.{◌==◌, if◌then◌else◌}
-use Rattle.std.specs.Ordering.{int_cmp, is_gt}
-use Rattle.std.proofs.lemmas.Bool.{or_parts}
+use Rattle.std.specs.Ordering.{is_ge}
+use Rattle.std.proofs.lemmas.Bool.Decides.{nat_tests}
 use Rattle.sqlite_value.specs.declared.value.Value.{Value}
 use Rattle.sqlite_value.specs.declared.value.Value.TheVariants.{Null, Int, Real, Text, Blob}
 use Rattle.sqlite_value.specs.declared.keys.Collation.TheVariants.{Binary}
-use Rattle.sqlite_value.specs.Order.{value_cmp}
 use Rattle.sqlite_value.proofs.OrderLemmas.{value_cmp-Int}
-use Rattle.sqlite_sql.specs.Ops.{binary, is_true, truth, from_truth, or3}
-use Rattle.sqlite_sql.specs.declared.ops.BinaryOp.TheVariants.{Compare, Or}
-use Rattle.sqlite_sql.specs.declared.ops.CompareOp.TheVariants.{Gt}
+use Rattle.sqlite_sql.specs.Ops.{binary, is_true, from_truth}
+use Rattle.sqlite_sql.specs.declared.ops.BinaryOp.TheVariants.{Compare}
+use Rattle.sqlite_sql.specs.declared.ops.CompareOp.TheVariants.{Ge}
 use Rattle.sqlite_schema.specs.Rules.{equal}
 use Rattle.reserving.specs.declared.session.SessionState.{SessionState}
 use Rattle.reserving.specs.declared.session.SessionState.TheVariants.{Open, Ended, NeverOpened}
 use Rattle.reserving.specs.Sessions.{is_open}
 use Rattle.sql_tables.proofs.Keys.{int_tie}
+use Rattle.sql_tables.proofs.Steps.{truth_told}
 use Rattle.sql_tables.proofs.Ties.{equal_present}
-use Rattle.sql_rows.specs.Values.{nat, nat_in, state_in, state_number}
+use Rattle.sql_rows.specs.Values.{nat, state_in, state_number}
 
--- ---- above zero
+-- ---- at least one
 
-abbrev pub above_zero : Value → Value
-above_zero v = binary (Compare Gt Binary) v (Int (pos 0))
+abbrev pub is_any : Value → Bool
+is_any v = is_true (binary (Compare Ge Binary) v (Int (pos 1)))
 
-pub above : (x : ℕ) → above_zero (nat x) ≡ from_truth (Some (nat_lt 0 x))
+no_less : (m : ℕ) (p q r : Bool) → nat_lt m 1 ≡ p → nat_lt 1 m ≡ q → nat_lt 0 m ≡ r →
+    is_ge (cond p Less (cond q Greater Equal)) ≡ r
+no_less m true q true e f g = absurd (grind (arith, nat_tests, e, g))
+no_less m true q false e f g = refl
+no_less m false true true e f g = refl
+no_less m false true false e f g = absurd (grind (arith, nat_tests, f, g))
+no_less m false false true e f g = refl
+no_less m false false false e f g = absurd (grind (arith, nat_tests, e, g))
+
+pub any_told : (m : ℕ) → is_any (nat m) ≡ nat_lt 0 m
 unfolding binary
-above x = ap (λ o. from_truth (Some (is_gt o))) (value_cmp-Int (pos x) (pos 0))
-    ∙ ap (λ t. from_truth (Some t)) (more x)
-  where
-    choose : (p q : Bool) → p ≡ false → is_gt (cond p Less (cond q Greater Equal)) ≡ q
-    choose true q e = absurd (cc)
-    choose false true e = refl
-    choose false false e = refl
+any_told m =
+    ap (λ o. is_true (from_truth (Some (is_ge o)))) (value_cmp-Int (pos m) (pos 1))
+    ∙ ap (λ t. is_true (from_truth (Some t)))
+    (no_less m (nat_lt m 1) (nat_lt 1 m) (nat_lt 0 m) refl refl refl)
+    ∙ truth_told (nat_lt 0 m)
 
-    none : (x : ℕ) (p : Bool) → nat_lt x 0 ≡ p → nat_lt x 0 ≡ false
-    none x false e = e
-    none x true e = absurd (let low : x < 0 = ltb-true x 0 e in omega arith)
+-- ---- nothing
 
-    more : (x : ℕ) → is_gt (int_cmp (pos x) (pos 0)) ≡ nat_lt 0 x
-    more x = choose (nat_lt x 0) (nat_lt 0 x) (none x (nat_lt x 0) refl)
-
-some_truth : (b : Bool) → truth (from_truth (Some b)) ≡ Some b
-some_truth true = refl
-some_truth false = refl
-
-above_truth : (v : Value) → nat_lt 0 (nat_in v) ≡ true → truth (above_zero v) ≡ Some true
-above_truth (Int (pos n)) h = ap truth (above n) ∙ some_truth (nat_lt 0 n) ∙ ap Some h
-above_truth Null h = absurd (cc)
-above_truth (Int (negsuc n)) h = absurd (cc)
-above_truth (Real x) h = absurd (cc)
-above_truth (Text t) h = absurd (cc)
-above_truth (Blob b) h = absurd (cc)
-
-or_left3 : (q : Option Bool) → is_true (from_truth (or3 (Some true) q)) ≡ true
-or_left3 q = refl
-
-or_right3 : (p : Option Bool) → is_true (from_truth (or3 p (Some true))) ≡ true
-or_right3 None = refl
-or_right3 (Some true) = refl
-or_right3 (Some false) = refl
-
--- money is available or reserved
-abbrev pub either_above : Value → Value → Bool
-either_above v w = is_true (binary Or (above_zero v) (above_zero w))
-
-pub above_either : (v w : Value) → (nat_lt 0 (nat_in v) || nat_lt 0 (nat_in w)) ≡ true →
-    either_above v w ≡ true
-unfolding binary
-above_either v w h = go (nat_lt 0 (nat_in v)) refl
-  where
-    go : (b : Bool) → nat_lt 0 (nat_in v) ≡ b → is_true (from_truth
-        (or3 (truth (above_zero v)) (truth (above_zero w)))) ≡ true
-    go true e = ap (λ t. is_true (from_truth (or3 t (truth (above_zero w))))) (above_truth v e)
-        ∙ or_left3 (truth (above_zero w))
-    go false e = ap (λ t. is_true (from_truth (or3 (truth (above_zero v)) t)))
-        (above_truth w (sym (ap (λ b. b || nat_lt 0 (nat_in w)) e) ∙ h))
-        ∙ or_right3 (truth (above_zero v))
-
-or_told : (p q : Bool) → is_true (from_truth (or3 (Some p) (Some q))) ≡ (p || q)
-or_told true true = refl
-or_told true false = refl
-or_told false true = refl
-or_told false false = refl
-
-pub either_told : (m n : ℕ) → either_above (nat m) (nat n) ≡ (nat_lt 0 m || nat_lt 0 n)
-unfolding binary
-either_told m n =
-    ap₂ (λ s t. is_true (from_truth (or3 s t))) (ap truth (above m) ∙ some_truth (nat_lt 0 m))
-    (ap truth (above n) ∙ some_truth (nat_lt 0 n))
-    ∙ or_told (nat_lt 0 m) (nat_lt 0 n)
+pub none_told : (m : ℕ) → equal Binary (nat m) (nat 0) ≡ nat_eq 0 m
+none_told m = equal_present (nat m) (nat 0) refl ∙ int_tie 0 m
 
 -- ---- the state of a session
 

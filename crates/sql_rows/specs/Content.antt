@@ -1,6 +1,7 @@
 -- What the tables hold, each row under its key.
 -- Source: profile.
-use Rattle.std.specs.Prelude.{ℕ, ◌&&◌, Bool, List, Option, Some, None, option_map, is_some, length}
+use Rattle.std.specs.Prelude.{ℕ, ◌&&◌, Bool, true, false, List, Option, Some, None, option_map}
+use Rattle.std.specs.Prelude.{is_some, length}
 use Rattle.std.specs.Prelude.{◌+◌, if◌then◌else◌, nat_eq}
 use Rattle.sqlite_trees.specs.Tree.{Trees}
 use Rattle.buckets.specs.Row.{Row as Bucket}
@@ -9,17 +10,20 @@ use Rattle.reserving.specs.declared.session.Counter.{Counter}
 use Rattle.reserving.specs.declared.charge.ChargeRow.{ChargeRow}
 use Rattle.sql_tables.specs.Keyed.{look, same_name}
 use Rattle.sql_tables.specs.Schema.{meta, accounts, buckets, counters, sessions, session_groups}
-use Rattle.sql_tables.specs.Schema.{holds, answers, vouchers, charges}
+use Rattle.sql_tables.specs.Schema.{holds, answers, vouchers, charges, books, grant_books}
+use Rattle.sql_tables.specs.Schema.{allowance_buckets, covered}
 use Rattle.sql_rows.specs.declared.head.Head.{Head}
 use Rattle.sql_rows.specs.Values.{Meta, Group, Kept, Voucher, meta_key, head_key, bucket_key}
 use Rattle.sql_rows.specs.Values.{counter_key, session_key, group_key, hold_key, answer_key}
 use Rattle.sql_rows.specs.Values.{voucher_key, charge_key, meta_in, head_in, bucket_in, counter_in}
 use Rattle.sql_rows.specs.Values.{session_in, group_in, hold_in, answer_in, voucher_in, charge_in}
+use Rattle.sql_rows.specs.Values.{CoveredRow, DatedBook, book_key, book_in, grant_book_in}
+use Rattle.sql_rows.specs.Values.{allowance_in, covered_in}
 
 -- what is stored of an account; texts are known by their bytes
 pub record Rows : Type 0 where
   pub head : Option Head
-  -- by number
+  -- by number, as their columns tell them: as buckets of money
   pub buckets : ℕ → Option Bucket
   -- by rating group and cycle
   pub counters : ℕ → ℕ → Option Counter
@@ -31,8 +35,14 @@ pub record Rows : Type 0 where
   pub holds : List ℕ → ℕ → ℕ → Option ℕ
   -- by kind, name and number
   pub answers : ℕ → List ℕ → ℕ → Option Kept
-  -- by number
+  -- by number, as their columns tell them: without covered blocks
   pub charges : ℕ → Option ChargeRow
+  -- the number of the book that a reservation goes by, by session and rating group
+  pub grant_books : List ℕ → ℕ → Option ℕ
+  -- whether a bucket counts blocks, by its number
+  pub allowances : ℕ → Bool
+  -- the blocks of a charge that allowances paid, by its number
+  pub covered : ℕ → Option ℕ
 
 pub record Content : Type 0 where
   pub meta : Option Meta
@@ -40,6 +50,8 @@ pub record Content : Type 0 where
   pub rows : List ℕ → Rows
   -- by code
   pub vouchers : List ℕ → Option Voucher
+  -- the books after the first, by number
+  pub books : ℕ → Option DatedBook
   -- how many accounts there are
   pub count : ℕ
 
@@ -100,6 +112,38 @@ with_answer kind name number k r = record r {
 abbrev pub with_charge : ChargeRow → Rows → Rows
 with_charge x r = record r { charges = λ n. if nat_eq x.number n then Some x else r.charges n }
 
+-- the book of a reservation
+abbrev pub with_grant_book : List ℕ → ℕ → ℕ → Rows → Rows
+with_grant_book s g n r = record r {
+  grant_books = λ t h. if same_name s t && nat_eq g h then Some n else r.grant_books t h;
+}
+
+abbrev pub without_grant_book : List ℕ → ℕ → Rows → Rows
+without_grant_book s g r = record r {
+  grant_books = λ t h. if same_name s t && nat_eq g h then None else r.grant_books t h;
+}
+
+-- the bucket counts blocks
+abbrev pub with_allowance : ℕ → Rows → Rows
+with_allowance n r =
+    record r { allowances = λ m. if nat_eq n m then true else r.allowances m }
+
+-- the bucket counts money
+abbrev pub without_allowance : ℕ → Rows → Rows
+without_allowance n r =
+    record r { allowances = λ m. if nat_eq n m then false else r.allowances m }
+
+abbrev pub with_covered : CoveredRow → Rows → Rows
+with_covered x r =
+    record r { covered = λ n. if nat_eq x.number n then Some x.blocks else r.covered n }
+
+-- no block of the charge is covered
+abbrev pub without_covered : ℕ → Rows → Rows
+without_covered n r = record r { covered = λ m. if nat_eq n m then None else r.covered m }
+
+abbrev pub with_book : ℕ → DatedBook → Content → Content
+with_book n x c = record c { books = λ m. if nat_eq n m then Some x else c.books m }
+
 abbrev pub with_voucher : List ℕ → Voucher → Content → Content
 with_voucher code x c =
     record c { vouchers = λ k. if same_name code k then Some x else c.vouchers k }
@@ -117,6 +161,10 @@ rows_in trees a = record {
   answers = λ kind name number.
       option_map answer_in (look answers trees (answer_key a kind name number));
   charges = λ n. option_map charge_in (look charges trees (charge_key a n));
+  grant_books = λ s g. option_map grant_book_in (look grant_books trees (group_key a s g));
+  allowances = λ n.
+      is_some (option_map allowance_in (look allowance_buckets trees (bucket_key a n)));
+  covered = λ n. option_map covered_in (look covered trees (charge_key a n));
 }
 
 abbrev pub content_of : Trees → Content
@@ -124,5 +172,6 @@ content_of trees = record {
   meta = option_map meta_in (look meta trees meta_key);
   rows = rows_in trees;
   vouchers = λ code. option_map voucher_in (look vouchers trees (voucher_key code));
+  books = λ n. option_map book_in (look books trees (book_key n));
   count = length (trees accounts.tree);
 }

@@ -8,19 +8,20 @@ use Rattle.reserving.specs.declared.session.Counter.{Counter}
 use Rattle.reserving.specs.declared.charge.ChargeRow.{ChargeRow}
 use Rattle.sql_rows.specs.Content.{Content, with_rows, with_bucket, with_session, with_charge}
 use Rattle.sql_rows.specs.Content.{with_counter, with_hold}
+use Rattle.sql_rows.specs.Values.{plain_bucket, plain_charge}
 
 abbrev pub with_each : {X : Type 0} → (X → Content → Content) → List X → Content → Content
 with_each change [] c = c
 with_each change (x ∷ xs) c = with_each change xs (change x c)
 
 abbrev pub with_buckets : List ℕ → List Bucket → Content → Content
-with_buckets a = with_each (λ x. with_rows a (with_bucket x))
+with_buckets a = with_each (λ x. with_rows a (with_bucket (plain_bucket x)))
 
 abbrev pub with_sessions : List ℕ → List Session → Content → Content
 with_sessions a = with_each (λ x. with_rows a (with_session x))
 
 abbrev pub with_charges : List ℕ → List ChargeRow → Content → Content
-with_charges a = with_each (λ x. with_rows a (with_charge x))
+with_charges a = with_each (λ x. with_rows a (with_charge (plain_charge x)))
 
 abbrev pub with_counters : List ℕ → List Counter → Content → Content
 with_counters a = with_each (λ x. with_rows a (with_counter x))

@@ -2,8 +2,10 @@
 -- none.
 -- Source: profile.
 use Rattle.std.specs.Prelude.{◌≡◌, ℕ, ◌&&◌, ◌||◌, nat_eq, nat_lt, nat_le, ◌<◌, Bool, not, List, []}
-use Rattle.std.specs.Prelude.{◌∷◌, length, Option, None, option_map, is_some, if◌then◌else◌}
+use Rattle.std.specs.Prelude.{◌∷◌, length, Option, Some, None, option_map, is_some, false}
+use Rattle.std.specs.Prelude.{if◌then◌else◌}
 use Rattle.std.specs.List.{find}
+use Rattle.sqlite_value.specs.declared.value.Value.TheVariants.{Text}
 use Rattle.sqlite_value.specs.Order.{Row as Values}
 use Rattle.buckets.specs.Row.{Row as Bucket}
 use Rattle.reserving.specs.declared.session.Session.{Session}
@@ -12,11 +14,20 @@ use Rattle.reserving.specs.declared.charge.ChargeRow.{ChargeRow}
 use Rattle.reserving.specs.Rows.{AreApart}
 use Rattle.sql_tables.specs.Keyed.{same_name}
 use Rattle.sql_tables.specs.Selects.{only}
-use Rattle.sql_rows.specs.Values.{Group, group_cells, nat}
+use Rattle.sql_rows.specs.Values.{CoveredRow, DatedBook, Group, book_values, flag_number}
+use Rattle.sql_rows.specs.Values.{group_cells, nat}
 use Rattle.sql_rows.specs.Content.{Content, Rows}
 
 abbrev pub is_live : Bucket → Bool
 is_live b = nat_lt 0 b.available || nat_lt 0 b.reserved
+
+-- something of it is available
+abbrev pub is_left : Bucket → Bool
+is_left b = nat_lt 0 b.available
+
+-- nothing of it is available, and something reserved
+abbrev pub is_held : Bucket → Bool
+is_held b = nat_eq 0 b.available && nat_lt 0 b.reserved
 
 abbrev pub is_dead : Bucket → Bool
 is_dead b = not (is_live b)
@@ -36,6 +47,14 @@ pub record AreAccounts (content : Content) (xs : List (List ℕ)) : Type 0 where
 -- the buckets that pass the test: each by its number, and no other
 abbrev pub AreBuckets : (Bucket → Bool) → Rows → List Bucket → Type 0
 AreBuckets test rows bs = (n : ℕ) → find (λ b. nat_eq b.number n) bs ≡ only test (rows.buckets n)
+
+-- one list of two: under a number that one of them hasn't it has what the other has
+abbrev pub AreJoined : {X : Type 0} → (X → ℕ) → List X → List X → List X → Type 0
+AreJoined number xs ys zs = (n : ℕ) →
+    (find (λ x. nat_eq (number x) n) xs ≡ None →
+    find (λ x. nat_eq (number x) n) zs ≡ find (λ x. nat_eq (number x) n) ys)
+    × (find (λ x. nat_eq (number x) n) ys ≡ None →
+    find (λ x. nat_eq (number x) n) zs ≡ find (λ x. nat_eq (number x) n) xs)
 
 -- the sessions that pass the test
 abbrev pub AreSessions : (Session → Bool) → Rows → List Session → Type 0
@@ -70,6 +89,64 @@ abbrev pub AreHolds : Rows → List ℕ → List HoldAt → Type 0
 AreHolds rows s xs = (g n : ℕ) →
     option_map (λ (x : HoldAt). x.amount) (find (λ x. nat_eq x.group g && nat_eq x.bucket n) xs)
     ≡ rows.holds s g n
+
+-- the number of the book of a session's reservation in a rating group
+pub record GrantBookAt : Type 0 where
+  pub group : ℕ
+  pub book : ℕ
+
+abbrev pub grant_book_cells : GrantBookAt → Values
+grant_book_cells x = nat x.group ∷ nat x.book ∷ []
+
+-- those of all reservations of the session
+abbrev pub AreGrantBooks : Rows → List ℕ → List GrantBookAt → Type 0
+AreGrantBooks rows s xs = (g : ℕ) →
+    option_map (λ (x : GrantBookAt). x.book) (find (λ x. nat_eq x.group g) xs)
+    ≡ rows.grant_books s g
+
+-- a book after the first under its number
+pub record BookAt : Type 0 where
+  pub number : ℕ
+  pub row : DatedBook
+
+abbrev pub book_at_cells : BookAt → Values
+book_at_cells x = book_values x.number x.row
+
+-- all books after the first
+abbrev pub AreBooks : Content → List BookAt → Type 0
+AreBooks content xs = (n : ℕ) →
+    option_map (λ (x : BookAt). x.row) (find (λ x. nat_eq x.number n) xs) ≡ content.books n
+
+-- the numbers of all buckets that count blocks
+abbrev pub AreAllowances : Rows → List ℕ → Type 0
+AreAllowances rows xs = (n : ℕ) → is_some (find (λ x. nat_eq x n) xs) ≡ rows.allowances n
+
+-- a rating group of a session that has a reservation
+pub record ReservedAt : Type 0 where
+  pub account : List ℕ
+  pub session : List ℕ
+  pub group : ℕ
+  pub reserved : Bool
+
+abbrev pub reserved_cells : ReservedAt → Values
+reserved_cells x =
+    Text x.account ∷ Text x.session ∷ nat x.group ∷ nat (flag_number x.reserved) ∷ []
+
+abbrev pub has_reservation : Option Group → Bool
+has_reservation None = false
+has_reservation (Some x) = is_some x.periods
+
+-- the rating groups of all sessions that have a reservation
+abbrev pub AreReserved : Content → List ReservedAt → Type 0
+AreReserved content xs = (a s : List ℕ) (g : ℕ) →
+    is_some (find (λ x. same_name x.account a && (same_name x.session s && nat_eq x.group g)) xs)
+    ≡ has_reservation ((content.rows a).groups s g)
+
+-- the covered blocks of the charges beyond a number, and up to another
+abbrev pub AreCovered : ℕ → ℕ → Rows → List CoveredRow → Type 0
+AreCovered after last rows xs = (n : ℕ) →
+    option_map (λ (x : CoveredRow). x.blocks) (find (λ x. nat_eq x.number n) xs)
+    ≡ (if nat_lt after n && nat_le n last then rows.covered n else None)
 
 -- whether a charge lies beyond a number, and up to another
 abbrev pub is_within : ℕ → ℕ → ChargeRow → Bool

@@ -1,8 +1,12 @@
--- The row that is kept once, in the rules of who reads it.
+-- Rows in the rules of who reads them: the one that is kept once, those of books, and those of
+-- reservations.
 -- Source: profile.
-use Rattle.std.specs.Prelude.{ℕ, ◌<◌, ◌≤◌, ◌^◌, Option, Some, None}
+use Rattle.std.specs.Prelude.{◌≡◌, ℕ, ◌<◌, ◌≤◌, ◌^◌, List, IsTrue, Option, Some, None}
 use Rattle.std.specs.Str.{IsUtf8}
-use Rattle.sql_rows.specs.Values.{Meta}
+use Rattle.identifiers.specs.Texts.{is_account_number, is_session_id}
+use Rattle.sql_rows.specs.Content.{Content}
+use Rattle.sql_rows.specs.Lists.{BookAt, ReservedAt, has_reservation}
+use Rattle.sql_rows.specs.Values.{DatedBook, Meta}
 
 -- the version is below 2^32, the text is one of characters, and the moment is in the range of
 -- moments
@@ -15,3 +19,28 @@ pub record IsRuledMeta (m : Meta) : Type 0 where
 abbrev pub IsRefusedMeta : Option Meta → Type 0
 IsRefusedMeta None = ⊥
 IsRefusedMeta (Some m) = ¬ IsRuledMeta m
+
+-- a book after the first: its number is below 2^32, its moment in the range of moments, and its
+-- text one of characters
+pub record IsRuledBook (x : BookAt) : Type 0 where
+  pub number : x.number < 2 ^ 32
+  pub starts : x.row.starts ≤ 4_102_488_000
+  pub content : IsUtf8 x.row.content
+
+-- each book that is there is in the rules
+abbrev pub AreRuledBooks : (ℕ → Option DatedBook) → Type 0
+AreRuledBooks books = (n : ℕ) (x : DatedBook) → books n ≡ Some x
+    → IsRuledBook (record { number = n; row = x })
+
+-- a reservation is told: its account's number and its session's name are such texts, and its rating
+-- group is below 2^32
+pub record IsRuledReserved (x : ReservedAt) : Type 0 where
+  pub account : IsTrue (is_account_number x.account)
+  pub session : IsTrue (is_session_id x.session)
+  pub group : x.group < 2 ^ 32
+  pub is_reserved : IsTrue x.reserved
+
+-- each reservation is in the rules
+abbrev pub AreRuledReserved : Content → Type 0
+AreRuledReserved c = (a s : List ℕ) (g : ℕ) → IsTrue (has_reservation ((c.rows a).groups s g))
+    → IsTrue (is_account_number a) × IsTrue (is_session_id s) × (g < 2 ^ 32)

@@ -1,6 +1,6 @@
 -- Rows as they are read, as those of the content.
 -- Source: profile.
-use Rattle.std.specs.Prelude.{◌≡◌, ℕ, Bool, List, map, Option, is_some, option_map, Result, Vec}
+use Rattle.std.specs.Prelude.{◌≡◌, ℕ, Bool, true, List, map, Option, is_some, option_map, Result, Vec}
 use Rattle.std.specs.Global.{Global}
 use Rattle.std.specs.String.{string_bytes}
 use Rattle.sqlite_value.specs.Order.{Row as Values, column}
@@ -11,15 +11,19 @@ use Rattle.buckets.specs.Row.{Row as Bucket}
 use Rattle.buckets.specs.declared.bucket.columns.Columns.{Columns as BucketColumns}
 pub use Rattle.buckets.specs.Columns.{row_of as bucket_row}
 use Rattle.sql_rows.specs.declared.answer_rows.Kept.{Kept as KeptTexts}
+use Rattle.sql_rows.specs.declared.book_rows.BookColumns.{BookColumns}
+use Rattle.sql_rows.specs.declared.covered_rows.CoveredColumns.{CoveredColumns}
+use Rattle.sql_rows.specs.declared.grant_book_rows.GrantBook.{GrantBook}
 use Rattle.sql_rows.specs.declared.group_rows.GroupColumns.{GroupColumns}
 use Rattle.sql_rows.specs.declared.group_rows.PeriodNames.{PeriodNames as ReadNames}
 use Rattle.sql_rows.specs.declared.hold_rows.HeldColumns.{HeldColumns}
 use Rattle.sql_rows.specs.declared.meta_rows.Meta.{Meta as MetaRow}
+use Rattle.sql_rows.specs.declared.reserved_rows.ReservedColumns.{ReservedColumns}
 use Rattle.sql_rows.specs.declared.voucher_rows.VoucherColumns.{VoucherColumns}
 use Rattle.sql_tables.specs.Statements.{Reads}
 use Rattle.sql_rows.specs.Content.{rows_in}
-use Rattle.sql_rows.specs.Lists.{AreBuckets, GroupAt, HoldAt}
-use Rattle.sql_rows.specs.Values.{Kept, Meta, PeriodNames, Voucher}
+use Rattle.sql_rows.specs.Lists.{AreBuckets, BookAt, GrantBookAt, GroupAt, HoldAt, ReservedAt}
+use Rattle.sql_rows.specs.Values.{CoveredRow, Kept, Meta, PeriodNames, Voucher}
 
 abbrev pub kept_of : KeptTexts → Kept
 kept_of k = record { content = string_bytes k.content; answer = string_bytes k.answer }
@@ -47,6 +51,26 @@ group_at g = record {
 
 abbrev pub hold_at : HeldColumns → HoldAt
 hold_at h = record { group = h.group; bucket = h.bucket; amount = h.amount }
+
+abbrev pub book_at : BookColumns → BookAt
+book_at b = record {
+  number = b.number;
+  row = record { starts = b.starts; content = string_bytes b.content };
+}
+
+abbrev pub grant_book_at : GrantBook → GrantBookAt
+grant_book_at x = record { group = x.group; book = x.book }
+
+abbrev pub reserved_at : ReservedColumns → ReservedAt
+reserved_at x = record {
+  account = x.account;
+  session = x.session;
+  group = x.group;
+  reserved = true;
+}
+
+abbrev pub covered_row : CoveredColumns → CoveredRow
+covered_row x = record { number = x.number; blocks = x.blocks }
 
 -- the names stand in their columns, and are there exactly where the group has a reservation
 pub record ArePeriods (row : Values) (is_reserved : Bool) (o : Option ReadNames) : Type 0 where

@@ -117,19 +117,24 @@ head_in v = record {
 abbrev pub bucket_key : List ℕ → ℕ → Values
 bucket_key a n = Text a ∷ nat n ∷ []
 
--- the columns of money after the account's
+-- the columns after the account's; whether they count money or blocks stands in
+-- `allowance_buckets`
 abbrev pub money_cells : Bucket → Values
 money_cells b =
     nat b.number ∷ nat b.from ∷ nat b.until ∷ or_null nat b.scope ∷ nat b.credited
     ∷ nat b.available ∷ nat b.reserved ∷ nat b.charged ∷ nat b.expired ∷ []
 
--- the columns of a bucket: one of blocks has none
+-- the columns of a bucket as it is read: one of blocks has none
 abbrev pub cells_of : BucketKind → Values → Values
 cells_of Money cells = cells
 cells_of Blocks cells = []
 
 abbrev pub bucket_cells : Bucket → Values
 bucket_cells b = cells_of b.kind (money_cells b)
+
+-- as the columns tell it: not whether it counts money or blocks
+abbrev pub plain_bucket : Bucket → Bucket
+plain_bucket b = record b { kind = Money }
 
 abbrev pub bucket_values : List ℕ → Bucket → Values
 bucket_values a b = Text a ∷ money_cells b
@@ -288,19 +293,23 @@ voucher_in v = record {
 abbrev pub charge_key : List ℕ → ℕ → Values
 charge_key a n = Text a ∷ nat n ∷ []
 
--- the columns of a charge of money after the account's
+-- the columns after the account's; its covered blocks stand in `covered`
 abbrev pub priced_cells : ChargeRow → Values
 priced_cells r =
     nat r.number ∷ nat r.moment ∷ Text r.session ∷ nat r.group ∷ nat r.blocks.0
     ∷ nat r.rated.0 ∷ nat r.collected.0 ∷ nat r.uncollected.0 ∷ []
 
--- the columns of a charge: one with covered blocks has none
+-- the columns of a charge as it is read: one with covered blocks has none
 abbrev pub cells_beside : ℕ → Values → Values
 cells_beside zero cells = cells
 cells_beside (suc n) cells = []
 
 abbrev pub charge_cells : ChargeRow → Values
 charge_cells r = cells_beside r.covered.0 (priced_cells r)
+
+-- as the columns tell it: not which of its blocks are covered
+abbrev pub plain_charge : ChargeRow → ChargeRow
+plain_charge x = record x { covered = record { 0 = 0 } }
 
 abbrev pub charge_values : List ℕ → ChargeRow → Values
 charge_values a r = Text a ∷ priced_cells r
@@ -317,3 +326,55 @@ charge_in v = record {
   collected = record { 0 = nat_in (column v 7) };
   uncollected = record { 0 = nat_in (column v 8) };
 }
+
+-- ---- `books`
+
+-- a tariff book after the first, from its moment on
+pub record DatedBook : Type 0 where
+  pub starts : ℕ
+  pub content : List ℕ
+
+abbrev pub book_key : ℕ → Values
+book_key n = nat n ∷ []
+
+-- the columns after the key
+abbrev pub book_cells : DatedBook → Values
+book_cells x = nat x.starts ∷ Text x.content ∷ []
+
+abbrev pub book_values : ℕ → DatedBook → Values
+book_values n x = nat n ∷ book_cells x
+
+abbrev pub book_in : Values → DatedBook
+book_in v = record { starts = nat_in (column v 1); content = text_in (column v 2) }
+
+-- ---- `grant_books`, under the keys of `session_groups`
+
+abbrev pub grant_book_values : List ℕ → List ℕ → ℕ → ℕ → Values
+grant_book_values a s g n = Text a ∷ Text s ∷ nat g ∷ nat n ∷ []
+
+abbrev pub grant_book_in : Values → ℕ
+grant_book_in v = nat_in (column v 3)
+
+-- ---- `allowance_buckets`, under the keys of `buckets`
+
+abbrev pub number_cells : ℕ → Values
+number_cells n = nat n ∷ []
+
+abbrev pub allowance_in : Values → ℕ
+allowance_in v = nat_in (column v 1)
+
+-- ---- `covered`, under the keys of `charges`
+
+-- the blocks of a charge that allowances paid
+pub record CoveredRow : Type 0 where
+  pub number : ℕ
+  pub blocks : ℕ
+
+abbrev pub covered_cells : CoveredRow → Values
+covered_cells x = nat x.number ∷ nat x.blocks ∷ []
+
+abbrev pub covered_values : List ℕ → CoveredRow → Values
+covered_values a x = Text a ∷ covered_cells x
+
+abbrev pub covered_in : Values → ℕ
+covered_in v = nat_in (column v 2)

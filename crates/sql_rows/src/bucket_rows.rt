@@ -1,7 +1,7 @@
 ghost use Rattle.std.specs.Prelude.{◌≡◌, map, filter, true, IsTrue, IfOk, OnOk};
 ghost use Rattle.sql_rows.specs.Content.{with_bucket, with_rows};
-ghost use Rattle.sql_rows.specs.Values.{bucket_cells};
-ghost use Rattle.sql_rows.specs.Lists.{BucketsRise, Rises, is_dead, is_live};
+ghost use Rattle.sql_rows.specs.Values.{bucket_cells, plain_bucket};
+ghost use Rattle.sql_rows.specs.Lists.{BucketsRise, Rises, is_dead};
 ghost use Rattle.sql_rows.specs.Texts.{ReadsBuckets, bucket_row};
 ghost use Rattle.sql_rows.specs.Each.{with_buckets};
 ghost use Rattle.sql_rows.specs.Makes.{Makes, MakesIfOpen};
@@ -18,21 +18,11 @@ use sql_tables::{
 use sqlite::{Alter, Connection, Error, Row, Transaction};
 use std::alloc::Global;
 
-/// That a bucket counts money: there are no columns of one that counts blocks.
-fn money_alone(kind: BucketKind) -> Result<(), Error>
-    ensures { IfOk result (λ unit. kind ≡ BucketKind.Money) }
-{
-    match kind {
-        BucketKind::Money => Ok(()),
-        BucketKind::Blocks => Err(Error::IntegralValueOutOfRange(6)),
-    }
-}
-
-/// Puts a bucket of an account.
+/// Puts the columns of an account's bucket. Whether they count money or blocks stands beside them
+/// (`put_allowance`).
 ///
 /// # Errors
-/// `IntegralValueOutOfRange` where the bucket counts blocks, else an error of the store. Then
-/// nothing is committed.
+/// An error of the store. Then nothing is committed.
 pub fn put_bucket<S: Alter>(
     tx: &mut Transaction<'_, S>,
     account: &AccountNumber,
@@ -40,10 +30,9 @@ pub fn put_bucket<S: Alter>(
 ) -> Result<usize, Error>
     requires book { HasBook (state S.Store tx.old.conn.now) }
     ensures same_reference { tx.new.conn.ghost_name ≡ tx.old.conn.ghost_name }
-    ensures makes { Attempts (Makes (with_rows account.now (with_bucket bucket.now)))
+    ensures makes { Attempts (Makes (with_rows account.now (with_bucket (plain_bucket bucket.now))))
         (state S.Store tx.old.conn.now) (state S.Store tx.new.conn.now) result }
 {
-    money_alone(bucket.kind())?;
     let of_account = text(account.as_str());
     let number = whole(bucket.number());
     let starts = large(bucket.from().seconds());
@@ -69,31 +58,8 @@ pub fn put_bucket<S: Alter>(
     )
 }
 
-/// The buckets that have money available or reserved, as they stand: no rule of theirs is tested
-/// yet.
-///
-/// # Errors
-/// `Store` where the store failed, `Rules` where a row is out of its rules, `Memory` where a growth
-/// was refused. Nothing is changed then either.
-pub fn read_buckets_live<S: Alter>(
-    conn: &mut Connection<S>,
-    alloc: Global,
-    account: &AccountNumber,
-) -> Result<Vec<BucketColumns>, ReadFault>
-    requires idle { HasIdleBook (state S.Store conn.old) }
-    ensures reads { ReadsBuckets is_live account.now
-        (state S.Store conn.old) (state S.Store conn.new) result }
-{
-    let rows = read(
-        conn,
-        "SELECT number, starts, ends, scope, credited, available, reserved, charged, expired \
-         FROM buckets WHERE account = ?1 AND (available > 0 OR reserved > 0) ORDER BY ends, number",
-        &[text(account.as_str())],
-    )?;
-    buckets_from(alloc, &rows)
-}
-
-/// All buckets, as they stand: no rule of theirs is tested yet.
+/// All buckets, as their columns stand: no rule of theirs is tested yet, and each is told as one of
+/// money.
 ///
 /// # Errors
 /// `Store` where the store failed, `Rules` where a row is out of its rules, `Memory` where a growth
@@ -116,8 +82,8 @@ pub fn read_buckets_all<S: Alter>(
     buckets_from(alloc, &rows)
 }
 
-/// The buckets that have no money available and none reserved, in the order of their numbers, as
-/// they stand: no other rule of theirs is tested yet.
+/// The buckets of which nothing is available and nothing reserved, in the order of their numbers,
+/// as their columns stand: no other rule of theirs is tested yet, and each is told as one of money.
 ///
 /// # Errors
 /// `Store` where the store failed, `Rules` where a row is out of its rules or the numbers don't
@@ -173,7 +139,7 @@ fn do_buckets_rise(buckets: &[BucketColumns]) -> bool
     true
 }
 
-fn buckets_from(alloc: Global, rows: &[Row]) -> Result<Vec<BucketColumns>, ReadFault>
+pub(crate) fn buckets_from(alloc: Global, rows: &[Row]) -> Result<Vec<BucketColumns>, ReadFault>
     ensures { IfOk result (λ xs. map bucket_cells (map bucket_row xs.items) ≡ rows.now) }
 {
     let mut buckets = Vec::new(alloc);

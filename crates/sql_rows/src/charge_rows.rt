@@ -1,6 +1,6 @@
 ghost use Rattle.std.specs.Prelude.{◌≡◌, map, false, IsTrue, IfOk};
 ghost use Rattle.sql_rows.specs.Content.{rows_in, with_charge, with_rows};
-ghost use Rattle.sql_rows.specs.Values.{charge_cells};
+ghost use Rattle.sql_rows.specs.Values.{charge_cells, plain_charge};
 ghost use Rattle.sql_rows.specs.Lists.{AreCharges, NumbersRise, is_within};
 ghost use Rattle.sql_rows.specs.Each.{with_charges};
 ghost use Rattle.sql_rows.specs.Makes.{Makes, MakesIfOpen};
@@ -17,21 +17,11 @@ use sqlite::{Alter, Connection, Error, Row, Transaction};
 use std::alloc::Global;
 use units::{Amount, Blocks};
 
-/// That no block of a charge is covered: there is no column of covered blocks.
-fn none_covered(covered: Blocks) -> Result<(), Error>
-    ensures { IfOk result (λ unit. covered.0 ≡ 0) }
-{
-    if covered.0 > 0 {
-        return Err(Error::IntegralValueOutOfRange(6));
-    }
-    Ok(())
-}
-
-/// Puts a charge of an account.
+/// Puts the columns of an account's charge. Its covered blocks stand beside them (`put_covered`).
 ///
 /// # Errors
-/// `IntegralValueOutOfRange` where an amount or the number of blocks is 2^63 or more, or where
-/// blocks are covered, else an error of the store. Then nothing is committed.
+/// `IntegralValueOutOfRange` where an amount or the number of blocks is 2^63 or more, else an error
+/// of the store. Then nothing is committed.
 pub fn put_charge<S: Alter>(
     tx: &mut Transaction<'_, S>,
     account: &AccountNumber,
@@ -39,10 +29,9 @@ pub fn put_charge<S: Alter>(
 ) -> Result<usize, Error>
     requires book { HasBook (state S.Store tx.old.conn.now) }
     ensures same_reference { tx.new.conn.ghost_name ≡ tx.old.conn.ghost_name }
-    ensures makes { Attempts (Makes (with_rows account.now (with_charge charge.now)))
+    ensures makes { Attempts (Makes (with_rows account.now (with_charge (plain_charge charge.now))))
         (state S.Store tx.old.conn.now) (state S.Store tx.new.conn.now) result }
 {
-    none_covered(charge.covered)?;
     let of_account = text(account.as_str());
     let number = whole(charge.number);
     let moment = large(charge.moment.seconds());
@@ -74,7 +63,8 @@ pub fn put_charge<S: Alter>(
     )
 }
 
-/// The charges of an account beyond a number and up to another, in the order of their numbers.
+/// The charges of an account beyond a number and up to another, in the order of their numbers, as
+/// their columns stand: each is told without covered blocks.
 ///
 /// # Errors
 /// `Store` where the store failed, `Rules` where a row is out of its rules or the numbers don't

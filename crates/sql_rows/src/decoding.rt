@@ -1,4 +1,6 @@
-ghost use Rattle.std.specs.Prelude.{◌≡◌, ◌≤◌, ℕ, IfOk, MatchResult, pos, if◌then◌else◌};
+ghost use Rattle.std.specs.Prelude.{◌≡◌, ◌≤◌, ℕ, List, IfOk, IsTrue, MatchResult, pos};
+ghost use Rattle.std.specs.Prelude.{if◌then◌else◌};
+ghost use Rattle.identifiers.specs.Texts.{is_account_number, is_session_id};
 ghost use Rattle.sqlite.specs.Values.{or_null};
 ghost use Rattle.sqlite_value.specs.Order.{column};
 ghost use Rattle.sqlite_value.specs.declared.value.Value.TheVariants.{Int, Text};
@@ -35,14 +37,29 @@ pub(crate) fn flag_at(row: &Row, at: usize) -> Result<bool, ReadFault>
     }
 }
 
+/// Tests that a column holds the number 1.
+pub(crate) fn one_at(row: &Row, at: usize) -> Result<(), ReadFault>
+    ensures { MatchResult result (λ unit. column row.now at ≡ nat 1)
+        (λ e. e ≡ ReadFault.Rules → ¬ (column row.now at ≡ nat 1)) }
+{
+    let number = small_at(row, at)?;
+    match number {
+        1 => Ok(()),
+        _ => Err(ReadFault::Rules),
+    }
+}
+
 /// The session's name in a column.
 pub(crate) fn session_at(alloc: Global, row: &Row, at: usize) -> Result<SessionId, ReadFault>
-    ensures { IfOk result (λ s. column row.now at ≡ Text s) }
+    ensures { MatchResult result (λ s. column row.now at ≡ Text s)
+        (λ e. e ≡ ReadFault.Rules → (s : List ℕ) → IsTrue (is_session_id s) →
+        ¬ (column row.now at ≡ Text s)) }
 {
     let name = text_at(row, at)?;
-    match SessionId::new(alloc, &name)? {
-        Some(session) => Ok(session),
-        None => Err(ReadFault::Rules),
+    match SessionId::new(alloc, &name) {
+        Ok(Some(session)) => Ok(session),
+        Ok(None) => Err(ReadFault::Rules),
+        Err(_) => Err(ReadFault::Memory),
     }
 }
 
@@ -62,12 +79,15 @@ pub(crate) fn redeemer_at(
 
 /// The account's number in a column.
 pub(crate) fn account_at(alloc: Global, row: &Row, at: usize) -> Result<AccountNumber, ReadFault>
-    ensures { IfOk result (λ a. column row.now at ≡ Text a) }
+    ensures { MatchResult result (λ a. column row.now at ≡ Text a)
+        (λ e. e ≡ ReadFault.Rules → (a : List ℕ) → IsTrue (is_account_number a) →
+        ¬ (column row.now at ≡ Text a)) }
 {
     let number = text_at(row, at)?;
-    match AccountNumber::new(alloc, &number)? {
-        Some(account) => Ok(account),
-        None => Err(ReadFault::Rules),
+    match AccountNumber::new(alloc, &number) {
+        Ok(Some(account)) => Ok(account),
+        Ok(None) => Err(ReadFault::Rules),
+        Err(_) => Err(ReadFault::Memory),
     }
 }
 

@@ -4,14 +4,15 @@ ghost use Rattle.sql_rows.specs.Ruled.{IsRefusedMeta, IsRuledMeta};
 ghost use Rattle.sql_rows.specs.Values.{Meta as KeptOnce, meta_cells};
 ghost use Rattle.sql_rows.specs.Texts.{meta_of};
 ghost use Rattle.sql_rows.specs.Makes.{Makes};
-ghost use Rattle.sql_tables.specs.Statements.{Attempts, HasBook, HasIdleBook, Reads};
+ghost use Rattle.sql_tables.specs.Statements.{Attempts, HasBook, HasIdleBook, HasRules, Reads};
+ghost use Rattle.sql_tables.specs.Statements.{ReadsWithin};
 ghost use Rattle.sql_tables.specs.Selects.{one_or_none};
 ghost use Rattle.sqlite.specs.Held.{state};
 ghost use Rattle.sqlite.specs.State.{HasCleanDisk};
 
 use crate::decoding::moment_at;
 use sql_tables::{
-    ReadFault, has_columns, large, one_of, read, small_at, text, text_at, whole, write,
+    ReadFault, has_columns, large, one_of, read, read_within, small_at, text, text_at, whole, write,
 };
 use sqlite::{Alter, Connection, Error, Row, Transaction};
 use units::Moment;
@@ -75,6 +76,30 @@ pub fn read_meta<S: Alter>(conn: &mut Connection<S>) -> Result<Option<Meta>, Rea
     let rows = read(
         conn,
         "SELECT version, book, last_moment FROM meta WHERE id = 1",
+        &[],
+    )?;
+    meta_among(&rows)
+}
+
+/// What is kept once, within a transaction: none where the tables are new.
+///
+/// # Errors
+/// As of `read_meta`. Then nothing is committed.
+pub fn read_meta_within<S: Alter>(tx: &mut Transaction<'_, S>) -> Result<Option<Meta>, ReadFault>
+    requires book { HasBook (state S.Store tx.old.conn.now) }
+    requires rules { HasRules (state S.Store tx.old.conn.now) }
+    ensures same_reference { tx.new.conn.ghost_name ≡ tx.old.conn.ghost_name }
+    ensures reads { ReadsWithin (λ trees o. option_map meta_of o ≡ (content_of trees).meta)
+        (state S.Store tx.old.conn.now) (state S.Store tx.new.conn.now) result }
+    // A row that is there and in the rules is answered.
+    ensures refused { HasCleanDisk (state S.Store tx.new.conn.now) →
+        IfErr result (λ e. e ≡ ReadFault.Rules →
+        IsRefusedMeta (content_of (state S.Store tx.old.conn.now).now.trees).meta) }
+{
+    let rows = read_within(
+        tx,
+        "SELECT version, book, last_moment \
+         FROM meta WHERE id = 1",
         &[],
     )?;
     meta_among(&rows)

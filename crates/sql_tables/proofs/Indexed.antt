@@ -1,8 +1,7 @@
 -- What the text of an index makes of the schema.
-use Rattle.std.proofs.Common.{◌≡◌, ◌⊎◌, inl, inr, ℕ, List, [], ◌∷◌, Some, None, Option, Ok, Err}
-use Rattle.std.proofs.Common.{Result, refl, sym, ap, ap₂, subst, ◌∙◌}
+use Rattle.std.proofs.Common.{◌≡◌, ℕ, List, [], Some, None, Ok}
+use Rattle.std.proofs.Common.{refl, sym, ap, ap₂, subst, ◌∙◌}
 use Rattle.std.specs.Prelude.{slice_get}
-use Rattle.sqlite_trees.specs.Objects.{catalog_tree}
 use Rattle.sqlite_trees.specs.Tree.{Trees}
 use Rattle.sqlite_schema.specs.declared.schema.Table.{Table}
 use Rattle.sqlite_schema.specs.declared.schema.Index.{Index}
@@ -10,21 +9,23 @@ use Rattle.sqlite_schema.specs.declared.schema.Schema.{Schema}
 use Rattle.sqlite_schema.specs.declared.command.Command.TheVariants.{CreateIndex}
 use Rattle.sqlite_resolve.specs.Compile.{index_defined_by}
 use Rattle.sqlite_catalog.specs.Change.{indexed, KeepsRows}
-use Rattle.sqlite_catalog.specs.Listing.{Lists}
+use Rattle.sqlite_catalog.specs.Listing.{IsSound}
 use Rattle.sqlite_tied.specs.Compute.{everything}
 use Rattle.sqlite.specs.Does.{Tally, AtPlace, Defines, MakesIndex}
 use Rattle.sqlite.specs.Effect.{Database}
 use Rattle.sqlite.specs.Listing.{understood}
 use Rattle.sqlite.specs.State.{State, Executes, Writes, mode_of}
 use Rattle.sqlite.proofs.Callers.{IsPlain, command_of, statement_of, runs_as}
-use Rattle.sql_tables.specs.Schema.{counters, counters_cycle, sessions, sessions_state, book_schema}
-use Rattle.sql_tables.specs.Texts.{counters_cycle_text, sessions_state_text, stage}
+use Rattle.sql_tables.specs.Schema.{buckets, buckets_live, counters, counters_cycle, sessions}
+use Rattle.sql_tables.specs.Schema.{sessions_state}
+use Rattle.sql_tables.specs.Texts.{buckets_live_text, counters_cycle_text, sessions_state_text}
+use Rattle.sql_tables.specs.Texts.{stage}
 use Rattle.sql_tables.proofs.Steps.{went, same_value}
 
 -- the schema has the index, and the tables have their rows
 pub record Indexes (before after : Schema) (old : Trees) (new : Database) : Type 0 where
   pub schema : new.schema ≡ after
-  pub lists : Lists (new.trees catalog_tree) after
+  pub sound : IsSound after new.trees
   pub rows : KeepsRows before.tables old new.trees
 
 module _ (before after : Schema) (table : Table) (index : Index) (place : ℕ) (text : List ℕ)
@@ -52,7 +53,7 @@ module _ (before after : Schema) (table : Table) (index : Index) (place : ℕ) (
       ∙ next in
       record {
         schema = schema;
-        lists = subst (Lists (new.now.trees catalog_tree)) schema w.sound.lists;
+        sound = subst (λ s. IsSound s new.now.trees) schema w.sound;
         rows = subst (λ (d : Database). KeepsRows before.tables old.now.trees d.trees) (sym now)
             (subst (λ (s : Schema). KeepsRows s.tables old.now.trees all.0.trees) has made.rows);
       }
@@ -100,6 +101,31 @@ cycle_defined = refl
 
 pub makes_cycle : (old new : State) (count : ℕ) → old.now.schema ≡ stage 11
     → Executes counters_cycle_text [] old new (Ok count)
-    → Indexes (stage 11) book_schema old.now.trees new.now
-makes_cycle = makes_index (stage 11) book_schema counters counters_cycle 3 counters_cycle_text
-    cycle_is cycle_plain refl cycle_defined refl
+    → Indexes (stage 11) (stage 12) old.now.trees new.now
+makes_cycle = makes_index (stage 11)
+    (stage 12) counters counters_cycle 3 counters_cycle_text cycle_is cycle_plain
+    refl cycle_defined refl
+
+-- ---- the buckets of an account by what is left of them
+
+live_is : (command_of (understood (stage 14) buckets_live_text) ≡ CreateIndex 2) ×
+    (statement_of buckets_live_text (understood (stage 14) buckets_live_text)
+    ≡ buckets_live_text)
+unfolding understood everything
+live_is = (refl, refl)
+
+live_plain : IsPlain (understood (stage 14) buckets_live_text)
+unfolding understood everything
+live_plain = (refl, refl)
+
+live_defined : index_defined_by buckets buckets_live_text
+    ≡ Ok (record buckets_live { tree = 0 })
+unfolding understood everything
+live_defined = refl
+
+pub makes_live : (old new : State) (count : ℕ) → old.now.schema ≡ stage 14
+    → Executes buckets_live_text [] old new (Ok count)
+    → Indexes (stage 14) (stage 15) old.now.trees new.now
+makes_live = makes_index (stage 14)
+    (stage 15) buckets buckets_live 2 buckets_live_text live_is live_plain
+    refl live_defined refl

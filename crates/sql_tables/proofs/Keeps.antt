@@ -1,5 +1,5 @@
 -- What a refusal keeps.
-use Rattle.std.proofs.Common.{◌≡◌, inl, inr, ℕ, List, Option, Some, None, Ok, Err, Result, IfOk}
+use Rattle.std.proofs.Common.{◌≡◌, ◌⊎◌, inl, inr, ℕ, List, Option, Some, None, Ok, Err, Result, IfOk}
 use Rattle.std.proofs.Common.{OnOk, OnErr, IsTrue, refl, true, false, Bool, sym, subst, ap, ◌∙◌}
 use Rattle.std.proofs.Common.{arith, ◌≤◌}
 use Rattle.std.specs.Result.{IfErr}
@@ -13,14 +13,14 @@ use Rattle.sqlite_catalog.specs.Listing.{IsSound}
 use Rattle.sqlite_schema.specs.Rules.{Fits}
 use Rattle.sqlite.specs.State.{State, IsLive, ExecutesInside, KeepsCommit, Shows, IsUnchanged}
 use Rattle.sqlite.specs.State.{Shown, ShowsRows, FailsToQuery, FailsToShow, IsNotRun, HasCleanDisk}
-use Rattle.sqlite.specs.State.{Survives, CommitsShowing}
+use Rattle.sqlite.specs.State.{Survives, CommitsShowing, IsTooLate}
 use Rattle.sqlite_trees.specs.View.{doubt}
 use Rattle.sqlite.proofs.Callers.{IsPlain, never_commits}
 use Rattle.sqlite.proofs.StateLemmas.{survives_weaker}
 use Rattle.sqlite_trees.specs.Tree.{Trees}
 use Rattle.sql_tables.specs.Schema.{book_schema}
 use Rattle.sql_tables.specs.Statements.{Answers, IsBook, Spares, IsIdle, AreStored}
-use Rattle.sql_tables.specs.Statements.{IsStill, HasIdleBook, OnlyReads, Attempts}
+use Rattle.sql_tables.specs.Statements.{IsStill, HasBook, HasIdleBook, OnlyReads, Attempts}
 
 keeps : (old new : State) → Spares old new → KeepsCommit old new
 keeps old new (inl u) = record { was_open = λ on. u.0.was_open; committed = λ on. u.0.committed_is }
@@ -117,6 +117,69 @@ reads_still items sql params old new (Err e) plain idle ok err on =
       committed_is = (b.undone on).1;
     }
 
+-- a selection within a transaction changes nothing, or it keeps what was committed
+pub reads_within : {V : Type 0} (items : V → List Row) (sql : List ℕ) (params : Row)
+    (old new : State) (r : Result V Error) → IsPlain (understood book_schema sql) → HasBook old
+    → Survives old new (λ _. ⊥)
+    → (HasCleanDisk new → IfOk r (λ v. Shown sql params old new (items v)))
+    → (HasCleanDisk new → IfErr r (λ e. FailsToQuery sql params old new e
+    ⊎ IsTooLate sql params old new e))
+    → Attempts IsUnchanged old new r
+reads_within {V} items sql params old new r plain book survives ok err = record {
+  done = λ clean. done r (ok clean) (omega (arith, survives.clean, clean));
+  kept = λ clean. kept r (err clean);
+  survives = survives;
+}
+  where
+    done : (r : Result V Error) → IfOk r (λ v. Shown sql params old new (items v))
+        → HasCleanDisk old → OnOk r (IsUnchanged old new)
+    done (Ok v) shown clean =
+        let on = was_shown sql params old new (items v) shown in
+        shown_unchanged sql params old new (items v)
+        (subst (λ s. IsPlain (understood s sql)) (sym (book clean on).schema) plain) shown
+    done (Err e) shown clean = tt
+
+    kept : (r : Result V Error)
+        → IfErr r (λ e. FailsToQuery sql params old new e ⊎ IsTooLate sql params old new e)
+        → OnErr r (KeepsCommit old new)
+    kept (Ok v) failed = tt
+    kept (Err e) (inl failed) = keeps old new (fails_spares sql params old new e failed)
+    kept (Err e) (inr late) = keeps old new (inl late.5)
+
+-- what a selection answers within a transaction
+pub answers_within : (sql : List ℕ) (params : Row) (old new : State) (rows : List Row)
+    → IsPlain (understood book_schema sql) → (IsTrue old.is_open → IsBook old)
+    → (IsTrue old.is_open → Fits book_schema old.now.trees)
+    → Shown sql params old new rows → Answers sql params old new rows
+answers_within sql params old new rows plain book rules shown =
+    let on = was_shown sql params old new rows shown in
+    let same = shown_unchanged sql params old new rows
+    (subst (λ s. IsPlain (understood s sql)) (sym (book on).schema) plain) shown in
+    record {
+      was_open = on;
+      is_open = same.0.is_open;
+      book = book on;
+      fits = rules on;
+      shown = shown;
+    }
+
+-- an attempt's answer or error, told as another's
+pub attempt_ok : {A E F : Type 0} (does : State → State → Type 0) (old new : State)
+    (r : Result A E) (v : A) → r ≡ Ok v → Attempts does old new r
+    → Attempts {A = A} {E = F} does old new (Ok v)
+attempt_ok {A} {E} does old new r v is a =
+    let it : Attempts {A = A} {E = E} does old new (Ok v) =
+    subst (λ x. Attempts {A = A} {E = E} does old new x) is a in
+    record { done = it.done; kept = λ clean. tt; survives = it.survives }
+
+pub attempt_err : {A B E F : Type 0} (does : State → State → Type 0) (old new : State)
+    (r : Result A E) (e : E) (f : F) → r ≡ Err e → Attempts does old new r
+    → Attempts {A = B} {E = F} does old new (Err f)
+attempt_err {A} {B} {E} does old new r e f is a =
+    let it : Attempts {A = A} {E = E} does old new (Err e) =
+    subst (λ x. Attempts {A = A} {E = E} does old new x) is a in
+    record { done = λ clean. tt; kept = it.kept; survives = it.survives }
+
 idle_still : (old new : State) → IsIdle old → IsStill old new → IsIdle new
 idle_still old new idle still = record {
   book = record {
@@ -191,11 +254,15 @@ only_reads_then a b c one two = record {
 
 -- ---- the rules of the tables
 
+-- of a database that is made whole
+pub sound_fits : (trees : Trees) → IsSound book_schema trees → Fits book_schema trees
+sound_fits trees sound =
+    record { rules = λ rule other. sound.obeys.rules rule; indexed = sound.obeys.indexed }
+
 pub fits_of : (old : State) → IsTrue old.is_open → IsBook old → IsLive old →
     Fits book_schema old.now.trees
 fits_of old on book live =
-    let sound = subst (λ s. IsSound s old.now.trees) book.schema (live on).0 in
-    record { rules = λ rule other. sound.obeys.rules rule; indexed = sound.obeys.indexed }
+    sound_fits old.now.trees (subst (λ s. IsSound s old.now.trees) book.schema (live on).0)
 
 pub answers_from : (sql : List ℕ) (params : Row) (old new : State) (rows : List Row)
     → IsPlain (understood book_schema sql) → (IsTrue old.is_open → IsIdle old) → IsLive old

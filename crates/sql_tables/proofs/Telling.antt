@@ -1,12 +1,12 @@
 -- What a call tells that makes values of the rows of one selection, and of two calls in turn.
 use Rattle.std.proofs.Common.{◌≡◌, ℕ, List, Bool, true, false, true≢false, IsTrue, Result, IfOk}
-use Rattle.std.proofs.Common.{OnOk, refl, subst, sym, arith}
+use Rattle.std.proofs.Common.{Ok, Err, OnOk, refl, subst, sym, arith}
 use Rattle.std.proofs.lemmas.Result.{IfOk-weaker}
 use Rattle.sqlite_value.specs.Order.{Row}
 use Rattle.sqlite_trees.specs.Tree.{Trees}
-use Rattle.sqlite.specs.State.{State, HasCleanDisk, Survives}
+use Rattle.sqlite.specs.State.{State, HasCleanDisk, IsUnchanged, Survives}
 use Rattle.sqlite.proofs.StateLemmas.{survives_then}
-use Rattle.sql_tables.specs.Statements.{Answers, OnlyReads, Reads}
+use Rattle.sql_tables.specs.Statements.{Answers, Attempts, OnlyReads, Reads, ReadsWithin}
 use Rattle.sql_tables.proofs.Keeps.{on_ok}
 
 -- what is made of the rows is told by the tables
@@ -25,6 +25,33 @@ reads_as told sql held params old new rows slice r only survives answers is same
       only = only;
       stays = λ clean. on_ok r (answers clean).is_open;
       survives = survives;
+    }
+
+-- within a transaction: whatever is made of the rows, nothing is changed
+still_as : {V W E : Type 0} (old new : State) (u : W) (r : Result V E)
+    → Attempts {A = W} {E = E} IsUnchanged old new (Ok u) → Attempts IsUnchanged old new r
+still_as old new u (Ok v) a =
+    record { done = a.done; kept = λ clean. tt; survives = a.survives }
+still_as old new u (Err e) a = record {
+  done = λ clean. tt;
+  kept = λ clean.
+      let same = a.done clean in
+      record { was_open = λ on. same.0.was_open; committed = λ on. same.0.committed_is };
+  survives = a.survives;
+}
+
+pub reads_within_as : {V W E : Type 0} {P : V → Type 0} (told : Trees → V → Type 0)
+    (sql : List ℕ) (held params : Row) (old new : State) (rows slice : List Row) (u : W)
+    (r : Result V E) → Attempts {A = W} {E = E} IsUnchanged old new (Ok u)
+    → (HasCleanDisk new → Answers sql held old new rows) → held ≡ params → slice ≡ rows → IfOk r P
+    → ((v : V) → Answers sql params old new slice → P v → told old.now.trees v)
+    → ReadsWithin told old new r
+reads_within_as told sql held params old new rows slice u r only answers is same made tells =
+    record {
+      found = λ clean. IfOk-weaker r _ _ (λ v p. tells v
+          (subst (λ l. Answers sql params old new l) (sym same)
+          (subst (λ w. Answers sql w old new rows) is (answers clean))) p) made;
+      still = still_as old new u r only;
     }
 
 -- one after another: where the first left the connection open, a stop leaves what it left before

@@ -16,9 +16,13 @@ is_of_sessions name = same_name (codes "sessions") name || (same_name (codes "se
     || (same_name (codes "holds") name
     || (same_name (codes "answers") name || same_name (codes "vouchers") name)))
 
--- whether a name is that of one of the ten tables, but for the case of its letters
+abbrev pub is_of_later : List ℕ → Bool
+is_of_later name = same_name (codes "books") name || (same_name (codes "grant_books") name
+    || (same_name (codes "allowance_buckets") name || same_name (codes "covered") name))
+
+-- whether a name is that of one of the tables, but for the case of its letters
 abbrev pub is_ours : List ℕ → Bool
-is_ours name = is_of_money name || is_of_sessions name
+is_ours name = is_of_money name || (is_of_sessions name || is_of_later name)
 
 abbrev pub has_ours : Schema → Bool
 has_ours s = list_any (λ (t : Table). is_ours t.name) s.tables

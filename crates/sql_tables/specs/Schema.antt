@@ -1,6 +1,7 @@
--- The ten tables of a database, and its two indexes.
+-- The tables of a database and its indexes, by the versions that added them.
 -- Source: profile.
-use Rattle.std.specs.Prelude.{suc, true, false, List, [], ◌∷◌, ◌++◌, Some, None, codes, ℕ, pos}
+use Rattle.std.specs.Prelude.{suc, true, false, List, [], ◌∷◌, ◌++◌, None, codes, ℕ, pos}
+use Rattle.std.specs.Prelude.{length, take}
 use Rattle.sqlite_value.specs.declared.keys.Collation.TheVariants.{Binary}
 use Rattle.sqlite_value.specs.declared.value.Value.TheVariants.{Null, Int}
 use Rattle.sqlite_value.specs.Keys.{plain}
@@ -98,7 +99,7 @@ table name tree columns key checks references = record {
   is_counted = false;
 }
 
--- ---- tables
+-- ---- the tables of version 1
 
 abbrev pub meta : Table
 meta = table (codes "meta") 0
@@ -192,7 +193,7 @@ charges = table (codes "charges") 18
     at_least_zero 8 ∷ at_least_zero 9 ∷ is_same (col 1 7) (plus (col 1 8) (col 1 9)) ∷ [])
     (belongs (1 ∷ []) (codes "accounts") (codes "account" ∷ []) ∷ [])
 
--- ---- indexes
+-- ---- the indexes of version 1
 
 -- the index that a primary key makes
 abbrev pub index_on : List ℕ → ℕ → ℕ → List ℕ → Index
@@ -232,24 +233,105 @@ counters_cycle = record {
   is_unique = false;
 }
 
--- ---- the schema
+-- ---- the tables of version 2
 
-abbrev pub book_schema : Schema
-book_schema = record {
-  tables = meta ∷ accounts ∷ buckets ∷ counters ∷ sessions ∷ session_groups ∷ holds ∷ answers
-      ∷ vouchers ∷ charges ∷ [];
-  indexes =
-      key_index meta
-      ∷ key_index accounts
-      ∷ key_index buckets
-      ∷ key_index counters
-      ∷ key_index sessions
-      ∷ key_index session_groups
-      ∷ key_index holds
-      ∷ key_index answers
-      ∷ key_index vouchers
-      ∷ key_index charges
-      ∷ sessions_state
-      ∷ counters_cycle ∷ [];
-  views = [];
+-- the tariff books after the first, each from its moment on
+abbrev pub books : Table
+books = table (codes "books") 22
+    (number (codes "number") ∷ number (codes "starts") ∷ text (codes "content") ∷ []) (1 ∷ [])
+    (at_least_zero 1 ∷ at_least_zero 2 ∷ [])
+    []
+
+-- the book of each reservation
+abbrev pub grant_books : Table
+grant_books = table (codes "grant_books") 24
+    (text (codes "account") ∷ text (codes "session") ∷ number (codes "rating_group") ∷
+    number (codes "book") ∷ [])
+    (1 ∷ 2 ∷ 3 ∷ [])
+    (at_least_zero 3 ∷ at_least_zero 4 ∷ [])
+    (belongs (1 ∷ 2 ∷ 3 ∷ []) (codes "session_groups")
+    (codes "account" ∷ codes "session" ∷ codes "rating_group" ∷ []) ∷ [])
+
+-- ---- the index of version 2
+
+-- the buckets of which something is available, or nothing but something reserved, without those
+-- that are spent
+abbrev pub buckets_live : Index
+buckets_live = record {
+  name = codes "buckets_live";
+  tree = 26;
+  table = buckets.tree;
+  columns = 1 ∷ 7 ∷ 8 ∷ [];
+  order = plain;
+  is_unique = false;
 }
+
+-- ---- the tables of version 3
+
+-- the buckets that hold blocks
+abbrev pub allowance_buckets : Table
+allowance_buckets = table (codes "allowance_buckets") 27
+    (text (codes "account") ∷ number (codes "number") ∷ [])
+    (1 ∷ 2 ∷ [])
+    (at_least_zero 2 ∷ [])
+    (belongs (1 ∷ 2 ∷ []) (codes "buckets") (codes "account" ∷ codes "number" ∷ []) ∷ [])
+
+-- the blocks of a charge that such buckets paid
+abbrev pub covered : Table
+covered = table (codes "covered") 29
+    (text (codes "account") ∷ number (codes "number") ∷ number (codes "blocks") ∷ [])
+    (1 ∷ 2 ∷ [])
+    (at_least_zero 2 ∷ at_least_zero 3 ∷ [])
+    (belongs (1 ∷ 2 ∷ []) (codes "charges") (codes "account" ∷ codes "number" ∷ []) ∷ [])
+
+-- ---- versions
+
+-- what one text makes
+pub data Piece : Type 0 where
+  ATable : Table → Piece
+  AnIndex : Index → Piece
+
+-- what each version adds to the one before it, in order
+abbrev pub versions : List (List Piece)
+versions = (ATable meta ∷ ATable accounts ∷ ATable buckets ∷ ATable counters ∷ ATable sessions
+    ∷ ATable session_groups ∷ ATable holds ∷ ATable answers ∷ ATable vouchers ∷ ATable charges
+    ∷ AnIndex sessions_state ∷ AnIndex counters_cycle ∷ [])
+    ∷ (ATable books ∷ ATable grant_books ∷ AnIndex buckets_live ∷ [])
+    ∷ (ATable allowance_buckets ∷ ATable covered ∷ []) ∷ []
+
+-- the version that is made today
+abbrev pub latest : ℕ
+latest = length versions
+
+abbrev pub in_turn : List (List Piece) → List Piece
+in_turn [] = []
+in_turn (pieces ∷ later) = pieces ++ in_turn later
+
+-- what the versions up to this one added
+abbrev pub pieces_to : ℕ → List Piece
+pieces_to v = in_turn (take v versions)
+
+-- ---- schemas
+
+abbrev pub tables_of : List Piece → List Table
+tables_of [] = []
+tables_of (ATable t ∷ pieces) = t ∷ tables_of pieces
+tables_of (AnIndex i ∷ pieces) = tables_of pieces
+
+-- the index of a table's key stands where the table does
+abbrev pub indexes_of : List Piece → List Index
+indexes_of [] = []
+indexes_of (ATable t ∷ pieces) = key_index t ∷ indexes_of pieces
+indexes_of (AnIndex i ∷ pieces) = i ∷ indexes_of pieces
+
+abbrev pub schema_of : List Piece → Schema
+schema_of pieces =
+    record { tables = tables_of pieces; indexes = indexes_of pieces; views = [] }
+
+-- the schema of a version
+abbrev pub schema_at : ℕ → Schema
+schema_at v = schema_of (pieces_to v)
+
+-- the schema that is made today
+abbrev pub book_schema : Schema
+book_schema = schema_at latest

@@ -1,38 +1,44 @@
 -- The tables as they are made, one after another.
 -- Source: profile.
-use Rattle.std.specs.Prelude.{◌≡◌, ℕ, true, List, [], IsTrue}
+use Rattle.std.specs.Prelude.{◌≡◌, ℕ, true, List, [], drop, take, length, IsTrue}
 use Rattle.std.specs.List.{AllByRecursion}
 use Rattle.sqlite_trees.specs.Objects.{catalog_tree}
 use Rattle.sqlite_trees.specs.Tree.{Trees}
 use Rattle.sqlite_schema.specs.declared.schema.Table.{Table}
-use Rattle.sqlite_catalog.specs.Listing.{Lists}
+use Rattle.sqlite_catalog.specs.Change.{KeepsRows}
+use Rattle.sqlite_catalog.specs.Listing.{IsSound, Lists}
 use Rattle.sqlite.specs.State.{State, HasCleanDisk, Shows}
-use Rattle.sql_tables.specs.Schema.{book_schema}
-use Rattle.sql_tables.specs.Statements.{IsBook, IsIdle}
+use Rattle.sql_tables.specs.Keyed.{IsStored}
+use Rattle.sql_tables.specs.Schema.{book_schema, latest, pieces_to, schema_at, tables_of}
+use Rattle.sql_tables.specs.Statements.{AreStored, IsBook, IsIdle}
 use Rattle.sql_tables.specs.Texts.{stage}
 
 abbrev pub AreEmpty : List Table → Trees → Type 0
 AreEmpty tables trees = AllByRecursion (λ (t : Table). trees t.tree ≡ []) tables
 
--- the first tables are there, and empty
-pub record IsStage (k : ℕ) (s : State) : Type 0 where
-  pub schema : s.now.schema ≡ stage k
-  pub empty : AreEmpty (stage k).tables s.now.trees
-
+-- the first pieces are there, and no others
 abbrev pub HasStage : ℕ → State → Type 0
-HasStage k s = HasCleanDisk s → IsTrue s.is_open → IsStage k s
+HasStage k s = HasCleanDisk s → IsTrue s.is_open → s.now.schema ≡ stage k
 
 -- no table is there, and no transaction is open
 pub record IsBlank (s : State) : Type 0 where
-  pub none : IsStage 0 s
+  pub none : s.now.schema ≡ stage 0
   pub settled : s.now ≡ s.committed
 
--- inside a transaction
-pub record Builds (k : ℕ) (old new : State) : Type 0 where
-  pub made : IsStage k new
+-- the tables among the pieces from one place to another
+abbrev pub tables_between : ℕ → ℕ → List Table
+tables_between k m = tables_of (drop k (take m (pieces_to latest)))
+
+-- inside a transaction: the pieces from one place to another are made, and the database lists and
+-- obeys the schema; the tables that were there keep their rows, and the new ones have none
+pub record Adds (k m : ℕ) (old new : State) : Type 0 where
+  pub schema : new.now.schema ≡ stage m
+  pub sound : IsSound (stage m) new.now.trees
+  pub rows : KeepsRows (stage k).tables old.now.trees new.now.trees
+  pub empty : AreEmpty (tables_between k m) new.now.trees
   pub shows : Shows old new new.now old.committed true
 
--- inside a transaction: all tables and the index
+-- inside a transaction: all tables and the indexes
 pub record BuildsAll (old new : State) : Type 0 where
   pub book : IsBook new
   pub lists : Lists (new.now.trees catalog_tree) book_schema
@@ -43,3 +49,37 @@ pub record BuildsAll (old new : State) : Type 0 where
 pub record CommitsAll (new : State) : Type 0 where
   pub idle : IsIdle new
   pub empty : AreEmpty book_schema.tables new.now.trees
+
+-- ---- versions
+
+-- the connection has the tables of a version, and no others
+abbrev pub HasVersion : ℕ → State → Type 0
+HasVersion v s = HasCleanDisk s → IsTrue s.is_open → s.now.schema ≡ schema_at v
+
+-- the tables of a version have no rowid twice
+abbrev pub AreStoredAt : ℕ → Trees → Type 0
+AreStoredAt v trees =
+    AllByRecursion (λ (t : Table). IsStored (trees t.tree)) (schema_at v).tables
+
+-- inside a transaction: the tables of a version, empty
+pub record BuildsTo (v : ℕ) (old new : State) : Type 0 where
+  pub schema : new.now.schema ≡ schema_at v
+  pub empty : AreEmpty (schema_at v).tables new.now.trees
+  pub shows : Shows old new new.now old.committed true
+
+-- what is committed are the tables of a version, empty
+pub record CommitsTo (v : ℕ) (new : State) : Type 0 where
+  pub schema : new.now.schema ≡ schema_at v
+  pub empty : AreEmpty (schema_at v).tables new.now.trees
+  pub settled : new.now ≡ new.committed
+
+-- inside a transaction: the database of a version becomes one of the latest; the tables that were
+-- there keep their rows, and the new ones have none
+pub record Migrates (v : ℕ) (old new : State) : Type 0 where
+  pub schema : new.now.schema ≡ book_schema
+  pub sound : IsSound book_schema new.now.trees
+  pub rows : KeepsRows (schema_at v).tables old.now.trees new.now.trees
+  pub empty : AreEmpty (tables_between (length (pieces_to v)) (length (pieces_to latest)))
+      new.now.trees
+  pub book : AreStoredAt v old.now.trees → AreStored new.now.trees
+  pub shows : Shows old new new.now old.committed true

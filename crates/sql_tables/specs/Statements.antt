@@ -20,7 +20,7 @@ use Rattle.sql_tables.specs.Schema.{book_schema}
 abbrev pub AreStored : Trees → Type 0
 AreStored trees = AllByRecursion (λ (t : Table). IsStored (trees t.tree)) book_schema.tables
 
--- the connection has the ten tables
+-- the connection has the tables of the latest version
 pub record IsBook (s : State) : Type 0 where
   pub schema : s.now.schema ≡ book_schema
   pub stored : AreStored s.now.trees
@@ -37,6 +37,11 @@ pub record IsIdle (s : State) : Type 0 where
 -- unless its disk failed it, or an earlier failure shut it
 abbrev pub HasIdleBook : State → Type 0
 HasIdleBook s = HasCleanDisk s → IsTrue s.is_open → IsIdle s
+
+-- the rows of the tables obey their rules, unless the disk failed the connection, or an earlier
+-- failure shut it
+abbrev pub HasRules : State → Type 0
+HasRules s = HasCleanDisk s → IsTrue s.is_open → Fits book_schema s.now.trees
 
 -- a connection that is open is in a transaction
 abbrev pub IsInside : State → Type 0
@@ -116,6 +121,13 @@ pub record Reads {A E : Type 0} (told : Trees → A → Type 0) (old new : State
   pub stays : HasCleanDisk new → OnOk result (IsTrue new.is_open)
   -- a stop leaves what it left before
   pub survives : Survives old new (λ _. old.is_open ≡ false)
+
+-- within a transaction: what the call answers is told by the tables, and it changes nothing; or it
+-- answers an error and keeps what was committed
+pub record ReadsWithin {A E : Type 0} (told : Trees → A → Type 0) (old new : State)
+    (result : Result A E) : Type 0 where
+  pub found : HasCleanDisk new → IfOk result (told old.now.trees)
+  pub still : Attempts IsUnchanged old new result
 
 -- a selection answers these rows, and the tables obey their rules
 pub record Answers (sql : List ℕ) (params : Row) (old new : State) (rows : List Row) : Type 0 where

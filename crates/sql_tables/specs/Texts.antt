@@ -1,14 +1,14 @@
 -- The texts that make the tables; they stand in the database as they are written here.
 -- Source: profile.
-use Rattle.std.specs.Prelude.{ℕ, List, [], codes, ◌++◌, take}
+use Rattle.std.specs.Prelude.{ℕ, List, [], ◌∷◌, codes, ◌++◌, take}
 use Rattle.sqlite_schema.specs.declared.schema.Schema.{Schema}
-use Rattle.sql_tables.specs.Schema.{book_schema}
+use Rattle.sql_tables.specs.Schema.{latest, pieces_to, schema_of}
 
 abbrev pub meta_text : List ℕ
 meta_text =
     codes "CREATE TABLE meta (\n"
     ++ codes "  id INT NOT NULL PRIMARY KEY CHECK (id >= 0), -- always 1\n"
-    ++ codes "  version INTEGER NOT NULL CHECK (version >= 0), -- of these tables: 1\n"
+    ++ codes "  version INTEGER NOT NULL CHECK (version >= 0), -- of these tables\n"
     ++ codes "  book TEXT NOT NULL, -- the tariff book, as TOML\n"
     ++ codes
     "  last_moment INTEGER NOT NULL CHECK (last_moment >= 0) -- of the last accepted command, in seconds since 1970\n"
@@ -151,11 +151,59 @@ sessions_state_text = codes "CREATE INDEX sessions_state ON sessions (account, s
 abbrev pub counters_cycle_text : List ℕ
 counters_cycle_text = codes "CREATE INDEX counters_cycle ON counters (account, cycle)"
 
--- the first of the tables, with the indexes of their keys; 11: all of them, with the first index
--- more
+abbrev pub books_text : List ℕ
+books_text =
+    codes "CREATE TABLE books (\n"
+    ++ codes "  number INT NOT NULL CHECK (number >= 0), -- from 2; the first stands in meta\n"
+    ++ codes "  starts INTEGER NOT NULL CHECK (starts >= 0), -- first moment at which it holds\n"
+    ++ codes "  content TEXT NOT NULL, -- the tariff book, as TOML\n"
+    ++ codes "  PRIMARY KEY (number)\n"
+    ++ codes ") STRICT"
+
+abbrev pub grant_books_text : List ℕ
+grant_books_text =
+    codes "CREATE TABLE grant_books (\n"
+    ++ codes "  account TEXT NOT NULL,\n"
+    ++ codes "  session TEXT NOT NULL,\n"
+    ++ codes "  rating_group INTEGER NOT NULL CHECK (rating_group >= 0),\n"
+    ++ codes
+    "  book INTEGER NOT NULL CHECK (book >= 0), -- number of the book that the reservation goes by\n"
+    ++ codes "  PRIMARY KEY (account, session, rating_group),\n"
+    ++ codes
+    "  FOREIGN KEY (account, session, rating_group) REFERENCES session_groups (account, session, rating_group)\n"
+    ++ codes ") STRICT"
+
+abbrev pub buckets_live_text : List ℕ
+buckets_live_text = codes "CREATE INDEX buckets_live ON buckets (account, available, reserved)"
+
+abbrev pub allowance_buckets_text : List ℕ
+allowance_buckets_text =
+    codes "CREATE TABLE allowance_buckets (\n"
+    ++ codes "  account TEXT NOT NULL,\n"
+    ++ codes
+    "  number INTEGER NOT NULL CHECK (number >= 0), -- of the bucket, whose columns count blocks\n"
+    ++ codes "  PRIMARY KEY (account, number),\n"
+    ++ codes "  FOREIGN KEY (account, number) REFERENCES buckets (account, number)\n"
+    ++ codes ") STRICT"
+
+abbrev pub covered_text : List ℕ
+covered_text =
+    codes "CREATE TABLE covered (\n"
+    ++ codes "  account TEXT NOT NULL,\n"
+    ++ codes "  number INTEGER NOT NULL CHECK (number >= 0), -- of the charge\n"
+    ++ codes "  blocks INTEGER NOT NULL CHECK (blocks >= 0), -- that allowances paid\n"
+    ++ codes "  PRIMARY KEY (account, number),\n"
+    ++ codes "  FOREIGN KEY (account, number) REFERENCES charges (account, number)\n"
+    ++ codes ") STRICT"
+
+-- the texts that each version adds, one for each of its pieces
+abbrev pub texts : List (List (List ℕ))
+texts = (meta_text ∷ accounts_text ∷ buckets_text ∷ counters_text ∷ sessions_text
+    ∷ session_groups_text ∷ holds_text ∷ answers_text ∷ vouchers_text ∷ charges_text
+    ∷ sessions_state_text ∷ counters_cycle_text ∷ [])
+    ∷ (books_text ∷ grant_books_text ∷ buckets_live_text ∷ [])
+    ∷ (allowance_buckets_text ∷ covered_text ∷ []) ∷ []
+
+-- the schema after the first pieces
 abbrev pub stage : ℕ → Schema
-stage tables = record {
-  tables = take tables book_schema.tables;
-  indexes = take tables book_schema.indexes;
-  views = [];
-}
+stage pieces = schema_of (take pieces (pieces_to latest))

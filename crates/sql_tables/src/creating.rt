@@ -1,7 +1,7 @@
-ghost use Rattle.std.specs.Prelude.{◌≡◌, ◌⊎◌, false, IsTrue, IfOk, OnOk, OnErr};
-ghost use Rattle.sql_tables.specs.Stages.{AreEmpty, Builds, BuildsAll, CommitsAll, HasStage};
-ghost use Rattle.sql_tables.specs.Stages.{IsBlank};
-ghost use Rattle.sql_tables.specs.Schema.{book_schema};
+ghost use Rattle.std.specs.Prelude.{◌≡◌, ◌⊎◌, ◌≤◌, ◌<◌, false, IsTrue, IfOk, OnOk, OnErr};
+ghost use Rattle.sql_tables.specs.Stages.{Adds, AreEmpty, BuildsAll, BuildsTo, CommitsAll};
+ghost use Rattle.sql_tables.specs.Stages.{CommitsTo, HasStage, HasVersion, IsBlank, Migrates};
+ghost use Rattle.sql_tables.specs.Schema.{book_schema, latest, schema_at};
 ghost use Rattle.sql_tables.specs.Statements.{Attempts};
 ghost use Rattle.sqlite.specs.Held.{state};
 ghost use Rattle.sqlite.specs.Steps.{over_memory};
@@ -11,18 +11,21 @@ use crate::writing::write;
 use sqlite::{Alter, Connection, Error, MemStore, Transaction};
 use std::alloc::Global;
 
+/// The version of the tables that are made.
+pub const LATEST: u32 = 3;
+
 /// Makes the table `meta`.
 fn create_meta<S: Alter>(tx: &mut Transaction<'_, S>) -> Result<usize, Error>
     requires stage { HasStage 0 (state S.Store tx.old.conn.now) }
     ensures same_reference { tx.new.conn.ghost_name ≡ tx.old.conn.ghost_name }
-    ensures makes { Attempts (Builds 1) (state S.Store tx.old.conn.now)
+    ensures makes { Attempts (Adds 0 1) (state S.Store tx.old.conn.now)
         (state S.Store tx.new.conn.now) result }
 {
     write(
         tx,
         "CREATE TABLE meta (
   id INT NOT NULL PRIMARY KEY CHECK (id >= 0), -- always 1
-  version INTEGER NOT NULL CHECK (version >= 0), -- of these tables: 1
+  version INTEGER NOT NULL CHECK (version >= 0), -- of these tables
   book TEXT NOT NULL, -- the tariff book, as TOML
   last_moment INTEGER NOT NULL CHECK (last_moment >= 0) -- of the last accepted command, in seconds since 1970
 ) STRICT",
@@ -34,7 +37,7 @@ fn create_meta<S: Alter>(tx: &mut Transaction<'_, S>) -> Result<usize, Error>
 fn create_accounts<S: Alter>(tx: &mut Transaction<'_, S>) -> Result<usize, Error>
     requires stage { HasStage 1 (state S.Store tx.old.conn.now) }
     ensures same_reference { tx.new.conn.ghost_name ≡ tx.old.conn.ghost_name }
-    ensures makes { Attempts (Builds 2) (state S.Store tx.old.conn.now)
+    ensures makes { Attempts (Adds 1 2) (state S.Store tx.old.conn.now)
         (state S.Store tx.new.conn.now) result }
 {
     write(
@@ -55,7 +58,7 @@ fn create_accounts<S: Alter>(tx: &mut Transaction<'_, S>) -> Result<usize, Error
 fn create_buckets<S: Alter>(tx: &mut Transaction<'_, S>) -> Result<usize, Error>
     requires stage { HasStage 2 (state S.Store tx.old.conn.now) }
     ensures same_reference { tx.new.conn.ghost_name ≡ tx.old.conn.ghost_name }
-    ensures makes { Attempts (Builds 3) (state S.Store tx.old.conn.now)
+    ensures makes { Attempts (Adds 2 3) (state S.Store tx.old.conn.now)
         (state S.Store tx.new.conn.now) result }
 {
     write(
@@ -83,7 +86,7 @@ fn create_buckets<S: Alter>(tx: &mut Transaction<'_, S>) -> Result<usize, Error>
 fn create_counters<S: Alter>(tx: &mut Transaction<'_, S>) -> Result<usize, Error>
     requires stage { HasStage 3 (state S.Store tx.old.conn.now) }
     ensures same_reference { tx.new.conn.ghost_name ≡ tx.old.conn.ghost_name }
-    ensures makes { Attempts (Builds 4) (state S.Store tx.old.conn.now)
+    ensures makes { Attempts (Adds 3 4) (state S.Store tx.old.conn.now)
         (state S.Store tx.new.conn.now) result }
 {
     write(
@@ -104,7 +107,7 @@ fn create_counters<S: Alter>(tx: &mut Transaction<'_, S>) -> Result<usize, Error
 fn create_sessions<S: Alter>(tx: &mut Transaction<'_, S>) -> Result<usize, Error>
     requires stage { HasStage 4 (state S.Store tx.old.conn.now) }
     ensures same_reference { tx.new.conn.ghost_name ≡ tx.old.conn.ghost_name }
-    ensures makes { Attempts (Builds 5) (state S.Store tx.old.conn.now)
+    ensures makes { Attempts (Adds 4 5) (state S.Store tx.old.conn.now)
         (state S.Store tx.new.conn.now) result }
 {
     write(
@@ -126,7 +129,7 @@ fn create_sessions<S: Alter>(tx: &mut Transaction<'_, S>) -> Result<usize, Error
 fn create_session_groups<S: Alter>(tx: &mut Transaction<'_, S>) -> Result<usize, Error>
     requires stage { HasStage 5 (state S.Store tx.old.conn.now) }
     ensures same_reference { tx.new.conn.ghost_name ≡ tx.old.conn.ghost_name }
-    ensures makes { Attempts (Builds 6) (state S.Store tx.old.conn.now)
+    ensures makes { Attempts (Adds 5 6) (state S.Store tx.old.conn.now)
         (state S.Store tx.new.conn.now) result }
 {
     write(
@@ -150,7 +153,7 @@ fn create_session_groups<S: Alter>(tx: &mut Transaction<'_, S>) -> Result<usize,
 fn create_holds<S: Alter>(tx: &mut Transaction<'_, S>) -> Result<usize, Error>
     requires stage { HasStage 6 (state S.Store tx.old.conn.now) }
     ensures same_reference { tx.new.conn.ghost_name ≡ tx.old.conn.ghost_name }
-    ensures makes { Attempts (Builds 7) (state S.Store tx.old.conn.now)
+    ensures makes { Attempts (Adds 6 7) (state S.Store tx.old.conn.now)
         (state S.Store tx.new.conn.now) result }
 {
     write(
@@ -173,7 +176,7 @@ fn create_holds<S: Alter>(tx: &mut Transaction<'_, S>) -> Result<usize, Error>
 fn create_answers<S: Alter>(tx: &mut Transaction<'_, S>) -> Result<usize, Error>
     requires stage { HasStage 7 (state S.Store tx.old.conn.now) }
     ensures same_reference { tx.new.conn.ghost_name ≡ tx.old.conn.ghost_name }
-    ensures makes { Attempts (Builds 8) (state S.Store tx.old.conn.now)
+    ensures makes { Attempts (Adds 7 8) (state S.Store tx.old.conn.now)
         (state S.Store tx.new.conn.now) result }
 {
     write(
@@ -196,7 +199,7 @@ fn create_answers<S: Alter>(tx: &mut Transaction<'_, S>) -> Result<usize, Error>
 fn create_vouchers<S: Alter>(tx: &mut Transaction<'_, S>) -> Result<usize, Error>
     requires stage { HasStage 8 (state S.Store tx.old.conn.now) }
     ensures same_reference { tx.new.conn.ghost_name ≡ tx.old.conn.ghost_name }
-    ensures makes { Attempts (Builds 9) (state S.Store tx.old.conn.now)
+    ensures makes { Attempts (Adds 8 9) (state S.Store tx.old.conn.now)
         (state S.Store tx.new.conn.now) result }
 {
     write(
@@ -218,7 +221,7 @@ fn create_vouchers<S: Alter>(tx: &mut Transaction<'_, S>) -> Result<usize, Error
 fn create_charges<S: Alter>(tx: &mut Transaction<'_, S>) -> Result<usize, Error>
     requires stage { HasStage 9 (state S.Store tx.old.conn.now) }
     ensures same_reference { tx.new.conn.ghost_name ≡ tx.old.conn.ghost_name }
-    ensures makes { Attempts (Builds 10) (state S.Store tx.old.conn.now)
+    ensures makes { Attempts (Adds 9 10) (state S.Store tx.old.conn.now)
         (state S.Store tx.new.conn.now) result }
 {
     write(
@@ -245,7 +248,7 @@ fn create_charges<S: Alter>(tx: &mut Transaction<'_, S>) -> Result<usize, Error>
 fn create_sessions_state<S: Alter>(tx: &mut Transaction<'_, S>) -> Result<usize, Error>
     requires stage { HasStage 10 (state S.Store tx.old.conn.now) }
     ensures same_reference { tx.new.conn.ghost_name ≡ tx.old.conn.ghost_name }
-    ensures makes { Attempts (Builds 11) (state S.Store tx.old.conn.now)
+    ensures makes { Attempts (Adds 10 11) (state S.Store tx.old.conn.now)
         (state S.Store tx.new.conn.now) result }
 {
     write(
@@ -259,7 +262,7 @@ fn create_sessions_state<S: Alter>(tx: &mut Transaction<'_, S>) -> Result<usize,
 fn create_counters_cycle<S: Alter>(tx: &mut Transaction<'_, S>) -> Result<usize, Error>
     requires stage { HasStage 11 (state S.Store tx.old.conn.now) }
     ensures same_reference { tx.new.conn.ghost_name ≡ tx.old.conn.ghost_name }
-    ensures makes { Attempts BuildsAll (state S.Store tx.old.conn.now)
+    ensures makes { Attempts (Adds 11 12) (state S.Store tx.old.conn.now)
         (state S.Store tx.new.conn.now) result }
 {
     write(
@@ -273,7 +276,7 @@ fn create_counters_cycle<S: Alter>(tx: &mut Transaction<'_, S>) -> Result<usize,
 fn create_money<S: Alter>(tx: &mut Transaction<'_, S>) -> Result<(), Error>
     requires stage { HasStage 0 (state S.Store tx.old.conn.now) }
     ensures same_reference { tx.new.conn.ghost_name ≡ tx.old.conn.ghost_name }
-    ensures makes { Attempts (Builds 4) (state S.Store tx.old.conn.now)
+    ensures makes { Attempts (Adds 0 4) (state S.Store tx.old.conn.now)
         (state S.Store tx.new.conn.now) result }
 {
     create_meta(tx)?;
@@ -287,7 +290,7 @@ fn create_money<S: Alter>(tx: &mut Transaction<'_, S>) -> Result<(), Error>
 fn create_sessions_tables<S: Alter>(tx: &mut Transaction<'_, S>) -> Result<(), Error>
     requires stage { HasStage 4 (state S.Store tx.old.conn.now) }
     ensures same_reference { tx.new.conn.ghost_name ≡ tx.old.conn.ghost_name }
-    ensures makes { Attempts (Builds 8) (state S.Store tx.old.conn.now)
+    ensures makes { Attempts (Adds 4 8) (state S.Store tx.old.conn.now)
         (state S.Store tx.new.conn.now) result }
 {
     create_sessions(tx)?;
@@ -301,13 +304,168 @@ fn create_sessions_tables<S: Alter>(tx: &mut Transaction<'_, S>) -> Result<(), E
 fn create_rest<S: Alter>(tx: &mut Transaction<'_, S>) -> Result<(), Error>
     requires stage { HasStage 8 (state S.Store tx.old.conn.now) }
     ensures same_reference { tx.new.conn.ghost_name ≡ tx.old.conn.ghost_name }
-    ensures makes { Attempts BuildsAll (state S.Store tx.old.conn.now)
+    ensures makes { Attempts (Adds 8 12) (state S.Store tx.old.conn.now)
         (state S.Store tx.new.conn.now) result }
 {
     create_vouchers(tx)?;
     create_charges(tx)?;
     create_sessions_state(tx)?;
     create_counters_cycle(tx)?;
+    Ok(())
+}
+
+/// Makes what version 1 has, in a database that has no table.
+fn create_first<S: Alter>(tx: &mut Transaction<'_, S>) -> Result<(), Error>
+    requires stage { HasStage 0 (state S.Store tx.old.conn.now) }
+    ensures same_reference { tx.new.conn.ghost_name ≡ tx.old.conn.ghost_name }
+    ensures makes { Attempts (Adds 0 12) (state S.Store tx.old.conn.now)
+        (state S.Store tx.new.conn.now) result }
+{
+    create_money(tx)?;
+    create_sessions_tables(tx)?;
+    create_rest(tx)?;
+    Ok(())
+}
+
+/// Makes the table `books`.
+fn create_books<S: Alter>(tx: &mut Transaction<'_, S>) -> Result<usize, Error>
+    requires stage { HasStage 12 (state S.Store tx.old.conn.now) }
+    ensures same_reference { tx.new.conn.ghost_name ≡ tx.old.conn.ghost_name }
+    ensures makes { Attempts (Adds 12 13) (state S.Store tx.old.conn.now)
+        (state S.Store tx.new.conn.now) result }
+{
+    write(
+        tx,
+        "CREATE TABLE books (
+  number INT NOT NULL CHECK (number >= 0), -- from 2; the first stands in meta
+  starts INTEGER NOT NULL CHECK (starts >= 0), -- first moment at which it holds
+  content TEXT NOT NULL, -- the tariff book, as TOML
+  PRIMARY KEY (number)
+) STRICT",
+        &[],
+    )
+}
+
+/// Makes the table `grant_books`.
+fn create_grant_books<S: Alter>(tx: &mut Transaction<'_, S>) -> Result<usize, Error>
+    requires stage { HasStage 13 (state S.Store tx.old.conn.now) }
+    ensures same_reference { tx.new.conn.ghost_name ≡ tx.old.conn.ghost_name }
+    ensures makes { Attempts (Adds 13 14) (state S.Store tx.old.conn.now)
+        (state S.Store tx.new.conn.now) result }
+{
+    write(
+        tx,
+        "CREATE TABLE grant_books (
+  account TEXT NOT NULL,
+  session TEXT NOT NULL,
+  rating_group INTEGER NOT NULL CHECK (rating_group >= 0),
+  book INTEGER NOT NULL CHECK (book >= 0), -- number of the book that the reservation goes by
+  PRIMARY KEY (account, session, rating_group),
+  FOREIGN KEY (account, session, rating_group) REFERENCES session_groups (account, session, rating_group)
+) STRICT",
+        &[],
+    )
+}
+
+/// Makes the index by which the buckets of an account are found that aren't spent.
+fn create_buckets_live<S: Alter>(tx: &mut Transaction<'_, S>) -> Result<usize, Error>
+    requires stage { HasStage 14 (state S.Store tx.old.conn.now) }
+    ensures same_reference { tx.new.conn.ghost_name ≡ tx.old.conn.ghost_name }
+    ensures makes { Attempts (Adds 14 15) (state S.Store tx.old.conn.now)
+        (state S.Store tx.new.conn.now) result }
+{
+    write(
+        tx,
+        "CREATE INDEX buckets_live ON buckets (account, available, reserved)",
+        &[],
+    )
+}
+
+/// Makes what version 2 adds.
+fn create_second<S: Alter>(tx: &mut Transaction<'_, S>) -> Result<(), Error>
+    requires stage { HasStage 12 (state S.Store tx.old.conn.now) }
+    ensures same_reference { tx.new.conn.ghost_name ≡ tx.old.conn.ghost_name }
+    ensures makes { Attempts (Adds 12 15) (state S.Store tx.old.conn.now)
+        (state S.Store tx.new.conn.now) result }
+{
+    create_books(tx)?;
+    create_grant_books(tx)?;
+    create_buckets_live(tx)?;
+    Ok(())
+}
+
+/// Makes the table `allowance_buckets`.
+fn create_allowance_buckets<S: Alter>(tx: &mut Transaction<'_, S>) -> Result<usize, Error>
+    requires stage { HasStage 15 (state S.Store tx.old.conn.now) }
+    ensures same_reference { tx.new.conn.ghost_name ≡ tx.old.conn.ghost_name }
+    ensures makes { Attempts (Adds 15 16) (state S.Store tx.old.conn.now)
+        (state S.Store tx.new.conn.now) result }
+{
+    write(
+        tx,
+        "CREATE TABLE allowance_buckets (
+  account TEXT NOT NULL,
+  number INTEGER NOT NULL CHECK (number >= 0), -- of the bucket, whose columns count blocks
+  PRIMARY KEY (account, number),
+  FOREIGN KEY (account, number) REFERENCES buckets (account, number)
+) STRICT",
+        &[],
+    )
+}
+
+/// Makes the table `covered`.
+fn create_covered<S: Alter>(tx: &mut Transaction<'_, S>) -> Result<usize, Error>
+    requires stage { HasStage 16 (state S.Store tx.old.conn.now) }
+    ensures same_reference { tx.new.conn.ghost_name ≡ tx.old.conn.ghost_name }
+    ensures makes { Attempts (Adds 16 17) (state S.Store tx.old.conn.now)
+        (state S.Store tx.new.conn.now) result }
+{
+    write(
+        tx,
+        "CREATE TABLE covered (
+  account TEXT NOT NULL,
+  number INTEGER NOT NULL CHECK (number >= 0), -- of the charge
+  blocks INTEGER NOT NULL CHECK (blocks >= 0), -- that allowances paid
+  PRIMARY KEY (account, number),
+  FOREIGN KEY (account, number) REFERENCES charges (account, number)
+) STRICT",
+        &[],
+    )
+}
+
+/// Makes what version 3 adds.
+fn create_third<S: Alter>(tx: &mut Transaction<'_, S>) -> Result<(), Error>
+    requires stage { HasStage 15 (state S.Store tx.old.conn.now) }
+    ensures same_reference { tx.new.conn.ghost_name ≡ tx.old.conn.ghost_name }
+    ensures makes { Attempts (Adds 15 17) (state S.Store tx.old.conn.now)
+        (state S.Store tx.new.conn.now) result }
+{
+    create_allowance_buckets(tx)?;
+    create_covered(tx)?;
+    Ok(())
+}
+
+/// Makes what versions 2 and 3 add.
+fn create_later<S: Alter>(tx: &mut Transaction<'_, S>) -> Result<(), Error>
+    requires stage { HasStage 12 (state S.Store tx.old.conn.now) }
+    ensures same_reference { tx.new.conn.ghost_name ≡ tx.old.conn.ghost_name }
+    ensures makes { Attempts (Adds 12 17) (state S.Store tx.old.conn.now)
+        (state S.Store tx.new.conn.now) result }
+{
+    create_second(tx)?;
+    create_third(tx)?;
+    Ok(())
+}
+
+/// Makes what all versions have, in a database that has no table.
+fn create_all<S: Alter>(tx: &mut Transaction<'_, S>) -> Result<(), Error>
+    requires stage { HasStage 0 (state S.Store tx.old.conn.now) }
+    ensures same_reference { tx.new.conn.ghost_name ≡ tx.old.conn.ghost_name }
+    ensures makes { Attempts (Adds 0 17) (state S.Store tx.old.conn.now)
+        (state S.Store tx.new.conn.now) result }
+{
+    create_first(tx)?;
+    create_later(tx)?;
     Ok(())
 }
 
@@ -321,13 +479,57 @@ pub fn create_each<S: Alter>(tx: &mut Transaction<'_, S>) -> Result<(), Error>
     ensures makes { Attempts BuildsAll (state S.Store tx.old.conn.now)
         (state S.Store tx.new.conn.now) result }
 {
-    create_money(tx)?;
-    create_sessions_tables(tx)?;
-    create_rest(tx)?;
+    create_all(tx)
+}
+
+/// Makes what versions 1 and 2 have, in a database that has no table.
+fn create_two<S: Alter>(tx: &mut Transaction<'_, S>) -> Result<(), Error>
+    requires stage { HasStage 0 (state S.Store tx.old.conn.now) }
+    ensures same_reference { tx.new.conn.ghost_name ≡ tx.old.conn.ghost_name }
+    ensures makes { Attempts (Adds 0 15) (state S.Store tx.old.conn.now)
+        (state S.Store tx.new.conn.now) result }
+{
+    create_first(tx)?;
+    create_second(tx)?;
     Ok(())
 }
 
-/// Makes the ten tables and their indexes in a database that has none: all of them or nothing, also
+/// Makes what the versions up to this one have, within a transaction, in a database that has no
+/// table.
+fn create_to<S: Alter>(tx: &mut Transaction<'_, S>, version: u32) -> Result<(), Error>
+    requires known { (1 ≤ version) × (version ≤ latest) }
+    requires stage { HasStage 0 (state S.Store tx.old.conn.now) }
+    ensures same_reference { tx.new.conn.ghost_name ≡ tx.old.conn.ghost_name }
+    ensures makes { Attempts (BuildsTo version) (state S.Store tx.old.conn.now)
+        (state S.Store tx.new.conn.now) result }
+{
+    match version {
+        1 => create_first(tx),
+        2 => create_two(tx),
+        _ => create_all(tx),
+    }
+}
+
+/// Makes what the versions after this one add, within a transaction: the schema is then that of the
+/// latest, and all rows of the tables that were there stay. The version that the database keeps is
+/// the caller's to change.
+///
+/// # Errors
+/// An error of the store. Then nothing is committed.
+pub fn create_since<S: Alter>(tx: &mut Transaction<'_, S>, version: u32) -> Result<(), Error>
+    requires known { (1 ≤ version) × (version < latest) }
+    requires has { HasVersion version (state S.Store tx.old.conn.now) }
+    ensures same_reference { tx.new.conn.ghost_name ≡ tx.old.conn.ghost_name }
+    ensures makes { Attempts (Migrates version) (state S.Store tx.old.conn.now)
+        (state S.Store tx.new.conn.now) result }
+{
+    match version {
+        1 => create_later(tx),
+        _ => create_third(tx),
+    }
+}
+
+/// Makes the tables and their indexes in a database that has none: all of them or nothing, also
 /// over a crash.
 ///
 /// # Errors
@@ -350,7 +552,46 @@ pub fn create_tables<S: Alter>(conn: &mut Connection<S>) -> Result<(), Error>
     tx.commit()
 }
 
-/// A database in memory that has the ten tables, all empty.
+/// Makes the tables and the indexes of a version in a database that has none: all of them or
+/// nothing, also over a crash.
+///
+/// # Errors
+/// An error of the store. Then the database is as it was.
+pub fn create_tables_at<S: Alter>(conn: &mut Connection<S>, version: u32) -> Result<(), Error>
+    requires known { (1 ≤ version) × (version ≤ latest) }
+    requires idle { conn.old.in_transaction ≡ false }
+    requires blank { HasCleanDisk (state S.Store conn.old) →
+        IsTrue (state S.Store conn.old).is_open → IsBlank (state S.Store conn.old) }
+    ensures idle { conn.new.in_transaction ≡ false }
+    ensures done { HasCleanDisk (state S.Store conn.new) →
+        OnOk result (CommitsTo version (state S.Store conn.new)) }
+    ensures kept { HasCleanDisk (state S.Store conn.new) → IsTrue (state S.Store conn.new).is_open
+        → OnErr result (IsTrue (state S.Store conn.old).is_open
+        × ((state S.Store conn.new).now ≡ (state S.Store conn.old).now)) }
+    ensures crash { Survives (state S.Store conn.old) (state S.Store conn.new)
+        (λ trees. AreEmpty (schema_at version).tables trees) }
+{
+    let mut tx = conn.transaction();
+    create_to(&mut tx, version)?;
+    tx.commit()
+}
+
+/// A database in memory that has the tables of a version, all empty.
+///
+/// # Errors
+/// An error of the store, also where memory was refused.
+pub fn create_in_memory_at(alloc: Global, version: u32) -> Result<Connection<MemStore>, Error>
+    requires known { (1 ≤ version) × (version ≤ latest) }
+    ensures idle { IfOk result (λ conn. conn.in_transaction ≡ false) }
+    ensures made { IfOk result (λ conn. HasCleanDisk (state over_memory conn) →
+        CommitsTo version (state over_memory conn)) }
+{
+    let mut conn = Connection::open_in_memory(alloc)?;
+    create_tables_at(&mut conn, version)?;
+    Ok(conn)
+}
+
+/// A database in memory that has the tables, all empty.
 ///
 /// # Errors
 /// An error of the store, also where memory was refused.

@@ -1,4 +1,4 @@
-//! The ten tables of a database, and what a statement on one of them leaves.
+//! The tables of a database, and what a statement on one of them leaves.
 #![tactic(auto)]
 
 mod creating;
@@ -7,9 +7,13 @@ mod schemas;
 mod values;
 mod writing;
 
-pub use crate::creating::{create_each, create_in_memory, create_tables};
+pub use crate::creating::{
+    LATEST, create_each, create_in_memory, create_in_memory_at, create_since, create_tables,
+    create_tables_at,
+};
 pub use crate::reading::{
-    ReadFault, has_columns, null_at, number_at, one_of, optional_at, read, small_at, text_at,
+    ReadFault, has_columns, null_at, number_at, one_of, optional_at, read, read_within, small_at,
+    text_at,
 };
 pub use crate::schemas::{has_ours, is_blank};
 pub use crate::values::{checked, flag, large, null, optional, text, whole};

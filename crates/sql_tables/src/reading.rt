@@ -2,11 +2,12 @@ ghost use Rattle.std.specs.Prelude.{◌≡◌, ◌<◌, ◌^◌, ℕ, List, Opti
 ghost use Rattle.std.specs.Prelude.{MatchResult, pos, length, option_map};
 ghost use Rattle.sql_tables.specs.Schema.{book_schema};
 ghost use Rattle.sql_tables.specs.Selects.{one_or_none};
-ghost use Rattle.sql_tables.specs.Statements.{Answers, HasIdleBook, OnlyReads};
+ghost use Rattle.sql_tables.specs.Statements.{Answers, Attempts, HasBook, HasIdleBook, HasRules};
+ghost use Rattle.sql_tables.specs.Statements.{OnlyReads};
 ghost use Rattle.sqlite.specs.Given.{IsPlain};
 ghost use Rattle.sqlite.specs.Held.{state};
 ghost use Rattle.sqlite.specs.Listing.{understood};
-ghost use Rattle.sqlite.specs.State.{HasCleanDisk, Survives};
+ghost use Rattle.sqlite.specs.State.{HasCleanDisk, IsUnchanged, Survives};
 ghost use Rattle.sqlite.specs.Values.{bound, or_null};
 ghost use Rattle.sqlite_value.specs.Order.{Row as Values, column};
 ghost use Rattle.sqlite_value.specs.declared.value.Value.TheVariants.{Int, Null, Text};
@@ -14,7 +15,7 @@ ghost use Rattle.std.specs.Str.{IsUtf8};
 ghost use Rattle.std.specs.String.{string_bytes};
 
 use sqlite::types::ValueRef;
-use sqlite::{Alter, Connection, Error, ErrorCode, Row};
+use sqlite::{Alter, Connection, Error, ErrorCode, Row, Transaction};
 use std::alloc::AllocError;
 
 /// Why rows weren't read.
@@ -63,6 +64,32 @@ pub fn read<S: Alter>(
     // For the prover alone: looking at the value makes known here what its type keeps.
     let _ours = conn.schema();
     match conn.query_all(sql, params) {
+        Ok(rows) => Ok(rows),
+        Err(error) => Err(ReadFault::Store(error)),
+    }
+}
+
+/// The rows that a selection answers, within a transaction. It changes nothing.
+///
+/// # Errors
+/// `Store` where the store failed, and never `Rules`. Then nothing is committed.
+pub fn read_within<S: Alter>(
+    tx: &mut Transaction<'_, S>,
+    sql: &str,
+    params: &[ValueRef<'_>],
+) -> Result<Vec<Row>, ReadFault>
+    requires plain { IsPlain (understood book_schema sql.now) }
+    requires book { HasBook (state S.Store tx.old.conn.now) }
+    requires rules { HasRules (state S.Store tx.old.conn.now) }
+    ensures same_reference { tx.new.conn.ghost_name ≡ tx.old.conn.ghost_name }
+    ensures answers { HasCleanDisk (state S.Store tx.new.conn.now) → IfOk result (λ rows.
+        Answers sql.now (bound params.now) (state S.Store tx.old.conn.now)
+        (state S.Store tx.new.conn.now) rows.items) }
+    ensures still { Attempts IsUnchanged (state S.Store tx.old.conn.now)
+        (state S.Store tx.new.conn.now) result }
+    ensures fault { IfErr result (λ e. ¬ (e ≡ ReadFault.Rules)) }
+{
+    match tx.query_all(sql, params) {
         Ok(rows) => Ok(rows),
         Err(error) => Err(ReadFault::Store(error)),
     }

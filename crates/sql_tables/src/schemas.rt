@@ -1,7 +1,7 @@
 //! Which tables a database has.
 
 ghost use Rattle.std.specs.Prelude.{◌≡◌, ◌↔◌, IsTrue};
-ghost use Rattle.sql_tables.specs.Ours.{has_ours, is_of_money, is_of_sessions, is_ours};
+ghost use Rattle.sql_tables.specs.Ours.{has_ours, is_of_later, is_of_money, is_of_sessions, is_ours};
 ghost use Rattle.sql_tables.specs.Texts.{stage};
 
 use sqlite_schema::names::same_name;
@@ -29,14 +29,24 @@ fn is_of_sessions(name: &[u8]) -> bool
         || same_name(b"vouchers", name)
 }
 
-/// Whether a name is that of one of the ten tables, but for the case of its letters.
+/// Whether a name is that of a table that a version after the first added.
+fn is_of_later(name: &[u8]) -> bool
+    ensures { result ≡ is_of_later name.now }
+{
+    same_name(b"books", name)
+        || same_name(b"grant_books", name)
+        || same_name(b"allowance_buckets", name)
+        || same_name(b"covered", name)
+}
+
+/// Whether a name is that of one of the tables, but for the case of its letters.
 fn is_ours(name: &[u8]) -> bool
     ensures { result ≡ is_ours name.now }
 {
-    is_of_money(name) || is_of_sessions(name)
+    is_of_money(name) || is_of_sessions(name) || is_of_later(name)
 }
 
-/// Whether a database has a table whose name is that of one of the ten, but for the case of its
+/// Whether a database has a table whose name is that of one of ours, but for the case of its
 /// letters.
 pub fn has_ours(schema: &Schema) -> bool
     ensures { result ≡ has_ours schema.now }

@@ -8,7 +8,7 @@ use Rattle.reserving.specs.ChargeColumns.{ChargeColumns}
 abbrev pub header_fields : List (List ℕ)
 header_fields =
     codes "moment" ∷ codes "session" ∷ codes "group" ∷ codes "blocks" ∷ codes "rated"
-    ∷ codes "collected" ∷ codes "uncollected" ∷ []
+    ∷ codes "collected" ∷ codes "uncollected" ∷ codes "covered" ∷ []
 
 abbrev pub header_record : List ℕ
 header_record = row_text default_writer header_fields
@@ -16,7 +16,7 @@ header_record = row_text default_writer header_fields
 abbrev pub charge_fields : ChargeColumns → List (List ℕ)
 charge_fields c =
     decimal c.moment ∷ c.session ∷ decimal c.group ∷ decimal c.blocks.0 ∷ decimal c.rated.0
-    ∷ decimal c.collected.0 ∷ decimal c.uncollected.0 ∷ []
+    ∷ decimal c.collected.0 ∷ decimal c.uncollected.0 ∷ decimal c.covered.0 ∷ []
 
 abbrev pub charge_record : ChargeColumns → List ℕ
 charge_record c = row_text default_writer (charge_fields c)

@@ -44,6 +44,7 @@ pub(crate) fn header_record(alloc: Global) -> Result<Vec<u8>, StreamFault>
         "rated".as_bytes(),
         "collected".as_bytes(),
         "uncollected".as_bytes(),
+        "covered".as_bytes(),
     ];
     made(alloc, &fields)
 }
@@ -64,6 +65,7 @@ pub(crate) fn charge_record(alloc: Global, row: &ChargeRow) -> Result<Vec<u8>, S
     let rated = digits(alloc, row.rated.0)?;
     let collected = digits(alloc, row.collected.0)?;
     let uncollected = digits(alloc, row.uncollected.0)?;
+    let covered = digits(alloc, row.covered.0 as u128)?;
     let fields = [
         moment.as_bytes(),
         row.session.as_str().as_bytes(),
@@ -72,6 +74,7 @@ pub(crate) fn charge_record(alloc: Global, row: &ChargeRow) -> Result<Vec<u8>, S
         rated.as_bytes(),
         collected.as_bytes(),
         uncollected.as_bytes(),
+        covered.as_bytes(),
     ];
     made(alloc, &fields)
 }

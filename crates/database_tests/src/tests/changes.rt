@@ -6,6 +6,7 @@ use crate::tests::row_readers::{stored, stored_rows};
 use crate::tests::values::{account, large, moment};
 use commands::{Answer, Content, KeptCredit};
 use keepers::{Change, KeptAnswer};
+use shelves::TariffShelf;
 use sql_keeper::{kept_texts, may_be_written};
 use sql_rows::{Head, Kept};
 use sql_tables::ReadFault;
@@ -66,21 +67,21 @@ fn change_into(rt: &impl Abort, alloc: Global, next: u64, rows: &str) -> Change 
 
 /// `FIRST NEXT & ROWS`: whether these rows may be written where the account's next charge was the
 /// first and becomes the next. Rows stand between `&`.
-fn may_be(rt: &impl Abort, alloc: Global, book: &TariffBook, words: &str) -> bool {
+fn may_be(rt: &impl Abort, alloc: Global, shelf: &TariffShelf, words: &str) -> bool {
     let (numbers, rows) = words.split_once(" & ").expect(rt, "numbers and rows");
     let (first, next) = numbers.split_once(" ").expect(rt, "two numbers");
     let before = Some(head_before(rt, large(rt, first)));
     let rows = rows.replace(alloc, " & ", "\n").expect(rt, "room");
     let change = change_into(rt, alloc, large(rt, next), rows.as_str());
-    may_be_written(book, &before, &change)
+    may_be_written(shelf, &before, &change)
 }
 
-fn answer_to(rt: &impl Abort, alloc: Global, book: &TariffBook, question: &str) -> String {
+fn answer_to(rt: &impl Abort, alloc: Global, shelf: &TariffShelf, question: &str) -> String {
     let (kind, words) = question
         .split_once(" ")
         .expect(rt, "a question and its words");
     if kind == "rows" {
-        let may = may_be(rt, alloc, book, words);
+        let may = may_be(rt, alloc, shelf, words);
         format!(in alloc; "{may}").expect(rt, "room")
     } else {
         texts_of(rt, alloc, kind, words)
@@ -91,14 +92,14 @@ fn is_told(rt: &impl Abort, told: &str, wanted: &str, line: &str) {
     assert_eq!(rt; told, wanted, "{line}");
 }
 
-fn try_all(rt: &impl Abort, alloc: Global, book: &TariffBook, lines: &str) {
+fn try_all(rt: &impl Abort, alloc: Global, shelf: &TariffShelf, lines: &str) {
     for line in lines.lines() {
         let (question, wanted) = line
             .split_once(" -> ")
             .expect(rt, "a question and an answer");
         is_told(
             rt,
-            answer_to(rt, alloc, book, question).as_str(),
+            answer_to(rt, alloc, shelf, question).as_str(),
             wanted,
             line,
         );
@@ -106,8 +107,8 @@ fn try_all(rt: &impl Abort, alloc: Global, book: &TariffBook, lines: &str) {
 }
 
 /// The content is the body's members that are there, in byte order of their names. Charges are
-/// numbered one after another. A reservation stands in an open session and is of the first book,
-/// with two of its periods, which are two.
+/// numbered one after another. A reservation stands in an open session and is of the one book that
+/// there is, with two of its periods, which are two.
 const CASES: &str = r#"content 49152 {"Amount":1,"Reference":"v1"} -> out of the rules
 content 49151 {"Amount":1,"Reference":"v1"} -> {"Amount":1,"Reference":"v1"}
 content 49151 {"Scope":0,"Reference":"v","Amount":1} -> {"Amount":1,"Reference":"v","Scope":0}
@@ -132,9 +133,30 @@ rows 1 1 & session s1 0 9 open & group s1 10 0 0:0 1 -> false
 rows 1 1 & session s1 0 9 ended & group s1 10 0 0 1 -> false
 rows 1 1 & session s1 0 9 never & group s1 10 0 0 1 -> false"#;
 
+/// With a second book on the shelf a reservation may be of either.
+const CASES_OF_TWO: &str = "rows 1 1 & session s1 0 9 open & group s1 10 0 0 1 -> true
+rows 1 1 & session s1 0 9 open & group s1 10 0 2:0 1 -> true
+rows 1 1 & session s1 0 9 open & group s1 10 0 2:2 1 -> false
+rows 1 1 & session s1 0 9 open & group s1 10 0 3:0 1 -> false";
+
+/// The worked book.
+fn worked(rt: &impl Abort, alloc: Global) -> TariffBook {
+    TariffBook::read(alloc, worked_book::BOOK.as_bytes()).expect(rt, "a book")
+}
+
 #[test]
 fn texts_and_rows_of_a_change(rt: HostRuntime) {
     let alloc = rt.alloc();
-    let book = TariffBook::read(alloc, worked_book::BOOK.as_bytes()).expect(&rt, "a book");
-    try_all(&rt, alloc, &book, CASES);
+    let shelf = TariffShelf::new(alloc, worked(&rt, alloc)).expect(&rt, "a shelf");
+    try_all(&rt, alloc, &shelf, CASES);
+}
+
+#[test]
+fn rows_of_a_change_over_two_books(rt: HostRuntime) {
+    let alloc = rt.alloc();
+    let mut shelf = TariffShelf::new(alloc, worked(&rt, alloc)).expect(&rt, "a shelf");
+    let from = moment(&rt, 5);
+    let added = shelf.add(from, worked(&rt, alloc), moment(&rt, 4));
+    assert!(rt; added.is_ok());
+    try_all(&rt, alloc, &shelf, CASES_OF_TWO);
 }

@@ -1,10 +1,11 @@
-//! The statements over the ten tables: rows of each kind are put, read, put again with other
+//! The statements over the tables: rows of each kind are put, read, put again with other
 //! values, and removed. What is wanted was reckoned by hand.
 
 ghost use Rattle.database_tests.specs.Ready.{IsReady};
 ghost use Rattle.sqlite.specs.Held.{state};
 
 mod answers;
+mod beside;
 mod groups;
 mod heads;
 mod rows;
@@ -13,6 +14,9 @@ mod tables;
 use crate::tests::row_readers::{Given, head};
 use crate::tests::statements::answers::{
     Names, keep_answers, keep_vouchers, tell_answers, tell_vouchers,
+};
+use crate::tests::statements::beside::{
+    end_beside, keep_beside, keep_books, tell_beside, tell_books,
 };
 use crate::tests::statements::groups::{keep_free, keep_reserved, tell_groups};
 use crate::tests::statements::heads::{keep_account, keep_meta, tell_accounts, tell_meta};
@@ -62,9 +66,13 @@ true 200 4 7, none, 49151;
 true 200 4 7, false 100 3 1, 49151;49152;
 ";
 
-/// The second bucket ends first.
+/// The second bucket ends before the first, and the third before both. The third and the fourth
+/// are reserved as a whole, and the fifth is spent.
 const FIRST: &str = "bucket 1 0 4102444800 - 100 100 0 0 0
 bucket 2 10 500 10 30 30 0 0 0
+bucket 3 10 400 10 30 0 30 0 0
+bucket 4 0 4102444800 - 50 0 20 30 0
+bucket 5 10 300 10 30 0 0 30 0
 counter 10 3 7
 counter 10 4 8
 session s1 4 1767607200 open
@@ -126,12 +134,18 @@ from 2 to 2
 
 /// Live buckets stand in the order of their ends, dead ones and all by number, charges by number.
 const ROWS: &str = "live
+bucket 3 10 400 10 30 0 30 0 0
 bucket 2 10 500 10 30 30 0 0 0
 bucket 1 0 4102444800 - 100 100 0 0 0
+bucket 4 0 4102444800 - 50 0 20 30 0
 dead
+bucket 5 10 300 10 30 0 0 30 0
 all
 bucket 1 0 4102444800 - 100 100 0 0 0
 bucket 2 10 500 10 30 30 0 0 0
+bucket 3 10 400 10 30 0 30 0 0
+bucket 4 0 4102444800 - 50 0 20 30 0
+bucket 5 10 300 10 30 0 0 30 0
 no counter
 counter 10 3 7
 counter 10 4 8
@@ -151,12 +165,18 @@ charge 1 1767607200 s1 10 3 60 60 0
 from 2 to 2
 charge 2 1767607200 s1 10 3 60 50 10
 live
+bucket 3 10 400 10 30 0 30 0 0
 bucket 1 0 4102444800 - 100 85 5 10 0
+bucket 4 0 4102444800 - 50 0 20 30 0
 dead
 bucket 2 10 500 10 30 0 0 30 0
+bucket 5 10 300 10 30 0 0 30 0
 all
 bucket 1 0 4102444800 - 100 85 5 10 0
 bucket 2 10 500 10 30 0 0 30 0
+bucket 3 10 400 10 30 0 30 0 0
+bucket 4 0 4102444800 - 50 0 20 30 0
+bucket 5 10 300 10 30 0 0 30 0
 no counter
 counter 10 3 4000000000000000000
 counter 10 4 8
@@ -205,6 +225,47 @@ group 10 75
 group 20 60 day night
 hold 20 1 5
 hold 20 2 9
+";
+
+/// What stands beside the rows of the groups, the buckets and the charges that are there; and the
+/// books after the first.
+fn try_beside<S: Alter>(
+    rt: &impl Abort,
+    alloc: Global,
+    conn: &mut Connection<S>,
+    account: &AccountNumber,
+    text: &mut String,
+)
+    requires ready { IsReady (state S.Store conn.old) }
+    ensures ready { IsReady (state S.Store conn.new) }
+{
+    let session = session_id(rt, alloc, "s1");
+    tell_beside(rt, alloc, conn, account, &session, text);
+    keep_beside(rt, conn, account, &session);
+    tell_beside(rt, alloc, conn, account, &session, text);
+    end_beside(rt, conn, account, &session);
+    tell_beside(rt, alloc, conn, account, &session, text);
+    tell_books(rt, alloc, conn, text);
+    keep_books(rt, conn);
+    tell_books(rt, alloc, conn, text);
+}
+
+/// Where nothing is, where all is, and where some of it ended; and books in the order of their
+/// numbers.
+const BESIDE: &str = "allowances: false false
+from 2 to 2
+book of 20: 2
+allowances: false true 2
+covered 1 2
+covered 2 5
+from 2 to 2
+covered 2 5
+allowances: false false
+covered 2 5
+from 2 to 2
+covered 2 5
+book 2 200 a second
+book 3 300 a third
 ";
 
 /// A request and an operator's command of the same name; and vouchers.
@@ -263,6 +324,7 @@ fn try_all<S: Alter>(
     try_heads(rt, alloc, conn, (names.account, other), text);
     try_rows(rt, alloc, conn, (names.account, other), text);
     try_groups(rt, alloc, conn, names.account, text);
+    try_beside(rt, alloc, conn, names.account, text);
     try_answers(rt, alloc, conn, names, text);
 }
 
@@ -280,7 +342,7 @@ fn rows_are_put_and_read(rt: HostRuntime) {
     let mut conn = new_tables(&rt, alloc);
     try_all(&rt, alloc, &mut conn, &names, &other, &mut text);
     let parts = [
-        NO_ROWS, NO_ANSWERS, HEADS, NO_ROWS, ROWS, GROUPS, NO_ANSWERS, ANSWERS,
+        NO_ROWS, NO_ANSWERS, HEADS, NO_ROWS, ROWS, GROUPS, BESIDE, NO_ANSWERS, ANSWERS,
     ];
     let wanted = parts.concat(alloc).expect(&rt, "room");
     assert_eq!(rt; text.as_str(), wanted.as_str());

@@ -44,17 +44,17 @@ COVERED TO DATE 3
 
 /// Its export.
 const EXPORT: &str = "\
-moment,session,group,blocks,rated,collected,uncollected
-1767607500,s3,10,5,500000,250000,250000
+moment,session,group,blocks,rated,collected,uncollected,covered
+1767607500,s3,10,5,500000,250000,250000,0
 ";
 
 /// The header of an export, and the records of a thousand million events, of which the account pays
 /// one and then none.
-const HEADER: &str = "moment,session,group,blocks,rated,collected,uncollected\n";
+const HEADER: &str = "moment,session,group,blocks,rated,collected,uncollected,covered\n";
 
-const ONE_PAID: &str = "1767607200,s16,30,1000000000,90000000000000,90000,89999999910000\n";
+const ONE_PAID: &str = "1767607200,s16,30,1000000000,90000000000000,90000,89999999910000,0\n";
 
-const NONE_PAID: &str = "1767607200,s16,30,1000000000,90000000000000,0,90000000000000\n";
+const NONE_PAID: &str = "1767607200,s16,30,1000000000,90000000000000,0,90000000000000,0\n";
 
 /// The account of the lines.
 fn account(rt: &impl Abort, alloc: Global) -> AccountNumber {
@@ -184,7 +184,7 @@ fn a_writer_that_fails_at_each_byte(rt: HostRuntime) {
         &rt,
         alloc,
         &mut half_paid_month(&rt, alloc, &shelf, true, EXPORT),
-        97,
+        107,
     );
     try_below(&rt, alloc, &mut allowed_month(&rt, alloc, &shelf), 774);
 }

@@ -1,10 +1,10 @@
 //! The words of the program, a line each, and what they say.
 
 use crate::tests::tables::{Told, try_told, word};
-use commands::Credit;
+use commands::{Allowance, Credit};
 use operator::{
-    ImportWords, OfficeCommand, OfficeWords, OnceWords, ProgramWords, ServeWords, StatementWords,
-    WordsFault, program_words,
+    BookWords, ImportWords, OfficeCommand, OfficeWords, OnceWords, ProgramWords, ServeWords,
+    StatementWords, WordsFault, program_words,
 };
 use std::alloc::{AllocError, Global};
 use std::process::Abort;
@@ -25,14 +25,35 @@ fn crediting(alloc: Global, credit: &Credit) -> Result<String, AllocError> {
     )
 }
 
+fn allowing(alloc: Global, allowance: &Allowance) -> Result<String, AllocError> {
+    format!(in alloc;
+        "allow {} {} {} {} {}",
+        allowance.account.as_str(),
+        allowance.blocks.blocks().0,
+        allowance.reference.as_str(),
+        allowance.end().seconds(),
+        allowance.scope
+    )
+}
+
 fn office(alloc: Global, command: &OfficeCommand) -> Result<String, AllocError> {
     match command {
         OfficeCommand::Open(account) => format!(in alloc; "open {}", account.as_str()),
         OfficeCommand::Bar(account) => format!(in alloc; "bar {}", account.as_str()),
         OfficeCommand::Unbar(account) => format!(in alloc; "unbar {}", account.as_str()),
         OfficeCommand::Credit(credit) => crediting(alloc, credit),
+        OfficeCommand::Allow(allowance) => allowing(alloc, allowance),
         OfficeCommand::Sweep => format!(in alloc; "sweep"),
     }
+}
+
+fn adding(alloc: Global, book: &BookWords) -> Result<String, AllocError> {
+    format!(in alloc;
+        "book {} {} {}",
+        book.database.as_str(),
+        book.file.as_str(),
+        book.from.seconds()
+    )
 }
 
 fn serving(alloc: Global, serve: &ServeWords) -> Result<String, AllocError> {
@@ -93,6 +114,11 @@ fn said(rt: &impl Abort, alloc: Global, words: &ProgramWords) -> Result<String, 
             init.database.as_str(),
             init.book.as_str()
         ),
+        ProgramWords::Migrate(migrate) => format!(in alloc;
+            "migrate {}",
+            migrate.database.as_str()
+        ),
+        ProgramWords::Book(book) => adding(alloc, book),
         ProgramWords::Serve(serve) => serving(alloc, serve),
         ProgramWords::Import(import) => importing(alloc, import),
         ProgramWords::Office(words) => ordering(rt, alloc, words),
@@ -141,6 +167,17 @@ ocs init db book -> init db book
 ocs init db -> unread 2
 ocs init db book more -> unread 2
 ocs init  book -> invalid
+ocs migrate db -> migrate db
+ocs migrate -> unread 2
+ocs migrate db --at 1 -> unread 2
+ocs migrate  -> invalid
+ocs book db file --from 1767657600 -> book db file 1767657600
+ocs book --from=4102444799 db file -> book db file 4102444799
+ocs book db file --from 0 -> book db file 0
+ocs book db file --from 4102444800 -> invalid
+ocs book db file -> unread 2
+ocs book db --from 1 -> unread 2
+ocs book db file --from 1 --at 1 -> unread 2
 ocs serve db --port 65535 --connections 1000000 --at 0 -> serve db 65535 1000000 Some(0)
 ocs serve --port 1 --connections 1 db -> serve db 1 1 None
 ocs serve db --port 65536 --connections 1 -> invalid
@@ -166,6 +203,15 @@ ocs credit --scope 10 db 0 1 r1 -> credit 0 1 r1 4102444800 Some(10) in db None
 ocs credit db 0 0 r1 -> invalid
 ocs credit db 0 1 r1 --until 0 -> invalid
 ocs credit db 0 1 r1 --scope 4294967296 -> invalid
+ocs allow db 0 1000000000 a1 --scope 4294967295 -> allow 0 1000000000 a1 4102444800 4294967295 in db None
+ocs allow db 0 1 a1 --until 1 --scope 0 --at 5 -> allow 0 1 a1 1 0 in db Some(5)
+ocs allow --scope=10 db 0 1 a1 --until 4102444800 -> allow 0 1 a1 4102444800 10 in db None
+ocs allow db 0 1 a1 -> unread 2
+ocs allow db 0 1 --scope 10 -> unread 2
+ocs allow db 0 0 a1 --scope 10 -> invalid
+ocs allow db 0 1000000001 a1 --scope 10 -> invalid
+ocs allow db 0 1 a1 --scope 4294967296 -> invalid
+ocs allow db 0 1 a1 --scope 10 --until 0 -> invalid
 ocs statement db 49151 202601 -> statement db 49151 202601 false None
 ocs statement --csv db 49151 202612 --at 5 -> statement db 49151 202612 true Some(5)
 ocs statement db 49151 202613 -> invalid

@@ -1,4 +1,4 @@
-//! The ten tables, empty, in memory.
+//! The tables, empty, in memory.
 
 ghost use Rattle.database_tests.specs.Ready.{IsReady};
 ghost use Rattle.sqlite.specs.Held.{state};

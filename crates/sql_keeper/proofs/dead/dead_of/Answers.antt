@@ -1,15 +1,20 @@
-use Rattle.std.proofs.Common.{map, ◌≡◌, List, IfOk, subst}
-use Rattle.buckets.specs.declared.bucket.columns.Columns.{Columns as BucketColumns}
+use Rattle.std.proofs.Common.{◌≡◌, ◌∙◌, List, ℕ, map, IfOk, subst}
+use Rattle.sqlite.specs.Held.{state}
 use Rattle.sql_rows.specs.Content.{rows_in}
-use Rattle.sql_rows.specs.Texts.{bucket_row}
-use Rattle.sql_keeper.proofs.DeadRows.{dead_made}
-use Rattle.sql_keeper.proofs.InTurn.{reads_made}
+use Rattle.sql_keeper.proofs.CountedRows.{dead_made}
+use Rattle.sql_keeper.proofs.Told.{made_of, one_tells, tell_both}
 use Rattle.sql_keeper.proofs.dead.dead_of.Goals as goal
 
 pub returns : goal.returns
-returns g c = reads_made _ _ _ _ c.in_ok-rows.rows c.buckets_of.result c.in_ok-rows.ensures.reads
-    (λ trees found. dead_made (λ bs. bs.items) (rows_in trees c.args.account.now).buckets
-    (map bucket_row c.in_ok-rows.rows.items) c.buckets_of.result found c.in_ok-rows.ensures.order
-    (subst (λ (rows : List BucketColumns).
-    IfOk c.buckets_of.result (λ bs. bs.items ≡ map bucket_row rows))
-    c.deref.ensures.value c.buckets_of.ensures))
+returns g c =
+    made_of _ _ (state g.S.Store c.args.conn.now) (state g.S.Store c.read_allowances.new.conn)
+    c.buckets_of.result
+    (tell_both _ _ (state g.S.Store c.args.conn.now)
+    (state g.S.Store c.read_buckets_dead.new.conn)
+    (state g.S.Store c.read_allowances.new.conn)
+    (one_tells _ _ _ c.in_ok-rows.rows c.in_ok-rows.ensures.reads)
+    (one_tells _ _ _ c.in_ok-allowances.allowances c.in_ok-allowances.ensures.reads))
+    (λ trees told. dead_made (λ bs. bs.items) (rows_in trees c.args.account.now)
+    c.in_ok-rows.rows.items c.deref.result.now c.in_ok-allowances.allowances.items
+    c.deref-2.result.now c.buckets_of.result c.deref.ensures.value c.deref-2.ensures.value told.0
+    c.in_ok-rows.ensures.order told.1 c.buckets_of.ensures)

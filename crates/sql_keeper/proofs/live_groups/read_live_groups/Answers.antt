@@ -3,10 +3,11 @@ use Rattle.sqlite.specs.Held.{state}
 use Rattle.sql_keeper.proofs.InTurn.{failed_then, gives_up}
 use Rattle.sql_keeper.proofs.LiveGroups.{none_yet, next_gathered, all_gathered}
 use Rattle.sql_keeper.proofs.live_groups.read_live_groups.Goals as goal
+use Rattle.sql_keeper.specs.Content.{shelf_names}
 
 pub sessions-init : goal.sessions-init
 sessions-init g c =
-    none_yet c.args.book.now.periods c.args.account.now c.new-groups.result.items
+    none_yet (shelf_names c.args.books.now) c.args.account.now c.new-groups.result.items
     (state g.S.Store c.args.conn.now) c.new-groups.ensures.items c.requires.idle
 
 pub read_session_groups-requires : goal.read_session_groups-requires
@@ -26,14 +27,15 @@ returns-in_default g c =
     c.read_session_groups.ensures.only c.read_session_groups.ensures.survives
 
 pub sessions-preserved : goal.sessions-preserved
-sessions-preserved g c = next_gathered (λ xs. xs.items) c.args.book.now.periods c.args.account.now
-    c.args.sessions.now c.sessions.session-index c.session-item.result c.sessions.groups.items
+sessions-preserved g c = next_gathered (λ xs. xs.items) (shelf_names c.args.books.now)
+    c.args.account.now c.args.sessions.now c.sessions.session-index c.session-item.result c.sessions.groups.items
     c.append.new.self.items (state g.S.Store c.args.conn.now) (state g.S.Store c.sessions.conn)
     (state g.S.Store c.read_session_groups.new.conn) c.in_ok-more.more
     (omega arith) c.session-item.is c.in-Ok.ensures.items c.sessions.invariant c.in_ok-more.ensures
 
 pub returns : goal.returns
 returns g c =
-    all_gathered (λ xs. xs.items) c.args.book.now.periods c.args.account.now c.args.sessions.now
+    all_gathered (λ xs. xs.items) (shelf_names c.args.books.now) c.args.account.now
+    c.args.sessions.now
     c.sessions.session-index c.sessions.groups (state g.S.Store c.args.conn.now)
     (state g.S.Store c.sessions.conn) (omega arith) c.sessions.invariant

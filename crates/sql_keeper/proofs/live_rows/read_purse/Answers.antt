@@ -1,15 +1,21 @@
-use Rattle.std.proofs.Common.{map, ◌≡◌, List, IfOk, subst}
-use Rattle.buckets.specs.declared.bucket.columns.Columns.{Columns as BucketColumns}
+use Rattle.std.proofs.Common.{◌∙◌, ap}
+use Rattle.sqlite.specs.Held.{state}
 use Rattle.sql_rows.specs.Content.{rows_in}
-use Rattle.sql_rows.specs.Texts.{bucket_row}
-use Rattle.sql_keeper.proofs.InTurn.{reads_made}
-use Rattle.sql_keeper.proofs.LiveRows.{live_made}
+use Rattle.sql_keeper.specs.Kinds.{counted_rows}
+use Rattle.sql_keeper.proofs.CountedRows.{purse_told}
+use Rattle.sql_keeper.proofs.Told.{made_of, one_tells, several_tell, tell_both}
 use Rattle.sql_keeper.proofs.live_rows.read_purse.Goals as goal
 
 pub returns : goal.returns
-returns g c = reads_made _ _ _ _ c.in_ok-rows.rows c.purse_of.result c.in_ok-rows.ensures.reads
-    (λ trees found.
-    live_made (rows_in trees c.args.account.now) (map bucket_row c.in_ok-rows.rows.items)
-    c.purse_of.result found
-    (subst (λ (rows : List BucketColumns). IfOk c.purse_of.result (λ p. p ≡ map bucket_row rows))
-    c.deref.ensures.value c.purse_of.ensures))
+returns g c =
+    made_of _ _ (state g.S.Store c.args.conn.now) (state g.S.Store c.read_counted.new.conn)
+    c.purse_of.result
+    (tell_both _ _ (state g.S.Store c.args.conn.now)
+    (state g.S.Store c.read_buckets_live.new.conn)
+    (state g.S.Store c.read_counted.new.conn)
+    (one_tells _ _ _ c.in_ok-rows.rows c.in_ok-rows.ensures.reads)
+    (several_tell _ _ _ c.in_ok-buckets.buckets c.in_ok-buckets.ensures))
+    (λ trees told. purse_told (rows_in trees c.args.account.now) c.in_ok-rows.rows.items
+    c.in_ok-buckets.buckets.items c.purse_of.result told.0
+    (told.1 ∙ ap (counted_rows (rows_in trees c.args.account.now)) c.deref.ensures.value)
+    c.purse_of.ensures)

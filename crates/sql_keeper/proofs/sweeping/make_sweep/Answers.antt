@@ -4,6 +4,7 @@ use Rattle.sqlite.specs.Held.{state}
 use Rattle.sql_keeper.proofs.SweptReads.{become_swept, count_swept}
 use Rattle.sql_keeper.proofs.Whole.{written, not_written}
 use Rattle.sql_keeper.proofs.sweeping.make_sweep.Goals as goal
+use Rattle.sql_keeper.specs.Content.{shelf_names}
 
 pub returns-in_err-write_sweep-clause-commits : goal.returns-in_err-write_sweep-clause-commits
 returns-in_err-write_sweep-clause-commits g c =
@@ -27,7 +28,7 @@ pub returns-clause-count : goal.returns-clause-count
 returns-clause-count g c =
     let n : c.len.result ≡ length c.in_ok-accounts.accounts.items = omega (arith, c.len.ensures) in
     λ clean. n
-    ∙ count_swept (λ xs. xs.items) c.args.names.now.periods c.args.text.now c.args.shelf.now
+    ∙ count_swept (λ xs. xs.items) (shelf_names c.args.names.now) c.args.text.now c.args.shelf.now
     c.args.moment c.in_ok-accounts.accounts c.deref.result.now c.deref.ensures.value
     c.first-ranges.ensures.shelf
     (omega (arith, c.seconds-moment.ensures.in_range, c.seconds-moment.ensures.value))

@@ -5,10 +5,12 @@ use Rattle.sql_rows.specs.Content.{content_of}
 use Rattle.sql_keeper.proofs.InTurn.{failed_then, gathers_made, gives_up}
 use Rattle.sql_keeper.proofs.SweptReads.{none_swept, swept_made, next_swept, all_swept}
 use Rattle.sql_keeper.proofs.swept_rows.read_each.Goals as goal
+use Rattle.sql_keeper.specs.Content.{shelf_names}
 
 pub accounts-init : goal.accounts-init
 accounts-init g c =
-    none_swept c.args.names.now.periods c.args.shelf.now c.args.moment c.new-swept.result.items
+    none_swept (shelf_names c.args.names.now) c.args.shelf.now c.args.moment
+    c.new-swept.result.items
     (state g.S.Store c.args.conn.now) c.new-swept.ensures.items c.requires.idle
 
 pub read_live_account-requires : goal.read_live_account-requires
@@ -36,7 +38,7 @@ returns-in_default g c =
 
 pub accounts-preserved : goal.accounts-preserved
 accounts-preserved g c =
-    next_swept c.args.names.now.periods c.args.shelf.now c.args.moment c.args.accounts.now
+    next_swept (shelf_names c.args.names.now) c.args.shelf.now c.args.moment c.args.accounts.now
     c.accounts.account-index c.account-item.result c.accounts.swept.items c.push.new.self.items
     (state g.S.Store c.args.conn.now) (state g.S.Store c.accounts.conn)
     (state g.S.Store c.read_live_account.new.conn) c.in_ok-next.next
@@ -44,13 +46,13 @@ accounts-preserved g c =
     (gathers_made _ _ (state g.S.Store c.accounts.conn)
     (state g.S.Store c.read_live_account.new.conn) c.in_ok-rows.rows (Ok c.in_ok-next.next)
     c.in_ok-rows.ensures
-    (λ trees live. swept_made {E = ReadFault} c.args.names.now.periods
+    (λ trees live. swept_made {E = ReadFault} (shelf_names c.args.names.now)
     c.args.shelf.now c.args.moment
     (content_of trees) c.account-item.result c.in_ok-rows.rows (Ok c.in_ok-next.next)
     c.in_ok-next.ensures live))
 
 pub returns : goal.returns
-returns g c = all_swept c.args.names.now.periods c.args.shelf.now c.args.moment
+returns g c = all_swept (shelf_names c.args.names.now) c.args.shelf.now c.args.moment
     (λ xs. xs.items) c.args.accounts.now c.accounts.account-index c.accounts.swept
     (state g.S.Store c.args.conn.now) (state g.S.Store c.accounts.conn)
     (omega arith) c.accounts.invariant

@@ -3,17 +3,14 @@ use Rattle.sqlite.specs.Held.{state}
 use Rattle.sqlite.specs.State.{ExecutesInside}
 use Rattle.sqlite.specs.Values.{or_null, bound_value}
 use Rattle.sqlite_value.specs.declared.value.Value.TheVariants.{Text}
-use Rattle.buckets.specs.declared.kind.BucketKind.TheVariants.{Money}
-use Rattle.sql_rows.specs.Values.{nat}
+use Rattle.sql_rows.specs.Values.{nat, plain_bucket}
 use Rattle.sql_rows.proofs.PutBucket.{put_bucket_text, makes_bucket, bound_bucket}
 use Rattle.sql_rows.proofs.bucket_rows.put_bucket.Goals as goal
 
 pub returns-clause-makes : goal.returns-clause-makes
 returns-clause-makes g c =
-    let counts : c.args.bucket.now.kind ≡ Money =
-    sym c.kind.ensures ∙ c.in_ok-money_alone.ensures in
-    makes_bucket c.args.account.now c.args.bucket.now counts _
-    (bound_bucket c.args.account.now c.args.bucket.now counts _ _ _ _ _ _ _ _ _ _
+    makes_bucket c.args.account.now (plain_bucket c.args.bucket.now) refl _
+    (bound_bucket c.args.account.now (plain_bucket c.args.bucket.now) refl _ _ _ _ _ _ _ _ _ _
     (c.text-of_account.ensures ∙ ap Text c.as_str.ensures.value)
     (c.whole-number.ensures ∙ ap nat c.number.ensures)
     (c.large-starts.ensures ∙ ap nat (c.seconds.ensures.value ∙ c.from.ensures))

@@ -1,12 +1,13 @@
 use Rattle.std.proofs.Common.{rules, ◌∙◌, arith}
 use Rattle.sql_rows.specs.Content.{with_rows, with_bucket}
+use Rattle.sql_rows.specs.Values.{plain_bucket}
 use Rattle.sql_rows.proofs.Each.{put_next}
 use Rattle.sql_rows.proofs.bucket_rows.put_buckets.Goals as goal
 
 pub rows-preserved : goal.rows-preserved
 rows-preserved g c = record {
   same = c.in_ok-put_bucket.ensures.same_reference ∙ c.rows.invariant.same;
-  put = put_next (λ x. with_rows c.args.account.now (with_bucket x)) c.args.rows.now
+  put = put_next (λ x. with_rows c.args.account.now (with_bucket (plain_bucket x))) c.args.rows.now
       c.rows.row-index c.row-item.result _ _ _ c.in_ok-put_bucket.field-0
       (omega arith) c.row-item.is c.rows.invariant.put c.in_ok-put_bucket.ensures.makes;
 }

@@ -4,17 +4,14 @@ use Rattle.sqlite.specs.State.{ExecutesInside}
 use Rattle.sqlite.specs.Values.{or_null, bound_value}
 use Rattle.sqlite_value.specs.declared.value.Value.TheVariants.{Text}
 use Rattle.reserving.specs.declared.charge.ChargeRow.{ChargeRow}
-use Rattle.sql_rows.specs.Values.{nat}
+use Rattle.sql_rows.specs.Values.{nat, plain_charge}
 use Rattle.sql_rows.proofs.PutCharge.{put_charge_text, makes_charge, bound_charge}
 use Rattle.sql_rows.proofs.charge_rows.put_charge.Goals as goal
 
 pub returns-clause-makes : goal.returns-clause-makes
 returns-clause-makes g c =
-    let none : c.args.charge.now.covered.0 ≡ 0 =
-    sym (ap (λ (x : ChargeRow). x.covered.0) c.charge.view_is)
-    ∙ c.in_ok-none_covered.ensures in
-    makes_charge c.args.account.now c.args.charge.now none _
-    (bound_charge c.args.account.now c.args.charge.now none _ _ _ _ _ _ _ _ _
+    makes_charge c.args.account.now (plain_charge c.args.charge.now) refl _
+    (bound_charge c.args.account.now (plain_charge c.args.charge.now) refl _ _ _ _ _ _ _ _ _
     (c.text-of_account.ensures ∙ ap Text c.as_str.ensures.value)
     (c.whole-number.ensures ∙ ap (λ (x : ChargeRow). nat x.number) c.charge.view_is)
     (c.large-moment.ensures ∙ ap nat c.seconds.ensures.value

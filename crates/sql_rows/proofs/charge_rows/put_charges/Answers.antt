@@ -1,12 +1,13 @@
 use Rattle.std.proofs.Common.{rules, ◌∙◌, arith}
 use Rattle.sql_rows.specs.Content.{with_rows, with_charge}
+use Rattle.sql_rows.specs.Values.{plain_charge}
 use Rattle.sql_rows.proofs.Each.{put_next}
 use Rattle.sql_rows.proofs.charge_rows.put_charges.Goals as goal
 
 pub rows-preserved : goal.rows-preserved
 rows-preserved g c = record {
   same = c.in_ok-put_charge.ensures.same_reference ∙ c.rows.invariant.same;
-  put = put_next (λ x. with_rows c.args.account.now (with_charge x)) c.args.rows.now
+  put = put_next (λ x. with_rows c.args.account.now (with_charge (plain_charge x))) c.args.rows.now
       c.rows.row-index c.row-item.result _ _ _ c.in_ok-put_charge.field-0
       (omega arith) c.row-item.is c.rows.invariant.put c.in_ok-put_charge.ensures.makes;
 }

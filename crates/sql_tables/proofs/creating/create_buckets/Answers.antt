@@ -1,4 +1,4 @@
-use Rattle.std.proofs.Common.{rules, refl, arith}
+use Rattle.std.proofs.Common.{refl}
 use Rattle.sqlite.specs.Held.{state}
 use Rattle.sql_tables.specs.Schema.{buckets}
 use Rattle.sql_tables.specs.Texts.{buckets_text}

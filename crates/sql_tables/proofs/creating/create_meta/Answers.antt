@@ -1,4 +1,4 @@
-use Rattle.std.proofs.Common.{rules, refl, arith}
+use Rattle.std.proofs.Common.{refl}
 use Rattle.sqlite.specs.Held.{state}
 use Rattle.sql_tables.specs.Schema.{meta}
 use Rattle.sql_tables.specs.Texts.{meta_text}

@@ -10,14 +10,15 @@ returns-in-Ok-make_tables-clause-created g c =
     (string_bytes c.in-Ok.read.text) c.keeper_of.ensures.connection
     c.keeper_of.ensures.shelf c.in-Ok.ensures.given c.keeper_of.ensures.names
     c.keeper_of.ensures.text
-    c.keeper_of.ensures.uncounted c.in-Ok.ensures.read c.in-Ok.ensures.text c.keeper_of.ensures.live
+    c.keeper_of.ensures.uncounted c.in-Ok.ensures.alone.first c.in-Ok.ensures.text
+    c.keeper_of.ensures.live
     (IsUtf8-string_bytes c.in-Ok.read.text) c.args.connection
-    c.in-Ok-make_tables.field-0 c.in-Ok-make_tables.ensures.blank c.in-Ok-make_tables.ensures.plain
-    c.in-Ok-make_tables.ensures.creates
+    c.in-Ok-make_tables.field-0 c.in-Ok.ensures.alone c.in-Ok-make_tables.ensures.blank
+    c.in-Ok-make_tables.ensures.plain c.in-Ok-make_tables.ensures.creates
 
 pub returns-in-Err-make_tables-clause-refused : goal.returns-in-Err-make_tables-clause-refused
 returns-in-Err-make_tables-clause-refused g c =
     not_created g.S.Store c.args.text.now c.args.connection c.make_tables.new.conn
     c.in-Err-make_tables.fault _
-    (c.in-Err-make_tables.ensures.told (c.in-Ok.read.own, c.in-Ok.ensures.read))
+    (c.in-Err-make_tables.ensures.told (c.in-Ok.read.own.first, c.in-Ok.ensures.alone.first))
     c.in-Err-make_tables.ensures.mode c.in-Err-make_tables.ensures.creates

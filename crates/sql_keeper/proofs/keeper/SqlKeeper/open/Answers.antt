@@ -7,8 +7,8 @@ use Rattle.sql_keeper.proofs.keeper.SqlKeeper.open.Goals as goal
 pub returns-in-Ok-clause-opened : goal.returns-in-Ok-clause-opened
 returns-in-Ok-clause-opened g c =
     let finds = c.in-Ok.ensures.finds in
-    opened g.S.Store c.keeper_of.result.0 c.book_in.new.conn c.keeper_of.result.1 c.in-Ok.read.given
-    c.in-Ok.read.own (string_bytes c.in-Ok.read.text)
+    opened g.S.Store c.keeper_of.result.0 c.books_in.new.conn c.keeper_of.result.1
+    c.in-Ok.read.given c.in-Ok.read.own (string_bytes c.in-Ok.read.text)
     (string_bytes c.in-Ok.read.text) c.keeper_of.ensures.connection
     c.keeper_of.ensures.shelf finds.given c.keeper_of.ensures.names c.keeper_of.ensures.text
     c.keeper_of.ensures.uncounted finds.read refl c.keeper_of.ensures.live

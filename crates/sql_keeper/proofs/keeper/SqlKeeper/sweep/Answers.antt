@@ -1,4 +1,5 @@
 use Rattle.std.proofs.Common.{refl}
+use Rattle.sql_keeper.specs.Content.{shelf_names}
 use Rattle.sql_keeper.specs.Sweeps.{BecomesSwept}
 use Rattle.sql_keeper.proofs.Asked.{handed}
 use Rattle.sql_keeper.proofs.Committed.{committed_keeper, keeps, swept_law, whole}
@@ -7,7 +8,7 @@ use Rattle.sql_keeper.proofs.keeper.SqlKeeper.sweep.Goals as goal
 
 pub invariant_of-self : goal.invariant_of-self
 invariant_of-self g c = committed_keeper g.S.Store _ _
-    (λ text. BecomesSwept c.self.inside.book.periods text c.args.shelf.now c.args.moment) _
+    (λ text. BecomesSwept (shelf_names c.self.inside.shelf) text c.args.shelf.now c.args.moment) _
     c.self.invariant _
     (handed_on _ _ _ _ _ c.counted.ensures.handed c.make_sweep-made.ensures.commits)
     c.make_sweep-made.ensures.plain c.counted.ensures.bounded
@@ -25,14 +26,14 @@ returns-clause-done g c =
 
 pub returns-clause-kept : goal.returns-clause-kept
 returns-clause-kept g c = rw (← c.self.view_is) (keeps g.S.Store _ _
-    (λ text. BecomesSwept c.self.inside.book.periods text c.args.shelf.now c.args.moment) _
+    (λ text. BecomesSwept (shelf_names c.self.inside.shelf) text c.args.shelf.now c.args.moment) _
     c.self.invariant _
     (handed_on _ _ _ _ _ c.counted.ensures.handed c.make_sweep-made.ensures.commits) refl
     c.counted.ensures.cause)
 
 pub returns-clause-whole : goal.returns-clause-whole
 returns-clause-whole g c = rw (← c.self.view_is) (whole g.S.Store _ _
-    (λ text. BecomesSwept c.self.inside.book.periods text c.args.shelf.now c.args.moment) _
+    (λ text. BecomesSwept (shelf_names c.self.inside.shelf) text c.args.shelf.now c.args.moment) _
     c.self.invariant _
     (handed_on _ _ _ _ _ c.counted.ensures.handed c.make_sweep-made.ensures.commits)
     c.as_str-text.ensures.value

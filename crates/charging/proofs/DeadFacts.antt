@@ -1,0 +1,615 @@
+-- What is dead at a moment stays as it is, fact by fact.
+use Rattle.std.proofs.Common.{◌≡◌, ◌≢◌, ℕ, ◌+◌, ◌-◌, ◌≤◌, ◌<◌, Bool, true, false, true≢false, List}
+use Rattle.std.proofs.Common.{[], ◌∷◌, ◌++◌, map, refl, sym, ap, subst, ◌∙◌, arith, Option, Some, None}
+use Rattle.std.specs.Prelude.{if◌then◌else◌, ◌==◌, ◌&&◌, ◌||◌, not, nat_lt}
+use Rattle.std.proofs.lemmas.Bool.{and_parts, and_from}
+use Rattle.std.proofs.lemmas.Bool.Decides.{nat_tests}
+use Rattle.std.proofs.lemmas.List.Sums.{sum_by-cons}
+use Rattle.buckets.specs.declared.holds.Hold.{Hold}
+use Rattle.buckets.specs.declared.kind.BucketKind.{BucketKind}
+use Rattle.buckets.specs.declared.kind.Due.{Due}
+use Rattle.buckets.specs.Row.{Row, new_row, is_eligible, eligible_amount}
+use Rattle.buckets.specs.Share.{share, parts}
+use Rattle.buckets.specs.Spend.{Each, inserted}
+use Rattle.buckets.specs.Holding.{held_in, unheld, paid, holds_of}
+use Rattle.buckets.proofs.Kept.{Each-inserted}
+use Rattle.units.specs.declared.blocks.UsedPart.{UsedPart}
+use Rattle.shelves.specs.Shelves.{Shelf}
+use Rattle.reserving.specs.Ledger.{Fact, Ledger, is_same, or_else, touch_in, recording_in, closes}
+use Rattle.reserving.specs.Ledger.{units_in, names_group, charge_to, credits_in, hold_of}
+use Rattle.reserving.specs.Ledger.{counts_before, charged, next_bucket, used, last_touch, is_within}
+use Rattle.reserving.specs.Ledger.{is_closed, is_live, last_recording, held, only, has_group}
+use Rattle.reserving.specs.Ledger.{counter}
+use Rattle.reserving.specs.Ledger.Fact.{Credit, Grant, Hold as HoldFact, End, Use, Charge, Touch}
+use Rattle.reserving.specs.Ledger.Fact.{Close, Recorded, Barred}
+use Rattle.reserving.specs.Balance.{credited_by, credits, bucket_at, buckets_at}
+use Rattle.reserving.specs.Sessions.{holds_at}
+use Rattle.reserving.specs.Pricing.{cycle_at, terms_at, validity_of}
+use Rattle.reserving.specs.Left.{bucket_in}
+use Rattle.reserving.specs.Rows.{EachIn}
+use Rattle.reserving.specs.Requests.{credited}
+use Rattle.reserving.specs.Settlement.{charge_facts, settled_by, report_price, due_of}
+use Rattle.reserving.specs.Reservation.{hold_facts}
+use Rattle.reserving.specs.Debiting.{debited, rest_price}
+use Rattle.reserving.proofs.Keys.{same_number}
+use Rattle.reserving.proofs.Holds.{same_from}
+use Rattle.charging.proofs.StepsAt.{KeepsAt}
+
+-- ---- rows
+
+each_weaker : (P Q : Row → Type 0) (rows : List Row) → ((b : Row) → P b → Q b) → Each P rows →
+    Each Q rows
+each_weaker P Q [] f h = tt
+each_weaker P Q (b ∷ bs) f h = (f b h.0, each_weaker P Q bs f h.1)
+
+-- a bucket of another number hides none
+found_inserted : (n : ℕ) (b : Row) (rows : List Row) → (b.number == n) ≡ false →
+    bucket_in n (inserted b rows) ≡ bucket_in n rows
+found_inserted n b [] e = ap (λ y. if y then Some b else None) e
+found_inserted n b (x ∷ xs) e = at (nat_lt b.until x.until) (found_inserted n b xs e)
+  where
+    at : (v : Bool) → bucket_in n (inserted b xs) ≡ bucket_in n xs →
+        bucket_in n (if v then b ∷ x ∷ xs else x ∷ inserted b xs) ≡ bucket_in n (x ∷ xs)
+    at true rest = ap (λ y. if y then Some b else bucket_in n (x ∷ xs)) e
+    at false rest = ap (λ o. if x.number == n then Some x else o) rest
+
+share_none : (f : Row → ℕ) (rows : List Row) (due : Due) (b : Row) → f b ≡ 0 →
+    share f rows due b ≡ 0
+share_none f rows due b e = omega (arith, e)
+
+if_none : (x : Bool) (n : ℕ) → n ≡ 0 → (if x then n else 0) ≡ 0
+if_none true n e = e
+if_none false n e = refl
+
+held_in_none : (holds : List Hold) (n : ℕ) (b : Row) → b.number ≡ n →
+    EachIn (λ h. (h.bucket == n) ≡ false) holds → held_in holds b ≡ 0
+held_in_none [] n b e h = refl
+held_in_none (x ∷ xs) n b e h =
+    let one : (if x.bucket == b.number then x.amount else 0) ≡ 0 =
+    (λ i. if x.bucket == e i then x.amount else 0) ∙ ap (λ y. if y then x.amount else 0) h.0 in
+    omega (
+      arith,
+      sum_by-cons (λ (y : Hold). if y.bucket == b.number then y.amount else 0) x xs,
+      one,
+      held_in_none xs n b e h.1,
+    )
+
+sooner : (a t u : ℕ) → a ≤ t → nat_lt t u ≡ true → nat_lt a u ≡ true
+sooner a t u le e = grind (arith, nat_tests, le, e)
+
+another : (m n : ℕ) → n < m → (m == n) ≡ false
+another m n lt = grind (arith, nat_tests, lt)
+
+-- what has an amount where none has this number's isn't of it
+not_of : (m n a : ℕ) → nat_lt 0 a ≡ true → (m ≡ n → a ≡ 0) → (m == n) ≡ false
+not_of m n a some none = at (m == n) refl
+  where
+    at : (x : Bool) → (m == n) ≡ x → (m == n) ≡ false
+    at true e =
+        absurd (true≢false (sym some ∙ ap (λ y. nat_lt 0 y) (none (same_number m n e))))
+    at false e = e
+
+held_not : (c : Bool) (a : ℕ) → (if c && false then a else 0) ≡ 0
+held_not true a = refl
+held_not false a = refl
+
+module _ (v : ℕ → ℕ) (from : ℕ) (old : Ledger) where
+  -- ---- what is dead
+
+  -- a session that is over at the moment, or was never opened
+  pub record IsOver (s : List ℕ) : Type 0 where
+    pub known : last_recording s old ≡ None → ⊥
+    pub over : is_live v from old s ≡ false
+
+  -- sessions that are over don't count
+  abbrev pub Excludes : (List ℕ → ℕ → Bool) → Type 0
+  Excludes counts = (s : List ℕ) (g : ℕ) → IsOver s → counts s g ≡ false
+
+  -- a bucket of the number has nothing left
+  abbrev pub IsUsedUp : ℕ → Row → Type 0
+  IsUsedUp n c = c.number ≡ n → nat_lt from c.until ≡ true → c.credited - charged n old ≡ 0
+
+  pub record IsDeadNumber (n : ℕ) : Type 0 where
+    pub spent : Each (IsUsedUp n) (credits old)
+    pub free : (counts : List ℕ → ℕ → Bool) → Excludes counts → held counts n old ≡ 0
+    pub made : n < next_bucket old
+
+  -- ---- what stays
+
+  pub record SameSession (s : List ℕ) (ledger : Ledger) : Type 0 where
+    pub recorded : last_recording s ledger ≡ last_recording s old
+    pub touched : last_touch s ledger ≡ last_touch s old
+    pub closed : is_closed s ledger ≡ is_closed s old
+    pub uses : (g : ℕ) → used s g ledger ≡ used s g old
+    pub groups : (g : ℕ) → has_group s g ledger ≡ has_group s g old
+
+  pub record SameBucket (n : ℕ) (ledger : Ledger) : Type 0 where
+    pub row : bucket_in n (credits ledger) ≡ bucket_in n (credits old)
+    pub charge : charged n ledger ≡ charged n old
+    pub spent : Each (IsUsedUp n) (credits ledger)
+    pub free : (counts : List ℕ → ℕ → Bool) → Excludes counts → held counts n ledger ≡ 0
+    pub made : n < next_bucket ledger
+
+  pub record Stays (ledger : Ledger) : Type 0 where
+    pub sessions : (s : List ℕ) → IsOver s → SameSession s ledger
+    pub buckets : (n : ℕ) → IsDeadNumber n → SameBucket n ledger
+
+  pub stays_itself : Stays old
+  stays_itself = record {
+    sessions = λ s o. record {
+      recorded = refl;
+      touched = refl;
+      closed = refl;
+      uses = λ g. refl;
+      groups = λ g. refl;
+    };
+    buckets = λ n d. record {
+      row = refl;
+      charge = refl;
+      spent = d.spent;
+      free = d.free;
+      made = d.made;
+    };
+  }
+
+  -- ---- a fact of another session
+
+  abbrev IsApart : List ℕ → Fact → Type 0
+  IsApart s (Grant x g terms units counter) = is_same x s ≡ false
+  IsApart s (Use x g units blocks covered rated uncollected) = is_same x s ≡ false
+  IsApart s (Touch x) = is_same x s ≡ false
+  IsApart s (Close x) = is_same x s ≡ false
+  IsApart s (Recorded x n) = is_same x s ≡ false
+  IsApart s (Credit kind number begin until scope amount) = Unit {0}
+  IsApart s (HoldFact x g bucket amount) = Unit {0}
+  IsApart s (End x g) = Unit {0}
+  IsApart s (Charge bucket amount) = Unit {0}
+  IsApart s (Barred barred) = Unit {0}
+
+  record IsElsewhere (s : List ℕ) (t : ℕ) (f : Fact) : Type 0 where
+    touching : touch_in s (record { at = t; fact = f }) ≡ None
+    recording : recording_in s (record { at = t; fact = f }) ≡ None
+    closing : closes s f ≡ false
+    using : (g : ℕ) → units_in s g f ≡ 0
+    naming : (g : ℕ) → names_group s g f ≡ false
+
+  elsewhere : (s : List ℕ) (t : ℕ) (f : Fact) → IsApart s f → IsElsewhere s t f
+  elsewhere s t (Grant x g terms units counter) e = record {
+    touching = refl;
+    recording = refl;
+    closing = refl;
+    using = λ h. refl;
+    naming = λ h. ap (λ y. y && g == h) e;
+  }
+  elsewhere s t (Use x g units blocks covered rated uncollected) e = record {
+    touching = refl;
+    recording = refl;
+    closing = refl;
+    using = λ h. ap (λ y. if y && g == h then units else 0) e;
+    naming = λ h. ap (λ y. y && g == h) e;
+  }
+  elsewhere s t (Touch x) e = record {
+    touching = ap (λ y. if y then Some t else None) e;
+    recording = refl;
+    closing = refl;
+    using = λ h. refl;
+    naming = λ h. refl;
+  }
+  elsewhere s t (Close x) e = record {
+    touching = refl;
+    recording = refl;
+    closing = e;
+    using = λ h. refl;
+    naming = λ h. refl;
+  }
+  elsewhere s t (Recorded x n) e = record {
+    touching = refl;
+    recording = ap (λ y. if y then Some (record { number = n; at = t }) else None) e;
+    closing = refl;
+    using = λ h. refl;
+    naming = λ h. refl;
+  }
+  elsewhere s t (Credit kind number begin until scope amount) e = record {
+    touching = refl;
+    recording = refl;
+    closing = refl;
+    using = λ h. refl;
+    naming = λ h. refl;
+  }
+  elsewhere s t (HoldFact x g bucket amount) e = record {
+    touching = refl;
+    recording = refl;
+    closing = refl;
+    using = λ h. refl;
+    naming = λ h. refl;
+  }
+  elsewhere s t (End x g) e = record {
+    touching = refl;
+    recording = refl;
+    closing = refl;
+    using = λ h. refl;
+    naming = λ h. refl;
+  }
+  elsewhere s t (Charge bucket amount) e = record {
+    touching = refl;
+    recording = refl;
+    closing = refl;
+    using = λ h. refl;
+    naming = λ h. refl;
+  }
+  elsewhere s t (Barred barred) e = record {
+    touching = refl;
+    recording = refl;
+    closing = refl;
+    using = λ h. refl;
+    naming = λ h. refl;
+  }
+
+  session_front : (s : List ℕ) (t : ℕ) (f : Fact) (ledger : Ledger) → IsElsewhere s t f →
+      SameSession s ledger → SameSession s (record { at = t; fact = f } ∷ ledger)
+  session_front s t f ledger e h = record {
+    recorded = ap (λ o. or_else o (last_recording s ledger)) e.recording ∙ h.recorded;
+    touched = ap (λ o. or_else o (last_touch s ledger)) e.touching ∙ h.touched;
+    closed = ap (λ x. x || is_closed s ledger) e.closing ∙ h.closed;
+    uses = λ g. omega (arith, e.using g, h.uses g);
+    groups = λ g. ap (λ x. x || has_group s g ledger) (e.naming g) ∙ h.groups g;
+  }
+
+  -- ---- a fact of another bucket
+
+  abbrev IsFree : ℕ → Fact → Type 0
+  IsFree n (Charge bucket amount) = (bucket == n) ≡ false
+  IsFree n (HoldFact x g bucket amount) = (bucket == n) ≡ false
+  IsFree n (Credit kind number begin until scope amount) = ⊥
+  IsFree n (Grant x g terms units counter) = Unit {0}
+  IsFree n (Use x g units blocks covered rated uncollected) = Unit {0}
+  IsFree n (End x g) = Unit {0}
+  IsFree n (Touch x) = Unit {0}
+  IsFree n (Close x) = Unit {0}
+  IsFree n (Recorded x m) = Unit {0}
+  IsFree n (Barred barred) = Unit {0}
+
+  record IsNoMoney (n : ℕ) (f : Fact) : Type 0 where
+    rows : (rows : List Row) → credited_by f rows ≡ rows
+    none : credits_in f ≡ 0
+    charging : charge_to n f ≡ 0
+    holding : (counts : List ℕ → ℕ → Bool) → hold_of counts n f ≡ 0
+    before : (counts : List ℕ → ℕ → Bool) → Excludes counts → Excludes (counts_before f counts)
+
+  no_money : (n : ℕ) (f : Fact) → IsFree n f → IsNoMoney n f
+  no_money n (Charge bucket amount) e = record {
+    rows = λ r. refl;
+    none = refl;
+    charging = ap (λ y. if y then amount else 0) e;
+    holding = λ counts. refl;
+    before = λ counts x. x;
+  }
+  no_money n (HoldFact s g bucket amount) e = record {
+    rows = λ r. refl;
+    none = refl;
+    charging = refl;
+    holding = λ counts. ap (λ y. if counts s g && y then amount else 0) e
+        ∙ held_not (counts s g) amount;
+    before = λ counts x. x;
+  }
+  no_money n (Credit kind number begin until scope amount) e = absurd e
+  no_money n (Grant s g terms units counter) e = record {
+    rows = λ r. refl;
+    none = refl;
+    charging = refl;
+    holding = λ counts. refl;
+    before = λ counts x. x;
+  }
+  no_money n (Use s g units blocks covered rated uncollected) e = record {
+    rows = λ r. refl;
+    none = refl;
+    charging = refl;
+    holding = λ counts. refl;
+    before = λ counts x. x;
+  }
+  no_money n (End s g) e = record {
+    rows = λ r. refl;
+    none = refl;
+    charging = refl;
+    holding = λ counts. refl;
+    before = λ counts x z h o. ap (λ y. y && not (is_same z s && h == g)) (x z h o);
+  }
+  no_money n (Touch s) e = record {
+    rows = λ r. refl;
+    none = refl;
+    charging = refl;
+    holding = λ counts. refl;
+    before = λ counts x. x;
+  }
+  no_money n (Close s) e = record {
+    rows = λ r. refl;
+    none = refl;
+    charging = refl;
+    holding = λ counts. refl;
+    before = λ counts x. x;
+  }
+  no_money n (Recorded s m) e = record {
+    rows = λ r. refl;
+    none = refl;
+    charging = refl;
+    holding = λ counts. refl;
+    before = λ counts x. x;
+  }
+  no_money n (Barred barred) e = record {
+    rows = λ r. refl;
+    none = refl;
+    charging = refl;
+    holding = λ counts. refl;
+    before = λ counts x. x;
+  }
+
+  bucket_front : (n t : ℕ) (f : Fact) (ledger : Ledger) → IsNoMoney n f → SameBucket n ledger →
+      SameBucket n (record { at = t; fact = f } ∷ ledger)
+  bucket_front n t f ledger e h = record {
+    row = ap (bucket_in n) (e.rows (credits ledger)) ∙ h.row;
+    charge = omega (arith, e.charging, h.charge);
+    spent = subst (Each (IsUsedUp n)) (sym (e.rows (credits ledger))) h.spent;
+    free = λ counts x. omega (
+      arith,
+      e.holding counts,
+      h.free (counts_before f counts) (e.before counts x),
+    );
+    made = omega (arith, e.none, h.made);
+  }
+
+  -- ---- a fact of neither
+
+  stays_front : (t : ℕ) (f : Fact) (ledger : Ledger) → ((s : List ℕ) → IsOver s → IsApart s f) →
+      ((n : ℕ) → IsDeadNumber n → IsFree n f) → Stays ledger →
+      Stays (record { at = t; fact = f } ∷ ledger)
+  stays_front t f ledger apart free h = record {
+    sessions = λ s o. session_front s t f ledger (elsewhere s t f (apart s o)) (h.sessions s o);
+    buckets = λ n d. bucket_front n t f ledger (no_money n f (free n d)) (h.buckets n d);
+  }
+
+  -- ---- sessions that may act
+
+  abbrev pub May : List ℕ → Type 0
+  May s = IsOver s → ⊥
+
+  apart : (x s : List ℕ) → May x → IsOver s → is_same x s ≡ false
+  apart x s may o = at (is_same x s) refl
+    where
+      at : (y : Bool) → is_same x s ≡ y → is_same x s ≡ false
+      at true e = absurd (may (subst IsOver (sym (same_from x s e)) o))
+      at false e = e
+
+  apart_from : (s x : List ℕ) → May x → IsOver s → is_same s x ≡ false
+  apart_from s x may o = at (is_same s x) refl
+    where
+      at : (y : Bool) → is_same s x ≡ y → is_same s x ≡ false
+      at true e = absurd (may (subst IsOver (same_from s x e) o))
+      at false e = e
+
+  -- what is over stays over
+  pub ended_then : (u : ℕ) (s : List ℕ) (ledger : Ledger) → from ≤ u → SameSession s ledger →
+      is_live v from old s ≡ false → is_live v u ledger s ≡ false
+  ended_then u s ledger le same o = at (is_live v u ledger s) refl
+    where
+      within : (x : Option ℕ) → is_within v u x ≡ true → is_within v from x ≡ true
+      within None e = e
+      within (Some x) e = sooner from u _ le e
+
+      at : (y : Bool) → is_live v u ledger s ≡ y → is_live v u ledger s ≡ false
+      at true e =
+          let both = and_parts (is_within v u (last_touch s old)) (not (is_closed s old))
+          ((λ i. is_within v u (sym same.touched i) && not (sym same.closed i)) ∙ e) in
+          absurd (true≢false (sym (and_from (is_within v from (last_touch s old))
+          (not (is_closed s old)) (within (last_touch s old) both.0) both.1) ∙ o))
+      at false e = e
+
+  -- ---- buckets that have nothing
+
+  abbrev HasNone : (Row → ℕ) → ℕ → List Row → Type 0
+  HasNone f n rows = Each (λ b. b.number ≡ n → f b ≡ 0) rows
+
+  available_none : (t n : ℕ) (ledger : Ledger) (cs : List Row) → from ≤ t →
+      charged n ledger ≡ charged n old → Each (IsUsedUp n) cs →
+      HasNone (λ b. b.available) n (map (bucket_at v t ledger) cs)
+  available_none t n ledger [] le same h = tt
+  available_none t n ledger (c ∷ cs) le same h =
+      (λ e. one e (nat_lt t c.until) refl, available_none t n ledger cs le same h.1)
+    where
+      reserved_of : ℕ
+      reserved_of = held (λ s g. is_live v t ledger s) c.number ledger
+
+      one : c.number ≡ n → (x : Bool) → nat_lt t c.until ≡ x →
+          (if x then c.credited - charged c.number ledger - reserved_of else 0) ≡ 0
+      one e true k =
+          let left : c.credited - charged n old ≡ 0 = h.0 e (sooner from t c.until le k) in
+          let number : charged c.number ledger ≡ charged n ledger =
+          ap (λ m. charged m ledger) e in
+          omega (arith, left, number, same)
+      one e false k = refl
+
+  rows_none : (t n : ℕ) (ledger : Ledger) → from ≤ t → SameBucket n ledger →
+      HasNone (λ b. b.available) n (buckets_at v t ledger)
+  rows_none t n ledger le h =
+      available_none t n ledger (credits ledger) le h.charge h.spent
+
+  -- so nothing of them is eligible
+  share_of_none : (t n g : ℕ) (rows all : List Row) (due : Due) →
+      HasNone (λ b. b.available) n rows →
+      HasNone (share (eligible_amount g t) all due) n rows
+  share_of_none t n g rows all due h =
+      each_weaker (λ b. b.number ≡ n → b.available ≡ 0)
+      (λ b. b.number ≡ n → share (eligible_amount g t) all due b ≡ 0) rows
+      (λ b none e. share_none (eligible_amount g t) all due b
+      (if_none (is_eligible g t b) b.available (none e))) h
+
+  -- ---- parts of what isn't dead
+
+  abbrev AreFree : List Hold → Type 0
+  AreFree holds = EachIn (λ h. (n : ℕ) → IsDeadNumber n → (h.bucket == n) ≡ false) holds
+
+  free_parts : (f : Row → ℕ) (rows : List Row) →
+      ((n : ℕ) → IsDeadNumber n → HasNone f n rows) → AreFree (parts f rows)
+  free_parts f [] h = tt
+  free_parts f (b ∷ bs) h =
+      at (nat_lt 0 (f b)) refl (free_parts f bs (λ n d. (h n d).1))
+    where
+      at : (x : Bool) → nat_lt 0 (f b) ≡ x → AreFree (parts f bs) →
+          AreFree (if x then record { bucket = b.number; amount = f b } ∷ parts f bs
+          else parts f bs)
+      at true e rest = (λ n d. not_of b.number n (f b) e ((h n d).0), rest)
+      at false e rest = rest
+
+  free_of : (holds : List Hold) (n : ℕ) → IsDeadNumber n → AreFree holds →
+      EachIn (λ h. (h.bucket == n) ≡ false) holds
+  free_of [] n d h = tt
+  free_of (x ∷ xs) n d h = (h.0 n d, free_of xs n d h.1)
+
+  -- ---- charges and holds of what isn't dead
+
+  stays_charges : (t : ℕ) (hs : List Hold) (ledger : Ledger) → AreFree hs → Stays ledger →
+      Stays (charge_facts t hs ++ ledger)
+  stays_charges t [] ledger f h = h
+  stays_charges t (x ∷ xs) ledger f h =
+      stays_front t (Charge x.bucket x.amount) (charge_facts t xs ++ ledger) (λ s o. tt) f.0
+      (stays_charges t xs ledger f.1 h)
+
+  stays_holds : (t : ℕ) (s : List ℕ) (g : ℕ) (hs : List Hold) (ledger : Ledger) → AreFree hs →
+      Stays ledger → Stays (hold_facts t s g hs ++ ledger)
+  stays_holds t s g [] ledger f h = h
+  stays_holds t s g (x ∷ xs) ledger f h =
+      stays_front t (HoldFact s g x.bucket x.amount) (hold_facts t s g xs ++ ledger)
+      (λ y o. tt) f.0 (stays_holds t s g xs ledger f.1 h)
+
+  -- what is paid by a session that may act
+  free_payments : (t : ℕ) (g : ℕ) (due : Due) (holds : List Hold) (ledger : Ledger) → from ≤ t →
+      AreFree holds → Stays ledger →
+      AreFree (parts (paid holds g t due (buckets_at v t ledger)) (buckets_at v t ledger))
+  free_payments t g due holds ledger le free h =
+      free_parts (paid holds g t due rows) rows (λ n d. none n d)
+    where
+      rows : List Row
+      rows = buckets_at v t ledger
+
+      none : (n : ℕ) → IsDeadNumber n → HasNone (paid holds g t due rows) n rows
+      none n d =
+          each_weaker (λ b. b.number ≡ n → b.available ≡ 0)
+          (λ b. b.number ≡ n → paid holds g t due rows b ≡ 0) rows
+          (λ b left e. omega (
+            arith,
+            share_none (held_in holds) rows due b (held_in_none holds n b e
+                (free_of holds n d free)),
+            share_none (eligible_amount g t) rows (unheld holds due rows) b
+                (if_none (is_eligible g t b) b.available (left e)),
+          ))
+          (rows_none t n ledger le (h.buckets n d))
+
+  free_reservation : (t : ℕ) (s : List ℕ) (g : ℕ) (ledger : Ledger) → May s → Stays ledger →
+      AreFree (holds_at v t s g ledger)
+  free_reservation t s g ledger may h =
+      free_parts (λ b. held (only s g) b.number ledger) (buckets_at v t ledger)
+      (λ n d. each n d (buckets_at v t ledger))
+    where
+      each : (n : ℕ) → IsDeadNumber n → (rows : List Row) →
+          HasNone (λ b. held (only s g) b.number ledger) n rows
+      each n d [] = tt
+      each n d (b ∷ bs) = (
+        λ e. ap (λ m. held (only s g) m ledger) e
+            ∙ (h.buckets n d).free (only s g)
+            (λ x y o. ap (λ z. z && y == g) (apart_from x s may o)),
+        each n d bs,
+      )
+
+  -- ---- a credit
+
+  stays_credited : (t : ℕ) (kind : BucketKind) (begin until : ℕ) (scope : Option ℕ)
+      (amount : ℕ) (ledger : Ledger) → Stays ledger →
+      Stays (credited t kind begin until scope amount ledger)
+  stays_credited t kind begin until scope amount ledger h = record {
+    sessions = λ s o. session_front s t fact ledger (elsewhere s t fact tt) (h.sessions s o);
+    buckets = λ n d. one n (h.buckets n d);
+  }
+    where
+      fact : Fact
+      fact = Credit kind (next_bucket ledger) begin until scope amount
+
+      b : Row
+      b = new_row kind (next_bucket ledger) begin until scope amount
+
+      one : (n : ℕ) → SameBucket n ledger →
+          SameBucket n (credited t kind begin until scope amount ledger)
+      one n k = record {
+        row = found_inserted n b (credits ledger) (another (next_bucket ledger) n k.made) ∙ k.row;
+        charge = omega (arith, k.charge);
+        spent = Each-inserted (IsUsedUp n) b (credits ledger)
+            (λ e lt. absurd (omega (arith, e, k.made))) k.spent;
+        free = λ counts x. omega (arith, k.free counts x);
+        made = omega (arith, k.made);
+      }
+
+-- ---- each step
+
+pub keeps_stays : (b : Shelf) (from : ℕ) (old : Ledger) (t : ℕ) → from ≤ t →
+    KeepsAt b t (May (validity_of b) from old) (Stays (validity_of b) from old)
+keeps_stays b from old t le = record {
+  live = λ s ledger h e o. true≢false (sym e
+      ∙ ended_then v from old t s ledger le (h.sessions s o) o.over);
+  fresh = λ s ledger h e o. o.known (sym ((h.sessions s o).recorded) ∙ e);
+  bar = λ barred ledger h.
+      stays_front v from old t (Barred barred) ledger (λ s o. tt) (λ n d. tt) h;
+  credit = λ kind begin until scope amount ledger h.
+      stays_credited v from old t kind begin until scope amount ledger h;
+  note = λ s n ledger may h. noted s n ledger may h;
+  touch = λ s n ledger may h.
+      noted s n (record { at = t; fact = Touch s } ∷ ledger) may
+      (stays_front v from old t (Touch s) ledger (λ x o. apart v from old s x may o)
+      (λ m d. tt) h);
+  close = λ s ledger may h.
+      stays_front v from old t (Close s) ledger (λ x o. apart v from old s x may o)
+      (λ m d. tt) h;
+  settle = λ s g used_parts ledger may h. settled_stays s g used_parts ledger may h;
+  grant = λ s g units due ledger may h.
+      stays_holds v from old t s g (holds_of g t due (buckets_at v t ledger))
+      (record {
+        at = t;
+        fact = Grant s g (terms_at b t) units
+            (counter (cycle_at b g) g (cycle_at b g t) ledger);
+      } ∷ ledger)
+      (free_parts v from old (share (eligible_amount g t) (buckets_at v t ledger) due)
+      (buckets_at v t ledger)
+      (λ n d. share_of_none v from old t n g (buckets_at v t ledger) (buckets_at v t ledger) due
+      (rows_none v from old t n ledger le (h.buckets n d))))
+      (stays_front v from old t (Grant s g (terms_at b t) units
+      (counter (cycle_at b g) g (cycle_at b g t) ledger)) ledger
+      (λ x o. apart v from old s x may o) (λ m d. tt) h);
+  event = λ s g units ledger may h. debited_stays s g units ledger may h;
+}
+  where
+    v : ℕ → ℕ
+    v = validity_of b
+
+    noted : (s : List ℕ) (n : ℕ) (ledger : Ledger) → May v from old s → Stays v from old ledger →
+        Stays v from old (record { at = t; fact = Recorded s n } ∷ ledger)
+    noted s n ledger may h =
+        stays_front v from old t (Recorded s n) ledger (λ x o. apart v from old s x may o)
+        (λ m d. tt) h
+
+    settled_stays : (s : List ℕ) (g : ℕ) (used_parts : List UsedPart) (ledger : Ledger) →
+        May v from old s → Stays v from old ledger →
+        Stays v from old (settled_by b t s g used_parts ledger)
+    settled_stays s g [] ledger may h =
+        stays_front v from old t (End s g) ledger (λ x o. tt) (λ m d. tt) h
+    settled_stays s g (p ∷ ps) ledger may h =
+        let due : Due = due_of (report_price b t s g (p ∷ ps) ledger) in
+        stays_front v from old t (End s g) _ (λ x o. tt) (λ m d. tt)
+        (stays_front v from old t _ _ (λ x o. apart v from old s x may o) (λ m d. tt)
+        (stays_charges v from old t _ ledger
+        (free_payments v from old t g due (holds_at v t s g ledger) ledger le
+        (free_reservation v from old t s g ledger may h) h) h))
+
+    debited_stays : (s : List ℕ) (g units : ℕ) (ledger : Ledger) → May v from old s →
+        Stays v from old ledger → Stays v from old (debited b t s g units ledger)
+    debited_stays s g units ledger may h =
+        let due : Due = due_of (rest_price b t g units ledger) in
+        stays_front v from old t _ _ (λ x o. apart v from old s x may o) (λ m d. tt)
+        (stays_charges v from old t _ ledger
+        (free_payments v from old t g due [] ledger le tt h) h)

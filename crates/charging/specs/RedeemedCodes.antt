@@ -1,0 +1,71 @@
+-- Vouchers over a run: what stands under a code, and how often it was redeemed.
+-- Source: profile.
+use Rattle.std.specs.Prelude.{◌≡◌, ℕ, ◌+◌, ◌≤◌, Bool, true, false, if◌then◌else◌, List, [], ◌∷◌}
+use Rattle.std.specs.Prelude.{◌++◌, None}
+use Rattle.identifiers.specs.Texts.{same_name}
+use Rattle.commands.specs.declared.command.Command.{Command}
+use Rattle.commands.specs.declared.command.Command.TheVariants as command
+use Rattle.redemptions.specs.Standing.{is_spent}
+use Rattle.redemptions.specs.Histories.{VoucherCommand, Adds, Redeems, with_commands}
+use Rattle.shelves.specs.Shelves.{Shelf}
+use Rattle.charging.specs.Accepted.{Accepted}
+use Rattle.charging.specs.declared.running.DatedCommand.{DatedCommand}
+use Rattle.charging.specs.Outcomes.{book_days}
+use Rattle.charging.specs.Served.{voucher}
+use Rattle.charging.specs.Runs.{after_commands}
+
+-- what a command asks of vouchers
+abbrev pub voucher_command : Command → ℕ → List VoucherCommand
+voucher_command (command.Ccr r) t = []
+voucher_command (command.OpenAccount n) t = []
+voucher_command (command.Credit c) t = []
+voucher_command (command.Allow a) t = []
+voucher_command (command.Bar n) t = []
+voucher_command (command.Unbar n) t = []
+voucher_command (command.AddVoucher v) t = Adds v.code v.terms ∷ []
+voucher_command (command.Redeem r) t = Redeems r.code r.account t ∷ []
+voucher_command command.Sweep t = []
+voucher_command (command.Balance n) t = []
+
+-- what accepted commands ask of them, the first of them first
+abbrev pub voucher_commands : List Accepted → List VoucherCommand
+voucher_commands [] = []
+voucher_commands (d ∷ before) = voucher_commands before ++ voucher_command d.command d.moment
+
+-- what stands under a code is what these leave of it: what is redeemed over one account's history
+-- and what is redeemed at all is one telling
+abbrev pub IsLeftByThese : Type 0
+IsLeftByThese = (b : Shelf) (list : List Accepted) (code : List ℕ) →
+    voucher b code list ≡ with_commands (book_days b) (voucher_commands list) (λ k. None) code
+
+-- a command redeems this code, for whichever account
+abbrev pub is_redemption : List ℕ → Command → Bool
+is_redemption code (command.Ccr r) = false
+is_redemption code (command.OpenAccount n) = false
+is_redemption code (command.Credit c) = false
+is_redemption code (command.Allow a) = false
+is_redemption code (command.Bar n) = false
+is_redemption code (command.Unbar n) = false
+is_redemption code (command.AddVoucher v) = false
+is_redemption code (command.Redeem r) = same_name r.code code
+is_redemption code command.Sweep = false
+is_redemption code (command.Balance n) = false
+
+-- how often accepted commands redeem it
+abbrev pub redemption_count : List ℕ → List Accepted → ℕ
+redemption_count code [] = 0
+redemption_count code (d ∷ before) =
+    (if is_redemption code d.command then 1 else 0) + redemption_count code before
+
+-- in a run, from whichever commands on, it is redeemed once more at most, and not at all where the
+-- voucher that stands under it is spent
+pub record AreRedeemedOnce (b : Shelf) (code : List ℕ) (list : List Accepted)
+    (ds : List DatedCommand) : Type 0 where
+  pub once : redemption_count code (after_commands b list ds) ≤ redemption_count code list + 1
+  pub never : is_spent (voucher b code list) ≡ true →
+      redemption_count code (after_commands b list ds) ≡ redemption_count code list
+
+-- so from nothing on at most once
+abbrev pub IsRedeemedAtMostOnce : Type 0
+IsRedeemedAtMostOnce = (b : Shelf) (code : List ℕ) (ds : List DatedCommand) →
+    redemption_count code (after_commands b [] ds) ≤ 1

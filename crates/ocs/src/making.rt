@@ -1,0 +1,96 @@
+//! What words say that make a database, or give it what it hasn't.
+
+ghost use Rattle.std.specs.Prelude.{◌≡◌, codes, IfErr, IfOk, OnErr, OnOk};
+ghost use Rattle.std.specs.Io.KnownBytes.{Appends};
+ghost use Rattle.office.specs.Printed.{IsEnded};
+ghost use Rattle.office.specs.Written.{WritesBeginning};
+ghost use Rattle.ocs.specs.Told.{IfStream, IsReached};
+
+use crate::fault::ProgramFault;
+use byte_streams::write_whole;
+use database_office::{add_book, make_database, migrate_database};
+use office::Status;
+use operator::{BookWords, InitWords, MigrateWords};
+use std::io::Write;
+
+/// Prints the line of what is done.
+#[tactic(auto, using(office::proofs::Beginnings::nothing_written, office::proofs::Beginnings::some_written))]
+fn print_done<O: Write>(output: &mut O, line: &str) -> Result<Status, ProgramFault>
+    ensures ended { IfOk result (IsEnded ⊥) }
+    ensures reached { IfErr result (IsReached ⊥ (Unit {0})) }
+    ensures done { OnOk result (Appends (O.contents output.old) (O.contents output.new) line.now) }
+    ensures begun { OnErr result (WritesBeginning (O.contents output.old) (O.contents output.new)
+        line.now) }
+    ensures stream { IfErr result (λ fault. IfStream fault (λ _. ⊥) → output.new ≡ output.old) }
+{
+    match write_whole(output, line.as_bytes()) {
+        Ok(()) => Ok(Status::Done),
+        Err(fault) => Err(ProgramFault::Stream(fault)),
+    }
+}
+
+/// Makes the database of a tariff book, and says that it is made.
+#[tactic(auto, using(office::proofs::Beginnings::nothing_written))]
+pub(crate) fn answer_init<O: Write>(
+    rt: &HostRuntime,
+    init: &InitWords,
+    output: &mut O,
+) -> Result<Status, ProgramFault>
+    ensures ended { IfOk result (IsEnded ⊥) }
+    ensures reached { IfErr result (IsReached ⊥ (Unit {0})) }
+    ensures done { OnOk result (Appends (O.contents output.old) (O.contents output.new)
+        (codes "ok\n")) }
+    ensures begun { OnErr result (WritesBeginning (O.contents output.old) (O.contents output.new)
+        (codes "ok\n")) }
+    ensures unwritten { IfErr result (λ fault.
+        IfStream fault (λ _. ⊥) → output.new ≡ output.old) }
+{
+    if let Err(fault) = make_database(rt, init) {
+        return Err(ProgramFault::Database(fault));
+    }
+    print_done(output, "ok\n")
+}
+
+/// Brings a database to the latest version, and says which that is.
+#[tactic(auto, using(office::proofs::Beginnings::nothing_written))]
+pub(crate) fn answer_migrate<O: Write>(
+    rt: &HostRuntime,
+    migrate: &MigrateWords,
+    output: &mut O,
+) -> Result<Status, ProgramFault>
+    ensures ended { IfOk result (IsEnded ⊥) }
+    ensures reached { IfErr result (IsReached ⊥ (Unit {0})) }
+    ensures done { OnOk result (Appends (O.contents output.old) (O.contents output.new)
+        (codes "version 3\n")) }
+    ensures begun { OnErr result (WritesBeginning (O.contents output.old) (O.contents output.new)
+        (codes "version 3\n")) }
+    ensures unwritten { IfErr result (λ fault.
+        IfStream fault (λ _. ⊥) → output.new ≡ output.old) }
+{
+    if let Err(fault) = migrate_database(rt, migrate) {
+        return Err(ProgramFault::Database(fault));
+    }
+    print_done(output, "version 3\n")
+}
+
+/// Adds a tariff book to a database, and says that it is added.
+#[tactic(auto, using(office::proofs::Beginnings::nothing_written))]
+pub(crate) fn answer_book<O: Write>(
+    rt: &HostRuntime,
+    book: &BookWords,
+    output: &mut O,
+) -> Result<Status, ProgramFault>
+    ensures ended { IfOk result (IsEnded ⊥) }
+    ensures reached { IfErr result (IsReached ⊥ (Unit {0})) }
+    ensures done { OnOk result (Appends (O.contents output.old) (O.contents output.new)
+        (codes "ok\n")) }
+    ensures begun { OnErr result (WritesBeginning (O.contents output.old) (O.contents output.new)
+        (codes "ok\n")) }
+    ensures unwritten { IfErr result (λ fault.
+        IfStream fault (λ _. ⊥) → output.new ≡ output.old) }
+{
+    if let Err(fault) = add_book(rt, book) {
+        return Err(ProgramFault::Database(fault));
+    }
+    print_done(output, "ok\n")
+}

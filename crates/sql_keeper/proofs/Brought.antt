@@ -1,0 +1,401 @@
+-- Within the transaction that brings a database of an older version to the latest.
+use Rattle.std.proofs.Common.{◌≡◌, ◌<◌, ◌≤◌, ◌⊎◌, inl, inr, ◌∙◌, ap, refl, sym, subst, ℕ, List, Some}
+use Rattle.std.proofs.Common.{arith, IsTrue, length}
+use Rattle.std.proofs.lemmas.Option.{same_Some}
+use Rattle.std.specs.Prelude.{Ok, Err, Result, IfErr, IfOk, OnErr, Vec, map, option_map}
+use Rattle.std.specs.Global.{Global}
+use Rattle.std.specs.Str.{IsUtf8}
+use Rattle.std.specs.String.{string_bytes}
+use Rattle.shelves.specs.Shelves.{Shelf}
+use Rattle.sqlite_catalog.specs.Change.{KeepsRows}
+use Rattle.sqlite_catalog.specs.Listing.{IsSound}
+use Rattle.sqlite_trees.specs.Tree.{Trees}
+use Rattle.sqlite.specs.Effect.{Database}
+use Rattle.sqlite.specs.State.{State, HasCleanDisk, IsUnchanged, KeepsCommit, Survives}
+use Rattle.sqlite.proofs.StateLemmas.{survives_then}
+use Rattle.sql_tables.specs.Schema.{book_schema, latest, pieces_to, schema_at}
+use Rattle.sql_tables.specs.Stages.{AreEmpty, AreStoredAt, Migrates, tables_between}
+use Rattle.sql_tables.specs.Statements.{AreStored, Attempts, HasBook, HasRules, IsBook, IsInside}
+use Rattle.sql_tables.specs.Statements.{ReadsWithin}
+use Rattle.sql_tables.specs.declared.reading.ReadFault.{ReadFault}
+use Rattle.sql_tables.specs.declared.reading.ReadFault.TheVariants as reading
+use Rattle.sql_tables.proofs.Keeps.{sound_fits}
+use Rattle.sql_rows.specs.Content.{Content, content_of}
+use Rattle.sql_rows.specs.Lists.{AreBooks}
+use Rattle.sql_rows.specs.Makes.{Makes}
+use Rattle.sql_rows.specs.Ruled.{AreRuledBooks, AreRuledReserved, IsRuledMeta}
+use Rattle.sql_rows.specs.Texts.{book_at, meta_of}
+use Rattle.sql_rows.specs.Values.{DatedBook as DatedText, Meta}
+use Rattle.sql_rows.specs.declared.book_rows.BookColumns.{BookColumns}
+use Rattle.sql_rows.specs.declared.meta_rows.Meta.{Meta as MetaRow}
+use Rattle.sql_opening.specs.Opens.{IsNoVersion, IsVersion}
+use Rattle.sql_opening.specs.declared.fault.OpenFault.{OpenFault}
+use Rattle.sql_opening.specs.declared.fault.OpenFault.TheVariants.{Foreign, Version, Rules, Older}
+use Rattle.sql_opening.specs.declared.fault.OpenFault.TheVariants.{Store, Memory}
+use Rattle.sql_keeper.specs.Books.{IsBookOf}
+use Rattle.sql_keeper.specs.Migrates.{AreUnruledReserved, BringsToLatest, HasAt, IsOtherThan}
+use Rattle.sql_keeper.specs.Migrates.{IsRuledAt, IsUnruledMeta, content_at}
+use Rattle.sql_keeper.specs.Opened.{IsLeft}
+use Rattle.sql_keeper.specs.Shelves.{HasShelf, IsNoShelf, IsShelfOf, IsShelfRead, row_numbered}
+use Rattle.sql_keeper.specs.declared.books.ReadBooks.{ReadBooks}
+use Rattle.sql_keeper.proofs.Migrated.{becomes_latest, kept_content, left_latest, meta_at}
+use Rattle.sql_keeper.proofs.Migrated.{shelf_latest, with_latest}
+use Rattle.sql_keeper.proofs.Shelved.{shelf_ruled}
+
+-- ---- the tables are made, and nothing else is written
+
+pub record HasMade (v : ℕ) (old mid : State) : Type 0 where
+  pub survives : Survives old mid (λ _. ⊥)
+  pub made : HasCleanDisk mid → Migrates v old mid
+  pub book : HasCleanDisk mid → IsBook mid
+  pub at : HasCleanDisk mid → AreStoredAt v old.now.trees
+
+pub made_first : {A E : Type 0} (v : ℕ) (old mid : State) (u : A) → HasAt v old
+    → Attempts {A = A} {E = E} (Migrates v) old mid (Ok u) → HasMade v old mid
+made_first v old mid u at m = record {
+  survives = m.survives;
+  made = m.done;
+  book = λ clean.
+      let it = m.done clean in
+      record {
+        schema = it.schema;
+        stored = it.book (at (omega (arith, m.survives.clean, clean)) it.shows.was_open).stored;
+      };
+  at = λ clean. (at (omega (arith, m.survives.clean, clean)) (m.done clean).shows.was_open).stored;
+}
+
+migrates_still : (v : ℕ) (old mid new : State) → Migrates v old mid → IsUnchanged mid new →
+    Migrates v old new
+migrates_still v old mid new m same =
+    let now : new.now ≡ mid.now = same.0.now_is in
+    record {
+      schema = ap (λ (d : Database). d.schema) now ∙ m.schema;
+      sound = subst (λ (d : Database). IsSound book_schema d.trees) (sym now) m.sound;
+      rows = subst (λ (d : Database). KeepsRows (schema_at v).tables old.now.trees d.trees)
+          (sym now) m.rows;
+      empty = subst (λ (d : Database). AreEmpty (tables_between (length (pieces_to v))
+          (length (pieces_to latest))) d.trees) (sym now) m.empty;
+      book = λ at. subst (λ (d : Database). AreStored d.trees) (sym now) (m.book at);
+      shows = record {
+        was_open = m.shows.was_open;
+        is_open = same.0.is_open;
+        now_is = refl;
+        committed_is = same.0.committed_is ∙ m.shows.committed_is;
+        mode = same.0.mode ∙ m.shows.mode;
+      };
+    }
+
+-- what is read leaves that
+pub made_still : {A E : Type 0} (v : ℕ) (old mid new : State) (u : A) → HasMade v old mid
+    → Attempts {A = A} {E = E} IsUnchanged mid new (Ok u) → HasMade v old new
+made_still v old mid new u has still = record {
+  survives = survives_then old mid new (λ _. ⊥) (λ _. ⊥) (λ _. ⊥) (λ clean db no. no)
+      (λ clean db no. no) has.survives still.survives;
+  made = λ clean. migrates_still v old mid new
+      (has.made (omega (arith, still.survives.clean, clean))) (still.done clean);
+  book = λ clean.
+      let before = has.book (omega (arith, still.survives.clean, clean)) in
+      let now : new.now ≡ mid.now = (still.done clean).0.now_is in
+      record {
+        schema = ap (λ (d : Database). d.schema) now ∙ before.schema;
+        stored = subst (λ (d : Database). AreStored d.trees) (sym now) before.stored;
+      };
+  at = λ clean. has.at (omega (arith, still.survives.clean, clean));
+}
+
+module _ (v : ℕ) (old mid : State) (has : HasMade v old mid) where
+  pub made_book : HasBook mid
+  made_book clean on = has.book clean
+
+  pub made_rules : HasRules mid
+  made_rules clean on = sound_fits mid.now.trees (has.made clean).sound
+
+  pub made_inside : IsInside mid
+  made_inside clean on = (has.made clean).shows.mode
+
+  -- what the tables hold
+  pub made_content : IsVersion v → v < latest → HasCleanDisk mid →
+      content_of mid.now.trees ≡ content_at v old.now.trees
+  made_content known less clean =
+      let m = has.made clean in
+      kept_content v old.now.trees mid.now.trees known less (m.rows, m.empty)
+
+-- ---- a fault ends it
+
+-- the error that is handed on
+pub brought_err : (v : ℕ) (old new : State) (r : Result ReadBooks OpenFault) (f e : OpenFault)
+    → r ≡ Err f → f ≡ e → BringsToLatest v old new (Err e) → BringsToLatest v old new r
+brought_err v old new r f e is same b =
+    subst (λ x. BringsToLatest v old new x) (sym (is ∙ ap Err same)) b
+
+-- no fault of the tables or of a version
+abbrev IsNeither : OpenFault → Type 0
+IsNeither e = (¬ (e ≡ Foreign)) × (¬ (e ≡ Older))
+
+ends_brought : (v : ℕ) (old new : State) (e : OpenFault) → (HasCleanDisk new → KeepsCommit old new)
+    → Survives old new (λ _. ⊥)
+    → (HasCleanDisk new → e ≡ Version → IsOtherThan v old.now.trees)
+    → (HasCleanDisk new → e ≡ Rules → ¬ IsRuledAt v old.now.trees) → IsNeither e
+    → BringsToLatest v old new (Err e)
+ends_brought v old new e kept survives version rules other = record {
+  brings = record { done = λ clean. tt; kept = kept; survives = survives };
+  read = λ clean. tt;
+  given = tt;
+  first = tt;
+  version = version;
+  rules = rules;
+  other = other;
+}
+
+module _ (v : ℕ) (old mid new : State) (e : OpenFault) (has : HasMade v old mid)
+    (version : HasCleanDisk new → e ≡ Version → IsOtherThan v old.now.trees)
+    (rules : HasCleanDisk new → e ≡ Rules → ¬ IsRuledAt v old.now.trees) (other : IsNeither e) where
+  -- what was made before keeps what was committed
+  kept_since : HasCleanDisk mid → KeepsCommit mid new → KeepsCommit old new
+  kept_since clean kept =
+      let m = has.made clean in
+      record {
+        was_open = λ on. m.shows.was_open;
+        committed = λ on. kept.committed on ∙ m.shows.committed_is;
+      }
+
+  ends_after : {A F : Type 0} (does : State → State → Type 0) (f : F)
+      → Attempts {A = A} {E = F} does mid new (Err f) → BringsToLatest v old new (Err e)
+  ends_after does f failed =
+      ends_brought v old new e
+      (λ clean. kept_since (omega (arith, failed.survives.clean, clean)) (failed.kept clean))
+      (survives_then old mid new (λ _. ⊥) (λ _. ⊥) (λ _. ⊥) (λ clean db no. no)
+      (λ clean db no. no) has.survives failed.survives) version rules other
+
+-- a fault without a call
+ends_here : (v : ℕ) (old mid : State) (e : OpenFault) → HasMade v old mid
+    → (HasCleanDisk mid → e ≡ Version → IsOtherThan v old.now.trees)
+    → (HasCleanDisk mid → e ≡ Rules → ¬ IsRuledAt v old.now.trees) → IsNeither e
+    → BringsToLatest v old mid (Err e)
+ends_here v old mid e has version rules other =
+    ends_brought v old mid e
+    (λ clean.
+    let m = has.made clean in
+    record { was_open = λ on. m.shows.was_open; committed = λ on. m.shows.committed_is })
+    has.survives version rules other
+
+-- the store failed as the tables were made
+pub not_made : {A F : Type 0} (v : ℕ) (old new : State) (e : OpenFault) (f : F)
+    → (e ≡ Store) ⊎ (e ≡ Memory) → Attempts {A = A} {E = F} (Migrates v) old new (Err f)
+    → BringsToLatest v old new (Err e)
+not_made v old new e f (inl is) failed =
+    ends_brought v old new e failed.kept failed.survives
+    (λ clean k. absurd (let no : Store ≡ Version = sym is ∙ k in cc))
+    (λ clean k. absurd (let no : Store ≡ Rules = sym is ∙ k in cc))
+    ((λ k. let no : Store ≡ Foreign = sym is ∙ k in cc), (λ k. let no : Store ≡ Older = sym is ∙ k in cc))
+not_made v old new e f (inr is) failed =
+    ends_brought v old new e failed.kept failed.survives
+    (λ clean k. absurd (let no : Memory ≡ Version = sym is ∙ k in cc))
+    (λ clean k. absurd (let no : Memory ≡ Rules = sym is ∙ k in cc))
+    ((λ k. let no : Memory ≡ Foreign = sym is ∙ k in cc), (λ k. let no : Memory ≡ Older = sym is ∙ k in cc))
+
+module _ (v : ℕ) (known : IsVersion v) (less : v < latest) (old mid : State)
+    (has : HasMade v old mid) where
+  -- what is kept once, as it stood before
+  meta_before : HasCleanDisk mid → (row : Meta) → (content_of old.now.trees).meta ≡ Some row
+      → (content_of mid.now.trees).meta ≡ Some row
+  meta_before clean row is =
+      ap (λ (c : Content). c.meta) (made_content v old mid has known less clean)
+      ∙ meta_at v old.now.trees ∙ is
+
+  meta_since : HasCleanDisk mid → (row : Meta) → (content_of mid.now.trees).meta ≡ Some row
+      → (content_of old.now.trees).meta ≡ Some row
+  meta_since clean row is =
+      sym (meta_at v old.now.trees)
+      ∙ sym (ap (λ (c : Content). c.meta) (made_content v old mid has known less clean)) ∙ is
+
+  -- what is kept once wasn't read
+  pub no_meta : (new : State) (e : OpenFault)
+      → ReadsWithin {A = MetaRow} {E = OpenFault}
+      (λ trees m. (content_of trees).meta ≡ Some (meta_of m)) mid new (Err e) → IsNoVersion e → ¬ (e ≡ Foreign)
+      → (HasCleanDisk new → e ≡ Rules → IsUnruledMeta mid.now.trees)
+      → BringsToLatest v old new (Err e)
+  no_meta new e reads told ours rules =
+      ends_after v old mid new e has (λ clean is. absurd (told.0 is))
+      (λ clean is ruled. rules clean is ruled.row
+      (meta_before (omega (arith, reads.still.survives.clean, clean)) ruled.row ruled.is)
+      ruled.ruled)
+      (ours, told.1) IsUnchanged e reads.still
+
+-- what is kept once is read
+pub record HasMeta (v : ℕ) (old mid : State) (m : MetaRow) : Type 0 where
+  pub has : HasMade v old mid
+  pub is : HasCleanDisk mid → (content_of old.now.trees).meta ≡ Some (meta_of m)
+
+pub meta_read : {E : Type 0} (v : ℕ) → IsVersion v → v < latest → (old mid new : State)
+    (m : MetaRow) → HasMade v old mid
+    → ReadsWithin {A = MetaRow} {E = E} (λ trees m. (content_of trees).meta ≡ Some (meta_of m))
+    mid new (Ok m) → HasMeta v old new m
+meta_read v known less old mid new m has reads = record {
+  has = made_still v old mid new m has reads.still;
+  is = λ clean. meta_since v known less old mid has
+      (omega (arith, reads.still.survives.clean, clean)) (meta_of m) (reads.found clean);
+}
+
+module _ (v : ℕ) (known : IsVersion v) (less : v < latest) (old mid : State) (m : MetaRow)
+    (read : HasMeta v old mid m) where
+  -- it is of another version
+  pub other_version : (e : OpenFault) → (e ≡ Version) × (¬ (m.version ≡ v))
+      → BringsToLatest v old mid (Err e)
+  other_version e told =
+      ends_here v old mid e read.has
+      (λ clean is. record { row = meta_of m; is = read.is clean; other = told.1 })
+      (λ clean is. absurd (let no : Version ≡ Rules = sym told.0 ∙ is in cc)) (
+        (λ is. let no : Version ≡ Foreign = sym told.0 ∙ is in cc),
+        (λ is. let no : Version ≡ Older = sym told.0 ∙ is in cc),
+      )
+
+  -- the row in the rules is the one that was read
+  same_row : HasCleanDisk mid → (ruled : IsRuledAt v old.now.trees) → ruled.row ≡ meta_of m
+  same_row clean ruled =
+      let one : Some ruled.row ≡ Some (meta_of m) = sym ruled.is ∙ read.is clean in
+      same_Some ruled.row (meta_of m) one
+
+  shelf_before : HasCleanDisk mid → m.version ≡ v → (ruled : IsRuledAt v old.now.trees)
+      → HasShelf (string_bytes m.book) (content_at v old.now.trees).books
+  shelf_before clean version ruled =
+      let row = same_row clean ruled in
+      subst (λ t. HasShelf t (content_at v old.now.trees).books)
+      (ap (λ (x : Meta). x.book) row) (ruled.shelf (ap (λ (x : Meta). x.version) row ∙ version))
+
+  books_at : HasCleanDisk mid →
+      (content_of mid.now.trees).books ≡ (content_at v old.now.trees).books
+  books_at clean =
+      ap (λ (c : Content). c.books) (made_content v old mid read.has known less clean)
+
+  -- the later books weren't read
+  pub no_rows : {A : Type 0} (told : Trees → A → Type 0) (new : State) (e : OpenFault)
+      → ReadsWithin {A = A} {E = OpenFault} told mid new (Err e) → IsNoVersion e → ¬ (e ≡ Foreign)
+      → m.version ≡ v
+      → (HasCleanDisk new → e ≡ Rules → ¬ AreRuledBooks (content_of mid.now.trees).books)
+      → BringsToLatest v old new (Err e)
+  no_rows told new e reads of_rows ours version rules =
+      ends_after v old mid new e read.has (λ clean is. absurd (of_rows.0 is))
+      (λ clean is ruled.
+      let before : HasCleanDisk mid = omega (arith, reads.still.survives.clean, clean) in
+      let it = shelf_before before version ruled in
+      rules clean is (subst AreRuledBooks (sym (books_at before))
+      (shelf_ruled (string_bytes m.book) (content_at v old.now.trees).books it.0 it.1)))
+      (ours, of_rows.1) IsUnchanged e reads.still
+
+-- the rows of the later books are read
+pub record HasRows (v : ℕ) (old mid : State) (m : MetaRow) (items : List BookColumns) : Type 0
+  where
+    pub meta : HasMeta v old mid m
+    pub books : HasCleanDisk mid → (n : ℕ) →
+        row_numbered n (map book_at items) ≡ (content_at v old.now.trees).books n
+
+pub rows_read : {E : Type 0} (v : ℕ) → IsVersion v → v < latest → (old mid new : State)
+    (m : MetaRow) (rows : Vec BookColumns Global) → HasMeta v old mid m
+    → ReadsWithin {A = Vec BookColumns Global} {E = E}
+    (λ trees xs. AreBooks (content_of trees) (map book_at xs.items)) mid new (Ok rows)
+    → HasRows v old new m rows.items
+rows_read v known less old mid new m rows read reads = record {
+  meta = record {
+    has = made_still v old mid new rows read.has reads.still;
+    is = λ clean. read.is (omega (arith, reads.still.survives.clean, clean));
+  };
+  books = λ clean n. reads.found clean n
+      ∙ ap (λ f. f n) (books_at v known less old mid m read
+      (omega (arith, reads.still.survives.clean, clean)));
+}
+
+module _ (v : ℕ) (known : IsVersion v) (less : v < latest) (old mid : State) (m : MetaRow)
+    (items : List BookColumns) (read : HasRows v old mid m items) (version : m.version ≡ v)
+    (text : List ℕ) (text_is : text ≡ string_bytes m.book) where
+  -- there is no shelf of them
+  pub no_shelf : (e : OpenFault) → (e ≡ Rules → IsNoShelf text (map book_at items))
+      → (¬ (e ≡ Rules) → e ≡ Memory) → BringsToLatest v old mid (Err e)
+  no_shelf e rules either =
+      ends_here v old mid e read.meta.has
+      (λ clean is. absurd (let no : Version ≡ Memory =
+      sym is ∙ either (λ rule. let no : Version ≡ Rules = sym is ∙ rule in cc) in cc))
+      (λ clean is ruled.
+      let has = shelf_before v known less old mid m read.meta clean version ruled in
+      rules is (
+        has.0,
+        subst (λ f. IsShelfOf text f has.0) (λ i n. sym (read.books clean n) i)
+            (subst (λ t. IsShelfOf t (content_at v old.now.trees).books has.0) (sym text_is) has.1),
+      )) (
+        (λ is. let no : Foreign ≡ Memory =
+            sym is ∙ either (λ rule. let no : Foreign ≡ Rules = sym is ∙ rule in cc) in cc),
+        (λ is. let no : Older ≡ Memory =
+            sym is ∙ either (λ rule. let no : Older ≡ Rules = sym is ∙ rule in cc) in cc),
+      )
+
+  -- a shelf is that of the tables
+  shelf_at : (own : Shelf) → IsShelfRead text (map book_at items) own → HasCleanDisk mid
+      → IsShelfOf (string_bytes m.book) (content_at v old.now.trees).books own
+  shelf_at own shelf clean =
+      subst (λ t. IsShelfOf t (content_at v old.now.trees).books own) text_is
+      (subst (λ f. IsShelfOf text f own) (λ i n. read.books clean n i) shelf)
+
+  module _ (new : State) (b : ReadBooks) (shelf : IsShelfRead text (map book_at items) b.own)
+      (given : b.given ≡ b.own) (told : string_bytes b.text ≡ text)
+      (last : m.last ≤ 4_102_488_000) (utf8 : IsUtf8 (string_bytes m.book)) where
+    -- all is put
+    pub brought : {A E : Type 0} (u : A)
+        → Attempts {A = A} {E = E} (Makes (with_latest v (meta_of m))) mid new (Ok u)
+        → BringsToLatest v old new (Ok b)
+    brought u put = record {
+      brings = record {
+        done = λ clean.
+            let before : HasCleanDisk mid = omega (arith, put.survives.clean, clean) in
+            let p = put.done clean in
+            let made = read.meta.has.made before in (
+              becomes_latest v known less old.now.trees mid.now.trees new.now.trees (meta_of m)
+                  (made_content v old mid read.meta.has known less before) (read.meta.is before)
+                  made.sound.lists p.turns,
+              p.book,
+              record {
+                was_open = made.shows.was_open;
+                is_open = p.shows.is_open;
+                now_is = refl;
+                committed_is = p.shows.committed_is ∙ made.shows.committed_is;
+                mode = p.shows.mode;
+              },
+            );
+        kept = λ clean. tt;
+        survives = survives_then old mid new (λ _. ⊥) (λ _. ⊥) (λ _. ⊥) (λ clean db no. no)
+            (λ clean db no. no) read.meta.has.survives put.survives;
+      };
+      read = λ clean.
+          let before : HasCleanDisk mid = omega (arith, put.survives.clean, clean) in
+          let turns = (put.done clean).turns in
+          let made = read.meta.has.made before in
+          let kept = made_content v old mid read.meta.has known less before in
+          let at = shelf_at b.own shelf before in
+          let same : string_bytes m.book ≡ string_bytes b.text = sym text_is ∙ sym told in (
+            subst (λ t. IsLeft t new.now.trees) same
+                (left_latest v known less old.now.trees mid.now.trees new.now.trees (meta_of m) kept
+                (read.meta.is before) made.sound.lists turns b.own last utf8 at),
+            subst (λ t. IsShelfOf t (content_of new.now.trees).books b.own) same
+                (shelf_latest v known less old.now.trees mid.now.trees new.now.trees (meta_of m)
+                kept (read.meta.is before) made.sound.lists turns b.own at),
+          );
+      given = given;
+      first = subst (λ t. IsBookOf t b.own.first) (sym told) shelf.first;
+      version = λ clean. tt;
+      rules = λ clean. tt;
+      other = tt;
+    }
+
+  -- it isn't put
+  pub not_put : {A : Type 0} (does : State → State → Type 0) (new : State) (e : OpenFault)
+      (f : ReadFault) → Attempts {A = A} {E = ReadFault} does mid new (Err f)
+      → IsNoVersion e → ¬ (e ≡ Foreign) → (e ≡ Rules → f ≡ reading.Rules)
+      → (HasCleanDisk new → AreUnruledReserved v mid.now.trees f)
+      → BringsToLatest v old new (Err e)
+  not_put does new e f failed of_rows ours rules refused =
+      ends_after v old mid new e read.meta.has (λ clean is. absurd (of_rows.0 is))
+      (λ clean is ruled.
+      let before : HasCleanDisk mid = omega (arith, failed.survives.clean, clean) in
+      let it = refused clean (rules is) in
+      it.1 (subst AreRuledReserved
+      (sym (made_content v old mid read.meta.has known less before)) (ruled.reserved it.0)))
+      (ours, of_rows.1) does f failed

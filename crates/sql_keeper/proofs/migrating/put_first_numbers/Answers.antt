@@ -1,0 +1,15 @@
+use Rattle.sql_keeper.proofs.Granted.{grants_rows, still_book, still_inside}
+use Rattle.sql_keeper.proofs.migrating.put_first_numbers.Goals as goal
+
+pub put_numbers-requires-clause-open : goal.put_numbers-requires-clause-open
+put_numbers-requires-clause-open g c =
+    still_inside _ _ _ c.requires.open c.in_ok-rows.ensures.reads.still
+
+pub put_numbers-requires-clause-book : goal.put_numbers-requires-clause-book
+put_numbers-requires-clause-book g c =
+    still_book _ _ _ c.requires.book c.in_ok-rows.ensures.reads.still
+
+pub returns-in-Ok-clause-makes : goal.returns-in-Ok-clause-makes
+returns-in-Ok-clause-makes g c =
+    grants_rows c.deref.result.now _ _ _ c.in_ok-rows.rows _ _ c.deref.ensures.value
+    c.in_ok-rows.ensures.reads c.in-Ok.ensures.makes

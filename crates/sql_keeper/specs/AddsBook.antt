@@ -1,0 +1,161 @@
+-- A book that is added behind those of a shelf, committed whole or not at all.
+-- Source: profile.
+use Rattle.std.specs.Prelude.{◌≡◌, ◌≤◌, ℕ, suc, ◌++◌, List, [], ◌∷◌, Some, None, length, Result}
+use Rattle.std.specs.Prelude.{Ok, Err, IfErr, OnErr, OnOk}
+use Rattle.sqlite_trees.specs.declared.store.Store.{Ghosts}
+use Rattle.sqlite_trees.specs.Tree.{Trees}
+use Rattle.sqlite_trees.specs.Objects.{catalog_tree}
+use Rattle.sqlite.specs.State.{State, HasCleanDisk}
+use Rattle.tariffs.specs.Books.{Book}
+use Rattle.shelves.specs.Shelves.{IsShelf, Shelf, count, with_book}
+use Rattle.shelves.specs.Succession.{shelf_fault}
+use Rattle.shelves.specs.declared.fault.ShelfFault.{ShelfFault}
+use Rattle.shelves.specs.declared.fault.ShelfFault.TheVariants.{Memory}
+use Rattle.keepers.specs.declared.fault.StoreFault.{StoreFault}
+use Rattle.keepers.specs.declared.fault.StoreFault.TheVariants.{Memory as NoMemory}
+use Rattle.sql_tables.specs.Statements.{AreStored}
+use Rattle.sql_rows.specs.Content.{Content, content_of, with_book as with_row}
+use Rattle.sql_keeper.specs.Books.{IsBookFault, IsBookOf}
+use Rattle.sql_keeper.specs.Commits.{CommitsWhole}
+use Rattle.sql_keeper.specs.Content.{Names, last_in, tables_of}
+use Rattle.sql_keeper.specs.Inside.{KeeperState, clean_in, failed_in, tables_in}
+use Rattle.sql_keeper.specs.Shelves.{IsShelfOf}
+use Rattle.sql_keeper.specs.Stops.{IsWhole, trees_in}
+use Rattle.sql_keeper.specs.declared.add_fault.AddFault.{AddFault}
+use Rattle.sql_keeper.specs.declared.add_fault.AddFault.TheVariants.{Book as OfBook}
+use Rattle.sql_keeper.specs.declared.add_fault.AddFault.TheVariants.{Shelf as OfShelf}
+use Rattle.sql_keeper.specs.declared.add_fault.AddFault.TheVariants.{Store as OfStore}
+
+-- ---- what is written
+
+-- a row more: the number of the book, its first moment and its text
+abbrev pub with_dated : ℕ → ℕ → List ℕ → Content → Content
+with_dated n from text c = with_row n (record { starts = from; content = text }) c
+
+-- each reservation goes by a book of a number up to this one
+abbrev pub AreBooksKnown : ℕ → Content → Type 0
+AreBooksKnown n c = (a s : List ℕ) (g m : ℕ) → (c.rows a).grant_books s g ≡ Some m → m ≤ n
+
+-- the tables hold what they held, by the names of the books with those of the new one, if each
+-- reservation goes by a book that was there; they would be found again: the catalog and what is
+-- kept once are the same, and no rowid stands twice
+pub record BecomesDated (n from : ℕ) (text : List ℕ) (old new : Trees) : Type 0 where
+  pub tables : (names : Names) (more : List (List ℕ)) → 1 ≤ length names
+      → n ≡ suc (length names) → AreBooksKnown (length names) (content_of old)
+      → tables_of (names ++ more ∷ []) (content_of new) ≡ tables_of names (content_of old)
+  pub books : (content_of new).books ≡ (with_dated n from text (content_of old)).books
+  pub meta : (content_of new).meta ≡ (content_of old).meta
+  pub catalog : new catalog_tree ≡ old catalog_tree
+  pub stored : AreStored new
+
+-- the text is a book's that makes a shelf with those of the shelf that the tables keep, behind them
+-- and under the next number, from a moment in the range of moments on
+pub record MayFollow (text more : List ℕ) (n from : ℕ) (trees : Trees) : Type 0 where
+  pub shelf : Shelf
+  pub is : IsShelfOf text (content_of trees).books shelf
+  pub book : Book
+  pub read : IsBookOf more book
+  pub number : n ≡ suc (count shelf)
+  pub range : from ≤ 4_102_488_000
+  pub behind : IsShelf (with_book shelf from book)
+
+-- ---- why a book isn't added
+
+-- a fault of the text
+abbrev pub IsTextFault : List ℕ → AddFault → Type 0
+IsTextFault text (OfBook fault) = IsBookFault text fault
+IsTextFault text (OfShelf fault) = ⊥
+IsTextFault text (OfStore fault) = ⊥
+
+-- when a fault is told of a text, over a shelf and the moment of the last accepted command: first
+-- the text's own, then the shelf's
+abbrev pub IsAddFault : List ℕ → ℕ → Shelf → ℕ → AddFault → Type 0
+IsAddFault text from s last (OfBook fault) = IsBookFault text fault
+IsAddFault text from s last (OfShelf fault) = (b : Book) × IsBookOf text b
+    × (¬ (fault ≡ Memory) → shelf_fault s from b last ≡ Some fault)
+IsAddFault text from s last (OfStore fault) = (b : Book) × IsBookOf text b
+
+-- the book of the text stands behind those of the shelf
+pub record IsAdded (text : List ℕ) (from last : ℕ) (old new : Shelf) : Type 0 where
+  pub book : Book
+  pub read : IsBookOf text book
+  pub free : shelf_fault old from book last ≡ None
+  pub shelf : new ≡ with_book old from book
+
+-- the book stands behind those of the shelf, which had no fault of it
+pub record IsBehind (from : ℕ) (b : Book) (last : ℕ) (old new : Shelf) : Type 0 where
+  pub free : shelf_fault old from b last ≡ None
+  pub shelf : new ≡ with_book old from b
+
+-- the book stands behind those of two shelves, which had as many; the first had no fault of it
+pub record IsOnBoth (from : ℕ) (b : Book) (last : ℕ) (before after own new : Shelf) : Type 0 where
+  pub free : shelf_fault before from b last ≡ None
+  pub shelf : after ≡ with_book before from b
+  pub own_is : new ≡ with_book own from b
+  pub counts : count own ≡ count before
+
+-- both shelves are as they were before their last book was added
+pub record AreTakenBack (before after own new : Shelf) : Type 0 where
+  pub shelf : (s : Shelf) (from : ℕ) (b : Book) → before ≡ with_book s from b → after ≡ s
+  pub own_is : (s : Shelf) (from : ℕ) (b : Book) → own ≡ with_book s from b → new ≡ s
+
+-- ---- what is done of it
+
+-- whether a book was added, with a store fault where it wasn't
+abbrev pub was_added : {A E : Type 0} → Result (Result A ShelfFault) E → Result A StoreFault
+was_added (Ok (Ok x)) = Ok x
+was_added (Ok (Err fault)) = Err NoMemory
+was_added (Err fault) = Err NoMemory
+
+-- why the shelf refused a book
+abbrev pub IfRefused : {A E : Type 0} → Result (Result A ShelfFault) E → (ShelfFault → Type 0) →
+    Type 0
+IfRefused (Ok (Ok x)) P = Unit {0}
+IfRefused (Ok (Err fault)) P = P fault
+IfRefused (Err fault) P = Unit {0}
+
+abbrev pub add_told : {A : Type 0} → Result (Result A ShelfFault) StoreFault → Result A AddFault
+add_told (Ok (Ok x)) = Ok x
+add_told (Ok (Err fault)) = Err (OfShelf fault)
+add_told (Err fault) = Err (OfStore fault)
+
+-- the moment of the last accepted command
+abbrev pub last_at : State → ℕ
+last_at s = last_in (content_of s.now.trees).meta
+
+-- a book is added to two shelves and to the tables, or to none of them
+pub record AddsToAll {A E : Type 0} (from : ℕ) (text : List ℕ) (b : Book) (old new : State)
+    (before after own own' : Shelf) (result : Result (Result A ShelfFault) E) : Type 0
+  where
+    pub commits : CommitsWhole (BecomesDated (suc (count before)) from text) old new
+        (was_added result)
+    pub free : HasCleanDisk new →
+        OnOk (was_added result) (shelf_fault before from b (last_at old) ≡ None)
+    pub shelf : OnOk (was_added result) (after ≡ with_book before from b)
+    pub own_is : OnOk (was_added result) (own' ≡ with_book own from b)
+    pub counts : OnOk (was_added result) (count own ≡ count before)
+    pub kept : OnErr (was_added result) ((after ≡ before) × (own' ≡ own))
+    pub told : HasCleanDisk new → IfRefused result
+        (λ fault. ¬ (fault ≡ Memory) → shelf_fault before from b (last_at old) ≡ Some fault)
+
+-- a book is added to the shelf, to what the keeper knows of it and to the tables, or to none of
+-- them; a stop leaves the rows before it or with the book
+pub record AddsBook {S A : Type 0} (g : Ghosts S) (text : List ℕ) (from : ℕ)
+    (old new : KeeperState S) (before after : Shelf) (result : Result A AddFault) : Type 0
+  where
+    pub added : clean_in g new →
+        OnOk result (IsAdded text from (tables_in g old).last before after)
+    pub named : OnOk result ((b : Book) × IsBookOf text b
+        × (new.names ≡ old.names ++ b.periods ∷ []))
+    -- the keeper had as many books
+    pub numbered : OnOk result (length old.names ≡ count before)
+    pub done : clean_in g new → OnOk result
+        (BecomesDated (suc (count before)) from text (trees_in g old) (trees_in g new))
+    pub shelf : OnErr result (after ≡ before)
+    pub names : OnErr result (new.names ≡ old.names)
+    pub tables : clean_in g new → OnErr result (tables_in g new ≡ tables_in g old)
+    pub told : clean_in g new →
+        IfErr result (IsAddFault text from before (tables_in g old).last)
+    pub cleanness : clean_in g new → clean_in g old
+    pub counts : failed_in old ≤ failed_in new
+    pub whole : IsWhole g old new (BecomesDated (suc (count before)) from text (trees_in g old))

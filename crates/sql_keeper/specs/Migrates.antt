@@ -1,0 +1,216 @@
+-- A database of an older version, brought to the latest whole or not at all.
+-- Source: profile.
+use Rattle.std.specs.Prelude.{◌≡◌, ◌<◌, ℕ, List, Some, None, true, false, nat_le, if◌then◌else◌}
+use Rattle.std.specs.Prelude.{IsTrue, Result, Ok, Err, IfErr, IfOk, OnErr, OnOk, ⊤}
+use Rattle.std.specs.String.{string_bytes}
+use Rattle.sqlite_trees.specs.declared.store.Store.{Ghosts}
+use Rattle.sqlite_trees.specs.Objects.{catalog_tree}
+use Rattle.sqlite_trees.specs.Tree.{Trees}
+use Rattle.sqlite_catalog.specs.Listing.{Lists}
+use Rattle.sqlite.specs.Held.{Held, state}
+use Rattle.sqlite.specs.State.{State, HasCleanDisk, Shows, Survives}
+use Rattle.shelves.specs.Shelves.{Shelf}
+use Rattle.sql_tables.specs.Schema.{book_schema, latest, schema_at}
+use Rattle.sql_tables.specs.Stages.{AreStoredAt}
+use Rattle.sql_tables.specs.Statements.{AreStored, Attempts, HasIdleBook, IsBook, IsStill}
+use Rattle.sql_tables.specs.declared.reading.ReadFault.{ReadFault}
+use Rattle.sql_tables.specs.declared.reading.ReadFault.TheVariants as reading
+use Rattle.sql_rows.specs.Content.{Content, Rows, content_of, with_grant_book, with_rows}
+use Rattle.sql_rows.specs.Each.{with_each}
+use Rattle.sql_rows.specs.declared.reserved_rows.ReservedColumns.{ReservedColumns}
+use Rattle.sql_rows.specs.Ruled.{AreRuledReserved, IsRuledMeta}
+use Rattle.sql_rows.specs.Values.{Meta}
+use Rattle.sql_opening.specs.Opens.{IsVersion}
+use Rattle.sql_opening.specs.declared.fault.OpenFault.{OpenFault}
+use Rattle.sql_opening.specs.declared.fault.OpenFault.TheVariants.{Foreign, Version, Rules, Older}
+use Rattle.sql_opening.specs.declared.fault.OpenFault.TheVariants.{Store, Memory}
+use Rattle.sql_keeper.specs.Books.{IsBookOf}
+use Rattle.sql_keeper.specs.Content.{Names, is_reserved, tables_of}
+use Rattle.sql_keeper.specs.Finds.{FindsBooks}
+use Rattle.sql_keeper.specs.Inside.{KeeperState, IsClean}
+use Rattle.sql_keeper.specs.Opened.{IsFresh, IsLeft}
+use Rattle.sql_keeper.specs.Shelves.{HasShelf, IsShelfOf}
+use Rattle.sql_keeper.specs.Stops.{trees_in}
+use Rattle.sql_keeper.specs.declared.books.ReadBooks.{ReadBooks}
+
+-- ---- what a database of a version holds
+
+-- rows of an account without what version 2 adds, and without what version 3 does
+abbrev pub rows_before_2 : Rows → Rows
+rows_before_2 r = record r { grant_books = λ s g. None }
+
+abbrev pub rows_before_3 : Rows → Rows
+rows_before_3 r = record r { allowances = λ n. false; covered = λ n. None }
+
+abbrev pub before_2 : Content → Content
+before_2 c = record c { books = λ n. None; rows = λ a. rows_before_2 (c.rows a) }
+
+abbrev pub before_3 : Content → Content
+before_3 c = record c { rows = λ a. rows_before_3 (c.rows a) }
+
+-- the tables that a version hasn't are read as empty ones
+abbrev pub content_at : ℕ → Trees → Content
+content_at v trees =
+    let whole = content_of trees in
+    let second = if nat_le 3 v then whole else before_3 whole in
+    if nat_le 2 v then second else before_2 second
+
+-- ---- what a migration leaves
+
+-- each reservation has the number of its book; before version 2 that is the first
+abbrev pub AreGranted : ℕ → Content → Content → Type 0
+AreGranted v old new = (a s : List ℕ) (g : ℕ)
+    → (new.rows a).grant_books s g ≡ (if nat_le 2 v then (old.rows a).grant_books s g
+    else (if is_reserved ((old.rows a).groups s g) then Some 1 else None))
+
+-- the tables of a version become those of the latest, and hold what they held: no row of theirs is
+-- lost, the books are the same, and each reservation has its book
+pub record BecomesLatest (v : ℕ) (old new : Trees) : Type 0 where
+  pub tables : (names : Names) →
+      tables_of names (content_of new) ≡ tables_of names (content_at v old)
+  pub granted : AreGranted v (content_at v old) (content_of new)
+  pub books : (content_of new).books ≡ (content_at v old).books
+  pub left : (text : List ℕ) (row : Meta) → (content_of old).meta ≡ Some row → row.book ≡ text
+      → (content_of new).meta ≡ Some (record { version = latest; book = text; last = row.last })
+  pub lists : Lists (new catalog_tree) book_schema
+  pub stored : AreStored new
+
+-- a database that is left as one of the latest version by a migration of one of this version
+pub record IsLeftLatest (v : ℕ) (old new : Trees) : Type 0 where
+  pub becomes : BecomesLatest v old new
+  pub text : List ℕ
+  pub left : IsLeft text new
+
+-- what is kept once is of another version than the tables are
+pub record IsOtherThan (v : ℕ) (trees : Trees) : Type 0 where
+  pub row : Meta
+  pub is : (content_of trees).meta ≡ Some row
+  pub other : ¬ (row.version ≡ v)
+
+-- a database of a version in the rules of who migrates it: no rowid stands twice, what is kept once
+-- is there and in its rules, with the texts of a shelf where it tells that version, and each
+-- reservation that gets a row of its book is in its rules
+pub record IsRuledAt (v : ℕ) (trees : Trees) : Type 0 where
+  pub stored : AreStoredAt v trees
+  pub row : Meta
+  pub is : (content_of trees).meta ≡ Some row
+  pub ruled : IsRuledMeta row
+  pub shelf : row.version ≡ v → HasShelf row.book (content_at v trees).books
+  pub reserved : v < 2 → AreRuledReserved (content_at v trees)
+
+-- the first book's number for each of these reservations
+abbrev pub with_first_books : List ReservedColumns → Content → Content
+with_first_books = with_each (λ x. with_rows x.account (with_grant_book x.session x.group 1))
+
+-- the first book's number for each reservation, where the version had no such numbers
+abbrev pub granted_in : Rows → Rows
+granted_in r = record r {
+  grant_books = λ s g. if is_reserved (r.groups s g) then Some 1 else r.grant_books s g;
+}
+
+abbrev pub with_granted : ℕ → Content → Content
+with_granted v c =
+    if nat_le 2 v then c else record c { rows = λ a. granted_in (c.rows a) }
+
+-- a row of what is kept once, if there is one, is out of its rules
+abbrev pub IsUnruledMeta : Trees → Type 0
+IsUnruledMeta trees = (row : Meta) → (content_of trees).meta ≡ Some row → ¬ IsRuledMeta row
+
+-- the rules are told only of a reservation that is out of them, before version 2
+abbrev pub AreUnruledReserved : ℕ → Trees → ReadFault → Type 0
+AreUnruledReserved v trees e =
+    e ≡ reading.Rules → (v < 2) × ¬ AreRuledReserved (content_of trees)
+
+-- ---- states of the connection
+
+-- the tables of a version are there, no rowid of theirs twice
+pub record IsAt (v : ℕ) (s : State) : Type 0 where
+  pub schema : s.now.schema ≡ schema_at v
+  pub stored : AreStoredAt v s.now.trees
+
+-- unless its disk failed it, or an earlier failure shut it
+abbrev pub HasAt : ℕ → State → Type 0
+HasAt v s = HasCleanDisk s → IsTrue s.is_open → IsAt v s
+
+-- and no transaction is open
+abbrev pub HasIdleAt : ℕ → State → Type 0
+HasIdleAt v s = HasCleanDisk s → IsTrue s.is_open → IsAt v s × (s.now ≡ s.committed)
+
+-- ---- within the transaction, and over it
+
+-- inside a transaction: the tables of a version become those of the latest, and the shelf of what
+-- is kept is read; or a fault says why not
+pub record BringsToLatest (v : ℕ) (old new : State) (result : Result ReadBooks OpenFault) : Type 0
+  where
+    pub brings : Attempts (λ a b. BecomesLatest v a.now.trees b.now.trees × IsBook b
+        × Shows a b b.now a.committed true) old new result
+    pub read : HasCleanDisk new → IfOk result (λ r. IsLeft (string_bytes r.text) new.now.trees
+        × IsShelfOf (string_bytes r.text) (content_of new.now.trees).books r.own)
+    pub given : IfOk result (λ r. r.given ≡ r.own)
+    pub first : IfOk result (λ r. IsBookOf (string_bytes r.text) r.own.first)
+    pub version : HasCleanDisk new → IfErr result (λ e. e ≡ Version → IsOtherThan v old.now.trees)
+    pub rules : HasCleanDisk new → IfErr result (λ e. e ≡ Rules → ¬ IsRuledAt v old.now.trees)
+    pub other : IfErr result (λ e. (¬ (e ≡ Foreign)) × (¬ (e ≡ Older)))
+
+-- outside a transaction: the tables are those of the latest version, or nothing is changed, and a
+-- stop leaves what it left before or the whole migration
+pub record MigratesTables (v : ℕ) (old new : State) (result : Result ReadBooks OpenFault) : Type 0
+  where
+    pub done : HasCleanDisk new → IfOk result (λ r. IsTrue new.is_open
+        × BecomesLatest v old.now.trees new.now.trees × IsLeft (string_bytes r.text) new.now.trees
+        × IsShelfOf (string_bytes r.text) (content_of new.now.trees).books r.own)
+    pub given : IfOk result (λ r. r.given ≡ r.own)
+    pub first : IfOk result (λ r. IsBookOf (string_bytes r.text) r.own.first)
+    pub kept : HasCleanDisk new → IsTrue new.is_open → OnErr result (IsStill old new)
+    pub idle : OnOk result (HasIdleBook new)
+    pub version : HasCleanDisk new → IfErr result (λ e. e ≡ Version → IsOtherThan v old.now.trees)
+    pub rules : HasCleanDisk new → IfErr result (λ e. e ≡ Rules → ¬ IsRuledAt v old.now.trees)
+    pub other : IfErr result (λ e. (¬ (e ≡ Foreign)) × (¬ (e ≡ Older)))
+    pub survives : Survives old new (IsLeftLatest v old.now.trees)
+
+-- ---- how it ends
+
+-- the version that the database had is one that there is, and so the keeper holds what it held; one
+-- of the latest is left as it is
+pub record IsMigrated {S : Type 0} (g : Ghosts S) (old : Held S) (k : KeeperState S)
+    (shelf : Shelf) : Type 0
+  where
+    pub fresh : IsFresh k shelf
+    pub books : HasCleanDisk (state g k.connection) →
+        IsShelfOf k.text (content_of (trees_in g k)).books shelf
+    pub left : HasCleanDisk (state g k.connection) → IsLeft k.text (trees_in g k)
+    pub clean : HasCleanDisk (state g k.connection) → IsClean (state g k.connection)
+    pub version : ℕ
+    pub known : IsVersion version
+    pub had : HasCleanDisk (state g k.connection) → (state g old).now.schema ≡ schema_at version
+    pub becomes : HasCleanDisk (state g k.connection) → version < latest →
+        BecomesLatest version (state g old).now.trees (trees_in g k)
+    pub still : HasCleanDisk (state g k.connection) → version ≡ latest →
+        IsStill (state g old) (state g k.connection)
+    pub survives : Survives (state g old) (state g k.connection)
+        (λ db. IsLeftLatest version (state g old).now.trees db)
+
+-- a stop leaves what it left before, or the whole migration
+pub record FindsNone (old new : State) (fault : OpenFault) : Type 0 where
+  pub survives : Survives old new (λ db. (v : ℕ) × IsVersion v ×
+      IsLeftLatest v old.now.trees db)
+  pub foreign : HasCleanDisk new → fault ≡ Foreign →
+      (v : ℕ) → IsVersion v → ¬ (old.now.schema ≡ schema_at v)
+  pub version : HasCleanDisk new → fault ≡ Version →
+      (v : ℕ) × IsVersion v × (old.now.schema ≡ schema_at v)
+      × IsOtherThan v old.now.trees
+  pub rules : HasCleanDisk new → fault ≡ Rules →
+      (v : ℕ) × IsVersion v × (old.now.schema ≡ schema_at v)
+      × ¬ IsRuledAt v old.now.trees
+  pub newer : ¬ (fault ≡ Older)
+
+abbrev pub IsNotMigrated : {S : Type 0} → Ghosts S → Held S → Held S → OpenFault → Type 0
+IsNotMigrated g old new fault = FindsNone (state g old) (state g new) fault
+
+-- a database of this system: its tables are those of the latest version already and nothing is
+-- written, or they become those
+abbrev pub FindsAny : State → State → Result ReadBooks OpenFault → Type 0
+FindsAny old new (Ok r) = (v : ℕ) × IsVersion v
+    × (HasCleanDisk new → old.now.schema ≡ schema_at v)
+    × (v ≡ latest → FindsBooks old new (Ok r)) × (v < latest → MigratesTables v old new (Ok r))
+FindsAny old new (Err e) = FindsNone old new e

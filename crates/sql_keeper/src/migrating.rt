@@ -1,0 +1,276 @@
+//! A database of an older version, brought to the latest in one transaction: all of it or nothing,
+//! also over a stop.
+
+ghost use Rattle.std.specs.Prelude.{◌≡◌, ◌<◌, ◌≤◌, ◌⊎◌, false, map, nat_lt, Some, IfErr, IfOk};
+ghost use Rattle.std.specs.Prelude.{OnOk};
+ghost use Rattle.std.specs.String.{string_bytes};
+ghost use Rattle.sql_opening.specs.Opens.{IsNoVersion, IsVersion};
+ghost use Rattle.sql_opening.specs.declared.fault.OpenFault.TheVariants.{Foreign, Rules, Version};
+ghost use Rattle.sql_rows.specs.Content.{content_of, with_meta};
+ghost use Rattle.sql_rows.specs.Lists.{AreBooks};
+ghost use Rattle.sql_rows.specs.Makes.{Makes, MakesIfOpen};
+ghost use Rattle.sql_rows.specs.Ruled.{AreRuledBooks};
+ghost use Rattle.sql_rows.specs.Texts.{book_at, meta_of};
+ghost use Rattle.sql_tables.specs.Schema.{latest};
+ghost use Rattle.sql_tables.specs.Stages.{HasVersion, Migrates};
+ghost use Rattle.sql_tables.specs.Statements.{Attempts, HasBook, HasRules, IsInside};
+ghost use Rattle.sql_tables.specs.Statements.{ReadsWithin};
+ghost use Rattle.sql_keeper.specs.Migrates.{AreUnruledReserved, BringsToLatest, FindsAny, HasAt};
+ghost use Rattle.sql_keeper.specs.Migrates.{HasIdleAt, IsMigrated, IsNotMigrated, IsUnruledMeta};
+ghost use Rattle.sql_keeper.specs.Migrates.{MigratesTables, with_first_books, with_granted};
+ghost use Rattle.sqlite.specs.Held.{state};
+ghost use Rattle.sqlite.specs.State.{HasCleanDisk};
+
+use crate::books::{ReadBooks, read_shelves};
+use crate::keeper::SqlKeeper;
+use crate::opening::{keeper_of, latest_books, open_fault, read_fault};
+use shelves::TariffShelf;
+use sql_opening::{OpenFault, find_tables};
+use sql_rows::{
+    BookColumns, Meta, ReservedColumns, put_grant_book, put_meta, read_books_within,
+    read_meta_within, read_reserved_within,
+};
+use sql_tables::{LATEST, ReadFault, create_since};
+use sqlite::{Alter, Connection, Error, Transaction};
+use std::alloc::Global;
+
+/// Puts the first book's number for each of these reservations.
+fn put_numbers<S: Alter>(tx: &mut Transaction<'_, S>, rows: &[ReservedColumns]) -> Result<(), Error>
+    requires open { IsInside (state S.Store tx.old.conn.now) }
+    requires book { HasBook (state S.Store tx.old.conn.now) }
+    ensures same_reference { tx.new.conn.ghost_name ≡ tx.old.conn.ghost_name }
+    ensures makes { Attempts (MakesIfOpen (with_first_books rows.now))
+        (state S.Store tx.old.conn.now) (state S.Store tx.new.conn.now) result }
+{
+    'rows: for row in rows {
+        put_grant_book(tx, &row.account, &row.session, row.group, 1)?;
+    }
+    Ok(())
+}
+
+/// Puts the number of the first book for each reservation of a database that had no such numbers.
+fn put_first_numbers<S: Alter>(tx: &mut Transaction<'_, S>, alloc: Global) -> Result<(), ReadFault>
+    requires open { IsInside (state S.Store tx.old.conn.now) }
+    requires book { HasBook (state S.Store tx.old.conn.now) }
+    requires rules { HasRules (state S.Store tx.old.conn.now) }
+    ensures same_reference { tx.new.conn.ghost_name ≡ tx.old.conn.ghost_name }
+    ensures makes { Attempts (MakesIfOpen (with_granted 1))
+        (state S.Store tx.old.conn.now) (state S.Store tx.new.conn.now) result }
+    ensures refused { HasCleanDisk (state S.Store tx.new.conn.now) →
+        IfErr result (AreUnruledReserved 1 (state S.Store tx.old.conn.now).now.trees) }
+{
+    let rows = read_reserved_within(tx, alloc)?;
+    match put_numbers(tx, &rows) {
+        Ok(()) => Ok(()),
+        Err(error) => Err(ReadFault::Store(error)),
+    }
+}
+
+/// Whether a version has no numbers of books for its reservations.
+fn has_no_numbers(version: u32) -> bool
+    ensures { result ≡ nat_lt version 2 }
+{
+    version < 2
+}
+
+/// Puts the number of the first book for each reservation, where the version had no such numbers.
+fn put_all_numbers<S: Alter>(
+    tx: &mut Transaction<'_, S>,
+    alloc: Global,
+    version: u32,
+) -> Result<(), ReadFault>
+    requires known { 1 ≤ version }
+    requires open { IsInside (state S.Store tx.old.conn.now) }
+    requires book { HasBook (state S.Store tx.old.conn.now) }
+    requires rules { HasRules (state S.Store tx.old.conn.now) }
+    ensures same_reference { tx.new.conn.ghost_name ≡ tx.old.conn.ghost_name }
+    ensures makes { Attempts (MakesIfOpen (with_granted version))
+        (state S.Store tx.old.conn.now) (state S.Store tx.new.conn.now) result }
+    ensures refused { HasCleanDisk (state S.Store tx.new.conn.now) →
+        IfErr result (AreUnruledReserved version (state S.Store tx.old.conn.now).now.trees) }
+{
+    if has_no_numbers(version) {
+        return put_first_numbers(tx, alloc);
+    }
+    Ok(())
+}
+
+/// Makes the tables that a database of an older version hasn't.
+fn make_later<S: Alter>(tx: &mut Transaction<'_, S>, version: u32) -> Result<(), OpenFault>
+    requires known { (1 ≤ version) × (version < latest) }
+    requires has { HasVersion version (state S.Store tx.old.conn.now) }
+    ensures same_reference { tx.new.conn.ghost_name ≡ tx.old.conn.ghost_name }
+    ensures makes { Attempts (Migrates version) (state S.Store tx.old.conn.now)
+        (state S.Store tx.new.conn.now) result }
+    ensures store { IfErr result
+        (λ fault. (fault ≡ OpenFault.Store) ⊎ (fault ≡ OpenFault.Memory)) }
+{
+    match create_since(tx, version) {
+        Ok(()) => Ok(()),
+        Err(error) => Err(open_fault(error)),
+    }
+}
+
+/// What is kept once.
+fn kept_within<S: Alter>(tx: &mut Transaction<'_, S>) -> Result<Meta, OpenFault>
+    requires book { HasBook (state S.Store tx.old.conn.now) }
+    requires rules { HasRules (state S.Store tx.old.conn.now) }
+    ensures same_reference { tx.new.conn.ghost_name ≡ tx.old.conn.ghost_name }
+    ensures reads { ReadsWithin (λ trees m. (content_of trees).meta ≡ Some (meta_of m))
+        (state S.Store tx.old.conn.now) (state S.Store tx.new.conn.now) result }
+    ensures told { IfErr result IsNoVersion }
+    ensures ours { IfErr result (λ fault. ¬ (fault ≡ Foreign)) }
+    ensures rules { HasCleanDisk (state S.Store tx.new.conn.now) → IfErr result
+        (λ fault. fault ≡ Rules → IsUnruledMeta (state S.Store tx.old.conn.now).now.trees) }
+{
+    match read_meta_within(tx) {
+        Ok(Some(meta)) => Ok(meta),
+        Ok(None) => Err(OpenFault::Rules),
+        Err(fault) => Err(read_fault(fault)),
+    }
+}
+
+/// The version that is kept is that of the tables, and the moment in the range of moments.
+fn is_of_version(meta: &Meta, version: u32) -> Result<(), OpenFault>
+    ensures version { OnOk result (meta.now.version ≡ version) }
+    ensures told { IfErr result (λ fault. (fault ≡ Version) × (¬ (meta.now.version ≡ version))) }
+    ensures last { meta.now.last ≤ 4_102_488_000 }
+{
+    let _moment = meta.last.seconds();
+    if meta.version != version {
+        return Err(OpenFault::Version);
+    }
+    Ok(())
+}
+
+/// The books after the first.
+fn books_within<S: Alter>(
+    tx: &mut Transaction<'_, S>,
+    alloc: Global,
+) -> Result<Vec<BookColumns>, OpenFault>
+    requires book { HasBook (state S.Store tx.old.conn.now) }
+    requires rules { HasRules (state S.Store tx.old.conn.now) }
+    ensures same_reference { tx.new.conn.ghost_name ≡ tx.old.conn.ghost_name }
+    ensures reads { ReadsWithin (λ trees xs. AreBooks (content_of trees) (map book_at xs.items))
+        (state S.Store tx.old.conn.now) (state S.Store tx.new.conn.now) result }
+    ensures told { IfErr result IsNoVersion }
+    ensures ours { IfErr result (λ fault. ¬ (fault ≡ Foreign)) }
+    ensures rules { HasCleanDisk (state S.Store tx.new.conn.now) → IfErr result (λ fault.
+        fault ≡ Rules →
+        ¬ AreRuledBooks (content_of (state S.Store tx.old.conn.now).now.trees).books) }
+{
+    match read_books_within(tx, alloc) {
+        Ok(books) => Ok(books),
+        Err(fault) => Err(read_fault(fault)),
+    }
+}
+
+/// Puts what the latest version has and the tables of an older one haven't: the numbers of books,
+/// and the version.
+fn put_latest<S: Alter>(
+    tx: &mut Transaction<'_, S>,
+    alloc: Global,
+    version: u32,
+    meta: &Meta,
+) -> Result<(), ReadFault>
+    requires known { 1 ≤ version }
+    requires open { IsInside (state S.Store tx.old.conn.now) }
+    requires book { HasBook (state S.Store tx.old.conn.now) }
+    requires rules { HasRules (state S.Store tx.old.conn.now) }
+    ensures same_reference { tx.new.conn.ghost_name ≡ tx.old.conn.ghost_name }
+    ensures makes { Attempts
+        (Makes (λ c. with_meta (record (meta_of meta.now) { version = latest })
+        (with_granted version c)))
+        (state S.Store tx.old.conn.now) (state S.Store tx.new.conn.now) result }
+    ensures refused { HasCleanDisk (state S.Store tx.new.conn.now) →
+        IfErr result (AreUnruledReserved version (state S.Store tx.old.conn.now).now.trees) }
+{
+    put_all_numbers(tx, alloc, version)?;
+    match put_meta(tx, LATEST, meta.book.as_str(), meta.last) {
+        Ok(_) => Ok(()),
+        Err(error) => Err(ReadFault::Store(error)),
+    }
+}
+
+/// Makes the tables that a database of an older version hasn't, reads its shelf, and brings it to
+/// the latest version, within a transaction.
+fn bring_to_latest<S: Alter>(
+    tx: &mut Transaction<'_, S>,
+    alloc: Global,
+    version: u32,
+) -> Result<ReadBooks, OpenFault>
+    requires known { IsVersion version × (version < latest) }
+    requires at { HasAt version (state S.Store tx.old.conn.now) }
+    ensures same_reference { tx.new.conn.ghost_name ≡ tx.old.conn.ghost_name }
+    ensures brings { BringsToLatest version
+        (state S.Store tx.old.conn.now) (state S.Store tx.new.conn.now) result }
+{
+    make_later(tx, version)?;
+    let meta = kept_within(tx)?;
+    is_of_version(&meta, version)?;
+    let rows = books_within(tx, alloc)?;
+    let read = read_shelves(alloc, meta.book.as_str(), &rows)?;
+    match put_latest(tx, alloc, version, &meta) {
+        Ok(()) => Ok(read),
+        Err(fault) => Err(read_fault(fault)),
+    }
+}
+
+/// Brings a database of an older version to the latest, in one transaction.
+fn migrate_tables<S: Alter>(
+    conn: &mut Connection<S>,
+    alloc: Global,
+    version: u32,
+) -> Result<ReadBooks, OpenFault>
+    requires known { IsVersion version × (version < latest) }
+    requires plain { conn.old.in_transaction ≡ false }
+    requires at { HasIdleAt version (state S.Store conn.old) }
+    ensures plain { conn.new.in_transaction ≡ false }
+    ensures migrates { MigratesTables version
+        (state S.Store conn.old) (state S.Store conn.new) result }
+{
+    let mut tx = conn.transaction();
+    let read = bring_to_latest(&mut tx, alloc, version)?;
+    match tx.commit() {
+        Ok(()) => Ok(read),
+        Err(error) => Err(open_fault(error)),
+    }
+}
+
+/// The shelf of a database of this system, which is of the latest version then.
+fn books_of_any<S: Alter>(alloc: Global, conn: &mut Connection<S>) -> Result<ReadBooks, OpenFault>
+    ensures plain { OnOk result (conn.new.in_transaction ≡ false) }
+    ensures finds { FindsAny (state S.Store conn.old) (state S.Store conn.new) result }
+{
+    let version = find_tables(conn, alloc)?;
+    if version != LATEST {
+        return migrate_tables(conn, alloc, version);
+    }
+    latest_books(alloc, conn)
+}
+
+impl<S: Alter> SqlKeeper<S> {
+    /// Brings the database of an older version to the latest, and answers its keeper and the shelf
+    /// of its books apart, as `open` does. The tables that it hasn't are made, each reservation
+    /// gets the number of its book, and the version is set, all in one transaction: a stop leaves
+    /// the database as it was, or the whole migration. One of the latest version is left as it is.
+    ///
+    /// # Errors
+    /// The connection is given back, and nothing is committed but where the commit itself failed.
+    /// `Foreign`, the tables aren't exactly those of a version of this system, and only then;
+    /// `Version`, another version is kept than that of the tables, and only then; `Rules`, a rowid
+    /// stands twice, or a row that is read is out of its rules, and only then; `Store`, also where
+    /// a transaction is open; `Memory`.
+    pub fn migrate(
+        alloc: Global,
+        mut connection: Connection<S>,
+    ) -> Result<(SqlKeeper<S>, TariffShelf), (OpenFault, Connection<S>)>
+        ensures migrated { IfOk result (λ made. IsMigrated S.Store connection made.0 made.1) }
+        ensures refused { IfErr result (λ left. IsNotMigrated S.Store connection left.1 left.0) }
+    {
+        match books_of_any(alloc, &mut connection) {
+            Ok(read) => Ok(keeper_of(alloc, connection, read)),
+            Err(fault) => Err((fault, connection)),
+        }
+    }
+}

@@ -1,0 +1,18 @@
+use Rattle.std.proofs.Common.{[], ◌∷◌, map, ap, ◌∙◌}
+use Rattle.sqlite.specs.Values.{bound_value}
+use Rattle.sqlite_value.specs.declared.value.Value.TheVariants.{Text}
+use Rattle.sql_tables.proofs.Telling.{reads_as}
+use Rattle.sql_rows.proofs.ReadAllowances.{read_allowances_text, read_allowances_plain, allowances_read}
+use Rattle.sql_rows.proofs.allowance_rows.read_allowances.Goals as goal
+
+pub read-requires-clause-plain : goal.read-requires-clause-plain
+read-requires-clause-plain g c = read_allowances_plain
+
+pub returns : goal.returns
+returns g c = record {
+  reads = reads_as _ read_allowances_text _ _ _ _ _ _ c.numbers_from.result
+      c.read.ensures.reads c.read.ensures.stops c.in_ok-rows.ensures.answers
+      (λ i. map bound_value ((c.text.ensures ∙ ap Text c.as_str.ensures.value) i ∷ []))
+      c.deref.ensures.value c.numbers_from.ensures
+      (λ xs. allowances_read c.args.account.now _ _ _ xs.items);
+}

@@ -1,0 +1,21 @@
+use Rattle.std.proofs.Common.{[], ◌∷◌, map, ap, ◌∙◌}
+use Rattle.sqlite.specs.Values.{bound_value}
+use Rattle.sqlite_value.specs.declared.value.Value.TheVariants.{Text}
+use Rattle.sql_rows.specs.Texts.{grant_book_at}
+use Rattle.sql_tables.proofs.Telling.{reads_as}
+use Rattle.sql_rows.proofs.ReadGrantBooks.{read_grant_books_text, read_grant_books_plain, grant_books_read}
+use Rattle.sql_rows.proofs.grant_book_rows.read_grant_books.Goals as goal
+
+pub read-requires-clause-plain : goal.read-requires-clause-plain
+read-requires-clause-plain g c = read_grant_books_plain
+
+pub returns : goal.returns
+returns g c = record {
+  reads = reads_as _ read_grant_books_text _ _ _ _ _ _ c.grant_books_from.result
+      c.read.ensures.reads c.read.ensures.stops c.in_ok-rows.ensures.answers
+      (λ i. map bound_value ((c.text.ensures ∙ ap Text c.as_str.ensures.value) i ∷
+      (c.text-2.ensures ∙ ap Text c.as_str-2.ensures.value) i ∷ []))
+      c.deref.ensures.value c.grant_books_from.ensures
+      (λ xs. grant_books_read c.args.account.now c.args.session.now _ _ _
+      (map grant_book_at xs.items));
+}

@@ -1,0 +1,126 @@
+ghost use Rattle.std.specs.Prelude.{◌≡◌, map, IfOk};
+ghost use Rattle.sql_rows.specs.Content.{rows_in, with_covered, with_rows, without_covered};
+ghost use Rattle.sql_rows.specs.Lists.{AreCovered};
+ghost use Rattle.sql_rows.specs.Texts.{covered_row};
+ghost use Rattle.sql_rows.specs.Values.{covered_cells};
+ghost use Rattle.sql_rows.specs.Makes.{Makes};
+ghost use Rattle.sql_tables.specs.Statements.{Attempts, HasBook, HasIdleBook, Reads};
+ghost use Rattle.sqlite.specs.Held.{state};
+
+use identifiers::AccountNumber;
+use sql_tables::{ReadFault, checked, has_columns, number_at, read, small_at, text, whole, write};
+use sqlite::{Alter, Connection, Error, Row, Transaction};
+use std::alloc::Global;
+use units::Blocks;
+
+/// The blocks of a charge that allowances paid.
+#[derive(Clone, Copy, Debug, PartialEq, Eq)]
+pub struct CoveredColumns {
+    /// The charge's number within the account.
+    pub number: u32,
+    /// Its blocks that were covered.
+    pub blocks: u64,
+}
+
+/// Puts the blocks of an account's charge that allowances paid.
+///
+/// # Errors
+/// `IntegralValueOutOfRange` where there are 2^63 blocks or more, else an error of the store. Then
+/// nothing is committed.
+pub fn put_covered<S: Alter>(
+    tx: &mut Transaction<'_, S>,
+    account: &AccountNumber,
+    charge: u32,
+    covered: Blocks,
+) -> Result<usize, Error>
+    requires book { HasBook (state S.Store tx.old.conn.now) }
+    ensures same_reference { tx.new.conn.ghost_name ≡ tx.old.conn.ghost_name }
+    ensures makes { Attempts (Makes (with_rows account.now
+        (with_covered (record { number = charge; blocks = covered.0 }))))
+        (state S.Store tx.old.conn.now) (state S.Store tx.new.conn.now) result }
+{
+    let of_account = text(account.as_str());
+    let number = whole(charge);
+    let blocks = checked(covered.0 as u128, 3)?;
+    write(
+        tx,
+        "INSERT INTO covered VALUES (?1, ?2, ?3) \
+         ON CONFLICT (account, number) DO UPDATE SET \
+         account = excluded.account, number = excluded.number, blocks = excluded.blocks",
+        &[of_account, number, blocks],
+    )
+}
+
+/// Removes the covered blocks of an account's charge: there are none.
+///
+/// # Errors
+/// An error of the store. Then nothing is committed.
+pub fn remove_covered<S: Alter>(
+    tx: &mut Transaction<'_, S>,
+    account: &AccountNumber,
+    charge: u32,
+) -> Result<usize, Error>
+    requires book { HasBook (state S.Store tx.old.conn.now) }
+    ensures same_reference { tx.new.conn.ghost_name ≡ tx.old.conn.ghost_name }
+    ensures makes { Attempts (Makes (with_rows account.now (without_covered charge)))
+        (state S.Store tx.old.conn.now) (state S.Store tx.new.conn.now) result }
+{
+    let of_account = text(account.as_str());
+    let number = whole(charge);
+    write(
+        tx,
+        "DELETE FROM covered WHERE account = ?1 AND number = ?2",
+        &[of_account, number],
+    )
+}
+
+/// The covered blocks of an account's charges beyond a number and up to another.
+///
+/// # Errors
+/// `Store` where the store failed, `Rules` where a row is out of its rules, `Memory` where a growth
+/// was refused. Nothing is changed then either.
+pub fn read_covered_within<S: Alter>(
+    conn: &mut Connection<S>,
+    alloc: Global,
+    account: &AccountNumber,
+    after: u32,
+    last: u32,
+) -> Result<Vec<CoveredColumns>, ReadFault>
+    requires idle { HasIdleBook (state S.Store conn.old) }
+    ensures reads { Reads (λ trees xs.
+        AreCovered after last (rows_in trees account.now) (map covered_row xs.items))
+        (state S.Store conn.old) (state S.Store conn.new) result }
+{
+    let of_account = text(account.as_str());
+    let beyond = whole(after);
+    let up_to = whole(last);
+    let rows = read(
+        conn,
+        "SELECT number, blocks \
+         FROM covered WHERE account = ?1 AND number > ?2 AND number <= ?3 ORDER BY number",
+        &[of_account, beyond, up_to],
+    )?;
+    covered_rows_from(alloc, &rows)
+}
+
+fn covered_rows_from(alloc: Global, rows: &[Row]) -> Result<Vec<CoveredColumns>, ReadFault>
+    ensures { IfOk result (λ xs. map covered_cells (map covered_row xs.items) ≡ rows.now) }
+{
+    let mut covered = Vec::new(alloc);
+    'rows: for row in rows {
+        let one = covered_from(row)?;
+        let Ok(()) = covered.push(one) else {
+            return Err(ReadFault::Memory);
+        };
+    }
+    Ok(covered)
+}
+
+fn covered_from(row: &Row) -> Result<CoveredColumns, ReadFault>
+    ensures { IfOk result (λ x. row.now ≡ covered_cells (covered_row x)) }
+{
+    has_columns(row, 2)?;
+    let number = small_at(row, 0)?;
+    let blocks = number_at(row, 1)?;
+    Ok(CoveredColumns { number, blocks })
+}

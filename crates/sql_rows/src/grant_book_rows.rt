@@ -1,0 +1,124 @@
+ghost use Rattle.std.specs.Prelude.{◌≡◌, map, IfOk};
+ghost use Rattle.sql_rows.specs.Content.{rows_in, with_grant_book, with_rows, without_grant_book};
+ghost use Rattle.sql_rows.specs.Lists.{AreGrantBooks, grant_book_cells};
+ghost use Rattle.sql_rows.specs.Texts.{grant_book_at};
+ghost use Rattle.sql_rows.specs.Makes.{Makes};
+ghost use Rattle.sql_tables.specs.Statements.{Attempts, HasBook, HasIdleBook, Reads};
+ghost use Rattle.sqlite.specs.Held.{state};
+
+use identifiers::{AccountNumber, SessionId};
+use sql_tables::{ReadFault, has_columns, read, small_at, text, whole, write};
+use sqlite::{Alter, Connection, Error, Row, Transaction};
+use std::alloc::Global;
+
+/// The book that a reservation goes by.
+#[derive(Clone, Copy, Debug, PartialEq, Eq)]
+pub struct GrantBook {
+    /// Rating-Group (RFC 8506 section 8.29).
+    pub group: u32,
+    /// The book's number on the shelf.
+    pub book: u32,
+}
+
+/// Puts the number of the book that a session's reservation in a rating group goes by.
+///
+/// # Errors
+/// An error of the store. Then nothing is committed.
+pub fn put_grant_book<S: Alter>(
+    tx: &mut Transaction<'_, S>,
+    account: &AccountNumber,
+    session: &SessionId,
+    group: u32,
+    book: u32,
+) -> Result<usize, Error>
+    requires book { HasBook (state S.Store tx.old.conn.now) }
+    ensures same_reference { tx.new.conn.ghost_name ≡ tx.old.conn.ghost_name }
+    ensures makes { Attempts
+        (Makes (with_rows account.now (with_grant_book session.now group book)))
+        (state S.Store tx.old.conn.now) (state S.Store tx.new.conn.now) result }
+{
+    let of_account = text(account.as_str());
+    let of_session = text(session.as_str());
+    let of_group = whole(group);
+    let number = whole(book);
+    write(
+        tx,
+        "INSERT INTO grant_books VALUES (?1, ?2, ?3, ?4) \
+         ON CONFLICT (account, session, rating_group) DO UPDATE SET \
+         account = excluded.account, session = excluded.session, \
+         rating_group = excluded.rating_group, book = excluded.book",
+        &[of_account, of_session, of_group, number],
+    )
+}
+
+/// Removes the book of a session's reservation in a rating group.
+///
+/// # Errors
+/// An error of the store. Then nothing is committed.
+pub fn remove_grant_book<S: Alter>(
+    tx: &mut Transaction<'_, S>,
+    account: &AccountNumber,
+    session: &SessionId,
+    group: u32,
+) -> Result<usize, Error>
+    requires book { HasBook (state S.Store tx.old.conn.now) }
+    ensures same_reference { tx.new.conn.ghost_name ≡ tx.old.conn.ghost_name }
+    ensures makes { Attempts
+        (Makes (with_rows account.now (without_grant_book session.now group)))
+        (state S.Store tx.old.conn.now) (state S.Store tx.new.conn.now) result }
+{
+    let of_account = text(account.as_str());
+    let of_session = text(session.as_str());
+    let of_group = whole(group);
+    write(
+        tx,
+        "DELETE FROM grant_books WHERE account = ?1 AND session = ?2 AND rating_group = ?3",
+        &[of_account, of_session, of_group],
+    )
+}
+
+/// The books of a session's reservations, by rating group.
+///
+/// # Errors
+/// `Store` where the store failed, `Rules` where a row is out of its rules, `Memory` where a growth
+/// was refused. Nothing is changed then either.
+pub fn read_grant_books<S: Alter>(
+    conn: &mut Connection<S>,
+    alloc: Global,
+    account: &AccountNumber,
+    session: &SessionId,
+) -> Result<Vec<GrantBook>, ReadFault>
+    requires idle { HasIdleBook (state S.Store conn.old) }
+    ensures reads { Reads (λ trees xs.
+        AreGrantBooks (rows_in trees account.now) session.now (map grant_book_at xs.items))
+        (state S.Store conn.old) (state S.Store conn.new) result }
+{
+    let rows = read(
+        conn,
+        "SELECT rating_group, book FROM grant_books WHERE account = ?1 AND session = ?2",
+        &[text(account.as_str()), text(session.as_str())],
+    )?;
+    grant_books_from(alloc, &rows)
+}
+
+fn grant_books_from(alloc: Global, rows: &[Row]) -> Result<Vec<GrantBook>, ReadFault>
+    ensures { IfOk result (λ xs. map grant_book_cells (map grant_book_at xs.items) ≡ rows.now) }
+{
+    let mut books = Vec::new(alloc);
+    'rows: for row in rows {
+        let book = grant_book_from(row)?;
+        let Ok(()) = books.push(book) else {
+            return Err(ReadFault::Memory);
+        };
+    }
+    Ok(books)
+}
+
+fn grant_book_from(row: &Row) -> Result<GrantBook, ReadFault>
+    ensures { IfOk result (λ x. row.now ≡ grant_book_cells (grant_book_at x)) }
+{
+    has_columns(row, 2)?;
+    let group = small_at(row, 0)?;
+    let book = small_at(row, 1)?;
+    Ok(GrantBook { group, book })
+}
