@@ -5,6 +5,7 @@ mod command_stops;
 mod creation_stops;
 mod files;
 mod loads;
+mod migration_stops;
 mod migrations;
 mod new_keepers;
 mod row_readers;

@@ -101,6 +101,17 @@ older_differs (suc (suc zero)) known less is =
 older_differs (suc (suc (suc n))) known less is =
     let low : suc (suc (suc n)) < 3 = less in omega (arith, low)
 
+-- tables of the latest version are those of no other
+is_latest : (v : ℕ) → IsVersion v → schema_at v ≡ book_schema → v ≡ latest
+is_latest zero known is = absurd (omega (arith, known.0))
+is_latest (suc zero) known is = absurd
+    (let no : 10 ≡ 14 = ap (λ (s : Schema). length s.tables) is in omega (arith, no))
+is_latest (suc (suc zero)) known is = absurd
+    (let no : 12 ≡ 14 = ap (λ (s : Schema). length s.tables) is in omega (arith, no))
+is_latest (suc (suc (suc zero))) known is = refl
+is_latest (suc (suc (suc (suc n)))) known is =
+    let high : suc (suc (suc (suc n))) ≤ 3 = known.1 in absurd (omega (arith, high))
+
 -- what is left is in the rules of who opens it
 ruled : (text : List ℕ) (trees : Trees) → IsLeft text trees → IsRuled trees
 ruled text trees left = record {
@@ -121,10 +132,12 @@ pub found_again : {S : Type 0} (g : Ghosts S) (old new : Held S) (text : List �
 found_again g old new text fault left sound clean refused = (
   λ is. refused.foreign clean is (lists_once _ _ _ sound.lists left.lists),
   λ is.
-      let other = refused.version clean is in
-      let same : Some other.row ≡ Some left.kept.row = sym other.is ∙ left.kept.is in
-      let row : other.row ≡ left.kept.row = cc same in
-      other.other (ap (λ (m : Meta). m.version) row ∙ left.kept.version),
+      let it = refused.version clean is in
+      let same : Some it.other.row ≡ Some left.kept.row = sym it.other.is ∙ left.kept.is in
+      let row : it.other.row ≡ left.kept.row = cc same in
+      let schema = sym it.schema ∙ lists_once _ _ _ sound.lists left.lists in
+      it.other.other (ap (λ (m : Meta). m.version) row ∙ left.kept.version
+      ∙ sym (is_latest it.version it.known schema)),
   λ is. refused.rules clean is (ruled text (state g old).now.trees left),
   λ is.
       let it = refused.older clean is in

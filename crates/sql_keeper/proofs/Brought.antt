@@ -2,7 +2,7 @@
 use Rattle.std.proofs.Common.{◌≡◌, ◌<◌, ◌≤◌, ◌⊎◌, inl, inr, ◌∙◌, ap, refl, sym, subst, ℕ, List, Some}
 use Rattle.std.proofs.Common.{arith, IsTrue, length}
 use Rattle.std.proofs.lemmas.Option.{same_Some}
-use Rattle.std.specs.Prelude.{Ok, Err, Result, IfErr, IfOk, OnErr, Vec, map, option_map}
+use Rattle.std.specs.Prelude.{Ok, Err, Result, IfErr, IfOk, OnErr, OnOk, Vec, map, option_map}
 use Rattle.std.specs.Global.{Global}
 use Rattle.std.specs.Str.{IsUtf8}
 use Rattle.std.specs.String.{string_bytes}
@@ -33,9 +33,10 @@ use Rattle.sql_opening.specs.declared.fault.OpenFault.{OpenFault}
 use Rattle.sql_opening.specs.declared.fault.OpenFault.TheVariants.{Foreign, Version, Rules, Older}
 use Rattle.sql_opening.specs.declared.fault.OpenFault.TheVariants.{Store, Memory}
 use Rattle.sql_keeper.specs.Books.{IsBookOf}
-use Rattle.sql_keeper.specs.Migrates.{AreUnruledReserved, BringsToLatest, HasAt, IsOtherThan}
-use Rattle.sql_keeper.specs.Migrates.{IsRuledAt, IsUnruledMeta, content_at}
-use Rattle.sql_keeper.specs.Opened.{IsLeft}
+use Rattle.sql_keeper.specs.Migrates.{AreUnruledReserved, BringsToLatest, HasAt, IsRuledAt}
+use Rattle.sql_keeper.specs.Migrates.{IsUnruledMeta, content_at}
+use Rattle.sql_keeper.specs.OlderVersions.{AsksVersion}
+use Rattle.sql_keeper.specs.Opened.{IsLeft, IsOtherThan}
 use Rattle.sql_keeper.specs.Shelves.{HasShelf, IsNoShelf, IsShelfOf, IsShelfRead, row_numbered}
 use Rattle.sql_keeper.specs.declared.books.ReadBooks.{ReadBooks}
 use Rattle.sql_keeper.proofs.Migrated.{becomes_latest, kept_content, left_latest, meta_at}
@@ -399,3 +400,61 @@ module _ (v : ℕ) (known : IsVersion v) (less : v < latest) (old mid : State) (
       it.1 (subst AreRuledReserved
       (sym (made_content v old mid read.meta.has known less before)) (ruled.reserved it.0)))
       (ours, of_rows.1) does f failed
+
+-- ---- the version alone is asked
+
+asks_err : {A : Type 0} (v : ℕ) (old new : State) (e : OpenFault)
+    → BringsToLatest v old new (Err e)
+    → (HasCleanDisk new → e ≡ Rules → IsUnruledMeta old.now.trees)
+    → AsksVersion {A = A} v old new (Err e)
+asks_err v old new e b rules = record {
+  keeps = λ clean. tt;
+  version = b.version;
+  rules = rules;
+  other = b.other;
+  survives = b.brings.survives;
+}
+
+-- the error that is handed on
+pub asked_err : {A : Type 0} (v : ℕ) (old new : State) (r : Result A OpenFault) (f e : OpenFault)
+    → r ≡ Err f → f ≡ e → AsksVersion {A = A} v old new (Err e) → AsksVersion v old new r
+asked_err {A} v old new r f e is same b =
+    subst (λ x. AsksVersion {A = A} v old new x) (sym (is ∙ ap Err same)) b
+
+-- the store failed as the tables were made
+pub asks_not_made : {A B F : Type 0} (v : ℕ) (old new : State) (e : OpenFault) (f : F)
+    → (e ≡ Store) ⊎ (e ≡ Memory) → Attempts {A = A} {E = F} (Migrates v) old new (Err f)
+    → AsksVersion {A = B} v old new (Err e)
+asks_not_made v old new e f store failed =
+    asks_err v old new e (not_made v old new e f store failed)
+    (λ clean k. absurd (elim store [
+      | inl is ↦ (let no : Store ≡ Rules = sym is ∙ k in cc)
+      | inr is ↦ (let no : Memory ≡ Rules = sym is ∙ k in cc)
+    ]))
+
+module _ (v : ℕ) (known : IsVersion v) (less : v < latest) (old mid : State) where
+  -- what is kept once wasn't read
+  pub asks_no_meta : {A : Type 0} → HasMade v old mid → (new : State) (e : OpenFault)
+      → ReadsWithin {A = MetaRow} {E = OpenFault}
+      (λ trees m. (content_of trees).meta ≡ Some (meta_of m)) mid new (Err e) → IsNoVersion e
+      → ¬ (e ≡ Foreign) → (HasCleanDisk new → e ≡ Rules → IsUnruledMeta mid.now.trees)
+      → AsksVersion {A = A} v old new (Err e)
+  asks_no_meta has new e reads told ours rules =
+      asks_err v old new e (no_meta v known less old mid has new e reads told ours rules)
+      (λ clean is row at. rules clean is row (meta_before v known less old mid has
+      (omega (arith, reads.still.survives.clean, clean)) row at))
+
+  -- it was
+  pub asks_meta : {A : Type 0} (m : MetaRow) → HasMeta v old mid m → (r : Result A OpenFault)
+      → OnOk r (m.version ≡ v) → IfErr r (λ e. (e ≡ Version) × (¬ (m.version ≡ v)))
+      → AsksVersion {A = A} v old mid r
+  asks_meta m read (Ok u) version told = record {
+    keeps = λ clean. record { row = meta_of m; is = read.is clean; version = version };
+    version = λ clean. tt;
+    rules = λ clean. tt;
+    other = tt;
+    survives = read.has.survives;
+  }
+  asks_meta m read (Err e) version told =
+      asks_err v old mid e (other_version v known less old mid m read e told)
+      (λ clean is. absurd (let no : Version ≡ Rules = sym told.0 ∙ is in cc))

@@ -26,9 +26,10 @@ use Rattle.sql_keeper.specs.Content.{shelf_names}
 use Rattle.sql_keeper.specs.Finds.{FindsBooks, ReadsBooks}
 use Rattle.sql_keeper.specs.Inside.{IsClean, KeeperState, StaysOpen}
 use Rattle.sql_keeper.specs.Migrates.{BecomesLatest, BringsToLatest, FindsAny, FindsNone, HasAt}
-use Rattle.sql_keeper.specs.Migrates.{HasIdleAt, IsLeftLatest, IsMigrated, IsOtherThan, IsRuledAt}
+use Rattle.sql_keeper.specs.Migrates.{HasIdleAt, IsLeftLatest, IsMigrated, IsRuledAt, IsUnruledMeta}
 use Rattle.sql_keeper.specs.Migrates.{MigratesTables, content_at}
-use Rattle.sql_keeper.specs.Opened.{IsFresh, IsLeft, IsOpened, IsRuled}
+use Rattle.sql_keeper.specs.Opened.{IsFresh, IsLeft, IsOpened, IsOtherThan, IsRuled}
+use Rattle.sql_keeper.specs.OlderVersions.{AsksVersion, IsNotLatest, KeepsVersion}
 use Rattle.sql_keeper.specs.Shelves.{IsShelfOf}
 use Rattle.sql_keeper.specs.declared.books.ReadBooks.{ReadBooks}
 use Rattle.sql_keeper.proofs.Opens.{finds_books, fresh, opened}
@@ -113,6 +114,33 @@ module _ {S : Type 0} (g : Ghosts S) (old begun : Held S)
       survives = survives_weaker (state g old) new (λ _. ⊥)
           (IsLeftLatest v (state g old).now.trees) (λ clean db no. absurd no)
           (survives_to b.brings.survives ends);
+    }
+
+    -- the version of the tables is kept
+    pub asked_older : {A : Type 0} (u : A)
+        → AsksVersion {A = A} v (state g begun) mid (Ok u) → Survives mid new (λ _. ⊥)
+        → IsNotLatest v (state g old) new Older
+    asked_older u asks ends = record {
+      older = λ clean is. subst (λ (d : Database). KeepsVersion v d.trees) same_now
+          (asks.keeps (mid_clean ends clean));
+      version = λ clean is. absurd (let no : Older ≡ Version = is in cc);
+      rules = λ clean is. absurd (let no : Older ≡ Rules = is in cc);
+      ours = λ is. let no : Older ≡ Foreign = is in cc;
+      survives = survives_to asks.survives ends;
+    }
+
+    -- a fault says why not
+    pub asked_fault : {A : Type 0} (e : OpenFault)
+        → AsksVersion {A = A} v (state g begun) mid (Err e) → Survives mid new (λ _. ⊥)
+        → IsNotLatest v (state g old) new e
+    asked_fault e asks ends = record {
+      older = λ clean is. absurd (asks.other.1 is);
+      version = λ clean is. subst (λ (d : Database). IsOtherThan v d.trees) same_now
+          (asks.version (mid_clean ends clean) is);
+      rules = λ clean is. subst (λ (d : Database). IsUnruledMeta d.trees) same_now
+          (asks.rules (mid_clean ends clean) is);
+      ours = asks.other.0;
+      survives = survives_to asks.survives ends;
     }
 
     module _ (r : ReadBooks) (b : BringsToLatest v (state g begun) mid (Ok r))
@@ -328,7 +356,7 @@ any_latest v old mid new same found one known (Ok b) reads = (
   v,
   known,
   (λ clean. schema_was v old mid new found one known (reads.only.cleanness clean)),
-  (λ is. finds_books v old mid new found one reads.only reads.survives (Ok b) reads),
+  (λ is. finds_books v old mid new found one reads.only reads.survives same (Ok b) reads),
   (λ low. absurd (let less : v < 3 = low in let top : v ≡ 3 = same in omega (arith, less, top))),
 )
 any_latest v old mid new same found one known (Err e) reads =

@@ -42,7 +42,8 @@ use Rattle.sql_keeper.specs.Faults.{IsCreateFault}
 use Rattle.sql_keeper.specs.Finds.{FindsBooks, IsUnruledAt, ReadsBooks}
 use Rattle.sql_keeper.specs.Inside.{KeeperState, IsClean}
 use Rattle.sql_keeper.specs.Opened.{IsCreated, IsFresh, IsKept, IsLeft, IsNotCreated, IsOpened}
-use Rattle.sql_keeper.specs.Opened.{IsOtherVersion, IsRuled}
+use Rattle.sql_keeper.specs.Opened.{IsOlder, IsOtherThan, IsOtherVersion, IsRuled}
+use Rattle.sql_keeper.specs.OlderVersions.{IsNotLatest}
 use Rattle.sql_keeper.specs.Shelves.{HasShelf, IsAlone, IsNoShelf, IsShelfOf, IsShelfRead}
 use Rattle.sql_keeper.specs.declared.books.ReadBooks.{ReadBooks}
 use Rattle.sql_keeper.specs.declared.create_fault.CreateFault.{CreateFault}
@@ -227,14 +228,15 @@ module _ (v : ℕ) (old mid new : State) (found : HasCleanDisk mid → IsFound v
       }
 
   -- what the keeper goes by
-  pub finds_books : (r : Result ReadBooks OpenFault) → ReadsBooks mid new r → FindsBooks old new r
-  finds_books (Ok b) reads = record {
+  pub finds_books : v ≡ latest → (r : Result ReadBooks OpenFault) → ReadsBooks mid new r
+      → FindsBooks old new r
+  finds_books same (Ok b) reads = record {
     found = λ clean.
         let it = reads.found clean in
-        let same = sym (only.still clean it.2).now_is in (
-          subst (λ (d : Database). IsKept d.trees (string_bytes b.text)) same it.0,
+        let now = sym (only.still clean it.2).now_is in (
+          subst (λ (d : Database). IsKept d.trees (string_bytes b.text)) now it.0,
           subst (λ (d : Database).
-              IsShelfOf (string_bytes b.text) (content_of d.trees).books b.own) same it.1,
+              IsShelfOf (string_bytes b.text) (content_of d.trees).books b.own) now it.1,
           still_read clean it.2,
           it.2,
         );
@@ -247,14 +249,20 @@ module _ (v : ℕ) (old mid new : State) (found : HasCleanDisk mid → IsFound v
     older = λ clean. tt;
     survives = reads_survived;
   }
-  finds_books (Err e) reads = record {
+  finds_books same (Err e) reads = record {
     found = λ clean. tt;
     given = tt;
     read = tt;
     idle = tt;
     foreign = λ clean is. absurd (reads.ours.0 is);
-    version = λ clean is. subst (λ (d : Database). IsOtherVersion d.trees)
-        (found (only.cleanness clean)).unchanged.0.now_is (reads.version clean is);
+    version = λ clean is.
+        let was = found (only.cleanness clean) in
+        subst IsOtherVersion was.unchanged.0.now_is (record {
+          version = v;
+          known = was.version;
+          schema = was.schema;
+          other = subst (λ n. IsOtherThan n mid.now.trees) (sym same) (reads.version clean is);
+        });
     rules = λ clean is ruled. reads.rules clean is (subst (λ (d : Database). IsRuled d.trees)
         (sym (found (only.cleanness clean)).unchanged.0.now_is) ruled);
     older = λ clean is. absurd (reads.ours.1 is);
@@ -355,35 +363,52 @@ finds_none old new e told means survives = record {
   rules = λ clean is ruled.
       let it = subst (IsTold old.now) is (means clean) in
       it.3 (stored_to it.0 old.now.trees it.1 ruled.stored);
-  older = λ clean is.
-      let it = subst (IsTold old.now) is (means clean) in
-      record { version = it.0; known = it.1; older = it.2; schema = it.3 };
+  older = λ clean is. absurd (told.1 is);
   survives = survives;
 }
 
 -- an older version was found
-pub finds_older : (v : ℕ) (old new : State) → ¬ (v ≡ latest)
-    → (HasCleanDisk new → IsFound v old new) → Survives old new (λ _. ⊥)
-    → FindsBooks old new (Err Older)
-finds_older v old new other found survives = record {
+pub finds_older : (v : ℕ) (old mid new : State) (e : OpenFault) → ¬ (v ≡ latest)
+    → (HasCleanDisk mid → IsFound v old mid) → Survives old mid (λ _. ⊥)
+    → IsNotLatest v mid new e → FindsBooks old new (Err e)
+finds_older v old mid new e other found one asked = record {
   found = λ clean. tt;
   given = tt;
   read = tt;
   idle = tt;
-  foreign = λ clean is. absurd (cc);
-  version = λ clean is. absurd (cc);
-  rules = λ clean is. absurd (cc);
-  older = λ clean is.
-      let it = found clean in
-      record {
+  foreign = λ clean is. absurd (asked.ours is);
+  version = λ clean is.
+      let was = found (before clean) in
+      subst IsOtherVersion was.unchanged.0.now_is (record {
         version = v;
-        known = it.version;
-        older = below (nat_lt v 3) refl it.version.1;
-        schema = subst (λ (d : Database). d.schema ≡ schema_at v) it.unchanged.0.now_is it.schema;
-      };
-  survives = survives;
+        known = was.version;
+        schema = was.schema;
+        other = asked.version clean is;
+      });
+  rules = λ clean is ruled.
+      let now = (found (before clean)).unchanged.0.now_is in
+      let there = subst (λ (d : Database). (content_of d.trees).meta ≡ Some ruled.row) (sym now)
+      ruled.is in
+      asked.rules clean is ruled.row there ruled.ruled;
+  older = λ clean is.
+      let was = found (before clean) in
+      let kept = asked.older clean is in
+      subst IsOlder was.unchanged.0.now_is (record {
+        version = v;
+        known = was.version;
+        older = below (nat_lt v 3) refl was.version.1;
+        schema = was.schema;
+        row = kept.row;
+        is = kept.is;
+        kept = kept.version;
+      });
+  survives = survives_then old mid new (λ _. ⊥) (λ _. ⊥) (λ _. ⊥) (λ clean db no. no)
+      (λ clean db no. no) one asked.survives;
 }
   where
+    before : HasCleanDisk new → HasCleanDisk mid
+    before clean = omega (arith, asked.survives.clean, clean)
+
     below : (t : Bool) → nat_lt v 3 ≡ t → v ≤ 3 → v < 3
     below true e high = ltb-true v 3 e
     below false e high =

@@ -3,13 +3,13 @@
 use Rattle.std.specs.Prelude.{◌≡◌, Some, IfErr, IfOk, OnOk, IsTrue, Result, false}
 use Rattle.std.specs.String.{string_bytes}
 use Rattle.sqlite.specs.State.{State, HasCleanDisk, Survives}
-use Rattle.sql_tables.specs.Schema.{book_schema}
+use Rattle.sql_tables.specs.Schema.{book_schema, latest}
 use Rattle.sql_tables.specs.Statements.{HasIdleBook, IsStill, OnlyReads}
 use Rattle.sql_rows.specs.Content.{content_of}
 use Rattle.sql_opening.specs.declared.fault.OpenFault.{OpenFault}
 use Rattle.sql_opening.specs.declared.fault.OpenFault.TheVariants.{Foreign, Version, Rules, Older}
 use Rattle.sql_keeper.specs.Books.{IsBookOf}
-use Rattle.sql_keeper.specs.Opened.{IsKept, IsOlder, IsOtherVersion, IsRuled}
+use Rattle.sql_keeper.specs.Opened.{IsKept, IsOlder, IsOtherThan, IsOtherVersion, IsRuled}
 use Rattle.sql_keeper.specs.Shelves.{IsShelfOf}
 use Rattle.sql_keeper.specs.declared.books.ReadBooks.{ReadBooks}
 
@@ -20,6 +20,10 @@ IsForeignAt s fault = fault ≡ Foreign → ¬ (s.now.schema ≡ book_schema)
 -- the fault is told of rows out of their rules alone
 abbrev pub IsUnruledAt : State → OpenFault → Type 0
 IsUnruledAt s fault = fault ≡ Rules → ¬ IsRuled s.now.trees
+
+-- the fault is told of a version alone that isn't that of the tables
+abbrev pub IsOtherAt : State → OpenFault → Type 0
+IsOtherAt s fault = fault ≡ Version → IsOtherVersion s.now
 
 -- the fault is told of tables of an older version alone
 abbrev pub IsOlderAt : State → OpenFault → Type 0
@@ -35,7 +39,7 @@ pub record ReadsBooks (old new : State) (result : Result ReadBooks OpenFault) : 
   pub read : IfOk result (λ r. IsBookOf (string_bytes r.text) r.own.first)
   pub only : OnlyReads old new
   pub version : HasCleanDisk new →
-      IfErr result (λ fault. fault ≡ Version → IsOtherVersion old.now.trees)
+      IfErr result (λ fault. fault ≡ Version → IsOtherThan latest old.now.trees)
   pub rules : HasCleanDisk new → IfErr result (IsUnruledAt old)
   pub ours : IfErr result (λ fault. (¬ (fault ≡ Foreign)) × (¬ (fault ≡ Older)))
   pub survives : Survives old new (λ _. old.is_open ≡ false)
@@ -49,8 +53,7 @@ pub record FindsBooks (old new : State) (result : Result ReadBooks OpenFault) : 
   pub read : IfOk result (λ r. IsBookOf (string_bytes r.text) r.own.first)
   pub idle : OnOk result (HasIdleBook new)
   pub foreign : HasCleanDisk new → IfErr result (IsForeignAt old)
-  pub version : HasCleanDisk new →
-      IfErr result (λ fault. fault ≡ Version → IsOtherVersion old.now.trees)
+  pub version : HasCleanDisk new → IfErr result (IsOtherAt old)
   pub rules : HasCleanDisk new → IfErr result (IsUnruledAt old)
   pub older : HasCleanDisk new → IfErr result (IsOlderAt old)
   pub survives : Survives old new (λ _. ⊥)

@@ -17,6 +17,7 @@ pub mod Laws
 pub mod LiveGroups
 pub mod LiveRows
 pub mod Migrates
+pub mod OlderVersions
 pub mod Opened
 pub mod Repeating
 pub mod Shelves

@@ -28,7 +28,7 @@ use Rattle.sql_keeper.specs.Books.{IsBookOf}
 use Rattle.sql_keeper.specs.Content.{Names, is_reserved, tables_of}
 use Rattle.sql_keeper.specs.Finds.{FindsBooks}
 use Rattle.sql_keeper.specs.Inside.{KeeperState, IsClean}
-use Rattle.sql_keeper.specs.Opened.{IsFresh, IsLeft}
+use Rattle.sql_keeper.specs.Opened.{IsFresh, IsLeft, IsOtherThan}
 use Rattle.sql_keeper.specs.Shelves.{HasShelf, IsShelfOf}
 use Rattle.sql_keeper.specs.Stops.{trees_in}
 use Rattle.sql_keeper.specs.declared.books.ReadBooks.{ReadBooks}
@@ -80,12 +80,6 @@ pub record IsLeftLatest (v : ℕ) (old new : Trees) : Type 0 where
   pub becomes : BecomesLatest v old new
   pub text : List ℕ
   pub left : IsLeft text new
-
--- what is kept once is of another version than the tables are
-pub record IsOtherThan (v : ℕ) (trees : Trees) : Type 0 where
-  pub row : Meta
-  pub is : (content_of trees).meta ≡ Some row
-  pub other : ¬ (row.version ≡ v)
 
 -- a database of a version in the rules of who migrates it: no rowid stands twice, what is kept once
 -- is there and in its rules, with the texts of a shelf where it tells that version, and each

@@ -83,18 +83,28 @@ pub record IsNotCreated {S : Type 0} (g : Ghosts S) (text : List ℕ) (old new :
 
 -- ---- opened
 
--- the tables are those of a version before the latest
+-- what is kept once is of another version than the tables are
+pub record IsOtherThan (v : ℕ) (trees : Trees) : Type 0 where
+  pub row : Meta
+  pub is : (content_of trees).meta ≡ Some row
+  pub other : ¬ (row.version ≡ v)
+
+-- the tables are those of a version before the latest, and that version is kept
 pub record IsOlder (db : Database) : Type 0 where
   pub version : ℕ
   pub known : IsVersion version
   pub older : version < latest
   pub schema : db.schema ≡ schema_at version
-
--- the tables are of another version
-pub record IsOtherVersion (trees : Trees) : Type 0 where
   pub row : Meta
-  pub is : (content_of trees).meta ≡ Some row
-  pub other : ¬ (row.version ≡ latest)
+  pub is : (content_of db.trees).meta ≡ Some row
+  pub kept : row.version ≡ version
+
+-- the tables are those of a version, and another one is kept
+pub record IsOtherVersion (db : Database) : Type 0 where
+  pub version : ℕ
+  pub known : IsVersion version
+  pub schema : db.schema ≡ schema_at version
+  pub other : IsOtherThan version db.trees
 
 -- in the rules of who opens it: no rowid stands twice, and what is kept once is there and in its
 -- rules, with the text of a book, and with other books that may follow it, where it is of the
@@ -124,7 +134,6 @@ pub record IsNotOpened {S : Type 0} (g : Ghosts S) (old new : Held S)
   pub survives : Survives (state g old) (state g new) (λ _. ⊥)
   pub foreign : HasCleanDisk (state g new) → fault ≡ Foreign →
       ¬ ((state g old).now.schema ≡ book_schema)
-  pub version : HasCleanDisk (state g new) → fault ≡ Version →
-      IsOtherVersion (state g old).now.trees
+  pub version : HasCleanDisk (state g new) → fault ≡ Version → IsOtherVersion (state g old).now
   pub rules : HasCleanDisk (state g new) → fault ≡ Rules → ¬ IsRuled (state g old).now.trees
   pub older : HasCleanDisk (state g new) → fault ≡ Older → IsOlder (state g old).now

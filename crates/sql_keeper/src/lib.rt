@@ -25,6 +25,7 @@ mod live_rows;
 mod loading;
 mod migrating;
 mod new_rows;
+mod older_versions;
 mod opening;
 mod paid_charges;
 mod putting;

@@ -96,7 +96,10 @@ fn put_all_numbers<S: Alter>(
 }
 
 /// Makes the tables that a database of an older version hasn't.
-fn make_later<S: Alter>(tx: &mut Transaction<'_, S>, version: u32) -> Result<(), OpenFault>
+pub(crate) fn make_later<S: Alter>(
+    tx: &mut Transaction<'_, S>,
+    version: u32,
+) -> Result<(), OpenFault>
     requires known { (1 ≤ version) × (version < latest) }
     requires has { HasVersion version (state S.Store tx.old.conn.now) }
     ensures same_reference { tx.new.conn.ghost_name ≡ tx.old.conn.ghost_name }
@@ -112,7 +115,7 @@ fn make_later<S: Alter>(tx: &mut Transaction<'_, S>, version: u32) -> Result<(),
 }
 
 /// What is kept once.
-fn kept_within<S: Alter>(tx: &mut Transaction<'_, S>) -> Result<Meta, OpenFault>
+pub(crate) fn kept_within<S: Alter>(tx: &mut Transaction<'_, S>) -> Result<Meta, OpenFault>
     requires book { HasBook (state S.Store tx.old.conn.now) }
     requires rules { HasRules (state S.Store tx.old.conn.now) }
     ensures same_reference { tx.new.conn.ghost_name ≡ tx.old.conn.ghost_name }
@@ -131,7 +134,7 @@ fn kept_within<S: Alter>(tx: &mut Transaction<'_, S>) -> Result<Meta, OpenFault>
 }
 
 /// The version that is kept is that of the tables, and the moment in the range of moments.
-fn is_of_version(meta: &Meta, version: u32) -> Result<(), OpenFault>
+pub(crate) fn is_of_version(meta: &Meta, version: u32) -> Result<(), OpenFault>
     ensures version { OnOk result (meta.now.version ≡ version) }
     ensures told { IfErr result (λ fault. (fault ≡ Version) × (¬ (meta.now.version ≡ version))) }
     ensures last { meta.now.last ≤ 4_102_488_000 }

@@ -26,6 +26,7 @@ use crate::books::{ReadBooks, read_book, read_shelves};
 use crate::create_fault::CreateFault;
 use crate::creating::create_book;
 use crate::keeper::SqlKeeper;
+use crate::older_versions::older_fault;
 use shelves::TariffShelf;
 use sql_opening::{OpenFault, find_tables};
 use sql_rows::{BookColumns, Meta, read_books, read_meta};
@@ -186,7 +187,7 @@ fn books_in<S: Alter>(alloc: Global, conn: &mut Connection<S>) -> Result<ReadBoo
 {
     let version = find_tables(conn, alloc)?;
     if version != LATEST {
-        return Err(OpenFault::Older);
+        return Err(older_fault(conn, version));
     }
     latest_books(alloc, conn)
 }
@@ -225,11 +226,11 @@ impl<S: Alter> SqlKeeper<S> {
     ///
     /// # Errors
     /// The connection is given back. `Foreign`, the tables aren't exactly those of a version of
-    /// this system, and only then; `Older`, they are those of a version before the latest, and only
-    /// then; `Version`, another version than the latest is kept, and only then; `Rules`, a rowid
-    /// stands twice, or what is kept once isn't there or is out of its rules, or the texts that are
-    /// kept aren't those of a shelf, and only then; `Store`, also where a transaction is open;
-    /// `Memory`.
+    /// this system, and only then; `Version`, another version is kept than that of the tables, and
+    /// only then; `Older`, it is that of the tables, and before the latest, and only then; `Rules`,
+    /// a rowid stands twice, or what is kept once isn't there or is out of its rules, or the texts
+    /// that are kept aren't those of a shelf, and only then; `Store`, also where a transaction is
+    /// open; `Memory`.
     pub fn open(
         alloc: Global,
         mut connection: Connection<S>,

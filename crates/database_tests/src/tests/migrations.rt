@@ -124,14 +124,9 @@ fn each_version_is_brought_to_the_latest(rt: HostRuntime) {
 #[test]
 fn tables_that_tell_another_version_stay_as_they_are(rt: HostRuntime) {
     let alloc = rt.alloc();
-    let older = "open: fault 6\nmigrate: fault 2\nopen: fault 6\n";
-    is_told(&rt, alloc, 1, 2, older);
-    is_told(&rt, alloc, 2, 3, older);
-    is_told(
-        &rt,
-        alloc,
-        3,
-        1,
-        "open: fault 2\nmigrate: fault 2\nopen: fault 2\n",
-    );
+    let other = "open: fault 2\nmigrate: fault 2\nopen: fault 2\n";
+    is_told(&rt, alloc, 1, 2, other);
+    is_told(&rt, alloc, 1, 3, other);
+    is_told(&rt, alloc, 2, 3, other);
+    is_told(&rt, alloc, 3, 1, other);
 }

@@ -2,6 +2,7 @@ use Rattle.std.proofs.Common.{Err, ap, subst, sym, ◌∙◌}
 use Rattle.std.proofs.lemmas.Result.{err_from_is_err_and}
 use Rattle.sqlite.specs.Held.{state}
 use Rattle.sql_keeper.specs.Finds.{FindsBooks}
+use Rattle.sql_keeper.proofs.Moved.{below_latest, found_at}
 use Rattle.sql_keeper.proofs.Opens.{finds_books, finds_none, finds_older, idle_book}
 use Rattle.sql_keeper.proofs.opening.books_in.Goals as goal
 
@@ -20,11 +21,22 @@ returns-in_err-version-clause-finds g c =
 
 pub returns-then-version-ne-LATEST-clause-finds : goal.returns-then-version-ne-LATEST-clause-finds
 returns-then-version-ne-LATEST-clause-finds g c =
-    finds_older c.in_ok-version.version _ _ c.if-version-ne-LATEST.true
-    c.in_ok-version.ensures.found c.in_ok-version.ensures.survives
+    finds_older c.in_ok-version.version _ _ _ c.older_fault.result c.if-version-ne-LATEST.true
+    c.in_ok-version.ensures.found c.in_ok-version.ensures.survives c.older_fault.ensures.finds
+
+pub older_fault-requires-clause-known : goal.older_fault-requires-clause-known
+older_fault-requires-clause-known g c = (
+  c.in_ok-version.ensures.version,
+  below_latest c.in_ok-version.version c.in_ok-version.ensures.version c.if-version-ne-LATEST.true,
+)
+
+pub older_fault-requires-clause-at : goal.older_fault-requires-clause-at
+older_fault-requires-clause-at g c =
+    found_at c.in_ok-version.version _ _ c.in_ok-version.ensures.found
 
 pub returns-clause-finds : goal.returns-clause-finds
 returns-clause-finds g c =
     finds_books c.in_ok-version.version _ _ _ c.in_ok-version.ensures.found
     c.in_ok-version.ensures.survives c.latest_books.ensures.reads.only
-    c.latest_books.ensures.reads.survives c.latest_books.result c.latest_books.ensures.reads
+    c.latest_books.ensures.reads.survives c.if-version-ne-LATEST.false c.latest_books.result
+    c.latest_books.ensures.reads
