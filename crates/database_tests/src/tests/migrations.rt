@@ -3,15 +3,24 @@
 use crate::tests::values::moment;
 use shelves::TariffShelf;
 use sql_keeper::{AddFault, OpenFault, SqlKeeper};
-use sql_tables::{create_in_memory_at, text, whole};
+use sql_tables::{create_in_memory, create_in_memory_at, text, whole};
 use sqlite::{Connection, Error, MemStore};
 use std::alloc::Global;
 use std::process::Abort;
 
+/// The tables of version 1, of version 2, or of the latest.
+fn tables_of(alloc: Global, version: u32) -> Result<Connection<MemStore>, Error> {
+    match version {
+        1 => create_in_memory_at(alloc, 1),
+        2 => create_in_memory_at(alloc, 2),
+        _ => create_in_memory(alloc),
+    }
+}
+
 /// A database of the tables of a version with the worked book, whose last command was at 50. What
 /// is kept once tells this number as the version.
 fn database(alloc: Global, tables: u32, version: u32) -> Result<Connection<MemStore>, Error> {
-    let mut conn = create_in_memory_at(alloc, tables)?;
+    let mut conn = tables_of(alloc, tables)?;
     conn.execute(
         "INSERT INTO meta VALUES (1, ?1, ?2, 50)",
         &[whole(version), text(worked_book::BOOK)],

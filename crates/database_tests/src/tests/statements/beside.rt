@@ -17,9 +17,8 @@ use std::alloc::Global;
 use std::process::Abort;
 use units::Blocks;
 
-/// The reservation of group 20 goes by the second book, the second bucket counts blocks, and blocks
-/// of both charges are covered. Each row is put twice.
-pub(crate) fn keep_beside<S: Alter>(
+/// The reservation of group 20 goes by the second book. The row is put twice.
+fn keep_grant_book<S: Alter>(
     rt: &impl Abort,
     conn: &mut Connection<S>,
     account: &AccountNumber,
@@ -31,12 +30,45 @@ pub(crate) fn keep_beside<S: Alter>(
     let mut tx = conn.transaction();
     put_grant_book(&mut tx, account, session, 20, 1).expect(rt, "a row");
     put_grant_book(&mut tx, account, session, 20, 2).expect(rt, "a row");
+    tx.commit().expect(rt, "a commit");
+}
+
+/// The second bucket counts blocks. The row is put twice.
+fn keep_allowance<S: Alter>(rt: &impl Abort, conn: &mut Connection<S>, account: &AccountNumber)
+    requires ready { IsReady (state S.Store conn.old) }
+    ensures ready { IsReady (state S.Store conn.new) }
+{
+    let mut tx = conn.transaction();
     put_allowance(&mut tx, account, 2).expect(rt, "a row");
     put_allowance(&mut tx, account, 2).expect(rt, "a row");
+    tx.commit().expect(rt, "a commit");
+}
+
+/// Blocks of both charges are covered, of the first by a row that is put twice.
+fn keep_covered<S: Alter>(rt: &impl Abort, conn: &mut Connection<S>, account: &AccountNumber)
+    requires ready { IsReady (state S.Store conn.old) }
+    ensures ready { IsReady (state S.Store conn.new) }
+{
+    let mut tx = conn.transaction();
     put_covered(&mut tx, account, 1, Blocks(3)).expect(rt, "a row");
     put_covered(&mut tx, account, 1, Blocks(2)).expect(rt, "a row");
     put_covered(&mut tx, account, 2, Blocks(5)).expect(rt, "a row");
     tx.commit().expect(rt, "a commit");
+}
+
+/// A reservation's book, the kind of a bucket and the covered blocks of charges.
+pub(crate) fn keep_beside<S: Alter>(
+    rt: &impl Abort,
+    conn: &mut Connection<S>,
+    account: &AccountNumber,
+    session: &SessionId,
+)
+    requires ready { IsReady (state S.Store conn.old) }
+    ensures ready { IsReady (state S.Store conn.new) }
+{
+    keep_grant_book(rt, conn, account, session);
+    keep_allowance(rt, conn, account);
+    keep_covered(rt, conn, account);
 }
 
 /// The reservation's book, the second bucket's kind and the covered blocks of the first charge end.
