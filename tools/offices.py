@@ -3,6 +3,8 @@
 The program is what tools/program tells, or the file that the variable OCS names."""
 import contextlib
 import http.client
+import importlib.machinery
+import importlib.util
 import json
 import os
 import pathlib
@@ -26,6 +28,14 @@ def program():
         return str(pathlib.Path(os.environ["OCS"]).resolve())
     told = subprocess.run([TOP / "tools/program"], stdout=subprocess.PIPE, check=True, text=True)
     return str(TOP / told.stdout.strip())
+
+
+def tool(name):
+    """Another tool as a module."""
+    loader = importlib.machinery.SourceFileLoader(name, str(TOP / "tools" / name))
+    made = importlib.util.module_from_spec(importlib.util.spec_from_loader(name, loader))
+    loader.exec_module(made)
+    return made
 
 
 def need(*commands):
