@@ -2,6 +2,7 @@
 
 The program is what tools/program tells, or the file that the variable OCS names."""
 import contextlib
+import functools
 import http.client
 import importlib.machinery
 import importlib.util
@@ -22,6 +23,7 @@ SECONDS = 120
 given = [20000 + os.getpid() % 8000]
 
 
+@functools.cache
 def program():
     """The path of the program."""
     if os.environ.get("OCS"):
