@@ -49,8 +49,9 @@ UNDUE = (
 
 @dataclass(frozen=True)
 class Office:
-    """The program and a port; the database that batches begin with, and the statements that were
-    due on the way to it; what is changed: requests of files of lines, books, files of vouchers."""
+    """The program and a port, one for each process; the database that batches begin with, and the
+    statements that were due on the way to it; what is changed: requests of files of lines, books,
+    files of vouchers."""
 
     built: str
     port: int
@@ -181,5 +182,4 @@ def prepare(built, base):
         replayed(built, base, line)
         due.add(run(built, base, *STATEMENT).out)
     (base / "lines").write_bytes(b"".join(lines))
-    port = offices.free_ports(1)
-    return Office(built, port, base, due, [each for each in bodies if each], books, vouchers)
+    return Office(built, 0, base, due, [each for each in bodies if each], books, vouchers)
