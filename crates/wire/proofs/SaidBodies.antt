@@ -13,7 +13,7 @@ use Rattle.commands.specs.declared.allowance.Allowance.{Allowance}
 use Rattle.commands.specs.Names.{name_of}
 use Rattle.json_fields.specs.declared.fault.WireFault.{WireFault}
 use Rattle.json_fields.specs.declared.fault.WireFault.TheVariants.{Invalid}
-use Rattle.json_fields.specs.Gives.{◌>>=◌, or_fault}
+use Rattle.json_fields.specs.Gives.{or_fault}
 use Rattle.json_fields.specs.Fields.{whole_in, optional_when, optional_in, optional_at, number_at}
 use Rattle.json_fields.specs.Fields.{text_at}
 use Rattle.json_fields.proofs.Found.{from_zero}
