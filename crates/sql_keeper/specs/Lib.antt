@@ -14,6 +14,7 @@ pub mod GroupRows
 pub mod Inside
 pub mod Kinds
 pub mod Laws
+pub mod Left
 pub mod LiveGroups
 pub mod LiveRows
 pub mod Migrates

@@ -26,34 +26,15 @@ use Rattle.sql_keeper.specs.Creates.{IsNewBook}
 use Rattle.sql_keeper.specs.Faults.{IsCreateFault}
 use Rattle.sql_keeper.specs.declared.create_fault.CreateFault.{CreateFault}
 use Rattle.sql_keeper.specs.Inside.{KeeperState, IsClean, tables_in}
+pub use Rattle.sql_keeper.specs.Left.{IsKept, IsLeft}
 use Rattle.sql_keeper.specs.Shelves.{HasShelf, IsShelfOf}
 use Rattle.sql_keeper.specs.Stops.{trees_in}
 
 -- a keeper before its first call, and the shelf on which the book of its text stands first
 pub record IsFresh {S : Type 0} (k : KeeperState S) (shelf : Shelf) : Type 0 where
   pub read : IsBookOf k.text shelf.first
-  pub names : k.names ≡ shelf_names shelf
+  pub shelf : k.shelf ≡ shelf
   pub uncounted : k.failures ≡ 0
-
--- ---- left
-
--- what is kept once: the version of the tables, the text of the book, and a moment
-pub record IsKept (trees : Trees) (text : List ℕ) : Type 0 where
-  pub row : Meta
-  pub is : (content_of trees).meta ≡ Some row
-  pub version : row.version ≡ latest
-  pub book : row.book ≡ text
-  pub last : row.last ≤ 4_102_488_000
-
--- the tables of a book as they are found again: the database lists ours, no rowid stands twice
--- there, and it keeps their version with the text, which is one of characters and a book's; the
--- other books that it keeps may follow it
-pub record IsLeft (text : List ℕ) (trees : Trees) : Type 0 where
-  pub lists : Lists (trees catalog_tree) book_schema
-  pub stored : AreStored trees
-  pub kept : IsKept trees text
-  pub utf8 : IsUtf8 text
-  pub shelf : HasShelf text (content_of trees).books
 
 -- ---- made
 
