@@ -4,7 +4,8 @@ ghost use Rattle.std.specs.Prelude.{◌≡◌, ◌≤◌, IfErr, IfSome, OnOk};
 ghost use Rattle.std.specs.Io.KnownBytes.{Appends};
 ghost use Rattle.office.specs.Counts.{counts_line};
 ghost use Rattle.office.specs.Printed.{PrintsCounts};
-ghost use Rattle.database_office.specs.Importing.{IsFileImported, IsImportFault, IsUntold};
+ghost use Rattle.database_office.specs.Importing.{IsFileFault, IsFileImported, IsImportEnd};
+ghost use Rattle.database_office.specs.Importing.{IsImportFault, IsUntold};
 
 use crate::clock::command_moment;
 use crate::fault::DatabaseFault;
@@ -55,6 +56,7 @@ pub fn import_office<O: Write>(
 ) -> Result<(), ImportFault>
     ensures printed { OnOk result (PrintsCounts (O.contents output.old) (O.contents output.new)) }
     ensures unwritten { IfErr result (λ fault. IsUntold fault → output.new ≡ output.old) }
+    ensures fault { IfErr result (IsImportEnd words.at) }
 {
     let ImportWords { database, file, at } = words;
     let reader = open_file(rt, file.as_str())?;
@@ -88,6 +90,7 @@ pub fn import_file<K: Keeper, R: Read + Drop, O: Write>(
         IsImportFault shelf.now text moment (K.content keeper.old) (K.content keeper.new)
         (O.contents output.old) (O.contents output.new) fault)) }
     ensures unwritten { IfErr result (λ fault. IsUntold fault → output.new ≡ output.old) }
+    ensures told { IfErr result IsFileFault }
     ensures cleanness { K.clean keeper.new → K.clean keeper.old }
     ensures failures { K.failed keeper.old ≤ K.failed keeper.new }
 {
