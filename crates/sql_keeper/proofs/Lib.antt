@@ -30,6 +30,7 @@ pub mod Overlays
 pub mod Puts
 pub mod Redeemed
 pub mod Repeating
+pub mod Settled
 pub mod Shelved
 pub mod Shelving
 pub mod Swept
