@@ -212,7 +212,7 @@ fn bring_to_latest<S: Alter>(
     let meta = kept_within(tx)?;
     is_of_version(&meta, version)?;
     let rows = books_within(tx, alloc)?;
-    let read = read_shelves(alloc, meta.book.as_str(), &rows)?;
+    let read = read_shelves(alloc, meta.book.as_str(), meta.last, &rows)?;
     match put_latest(tx, alloc, version, &meta) {
         Ok(()) => Ok(read),
         Err(fault) => Err(read_fault(fault)),

@@ -1,6 +1,6 @@
 //! A keeper over a database: of one that is made for it, or of one that was.
 
-ghost use Rattle.std.specs.Prelude.{◌≡◌, ◌≤◌, ◌⊎◌, false, map, Some, IfErr, IfOk, OnOk};
+ghost use Rattle.std.specs.Prelude.{◌≡◌, ◌≤◌, ◌⊎◌, false, map, IsTrue, Some, IfErr, IfOk, OnOk};
 ghost use Rattle.std.specs.String.{string_bytes};
 ghost use Rattle.sql_opening.specs.Opens.{IsNoVersion};
 ghost use Rattle.sql_opening.specs.declared.fault.OpenFault.TheVariants.{Foreign, Rules};
@@ -13,11 +13,9 @@ ghost use Rattle.sql_tables.specs.Schema.{latest};
 ghost use Rattle.sql_tables.specs.Statements.{HasIdleBook, Reads};
 ghost use Rattle.sql_tables.specs.Texts.{stage};
 ghost use Rattle.sql_keeper.specs.Books.{IsBookText};
-ghost use Rattle.sql_keeper.specs.Content.{shelf_names};
 ghost use Rattle.sql_keeper.specs.Creates.{CreatesBook};
 ghost use Rattle.sql_keeper.specs.Faults.{IsCreateFault};
-ghost use Rattle.sql_keeper.specs.Finds.{FindsBooks, IsUnruledAt, ReadsBooks};
-ghost use Rattle.sql_keeper.specs.Inside.{StaysOpen};
+ghost use Rattle.sql_keeper.specs.Finds.{FindsBooks, IsReadOf, IsUnruledAt, ReadsBooks};
 ghost use Rattle.sql_keeper.specs.Opened.{IsCreated, IsNotCreated, IsNotOpened, IsOpened};
 ghost use Rattle.sqlite.specs.Held.{state};
 ghost use Rattle.sqlite.specs.State.{HasCleanDisk, IsLive};
@@ -33,6 +31,7 @@ use sql_rows::{BookColumns, Meta, read_books, read_meta};
 use sql_tables::{LATEST, ReadFault, has_ours, is_blank};
 use sqlite::{Alter, Connection, Error, ErrorCode};
 use std::alloc::Global;
+use units::Moment;
 
 /// A keeper before its first call, and the shelf that it goes by.
 pub(crate) fn keeper_of<S: Alter>(
@@ -42,11 +41,15 @@ pub(crate) fn keeper_of<S: Alter>(
 ) -> (SqlKeeper<S>, TariffShelf)
     requires plain { connection.in_transaction ≡ false }
     requires idle { HasIdleBook (state S.Store connection) }
-    requires stays { StaysOpen (state S.Store connection) }
+    requires open { HasCleanDisk (state S.Store connection) →
+        IsTrue (state S.Store connection).is_open }
+    requires read { HasCleanDisk (state S.Store connection) →
+        IsReadOf read (state S.Store connection).now.trees }
     ensures connection { result.0.connection ≡ connection }
     ensures shelf { result.1 ≡ read.given }
-    ensures names { result.0.names ≡ shelf_names read.own }
+    ensures own { result.0.shelf ≡ read.own }
     ensures text { result.0.text ≡ string_bytes read.text }
+    ensures last { result.0.last ≡ read.last }
     ensures uncounted { result.0.failures ≡ 0 }
     ensures live { IsLive (state S.Store connection) }
 {
@@ -56,6 +59,7 @@ pub(crate) fn keeper_of<S: Alter>(
         connection,
         shelf: read.own,
         text: read.text,
+        last: read.last,
         failures: 0,
         alloc,
     };
@@ -177,7 +181,7 @@ pub(crate) fn latest_books<S: Alter>(
     let meta = find_meta(conn)?;
     is_of_latest(&meta)?;
     let rows = find_books(conn, alloc)?;
-    read_shelves(alloc, meta.book.as_str(), &rows)
+    read_shelves(alloc, meta.book.as_str(), meta.last, &rows)
 }
 
 /// The shelf of a database of this system.
@@ -211,7 +215,7 @@ impl<S: Alter> SqlKeeper<S> {
         ensures refused { IfErr result
             (λ left. IsNotCreated S.Store text.now connection left.1 left.0) }
     {
-        let read = match read_book(alloc, text) {
+        let read = match read_book(alloc, text, Moment::first()) {
             Ok(read) => read,
             Err(fault) => return Err((CreateFault::Book(fault), connection)),
         };
