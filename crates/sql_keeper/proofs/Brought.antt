@@ -2,7 +2,7 @@
 use Rattle.std.proofs.Common.{◌≡◌, ◌<◌, ◌≤◌, ◌⊎◌, inl, inr, ◌∙◌, ap, refl, sym, subst, ℕ, List, Some}
 use Rattle.std.proofs.Common.{arith, IsTrue, length}
 use Rattle.std.proofs.lemmas.Option.{same_Some}
-use Rattle.std.specs.Prelude.{Ok, Err, Result, IfErr, IfOk, OnErr, OnOk, Vec, map, option_map}
+use Rattle.std.specs.Prelude.{◌^◌, Ok, Err, Result, IfErr, IfOk, OnErr, OnOk, Vec, map, option_map}
 use Rattle.std.specs.Global.{Global}
 use Rattle.std.specs.Str.{IsUtf8}
 use Rattle.std.specs.String.{string_bytes}
@@ -34,9 +34,11 @@ use Rattle.sql_opening.specs.declared.fault.OpenFault.TheVariants.{Foreign, Vers
 use Rattle.sql_opening.specs.declared.fault.OpenFault.TheVariants.{Store, Memory}
 use Rattle.sql_keeper.specs.Books.{IsBookOf}
 use Rattle.sql_keeper.specs.Migrates.{AreUnruledReserved, BringsToLatest, HasAt, IsRuledAt}
-use Rattle.sql_keeper.specs.Migrates.{IsUnruledMeta, content_at}
+use Rattle.sql_keeper.specs.Migrates.{content_at}
 use Rattle.sql_keeper.specs.OlderVersions.{AsksVersion}
-use Rattle.sql_keeper.specs.Opened.{IsLeft, IsOtherThan}
+use Rattle.sql_keeper.specs.Causes.{IsOtherThan, IsUnruledMeta}
+use Rattle.sql_keeper.specs.Opened.{IsLeft}
+use Rattle.sql_keeper.proofs.Causes.{ruled_row}
 use Rattle.sql_keeper.specs.Shelves.{HasShelf, IsNoShelf, IsShelfOf, IsShelfRead, row_numbered}
 use Rattle.sql_keeper.specs.declared.books.ReadBooks.{ReadBooks}
 use Rattle.sql_keeper.proofs.Migrated.{becomes_latest, kept_content, left_latest, meta_at}
@@ -242,10 +244,15 @@ module _ (v : ℕ) (known : IsVersion v) (less : v < latest) (old mid : State) (
     (read : HasMeta v old mid m) where
   -- it is of another version
   pub other_version : (e : OpenFault) → (e ≡ Version) × (¬ (m.version ≡ v))
-      → BringsToLatest v old mid (Err e)
-  other_version e told =
+      → m.version < 2 ^ 32 → m.last ≤ 4_102_488_000 → BringsToLatest v old mid (Err e)
+  other_version e told number last =
       ends_here v old mid e read.has
-      (λ clean is. record { row = meta_of m; is = read.is clean; other = told.1 })
+      (λ clean is. record {
+        row = meta_of m;
+        is = read.is clean;
+        ruled = ruled_row m number last;
+        other = told.1;
+      })
       (λ clean is. absurd (let no : Version ≡ Rules = sym told.0 ∙ is in cc)) (
         (λ is. let no : Version ≡ Foreign = sym told.0 ∙ is in cc),
         (λ is. let no : Version ≡ Older = sym told.0 ∙ is in cc),
@@ -447,14 +454,19 @@ module _ (v : ℕ) (known : IsVersion v) (less : v < latest) (old mid : State) w
   -- it was
   pub asks_meta : {A : Type 0} (m : MetaRow) → HasMeta v old mid m → (r : Result A OpenFault)
       → OnOk r (m.version ≡ v) → IfErr r (λ e. (e ≡ Version) × (¬ (m.version ≡ v)))
-      → AsksVersion {A = A} v old mid r
-  asks_meta m read (Ok u) version told = record {
-    keeps = λ clean. record { row = meta_of m; is = read.is clean; version = version };
+      → m.version < 2 ^ 32 → m.last ≤ 4_102_488_000 → AsksVersion {A = A} v old mid r
+  asks_meta m read (Ok u) version told number last = record {
+    keeps = λ clean. record {
+      row = meta_of m;
+      is = read.is clean;
+      ruled = ruled_row m number last;
+      version = version;
+    };
     version = λ clean. tt;
     rules = λ clean. tt;
     other = tt;
     survives = read.has.survives;
   }
-  asks_meta m read (Err e) version told =
-      asks_err v old mid e (other_version v known less old mid m read e told)
+  asks_meta m read (Err e) version told number last =
+      asks_err v old mid e (other_version v known less old mid m read e told number last)
       (λ clean is. absurd (let no : Version ≡ Rules = sym told.0 ∙ is in cc))

@@ -5,6 +5,7 @@ pub mod Asked
 pub mod Beside
 pub mod BookTexts
 pub mod Brought
+pub mod Causes
 pub mod Changed
 pub mod ChargePages
 pub mod Commits

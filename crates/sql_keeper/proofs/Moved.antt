@@ -26,10 +26,11 @@ use Rattle.sql_keeper.specs.Content.{shelf_names}
 use Rattle.sql_keeper.specs.Finds.{FindsBooks, ReadsBooks}
 use Rattle.sql_keeper.specs.Inside.{IsClean, KeeperState, StaysOpen}
 use Rattle.sql_keeper.specs.Migrates.{BecomesLatest, BringsToLatest, FindsAny, FindsNone, HasAt}
-use Rattle.sql_keeper.specs.Migrates.{HasIdleAt, IsLeftLatest, IsMigrated, IsRuledAt, IsUnruledMeta}
+use Rattle.sql_keeper.specs.Migrates.{HasIdleAt, IsLeftLatest, IsMigrated, IsRuledAt}
 use Rattle.sql_keeper.specs.Migrates.{MigratesTables, content_at}
-use Rattle.sql_keeper.specs.Opened.{IsFresh, IsLeft, IsOpened, IsOtherThan, IsRuled}
-use Rattle.sql_keeper.specs.OlderVersions.{AsksVersion, IsNotLatest, KeepsVersion}
+use Rattle.sql_keeper.specs.Causes.{IsOtherThan, IsUnruledMeta, KeepsVersion}
+use Rattle.sql_keeper.specs.Opened.{IsFresh, IsLeft, IsOpened}
+use Rattle.sql_keeper.specs.OlderVersions.{AsksVersion, IsNotLatest}
 use Rattle.sql_keeper.specs.Shelves.{IsShelfOf}
 use Rattle.sql_keeper.specs.declared.books.ReadBooks.{ReadBooks}
 use Rattle.sql_keeper.proofs.Opens.{finds_books, fresh, opened}
@@ -338,16 +339,6 @@ module _ (v : ℕ) (old mid new : State) (found : HasCleanDisk mid → IsFound v
         (v, known, subst (λ (d : Database). IsLeftLatest v d.trees db) (same_at was) left))
         one m.survives)
 
--- in the rules of who migrates it, it is in those of who opens it
-ruled_latest : (trees : Trees) → IsRuledAt latest trees → IsRuled trees
-ruled_latest trees r = record {
-  stored = r.stored;
-  row = r.row;
-  is = r.is;
-  ruled = r.ruled;
-  shelf = r.shelf;
-}
-
 -- one of the latest version is read
 pub any_latest : (v : ℕ) (old mid new : State) → v ≡ latest
     → (HasCleanDisk mid → IsFound v old mid) → Survives old mid (λ _. ⊥) → IsVersion v
@@ -366,10 +357,13 @@ any_latest v old mid new same found one known (Err e) reads =
     record {
       row = it.row;
       is = it.is;
+      ruled = it.ruled;
       other = λ e. it.other (e ∙ same);
     })
-    (λ clean is ruled. reads.rules clean is (ruled_latest mid.now.trees
-    (subst (λ n. IsRuledAt n mid.now.trees) same ruled)))
+    (λ clean is ruled.
+    let r = subst (λ n. IsRuledAt n mid.now.trees) same ruled in
+    let told = reads.rules clean is r.row r.is r.ruled in
+    told.2 (r.shelf told.0))
     reads.ours
     (survives_weaker old new (λ _. ⊥)
     (λ db. (n : ℕ) × IsVersion n × IsLeftLatest n old.now.trees db) (λ clean db no. absurd no)

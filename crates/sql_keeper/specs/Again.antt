@@ -10,12 +10,12 @@ use Rattle.sqlite.specs.Held.{Held, state}
 use Rattle.sqlite.specs.State.{HasCleanDisk}
 use Rattle.sql_rows.specs.Content.{content_of}
 use Rattle.sql_opening.specs.declared.fault.OpenFault.{OpenFault}
-use Rattle.sql_opening.specs.declared.fault.OpenFault.TheVariants.{Foreign, Version, Rules, Older}
 use Rattle.keepers.specs.declared.loaded.Change.{Change}
 use Rattle.redemptions.specs.declared.terms.VoucherTerms.{VoucherTerms}
 use Rattle.sql_keeper.specs.Content.{Names}
 use Rattle.sql_keeper.specs.AddsBook.{BecomesDated, MayFollow}
 use Rattle.sql_keeper.specs.Additions.{BecomesAdded}
+use Rattle.sql_keeper.specs.Causes.{IsStores}
 use Rattle.sql_keeper.specs.Commits.{Becomes}
 use Rattle.sql_keeper.specs.Creates.{IsNewBook}
 use Rattle.sql_keeper.specs.Opened.{IsKept, IsLeft, IsNotOpened}
@@ -43,8 +43,9 @@ AreShelvesOne = (trees : Trees) (text more : List ℕ) (s t : Shelf) → IsKept 
     → IsKept trees more → IsShelfOf text (content_of trees).books s
     → IsShelfOf more (content_of trees).books t → s ≡ t
 
--- the connection that was opened shows what was left, so none of these faults is told of it
+-- the connection that was opened shows what was left, so no fault is told of it but the store's or
+-- memory's
 abbrev pub IsFoundAgain : {S : Type 0} → Ghosts S → Held S → Held S → List ℕ → OpenFault → Type 0
 IsFoundAgain g old new text fault = IsLeft text (state g old).now.trees
     → IsDatabase (state g old).now → HasCleanDisk (state g new) → IsNotOpened g old new fault
-    → (¬ (fault ≡ Foreign)) × (¬ (fault ≡ Version)) × (¬ (fault ≡ Rules)) × (¬ (fault ≡ Older))
+    → IsStores fault

@@ -3,6 +3,7 @@ pub mod AddsBook
 pub mod Again
 pub mod Asks
 pub mod Books
+pub mod Causes
 pub mod Commits
 pub mod Content
 pub mod Covered

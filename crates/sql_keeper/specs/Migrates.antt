@@ -25,11 +25,12 @@ use Rattle.sql_opening.specs.declared.fault.OpenFault.{OpenFault}
 use Rattle.sql_opening.specs.declared.fault.OpenFault.TheVariants.{Foreign, Version, Rules, Older}
 use Rattle.sql_opening.specs.declared.fault.OpenFault.TheVariants.{Store, Memory}
 use Rattle.sql_keeper.specs.Books.{IsBookOf}
+use Rattle.sql_keeper.specs.Causes.{IsOtherThan}
 use Rattle.sql_keeper.specs.Content.{Names, is_reserved, tables_of}
 use Rattle.sql_keeper.specs.Finds.{FindsBooks}
 use Rattle.sql_keeper.specs.Inside.{KeeperState, IsClean}
 use Rattle.sql_keeper.specs.Left.{IsHeld}
-use Rattle.sql_keeper.specs.Opened.{IsFresh, IsLeft, IsOtherThan}
+use Rattle.sql_keeper.specs.Opened.{IsFresh, IsLeft}
 use Rattle.sql_keeper.specs.Shelves.{HasShelf, IsShelfOf}
 use Rattle.sql_keeper.specs.Stops.{trees_in}
 use Rattle.sql_keeper.specs.declared.books.ReadBooks.{ReadBooks}
@@ -106,10 +107,6 @@ granted_in r = record r {
 abbrev pub with_granted : ℕ → Content → Content
 with_granted v c =
     if nat_le 2 v then c else record c { rows = λ a. granted_in (c.rows a) }
-
--- a row of what is kept once, if there is one, is out of its rules
-abbrev pub IsUnruledMeta : Trees → Type 0
-IsUnruledMeta trees = (row : Meta) → (content_of trees).meta ≡ Some row → ¬ IsRuledMeta row
 
 -- the rules are told only of a reservation that is out of them, before version 2
 abbrev pub AreUnruledReserved : ℕ → Trees → ReadFault → Type 0

@@ -2,6 +2,7 @@ ghost use Rattle.std.specs.Prelude.{ℕ, List};
 ghost use Rattle.sqlite.specs.Held.{Held};
 ghost use Rattle.sql_opening.specs.declared.fault.OpenFault.{OpenFault};
 ghost use Rattle.sql_keeper.specs.Again.{AreLeftAgain, AreShelvesOne, IsFoundAgain};
+ghost use Rattle.sql_keeper.specs.Causes.{AreCausesApart};
 ghost use Rattle.sql_keeper.specs.Laws.{AreChangesRead, AreNewTablesEmpty, AreSweepsRead};
 ghost use Rattle.sql_keeper.specs.LiveGroups.{AreOpenGroupsLoaded};
 ghost use Rattle.sql_keeper.specs.LiveRows.{AreLiveRowsLoaded};
@@ -49,7 +50,13 @@ pub fn shelves_are_one()
     ensures { AreShelvesOne }
 {}
 
-/// Where the connection shows what was left, none of the faults 1 to 3 is told.
+/// A database has one fault at most for which it isn't opened.
+#[tactic(auto, using(crate::proofs::Causes::causes_apart))]
+pub fn causes_are_apart()
+    ensures { AreCausesApart }
+{}
+
+/// Where the connection shows what was left, no fault is told but the store's or memory's.
 pub fn left_tables_are_found<S: Alter>()
     ensures { (old new : Held S) (text : List ℕ) (fault : OpenFault) →
         IsFoundAgain S.Store old new text fault }

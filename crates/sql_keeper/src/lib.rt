@@ -42,8 +42,9 @@ pub use crate::create_fault::CreateFault;
 pub use crate::faults::counted;
 pub use crate::keeper::SqlKeeper;
 pub use crate::laws::{
-    changes_are_read, left_tables_are_found, live_rows_are_loaded, new_tables_are_empty,
-    open_groups_are_loaded, shelves_are_one, sweeps_are_read, tables_are_left_again,
+    causes_are_apart, changes_are_read, left_tables_are_found, live_rows_are_loaded,
+    new_tables_are_empty, open_groups_are_loaded, shelves_are_one, sweeps_are_read,
+    tables_are_left_again,
 };
 pub use crate::testing::may_be_written;
 pub use crate::texts::kept_texts;
