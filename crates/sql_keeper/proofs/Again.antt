@@ -1,8 +1,9 @@
 -- What was left of a book's tables is found again.
-use Rattle.std.proofs.Common.{◌≡◌, ◌≤◌, ◌<◌, inl, inr, ◌∙◌, arith, List, ℕ, Option, Some, None}
+use Rattle.std.proofs.Common.{◌≡◌, ◌≤◌, ◌<◌, inl, inr, ◌∙◌, arith, List, ℕ, suc, Option, Some, None}
 use Rattle.std.proofs.Common.{sym, ap, subst, refl}
 use Rattle.std.specs.Prelude.{◌^◌}
-use Rattle.shelves.specs.Shelves.{IsShelf, Shelf, one_book, with_book}
+use Rattle.tariffs.specs.Books.{Book}
+use Rattle.shelves.specs.Shelves.{IsShelf, Shelf, count, one_book, with_book}
 use Rattle.std.specs.Str.{IsUtf8}
 use Rattle.sqlite_trees.specs.Tree.{Trees}
 use Rattle.sqlite_trees.specs.Objects.{catalog_tree}
@@ -19,12 +20,20 @@ use Rattle.sql_rows.specs.Content.{content_of}
 use Rattle.sql_opening.specs.declared.fault.OpenFault.{OpenFault}
 use Rattle.sql_opening.specs.declared.fault.OpenFault.TheVariants.{Foreign, Version, Rules, Store}
 use Rattle.sql_opening.specs.declared.fault.OpenFault.TheVariants.{Memory, Older}
+use Rattle.keepers.specs.declared.loaded.Change.{Change}
+use Rattle.redemptions.specs.declared.terms.VoucherTerms.{VoucherTerms}
+use Rattle.sql_keeper.specs.AddsBook.{BecomesDated}
+use Rattle.sql_keeper.specs.Additions.{BecomesAdded}
 use Rattle.sql_keeper.specs.Again.{AreLeftAgain, IsFoundAgain}
 use Rattle.sql_keeper.specs.Books.{IsBookOf}
 use Rattle.sql_keeper.specs.Causes.{HasFault}
+use Rattle.sql_keeper.specs.Commits.{Becomes}
+use Rattle.sql_keeper.specs.Content.{Names, last_in}
 use Rattle.sql_keeper.specs.Creates.{first_meta}
+use Rattle.sql_keeper.specs.Left.{IsHeld}
 use Rattle.sql_keeper.specs.Opened.{IsLeft}
 use Rattle.sql_keeper.specs.Shelves.{AreLater, HasShelf, IsShelfOf}
+use Rattle.sql_keeper.specs.Sweeps.{BecomesSwept}
 use Rattle.sql_keeper.specs.Writes.{meta_at, meta_with}
 use Rattle.sql_keeper.proofs.Causes.{latest_known, same_version}
 use Rattle.sql_keeper.proofs.Shelving.{dated_shelf}
@@ -94,6 +103,55 @@ left_again = record {
             (dated_shelf text more (content_of old).books n from may.shelf may.book may.is may.read
             may.number may.range may.behind),
       );
+}
+
+-- ---- what a keeper knows of them is found again
+
+pub held_committed : (names : Names) (text : List ℕ) (shelf : Shelf) (last : ℕ) (change : Change)
+    (old new : Trees) → IsHeld text shelf last old → Becomes names text change old new
+    → IsHeld text shelf change.moment new
+held_committed names text shelf last change old new held b = record {
+  left = left_again.committed names text change old new held.left b;
+  books = subst (λ rows. IsShelfOf text rows shelf) (sym b.books) held.books;
+  moment = sym (ap last_in b.meta);
+}
+
+pub held_added : (text : List ℕ) (shelf : Shelf) (last : ℕ) (code : List ℕ) (terms : VoucherTerms)
+    (t : ℕ) (old new : Trees) → IsHeld text shelf last old → BecomesAdded text code terms t old new
+    → IsHeld text shelf t new
+held_added text shelf last code terms t old new held b = record {
+  left = left_again.added text code terms t old new held.left b;
+  books = subst (λ rows. IsShelfOf text rows shelf) (sym b.books) held.books;
+  moment = sym (ap last_in b.meta);
+}
+
+pub held_swept : (names : Names) (text : List ℕ) (shelf own : Shelf) (last t : ℕ)
+    (old new : Trees) → IsHeld text own last old → BecomesSwept names text shelf t old new
+    → IsHeld text own t new
+held_swept names text shelf own last t old new held b = record {
+  left = left_again.swept names text shelf t old new held.left b;
+  books = subst (λ rows. IsShelfOf text rows own) (sym b.books) held.books;
+  moment = sym (ap last_in b.meta);
+}
+
+pub held_dated : (text more : List ℕ) (from : ℕ) (shelf : Shelf) (last : ℕ) (b : Book)
+    (old new : Trees) → IsHeld text shelf last old → IsBookOf more b → from ≤ 4_102_488_000
+    → IsShelf (with_book shelf from b) → BecomesDated (suc (count shelf)) from more old new
+    → IsHeld text (with_book shelf from b) last new
+held_dated text more from shelf last b old new held read range behind become = record {
+  left = left_again.dated text more (suc (count shelf)) from old new held.left (record {
+    shelf = shelf;
+    is = held.books;
+    book = b;
+    read = read;
+    number = refl;
+    range = range;
+    behind = behind;
+  }) become;
+  books = subst (λ rows. IsShelfOf text rows (with_book shelf from b)) (sym become.books)
+      (dated_shelf text more (content_of old).books (suc (count shelf)) from shelf b held.books
+      read refl range behind);
+  moment = held.moment ∙ sym (ap last_in become.meta);
 }
 
 -- what is left has none of these faults

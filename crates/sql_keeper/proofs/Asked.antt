@@ -1,12 +1,14 @@
 -- A keeper after a call that only reads, and what it hands on.
 use Rattle.std.proofs.Common.{◌≡◌, ◌≤◌, ◌+◌, ◌⊎◌, inl, inr, ℕ, Result, Ok, Err, IfOk, IsTrue, min}
-use Rattle.std.proofs.Common.{sym, subst, arith}
+use Rattle.std.proofs.Common.{sym, ap, subst, arith, List}
 use Rattle.std.proofs.lemmas.Bool.Decides.{nat_tests}
 use Rattle.sqlite_disk.specs.Disk.{MoreFaults}
 use Rattle.sqlite_trees.specs.Tree.{Trees}
 use Rattle.sqlite_trees.specs.declared.store.Store.{Ghosts}
+use Rattle.shelves.specs.Shelves.{Shelf}
+use Rattle.sqlite.specs.Effect.{Database}
 use Rattle.sqlite.specs.Held.{state}
-use Rattle.sqlite.specs.State.{State, HasCleanDisk}
+use Rattle.sqlite.specs.State.{State, HasCleanDisk, Survives}
 use Rattle.sql_tables.specs.declared.reading.ReadFault.{ReadFault}
 use Rattle.sql_tables.specs.Statements.{OnlyReads, Reads as Told}
 use Rattle.sql_rows.specs.Content.{content_of}
@@ -18,6 +20,7 @@ use Rattle.sql_keeper.specs.Content.{tables_of}
 use Rattle.sql_keeper.specs.LiveGroups.{Gathers}
 use Rattle.sql_keeper.specs.Inside.{KeeperState, IsClean, StaysOpen, IsKeeper, tables_in, failed_in}
 use Rattle.sql_keeper.specs.Inside.{clean_in}
+use Rattle.sql_keeper.specs.Left.{IsHeld, IsLeft}
 
 pub none_more : (old new : ℕ) → old ≡ 0 → new ≡ 0 → MoreFaults old new → ⊥
 none_more old new e f m =
@@ -70,15 +73,37 @@ handed P Q (Ok x) (Err f) e to p = absurd e
 handed P Q (Err f) (Ok y) e to p = absurd e
 handed P Q (Err f) (Err h) e to p = tt
 
+-- what is kept is known under the same text, shelf and moment
+pub held_as : (text text' : List ℕ) (shelf shelf' : Shelf) (last last' : ℕ) (old new : Trees)
+    → text' ≡ text → shelf' ≡ shelf → last' ≡ last → new ≡ old
+    → IsHeld text shelf last old → IsHeld text' shelf' last' new
+held_as text text' shelf shelf' last last' old new t s l is held =
+    subst (IsHeld text' shelf' last') (sym is) (subst (λ x. IsHeld text' shelf' x old) (sym l)
+    (subst (λ x. IsHeld text' x last old) (sym s)
+    (subst (λ x. IsHeld x shelf last old) (sym t) held)))
+
 -- a keeper is one still
 pub keeper_after : {S : Type 0} (g : Ghosts S) (old new : KeeperState S) → IsKeeper g old
-    → OnlyReads (state g old.connection) (state g new.connection) → new.failures ≤ max_failures
-    → IsKeeper g new
-keeper_after g old new keeper only bounded = record {
+    → OnlyReads (state g old.connection) (state g new.connection)
+    → Survives (state g old.connection) (state g new.connection) (λ _. ⊥)
+    → new.text ≡ old.text → new.shelf ≡ old.shelf → new.last ≡ old.last
+    → new.failures ≤ max_failures → IsKeeper g new
+keeper_after g old new keeper only survives text shelf last bounded = record {
   bounded = bounded;
   plain = only.mode keeper.plain;
   idle = only.idle;
   stays = stays_open (state g old.connection) (state g new.connection) keeper.stays only;
+  held = λ clean on.
+      let still = only.still clean on in
+      held_as old.text new.text old.shelf new.shelf old.last new.last
+      (state g old.connection).now.trees (state g new.connection).now.trees text shelf last
+      (ap (λ (d : Database). d.trees) still.now_is)
+      (keeper.held (only.cleanness clean) still.was_open);
+  found = λ clean db may. subst (λ t. IsLeft t db) (sym text) (keeper.found (only.cleanness clean) db
+      (elim (survives.crash clean db may) [
+        | inl before ↦ before
+        | inr no ↦ absurd no
+      ]));
 }
 
 -- what several reads tell is handed on as the law of keepers asks it

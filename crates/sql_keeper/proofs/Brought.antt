@@ -42,7 +42,7 @@ use Rattle.sql_keeper.proofs.Causes.{ruled_row}
 use Rattle.sql_keeper.specs.Shelves.{HasShelf, IsNoShelf, IsShelfOf, IsShelfRead, row_numbered}
 use Rattle.sql_keeper.specs.declared.books.ReadBooks.{ReadBooks}
 use Rattle.sql_keeper.proofs.Migrated.{becomes_latest, kept_content, left_latest, meta_at}
-use Rattle.sql_keeper.proofs.Migrated.{shelf_latest, with_latest}
+use Rattle.sql_keeper.proofs.Migrated.{moment_latest, shelf_latest, with_latest}
 use Rattle.sql_keeper.proofs.Shelved.{shelf_ruled}
 
 -- ---- the tables are made, and nothing else is written
@@ -344,7 +344,7 @@ module _ (v : ℕ) (known : IsVersion v) (less : v < latest) (old mid : State) (
       (subst (λ f. IsShelfOf text f own) (λ i n. read.books clean n i) shelf)
 
   module _ (new : State) (b : ReadBooks) (shelf : IsShelfRead text (map book_at items) b.own)
-      (given : b.given ≡ b.own) (told : string_bytes b.text ≡ text)
+      (given : b.given ≡ b.own) (told : string_bytes b.text ≡ text) (since : b.last ≡ m.last)
       (last : m.last ≤ 4_102_488_000) (utf8 : IsUtf8 (string_bytes m.book)) where
     -- all is put
     pub brought : {A E : Type 0} (u : A)
@@ -378,14 +378,17 @@ module _ (v : ℕ) (known : IsVersion v) (less : v < latest) (old mid : State) (
           let made = read.meta.has.made before in
           let kept = made_content v old mid read.meta.has known less before in
           let at = shelf_at b.own shelf before in
-          let same : string_bytes m.book ≡ string_bytes b.text = sym text_is ∙ sym told in (
-            subst (λ t. IsLeft t new.now.trees) same
+          let same : string_bytes m.book ≡ string_bytes b.text = sym text_is ∙ sym told in
+          record {
+            left = subst (λ t. IsLeft t new.now.trees) same
                 (left_latest v known less old.now.trees mid.now.trees new.now.trees (meta_of m) kept
-                (read.meta.is before) made.sound.lists turns b.own last utf8 at),
-            subst (λ t. IsShelfOf t (content_of new.now.trees).books b.own) same
+                (read.meta.is before) made.sound.lists turns b.own last utf8 at);
+            books = subst (λ t. IsShelfOf t (content_of new.now.trees).books b.own) same
                 (shelf_latest v known less old.now.trees mid.now.trees new.now.trees (meta_of m)
-                kept (read.meta.is before) made.sound.lists turns b.own at),
-          );
+                kept (read.meta.is before) made.sound.lists turns b.own at);
+            moment = since ∙ sym (moment_latest v known less old.now.trees mid.now.trees
+                new.now.trees (meta_of m) kept (read.meta.is before) made.sound.lists turns);
+          };
       given = given;
       first = subst (λ t. IsBookOf t b.own.first) (sym told) shelf.first;
       version = λ clean. tt;

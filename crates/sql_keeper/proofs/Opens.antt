@@ -37,11 +37,11 @@ use Rattle.sql_tables.specs.Ours.{has_ours}
 use Rattle.sql_keeper.specs.Books.{IsBookOf, IsBookText}
 use Rattle.sql_keeper.specs.Causes.{AreUnruled, HasFault, IsOtherThan, IsStores, IsUnruledMeta}
 use Rattle.keepers.specs.Tables.{no_tables}
-use Rattle.sql_keeper.specs.Content.{shelf_names, tables_of}
+use Rattle.sql_keeper.specs.Content.{last_in, tables_of}
 use Rattle.sql_keeper.specs.Creates.{CreatesBook, IsNewBook, first_meta}
 use Rattle.sql_keeper.specs.Faults.{IsCreateFault}
-use Rattle.sql_keeper.specs.Finds.{FindsBooks, ReadsBooks}
-use Rattle.sql_keeper.specs.Inside.{KeeperState, IsClean}
+use Rattle.sql_keeper.specs.Finds.{FindsBooks, IsReadOf, ReadsBooks}
+use Rattle.sql_keeper.specs.Inside.{KeeperState, IsClean, names_in}
 use Rattle.sql_keeper.specs.Opened.{IsCreated, IsFresh, IsKept, IsLeft, IsNotCreated, IsOpened}
 use Rattle.sql_keeper.specs.OlderVersions.{IsNotLatest}
 use Rattle.sql_keeper.specs.Shelves.{HasShelf, IsAlone, IsNoShelf, IsShelfOf, IsShelfRead}
@@ -88,7 +88,7 @@ store_told text schema f (inr is) none book =
 
 module _ {S : Type 0} (g : Ghosts S) (k : KeeperState S) (conn : Held S) (shelf given own : Shelf)
     (text bytes : List ℕ) (connection : k.connection ≡ conn) (is : shelf ≡ given)
-    (same : given ≡ own) (names : k.names ≡ shelf_names own) (told : k.text ≡ bytes)
+    (same : given ≡ own) (owned : k.shelf ≡ own) (told : k.text ≡ bytes)
     (none : k.failures ≡ 0) (read : IsBookOf text own.first) (kept : bytes ≡ text)
     (live : IsLive (state g conn)) (utf8 : IsUtf8 bytes) where
   own_is : own ≡ shelf
@@ -98,7 +98,7 @@ module _ {S : Type 0} (g : Ghosts S) (k : KeeperState S) (conn : Held S) (shelf 
   fresh = record {
     read = subst (λ t. IsBookOf t shelf.first) (sym (told ∙ kept))
         (subst (λ (s : Shelf). IsBookOf text s.first) own_is read);
-    names = names ∙ ap shelf_names own_is;
+    shelf = owned ∙ own_is;
     uncounted = none;
   }
 
@@ -124,8 +124,8 @@ module _ {S : Type 0} (g : Ghosts S) (k : KeeperState S) (conn : Held S) (shelf 
     made = subst (λ h. HasCleanDisk (state g h) → IsNewBook text (state g h).now.trees)
         (sym connection) (λ clean. (c.done clean).2);
     tables = subst (λ h. HasCleanDisk (state g h) →
-        tables_of k.names (content_of (state g h).now.trees) ≡ no_tables)
-        (sym connection) (λ clean. (c.done clean).2.tables k.names);
+        tables_of (names_in k) (content_of (state g h).now.trees) ≡ no_tables)
+        (sym connection) (λ clean. (c.done clean).2.tables (names_in k));
     left = subst (λ h. HasCleanDisk (state g h) → IsLeft text (state g h).now.trees)
         (sym connection) (λ clean.
         let made = c.done clean in
@@ -221,12 +221,10 @@ module _ (v : ℕ) (old mid new : State) (found : HasCleanDisk mid → IsFound v
   finds_books same (Ok b) reads = record {
     found = λ clean.
         let it = reads.found clean in
-        let now = sym (only.still clean it.2).now_is in (
-          subst (λ (d : Database). IsKept d.trees (string_bytes b.text)) now it.0,
-          subst (λ (d : Database).
-              IsShelfOf (string_bytes b.text) (content_of d.trees).books b.own) now it.1,
-          still_read clean it.2,
-          it.2,
+        let now = sym (only.still clean it.1).now_is in (
+          subst (λ (d : Database). IsReadOf b d.trees) now it.0,
+          still_read clean it.1,
+          it.1,
         );
     given = reads.given;
     read = reads.read;
@@ -423,9 +421,11 @@ module _ {E : Type 0} (old mid : State) (m : MetaRow)
       → (r : Result ReadBooks OpenFault)
       → IfOk r (λ b. IsShelfRead text (map book_at items) b.own)
       → IfOk r (λ b. b.given ≡ b.own) → IfOk r (λ b. string_bytes b.text ≡ text)
+      → IfOk r (λ b. b.last ≡ m.last)
       → IfErr r (λ fault. fault ≡ Rules → IsNoShelf text (map book_at items))
       → IfErr r (λ fault. ¬ (fault ≡ Rules) → fault ≡ Memory') → ReadsBooks old new r
-  reads_books new rows items same text is version last reads (Ok b) shelf given told rules either =
+  reads_books new rows items same text is version last reads (Ok b) shelf given told at rules
+      either =
       let read = have_read (λ trees m. (content_of trees).meta ≡ Some (meta_of m)) old mid m meta in
       let both = have_read_then old mid new read
       (have_read {E = OpenFault} _ mid new rows reads) in
@@ -433,17 +433,21 @@ module _ {E : Type 0} (old mid : State) (m : MetaRow)
         found = λ clean.
             let before = reads.only.cleanness clean in (
               record {
-                row = meta_of m;
-                is = meta.found before;
-                version = version;
-                book = sym is ∙ sym told;
-                last = last;
+                kept = record {
+                  row = meta_of m;
+                  is = meta.found before;
+                  version = version;
+                  book = sym is ∙ sym told;
+                  last = last;
+                };
+                books = subst (λ t. IsShelfOf t (content_of old.now.trees).books b.own)
+                    (sym told)
+                    (told_first (λ trees. IsShelfOf text (content_of trees).books b.own) before
+                    (subst (λ f. IsShelfOf text f b.own)
+                    (λ i n. reads.found clean n i)
+                    (subst (λ l. IsShelfRead text (map book_at l) b.own) same shelf)));
+                last = at ∙ sym (ap last_in (meta.found before));
               },
-              subst (λ t. IsShelfOf t (content_of old.now.trees).books b.own) (sym told)
-                  (told_first (λ trees. IsShelfOf text (content_of trees).books b.own) before
-                  (subst (λ f. IsShelfOf text f b.own)
-                  (λ i n. reads.found clean n i)
-                  (subst (λ l. IsShelfRead text (map book_at l) b.own) same shelf))),
               reads.stays clean,
             );
         given = given;
@@ -454,7 +458,8 @@ module _ {E : Type 0} (old mid : State) (m : MetaRow)
         ours = tt;
         survives = both.survives;
       }
-  reads_books new rows items same text is version last reads (Err e) shelf given told rules either =
+  reads_books new rows items same text is version last reads (Err e) shelf given told at rules
+      either =
       let read = have_read (λ trees m. (content_of trees).meta ≡ Some (meta_of m)) old mid m meta in
       let both = have_read_then old mid new read
       (have_read {E = OpenFault} _ mid new rows reads) in

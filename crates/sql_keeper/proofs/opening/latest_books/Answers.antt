@@ -38,4 +38,5 @@ returns-clause-reads g c =
     c.deref.result.now c.deref.ensures.value c.as_str.result.now c.as_str.ensures.value
     c.in_ok-is_of_latest.ensures.version c.is_of_latest.ensures.last c.in_ok-rows.ensures.reads
     c.read_shelves.result c.read_shelves.ensures.read c.read_shelves.ensures.given
-    c.read_shelves.ensures.text c.read_shelves.ensures.rules c.read_shelves.ensures.either
+    c.read_shelves.ensures.text c.read_shelves.ensures.last c.read_shelves.ensures.rules
+    c.read_shelves.ensures.either
