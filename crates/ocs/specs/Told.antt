@@ -104,10 +104,10 @@ LeavesOutput said before after fault = IsSilent said fault → after ≡ before
 -- a fault of which this is so is told by its line, as far as it can be written
 pub record TellsFault (Reached Silent : ProgramFault → Type 0) (old new : Option (List ℕ)) : Type 0
   where
-  pub fault : ProgramFault
-  pub reached : Reached fault
-  pub silent : Silent fault
-  pub written : WritesBeginning old new (fault_line fault ++ 10 ∷ [])
+    pub fault : ProgramFault
+    pub reached : Reached fault
+    pub silent : Silent fault
+    pub written : WritesBeginning old new (fault_line fault ++ 10 ∷ [])
 
 -- this fault is, or, where it is one of a file of vouchers, want of memory for its line
 abbrev pub TellsAs : ProgramFault → Option (List ℕ) → Option (List ℕ) → Type 0

@@ -20,6 +20,7 @@ use office::Status;
 use operator::{ImportWords, OfficeWords, ReplayWords, StatementWords};
 use request_lines::{LinesFault, lines};
 use shelves::TariffShelf;
+use sqlite_disk::Wary;
 use std::alloc::Global;
 use std::io::{BufReader, Read, Write};
 
@@ -95,7 +96,7 @@ pub(crate) fn answer_replay<O: Write>(
         Ok(file) => file,
         Err(fault) => return Err(ProgramFault::Database(fault)),
     };
-    let Office { mut keeper, shelf } = match open_office(rt, &replay.database) {
+    let Office { mut keeper, shelf } = match open_office(rt, &replay.database, Wary) {
         Ok(office) => office,
         Err(fault) => return Err(ProgramFault::Database(fault)),
     };
