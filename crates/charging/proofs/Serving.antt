@@ -338,6 +338,21 @@ module _ (b : Shelf) (list : List Accepted) (c : Command) (t : ℕ) (a : List �
         })
         (grown (made o x change called)) tables
 
+-- what a stop leaves, told of what is left before a call and of what was written
+pub left_as : {A B P Q : Type 0} → A ⊎ B → (A → P) → (B → Q) → P ⊎ Q
+left_as (inl a) f g = inl (f a)
+left_as (inr b) f g = inr (g b)
+
+-- what a commit makes by one change it makes by the same one
+pub commits-same : (x y : Change) (old new : Tables) → x ≡ y → Commits x old new →
+    Commits y old new
+commits-same x y old new is made = subst (λ (c : Change). Commits c old new) is made
+
+-- of tables that are the same
+pub commits-from : (x : Change) (old mid new : Tables) → mid ≡ old → Commits x mid new →
+    Commits x old new
+commits-from x old mid new same made = subst (λ (t : Tables). Commits x t new) same made
+
 -- what a call says where it answers
 pub on_ok : {X E P Q : Type 0} (r : Result X E) → OnOk r P → (P → Q) → OnOk r Q
 on_ok (Ok x) p f = f p
