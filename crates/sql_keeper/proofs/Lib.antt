@@ -31,10 +31,12 @@ pub mod Opens
 pub mod Overlays
 pub mod Puts
 pub mod Redeemed
+pub mod Reopening
 pub mod Repeating
 pub mod Settled
 pub mod Shelved
 pub mod Shelving
+pub mod Stopped
 pub mod Swept
 pub mod SweptReads
 pub mod Told

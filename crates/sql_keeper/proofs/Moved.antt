@@ -23,7 +23,7 @@ use Rattle.sql_opening.specs.declared.fault.OpenFault.TheVariants.{Foreign, Vers
 use Rattle.sql_opening.specs.declared.fault.OpenFault.TheVariants.{Store, Memory}
 use Rattle.sql_keeper.specs.Books.{IsBookOf}
 use Rattle.sql_keeper.specs.Finds.{FindsBooks, IsReadOf, ReadsBooks}
-use Rattle.sql_keeper.specs.Inside.{IsClean, KeeperState}
+use Rattle.sql_keeper.specs.Inside.{IsClean, IsKeeper, KeeperState}
 use Rattle.sql_keeper.specs.Migrates.{BecomesLatest, BringsToLatest, FindsAny, FindsNone, HasAt}
 use Rattle.sql_keeper.specs.Migrates.{HasIdleAt, IsLeftLatest, IsMigrated, IsRuledAt}
 use Rattle.sql_keeper.specs.Migrates.{IsHeldBy, MigratesTables, content_at}
@@ -419,7 +419,8 @@ any_read old new r f clean = elim (either_version f.0 f.1) [
 module _ {S : Type 0} (g : Ghosts S) (k : KeeperState S) (conn old : Held S) (shelf : Shelf)
     (r : ReadBooks) (connection : k.connection ≡ conn) (is : shelf ≡ r.given)
     (owned : k.shelf ≡ r.own) (told : k.text ≡ string_bytes r.text)
-    (none : k.failures ≡ 0) (live : IsLive (state g conn)) (utf8 : IsUtf8 (string_bytes r.text))
+    (none : k.failures ≡ 0) (kept : IsKeeper g k) (live : IsLive (state g conn))
+    (utf8 : IsUtf8 (string_bytes r.text))
     (v : ℕ) (known : IsVersion v)
     (had : HasCleanDisk (state g conn) → (state g old).now.schema ≡ schema_at v) where
   -- one of the latest version is left as it is
@@ -429,7 +430,8 @@ module _ {S : Type 0} (g : Ghosts S) (k : KeeperState S) (conn old : Held S) (sh
       let o : IsOpened g old k shelf =
       opened g k conn shelf r.given r.own (string_bytes r.text) (string_bytes r.text) connection is
       f.given owned told none f.read refl live utf8 old
-      (λ clean. let it = f.found clean in (it.0.kept, it.0.books, it.1, it.2)) f.survives f.idle in
+      (λ clean. let it = f.found clean in (it.0.kept, it.0.books, it.1, it.2)) f.survives f.idle
+      kept in
       record {
         fresh = o.fresh;
         books = o.books;
@@ -482,12 +484,12 @@ module _ {S : Type 0} (g : Ghosts S) (k : KeeperState S) (conn old : Held S) (sh
 pub is_migrated : {S : Type 0} (g : Ghosts S) (k : KeeperState S) (conn old : Held S)
     (shelf : Shelf) (r : ReadBooks) → k.connection ≡ conn → shelf ≡ r.given
     → k.shelf ≡ r.own → k.text ≡ string_bytes r.text → k.failures ≡ 0
-    → IsLive (state g conn) → IsUtf8 (string_bytes r.text)
+    → IsKeeper g k → IsLive (state g conn) → IsUtf8 (string_bytes r.text)
     → FindsAny (state g old) (state g conn) (Ok r) → IsMigrated g old k shelf
-is_migrated g k conn old shelf r connection is owned told none live utf8 f =
+is_migrated g k conn old shelf r connection is owned told none kept live utf8 f =
     elim (either_version f.0 f.1) [
-      | inl same ↦ keeps_latest g k conn old shelf r connection is owned told none live utf8 f.0
-          f.1 f.2 same (f.3 same)
-      | inr less ↦ comes_latest g k conn old shelf r connection is owned told none live utf8 f.0
-          f.1 f.2 less (f.4 less)
+      | inl same ↦ keeps_latest g k conn old shelf r connection is owned told none kept live utf8
+          f.0 f.1 f.2 same (f.3 same)
+      | inr less ↦ comes_latest g k conn old shelf r connection is owned told none kept live utf8
+          f.0 f.1 f.2 less (f.4 less)
     ]

@@ -41,7 +41,7 @@ use Rattle.sql_keeper.specs.Content.{last_in, tables_of}
 use Rattle.sql_keeper.specs.Creates.{CreatesBook, IsNewBook, first_meta}
 use Rattle.sql_keeper.specs.Faults.{IsCreateFault}
 use Rattle.sql_keeper.specs.Finds.{FindsBooks, IsReadOf, ReadsBooks}
-use Rattle.sql_keeper.specs.Inside.{KeeperState, IsClean, names_in}
+use Rattle.sql_keeper.specs.Inside.{KeeperState, IsClean, IsKeeper, names_in}
 use Rattle.sql_keeper.specs.Opened.{IsCreated, IsFresh, IsKept, IsLeft, IsNotCreated, IsOpened}
 use Rattle.sql_keeper.specs.OlderVersions.{IsNotLatest}
 use Rattle.sql_keeper.specs.Shelves.{HasShelf, IsAlone, IsNoShelf, IsShelfOf, IsShelfRead}
@@ -154,9 +154,10 @@ module _ {S : Type 0} (g : Ghosts S) (k : KeeperState S) (conn : Held S) (shelf 
       × IsShelfOf bytes (content_of (state g conn).now.trees).books own
       × IsStill (state g old) (state g conn) × IsTrue (state g conn).is_open)
       → Survives (state g old) (state g conn) (λ _. ⊥) → HasIdleBook (state g conn)
-      → IsOpened g old k shelf
-  opened old found survives idle = record {
+      → IsKeeper g k → IsOpened g old k shelf
+  opened old found survives idle keeper = record {
     fresh = fresh;
+    keeper = keeper;
     books = subst (λ h. HasCleanDisk (state g h) →
         IsShelfOf k.text (content_of (state g h).now.trees).books shelf) (sym connection)
         (λ clean. subst (λ t. IsShelfOf t (content_of (state g conn).now.trees).books shelf)

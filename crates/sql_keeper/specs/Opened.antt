@@ -22,7 +22,7 @@ use Rattle.sql_keeper.specs.Content.{shelf_names}
 use Rattle.sql_keeper.specs.Creates.{IsNewBook}
 use Rattle.sql_keeper.specs.Faults.{IsCreateFault}
 use Rattle.sql_keeper.specs.declared.create_fault.CreateFault.{CreateFault}
-use Rattle.sql_keeper.specs.Inside.{KeeperState, IsClean, tables_in}
+use Rattle.sql_keeper.specs.Inside.{KeeperState, IsClean, IsKeeper, tables_in}
 pub use Rattle.sql_keeper.specs.Left.{IsKept, IsLeft}
 use Rattle.sql_keeper.specs.Shelves.{HasShelf, IsShelfOf}
 use Rattle.sql_keeper.specs.Stops.{trees_in}
@@ -66,6 +66,7 @@ pub record IsOpened {S : Type 0} (g : Ghosts S) (old : Held S) (k : KeeperState 
     (shelf : Shelf) : Type 0
   where
     pub fresh : IsFresh k shelf
+    pub keeper : IsKeeper g k
     pub books : HasCleanDisk (state g k.connection) →
         IsShelfOf k.text (content_of (trees_in g k)).books shelf
     pub left : HasCleanDisk (state g k.connection) → IsLeft k.text (trees_in g k)

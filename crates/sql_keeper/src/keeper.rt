@@ -1,7 +1,7 @@
 //! A keeper over a database: what it is. Its calls stand in modules of their own.
 
 ghost use Rattle.std.specs.Prelude.{◌≡◌};
-ghost use Rattle.sql_keeper.specs.Inside.{failed_in};
+ghost use Rattle.sql_keeper.specs.Inside.{IsKeeper, failed_in};
 
 use shelves::TariffShelf;
 use sqlite::{Alter, Connection};
@@ -68,13 +68,15 @@ impl<S: Alter> SqlKeeper<S> {
     pub fn failures(&self) -> u64
         ensures value { result ≡ self.now.failures }
         ensures count { result ≡ failed_in self.now }
+        ensures kept { IsKeeper S.Store self.now }
     {
         self.failures
     }
 
     /// Gives the keeper up, and its connection back.
     pub fn into_connection(self) -> Connection<S>
-        ensures { result ≡ self.connection }
+        ensures connection { result ≡ self.connection }
+        ensures kept { IsKeeper S.Store self }
     {
         let SqlKeeper {
             connection,

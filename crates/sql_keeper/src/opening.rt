@@ -18,6 +18,7 @@ ghost use Rattle.sql_keeper.specs.Causes.{IsUnruledMeta};
 ghost use Rattle.sql_keeper.specs.Creates.{CreatesBook};
 ghost use Rattle.sql_keeper.specs.Faults.{IsCreateFault};
 ghost use Rattle.sql_keeper.specs.Finds.{FindsBooks, IsReadOf, ReadsBooks};
+ghost use Rattle.sql_keeper.specs.Inside.{IsKeeper};
 ghost use Rattle.sql_keeper.specs.Opened.{IsCreated, IsNotCreated, IsNotOpened, IsOpened};
 ghost use Rattle.sqlite.specs.Held.{state};
 ghost use Rattle.sqlite.specs.State.{HasCleanDisk, IsLive};
@@ -53,6 +54,7 @@ pub(crate) fn keeper_of<S: Alter>(
     ensures text { result.0.text ≡ string_bytes read.text }
     ensures last { result.0.last ≡ read.last }
     ensures uncounted { result.0.failures ≡ 0 }
+    ensures kept { IsKeeper S.Store result.0 }
     ensures live { IsLive (state S.Store connection) }
 {
     // For the prover alone: looking at the value makes known here what its type keeps.

@@ -14,4 +14,4 @@ returns-in-Ok-clause-opened g c =
     c.keeper_of.ensures.uncounted finds.read refl c.keeper_of.ensures.live
     (IsUtf8-string_bytes c.in-Ok.read.text) c.args.connection
     (λ clean. let it = finds.found clean in (it.0.kept, it.0.books, it.1, it.2)) finds.survives
-    finds.idle
+    finds.idle c.keeper_of.ensures.kept
