@@ -107,24 +107,26 @@ module _ {S A : Type 0} (g : Ghosts S) (old new : KeeperState S)
       × Become text (state g old.connection).now.trees db)
 
   -- it is one still, whatever becomes of its shelf
-  pub becomes_keeper : (r : Result A StoreFault) → CommitsIn r → Leaves
-      → ((db : Trees) → IsHeld old.text old.shelf old.last (trees_in g old)
-      → Become text (trees_in g old) db → IsLeft old.text db)
+  pub becomes_keeper : (r : Result A StoreFault) → CommitsIn r
+      → (HasCleanDisk (state g old.connection) → HasCleanDisk (state g new.connection)
+      → (db : Trees) → (state g new.connection).may_leave db
+      → (state g old.connection).may_leave db ⊎ IsLeft old.text db)
       → OnOk r (IsHeld old.text old.shelf old.last (trees_in g old)
       → Become text (trees_in g old) (trees_in g new)
       → IsHeld new.text new.shelf new.last (trees_in g new))
       → OnErr r ((new.shelf ≡ old.shelf) × (new.last ≡ old.last)) → new.text ≡ old.text
       → new.connection.in_transaction ≡ false → new.failures ≤ max_failures → IsKeeper g new
-  becomes_keeper r commits leaves again made kept same plain bounded = record {
+  becomes_keeper r commits leaves made kept same plain bounded = record {
     bounded = bounded;
     plain = plain;
     idle = commits.idle;
     stays = stays_in r commits;
     held = held_now r commits made kept;
-    found = λ clean db may. subst (λ t. IsLeft t db) (sym same) (elim (leaves clean db may) [
-      | inl before ↦ keeper.found (clean_before clean) db before
-      | inr it ↦ again db (keeper.held (clean_before clean) it.0) it.1
-    ]);
+    found = λ clean db may. subst (λ t. IsLeft t db) (sym same)
+        (elim (leaves (clean_before clean) clean db may) [
+          | inl before ↦ keeper.found (clean_before clean) db before
+          | inr left ↦ left
+        ]);
   }
     where
       clean_before : HasCleanDisk (state g new.connection) → HasCleanDisk (state g old.connection)
@@ -154,8 +156,10 @@ module _ {S A : Type 0} (g : Ghosts S) (old new : KeeperState S)
       → new.text ≡ old.text → new.connection.in_transaction ≡ false
       → new.failures ≤ max_failures → IsKeeper g new
   committed_keeper t r commits leaves of_text again moment last shelf same plain bounded =
-      becomes_keeper r commits leaves (λ db held b. (again_here db held b).left) (made r moment)
-      (kept r last) same plain bounded
+      becomes_keeper r commits (λ was clean db may. elim (leaves clean db may) [
+        | inl before ↦ inl before
+        | inr it ↦ inr (again_here db (keeper.held was it.0) it.1).left
+      ]) (made r moment) (kept r last) same plain bounded
     where
       again_here : (db : Trees) → IsHeld old.text old.shelf old.last (trees_in g old)
           → Become text (trees_in g old) db → IsHeld old.text old.shelf t db
