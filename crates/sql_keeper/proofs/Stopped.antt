@@ -9,9 +9,13 @@ use Rattle.sqlite.specs.State.{HasCleanDisk}
 use Rattle.shelves.specs.Shelves.{Shelf}
 use Rattle.sql_rows.specs.Content.{content_of}
 use Rattle.sql_rows.specs.Values.{Meta}
-use Rattle.sql_keeper.specs.Again.{AreOpenedAgain, AreStoppedWhole, IsFoundAfter}
+use Rattle.sql_keeper.specs.AddsBook.{BecomesDated}
+use Rattle.sql_keeper.specs.Additions.{BecomesAdded}
+use Rattle.sql_keeper.specs.Again.{AreOpenedAgain, AreStoppedWhole, IsFoundAfter, IsStoppedWhole}
+use Rattle.sql_keeper.specs.Commits.{Becomes}
+use Rattle.sql_keeper.specs.Sweeps.{BecomesSwept}
 use Rattle.sql_keeper.specs.Content.{last_in}
-use Rattle.sql_keeper.specs.Inside.{IsClean, IsKeeper, KeeperState}
+use Rattle.sql_keeper.specs.Inside.{IsClean, IsKeeper, KeeperState, names_in}
 use Rattle.sql_keeper.specs.Left.{IsKept, IsLeft}
 use Rattle.sql_keeper.specs.Opened.{IsOpened}
 use Rattle.sql_keeper.specs.Shelves.{IsShelfOf}
@@ -82,9 +86,23 @@ opened_again g e law old shown keeper clean may sound = (
 )
 
 pub stopped_whole : {S T : Type 0} (g : Ghosts S) (e : Ghosts T) → AreSettled g
-    → AreStoppedWhole g e
+    → (old mid : KeeperState S) (new : KeeperState T) (shelf : Shelf) (Written : Trees → Type 0)
+    → IsStoppedWhole g e old mid new shelf Written
 stopped_whole g e law old mid new shelf Written keeper rest clean whole found =
     elim (whole.left clean (trees_in e new) found.may) [
       | inl before ↦ inl (at_rest g law old keeper rest (trees_in e new) before)
       | inr written ↦ inr written
     ]
+
+pub are_stopped_whole : {S T : Type 0} (g : Ghosts S) (e : Ghosts T) → AreSettled g
+    → AreStoppedWhole g e
+are_stopped_whole g e law = record {
+  changed = λ old mid new shelf change. stopped_whole g e law old mid new shelf
+      (Becomes (names_in old) old.text change (trees_in g old));
+  added = λ old mid new shelf code terms t. stopped_whole g e law old mid new shelf
+      (BecomesAdded old.text code terms t (trees_in g old));
+  swept = λ old mid new shelf prices t. stopped_whole g e law old mid new shelf
+      (BecomesSwept (names_in old) old.text prices t (trees_in g old));
+  dated = λ old mid new shelf n from text. stopped_whole g e law old mid new shelf
+      (BecomesDated n from text (trees_in g old));
+}

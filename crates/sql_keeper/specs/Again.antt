@@ -81,14 +81,29 @@ AreOpenedAgain {S} {T} g e =
     × ((left : Held T) (fault : OpenFault) → IsNotOpened e shown left fault
     → HasCleanDisk (state e left) → IsStores fault)
 
--- a command that was stopped at its exit and is opened again is whole: its rows are those before it
--- or with it
-abbrev pub AreStoppedWhole : {S T : Type 0} → Ghosts S → Ghosts T → Type 0
-AreStoppedWhole {S} {T} g e =
-    (old mid : KeeperState S) (new : KeeperState T) (shelf : Shelf) (Written : Trees → Type 0)
-    → IsKeeper g old → IsClean (state g old.connection) → HasCleanDisk (state g mid.connection)
+-- what a call writes is whole when the database is opened again after a stop at its exit: the rows
+-- are those before it or with it
+abbrev pub IsStoppedWhole : {S T : Type 0} → Ghosts S → Ghosts T → KeeperState S → KeeperState S →
+    KeeperState T → Shelf → (Trees → Type 0) → Type 0
+IsStoppedWhole g e old mid new shelf Written =
+    IsKeeper g old → IsClean (state g old.connection) → HasCleanDisk (state g mid.connection)
     → IsWhole g old mid Written → IsFoundAfter g e mid new shelf
     → (trees_in e new ≡ trees_in g old) ⊎ Written (trees_in e new)
+
+-- so is a change, a voucher, a sweep and a book
+pub record AreStoppedWhole {S T : Type 0} (g : Ghosts S) (e : Ghosts T) : Type 0 where
+  pub changed : (old mid : KeeperState S) (new : KeeperState T) (shelf : Shelf) (change : Change)
+      → IsStoppedWhole g e old mid new shelf
+      (Becomes (names_in old) old.text change (trees_in g old))
+  pub added : (old mid : KeeperState S) (new : KeeperState T) (shelf : Shelf) (code : List ℕ)
+      (terms : VoucherTerms) (t : ℕ)
+      → IsStoppedWhole g e old mid new shelf (BecomesAdded old.text code terms t (trees_in g old))
+  pub swept : (old mid : KeeperState S) (new : KeeperState T) (shelf prices : Shelf) (t : ℕ)
+      → IsStoppedWhole g e old mid new shelf
+      (BecomesSwept (names_in old) old.text prices t (trees_in g old))
+  pub dated : (old mid : KeeperState S) (new : KeeperState T) (shelf : Shelf) (n from : ℕ)
+      (text : List ℕ)
+      → IsStoppedWhole g e old mid new shelf (BecomesDated n from text (trees_in g old))
 
 -- ---- of one store
 
