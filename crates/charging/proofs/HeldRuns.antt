@@ -197,7 +197,8 @@ module _ {K : Type 0} (content : K → Tables) (failed : K → ℕ) (honest clea
       (all : ds ++ d ∷ more ≡ commands) (count : length answers.items ≡ length ds)
       (same : clean new → content new ≡ content mid) (cleanness : clean new → clean mid)
       (honesty : honest new → honest mid)
-      (left : Leaves honest leaves mid new (Writes b d.command d.moment (content mid))) where
+      (left : Leaves honest leaves mid new
+      (λ t. clean mid × Writes b d.command d.moment (content mid) t)) where
     -- the next one may be held too
     held-next : (t : Tables) → honest new → Writes b d.command d.moment (content mid) t →
         AreHeld b commands (content old) answers.items t
@@ -213,11 +214,11 @@ module _ {K : Type 0} (content : K → Tables) (failed : K → ℕ) (honest clea
         (writes (after_commands b list ds) so.time so.tables))
 
     held-failed : (t : Tables) → honest new →
-        leaves mid t ⊎ Writes b d.command d.moment (content mid) t →
+        leaves mid t ⊎ (clean mid × Writes b d.command d.moment (content mid) t) →
         ((ds ≡ []) × leaves old t) ⊎ AreHeld b commands (content old) answers.items t
     held-failed t h (inl l) =
         held-now commands ds (d ∷ more) old mid answers.items t had all count (honesty h) l
-    held-failed t h (inr writes) = inr (held-next t h writes)
+    held-failed t h (inr writes) = inr (held-next t h writes.1)
 
     pub run-failed : (fault : StoreFault) →
         HasCause (failed mid) (failed new) (the (Result Answer StoreFault) (Err fault)) →

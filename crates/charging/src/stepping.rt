@@ -36,8 +36,8 @@ pub fn step<K: Keeper>(
     ensures cleanness { K.clean keeper.new → K.clean keeper.old }
     ensures honesty { K.honest keeper.new → K.honest keeper.old }
     ensures stands { K.honest keeper.new → OnOk result (K.clean keeper.new) }
-    ensures left { Leaves K.honest K.left keeper.old keeper.new
-        (Writes shelf.now command moment (K.content keeper.old)) }
+    ensures left { Leaves K.honest K.left keeper.old keeper.new (λ t. K.clean keeper.old
+        × Writes shelf.now command moment (K.content keeper.old) t) }
     ensures cause { HasCause (K.failed keeper.old) (K.failed keeper.new) result }
     ensures again { K.clean keeper.new →
         IfOk result (IsAnsweredAgain shelf.now command (K.content keeper.old)
@@ -57,7 +57,7 @@ fn serve<K: Keeper>(
     ensures served { K.clean keeper.new →
         Serves shelf.now command moment (K.content keeper.old) (K.content keeper.new) result }
     ensures kept { Keeps K.content K.failed K.honest K.clean K.left keeper.old keeper.new
-        (Writes shelf.now command moment (K.content keeper.old)) result }
+        (λ t. K.clean keeper.old × Writes shelf.now command moment (K.content keeper.old) t) result }
 {
     let last = keeper.last()?;
     let moment = moment.max(last);

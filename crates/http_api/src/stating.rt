@@ -109,7 +109,8 @@ fn statement_of<K: ChargeSource>(
         text.items ≡ statement_text shelf.now.first asked.now.account asked.now.month
         state.now.moment
         rows state.now.buckets.items) }
-    ensures asks { Asks K.content K.failed K.clean keeper.old keeper.new result }
+    ensures asks { Asks K.content K.failed K.honest K.clean K.left keeper.old keeper.new
+        result }
 {
     let mut text = Vec::new(alloc);
     let buckets = state.buckets.as_slice();
