@@ -1,5 +1,5 @@
 ghost use Rattle.std.specs.Prelude.{◌≡◌, ◌≤◌, IfOk};
-ghost use Rattle.charging.specs.Continued.{Continues};
+ghost use Rattle.charging.specs.Continued.{Continues, LeavesOn};
 
 use crate::clock::Clock;
 use crate::fault::ServeFault;
@@ -30,6 +30,8 @@ pub fn serve_socket<K: ChargeSource, C: Clock>(
     ensures continued { K.clean keeper.new →
         Continues shelf.now (K.content keeper.old) (K.content keeper.new) }
     ensures cleanness { K.clean keeper.new → K.clean keeper.old }
+    ensures honesty { K.honest keeper.new → K.honest keeper.old }
+    ensures left { LeavesOn K.content K.honest K.clean K.left shelf.now keeper.old keeper.new }
     ensures failures { K.failed keeper.old ≤ K.failed keeper.new }
 {
     if limit(stream).is_err() {

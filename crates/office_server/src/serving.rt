@@ -1,7 +1,7 @@
 //! Connections of a listener, one after another.
 
 ghost use Rattle.std.specs.Prelude.{◌≡◌, ◌≤◌};
-ghost use Rattle.charging.specs.Continued.{Continues};
+ghost use Rattle.charging.specs.Continued.{Continues, LeavesOn};
 ghost use Rattle.office_server.specs.Told.{TellsFaults};
 
 use crate::telling::tell_fault;
@@ -30,6 +30,8 @@ pub fn serve_connections<K: ChargeSource, C: Clock, E: Write>(
     ensures continued { K.clean keeper.new →
         Continues shelf.now (K.content keeper.old) (K.content keeper.new) }
     ensures cleanness { K.clean keeper.new → K.clean keeper.old }
+    ensures honesty { K.honest keeper.new → K.honest keeper.old }
+    ensures left { LeavesOn K.content K.honest K.clean K.left shelf.now keeper.old keeper.new }
     ensures failures { K.failed keeper.old ≤ K.failed keeper.new }
 {
     let mut failed = 0;
@@ -53,6 +55,8 @@ fn serve_next<K: ChargeSource, C: Clock, E: Write>(
     ensures continued { K.clean keeper.new →
         Continues shelf.now (K.content keeper.old) (K.content keeper.new) }
     ensures cleanness { K.clean keeper.new → K.clean keeper.old }
+    ensures honesty { K.honest keeper.new → K.honest keeper.old }
+    ensures left { LeavesOn K.content K.honest K.clean K.left shelf.now keeper.old keeper.new }
     ensures failures { K.failed keeper.old ≤ K.failed keeper.new }
 {
     match serve_accepted(alloc, listener, keeper, shelf, clock) {
@@ -75,6 +79,8 @@ fn serve_accepted<K: ChargeSource, C: Clock>(
     ensures continued { K.clean keeper.new →
         Continues shelf.now (K.content keeper.old) (K.content keeper.new) }
     ensures cleanness { K.clean keeper.new → K.clean keeper.old }
+    ensures honesty { K.honest keeper.new → K.honest keeper.old }
+    ensures left { LeavesOn K.content K.honest K.clean K.left shelf.now keeper.old keeper.new }
     ensures failures { K.failed keeper.old ≤ K.failed keeper.new }
 {
     match listener.accept() {
