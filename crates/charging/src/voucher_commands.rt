@@ -201,7 +201,14 @@ fn credit_redeemed<K: Keeper>(
             let kept = kept_redemption(asked, number);
             let spent = Redeemed { code, voucher };
             let given = Answer::Bucket(number);
-            commit(keeper, loaded, Vec::new(alloc), Some(kept), Some(spent), given)
+            commit(
+                keeper,
+                loaded,
+                Vec::new(alloc),
+                Some(kept),
+                Some(spent),
+                given,
+            )
         }
         Ok(None) => {
             keeper.abandon(loaded);

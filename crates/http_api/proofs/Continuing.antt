@@ -62,8 +62,10 @@ module _ {K : Type 0} (content : K → Tables) (honest clean : K → Type 0)
           leaves mid held ⊎ (clean mid × ForEachList b (content mid) (IsContinued b held)) →
           leaves old held ⊎ (clean old × ForEachList b (content old) (IsContinued b held))
       at held h (inl l) = first (honesty h) held l
-      at held h (inr w) = inr (cleanness w.0,
-          continued_more b (content old) (content mid) held (continued w.0) w.1)
+      at held h (inr w) = inr (
+        cleanness w.0,
+        continued_more b (content old) (content mid) held (continued w.0) w.1,
+      )
 
 -- a step
 pub continued_step : (b : Shelf) (c : Command) (t : ℕ)
