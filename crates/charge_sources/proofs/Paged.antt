@@ -212,7 +212,8 @@ module _ {K V : Type 0} (content : K → Tables) (failed : K → ℕ) (honest cl
   -- what was shown until then is a beginning
   pub begun : {A : Type 0} (after : ℕ) (old mid now : K) (before seen : V) (Found : A → Type 0)
       (r : Result A StoreFault) →
-      HasShown after old mid before seen → Reads content failed honest clean leaves mid now Found r → clean now →
+      HasShown after old mid before seen →
+      Reads content failed honest clean leaves mid now Found r → clean now →
       SeesBeginning Sees from until ((content old).charges account) before seen
   begun after old mid now before seen Found r had read ok rows are =
       let p = is_between from until in (

@@ -12,9 +12,8 @@ loop-page-init g c = record {
   turns = λ clean. omega arith;
   asked = λ one. absurd (omega (arith, one));
   small = omega arith;
-  shown = none_shown g.K.Keeper.content g.K.Keeper.failed g.K.Keeper.honest g.K.Keeper.clean g.K.Keeper.left
-      g.V.ChargeVisitor.sees
-      c.args.account.now c.args.from c.args.until c.args.keeper.now c.args.visitor.now
+  shown = none_shown g.K.Keeper.content g.K.Keeper.failed g.K.Keeper.honest
+      g.K.Keeper.clean g.K.Keeper.left g.V.ChargeVisitor.sees c.args.account.now c.args.from c.args.until c.args.keeper.now c.args.visitor.now
       (g.met.K.ChargePages.numbered c.args.keeper.now c.args.account.now);
 }
 
@@ -56,9 +55,8 @@ loop-page-preserved g c = record {
       omega (arith, was, further);
   asked = λ one honest. c.in_ok-page.ensures.stands honest;
   small = omega arith;
-  shown = page_shown g.K.Keeper.content g.K.Keeper.failed g.K.Keeper.honest g.K.Keeper.clean g.K.Keeper.left
-      g.V.ChargeVisitor.sees
-      c.args.account.now c.args.from c.args.until c.loop-page.after c.args.keeper.now
+  shown = page_shown g.K.Keeper.content g.K.Keeper.failed g.K.Keeper.honest
+      g.K.Keeper.clean g.K.Keeper.left g.V.ChargeVisitor.sees c.args.account.now c.args.from c.args.until c.loop-page.after c.args.keeper.now
       c.loop-page.keeper c.page.new.self c.in_ok-page.page c.args.visitor.now c.loop-page.visitor
       c.show.new.visitor c.loop-page.invariant.shown c.in_ok-page.ensures
       (subst (λ l. Shows g.V.ChargeVisitor.sees (filter (is_between c.args.from c.args.until) l) _
