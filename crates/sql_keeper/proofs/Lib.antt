@@ -36,6 +36,8 @@ pub mod Repeating
 pub mod Settled
 pub mod Shelved
 pub mod Shelving
+pub mod Standing
+pub mod StillOpen
 pub mod Stopped
 pub mod Swept
 pub mod SweptReads
