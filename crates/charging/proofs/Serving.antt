@@ -1,7 +1,7 @@
 -- What a command comes to that names an account: its answer, the list after it, and the tables.
 use Rattle.std.proofs.Common.{◌≡◌, ℕ, ◌+◌, Bool, true, false, true≢false, List, ◌∷◌, ◌++◌, ◌≤◌}
 use Rattle.std.proofs.Common.{refl, sym, ap, subst, ◌∙◌, arith, Option, Some, None, ◌⊎◌, inl, inr}
-use Rattle.std.proofs.Math.Nat.{max-eq_left}
+use Rattle.std.proofs.Math.Nat.{le-max_right, max-eq_left}
 use Rattle.std.specs.Prelude.{if◌then◌else◌, is_some, max, Result, Ok, Err, OnOk, OnErr, IfOk}
 use Rattle.std.specs.Prelude.{MatchResult}
 use Rattle.commands.specs.declared.answer.Answer.{Answer}
@@ -31,8 +31,8 @@ use Rattle.charging.proofs.AcceptedTables.{Adds, tables_changed, row_none, row_s
 use Rattle.charging.specs.Outcomes.{book_days, outcome, opened_outcome, unopened_outcome}
 use Rattle.charging.proofs.NeverOpened.{kept-opened}
 use Rattle.charging.specs.Served.{history, voucher, standing, AreTables, answer_on, answer_to}
-use Rattle.charging.specs.Served.{accepts_on, accepts, with_command, IsServed}
-use Rattle.charging.specs.Stepping.{Commits, IsTaken}
+use Rattle.charging.specs.Served.{accepts_on, accepts, with_command, IsServed, Writes}
+use Rattle.charging.specs.Stepping.{Commits, IsTaken, WritesAt}
 
 -- what an account keeps once a command was accepted
 abbrev pub keeps : Option KeptAnswer → List KeptAnswer → List KeptAnswer
@@ -354,6 +354,15 @@ commits-same x y old new is made = subst (λ (c : Change). Commits c old new) is
 pub commits-from : (x : Change) (old mid new : Tables) → mid ≡ old → Commits x mid new →
     Commits x old new
 commits-from x old mid new same made = subst (λ (t : Tables). Commits x t new) same made
+
+-- tables that are written at the later of a command's moment and that of the last one
+pub writes-at : (b : Shelf) (c : Command) (t last : ℕ) (old mid new : Tables) → last ≡ old.last →
+    mid ≡ old → WritesAt b c (max t last) mid new → Writes b c t old new
+writes-at b c t last old mid new is same writes = λ list time are.
+    let now : last ≡ last_moment list = is ∙ are.last in
+    subst (λ (u : ℕ). AreTables b (with_command b list c (max t u)) new) now
+    (writes list time (subst (AreTables b list) (sym same) are)
+    (subst (λ (u : ℕ). u ≤ max t last) now (le-max_right t last)))
 
 -- a commit that answered, or left all as it was
 pub served-by : (b : Shelf) (list : List Accepted) (c : Command) (t : ℕ) (old mid new : Tables)

@@ -1,5 +1,4 @@
 ghost use Rattle.keepers.specs.Faults.{HasCause};
-ghost use Rattle.keepers.specs.Keeping.{Keeps};
 ghost use Rattle.std.specs.Prelude.{◌≡◌, IfOk, OnErr, OnOk};
 ghost use Rattle.charging.specs.Parts.{Leaves, PartKeeps};
 ghost use Rattle.charging.specs.Repeats.{IsAnsweredAgain};
@@ -56,8 +55,10 @@ fn serve<K: Keeper>(
 ) -> Result<Answer, StoreFault>
     ensures served { K.clean keeper.new →
         Serves shelf.now command moment (K.content keeper.old) (K.content keeper.new) result }
-    ensures kept { Keeps K.content K.failed K.honest K.clean K.left keeper.old keeper.new
-        (λ t. K.clean keeper.old × Writes shelf.now command moment (K.content keeper.old) t) result }
+    ensures kept { PartKeeps K.content K.failed K.honest K.clean keeper.old keeper.new result }
+    ensures stands { K.honest keeper.new → OnOk result (K.clean keeper.new) }
+    ensures left { Leaves K.honest K.left keeper.old keeper.new (λ t. K.clean keeper.old
+        × Writes shelf.now command moment (K.content keeper.old) t) }
 {
     let last = keeper.last()?;
     let moment = moment.max(last);
