@@ -10,16 +10,11 @@ use Rattle.sqlite.specs.Effect.{Database}
 use Rattle.sqlite.specs.Held.{state}
 use Rattle.sqlite.specs.State.{State, HasCleanDisk, Survives}
 use Rattle.sql_tables.specs.declared.reading.ReadFault.{ReadFault}
-use Rattle.sql_tables.specs.Statements.{OnlyReads, Reads as Told}
-use Rattle.sql_rows.specs.Content.{content_of}
+use Rattle.sql_tables.specs.Statements.{OnlyReads}
 use Rattle.keepers.specs.declared.fault.StoreFault.{StoreFault}
 use Rattle.keepers.specs.Faults.{HasCause, max_failures}
-use Rattle.keepers.specs.Keeping.{Reads}
 use Rattle.sql_keeper.specs.Asks.{IsHanded}
-use Rattle.sql_keeper.specs.Content.{tables_of}
-use Rattle.sql_keeper.specs.LiveGroups.{Gathers}
-use Rattle.sql_keeper.specs.Inside.{KeeperState, IsClean, StaysOpen, IsKeeper, tables_in, failed_in}
-use Rattle.sql_keeper.specs.Inside.{clean_in}
+use Rattle.sql_keeper.specs.Inside.{KeeperState, IsClean, StaysOpen, IsKeeper}
 use Rattle.sql_keeper.specs.Left.{IsHeld, IsLeft}
 
 pub none_more : (old new : ℕ) → old ≡ 0 → new ≡ 0 → MoreFaults old new → ⊥
@@ -105,49 +100,3 @@ keeper_after g old new keeper only survives text shelf last bounded = record {
         | inr no ↦ absurd no
       ]));
 }
-
--- what several reads tell is handed on as the law of keepers asks it
-pub asked_in_turn : {S T : Type 0} (g : Ghosts S) (old new : KeeperState S)
-    (told : Trees → T → Type 0) (Found : T → Type 0) (read : Result T ReadFault)
-    (result : Result T StoreFault)
-    → IsKeeper g old → Gathers told (state g old.connection) (state g new.connection) read
-    → new.names ≡ old.names → IsHanded read result → HasCause old.failures new.failures result
-    → ((x : T) → told (state g old.connection).now.trees x → Found x)
-    → Reads (tables_in g) failed_in (clean_in g) old new Found result
-asked_in_turn g old new told Found read result keeper reads names e cause to = record {
-  found = λ clean.
-      handed (told before.now.trees) Found read result e to
-      (reads.found clean.disk (open_of after stays clean));
-  same = λ clean. same (open_of after stays clean) clean.disk;
-  cleanness = was_clean before after stays reads.only;
-  cause = cause_at_most old.failures new.failures result cause;
-}
-  where
-    before : State
-    before = state g old.connection
-
-    after : State
-    after = state g new.connection
-
-    stays : StaysOpen after
-    stays = stays_open before after keeper.stays reads.only
-
-    same : IsTrue after.is_open → HasCleanDisk after → tables_in g new ≡ tables_in g old
-    same on clean = λ i. tables_of (names i)
-        (content_of (((reads.only.still clean on).now_is i).trees))
-
--- so is what one read tells
-pub asked : {S T : Type 0} (g : Ghosts S) (old new : KeeperState S) (told : Trees → T → Type 0)
-    (Found : T → Type 0) (read : Result T ReadFault) (result : Result T StoreFault)
-    → IsKeeper g old → Told told (state g old.connection) (state g new.connection) read
-    → new.names ≡ old.names → IsHanded read result → HasCause old.failures new.failures result
-    → ((x : T) → told (state g old.connection).now.trees x → Found x)
-    → Reads (tables_in g) failed_in (clean_in g) old new Found result
-asked g old new told Found read result keeper reads names e cause to =
-    asked_in_turn g old new told Found read result keeper
-    (record {
-      found = λ clean on. reads.found clean;
-      only = reads.only;
-      stays = λ clean on. reads.stays clean;
-      survives = reads.survives;
-    }) names e cause to
