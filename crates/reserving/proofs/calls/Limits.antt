@@ -50,12 +50,12 @@ pub grant_in_is : (a middle after : AccountRows) (s : List ℕ) (g t : ℕ) (req
     IsGrantIn s g t requested a after grant.units.0 at validity fewer
 grant_in_is a middle after s g t requested wanted grant at validity fewer q some switch valid few m
     e = record {
-  some = some;
-  units = ap (λ (x : Grant). x.units.0) q.grant;
-  switch = switch;
-  validity = valid;
-  fewer = few ∙ ap (nat_lt grant.units.0) q.wanted;
-  rows = e ∙ ap (reserved_account s g (held_due grant)) m
-      ∙ reserved_later a s g t (held_due grant)
-      ∙ ap (λ (x : Grant). reserved_account s g (held_due x) (advanced t a)) q.grant;
-}
+      some = some;
+      units = ap (λ (x : Grant). x.units.0) q.grant;
+      switch = switch;
+      validity = valid;
+      fewer = few ∙ ap (nat_lt grant.units.0) q.wanted;
+      rows = e ∙ ap (reserved_account s g (held_due grant)) m
+          ∙ reserved_later a s g t (held_due grant)
+          ∙ ap (λ (x : Grant). reserved_account s g (held_due x) (advanced t a)) q.grant;
+    }
