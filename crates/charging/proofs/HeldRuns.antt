@@ -221,7 +221,7 @@ module _ {K : Type 0} (content : K → Tables) (failed : K → ℕ) (honest clea
     held-failed t h (inr writes) = inr (held-next t h writes.1)
 
     pub run-failed : (fault : StoreFault) →
-        HasCause (failed mid) (failed new) (the (Result Answer StoreFault) (Err fault)) →
+        HasCause {T = Answer} (failed mid) (failed new) (Err fault) →
         RunsOver content failed honest clean leaves b commands old new
         (record { answers = answers; fault = Some fault })
     run-failed fault cause =

@@ -25,18 +25,18 @@ no_stores fault store memory (inr is) = memory is
 told_once : (fault : OpenFault) → ∥ IsStores fault ∥₁ → IsStores fault
 told_once Store told = inl refl
 told_once Memory told = inr refl
-told_once Foreign told = absurd (∥∥₁_elim empty_is_one
+told_once Foreign told = absurd (∥∥₁_elim told (λ x. absurd x)
     (no_stores Foreign (λ is. let no : Foreign ≡ Store = is in cc)
-    (λ is. let no : Foreign ≡ Memory = is in cc)) told)
-told_once Version told = absurd (∥∥₁_elim empty_is_one
+    (λ is. let no : Foreign ≡ Memory = is in cc)))
+told_once Version told = absurd (∥∥₁_elim told (λ x. absurd x)
     (no_stores Version (λ is. let no : Version ≡ Store = is in cc)
-    (λ is. let no : Version ≡ Memory = is in cc)) told)
-told_once Rules told = absurd (∥∥₁_elim empty_is_one
+    (λ is. let no : Version ≡ Memory = is in cc)))
+told_once Rules told = absurd (∥∥₁_elim told (λ x. absurd x)
     (no_stores Rules (λ is. let no : Rules ≡ Store = is in cc)
-    (λ is. let no : Rules ≡ Memory = is in cc)) told)
-told_once Older told = absurd (∥∥₁_elim empty_is_one
+    (λ is. let no : Rules ≡ Memory = is in cc)))
+told_once Older told = absurd (∥∥₁_elim told (λ x. absurd x)
     (no_stores Older (λ is. let no : Older ≡ Store = is in cc)
-    (λ is. let no : Older ≡ Memory = is in cc)) told)
+    (λ is. let no : Older ≡ Memory = is in cc)))
 
 pub found_by_next : {D E : Type 0} (g : Ghosts D) (e : Ghosts E)
     → AreSettled (over_files {g = g}) → IsFoundByNext g e
