@@ -1,6 +1,6 @@
 -- Rows that are brought to a moment: those that may still change alone, over all that are there, are
 -- the rows of the whole list at the moment. No ledger is needed.
-use Rattle.std.proofs.Common.{◌≡◌, ℕ, ◌+◌, ◌≤◌, Bool, true, false, cond, List, [], ◌∷◌, map, refl, sym}
+use Rattle.std.proofs.Common.{◌≡◌, ℕ, ◌+◌, ◌-◌, ◌≤◌, Bool, true, false, cond, List, [], ◌∷◌, map, refl, sym}
 use Rattle.std.proofs.Common.{ap, subst, ◌∙◌, arith, Option, Some, None}
 use Rattle.std.specs.Prelude.{if◌then◌else◌, ◌==◌, ◌&&◌, ◌*◌, not, nat_lt, option_map}
 use Rattle.std.specs.List.{find}
@@ -111,6 +111,31 @@ ended_stays : (v : ℕ → ℕ) (t : ℕ) (r : Session) → is_open r.state ≡ 
 ended_stays v t r e =
     ap (λ o. if o && not (nat_lt t (r.touched + 2 * v r.touched))
     then record r { state = Ended } else r) e
+
+-- what isn't there isn't there later either
+none_mapped : {A B : Type 0} (f : A → B) (o : Option A) → option_map f o ≡ None → o ≡ None
+none_mapped f None e = refl
+none_mapped f (Some x) e = absurd (no_some (f x) (sym e))
+
+pub none_ended : (shelf : Shelf) (t : ℕ) (w : StoredRows) (n : ℕ) →
+    bucket_in n (advanced_stored shelf t w).buckets ≡ None → bucket_in n w.buckets ≡ None
+none_ended shelf t w n e =
+    none_mapped (end_at t (is_live_in (validity_of shelf) t w.sessions) w.groups)
+    (bucket_in n w.buckets)
+    (sym (found_end t n (is_live_in (validity_of shelf) t w.sessions) w.groups w.buckets) ∙ e)
+
+pub none_lapsed : (shelf : Shelf) (t : ℕ) (w : StoredRows) (s : List ℕ) (g : ℕ) →
+    group_in s g (advanced_stored shelf t w).groups ≡ None → group_in s g w.groups ≡ None
+none_lapsed shelf t w s g e =
+    none_mapped (lapse_group (is_live_in (validity_of shelf) t w.sessions)) (group_in s g w.groups)
+    (sym (found_lapsed (is_live_in (validity_of shelf) t w.sessions) s g w.groups) ∙ e)
+
+pub none_kept : (shelf : Shelf) (t : ℕ) (w : StoredRows) (s : List ℕ) →
+    session_in s (advanced_stored shelf t w).sessions ≡ None → session_in s w.sessions ≡ None
+none_kept shelf t w s e =
+    none_mapped (lapse (validity_of shelf) t) (session_in s w.sessions)
+    (sym (find-map (is_session s) (lapse (validity_of shelf) t) w.sessions
+    (lapse-id (validity_of shelf) t s)) ∙ e)
 
 -- ---- all of it
 
