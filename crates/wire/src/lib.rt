@@ -5,6 +5,7 @@
 mod allowances;
 mod contents;
 mod credits;
+mod laws;
 mod redeeming;
 mod requests;
 
@@ -14,6 +15,7 @@ pub use crate::contents::{
     write_content,
 };
 pub use crate::credits::read_credit;
+pub use crate::laws::{allowance_is_read, credit_is_read, redemption_is_read};
 pub use crate::redeeming::read_redeem;
 pub use crate::requests::read_request;
 pub use json_fields::WireFault;
