@@ -32,6 +32,7 @@ pub mod Redeemed
 pub mod Repeating
 pub mod Shelved
 pub mod Shelving
+pub mod LoadedAlone
 pub mod Swept
 pub mod SweptReads
 pub mod Told
