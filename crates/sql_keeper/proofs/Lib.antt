@@ -39,6 +39,7 @@ pub mod Shelving
 pub mod Standing
 pub mod StillOpen
 pub mod Stopped
+pub mod LoadedAlone
 pub mod Swept
 pub mod SweptReads
 pub mod Told
