@@ -13,7 +13,7 @@ use Rattle.sql_opening.specs.declared.fault.OpenFault.{OpenFault}
 use Rattle.sql_opening.specs.declared.fault.OpenFault.TheVariants.{Foreign, Version, Rules, Store}
 use Rattle.sql_opening.specs.declared.fault.OpenFault.TheVariants.{Memory, Older}
 use Rattle.sql_keeper.specs.Causes.{IsStores}
-use Rattle.sql_keeper.proofs.Settled.{AreSettled}
+use Rattle.sql_keeper.specs.Settled.{AreSettled}
 use Rattle.sql_keeper.proofs.Stopped.{opened_again}
 use Rattle.database_files.specs.NextRun.{IsFoundByNext}
 

@@ -33,7 +33,6 @@ pub mod Puts
 pub mod Redeemed
 pub mod Reopening
 pub mod Repeating
-pub mod Settled
 pub mod Shelved
 pub mod Shelving
 pub mod Standing

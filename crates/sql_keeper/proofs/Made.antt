@@ -20,7 +20,7 @@ use Rattle.sql_keeper.specs.Left.{IsHeld, IsLeft}
 use Rattle.sql_keeper.specs.Shelves.{IsAlone, IsShelfOf}
 use Rattle.sql_keeper.specs.declared.books.ReadBooks.{ReadBooks}
 use Rattle.sql_keeper.proofs.Again.{alone_shelf}
-use Rattle.sql_keeper.proofs.Settled.{AreSettled}
+use Rattle.sql_keeper.specs.Settled.{AreSettled}
 use Rattle.sql_keeper.proofs.Whole.{settled_now}
 
 module _ {S : Type 0} (g : Ghosts S) (law : AreSettled g) (h : Held S) (r : ReadBooks)

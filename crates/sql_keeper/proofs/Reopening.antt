@@ -28,7 +28,7 @@ use Rattle.sql_keeper.specs.Stops.{IsWhole, trees_in}
 use Rattle.sql_keeper.proofs.Again.{held_committed}
 use Rattle.sql_keeper.proofs.Asked.{open_of}
 use Rattle.sql_keeper.proofs.OneShelf.{same_shelf}
-use Rattle.sql_keeper.proofs.Settled.{AreSettled, at_rest}
+use Rattle.sql_keeper.specs.Settled.{AreSettled, at_rest}
 use Rattle.sql_keeper.proofs.Stopped.{one_kept, opened_again, stopped_whole}
 
 -- ---- the store and the connection

@@ -23,7 +23,7 @@ use Rattle.sql_keeper.specs.Stops.{IsAtRest, MayLeave, trees_in}
 use Rattle.sql_keeper.proofs.Again.{found_again}
 use Rattle.sql_keeper.proofs.Asked.{open_of}
 use Rattle.sql_keeper.proofs.OneShelf.{same_shelf}
-use Rattle.sql_keeper.proofs.Settled.{AreSettled, at_rest}
+use Rattle.sql_keeper.specs.Settled.{AreSettled, at_rest}
 
 -- tables keep one text
 pub one_kept : (trees : Trees) (text more : List ℕ) → IsKept trees text → IsKept trees more

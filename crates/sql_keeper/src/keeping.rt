@@ -29,7 +29,7 @@ impl<S: Alter> Keeper for SqlKeeper<S> {
 
     ghost bounded = { λ k. min-le_right k.failures max_failures };
 
-    ghost use Rattle.sql_keeper.proofs.Settled.{settled_in};
+    ghost use Rattle.sql_keeper.specs.Settled.{settled_in};
 
     ghost honesty = { λ k clean. clean.disk };
 

@@ -1,4 +1,4 @@
-use Rattle.sql_keeper.proofs.Settled.{at_rest}
+use Rattle.sql_keeper.specs.Settled.{at_rest}
 use Rattle.sql_keeper.proofs.laws.a_stop_leaves_the_last_commit.Goals as goal
 
 pub returns : goal.returns
