@@ -22,6 +22,7 @@ pub mod HeldAlong
 pub mod InTurn
 pub mod LiveGroups
 pub mod LiveRows
+pub mod LoadedAlone
 pub mod Made
 pub mod Migrated
 pub mod Moved
@@ -38,7 +39,6 @@ pub mod Shelving
 pub mod Standing
 pub mod StillOpen
 pub mod Stopped
-pub mod LoadedAlone
 pub mod Swept
 pub mod SweptReads
 pub mod Told
