@@ -103,12 +103,12 @@ abbrev SameIfSo : Connection → Connection → Type 0
 SameIfSo x y = x.moments ≡ y.moments → x ≡ y
 
 -- lists of moments are split where they are equally long
-split_moments : (as bs cs ds : List (Option ℕ)) → length as ≡ length bs → as ++ cs ≡ bs ++ ds →
-    (as ≡ bs) × (cs ≡ ds)
-split_moments as bs cs ds long same = (
-  sym (take-append_seam as cs) ∙ ap (take (length as)) same ∙ ap (λ n. take n (bs ++ ds)) long
+split_moments : (us bs cs ds : List (Option ℕ)) → length us ≡ length bs → us ++ cs ≡ bs ++ ds →
+    (us ≡ bs) × (cs ≡ ds)
+split_moments us bs cs ds long same = (
+  sym (take-append_seam us cs) ∙ ap (take (length us)) same ∙ ap (λ n. take n (bs ++ ds)) long
       ∙ take-append_seam bs ds,
-  sym (drop-append_seam as cs) ∙ ap (drop (length as)) same ∙ ap (λ n. drop n (bs ++ ds)) long
+  sym (drop-append_seam us cs) ∙ ap (drop (length us)) same ∙ ap (λ n. drop n (bs ++ ds)) long
       ∙ drop-append_seam bs ds,
 )
 
