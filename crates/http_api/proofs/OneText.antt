@@ -64,7 +64,7 @@ are_turns b (suc n) first last (between, turns, turn) = (
 
 -- ---- how often the clock is asked is told by what is asked
 
-count_of : Asking → ℕ
+abbrev count_of : Asking → ℕ
 count_of (refuses code) = 0
 count_of (reads (Err fault)) = 0
 count_of (reads (Ok c)) = 1
@@ -77,7 +77,7 @@ due_count b list (reads (Err fault)) ms reply due = ap length due.0
 due_count b list (reads (Ok c)) ms reply due = ap length due.1
 due_count b list (states q) ms reply due = ap length due.1
 
-head_of : List (Option ℕ) → Option ℕ
+abbrev head_of : List (Option ℕ) → Option ℕ
 head_of [] = None
 head_of (m ∷ ms) = m
 
@@ -183,40 +183,52 @@ text_is_one b n stream list x y tx ty moments =
 
 -- ---- to its end
 
--- the connection after fewer turns
-earlier : (b : Shelf) (n k : ℕ) (first y : Connection) → DueTurns b (suc k + n) first y →
-    (v : Connection) × DueTurns b n first v × (w : Connection) × IsDueTurn b v w
-earlier b n zero first y (v, tv, ty) = (v, tv, (y, ty))
-earlier b n (suc k) first y (v, tv, ty) = earlier b n k first v tv
+-- the connection after fewer turns, and one turn more
+record IsEarlier (b : Shelf) (n : ℕ) (first : Connection) : Type 0 where
+  before : Connection
+  turns : DueTurns b n first before
+  after : Connection
+  turn : IsDueTurn b before after
+
+earlier : (b : Shelf) (n m : ℕ) (first y : Connection) → n < m → DueTurns b m first y →
+    IsEarlier b n first
+earlier b n zero first y less turns = absurd (omega (arith, less))
+earlier b n (suc m) first y less (v, turns, turn) =
+    by (nat_lt n m) refl (λ fewer. earlier b n m first v fewer turns)
+  where
+    by : (t : Bool) → nat_lt n m ≡ t → (n < m → IsEarlier b n first) → IsEarlier b n first
+    by true lt on = on (ltb-true n m lt)
+    by false lt on =
+        let most : m ≤ n = ltb-false n m lt in
+        let same : m ≡ n = omega (arith, less, most) in
+        record {
+          before = v;
+          turns = subst (λ k. DueTurns b k first v) same turns;
+          after = y;
+          turn = turn;
+        }
 
 no_turn : (b : Shelf) (v w x : Connection) → SameRest x v → IsOver x → IsDueTurn b v w → ⊥
-no_turn b v w x same (inl none) turn =
-    omega (arith, turn.taken, same.left, none)
+no_turn b v w x same (inl none) turn = omega (arith, turn.taken, same.left, none)
 no_turn b v w x same (inr over) turn =
     let next : turn.next ≡ ended = next_is_one v.rest turn.next ended turn.is_next
     (subst (λ r. IsNext r ended) same.rest over) in
     subst (λ n. NextGetsDue b n v w) next turn.gets
 
-not_fewer : (b : Shelf) (n k : ℕ) (first x y : Connection) → DueTurns b n first x →
-    DueTurns b (suc k + n) first y → IsOver x → ⊥
-not_fewer b n k first x y tx ty over =
-    let before = earlier b n k first y ty in
-    let both = alike b n first x before.0 tx before.1 in
-    no_turn b before.0 before.2.0 x both.0 over before.2.1
+not_fewer : (b : Shelf) (n m : ℕ) (first x y : Connection) → DueTurns b n first x →
+    DueTurns b m first y → IsOver x → n < m → ⊥
+not_fewer b n m first x y tx ty over less =
+    let sooner : IsEarlier b n first = earlier b n m first y less ty in
+    let both = alike b n first x sooner.before tx sooner.turns in
+    no_turn b sooner.before sooner.after x both.0 over sooner.turn
 
 by_counts : (b : Shelf) (n m : ℕ) (first x y : Connection) → DueTurns b n first x →
     DueTurns b m first y → IsOver x → IsOver y → n ≡ m
 by_counts b n m first x y tx ty ox oy = by (nat_lt n m) refl (nat_lt m n) refl
   where
     by : (s : Bool) → nat_lt n m ≡ s → (t : Bool) → nat_lt m n ≡ t → n ≡ m
-    by true s t r =
-        let less = ltb-true n m s in
-        let is : m ≡ suc (m - n - 1) + n = omega (arith, less) in
-        absurd (not_fewer b n (m - n - 1) first x y tx (subst (λ k. DueTurns b k first y) is ty) ox)
-    by false s true r =
-        let less = ltb-true m n r in
-        let is : n ≡ suc (n - m - 1) + m = omega (arith, less) in
-        absurd (not_fewer b m (n - m - 1) first y x ty (subst (λ k. DueTurns b k first x) is tx) oy)
+    by true s t r = absurd (not_fewer b n m first x y tx ty ox (ltb-true n m s))
+    by false s true r = absurd (not_fewer b m n first y x ty tx oy (ltb-true m n r))
     by false s false r = omega (arith, ltb-false n m s, ltb-false m n r)
 
 pub turns_are_one : TurnsAreOne
