@@ -80,7 +80,7 @@ module _ (from : ℕ) (text : List ℕ) (b : Book) (old mid : State) (before own
   leaves_none : LeavesDated from text b before own old mid
   leaves_none clean db may = elim (stops.crash clean db may) [
     | inl was ↦ inl was
-    | inr no ↦ absurd no
+    | inr none ↦ absurd none
   ]
 
   -- nothing was done

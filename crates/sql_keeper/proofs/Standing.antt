@@ -82,7 +82,7 @@ module _ {S : Type 0} (g : Ghosts S) (old new : KeeperState S) (keeper : IsKeepe
         (on_ok_as _ (clean_in g new) read (λ on. is_clean honest on.1) (asks.answered honest));
     left = λ honest t l. elim (asks.survives.crash honest l.db l.may) [
       | inl may ↦ left_before t l.db may l.is
-      | inr no ↦ absurd no
+      | inr none ↦ absurd none
     ];
     cause = cause_at_most old.failures new.failures result cause;
   }

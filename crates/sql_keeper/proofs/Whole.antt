@@ -138,7 +138,7 @@ module _ (Become : Trees → Trees → Type 0) (old mid new : State) (only : Onl
           → old.may_leave d ⊎ (IsTrue old.is_open × Become old.now.trees d)
       leaves_read clean' d may' = elim (stops.crash clean' d may') [
         | inl before ↦ inl before
-        | inr no ↦ absurd no
+        | inr none ↦ absurd none
       ]
 
 -- what isn't written
