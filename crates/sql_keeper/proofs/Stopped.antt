@@ -72,7 +72,7 @@ module _ {S T : Type 0} (g : Ghosts S) (e : Ghosts T) (law : AreSettled g) (old 
       may = may_now;
       left = o.left after;
       text = text_is;
-      own = o.fresh.shelf;
+      own = o.fresh.own;
       books = books_are;
       rests = at_rest_now;
     }
