@@ -3,10 +3,10 @@ ghost use Rattle.charging.specs.Continued.{Continues, LeavesOn};
 
 use crate::clock::Clock;
 use crate::fault::ServeFault;
+use crate::patient_socket::PatientSocket;
 use crate::serving::{Served, serve};
 use charge_sources::ChargeSource;
 use shelves::TariffShelf;
-use std::alloc::Global;
 use std::io;
 use std::net::TcpStream;
 use std::time::Duration;
@@ -15,12 +15,14 @@ use std::time::Duration;
 pub const SOCKET_SECONDS: u64 = 30;
 
 /// Serves the requests of a socket, as `serve`. Answers leave it without delay, and a read or a
-/// write that takes more than 30 seconds is a fault.
+/// write that takes more than 30 seconds is a fault. So is a read 60 seconds after the first bytes
+/// of a request, so that a peer that sends byte by byte keeps the next one waiting for no more than
+/// 90 seconds.
 ///
 /// # Errors
 /// As `serve`, and `Read` where the socket can't be set so; then nothing is read.
 pub fn serve_socket<K: ChargeSource, C: Clock>(
-    alloc: Global,
+    rt: &HostRuntime,
     stream: &TcpStream,
     keeper: &mut K,
     shelf: &TariffShelf,
@@ -37,7 +39,8 @@ pub fn serve_socket<K: ChargeSource, C: Clock>(
     if limit(stream).is_err() {
         return Err(ServeFault::Read);
     }
-    serve(alloc, &mut &*stream, &mut &*stream, keeper, shelf, clock)
+    let socket = PatientSocket::new(rt, stream);
+    serve(rt.alloc(), &mut &socket, &mut &socket, keeper, shelf, clock)
 }
 
 /// Sets what a socket delays, and how long it waits.

@@ -21,5 +21,7 @@ pub mod Leaving
 pub mod PartsKept
 pub mod PartsLoaded
 pub mod PartsWritten
+pub mod HeldWithin
+pub mod SweptRows
 pub mod PartsSwept
 pub mod PastCounters

@@ -14,7 +14,7 @@ use Rattle.reserving.specs.Ledger.{Ledger}
 use Rattle.keepers.specs.declared.key.Key.{Key}
 use Rattle.keepers.specs.Keys.{same_key}
 use Rattle.keepers.specs.declared.entries.Entry.{Entry}
-use Rattle.keepers.specs.Change.{AreRowsAt, IsSwept}
+use Rattle.keepers.specs.Change.{AreRowsAt, AreBroughtTo, IsSwept}
 use Rattle.keepers.specs.Memory.{is_entry, entry_in, rows_of_entry, answer_of_entry}
 use Rattle.keepers.specs.Memory.{charges_of_entry, IsSweptEntry, AreSwept, VoucherMap}
 use Rattle.keepers.specs.Memory.{memory_tables}
@@ -62,6 +62,7 @@ record AreSeen (shelf : Shelf) (t : ℕ) (x y : Option Entry) : Type 0 where
   none : (rows_of_entry x).head ≡ None → rows_of_entry y ≡ rows_of_entry x
   rows : (ledger : Ledger) (u : ℕ) → u ≤ t → AreRowsAt shelf ledger u (rows_of_entry x) →
       AreRowsAt shelf ledger t (rows_of_entry y)
+  listed : AreBroughtTo shelf t (rows_of_entry x) (rows_of_entry y)
   answers : (k : Key) → answer_of_entry k y ≡ answer_of_entry k x
   charges : charges_of_entry y ≡ charges_of_entry x
 
@@ -70,6 +71,7 @@ seen_one : (shelf : Shelf) (t : ℕ) (x y : Entry) → IsSweptEntry shelf t x y 
 seen_one shelf t x y h = record {
   none = λ e. absurd (no_some _ (sym e));
   rows = h.rows;
+  listed = h.listed;
   answers = λ k. ap (λ m. get same_key m k) h.answers;
   charges = ap (λ c. c.items) h.charges;
 }
@@ -80,6 +82,7 @@ all_seen shelf t [] [] a h =
     record {
       none = λ e. refl;
       rows = λ ledger u le r. absurd (no_some _ r.are.head);
+      listed = λ w are is le. absurd (no_some _ are.head);
       answers = λ k. refl;
       charges = refl;
     }
@@ -109,6 +112,7 @@ swept_tables shelf t last vouchers xs ys h = record {
   last = refl;
   none = λ a. (all_seen shelf t xs ys a h).none;
   rows = λ a. (all_seen shelf t xs ys a h).rows;
+  listed = λ a. (all_seen shelf t xs ys a h).listed;
   answers = λ a. (all_seen shelf t xs ys a h).answers;
   charges = λ a n. ap (charge_in n) (all_seen shelf t xs ys a h).charges;
   vouchers = λ code. refl;

@@ -12,7 +12,7 @@ use Rattle.reserving.specs.Ledger.{Ledger}
 use Rattle.reserving.specs.Pricing.{cycle_at}
 use Rattle.reserving.specs.Sessions.{is_open, session_in, group_in, counter_in}
 use Rattle.reserving.specs.Rows.{AccountRows, AreApart, IsRowsOf}
-use Rattle.reserving.specs.Stored.{StoredRows, IsStored, stored, priced}
+use Rattle.reserving.specs.Stored.{StoredRows, IsStored, stored, priced, advanced_stored}
 use Rattle.reserving.specs.Left.{is_dead, is_open_row, only, first_of, bucket_in, IsDead}
 use Rattle.redemptions.specs.declared.terms.VoucherTerms.{VoucherTerms}
 use Rattle.redemptions.specs.declared.voucher.Voucher.{Voucher}
@@ -149,12 +149,19 @@ pub record AreRowsAt (shelf : Shelf) (ledger : Ledger) (t : ℕ) (r : Rows) : Ty
   pub moment : listed.as_of ≡ t
   pub rows : IsRowsOf ledger (priced shelf listed)
 
+-- from any list of an account's rows that isn't of a later moment, of no ledger too: its rows at the
+-- moment
+abbrev pub AreBroughtTo : Shelf → ℕ → Rows → Rows → Type 0
+AreBroughtTo shelf t old new = (w : StoredRows) → AreListed w old → IsStored w → w.as_of ≤ t →
+    AreListed (advanced_stored shelf t w) new
+
 pub record IsSwept (shelf : Shelf) (t : ℕ) (old new : Tables) : Type 0 where
   pub last : new.last ≡ t
   pub none : (a : List ℕ) → (old.rows a).head ≡ None → new.rows a ≡ old.rows a
   pub rows : (a : List ℕ) (ledger : Ledger) (u : ℕ) → u ≤ t →
       AreRowsAt shelf ledger u (old.rows a) →
       AreRowsAt shelf ledger t (new.rows a)
+  pub listed : (a : List ℕ) → AreBroughtTo shelf t (old.rows a) (new.rows a)
   pub answers : (a : List ℕ) (k : Key) → new.answers a k ≡ old.answers a k
   pub charges : (a : List ℕ) (n : ℕ) → new.charges a n ≡ old.charges a n
   pub vouchers : (code : List ℕ) → new.vouchers code ≡ old.vouchers code

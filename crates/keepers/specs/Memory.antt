@@ -17,7 +17,7 @@ use Rattle.keepers.specs.Keys.{same_key}
 use Rattle.keepers.specs.declared.entries.Entry.{Entry}
 use Rattle.keepers.specs.Tables.{Rows, Tables, no_rows, charge_in}
 use Rattle.keepers.specs.Parts.{rows_of}
-use Rattle.keepers.specs.Change.{AreRowsAt, IsMadeFrom, kept_after, over}
+use Rattle.keepers.specs.Change.{AreRowsAt, AreBroughtTo, IsMadeFrom, kept_after, over}
 use Rattle.reserving.specs.Ledger.{Ledger}
 use Rattle.reserving.specs.Stored.{StoredRows}
 
@@ -84,6 +84,7 @@ pub record IsSweptEntry (shelf : Shelf) (t : ℕ) (old new : Entry) : Type 0 whe
   pub number : new.number ≡ old.number
   pub rows : (ledger : Ledger) (u : ℕ) → u ≤ t → AreRowsAt shelf ledger u (rows_of old.rows) →
       AreRowsAt shelf ledger t (rows_of new.rows)
+  pub listed : AreBroughtTo shelf t (rows_of old.rows) (rows_of new.rows)
   pub charges : new.charges ≡ old.charges
   pub answers : new.answers ≡ old.answers
 

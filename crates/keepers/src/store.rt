@@ -7,7 +7,8 @@ ghost use Rattle.std.specs.Prelude.{position};
 ghost use Rattle.reserving.specs.Sessions.{session_in, group_in, counter_in, is_session, is_of};
 ghost use Rattle.reserving.specs.Sessions.{is_counter};
 ghost use Rattle.reserving.specs.Left.{bucket_in, is_dead};
-ghost use Rattle.keepers.specs.Change.{IsLoadedFrom, IsMadeFrom, over, AreRowsAt, AreDeadOf};
+ghost use Rattle.keepers.specs.Change.{IsLoadedFrom, IsMadeFrom, over, AreRowsAt, AreBroughtTo};
+ghost use Rattle.keepers.specs.Change.{AreDeadOf};
 ghost use Rattle.reserving.specs.Stored.{StoredRows};
 ghost use Rattle.reserving.specs.Ledger.{Ledger};
 ghost use Rattle.keepers.specs.Tables.{no_rows};
@@ -169,6 +170,7 @@ impl Store {
         ensures rows { (ledger : Ledger) (u : ℕ) → u ≤ moment →
             AreRowsAt shelf.now ledger u (rows_of self.old) →
             AreRowsAt shelf.now ledger moment (rows_of self.new) }
+        ensures listed { AreBroughtTo shelf.now moment (rows_of self.old) (rows_of self.new) }
     {
         let _kept = self.live.as_of();
         let _ranges = shelf.first();

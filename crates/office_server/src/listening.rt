@@ -47,7 +47,7 @@ pub fn serve_database<O: Write, E: Write>(
     tell_listening(rt.alloc(), words.port, output)?;
     let mut clock = OfficeClock::new(rt, words.at);
     Ok(serve_connections(
-        rt.alloc(),
+        rt,
         &listener,
         words.connections,
         &mut keeper,

@@ -1,7 +1,8 @@
 -- What each call makes of an account's rows.
 -- Source: profile; they follow the ledger's definitions.
-use Rattle.std.specs.Prelude.{ℕ, ◌+◌, ◌*◌, ◌≤◌, Bool, not, ◌&&◌, nat_lt, if◌then◌else◌, List, []}
-use Rattle.std.specs.Prelude.{◌∷◌, Option, Some, None, map, unwrap_or, option_map}
+use Rattle.std.specs.Prelude.{ℕ, ◌+◌, ◌*◌, ◌≤◌, Bool, false, not, ◌&&◌, nat_lt, nat_le}
+use Rattle.std.specs.Prelude.{if◌then◌else◌, List, [], ◌∷◌, Option, Some, None, map, unwrap_or}
+use Rattle.std.specs.Prelude.{option_map}
 use Rattle.units.specs.declared.blocks.UsedPart.{UsedPart}
 use Rattle.buckets.specs.declared.holds.Hold.{Hold}
 use Rattle.buckets.specs.Row.{Row, is_eligible, with_end, with_release, new_row}
@@ -9,7 +10,7 @@ use Rattle.buckets.specs.declared.kind.BucketKind.{BucketKind}
 use Rattle.buckets.specs.declared.kind.BucketKind.TheVariants.{Blocks}
 use Rattle.buckets.specs.declared.kind.Due.{Due}
 use Rattle.buckets.specs.Share.{sum_in}
-use Rattle.buckets.specs.Spend.{Each, inserted, held_rows, allowance}
+use Rattle.buckets.specs.Spend.{Each, inserted, held_rows, funds, allowance}
 use Rattle.buckets.specs.Holding.{settled_rows, released_rows, holds_of, held_sum}
 use Rattle.reserving.specs.declared.session.Session.{Session}
 use Rattle.reserving.specs.declared.session.SessionState.{SessionState}
@@ -19,12 +20,14 @@ use Rattle.reserving.specs.declared.session.Reservation.{Reservation}
 use Rattle.reserving.specs.declared.session.Counter.{Counter}
 use Rattle.reserving.specs.Ledger.{is_same}
 use Rattle.reserving.specs.declared.session.Terms.{Terms}
+use Rattle.rating.specs.declared.grant.Grant.{Grant}
 use Rattle.rating.specs.declared.report.Rated.{Rated}
-use Rattle.reserving.specs.Pricing.{cycle_at, terms_at, validity_of}
+use Rattle.reserving.specs.Pricing.{tariff_at, cycle_at, periods_at, terms_at, validity_of}
+use Rattle.reserving.specs.Pricing.{grant_with}
 use Rattle.reserving.specs.Keyed.{put}
 use Rattle.reserving.specs.Sessions.{is_session, is_of, group_in, is_counter, counter_in, is_open}
 use Rattle.reserving.specs.Sessions.{is_live_in, held_by, holds_in}
-use Rattle.reserving.specs.Settlement.{reported, price_of, due_of}
+use Rattle.reserving.specs.Settlement.{reported, price_of, due_of, passes}
 use Rattle.reserving.specs.Debiting.{untagged}
 use Rattle.reserving.specs.Rows.{AccountRows}
 use Rattle.reserving.specs.Sessions.{group_before, session_before, counter_before}
@@ -137,6 +140,13 @@ price_in s g t used_parts a =
     price_of a.shelf t g (terms_in s g a.groups) (used_in s g a.groups)
     (count_in g (cycle_at a.shelf g t) a.counters) (coverable_in s g t a) used_parts
 
+-- a stored number would pass its limit, by the rows
+abbrev pub passes_in : List ℕ → ℕ → ℕ → List UsedPart → AccountRows → Bool
+passes_in s g t [] a = false
+passes_in s g t (p ∷ ps) a =
+    passes (used_in s g a.groups) (reported (p ∷ ps)) (count_in g (cycle_at a.shelf g t) a.counters)
+    (price_in s g t (p ∷ ps) a).blocks a.next_charge
+
 abbrev pub settled_by_rows : List ℕ → ℕ → List UsedPart → AccountRows → AccountRows
 settled_by_rows s g [] a = ended_rows s g a
 settled_by_rows s g (p ∷ ps) a =
@@ -154,6 +164,17 @@ event_price_in g covered units t a =
 -- what they cost beside the allowance
 abbrev pub rest_price_in : ℕ → ℕ → ℕ → AccountRows → Rated
 rest_price_in g units t a = event_price_in g (allowance g t (advanced t a).buckets) units t a
+
+-- the eligible buckets have this price
+abbrev pub is_covered_in : ℕ → ℕ → ℕ → AccountRows → Bool
+is_covered_in g units t a =
+    nat_le (rest_price_in g units t a).amount.0 (funds g t (advanced t a).buckets)
+
+-- a stored number would pass its limit
+abbrev pub debit_passes_in : List ℕ → ℕ → ℕ → ℕ → AccountRows → Bool
+debit_passes_in s g units t a =
+    passes (used_in s g a.groups) units (count_in g (cycle_at a.shelf g t) a.counters)
+    (rest_price_in g units t a).blocks a.next_charge
 
 -- an event's use leaves the group's reservation as it is
 abbrev pub with_event : List ℕ → ℕ → ℕ → List SessionGroup → List SessionGroup
@@ -175,6 +196,13 @@ debited_account s g units blocks due a = record a {
 }
 
 -- ---- reservation
+
+-- what a session would be granted, by the rows
+abbrev pub granted_in : List ℕ → ℕ → ℕ → Option ℕ → AccountRows → Grant
+granted_in s g t requested a =
+    grant_with (tariff_at a.shelf t g) (periods_at a.shelf t) (used_in s g a.groups)
+    (count_in g (cycle_at a.shelf g t) a.counters) requested (funds g t (advanced t a).buckets)
+    (allowance g t (advanced t a).buckets)
 
 abbrev pub with_reservation : List ℕ → ℕ → Terms → List Hold → List SessionGroup →
     List SessionGroup

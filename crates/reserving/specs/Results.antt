@@ -20,6 +20,7 @@ use Rattle.reserving.specs.Settlement.{report_price, missing}
 use Rattle.reserving.specs.Reservation.{reserved, grant_for, held_due}
 use Rattle.reserving.specs.Debiting.{rest_price, is_covered, debit_passes, debited}
 use Rattle.reserving.specs.Rows.{AccountRows, IsRowsOf}
+use Rattle.reserving.specs.Changes.{advanced, granted_in, reserved_account}
 
 -- the blocks that a report starts, those that allowances cover, the price of the others, and what
 -- of it is collected and isn't
@@ -63,6 +64,25 @@ GivesGrant b t session group requested ledger after Nothing =
     IsRowsOf ledger after
 GivesGrant b t session group requested ledger after (Units units switch validity fewer) =
     IsGrantOf b t session group requested ledger after units.0 switch validity fewer
+
+-- the same by the account's rows, whatever they are
+pub record IsGrantIn (session : List ℕ) (group t : ℕ) (requested : Option ℕ)
+    (before after : AccountRows) (given : ℕ) (at : Option ℕ) (seconds : ℕ) (final : Bool)
+    : Type 0 where
+  pub some : 0 < given
+  pub units : given ≡ (granted_in session group t requested before).units.0
+  pub switch : at ≡ switch_at before.shelf t
+  pub validity : seconds ≡ validity_at before.shelf t
+  pub fewer : final ≡ nat_lt given (wanted_with (tariff_at before.shelf t group) requested)
+  pub rows : after
+      ≡ reserved_account session group (held_due (granted_in session group t requested before))
+      (advanced t before)
+
+abbrev pub GivesGrantIn : List ℕ → ℕ → ℕ → Option ℕ → AccountRows → AccountRows → Granted → Type 0
+GivesGrantIn session group t requested before after Nothing =
+    ((granted_in session group t requested before).units.0 ≡ 0) × (after ≡ advanced t before)
+GivesGrantIn session group t requested before after (Units units switch validity fewer) =
+    IsGrantIn session group t requested before after units.0 switch validity fewer
 
 -- units that are granted are some, of a group with a tariff, and no more than its greatest grant
 pub record IsWithin (t : Option GroupTariff) (units : ℕ) : Type 0 where

@@ -1,5 +1,5 @@
-ghost use Rattle.std.specs.Prelude.{◌≡◌, ◌+◌, ◌≤◌, ◌<◌, ℕ, true, None, List, [], is_some, OnErr};
-ghost use Rattle.std.specs.Prelude.{IfOk, IfSome, Err};
+ghost use Rattle.std.specs.Prelude.{◌≡◌, ◌+◌, ◌≤◌, ◌<◌, ℕ, true, false, None, List, [], is_some};
+ghost use Rattle.std.specs.Prelude.{OnErr, IfOk, IfSome, Err};
 ghost use Rattle.buckets.specs.Holding.{uncollected};
 ghost use Rattle.reserving.specs.Ledger.{Ledger};
 ghost use Rattle.reserving.specs.Pricing.{cycle_at};
@@ -11,7 +11,7 @@ ghost use Rattle.reserving.specs.Rows.{IsAccount, IsRowsOf};
 ghost use Rattle.reserving.specs.Left.{LeftRows, joined, IsBeside, IsWith};
 ghost use Rattle.reserving.specs.Results.{IsDebit};
 ghost use Rattle.reserving.specs.Changes.{advanced, used_in, count_in, event_price_in};
-ghost use Rattle.reserving.specs.Changes.{rest_price_in};
+ghost use Rattle.reserving.specs.Changes.{rest_price_in, is_covered_in, debit_passes_in};
 ghost use Rattle.reserving.specs.Changes.{debited_account};
 
 use crate::account::Account;
@@ -116,6 +116,13 @@ impl<'b> Account<'b> {
             group_in session.now group left.groups ≡ None → IsWith ledger left moment self.old →
             (is_covered self.old.shelf moment group units.0 ledger ≡ true) ×
             (debit_passes self.old.shelf moment session.now group units.0 ledger ≡ true) }
+        ensures covered_rows { IfOk result
+            (λ s. is_some s ≡ is_covered_in group units.0 moment self.old) }
+        ensures within_rows { IfOk result (λ s. IfSome s (λ given.
+            debit_passes_in session.now group units.0 moment self.old ≡ false)) }
+        ensures limit_rows { result ≡ Err AccountFault.Limit →
+            (is_covered_in group units.0 moment self.old ≡ true) ×
+            (debit_passes_in session.now group units.0 moment self.old ≡ true) }
         ensures by_rows { IfOk result
             (λ s. IfSome s (λ given. self.new ≡ debited_account session.now group units.0
             (rest_price_in group units.0 moment self.old).blocks

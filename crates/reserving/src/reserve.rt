@@ -14,7 +14,7 @@ ghost use Rattle.reserving.specs.Prepared.{with_group_row, reservation_in};
 ghost use Rattle.reserving.specs.Rows.{IsAccount, IsRowsOf};
 ghost use Rattle.reserving.specs.Placed.{AreOfBook};
 ghost use Rattle.reserving.specs.Left.{LeftRows, joined, IsBeside, IsWith};
-ghost use Rattle.reserving.specs.Results.{GivesGrant, IsWithinGrant};
+ghost use Rattle.reserving.specs.Results.{GivesGrant, GivesGrantIn, IsWithinGrant};
 
 use crate::account::Account;
 use crate::fault::AccountFault;
@@ -82,6 +82,9 @@ impl<'b> Account<'b> {
             IsBeside left moment self.new ×
             GivesGrant self.old.shelf moment session.now group (option_map (λ u. u.0) requested)
             ledger (joined left self.new) granted) }
+        ensures by_rows { IfOk result
+            (GivesGrantIn session.now group moment (option_map (λ u. u.0) requested) self.old
+            self.new) }
         ensures as_of { OnOk result (self.new.as_of ≡ moment) }
         ensures tariff { self.new.shelf ≡ self.old.shelf }
         ensures sessions { OnOk result (self.new.sessions ≡ (advanced moment self.old).sessions) }

@@ -74,8 +74,8 @@ impl<'b> Account<'b> {
     ghost use Rattle.reserving.specs.Pricing.{cycle_at, units_of, terms_now};
     ghost use Rattle.reserving.specs.Sessions.{group_in, counter_in};
     ghost use Rattle.reserving.specs.Changes.{advanced, used_in, reserved_in, terms_in, count_in};
-    ghost use Rattle.reserving.specs.Changes.{price_in, settled_account, settled_by_rows};
-    ghost use Rattle.reserving.specs.Changes.{ended_rows};
+    ghost use Rattle.reserving.specs.Changes.{price_in, passes_in, settled_account};
+    ghost use Rattle.reserving.specs.Changes.{settled_by_rows, ended_rows};
     ghost use Rattle.reserving.specs.Prepared.{with_rows, reservation_in};
 
     /// Settles a report of a live session's use of a rating group, and ends its reservation (RFC
@@ -125,6 +125,10 @@ impl<'b> Account<'b> {
         ensures limit_left { result ≡ Err AccountFault.Limit → (ledger : Ledger) (left : LeftRows) →
             IsWith ledger left moment self.old →
             passes_limit self.old.shelf moment session.now group parts.now ledger ≡ true }
+        ensures within_rows { OnOk result
+            (passes_in session.now group moment parts.now self.old ≡ false) }
+        ensures limit_rows { result ≡ Err AccountFault.Limit →
+            passes_in session.now group moment parts.now self.old ≡ true }
         ensures ended { parts.now ≡ [] → IsOk result }
         ensures free { OnOk result (reservation_in session.now group self.new.groups ≡ None) }
         ensures others { OnOk result

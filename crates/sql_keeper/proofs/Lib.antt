@@ -22,6 +22,7 @@ pub mod HeldAlong
 pub mod InTurn
 pub mod LiveGroups
 pub mod LiveRows
+pub mod LoadedAlone
 pub mod Made
 pub mod Migrated
 pub mod Moved

@@ -7,19 +7,15 @@ use Rattle.std.proofs.lemmas.Bool.Decides.{nat_tests}
 use Rattle.identifiers.specs.Texts.{same_name}
 use Rattle.shelves.specs.Shelves.{Shelf, IsShelf}
 use Rattle.reserving.specs.Ledger.{Ledger}
-use Rattle.reserving.specs.Changes.{advanced}
-use Rattle.reserving.specs.Left.{left_of}
-use Rattle.reserving.specs.Rows.{EachIn, AreApart, IsAccount}
+use Rattle.reserving.specs.Sessions.{session_in, group_in}
+use Rattle.reserving.specs.Rows.{EachIn, AreApart}
 use Rattle.reserving.specs.Stored.{StoredRows, IsStored, priced, advanced_stored}
-use Rattle.reserving.proofs.LeftMore.{with_advanced}
 use Rattle.reserving.proofs.Lists.{no_some, some_of, EachIn-weaker}
-use Rattle.reserving.proofs.StoredRows.{IsAccount-priced}
 use Rattle.reserving.proofs.LeftTests.{none_more}
 use Rattle.keepers.specs.declared.key.Key.{Key}
-use Rattle.keepers.specs.Tables.{Head, head_of as kept_head}
-use Rattle.keepers.specs.Change.{IsLoadedFrom, AreRowsAt, IsMadeFrom, IsSwept, over}
-use Rattle.keepers.proofs.Leaving.{left_behind}
-use Rattle.keepers.proofs.Taking.{taken}
+use Rattle.keepers.specs.Tables.{Head, head_of as kept_head, GroupRow, AreListed}
+use Rattle.keepers.specs.Change.{IsLoadedFrom, AreRowsAt, AreBroughtTo, IsMadeFrom, IsSwept, over}
+use Rattle.keepers.proofs.SweptRows.{brought_over, rows_brought}
 use Rattle.sql_rows.specs.declared.head.Head.{Head as HeadColumns}
 use Rattle.sql_rows.specs.Content.{Rows as Stored, Content, with_meta}
 use Rattle.sql_keeper.specs.Content.{head_in, rows_of, is_numbered, charge_of, answer_in, last_in}
@@ -35,62 +31,53 @@ use Rattle.sql_keeper.proofs.Changed.{over_stored, stored_over, keyed, rows_read
 use Rattle.sql_keeper.proofs.Changed.{same_texts}
 use Rattle.sql_keeper.specs.Content.{told_charge}
 use Rattle.sql_keeper.proofs.LiveRows.{live_loaded}
+use Rattle.sql_keeper.proofs.LoadedAlone.{loaded_may_change, free_later}
 use Rattle.sql_keeper.proofs.Overlays.{name_from, opened}
 
 -- ---- one account
 
-module _ (names : Names) (shelf : Shelf) (t : ℕ) (rows : Stored)
-    (ranges : IsShelf shelf) where
-  module _ (before : StoredRows) (live : IsLiveAccount names shelf t rows (Some before))
-      (kept : IsStored before) (ledger : Ledger) (u : ℕ) (early : u ≤ t)
-      (h : AreRowsAt shelf ledger u (rows_of names rows)) where
-    own : IsAccount (priced shelf before)
-    own = IsAccount-priced shelf before ranges kept
+module _ (names : Names) (shelf : Shelf) (t : ℕ) (rows : Stored) where
+  -- rows that aren't of a later moment are brought on
+  swept_is : (before : StoredRows) → before.as_of ≤ t →
+      rows_at shelf t before ≡ advanced_stored shelf t before
+  swept_is before early = at (nat_le before.as_of t) (no_test before.as_of t early)
+    where
+      no_test : (n m : ℕ) → n ≤ m → nat_le n m ≡ true
+      no_test n m le = grind (arith, nat_tests)
 
-    loads : IsLoadedFrom shelf t (rows_of names rows) (priced shelf before)
-    loads = live_loaded names shelf t rows before live
+      at : (b : Bool) → b ≡ true
+          → (if b then advanced_stored shelf t before else before) ≡ advanced_stored
+          shelf t before
+      at true e = refl
+      at false e = absurd (true≢false (sym e))
 
-    no_later : before.as_of ≤ t
-    no_later =
-        let same : kept_head before ≡ kept_head h.listed =
-        some_of (kept_head before) (kept_head h.listed) (sym loads.head ∙ h.are.head) in
-        subst (λ n. n ≤ t) (sym (ap (λ (x : Head). x.as_of) same ∙ h.moment)) early
+  abbrev IsFree : StoredRows → Type 0
+  IsFree x = (s : List ℕ) (g : ℕ) (y : GroupRow) → (rows_of names rows).groups s g ≡ Some y
+      → group_in s g x.groups ≡ None → (y.terms ≡ None) × (session_in s x.sessions ≡ None)
 
-    -- what was loaded and brought on is over what was there as the ledger's rows of the later
-    -- moment
-    pub brought_on : IsMadeFrom before (advanced_stored shelf t before) (rows_of names rows)
-        × AreRowsAt shelf ledger t (over (advanced_stored shelf t before) (rows_of names rows))
-    brought_on =
-        left_behind shelf ledger ledger u t (rows_of names rows) (priced shelf before)
-        (advanced t (priced shelf before)) h own loads refl (record { front = []; is = refl })
-        (with_advanced ledger (left_of t (priced shelf h.listed)) t (priced shelf before) no_later
-        (taken shelf ledger u t (rows_of names rows) (priced shelf before) h own loads))
-
-    pub swept_is : rows_at shelf t before ≡ advanced_stored shelf t before
-    swept_is = at (nat_le before.as_of t) (no_test before.as_of t no_later)
-      where
-        no_test : (n m : ℕ) → n ≤ m → nat_le n m ≡ true
-        no_test n m le = grind (arith, nat_tests)
-
-        at : (b : Bool) → b ≡ true
-            → (if b then advanced_stored shelf t before else before) ≡ advanced_stored
-            shelf t before
-        at true e = refl
-        at false e = absurd (true≢false (sym e))
-
-  swept_one : (w : StoredRows) → AreSweptRows names shelf t rows w
-      → (ledger : Ledger) (u : ℕ) → u ≤ t → AreRowsAt shelf ledger u (rows_of names rows)
-      → AreRowsAt shelf ledger t (rows_of names (over_stored names w rows))
-  swept_one w s ledger u early h =
-      let both = brought_on s.before s.live s.kept ledger u early h in
-      let is : advanced_stored shelf t s.before ≡ w =
-      sym (s.is ∙ swept_is s.before s.live s.kept ledger u early h) in
-      let made : IsMadeFrom s.before w (rows_of names rows) =
-      subst (λ x. IsMadeFrom s.before x (rows_of names rows)) is both.0 in
-      subst (AreRowsAt shelf ledger t)
-      (sym (rows_read names w rows made.free (may_at names w.sessions w.groups s.may)
-      (keyed w s.stored).scoped))
-      (subst (λ x. AreRowsAt shelf ledger t (over x (rows_of names rows))) is both.1)
+  -- what was loaded and brought on, written over what was there
+  listed_one : (w : StoredRows) → AreSweptRows names shelf t rows w
+      → AreBroughtTo shelf t (rows_of names rows) (rows_of names (over_stored names w rows))
+  listed_one w s v are kept early =
+      let loads : IsLoadedFrom shelf t (rows_of names rows) (priced shelf s.before) =
+      live_loaded names shelf t rows s.before s.live in
+      let made : IsMadeFrom s.before s.before (rows_of names rows) =
+      loaded_may_change shelf t (rows_of names rows) (priced shelf s.before) loads in
+      let same : kept_head s.before ≡ kept_head v =
+      some_of (kept_head s.before) (kept_head v) (sym loads.head ∙ are.head) in
+      let no_later : s.before.as_of ≤ t =
+      subst (λ n. n ≤ t) (sym (ap (λ (x : Head). x.as_of) same)) early in
+      let is : advanced_stored shelf t s.before ≡ w = sym (s.is ∙ swept_is s.before no_later) in
+      subst (AreListed (advanced_stored shelf t v))
+      (sym (rows_read names w rows (free_of w s.before made is)
+      (may_at names w.sessions w.groups s.may) (keyed w s.stored).scoped))
+      (subst (λ x. AreListed (advanced_stored shelf t v) (over x (rows_of names rows))) is
+      (brought_over shelf t s.before v (rows_of names rows) made loads.head s.kept are kept))
+    where
+      free_of : (x before : StoredRows) → IsMadeFrom before before (rows_of names rows)
+          → advanced_stored shelf t before ≡ x → IsFree x
+      free_of x before made is =
+          subst IsFree is (free_later shelf t before (rows_of names rows) made)
 
 next_is : (shelf : Shelf) (t : ℕ) (w : StoredRows) → (rows_at shelf t w).next_charge ≡ w.next_charge
 next_is shelf t w = at (nat_le w.as_of t)
@@ -256,6 +243,7 @@ module _ (names : Names) (text : List ℕ) (shelf : Shelf) (t : ℕ) (c : Conten
     none : (rows_of names (c.rows a)).head ≡ None → rows_of names r ≡ rows_of names (c.rows a)
     rows : (ledger : Ledger) (u : ℕ) → u ≤ t → AreRowsAt shelf ledger u (rows_of names (c.rows a))
         → AreRowsAt shelf ledger t (rows_of names r)
+    listed : AreBroughtTo shelf t (rows_of names (c.rows a)) (rows_of names r)
     answers : (k : Key) → answer_in a k r ≡ answer_in a k (c.rows a)
     charges : (n : ℕ) → charge_of n r ≡ charge_of n (c.rows a)
 
@@ -263,7 +251,9 @@ module _ (names : Names) (text : List ℕ) (shelf : Shelf) (t : ℕ) (c : Conten
       → AreSeen a (over_stored names x.rows (c.rows a))
   seen_of a x one is = record {
     none = λ e. absurd (no_some _ (sym e ∙ ap (option_map head_in) here.live.0));
-    rows = swept_one names shelf t (c.rows a) ranges x.rows here;
+    rows = rows_brought shelf t (rows_of names (c.rows a)) _ ranges
+        (listed_one names shelf t (c.rows a) x.rows here);
+    listed = listed_one names shelf t (c.rows a) x.rows here;
     answers = λ k. same_texts a k names x.rows [] (c.rows a);
     charges = λ n. numbered_still n (head_of here.before) (head_of x.rows) (c.rows a)
         (ap (λ (w : StoredRows). w.next_charge) here.is ∙ next_is shelf t here.before) here.live.0;
@@ -278,6 +268,9 @@ module _ (names : Names) (text : List ℕ) (shelf : Shelf) (t : ℕ) (c : Conten
     rows = λ ledger u early h. absurd (headless (c.rows a).head
         (sym (all.all.found a) ∙ found_number a xs ∙ ap is_some none)
         (λ e. no_some _ (sym e ∙ h.are.head)));
+    listed = λ w are kept early. absurd (headless (c.rows a).head
+        (sym (all.all.found a) ∙ found_number a xs ∙ ap is_some none)
+        (λ e. no_some _ (sym e ∙ are.head)));
     answers = λ k. refl;
     charges = λ n. refl;
   }
@@ -301,6 +294,7 @@ module _ (names : Names) (text : List ℕ) (shelf : Shelf) (t : ℕ) (c : Conten
     last = ap last_in (meta_after names xs (with_meta (meta_at text t) c) may);
     none = λ a. (seen a).none;
     rows = λ a. (seen a).rows;
+    listed = λ a. (seen a).listed;
     answers = λ a. (seen a).answers;
     charges = λ a. (seen a).charges;
     vouchers = λ code. ap (λ f. option_map voucher_in (f code))

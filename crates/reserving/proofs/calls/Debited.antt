@@ -39,7 +39,7 @@ use Rattle.reserving.proofs.rows.Debited.{IsRowsOf-debited}
 
 -- ---- an event's price
 
-at_least : (x y : ℕ) → nat_le y x ≡ not (is_lt (nat_cmp x y))
+pub at_least : (x y : ℕ) → nat_le y x ≡ not (is_lt (nat_cmp x y))
 at_least x y = by_ranked (x < y) (x ≡ y) (y < x) (nat_cmp x y) (ranked x y _ refl)
     (λ e l. (let t : nat_le y x ≡ false = grind (arith, nat_tests) in
     t ∙ sym (ap (λ o. not (is_lt o)) e)))

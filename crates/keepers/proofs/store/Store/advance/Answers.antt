@@ -1,9 +1,10 @@
 use Rattle.std.proofs.Common.{sym, subst}
 use Rattle.reserving.specs.Stored.{StoredRows}
-use Rattle.keepers.specs.Change.{AreRowsAt}
+use Rattle.keepers.specs.Change.{AreBroughtTo}
 use Rattle.keepers.specs.Parts.{Parts, AreParts, rows_of}
 use Rattle.keepers.proofs.PartsKept.{parts_advanced}
-use Rattle.keepers.proofs.PartsSwept.{swept_parts}
+use Rattle.keepers.proofs.PartsSwept.{parts_brought}
+use Rattle.keepers.proofs.SweptRows.{rows_brought}
 use Rattle.keepers.specs.Inside.{parts_of}
 use Rattle.keepers.proofs.store.Store.advance.Goals as goal
 
@@ -20,12 +21,17 @@ invariant_of-self c =
       groups = c.self.invariant.groups;
     }
 
-pub returns-clause-rows : goal.returns-clause-rows
-returns-clause-rows c = λ ledger u le are.
+pub returns-clause-listed : goal.returns-clause-listed
+returns-clause-listed c =
     let p : Parts = parts_of c.self.inside in
-    subst (λ (w : StoredRows). AreRowsAt c.args.shelf.now ledger c.args.moment
+    subst (λ (q : Parts). AreBroughtTo c.args.shelf.now c.args.moment (rows_of q)
+    (rows_of (record { live = c.advance.new.self; left = p.left }))) c.self.view_is
+    (subst (λ (w : StoredRows). AreBroughtTo c.args.shelf.now c.args.moment (rows_of p)
     (rows_of (record { live = w; left = p.left }))) (sym c.advance.ensures)
-    (swept_parts c.args.shelf.now ledger u c.args.moment p c.first-ranges.ensures.shelf
-    c.self.invariant.parts c.as_of-kept.ensures.kept le
-    (subst (λ (q : Parts). AreRowsAt c.args.shelf.now ledger u (rows_of q))
-    (sym c.self.view_is) are))
+    (parts_brought c.args.shelf.now c.args.moment p c.self.invariant.parts
+    c.as_of-kept.ensures.kept))
+
+pub returns-clause-rows : goal.returns-clause-rows
+returns-clause-rows c =
+    rows_brought c.args.shelf.now c.args.moment (rows_of c.args.self.now) _
+    c.first-ranges.ensures.shelf (returns-clause-listed c)

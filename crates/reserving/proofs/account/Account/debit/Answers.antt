@@ -18,6 +18,7 @@ use Rattle.reserving.proofs.calls.Settled.{used_middle, count_middle}
 use Rattle.reserving.proofs.ChargeRows.{charge-numbered}
 use Rattle.reserving.proofs.calls.Debited.{IsDebitMade, debited_is, covered_is, debit_passes_is}
 use Rattle.reserving.proofs.calls.Debited.{debit_is}
+use Rattle.reserving.proofs.calls.Limits.{covered_in_is}
 use Rattle.reserving.specs.Sessions.{is_of}
 use Rattle.reserving.proofs.LeftTests.{none_each}
 use Rattle.reserving.proofs.LeftReadings.{debit_passes_told}
@@ -252,3 +253,37 @@ returns-clause-by_rows c =
     ∙ (λ i. debited_account c.args.session.now c.args.group c.args.units.0 (started c i)
     (due (price c i) (cover c i))
     (advanced c.args.moment a))
+
+pub returns-then-lt-clause-covered_rows : goal.returns-then-lt-clause-covered_rows
+returns-then-lt-clause-covered_rows c =
+    sym (covered_in_is true c.args.self.now c.args.group c.args.units.0 c.args.moment
+    c.funds.result.0 c.rest_price-price.result.amount.0 c.funds.ensures.rows
+    (ap (λ (x : Rated). x.amount.0) c.rest_price-price.ensures.value)
+    (sym c.lt.ensures ∙ c.if-lt.true))
+
+pub returns-in_default-clause-limit_rows : goal.returns-in_default-clause-limit_rows
+returns-in_default-clause-limit_rows c = λ e. (
+  covered_in_is false c.args.self.now c.args.group c.args.units.0 c.args.moment c.funds.result.0
+      c.rest_price-price.result.amount.0 c.funds.ensures.rows
+      (ap (λ (x : Rated). x.amount.0) c.rest_price-price.ensures.value)
+      (sym c.lt.ensures ∙ c.if-lt.false),
+  (λ i. passes (used_in c.args.session.now c.args.group c.args.self.now.groups) c.args.units.0
+      (count_in c.args.group (cycle_at c.args.self.now.shelf c.args.group c.args.moment)
+      c.args.self.now.counters) (sym c.rest_price-price.ensures.value i).blocks
+      c.args.self.now.next_charge) ∙ c.within_limits.ensures.none c.in_default.is,
+)
+
+pub returns-clause-covered_rows : goal.returns-clause-covered_rows
+returns-clause-covered_rows c =
+    sym (covered_in_is false c.args.self.now c.args.group c.args.units.0 c.args.moment
+    c.funds.result.0 c.rest_price-price.result.amount.0 c.funds.ensures.rows
+    (ap (λ (x : Rated). x.amount.0) c.rest_price-price.ensures.value)
+    (sym c.lt.ensures ∙ c.if-lt.false))
+
+pub returns-clause-within_rows : goal.returns-clause-within_rows
+returns-clause-within_rows c =
+    ap (λ (x : Rated). passes (used_in c.args.session.now c.args.group c.args.self.now.groups)
+    c.args.units.0
+    (count_in c.args.group (cycle_at c.args.self.now.shelf c.args.group c.args.moment)
+    c.args.self.now.counters) x.blocks c.args.self.now.next_charge)
+    (sym c.rest_price-price.ensures.value) ∙ c.in-Some.ensures.some

@@ -14,6 +14,7 @@ use Rattle.reserving.proofs.ReservedCall.{quota_of, grant_told, quota_covered, g
 use Rattle.reserving.proofs.ReservedCall.{within_grant, allowed_middle, quota_allowed}
 use Rattle.reserving.proofs.ReservedCall.{tariff_middle}
 use Rattle.reserving.proofs.calls.StillFree.{others_advanced, others_reserved}
+use Rattle.reserving.proofs.calls.Limits.{grant_in_is}
 use Rattle.reserving.specs.Left.{IsWith}
 use Rattle.reserving.proofs.left.Granted.{nothing_beside, grant_beside}
 use Rattle.reserving.proofs.rows.Calm.{live_middle}
@@ -195,3 +196,17 @@ returns-clause-left c = λ ledger left h.
     (nat_lt (granted c).units.0 c.quota-quota.result.wanted)
     h c.requires.moment c.requires.live c.requires.free (quota_told c) (some_units c) (switch c)
     (validity c) refl (brought c) c.hold_quota.ensures
+
+pub returns-then-quota-eq0-clause-by_rows : goal.returns-then-quota-eq0-clause-by_rows
+returns-then-quota-eq0-clause-by_rows c = (
+  sym (ap (λ (x : Grant). x.units.0) (nothing_told c).grant) ∙ c.if-quota-eq0.true,
+  c.advance.ensures.rows,
+)
+
+pub returns-clause-by_rows : goal.returns-clause-by_rows
+returns-clause-by_rows c =
+    grant_in_is c.args.self.now c.advance-2.new.self c.hold_quota.new.self c.args.session.now
+    c.args.group c.args.moment (requested_units c) c.quota-quota.result.wanted (granted c)
+    c.window_at-window.result.switch c.window_at-window.result.validity
+    (nat_lt (granted c).units.0 c.quota-quota.result.wanted)
+    (quota_told c) (some_units c) (switch c) (validity c) refl (brought c) c.hold_quota.ensures

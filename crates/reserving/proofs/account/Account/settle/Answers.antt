@@ -12,6 +12,7 @@ use Rattle.reserving.proofs.calls.Settled.{count_middle, rows_settled, settled_i
 use Rattle.reserving.proofs.calls.Settled.{settlement_is}
 use Rattle.reserving.proofs.calls.Freed.{ended_free, settled_free}
 use Rattle.reserving.proofs.calls.StillFree.{others_ended, others_settled}
+use Rattle.reserving.proofs.calls.Limits.{passes_in_some, passes_in_none}
 use Rattle.reserving.proofs.left.Settled.{left_ended, left_settled}
 use Rattle.reserving.proofs.LeftReadings.{passes_told}
 use Rattle.reserving.proofs.left.Settlement.{settlement_beside}
@@ -256,3 +257,19 @@ returns-clause-by_rows c =
     c.in-Some.ensures.units c.in-Some.ensures.blocks (due_is' c)
     (c.advance-2.ensures.rows ∙ ap (advanced c.args.moment) c.in_ok-make_rows.ensures.ok)
     c.settle_use-charged.ensures.rows
+
+pub returns-then-is_empty-clause-within_rows : goal.returns-then-is_empty-clause-within_rows
+returns-then-is_empty-clause-within_rows c =
+    passes_in_none c.args.session.now c.args.group c.args.moment c.args.parts.now c.args.self.now
+    (is_nothing c.args.parts.now (sym c.is_empty.ensures ∙ c.if-is_empty.true))
+
+pub returns-in_default-clause-limit_rows : goal.returns-in_default-clause-limit_rows
+returns-in_default-clause-limit_rows c = λ e.
+    passes_in_some c.args.session.now c.args.group c.args.moment c.args.parts.now c.args.self.now
+    (is_something c.args.parts.now (sym c.is_empty.ensures ∙ c.if-is_empty.false))
+    ∙ c.rate.ensures.none c.in_default.is
+
+pub returns-clause-within_rows : goal.returns-clause-within_rows
+returns-clause-within_rows c =
+    passes_in_some c.args.session.now c.args.group c.args.moment c.args.parts.now c.args.self.now
+    (is_something c.args.parts.now (sym c.is_empty.ensures ∙ c.if-is_empty.false)) ∙ within c
