@@ -53,7 +53,7 @@ same_office image k s opened clean db text shelf held left is =
     is in (
       one,
       ap (λ (n : Names). tables_of n (content_of (trees_in over_files k)))
-          (opened.fresh.names ∙ ap shelf_names one)
+          (ap shelf_names (opened.fresh.own ∙ one))
           ∙ ap (λ (t : Trees). tables_of (shelf_names shelf) (content_of t)) rows,
     )
 
