@@ -62,7 +62,8 @@ same_fault {A} {B} e f is = ap (λ x. Err x) (inner is)
     inner : ◌≡◌ {A = Result B StoreFault} (Err e) (Err f) → e ≡ f
     inner h = cc
 
-module _ {K V : Type 0} (content : K → Tables) (failed : K → ℕ) (clean : K → Type 0)
+module _ {K V : Type 0} (content : K → Tables) (failed : K → ℕ) (honest clean : K → Type 0)
+    (leaves : K → Tables → Type 0)
     (Sees : V → ChargeColumns → Bool → V → Type 0) (account : List ℕ) (from until : ℕ) where
   in_range : List ChargeColumns → List ChargeColumns
   in_range rows = filter (is_between from until) rows
@@ -74,6 +75,8 @@ module _ {K V : Type 0} (content : K → Tables) (failed : K → ℕ) (clean : K
   pub record HasShown (after : ℕ) (old now : K) (before seen : V) : Type 0 where
     pub same : clean now → content now ≡ content old
     pub cleanness : clean now → clean old
+    pub honesty : honest now → honest old
+    pub left : honest now → (t : Tables) → leaves now t → leaves old t
     pub kept : failed old ≤ failed now
     pub shown : clean now → (rows : List ChargeColumns) →
         AreCharges ((content old).charges account) rows →
@@ -83,6 +86,8 @@ module _ {K V : Type 0} (content : K → Tables) (failed : K → ℕ) (clean : K
   none_shown k v none = record {
     same = λ clean. refl;
     cleanness = λ clean. clean;
+    honesty = λ honest. honest;
+    left = λ honest t may. may;
     kept = omega arith;
     shown = λ clean rows are.
         subst (λ l. Shows Sees (filter (is_between from until) l) true v v)
@@ -92,7 +97,7 @@ module _ {K V : Type 0} (content : K → Tables) (failed : K → ℕ) (clean : K
   -- what a page's rows are shown for
   paged : (after : ℕ) (old mid now : K) (page : ChargePage) (before seen next : V) (all : Bool) →
       HasShown after old mid before seen →
-      Reads content failed clean mid now (Pages mid after) (Ok page) →
+      Reads content failed honest clean leaves mid now (Pages mid after) (Ok page) →
       Shows Sees (filter (is_between from until) page.rows.items) all seen next → clean now →
       (rows : List ChargeColumns) → AreCharges ((content old).charges account) rows →
       Shows Sees (filter (is_between from until) (up_to page.last rows)) all before next
@@ -112,12 +117,14 @@ module _ {K V : Type 0} (content : K → Tables) (failed : K → ℕ) (clean : K
   -- one page more
   pub page_shown : (after : ℕ) (old mid now : K) (page : ChargePage) (before seen next : V) →
       HasShown after old mid before seen →
-      Reads content failed clean mid now (Pages mid after) (Ok page) →
+      Reads content failed honest clean leaves mid now (Pages mid after) (Ok page) →
       Shows Sees (filter (is_between from until) page.rows.items) true seen next →
       HasShown page.last old now before next
   page_shown after old mid now page before seen next had read shows = record {
     same = λ ok. read.same ok ∙ had.same (read.cleanness ok);
     cleanness = λ ok. had.cleanness (read.cleanness ok);
+    honesty = λ h. had.honesty (read.honesty h);
+    left = λ h t may. had.left (read.honesty h) t (read.left h t may);
     kept = let one = had.kept in let two = read.cause.kept in omega (arith, one, two);
     shown = paged after old mid now page before seen next true had read shows;
   }
@@ -125,14 +132,17 @@ module _ {K V : Type 0} (content : K → Tables) (failed : K → ℕ) (clean : K
   -- an answer after a page
   answers : (after : ℕ) (old mid now : K) (page : ChargePage) (before seen next : V) →
       HasShown after old mid before seen →
-      Reads content failed clean mid now (Pages mid after) (Ok page) →
+      Reads content failed honest clean leaves mid now (Pages mid after) (Ok page) →
       (clean now → SeesCharges Sees from until ((content old).charges account) before next) →
-      Reads {T = Unit {0}} content failed clean old now
+      Reads {T = Unit {0}} content failed honest clean leaves old now
       (λ done. SeesCharges Sees from until ((content old).charges account) before next) (Ok tt)
   answers after old mid now page before seen next had read sees = record {
     found = sees;
     same = λ ok. read.same ok ∙ had.same (read.cleanness ok);
     cleanness = λ ok. had.cleanness (read.cleanness ok);
+    honesty = λ h. had.honesty (read.honesty h);
+    left = λ h t may. had.left (read.honesty h) t (read.left h t may);
+    stands = read.stands;
     cause = record {
       kept = let one = had.kept in let two = read.cause.kept in omega (arith, one, two);
       cause = λ is. absurd (let e = is in cc);
@@ -142,9 +152,9 @@ module _ {K V : Type 0} (content : K → Tables) (failed : K → ℕ) (clean : K
   -- the visitor stopped
   pub stopped : (after : ℕ) (old mid now : K) (page : ChargePage) (before seen next : V) →
       HasShown after old mid before seen →
-      Reads content failed clean mid now (Pages mid after) (Ok page) →
+      Reads content failed honest clean leaves mid now (Pages mid after) (Ok page) →
       Shows Sees (filter (is_between from until) page.rows.items) false seen next →
-      Reads {T = Unit {0}} content failed clean old now
+      Reads {T = Unit {0}} content failed honest clean leaves old now
       (λ done. SeesCharges Sees from until ((content old).charges account) before next) (Ok tt)
   stopped after old mid now page before seen next had read shows =
       let p = is_between from until in
@@ -161,10 +171,10 @@ module _ {K V : Type 0} (content : K → Tables) (failed : K → ℕ) (clean : K
   -- no page is left
   pub ended : (after : ℕ) (old mid now : K) (page : ChargePage) (before seen next : V) →
       HasShown after old mid before seen →
-      Reads content failed clean mid now (Pages mid after) (Ok page) →
+      Reads content failed honest clean leaves mid now (Pages mid after) (Ok page) →
       Shows Sees (filter (is_between from until) page.rows.items) true seen next →
       page.is_last ≡ true →
-      Reads {T = Unit {0}} content failed clean old now
+      Reads {T = Unit {0}} content failed honest clean leaves old now
       (λ done. SeesCharges Sees from until ((content old).charges account) before next) (Ok tt)
   ended after old mid now page before seen next had read shows last =
       let p = is_between from until in
@@ -182,12 +192,15 @@ module _ {K V : Type 0} (content : K → Tables) (failed : K → ℕ) (clean : K
   pub failed_then : {A B : Type 0} (after : ℕ) (old mid now : K) (before seen : V)
       (Found : A → Type 0) (Seen : B → Type 0) (e : StoreFault) →
       HasShown after old mid before seen →
-      Reads content failed clean mid now Found (Err e) →
-      Reads content failed clean old now Seen (Err e)
+      Reads content failed honest clean leaves mid now Found (Err e) →
+      Reads content failed honest clean leaves old now Seen (Err e)
   failed_then after old mid now before seen Found Seen e had read = record {
     found = λ ok. tt;
     same = λ ok. read.same ok ∙ had.same (read.cleanness ok);
     cleanness = λ ok. had.cleanness (read.cleanness ok);
+    honesty = λ h. had.honesty (read.honesty h);
+    left = λ h t may. had.left (read.honesty h) t (read.left h t may);
+    stands = λ h. tt;
     cause = record {
       kept = let one = had.kept in let two = read.cause.kept in omega (arith, one, two);
       cause = λ is.
@@ -199,7 +212,8 @@ module _ {K V : Type 0} (content : K → Tables) (failed : K → ℕ) (clean : K
   -- what was shown until then is a beginning
   pub begun : {A : Type 0} (after : ℕ) (old mid now : K) (before seen : V) (Found : A → Type 0)
       (r : Result A StoreFault) →
-      HasShown after old mid before seen → Reads content failed clean mid now Found r → clean now →
+      HasShown after old mid before seen →
+      Reads content failed honest clean leaves mid now Found r → clean now →
       SeesBeginning Sees from until ((content old).charges account) before seen
   begun after old mid now before seen Found r had read ok rows are =
       let p = is_between from until in (
@@ -212,12 +226,15 @@ module _ {K V : Type 0} (content : K → Tables) (failed : K → ℕ) (clean : K
 
   -- nothing is said of a store that isn't clean
   pub never : (after : ℕ) (old now : K) (before seen : V) → HasShown after old now before seen →
-      (clean now → ⊥) →
-      Reads {T = Unit {0}} content failed clean old now
+      (honest now → clean now) → (clean now → ⊥) →
+      Reads {T = Unit {0}} content failed honest clean leaves old now
       (λ done. SeesCharges Sees from until ((content old).charges account) before seen) (Ok tt)
-  never after old now before seen had unclean = record {
+  never after old now before seen had asked unclean = record {
     found = λ ok. absurd (unclean ok);
     same = had.same;
     cleanness = had.cleanness;
+    honesty = had.honesty;
+    stands = asked;
+    left = had.left;
     cause = record { kept = had.kept; cause = λ is. absurd (let e = is in cc) };
   }

@@ -28,7 +28,7 @@ pub trait ChargePages: Keeper {
     /// The charges of an account beyond this number, as many as a page has; none where there is no
     /// account.
     fn page(&mut self, account: &AccountNumber, after: u32) -> Result<ChargePage, StoreFault>
-        ensures { Reads Self.content Self.failed Self.clean self.old self.new
+        ensures { Reads Self.content Self.failed Self.honest Self.clean Self.left self.old self.new
             (λ page. IsPage ((Self.content self.old).charges account.now) after page) result };
 
     /// Charges are numbered from 1.
@@ -47,7 +47,7 @@ pub fn show_pages<K: ChargePages, V: ChargeVisitor>(
     until: Moment,
     visitor: &mut V,
 ) -> Result<(), StoreFault>
-    ensures reads { Reads K.content K.failed K.clean keeper.old keeper.new
+    ensures reads { Reads K.content K.failed K.honest K.clean K.left keeper.old keeper.new
         (λ _. SeesCharges V.sees from until ((K.content keeper.old).charges account.now)
         visitor.old visitor.new) result }
     ensures beginning { K.clean keeper.new →

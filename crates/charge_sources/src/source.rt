@@ -32,9 +32,9 @@ pub trait ChargeSource: Keeper {
         until: Moment,
         visitor: &mut V,
     ) -> Result<(), StoreFault>
-        ensures reads { Reads Self.content Self.failed Self.clean self.old self.new
-            (λ _. SeesCharges V.sees from until ((Self.content self.old).charges account.now)
-            visitor.old visitor.new) result }
+        ensures reads { Reads Self.content Self.failed Self.honest Self.clean Self.left self.old
+            self.new (λ _. SeesCharges V.sees from until
+            ((Self.content self.old).charges account.now) visitor.old visitor.new) result }
         ensures beginning { Self.clean self.new →
             OnErr result (SeesBeginning V.sees from until
             ((Self.content self.old).charges account.now) visitor.old visitor.new) };

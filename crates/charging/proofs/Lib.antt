@@ -15,6 +15,7 @@ pub mod Vouchered
 pub mod ByNumber
 pub mod Stated
 pub mod RunLemmas
+pub mod HeldRuns
 pub mod BucketSums
 pub mod Steps
 pub mod Credited

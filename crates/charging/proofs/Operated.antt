@@ -42,7 +42,7 @@ use Rattle.charging.specs.Outcomes.{book_days, outcome, told, done, keeping, rep
 use Rattle.charging.specs.Outcomes.{from_of, until_of, is_unusable, is_full, is_out_of_range}
 use Rattle.charging.specs.Outcomes.{new_credit, opened_outcome, unopened_outcome}
 use Rattle.charging.specs.Served.{history, standing, AreTables, IsServed}
-use Rattle.charging.specs.Stepping.{IsTaken, Credits, Makes, bar_command}
+use Rattle.charging.specs.Stepping.{IsTaken, WritesAt, Credits, Makes, bar_command}
 use Rattle.charging.proofs.AcceptedTables.{tables_swept}
 use Rattle.charging.proofs.NeverOpened.{unopened-ledger}
 use Rattle.charging.proofs.KeptKeys.{credit-repeated, credit-fresh}
@@ -64,6 +64,11 @@ sweep-served b list t n old new time tables le count swept = record {
   time = (le, time);
   same = λ e. absurd (true≢false e);
 }
+
+pub sweep-writes : (b : Shelf) (t : ℕ) (old new : Tables) → IsSwept b t old new →
+    WritesAt b command.Sweep t old new
+sweep-writes b t old new swept = λ list time is le.
+    (sweep-served b list t old.count old new time is le refl swept).tables
 
 -- ---- an account is opened
 

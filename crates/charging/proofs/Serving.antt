@@ -1,8 +1,9 @@
 -- What a command comes to that names an account: its answer, the list after it, and the tables.
 use Rattle.std.proofs.Common.{◌≡◌, ℕ, ◌+◌, Bool, true, false, true≢false, List, ◌∷◌, ◌++◌, ◌≤◌}
-use Rattle.std.proofs.Common.{refl, sym, ap, subst, ◌∙◌, arith, Option, Some, None}
-use Rattle.std.proofs.Math.Nat.{max-eq_left}
-use Rattle.std.specs.Prelude.{if◌then◌else◌, is_some, max, Result, Ok, Err, OnOk}
+use Rattle.std.proofs.Common.{refl, sym, ap, subst, ◌∙◌, arith, Option, Some, None, ◌⊎◌, inl, inr}
+use Rattle.std.proofs.Math.Nat.{le-max_right, max-eq_left}
+use Rattle.std.specs.Prelude.{if◌then◌else◌, is_some, max, Result, Ok, Err, OnOk, OnErr, IfOk}
+use Rattle.std.specs.Prelude.{MatchResult}
 use Rattle.commands.specs.declared.answer.Answer.{Answer}
 use Rattle.commands.specs.declared.command.Command.{Command}
 use Rattle.shelves.specs.Shelves.{Shelf}
@@ -12,6 +13,7 @@ use Rattle.reserving.specs.Stored.{StoredRows, stored, priced}
 use Rattle.reserving.specs.Left.{left_of, IsWith}
 use Rattle.reserving.proofs.Lists.{some_of}
 use Rattle.reserving.proofs.Keys.{is_same-refl}
+use Rattle.keepers.specs.declared.fault.StoreFault.{StoreFault}
 use Rattle.keepers.specs.declared.key.Key.{Key}
 use Rattle.keepers.specs.declared.key.KeptAnswer.{KeptAnswer}
 use Rattle.keepers.specs.declared.loaded.Change.{Change}
@@ -29,8 +31,8 @@ use Rattle.charging.proofs.AcceptedTables.{Adds, tables_changed, row_none, row_s
 use Rattle.charging.specs.Outcomes.{book_days, outcome, opened_outcome, unopened_outcome}
 use Rattle.charging.proofs.NeverOpened.{kept-opened}
 use Rattle.charging.specs.Served.{history, voucher, standing, AreTables, answer_on, answer_to}
-use Rattle.charging.specs.Served.{accepts_on, accepts, with_command, IsServed}
-use Rattle.charging.specs.Stepping.{IsTaken}
+use Rattle.charging.specs.Served.{accepts_on, accepts, with_command, IsServed, Writes}
+use Rattle.charging.specs.Stepping.{Commits, IsTaken, WritesAt}
 
 -- what an account keeps once a command was accepted
 abbrev pub keeps : Option KeptAnswer → List KeptAnswer → List KeptAnswer
@@ -337,6 +339,39 @@ module _ (b : Shelf) (list : List Accepted) (c : Command) (t : ℕ) (a : List �
               ∙ sym (ap (λ v. if v then old.count + 1 else old.count) opens);
         })
         (grown (made o x change called)) tables
+
+-- what a stop leaves, told of what is left before a call and of what was written
+pub left_as : {A B P Q : Type 0} → A ⊎ B → (A → P) → (B → Q) → P ⊎ Q
+left_as (inl a) f g = inl (f a)
+left_as (inr b) f g = inr (g b)
+
+-- what a commit makes by one change it makes by the same one
+pub commits-same : (x y : Change) (old new : Tables) → x ≡ y → Commits x old new →
+    Commits y old new
+commits-same x y old new is made = subst (λ (c : Change). Commits c old new) is made
+
+-- of tables that are the same
+pub commits-from : (x : Change) (old mid new : Tables) → mid ≡ old → Commits x mid new →
+    Commits x old new
+commits-from x old mid new same made = subst (λ (t : Tables). Commits x t new) same made
+
+-- tables that are written at the later of a command's moment and that of the last one
+pub writes-at : (b : Shelf) (c : Command) (t last : ℕ) (old mid new : Tables) → last ≡ old.last →
+    mid ≡ old → WritesAt b c (max t last) mid new → Writes b c t old new
+writes-at b c t last old mid new is same writes = λ list time are.
+    let now : last ≡ last_moment list = is ∙ are.last in
+    subst (λ (u : ℕ). AreTables b (with_command b list c (max t u)) new) now
+    (writes list time (subst (AreTables b list) (sym same) are)
+    (subst (λ (u : ℕ). u ≤ max t last) now (le-max_right t last)))
+
+-- a commit that answered, or left all as it was
+pub served-by : (b : Shelf) (list : List Accepted) (c : Command) (t : ℕ) (old mid new : Tables)
+    (a : Answer) {P : Type 0} (r : Result Answer StoreFault) → mid ≡ old →
+    IfOk r (λ given. (given ≡ a) × P) → OnErr r (new ≡ mid) → (P → IsServed b list c t old new a) →
+    MatchResult r (λ given. IsServed b list c t old new given) (λ fault. new ≡ old)
+served-by b list c t old mid new a (Ok given) before done same f =
+    subst (IsServed b list c t old new) (sym done.0) (f done.1)
+served-by b list c t old mid new a (Err fault) before done same f = same ∙ before
 
 -- what a call says where it answers
 pub on_ok : {X E P Q : Type 0} (r : Result X E) → OnOk r P → (P → Q) → OnOk r Q

@@ -6,6 +6,7 @@ use Rattle.shelves.specs.Shelves.{Shelf}
 use Rattle.keepers.specs.Tables.{Tables}
 use Rattle.charging.specs.declared.running.DatedCommand.{DatedCommand}
 use Rattle.charging.specs.Accepted.{Accepted, IsInTime}
+use Rattle.charging.specs.Parts.{Leaves}
 use Rattle.charging.specs.Runs.{after_commands}
 use Rattle.charging.specs.Served.{AreTables}
 
@@ -24,3 +25,10 @@ pub record IsContinued (b : Shelf) (content : Tables) (list : List Accepted) : T
 -- the longer list
 abbrev pub Continues : Shelf → Tables → Tables → Type 0
 Continues b old new = ForEachList b old (IsContinued b new)
+
+-- a stop leaves what it left before, or, of a keeper that was clean before, tables to which more
+-- commands came
+abbrev pub LeavesOn : {K : Type 0} → (K → Tables) → (K → Type 0) → (K → Type 0) →
+    (K → Tables → Type 0) → Shelf → K → K → Type 0
+LeavesOn content honest clean leaves b old new =
+    Leaves honest leaves old new (λ t. clean old × Continues b (content old) t)

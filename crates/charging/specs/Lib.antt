@@ -4,6 +4,7 @@ pub mod Balances
 pub mod Outcomes
 pub mod Served
 pub mod Stepping
+pub mod Parts
 pub mod States
 pub mod Runs
 pub mod Continued

@@ -10,6 +10,7 @@ use Rattle.keepers.specs.Faults.{max_failures}
 use Rattle.keepers.specs.Tables.{Tables}
 use Rattle.keepers.specs.declared.fault.StoreFault.TheVariants.{Store}
 use Rattle.charging.specs.Accepted.{Accepted, IsInTime}
+use Rattle.charging.specs.Parts.{Leaves}
 use Rattle.charging.specs.Served.{AreTables, moment_of, answer_to, with_command}
 
 -- the list after a command that is handed in with a moment
@@ -40,6 +41,23 @@ abbrev pub Runs : Shelf → List DatedCommand → Tables → Tables → List Ans
 Runs b commands old new given = (list : List Accepted) → IsInTime list → AreTables b list old →
     IsRun b list commands new given
 
+-- so are the answers, whatever became of the tables
+abbrev pub AreAnswered : Shelf → List DatedCommand → Tables → List Answer → Type 0
+AreAnswered b commands old given = (list : List Accepted) → IsInTime list → AreTables b list old →
+    given ≡ answers_to b list (take (length given) commands)
+
+-- tables are those of a beginning of the commands that has each one answered, and at most one more
+pub record IsHeld (b : Shelf) (list : List Accepted) (commands : List DatedCommand)
+    (given : List Answer) (held : Tables) : Type 0 where
+  pub count : ℕ
+  pub all : length given ≤ count
+  pub one_more : count ≤ length given + 1
+  pub tables : AreTables b (after_commands b list (take count commands)) held
+
+abbrev pub AreHeld : Shelf → List DatedCommand → Tables → List Answer → Tables → Type 0
+AreHeld b commands old given held = (list : List Accepted) → IsInTime list → AreTables b list old →
+    IsHeld b list commands given held
+
 -- one run after another is a run: of the commands that the first one answered, and of the second
 -- one's
 abbrev pub IsRunOfBoth : Type 0
@@ -50,13 +68,20 @@ IsRunOfBoth =
     IsRun b list (take (length given) first ++ second) new (given ++ more)
 
 -- what a run leaves of a keeper, and where it stops
-pub record RunsOver {K : Type 0} (content : K → Tables) (failed : K → ℕ) (clean : K → Type 0)
-    (b : Shelf) (commands : List DatedCommand) (old new : K) (run : Run) : Type 0 where
+pub record RunsOver {K : Type 0} (content : K → Tables) (failed : K → ℕ) (honest clean : K → Type 0)
+    (leaves : K → Tables → Type 0) (b : Shelf) (commands : List DatedCommand) (old new : K)
+    (run : Run) : Type 0 where
   pub runs : clean new → Runs b commands (content old) (content new) run.answers.items
   pub beginning : length run.answers.items ≤ length commands
   pub whole : IfNone run.fault (length run.answers.items ≡ length commands)
   pub stopped : IfSome run.fault (λ fault. length run.answers.items < length commands)
   pub unchanged : clean new → run.answers.items ≡ [] → content new ≡ content old
   pub cleanness : clean new → clean old
+  pub honesty : honest new → honest old
+  pub answered : honest new → AreAnswered b commands (content old) run.answers.items
+  pub stands : honest new → clean old → IfNone run.fault (clean new)
+  pub held : honest new → clean old → (t : Tables) → leaves new t →
+      AreHeld b commands (content old) run.answers.items t
+  pub left : Leaves honest leaves old new (AreHeld b commands (content old) run.answers.items)
   pub failures : failed old ≤ failed new
   pub cause : run.fault ≡ Some Store → min (failed old + 1) max_failures ≤ failed new

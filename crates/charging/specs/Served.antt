@@ -76,3 +76,8 @@ Serves b c t old new result =
     (list : List Accepted) → IsInTime list → AreTables b list old →
     MatchResult result (λ given. IsServed b list c (moment_of list t) old new given) (λ fault. new ≡
     old)
+
+-- for every such list: tables are those of the list with the command where it is accepted
+abbrev pub Writes : Shelf → Command → ℕ → Tables → Tables → Type 0
+Writes b c t old new = (list : List Accepted) → IsInTime list → AreTables b list old →
+    AreTables b (with_command b list c (moment_of list t)) new

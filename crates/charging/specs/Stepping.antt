@@ -2,7 +2,8 @@
 -- holds.
 -- Source: profile.
 use Rattle.std.specs.Prelude.{◌≡◌, ℕ, ◌≤◌, Bool, true, false, List, Option, Some, None, Result, Ok, Err}
-use Rattle.std.specs.Prelude.{◌&&◌, is_some, if◌then◌else◌, MatchResult}
+use Rattle.std.specs.Prelude.{◌&&◌, is_some, if◌then◌else◌, MatchResult, Vec}
+use Rattle.std.specs.Global.{Global}
 use Rattle.commands.specs.declared.answer.Answer.{Answer}
 use Rattle.commands.specs.declared.answer.Refusal.{Refusal}
 use Rattle.commands.specs.declared.allowance.Allowance.{Allowance}
@@ -14,22 +15,26 @@ use Rattle.commands.specs.declared.request.Request.{Request}
 use Rattle.shelves.specs.Shelves.{Shelf}
 use Rattle.buckets.specs.declared.kind.BucketKind.{BucketKind}
 use Rattle.buckets.specs.declared.kind.BucketKind.TheVariants.{Money, Blocks}
+use Rattle.reserving.specs.declared.charge.ChargeRow.{ChargeRow}
 use Rattle.reserving.specs.Ledger.{Ledger, next_bucket}
 use Rattle.reserving.specs.Requests.{credited}
 use Rattle.reserving.specs.Rows.{AccountRows, IsAccount}
 use Rattle.reserving.specs.Left.{LeftRows, IsWith}
+use Rattle.reserving.specs.Stored.{stored}
 use Rattle.decisions.specs.Asked.{begins_session}
 use Rattle.decisions.specs.Decisions.{is_read}
 use Rattle.keepers.specs.declared.fault.StoreFault.{StoreFault}
 use Rattle.keepers.specs.declared.key.KeptAnswer.{KeptAnswer}
+use Rattle.keepers.specs.declared.loaded.Change.{Change}
 use Rattle.keepers.specs.declared.loaded.Loaded.{Loaded}
+use Rattle.keepers.specs.declared.loaded.Redeemed.{Redeemed}
 use Rattle.keepers.specs.Keys.{key_of}
 use Rattle.keepers.specs.Tables.{Tables}
-use Rattle.keepers.specs.Change.{IsLoad}
+use Rattle.keepers.specs.Change.{IsLoad, IsMadeFrom, changed}
 use Rattle.charging.specs.Accepted.{Accepted, last_moment, IsInTime}
 use Rattle.charging.specs.Outcomes.{from_of, until_of, is_full, is_out_of_range}
 use Rattle.charging.specs.Outcomes.{begin_of, end_of, allowance_refusal}
-use Rattle.charging.specs.Served.{AreTables, IsServed}
+use Rattle.charging.specs.Served.{AreTables, IsServed, with_command}
 
 -- a command is served at a moment that isn't before that of the last accepted command, or the
 -- tables are as before
@@ -42,6 +47,29 @@ ServesAt b c t old new result =
 abbrev pub Answers : Shelf → Command → ℕ → Tables → Tables → Answer → Type 0
 Answers b c t old new given = (list : List Accepted) → IsInTime list → AreTables b list old →
     last_moment list ≤ t → IsServed b list c t old new given
+
+-- tables are those of the list with the command where it is accepted
+abbrev pub WritesAt : Shelf → Command → ℕ → Tables → Tables → Type 0
+WritesAt b c t old new = (list : List Accepted) → IsInTime list → AreTables b list old →
+    last_moment list ≤ t → AreTables b (with_command b list c t) new
+
+-- what a commit of an account makes, with the charges of a command, what is kept of it and the
+-- voucher that it redeemed
+abbrev pub change_of : Loaded → Vec ChargeRow Global → Option KeptAnswer → Option Redeemed → Change
+change_of loaded charges kept redeemed = record {
+  moment = loaded.account.as_of;
+  number = loaded.number;
+  after = stored loaded.account;
+  before = loaded.before;
+  charges = charges;
+  kept = kept;
+  redeemed = redeemed;
+}
+
+-- tables are those with the change, where it is made from what stands there
+abbrev pub Commits : Change → Tables → Tables → Type 0
+Commits change old new = IsMadeFrom change.before change.after (old.rows change.number) →
+    new ≡ changed change old
 
 -- the command that bars an account, or ends that
 abbrev pub bar_command : List ℕ → Bool → Command

@@ -11,9 +11,10 @@ ghost use Rattle.reserving.specs.Left.{LeftRows, IsWith};
 ghost use Rattle.decisions.specs.Known.{is_known};
 ghost use Rattle.keepers.specs.Keys.{key_of};
 ghost use Rattle.keepers.specs.Change.{IsLoad};
-ghost use Rattle.keepers.specs.Keeping.{Keeps, Reads};
+ghost use Rattle.keepers.specs.Keeping.{Reads};
 ghost use Rattle.charging.specs.Outcomes.{is_over, repeated};
-ghost use Rattle.charging.specs.Stepping.{ServesAt, Allows, Makes};
+ghost use Rattle.charging.specs.Parts.{Leaves, PartKeeps};
+ghost use Rattle.charging.specs.Stepping.{ServesAt, WritesAt, Allows, Makes};
 
 use crate::committing::{commit, moment_on};
 use commands::{Allowance, AllowanceBlocks, Answer, Content, Refusal, is_kept_allowance};
@@ -34,7 +35,9 @@ pub(crate) fn serve_allowance<K: Keeper>(
     ensures served { K.clean keeper.new →
         ServesAt shelf.now (command.Allow allowance) moment (K.content keeper.old)
         (K.content keeper.new) result }
-    ensures kept { Keeps K.content K.failed K.clean keeper.old keeper.new result }
+    ensures kept { PartKeeps K.content K.failed K.honest K.clean keeper.old keeper.new result }
+    ensures left { Leaves K.honest K.left keeper.old keeper.new
+        (WritesAt shelf.now (command.Allow allowance) moment (K.content keeper.old)) }
 {
     let kept = find_allowance(keeper, &allowance)?;
     if let Some(kept) = kept {
@@ -63,7 +66,7 @@ fn find_allowance<K: Keeper>(
     keeper: &mut K,
     allowance: &Allowance,
 ) -> Result<Option<KeptAnswer>, StoreFault>
-    ensures { Reads K.content K.failed K.clean keeper.old keeper.new
+    ensures { Reads K.content K.failed K.honest K.clean K.left keeper.old keeper.new
         (λ found. found ≡
         (K.content keeper.old).answers allowance.now.account
         (key_of (content.Allow allowance.now)))
@@ -174,14 +177,20 @@ fn allow_account<K: Keeper>(
         (key_of (content.Allow allowance)) ≡ None →
         ServesAt b (command.Allow allowance) moment (K.content keeper.old)
         (K.content keeper.new) result }
-    ensures kept { Keeps K.content K.failed K.clean keeper.old keeper.new result }
+    ensures kept { PartKeeps K.content K.failed K.honest K.clean keeper.old keeper.new result }
+    ensures left { Leaves K.honest K.left keeper.old keeper.new
+        (λ t. (b : Shelf) →
+        IsLoad b moment allowance.account ((K.content keeper.old).rows allowance.account)
+        (Some loaded.entry) → (K.content keeper.old).answers allowance.account
+        (key_of (content.Allow allowance)) ≡ None →
+        WritesAt b (command.Allow allowance) moment (K.content keeper.old) t) }
 {
     let moment = moment_on(&loaded.account, moment);
     match add_allowance(&mut loaded.account, &allowance, moment) {
         Ok(Ok(number)) => {
             let kept = kept_allowance(allowance, number);
-            commit(keeper, loaded, Vec::new(alloc), Some(kept), None)?;
-            Ok(Answer::Bucket(number))
+            let given = Answer::Bucket(number);
+            commit(keeper, loaded, Vec::new(alloc), Some(kept), None, given)
         }
         Ok(Err(refusal)) => {
             keeper.abandon(loaded);

@@ -3,10 +3,12 @@
 ghost use Rattle.std.specs.Prelude.{◌≡◌, ◌++◌, IfOk, OnOk, map};
 ghost use Rattle.std.specs.List.Sorted.{IsNonDecreasingBy, IsPermutation};
 ghost use Rattle.commands.specs.declared.command.Command.TheVariants as command;
-ghost use Rattle.keepers.specs.Keeping.{Keeps, Reads};
+ghost use Rattle.keepers.specs.Keeping.{Reads};
+ghost use Rattle.keepers.specs.Tables.{Tables};
 ghost use Rattle.charging.specs.Balances.{AreByNumber, bucket_balance, unit_of};
 ghost use Rattle.charging.specs.States.{IsStateOf, TellsState, TellsStateAt};
-ghost use Rattle.charging.specs.Stepping.{ServesAt};
+ghost use Rattle.charging.specs.Parts.{Leaves, PartKeeps};
+ghost use Rattle.charging.specs.Stepping.{ServesAt, WritesAt};
 
 use crate::committing::moment_on;
 use buckets::{Bucket, BucketKind};
@@ -40,7 +42,7 @@ pub fn account_state<K: Keeper>(
     number: &AccountNumber,
     moment: Moment,
 ) -> Result<Option<AccountState>, StoreFault>
-    ensures { Reads K.content K.failed K.clean keeper.old keeper.new
+    ensures { Reads K.content K.failed K.honest K.clean K.left keeper.old keeper.new
         (TellsState shelf.now number.now moment (K.content keeper.old)) result }
 {
     let last = keeper.last()?;
@@ -57,7 +59,8 @@ fn state_at<K: Keeper>(
     ensures found { K.clean keeper.new →
         IfOk result (TellsStateAt shelf.now number.now moment (K.content keeper.old)) }
     ensures same { K.clean keeper.new → K.content keeper.new ≡ K.content keeper.old }
-    ensures kept { Keeps K.content K.failed K.clean keeper.old keeper.new result }
+    ensures kept { PartKeeps K.content K.failed K.honest K.clean keeper.old keeper.new result }
+    ensures left { K.honest keeper.new → (t : Tables) → K.left keeper.new t → K.left keeper.old t }
 {
     let Some(account) = keeper.view(shelf, number, moment)? else {
         return Ok(None);
@@ -113,7 +116,9 @@ pub(crate) fn tell_balance<K: Keeper>(
     ensures served { K.clean keeper.new →
         ServesAt shelf.now (command.Balance number) moment (K.content keeper.old)
         (K.content keeper.new) result }
-    ensures kept { Keeps K.content K.failed K.clean keeper.old keeper.new result }
+    ensures kept { PartKeeps K.content K.failed K.honest K.clean keeper.old keeper.new result }
+    ensures left { Leaves K.honest K.left keeper.old keeper.new
+        (WritesAt shelf.now (command.Balance number) moment (K.content keeper.old)) }
 {
     let Some(state) = state_at(keeper, shelf, &number, moment)? else {
         return Ok(Answer::Refused(Refusal::AccountUnknown));

@@ -1,11 +1,11 @@
 //! Changes of one account.
 
-ghost use Rattle.std.specs.Prelude.{◌≡◌, ◌≤◌, max, OnOk};
+ghost use Rattle.std.specs.Prelude.{◌≡◌, ◌≤◌, max, IfOk, OnOk};
 ghost use Rattle.reserving.specs.Rows.{IsAccount};
-ghost use Rattle.reserving.specs.Stored.{stored};
-ghost use Rattle.keepers.specs.Change.{IsMadeFrom, changed};
-ghost use Rattle.keepers.specs.Keeping.{Keeps};
+ghost use Rattle.charging.specs.Parts.{Leaves, PartKeeps};
+ghost use Rattle.charging.specs.Stepping.{Commits, change_of};
 
+use commands::Answer;
 use keepers::{Keeper, KeptAnswer, Loaded, Redeemed, StoreFault};
 use reserving::{Account, ChargeRow};
 use units::Moment;
@@ -20,27 +20,42 @@ pub(crate) fn moment_on(account: &Account, moment: Moment) -> Moment
 }
 
 /// Commits an account as it stands, with the charges that a command made, what is kept of it and
-/// the voucher that it redeemed.
+/// the voucher that it redeemed, and gives the command's answer.
 pub(crate) fn commit<K: Keeper>(
     keeper: &mut K,
     loaded: Loaded,
     charges: Vec<ChargeRow>,
     kept: Option<KeptAnswer>,
     redeemed: Option<Redeemed>,
-) -> Result<(), StoreFault>
-    ensures done { K.clean keeper.new →
-        OnOk result (IsMadeFrom loaded.entry.before (stored loaded.entry.account)
-        ((K.content keeper.old).rows loaded.entry.number) → K.content keeper.new ≡ changed (record {
-          moment = loaded.entry.account.as_of;
-          number = loaded.entry.number;
-          after = stored loaded.entry.account;
-          before = loaded.entry.before;
-          charges = charges;
-          kept = kept;
-          redeemed = redeemed;
-        }) (K.content keeper.old)) }
+    answer: Answer,
+) -> Result<Answer, StoreFault>
+    ensures done { K.clean keeper.new → IfOk result (λ given. (given ≡ answer)
+        × Commits (change_of loaded.entry charges kept redeemed) (K.content keeper.old)
+        (K.content keeper.new)) }
     ensures account { IsAccount loaded.entry.account }
-    ensures kept { Keeps K.content K.failed K.clean keeper.old keeper.new result }
+    ensures kept { PartKeeps K.content K.failed K.honest K.clean keeper.old keeper.new result }
+    ensures left { Leaves K.honest K.left keeper.old keeper.new
+        (Commits (change_of loaded.entry charges kept redeemed) (K.content keeper.old)) }
+{
+    commit_change(keeper, loaded, charges, kept, redeemed)?;
+    Ok(answer)
+}
+
+/// Commits an account as it stands.
+fn commit_change<K: Keeper>(
+    keeper: &mut K,
+    loaded: Loaded,
+    charges: Vec<ChargeRow>,
+    kept: Option<KeptAnswer>,
+    redeemed: Option<Redeemed>,
+) -> Result<(), StoreFault>
+    ensures done { K.clean keeper.new → OnOk result
+        (Commits (change_of loaded.entry charges kept redeemed) (K.content keeper.old)
+        (K.content keeper.new)) }
+    ensures account { IsAccount loaded.entry.account }
+    ensures kept { PartKeeps K.content K.failed K.honest K.clean keeper.old keeper.new result }
+    ensures left { Leaves K.honest K.left keeper.old keeper.new
+        (Commits (change_of loaded.entry charges kept redeemed) (K.content keeper.old)) }
 {
     let moment = loaded.account.as_of();
     keeper.commit(loaded.into_change(moment, charges, kept, redeemed))

@@ -11,9 +11,10 @@ ghost use Rattle.reserving.specs.Ledger.{Ledger};
 ghost use Rattle.reserving.specs.Left.{LeftRows, IsWith};
 ghost use Rattle.keepers.specs.Keys.{key_of};
 ghost use Rattle.keepers.specs.Change.{IsLoad};
-ghost use Rattle.keepers.specs.Keeping.{Keeps, Reads};
+ghost use Rattle.keepers.specs.Keeping.{Reads};
 ghost use Rattle.charging.specs.Outcomes.{is_unusable, repeated};
-ghost use Rattle.charging.specs.Stepping.{ServesAt, Credits, Makes, bar_command};
+ghost use Rattle.charging.specs.Parts.{Leaves, PartKeeps};
+ghost use Rattle.charging.specs.Stepping.{ServesAt, WritesAt, Credits, Makes, bar_command};
 
 use crate::committing::{commit, moment_on};
 use commands::{Answer, Content, Credit, KeptCredit, Refusal, is_kept_credit};
@@ -35,7 +36,9 @@ pub(crate) fn open_account<K: Keeper>(
     ensures served { K.clean keeper.new →
         ServesAt shelf.now (command.OpenAccount number) moment (K.content keeper.old)
         (K.content keeper.new) result }
-    ensures kept { Keeps K.content K.failed K.clean keeper.old keeper.new result }
+    ensures kept { PartKeeps K.content K.failed K.honest K.clean keeper.old keeper.new result }
+    ensures left { Leaves K.honest K.left keeper.old keeper.new
+        (WritesAt shelf.now (command.OpenAccount number) moment (K.content keeper.old)) }
 {
     if keeper.has_account(&number)? {
         return Ok(Answer::Refused(Refusal::AccountExists));
@@ -48,8 +51,7 @@ pub(crate) fn open_account<K: Keeper>(
         account,
         before,
     };
-    commit(keeper, loaded, Vec::new(alloc), None, None)?;
-    Ok(Answer::Done)
+    commit(keeper, loaded, Vec::new(alloc), None, None, Answer::Done)
 }
 
 /// Bars an account, or ends that.
@@ -64,15 +66,16 @@ pub(crate) fn set_barred<K: Keeper>(
     ensures served { K.clean keeper.new →
         ServesAt shelf.now (bar_command number barred) moment (K.content keeper.old)
         (K.content keeper.new) result }
-    ensures kept { Keeps K.content K.failed K.clean keeper.old keeper.new result }
+    ensures kept { PartKeeps K.content K.failed K.honest K.clean keeper.old keeper.new result }
+    ensures left { Leaves K.honest K.left keeper.old keeper.new
+        (WritesAt shelf.now (bar_command number barred) moment (K.content keeper.old)) }
 {
     let Some(mut loaded) = keeper.load(shelf, &number, moment)? else {
         return Ok(Answer::Refused(Refusal::AccountUnknown));
     };
     let moment = moment_on(&loaded.account, moment);
     loaded.account.set_barred(barred, moment);
-    commit(keeper, loaded, Vec::new(alloc), None, None)?;
-    Ok(Answer::Done)
+    commit(keeper, loaded, Vec::new(alloc), None, None, Answer::Done)
 }
 
 /// Brings each account to the moment.
@@ -84,7 +87,9 @@ pub(crate) fn sweep<K: Keeper>(
     ensures served { K.clean keeper.new →
         ServesAt shelf.now command.Sweep moment (K.content keeper.old)
         (K.content keeper.new) result }
-    ensures kept { Keeps K.content K.failed K.clean keeper.old keeper.new result }
+    ensures kept { PartKeeps K.content K.failed K.honest K.clean keeper.old keeper.new result }
+    ensures left { Leaves K.honest K.left keeper.old keeper.new
+        (WritesAt shelf.now command.Sweep moment (K.content keeper.old)) }
 {
     let count = keeper.sweep(shelf, moment)?;
     Ok(Answer::Swept(count))
@@ -101,7 +106,9 @@ pub(crate) fn serve_credit<K: Keeper>(
     ensures served { K.clean keeper.new →
         ServesAt shelf.now (command.Credit credit) moment (K.content keeper.old)
         (K.content keeper.new) result }
-    ensures kept { Keeps K.content K.failed K.clean keeper.old keeper.new result }
+    ensures kept { PartKeeps K.content K.failed K.honest K.clean keeper.old keeper.new result }
+    ensures left { Leaves K.honest K.left keeper.old keeper.new
+        (WritesAt shelf.now (command.Credit credit) moment (K.content keeper.old)) }
 {
     let kept = find_credit(keeper, &credit)?;
     if let Some(kept) = kept {
@@ -127,7 +134,7 @@ fn repeated_credit(kept: KeptAnswer, credit: &Credit, conflict: Answer) -> Answe
 
 /// What is kept under a credit's reference.
 fn find_credit<K: Keeper>(keeper: &mut K, credit: &Credit) -> Result<Option<KeptAnswer>, StoreFault>
-    ensures { Reads K.content K.failed K.clean keeper.old keeper.new
+    ensures { Reads K.content K.failed K.honest K.clean K.left keeper.old keeper.new
         (λ found. found ≡
         (K.content keeper.old).answers credit.now.account (key_of (content.Credit credit.now)))
         result }
@@ -216,14 +223,20 @@ fn credit_account<K: Keeper>(
         (key_of (content.Credit credit)) ≡ None →
         ServesAt b (command.Credit credit) moment (K.content keeper.old)
         (K.content keeper.new) result }
-    ensures kept { Keeps K.content K.failed K.clean keeper.old keeper.new result }
+    ensures kept { PartKeeps K.content K.failed K.honest K.clean keeper.old keeper.new result }
+    ensures left { Leaves K.honest K.left keeper.old keeper.new
+        (λ t. (b : Shelf) →
+        IsLoad b moment credit.account ((K.content keeper.old).rows credit.account)
+        (Some loaded.entry) → (K.content keeper.old).answers credit.account
+        (key_of (content.Credit credit)) ≡ None →
+        WritesAt b (command.Credit credit) moment (K.content keeper.old) t) }
 {
     let moment = moment_on(&loaded.account, moment);
     match add_bucket(&mut loaded.account, &credit, moment) {
         Ok(Some(number)) => {
             let kept = kept_credit(credit, number);
-            commit(keeper, loaded, Vec::new(alloc), Some(kept), None)?;
-            Ok(Answer::Bucket(number))
+            let given = Answer::Bucket(number);
+            commit(keeper, loaded, Vec::new(alloc), Some(kept), None, given)
         }
         Ok(None) => {
             keeper.abandon(loaded);

@@ -7,11 +7,12 @@ ghost use Rattle.commands.specs.declared.avp.Avp.TheVariants.{RequestNumber};
 ghost use Rattle.commands.specs.declared.command.Command.TheVariants.{Ccr};
 ghost use Rattle.commands.specs.declared.command.Content.TheVariants as content;
 ghost use Rattle.shelves.specs.Shelves.{Shelf};
-ghost use Rattle.reserving.specs.Stored.{stored};
-ghost use Rattle.keepers.specs.Change.{IsLoad, IsMadeFrom, changed};
-ghost use Rattle.keepers.specs.Keeping.{Keeps, Reads};
+ghost use Rattle.keepers.specs.Change.{IsLoad};
+ghost use Rattle.keepers.specs.Tables.{Tables};
 ghost use Rattle.charging.specs.Outcomes.{failed, repeated};
-ghost use Rattle.charging.specs.Stepping.{Answers, ServesAt, is_known, kept_of_request};
+ghost use Rattle.charging.specs.Parts.{Leaves, PartKeeps, PartReads};
+ghost use Rattle.charging.specs.Stepping.{Answers, Commits, ServesAt, WritesAt, change_of};
+ghost use Rattle.charging.specs.Stepping.{is_known, kept_of_request};
 
 use crate::committing::{commit, moment_on};
 use crate::repetition::repeated;
@@ -33,7 +34,9 @@ pub(crate) fn serve_request<K: Keeper>(
     ensures served { K.clean keeper.new →
         ServesAt shelf.now (Ccr request) moment (K.content keeper.old)
         (K.content keeper.new) result }
-    ensures kept { Keeps K.content K.failed K.clean keeper.old keeper.new result }
+    ensures kept { PartKeeps K.content K.failed K.honest K.clean keeper.old keeper.new result }
+    ensures left { Leaves K.honest K.left keeper.old keeper.new
+        (WritesAt shelf.now (Ccr request) moment (K.content keeper.old)) }
 {
     let kept = find_kept(keeper, &request)?;
     if let Some(kept) = kept {
@@ -54,7 +57,7 @@ pub(crate) fn serve_request<K: Keeper>(
 
 /// Whether a request begins a session of which the account has a row.
 fn is_known<K: Keeper>(keeper: &mut K, request: &Request) -> Result<bool, StoreFault>
-    ensures { Reads K.content K.failed K.clean keeper.old keeper.new
+    ensures { PartReads K.content K.failed K.honest K.clean K.left keeper.old keeper.new
         (λ known. known ≡ is_known request.now (K.content keeper.old)) result }
 {
     if begins_session(&request.ask) {
@@ -66,7 +69,7 @@ fn is_known<K: Keeper>(keeper: &mut K, request: &Request) -> Result<bool, StoreF
 
 /// What is kept under a request's key; reads have none.
 fn find_kept<K: Keeper>(keeper: &mut K, request: &Request) -> Result<Option<KeptAnswer>, StoreFault>
-    ensures { Reads K.content K.failed K.clean keeper.old keeper.new
+    ensures { PartReads K.content K.failed K.honest K.clean K.left keeper.old keeper.new
         (λ found. found ≡ kept_of_request request.now (K.content keeper.old)) result }
 {
     if is_read(&request.ask) {
@@ -113,7 +116,8 @@ fn answer_read<K: Keeper>(
         Answers shelf.now (Ccr request.now) moment (K.content keeper.old)
         (K.content keeper.new) given)) }
     ensures same { K.clean keeper.new → K.content keeper.new ≡ K.content keeper.old }
-    ensures kept { Keeps K.content K.failed K.clean keeper.old keeper.new result }
+    ensures kept { PartKeeps K.content K.failed K.honest K.clean keeper.old keeper.new result }
+    ensures left { K.honest keeper.new → (t : Tables) → K.left keeper.new t → K.left keeper.old t }
 {
     if !is_read(&request.ask) {
         return Ok(None);
@@ -142,7 +146,14 @@ fn decide_on<K: Keeper>(
         kept_of_request request (K.content keeper.old) ≡ None →
         is_known request (K.content keeper.old) ≡ false →
         ServesAt b (Ccr request) moment (K.content keeper.old) (K.content keeper.new) result }
-    ensures kept { Keeps K.content K.failed K.clean keeper.old keeper.new result }
+    ensures kept { PartKeeps K.content K.failed K.honest K.clean keeper.old keeper.new result }
+    ensures left { Leaves K.honest K.left keeper.old keeper.new
+        (λ t. (b : Shelf) →
+        IsLoad b moment request.account ((K.content keeper.old).rows request.account)
+        (Some loaded.entry) →
+        kept_of_request request (K.content keeper.old) ≡ None →
+        is_known request (K.content keeper.old) ≡ false →
+        WritesAt b (Ccr request) moment (K.content keeper.old) t) }
 {
     let moment = moment_on(&loaded.account, moment);
     match decide(alloc, &mut loaded.account, &request, false, moment) {
@@ -167,20 +178,16 @@ fn keep<K: Keeper>(
 ) -> Result<Answer, StoreFault>
     ensures done { K.clean keeper.new →
         IfOk result (λ given. (given ≡ answer.Request decided.answer)
-        × (IsMadeFrom loaded.entry.before (stored loaded.entry.account)
-        ((K.content keeper.old).rows loaded.entry.number) → K.content keeper.new ≡ changed (record {
-          moment = loaded.entry.account.as_of;
-          number = loaded.entry.number;
-          after = stored loaded.entry.account;
-          before = loaded.entry.before;
-          charges = decided.charges;
-          kept = Some (record {
-            content = content.Request request;
-            answer = answer.Request decided.answer;
-          });
-          redeemed = None;
-        }) (K.content keeper.old))) }
-    ensures kept { Keeps K.content K.failed K.clean keeper.old keeper.new result }
+        × Commits (change_of loaded.entry decided.charges (Some (record {
+          content = content.Request request;
+          answer = answer.Request decided.answer;
+        })) None) (K.content keeper.old) (K.content keeper.new)) }
+    ensures kept { PartKeeps K.content K.failed K.honest K.clean keeper.old keeper.new result }
+    ensures left { Leaves K.honest K.left keeper.old keeper.new
+        (Commits (change_of loaded.entry decided.charges (Some (record {
+          content = content.Request request;
+          answer = answer.Request decided.answer;
+        })) None) (K.content keeper.old)) }
 {
     let answer = Answer::Request(decided.answer);
     let Ok(copy) = copy_answer(&answer) else {
@@ -191,6 +198,5 @@ fn keep<K: Keeper>(
         content: Content::Request(request),
         answer,
     };
-    commit(keeper, loaded, decided.charges, Some(kept), None)?;
-    Ok(copy)
+    commit(keeper, loaded, decided.charges, Some(kept), None, copy)
 }

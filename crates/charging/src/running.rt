@@ -2,7 +2,9 @@ ghost use Rattle.std.specs.Prelude.{◌≡◌, ◌≤◌, ◌<◌, ◌+◌, [], 
 ghost use Rattle.std.specs.Prelude.{IfSome};
 ghost use Rattle.keepers.specs.Faults.{max_failures};
 ghost use Rattle.keepers.specs.declared.fault.StoreFault.TheVariants.{Store};
-ghost use Rattle.charging.specs.Runs.{Runs, RunsOver};
+ghost use Rattle.keepers.specs.Tables.{Tables};
+ghost use Rattle.charging.specs.Parts.{Leaves};
+ghost use Rattle.charging.specs.Runs.{AreAnswered, AreHeld, Runs, RunsOver};
 ghost use Rattle.charging.specs.Headline.{AreAccounted};
 
 use crate::answers::Run;
@@ -29,6 +31,9 @@ pub struct DatedCommand {
 /// At a store fault the answers before it are given, and what was accepted is that of a beginning
 /// of the commands: fault 1 where a growth was refused, 2 where the store failed. Where none is
 /// answered nothing has changed.
+///
+/// After a stop, and where the store can't be asked any more, each command that was answered is
+/// found again, and at most one more.
 pub fn run<K: Keeper>(
     alloc: Global,
     keeper: &mut K,
@@ -45,6 +50,15 @@ pub fn run<K: Keeper>(
     ensures unchanged { K.clean keeper.new → result.answers.items ≡ [] →
         K.content keeper.new ≡ K.content keeper.old }
     ensures cleanness { K.clean keeper.new → K.clean keeper.old }
+    ensures honesty { K.honest keeper.new → K.honest keeper.old }
+    ensures answered { K.honest keeper.new →
+        AreAnswered shelf.now commands.items (K.content keeper.old) result.answers.items }
+    ensures stands { K.honest keeper.new → K.clean keeper.old →
+        IfNone result.fault (K.clean keeper.new) }
+    ensures held { K.honest keeper.new → K.clean keeper.old → (t : Tables) → K.left keeper.new t →
+        AreHeld shelf.now commands.items (K.content keeper.old) result.answers.items t }
+    ensures left { Leaves K.honest K.left keeper.old keeper.new
+        (AreHeld shelf.now commands.items (K.content keeper.old) result.answers.items) }
     ensures failures { K.failed keeper.old ≤ K.failed keeper.new }
     ensures cause { result.fault ≡ Some Store →
         min (K.failed keeper.old + 1) max_failures ≤ K.failed keeper.new }
@@ -64,8 +78,8 @@ fn answer_each<K: Keeper>(
     shelf: &TariffShelf,
     commands: Vec<DatedCommand>,
 ) -> Run
-    ensures { RunsOver K.content K.failed K.clean shelf.now commands.items keeper.old keeper.new
-        result }
+    ensures { RunsOver K.content K.failed K.honest K.clean K.left shelf.now commands.items
+        keeper.old keeper.new result }
 {
     let mut answers = Vec::new(alloc);
     for dated in commands {

@@ -1,8 +1,9 @@
 ghost use Rattle.keepers.specs.Faults.{HasCause};
-ghost use Rattle.keepers.specs.Keeping.{Keeps};
-ghost use Rattle.std.specs.Prelude.{◌≡◌, IfOk, OnErr};
-ghost use Rattle.charging.specs.Served.{Serves};
+ghost use Rattle.std.specs.Prelude.{◌≡◌, IfOk, OnErr, OnOk};
+ghost use Rattle.charging.specs.Parts.{Leaves, PartKeeps};
 ghost use Rattle.charging.specs.Repeats.{IsAnsweredAgain};
+ghost use Rattle.charging.specs.Served.{Serves, Writes};
+ghost use Rattle.charging.specs.Stepping.{ServesAt, WritesAt};
 
 use crate::allowances::serve_allowance;
 use crate::balances::tell_balance;
@@ -32,6 +33,10 @@ pub fn step<K: Keeper>(
         Serves shelf.now command moment (K.content keeper.old) (K.content keeper.new) result }
     ensures err { K.clean keeper.new → OnErr result (K.content keeper.new ≡ K.content keeper.old) }
     ensures cleanness { K.clean keeper.new → K.clean keeper.old }
+    ensures honesty { K.honest keeper.new → K.honest keeper.old }
+    ensures stands { K.honest keeper.new → OnOk result (K.clean keeper.new) }
+    ensures left { Leaves K.honest K.left keeper.old keeper.new (λ t. K.clean keeper.old
+        × Writes shelf.now command moment (K.content keeper.old) t) }
     ensures cause { HasCause (K.failed keeper.old) (K.failed keeper.new) result }
     ensures again { K.clean keeper.new →
         IfOk result (IsAnsweredAgain shelf.now command (K.content keeper.old)
@@ -50,10 +55,30 @@ fn serve<K: Keeper>(
 ) -> Result<Answer, StoreFault>
     ensures served { K.clean keeper.new →
         Serves shelf.now command moment (K.content keeper.old) (K.content keeper.new) result }
-    ensures kept { Keeps K.content K.failed K.clean keeper.old keeper.new result }
+    ensures kept { PartKeeps K.content K.failed K.honest K.clean keeper.old keeper.new result }
+    ensures stands { K.honest keeper.new → OnOk result (K.clean keeper.new) }
+    ensures left { Leaves K.honest K.left keeper.old keeper.new (λ t. K.clean keeper.old
+        × Writes shelf.now command moment (K.content keeper.old) t) }
 {
     let last = keeper.last()?;
     let moment = moment.max(last);
+    serve_at(alloc, keeper, shelf, command, moment)
+}
+
+/// The same at a moment that isn't before that of the last accepted command.
+fn serve_at<K: Keeper>(
+    alloc: Global,
+    keeper: &mut K,
+    shelf: &TariffShelf,
+    command: Command,
+    moment: Moment,
+) -> Result<Answer, StoreFault>
+    ensures served { K.clean keeper.new →
+        ServesAt shelf.now command moment (K.content keeper.old) (K.content keeper.new) result }
+    ensures kept { PartKeeps K.content K.failed K.honest K.clean keeper.old keeper.new result }
+    ensures left { Leaves K.honest K.left keeper.old keeper.new
+        (WritesAt shelf.now command moment (K.content keeper.old)) }
+{
     match command {
         Command::Ccr(request) => serve_request(alloc, keeper, shelf, request, moment),
         Command::OpenAccount(number) => open_account(alloc, keeper, shelf, number, moment),

@@ -7,10 +7,11 @@ ghost use Rattle.commands.specs.declared.command.Content.TheVariants as content;
 ghost use Rattle.shelves.specs.Shelves.{Shelf};
 ghost use Rattle.keepers.specs.Keys.{key_of};
 ghost use Rattle.keepers.specs.Change.{IsLoad};
-ghost use Rattle.keepers.specs.Keeping.{Keeps, Reads};
+ghost use Rattle.keepers.specs.Keeping.{Reads};
 ghost use Rattle.redemptions.specs.Redeeming.{redemption};
 ghost use Rattle.charging.specs.Outcomes.{book_days, refused_as, repeated};
-ghost use Rattle.charging.specs.Stepping.{ServesAt};
+ghost use Rattle.charging.specs.Parts.{Leaves, PartKeeps};
+ghost use Rattle.charging.specs.Stepping.{ServesAt, WritesAt};
 
 use crate::committing::{commit, moment_on};
 use crate::operators::make_bucket;
@@ -47,7 +48,10 @@ pub(crate) fn add_voucher<K: Keeper>(
     ensures served { K.clean keeper.new → (b : Shelf) →
         ServesAt b (command.AddVoucher addition) moment (K.content keeper.old)
         (K.content keeper.new) result }
-    ensures kept { Keeps K.content K.failed K.clean keeper.old keeper.new result }
+    ensures kept { PartKeeps K.content K.failed K.honest K.clean keeper.old keeper.new result }
+    ensures left { Leaves K.honest K.left keeper.old keeper.new
+        (λ t. (b : Shelf) →
+        WritesAt b (command.AddVoucher addition) moment (K.content keeper.old) t) }
 {
     let found = keeper.find_voucher(&addition.code)?;
     match add(&found, addition.terms) {
@@ -71,7 +75,9 @@ pub(crate) fn serve_redemption<K: Keeper>(
     ensures served { K.clean keeper.new →
         ServesAt shelf.now (command.Redeem asked) moment (K.content keeper.old)
         (K.content keeper.new) result }
-    ensures kept { Keeps K.content K.failed K.clean keeper.old keeper.new result }
+    ensures kept { PartKeeps K.content K.failed K.honest K.clean keeper.old keeper.new result }
+    ensures left { Leaves K.honest K.left keeper.old keeper.new
+        (WritesAt shelf.now (command.Redeem asked) moment (K.content keeper.old)) }
 {
     let kept = find_redemption(keeper, &asked)?;
     if let Some(kept) = kept {
@@ -109,7 +115,7 @@ fn find_redemption<K: Keeper>(
     keeper: &mut K,
     asked: &VoucherRedemption,
 ) -> Result<Option<KeptAnswer>, StoreFault>
-    ensures { Reads K.content K.failed K.clean keeper.old keeper.new
+    ensures { Reads K.content K.failed K.honest K.clean K.left keeper.old keeper.new
         (λ found. found ≡
         (K.content keeper.old).answers asked.now.account (key_of (content.Redeem asked.now)))
         result }
@@ -172,7 +178,15 @@ fn credit_redeemed<K: Keeper>(
         moment ≡ Ok redeemed →
         ServesAt b (command.Redeem asked) moment (K.content keeper.old)
         (K.content keeper.new) result }
-    ensures kept { Keeps K.content K.failed K.clean keeper.old keeper.new result }
+    ensures kept { PartKeeps K.content K.failed K.honest K.clean keeper.old keeper.new result }
+    ensures left { Leaves K.honest K.left keeper.old keeper.new
+        (λ t. (b : Shelf) →
+        IsLoad b moment asked.account ((K.content keeper.old).rows asked.account)
+        (Some loaded.entry) → (K.content keeper.old).answers asked.account
+        (key_of (content.Redeem asked)) ≡ None → code ≡ asked.code →
+        redemption (book_days b) ((K.content keeper.old).vouchers asked.code) asked.account
+        moment ≡ Ok redeemed →
+        WritesAt b (command.Redeem asked) moment (K.content keeper.old) t) }
 {
     let moment = moment_on(&loaded.account, moment);
     let Redemption {
@@ -186,8 +200,15 @@ fn credit_redeemed<K: Keeper>(
         Ok(Some(number)) => {
             let kept = kept_redemption(asked, number);
             let spent = Redeemed { code, voucher };
-            commit(keeper, loaded, Vec::new(alloc), Some(kept), Some(spent))?;
-            Ok(Answer::Bucket(number))
+            let given = Answer::Bucket(number);
+            commit(
+                keeper,
+                loaded,
+                Vec::new(alloc),
+                Some(kept),
+                Some(spent),
+                given,
+            )
         }
         Ok(None) => {
             keeper.abandon(loaded);

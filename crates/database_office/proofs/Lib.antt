@@ -1,2 +1,3 @@
 pub mod ImportingLemmas
 pub mod CommandLemmas
+pub mod OverLemmas

@@ -12,7 +12,7 @@ use Rattle.office.specs.declared.counts.Counts.{Counts}
 use Rattle.office.specs.declared.fault.OfficeFault.TheVariants.{Store, Write}
 use Rattle.vouchers.specs.Faults.{is_in_file}
 use Rattle.vouchers.specs.Files.{MayStopAt, vouchers_in}
-use Rattle.database_office.specs.Opening.{IsUnanswered}
+use Rattle.database_office.specs.Opening.{IsCommandFault, IsOfficeFault, IsUnanswered}
 use Rattle.database_office.specs.declared.fault.DatabaseFault.{DatabaseFault}
 use Rattle.database_office.specs.declared.fault.DatabaseFault.TheVariants.{Office}
 use Rattle.database_office.specs.declared.importing.ImportFault.{ImportFault}
@@ -48,6 +48,16 @@ IsImportFault b text t old new before after (Vouchers fault) =
     × (is_in_file fault.kind ≡ false → MayStopAt fault.record_number text) × (new ≡ old)
 IsImportFault b text t old new before after (Database fault) =
     IsOverKeeper b text t old new before after fault
+
+-- one of the file, or of the office's
+abbrev pub IsFileFault : ImportFault → Type 0
+IsFileFault (Vouchers fault) = Unit {0}
+IsFileFault (Database fault) = IsOfficeFault fault
+
+-- one of the file, or of a command over a database
+abbrev pub IsImportEnd : Option ℕ → ImportFault → Type 0
+IsImportEnd at (Vouchers fault) = Unit {0}
+IsImportEnd at (Database fault) = IsCommandFault at fault
 
 -- nothing was told
 abbrev pub IsUntold : ImportFault → Type 0

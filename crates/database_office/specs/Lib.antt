@@ -4,3 +4,4 @@ pub mod Opening
 pub mod Adding
 pub mod Importing
 pub mod Stating
+pub mod Over

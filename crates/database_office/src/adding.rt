@@ -12,6 +12,7 @@ use operator::BookWords;
 use shelves::TariffShelf;
 use sql_keeper::SqlKeeper;
 use sqlite::Alter;
+use sqlite_disk::Wary;
 use units::Moment;
 
 /// Adds the tariff book of a file to the database of the words, from their moment on.
@@ -27,7 +28,7 @@ pub fn add_book(rt: &HostRuntime, words: &BookWords) -> Result<(), DatabaseFault
     let Office {
         mut keeper,
         mut shelf,
-    } = open_office(rt, &words.database)?;
+    } = open_office(rt, &words.database, Wary)?;
     let text = book_text(rt.alloc(), &bytes)?;
     add_text(&mut keeper, &mut shelf, words.from, text)
 }

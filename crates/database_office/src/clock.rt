@@ -1,6 +1,7 @@
 //! The moment of a command: that of the words, or the machine's.
 
 ghost use Rattle.std.specs.Prelude.{◌≡◌, ◌<◌, Ok, Err, None, OnErr, IfOk, IfSome};
+ghost use Rattle.database_office.specs.Over.{IsMomentOf};
 ghost use Rattle.database_office.specs.declared.fault.DatabaseFault.TheVariants.{Clock};
 
 use crate::fault::DatabaseFault;
@@ -23,6 +24,7 @@ pub fn machine_moment(rt: &HostRuntime) -> Option<Moment>
 pub fn command_moment(rt: &HostRuntime, at: Option<Moment>) -> Result<Moment, DatabaseFault>
     ensures said { IfSome at (λ t. result ≡ Ok t) }
     ensures asked { at ≡ None → IfOk result (λ t. t < 4_102_444_800) }
+    ensures moment { IfOk result (IsMomentOf at) }
     ensures told { OnErr result (result ≡ Err Clock) }
     ensures unasked { OnErr result (at ≡ None) }
 {

@@ -10,22 +10,28 @@ ghost use Rattle.office.specs.Told.{answer_line, status_of};
 ghost use Rattle.office.specs.Written.{WritesBeginning};
 ghost use Rattle.office.specs.declared.fault.OfficeFault.TheVariants.{Store, Write};
 ghost use Rattle.operator.specs.Office.{command_of};
+ghost use Rattle.sqlite_wal.specs.Files.{image_at};
 ghost use Rattle.database_office.specs.Opening.{IsCommandFault, IsOfficeFault, IsUnanswered};
+ghost use Rattle.database_office.specs.Over.{IsCommandDone, Leaves};
 ghost use Rattle.database_office.specs.declared.fault.DatabaseFault.TheVariants.{Office as OfOffice};
 
 use crate::clock::command_moment;
 use crate::fault::DatabaseFault;
 use crate::opening::{Office, open_office};
+use database_files::DatabaseFiles;
 use keepers::Keeper;
 use office::{Status, serve_office};
-use operator::{OfficeCommand, OfficeWords};
+use operator::OfficeWords;
 use shelves::TariffShelf;
+use sql_keeper::SqlKeeper;
+use sqlite_disk::{Start, Wary};
 use std::alloc::Global;
 use std::io::Write;
 use units::Moment;
 
 /// Carries out an operator's command over the database of the words, and writes its answer as a
-/// line. The status is `Failed` at a refusal, which changes nothing.
+/// line. The status is `Failed` at a refusal, which changes nothing. Nothing is supposed of a write
+/// that was torn.
 ///
 /// # Errors
 /// In this order: `Clock`; `File`, `Open` or `Memory`, as `open_office`; `Office` where the command
@@ -40,33 +46,53 @@ pub fn command_office<O: Write>(
     ensures unwritten { IfErr result (λ fault. IsUnanswered fault → output.new ≡ output.old) }
     ensures fault { IfErr result (IsCommandFault words.at) }
 {
-    let OfficeWords {
-        database,
-        command,
-        at,
-    } = words;
-    let moment = command_moment(rt, at)?;
-    let Office { mut keeper, shelf } = open_office(rt, &database)?;
-    carry_out(rt.alloc(), &mut keeper, &shelf, command, moment, output)
+    match command_over(rt, words, output, Wary) {
+        Ok((status, _keeper)) => Ok(status),
+        Err(fault) => Err(fault),
+    }
 }
 
-/// Carries out an operator's command over a keeper, as `serve_office`.
+/// Carries out an operator's command as `command_office`, whatever the files held (`start`), and
+/// answers its keeper too.
+///
+/// # Errors
+/// As `command_office`.
+pub fn command_over<S: Start, O: Write>(
+    rt: &HostRuntime,
+    words: OfficeWords,
+    output: &mut O,
+    start: S,
+) -> Result<(Status, SqlKeeper<DatabaseFiles<S>>), DatabaseFault>
+    ensures carried { IfOk result (λ r. Leaves (image_at S.Start) r.1
+        (IsCommandDone words (O.contents output.old) (O.contents output.new) r.0)) }
+    ensures printed { IfOk result (λ r.
+        PrintsAnswer r.0 (O.contents output.old) (O.contents output.new)) }
+    ensures unwritten { IfErr result (λ fault. IsUnanswered fault → output.new ≡ output.old) }
+    ensures fault { IfErr result (IsCommandFault words.at) }
+{
+    let moment = command_moment(rt, words.at)?;
+    let Office { mut keeper, shelf } = open_office(rt, &words.database, start)?;
+    let status = carry_out(rt.alloc(), &mut keeper, &shelf, words, moment, output)?;
+    Ok((status, keeper))
+}
+
+/// Carries out the command of words over a keeper, as `serve_office`.
 fn carry_out<K: Keeper, O: Write>(
     alloc: Global,
     keeper: &mut K,
     shelf: &TariffShelf,
-    command: OfficeCommand,
+    words: OfficeWords,
     moment: Moment,
     output: &mut O,
 ) -> Result<Status, DatabaseFault>
     ensures done { K.clean keeper.new → IfOk result (λ status.
-        IsCarriedOut shelf.now (command_of command) moment (K.content keeper.old)
+        IsCarriedOut shelf.now (command_of words.command) moment (K.content keeper.old)
         (K.content keeper.new) (λ answer. (status ≡ status_of answer)
         × Appends (O.contents output.old) (O.contents output.new) (answer_line answer))) }
     ensures printed { IfOk result (λ status.
         PrintsAnswer status (O.contents output.old) (O.contents output.new)) }
     ensures untold { (fault : StreamFault) → result ≡ Err (OfOffice (Write fault)) →
-        K.clean keeper.new → IsCarriedOut shelf.now (command_of command) moment
+        K.clean keeper.new → IsCarriedOut shelf.now (command_of words.command) moment
         (K.content keeper.old) (K.content keeper.new) (λ answer.
         WritesBeginning (O.contents output.old) (O.contents output.new) (answer_line answer)) }
     ensures unserved { (fault : StoreFault) → result ≡ Err (OfOffice (Store fault)) →
@@ -76,7 +102,7 @@ fn carry_out<K: Keeper, O: Write>(
     ensures cleanness { K.clean keeper.new → K.clean keeper.old }
     ensures failures { K.failed keeper.old ≤ K.failed keeper.new }
 {
-    match serve_office(alloc, keeper, shelf, command, moment, output) {
+    match serve_office(alloc, keeper, shelf, words.command, moment, output) {
         Ok(status) => Ok(status),
         Err(fault) => Err(DatabaseFault::Office(fault)),
     }

@@ -1,13 +1,17 @@
 //! Files that the words name.
 
-ghost use Rattle.std.specs.Prelude.{IfErr};
+ghost use Rattle.std.specs.Prelude.{IfErr, IfOk};
+ghost use Rattle.sqlite.specs.Files.{IsOpened, file_state};
+ghost use Rattle.sqlite.specs.Start.{FindsIn};
+ghost use Rattle.sqlite.specs.State.{HasCleanDisk};
+ghost use Rattle.sqlite_wal.specs.Files.{image_at};
 ghost use Rattle.database_office.specs.Opening.{IsUnopened};
 
 use crate::fault::{DatabaseFault, file_fault, opening_fault};
 use database_files::{DatabaseFiles, open_database};
 use sql_opening::OpenFault;
 use sqlite::Connection;
-use sqlite_disk::Wary;
+use sqlite_disk::Start;
 use std::fs::{self, File};
 use std::io::ErrorKind;
 use std::path::Path;
@@ -38,15 +42,19 @@ pub(crate) fn read_file(rt: &HostRuntime, path: &str) -> Result<Vec<u8>, Databas
     }
 }
 
-/// A connection to the database at a path, whose file is made where there is none. Nothing is
-/// supposed of a write that was torn.
-pub(crate) fn connect(
+/// A connection to the database at a path, whose file is made where there is none. `start` says
+/// what its files held, and what is supposed of a write that was torn: `Wary` supposes nothing.
+pub(crate) fn connect<S: Start>(
     rt: &HostRuntime,
     path: &str,
-) -> Result<Connection<DatabaseFiles<Wary>>, DatabaseFault>
-    ensures { IfErr result IsUnopened }
+    start: S,
+) -> Result<Connection<DatabaseFiles<S>>, DatabaseFault>
+    ensures opened { IfOk result (λ c. HasCleanDisk (file_state c) → IsOpened c) }
+    ensures found { IfOk result
+        (λ c. HasCleanDisk (file_state c) → FindsIn (image_at S.Start) (file_state c)) }
+    ensures told { IfErr result IsUnopened }
 {
-    match open_database(rt, path, Wary) {
+    match open_database(rt, path, start) {
         Ok(connection) => Ok(connection),
         Err(error) => Err(opening_fault(error)),
     }
@@ -80,14 +88,18 @@ fn has_folder(rt: &HostRuntime, path: &str) -> bool {
 /// # Errors
 /// `Open`, there is none or it is empty (`Foreign`, as of a database without tables); else as
 /// `connect`.
-pub(crate) fn connect_there(
+pub(crate) fn connect_there<S: Start>(
     rt: &HostRuntime,
     path: &str,
-) -> Result<Connection<DatabaseFiles<Wary>>, DatabaseFault>
-    ensures { IfErr result IsUnopened }
+    start: S,
+) -> Result<Connection<DatabaseFiles<S>>, DatabaseFault>
+    ensures opened { IfOk result (λ c. HasCleanDisk (file_state c) → IsOpened c) }
+    ensures found { IfOk result
+        (λ c. HasCleanDisk (file_state c) → FindsIn (image_at S.Start) (file_state c)) }
+    ensures told { IfErr result IsUnopened }
 {
     if !is_filled(rt, path)? {
         return Err(DatabaseFault::Open(OpenFault::Foreign));
     }
-    connect(rt, path)
+    connect(rt, path, start)
 }

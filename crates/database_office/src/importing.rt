@@ -1,19 +1,25 @@
 //! A file of vouchers over a database.
 
-ghost use Rattle.std.specs.Prelude.{◌≡◌, ◌≤◌, IfErr, IfSome, OnOk};
+ghost use Rattle.std.specs.Prelude.{◌≡◌, ◌≤◌, IfErr, IfOk, IfSome, OnOk};
 ghost use Rattle.std.specs.Io.KnownBytes.{Appends};
 ghost use Rattle.office.specs.Counts.{counts_line};
 ghost use Rattle.office.specs.Printed.{PrintsCounts};
-ghost use Rattle.database_office.specs.Importing.{IsFileImported, IsImportFault, IsUntold};
+ghost use Rattle.database_office.specs.Importing.{IsFileFault, IsFileImported, IsImportEnd};
+ghost use Rattle.database_office.specs.Importing.{IsImportFault, IsUntold};
+ghost use Rattle.database_office.specs.Over.{IsImportDone, Leaves};
+ghost use Rattle.sqlite_wal.specs.Files.{image_at};
 
 use crate::clock::command_moment;
 use crate::fault::DatabaseFault;
 use crate::files::open_file;
 use crate::opening::{Office, open_office};
+use database_files::DatabaseFiles;
 use keepers::Keeper;
 use office::serve_import;
 use operator::ImportWords;
 use shelves::TariffShelf;
+use sql_keeper::SqlKeeper;
+use sqlite_disk::{Start, Wary};
 use std::alloc::Global;
 use std::io::{Read, Write};
 use thiserror::Error;
@@ -55,12 +61,39 @@ pub fn import_office<O: Write>(
 ) -> Result<(), ImportFault>
     ensures printed { OnOk result (PrintsCounts (O.contents output.old) (O.contents output.new)) }
     ensures unwritten { IfErr result (λ fault. IsUntold fault → output.new ≡ output.old) }
+    ensures fault { IfErr result (IsImportEnd words.at) }
 {
-    let ImportWords { database, file, at } = words;
-    let reader = open_file(rt, file.as_str())?;
-    let moment = command_moment(rt, at)?;
-    let Office { mut keeper, shelf } = open_office(rt, &database)?;
-    import_file(rt.alloc(), &mut keeper, &shelf, reader, moment, output)
+    let reader = open_file(rt, words.file.as_str())?;
+    match import_over(rt, &words, reader, output, Wary) {
+        Ok(_keeper) => Ok(()),
+        Err(fault) => Err(fault),
+    }
+}
+
+/// Adds the vouchers of a reader to the database of the words as `import_office` does those of
+/// their file, whatever the database's files held (`start`), and answers its keeper.
+///
+/// # Errors
+/// In this order: `Database` where the clock has no moment (`Clock`), and `File`, `Open` or
+/// `Memory`, as `open_office`; then as `import_file`.
+pub fn import_over<S: Start, R: Read + Drop, O: Write>(
+    rt: &HostRuntime,
+    words: &ImportWords,
+    reader: R,
+    output: &mut O,
+    start: S,
+) -> Result<SqlKeeper<DatabaseFiles<S>>, ImportFault>
+    ensures imported { IfOk result (λ keeper. IfSome (R.remaining reader) (λ text.
+        Leaves (image_at S.Start) keeper
+        (IsImportDone words.now text (O.contents output.old) (O.contents output.new)))) }
+    ensures printed { OnOk result (PrintsCounts (O.contents output.old) (O.contents output.new)) }
+    ensures unwritten { IfErr result (λ fault. IsUntold fault → output.new ≡ output.old) }
+    ensures fault { IfErr result (IsImportEnd words.now.at) }
+{
+    let moment = command_moment(rt, words.at)?;
+    let Office { mut keeper, shelf } = open_office(rt, &words.database, start)?;
+    import_file(rt.alloc(), &mut keeper, &shelf, reader, moment, output)?;
+    Ok(keeper)
 }
 
 /// Adds the vouchers of a file over a keeper, in their order, and writes what became of them as
@@ -88,6 +121,7 @@ pub fn import_file<K: Keeper, R: Read + Drop, O: Write>(
         IsImportFault shelf.now text moment (K.content keeper.old) (K.content keeper.new)
         (O.contents output.old) (O.contents output.new) fault)) }
     ensures unwritten { IfErr result (λ fault. IsUntold fault → output.new ≡ output.old) }
+    ensures told { IfErr result IsFileFault }
     ensures cleanness { K.clean keeper.new → K.clean keeper.old }
     ensures failures { K.failed keeper.old ≤ K.failed keeper.new }
 {

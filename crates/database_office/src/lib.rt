@@ -16,11 +16,11 @@ mod stating;
 
 pub use crate::adding::{add_book, add_text};
 pub use crate::clock::{command_moment, machine_moment};
-pub use crate::commanding::command_office;
+pub use crate::commanding::{command_office, command_over};
 pub use crate::fault::DatabaseFault;
 pub use crate::files::open_file;
-pub use crate::importing::{ImportFault, import_file, import_office};
+pub use crate::importing::{ImportFault, import_file, import_office, import_over};
 pub use crate::making::{book_text, make_database, make_tables};
 pub use crate::migrating::{migrate_database, migrate_tables};
 pub use crate::opening::{Office, open_office, open_tables};
-pub use crate::stating::state_office;
+pub use crate::stating::{state_office, state_over};

@@ -31,7 +31,7 @@ pub fn make_database(
 {
     let bytes = read_file(rt, words.book.as_str())?;
     let text = book_text(rt.alloc(), &bytes)?;
-    let connection = connect(rt, words.database.as_str())?;
+    let connection = connect(rt, words.database.as_str(), Wary)?;
     match make_tables(rt.alloc(), connection, text) {
         Ok(office) => Ok(office),
         Err((fault, _left)) => Err(fault),

@@ -28,7 +28,7 @@ pub fn migrate_database(
     ensures fresh { IfOk result (λ office. IsFresh office.keeper office.shelf) }
     ensures told { IfErr result IsUnopened }
 {
-    let connection = connect_there(rt, words.database.as_str())?;
+    let connection = connect_there(rt, words.database.as_str(), Wary)?;
     match migrate_tables(rt.alloc(), connection) {
         Ok(office) => Ok(office),
         Err((fault, _left)) => Err(fault),

@@ -1,8 +1,10 @@
 //! A database that is opened.
 
 ghost use Rattle.std.specs.Prelude.{IfErr, IfOk};
-ghost use Rattle.sql_keeper.specs.Opened.{IsFresh, IsNotOpened, IsOpened};
+ghost use Rattle.sqlite_wal.specs.Files.{image_at};
+ghost use Rattle.sql_keeper.specs.Opened.{IsNotOpened, IsOpened};
 ghost use Rattle.database_office.specs.Opening.{IsNotFound, IsUnopened};
+ghost use Rattle.database_office.specs.Over.{IsOpenedIn};
 
 use crate::fault::DatabaseFault;
 use crate::files::connect_there;
@@ -11,7 +13,7 @@ use operator::FilePath;
 use shelves::TariffShelf;
 use sql_keeper::SqlKeeper;
 use sqlite::{Alter, Connection};
-use sqlite_disk::Wary;
+use sqlite_disk::Start;
 use std::alloc::Global;
 
 /// An office: what keeps its accounts, and the shelf of tariff books that it goes by.
@@ -23,19 +25,22 @@ pub struct Office<S: Alter + Drop> {
     pub shelf: TariffShelf,
 }
 
-/// Opens the office of the database at a path. No file is made, and an empty one is left empty.
+/// Opens the office of the database at a path, whatever its files held (`start`). No file is made,
+/// and an empty one is left empty.
 ///
 /// # Errors
 /// `File` or `Memory` where it can't be opened as a database; `Open`, there is no file or an empty
 /// one (`Foreign`), or as `open_tables`.
-pub fn open_office(
+pub fn open_office<S: Start>(
     rt: &HostRuntime,
     path: &FilePath,
-) -> Result<Office<DatabaseFiles<Wary>>, DatabaseFault>
-    ensures fresh { IfOk result (λ office. IsFresh office.keeper office.shelf) }
+    start: S,
+) -> Result<Office<DatabaseFiles<S>>, DatabaseFault>
+    ensures opened { IfOk result
+        (λ office. IsOpenedIn (image_at S.Start) office.keeper office.shelf) }
     ensures told { IfErr result IsUnopened }
 {
-    let connection = connect_there(rt, path.as_str())?;
+    let connection = connect_there(rt, path.as_str(), start)?;
     match open_tables(rt.alloc(), connection) {
         Ok(office) => Ok(office),
         Err((fault, _left)) => Err(fault),

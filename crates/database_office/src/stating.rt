@@ -5,15 +5,20 @@ ghost use Rattle.std.specs.Io.KnownBytes.{Appends};
 ghost use Rattle.office.specs.Months.{IsMonthTold, OnlyReads, unknown_line};
 ghost use Rattle.office.specs.Printed.{IsEnded};
 ghost use Rattle.database_office.specs.Opening.{IsCommandFault, IsOfficeFault, IsUnasked};
+ghost use Rattle.sqlite_wal.specs.Files.{image_at};
+ghost use Rattle.database_office.specs.Over.{IsMonthDone, Leaves, query_of};
 ghost use Rattle.database_office.specs.Stating.{IsOfOffice};
 
 use crate::clock::command_moment;
 use crate::fault::DatabaseFault;
 use crate::opening::{Office, open_office};
 use charge_sources::ChargeSource;
+use database_files::DatabaseFiles;
 use office::{MonthQuery, Status, serve_statement};
 use operator::StatementWords;
 use shelves::TariffShelf;
+use sql_keeper::SqlKeeper;
+use sqlite_disk::{Start, Wary};
 use std::alloc::Global;
 use std::io::Write;
 use units::Moment;
@@ -34,34 +39,65 @@ pub fn state_office<O: Write>(
     ensures unwritten { IfErr result (λ fault. IsUnasked fault → output.new ≡ output.old) }
     ensures fault { IfErr result (IsCommandFault words.at) }
 {
-    let StatementWords {
-        database,
-        account,
-        month,
-        csv,
-        at,
-    } = words;
-    let moment = command_moment(rt, at)?;
-    let Office { mut keeper, shelf } = open_office(rt, &database)?;
-    let query = MonthQuery {
-        account,
-        month,
-        csv,
-    };
-    tell_month(rt.alloc(), &mut keeper, &shelf, &query, moment, output)
+    match state_over(rt, words, output, Wary) {
+        Ok((status, _keeper)) => Ok(status),
+        Err(fault) => Err(fault),
+    }
 }
 
-/// Writes an account's month over a keeper, as `serve_statement`.
+/// Writes the month of an account as `state_office`, whatever the files held (`start`), and answers
+/// its keeper too.
+///
+/// # Errors
+/// As `state_office`.
+pub fn state_over<S: Start, O: Write>(
+    rt: &HostRuntime,
+    words: StatementWords,
+    output: &mut O,
+    start: S,
+) -> Result<(Status, SqlKeeper<DatabaseFiles<S>>), DatabaseFault>
+    ensures told { IfOk result (λ r. Leaves (image_at S.Start) r.1
+        (IsMonthDone words (O.contents output.old) (O.contents output.new) r.0)) }
+    ensures ended { IfOk result (λ r. IsEnded
+        (Appends (O.contents output.old) (O.contents output.new) unknown_line) r.0) }
+    ensures unwritten { IfErr result (λ fault. IsUnasked fault → output.new ≡ output.old) }
+    ensures fault { IfErr result (IsCommandFault words.at) }
+{
+    let moment = command_moment(rt, words.at)?;
+    let Office { mut keeper, shelf } = open_office(rt, &words.database, start)?;
+    let status = tell_month(rt.alloc(), &mut keeper, &shelf, words, moment, output)?;
+    Ok((status, keeper))
+}
+
+/// The month that words ask for.
+fn query_of(words: StatementWords) -> MonthQuery
+    ensures { result ≡ query_of words }
+{
+    let StatementWords {
+        database: _,
+        account,
+        month,
+        csv,
+        at: _,
+    } = words;
+    MonthQuery {
+        account,
+        month,
+        csv,
+    }
+}
+
+/// Writes the month of words over a keeper, as `serve_statement`.
 fn tell_month<K: ChargeSource, O: Write>(
     alloc: Global,
     keeper: &mut K,
     shelf: &TariffShelf,
-    query: &MonthQuery,
+    words: StatementWords,
     moment: Moment,
     output: &mut O,
 ) -> Result<Status, DatabaseFault>
     ensures told { K.clean keeper.new →
-        IsOfOffice (IsMonthTold shelf.now query.now moment (K.content keeper.old)
+        IsOfOffice (IsMonthTold shelf.now (query_of words) moment (K.content keeper.old)
         (O.contents output.old) (O.contents output.new)) result }
     ensures ended { IfOk result (IsEnded
         (Appends (O.contents output.old) (O.contents output.new) unknown_line)) }
@@ -69,7 +105,8 @@ fn tell_month<K: ChargeSource, O: Write>(
     ensures unwritten { IfErr result (λ fault. IsUnasked fault → output.new ≡ output.old) }
     ensures fault { IfErr result IsOfficeFault }
 {
-    match serve_statement(alloc, keeper, shelf, query, moment, output) {
+    let query = query_of(words);
+    match serve_statement(alloc, keeper, shelf, &query, moment, output) {
         Ok(status) => Ok(status),
         Err(fault) => Err(DatabaseFault::Office(fault)),
     }

@@ -1,15 +1,17 @@
 -- Dated commands come to a list, one after another.
-use Rattle.std.proofs.Common.{ℕ, List, [], ◌∷◌, ◌++◌, sym, subst, Result, Ok, Err}
+use Rattle.std.proofs.Common.{ℕ, List, [], ◌∷◌, ◌++◌, sym, subst, Result, Ok, Err, ◌⊎◌, inl, inr}
 use Rattle.commands.specs.declared.answer.Answer.{Answer}
 use Rattle.commands.specs.declared.command.Command.{Command}
 use Rattle.shelves.specs.Shelves.{Shelf}
 use Rattle.keepers.specs.declared.fault.StoreFault.{StoreFault}
 use Rattle.keepers.specs.Tables.{Tables}
 use Rattle.charging.specs.Accepted.{Accepted, IsInTime}
-use Rattle.charging.specs.Served.{AreTables, Serves}
-use Rattle.charging.specs.Continued.{ForEachList, IsContinued}
+use Rattle.charging.specs.Parts.{Leaves}
+use Rattle.charging.specs.Served.{AreTables, Serves, Writes}
+use Rattle.charging.specs.Continued.{ForEachList, IsContinued, LeavesOn}
 use Rattle.charging.specs.Runs.{after_commands}
-use Rattle.charging.proofs.RunLemmas.{commands_after}
+use Rattle.charging.proofs.RunLemmas.{commands_after, time-more}
+use Rattle.charging.proofs.Serving.{left_as}
 
 -- none
 pub continued_none : (b : Shelf) (tables : Tables) → ForEachList b tables (IsContinued b tables)
@@ -28,6 +30,42 @@ continued_more b old mid new f g = λ list time are.
       tables = subst (λ (l : List Accepted). AreTables b l new) (sym same) more.tables;
       time = subst IsInTime (sym same) more.time;
     }
+
+-- a command that is written
+pub continued_writes : (b : Shelf) (c : Command) (t : ℕ) (old new : Tables) →
+    Writes b c t old new → ForEachList b old (IsContinued b new)
+continued_writes b c t old new writes = λ list time are. record {
+  commands = record { moment = t; command = c } ∷ [];
+  tables = writes list time are;
+  time = time-more b list (record { moment = t; command = c }) time;
+}
+
+module _ {K : Type 0} (content : K → Tables) (honest clean : K → Type 0)
+    (leaves : K → Tables → Type 0) (b : Shelf) where
+  -- what a stop leaves of a command
+  pub leaves_step : (c : Command) (t : ℕ) (old new : K) →
+      Leaves honest leaves old new (λ held. clean old × Writes b c t (content old) held) →
+      LeavesOn content honest clean leaves b old new
+  leaves_step c t old new left = λ h held l. left_as (left h held l) (λ before. before)
+      (λ w. (w.0, continued_writes b c t (content old) held w.1))
+
+  -- and of one call after another
+  pub leaves_more : (old mid new : K) → (clean mid → clean old) →
+      (clean mid → ForEachList b (content old) (IsContinued b (content mid))) →
+      (honest new → honest mid) → LeavesOn content honest clean leaves b old mid →
+      LeavesOn content honest clean leaves b mid new →
+      LeavesOn content honest clean leaves b old new
+  leaves_more old mid new cleanness continued honesty first second = λ h held l.
+      at held h (second h held l)
+    where
+      at : (held : Tables) → honest new →
+          leaves mid held ⊎ (clean mid × ForEachList b (content mid) (IsContinued b held)) →
+          leaves old held ⊎ (clean old × ForEachList b (content old) (IsContinued b held))
+      at held h (inl l) = first (honesty h) held l
+      at held h (inr w) = inr (
+        cleanness w.0,
+        continued_more b (content old) (content mid) held (continued w.0) w.1,
+      )
 
 -- a step
 pub continued_step : (b : Shelf) (c : Command) (t : ℕ)

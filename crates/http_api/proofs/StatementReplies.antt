@@ -48,16 +48,21 @@ continued_same b old new same = λ list time are.
 
 -- where the tables stay, and the writer alone fails
 pub goes_on_same : {A K : Type 0} (b : Shelf) (empty full : Option (List ℕ)) (content : K → Tables)
-    (failed : K → ℕ) (clean : K → Type 0) (old new : K) (result : Result A StreamFault) →
+    (failed : K → ℕ) (honest clean : K → Type 0) (leaves : K → Tables → Type 0) (old new : K)
+    (result : Result A StreamFault) →
     OnErr result (result ≡ Err stream.Write) → (clean new → content new ≡ content old) →
-    (clean new → clean old) → failed old ≤ failed new →
-    GoesOn b empty full content failed clean old new result
-goes_on_same b empty full content failed clean old new result only same cleanness failures =
+    (clean new → clean old) → (honest new → honest old) →
+    (honest new → (t : Tables) → leaves new t → leaves old t) → failed old ≤ failed new →
+    GoesOn b empty full content failed honest clean leaves old new result
+goes_on_same b empty full content failed honest clean leaves old new result only same cleanness
+    honesty left failures =
     record {
       unwritten = λ e. not_memory result only e;
       read = not_read result only;
       continued = λ whole. continued_same b (content old) (content new) (same whole);
       cleanness = cleanness;
+      honesty = honesty;
+      left = λ h t l. inl (left h t l);
       failures = failures;
     }
 

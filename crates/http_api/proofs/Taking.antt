@@ -505,9 +505,10 @@ module _ {C : Type 0} (gives : C → Option ℕ → C → Type 0) (b : Shelf) wh
 
   -- nothing is read, since memory is refused
   pub none_served : {K : Type 0} (r : Option (List ℕ)) (c : C) (w : Option (List ℕ))
-      (content : K → Tables) (failed : K → ℕ) (clean : K → Type 0) (k : K) →
-      ServesConnection gives b r c c w w content failed clean k k (Err fault.Memory)
-  none_served r c w content failed clean k = record {
+      (content : K → Tables) (failed : K → ℕ) (honest clean : K → Type 0)
+      (leaves : K → Tables → Type 0) (k : K) →
+      ServesConnection gives b r c c w w content failed honest clean leaves k k (Err fault.Memory)
+  none_served r c w content failed honest clean leaves k = record {
     served = λ is_clean. tt;
     begun = λ is_clean. so_far-begun 0 1000 r r c c w w (content k) (content k) (omega arith)
         (so_far-none r c w (content k));
@@ -518,6 +519,8 @@ module _ {C : Type 0} (gives : C → Option ℕ → C → Type 0) (b : Shelf) wh
     bounded = tt;
     continued = λ is_clean. continued_none b (content k);
     cleanness = λ is_clean. is_clean;
+    honesty = λ is_honest. is_honest;
+    left = λ is_honest t l. inl l;
     failures = le_refl (failed k);
   }
 

@@ -8,7 +8,7 @@ use Rattle.std.specs.Io.KnownBytes.{Appends}
 use Rattle.shelves.specs.Shelves.{Shelf}
 use Rattle.keepers.specs.Tables.{Tables}
 use Rattle.charging.specs.Accepted.{Accepted, IsInTime}
-use Rattle.charging.specs.Continued.{ForEachList, Continues}
+use Rattle.charging.specs.Continued.{ForEachList, Continues, LeavesOn}
 use Rattle.charging.specs.Served.{AreTables}
 use Rattle.http_heads.specs.Statuses.{IsAnswerStatus}
 use Rattle.http_heads.specs.Requests.{Ask, Next, asks, refused, ended, IsNext}
@@ -197,11 +197,11 @@ pub record IsCutOff {C : Type 0} (gives : C → Option ℕ → C → Type 0) (b 
 
 -- what comes of a connection over a keeper that stays clean, where the reader tells its bytes: it
 -- is served to its end, or a beginning of it is, and each fault says which; at most 1,000 requests
--- are answered, and the accepted commands go on
+-- are answered, and the accepted commands go on, also those that are found after a stop
 pub record ServesConnection {C K : Type 0} (gives : C → Option ℕ → C → Type 0) (b : Shelf)
     (bytes : Option (List ℕ)) (before after : C) (empty full : Option (List ℕ))
-    (content : K → Tables) (failed : K → ℕ) (clean : K → Type 0) (old new : K)
-    (result : Result Served ServeFault) : Type 0 where
+    (content : K → Tables) (failed : K → ℕ) (honest clean : K → Type 0)
+    (leaves : K → Tables → Type 0) (old new : K) (result : Result Served ServeFault) : Type 0 where
   pub served : clean new → IfOk result (λ done. IfSome bytes (λ stream.
       IsServed gives b stream done.requests before after empty full (content old) (content new)))
   pub begun : clean new → OnErr result (IfSome bytes (λ stream.
@@ -215,4 +215,6 @@ pub record ServesConnection {C K : Type 0} (gives : C → Option ℕ → C → T
   pub bounded : IfOk result (λ done. done.requests ≤ 1000)
   pub continued : clean new → Continues b (content old) (content new)
   pub cleanness : clean new → clean old
+  pub honesty : honest new → honest old
+  pub left : LeavesOn content honest clean leaves b old new
   pub failures : failed old ≤ failed new

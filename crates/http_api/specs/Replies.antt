@@ -16,7 +16,7 @@ use Rattle.keepers.specs.Tables.{Tables}
 use Rattle.statements.specs.Texts.{statement_text}
 use Rattle.charging.specs.Accepted.{Accepted, IsInTime}
 use Rattle.charging.specs.Balances.{by_number}
-use Rattle.charging.specs.Continued.{ForEachList, Continues}
+use Rattle.charging.specs.Continued.{ForEachList, Continues, LeavesOn}
 use Rattle.charging.specs.Histories.{History}
 use Rattle.charging.specs.Served.{AreTables, history, moment_of, answer_to, with_command}
 use Rattle.http_heads.specs.Statuses as status
@@ -129,10 +129,12 @@ pub record Replies {C : Type 0} (gives : C → Option ℕ → C → Type 0) (b :
 -- what answering a request leaves, whatever it asks: nothing is written where memory is refused, no
 -- reader fails, and the accepted commands go on
 pub record GoesOn {A K : Type 0} (b : Shelf) (empty full : Option (List ℕ)) (content : K → Tables)
-    (failed : K → ℕ) (clean : K → Type 0) (old new : K) (result : Result A StreamFault) :
-    Type 0 where
+    (failed : K → ℕ) (honest clean : K → Type 0) (leaves : K → Tables → Type 0) (old new : K)
+    (result : Result A StreamFault) : Type 0 where
   pub unwritten : IsErrOf result Memory → full ≡ empty
   pub read : IsErrOf result Read → ⊥
   pub continued : clean new → Continues b (content old) (content new)
   pub cleanness : clean new → clean old
+  pub honesty : honest new → honest old
+  pub left : LeavesOn content honest clean leaves b old new
   pub failures : failed old ≤ failed new

@@ -46,7 +46,7 @@ pub(crate) fn answer_request<W: Write, K: ChargeSource, C: Clock>(
         IsAsked asking asked →
         Owes C.gives shelf.now asking clock.old clock.new (K.content keeper.old) }
     ensures goes_on { GoesOn shelf.now (W.contents writer.old) (W.contents writer.new)
-        K.content K.failed K.clean keeper.old keeper.new result }
+        K.content K.failed K.honest K.clean K.left keeper.old keeper.new result }
 {
     match asked {
         Asked::Refused(status) => tell_refusal(alloc, writer, status, closes),
@@ -80,7 +80,7 @@ fn serve_command<W: Write, K: ChargeSource, C: Clock>(
     ensures memory { K.clean keeper.new → IsErrOf result StreamFault.Memory →
         Owes C.gives shelf.now (reads (Ok command)) clock.old clock.new (K.content keeper.old) }
     ensures goes_on { GoesOn shelf.now (W.contents writer.old) (W.contents writer.new)
-        K.content K.failed K.clean keeper.old keeper.new result }
+        K.content K.failed K.honest K.clean K.left keeper.old keeper.new result }
 {
     let Some(moment) = clock.now() else {
         return tell_unable(writer, closes);

@@ -6,6 +6,7 @@ mod answering;
 mod clock;
 mod fault;
 mod hearing;
+mod patient_socket;
 mod serving;
 mod socket;
 mod stating;
@@ -13,5 +14,6 @@ mod telling;
 
 pub use crate::clock::{Clock, FixedClock};
 pub use crate::fault::ServeFault;
+pub use crate::patient_socket::REQUEST_SECONDS;
 pub use crate::serving::{MAX_REQUESTS, Served, serve};
 pub use crate::socket::{SOCKET_SECONDS, serve_socket};

@@ -1,12 +1,12 @@
 ghost use Rattle.std.specs.Prelude.{◌≡◌, ◌≤◌, IfOk};
-ghost use Rattle.charging.specs.Continued.{Continues};
+ghost use Rattle.charging.specs.Continued.{Continues, LeavesOn};
 
 use crate::clock::Clock;
 use crate::fault::ServeFault;
+use crate::patient_socket::PatientSocket;
 use crate::serving::{Served, serve};
 use charge_sources::ChargeSource;
 use shelves::TariffShelf;
-use std::alloc::Global;
 use std::io;
 use std::net::TcpStream;
 use std::time::Duration;
@@ -15,12 +15,14 @@ use std::time::Duration;
 pub const SOCKET_SECONDS: u64 = 30;
 
 /// Serves the requests of a socket, as `serve`. Answers leave it without delay, and a read or a
-/// write that takes more than 30 seconds is a fault.
+/// write that takes more than 30 seconds is a fault. So is a read 60 seconds after the first bytes
+/// of a request, so that a peer that sends byte by byte keeps the next one waiting for no more than
+/// 90 seconds.
 ///
 /// # Errors
 /// As `serve`, and `Read` where the socket can't be set so; then nothing is read.
 pub fn serve_socket<K: ChargeSource, C: Clock>(
-    alloc: Global,
+    rt: &HostRuntime,
     stream: &TcpStream,
     keeper: &mut K,
     shelf: &TariffShelf,
@@ -30,12 +32,15 @@ pub fn serve_socket<K: ChargeSource, C: Clock>(
     ensures continued { K.clean keeper.new →
         Continues shelf.now (K.content keeper.old) (K.content keeper.new) }
     ensures cleanness { K.clean keeper.new → K.clean keeper.old }
+    ensures honesty { K.honest keeper.new → K.honest keeper.old }
+    ensures left { LeavesOn K.content K.honest K.clean K.left shelf.now keeper.old keeper.new }
     ensures failures { K.failed keeper.old ≤ K.failed keeper.new }
 {
     if limit(stream).is_err() {
         return Err(ServeFault::Read);
     }
-    serve(alloc, &mut &*stream, &mut &*stream, keeper, shelf, clock)
+    let socket = PatientSocket::new(rt, stream);
+    serve(rt.alloc(), &mut &socket, &mut &socket, keeper, shelf, clock)
 }
 
 /// Sets what a socket delays, and how long it waits.

@@ -6,6 +6,7 @@ ghost use Rattle.commands.specs.declared.answer.Answer.TheVariants.{Refused};
 ghost use Rattle.commands.specs.declared.answer.Refusal.TheVariants.{AccountUnknown as Unknown};
 ghost use Rattle.reserving.specs.ChargeColumns.{ChargeColumns};
 ghost use Rattle.charge_sources.specs.Rows.{AreCharges};
+ghost use Rattle.keepers.specs.Tables.{Tables};
 ghost use Rattle.statements.specs.Charges.{Asks};
 ghost use Rattle.statements.specs.Texts.{statement_text};
 ghost use Rattle.http_answers.specs.Asking.{states};
@@ -50,6 +51,8 @@ pub(crate) fn serve_statement<W: Write, K: ChargeSource, C: Clock>(
     ensures fault { OnErr result (result ≡ Err StreamFault.Write) }
     ensures same { K.clean keeper.new → K.content keeper.new ≡ K.content keeper.old }
     ensures cleanness { K.clean keeper.new → K.clean keeper.old }
+    ensures honesty { K.honest keeper.new → K.honest keeper.old }
+    ensures left { K.honest keeper.new → (t : Tables) → K.left keeper.new t → K.left keeper.old t }
     ensures failures { K.failed keeper.old ≤ K.failed keeper.new }
 {
     let Some(moment) = clock.now() else {
@@ -88,6 +91,8 @@ fn tell_statement<W: Write, K: ChargeSource>(
     ensures fault { OnErr result (result ≡ Err StreamFault.Write) }
     ensures same { K.clean keeper.new → K.content keeper.new ≡ K.content keeper.old }
     ensures cleanness { K.clean keeper.new → K.clean keeper.old }
+    ensures honesty { K.honest keeper.new → K.honest keeper.old }
+    ensures left { K.honest keeper.new → (t : Tables) → K.left keeper.new t → K.left keeper.old t }
     ensures failures { K.failed keeper.old ≤ K.failed keeper.new }
 {
     match statement_of(alloc, keeper, shelf, asked, state) {
@@ -109,7 +114,8 @@ fn statement_of<K: ChargeSource>(
         text.items ≡ statement_text shelf.now.first asked.now.account asked.now.month
         state.now.moment
         rows state.now.buckets.items) }
-    ensures asks { Asks K.content K.failed K.clean keeper.old keeper.new result }
+    ensures asks { Asks K.content K.failed K.honest K.clean K.left keeper.old keeper.new
+        result }
 {
     let mut text = Vec::new(alloc);
     let buckets = state.buckets.as_slice();

@@ -5,3 +5,5 @@ pub mod Nexts
 pub mod Pieces
 pub mod Refusals
 pub mod Tokens
+pub mod Shortest
+pub mod OneNext

@@ -4,3 +4,4 @@ pub mod Statuses
 pub mod Fields
 pub mod Found
 pub mod Requests
+pub mod Shortest

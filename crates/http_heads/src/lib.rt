@@ -5,9 +5,11 @@
 mod fields;
 mod head;
 mod head_part;
+mod laws;
 mod requests;
 
 pub use crate::head::Head;
 pub use crate::head_part::{HeadPart, MAX_HEAD_PART, next_head_part};
+pub use crate::laws::{first_parts_are_shortest, next_is_one};
 pub use crate::requests::{MAX_FIELDS, Request, Taken, next_request};
 pub use httparse::spans::{EMPTY_HEADER_SPAN, HeaderSpan};

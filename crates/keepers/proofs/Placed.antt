@@ -4,7 +4,7 @@ use Rattle.std.proofs.Common.{◌≡◌, ℕ, suc, ◌+◌, ◌<◌, Bool, true,
 use Rattle.std.proofs.Common.{length, length-set, get_or, set, refl, sym, ap, ◌∙◌, arith, Option}
 use Rattle.std.proofs.Common.{Some, None, Bor}
 use Rattle.std.specs.Prelude.{if◌then◌else◌, ◌==◌, nat_lt, is_some, position, Result, Ok, Err}
-use Rattle.std.specs.Prelude.{OnErr}
+use Rattle.std.specs.Prelude.{OnErr, OnOk}
 use Rattle.std.specs.List.{find, position_or_len, position_from}
 use Rattle.std.specs.Option.{option_copied, IsSome, IfSome}
 use Rattle.std.proofs.lemmas.List.Folds.{position_or_len-set}
@@ -56,6 +56,10 @@ length-put p x (y ∷ ys) = at (p y) (length-put p x ys)
 pub on_err : {T E P : Type 0} (r : Result T E) → P → OnErr r P
 on_err (Ok x) p = tt
 on_err (Err e) p = p
+
+pub on_ok : {T E P : Type 0} (r : Result T E) → P → OnOk r P
+on_ok (Ok x) p = p
+on_ok (Err e) p = tt
 
 pub head_there : (o : Option Entry) → is_some o ≡ is_some (rows_of_entry o).head
 head_there None = refl

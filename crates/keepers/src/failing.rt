@@ -77,9 +77,17 @@ impl<K: Keeper> Keeper for Failing<K> {
 
     ghost failed = { λ k. failure_total (K.failed k.inner) k.failed };
 
+    ghost honest = { λ k. K.honest k.inner };
+
     ghost clean = { λ k. K.clean k.inner };
 
+    ghost left = { λ k. K.left k.inner };
+
     ghost bounded = { λ k. total-bounded (K.failed k.inner) k.failed (K.bounded k.inner) };
+
+    ghost honesty = { λ k. K.honesty k.inner };
+
+    ghost settled = { λ k. K.settled k.inner };
 
     fn failures(&self) -> u64 {
         let inner = self.inner.failures();

@@ -18,7 +18,8 @@ use units::Moment;
 /// What keeps the rows of accounts, their charges, the kept answers and the vouchers.
 ///
 /// Contracts see its content as tables. What a call says of them it says where the store is clean
-/// after it, and a store that is clean was clean before. A store fault comes only where the store
+/// after it, and a store that is clean was clean before. Where the store is honest a call that
+/// answers leaves it clean, also over a disk that fails. A store fault comes only where the store
 /// failed in the call.
 pub trait Keeper {
     /// The tables.
@@ -27,8 +28,14 @@ pub trait Keeper {
     /// How many calls met a failure of the store.
     ghost failed: { Self → ℕ };
 
-    /// The store answers what was written, and nobody else writes it.
+    /// The store returned what was written, and nobody else writes it: a premise.
+    ghost honest: { Self → Type 0 };
+
+    /// The store is honest, and it can still be asked.
     ghost clean: { Self → Type 0 };
+
+    /// The tables that are found when the store is opened again after a stop at this moment.
+    ghost left: { Self → Tables → Type 0 };
 
     /// How many calls met a failure of the store; at 10^18 it stays.
     fn failures(&self) -> u64
@@ -36,7 +43,7 @@ pub trait Keeper {
 
     /// The moment of the last accepted command.
     fn last(&mut self) -> Result<Moment, StoreFault>
-        ensures { Reads content failed clean self.old self.new
+        ensures { Reads content failed honest clean left self.old self.new
             (λ t. t ≡ (content self.old).last) result };
 
     /// What may still change of the account of this number at the moment, priced by the shelf; None
@@ -47,7 +54,7 @@ pub trait Keeper {
         account: &AccountNumber,
         moment: Moment,
     ) -> Result<Option<Loaded<'b>>, StoreFault>
-        ensures { Reads content failed clean self.old self.new
+        ensures { Reads content failed honest clean left self.old self.new
             (λ found. IsLoad shelf.now moment account.now
             ((content self.old).rows account.now) found) result };
 
@@ -59,12 +66,12 @@ pub trait Keeper {
         account: &AccountNumber,
         moment: Moment,
     ) -> Result<Option<Account<'b>>, StoreFault>
-        ensures { Reads content failed clean self.old self.new
+        ensures { Reads content failed honest clean left self.old self.new
             (λ found. IsView shelf.now moment ((content self.old).rows account.now) found) result };
 
     /// Whether there is an account of this number.
     fn has_account(&mut self, account: &AccountNumber) -> Result<bool, StoreFault>
-        ensures { Reads content failed clean self.old self.new
+        ensures { Reads content failed honest clean left self.old self.new
             (λ there. there ≡ is_some ((content self.old).rows account.now).head) result };
 
     /// Whether an account has a row of this session, which may be over.
@@ -73,14 +80,14 @@ pub trait Keeper {
         account: &AccountNumber,
         session: &SessionId,
     ) -> Result<bool, StoreFault>
-        ensures { Reads content failed clean self.old self.new
+        ensures { Reads content failed honest clean left self.old self.new
             (λ known. known ≡ is_some (((content self.old).rows account.now).sessions session.now))
             result };
 
     /// The buckets of an account that can't be used any more, which `load` leaves, in any order;
     /// none where there is no account.
     fn dead_buckets(&mut self, account: &AccountNumber) -> Result<Vec<Bucket>, StoreFault>
-        ensures { Reads content failed clean self.old self.new
+        ensures { Reads content failed honest clean left self.old self.new
             (λ found. AreDeadOf ((content self.old).rows account.now) found.items) result };
 
     /// What is kept under a key of an account; None where nothing is.
@@ -89,12 +96,12 @@ pub trait Keeper {
         account: &AccountNumber,
         key: &Key,
     ) -> Result<Option<KeptAnswer>, StoreFault>
-        ensures { Reads content failed clean self.old self.new
+        ensures { Reads content failed honest clean left self.old self.new
             (λ found. found ≡ (content self.old).answers account.now key.now) result };
 
     /// What stands under the code of a voucher; None where nothing does.
     fn find_voucher(&mut self, code: &VoucherCode) -> Result<Option<Voucher>, StoreFault>
-        ensures { Reads content failed clean self.old self.new
+        ensures { Reads content failed honest clean left self.old self.new
             (λ found. found ≡ (content self.old).vouchers code.now) result };
 
     /// Makes the change, in one transaction. At a fault nothing has changed.
@@ -103,7 +110,9 @@ pub trait Keeper {
             OnOk result (IsMadeFrom change.before change.after
             ((content self.old).rows change.number) →
             content self.new ≡ changed change (content self.old)) }
-        ensures kept { Keeps content failed clean self.old self.new result };
+        ensures kept { Keeps content failed honest clean left self.old self.new
+            (λ t. IsMadeFrom change.before change.after ((content self.old).rows change.number) →
+            t ≡ changed change (content self.old)) result };
 
     /// Puts a voucher of these terms, which no account has redeemed, under the code, as a command
     /// of the moment, in one transaction. At a fault nothing has changed.
@@ -115,7 +124,8 @@ pub trait Keeper {
     ) -> Result<(), StoreFault>
         ensures done { clean self.new →
             OnOk result (content self.new ≡ with_voucher code terms moment (content self.old)) }
-        ensures kept { Keeps content failed clean self.old self.new result };
+        ensures kept { Keeps content failed honest clean left self.old self.new
+            (λ t. t ≡ with_voucher code terms moment (content self.old)) result };
 
     /// Gives a loaded account up: nothing changes.
     fn abandon<'b>(&mut self, loaded: Loaded<'b>)
@@ -134,8 +144,15 @@ pub trait Keeper {
         ensures count { clean self.new → IfOk result (λ n. n ≡ (content self.old).count) }
         ensures done { clean self.new →
             OnOk result (IsSwept shelf.now moment (content self.old) (content self.new)) }
-        ensures kept { Keeps content failed clean self.old self.new result };
+        ensures kept { Keeps content failed honest clean left self.old self.new
+            (IsSwept shelf.now moment (content self.old)) result };
 
     /// The count stays at the highest.
     ghost bounded: { (k : Self) → failed k ≤ max_failures };
+
+    /// A clean store is honest.
+    ghost honesty: { (k : Self) → clean k → honest k };
+
+    /// A stop between two calls leaves the tables as they stand.
+    ghost settled: { (k : Self) (t : Tables) → clean k → left k t → t ≡ content k };
 }

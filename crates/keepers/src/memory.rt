@@ -82,11 +82,19 @@ impl Keeper for MemoryKeeper {
 
     ghost failed = { λ _. 0 };
 
+    ghost honest = { λ _. Unit {0} };
+
     ghost clean = { λ _. Unit {0} };
+
+    ghost left = { λ _ _. ⊥ };
 
     ghost use Rattle.std.proofs.Common.{zero-le};
 
     ghost bounded = { λ _. zero-le };
+
+    ghost honesty = { λ _ clean. clean };
+
+    ghost settled = { λ _ _ _ none. absurd none };
 
     fn failures(&self) -> u64 {
         0

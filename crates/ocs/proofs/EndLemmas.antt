@@ -2,7 +2,7 @@
 use Rattle.std.proofs.Common.{◌≡◌, ℕ, ◌≤◌, ◌+◌, ◌++◌, ◌∷◌, ◌⊎◌, Bool, true, false, List, [], take}
 use Rattle.std.proofs.Common.{sym, ap, subst, ◌∙◌, refl, inl, inr, Option, Some, None, Result, Ok}
 use Rattle.std.proofs.Common.{Err}
-use Rattle.std.specs.Prelude.{IfErr, IfSome, min}
+use Rattle.std.specs.Prelude.{IfErr, IfSome, OnErr, min}
 use Rattle.std.specs.Io.KnownBytes.{Appends, Keeps}
 use Rattle.std.proofs.KnownBytes.{Keeps-refl}
 use Rattle.byte_streams.specs.declared.StreamFault.{StreamFault}
@@ -28,9 +28,11 @@ use Rattle.operator.specs.declared.fault.WordsFault.TheVariants as fault
 use Rattle.operator.specs.declared.parsed.OnceWords.{OnceWords}
 use Rattle.operator.specs.declared.parsed.ProgramWords.{ProgramWords}
 use Rattle.operator.specs.declared.parsed.ProgramWords.TheVariants as words
-use Rattle.ocs.specs.Ends.{HasPrinted, IfOnce, Imports, IsEnd, IsEndBy, IsEndOf, IsMemory}
-use Rattle.ocs.specs.Ends.{IsRefused, Says, Stores}
-use Rattle.ocs.specs.Told.{AreUnread, IsReached, IsReachedByLines, IsSilent, IsTextTold, IsTold}
+use Rattle.database_office.specs.declared.fault.DatabaseFault.{DatabaseFault}
+use Rattle.ocs.specs.Ends.{HasPrinted, IfOnce, IsEnd, IsEndBy, IsEndOf, IsMemory, IsRefused, Says}
+use Rattle.ocs.specs.Faults.{IsFaultIn, IsFaultOf, IsFaultTold, IsMemoryFault, IsReachedByLines}
+use Rattle.ocs.specs.Faults.{IsWriteFault, OnlyDone}
+use Rattle.ocs.specs.Told.{AreUnread, IsSilent, IsTextTold, IsTold}
 use Rattle.ocs.specs.Told.{IsToldAtEnd, IsToldBy, IsToldOf, LeavesOutput, ServesConnections, TellsAs}
 use Rattle.ocs.specs.Told.{TellsFault, fault_line, line_of}
 use Rattle.request_lines.specs.declared.fault.LinesFault.{LinesFault}
@@ -54,30 +56,32 @@ reached_lines (Err (Write f)) cause both = tt
 
 -- ---- faults
 
-over_from : (C D : Type 0) (f : LinesFault) → (C → D) → IsReachedByLines C f → IsReachedByLines D f
-over_from C D (Read f) h is = is
-over_from C D (Store store.Memory) h is = is
-over_from C D (Store store.Store) h is = h is
-over_from C D (Both store.Memory) h is = is
-over_from C D (Both store.Store) h is = h is
-over_from C D (Write f) h is = is
-
-reached_from : (A B C D : Type 0) (f : ProgramFault) → (A → B) → (C → D) → IsReached A C f →
-    IsReached B D f
-reached_from A B C D (program.Lines f) h k is = over_from C D f k is
-reached_from A B C D (program.Stream f) h k is = is
-reached_from A B C D (program.Database f) h k is = k is
-reached_from A B C D (program.Vouchers f) h k is = h is
-
-pub tells_from : (A B C D : Type 0) (P Q : ProgramFault → Type 0) (old new : Option (List ℕ)) →
-    (A → B) → (C → D) → ((f : ProgramFault) → P f → Q f) →
-    TellsFault A C P old new → TellsFault B D Q old new
-tells_from A B C D P Q old new h k l t = record {
+pub tells_from : (O P S T : ProgramFault → Type 0) (old new : Option (List ℕ)) →
+    ((f : ProgramFault) → O f → P f) → ((f : ProgramFault) → S f → T f) →
+    TellsFault O S old new → TellsFault P T old new
+tells_from O P S T old new h k t = record {
   fault = t.fault;
-  reached = reached_from A B C D t.fault h k t.reached;
-  silent = l t.fault t.silent;
+  reached = h t.fault t.reached;
+  silent = k t.fault t.silent;
   written = t.written;
 }
+
+-- a writer that fails tells no fault but its own
+stream_of : {A : Type 0} → StreamFault → Result A StreamFault → StreamFault
+stream_of other (Ok x) = other
+stream_of other (Err f) = f
+
+pub writer_failed : {A : Type 0} (r : Result A StreamFault) (f : StreamFault) → r ≡ Err f →
+    OnErr r (r ≡ Err stream.Write) → IsWriteFault (program.Stream f)
+unfolding stream_of
+writer_failed r f is fails = ap program.Stream (ap (stream_of f)
+    (subst (λ r. OnErr r (r ≡ Err stream.Write)) is fails))
+
+-- all was done but for the line that tells it
+pub write_done : {A : Type 0} (r : Result A ProgramFault) (P : DatabaseFault → Type 0) →
+    IfErr r IsWriteFault → IfErr r (OnlyDone P)
+write_done (Ok x) P h = tt
+write_done (Err f) P h = subst (λ (g : ProgramFault). OnlyDone P g) (sym h) refl
 
 -- lines over a store that may fail
 pub reached_over : {A : Type 0} (r : Result A LinesFault) → IfErr r (IsReachedByLines (Unit {0}))
@@ -124,16 +128,19 @@ done_said texts (words.Serve serve) old new h told =
     inr (record { serve = serve; says = h; told = told })
 done_said texts _ old new h told = inl (keeps_of old new told)
 
+told_in : (texts : List Text) (said : ProgramWords) → IsSaid texts said → (f : ProgramFault) →
+    IsFaultTold said f → IsFaultIn texts f
+told_in texts said h f (inl of) = inl (record { said = said; says = h; is = of })
+told_in texts said h f (inr memory) = inr (inl memory)
+
 pub told_said : (texts : List Text) (said : ProgramWords) (before after : Option (List ℕ))
     (status : Status) (old new : Option (List ℕ)) → IsSaid texts said →
     IsToldBy said before after status old new → IsTold texts before after status old new
 told_said texts said before after Done old new h told = done_said texts said old new h told
 told_said texts said before after Failed old new h (inl told) =
-    inl (tells_from (Imports said) (Says texts Imports) (Stores said) (Says texts Stores)
-    (LeavesOutput said before after)
+    inl (tells_from (IsFaultTold said) (IsFaultIn texts) (LeavesOutput said before after)
     (λ f. (other : ProgramWords) → IsSaid texts other → LeavesOutput other before after f) old new
-    (λ adds. record { said = said; says = h; is = adds })
-    (λ stores. record { said = said; says = h; is = stores })
+    (told_in texts said h)
     (λ f leaves other k. subst (λ (s : ProgramWords). LeavesOutput s before after f)
     (same_said texts said other h k) leaves) told)
 told_said texts said before after Failed old new h (inr refused) =
@@ -205,27 +212,27 @@ silent_vouchers _ f = tt
 
 -- a fault by its line, or want of memory for that
 tells_as : (said : ProgramWords) (before after : Option (List ℕ)) (f : ProgramFault)
-    (old new : Option (List ℕ)) → IsReached (Imports said) (Stores said) f →
+    (old new : Option (List ℕ)) → IsFaultOf said f →
     LeavesOutput said before after f → TellsAs f old new →
-    TellsFault (Imports said) (Stores said) (LeavesOutput said before after) old new
+    TellsFault (IsFaultTold said) (LeavesOutput said before after) old new
 tells_as said before after (program.Lines f) old new reached leaves told =
-    record { fault = program.Lines f; reached = reached; silent = leaves; written = told }
+    record { fault = program.Lines f; reached = inl reached; silent = leaves; written = told }
 tells_as said before after (program.Stream f) old new reached leaves told =
-    record { fault = program.Stream f; reached = reached; silent = leaves; written = told }
+    record { fault = program.Stream f; reached = inl reached; silent = leaves; written = told }
 tells_as said before after (program.Database f) old new reached leaves told =
-    record { fault = program.Database f; reached = reached; silent = leaves; written = told }
+    record { fault = program.Database f; reached = inl reached; silent = leaves; written = told }
 tells_as said before after (program.Vouchers f) old new reached leaves (inl told) =
-    record { fault = program.Vouchers f; reached = reached; silent = leaves; written = told }
+    record { fault = program.Vouchers f; reached = inl reached; silent = leaves; written = told }
 tells_as said before after (program.Vouchers f) old new reached leaves (inr told) = record {
   fault = program.Stream stream.Memory;
-  reached = tt;
+  reached = inr refl;
   silent = λ silent. leaves (silent_vouchers said f);
   written = told;
 }
 
 pub fault_told : (said : ProgramWords) (before after : Option (List ℕ)) (f : ProgramFault)
     (status : Status) (old mid new : Option (List ℕ)) → status ≡ Failed →
-    IsReached (Imports said) (Stores said) f → LeavesOutput said before after f → mid ≡ old →
+    IsFaultOf said f → LeavesOutput said before after f → mid ≡ old →
     TellsAs f mid new → IsToldBy said before after status old new
 fault_told said before after f status old mid new is reached leaves same told =
     subst (λ (s : Status). IsToldBy said before after s old new) (sym is)
@@ -309,13 +316,20 @@ end_unread texts fault.Memory Done unread end = absurd end
 end_unread texts fault.Memory Failed unread end = tt
 end_unread texts fault.Memory Unread unread end = absurd end
 
-none_tells : (texts : List Text) (before after : Option (List ℕ)) (old new : Option (List ℕ)) →
+none_tells : (texts : List Text) (before after : Option (List ℕ)) (old new : Option (List ℕ))
+    (Reached : ProgramFault → Type 0) → ((f : ProgramFault) → Reached f → IsFaultIn texts f) →
     ((said : ProgramWords) → IsSaid texts said → after ≡ before) →
-    TellsFault ⊥ ⊥ (λ _. Unit {0}) old new → IsTold texts before after Failed old new
-none_tells texts before after old new same t =
-    inl (tells_from ⊥ (Says texts Imports) ⊥ (Says texts Stores) (λ _. Unit {0})
+    TellsFault Reached (λ _. Unit {0}) old new → IsTold texts before after Failed old new
+none_tells texts before after old new Reached into same t =
+    inl (tells_from Reached (IsFaultIn texts) (λ _. Unit {0})
     (λ f. (said : ProgramWords) → IsSaid texts said → LeavesOutput said before after f) old new
-    (λ none. absurd none) (λ none. absurd none) (λ f any said says silent. same said says) t)
+    into (λ f any said says silent. same said says) t)
+
+-- the text of words that say no command wasn't written
+text_in : (texts : List Text) → ((said : ProgramWords) → ¬ IsSaid texts said) →
+    (f : ProgramFault) → IsMemoryFault f ⊎ IsWriteFault f → IsFaultIn texts f
+text_in texts none f (inl memory) = inr (inl memory)
+text_in texts none f (inr written) = inr (inr (none, written))
 
 told_of : (texts : List Text) (before after : Option (List ℕ)) (f : WordsFault)
     (status : Status) (old new : Option (List ℕ)) → IsUnread texts f → IsEndOf f status →
@@ -323,7 +337,9 @@ told_of : (texts : List Text) (before after : Option (List ℕ)) (f : WordsFault
     IsToldOf f status old new → IsTold texts before after status old new
 told_of texts before after (fault.Unread error) Done old new unread end same told = inl told
 told_of texts before after (fault.Unread error) Failed old new unread end same told =
-    none_tells texts before after old new same told
+    none_tells texts before after old new (λ f. IsMemoryFault f ⊎ IsWriteFault f)
+    (text_in texts (λ said h. not_among (kind_of error) (fault_of program_app texts) h.taken unread))
+    same told
 told_of texts before after (fault.Unread error) Unread old new unread end same told =
     λ invalid. absurd (not_among (kind_of error) (fault_of program_app texts) invalid.taken unread)
 told_of texts before after fault.Invalid Done old new unread end same told = absurd end
@@ -331,7 +347,7 @@ told_of texts before after fault.Invalid Failed old new unread end same told = a
 told_of texts before after fault.Invalid Unread old new unread end same told = λ invalid. told
 told_of texts before after fault.Memory Done old new unread end same told = absurd end
 told_of texts before after fault.Memory Failed old new unread end same told =
-    none_tells texts before after old new same told
+    none_tells texts before after old new IsMemoryFault (λ f memory. inr (inl memory)) same told
 told_of texts before after fault.Memory Unread old new unread end same told = absurd end
 
 -- words that say something weren't read only for want of memory
@@ -380,11 +396,12 @@ unwritten_line (Some text) old new same = subst (λ (w : Option (List ℕ)).
 -- ---- want of memory, and streams
 
 pub told_stream : (f : StreamFault) (status : Status) (old new : Option (List ℕ)) →
+    IsMemoryFault (program.Stream f) ⊎ IsWriteFault (program.Stream f) →
     status ≡ Failed → WritesBeginning old new (fault_line (program.Stream f) ++ 10 ∷ []) →
     IsTextTold status old new
-told_stream f status old new is written =
+told_stream f status old new reached is written =
     subst (λ (s : Status). IsTextTold s old new) (sym is)
-    (record { fault = program.Stream f; reached = tt; silent = tt; written = written })
+    (record { fault = program.Stream f; reached = reached; silent = tt; written = written })
 
 pub told_memory : (f : WordsFault) (status : Status) (old new : Option (List ℕ)) →
     f ≡ fault.Memory → status ≡ Failed →
@@ -394,7 +411,7 @@ told_memory f status old new memory is written =
     subst (λ (x : WordsFault). IsToldOf x status old new) (sym memory)
     (record {
       fault = program.Stream stream.Memory;
-      reached = tt;
+      reached = refl;
       silent = tt;
       written = written;
     })

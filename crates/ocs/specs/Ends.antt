@@ -25,16 +25,6 @@ abbrev pub IfOnce : ProgramWords → (OnceWords → Type 0) → Type 0
 IfOnce (words.Once once) says = says once
 IfOnce _ says = Unit {0}
 
--- their command adds a file of vouchers
-abbrev pub Imports : ProgramWords → Type 0
-Imports (words.Import import) = Unit {0}
-Imports _ = ⊥
-
--- it works over a database
-abbrev pub Stores : ProgramWords → Type 0
-Stores (words.Once once) = ⊥
-Stores _ = Unit {0}
-
 -- a refusal of it is printed: of an operator's command, or that the account of a statement isn't
 -- there; no other is refused
 abbrev pub IsRefused : ProgramWords → Option (List ℕ) → Option (List ℕ) → Type 0

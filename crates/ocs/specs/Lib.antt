@@ -1,3 +1,4 @@
 pub mod Once
 pub mod Ends
+pub mod Faults
 pub mod Told

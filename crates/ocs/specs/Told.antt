@@ -6,7 +6,6 @@ use Rattle.std.specs.Io.KnownBytes.{Keeps}
 use Rattle.byte_streams.specs.declared.StreamFault.{StreamFault}
 use Rattle.byte_streams.specs.declared.StreamFault.TheVariants as stream
 use Rattle.clap.specs.Words.{Text}
-use Rattle.keepers.specs.declared.fault.StoreFault.TheVariants as store
 use Rattle.office.specs.Told.{stream_line}
 use Rattle.office.specs.Written.{WritesBeginning}
 use Rattle.office.specs.declared.status.Status.{Status}
@@ -24,7 +23,8 @@ use Rattle.office_server.specs.Told.{IsUnlistened, TellsFaults, listening_line}
 use Rattle.request_lines.specs.Told.{lines_line}
 use Rattle.vouchers.specs.Faults.{number_of}
 use Rattle.vouchers.specs.declared.fault.VoucherFault.{VoucherFault}
-use Rattle.ocs.specs.Ends.{Imports, IsRefused, Says, Stores}
+use Rattle.ocs.specs.Ends.{IsRefused, Says}
+use Rattle.ocs.specs.Faults.{IsFaultIn, IsFaultTold, IsMemoryFault, IsWriteFault}
 use Rattle.request_lines.specs.declared.fault.LinesFault.{LinesFault}
 use Rattle.request_lines.specs.declared.fault.LinesFault.TheVariants.{Read, Store, Both, Write}
 use Rattle.ocs.specs.declared.fault.ProgramFault.{ProgramFault}
@@ -101,30 +101,13 @@ LeavesOutput said before after fault = IsSilent said fault → after ≡ before
 
 -- ---- what is told
 
--- memory is a store that never fails; one that may fail there is only where this is so
-abbrev pub IsReachedByLines : Type 0 → LinesFault → Type 0
-IsReachedByLines Over (Read fault) = Unit {0}
-IsReachedByLines Over (Store store.Memory) = Unit {0}
-IsReachedByLines Over (Store store.Store) = Over
-IsReachedByLines Over (Both store.Memory) = Unit {0}
-IsReachedByLines Over (Both store.Store) = Over
-IsReachedByLines Over (Write fault) = Unit {0}
-
--- a fault comes only so: one of a file of vouchers, where the first is so; a database's, where the
--- second is
-abbrev pub IsReached : Type 0 → Type 0 → ProgramFault → Type 0
-IsReached Adds Over (program.Lines fault) = IsReachedByLines Over fault
-IsReached Adds Over (program.Stream fault) = Unit {0}
-IsReached Adds Over (program.Database fault) = Over
-IsReached Adds Over (program.Vouchers fault) = Adds
-
 -- a fault of which this is so is told by its line, as far as it can be written
-pub record TellsFault (Adds Over : Type 0) (Silent : ProgramFault → Type 0)
-    (old new : Option (List ℕ)) : Type 0 where
-  pub fault : ProgramFault
-  pub reached : IsReached Adds Over fault
-  pub silent : Silent fault
-  pub written : WritesBeginning old new (fault_line fault ++ 10 ∷ [])
+pub record TellsFault (Reached Silent : ProgramFault → Type 0) (old new : Option (List ℕ)) : Type 0
+  where
+    pub fault : ProgramFault
+    pub reached : Reached fault
+    pub silent : Silent fault
+    pub written : WritesBeginning old new (fault_line fault ++ 10 ∷ [])
 
 -- this fault is, or, where it is one of a file of vouchers, want of memory for its line
 abbrev pub TellsAs : ProgramFault → Option (List ℕ) → Option (List ℕ) → Type 0
@@ -153,7 +136,7 @@ abbrev pub IsTold : List Text → Option (List ℕ) → Option (List ℕ) → St
     Option (List ℕ) → Type 0
 IsTold texts before after Done old new = Keeps old new ⊎ ServesConnections texts old new
 IsTold texts before after Failed old new =
-    TellsFault (Says texts Imports) (Says texts Stores)
+    TellsFault (IsFaultIn texts)
     (λ fault. (said : ProgramWords) → IsSaid texts said → LeavesOutput said before after fault)
     old new ⊎ (Says texts (λ said. IsRefused said before after) × Keeps old new)
 IsTold texts before after Unread old new =
@@ -163,13 +146,14 @@ IsTold texts before after Unread old new =
 
 abbrev pub IsTextTold : Status → Option (List ℕ) → Option (List ℕ) → Type 0
 IsTextTold Done old new = Keeps old new
-IsTextTold Failed old new = TellsFault ⊥ ⊥ (λ _. Unit {0}) old new
+IsTextTold Failed old new =
+    TellsFault (λ fault. IsMemoryFault fault ⊎ IsWriteFault fault) (λ _. Unit {0}) old new
 IsTextTold Unread old new = Unit {0}
 
 abbrev pub IsToldOf : WordsFault → Status → Option (List ℕ) → Option (List ℕ) → Type 0
 IsToldOf (fault.Unread error) status old new = IsTextTold status old new
 IsToldOf fault.Invalid status old new = WritesBeginning old new (invalid_line ++ 10 ∷ [])
-IsToldOf fault.Memory status old new = TellsFault ⊥ ⊥ (λ _. Unit {0}) old new
+IsToldOf fault.Memory status old new = TellsFault IsMemoryFault (λ _. Unit {0}) old new
 
 -- ---- the same by what the words say
 
@@ -182,6 +166,6 @@ abbrev pub IsToldBy : ProgramWords → Option (List ℕ) → Option (List ℕ) �
     Option (List ℕ) → Option (List ℕ) → Type 0
 IsToldBy said before after Done old new = IsToldAtEnd said old new
 IsToldBy said before after Failed old new =
-    TellsFault (Imports said) (Stores said) (LeavesOutput said before after) old new
+    TellsFault (IsFaultTold said) (LeavesOutput said before after) old new
     ⊎ (IsRefused said before after × Keeps old new)
 IsToldBy said before after Unread old new = ⊥

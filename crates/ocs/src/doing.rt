@@ -7,10 +7,10 @@ ghost use Rattle.office.specs.Written.{WritesBeginning};
 ghost use Rattle.one_price.specs.OnceBook.{once_book};
 ghost use Rattle.operator.specs.Read.{IsInRange, IsOnceInRange};
 ghost use Rattle.shelves.specs.Shelves.{one_book};
-ghost use Rattle.ocs.specs.Ends.{HasPrinted, IfOnce, Imports, IsRefused, Stores};
+ghost use Rattle.ocs.specs.Ends.{HasPrinted, IfOnce, IsRefused};
+ghost use Rattle.ocs.specs.Faults.{IsFaultOf, IsOnceFault, IsReachedByLines};
 ghost use Rattle.ocs.specs.Once.{BeginsOnce, WritesOnce};
-ghost use Rattle.ocs.specs.Told.{IfLines, IsReached, IsReachedByLines, IsSilent, IsToldAtEnd};
-ghost use Rattle.ocs.specs.Told.{AreUnread, line_of};
+ghost use Rattle.ocs.specs.Told.{AreUnread, IfLines, IsSilent, IsToldAtEnd, line_of};
 
 use crate::fault::ProgramFault;
 use crate::making::{answer_book, answer_init, answer_migrate};
@@ -29,7 +29,10 @@ use std::io::{Read, Write};
 /// refused.
 ///
 /// # Errors
-/// What is told is their command's; `Vouchers` is told of `import` alone.
+/// Each word has its own: `once` one of lines over memory, `init`, `migrate` and `book` one of the
+/// database or of the writer, `serve` one before the first connection, `import` one of the file or
+/// of its command, an operator's command and a statement their command's, `replay` one of a file, of
+/// the database or of the lines.
 pub(crate) fn do_said<I: Read, O: Write, E: Write>(
     rt: &HostRuntime,
     said: ProgramWords,
@@ -42,7 +45,7 @@ pub(crate) fn do_said<I: Read, O: Write, E: Write>(
         (IsRefused said (O.contents output.old) (O.contents output.new))) }
     ensures answered { IfOk result
         (HasPrinted said (O.contents output.old) (O.contents output.new)) }
-    ensures reached { IfErr result (IsReached (Imports said) (Stores said)) }
+    ensures reached { IfErr result (IsFaultOf said) }
     ensures told { OnOk result (IsToldAtEnd said (E.contents errors.old) (E.contents errors.new)) }
     ensures untold { OnErr result (errors.new ≡ errors.old) }
     ensures silent { IfErr result (λ fault. IsSilent said fault → output.new ≡ output.old) }
@@ -78,7 +81,7 @@ fn answer_once<I: Read, O: Write>(
 ) -> Result<Status, ProgramFault>
     requires { IsOnceInRange once }
     ensures ended { IfOk result (IsEnded ⊥) }
-    ensures reached { IfErr result (IsReached ⊥ ⊥) }
+    ensures reached { IfErr result IsOnceFault }
     ensures unwritten { IfErr result (λ fault. IfLines fault AreUnread → output.new ≡ output.old) }
     ensures done { OnOk result (WritesOnce (once_book once.price once.block) once.credit
         (I.remaining input.old) (O.contents output.old) (O.contents output.new)) }

@@ -121,3 +121,6 @@ fn run_said<I: Read, O: Write, E: Write>(
         Err(fault) => tell_fault(rt.alloc(), errors, fault),
     }
 }
+
+#[cfg(test)]
+mod tests;

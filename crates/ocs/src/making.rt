@@ -4,7 +4,11 @@ ghost use Rattle.std.specs.Prelude.{◌≡◌, codes, IfErr, IfOk, OnErr, OnOk};
 ghost use Rattle.std.specs.Io.KnownBytes.{Appends};
 ghost use Rattle.office.specs.Printed.{IsEnded};
 ghost use Rattle.office.specs.Written.{WritesBeginning};
-ghost use Rattle.ocs.specs.Told.{IfStream, IsReached};
+ghost use Rattle.database_office.specs.Adding.{IsAdditionFault};
+ghost use Rattle.database_office.specs.Making.{IsInitFault};
+ghost use Rattle.database_office.specs.Opening.{IsUnopened};
+ghost use Rattle.ocs.specs.Faults.{IsWriteFault, OnlyDone};
+ghost use Rattle.ocs.specs.Told.{IfStream};
 
 use crate::fault::ProgramFault;
 use byte_streams::write_whole;
@@ -17,7 +21,7 @@ use std::io::Write;
 #[tactic(auto, using(office::proofs::Beginnings::nothing_written, office::proofs::Beginnings::some_written))]
 fn print_done<O: Write>(output: &mut O, line: &str) -> Result<Status, ProgramFault>
     ensures ended { IfOk result (IsEnded ⊥) }
-    ensures reached { IfErr result (IsReached ⊥ (Unit {0})) }
+    ensures reached { IfErr result IsWriteFault }
     ensures done { OnOk result (Appends (O.contents output.old) (O.contents output.new) line.now) }
     ensures begun { OnErr result (WritesBeginning (O.contents output.old) (O.contents output.new)
         line.now) }
@@ -30,14 +34,14 @@ fn print_done<O: Write>(output: &mut O, line: &str) -> Result<Status, ProgramFau
 }
 
 /// Makes the database of a tariff book, and says that it is made.
-#[tactic(auto, using(office::proofs::Beginnings::nothing_written))]
+#[tactic(auto, using(office::proofs::Beginnings::nothing_written, crate::proofs::EndLemmas::write_done))]
 pub(crate) fn answer_init<O: Write>(
     rt: &HostRuntime,
     init: &InitWords,
     output: &mut O,
 ) -> Result<Status, ProgramFault>
     ensures ended { IfOk result (IsEnded ⊥) }
-    ensures reached { IfErr result (IsReached ⊥ (Unit {0})) }
+    ensures reached { IfErr result (OnlyDone IsInitFault) }
     ensures done { OnOk result (Appends (O.contents output.old) (O.contents output.new)
         (codes "ok\n")) }
     ensures begun { OnErr result (WritesBeginning (O.contents output.old) (O.contents output.new)
@@ -52,14 +56,14 @@ pub(crate) fn answer_init<O: Write>(
 }
 
 /// Brings a database to the latest version, and says which that is.
-#[tactic(auto, using(office::proofs::Beginnings::nothing_written))]
+#[tactic(auto, using(office::proofs::Beginnings::nothing_written, crate::proofs::EndLemmas::write_done))]
 pub(crate) fn answer_migrate<O: Write>(
     rt: &HostRuntime,
     migrate: &MigrateWords,
     output: &mut O,
 ) -> Result<Status, ProgramFault>
     ensures ended { IfOk result (IsEnded ⊥) }
-    ensures reached { IfErr result (IsReached ⊥ (Unit {0})) }
+    ensures reached { IfErr result (OnlyDone IsUnopened) }
     ensures done { OnOk result (Appends (O.contents output.old) (O.contents output.new)
         (codes "version 3\n")) }
     ensures begun { OnErr result (WritesBeginning (O.contents output.old) (O.contents output.new)
@@ -74,14 +78,14 @@ pub(crate) fn answer_migrate<O: Write>(
 }
 
 /// Adds a tariff book to a database, and says that it is added.
-#[tactic(auto, using(office::proofs::Beginnings::nothing_written))]
+#[tactic(auto, using(office::proofs::Beginnings::nothing_written, crate::proofs::EndLemmas::write_done))]
 pub(crate) fn answer_book<O: Write>(
     rt: &HostRuntime,
     book: &BookWords,
     output: &mut O,
 ) -> Result<Status, ProgramFault>
     ensures ended { IfOk result (IsEnded ⊥) }
-    ensures reached { IfErr result (IsReached ⊥ (Unit {0})) }
+    ensures reached { IfErr result (OnlyDone IsAdditionFault) }
     ensures done { OnOk result (Appends (O.contents output.old) (O.contents output.new)
         (codes "ok\n")) }
     ensures begun { OnErr result (WritesBeginning (O.contents output.old) (O.contents output.new)

@@ -4,8 +4,9 @@ ghost use Rattle.std.specs.Prelude.{◌≡◌, IfErr, IfOk, OnErr, OnOk};
 ghost use Rattle.std.specs.Io.KnownBytes.{Appends};
 ghost use Rattle.office.specs.Printed.{IsEnded};
 ghost use Rattle.office.specs.Written.{WritesBeginning};
-ghost use Rattle.office_server.specs.Told.{IsUnlistened, listening_line};
-ghost use Rattle.ocs.specs.Told.{ConnectionsTold, IfDatabase, IsReached};
+ghost use Rattle.office_server.specs.Told.{IsServeFault, IsUnlistened, listening_line};
+ghost use Rattle.ocs.specs.Faults.{OnlyDatabase};
+ghost use Rattle.ocs.specs.Told.{ConnectionsTold, IfDatabase};
 
 use crate::fault::ProgramFault;
 use office::Status;
@@ -21,7 +22,7 @@ pub(crate) fn answer_serve<O: Write, E: Write>(
     errors: &mut E,
 ) -> Result<Status, ProgramFault>
     ensures ended { IfOk result (IsEnded ⊥) }
-    ensures reached { IfErr result (IsReached ⊥ (Unit {0})) }
+    ensures reached { IfErr result (OnlyDatabase IsServeFault) }
     ensures listening { OnOk result (Appends (O.contents output.old) (O.contents output.new)
         (listening_line serve.now.port)) }
     ensures begun { OnErr result (WritesBeginning (O.contents output.old) (O.contents output.new)

@@ -2,12 +2,13 @@
 
 ghost use Rattle.std.specs.Prelude.{◌≡◌, IfErr, IfOk, None, OnOk};
 ghost use Rattle.std.specs.Io.KnownBytes.{Appends};
-ghost use Rattle.database_office.specs.Opening.{IsUnanswered, IsUnasked};
+ghost use Rattle.database_office.specs.Opening.{IsCommandFault, IsUnanswered, IsUnasked};
 ghost use Rattle.office.specs.Months.{unknown_line};
 ghost use Rattle.office.specs.Printed.{IsEnded, PrintsAnswer, PrintsCounts};
 ghost use Rattle.office.specs.declared.status.Status.TheVariants.{Failed};
 ghost use Rattle.request_lines.specs.Served.{AnswersLines};
-ghost use Rattle.ocs.specs.Told.{AreUnread, IfDatabase, IfLines, IsReached, IsReachedByLines};
+ghost use Rattle.ocs.specs.Faults.{IsImportFault, IsReachedByLines, IsReplayFault, OnlyDatabase};
+ghost use Rattle.ocs.specs.Told.{AreUnread, IfDatabase, IfLines};
 
 use crate::fault::ProgramFault;
 use byte_streams::StreamFault;
@@ -19,6 +20,7 @@ use office::Status;
 use operator::{ImportWords, OfficeWords, ReplayWords, StatementWords};
 use request_lines::{LinesFault, lines};
 use shelves::TariffShelf;
+use sqlite_disk::Wary;
 use std::alloc::Global;
 use std::io::{BufReader, Read, Write};
 
@@ -33,7 +35,7 @@ pub(crate) fn answer_office<O: Write>(
         (PrintsAnswer Failed (O.contents output.old) (O.contents output.new))) }
     ensures answered { IfOk result (λ status.
         PrintsAnswer status (O.contents output.old) (O.contents output.new)) }
-    ensures reached { IfErr result (IsReached ⊥ (Unit {0})) }
+    ensures reached { IfErr result (OnlyDatabase (IsCommandFault words.at)) }
     ensures unwritten { IfErr result (λ fault.
         IfDatabase fault IsUnanswered → output.new ≡ output.old) }
 {
@@ -51,7 +53,7 @@ pub(crate) fn answer_statement<O: Write>(
 ) -> Result<Status, ProgramFault>
     ensures ended { IfOk result (IsEnded
         (Appends (O.contents output.old) (O.contents output.new) unknown_line)) }
-    ensures reached { IfErr result (IsReached ⊥ (Unit {0})) }
+    ensures reached { IfErr result (OnlyDatabase (IsCommandFault words.at)) }
     ensures unwritten { IfErr result (λ fault.
         IfDatabase fault IsUnasked → output.new ≡ output.old) }
 {
@@ -69,7 +71,7 @@ pub(crate) fn answer_import<O: Write>(
 ) -> Result<Status, ProgramFault>
     ensures ended { IfOk result (IsEnded ⊥) }
     ensures counted { OnOk result (PrintsCounts (O.contents output.old) (O.contents output.new)) }
-    ensures reached { IfErr result (IsReached (Unit {0}) (Unit {0})) }
+    ensures reached { IfErr result (IsImportFault import.at) }
     ensures unwritten { IfErr result (λ fault.
         IfDatabase fault IsUnanswered → output.new ≡ output.old) }
 {
@@ -87,14 +89,14 @@ pub(crate) fn answer_replay<O: Write>(
     output: &mut O,
 ) -> Result<Status, ProgramFault>
     ensures ended { IfOk result (IsEnded ⊥) }
-    ensures reached { IfErr result (IsReached ⊥ (Unit {0})) }
+    ensures reached { IfErr result IsReplayFault }
     ensures unwritten { IfErr result (λ fault. IfLines fault AreUnread → output.new ≡ output.old) }
 {
     let file = match open_file(rt, replay.file.as_str()) {
         Ok(file) => file,
         Err(fault) => return Err(ProgramFault::Database(fault)),
     };
-    let Office { mut keeper, shelf } = match open_office(rt, &replay.database) {
+    let Office { mut keeper, shelf } = match open_office(rt, &replay.database, Wary) {
         Ok(office) => office,
         Err(fault) => return Err(ProgramFault::Database(fault)),
     };

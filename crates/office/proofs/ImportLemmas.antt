@@ -38,7 +38,7 @@ counts-more b list [] d n = refl
 counts-more b list (e ∷ ds) d n =
     counts-more b (after_command b list e) ds d (counted_after b list e n)
 
-additions-more : (t : ℕ) (rows more : List VoucherAddition) →
+pub additions-more : (t : ℕ) (rows more : List VoucherAddition) →
     additions t (rows ++ more) ≡ additions t rows ++ additions t more
 additions-more t [] more = refl
 additions-more t (row ∷ rows) more =

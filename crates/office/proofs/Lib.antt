@@ -3,3 +3,4 @@ pub mod Beginnings
 pub mod MonthLemmas
 pub mod NumberedSums
 pub mod ImportLemmas
+pub mod HeldImports

@@ -1,7 +1,7 @@
 -- What is told of an account's month is its ledger's.
 use Rattle.std.proofs.Common.{◌≡◌, ℕ, Bool, true, false, List, Option, None, Some, refl, sym, ap}
 use Rattle.std.proofs.Common.{subst, ◌∙◌, ◌≤◌, Result, Ok, Err, arith}
-use Rattle.std.specs.Prelude.{if◌then◌else◌, IfOk, OnErr}
+use Rattle.std.specs.Prelude.{if◌then◌else◌, IfOk, OnErr, OnOk}
 use Rattle.std.specs.Io.KnownBytes.{Appends}
 use Rattle.buckets.specs.Row.{Row}
 use Rattle.tariffs.specs.Books.{Book}
@@ -107,11 +107,12 @@ store_failed (Err statement.Store) is = refl
 store_failed (Err statement.Write) is = absurd (cc)
 
 -- asked after a read, the source is as it was
-pub reads_asked : {T K : Type 0} (content : K → Tables) (failed : K → ℕ) (clean : K → Type 0)
-    (old mid new : K) (r : Result T StatementFault) → (clean mid → content mid ≡ content old) →
-    (clean mid → clean old) → failed old ≤ failed mid → Asks content failed clean mid new r →
+pub reads_asked : {T K : Type 0} (content : K → Tables) (failed : K → ℕ) (honest clean : K → Type 0)
+    (leaves : K → Tables → Type 0) (old mid new : K) (r : Result T StatementFault) →
+    (clean mid → content mid ≡ content old) → (clean mid → clean old) → failed old ≤ failed mid →
+    Asks content failed honest clean leaves mid new r →
     OnlyReads content failed clean old new (month_ended r)
-reads_asked content failed clean old mid new r same cleanness kept asks = record {
+reads_asked content failed honest clean leaves old mid new r same cleanness kept asks = record {
   same = λ whole. asks.same whole ∙ same (asks.cleanness whole);
   cleanness = λ whole. cleanness (asks.cleanness whole);
   kept = omega (arith, kept, asks.kept);
@@ -119,6 +120,12 @@ reads_asked content failed clean old mid new r same cleanness kept asks = record
       let raised = asks.cause (store_failed r is) in
       omega (arith, kept, raised);
 }
+
+-- a month that ends well was asked of a source that can still be asked
+pub ended_stands : {T : Type 0} (r : Result T StatementFault) (Clean : Type 0) → OnOk r Clean →
+    OnOk (month_ended r) Clean
+ended_stands (Ok x) Clean clean = clean
+ended_stands (Err fault) Clean clean = tt
 
 -- ---- by the ledger
 

@@ -1,7 +1,7 @@
 -- Vouchers that are added one after another, for every list of accepted commands whose tables a
 -- keeper holds.
 -- Source: profile.
-use Rattle.std.specs.Prelude.{◌≡◌, ◌<◌, ℕ, List, [], ◌∷◌, length, map, take, MatchResult, Result}
+use Rattle.std.specs.Prelude.{◌≡◌, ◌<◌, ◌≤◌, ℕ, List, [], ◌∷◌, length, map, take, MatchResult, Result}
 use Rattle.commands.specs.declared.command.Command.TheVariants.{AddVoucher}
 use Rattle.commands.specs.declared.command.VoucherAddition.{VoucherAddition}
 use Rattle.shelves.specs.Shelves.{Shelf}
@@ -62,6 +62,18 @@ abbrev pub BeginsImport : Shelf → List DatedCommand → Tables → Tables → 
 BeginsImport b commands old new =
     (list : List Accepted) → IsInTime list → AreTables b list old →
     IsImportBegun b list commands new
+
+-- tables are those of a beginning of them
+pub record IsBeginningHeld (b : Shelf) (list : List Accepted) (commands : List DatedCommand)
+    (held : Tables) : Type 0 where
+  pub count : ℕ
+  pub few : count ≤ length commands
+  pub tables : AreTables b (after_commands b list (take count commands)) held
+
+abbrev pub HoldsBeginning : Shelf → List DatedCommand → Tables → Tables → Type 0
+HoldsBeginning b commands old held =
+    (list : List Accepted) → IsInTime list → AreTables b list old →
+    IsBeginningHeld b list commands held
 
 -- all were, and this is so of the counts
 pub record IsImportTold (b : Shelf) (list : List Accepted) (commands : List DatedCommand)

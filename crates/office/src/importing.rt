@@ -7,7 +7,11 @@ ghost use Rattle.keepers.specs.Faults.{HasCause};
 ghost use Rattle.keepers.specs.Keeping.{Keeps};
 ghost use Rattle.keepers.specs.declared.fault.StoreFault.{StoreFault};
 ghost use Rattle.office.specs.Counts.{counts_line, total};
-ghost use Rattle.office.specs.Imports.{Adds, BeginsImport, Imports, TellsImport, addition_at};
+ghost use Rattle.charging.specs.Parts.{Leaves};
+ghost use Rattle.charging.specs.Served.{Writes};
+ghost use Rattle.commands.specs.declared.command.Command.TheVariants.{AddVoucher};
+ghost use Rattle.office.specs.Imports.{Adds, BeginsImport, HoldsBeginning, Imports, TellsImport};
+ghost use Rattle.office.specs.Imports.{addition_at};
 ghost use Rattle.office.specs.Imports.{additions};
 ghost use Rattle.office.specs.Printed.{PrintsCounts};
 ghost use Rattle.office.specs.Stored.{StopsAtStore};
@@ -45,6 +49,10 @@ pub fn import<K: Keeper>(
         (K.content keeper.new) result }
     ensures all { IfOk result (λ counts. total counts ≡ length rows.items) }
     ensures cleanness { K.clean keeper.new → K.clean keeper.old }
+    ensures honesty { K.honest keeper.new → K.honest keeper.old }
+    ensures stands { K.honest keeper.new → K.clean keeper.old → OnOk result (K.clean keeper.new) }
+    ensures left { Leaves K.honest K.left keeper.old keeper.new
+        (HoldsBeginning shelf.now (additions moment rows.items) (K.content keeper.old)) }
     ensures cause { HasCause (K.failed keeper.old) (K.failed keeper.new) result }
 {
     // For the prover alone: looking at the value makes known here what its type keeps.
@@ -68,7 +76,9 @@ fn add_voucher<K: Keeper>(
     ensures added { K.clean keeper.new →
         Adds shelf.now (addition_at moment row) (K.content keeper.old) (K.content keeper.new)
         result }
-    ensures kept { Keeps K.content K.failed K.clean keeper.old keeper.new result }
+    ensures kept { Keeps K.content K.failed K.honest K.clean K.left keeper.old keeper.new (λ t.
+        K.clean keeper.old × Writes shelf.now (AddVoucher row) moment (K.content keeper.old) t)
+        result }
 {
     let found = keeper.find_voucher(&row.code)?;
     let addition = add(&found, row.terms);
@@ -104,6 +114,10 @@ pub fn serve_import<K: Keeper, W: Write>(
     ensures unserved { (fault : StoreFault) → result ≡ Err (Store fault) → K.clean keeper.new →
         BeginsImport shelf.now (additions moment rows.items) (K.content keeper.old)
         (K.content keeper.new) }
+    ensures honesty { K.honest keeper.new → K.honest keeper.old }
+    ensures stands { K.honest keeper.new → K.clean keeper.old → OnOk result (K.clean keeper.new) }
+    ensures left { Leaves K.honest K.left keeper.old keeper.new
+        (HoldsBeginning shelf.now (additions moment rows.items) (K.content keeper.old)) }
     ensures stops { StopsAtStore K.failed K.clean keeper.old keeper.new writer.old writer.new
         result }
 {

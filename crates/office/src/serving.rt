@@ -1,7 +1,9 @@
-ghost use Rattle.std.specs.Prelude.{◌≡◌, Err, IfOk};
+ghost use Rattle.std.specs.Prelude.{◌≡◌, Err, IfOk, OnOk};
 ghost use Rattle.std.specs.Io.KnownBytes.{Appends};
 ghost use Rattle.byte_streams.specs.declared.StreamFault.{StreamFault};
 ghost use Rattle.keepers.specs.declared.fault.StoreFault.{StoreFault};
+ghost use Rattle.charging.specs.Parts.{Leaves};
+ghost use Rattle.charging.specs.Served.{Writes};
 ghost use Rattle.office.specs.Carried.{IsCarriedOut};
 ghost use Rattle.office.specs.Printed.{PrintsAnswer};
 ghost use Rattle.office.specs.Stored.{StopsAtStore};
@@ -50,6 +52,12 @@ pub fn serve_office<K: Keeper, W: Write>(
         WritesBeginning (W.contents writer.old) (W.contents writer.new) (answer_line answer)) }
     ensures unserved { (fault : StoreFault) → result ≡ Err (Store fault) → K.clean keeper.new →
         K.content keeper.new ≡ K.content keeper.old }
+    ensures honesty { K.honest keeper.new → K.honest keeper.old }
+    ensures stands { K.honest keeper.new → OnOk result (K.clean keeper.new) }
+    ensures asked { (fault : StreamFault) → result ≡ Err (Write fault) → K.honest keeper.new →
+        K.clean keeper.new }
+    ensures left { Leaves K.honest K.left keeper.old keeper.new (λ t. K.clean keeper.old
+        × Writes shelf.now (command_of command) moment (K.content keeper.old) t) }
     ensures stops { StopsAtStore K.failed K.clean keeper.old keeper.new writer.old writer.new
         result }
 {

@@ -2,6 +2,7 @@
 
 ghost use Rattle.std.specs.Prelude.{◌≡◌, IfOk, OnOk, OnErr, IsErrOf};
 ghost use Rattle.std.specs.Io.KnownBytes.{Appends};
+ghost use Rattle.keepers.specs.Tables.{Tables};
 ghost use Rattle.keepers.specs.declared.fault.StoreFault.TheVariants.{Store as StoreFailed};
 ghost use Rattle.statements.specs.Charges.{Asks, Writes};
 ghost use Rattle.office.specs.Months.{IsMonthTold, OnlyReads, Tells, month_ended, month_fault};
@@ -60,6 +61,9 @@ pub fn serve_statement<K: ChargeSource, W: Write>(
     ensures ended { IfOk result (IsEnded
         (Appends (W.contents writer.old) (W.contents writer.new) unknown_line)) }
     ensures reads { OnlyReads K.content K.failed K.clean keeper.old keeper.new result }
+    ensures honesty { K.honest keeper.new → K.honest keeper.old }
+    ensures stands { K.honest keeper.new → OnOk result (K.clean keeper.new) }
+    ensures left { K.honest keeper.new → (t : Tables) → K.left keeper.new t → K.left keeper.old t }
 {
     let state = match account_state(keeper, shelf, &query.account, moment) {
         Ok(state) => state,
@@ -85,7 +89,8 @@ fn write_month<K: ChargeSource, W: Write>(
         (W.contents writer.old) (W.contents writer.new)
         (λ rows. rows_text shelf.now query.now state.now.moment rows state.now.buckets.items)
         result }
-    ensures asks { Asks K.content K.failed K.clean keeper.old keeper.new result }
+    ensures asks { Asks K.content K.failed K.honest K.clean K.left keeper.old keeper.new
+        result }
 {
     let MonthQuery {
         account,

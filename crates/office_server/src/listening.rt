@@ -11,6 +11,7 @@ use crate::serving::serve_connections;
 use byte_streams::{StreamFault, write_whole};
 use database_office::{DatabaseFault, Office, open_office};
 use operator::ServeWords;
+use sqlite_disk::Wary;
 use std::alloc::{AllocError, Global};
 use std::io::Write;
 use std::net::{Ipv4Addr, TcpListener};
@@ -39,14 +40,14 @@ pub fn serve_database<O: Write, E: Write>(
     ensures untold { OnErr result (errors.new ≡ errors.old) }
     ensures fault { IfErr result IsServeFault }
 {
-    let Office { mut keeper, shelf } = open_office(rt, &words.database)?;
+    let Office { mut keeper, shelf } = open_office(rt, &words.database, Wary)?;
     let Ok(listener) = TcpListener::bind(rt, (Ipv4Addr::LOCALHOST, words.port)) else {
         return Err(DatabaseFault::Net);
     };
     tell_listening(rt.alloc(), words.port, output)?;
     let mut clock = OfficeClock::new(rt, words.at);
     Ok(serve_connections(
-        rt.alloc(),
+        rt,
         &listener,
         words.connections,
         &mut keeper,

@@ -1,14 +1,13 @@
 //! Connections of a listener, one after another.
 
 ghost use Rattle.std.specs.Prelude.{◌≡◌, ◌≤◌};
-ghost use Rattle.charging.specs.Continued.{Continues};
+ghost use Rattle.charging.specs.Continued.{Continues, LeavesOn};
 ghost use Rattle.office_server.specs.Told.{TellsFaults};
 
 use crate::telling::tell_fault;
 use charge_sources::ChargeSource;
 use http_api::{Clock, ServeFault, Served, serve_socket};
 use shelves::TariffShelf;
-use std::alloc::Global;
 use std::io::Write;
 use std::net::TcpListener;
 
@@ -17,7 +16,7 @@ use std::net::TcpListener;
 /// as that can be written, and the next connection is served; one that the listener couldn't hand
 /// over counts as one whose socket failed.
 pub fn serve_connections<K: ChargeSource, C: Clock, E: Write>(
-    alloc: Global,
+    rt: &HostRuntime,
     listener: &TcpListener,
     connections: u32,
     keeper: &mut K,
@@ -30,18 +29,20 @@ pub fn serve_connections<K: ChargeSource, C: Clock, E: Write>(
     ensures continued { K.clean keeper.new →
         Continues shelf.now (K.content keeper.old) (K.content keeper.new) }
     ensures cleanness { K.clean keeper.new → K.clean keeper.old }
+    ensures honesty { K.honest keeper.new → K.honest keeper.old }
+    ensures left { LeavesOn K.content K.honest K.clean K.left shelf.now keeper.old keeper.new }
     ensures failures { K.failed keeper.old ≤ K.failed keeper.new }
 {
     let mut failed = 0;
     for _served in 0..connections {
-        failed += serve_next(alloc, listener, keeper, shelf, clock, errors);
+        failed += serve_next(rt, listener, keeper, shelf, clock, errors);
     }
     failed
 }
 
 /// Serves the next connection of a listener, and tells its fault: how many there were, none or one.
 fn serve_next<K: ChargeSource, C: Clock, E: Write>(
-    alloc: Global,
+    rt: &HostRuntime,
     listener: &TcpListener,
     keeper: &mut K,
     shelf: &TariffShelf,
@@ -53,9 +54,11 @@ fn serve_next<K: ChargeSource, C: Clock, E: Write>(
     ensures continued { K.clean keeper.new →
         Continues shelf.now (K.content keeper.old) (K.content keeper.new) }
     ensures cleanness { K.clean keeper.new → K.clean keeper.old }
+    ensures honesty { K.honest keeper.new → K.honest keeper.old }
+    ensures left { LeavesOn K.content K.honest K.clean K.left shelf.now keeper.old keeper.new }
     ensures failures { K.failed keeper.old ≤ K.failed keeper.new }
 {
-    match serve_accepted(alloc, listener, keeper, shelf, clock) {
+    match serve_accepted(rt, listener, keeper, shelf, clock) {
         Ok(_) => 0,
         Err(fault) => {
             tell_fault(errors, fault);
@@ -66,7 +69,7 @@ fn serve_next<K: ChargeSource, C: Clock, E: Write>(
 
 /// Serves the next connection of a listener.
 fn serve_accepted<K: ChargeSource, C: Clock>(
-    alloc: Global,
+    rt: &HostRuntime,
     listener: &TcpListener,
     keeper: &mut K,
     shelf: &TariffShelf,
@@ -75,10 +78,12 @@ fn serve_accepted<K: ChargeSource, C: Clock>(
     ensures continued { K.clean keeper.new →
         Continues shelf.now (K.content keeper.old) (K.content keeper.new) }
     ensures cleanness { K.clean keeper.new → K.clean keeper.old }
+    ensures honesty { K.honest keeper.new → K.honest keeper.old }
+    ensures left { LeavesOn K.content K.honest K.clean K.left shelf.now keeper.old keeper.new }
     ensures failures { K.failed keeper.old ≤ K.failed keeper.new }
 {
     match listener.accept() {
-        Ok((stream, _)) => serve_socket(alloc, &stream, keeper, shelf, clock),
+        Ok((stream, _)) => serve_socket(rt, &stream, keeper, shelf, clock),
         Err(_) => Err(ServeFault::Read),
     }
 }

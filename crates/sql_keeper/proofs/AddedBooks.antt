@@ -1,16 +1,16 @@
 -- A book that is added to two shelves and to the tables, or to none of them.
 use Rattle.std.proofs.Common.{◌≡◌, ◌≤◌, ◌+◌, ◌∙◌, ◌++◌, ℕ, suc, List, [], ◌∷◌, Option, Some, None, inl}
-use Rattle.std.proofs.Common.{refl, sym, ap, subst, arith, length, length-append, map, IsTrue, false}
+use Rattle.std.proofs.Common.{refl, sym, ap, subst, arith, length, length-append, IsTrue, false}
+use Rattle.std.proofs.Common.{◌⊎◌, inr}
 use Rattle.std.specs.Prelude.{Result, Ok, Err, IfErr, IfSome, OnErr, OnOk}
-use Rattle.std.proofs.lemmas.List.{length-map, map-append}
 use Rattle.sqlite_trees.specs.Tree.{Trees}
 use Rattle.sqlite_trees.specs.declared.store.Store.{Ghosts}
 use Rattle.sqlite.specs.Held.{state}
 use Rattle.sqlite.specs.State.{State, HasCleanDisk, Survives}
+use Rattle.sqlite.proofs.StateLemmas.{survives_weaker}
 use Rattle.tariffs.specs.Books.{Book}
-use Rattle.shelves.specs.Shelves.{Shelf, count, dated_books, with_book}
+use Rattle.shelves.specs.Shelves.{IsShelf, Shelf, count, with_book}
 use Rattle.shelves.specs.Succession.{shelf_fault}
-use Rattle.shelves.specs.declared.dated.DatedBook.{DatedBook}
 use Rattle.shelves.specs.declared.fault.ShelfFault.{ShelfFault}
 use Rattle.shelves.specs.declared.fault.ShelfFault.TheVariants.{Memory}
 use Rattle.keepers.specs.Faults.{HasCause, max_failures}
@@ -18,29 +18,31 @@ use Rattle.keepers.specs.declared.fault.StoreFault.{StoreFault}
 use Rattle.keepers.specs.declared.fault.StoreFault.TheVariants.{Memory as NoMemory}
 use Rattle.sql_tables.specs.Statements.{OnlyReads}
 use Rattle.sql_keeper.specs.AddsBook.{AddsBook, AddsToAll, BecomesDated, IfRefused, IsAddFault}
-use Rattle.sql_keeper.specs.AddsBook.{IsAdded, IsBehind, IsOnBoth, IsTextFault, AreTakenBack}
+use Rattle.sql_keeper.specs.AddsBook.{IsAdded, IsBehind, IsLeftDated, IsOnBoth, IsTextFault}
+use Rattle.sql_keeper.specs.AddsBook.{AreTakenBack, LeavesDated}
 use Rattle.sql_keeper.specs.AddsBook.{add_told, last_at, was_added}
 use Rattle.sql_keeper.specs.Asks.{IsHanded}
 use Rattle.sql_keeper.specs.Books.{IsBookOf}
 use Rattle.sql_keeper.specs.Commits.{CommitsWhole}
-use Rattle.sql_keeper.specs.Content.{Names, shelf_names}
 use Rattle.sql_keeper.specs.Inside.{IsClean, IsKeeper, KeeperState, tables_in}
-use Rattle.sql_keeper.specs.Stops.{IsWhole, trees_in}
+use Rattle.sql_keeper.specs.Left.{IsHeld, IsLeft}
+use Rattle.sql_keeper.specs.Stops.{trees_in}
 use Rattle.sql_keeper.specs.declared.add_fault.AddFault.{AddFault}
 use Rattle.sql_keeper.specs.declared.add_fault.AddFault.TheVariants.{Book as OfBook}
 use Rattle.sql_keeper.specs.declared.add_fault.AddFault.TheVariants.{Shelf as OfShelf}
 use Rattle.sql_keeper.specs.declared.add_fault.AddFault.TheVariants.{Store as OfStore}
-use Rattle.sql_keeper.proofs.Asked.{cause_at_most, open_of}
-use Rattle.sql_keeper.proofs.Committed.{committed_keeper, same_tables, stays_in, was_clean, whole}
-use Rattle.sql_keeper.proofs.Whole.{IsSettled, commits_after, handed_on, refused, settled_now}
+use Rattle.sql_keeper.proofs.Again.{held_dated}
+use Rattle.sql_keeper.proofs.Asked.{cause_at_most, held_as, open_of}
+use Rattle.sql_keeper.proofs.Committed.{becomes_keeper, same_tables, stays_in, was_clean}
+use Rattle.sql_keeper.proofs.Whole.{commits_after, handed_on, leaves_after, refused}
 
 -- ---- one shelf
 
 pub behind : {A E : Type 0} (from : ℕ) (b : Book) (last : ℕ) (old new : Shelf) (r : Result A E)
     → OnOk r (new ≡ with_book old from b) → OnOk r (shelf_fault old from b last ≡ None)
-    → OnOk r (IsBehind from b last old new)
-behind from b last old new (Ok x) is free = record { free = free; shelf = is }
-behind from b last old new (Err e) is free = tt
+    → IsShelf new → OnOk r (IsBehind from b last old new)
+behind from b last old new (Ok x) more free is = record { free = free; shelf = more; is = is }
+behind from b last old new (Err e) more free is = tt
 
 pub fault_told : {A : Type 0} (o : Option ShelfFault) (r : Result A ShelfFault)
     → IfSome o (λ e. r ≡ Err e) → (o ≡ None → OnErr r (r ≡ Err Memory))
@@ -69,12 +71,25 @@ one_more s after from b is =
 -- ---- both shelves and the tables
 
 module _ (from : ℕ) (text : List ℕ) (b : Book) (old mid : State) (before own : Shelf)
-    (only : OnlyReads old mid) (stops : Survives old mid (λ _. old.is_open ≡ false)) where
+    (only : OnlyReads old mid) (stops : Survives old mid (λ _. ⊥)) where
+  reads_stop : Survives old mid (λ _. old.is_open ≡ false)
+  reads_stop = survives_weaker old mid (λ _. ⊥) (λ _. old.is_open ≡ false)
+      (λ clean db no. absurd no) stops
+
+  -- nothing more is left
+  leaves_none : LeavesDated from text b before own old mid
+  leaves_none clean db may = elim (stops.crash clean db may) [
+    | inl was ↦ inl was
+    | inr no ↦ absurd no
+  ]
+
   -- nothing was done
   pub none_added : {A E : Type 0} (after own' : Shelf) (e : E) → after ≡ before → own' ≡ own
       → AddsToAll {A = A} from text b old mid before after own own' (Err e)
   none_added after own' e shelf own_is = record {
-    commits = refused (BecomesDated (suc (count before)) from text) old mid NoMemory only stops;
+    commits = refused (BecomesDated (suc (count before)) from text) old mid NoMemory only reads_stop;
+    leaves = leaves_none;
+    own_shelf = tt;
     free = λ clean. tt;
     shelf = tt;
     own_is = tt;
@@ -90,7 +105,9 @@ module _ (from : ℕ) (text : List ℕ) (b : Book) (old mid : State) (before own
       → (HasCleanDisk mid → last ≡ last_at old)
       → AddsToAll {A = A} {E = E} from text b old mid before after own own' (Ok (Err f))
   refused_by after own' f last kept told is = record {
-    commits = refused (BecomesDated (suc (count before)) from text) old mid NoMemory only stops;
+    commits = refused (BecomesDated (suc (count before)) from text) old mid NoMemory only reads_stop;
+    leaves = leaves_none;
+    own_shelf = tt;
     free = λ clean. tt;
     shelf = tt;
     own_is = tt;
@@ -108,7 +125,24 @@ module _ (from : ℕ) (text : List ℕ) (b : Book) (old mid : State) (before own
     committed_all r commits =
         subst (λ n. CommitsWhole (BecomesDated n from text) old new r)
         (one_more before after from b both.shelf)
-        (commits_after (BecomesDated (count after) from text) old mid new only stops on r commits)
+        (commits_after (BecomesDated (count after) from text) old mid new only reads_stop on r
+        commits)
+
+    leaves_all : {A E : Type 0} (r : Result A E)
+        → CommitsWhole (BecomesDated (count after) from text) mid new r
+        → LeavesDated from text b before own old new
+    leaves_all r commits clean db may =
+        elim (leaves_after (BecomesDated (count after) from text) old mid new only stops on r commits
+        clean db may) [
+          | inl was ↦ inl was
+          | inr it ↦ inr (record {
+            was_open = it.0;
+            becomes = subst (λ n. BecomesDated n from text old.now.trees db)
+                (one_more before after from b both.shelf) it.1;
+            behind = subst IsShelf both.own_is both.is;
+            counts = both.counts;
+          })
+        ]
 
     -- the row was written
     pub all_added : {A E F : Type 0} (u : A) (after' own'' : Shelf) → after' ≡ after → own'' ≡ own'
@@ -119,6 +153,8 @@ module _ (from : ℕ) (text : List ℕ) (b : Book) (old mid : State) (before own
         record {
           commits = handed_on (BecomesDated (suc (count before)) from text) old new (Ok u) (Ok u)
               refl whole;
+          leaves = leaves_all (Ok u) commits;
+          own_shelf = subst IsShelf (sym own_is) both.is;
           free = λ clean.
               ap (λ t. shelf_fault before from b t)
               (sym (is (omega (arith, commits.survives.clean, clean)))) ∙ both.free;
@@ -137,6 +173,8 @@ module _ (from : ℕ) (text : List ℕ) (b : Book) (old mid : State) (before own
     none_written e f after' own'' taken commits = record {
       commits = handed_on (BecomesDated (suc (count before)) from text) old new (Err e)
           (Err NoMemory) tt (committed_all (Err e) commits);
+      leaves = leaves_all (Err e) commits;
+      own_shelf = tt;
       free = λ clean. tt;
       shelf = tt;
       own_is = tt;
@@ -153,6 +191,8 @@ same_added : {A E F : Type 0} (from : ℕ) (text : List ℕ) (b : Book) (old new
     → AddsToAll {A = A} {E = F} from text b old new before after own own' (Ok q)
 same_added from text b old new before after own own' (Ok x) a = record {
   commits = a.commits;
+  leaves = a.leaves;
+  own_shelf = a.own_shelf;
   free = a.free;
   shelf = a.shelf;
   own_is = a.own_is;
@@ -162,6 +202,8 @@ same_added from text b old new before after own own' (Ok x) a = record {
 }
 same_added from text b old new before after own own' (Err f) a = record {
   commits = a.commits;
+  leaves = a.leaves;
+  own_shelf = a.own_shelf;
   free = a.free;
   shelf = a.shelf;
   own_is = a.own_is;
@@ -183,6 +225,8 @@ handed_all {A} {E} from text b old new before after own own' (Ok p) (Err e) h a 
 handed_all {A} {E} from text b old new before after own own' (Err e) (Ok q) h a = absurd h
 handed_all {A} {E} from text b old new before after own own' (Err e) (Err f) h a = record {
   commits = a.commits;
+  leaves = a.leaves;
+  own_shelf = a.own_shelf;
   free = a.free;
   shelf = a.shelf;
   own_is = a.own_is;
@@ -190,16 +234,6 @@ handed_all {A} {E} from text b old new before after own own' (Err e) (Err f) h a
   kept = a.kept;
   told = a.told;
 }
-
-named_more : (s : Shelf) (from : ℕ) (b : Book) →
-    shelf_names (with_book s from b) ≡ shelf_names s ++ b.periods ∷ []
-named_more s from b =
-    ap (λ (l : Names). s.first.periods ∷ l)
-    (map-append (λ (d : DatedBook). d.book.periods) s.later
-    (record { from = from; book = b } ∷ []))
-
-numbered_as : (s : Shelf) → length (shelf_names s) ≡ count s
-numbered_as s = length-map (dated_books s) (λ (d : DatedBook). d.book.periods)
 
 -- the text is no book's
 text_told : (text : List ℕ) (from : ℕ) (s : Shelf) (last : ℕ) (f : AddFault) → IsTextFault text f
@@ -209,31 +243,25 @@ text_told text from s last (OfShelf fault) told = absurd told
 text_told text from s last (OfStore fault) told = absurd told
 
 pub no_text : {S A : Type 0} (g : Ghosts S) (text : List ℕ) (from : ℕ) (k : KeeperState S)
-    (shelf : Shelf) (f : AddFault) → IsKeeper g k → IsSettled (state g k.connection)
-    → IsTextFault text f → AddsBook {A = A} g text from k k shelf shelf (Err f)
-no_text g text from k shelf f keeper law told = record {
+    (shelf : Shelf) (f : AddFault) → IsTextFault text f
+    → AddsBook {A = A} g text from k k shelf shelf (Err f)
+no_text g text from k shelf f told = record {
   added = λ clean. tt;
-  named = tt;
+  own = tt;
   numbered = tt;
   done = λ clean. tt;
   shelf = refl;
-  names = refl;
+  kept = refl;
   tables = λ clean. refl;
   told = λ clean. text_told text from shelf (tables_in g k).last f told;
   cleanness = λ clean. clean;
   counts = omega arith;
-  whole = record {
-    stop = λ clean was db may. inl (settled_now (state g k.connection) law keeper.idle clean
-        (open_of (state g k.connection) keeper.stays was) db may);
-    settled = λ clean. settled_now (state g k.connection) law keeper.idle clean.disk
-        (open_of (state g k.connection) keeper.stays clean);
-  };
+  whole = record { left = λ clean db may. inl may };
 }
 
 module _ {S : Type 0} (g : Ghosts S) (old new : KeeperState S) (text : List ℕ) (from : ℕ)
     (b : Book) (read : IsBookOf text b) (before after own own' : Shelf)
-    (names : old.names ≡ shelf_names own) (later : new.names ≡ shelf_names own')
-    (keeper : IsKeeper g old) where
+    (owned : old.shelf ≡ own) (later : new.shelf ≡ own') (keeper : IsKeeper g old) where
   abbrev Adds : {A : Type 0} → Result (Result A ShelfFault) StoreFault → Type 0
   Adds r = AddsToAll from text b (state g old.connection) (state g new.connection) before after own
       own' r
@@ -241,8 +269,11 @@ module _ {S : Type 0} (g : Ghosts S) (old new : KeeperState S) (text : List ℕ)
   abbrev Become : List ℕ → Trees → Trees → Type 0
   Become t = BecomesDated (suc (count before)) from text
 
-  same_names : own' ≡ own → new.names ≡ old.names
-  same_names is = later ∙ ap shelf_names is ∙ sym names
+  same_shelf : own' ≡ own → new.shelf ≡ old.shelf
+  same_shelf is = later ∙ is ∙ sym owned
+
+  more_shelf : own' ≡ with_book own from b → new.shelf ≡ with_book old.shelf from b
+  more_shelf is = later ∙ is ∙ ap (λ s. with_book s from b) (sym owned)
 
   added_told : {A : Type 0} (r : Result (Result A ShelfFault) StoreFault) → Adds r
       → HasCleanDisk (state g new.connection)
@@ -252,20 +283,16 @@ module _ {S : Type 0} (g : Ghosts S) (old new : KeeperState S) (text : List ℕ)
   added_told (Ok (Err f)) a clean = tt
   added_told (Err e) a clean = tt
 
-  named_told : {A : Type 0} (r : Result (Result A ShelfFault) StoreFault) → Adds r
-      → OnOk (add_told r) ((b : Book) × IsBookOf text b × (new.names ≡ old.names ++ b.periods ∷ []))
-  named_told (Ok (Ok x)) a = (
-    b,
-    read,
-    later ∙ ap shelf_names a.own_is ∙ named_more own from b
-        ∙ ap (λ (l : Names). l ++ b.periods ∷ []) (sym names),
-  )
-  named_told (Ok (Err f)) a = tt
-  named_told (Err e) a = tt
+  own_told : {A : Type 0} (r : Result (Result A ShelfFault) StoreFault) → Adds r
+      → OnOk (add_told r) ((b : Book) × IsBookOf text b
+      × (new.shelf ≡ with_book old.shelf from b))
+  own_told (Ok (Ok x)) a = (b, read, more_shelf a.own_is)
+  own_told (Ok (Err f)) a = tt
+  own_told (Err e) a = tt
 
   numbered_told : {A : Type 0} (r : Result (Result A ShelfFault) StoreFault) → Adds r
-      → OnOk (add_told r) (length old.names ≡ count before)
-  numbered_told (Ok (Ok x)) a = ap length names ∙ numbered_as own ∙ a.counts
+      → OnOk (add_told r) (count old.shelf ≡ count before)
+  numbered_told (Ok (Ok x)) a = ap count owned ∙ a.counts
   numbered_told (Ok (Err f)) a = tt
   numbered_told (Err e) a = tt
 
@@ -282,11 +309,11 @@ module _ {S : Type 0} (g : Ghosts S) (old new : KeeperState S) (text : List ℕ)
   shelf_told (Ok (Err f)) a = a.kept.0
   shelf_told (Err e) a = a.kept.0
 
-  names_told : {A : Type 0} (r : Result (Result A ShelfFault) StoreFault) → Adds r
-      → OnErr (add_told r) (new.names ≡ old.names)
-  names_told (Ok (Ok x)) a = tt
-  names_told (Ok (Err f)) a = same_names a.kept.1
-  names_told (Err e) a = same_names a.kept.1
+  kept_told : {A : Type 0} (r : Result (Result A ShelfFault) StoreFault) → Adds r
+      → OnErr (add_told r) (new.shelf ≡ old.shelf)
+  kept_told (Ok (Ok x)) a = tt
+  kept_told (Ok (Err f)) a = same_shelf a.kept.1
+  kept_told (Err e) a = same_shelf a.kept.1
 
   open_now : {A : Type 0} (r : Result (Result A ShelfFault) StoreFault) → Adds r
       → IsClean (state g new.connection) → IsTrue (state g new.connection).is_open
@@ -300,10 +327,10 @@ module _ {S : Type 0} (g : Ghosts S) (old new : KeeperState S) (text : List ℕ)
   tables_told {A} (Ok (Ok x)) a clean = tt
   tables_told {A} (Ok (Err f)) a clean =
       same_tables {A = A} g old new Become [] keeper (Err NoMemory) a.commits
-      (same_names a.kept.1) clean (open_now (Ok (Err f)) a clean)
+      (same_shelf a.kept.1) clean (open_now (Ok (Err f)) a clean)
   tables_told {A} (Err e) a clean =
       same_tables {A = A} g old new Become [] keeper (Err NoMemory) a.commits
-      (same_names a.kept.1) clean (open_now (Err e) a clean)
+      (same_shelf a.kept.1) clean (open_now (Err e) a clean)
 
   faults_told : {A : Type 0} (r : Result (Result A ShelfFault) StoreFault) → Adds r
       → HasCleanDisk (state g new.connection)
@@ -317,29 +344,77 @@ module _ {S : Type 0} (g : Ghosts S) (old new : KeeperState S) (text : List ℕ)
       → AddsToAll from text b (state g old.connection) (state g new.connection) before after own
       own' added
       → HasCause old.failures new.failures r
-      → IsSettled (state g old.connection) → IsSettled (state g new.connection)
       → AddsBook g text from old new before after (add_told r)
-  adds_book added r handed all cause settled settled_after =
+  adds_book {A} added r handed all cause =
       let a : Adds r = handed_all from text b (state g old.connection) (state g new.connection)
       before after own own' added r handed all in
       record {
         added = λ clean. added_told r a clean.disk;
-        named = named_told r a;
+        own = own_told r a;
         numbered = numbered_told r a;
         done = λ clean. done_told r a clean.disk;
         shelf = shelf_told r a;
-        names = names_told r a;
+        kept = kept_told r a;
         tables = tables_told r a;
         told = λ clean. faults_told r a clean.disk;
         cleanness = was_clean g old new Become [] keeper (was_added r) a.commits;
         counts = (cause_at_most old.failures new.failures r cause).kept;
-        whole = whole g old new Become old.text keeper (was_added r) a.commits refl settled
-            settled_after;
+        whole = record {
+          left = λ clean db may. elim (a.leaves clean db may) [
+            | inl was ↦ inl was
+            | inr it ↦ inr it.becomes
+          ];
+        };
       }
+
+  -- the book that is added is found again behind those of the keeper's shelf
+  held_more : from ≤ 4_102_488_000 → IsShelf (with_book own from b)
+      → count own ≡ count before → (db : Trees) → IsHeld old.text old.shelf old.last (trees_in g old)
+      → Become [] (trees_in g old) db
+      → IsHeld old.text (with_book old.shelf from b) old.last db
+  held_more range behind' counts db held become =
+      held_dated old.text text from old.shelf old.last b (trees_in g old) db held read range
+      (subst IsShelf (ap (λ s. with_book s from b) (sym owned)) behind')
+      (subst (λ n. BecomesDated n from text (trees_in g old) db)
+      (ap suc (sym (ap count owned ∙ counts))) become)
+
+  made_more : {A : Type 0} (q : Result A StoreFault) → from ≤ 4_102_488_000
+      → new.text ≡ old.text → new.last ≡ old.last → OnOk q (own' ≡ with_book own from b)
+      → OnOk q (count own ≡ count before) → OnOk q (IsShelf own')
+      → OnOk q (IsHeld old.text old.shelf old.last (trees_in g old)
+      → Become [] (trees_in g old) (trees_in g new)
+      → IsHeld new.text new.shelf new.last (trees_in g new))
+  made_more (Ok x) range text' last is counts shelf = λ held become.
+      held_as old.text new.text (with_book old.shelf from b) new.shelf old.last new.last
+      (trees_in g new) (trees_in g new) text' (more_shelf is) last refl
+      (held_more range (subst IsShelf is shelf) counts (trees_in g new) held become)
+  made_more (Err e) range text' last is counts shelf = tt
+
+  kept_more : {A : Type 0} (q : Result A StoreFault) → new.last ≡ old.last
+      → OnErr q ((after ≡ before) × (own' ≡ own))
+      → OnErr q ((new.shelf ≡ old.shelf) × (new.last ≡ old.last))
+  kept_more (Ok x) last kept = tt
+  kept_more (Err e) last kept = (same_shelf kept.1, last)
+
+  -- what a stop leaves is found again
+  left_more : from ≤ 4_102_488_000
+      → LeavesDated from text b before own (state g old.connection) (state g new.connection)
+      → HasCleanDisk (state g old.connection) → HasCleanDisk (state g new.connection)
+      → (db : Trees) → (state g new.connection).may_leave db
+      → (state g old.connection).may_leave db ⊎ IsLeft old.text db
+  left_more range leaves was clean db may = elim (leaves clean db may) [
+    | inl before' ↦ inl before'
+    | inr it ↦ inr (held_more range it.behind it.counts db (keeper.held was it.was_open)
+        it.becomes).left
+  ]
 
   pub added_keeper : {A E : Type 0} (added : Result (Result A ShelfFault) E)
       → AddsToAll from text b (state g old.connection) (state g new.connection) before after own
       own' added
+      → from ≤ 4_102_488_000 → new.text ≡ old.text → new.last ≡ old.last
       → new.connection.in_transaction ≡ false → new.failures ≤ max_failures → IsKeeper g new
-  added_keeper added all plain bounded =
-      committed_keeper g old new Become [] keeper (was_added added) all.commits plain bounded
+  added_keeper added all range text' last plain bounded =
+      becomes_keeper g old new Become [] keeper (was_added added) all.commits
+      (λ was clean. left_more range all.leaves was clean)
+      (made_more (was_added added) range text' last all.own_is all.counts all.own_shelf)
+      (kept_more (was_added added) last all.kept) text' plain bounded

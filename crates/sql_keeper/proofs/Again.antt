@@ -1,27 +1,41 @@
 -- What was left of a book's tables is found again.
-use Rattle.std.proofs.Common.{◌≡◌, ◌≤◌, ◌<◌, ◌∙◌, arith, List, ℕ, zero, suc, Option, Some, None}
-use Rattle.std.proofs.Common.{sym, ap, subst, refl, length}
-use Rattle.shelves.specs.Shelves.{IsShelf, Shelf, one_book, with_book}
-use Rattle.sqlite_schema.specs.declared.schema.Schema.{Schema}
+use Rattle.std.proofs.Common.{◌≡◌, ◌≤◌, ◌<◌, inl, inr, ◌∙◌, arith, List, ℕ, suc, Option, Some, None}
+use Rattle.std.proofs.Common.{sym, ap, subst, refl}
+use Rattle.std.specs.Prelude.{◌^◌}
+use Rattle.tariffs.specs.Books.{Book}
+use Rattle.shelves.specs.Shelves.{IsShelf, Shelf, count, one_book, with_book}
 use Rattle.std.specs.Str.{IsUtf8}
 use Rattle.sqlite_trees.specs.Tree.{Trees}
 use Rattle.sqlite_trees.specs.Objects.{catalog_tree}
 use Rattle.sqlite_trees.specs.declared.store.Store.{Ghosts}
 use Rattle.sqlite_catalog.specs.Listing.{Lists}
 use Rattle.sqlite_catalog.proofs.ReadLemmas.{lists_once}
+use Rattle.sqlite.specs.Effect.{Database}
 use Rattle.sqlite.specs.Held.{Held, state}
-use Rattle.sql_tables.specs.Schema.{book_schema, latest, schema_at}
-use Rattle.sql_opening.specs.Opens.{IsVersion}
+use Rattle.sql_tables.specs.Schema.{book_schema, latest}
+use Rattle.sql_tables.specs.Stages.{AreStoredAt}
 use Rattle.sql_tables.specs.Statements.{AreStored}
 use Rattle.sql_rows.specs.Values.{DatedBook as DatedText, Meta}
 use Rattle.sql_rows.specs.Content.{content_of}
 use Rattle.sql_opening.specs.declared.fault.OpenFault.{OpenFault}
+use Rattle.sql_opening.specs.declared.fault.OpenFault.TheVariants.{Foreign, Version, Rules, Store}
+use Rattle.sql_opening.specs.declared.fault.OpenFault.TheVariants.{Memory, Older}
+use Rattle.keepers.specs.declared.loaded.Change.{Change}
+use Rattle.redemptions.specs.declared.terms.VoucherTerms.{VoucherTerms}
+use Rattle.sql_keeper.specs.AddsBook.{BecomesDated}
+use Rattle.sql_keeper.specs.Additions.{BecomesAdded}
 use Rattle.sql_keeper.specs.Again.{AreLeftAgain, IsFoundAgain}
 use Rattle.sql_keeper.specs.Books.{IsBookOf}
+use Rattle.sql_keeper.specs.Causes.{HasFault}
+use Rattle.sql_keeper.specs.Commits.{Becomes}
+use Rattle.sql_keeper.specs.Content.{Names, last_in}
 use Rattle.sql_keeper.specs.Creates.{first_meta}
-use Rattle.sql_keeper.specs.Opened.{IsLeft, IsRuled}
+use Rattle.sql_keeper.specs.Left.{IsHeld}
+use Rattle.sql_keeper.specs.Opened.{IsLeft}
 use Rattle.sql_keeper.specs.Shelves.{AreLater, HasShelf, IsShelfOf}
+use Rattle.sql_keeper.specs.Sweeps.{BecomesSwept}
 use Rattle.sql_keeper.specs.Writes.{meta_at, meta_with}
+use Rattle.sql_keeper.proofs.Causes.{latest_known, same_version}
 use Rattle.sql_keeper.proofs.Shelving.{dated_shelf}
 
 left_by : (text : List ℕ) (old new : Trees) (row : Meta) → IsLeft text old
@@ -91,56 +105,87 @@ left_again = record {
       );
 }
 
--- an older version has fewer tables than the latest
-older_differs : (v : ℕ) → IsVersion v → v < latest → schema_at v ≡ book_schema → ⊥
-older_differs zero known less is = omega (arith, known.0)
-older_differs (suc zero) known less is =
-    let no : 10 ≡ 14 = ap (λ (s : Schema). length s.tables) is in omega (arith, no)
-older_differs (suc (suc zero)) known less is =
-    let no : 12 ≡ 14 = ap (λ (s : Schema). length s.tables) is in omega (arith, no)
-older_differs (suc (suc (suc n))) known less is =
-    let low : suc (suc (suc n)) < 3 = less in omega (arith, low)
+-- ---- what a keeper knows of them is found again
 
--- tables of the latest version are those of no other
-is_latest : (v : ℕ) → IsVersion v → schema_at v ≡ book_schema → v ≡ latest
-is_latest zero known is = absurd (omega (arith, known.0))
-is_latest (suc zero) known is = absurd
-    (let no : 10 ≡ 14 = ap (λ (s : Schema). length s.tables) is in omega (arith, no))
-is_latest (suc (suc zero)) known is = absurd
-    (let no : 12 ≡ 14 = ap (λ (s : Schema). length s.tables) is in omega (arith, no))
-is_latest (suc (suc (suc zero))) known is = refl
-is_latest (suc (suc (suc (suc n)))) known is =
-    let high : suc (suc (suc (suc n))) ≤ 3 = known.1 in absurd (omega (arith, high))
-
--- what is left is in the rules of who opens it
-ruled : (text : List ℕ) (trees : Trees) → IsLeft text trees → IsRuled trees
-ruled text trees left = record {
-  stored = left.stored;
-  row = left.kept.row;
-  is = left.kept.is;
-  ruled = record {
-    version =
-        let is : left.kept.row.version ≡ 3 = left.kept.version in omega (arith, is);
-    book = subst IsUtf8 (sym left.kept.book) left.utf8;
-    last = left.kept.last;
-  };
-  shelf = λ first. subst (λ t. HasShelf t (content_of trees).books) (sym left.kept.book) left.shelf;
+pub held_committed : (names : Names) (text : List ℕ) (shelf : Shelf) (last : ℕ) (change : Change)
+    (old new : Trees) → IsHeld text shelf last old → Becomes names text change old new
+    → IsHeld text shelf change.moment new
+held_committed names text shelf last change old new held b = record {
+  left = left_again.committed names text change old new held.left b;
+  books = subst (λ rows. IsShelfOf text rows shelf) (sym b.books) held.books;
+  moment = sym (ap last_in b.meta);
 }
+
+pub held_added : (text : List ℕ) (shelf : Shelf) (last : ℕ) (code : List ℕ) (terms : VoucherTerms)
+    (t : ℕ) (old new : Trees) → IsHeld text shelf last old → BecomesAdded text code terms t old new
+    → IsHeld text shelf t new
+held_added text shelf last code terms t old new held b = record {
+  left = left_again.added text code terms t old new held.left b;
+  books = subst (λ rows. IsShelfOf text rows shelf) (sym b.books) held.books;
+  moment = sym (ap last_in b.meta);
+}
+
+pub held_swept : (names : Names) (text : List ℕ) (shelf own : Shelf) (last t : ℕ)
+    (old new : Trees) → IsHeld text own last old → BecomesSwept names text shelf t old new
+    → IsHeld text own t new
+held_swept names text shelf own last t old new held b = record {
+  left = left_again.swept names text shelf t old new held.left b;
+  books = subst (λ rows. IsShelfOf text rows own) (sym b.books) held.books;
+  moment = sym (ap last_in b.meta);
+}
+
+pub held_dated : (text more : List ℕ) (from : ℕ) (shelf : Shelf) (last : ℕ) (b : Book)
+    (old new : Trees) → IsHeld text shelf last old → IsBookOf more b → from ≤ 4_102_488_000
+    → IsShelf (with_book shelf from b) → BecomesDated (suc (count shelf)) from more old new
+    → IsHeld text (with_book shelf from b) last new
+held_dated text more from shelf last b old new held read range behind become = record {
+  left = left_again.dated text more (suc (count shelf)) from old new held.left (record {
+    shelf = shelf;
+    is = held.books;
+    book = b;
+    read = read;
+    number = refl;
+    range = range;
+    behind = behind;
+  }) become;
+  books = subst (λ rows. IsShelfOf text rows (with_book shelf from b)) (sym become.books)
+      (dated_shelf text more (content_of old).books (suc (count shelf)) from shelf b held.books
+      read refl range behind);
+  moment = held.moment ∙ sym (ap last_in become.meta);
+}
+
+-- what is left has none of these faults
+no_fault : (text : List ℕ) (db : Database) (fault : OpenFault) → IsLeft text db.trees
+    → db.schema ≡ book_schema → ¬ HasFault fault db
+no_fault text db Foreign left same h = h latest latest_known same
+no_fault text db Version left same h =
+    let one : Some h.other.row ≡ Some left.kept.row = sym h.other.is ∙ left.kept.is in
+    let row : h.other.row ≡ left.kept.row = cc one in
+    let v = same_version h.version latest h.known latest_known (sym h.schema ∙ same) in
+    h.other.other (ap (λ (m : Meta). m.version) row ∙ left.kept.version ∙ sym v)
+no_fault text db Rules left same h =
+    let v = same_version h.version latest h.known latest_known (sym h.schema ∙ same) in
+    let stored = subst (λ n. AreStoredAt n db.trees) (sym v) left.stored in
+    let number : left.kept.row.version < 2 ^ 32 =
+    (let is : left.kept.row.version ≡ 3 = left.kept.version in omega (arith, is)) in
+    let told = h.unruled stored left.kept.row left.kept.is (record {
+      version = number;
+      book = subst IsUtf8 (sym left.kept.book) left.utf8;
+      last = left.kept.last;
+    }) in
+    told.2 (subst (λ t. HasShelf t (content_of db.trees).books) (sym left.kept.book) left.shelf)
+no_fault text db Store left same h = h
+no_fault text db Memory left same h = h
+no_fault text db Older left same h =
+    let v = same_version h.version latest h.known latest_known (sym h.schema ∙ same) in
+    let low : h.version < 3 = h.older in
+    let top : h.version ≡ 3 = v in
+    omega (arith, low, top)
 
 pub found_again : {S : Type 0} (g : Ghosts S) (old new : Held S) (text : List ℕ) (fault : OpenFault)
     → IsFoundAgain g old new text fault
-found_again g old new text fault left sound clean refused = (
-  λ is. refused.foreign clean is (lists_once _ _ _ sound.lists left.lists),
-  λ is.
-      let it = refused.version clean is in
-      let same : Some it.other.row ≡ Some left.kept.row = sym it.other.is ∙ left.kept.is in
-      let row : it.other.row ≡ left.kept.row = cc same in
-      let schema = sym it.schema ∙ lists_once _ _ _ sound.lists left.lists in
-      it.other.other (ap (λ (m : Meta). m.version) row ∙ left.kept.version
-      ∙ sym (is_latest it.version it.known schema)),
-  λ is. refused.rules clean is (ruled text (state g old).now.trees left),
-  λ is.
-      let it = refused.older clean is in
-      older_differs it.version it.known it.older
-      (sym it.schema ∙ lists_once _ _ _ sound.lists left.lists),
-)
+found_again g old new text fault left sound clean refused = elim (refused.cause clean) [
+  | inl is ↦ is
+  | inr h ↦ absurd (no_fault text (state g old).now fault left
+      (lists_once _ _ _ sound.lists left.lists) h)
+]

@@ -1,23 +1,21 @@
 -- A keeper after a call that only reads, and what it hands on.
 use Rattle.std.proofs.Common.{◌≡◌, ◌≤◌, ◌+◌, ◌⊎◌, inl, inr, ℕ, Result, Ok, Err, IfOk, IsTrue, min}
-use Rattle.std.proofs.Common.{sym, subst, arith}
+use Rattle.std.proofs.Common.{sym, ap, subst, arith, List}
 use Rattle.std.proofs.lemmas.Bool.Decides.{nat_tests}
 use Rattle.sqlite_disk.specs.Disk.{MoreFaults}
 use Rattle.sqlite_trees.specs.Tree.{Trees}
 use Rattle.sqlite_trees.specs.declared.store.Store.{Ghosts}
+use Rattle.shelves.specs.Shelves.{Shelf}
+use Rattle.sqlite.specs.Effect.{Database}
 use Rattle.sqlite.specs.Held.{state}
-use Rattle.sqlite.specs.State.{State, HasCleanDisk}
+use Rattle.sqlite.specs.State.{State, HasCleanDisk, Survives}
 use Rattle.sql_tables.specs.declared.reading.ReadFault.{ReadFault}
-use Rattle.sql_tables.specs.Statements.{OnlyReads, Reads as Told}
-use Rattle.sql_rows.specs.Content.{content_of}
+use Rattle.sql_tables.specs.Statements.{OnlyReads}
 use Rattle.keepers.specs.declared.fault.StoreFault.{StoreFault}
 use Rattle.keepers.specs.Faults.{HasCause, max_failures}
-use Rattle.keepers.specs.Keeping.{Reads}
 use Rattle.sql_keeper.specs.Asks.{IsHanded}
-use Rattle.sql_keeper.specs.Content.{tables_of}
-use Rattle.sql_keeper.specs.LiveGroups.{Gathers}
-use Rattle.sql_keeper.specs.Inside.{KeeperState, IsClean, StaysOpen, IsKeeper, tables_in, failed_in}
-use Rattle.sql_keeper.specs.Inside.{clean_in}
+use Rattle.sql_keeper.specs.Inside.{KeeperState, IsClean, StaysOpen, IsKeeper}
+use Rattle.sql_keeper.specs.Left.{IsHeld, IsLeft}
 
 pub none_more : (old new : ℕ) → old ≡ 0 → new ≡ 0 → MoreFaults old new → ⊥
 none_more old new e f m =
@@ -70,59 +68,35 @@ handed P Q (Ok x) (Err f) e to p = absurd e
 handed P Q (Err f) (Ok y) e to p = absurd e
 handed P Q (Err f) (Err h) e to p = tt
 
+-- what is kept is known under the same text, shelf and moment
+pub held_as : (text text' : List ℕ) (shelf shelf' : Shelf) (last last' : ℕ) (old new : Trees)
+    → text' ≡ text → shelf' ≡ shelf → last' ≡ last → new ≡ old
+    → IsHeld text shelf last old → IsHeld text' shelf' last' new
+held_as text text' shelf shelf' last last' old new t s l is held =
+    subst (IsHeld text' shelf' last') (sym is) (subst (λ x. IsHeld text' shelf' x old) (sym l)
+    (subst (λ x. IsHeld text' x last old) (sym s)
+    (subst (λ x. IsHeld x shelf last old) (sym t) held)))
+
 -- a keeper is one still
 pub keeper_after : {S : Type 0} (g : Ghosts S) (old new : KeeperState S) → IsKeeper g old
-    → OnlyReads (state g old.connection) (state g new.connection) → new.failures ≤ max_failures
-    → IsKeeper g new
-keeper_after g old new keeper only bounded = record {
+    → OnlyReads (state g old.connection) (state g new.connection)
+    → Survives (state g old.connection) (state g new.connection) (λ _. ⊥)
+    → new.text ≡ old.text → new.shelf ≡ old.shelf → new.last ≡ old.last
+    → new.failures ≤ max_failures → IsKeeper g new
+keeper_after g old new keeper only survives text shelf last bounded = record {
   bounded = bounded;
   plain = only.mode keeper.plain;
   idle = only.idle;
   stays = stays_open (state g old.connection) (state g new.connection) keeper.stays only;
+  held = λ clean on.
+      let still = only.still clean on in
+      held_as old.text new.text old.shelf new.shelf old.last new.last
+      (state g old.connection).now.trees (state g new.connection).now.trees text shelf last
+      (ap (λ (d : Database). d.trees) still.now_is)
+      (keeper.held (only.cleanness clean) still.was_open);
+  found = λ clean db may. subst (λ t. IsLeft t db) (sym text) (keeper.found (only.cleanness clean) db
+      (elim (survives.crash clean db may) [
+        | inl before ↦ before
+        | inr no ↦ absurd no
+      ]));
 }
-
--- what several reads tell is handed on as the law of keepers asks it
-pub asked_in_turn : {S T : Type 0} (g : Ghosts S) (old new : KeeperState S)
-    (told : Trees → T → Type 0) (Found : T → Type 0) (read : Result T ReadFault)
-    (result : Result T StoreFault)
-    → IsKeeper g old → Gathers told (state g old.connection) (state g new.connection) read
-    → new.names ≡ old.names → IsHanded read result → HasCause old.failures new.failures result
-    → ((x : T) → told (state g old.connection).now.trees x → Found x)
-    → Reads (tables_in g) failed_in (clean_in g) old new Found result
-asked_in_turn g old new told Found read result keeper reads names e cause to = record {
-  found = λ clean.
-      handed (told before.now.trees) Found read result e to
-      (reads.found clean.disk (open_of after stays clean));
-  same = λ clean. same (open_of after stays clean) clean.disk;
-  cleanness = was_clean before after stays reads.only;
-  cause = cause_at_most old.failures new.failures result cause;
-}
-  where
-    before : State
-    before = state g old.connection
-
-    after : State
-    after = state g new.connection
-
-    stays : StaysOpen after
-    stays = stays_open before after keeper.stays reads.only
-
-    same : IsTrue after.is_open → HasCleanDisk after → tables_in g new ≡ tables_in g old
-    same on clean = λ i. tables_of (names i)
-        (content_of (((reads.only.still clean on).now_is i).trees))
-
--- so is what one read tells
-pub asked : {S T : Type 0} (g : Ghosts S) (old new : KeeperState S) (told : Trees → T → Type 0)
-    (Found : T → Type 0) (read : Result T ReadFault) (result : Result T StoreFault)
-    → IsKeeper g old → Told told (state g old.connection) (state g new.connection) read
-    → new.names ≡ old.names → IsHanded read result → HasCause old.failures new.failures result
-    → ((x : T) → told (state g old.connection).now.trees x → Found x)
-    → Reads (tables_in g) failed_in (clean_in g) old new Found result
-asked g old new told Found read result keeper reads names e cause to =
-    asked_in_turn g old new told Found read result keeper
-    (record {
-      found = λ clean on. reads.found clean;
-      only = reads.only;
-      stays = λ clean on. reads.stays clean;
-      survives = reads.survives;
-    }) names e cause to

@@ -2,7 +2,7 @@
 use Rattle.std.proofs.Common.{◌≡◌, ◌<◌, ◌≤◌, ◌⊎◌, inl, inr, ◌∙◌, ap, refl, sym, subst, ℕ, List, Some}
 use Rattle.std.proofs.Common.{arith, IsTrue, length}
 use Rattle.std.proofs.lemmas.Option.{same_Some}
-use Rattle.std.specs.Prelude.{Ok, Err, Result, IfErr, IfOk, OnErr, OnOk, Vec, map, option_map}
+use Rattle.std.specs.Prelude.{◌^◌, Ok, Err, Result, IfErr, IfOk, OnErr, OnOk, Vec, map, option_map}
 use Rattle.std.specs.Global.{Global}
 use Rattle.std.specs.Str.{IsUtf8}
 use Rattle.std.specs.String.{string_bytes}
@@ -34,13 +34,15 @@ use Rattle.sql_opening.specs.declared.fault.OpenFault.TheVariants.{Foreign, Vers
 use Rattle.sql_opening.specs.declared.fault.OpenFault.TheVariants.{Store, Memory}
 use Rattle.sql_keeper.specs.Books.{IsBookOf}
 use Rattle.sql_keeper.specs.Migrates.{AreUnruledReserved, BringsToLatest, HasAt, IsRuledAt}
-use Rattle.sql_keeper.specs.Migrates.{IsUnruledMeta, content_at}
+use Rattle.sql_keeper.specs.Migrates.{content_at}
 use Rattle.sql_keeper.specs.OlderVersions.{AsksVersion}
-use Rattle.sql_keeper.specs.Opened.{IsLeft, IsOtherThan}
+use Rattle.sql_keeper.specs.Causes.{IsOtherThan, IsUnruledMeta}
+use Rattle.sql_keeper.specs.Opened.{IsLeft}
+use Rattle.sql_keeper.proofs.Causes.{ruled_row}
 use Rattle.sql_keeper.specs.Shelves.{HasShelf, IsNoShelf, IsShelfOf, IsShelfRead, row_numbered}
 use Rattle.sql_keeper.specs.declared.books.ReadBooks.{ReadBooks}
 use Rattle.sql_keeper.proofs.Migrated.{becomes_latest, kept_content, left_latest, meta_at}
-use Rattle.sql_keeper.proofs.Migrated.{shelf_latest, with_latest}
+use Rattle.sql_keeper.proofs.Migrated.{moment_latest, shelf_latest, with_latest}
 use Rattle.sql_keeper.proofs.Shelved.{shelf_ruled}
 
 -- ---- the tables are made, and nothing else is written
@@ -242,10 +244,15 @@ module _ (v : ℕ) (known : IsVersion v) (less : v < latest) (old mid : State) (
     (read : HasMeta v old mid m) where
   -- it is of another version
   pub other_version : (e : OpenFault) → (e ≡ Version) × (¬ (m.version ≡ v))
-      → BringsToLatest v old mid (Err e)
-  other_version e told =
+      → m.version < 2 ^ 32 → m.last ≤ 4_102_488_000 → BringsToLatest v old mid (Err e)
+  other_version e told number last =
       ends_here v old mid e read.has
-      (λ clean is. record { row = meta_of m; is = read.is clean; other = told.1 })
+      (λ clean is. record {
+        row = meta_of m;
+        is = read.is clean;
+        ruled = ruled_row m number last;
+        other = told.1;
+      })
       (λ clean is. absurd (let no : Version ≡ Rules = sym told.0 ∙ is in cc)) (
         (λ is. let no : Version ≡ Foreign = sym told.0 ∙ is in cc),
         (λ is. let no : Version ≡ Older = sym told.0 ∙ is in cc),
@@ -337,7 +344,7 @@ module _ (v : ℕ) (known : IsVersion v) (less : v < latest) (old mid : State) (
       (subst (λ f. IsShelfOf text f own) (λ i n. read.books clean n i) shelf)
 
   module _ (new : State) (b : ReadBooks) (shelf : IsShelfRead text (map book_at items) b.own)
-      (given : b.given ≡ b.own) (told : string_bytes b.text ≡ text)
+      (given : b.given ≡ b.own) (told : string_bytes b.text ≡ text) (since : b.last ≡ m.last)
       (last : m.last ≤ 4_102_488_000) (utf8 : IsUtf8 (string_bytes m.book)) where
     -- all is put
     pub brought : {A E : Type 0} (u : A)
@@ -371,14 +378,17 @@ module _ (v : ℕ) (known : IsVersion v) (less : v < latest) (old mid : State) (
           let made = read.meta.has.made before in
           let kept = made_content v old mid read.meta.has known less before in
           let at = shelf_at b.own shelf before in
-          let same : string_bytes m.book ≡ string_bytes b.text = sym text_is ∙ sym told in (
-            subst (λ t. IsLeft t new.now.trees) same
+          let same : string_bytes m.book ≡ string_bytes b.text = sym text_is ∙ sym told in
+          record {
+            left = subst (λ t. IsLeft t new.now.trees) same
                 (left_latest v known less old.now.trees mid.now.trees new.now.trees (meta_of m) kept
-                (read.meta.is before) made.sound.lists turns b.own last utf8 at),
-            subst (λ t. IsShelfOf t (content_of new.now.trees).books b.own) same
+                (read.meta.is before) made.sound.lists turns b.own last utf8 at);
+            books = subst (λ t. IsShelfOf t (content_of new.now.trees).books b.own) same
                 (shelf_latest v known less old.now.trees mid.now.trees new.now.trees (meta_of m)
-                kept (read.meta.is before) made.sound.lists turns b.own at),
-          );
+                kept (read.meta.is before) made.sound.lists turns b.own at);
+            moment = since ∙ sym (moment_latest v known less old.now.trees mid.now.trees
+                new.now.trees (meta_of m) kept (read.meta.is before) made.sound.lists turns);
+          };
       given = given;
       first = subst (λ t. IsBookOf t b.own.first) (sym told) shelf.first;
       version = λ clean. tt;
@@ -447,14 +457,19 @@ module _ (v : ℕ) (known : IsVersion v) (less : v < latest) (old mid : State) w
   -- it was
   pub asks_meta : {A : Type 0} (m : MetaRow) → HasMeta v old mid m → (r : Result A OpenFault)
       → OnOk r (m.version ≡ v) → IfErr r (λ e. (e ≡ Version) × (¬ (m.version ≡ v)))
-      → AsksVersion {A = A} v old mid r
-  asks_meta m read (Ok u) version told = record {
-    keeps = λ clean. record { row = meta_of m; is = read.is clean; version = version };
+      → m.version < 2 ^ 32 → m.last ≤ 4_102_488_000 → AsksVersion {A = A} v old mid r
+  asks_meta m read (Ok u) version told number last = record {
+    keeps = λ clean. record {
+      row = meta_of m;
+      is = read.is clean;
+      ruled = ruled_row m number last;
+      version = version;
+    };
     version = λ clean. tt;
     rules = λ clean. tt;
     other = tt;
     survives = read.has.survives;
   }
-  asks_meta m read (Err e) version told =
-      asks_err v old mid e (other_version v known less old mid m read e told)
+  asks_meta m read (Err e) version told number last =
+      asks_err v old mid e (other_version v known less old mid m read e told number last)
       (λ clean is. absurd (let no : Version ≡ Rules = sym told.0 ∙ is in cc))

@@ -1,9 +1,10 @@
 -- A keeper after what is committed whole.
-use Rattle.std.proofs.Common.{◌≡◌, ◌≤◌, ◌⊎◌, inl, inr, subst, ℕ, List, IsTrue, arith, false}
+use Rattle.std.proofs.Common.{◌≡◌, ◌≤◌, ◌⊎◌, inl, inr, refl, subst, sym, ap, ℕ, List, IsTrue, arith, false}
 use Rattle.std.specs.Prelude.{Result, Ok, Err, OnOk, OnErr}
 use Rattle.sqlite_disk.specs.Disk.{MoreFaults}
 use Rattle.sqlite_trees.specs.Tree.{Trees}
 use Rattle.sqlite_trees.specs.declared.store.Store.{Ghosts}
+use Rattle.sqlite.specs.Effect.{Database}
 use Rattle.sqlite.specs.Held.{Held, state}
 use Rattle.sqlite.specs.State.{State, HasCleanDisk, Survives}
 use Rattle.sql_rows.specs.Content.{content_of}
@@ -12,18 +13,16 @@ use Rattle.keepers.specs.declared.loaded.Change.{Change}
 use Rattle.keepers.specs.Change.{IsMadeFrom, IsSwept, changed}
 use Rattle.keepers.specs.Change.{with_voucher as with_added}
 use Rattle.redemptions.specs.declared.terms.VoucherTerms.{VoucherTerms}
-use Rattle.keepers.specs.Faults.{HasCause, max_failures}
-use Rattle.keepers.specs.Keeping.{Keeps}
+use Rattle.keepers.specs.Faults.{max_failures}
 use Rattle.shelves.specs.Shelves.{Shelf}
 use Rattle.sql_keeper.specs.Additions.{BecomesAdded}
 use Rattle.sql_keeper.specs.Commits.{CommitsChange, CommitsWhole}
-use Rattle.sql_keeper.specs.Content.{tables_of}
-use Rattle.sql_keeper.specs.Inside.{KeeperState, IsClean, StaysOpen, IsKeeper, tables_in, failed_in}
-use Rattle.sql_keeper.specs.Inside.{clean_in}
+use Rattle.sql_keeper.specs.Content.{shelf_names, tables_of}
+use Rattle.sql_keeper.specs.Inside.{KeeperState, IsClean, StaysOpen, IsKeeper, names_in, tables_in}
+use Rattle.sql_keeper.specs.Left.{IsHeld, IsLeft}
 use Rattle.sql_keeper.specs.Stops.{IsWhole, trees_in}
 use Rattle.sql_keeper.specs.Sweeps.{BecomesSwept}
-use Rattle.sql_keeper.proofs.Asked.{cause_at_most, none_more, open_of}
-use Rattle.sql_keeper.proofs.Whole.{IsSettled, settled_now, stopped}
+use Rattle.sql_keeper.proofs.Asked.{held_as, none_more, open_of}
 
 -- only a failure of the disk shuts the connection
 pub stays_survived : (old new : State) (P : Trees → Type 0) → StaysOpen old →
@@ -40,10 +39,10 @@ stays_survived old new P stays survives clean none =
 pub committed : {S A : Type 0} (g : Ghosts S) (old : KeeperState S) (conn : Held S) (text : List ℕ)
     (change : Change)
     → IsKeeper g old → (r : Result A StoreFault)
-    → CommitsChange old.names text change (state g old.connection) (state g conn) r
+    → CommitsChange (names_in old) text change (state g old.connection) (state g conn) r
     → IsClean (state g conn)
     → OnOk r (IsMadeFrom change.before change.after ((tables_in g old).rows change.number)
-    → tables_of old.names (content_of (state g conn).now.trees) ≡ changed change (tables_in g old))
+    → tables_of (names_in old) (content_of (state g conn).now.trees) ≡ changed change (tables_in g old))
 committed g old conn text change keeper (Ok x) commits clean = (commits.done clean.disk).2.tables
 committed g old conn text change keeper (Err e) commits clean = tt
 
@@ -51,19 +50,20 @@ committed g old conn text change keeper (Err e) commits clean = tt
 pub added_law : {S A : Type 0} (g : Ghosts S) (old : KeeperState S) (conn : Held S)
     (text code : List ℕ) (terms : VoucherTerms) (t : ℕ) → IsKeeper g old → (r : Result A StoreFault)
     → CommitsWhole (BecomesAdded text code terms t) (state g old.connection) (state g conn) r
-    → IsClean (state g conn) → OnOk r (tables_of old.names (content_of (state g conn).now.trees)
+    → IsClean (state g conn) → OnOk r (tables_of (names_in old) (content_of (state g conn).now.trees)
     ≡ with_added code terms t (tables_in g old))
 added_law g old conn text code terms t keeper (Ok x) commits clean =
-    (commits.done clean.disk).2.tables old.names
+    (commits.done clean.disk).2.tables (names_in old)
 added_law g old conn text code terms t keeper (Err e) commits clean = tt
 
 -- the law of a sweep
 pub swept_law : {S A : Type 0} (g : Ghosts S) (old : KeeperState S) (conn : Held S)
     (text : List ℕ) (shelf : Shelf) (t : ℕ) → IsKeeper g old → (r : Result A StoreFault)
-    → CommitsWhole (BecomesSwept old.names text shelf t) (state g old.connection) (state g conn) r
+    → CommitsWhole (BecomesSwept (names_in old) text shelf t) (state g old.connection) (state g conn) r
     → IsClean (state g conn)
     → OnOk r
-    (IsSwept shelf t (tables_in g old) (tables_of old.names (content_of (state g conn).now.trees)))
+    (IsSwept shelf t (tables_in g old)
+    (tables_of (names_in old) (content_of (state g conn).now.trees)))
 swept_law g old conn text shelf t keeper (Ok x) commits clean = (commits.done clean.disk).2.tables
 swept_law g old conn text shelf t keeper (Err e) commits clean = tt
 
@@ -76,12 +76,6 @@ module _ {S A : Type 0} (g : Ghosts S) (old new : KeeperState S)
   stays_in r commits = stays_survived (state g old.connection) (state g new.connection)
       (λ db. IsTrue (state g old.connection).is_open →
       Become text (state g old.connection).now.trees db) keeper.stays commits.survives
-
-  -- a keeper is one still
-  pub committed_keeper : (r : Result A StoreFault) → CommitsIn r
-      → new.connection.in_transaction ≡ false → new.failures ≤ max_failures → IsKeeper g new
-  committed_keeper r commits plain bounded =
-      record { bounded = bounded; plain = plain; idle = commits.idle; stays = stays_in r commits }
 
   was_open : (r : Result A StoreFault) → CommitsIn r → HasCleanDisk (state g new.connection)
       → IsTrue (state g new.connection).is_open → IsTrue (state g old.connection).is_open
@@ -96,32 +90,101 @@ module _ {S A : Type 0} (g : Ghosts S) (old new : KeeperState S)
         (open_of (state g new.connection) (stays_in r commits) clean));
   }
 
-  pub same_tables : (r : Result A StoreFault) → CommitsIn r → new.names ≡ old.names
+  pub same_tables : (r : Result A StoreFault) → CommitsIn r → new.shelf ≡ old.shelf
       → IsClean (state g new.connection)
       → IsTrue (state g new.connection).is_open → OnErr r (tables_in g new ≡ tables_in g old)
-  same_tables (Ok x) commits names clean on = tt
-  same_tables (Err e) commits names clean on =
+  same_tables (Ok x) commits shelf clean on = tt
+  same_tables (Err e) commits shelf clean on =
       let still = commits.err clean.disk on in
-      λ i. tables_of (names i) (content_of ((still.now_is i).trees))
+      λ i. tables_of (shelf_names (shelf i)) (content_of ((still.now_is i).trees))
 
-  pub keeps : (r : Result A StoreFault) → CommitsIn r → new.names ≡ old.names
-      → HasCause old.failures new.failures r → Keeps (tables_in g) failed_in (clean_in g) old new r
-  keeps r commits names cause = record {
-    err = λ clean. same_tables r commits names clean
-        (open_of (state g new.connection) (stays_in r commits) clean);
-    cleanness = was_clean r commits;
-    cause = cause_at_most old.failures new.failures r cause;
+  -- what a stop leaves: what it left before, or all that is written, where the connection was open
+  abbrev pub Leaves : Type 0
+  Leaves = HasCleanDisk (state g new.connection) → (db : Trees)
+      → (state g new.connection).may_leave db
+      → (state g old.connection).may_leave db
+      ⊎ (IsTrue (state g old.connection).is_open
+      × Become text (state g old.connection).now.trees db)
+
+  -- it is one still, whatever becomes of its shelf
+  pub becomes_keeper : (r : Result A StoreFault) → CommitsIn r
+      → (HasCleanDisk (state g old.connection) → HasCleanDisk (state g new.connection)
+      → (db : Trees) → (state g new.connection).may_leave db
+      → (state g old.connection).may_leave db ⊎ IsLeft old.text db)
+      → OnOk r (IsHeld old.text old.shelf old.last (trees_in g old)
+      → Become text (trees_in g old) (trees_in g new)
+      → IsHeld new.text new.shelf new.last (trees_in g new))
+      → OnErr r ((new.shelf ≡ old.shelf) × (new.last ≡ old.last)) → new.text ≡ old.text
+      → new.connection.in_transaction ≡ false → new.failures ≤ max_failures → IsKeeper g new
+  becomes_keeper r commits leaves made kept same plain bounded = record {
+    bounded = bounded;
+    plain = plain;
+    idle = commits.idle;
+    stays = stays_in r commits;
+    held = held_now r commits made kept;
+    found = λ clean db may. subst (λ t. IsLeft t db) (sym same)
+        (elim (leaves (clean_before clean) clean db may) [
+          | inl before ↦ keeper.found (clean_before clean) db before
+          | inr left ↦ left
+        ]);
   }
+    where
+      clean_before : HasCleanDisk (state g new.connection) → HasCleanDisk (state g old.connection)
+      clean_before clean = omega (arith, commits.survives.clean, clean)
+
+      held_now : (q : Result A StoreFault) → CommitsIn q
+          → OnOk q (IsHeld old.text old.shelf old.last (trees_in g old)
+          → Become text (trees_in g old) (trees_in g new)
+          → IsHeld new.text new.shelf new.last (trees_in g new))
+          → OnErr q ((new.shelf ≡ old.shelf) × (new.last ≡ old.last))
+          → HasCleanDisk (state g new.connection) → IsTrue (state g new.connection).is_open
+          → IsHeld new.text new.shelf new.last (trees_in g new)
+      held_now (Ok x) c to kept' clean on =
+          let d = c.done clean in to (keeper.held (clean_before clean) d.0) d.2
+      held_now (Err e) c to kept' clean on =
+          let still = c.err clean on in
+          held_as old.text new.text old.shelf new.shelf old.last new.last (trees_in g old)
+          (trees_in g new) same kept'.0 kept'.1 (ap (λ (d : Database). d.trees) still.now_is)
+          (keeper.held (clean_before clean) still.was_open)
+
+  -- it is one still, on the same shelf and at the moment that is written
+  pub committed_keeper : (t : ℕ) (r : Result A StoreFault) → CommitsIn r → Leaves
+      → text ≡ old.text
+      → ((db : Trees) → IsHeld old.text old.shelf old.last (trees_in g old)
+      → Become old.text (trees_in g old) db → IsHeld old.text old.shelf t db)
+      → OnOk r (new.last ≡ t) → OnErr r (new.last ≡ old.last) → new.shelf ≡ old.shelf
+      → new.text ≡ old.text → new.connection.in_transaction ≡ false
+      → new.failures ≤ max_failures → IsKeeper g new
+  committed_keeper t r commits leaves of_text again moment last shelf same plain bounded =
+      becomes_keeper r commits (λ was clean db may. elim (leaves clean db may) [
+        | inl before ↦ inl before
+        | inr it ↦ inr (again_here db (keeper.held was it.0) it.1).left
+      ]) (made r moment) (kept r last) same plain bounded
+    where
+      again_here : (db : Trees) → IsHeld old.text old.shelf old.last (trees_in g old)
+          → Become text (trees_in g old) db → IsHeld old.text old.shelf t db
+      again_here db held b =
+          again db held (subst (λ x. Become x (trees_in g old) db) of_text b)
+
+      made : (q : Result A StoreFault) → OnOk q (new.last ≡ t)
+          → OnOk q (IsHeld old.text old.shelf old.last (trees_in g old)
+          → Become text (trees_in g old) (trees_in g new)
+          → IsHeld new.text new.shelf new.last (trees_in g new))
+      made (Ok x) at = λ held b.
+          held_as old.text new.text old.shelf new.shelf t new.last (trees_in g new)
+          (trees_in g new) same shelf at refl (again_here (trees_in g new) held b)
+      made (Err e) at = tt
+
+      kept : (q : Result A StoreFault) → OnErr q (new.last ≡ old.last)
+          → OnErr q ((new.shelf ≡ old.shelf) × (new.last ≡ old.last))
+      kept (Ok x) at = tt
+      kept (Err e) at = (shelf, at)
 
   -- what a stop leaves
-  pub whole : (r : Result A StoreFault) → CommitsIn r → text ≡ old.text
-      → IsSettled (state g old.connection) → IsSettled (state g new.connection)
-      → IsWhole g old new (Become old.text (trees_in g old))
-  whole r commits is before after =
-      subst (λ t. IsWhole g old new (Become t (trees_in g old))) is (record {
-        stop = λ clean was. stopped (Become text) (state g old.connection)
-            (state g new.connection) r before keeper.idle commits clean
-            (open_of (state g old.connection) keeper.stays was);
-        settled = λ clean. settled_now (state g new.connection) after commits.idle clean.disk
-            (open_of (state g new.connection) (stays_in r commits) clean);
-      })
+  pub whole : Leaves → text ≡ old.text → IsWhole g old new (Become old.text (trees_in g old))
+  whole leaves is = record {
+    left = λ clean db may. elim (leaves clean db may) [
+      | inl before ↦ inl before
+      | inr it ↦ inr (subst (λ t. Become t (trees_in g old) db) is it.1)
+    ];
+  }

@@ -5,6 +5,7 @@ pub mod Asked
 pub mod Beside
 pub mod BookTexts
 pub mod Brought
+pub mod Causes
 pub mod Changed
 pub mod ChargePages
 pub mod Commits
@@ -21,6 +22,8 @@ pub mod HeldAlong
 pub mod InTurn
 pub mod LiveGroups
 pub mod LiveRows
+pub mod LoadedAlone
+pub mod Made
 pub mod Migrated
 pub mod Moved
 pub mod Numbers
@@ -29,10 +32,13 @@ pub mod Opens
 pub mod Overlays
 pub mod Puts
 pub mod Redeemed
+pub mod Reopening
 pub mod Repeating
 pub mod Shelved
 pub mod Shelving
-pub mod LoadedAlone
+pub mod Standing
+pub mod StillOpen
+pub mod Stopped
 pub mod Swept
 pub mod SweptReads
 pub mod Told

@@ -1,6 +1,6 @@
 -- What may still change of an account is what a load asks.
 use Rattle.std.proofs.Common.{◌≡◌, ℕ, Bool, true, false, not, List, [], ◌∷◌, Option, Some, None}
-use Rattle.std.proofs.Common.{Result, Ok, Err, IfOk, IsErrOf, cond, refl, sym, ap, ◌∙◌, subst}
+use Rattle.std.proofs.Common.{Result, Ok, Err, IfOk, OnOk, IsErrOf, cond, refl, sym, ap, ◌∙◌, subst}
 use Rattle.std.proofs.Common.{true≢false}
 use Rattle.std.specs.Prelude.{if◌then◌else◌, filter, option_map, is_some}
 use Rattle.std.specs.List.{find}
@@ -117,15 +117,19 @@ fault_or d (Ok x) = d
 fault_or d (Err e) = e
 
 -- a load without the rows once more is a view
-pub viewed : {K : Type 0} (content : K → Tables) (failed : K → ℕ) (clean : K → Type 0) (old new : K)
+pub viewed : {K : Type 0} (content : K → Tables) (failed : K → ℕ) (honest clean : K → Type 0)
+    (leaves : K → Tables → Type 0) (old new : K)
     (shelf : Shelf) (t : ℕ) (a : List ℕ) (rows : Rows) (r : Result (Option Loaded) StoreFault)
     (q : Result (Option AccountRows) StoreFault) → IsAccountOf r q
-    → Reads content failed clean old new (IsLoad shelf t a rows) r
-    → Reads content failed clean old new (IsView shelf t rows) q
-viewed content failed clean old new shelf t a rows r q is h = record {
+    → Reads content failed honest clean leaves old new (IsLoad shelf t a rows) r
+    → Reads content failed honest clean leaves old new (IsView shelf t rows) q
+viewed content failed honest clean leaves old new shelf t a rows r q is h = record {
   found = λ now. found r q is (h.found now);
   same = h.same;
   cleanness = h.cleanness;
+  honesty = h.honesty;
+  stands = λ x. answers_so (clean new) r q is (h.stands x);
+  left = h.left;
   cause = record { kept = h.cause.kept; cause = λ e. h.cause.cause (fault r q is e) };
 }
   where
@@ -138,6 +142,12 @@ viewed content failed clean old new shelf t a rows r q is h = record {
         subst (IsLoadedFrom shelf t rows) (sym is) load
     found r (Err f) is load = tt
     found (Err e) (Ok o) is load = absurd is
+
+    answers_so : (P : Type 0) (r : Result (Option Loaded) StoreFault)
+        (q : Result (Option AccountRows) StoreFault) → IsAccountOf r q → OnOk r P → OnOk q P
+    answers_so P (Ok o) (Ok p) is on = on
+    answers_so P (Err e) (Ok o) is on = absurd is
+    answers_so P r (Err f) is on = tt
 
     fault : (r : Result (Option Loaded) StoreFault) (q : Result (Option AccountRows) StoreFault)
         → IsAccountOf r q → IsErrOf q Store → IsErrOf r Store

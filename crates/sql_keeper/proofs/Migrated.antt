@@ -261,6 +261,9 @@ module _ (v : ℕ) (known : IsVersion v) (less : v < latest) (old mid new : Tree
     shelf = (own, subst (λ rows. IsShelfOf m.book rows own) (sym books_stay) shelf);
   }
 
+  pub moment_latest : last_in (content_of new).meta ≡ m.last
+  moment_latest = ap last_in meta_after
+
   pub shelf_latest : (own : Shelf) → IsShelfOf m.book (content_at v old).books own
       → IsShelfOf m.book (content_of new).books own
   shelf_latest own shelf = subst (λ rows. IsShelfOf m.book rows own) (sym books_stay) shelf

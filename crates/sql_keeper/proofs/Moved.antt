@@ -22,14 +22,14 @@ use Rattle.sql_opening.specs.declared.fault.OpenFault.{OpenFault}
 use Rattle.sql_opening.specs.declared.fault.OpenFault.TheVariants.{Foreign, Version, Rules, Older}
 use Rattle.sql_opening.specs.declared.fault.OpenFault.TheVariants.{Store, Memory}
 use Rattle.sql_keeper.specs.Books.{IsBookOf}
-use Rattle.sql_keeper.specs.Content.{shelf_names}
-use Rattle.sql_keeper.specs.Finds.{FindsBooks, ReadsBooks}
-use Rattle.sql_keeper.specs.Inside.{IsClean, KeeperState, StaysOpen}
+use Rattle.sql_keeper.specs.Finds.{FindsBooks, IsReadOf, ReadsBooks}
+use Rattle.sql_keeper.specs.Inside.{IsClean, IsKeeper, KeeperState}
 use Rattle.sql_keeper.specs.Migrates.{BecomesLatest, BringsToLatest, FindsAny, FindsNone, HasAt}
-use Rattle.sql_keeper.specs.Migrates.{HasIdleAt, IsLeftLatest, IsMigrated, IsRuledAt, IsUnruledMeta}
-use Rattle.sql_keeper.specs.Migrates.{MigratesTables, content_at}
-use Rattle.sql_keeper.specs.Opened.{IsFresh, IsLeft, IsOpened, IsOtherThan, IsRuled}
-use Rattle.sql_keeper.specs.OlderVersions.{AsksVersion, IsNotLatest, KeepsVersion}
+use Rattle.sql_keeper.specs.Migrates.{HasIdleAt, IsLeftLatest, IsMigrated, IsRuledAt}
+use Rattle.sql_keeper.specs.Migrates.{IsHeldBy, MigratesTables, content_at}
+use Rattle.sql_keeper.specs.Causes.{IsOtherThan, IsUnruledMeta, KeepsVersion}
+use Rattle.sql_keeper.specs.Opened.{IsFresh, IsLeft, IsOpened}
+use Rattle.sql_keeper.specs.OlderVersions.{AsksVersion, IsNotLatest}
 use Rattle.sql_keeper.specs.Shelves.{IsShelfOf}
 use Rattle.sql_keeper.specs.declared.books.ReadBooks.{ReadBooks}
 use Rattle.sql_keeper.proofs.Opens.{finds_books, fresh, opened}
@@ -156,7 +156,7 @@ module _ {S : Type 0} (g : Ghosts S) (old begun : Held S)
           (λ clean db is. subst (IsLeftLatest v (state g old).now.trees) (sym is) (record {
             becomes = become (mid_clean ends clean);
             text = string_bytes r.text;
-            left = (b.read (mid_clean ends clean)).0;
+            left = (b.read (mid_clean ends clean)).left;
           })) ends)
 
       -- it is committed
@@ -170,10 +170,7 @@ module _ {S : Type 0} (g : Ghosts S) (old begun : Held S)
               shows.is_open,
               subst (λ (d : Database). BecomesLatest v (state g old).now.trees d.trees) now
                   (become was),
-              subst (λ (d : Database). IsLeft (string_bytes r.text) d.trees) now (b.read was).0,
-              subst (λ (d : Database).
-                  IsShelfOf (string_bytes r.text) (content_of d.trees).books r.own) now
-                  (b.read was).1,
+              subst (λ (d : Database). IsHeldBy r d.trees) now (b.read was),
             );
         given = b.given;
         first = b.first;
@@ -299,7 +296,6 @@ module _ (v : ℕ) (old mid new : State) (found : HasCleanDisk mid → IsFound v
             it.0,
             subst (λ (d : Database). BecomesLatest v d.trees new.now.trees) (same_at was) it.1,
             it.2,
-            it.3,
           );
       given = m.given;
       first = m.first;
@@ -338,16 +334,6 @@ module _ (v : ℕ) (old mid new : State) (found : HasCleanDisk mid → IsFound v
         (v, known, subst (λ (d : Database). IsLeftLatest v d.trees db) (same_at was) left))
         one m.survives)
 
--- in the rules of who migrates it, it is in those of who opens it
-ruled_latest : (trees : Trees) → IsRuledAt latest trees → IsRuled trees
-ruled_latest trees r = record {
-  stored = r.stored;
-  row = r.row;
-  is = r.is;
-  ruled = r.ruled;
-  shelf = r.shelf;
-}
-
 -- one of the latest version is read
 pub any_latest : (v : ℕ) (old mid new : State) → v ≡ latest
     → (HasCleanDisk mid → IsFound v old mid) → Survives old mid (λ _. ⊥) → IsVersion v
@@ -366,10 +352,13 @@ any_latest v old mid new same found one known (Err e) reads =
     record {
       row = it.row;
       is = it.is;
+      ruled = it.ruled;
       other = λ e. it.other (e ∙ same);
     })
-    (λ clean is ruled. reads.rules clean is (ruled_latest mid.now.trees
-    (subst (λ n. IsRuledAt n mid.now.trees) same ruled)))
+    (λ clean is ruled.
+    let r = subst (λ n. IsRuledAt n mid.now.trees) same ruled in
+    let told = reads.rules clean is r.row r.is r.ruled in
+    told.2 (r.shelf told.0))
     reads.ours
     (survives_weaker old new (λ _. ⊥)
     (λ db. (n : ℕ) × IsVersion n × IsLeftLatest n old.now.trees db) (λ clean db no. absurd no)
@@ -411,16 +400,27 @@ any_idle old new r f = elim (either_version f.0 f.1) [
   | inr less ↦ (f.4 less).idle
 ]
 
-pub any_stays : (old new : State) (r : ReadBooks) → FindsAny old new (Ok r) → StaysOpen new
-any_stays old new r f clean none = elim (either_version f.0 f.1) [
-  | inl is ↦ ((f.3 is).found clean).3
+pub any_open : (old new : State) (r : ReadBooks) → FindsAny old new (Ok r) → HasCleanDisk new
+    → IsTrue new.is_open
+any_open old new r f clean = elim (either_version f.0 f.1) [
+  | inl is ↦ ((f.3 is).found clean).2
   | inr less ↦ ((f.4 less).done clean).0
+]
+
+pub any_read : (old new : State) (r : ReadBooks) → FindsAny old new (Ok r) → HasCleanDisk new
+    → IsReadOf r new.now.trees
+any_read old new r f clean = elim (either_version f.0 f.1) [
+  | inl is ↦ ((f.3 is).found clean).0
+  | inr less ↦
+      let held = ((f.4 less).done clean).2 in
+      record { kept = held.left.kept; books = held.books; last = held.moment }
 ]
 
 module _ {S : Type 0} (g : Ghosts S) (k : KeeperState S) (conn old : Held S) (shelf : Shelf)
     (r : ReadBooks) (connection : k.connection ≡ conn) (is : shelf ≡ r.given)
-    (names : k.names ≡ shelf_names r.own) (told : k.text ≡ string_bytes r.text)
-    (none : k.failures ≡ 0) (live : IsLive (state g conn)) (utf8 : IsUtf8 (string_bytes r.text))
+    (owned : k.shelf ≡ r.own) (told : k.text ≡ string_bytes r.text)
+    (none : k.failures ≡ 0) (kept : IsKeeper g k) (live : IsLive (state g conn))
+    (utf8 : IsUtf8 (string_bytes r.text))
     (v : ℕ) (known : IsVersion v)
     (had : HasCleanDisk (state g conn) → (state g old).now.schema ≡ schema_at v) where
   -- one of the latest version is left as it is
@@ -429,7 +429,9 @@ module _ {S : Type 0} (g : Ghosts S) (k : KeeperState S) (conn old : Held S) (sh
   keeps_latest same f =
       let o : IsOpened g old k shelf =
       opened g k conn shelf r.given r.own (string_bytes r.text) (string_bytes r.text) connection is
-      f.given names told none f.read refl live utf8 old f.found f.survives f.idle in
+      f.given owned told none f.read refl live utf8 old
+      (λ clean. let it = f.found clean in (it.0.kept, it.0.books, it.1, it.2)) f.survives f.idle
+      kept in
       record {
         fresh = o.fresh;
         books = o.books;
@@ -454,16 +456,16 @@ module _ {S : Type 0} (g : Ghosts S) (k : KeeperState S) (conn old : Held S) (sh
       let own_is : r.own ≡ shelf = sym (is ∙ m.given) in
       record {
         fresh = fresh g k conn shelf r.given r.own (string_bytes r.text) (string_bytes r.text)
-            connection is m.given names told none m.first refl live utf8;
+            connection is m.given owned told none m.first refl live utf8;
         books = subst (λ h. HasCleanDisk (state g h) →
             IsShelfOf k.text (content_of (state g h).now.trees).books shelf) (sym connection)
             (λ clean. subst (λ t. IsShelfOf t (content_of (state g conn).now.trees).books shelf)
             (sym told) (subst (IsShelfOf (string_bytes r.text)
-            (content_of (state g conn).now.trees).books) own_is (m.done clean).3));
+            (content_of (state g conn).now.trees).books) own_is (m.done clean).2.books));
         left = subst (λ h. HasCleanDisk (state g h) → IsLeft k.text (state g h).now.trees)
             (sym connection)
             (λ clean. subst (λ t. IsLeft t (state g conn).now.trees) (sym told)
-            (m.done clean).2);
+            (m.done clean).2.left);
         clean = subst (λ h. HasCleanDisk (state g h) → IsClean (state g h)) (sym connection)
             (λ clean. record { disk = clean; open_still = inr (m.done clean).0 });
         version = v;
@@ -481,13 +483,13 @@ module _ {S : Type 0} (g : Ghosts S) (k : KeeperState S) (conn old : Held S) (sh
 
 pub is_migrated : {S : Type 0} (g : Ghosts S) (k : KeeperState S) (conn old : Held S)
     (shelf : Shelf) (r : ReadBooks) → k.connection ≡ conn → shelf ≡ r.given
-    → k.names ≡ shelf_names r.own → k.text ≡ string_bytes r.text → k.failures ≡ 0
-    → IsLive (state g conn) → IsUtf8 (string_bytes r.text)
+    → k.shelf ≡ r.own → k.text ≡ string_bytes r.text → k.failures ≡ 0
+    → IsKeeper g k → IsLive (state g conn) → IsUtf8 (string_bytes r.text)
     → FindsAny (state g old) (state g conn) (Ok r) → IsMigrated g old k shelf
-is_migrated g k conn old shelf r connection is names told none live utf8 f =
+is_migrated g k conn old shelf r connection is owned told none kept live utf8 f =
     elim (either_version f.0 f.1) [
-      | inl same ↦ keeps_latest g k conn old shelf r connection is names told none live utf8 f.0
-          f.1 f.2 same (f.3 same)
-      | inr less ↦ comes_latest g k conn old shelf r connection is names told none live utf8 f.0
-          f.1 f.2 less (f.4 less)
+      | inl same ↦ keeps_latest g k conn old shelf r connection is owned told none kept live utf8
+          f.0 f.1 f.2 same (f.3 same)
+      | inr less ↦ comes_latest g k conn old shelf r connection is owned told none kept live utf8
+          f.0 f.1 f.2 less (f.4 less)
     ]

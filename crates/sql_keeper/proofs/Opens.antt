@@ -1,8 +1,8 @@
 -- A keeper that is made or opened, and what was read of its database.
 use Rattle.std.proofs.Common.{◌≡◌, ◌≤◌, ◌⊎◌, inl, inr, ◌∙◌, ap, refl, sym, subst, ℕ, List, Some}
-use Rattle.std.proofs.Common.{None, IsTrue, true, false, arith, ◌<◌, Bool, nat_lt, ltb-true}
+use Rattle.std.proofs.Common.{IsTrue, true, false, arith, ◌<◌, Bool, nat_lt, ltb-true}
 use Rattle.std.proofs.Common.{ltb-false}
-use Rattle.std.specs.Prelude.{Ok, Err, Result, IfErr, IfOk, OnOk, map, zero, suc, Vec}
+use Rattle.std.specs.Prelude.{◌^◌, Ok, Err, Result, IfErr, IfOk, OnOk, map, Vec}
 use Rattle.std.specs.Global.{Global}
 use Rattle.std.specs.Str.{IsUtf8}
 use Rattle.std.specs.String.{string_bytes}
@@ -17,38 +17,39 @@ use Rattle.sqlite.specs.State.{State, HasCleanDisk, IsLive, Survives}
 use Rattle.sqlite.proofs.StateLemmas.{survives_then}
 use Rattle.sql_tables.specs.Schema.{book_schema, latest, schema_at}
 use Rattle.sql_tables.specs.Stages.{AreStoredAt}
-use Rattle.sql_tables.specs.Statements.{AreStored, HasIdleBook, IsStill, OnlyReads, Reads}
+use Rattle.sql_tables.specs.Statements.{HasIdleBook, IsStill, OnlyReads, Reads}
 use Rattle.sql_tables.proofs.Keeps.{only_reads_then}
 use Rattle.sql_tables.proofs.Telling.{survive_then}
 use Rattle.sql_tables.specs.Texts.{stage}
 use Rattle.sql_rows.specs.Content.{content_of}
-use Rattle.sql_rows.specs.Ruled.{AreRuledBooks, IsRefusedMeta}
+use Rattle.sql_rows.specs.Ruled.{AreRuledBooks}
 use Rattle.sql_rows.specs.Lists.{AreBooks}
 use Rattle.sql_rows.specs.Texts.{book_at, meta_of}
 use Rattle.sql_rows.specs.declared.book_rows.BookColumns.{BookColumns}
 use Rattle.sql_rows.specs.Values.{Meta}
 use Rattle.sql_rows.specs.declared.meta_rows.Meta.{Meta as MetaRow}
-use Rattle.sql_opening.specs.Opens.{IsFound, IsNoVersion, IsTold, IsVersion}
+use Rattle.sql_opening.specs.Opens.{IsFound, IsNoVersion, IsTold}
 use Rattle.sql_opening.specs.declared.fault.OpenFault.{OpenFault}
 use Rattle.sql_opening.specs.declared.fault.OpenFault.TheVariants.{Foreign, Version, Rules, Older}
 use Rattle.sql_opening.specs.declared.fault.OpenFault.TheVariants.{Memory as Memory'}
 use Rattle.sqlite_schema.specs.declared.schema.Schema.{Schema}
 use Rattle.sql_tables.specs.Ours.{has_ours}
 use Rattle.sql_keeper.specs.Books.{IsBookOf, IsBookText}
+use Rattle.sql_keeper.specs.Causes.{AreUnruled, HasFault, IsOtherThan, IsStores, IsUnruledMeta}
 use Rattle.keepers.specs.Tables.{no_tables}
-use Rattle.sql_keeper.specs.Content.{shelf_names, tables_of}
+use Rattle.sql_keeper.specs.Content.{last_in, tables_of}
 use Rattle.sql_keeper.specs.Creates.{CreatesBook, IsNewBook, first_meta}
 use Rattle.sql_keeper.specs.Faults.{IsCreateFault}
-use Rattle.sql_keeper.specs.Finds.{FindsBooks, IsUnruledAt, ReadsBooks}
-use Rattle.sql_keeper.specs.Inside.{KeeperState, IsClean}
+use Rattle.sql_keeper.specs.Finds.{FindsBooks, IsReadOf, ReadsBooks}
+use Rattle.sql_keeper.specs.Inside.{KeeperState, IsClean, IsKeeper, names_in}
 use Rattle.sql_keeper.specs.Opened.{IsCreated, IsFresh, IsKept, IsLeft, IsNotCreated, IsOpened}
-use Rattle.sql_keeper.specs.Opened.{IsOlder, IsOtherThan, IsOtherVersion, IsRuled}
 use Rattle.sql_keeper.specs.OlderVersions.{IsNotLatest}
 use Rattle.sql_keeper.specs.Shelves.{HasShelf, IsAlone, IsNoShelf, IsShelfOf, IsShelfRead}
 use Rattle.sql_keeper.specs.declared.books.ReadBooks.{ReadBooks}
 use Rattle.sql_keeper.specs.declared.create_fault.CreateFault.{CreateFault}
 use Rattle.sql_keeper.specs.declared.create_fault.CreateFault.TheVariants.{Store, Memory}
 use Rattle.sql_keeper.proofs.Again.{alone_shelf}
+use Rattle.sql_keeper.proofs.Causes.{caused, ruled_row}
 use Rattle.sql_keeper.proofs.Shelved.{shelf_ruled}
 use Rattle.sql_keeper.proofs.InTurn.{have_read, have_read_then}
 use Rattle.sql_keeper.proofs.Whole.{not_shut, survives_self}
@@ -87,7 +88,7 @@ store_told text schema f (inr is) none book =
 
 module _ {S : Type 0} (g : Ghosts S) (k : KeeperState S) (conn : Held S) (shelf given own : Shelf)
     (text bytes : List ℕ) (connection : k.connection ≡ conn) (is : shelf ≡ given)
-    (same : given ≡ own) (names : k.names ≡ shelf_names own) (told : k.text ≡ bytes)
+    (same : given ≡ own) (owned : k.shelf ≡ own) (told : k.text ≡ bytes)
     (none : k.failures ≡ 0) (read : IsBookOf text own.first) (kept : bytes ≡ text)
     (live : IsLive (state g conn)) (utf8 : IsUtf8 bytes) where
   own_is : own ≡ shelf
@@ -97,7 +98,7 @@ module _ {S : Type 0} (g : Ghosts S) (k : KeeperState S) (conn : Held S) (shelf 
   fresh = record {
     read = subst (λ t. IsBookOf t shelf.first) (sym (told ∙ kept))
         (subst (λ (s : Shelf). IsBookOf text s.first) own_is read);
-    names = names ∙ ap shelf_names own_is;
+    shelf = owned ∙ own_is;
     uncounted = none;
   }
 
@@ -123,8 +124,8 @@ module _ {S : Type 0} (g : Ghosts S) (k : KeeperState S) (conn : Held S) (shelf 
     made = subst (λ h. HasCleanDisk (state g h) → IsNewBook text (state g h).now.trees)
         (sym connection) (λ clean. (c.done clean).2);
     tables = subst (λ h. HasCleanDisk (state g h) →
-        tables_of k.names (content_of (state g h).now.trees) ≡ no_tables)
-        (sym connection) (λ clean. (c.done clean).2.tables k.names);
+        tables_of (names_in k) (content_of (state g h).now.trees) ≡ no_tables)
+        (sym connection) (λ clean. (c.done clean).2.tables (names_in k));
     left = subst (λ h. HasCleanDisk (state g h) → IsLeft text (state g h).now.trees)
         (sym connection) (λ clean.
         let made = c.done clean in
@@ -153,9 +154,10 @@ module _ {S : Type 0} (g : Ghosts S) (k : KeeperState S) (conn : Held S) (shelf 
       × IsShelfOf bytes (content_of (state g conn).now.trees).books own
       × IsStill (state g old) (state g conn) × IsTrue (state g conn).is_open)
       → Survives (state g old) (state g conn) (λ _. ⊥) → HasIdleBook (state g conn)
-      → IsOpened g old k shelf
-  opened old found survives idle = record {
+      → IsKeeper g k → IsOpened g old k shelf
+  opened old found survives idle keeper = record {
     fresh = fresh;
+    keeper = keeper;
     books = subst (λ h. HasCleanDisk (state g h) →
         IsShelfOf k.text (content_of (state g h).now.trees).books shelf) (sym connection)
         (λ clean. subst (λ t. IsShelfOf t (content_of (state g conn).now.trees).books shelf)
@@ -191,19 +193,6 @@ pub not_created : {S A E : Type 0} (g : Ghosts S) (text : List ℕ) (old new : H
 not_created g text old new fault e told mode c =
     record { told = told; mode = mode; still = c.kept; survives = c.survives }
 
--- ---- the row that is kept once
-
--- there is none
-pub none_ruled : (s : State) (fault : OpenFault) → None ≡ (content_of s.now.trees).meta →
-    IsUnruledAt s fault
-none_ruled s fault none is ruled =
-    absurd (let no : Some ruled.row ≡ None = sym ruled.is ∙ sym none in cc)
-
--- it is refused
-pub refused_ruled : (s : State) (fault : OpenFault) → IsRefusedMeta (content_of s.now.trees).meta
-    → IsUnruledAt s fault
-refused_ruled s fault refused is ruled = subst IsRefusedMeta ruled.is refused ruled.ruled
-
 -- ---- what is read before
 
 module _ (v : ℕ) (old mid new : State) (found : HasCleanDisk mid → IsFound v old mid)
@@ -233,20 +222,15 @@ module _ (v : ℕ) (old mid new : State) (found : HasCleanDisk mid → IsFound v
   finds_books same (Ok b) reads = record {
     found = λ clean.
         let it = reads.found clean in
-        let now = sym (only.still clean it.2).now_is in (
-          subst (λ (d : Database). IsKept d.trees (string_bytes b.text)) now it.0,
-          subst (λ (d : Database).
-              IsShelfOf (string_bytes b.text) (content_of d.trees).books b.own) now it.1,
-          still_read clean it.2,
-          it.2,
+        let now = sym (only.still clean it.1).now_is in (
+          subst (λ (d : Database). IsReadOf b d.trees) now it.0,
+          still_read clean it.1,
+          it.1,
         );
     given = reads.given;
     read = reads.read;
     idle = only.idle;
-    foreign = λ clean. tt;
-    version = λ clean. tt;
-    rules = λ clean. tt;
-    older = λ clean. tt;
+    cause = λ clean. tt;
     survives = reads_survived;
   }
   finds_books same (Err e) reads = record {
@@ -254,24 +238,24 @@ module _ (v : ℕ) (old mid new : State) (found : HasCleanDisk mid → IsFound v
     given = tt;
     read = tt;
     idle = tt;
-    foreign = λ clean is. absurd (reads.ours.0 is);
-    version = λ clean is.
+    cause = λ clean.
         let was = found (only.cleanness clean) in
-        subst IsOtherVersion was.unchanged.0.now_is (record {
+        subst (λ db. IsStores e ⊎ HasFault e db) was.unchanged.0.now_is
+        (caused e mid.now (λ is. absurd (reads.ours.0 is)) (λ is. record {
           version = v;
           known = was.version;
           schema = was.schema;
+          stored = was.stored;
           other = subst (λ n. IsOtherThan n mid.now.trees) (sym same) (reads.version clean is);
-        });
-    rules = λ clean is ruled. reads.rules clean is (subst (λ (d : Database). IsRuled d.trees)
-        (sym (found (only.cleanness clean)).unchanged.0.now_is) ruled);
-    older = λ clean is. absurd (reads.ours.1 is);
+        }) (λ is. record {
+          version = v;
+          known = was.version;
+          schema = was.schema;
+          unruled = λ stored. subst (λ n. AreUnruled n mid.now.trees) (sym same)
+              (reads.rules clean is);
+        }) (λ is. absurd (reads.ours.1 is)));
     survives = reads_survived;
   }
-
--- the latest is a version
-known : IsVersion latest
-known = let low : 1 ≤ 3 = omega arith in let high : 3 ≤ 3 = omega arith in (low, high)
 
 -- the tables that an opening asks for
 pub idle_book : (v : ℕ) (old mid : State) → v ≡ latest → (HasCleanDisk mid → IsFound v old mid)
@@ -286,69 +270,6 @@ idle_book v old mid same found clean on =
       settled = it.settled;
     }
 
--- the tables of a version are the first of the latest one's
-stored_to : (v : ℕ) (trees : Trees) → IsVersion v → AreStored trees → AreStoredAt v trees
-stored_to zero trees known h = absurd (omega (arith, known.0))
-stored_to (suc zero) trees known h = (
-  h.0,
-  (
-    h.1.0,
-    (
-      h.1.1.0,
-      (
-        h.1.1.1.0,
-        (
-          h.1.1.1.1.0,
-          (
-            h.1.1.1.1.1.0,
-            (
-              h.1.1.1.1.1.1.0,
-              (
-                h.1.1.1.1.1.1.1.0,
-                (
-                  h.1.1.1.1.1.1.1.1.0,
-                  (h.1.1.1.1.1.1.1.1.1.0, tt),
-                ),
-              ),
-            ),
-          ),
-        ),
-      ),
-    ),
-  ),
-)
-stored_to (suc (suc zero)) trees known h = (
-  h.0,
-  (
-    h.1.0,
-    (
-      h.1.1.0,
-      (
-        h.1.1.1.0,
-        (
-          h.1.1.1.1.0,
-          (
-            h.1.1.1.1.1.0,
-            (
-              h.1.1.1.1.1.1.0,
-              (
-                h.1.1.1.1.1.1.1.0,
-                (
-                  h.1.1.1.1.1.1.1.1.0,
-                  (h.1.1.1.1.1.1.1.1.1.0, (h.1.1.1.1.1.1.1.1.1.1.0, (h.1.1.1.1.1.1.1.1.1.1.1.0, tt))),
-                ),
-              ),
-            ),
-          ),
-        ),
-      ),
-    ),
-  ),
-)
-stored_to (suc (suc (suc zero))) trees known h = h
-stored_to (suc (suc (suc (suc n)))) trees known h =
-    let high : suc (suc (suc (suc n))) ≤ 3 = known.1 in absurd (omega (arith, high))
-
 -- no table was found
 pub finds_none : (old new : State) (e : OpenFault) → IsNoVersion e
     → (HasCleanDisk new → IsTold old.now e) → Survives old new (λ _. ⊥)
@@ -358,12 +279,15 @@ finds_none old new e told means survives = record {
   given = tt;
   read = tt;
   idle = tt;
-  foreign = λ clean is. subst (IsTold old.now) is (means clean) latest known;
-  version = λ clean is. absurd (told.0 is);
-  rules = λ clean is ruled.
+  cause = λ clean. caused e old.now (λ is. subst (IsTold old.now) is (means clean))
+      (λ is. absurd (told.0 is)) (λ is.
       let it = subst (IsTold old.now) is (means clean) in
-      it.3 (stored_to it.0 old.now.trees it.1 ruled.stored);
-  older = λ clean is. absurd (told.1 is);
+      record {
+        version = it.0;
+        known = it.1;
+        schema = it.2;
+        unruled = λ stored. absurd (it.3 stored);
+      }) (λ is. absurd (told.1 is));
   survives = survives;
 }
 
@@ -376,32 +300,28 @@ finds_older v old mid new e other found one asked = record {
   given = tt;
   read = tt;
   idle = tt;
-  foreign = λ clean is. absurd (asked.ours is);
-  version = λ clean is.
+  cause = λ clean.
       let was = found (before clean) in
-      subst IsOtherVersion was.unchanged.0.now_is (record {
+      subst (λ db. IsStores e ⊎ HasFault e db) was.unchanged.0.now_is
+      (caused e mid.now (λ is. absurd (asked.ours is)) (λ is. record {
         version = v;
         known = was.version;
         schema = was.schema;
+        stored = was.stored;
         other = asked.version clean is;
-      });
-  rules = λ clean is ruled.
-      let now = (found (before clean)).unchanged.0.now_is in
-      let there = subst (λ (d : Database). (content_of d.trees).meta ≡ Some ruled.row) (sym now)
-      ruled.is in
-      asked.rules clean is ruled.row there ruled.ruled;
-  older = λ clean is.
-      let was = found (before clean) in
-      let kept = asked.older clean is in
-      subst IsOlder was.unchanged.0.now_is (record {
+      }) (λ is. record {
+        version = v;
+        known = was.version;
+        schema = was.schema;
+        unruled = λ stored row at ruled. absurd (asked.rules clean is row at ruled);
+      }) (λ is. record {
         version = v;
         known = was.version;
         older = below (nat_lt v 3) refl was.version.1;
         schema = was.schema;
-        row = kept.row;
-        is = kept.is;
-        kept = kept.version;
-      });
+        stored = was.stored;
+        kept = asked.older clean is;
+      }));
   survives = survives_then old mid new (λ _. ⊥) (λ _. ⊥) (λ _. ⊥) (λ clean db no. no)
       (λ clean db no. no) one asked.survives;
 }
@@ -419,7 +339,7 @@ finds_older v old mid new e other found one asked = record {
 -- what is kept once wasn't read
 pub reads_no_meta : {A : Type 0} (told : Trees → A → Type 0) (old new : State) (e : OpenFault)
     → Reads {A = A} {E = OpenFault} told old new (Err e) → IsNoVersion e
-    → ¬ (e ≡ Foreign) → (HasCleanDisk new → IsUnruledAt old e)
+    → ¬ (e ≡ Foreign) → (HasCleanDisk new → e ≡ Rules → IsUnruledMeta old.now.trees)
     → ReadsBooks old new (Err e)
 reads_no_meta told old new e reads no_version ours rules = record {
   found = λ clean. tt;
@@ -427,7 +347,7 @@ reads_no_meta told old new e reads no_version ours rules = record {
   read = tt;
   only = reads.only;
   version = λ clean is. absurd (no_version.0 is);
-  rules = rules;
+  rules = λ clean is row at ruled. absurd (rules clean is row at ruled);
   ours = (ours, no_version.1);
   survives = reads.survives;
 }
@@ -437,13 +357,18 @@ module _ {E : Type 0} (old mid : State) (m : MetaRow)
     (λ trees m. (content_of trees).meta ≡ Some (meta_of m)) old mid (Ok m)) where
   -- it is of another version
   pub reads_other : (e : OpenFault) → (e ≡ Version) × (¬ (m.version ≡ latest))
-      → ReadsBooks old mid (Err e)
-  reads_other e other = record {
+      → m.version < 2 ^ 32 → m.last ≤ 4_102_488_000 → ReadsBooks old mid (Err e)
+  reads_other e other number last = record {
     found = λ clean. tt;
     given = tt;
     read = tt;
     only = meta.only;
-    version = λ clean is. record { row = meta_of m; is = meta.found clean; other = other.1 };
+    version = λ clean is. record {
+      row = meta_of m;
+      is = meta.found clean;
+      ruled = ruled_row m number last;
+      other = other.1;
+    };
     rules = λ clean is. absurd (let no : Version ≡ Rules = sym other.0 ∙ is in cc);
     ours = (
       (λ is. let no : Version ≡ Foreign = sym other.0 ∙ is in cc),
@@ -475,12 +400,15 @@ module _ {E : Type 0} (old mid : State) (m : MetaRow)
         read = tt;
         only = only_reads_then old mid new read.only reads.only;
         version = λ clean is. absurd (no_version.0 is);
-        rules = λ clean is ruled.
+        rules = λ clean is row at ruled.
             let before = reads.only.cleanness clean in
-            let row : ruled.row ≡ meta_of m = cc (sym ruled.is ∙ meta.found before) in
-            let has = ruled.shelf (ap (λ (x : Meta). x.version) row ∙ version) in
-            rules clean is (told_last (λ trees. AreRuledBooks (content_of trees).books) before
-            (shelf_ruled ruled.row.book (content_of old.now.trees).books has.0 has.1));
+            let same : row ≡ meta_of m = cc (sym at ∙ meta.found before) in (
+              ap (λ (x : Meta). x.version) same ∙ version,
+              refl,
+              λ has. rules clean is
+                  (told_last (λ trees. AreRuledBooks (content_of trees).books) before
+                  (shelf_ruled row.book (content_of old.now.trees).books has.0 has.1)),
+            );
         ours = (ours, no_version.1);
         survives = survive_then old mid new read.stays read.survives reads.survives;
       }
@@ -494,9 +422,11 @@ module _ {E : Type 0} (old mid : State) (m : MetaRow)
       → (r : Result ReadBooks OpenFault)
       → IfOk r (λ b. IsShelfRead text (map book_at items) b.own)
       → IfOk r (λ b. b.given ≡ b.own) → IfOk r (λ b. string_bytes b.text ≡ text)
+      → IfOk r (λ b. b.last ≡ m.last)
       → IfErr r (λ fault. fault ≡ Rules → IsNoShelf text (map book_at items))
       → IfErr r (λ fault. ¬ (fault ≡ Rules) → fault ≡ Memory') → ReadsBooks old new r
-  reads_books new rows items same text is version last reads (Ok b) shelf given told rules either =
+  reads_books new rows items same text is version last reads (Ok b) shelf given told at rules
+      either =
       let read = have_read (λ trees m. (content_of trees).meta ≡ Some (meta_of m)) old mid m meta in
       let both = have_read_then old mid new read
       (have_read {E = OpenFault} _ mid new rows reads) in
@@ -504,17 +434,21 @@ module _ {E : Type 0} (old mid : State) (m : MetaRow)
         found = λ clean.
             let before = reads.only.cleanness clean in (
               record {
-                row = meta_of m;
-                is = meta.found before;
-                version = version;
-                book = sym is ∙ sym told;
-                last = last;
+                kept = record {
+                  row = meta_of m;
+                  is = meta.found before;
+                  version = version;
+                  book = sym is ∙ sym told;
+                  last = last;
+                };
+                books = subst (λ t. IsShelfOf t (content_of old.now.trees).books b.own)
+                    (sym told)
+                    (told_first (λ trees. IsShelfOf text (content_of trees).books b.own) before
+                    (subst (λ f. IsShelfOf text f b.own)
+                    (λ i n. reads.found clean n i)
+                    (subst (λ l. IsShelfRead text (map book_at l) b.own) same shelf)));
+                last = at ∙ sym (ap last_in (meta.found before));
               },
-              subst (λ t. IsShelfOf t (content_of old.now.trees).books b.own) (sym told)
-                  (told_first (λ trees. IsShelfOf text (content_of trees).books b.own) before
-                  (subst (λ f. IsShelfOf text f b.own)
-                  (λ i n. reads.found clean n i)
-                  (subst (λ l. IsShelfRead text (map book_at l) b.own) same shelf))),
               reads.stays clean,
             );
         given = given;
@@ -525,7 +459,8 @@ module _ {E : Type 0} (old mid : State) (m : MetaRow)
         ours = tt;
         survives = both.survives;
       }
-  reads_books new rows items same text is version last reads (Err e) shelf given told rules either =
+  reads_books new rows items same text is version last reads (Err e) shelf given told at rules
+      either =
       let read = have_read (λ trees m. (content_of trees).meta ≡ Some (meta_of m)) old mid m meta in
       let both = have_read_then old mid new read
       (have_read {E = OpenFault} _ mid new rows reads) in
@@ -536,16 +471,20 @@ module _ {E : Type 0} (old mid : State) (m : MetaRow)
         only = both.only;
         version = λ clean is. absurd (let no : Version ≡ Memory' =
             sym is ∙ either (λ rule. let no : Version ≡ Rules = sym is ∙ rule in cc) in cc);
-        rules = λ clean rule ruled.
+        rules = λ clean rule row at ruled.
             let before = reads.only.cleanness clean in
-            let row : ruled.row ≡ meta_of m = cc (sym ruled.is ∙ meta.found before) in
-            let has : HasShelf text (content_of old.now.trees).books =
-            subst (λ t. HasShelf t (content_of old.now.trees).books)
-            (ap (λ (x : Meta). x.book) row ∙ sym is)
-            (ruled.shelf (ap (λ (x : Meta). x.version) row ∙ version)) in
-            let at_mid = told_last (λ trees. HasShelf text (content_of trees).books) before has in
-            subst (λ l. IsNoShelf text (map book_at l)) same (rules rule)
-            (subst (λ f. HasShelf text f) (λ i n. sym (reads.found clean n) i) at_mid);
+            let kept : row ≡ meta_of m = cc (sym at ∙ meta.found before) in (
+              ap (λ (x : Meta). x.version) kept ∙ version,
+              refl,
+              λ has.
+                  let of_text : HasShelf text (content_of old.now.trees).books =
+                  subst (λ t. HasShelf t (content_of old.now.trees).books)
+                  (ap (λ (x : Meta). x.book) kept ∙ sym is) has in
+                  let at_mid =
+                  told_last (λ trees. HasShelf text (content_of trees).books) before of_text in
+                  subst (λ l. IsNoShelf text (map book_at l)) same (rules rule)
+                  (subst (λ f. HasShelf text f) (λ i n. sym (reads.found clean n) i) at_mid),
+            );
         ours = (
           (λ is. absurd (let no : Foreign ≡ Memory' =
               sym is ∙ either (λ rule. let no : Foreign ≡ Rules = sym is ∙ rule in cc) in cc)),

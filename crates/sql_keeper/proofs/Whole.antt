@@ -118,6 +118,29 @@ module _ (Become : Trees → Trees → Type 0) (old mid new : State)
     survives = survives_all c.survives;
   }
 
+-- what a stop leaves of what is committed after what was only read
+module _ (Become : Trees → Trees → Type 0) (old mid new : State) (only : OnlyReads old mid)
+    (stops : Survives old mid (λ _. ⊥)) (on : HasCleanDisk mid → IsTrue mid.is_open) where
+  pub leaves_after : {A E : Type 0} (r : Result A E) → CommitsWhole Become mid new r
+      → HasCleanDisk new → (db : Trees) → new.may_leave db
+      → old.may_leave db ⊎ (IsTrue old.is_open × Become old.now.trees db)
+  leaves_after r c clean db may =
+      let mid_clean : HasCleanDisk mid = omega (arith, c.survives.clean, clean) in
+      elim (c.survives.crash clean db may) [
+        | inl before ↦ leaves_read mid_clean db before
+        | inr become ↦
+            let still = only.still mid_clean (on mid_clean) in
+            inr (still.was_open, subst (λ (d : Database). Become d.trees db) still.now_is
+                (become (on mid_clean)))
+      ]
+    where
+      leaves_read : HasCleanDisk mid → (d : Trees) → mid.may_leave d
+          → old.may_leave d ⊎ (IsTrue old.is_open × Become old.now.trees d)
+      leaves_read clean' d may' = elim (stops.crash clean' d may') [
+        | inl before ↦ inl before
+        | inr no ↦ absurd no
+      ]
+
 -- what isn't written
 pub refused : {A E : Type 0} (Become : Trees → Trees → Type 0) (old new : State) (e : E)
     → OnlyReads old new → Survives old new (λ _. old.is_open ≡ false)
@@ -141,17 +164,6 @@ pub settled_now : (s : State) → IsSettled s → HasIdleBook s → HasCleanDisk
     → (db : Trees) → s.may_leave db → db ≡ s.now.trees
 settled_now s law idle clean on db may = law db on may
     ∙ ap (λ (d : Database). d.trees) (sym (idle clean on).settled)
-
-pub stopped : {A E : Type 0} (Become : Trees → Trees → Type 0) (old new : State) (r : Result A E)
-    → IsSettled old → HasIdleBook old → CommitsWhole Become old new r → HasCleanDisk new
-    → IsTrue old.is_open → (db : Trees)
-    → new.may_leave db → (db ≡ old.now.trees) ⊎ Become old.now.trees db
-stopped Become old new r law idle commits clean on db may =
-    elim (commits.survives.crash clean db may) [
-      | inl before ↦
-          inl (settled_now old law idle (omega (arith, commits.survives.clean, clean)) on db before)
-      | inr after ↦ inr (after on)
-    ]
 
 -- ---- what is handed on
 

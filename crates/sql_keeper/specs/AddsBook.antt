@@ -1,7 +1,7 @@
 -- A book that is added behind those of a shelf, committed whole or not at all.
 -- Source: profile.
 use Rattle.std.specs.Prelude.{◌≡◌, ◌≤◌, ℕ, suc, ◌++◌, List, [], ◌∷◌, Some, None, length, Result}
-use Rattle.std.specs.Prelude.{Ok, Err, IfErr, OnErr, OnOk}
+use Rattle.std.specs.Prelude.{◌⊎◌, Ok, Err, IfErr, IsTrue, OnErr, OnOk}
 use Rattle.sqlite_trees.specs.declared.store.Store.{Ghosts}
 use Rattle.sqlite_trees.specs.Tree.{Trees}
 use Rattle.sqlite_trees.specs.Objects.{catalog_tree}
@@ -86,12 +86,14 @@ pub record IsAdded (text : List ℕ) (from last : ℕ) (old new : Shelf) : Type 
 pub record IsBehind (from : ℕ) (b : Book) (last : ℕ) (old new : Shelf) : Type 0 where
   pub free : shelf_fault old from b last ≡ None
   pub shelf : new ≡ with_book old from b
+  pub is : IsShelf new
 
 -- the book stands behind those of two shelves, which had as many; the first had no fault of it
 pub record IsOnBoth (from : ℕ) (b : Book) (last : ℕ) (before after own new : Shelf) : Type 0 where
   pub free : shelf_fault before from b last ≡ None
   pub shelf : after ≡ with_book before from b
   pub own_is : new ≡ with_book own from b
+  pub is : IsShelf new
   pub counts : count own ≡ count before
 
 -- both shelves are as they were before their last book was added
@@ -123,12 +125,28 @@ add_told (Err fault) = Err (OfStore fault)
 abbrev pub last_at : State → ℕ
 last_at s = last_in (content_of s.now.trees).meta
 
+-- the tables with the book, which may follow the keeper's; it has as many as the shelf before
+pub record IsLeftDated (from : ℕ) (text : List ℕ) (b : Book) (before own : Shelf) (old : State)
+    (db : Trees) : Type 0 where
+  pub was_open : IsTrue old.is_open
+  pub becomes : BecomesDated (suc (count before)) from text old.now.trees db
+  pub behind : IsShelf (with_book own from b)
+  pub counts : count own ≡ count before
+
+-- a stop leaves what it left before, or the tables with the book
+abbrev pub LeavesDated : ℕ → List ℕ → Book → Shelf → Shelf → State → State → Type 0
+LeavesDated from text b before own old new =
+    HasCleanDisk new → (db : Trees) → new.may_leave db
+    → old.may_leave db ⊎ IsLeftDated from text b before own old db
+
 -- a book is added to two shelves and to the tables, or to none of them
 pub record AddsToAll {A E : Type 0} (from : ℕ) (text : List ℕ) (b : Book) (old new : State)
     (before after own own' : Shelf) (result : Result (Result A ShelfFault) E) : Type 0
   where
     pub commits : CommitsWhole (BecomesDated (suc (count before)) from text) old new
         (was_added result)
+    pub leaves : LeavesDated from text b before own old new
+    pub own_shelf : OnOk (was_added result) (IsShelf own')
     pub free : HasCleanDisk new →
         OnOk (was_added result) (shelf_fault before from b (last_at old) ≡ None)
     pub shelf : OnOk (was_added result) (after ≡ with_book before from b)
@@ -145,14 +163,14 @@ pub record AddsBook {S A : Type 0} (g : Ghosts S) (text : List ℕ) (from : ℕ)
   where
     pub added : clean_in g new →
         OnOk result (IsAdded text from (tables_in g old).last before after)
-    pub named : OnOk result ((b : Book) × IsBookOf text b
-        × (new.names ≡ old.names ++ b.periods ∷ []))
+    pub own : OnOk result ((b : Book) × IsBookOf text b
+        × (new.shelf ≡ with_book old.shelf from b))
     -- the keeper had as many books
-    pub numbered : OnOk result (length old.names ≡ count before)
+    pub numbered : OnOk result (count old.shelf ≡ count before)
     pub done : clean_in g new → OnOk result
         (BecomesDated (suc (count before)) from text (trees_in g old) (trees_in g new))
     pub shelf : OnErr result (after ≡ before)
-    pub names : OnErr result (new.names ≡ old.names)
+    pub kept : OnErr result (new.shelf ≡ old.shelf)
     pub tables : clean_in g new → OnErr result (tables_in g new ≡ tables_in g old)
     pub told : clean_in g new →
         IfErr result (IsAddFault text from before (tables_in g old).last)

@@ -1,25 +1,31 @@
 -- A database that is opened again.
 -- Source: profile.
-use Rattle.std.specs.Prelude.{◌≡◌, ℕ, List}
+use Rattle.std.specs.Prelude.{◌≡◌, ◌⊎◌, ℕ, List, Option, Some, None, OnOk, Result}
 use Rattle.std.specs.Str.{IsUtf8}
 use Rattle.shelves.specs.Shelves.{Shelf}
 use Rattle.sqlite_trees.specs.declared.store.Store.{Ghosts}
 use Rattle.sqlite_trees.specs.Tree.{Trees}
+use Rattle.sqlite_trees.specs.View.{IsClean as IsHonest}
 use Rattle.sqlite.specs.Effect.{IsDatabase}
 use Rattle.sqlite.specs.Held.{Held, state}
 use Rattle.sqlite.specs.State.{HasCleanDisk}
+use Rattle.sqlite.specs.Steps.{IsFresh}
 use Rattle.sql_rows.specs.Content.{content_of}
 use Rattle.sql_opening.specs.declared.fault.OpenFault.{OpenFault}
-use Rattle.sql_opening.specs.declared.fault.OpenFault.TheVariants.{Foreign, Version, Rules, Older}
+use Rattle.keepers.specs.Change.{IsMadeFrom, changed}
+use Rattle.keepers.specs.declared.fault.StoreFault.{StoreFault}
 use Rattle.keepers.specs.declared.loaded.Change.{Change}
 use Rattle.redemptions.specs.declared.terms.VoucherTerms.{VoucherTerms}
 use Rattle.sql_keeper.specs.Content.{Names}
 use Rattle.sql_keeper.specs.AddsBook.{BecomesDated, MayFollow}
 use Rattle.sql_keeper.specs.Additions.{BecomesAdded}
+use Rattle.sql_keeper.specs.Causes.{IsStores}
 use Rattle.sql_keeper.specs.Commits.{Becomes}
 use Rattle.sql_keeper.specs.Creates.{IsNewBook}
-use Rattle.sql_keeper.specs.Opened.{IsKept, IsLeft, IsNotOpened}
+use Rattle.sql_keeper.specs.Inside.{KeeperState, IsClean, IsKeeper, names_in, tables_in}
+use Rattle.sql_keeper.specs.Opened.{IsKept, IsLeft, IsNotOpened, IsOpened}
 use Rattle.sql_keeper.specs.Shelves.{HasOneBook, IsShelfOf}
+use Rattle.sql_keeper.specs.Stops.{IsWhole, MayLeave, trees_in}
 use Rattle.sql_keeper.specs.Sweeps.{BecomesSwept}
 
 -- a new book is left, and what a commit, an addition or a sweep makes of tables that are left is
@@ -43,8 +49,96 @@ AreShelvesOne = (trees : Trees) (text more : List ℕ) (s t : Shelf) → IsKept 
     → IsKept trees more → IsShelfOf text (content_of trees).books s
     → IsShelfOf more (content_of trees).books t → s ≡ t
 
--- the connection that was opened shows what was left, so none of these faults is told of it
+-- the connection that was opened shows what was left, so no fault is told of it but the store's or
+-- memory's
 abbrev pub IsFoundAgain : {S : Type 0} → Ghosts S → Held S → Held S → List ℕ → OpenFault → Type 0
 IsFoundAgain g old new text fault = IsLeft text (state g old).now.trees
     → IsDatabase (state g old).now → HasCleanDisk (state g new) → IsNotOpened g old new fault
-    → (¬ (fault ≡ Foreign)) × (¬ (fault ≡ Version)) × (¬ (fault ≡ Rules)) × (¬ (fault ≡ Older))
+    → IsStores fault
+
+-- ---- after a stop
+
+-- a keeper that was made after a stop of an older one shows what that stop left, with the text of
+-- the older one and the shelf of both; where the older one was clean, with all that it knew
+pub record IsFoundAfter {S T : Type 0} (g : Ghosts S) (e : Ghosts T) (old : KeeperState S)
+    (new : KeeperState T) (shelf : Shelf) : Type 0 where
+  pub may : MayLeave g old (trees_in e new)
+  pub left : IsLeft new.text (trees_in e new)
+  pub text : new.text ≡ old.text
+  pub own : new.shelf ≡ shelf
+  pub books : IsShelfOf old.text (content_of (trees_in e new)).books shelf
+  pub rests : IsClean (state g old.connection) → (trees_in e new ≡ trees_in g old)
+      × (shelf ≡ old.shelf) × (new.last ≡ old.last)
+
+-- what a stop of a keeper leaves is opened again: whoever opens a connection that shows it finds it,
+-- and refuses it for no row
+abbrev pub AreOpenedAgain : {S T : Type 0} → Ghosts S → Ghosts T → Type 0
+AreOpenedAgain {S} {T} g e =
+    (old : KeeperState S) (shown : Held T) → IsKeeper g old → HasCleanDisk (state g old.connection)
+    → MayLeave g old (state e shown).now.trees → IsDatabase (state e shown).now
+    → ((new : KeeperState T) (shelf : Shelf) → IsOpened e shown new shelf
+    → HasCleanDisk (state e new.connection) → IsFoundAfter g e old new shelf)
+    × ((left : Held T) (fault : OpenFault) → IsNotOpened e shown left fault
+    → HasCleanDisk (state e left) → IsStores fault)
+
+-- what a call writes is whole when the database is opened again after a stop at its exit: the rows
+-- are those before it or with it
+abbrev pub IsStoppedWhole : {S T : Type 0} → Ghosts S → Ghosts T → KeeperState S → KeeperState S →
+    KeeperState T → Shelf → (Trees → Type 0) → Type 0
+IsStoppedWhole g e old mid new shelf Written =
+    IsKeeper g old → IsClean (state g old.connection) → HasCleanDisk (state g mid.connection)
+    → IsWhole g old mid Written → IsFoundAfter g e mid new shelf
+    → (trees_in e new ≡ trees_in g old) ⊎ Written (trees_in e new)
+
+-- so is a change, a voucher, a sweep and a book
+pub record AreStoppedWhole {S T : Type 0} (g : Ghosts S) (e : Ghosts T) : Type 0 where
+  pub changed : (old mid : KeeperState S) (new : KeeperState T) (shelf : Shelf) (change : Change)
+      → IsStoppedWhole g e old mid new shelf
+      (Becomes (names_in old) old.text change (trees_in g old))
+  pub added : (old mid : KeeperState S) (new : KeeperState T) (shelf : Shelf) (code : List ℕ)
+      (terms : VoucherTerms) (t : ℕ)
+      → IsStoppedWhole g e old mid new shelf (BecomesAdded old.text code terms t (trees_in g old))
+  pub swept : (old mid : KeeperState S) (new : KeeperState T) (shelf prices : Shelf) (t : ℕ)
+      → IsStoppedWhole g e old mid new shelf
+      (BecomesSwept (names_in old) old.text prices t (trees_in g old))
+  pub dated : (old mid : KeeperState S) (new : KeeperState T) (shelf : Shelf) (n from : ℕ)
+      (text : List ℕ)
+      → IsStoppedWhole g e old mid new shelf (BecomesDated n from text (trees_in g old))
+
+-- ---- of one store
+
+-- the store was just opened, and has what a stop of the connection left
+pub record IsLeftFresh {S : Type 0} (g : Ghosts S) (old : Held S) (store : S) : Type 0 where
+  pub honest : HasCleanDisk (state g old)
+  pub may : (state g old).may_leave (g.view store).trees
+  pub fresh : IsFresh (g.view store)
+
+-- the connection shows what the store has
+pub record IsShownBy {S : Type 0} (g : Ghosts S) (store : S) (new : Held S) : Type 0 where
+  pub honest : IsHonest (g.view store)
+  pub trees : (state g new).now.trees ≡ (g.view store).trees
+  pub sound : IsDatabase (state g new).now
+
+-- the connection shows what a stop of another one left
+pub record ShowsStopped {S : Type 0} (g : Ghosts S) (old new : Held S) : Type 0 where
+  pub honest : HasCleanDisk (state g old)
+  pub may : (state g old).may_leave (state g new).now.trees
+  pub sound : IsDatabase (state g new).now
+
+-- no row is why it wasn't opened, if the disk of the connection that is left returned what was
+-- written
+abbrev pub IsRefusedAfter : {S : Type 0} → Ghosts S → OpenFault → Option (Held S) → Type 0
+IsRefusedAfter g fault None = IsStores fault
+IsRefusedAfter g fault (Some left) = HasCleanDisk (state g left) → IsStores fault
+
+-- after a change that was stopped at its exit the rows are those before it or with it, whole, under
+-- the same text and shelf; with it, if it was acknowledged
+pub record IsChangedWhole {S A : Type 0} (g : Ghosts S) (change : Change) (old new : KeeperState S)
+    (answered : Result A StoreFault) : Type 0 where
+  pub either : (trees_in g new ≡ trees_in g old)
+      ⊎ Becomes (names_in old) old.text change (trees_in g old) (trees_in g new)
+  pub text : new.text ≡ old.text
+  pub shelf : new.shelf ≡ old.shelf
+  pub acknowledged : OnOk answered (IsMadeFrom change.before change.after
+      ((tables_in g old).rows change.number) →
+      tables_in g new ≡ changed change (tables_in g old))

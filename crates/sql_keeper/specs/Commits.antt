@@ -55,6 +55,12 @@ pub record CommitsWhole {A E : Type 0} (Become : Trees → Trees → Type 0) (ol
   -- only a fault of the disk shuts the connection
   pub survives : Survives old new (λ db. IsTrue old.is_open → Become old.now.trees db)
 
+-- the same over a connection that may be shut: where it is, a stop leaves what it left before
+pub record CommitsStanding {A E : Type 0} (Become : Trees → Trees → Type 0) (old new : State)
+    (result : Result A E) : Type 0 where
+  pub commits : CommitsWhole Become old new result
+  pub survives : Survives old new (λ db. IsTrue old.is_open × Become old.now.trees db)
+
 -- so a change is
 abbrev pub CommitsChange : {A E : Type 0} → Names → List ℕ → Change → State → State →
     Result A E → Type 0

@@ -1,59 +1,49 @@
 -- What is read of a database before a keeper is made over it.
 -- Source: profile.
-use Rattle.std.specs.Prelude.{◌≡◌, Some, IfErr, IfOk, OnOk, IsTrue, Result, false}
+use Rattle.std.specs.Prelude.{◌≡◌, ◌⊎◌, IfErr, IfOk, OnOk, IsTrue, Result, false}
 use Rattle.std.specs.String.{string_bytes}
+use Rattle.sqlite_trees.specs.Tree.{Trees}
 use Rattle.sqlite.specs.State.{State, HasCleanDisk, Survives}
-use Rattle.sql_tables.specs.Schema.{book_schema, latest}
+use Rattle.sql_tables.specs.Schema.{latest}
 use Rattle.sql_tables.specs.Statements.{HasIdleBook, IsStill, OnlyReads}
 use Rattle.sql_rows.specs.Content.{content_of}
 use Rattle.sql_opening.specs.declared.fault.OpenFault.{OpenFault}
 use Rattle.sql_opening.specs.declared.fault.OpenFault.TheVariants.{Foreign, Version, Rules, Older}
 use Rattle.sql_keeper.specs.Books.{IsBookOf}
-use Rattle.sql_keeper.specs.Opened.{IsKept, IsOlder, IsOtherThan, IsOtherVersion, IsRuled}
+use Rattle.sql_keeper.specs.Causes.{AreUnruled, HasFault, IsOtherThan, IsStores}
+use Rattle.sql_keeper.specs.Content.{last_in}
+use Rattle.sql_keeper.specs.Opened.{IsKept}
 use Rattle.sql_keeper.specs.Shelves.{IsShelfOf}
 use Rattle.sql_keeper.specs.declared.books.ReadBooks.{ReadBooks}
 
--- the fault is told of tables that aren't ours alone
-abbrev pub IsForeignAt : State → OpenFault → Type 0
-IsForeignAt s fault = fault ≡ Foreign → ¬ (s.now.schema ≡ book_schema)
-
--- the fault is told of rows out of their rules alone
-abbrev pub IsUnruledAt : State → OpenFault → Type 0
-IsUnruledAt s fault = fault ≡ Rules → ¬ IsRuled s.now.trees
-
--- the fault is told of a version alone that isn't that of the tables
-abbrev pub IsOtherAt : State → OpenFault → Type 0
-IsOtherAt s fault = fault ≡ Version → IsOtherVersion s.now
-
--- the fault is told of tables of an older version alone
-abbrev pub IsOlderAt : State → OpenFault → Type 0
-IsOlderAt s fault = fault ≡ Older → IsOlder s.now
+-- what was read is what the tables keep
+pub record IsReadOf (r : ReadBooks) (trees : Trees) : Type 0 where
+  pub kept : IsKept trees (string_bytes r.text)
+  pub books : IsShelfOf (string_bytes r.text) (content_of trees).books r.own
+  pub last : r.last ≡ last_in (content_of trees).meta
 
 -- several reads of tables of the latest version: what is kept once there, and the shelf of the
 -- texts that are kept; nothing was written
 pub record ReadsBooks (old new : State) (result : Result ReadBooks OpenFault) : Type 0 where
-  pub found : HasCleanDisk new → IfOk result (λ r. IsKept old.now.trees (string_bytes r.text)
-      × IsShelfOf (string_bytes r.text) (content_of old.now.trees).books r.own
-      × IsTrue new.is_open)
+  pub found : HasCleanDisk new →
+      IfOk result (λ r. IsReadOf r old.now.trees × IsTrue new.is_open)
   pub given : IfOk result (λ r. r.given ≡ r.own)
   pub read : IfOk result (λ r. IsBookOf (string_bytes r.text) r.own.first)
   pub only : OnlyReads old new
   pub version : HasCleanDisk new →
       IfErr result (λ fault. fault ≡ Version → IsOtherThan latest old.now.trees)
-  pub rules : HasCleanDisk new → IfErr result (IsUnruledAt old)
+  pub rules : HasCleanDisk new →
+      IfErr result (λ fault. fault ≡ Rules → AreUnruled latest old.now.trees)
   pub ours : IfErr result (λ fault. (¬ (fault ≡ Foreign)) × (¬ (fault ≡ Older)))
   pub survives : Survives old new (λ _. old.is_open ≡ false)
 
 -- the tables are ours, of the latest version, and this is their shelf; nothing was written
 pub record FindsBooks (old new : State) (result : Result ReadBooks OpenFault) : Type 0 where
-  pub found : HasCleanDisk new → IfOk result (λ r. IsKept new.now.trees (string_bytes r.text)
-      × IsShelfOf (string_bytes r.text) (content_of new.now.trees).books r.own
-      × IsStill old new × IsTrue new.is_open)
+  pub found : HasCleanDisk new →
+      IfOk result (λ r. IsReadOf r new.now.trees × IsStill old new × IsTrue new.is_open)
   pub given : IfOk result (λ r. r.given ≡ r.own)
   pub read : IfOk result (λ r. IsBookOf (string_bytes r.text) r.own.first)
   pub idle : OnOk result (HasIdleBook new)
-  pub foreign : HasCleanDisk new → IfErr result (IsForeignAt old)
-  pub version : HasCleanDisk new → IfErr result (IsOtherAt old)
-  pub rules : HasCleanDisk new → IfErr result (IsUnruledAt old)
-  pub older : HasCleanDisk new → IfErr result (IsOlderAt old)
+  pub cause : HasCleanDisk new →
+      IfErr result (λ fault. IsStores fault ⊎ HasFault fault old.now)
   pub survives : Survives old new (λ _. ⊥)

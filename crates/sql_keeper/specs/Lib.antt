@@ -3,6 +3,7 @@ pub mod AddsBook
 pub mod Again
 pub mod Asks
 pub mod Books
+pub mod Causes
 pub mod Commits
 pub mod Content
 pub mod Covered
@@ -14,12 +15,14 @@ pub mod GroupRows
 pub mod Inside
 pub mod Kinds
 pub mod Laws
+pub mod Left
 pub mod LiveGroups
 pub mod LiveRows
 pub mod Migrates
 pub mod OlderVersions
 pub mod Opened
 pub mod Repeating
+pub mod Settled
 pub mod Shelves
 pub mod Stops
 pub mod Sweeps

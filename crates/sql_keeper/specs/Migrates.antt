@@ -25,10 +25,12 @@ use Rattle.sql_opening.specs.declared.fault.OpenFault.{OpenFault}
 use Rattle.sql_opening.specs.declared.fault.OpenFault.TheVariants.{Foreign, Version, Rules, Older}
 use Rattle.sql_opening.specs.declared.fault.OpenFault.TheVariants.{Store, Memory}
 use Rattle.sql_keeper.specs.Books.{IsBookOf}
+use Rattle.sql_keeper.specs.Causes.{IsOtherThan}
 use Rattle.sql_keeper.specs.Content.{Names, is_reserved, tables_of}
 use Rattle.sql_keeper.specs.Finds.{FindsBooks}
 use Rattle.sql_keeper.specs.Inside.{KeeperState, IsClean}
-use Rattle.sql_keeper.specs.Opened.{IsFresh, IsLeft, IsOtherThan}
+use Rattle.sql_keeper.specs.Left.{IsHeld}
+use Rattle.sql_keeper.specs.Opened.{IsFresh, IsLeft}
 use Rattle.sql_keeper.specs.Shelves.{HasShelf, IsShelfOf}
 use Rattle.sql_keeper.specs.Stops.{trees_in}
 use Rattle.sql_keeper.specs.declared.books.ReadBooks.{ReadBooks}
@@ -106,10 +108,6 @@ abbrev pub with_granted : ℕ → Content → Content
 with_granted v c =
     if nat_le 2 v then c else record c { rows = λ a. granted_in (c.rows a) }
 
--- a row of what is kept once, if there is one, is out of its rules
-abbrev pub IsUnruledMeta : Trees → Type 0
-IsUnruledMeta trees = (row : Meta) → (content_of trees).meta ≡ Some row → ¬ IsRuledMeta row
-
 -- the rules are told only of a reservation that is out of them, before version 2
 abbrev pub AreUnruledReserved : ℕ → Trees → ReadFault → Type 0
 AreUnruledReserved v trees e =
@@ -132,14 +130,17 @@ HasIdleAt v s = HasCleanDisk s → IsTrue s.is_open → IsAt v s × (s.now ≡ s
 
 -- ---- within the transaction, and over it
 
+-- the tables would be found again with what was read
+abbrev pub IsHeldBy : ReadBooks → Trees → Type 0
+IsHeldBy r trees = IsHeld (string_bytes r.text) r.own r.last trees
+
 -- inside a transaction: the tables of a version become those of the latest, and the shelf of what
 -- is kept is read; or a fault says why not
 pub record BringsToLatest (v : ℕ) (old new : State) (result : Result ReadBooks OpenFault) : Type 0
   where
     pub brings : Attempts (λ a b. BecomesLatest v a.now.trees b.now.trees × IsBook b
         × Shows a b b.now a.committed true) old new result
-    pub read : HasCleanDisk new → IfOk result (λ r. IsLeft (string_bytes r.text) new.now.trees
-        × IsShelfOf (string_bytes r.text) (content_of new.now.trees).books r.own)
+    pub read : HasCleanDisk new → IfOk result (λ r. IsHeldBy r new.now.trees)
     pub given : IfOk result (λ r. r.given ≡ r.own)
     pub first : IfOk result (λ r. IsBookOf (string_bytes r.text) r.own.first)
     pub version : HasCleanDisk new → IfErr result (λ e. e ≡ Version → IsOtherThan v old.now.trees)
@@ -151,8 +152,7 @@ pub record BringsToLatest (v : ℕ) (old new : State) (result : Result ReadBooks
 pub record MigratesTables (v : ℕ) (old new : State) (result : Result ReadBooks OpenFault) : Type 0
   where
     pub done : HasCleanDisk new → IfOk result (λ r. IsTrue new.is_open
-        × BecomesLatest v old.now.trees new.now.trees × IsLeft (string_bytes r.text) new.now.trees
-        × IsShelfOf (string_bytes r.text) (content_of new.now.trees).books r.own)
+        × BecomesLatest v old.now.trees new.now.trees × IsHeldBy r new.now.trees)
     pub given : IfOk result (λ r. r.given ≡ r.own)
     pub first : IfOk result (λ r. IsBookOf (string_bytes r.text) r.own.first)
     pub kept : HasCleanDisk new → IsTrue new.is_open → OnErr result (IsStill old new)

@@ -1,20 +1,10 @@
 -- Whether a database of an older version tells that version, as an opening asks it.
 -- Source: profile.
-use Rattle.std.specs.Prelude.{◌≡◌, ℕ, Some, Result, IfErr, OnOk}
-use Rattle.sqlite_trees.specs.Tree.{Trees}
+use Rattle.std.specs.Prelude.{◌≡◌, ℕ, Result, IfErr, OnOk}
 use Rattle.sqlite.specs.State.{State, HasCleanDisk, Survives}
-use Rattle.sql_rows.specs.Content.{content_of}
-use Rattle.sql_rows.specs.Values.{Meta}
 use Rattle.sql_opening.specs.declared.fault.OpenFault.{OpenFault}
 use Rattle.sql_opening.specs.declared.fault.OpenFault.TheVariants.{Foreign, Version, Rules, Older}
-use Rattle.sql_keeper.specs.Migrates.{IsUnruledMeta}
-use Rattle.sql_keeper.specs.Opened.{IsOtherThan}
-
--- this version is kept
-pub record KeepsVersion (v : ℕ) (trees : Trees) : Type 0 where
-  pub row : Meta
-  pub is : (content_of trees).meta ≡ Some row
-  pub version : row.version ≡ v
+use Rattle.sql_keeper.specs.Causes.{IsOtherThan, IsUnruledMeta, KeepsVersion}
 
 -- inside a transaction that isn't committed: the version of the tables is kept, or a fault says why
 -- not

@@ -1,59 +1,37 @@
 -- A keeper that was just made over a database, and what is left where none was made.
 -- Source: profile.
-use Rattle.std.specs.Prelude.{◌≡◌, ◌≤◌, ◌<◌, ℕ, false, List, [], Some, IsTrue}
+use Rattle.std.specs.Prelude.{◌≡◌, ◌≤◌, ◌⊎◌, ℕ, false, List, [], Some, IsTrue}
 use Rattle.std.specs.Str.{IsUtf8}
 use Rattle.shelves.specs.Shelves.{Shelf}
 use Rattle.sqlite_trees.specs.declared.store.Store.{Ghosts}
 use Rattle.sqlite_trees.specs.Tree.{Trees}
 use Rattle.sqlite_trees.specs.Objects.{catalog_tree}
 use Rattle.sqlite_catalog.specs.Listing.{Lists}
-use Rattle.sqlite.specs.Effect.{Database}
 use Rattle.sqlite.specs.Held.{Held, state}
 use Rattle.sqlite.specs.State.{HasCleanDisk, Survives}
-use Rattle.sql_tables.specs.Schema.{book_schema, latest, schema_at}
+use Rattle.sql_tables.specs.Schema.{book_schema, latest}
 use Rattle.sql_tables.specs.Statements.{AreStored, IsStill}
 use Rattle.sql_tables.specs.Texts.{stage}
-use Rattle.sql_rows.specs.Ruled.{IsRuledMeta}
 use Rattle.sql_rows.specs.Values.{Meta}
 use Rattle.sql_rows.specs.Content.{content_of}
 use Rattle.sql_opening.specs.declared.fault.OpenFault.{OpenFault}
-use Rattle.sql_opening.specs.declared.fault.OpenFault.TheVariants.{Foreign, Version, Rules, Older}
-use Rattle.sql_opening.specs.Opens.{IsVersion}
 use Rattle.keepers.specs.Tables.{no_tables}
 use Rattle.sql_keeper.specs.Books.{IsBookOf}
+use Rattle.sql_keeper.specs.Causes.{HasFault, IsStores}
 use Rattle.sql_keeper.specs.Content.{shelf_names}
 use Rattle.sql_keeper.specs.Creates.{IsNewBook}
 use Rattle.sql_keeper.specs.Faults.{IsCreateFault}
 use Rattle.sql_keeper.specs.declared.create_fault.CreateFault.{CreateFault}
-use Rattle.sql_keeper.specs.Inside.{KeeperState, IsClean, tables_in}
+use Rattle.sql_keeper.specs.Inside.{KeeperState, IsClean, IsKeeper, tables_in}
+pub use Rattle.sql_keeper.specs.Left.{IsKept, IsLeft}
 use Rattle.sql_keeper.specs.Shelves.{HasShelf, IsShelfOf}
 use Rattle.sql_keeper.specs.Stops.{trees_in}
 
 -- a keeper before its first call, and the shelf on which the book of its text stands first
 pub record IsFresh {S : Type 0} (k : KeeperState S) (shelf : Shelf) : Type 0 where
   pub read : IsBookOf k.text shelf.first
-  pub names : k.names ≡ shelf_names shelf
+  pub shelf : k.shelf ≡ shelf
   pub uncounted : k.failures ≡ 0
-
--- ---- left
-
--- what is kept once: the version of the tables, the text of the book, and a moment
-pub record IsKept (trees : Trees) (text : List ℕ) : Type 0 where
-  pub row : Meta
-  pub is : (content_of trees).meta ≡ Some row
-  pub version : row.version ≡ latest
-  pub book : row.book ≡ text
-  pub last : row.last ≤ 4_102_488_000
-
--- the tables of a book as they are found again: the database lists ours, no rowid stands twice
--- there, and it keeps their version with the text, which is one of characters and a book's; the
--- other books that it keeps may follow it
-pub record IsLeft (text : List ℕ) (trees : Trees) : Type 0 where
-  pub lists : Lists (trees catalog_tree) book_schema
-  pub stored : AreStored trees
-  pub kept : IsKept trees text
-  pub utf8 : IsUtf8 text
-  pub shelf : HasShelf text (content_of trees).books
 
 -- ---- made
 
@@ -83,44 +61,12 @@ pub record IsNotCreated {S : Type 0} (g : Ghosts S) (text : List ℕ) (old new :
 
 -- ---- opened
 
--- what is kept once is of another version than the tables are
-pub record IsOtherThan (v : ℕ) (trees : Trees) : Type 0 where
-  pub row : Meta
-  pub is : (content_of trees).meta ≡ Some row
-  pub other : ¬ (row.version ≡ v)
-
--- the tables are those of a version before the latest, and that version is kept
-pub record IsOlder (db : Database) : Type 0 where
-  pub version : ℕ
-  pub known : IsVersion version
-  pub older : version < latest
-  pub schema : db.schema ≡ schema_at version
-  pub row : Meta
-  pub is : (content_of db.trees).meta ≡ Some row
-  pub kept : row.version ≡ version
-
--- the tables are those of a version, and another one is kept
-pub record IsOtherVersion (db : Database) : Type 0 where
-  pub version : ℕ
-  pub known : IsVersion version
-  pub schema : db.schema ≡ schema_at version
-  pub other : IsOtherThan version db.trees
-
--- in the rules of who opens it: no rowid stands twice, and what is kept once is there and in its
--- rules, with the text of a book, and with other books that may follow it, where it is of the
--- latest version
-pub record IsRuled (trees : Trees) : Type 0 where
-  pub stored : AreStored trees
-  pub row : Meta
-  pub is : (content_of trees).meta ≡ Some row
-  pub ruled : IsRuledMeta row
-  pub shelf : row.version ≡ latest → HasShelf row.book (content_of trees).books
-
 -- the keeper holds what was there, and nothing was written
 pub record IsOpened {S : Type 0} (g : Ghosts S) (old : Held S) (k : KeeperState S)
     (shelf : Shelf) : Type 0
   where
     pub fresh : IsFresh k shelf
+    pub keeper : IsKeeper g k
     pub books : HasCleanDisk (state g k.connection) →
         IsShelfOf k.text (content_of (trees_in g k)).books shelf
     pub left : HasCleanDisk (state g k.connection) → IsLeft k.text (trees_in g k)
@@ -128,12 +74,8 @@ pub record IsOpened {S : Type 0} (g : Ghosts S) (old : Held S) (k : KeeperState 
     pub still : HasCleanDisk (state g k.connection) → IsStill (state g old) (state g k.connection)
     pub survives : Survives (state g old) (state g k.connection) (λ _. ⊥)
 
--- nothing was written
+-- nothing was written; the fault is the store's or memory's, or the database has it
 pub record IsNotOpened {S : Type 0} (g : Ghosts S) (old new : Held S)
     (fault : OpenFault) : Type 0 where
   pub survives : Survives (state g old) (state g new) (λ _. ⊥)
-  pub foreign : HasCleanDisk (state g new) → fault ≡ Foreign →
-      ¬ ((state g old).now.schema ≡ book_schema)
-  pub version : HasCleanDisk (state g new) → fault ≡ Version → IsOtherVersion (state g old).now
-  pub rules : HasCleanDisk (state g new) → fault ≡ Rules → ¬ IsRuled (state g old).now.trees
-  pub older : HasCleanDisk (state g new) → fault ≡ Older → IsOlder (state g old).now
+  pub cause : HasCleanDisk (state g new) → IsStores fault ⊎ HasFault fault (state g old).now

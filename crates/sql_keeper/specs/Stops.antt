@@ -5,7 +5,10 @@ use Rattle.sqlite_trees.specs.declared.store.Store.{Ghosts}
 use Rattle.sqlite_trees.specs.Tree.{Trees}
 use Rattle.sqlite.specs.Held.{state}
 use Rattle.sqlite.specs.State.{HasCleanDisk}
-use Rattle.sql_keeper.specs.Inside.{KeeperState, IsClean}
+use Rattle.keepers.specs.Tables.{Tables}
+use Rattle.sql_rows.specs.Content.{content_of}
+use Rattle.sql_keeper.specs.Content.{tables_of}
+use Rattle.sql_keeper.specs.Inside.{KeeperState, IsClean, IsKeeper, names_in}
 
 -- the rows of the database as they stand
 abbrev pub trees_in : {S : Type 0} → Ghosts S → KeeperState S → Trees
@@ -15,12 +18,27 @@ trees_in g k = (state g k.connection).now.trees
 abbrev pub MayLeave : {S : Type 0} → Ghosts S → KeeperState S → Trees → Type 0
 MayLeave g k = (state g k.connection).may_leave
 
--- a stop at the exit of a call that writes leaves the rows before it, or with all that it writes;
--- where the store is clean, the rows as they stand
+-- the disk has returned what was written
+abbrev pub honest_in : {S : Type 0} → Ghosts S → KeeperState S → Type 0
+honest_in g k = HasCleanDisk (state g k.connection)
+
+-- a stop of the keeper may leave a database whose rows are these, by the names of its periods
+pub record LeavesIn {S : Type 0} (g : Ghosts S) (k : KeeperState S) (t : Tables) : Type 0 where
+  pub keeper : IsKeeper g k
+  pub db : Trees
+  pub may : MayLeave g k db
+  pub is : t ≡ tables_of (names_in k) (content_of db)
+
+-- a stop at the exit of a call leaves what it left before the call, or all that the call writes,
+-- also where the connection is shut
 pub record IsWhole {S : Type 0} (g : Ghosts S) (old new : KeeperState S)
     (Written : Trees → Type 0) : Type 0
   where
-    pub stop : HasCleanDisk (state g new.connection) → IsClean (state g old.connection)
-        → (db : Trees) → MayLeave g new db → (db ≡ trees_in g old) ⊎ Written db
-    pub settled : IsClean (state g new.connection) → (db : Trees) → MayLeave g new db →
-        db ≡ trees_in g new
+    pub left : HasCleanDisk (state g new.connection) → (db : Trees) → MayLeave g new db
+        → MayLeave g old db ⊎ Written db
+
+-- between two calls a stop leaves the rows as they stand
+abbrev pub IsAtRest : {S : Type 0} → Ghosts S → KeeperState S → Type 0
+IsAtRest g k =
+    IsKeeper g k → IsClean (state g k.connection) → (db : Trees) → MayLeave g k db
+    → db ≡ trees_in g k

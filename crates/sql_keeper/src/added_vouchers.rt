@@ -6,13 +6,15 @@ ghost use Rattle.keepers.specs.Keeping.{Keeps};
 ghost use Rattle.sql_rows.specs.Makes.{Makes};
 ghost use Rattle.sql_tables.specs.Statements.{Attempts, HasBook, HasIdleBook};
 ghost use Rattle.sql_keeper.specs.Additions.{BecomesAdded, with_addition};
-ghost use Rattle.sql_keeper.specs.Commits.{CommitsWhole, Transacts};
+ghost use Rattle.sql_keeper.specs.Commits.{CommitsStanding, CommitsWhole, Transacts};
 ghost use Rattle.sql_keeper.specs.Inside.{clean_in, failed_in, tables_in};
-ghost use Rattle.sql_keeper.specs.Stops.{IsWhole, trees_in};
+ghost use Rattle.sql_keeper.specs.Stops.{IsWhole, LeavesIn, honest_in, trees_in};
 ghost use Rattle.sqlite.specs.Held.{state};
 
 use crate::faults::counted;
 use crate::keeper::SqlKeeper;
+use crate::last_moment::last_after;
+use crate::still_open::still_open;
 use identifiers::VoucherCode;
 use keepers::StoreFault;
 use redemptions::VoucherTerms;
@@ -79,6 +81,24 @@ fn make_addition<S: Alter>(
     Ok(())
 }
 
+/// Adds a voucher as `make_addition` does, if the connection can still be asked.
+fn ask_to_add<S: Alter>(
+    conn: &mut Connection<S>,
+    text: &str,
+    code: &VoucherCode,
+    terms: VoucherTerms,
+    moment: Moment,
+) -> Result<(), ReadFault>
+    requires plain { conn.old.in_transaction ≡ false }
+    requires idle { HasIdleBook (state S.Store conn.old) }
+    ensures plain { conn.new.in_transaction ≡ false }
+    ensures commits { CommitsStanding (BecomesAdded text.now code.now terms moment)
+        (state S.Store conn.old) (state S.Store conn.new) result }
+{
+    still_open(conn)?;
+    make_addition(conn, text, code, terms, moment)
+}
+
 impl<S: Alter> SqlKeeper<S> {
     /// Adds a voucher of these terms under its code (profile), in one transaction with the moment
     /// of the command: it stands there unspent, in the place of what stood there. At a fault
@@ -94,13 +114,15 @@ impl<S: Alter> SqlKeeper<S> {
     ) -> Result<(), StoreFault>
         ensures done { clean_in S.Store self.new → OnOk result (tables_in S.Store self.new ≡
             with_added code terms moment (tables_in S.Store self.old)) }
-        ensures kept { Keeps (tables_in S.Store) failed_in (clean_in S.Store) self.old self.new
-            result }
+        ensures kept { Keeps (tables_in S.Store) failed_in (honest_in S.Store) (clean_in S.Store)
+            (LeavesIn S.Store) self.old self.new
+            (λ t. t ≡ with_added code terms moment (tables_in S.Store self.old)) result }
         ensures whole { IsWhole S.Store self.old self.new
             (BecomesAdded self.old.text code terms moment (trees_in S.Store self.old)) }
     {
         let text = self.text.as_str();
-        let made = make_addition(&mut self.connection, text, &code, terms, moment);
+        let made = ask_to_add(&mut self.connection, text, &code, terms, moment);
+        self.last = last_after(&made, self.last, moment);
         counted(&mut self.failures, made)
     }
 }

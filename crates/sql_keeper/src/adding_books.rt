@@ -8,16 +8,18 @@ ghost use Rattle.shelves.specs.Shelves.{Shelf, count, with_book};
 ghost use Rattle.shelves.specs.Succession.{shelf_fault};
 ghost use Rattle.sql_tables.specs.Statements.{HasIdleBook};
 ghost use Rattle.sql_keeper.specs.AddsBook.{AddsBook, AddsToAll, AreTakenBack, BecomesDated};
-ghost use Rattle.sql_keeper.specs.AddsBook.{IsBehind, IsOnBoth, IsTextFault, add_told, with_dated};
+ghost use Rattle.sql_keeper.specs.AddsBook.{IsBehind, IsOnBoth, IsTextFault, add_told, last_at};
+ghost use Rattle.sql_keeper.specs.AddsBook.{with_dated};
 ghost use Rattle.sql_keeper.specs.Books.{IsBookOf};
 ghost use Rattle.sql_keeper.specs.Commits.{CommitsWhole, Transacts};
 ghost use Rattle.sqlite.specs.Held.{state};
+ghost use Rattle.sqlite.specs.State.{HasCleanDisk};
 
 use crate::add_fault::AddFault;
-use crate::asking::last_of;
 use crate::books::read_text;
 use crate::faults::counted;
 use crate::keeper::SqlKeeper;
+use crate::still_open::still_open;
 use keepers::StoreFault;
 use shelves::{ShelfFault, TariffShelf};
 use sql_rows::put_book;
@@ -102,7 +104,10 @@ fn add_behind(
     ensures told { IfErr result (λ fault. ¬ (fault ≡ ShelfFault.Memory) →
         shelf_fault shelf.old from book last ≡ Some fault) }
 {
-    shelf.add(from, book, last)
+    let added = shelf.add(from, book, last);
+    // For the prover alone: looking at the value makes known here what its type keeps.
+    let _first = shelf.first();
+    added
 }
 
 /// Takes the book back that was added to both shelves.
@@ -194,17 +199,20 @@ fn add_to_all<S: Alter>(
     shelf: &mut TariffShelf,
     own: &mut TariffShelf,
     from: Moment,
+    last: Moment,
     text: &str,
     books: TwoBooks,
 ) -> Result<Result<(), ShelfFault>, ReadFault>
     requires plain { conn.old.in_transaction ≡ false }
     requires idle { HasIdleBook (state S.Store conn.old) }
+    requires last { HasCleanDisk (state S.Store conn.old) → IsTrue (state S.Store conn.old).is_open →
+        last ≡ last_at (state S.Store conn.old) }
     requires same { books.given ≡ books.own }
     ensures plain { conn.new.in_transaction ≡ false }
     ensures adds { AddsToAll from text.now books.own (state S.Store conn.old)
         (state S.Store conn.new) shelf.old shelf.new own.old own.new result }
 {
-    let last = last_of(conn)?;
+    still_open(conn)?;
     let is_added = match shelve(shelf, own, from, books, last) {
         Ok(is_added) => is_added,
         Err(fault) => return Ok(Err(fault)),
@@ -236,8 +244,7 @@ impl<S: Alter> SqlKeeper<S> {
     /// # Errors
     /// `Book`, why the text is no book; `Shelf`, why the book may not follow those of the shelf;
     /// `Store`, want of memory or a fault of the store, which is counted, as is a shelf that isn't
-    /// this keeper's. Where the moment of the last command isn't read, `Store` comes before
-    /// `Shelf`.
+    /// this keeper's. Where the store can't be asked any more, `Store` comes before `Shelf`.
     pub fn add_book(
         &mut self,
         shelf: &mut TariffShelf,
@@ -246,9 +253,11 @@ impl<S: Alter> SqlKeeper<S> {
     ) -> Result<(), AddFault>
         ensures { AddsBook S.Store text.now from self.old self.new shelf.old shelf.new result }
     {
+        // For the prover alone: looking at the value makes known here what its type keeps.
+        let _moment = from.seconds();
         let books = read_twice(self.alloc, text)?;
-        let own = &mut self.shelf;
-        let added = add_to_all(&mut self.connection, shelf, own, from, text, books);
+        let (own, last) = (&mut self.shelf, self.last);
+        let added = add_to_all(&mut self.connection, shelf, own, from, last, text, books);
         told(counted(&mut self.failures, added))
     }
 }

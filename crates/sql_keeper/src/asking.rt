@@ -2,34 +2,31 @@
 
 ghost use Rattle.std.specs.Prelude.{◌≡◌, is_some};
 ghost use Rattle.keepers.specs.Keeping.{Reads as Finds};
-ghost use Rattle.sql_keeper.specs.Content.{last_in};
+ghost use Rattle.sql_keeper.specs.Asks.{Asks};
 ghost use Rattle.sql_keeper.specs.Inside.{tables_in, failed_in, clean_in};
-ghost use Rattle.sql_rows.specs.Content.{content_of, rows_in};
-ghost use Rattle.sql_rows.specs.Texts.{meta_of};
+ghost use Rattle.sql_keeper.specs.Stops.{IsWhole, LeavesIn, honest_in};
+ghost use Rattle.sql_rows.specs.Content.{rows_in};
 ghost use Rattle.sql_tables.specs.Statements.{HasIdleBook, Reads};
 ghost use Rattle.sqlite.specs.Held.{state};
 
 use crate::faults::counted;
 use crate::keeper::SqlKeeper;
+use crate::still_open::still_open;
 use identifiers::{AccountNumber, SessionId};
 use keepers::StoreFault;
-use sql_rows::{read_account, read_meta, read_session};
+use sql_rows::{read_account, read_session};
 use sql_tables::ReadFault;
 use sqlite::{Alter, Connection};
 use std::alloc::Global;
 use units::Moment;
 
-/// The moment of the last accepted command; the first moment where there was none.
-pub(crate) fn last_of<S: Alter>(conn: &mut Connection<S>) -> Result<Moment, ReadFault>
+/// The last moment, which the keeper knows, if the connection can still be asked.
+fn ask_for_last<S: Alter>(conn: &mut Connection<S>, last: Moment) -> Result<Moment, ReadFault>
     requires idle { HasIdleBook (state S.Store conn.old) }
-    ensures { Reads (λ trees t. t ≡ last_in (content_of trees).meta)
-        (state S.Store conn.old) (state S.Store conn.new) result }
+    ensures { Asks (λ _ t. t ≡ last) (state S.Store conn.old) (state S.Store conn.new) result }
 {
-    let meta = read_meta(conn)?;
-    match meta {
-        None => Ok(Moment::first()),
-        Some(meta) => Ok(meta.last),
-    }
+    still_open(conn)?;
+    Ok(last)
 }
 
 fn is_opened<S: Alter>(conn: &mut Connection<S>, account: &AccountNumber) -> Result<bool, ReadFault>
@@ -39,6 +36,18 @@ fn is_opened<S: Alter>(conn: &mut Connection<S>, account: &AccountNumber) -> Res
 {
     let head = read_account(conn, account)?;
     Ok(head.is_some())
+}
+
+fn ask_for_account<S: Alter>(
+    conn: &mut Connection<S>,
+    account: &AccountNumber,
+) -> Result<bool, ReadFault>
+    requires idle { HasIdleBook (state S.Store conn.old) }
+    ensures { Asks (λ trees there. there ≡ is_some (rows_in trees account.now).head)
+        (state S.Store conn.old) (state S.Store conn.new) result }
+{
+    still_open(conn)?;
+    is_opened(conn, account)
 }
 
 fn is_known<S: Alter>(
@@ -56,16 +65,34 @@ fn is_known<S: Alter>(
     Ok(row.is_some())
 }
 
+fn ask_for_session<S: Alter>(
+    conn: &mut Connection<S>,
+    alloc: Global,
+    account: &AccountNumber,
+    session: &SessionId,
+) -> Result<bool, ReadFault>
+    requires idle { HasIdleBook (state S.Store conn.old) }
+    ensures { Asks (λ trees known.
+        known ≡ is_some ((rows_in trees account.now).sessions session.now))
+        (state S.Store conn.old) (state S.Store conn.new) result }
+{
+    still_open(conn)?;
+    is_known(conn, alloc, account, session)
+}
+
 impl<S: Alter> SqlKeeper<S> {
-    /// The moment of the last accepted command; the first moment where there was none.
+    /// The moment of the last accepted command; the first moment where there was none. The keeper
+    /// knows it, so that nothing is read.
     ///
     /// # Errors
     /// A fault of the store, which is counted, or want of memory.
     pub fn last(&mut self) -> Result<Moment, StoreFault>
-        ensures { Finds (tables_in S.Store) failed_in (clean_in S.Store) self.old self.new
+        ensures reads { Finds (tables_in S.Store) failed_in (honest_in S.Store)
+            (clean_in S.Store) (LeavesIn S.Store) self.old self.new
             (λ t. t ≡ (tables_in S.Store self.old).last) result }
+        ensures whole { IsWhole S.Store self.old self.new (λ _. ⊥) }
     {
-        let read = last_of(&mut self.connection);
+        let read = ask_for_last(&mut self.connection, self.last);
         counted(&mut self.failures, read)
     }
 
@@ -74,10 +101,12 @@ impl<S: Alter> SqlKeeper<S> {
     /// # Errors
     /// A fault of the store, which is counted, or want of memory.
     pub fn has_account(&mut self, account: &AccountNumber) -> Result<bool, StoreFault>
-        ensures { Finds (tables_in S.Store) failed_in (clean_in S.Store) self.old self.new
+        ensures reads { Finds (tables_in S.Store) failed_in (honest_in S.Store)
+            (clean_in S.Store) (LeavesIn S.Store) self.old self.new
             (λ there. there ≡ is_some ((tables_in S.Store self.old).rows account.now).head) result }
+        ensures whole { IsWhole S.Store self.old self.new (λ _. ⊥) }
     {
-        let read = is_opened(&mut self.connection, account);
+        let read = ask_for_account(&mut self.connection, account);
         counted(&mut self.failures, read)
     }
 
@@ -90,12 +119,14 @@ impl<S: Alter> SqlKeeper<S> {
         account: &AccountNumber,
         session: &SessionId,
     ) -> Result<bool, StoreFault>
-        ensures { Finds (tables_in S.Store) failed_in (clean_in S.Store) self.old self.new
+        ensures reads { Finds (tables_in S.Store) failed_in (honest_in S.Store)
+            (clean_in S.Store) (LeavesIn S.Store) self.old self.new
             (λ known. known ≡
             is_some (((tables_in S.Store self.old).rows account.now).sessions session.now))
             result }
+        ensures whole { IsWhole S.Store self.old self.new (λ _. ⊥) }
     {
-        let read = is_known(&mut self.connection, self.alloc, account, session);
+        let read = ask_for_session(&mut self.connection, self.alloc, account, session);
         counted(&mut self.failures, read)
     }
 }

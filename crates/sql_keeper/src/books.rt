@@ -19,7 +19,7 @@ use std::alloc::Global;
 use tariffs::{BookFault, TariffBook};
 use units::Moment;
 
-/// A shelf twice, and the text that its first book was read from.
+/// A shelf twice, the text that its first book was read from, and the last moment that is kept.
 #[derive(Drop)]
 pub(crate) struct ReadBooks {
     /// For who makes the keeper.
@@ -28,6 +28,8 @@ pub(crate) struct ReadBooks {
     pub own: TariffShelf,
     /// The text that the first book of both was read from.
     pub text: String,
+    /// The moment of the last accepted command.
+    pub last: Moment,
 }
 
 /// Reads the book of a text; each reading gives the same.
@@ -65,11 +67,12 @@ fn kept_text(alloc: Global, text: &str) -> Result<String, BookFault>
 }
 
 /// Reads the book of a text, which stands alone on both shelves.
-pub(crate) fn read_book(alloc: Global, text: &str) -> Result<ReadBooks, BookFault>
+pub(crate) fn read_book(alloc: Global, text: &str, last: Moment) -> Result<ReadBooks, BookFault>
     ensures alone { IfOk result (λ r. IsAlone text.now r.own) }
     ensures only { (b : Book) → IsBookOf text.now b → IfOk result (λ r. r.own.first ≡ b) }
     ensures given { IfOk result (λ r. r.given ≡ r.own) }
     ensures text { IfOk result (λ r. string_bytes r.text ≡ text.now) }
+    ensures last { IfOk result (λ r. r.last ≡ last) }
     ensures fault { IfErr result (IsBookFault text.now) }
 {
     let own = read_shelf(alloc, text)?;
@@ -81,6 +84,7 @@ pub(crate) fn read_book(alloc: Global, text: &str) -> Result<ReadBooks, BookFaul
         given,
         own,
         text: kept,
+        last,
     })
 }
 
@@ -156,6 +160,7 @@ fn add_rows(alloc: Global, read: &mut ReadBooks, rows: &[BookColumns]) -> Result
         (AreShelved read.old.own.first (map book_at rows.now) read.new.own) }
     ensures given { OnOk result (read.new.given ≡ read.new.own) }
     ensures text { read.new.text ≡ read.old.text }
+    ensures last { read.new.last ≡ read.old.last }
     ensures refused { IfErr result
         (λ fault. fault ≡ Rules → IsNoneBehind read.old.own.first (map book_at rows.now)) }
     ensures either { IfErr result (λ fault. ¬ (fault ≡ Rules) → fault ≡ OpenFault.Memory) }
@@ -178,17 +183,19 @@ fn add_rows(alloc: Global, read: &mut ReadBooks, rows: &[BookColumns]) -> Result
 pub(crate) fn read_shelves(
     alloc: Global,
     text: &str,
+    last: Moment,
     rows: &[BookColumns],
 ) -> Result<ReadBooks, OpenFault>
     ensures read { IfOk result (λ r. IsShelfRead text.now (map book_at rows.now) r.own) }
     ensures given { IfOk result (λ r. r.given ≡ r.own) }
     ensures text { IfOk result (λ r. string_bytes r.text ≡ text.now) }
+    ensures last { IfOk result (λ r. r.last ≡ last) }
     ensures rules { IfErr result
         (λ fault. fault ≡ Rules → IsNoShelf text.now (map book_at rows.now)) }
     ensures either { IfErr result
         (λ fault. ¬ (fault ≡ Rules) → fault ≡ OpenFault.Memory) }
 {
-    let mut read = match read_book(alloc, text) {
+    let mut read = match read_book(alloc, text, last) {
         Ok(read) => read,
         Err(fault) => return Err(book_fault(fault)),
     };

@@ -2,6 +2,7 @@
 
 ghost use Rattle.std.specs.Prelude.{◌≡◌, min, IfOk};
 ghost use Rattle.charge_sources.specs.Pages.{IsPage};
+ghost use Rattle.sql_keeper.specs.Asks.{Asks};
 ghost use Rattle.sql_keeper.specs.ChargePages.{AreTold, end_of_page, last_number};
 ghost use Rattle.sql_keeper.specs.Content.{charge_of};
 ghost use Rattle.sql_keeper.specs.LiveGroups.{Gathers};
@@ -13,6 +14,7 @@ ghost use Rattle.sqlite.specs.Held.{state};
 use crate::faults::counted;
 use crate::keeper::SqlKeeper;
 use crate::paid_charges::cover_all;
+use crate::still_open::still_open;
 use charge_sources::{ChargePage, ChargePages, ChargeSource, ChargeVisitor, show_pages};
 use identifiers::AccountNumber;
 use keepers::StoreFault;
@@ -108,6 +110,21 @@ fn read_page<S: Alter>(
     })
 }
 
+fn ask_for_page<S: Alter>(
+    conn: &mut Connection<S>,
+    alloc: Global,
+    account: &AccountNumber,
+    after: u32,
+) -> Result<ChargePage, ReadFault>
+    requires idle { HasIdleBook (state S.Store conn.old) }
+    ensures { Asks (λ trees page.
+        IsPage (λ n. charge_of n (rows_in trees account.now)) after page)
+        (state S.Store conn.old) (state S.Store conn.new) result }
+{
+    still_open(conn)?;
+    read_page(conn, alloc, account, after)
+}
+
 /// A page goes over 256 numbers. Each is read outside any transaction.
 impl<S: Alter> ChargePages for SqlKeeper<S> {
     ghost use Rattle.sql_keeper.specs.ChargePages.{none_first};
@@ -115,7 +132,7 @@ impl<S: Alter> ChargePages for SqlKeeper<S> {
     ghost numbered = { λ k a. none_first _ _ };
 
     fn page(&mut self, account: &AccountNumber, after: u32) -> Result<ChargePage, StoreFault> {
-        let read = read_page(&mut self.connection, self.alloc, account, after);
+        let read = ask_for_page(&mut self.connection, self.alloc, account, after);
         counted(&mut self.failures, read)
     }
 }

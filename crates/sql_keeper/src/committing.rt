@@ -6,16 +6,18 @@ ghost use Rattle.keepers.specs.Keeping.{Keeps};
 ghost use Rattle.sql_rows.specs.Texts.{kept_of};
 ghost use Rattle.sql_tables.specs.Statements.{HasIdleBook};
 ghost use Rattle.sql_keeper.specs.Content.{shelf_names};
-ghost use Rattle.sql_keeper.specs.Commits.{Becomes, CommitsChange, Transacts};
-ghost use Rattle.sql_keeper.specs.Inside.{clean_in, failed_in, tables_in};
-ghost use Rattle.sql_keeper.specs.Stops.{IsWhole, trees_in};
+ghost use Rattle.sql_keeper.specs.Commits.{Becomes, CommitsChange, CommitsStanding, Transacts};
+ghost use Rattle.sql_keeper.specs.Inside.{clean_in, failed_in, names_in, tables_in};
+ghost use Rattle.sql_keeper.specs.Stops.{IsWhole, LeavesIn, honest_in, trees_in};
 ghost use Rattle.sql_keeper.specs.Writes.{meta_with, new_rows, with_change, with_new};
 ghost use Rattle.sqlite.specs.Held.{state};
 
 use crate::faults::counted;
 use crate::keeper::SqlKeeper;
+use crate::last_moment::last_after;
 use crate::new_rows::{NewRows, new_rows};
 use crate::putting::put_change;
+use crate::still_open::still_open;
 use crate::testing::may_be_written;
 use crate::texts::kept_texts;
 use keepers::{Change, StoreFault};
@@ -77,6 +79,24 @@ fn make_change<S: Alter>(
     Ok(())
 }
 
+/// Makes a change as `make_change` does, if the connection can still be asked.
+fn ask_to_change<S: Alter>(
+    conn: &mut Connection<S>,
+    alloc: Global,
+    books: &TariffShelf,
+    text: &str,
+    change: &Change,
+) -> Result<(), ReadFault>
+    requires plain { conn.old.in_transaction ≡ false }
+    requires idle { HasIdleBook (state S.Store conn.old) }
+    ensures plain { conn.new.in_transaction ≡ false }
+    ensures commits { CommitsStanding (Becomes (shelf_names books.now) text.now change.now)
+        (state S.Store conn.old) (state S.Store conn.new) result }
+{
+    still_open(conn)?;
+    make_change(conn, alloc, books, text, change)
+}
+
 impl<S: Alter> SqlKeeper<S> {
     /// Makes the change, in one transaction: the account's rows, the charges, the kept answer, the
     /// voucher that is redeemed and the moment together. At a fault nothing has changed, and
@@ -90,13 +110,17 @@ impl<S: Alter> SqlKeeper<S> {
             OnOk result (IsMadeFrom change.before change.after
             ((tables_in S.Store self.old).rows change.number) →
             tables_in S.Store self.new ≡ changed change (tables_in S.Store self.old)) }
-        ensures kept { Keeps (tables_in S.Store) failed_in (clean_in S.Store) self.old self.new
-            result }
+        ensures kept { Keeps (tables_in S.Store) failed_in (honest_in S.Store) (clean_in S.Store)
+            (LeavesIn S.Store) self.old self.new
+            (λ t. IsMadeFrom change.before change.after
+            ((tables_in S.Store self.old).rows change.number) →
+            t ≡ changed change (tables_in S.Store self.old)) result }
         ensures whole { IsWhole S.Store self.old self.new
-            (Becomes self.old.names self.old.text change (trees_in S.Store self.old)) }
+            (Becomes (names_in self.old) self.old.text change (trees_in S.Store self.old)) }
     {
         let text = self.text.as_str();
-        let made = make_change(&mut self.connection, self.alloc, &self.shelf, text, &change);
+        let made = ask_to_change(&mut self.connection, self.alloc, &self.shelf, text, &change);
+        self.last = last_after(&made, self.last, change.moment);
         counted(&mut self.failures, made)
     }
 }

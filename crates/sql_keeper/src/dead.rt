@@ -2,9 +2,11 @@
 
 ghost use Rattle.keepers.specs.Change.{AreDeadOf};
 ghost use Rattle.keepers.specs.Keeping.{Reads as Finds};
+ghost use Rattle.sql_keeper.specs.Asks.{Asks};
 ghost use Rattle.sql_keeper.specs.Dead.{AreDead};
 ghost use Rattle.sql_keeper.specs.Content.{told_buckets};
 ghost use Rattle.sql_keeper.specs.Inside.{tables_in, failed_in, clean_in};
+ghost use Rattle.sql_keeper.specs.Stops.{IsWhole, LeavesIn, honest_in};
 ghost use Rattle.sql_keeper.specs.LiveGroups.{Gathers};
 ghost use Rattle.sql_rows.specs.Content.{rows_in};
 ghost use Rattle.sql_tables.specs.Statements.{HasIdleBook};
@@ -13,6 +15,7 @@ ghost use Rattle.sqlite.specs.Held.{state};
 use crate::faults::counted;
 use crate::keeper::SqlKeeper;
 use crate::rebuilding::buckets_of;
+use crate::still_open::still_open;
 use buckets::Bucket;
 use identifiers::AccountNumber;
 use keepers::StoreFault;
@@ -36,6 +39,20 @@ fn dead_of<S: Alter>(
     buckets_of(alloc, &rows, &allowances)
 }
 
+fn ask_for_dead<S: Alter>(
+    conn: &mut Connection<S>,
+    alloc: Global,
+    account: &AccountNumber,
+) -> Result<Vec<Bucket>, ReadFault>
+    requires idle { HasIdleBook (state S.Store conn.old) }
+    ensures { Asks
+        (λ trees found. AreDead (told_buckets (rows_in trees account.now)) found.items)
+        (state S.Store conn.old) (state S.Store conn.new) result }
+{
+    still_open(conn)?;
+    dead_of(conn, alloc, account)
+}
+
 impl<S: Alter> SqlKeeper<S> {
     /// The buckets of an account that have nothing available and nothing reserved (TS 32.296,
     /// account balance management function), in the order of their numbers; none where there is no
@@ -44,11 +61,13 @@ impl<S: Alter> SqlKeeper<S> {
     /// # Errors
     /// A fault of the store, which is counted, as is a row out of its rules; want of memory.
     pub fn dead_buckets(&mut self, account: &AccountNumber) -> Result<Vec<Bucket>, StoreFault>
-        ensures { Finds (tables_in S.Store) failed_in (clean_in S.Store) self.old self.new
+        ensures reads { Finds (tables_in S.Store) failed_in (honest_in S.Store)
+            (clean_in S.Store) (LeavesIn S.Store) self.old self.new
             (λ found. AreDeadOf ((tables_in S.Store self.old).rows account.now) found.items)
             result }
+        ensures whole { IsWhole S.Store self.old self.new (λ _. ⊥) }
     {
-        let read = dead_of(&mut self.connection, self.alloc, account);
+        let read = ask_for_dead(&mut self.connection, self.alloc, account);
         counted(&mut self.failures, read)
     }
 }

@@ -4,8 +4,10 @@ ghost use Rattle.std.specs.Prelude.{◌≡◌, Ok, Some, IfOk, option_map, optio
 ghost use Rattle.wire.specs.Contents.{content_of as command_of};
 ghost use Rattle.wire_answers.specs.ReadingAnswers.{answer_of};
 ghost use Rattle.keepers.specs.Keeping.{Reads as Finds};
+ghost use Rattle.sql_keeper.specs.Asks.{Asks};
 ghost use Rattle.sql_keeper.specs.Content.{answer_in, kept_in, texts_of};
 ghost use Rattle.sql_keeper.specs.Inside.{tables_in, failed_in, clean_in};
+ghost use Rattle.sql_keeper.specs.Stops.{IsWhole, LeavesIn, honest_in};
 ghost use Rattle.sql_rows.specs.Content.{rows_in};
 ghost use Rattle.sql_rows.specs.Texts.{kept_of};
 ghost use Rattle.sql_tables.specs.Statements.{HasIdleBook, Reads};
@@ -13,6 +15,7 @@ ghost use Rattle.sqlite.specs.Held.{state};
 
 use crate::faults::counted;
 use crate::keeper::SqlKeeper;
+use crate::still_open::still_open;
 use commands::{Answer, Content};
 use identifiers::AccountNumber;
 use json_fields::WireFault;
@@ -110,6 +113,21 @@ fn answer_under<S: Alter>(
     kept_where(alloc, account, &texts)
 }
 
+fn ask_for_answer<S: Alter>(
+    conn: &mut Connection<S>,
+    alloc: Global,
+    account: &AccountNumber,
+    key: &Key,
+) -> Result<Option<KeptAnswer>, ReadFault>
+    requires idle { HasIdleBook (state S.Store conn.old) }
+    ensures { Asks (λ trees found. found ≡
+        answer_in account.now key.now (rows_in trees account.now))
+        (state S.Store conn.old) (state S.Store conn.new) result }
+{
+    still_open(conn)?;
+    answer_under(conn, alloc, account, key)
+}
+
 impl<S: Alter> SqlKeeper<S> {
     /// What is kept under a key of an account (a request's key is its Session-Id and
     /// CC-Request-Number, RFC 8506 sections 8.2 and 8.4); None where nothing is.
@@ -122,10 +140,12 @@ impl<S: Alter> SqlKeeper<S> {
         account: &AccountNumber,
         key: &Key,
     ) -> Result<Option<KeptAnswer>, StoreFault>
-        ensures { Finds (tables_in S.Store) failed_in (clean_in S.Store) self.old self.new
+        ensures reads { Finds (tables_in S.Store) failed_in (honest_in S.Store)
+            (clean_in S.Store) (LeavesIn S.Store) self.old self.new
             (λ found. found ≡ (tables_in S.Store self.old).answers account.now key.now) result }
+        ensures whole { IsWhole S.Store self.old self.new (λ _. ⊥) }
     {
-        let read = answer_under(&mut self.connection, self.alloc, account, key);
+        let read = ask_for_answer(&mut self.connection, self.alloc, account, key);
         counted(&mut self.failures, read)
     }
 }

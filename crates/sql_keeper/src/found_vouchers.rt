@@ -2,7 +2,9 @@
 
 ghost use Rattle.std.specs.Prelude.{◌≡◌, IfOk, option_map};
 ghost use Rattle.keepers.specs.Keeping.{Reads as Finds};
+ghost use Rattle.sql_keeper.specs.Asks.{Asks};
 ghost use Rattle.sql_keeper.specs.Inside.{tables_in, failed_in, clean_in};
+ghost use Rattle.sql_keeper.specs.Stops.{IsWhole, LeavesIn, honest_in};
 ghost use Rattle.sql_keeper.specs.Content.{voucher_in};
 ghost use Rattle.sql_rows.specs.Content.{content_of};
 ghost use Rattle.sql_rows.specs.Texts.{voucher_of};
@@ -11,6 +13,7 @@ ghost use Rattle.sqlite.specs.Held.{state};
 
 use crate::faults::counted;
 use crate::keeper::SqlKeeper;
+use crate::still_open::still_open;
 use identifiers::VoucherCode;
 use keepers::StoreFault;
 use redemptions::{Voucher, VoucherTerms};
@@ -74,6 +77,20 @@ fn voucher_under<S: Alter>(
     voucher_where(row)
 }
 
+fn ask_for_voucher<S: Alter>(
+    conn: &mut Connection<S>,
+    alloc: Global,
+    code: &VoucherCode,
+) -> Result<Option<Voucher>, ReadFault>
+    requires idle { HasIdleBook (state S.Store conn.old) }
+    ensures { Asks (λ trees found. found ≡
+        option_map voucher_in ((content_of trees).vouchers code.now))
+        (state S.Store conn.old) (state S.Store conn.new) result }
+{
+    still_open(conn)?;
+    voucher_under(conn, alloc, code)
+}
+
 impl<S: Alter> SqlKeeper<S> {
     /// What stands under the code of a voucher (profile): the voucher with its terms, and who
     /// redeemed it where anyone did; None where none was added.
@@ -82,10 +99,12 @@ impl<S: Alter> SqlKeeper<S> {
     /// A fault of the store, which is counted, as is a row whose terms no voucher can have; want of
     /// memory.
     pub fn find_voucher(&mut self, code: &VoucherCode) -> Result<Option<Voucher>, StoreFault>
-        ensures { Finds (tables_in S.Store) failed_in (clean_in S.Store) self.old self.new
+        ensures reads { Finds (tables_in S.Store) failed_in (honest_in S.Store)
+            (clean_in S.Store) (LeavesIn S.Store) self.old self.new
             (λ found. found ≡ (tables_in S.Store self.old).vouchers code.now) result }
+        ensures whole { IsWhole S.Store self.old self.new (λ _. ⊥) }
     {
-        let read = voucher_under(&mut self.connection, self.alloc, code);
+        let read = ask_for_voucher(&mut self.connection, self.alloc, code);
         counted(&mut self.failures, read)
     }
 }

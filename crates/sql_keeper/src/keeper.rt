@@ -1,15 +1,17 @@
 //! A keeper over a database: what it is. Its calls stand in modules of their own.
 
 ghost use Rattle.std.specs.Prelude.{◌≡◌};
-ghost use Rattle.sql_keeper.specs.Inside.{failed_in};
+ghost use Rattle.sql_keeper.specs.Inside.{IsKeeper, failed_in};
 
 use shelves::TariffShelf;
 use sqlite::{Alter, Connection};
 use std::alloc::Global;
 use std::marker::Model;
+use units::Moment;
 
 /// A keeper over a database. Between calls no transaction is open, so what it holds is what was
-/// committed last.
+/// committed last. It knows the text of its first book, its books and the moment of the last accepted
+/// command as the database keeps them, so that an open finds the same again.
 ///
 /// Its store is clean while the disk returns what was written; where the disk failed a call, it is
 /// clean as long as the connection is open still. Nothing but a failure of the disk shuts it.
@@ -17,13 +19,13 @@ pub struct SqlKeeper<S: Alter> {
     pub(crate) connection: Connection<S>,
     pub(crate) shelf: TariffShelf,
     pub(crate) text: String,
+    pub(crate) last: Moment,
     pub(crate) failures: u64,
     pub(crate) alloc: Global,
 }
 
 impl<S: Alter> Model for SqlKeeper<S> {
     ghost use Rattle.std.specs.String.{string_bytes};
-    ghost use Rattle.sql_keeper.specs.Content.{shelf_names};
     ghost use Rattle.sql_keeper.specs.Inside.{KeeperState, keeper_code, IsKeeper};
 
     ghost Value = { KeeperState S };
@@ -32,15 +34,17 @@ impl<S: Alter> Model for SqlKeeper<S> {
 
     ghost view = { λ k. record {
       connection = k.connection;
-      names = shelf_names k.shelf;
+      shelf = k.shelf;
       text = string_bytes k.text;
+      last = k.last;
       failures = k.failures;
     } };
 
     ghost invariant = { λ k. IsKeeper S.Store (record {
       connection = k.connection;
-      names = shelf_names k.shelf;
+      shelf = k.shelf;
       text = string_bytes k.text;
+      last = k.last;
       failures = k.failures;
     }) };
 }
@@ -52,6 +56,7 @@ impl<S: Alter + Drop> Drop for SqlKeeper<S> {
             connection: _,
             shelf: _,
             text: _,
+            last: _,
             failures: _,
             alloc: _,
         } = self;
@@ -63,18 +68,21 @@ impl<S: Alter> SqlKeeper<S> {
     pub fn failures(&self) -> u64
         ensures value { result ≡ self.now.failures }
         ensures count { result ≡ failed_in self.now }
+        ensures kept { IsKeeper S.Store self.now }
     {
         self.failures
     }
 
     /// Gives the keeper up, and its connection back.
     pub fn into_connection(self) -> Connection<S>
-        ensures { result ≡ self.connection }
+        ensures connection { result ≡ self.connection }
+        ensures kept { IsKeeper S.Store self }
     {
         let SqlKeeper {
             connection,
             shelf: _,
             text: _,
+            last: _,
             failures: _,
             alloc: _,
         } = self;

@@ -12,17 +12,28 @@ use units::Moment;
 
 impl<S: Alter> Keeper for SqlKeeper<S> {
     ghost use Rattle.sql_keeper.specs.Inside.{tables_in, failed_in, clean_in};
+    ghost use Rattle.sql_keeper.specs.Stops.{LeavesIn, honest_in};
 
     ghost content = { tables_in S.Store };
 
     ghost failed = { failed_in };
 
+    ghost honest = { honest_in S.Store };
+
     ghost clean = { clean_in S.Store };
+
+    ghost left = { LeavesIn S.Store };
 
     ghost use Rattle.std.proofs.Math.Nat.{min-le_right};
     ghost use Rattle.keepers.specs.Faults.{max_failures};
 
     ghost bounded = { λ k. min-le_right k.failures max_failures };
+
+    ghost use Rattle.sql_keeper.specs.Settled.{settled_in};
+
+    ghost honesty = { λ k clean. clean.disk };
+
+    ghost settled = { settled_in S.Store S.Store.settled };
 
     fn failures(&self) -> u64 {
         SqlKeeper::failures(self)

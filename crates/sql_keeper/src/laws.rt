@@ -1,10 +1,14 @@
 ghost use Rattle.std.specs.Prelude.{ℕ, List};
 ghost use Rattle.sqlite.specs.Held.{Held};
 ghost use Rattle.sql_opening.specs.declared.fault.OpenFault.{OpenFault};
-ghost use Rattle.sql_keeper.specs.Again.{AreLeftAgain, AreShelvesOne, IsFoundAgain};
+ghost use Rattle.sql_keeper.specs.Again.{AreLeftAgain, AreOpenedAgain, AreShelvesOne};
+ghost use Rattle.sql_keeper.specs.Again.{AreStoppedWhole, IsFoundAgain};
+ghost use Rattle.sql_keeper.specs.Causes.{AreCausesApart};
+ghost use Rattle.sql_keeper.specs.Inside.{KeeperState};
 ghost use Rattle.sql_keeper.specs.Laws.{AreChangesRead, AreNewTablesEmpty, AreSweepsRead};
 ghost use Rattle.sql_keeper.specs.LiveGroups.{AreOpenGroupsLoaded};
 ghost use Rattle.sql_keeper.specs.LiveRows.{AreLiveRowsLoaded};
+ghost use Rattle.sql_keeper.specs.Stops.{IsAtRest};
 
 use sqlite::Alter;
 
@@ -49,8 +53,31 @@ pub fn shelves_are_one()
     ensures { AreShelvesOne }
 {}
 
-/// Where the connection shows what was left, none of the faults 1 to 3 is told.
+/// A database has one fault at most for which it isn't opened.
+#[tactic(auto, using(crate::proofs::Causes::causes_apart))]
+pub fn causes_are_apart()
+    ensures { AreCausesApart }
+{}
+
+/// Where the connection shows what was left, no fault is told but the store's or memory's.
 pub fn left_tables_are_found<S: Alter>()
     ensures { (old new : Held S) (text : List ℕ) (fault : OpenFault) →
         IsFoundAgain S.Store old new text fault }
+{}
+
+/// What a stop leaves between two calls is what was committed last.
+pub fn a_stop_leaves_the_last_commit<S: Alter>()
+    ensures { (k : KeeperState S) → IsAtRest S.Store k }
+{}
+
+/// What a stop of a keeper leaves at any moment is opened again: with the rows that it left, under
+/// the text of the keeper and the books of both; and it is refused for no row.
+pub fn a_stop_is_opened_again<S: Alter, T: Alter>()
+    ensures { AreOpenedAgain S.Store T.Store }
+{}
+
+/// A command that is stopped at its exit is whole when its database is opened again: its rows are
+/// those before it, or with it.
+pub fn a_stopped_command_is_whole<S: Alter, T: Alter>()
+    ensures { AreStoppedWhole S.Store T.Store }
 {}

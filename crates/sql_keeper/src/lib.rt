@@ -19,6 +19,7 @@ mod found_vouchers;
 mod held_groups;
 mod keeper;
 mod keeping;
+mod last_moment;
 mod laws;
 mod live_groups;
 mod live_rows;
@@ -31,6 +32,8 @@ mod paid_charges;
 mod putting;
 mod rebuilding;
 mod rebuilding_groups;
+mod still_open;
+mod stopping;
 mod sweeping;
 mod swept_rows;
 mod testing;
@@ -42,9 +45,12 @@ pub use crate::create_fault::CreateFault;
 pub use crate::faults::counted;
 pub use crate::keeper::SqlKeeper;
 pub use crate::laws::{
-    changes_are_read, left_tables_are_found, live_rows_are_loaded, new_tables_are_empty,
-    open_groups_are_loaded, shelves_are_one, sweeps_are_read, tables_are_left_again,
+    a_stop_is_opened_again, a_stop_leaves_the_last_commit, a_stopped_command_is_whole,
+    causes_are_apart, changes_are_read, left_tables_are_found, live_rows_are_loaded,
+    new_tables_are_empty, open_groups_are_loaded, shelves_are_one, sweeps_are_read,
+    tables_are_left_again,
 };
+pub use crate::stopping::{Reopened, commit_and_stop, stop_and_open};
 pub use crate::testing::may_be_written;
 pub use crate::texts::kept_texts;
 pub use sql_opening::OpenFault;

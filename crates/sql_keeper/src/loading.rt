@@ -4,8 +4,10 @@ ghost use Rattle.std.specs.Prelude.{◌≡◌, IfOk};
 ghost use Rattle.keepers.specs.Change.{IsLoad, IsView};
 ghost use Rattle.keepers.specs.Keeping.{Reads as Finds};
 ghost use Rattle.reserving.specs.Stored.{priced};
+ghost use Rattle.sql_keeper.specs.Asks.{Asks};
 ghost use Rattle.sql_keeper.specs.Content.{rows_of, shelf_names};
 ghost use Rattle.sql_keeper.specs.Inside.{tables_in, failed_in, clean_in};
+ghost use Rattle.sql_keeper.specs.Stops.{IsWhole, LeavesIn, honest_in};
 ghost use Rattle.sql_keeper.specs.LiveGroups.{Gathers};
 ghost use Rattle.sql_keeper.specs.LiveRows.{IsAccountOf, IsLoadOf};
 ghost use Rattle.sql_rows.specs.Content.{rows_in};
@@ -15,6 +17,7 @@ ghost use Rattle.sqlite.specs.Held.{state};
 use crate::faults::counted;
 use crate::keeper::SqlKeeper;
 use crate::live_rows::read_live_account;
+use crate::still_open::still_open;
 use identifiers::AccountNumber;
 use keepers::{Loaded, StoreFault};
 use reserving::{Account, LoadFault, StoredAccount};
@@ -93,6 +96,23 @@ fn load_of<'b, S: Alter>(
     loaded_of(rows, shelf, account)
 }
 
+fn ask_to_load<'b, S: Alter>(
+    conn: &mut Connection<S>,
+    alloc: Global,
+    names: &TariffShelf,
+    shelf: &'b TariffShelf,
+    account: &AccountNumber,
+    moment: Moment,
+) -> Result<Option<Loaded<'b>>, ReadFault>
+    requires idle { HasIdleBook (state S.Store conn.old) }
+    ensures { Asks (λ trees found. IsLoad shelf.now moment account.now
+        (rows_of (shelf_names names.now) (rows_in trees account.now)) found)
+        (state S.Store conn.old) (state S.Store conn.new) result }
+{
+    still_open(conn)?;
+    load_of(conn, alloc, names, shelf, account, moment)
+}
+
 impl<S: Alter> SqlKeeper<S> {
     /// What may still change of the account of this number at the moment, priced by the shelf; None
     /// where there is no account.
@@ -106,11 +126,13 @@ impl<S: Alter> SqlKeeper<S> {
         account: &AccountNumber,
         moment: Moment,
     ) -> Result<Option<Loaded<'b>>, StoreFault>
-        ensures { Finds (tables_in S.Store) failed_in (clean_in S.Store) self.old self.new
+        ensures reads { Finds (tables_in S.Store) failed_in (honest_in S.Store)
+            (clean_in S.Store) (LeavesIn S.Store) self.old self.new
             (λ found. IsLoad shelf.now moment account.now
             ((tables_in S.Store self.old).rows account.now) found) result }
+        ensures whole { IsWhole S.Store self.old self.new (λ _. ⊥) }
     {
-        let read = load_of(
+        let read = ask_to_load(
             &mut self.connection,
             self.alloc,
             &self.shelf,
@@ -132,9 +154,11 @@ impl<S: Alter> SqlKeeper<S> {
         account: &AccountNumber,
         moment: Moment,
     ) -> Result<Option<Account<'b>>, StoreFault>
-        ensures { Finds (tables_in S.Store) failed_in (clean_in S.Store) self.old self.new
+        ensures reads { Finds (tables_in S.Store) failed_in (honest_in S.Store)
+            (clean_in S.Store) (LeavesIn S.Store) self.old self.new
             (λ found. IsView shelf.now moment
             ((tables_in S.Store self.old).rows account.now) found) result }
+        ensures whole { IsWhole S.Store self.old self.new (λ _. ⊥) }
     {
         let loaded = self.load(shelf, account, moment);
         account_of(loaded)

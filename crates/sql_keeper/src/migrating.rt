@@ -1,8 +1,8 @@
 //! A database of an older version, brought to the latest in one transaction: all of it or nothing,
 //! also over a stop.
 
-ghost use Rattle.std.specs.Prelude.{◌≡◌, ◌<◌, ◌≤◌, ◌⊎◌, false, map, nat_lt, Some, IfErr, IfOk};
-ghost use Rattle.std.specs.Prelude.{OnOk};
+ghost use Rattle.std.specs.Prelude.{◌≡◌, ◌<◌, ◌≤◌, ◌^◌, ◌⊎◌, false, map, nat_lt, Some, IfErr};
+ghost use Rattle.std.specs.Prelude.{IfOk, OnOk};
 ghost use Rattle.std.specs.String.{string_bytes};
 ghost use Rattle.sql_opening.specs.Opens.{IsNoVersion, IsVersion};
 ghost use Rattle.sql_opening.specs.declared.fault.OpenFault.TheVariants.{Foreign, Rules, Version};
@@ -15,15 +15,16 @@ ghost use Rattle.sql_tables.specs.Schema.{latest};
 ghost use Rattle.sql_tables.specs.Stages.{HasVersion, Migrates};
 ghost use Rattle.sql_tables.specs.Statements.{Attempts, HasBook, HasRules, IsInside};
 ghost use Rattle.sql_tables.specs.Statements.{ReadsWithin};
+ghost use Rattle.sql_keeper.specs.Causes.{IsUnruledMeta};
 ghost use Rattle.sql_keeper.specs.Migrates.{AreUnruledReserved, BringsToLatest, FindsAny, HasAt};
-ghost use Rattle.sql_keeper.specs.Migrates.{HasIdleAt, IsMigrated, IsNotMigrated, IsUnruledMeta};
+ghost use Rattle.sql_keeper.specs.Migrates.{HasIdleAt, IsMigrated, IsNotMigrated};
 ghost use Rattle.sql_keeper.specs.Migrates.{MigratesTables, with_first_books, with_granted};
 ghost use Rattle.sqlite.specs.Held.{state};
 ghost use Rattle.sqlite.specs.State.{HasCleanDisk};
 
 use crate::books::{ReadBooks, read_shelves};
 use crate::keeper::SqlKeeper;
-use crate::opening::{keeper_of, latest_books, open_fault, read_fault};
+use crate::opening::{is_version, keeper_of, latest_books, open_fault, read_fault};
 use shelves::TariffShelf;
 use sql_opening::{OpenFault, find_tables};
 use sql_rows::{
@@ -137,13 +138,11 @@ pub(crate) fn kept_within<S: Alter>(tx: &mut Transaction<'_, S>) -> Result<Meta,
 pub(crate) fn is_of_version(meta: &Meta, version: u32) -> Result<(), OpenFault>
     ensures version { OnOk result (meta.now.version ≡ version) }
     ensures told { IfErr result (λ fault. (fault ≡ Version) × (¬ (meta.now.version ≡ version))) }
+    ensures number { meta.now.version < 2 ^ 32 }
     ensures last { meta.now.last ≤ 4_102_488_000 }
 {
     let _moment = meta.last.seconds();
-    if meta.version != version {
-        return Err(OpenFault::Version);
-    }
-    Ok(())
+    is_version(meta.version, version)
 }
 
 /// The books after the first.
@@ -212,7 +211,7 @@ fn bring_to_latest<S: Alter>(
     let meta = kept_within(tx)?;
     is_of_version(&meta, version)?;
     let rows = books_within(tx, alloc)?;
-    let read = read_shelves(alloc, meta.book.as_str(), &rows)?;
+    let read = read_shelves(alloc, meta.book.as_str(), meta.last, &rows)?;
     match put_latest(tx, alloc, version, &meta) {
         Ok(()) => Ok(read),
         Err(fault) => Err(read_fault(fault)),

@@ -1,6 +1,7 @@
 //! A keeper over a database: of one that is made for it, or of one that was.
 
-ghost use Rattle.std.specs.Prelude.{◌≡◌, ◌≤◌, ◌⊎◌, false, map, Some, IfErr, IfOk, OnOk};
+ghost use Rattle.std.specs.Prelude.{◌≡◌, ◌≤◌, ◌<◌, ◌^◌, ◌⊎◌, false, map, IsTrue, Some, IfErr};
+ghost use Rattle.std.specs.Prelude.{IfOk, OnOk};
 ghost use Rattle.std.specs.String.{string_bytes};
 ghost use Rattle.sql_opening.specs.Opens.{IsNoVersion};
 ghost use Rattle.sql_opening.specs.declared.fault.OpenFault.TheVariants.{Foreign, Rules};
@@ -13,11 +14,11 @@ ghost use Rattle.sql_tables.specs.Schema.{latest};
 ghost use Rattle.sql_tables.specs.Statements.{HasIdleBook, Reads};
 ghost use Rattle.sql_tables.specs.Texts.{stage};
 ghost use Rattle.sql_keeper.specs.Books.{IsBookText};
-ghost use Rattle.sql_keeper.specs.Content.{shelf_names};
+ghost use Rattle.sql_keeper.specs.Causes.{IsUnruledMeta};
 ghost use Rattle.sql_keeper.specs.Creates.{CreatesBook};
 ghost use Rattle.sql_keeper.specs.Faults.{IsCreateFault};
-ghost use Rattle.sql_keeper.specs.Finds.{FindsBooks, IsUnruledAt, ReadsBooks};
-ghost use Rattle.sql_keeper.specs.Inside.{StaysOpen};
+ghost use Rattle.sql_keeper.specs.Finds.{FindsBooks, IsReadOf, ReadsBooks};
+ghost use Rattle.sql_keeper.specs.Inside.{IsKeeper};
 ghost use Rattle.sql_keeper.specs.Opened.{IsCreated, IsNotCreated, IsNotOpened, IsOpened};
 ghost use Rattle.sqlite.specs.Held.{state};
 ghost use Rattle.sqlite.specs.State.{HasCleanDisk, IsLive};
@@ -33,6 +34,7 @@ use sql_rows::{BookColumns, Meta, read_books, read_meta};
 use sql_tables::{LATEST, ReadFault, has_ours, is_blank};
 use sqlite::{Alter, Connection, Error, ErrorCode};
 use std::alloc::Global;
+use units::Moment;
 
 /// A keeper before its first call, and the shelf that it goes by.
 pub(crate) fn keeper_of<S: Alter>(
@@ -42,12 +44,17 @@ pub(crate) fn keeper_of<S: Alter>(
 ) -> (SqlKeeper<S>, TariffShelf)
     requires plain { connection.in_transaction ≡ false }
     requires idle { HasIdleBook (state S.Store connection) }
-    requires stays { StaysOpen (state S.Store connection) }
+    requires open { HasCleanDisk (state S.Store connection) →
+        IsTrue (state S.Store connection).is_open }
+    requires read { HasCleanDisk (state S.Store connection) →
+        IsReadOf read (state S.Store connection).now.trees }
     ensures connection { result.0.connection ≡ connection }
     ensures shelf { result.1 ≡ read.given }
-    ensures names { result.0.names ≡ shelf_names read.own }
+    ensures own { result.0.shelf ≡ read.own }
     ensures text { result.0.text ≡ string_bytes read.text }
+    ensures last { result.0.last ≡ read.last }
     ensures uncounted { result.0.failures ≡ 0 }
+    ensures kept { IsKeeper S.Store result.0 }
     ensures live { IsLive (state S.Store connection) }
 {
     // For the prover alone: looking at the value makes known here what its type keeps.
@@ -56,6 +63,7 @@ pub(crate) fn keeper_of<S: Alter>(
         connection,
         shelf: read.own,
         text: read.text,
+        last: read.last,
         failures: 0,
         alloc,
     };
@@ -123,8 +131,8 @@ fn find_meta<S: Alter>(conn: &mut Connection<S>) -> Result<Meta, OpenFault>
         (state S.Store conn.old) (state S.Store conn.new) result }
     ensures told { IfErr result IsNoVersion }
     ensures ours { IfErr result (λ fault. ¬ (fault ≡ Foreign)) }
-    ensures rules { HasCleanDisk (state S.Store conn.new) →
-        IfErr result (IsUnruledAt (state S.Store conn.old)) }
+    ensures rules { HasCleanDisk (state S.Store conn.new) → IfErr result
+        (λ fault. fault ≡ Rules → IsUnruledMeta (state S.Store conn.old).now.trees) }
 {
     match read_meta(conn) {
         Ok(Some(meta)) => Ok(meta),
@@ -152,17 +160,27 @@ fn find_books<S: Alter>(
     }
 }
 
+/// The version that is kept is this one, and its number in the range of versions.
+pub(crate) fn is_version(kept: u32, version: u32) -> Result<(), OpenFault>
+    ensures version { OnOk result (kept ≡ version) }
+    ensures told { IfErr result (λ fault. (fault ≡ Version) × (¬ (kept ≡ version))) }
+    ensures number { kept < 2 ^ 32 }
+{
+    if kept != version {
+        return Err(OpenFault::Version);
+    }
+    Ok(())
+}
+
 /// The version is that of the tables, and the moment in the range of moments.
 fn is_of_latest(meta: &Meta) -> Result<(), OpenFault>
     ensures version { OnOk result (meta.now.version ≡ latest) }
     ensures told { IfErr result (λ fault. (fault ≡ Version) × (¬ (meta.now.version ≡ latest))) }
+    ensures number { meta.now.version < 2 ^ 32 }
     ensures last { meta.now.last ≤ 4_102_488_000 }
 {
     let _moment = meta.last.seconds();
-    if meta.version != LATEST {
-        return Err(OpenFault::Version);
-    }
-    Ok(())
+    is_version(meta.version, LATEST)
 }
 
 /// The shelf of a database whose tables are those of the latest version.
@@ -177,7 +195,7 @@ pub(crate) fn latest_books<S: Alter>(
     let meta = find_meta(conn)?;
     is_of_latest(&meta)?;
     let rows = find_books(conn, alloc)?;
-    read_shelves(alloc, meta.book.as_str(), &rows)
+    read_shelves(alloc, meta.book.as_str(), meta.last, &rows)
 }
 
 /// The shelf of a database of this system.
@@ -211,7 +229,7 @@ impl<S: Alter> SqlKeeper<S> {
         ensures refused { IfErr result
             (λ left. IsNotCreated S.Store text.now connection left.1 left.0) }
     {
-        let read = match read_book(alloc, text) {
+        let read = match read_book(alloc, text, Moment::first()) {
             Ok(read) => read,
             Err(fault) => return Err((CreateFault::Book(fault), connection)),
         };
@@ -225,12 +243,13 @@ impl<S: Alter> SqlKeeper<S> {
     /// writes nothing.
     ///
     /// # Errors
-    /// The connection is given back. `Foreign`, the tables aren't exactly those of a version of
-    /// this system, and only then; `Version`, another version is kept than that of the tables, and
-    /// only then; `Older`, it is that of the tables, and before the latest, and only then; `Rules`,
-    /// a rowid stands twice, or what is kept once isn't there or is out of its rules, or the texts
-    /// that are kept aren't those of a shelf, and only then; `Store`, also where a transaction is
-    /// open; `Memory`.
+    /// The connection is given back. Each of the first four says what the database is, and a
+    /// database has one of them at most. `Foreign`, the tables aren't exactly those of a version of
+    /// this system. Of the others they are, and `Rules` says that a rowid stands twice, or that what
+    /// is kept once isn't there or is out of its rules; `Version`, that another version is kept
+    /// than that of the tables; `Older`, that it is that of the tables, and before the latest;
+    /// `Rules` too, that it is the latest, and the texts that are kept aren't those of a shelf.
+    /// `Store`, also where a transaction is open; `Memory`.
     pub fn open(
         alloc: Global,
         mut connection: Connection<S>,

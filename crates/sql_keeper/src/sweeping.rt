@@ -7,16 +7,18 @@ ghost use Rattle.sql_rows.specs.Content.{content_of};
 ghost use Rattle.sql_rows.specs.Makes.{Makes, MakesIfOpen};
 ghost use Rattle.sql_tables.specs.Statements.{Attempts, HasBook, HasIdleBook, IsInside};
 ghost use Rattle.sql_keeper.specs.Content.{shelf_names};
-ghost use Rattle.sql_keeper.specs.Commits.{CommitsWhole, Transacts};
-ghost use Rattle.sql_keeper.specs.Inside.{clean_in, failed_in, tables_in};
-ghost use Rattle.sql_keeper.specs.Stops.{IsWhole, trees_in};
+ghost use Rattle.sql_keeper.specs.Commits.{CommitsStanding, CommitsWhole, Transacts};
+ghost use Rattle.sql_keeper.specs.Inside.{clean_in, failed_in, names_in, tables_in};
+ghost use Rattle.sql_keeper.specs.Stops.{IsWhole, LeavesIn, honest_in, trees_in};
 ghost use Rattle.sql_keeper.specs.Sweeps.{BecomesSwept, with_accounts, with_sweep};
 ghost use Rattle.sqlite.specs.Held.{state};
 ghost use Rattle.sqlite.specs.State.{HasCleanDisk};
 
 use crate::faults::counted;
 use crate::keeper::SqlKeeper;
+use crate::last_moment::last_after;
 use crate::putting::put_stored;
+use crate::still_open::still_open;
 use crate::swept_rows::{SweptAccount, read_sweep};
 use keepers::StoreFault;
 use shelves::TariffShelf;
@@ -108,6 +110,28 @@ fn make_sweep<S: Alter>(
     Ok(accounts.len() as u64)
 }
 
+/// Makes a sweep as `make_sweep` does, if the connection can still be asked.
+fn ask_to_sweep<S: Alter>(
+    conn: &mut Connection<S>,
+    alloc: Global,
+    names: &TariffShelf,
+    text: &str,
+    shelf: &TariffShelf,
+    moment: Moment,
+) -> Result<u64, ReadFault>
+    requires plain { conn.old.in_transaction ≡ false }
+    requires idle { HasIdleBook (state S.Store conn.old) }
+    ensures plain { conn.new.in_transaction ≡ false }
+    ensures commits { CommitsStanding
+        (BecomesSwept (shelf_names names.now) text.now shelf.now moment)
+        (state S.Store conn.old) (state S.Store conn.new) result }
+    ensures count { HasCleanDisk (state S.Store conn.new) →
+        IfOk result (λ n. n ≡ (content_of (state S.Store conn.old).now.trees).count) }
+{
+    still_open(conn)?;
+    make_sweep(conn, alloc, names, text, shelf, moment)
+}
+
 impl<S: Alter> SqlKeeper<S> {
     /// Brings each account to the moment, in one transaction, and answers how many there are: of
     /// each what may still change is read, sessions whose supervision time is over end, what their
@@ -125,15 +149,17 @@ impl<S: Alter> SqlKeeper<S> {
             IfOk result (λ n. n ≡ (tables_in S.Store self.old).count) }
         ensures done { clean_in S.Store self.new → OnOk result (IsSwept shelf.now moment
             (tables_in S.Store self.old) (tables_in S.Store self.new)) }
-        ensures kept { Keeps (tables_in S.Store) failed_in (clean_in S.Store) self.old self.new
-            result }
+        ensures kept { Keeps (tables_in S.Store) failed_in (honest_in S.Store) (clean_in S.Store)
+            (LeavesIn S.Store) self.old self.new
+            (IsSwept shelf.now moment (tables_in S.Store self.old)) result }
         ensures whole { IsWhole S.Store self.old self.new
-            (BecomesSwept self.old.names self.old.text shelf.now moment
+            (BecomesSwept (names_in self.old) self.old.text shelf.now moment
             (trees_in S.Store self.old)) }
     {
         let text = self.text.as_str();
         let (alloc, names) = (self.alloc, &self.shelf);
-        let made = make_sweep(&mut self.connection, alloc, names, text, shelf, moment);
+        let made = ask_to_sweep(&mut self.connection, alloc, names, text, shelf, moment);
+        self.last = last_after(&made, self.last, moment);
         counted(&mut self.failures, made)
     }
 }

@@ -10,11 +10,15 @@ use Rattle.statements.specs.Texts.{WritesBeginning}
 use Rattle.statements.specs.declared.fault.StatementFault.{StatementFault}
 use Rattle.statements.specs.declared.fault.StatementFault.TheVariants.{Store}
 
--- asking a source changes nothing of it, and it fails only with a cause
-pub record Asks {K T : Type 0} (content : K → Tables) (failed : K → ℕ) (clean : K → Type 0)
-    (old new : K) (result : Result T StatementFault) : Type 0 where
+-- asking a source changes nothing of it, nor what a stop leaves; it answers only where the source
+-- can still be asked, and it fails only with a cause
+pub record Asks {K T : Type 0} (content : K → Tables) (failed : K → ℕ) (honest clean : K → Type 0)
+    (leaves : K → Tables → Type 0) (old new : K) (result : Result T StatementFault) : Type 0 where
   pub same : clean new → content new ≡ content old
   pub cleanness : clean new → clean old
+  pub honesty : honest new → honest old
+  pub stands : honest new → OnOk result (clean new)
+  pub left : honest new → (t : Tables) → leaves new t → leaves old t
   pub kept : failed old ≤ failed new
   pub cause : IsErrOf result Store → min (failed old + 1) max_failures ≤ failed new
 

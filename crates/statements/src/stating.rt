@@ -69,7 +69,8 @@ fn write_charges<S: ChargeSource, W: Write>(
     ensures sums { S.clean source.new → (rows : List ChargeColumns) →
         AreCharges ((S.content source.old).charges asked.now.account.now) rows →
         IfOk result (λ sums. sums ≡ sums_of (of_month asked.now.book.now asked.now.month rows)) }
-    ensures asks { Asks S.content S.failed S.clean source.old source.new result }
+    ensures asks { Asks S.content S.failed S.honest S.clean S.left source.old source.new
+        result }
 {
     let mut charges = MonthRows {
         alloc,
@@ -163,7 +164,8 @@ pub fn statement<S: ChargeSource, W: Write>(
         (W.contents writer.old) (W.contents writer.new)
         (λ rows. statement_text asked.now.book.now asked.now.account.now asked.now.month moment rows
         buckets.now) result }
-    ensures asks { Asks S.content S.failed S.clean source.old source.new result }
+    ensures asks { Asks S.content S.failed S.honest S.clean S.left source.old source.new
+        result }
 {
     write_head(alloc, writer, asked.account, asked.month, moment)?;
     let sums = write_charges(alloc, source, writer, asked, Form::Lines)?;
@@ -187,7 +189,8 @@ pub fn export<S: ChargeSource, W: Write>(
         Writes ((S.content source.old).charges asked.now.account.now)
         (W.contents writer.old) (W.contents writer.new)
         (λ rows. export_text asked.now.book.now asked.now.month rows) result }
-    ensures asks { Asks S.content S.failed S.clean source.old source.new result }
+    ensures asks { Asks S.content S.failed S.honest S.clean S.left source.old source.new
+        result }
 {
     write_header(alloc, writer)?;
     write_charges(alloc, source, writer, asked, Form::Records)?;

@@ -1,3 +1,4 @@
 pub mod ContentsAgain
 pub mod AllowancesAgain
 pub mod RedeemedAgain
+pub mod SaidBodies

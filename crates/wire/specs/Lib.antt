@@ -3,3 +3,4 @@ pub mod Credits
 pub mod Allowances
 pub mod Redeemed
 pub mod Contents
+pub mod SaidBodies

@@ -5,3 +5,4 @@ pub mod RequestsAgain
 pub mod Said
 pub mod SaidServices
 pub mod Told
+pub mod SaidIsRead

@@ -15,7 +15,7 @@ use Rattle.json_fields.specs.Fields.{member_at, number_at}
 use Rattle.json_fields.proofs.Kept.{bind_ok, where_ok}
 use Rattle.wire_requests.specs.Refunds.{exponent_at, micros_told, money_at}
 
-at_least : (d : ℕ) (z : ℤ) → d ≤ micros_told d z
+pub at_least : (d : ℕ) (z : ℤ) → d ≤ micros_told d z
 at_least d z = le-mul_of_pos_right d (one-le-pow (unsigned_abs (z +ℤ pos 6)) 10 (lit< tt))
 
 far_by : (d : ℕ) (b : Bool) → nat_le d 1000000000000000 ≡ b → (FitsSigned w64 (pos d) → ⊥) →

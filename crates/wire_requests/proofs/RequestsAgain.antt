@@ -85,7 +85,7 @@ unlike test (x ∷ xs) ys y h =
     unlike test xs ys y (and_parts (not (test x)) (list_all (λ z. not (test z)) (xs ++ y ∷ ys)) h).1
 
 -- an element that no other is like is unlike those before it
-differ_front : {A : Type 0} (alike : A → A → Bool) (xs ys : List A) (y : A) →
+pub differ_front : {A : Type 0} (alike : A → A → Bool) (xs ys : List A) (y : A) →
     all_differ alike (xs ++ y ∷ ys) ≡ true → list_any (λ x. alike x y) xs ≡ false
 differ_front alike [] ys y h = refl
 differ_front alike (x ∷ xs) ys y h =
@@ -198,13 +198,13 @@ unfolding kind_of_first part_data
 first_again kind [] h = absurd (omega arith)
 first_again kind (p ∷ ps) h = rw (told_again kind p.units.0 (tag_of p)) refl
 
-record ReportParts (kind : UnitKind) (ps : List UsedPart) : Type 0 where
-  low : nat_le 1 (length ps) ≡ true
-  high : nat_le (length ps) 4 ≡ true
-  most : list_all (λ (p : UsedPart). nat_le p.units.0 (most_units kind)) ps ≡ true
-  differ : tags_differ ps ≡ true
+pub record ReportParts (kind : UnitKind) (ps : List UsedPart) : Type 0 where
+  pub low : nat_le 1 (length ps) ≡ true
+  pub high : nat_le (length ps) 4 ≡ true
+  pub most : list_all (λ (p : UsedPart). nat_le p.units.0 (most_units kind)) ps ≡ true
+  pub differ : tags_differ ps ≡ true
 
-and_four : (a b c d : Bool) → (a && b && c && d) ≡ true →
+pub and_four : (a b c d : Bool) → (a && b && c && d) ≡ true →
     (a ≡ true) × (b ≡ true) × (c ≡ true) × (d ≡ true)
 and_four true true true true h = (refl, refl, refl, refl)
 and_four true true true false h = no h
@@ -212,7 +212,7 @@ and_four true true false d h = no h
 and_four true false c d h = no h
 and_four false b c d h = no h
 
-report_parts : (kind : UnitKind) (ps : List UsedPart) → is_report kind ps ≡ true →
+pub report_parts : (kind : UnitKind) (ps : List UsedPart) → is_report kind ps ≡ true →
     ReportParts kind ps
 report_parts kind ps h =
     let p = and_four (nat_le 1 (length ps)) (nat_le (length ps) 4)
@@ -328,7 +328,7 @@ unfolding services_of array_of
 all_again phase ss is low high d f =
     rw (service_items-len ss, low, high, objects_again ss, services_again phase [] ss is f d) refl
 
-all_fit : (ss : List Service) → list_all (fits Update) ss ≡ true
+pub all_fit : (ss : List Service) → list_all (fits Update) ss ≡ true
 all_fit [] = refl
 all_fit (s ∷ ss) = all_fit ss
 
@@ -378,13 +378,13 @@ event_again e is =
       required_again e.group e.requested None is.requested,
     ) refl
 
-told_by : (a : EventAction) (d : Data) → action_at (action_number a) d ≡ event_at a d
+pub told_by : (a : EventAction) (d : Data) → action_at (action_number a) d ≡ event_at a d
 unfolding action_at
 told_by action.DirectDebiting d = refl
 told_by action.CheckBalance d = refl
 told_by action.PriceEnquiry d = refl
 
-action_small : (a : EventAction) → action_number a ≤ 3
+pub action_small : (a : EventAction) → action_number a ≤ 3
 action_small action.DirectDebiting = lit≤ tt
 action_small action.CheckBalance = lit≤ tt
 action_small action.PriceEnquiry = lit≤ tt
@@ -412,12 +412,12 @@ money_again n l h = rw (
   le-leb n 1000000000000000 h,
 ) refl
 
-record RefundParts (m c : ℕ) : Type 0 where
-  some : 1 ≤ m
-  most : m ≤ 1000000000000000
-  currency : c ≤ 999
+pub record RefundParts (m c : ℕ) : Type 0 where
+  pub some : 1 ≤ m
+  pub most : m ≤ 1000000000000000
+  pub currency : c ≤ 999
 
-refund_parts : (m c : ℕ) → is_refund m c ≡ true → RefundParts m c
+pub refund_parts : (m c : ℕ) → is_refund m c ≡ true → RefundParts m c
 refund_parts m c h =
     let p = and_three (nat_le 1 m) (nat_le m 1000000000000000) (nat_le c 999) h in
     record {

@@ -221,7 +221,7 @@ asked_said (Some v) o h =
     subst (λ (x : Option Requested). SaysPerhaps SaysRequested x (Some v)) (same_value (Some r.0) o
     r.2) (record { value = v; stands = refl; says = requested_said v r.0 r.1 })
 
-absent : {A : Type 0} (o : Option A) → is_none o ≡ true → o ≡ None
+pub absent : {A : Type 0} (o : Option A) → is_none o ≡ true → o ≡ None
 absent None h = refl
 absent (Some x) h = absurd (cc)
 

@@ -6,3 +6,4 @@ pub mod Spelled
 pub mod Rules
 pub mod Said
 pub mod Told
+pub mod Free

@@ -5,6 +5,7 @@ ghost use Rattle.wire_requests.specs.Reading.{session_at, kind_at, account_at, o
 ghost use Rattle.wire_requests.specs.Reading.{event_at, action_at, ask_at, request_in, request_of};
 ghost use Rattle.wire_requests.specs.Said.{ReadsWhatIsSaid};
 ghost use Rattle.wire_requests.specs.Told.{FaultsAreTold};
+ghost use Rattle.wire_requests.specs.Free.{ReadsAllThatIsSaid};
 
 use crate::phase::Phase;
 use crate::refund::refund;
@@ -178,6 +179,13 @@ pub fn read_request(alloc: Global, bytes: &[u8]) -> Result<Request, WireFault>
 /// its number and its account, and each service, the event or the refund that it asks.
 pub fn request_is_said()
     ensures { ReadsWhatIsSaid }
+{}
+
+/// What is said of a request is read, whatever the order of its members and whatever else it has,
+/// where nothing stands in its way: a Requested-Service-Unit of a service is an object without
+/// CC-Money, and the Exponent of a refund is from -6 to 0.
+pub fn request_is_read()
+    ensures { ReadsAllThatIsSaid }
 {}
 
 /// A fault of a request is told of a member: missing only where the object that has to hold it has

@@ -26,9 +26,17 @@ impl Keeper for Broken {
 
     ghost failed = { λ _. max_failures };
 
+    ghost honest = { λ _. ⊥ };
+
     ghost clean = { λ _. ⊥ };
 
+    ghost left = { λ _ _. ⊥ };
+
     ghost bounded = { λ _. le_refl max_failures };
+
+    ghost honesty = { λ _ clean. clean };
+
+    ghost settled = { λ _ _ _ none. absurd none };
 
     fn failures(&self) -> u64 {
         1_000_000_000_000_000_000

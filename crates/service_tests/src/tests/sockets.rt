@@ -5,17 +5,16 @@ use crate::tests::connections::with_ending;
 use crate::tests::requests::{OPEN_TWICE, OPENED_THEN_EXISTS};
 use http_api::serve_socket;
 use keepers::MemoryKeeper;
-use std::alloc::Global;
 use std::io;
 use std::io::Write;
 use std::net::{Shutdown, TcpListener, TcpStream};
-use std::process::Abort;
 
 /// How the engine ends the connection.
-fn ending(rt: &impl Abort, alloc: Global, stream: &TcpStream) -> String {
+fn ending(rt: &HostRuntime, stream: &TcpStream) -> String {
+    let alloc = rt.alloc();
     let shelf = shelf(rt, alloc);
     let mut keeper = MemoryKeeper::new(alloc);
-    let served = serve_socket(alloc, stream, &mut keeper, &shelf, &mut clock(rt, TEN));
+    let served = serve_socket(rt, stream, &mut keeper, &shelf, &mut clock(rt, TEN));
     with_ending(rt, alloc, b"", served)
 }
 
@@ -32,7 +31,7 @@ fn over_loopback(rt: HostRuntime) {
         .expect(&rt, "a request");
     client.shutdown(Shutdown::Write).expect(&rt, "an end");
     let (stream, _) = listener.accept().expect(&rt, "a stream");
-    let ending = ending(&rt, alloc, &stream);
+    let ending = ending(&rt, &stream);
     drop(stream);
     let text = io::read_to_string(alloc, &client).expect(&rt, "answers");
     assert_eq!(rt; text.as_str(), OPENED_THEN_EXISTS);

@@ -10,23 +10,26 @@ use Rattle.charge_sources.proofs.pages.show_pages.Goals as goal
 pub loop-page-init : goal.loop-page-init
 loop-page-init g c = record {
   turns = λ clean. omega arith;
+  asked = λ one. absurd (omega (arith, one));
   small = omega arith;
-  shown = none_shown g.K.Keeper.content g.K.Keeper.failed g.K.Keeper.clean g.V.ChargeVisitor.sees
-      c.args.account.now c.args.from c.args.until c.args.keeper.now c.args.visitor.now
+  shown = none_shown g.K.Keeper.content g.K.Keeper.failed g.K.Keeper.honest
+      g.K.Keeper.clean g.K.Keeper.left g.V.ChargeVisitor.sees c.args.account.now c.args.from c.args.until c.args.keeper.now c.args.visitor.now
       (g.met.K.ChargePages.numbered c.args.keeper.now c.args.account.now);
 }
 
 pub returns-in_err-page-clause-beginning : goal.returns-in_err-page-clause-beginning
 returns-in_err-page-clause-beginning g c = λ clean.
     on_err c.from_residual.result
-    (begun g.K.Keeper.content g.K.Keeper.failed g.K.Keeper.clean g.V.ChargeVisitor.sees
+    (begun g.K.Keeper.content g.K.Keeper.failed g.K.Keeper.honest g.K.Keeper.clean g.K.Keeper.left
+    g.V.ChargeVisitor.sees
     c.args.account.now c.args.from c.args.until c.loop-page.after c.args.keeper.now
     c.loop-page.keeper c.page.new.self c.args.visitor.now c.loop-page.visitor _ c.page.result
     c.loop-page.invariant.shown c.page.ensures clean)
 
 pub returns-then-not-show-clause-reads : goal.returns-then-not-show-clause-reads
 returns-then-not-show-clause-reads g c =
-    stopped g.K.Keeper.content g.K.Keeper.failed g.K.Keeper.clean g.V.ChargeVisitor.sees
+    stopped g.K.Keeper.content g.K.Keeper.failed g.K.Keeper.honest g.K.Keeper.clean g.K.Keeper.left
+    g.V.ChargeVisitor.sees
     c.args.account.now c.args.from c.args.until c.loop-page.after c.args.keeper.now
     c.loop-page.keeper c.page.new.self c.in_ok-page.page c.args.visitor.now c.loop-page.visitor
     c.show.new.visitor c.loop-page.invariant.shown c.in_ok-page.ensures
@@ -35,7 +38,8 @@ returns-then-not-show-clause-reads g c =
 
 pub returns-then-page-clause-reads : goal.returns-then-page-clause-reads
 returns-then-page-clause-reads g c =
-    ended g.K.Keeper.content g.K.Keeper.failed g.K.Keeper.clean g.V.ChargeVisitor.sees
+    ended g.K.Keeper.content g.K.Keeper.failed g.K.Keeper.honest g.K.Keeper.clean g.K.Keeper.left
+    g.V.ChargeVisitor.sees
     c.args.account.now c.args.from c.args.until c.loop-page.after c.args.keeper.now
     c.loop-page.keeper c.page.new.self c.in_ok-page.page c.args.visitor.now c.loop-page.visitor
     c.show.new.visitor c.loop-page.invariant.shown c.in_ok-page.ensures
@@ -49,9 +53,10 @@ loop-page-preserved g c = record {
       let was = c.loop-page.invariant.turns (c.in_ok-page.ensures.cleanness clean) in
       let further = (c.in_ok-page.ensures.found clean).goes_on c.if-page.false in
       omega (arith, was, further);
+  asked = λ one honest. c.in_ok-page.ensures.stands honest;
   small = omega arith;
-  shown = page_shown g.K.Keeper.content g.K.Keeper.failed g.K.Keeper.clean g.V.ChargeVisitor.sees
-      c.args.account.now c.args.from c.args.until c.loop-page.after c.args.keeper.now
+  shown = page_shown g.K.Keeper.content g.K.Keeper.failed g.K.Keeper.honest
+      g.K.Keeper.clean g.K.Keeper.left g.V.ChargeVisitor.sees c.args.account.now c.args.from c.args.until c.loop-page.after c.args.keeper.now
       c.loop-page.keeper c.page.new.self c.in_ok-page.page c.args.visitor.now c.loop-page.visitor
       c.show.new.visitor c.loop-page.invariant.shown c.in_ok-page.ensures
       (subst (λ l. Shows g.V.ChargeVisitor.sees (filter (is_between c.args.from c.args.until) l) _
@@ -60,9 +65,11 @@ loop-page-preserved g c = record {
 
 pub returns-clause-reads : goal.returns-clause-reads
 returns-clause-reads g c =
-    never g.K.Keeper.content g.K.Keeper.failed g.K.Keeper.clean g.V.ChargeVisitor.sees
+    never g.K.Keeper.content g.K.Keeper.failed g.K.Keeper.honest g.K.Keeper.clean g.K.Keeper.left
+    g.V.ChargeVisitor.sees
     c.args.account.now c.args.from c.args.until c.loop-page.after c.args.keeper.now
     c.loop-page.keeper c.args.visitor.now c.loop-page.visitor c.loop-page.invariant.shown
+    (c.loop-page.invariant.asked (omega (arith, c.loop-page-test.false)))
     (λ clean.
     let turns = c.loop-page.invariant.turns clean in
     let small = c.loop-page.invariant.small in

@@ -1,14 +1,31 @@
-use Rattle.std.proofs.Common.{ap, refl, Some, None}
+use Rattle.std.proofs.Common.{◌≡◌, ap, refl, Some, None}
+use Rattle.commands.specs.declared.answer.Answer.TheVariants as answer
+use Rattle.commands.specs.declared.command.Command.TheVariants as command
+use Rattle.commands.specs.declared.command.Content.TheVariants as content
+use Rattle.shelves.specs.Shelves.{Shelf}
+use Rattle.keepers.specs.Change.{IsLoad}
+use Rattle.keepers.specs.Keys.{key_of}
+use Rattle.keepers.specs.Tables.{Tables}
+use Rattle.charging.specs.Stepping.{Answers, Commits}
+use Rattle.charging.proofs.Serving.{left_as, served-by}
 use Rattle.charging.proofs.Operated.{made_change, made_tells}
 use Rattle.charging.proofs.Allowing.{allow-told, allow-done}
 use Rattle.charging.proofs.allowances.allow_account.Goals as goal
+use Rattle.charging.proofs.allowances.allow_account.Goals.{After-commit}
 
-pub returns-in_ok-commit-in-Ok-Ok-clause-served :
-    goal.returns-in_ok-commit-in-Ok-Ok-clause-served
-returns-in_ok-commit-in-Ok-Ok-clause-served g c = λ clean b load fresh list time is le.
-    allow-done b list c.args.allowance c.args.moment (g.K.Keeper.content c.args.keeper.now)
-    (g.K.Keeper.content c.commit.new.keeper) c.args.loaded time le is
-    (record { load = load; account = c.moment_on-moment.ensures.kept })
+-- what its commit makes is what the allowance comes to
+done : (g : _) (c : After-commit g) (t : Tables) →
+    Commits (made_change c.args.loaded c.add_allowance.new.account c.new.result
+    (Some c.kept_allowance-kept.result) None) (g.K.Keeper.content c.args.keeper.now) t →
+    (b : Shelf) → IsLoad b c.args.moment c.args.allowance.account
+    ((g.K.Keeper.content c.args.keeper.now).rows c.args.allowance.account) (Some c.args.loaded) →
+    (g.K.Keeper.content c.args.keeper.now).answers c.args.allowance.account
+    (key_of (content.Allow c.args.allowance)) ≡ None →
+    Answers b (command.Allow c.args.allowance) c.args.moment
+    (g.K.Keeper.content c.args.keeper.now) t (answer.Bucket c.in-Ok-Ok.number)
+done g c t made = λ b load fresh list time is le.
+    allow-done b list c.args.allowance c.args.moment (g.K.Keeper.content c.args.keeper.now) t
+    c.args.loaded time le is (record { load = load; account = c.moment_on-moment.ensures.kept })
     c.moment_on-moment.result fresh c.moment_on-moment.ensures.value c.in-Ok-Ok.field-0
     c.add_allowance.new.account c.in-Ok-Ok.ensures.allows
     c.in-Ok-Ok.number
@@ -17,8 +34,23 @@ returns-in_ok-commit-in-Ok-Ok-clause-served g c = λ clean b load fresh list tim
     c.in-Ok-Ok.field-0-is c.in-Ok-Ok.ensures.tariff c.in-Ok-Ok.ensures.moment
     (made_tells c.args.loaded c.add_allowance.new.account c.new.result
     (Some c.kept_allowance-kept.result) _ None None c.new.ensures.items
-    (ap Some c.kept_allowance-kept.ensures) refl)
-    (c.in_ok-commit-in-Ok-Ok.ensures.done clean)
+    (ap Some c.kept_allowance-kept.ensures) refl) made
+
+pub returns-in-Ok-Ok-clause-served : goal.returns-in-Ok-Ok-clause-served
+returns-in-Ok-Ok-clause-served g c = λ clean b load fresh list time is le.
+    served-by b list (command.Allow c.args.allowance) c.args.moment
+    (g.K.Keeper.content c.args.keeper.now) (g.K.Keeper.content c.args.keeper.now)
+    (g.K.Keeper.content c.commit.new.keeper) (answer.Bucket c.in-Ok-Ok.number) c.commit.result
+    refl (c.commit.ensures.done clean) (c.commit.ensures.kept.err clean)
+    (λ made. done g (goal.at.returns-in-Ok-Ok-clause-served g c).After-commit
+    (g.K.Keeper.content c.commit.new.keeper) made b load fresh list time is le)
+
+pub returns-in-Ok-Ok-clause-left : goal.returns-in-Ok-Ok-clause-left
+returns-in-Ok-Ok-clause-left g c = λ honest t l.
+    left_as (c.commit.ensures.left honest t l) (λ before. before)
+    (λ made b load fresh list time is le.
+    (done g (goal.at.returns-in-Ok-Ok-clause-left g c).After-commit t made b load fresh
+    list time is le).tables)
 
 pub returns-in-Ok-Err-clause-served : goal.returns-in-Ok-Err-clause-served
 returns-in-Ok-Err-clause-served g c = λ clean b load fresh list time is le.

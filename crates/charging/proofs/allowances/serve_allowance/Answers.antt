@@ -1,12 +1,14 @@
-use Rattle.std.proofs.Common.{◌∙◌, sym, subst}
+use Rattle.std.proofs.Common.{◌≡◌, ◌∙◌, sym, subst, Some, None}
 use Rattle.commands.specs.declared.command.Command.TheVariants as command
 use Rattle.commands.specs.declared.command.Content.TheVariants as content
+use Rattle.keepers.specs.Change.{IsLoad}
 use Rattle.keepers.specs.Keys.{key_of}
 use Rattle.keepers.specs.Tables.{Tables}
-use Rattle.charging.specs.Stepping.{ServesAt}
-use Rattle.charging.proofs.Serving.{none_loaded, some_loaded}
+use Rattle.charging.specs.Stepping.{ServesAt, WritesAt}
+use Rattle.charging.proofs.Serving.{left_as, none_loaded, some_loaded}
 use Rattle.charging.proofs.Allowing.{allow-unknown, allow-again}
 use Rattle.charging.proofs.allowances.serve_allowance.Goals as goal
+use Rattle.charging.proofs.allowances.serve_allowance.Goals.{After-allow_account}
 
 pub returns-in-Some-clause-served : goal.returns-in-Some-clause-served
 returns-in-Some-clause-served g c = λ clean list time is le.
@@ -27,9 +29,14 @@ returns-in_default-2-clause-served g c = λ clean list time is le.
     (c.in_ok-loaded.ensures.found clean) c.in_default-2.is)
     (c.in_ok-loaded.ensures.same clean ∙ same)
 
-pub returns-clause-served : goal.returns-clause-served
-returns-clause-served g c = λ clean.
-    let clean_load = c.allow_account.ensures.kept.cleanness clean in
+-- what was loaded and what was looked for, of the tables before the call
+taken : (g : _) (c : After-allow_account g) → g.K.Keeper.clean c.load.new.self →
+    IsLoad c.args.shelf.now c.args.moment c.args.allowance.account
+    ((g.K.Keeper.content c.load.new.self).rows c.args.allowance.account) (Some c.in-Some-2.loaded)
+    × ((g.K.Keeper.content c.load.new.self).answers c.args.allowance.account
+    (key_of (content.Allow c.args.allowance)) ≡ None)
+    × (g.K.Keeper.content c.load.new.self ≡ g.K.Keeper.content c.args.keeper.now)
+taken g c clean_load =
     let clean_find = c.in_ok-loaded.ensures.cleanness clean_load in
     let same_load = c.in_ok-loaded.ensures.same clean_load in
     let same = c.in_ok-kept.ensures.same clean_find in
@@ -40,7 +47,24 @@ returns-clause-served g c = λ clean.
     let fresh = (λ i. ((same_load ∙ same) i).answers c.args.allowance.account
     (key_of (content.Allow c.args.allowance))) ∙ sym (c.in_ok-kept.ensures.found clean_find)
     ∙ c.in_default.is in
+    (loads, fresh, same_load ∙ same)
+
+pub returns-clause-served : goal.returns-clause-served
+returns-clause-served g c = λ clean.
+    let known = taken g (goal.at.returns-clause-served g c).After-allow_account
+    (c.allow_account.ensures.kept.cleanness clean) in
     subst (λ (x : Tables). ServesAt c.args.shelf.now (command.Allow c.args.allowance)
     c.args.moment x (g.K.Keeper.content c.allow_account.new.keeper) c.allow_account.result)
-    (same_load ∙ same)
-    (c.allow_account.ensures.served clean c.args.shelf.now loads fresh)
+    known.2 (c.allow_account.ensures.served clean c.args.shelf.now known.0 known.1)
+
+pub returns-clause-left : goal.returns-clause-left
+returns-clause-left g c = λ honest t l.
+    let honest_load = c.allow_account.ensures.kept.honesty honest in
+    let known = taken g (goal.at.returns-clause-left g c).After-allow_account
+    (c.in_ok-loaded.ensures.stands honest_load) in
+    left_as (c.allow_account.ensures.left honest t l)
+    (λ before. c.in_ok-kept.ensures.left (c.in_ok-loaded.ensures.honesty honest_load) t
+    (c.in_ok-loaded.ensures.left honest_load t before))
+    (λ writes. subst (λ (x : Tables).
+    WritesAt c.args.shelf.now (command.Allow c.args.allowance) c.args.moment x t) known.2
+    (writes c.args.shelf.now known.0 known.1))

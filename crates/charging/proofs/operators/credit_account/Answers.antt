@@ -1,13 +1,30 @@
-use Rattle.std.proofs.Common.{ap, refl, Some, None}
+use Rattle.std.proofs.Common.{◌≡◌, ap, refl, Some, None}
+use Rattle.commands.specs.declared.answer.Answer.TheVariants as answer
+use Rattle.commands.specs.declared.command.Command.TheVariants as command
+use Rattle.commands.specs.declared.command.Content.TheVariants as content
+use Rattle.shelves.specs.Shelves.{Shelf}
+use Rattle.keepers.specs.Change.{IsLoad}
+use Rattle.keepers.specs.Keys.{key_of}
+use Rattle.keepers.specs.Tables.{Tables}
+use Rattle.charging.specs.Stepping.{Answers, Commits}
+use Rattle.charging.proofs.Serving.{left_as, served-by}
 use Rattle.charging.proofs.Operated.{credit-told, credit-done, made_change, made_tells}
 use Rattle.charging.proofs.operators.credit_account.Goals as goal
+use Rattle.charging.proofs.operators.credit_account.Goals.{After-commit}
 
-pub returns-in_ok-commit-in-Ok-Some-clause-served :
-    goal.returns-in_ok-commit-in-Ok-Some-clause-served
-returns-in_ok-commit-in-Ok-Some-clause-served g c = λ clean b load fresh list time is le.
-    credit-done b list c.args.credit c.args.moment (g.K.Keeper.content c.args.keeper.now)
-    (g.K.Keeper.content c.commit.new.keeper) c.args.loaded time le is
-    (record { load = load; account = c.moment_on-moment.ensures.kept })
+-- what its commit makes is what the credit comes to
+done : (g : _) (c : After-commit g) (t : Tables) →
+    Commits (made_change c.args.loaded c.add_bucket.new.account c.new.result
+    (Some c.kept_credit-kept.result) None) (g.K.Keeper.content c.args.keeper.now) t → (b : Shelf) →
+    IsLoad b c.args.moment c.args.credit.account
+    ((g.K.Keeper.content c.args.keeper.now).rows c.args.credit.account) (Some c.args.loaded) →
+    (g.K.Keeper.content c.args.keeper.now).answers c.args.credit.account
+    (key_of (content.Credit c.args.credit)) ≡ None →
+    Answers b (command.Credit c.args.credit) c.args.moment (g.K.Keeper.content c.args.keeper.now) t
+    (answer.Bucket c.in-Ok-Some.number)
+done g c t made = λ b load fresh list time is le.
+    credit-done b list c.args.credit c.args.moment (g.K.Keeper.content c.args.keeper.now) t
+    c.args.loaded time le is (record { load = load; account = c.moment_on-moment.ensures.kept })
     c.moment_on-moment.result fresh c.moment_on-moment.ensures.value c.in-Ok-Some.field-0
     c.add_bucket.new.account c.in-Ok-Some.ensures.credits
     c.in-Ok-Some.number
@@ -16,8 +33,23 @@ returns-in_ok-commit-in-Ok-Some-clause-served g c = λ clean b load fresh list t
     c.in-Ok-Some.field-0-is c.in-Ok-Some.ensures.tariff c.in-Ok-Some.ensures.moment
     (made_tells c.args.loaded c.add_bucket.new.account c.new.result
     (Some c.kept_credit-kept.result) _ None None c.new.ensures.items
-    (ap Some c.kept_credit-kept.ensures) refl)
-    (c.in_ok-commit-in-Ok-Some.ensures.done clean)
+    (ap Some c.kept_credit-kept.ensures) refl) made
+
+pub returns-in-Ok-Some-clause-served : goal.returns-in-Ok-Some-clause-served
+returns-in-Ok-Some-clause-served g c = λ clean b load fresh list time is le.
+    served-by b list (command.Credit c.args.credit) c.args.moment
+    (g.K.Keeper.content c.args.keeper.now) (g.K.Keeper.content c.args.keeper.now)
+    (g.K.Keeper.content c.commit.new.keeper) (answer.Bucket c.in-Ok-Some.number) c.commit.result
+    refl (c.commit.ensures.done clean) (c.commit.ensures.kept.err clean)
+    (λ made. done g (goal.at.returns-in-Ok-Some-clause-served g c).After-commit
+    (g.K.Keeper.content c.commit.new.keeper) made b load fresh list time is le)
+
+pub returns-in-Ok-Some-clause-left : goal.returns-in-Ok-Some-clause-left
+returns-in-Ok-Some-clause-left g c = λ honest t l.
+    left_as (c.commit.ensures.left honest t l) (λ before. before)
+    (λ made b load fresh list time is le.
+    (done g (goal.at.returns-in-Ok-Some-clause-left g c).After-commit t made b load fresh
+    list time is le).tables)
 
 pub returns-in-Ok-None-clause-served : goal.returns-in-Ok-None-clause-served
 returns-in-Ok-None-clause-served g c = λ clean b load fresh list time is le.

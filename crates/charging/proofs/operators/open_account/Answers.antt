@@ -1,10 +1,15 @@
-use Rattle.std.proofs.Common.{◌∙◌, ap, refl, sym, subst, [], None}
+use Rattle.std.proofs.Common.{◌≡◌, ◌∙◌, ap, refl, sym, subst, [], None}
+use Rattle.commands.specs.declared.answer.Answer.TheVariants as answer
+use Rattle.commands.specs.declared.command.Command.TheVariants as command
 use Rattle.reserving.specs.Stored.{StoredRows, stored}
 use Rattle.keepers.specs.declared.loaded.Change.{Change}
+use Rattle.keepers.specs.Change.{IsMadeFrom}
 use Rattle.keepers.specs.Tables.{Tables}
-use Rattle.keepers.specs.Change.{IsMadeFrom, changed}
+use Rattle.charging.specs.Stepping.{Answers, Commits}
+use Rattle.charging.proofs.Serving.{commits-from, left_as, served-by}
 use Rattle.charging.proofs.Operated.{not-there, open-again, open-done}
 use Rattle.charging.proofs.operators.open_account.Goals as goal
+use Rattle.charging.proofs.operators.open_account.Goals.{After-commit}
 
 pub returns-then-branch-clause-served : goal.returns-then-branch-clause-served
 returns-then-branch-clause-served g c = λ clean list time is le.
@@ -14,26 +19,30 @@ returns-then-branch-clause-served g c = λ clean list time is le.
     (sym (c.in_ok-has_account.ensures.found clean) ∙ c.if-branch.true)
     (c.in_ok-has_account.ensures.same clean)
 
-pub returns-clause-served : goal.returns-clause-served
-returns-clause-served g c = λ clean list time is le.
-    let clean_asked = c.in_ok-commit.ensures.kept.cleanness clean in
-    let same = c.in_ok-has_account.ensures.same clean_asked in
-    let change : Change = record {
-      moment = c.advance.new.self.as_of;
-      number = c.args.number;
-      after = stored c.advance.new.self;
-      before = c.into_stored-before.result;
-      charges = c.new-2.result;
-      kept = None;
-      redeemed = None;
-    } in
+-- the change of a new account
+abbrev change : (g : _) → After-commit g → Change
+change g c = record {
+  moment = c.advance.new.self.as_of;
+  number = c.args.number;
+  after = stored c.advance.new.self;
+  before = c.into_stored-before.result;
+  charges = c.new-2.result;
+  kept = None;
+  redeemed = None;
+}
+
+-- what its commit makes is what the command comes to
+done : (g : _) (c : After-commit g) (t : Tables) → g.K.Keeper.clean c.has_account.new.self →
+    Commits (change g c) (g.K.Keeper.content c.has_account.new.self) t →
+    Answers c.args.shelf.now (command.OpenAccount c.args.number) c.args.moment
+    (g.K.Keeper.content c.args.keeper.now) t answer.Done
+done g c t clean made = λ list time is le.
     open-done c.args.shelf.now list c.args.number c.args.moment c.advance.new.self c.new.result
-    change (g.K.Keeper.content c.args.keeper.now) (g.K.Keeper.content c.commit.new.keeper) time
-    le is
+    (change g c) (g.K.Keeper.content c.args.keeper.now) t time le is
     (not-there (g.K.Keeper.content c.args.keeper.now) c.args.number
-    (sym (c.in_ok-has_account.ensures.found clean_asked) ∙ c.if-branch.false))
+    (sym (c.in_ok-has_account.ensures.found clean) ∙ c.if-branch.false))
     (record {
-      account = c.in_ok-commit.ensures.account;
+      account = c.commit.ensures.account;
       priced_by = (λ i. (c.advance.ensures.rows i).shelf)
           ∙ (λ i. (c.new-account.ensures.rows i).shelf);
       at_moment = λ i. (c.advance.ensures.rows i).as_of;
@@ -49,11 +58,26 @@ returns-clause-served g c = λ clean list time is le.
       sessions = λ i. (c.new.ensures.rows i).sessions;
       groups = λ i. (c.new.ensures.rows i).groups;
     })
-    (λ made.
-    c.in_ok-commit.ensures.done clean
+    (λ from. commits-from (change g c) (g.K.Keeper.content c.has_account.new.self)
+    (g.K.Keeper.content c.args.keeper.now) t (c.in_ok-has_account.ensures.same clean) made
     (subst (λ (w : StoredRows). IsMadeFrom w (stored c.advance.new.self)
-    ((g.K.Keeper.content c.has_account.new.self).rows c.args.number))
-    (sym c.into_stored-before.ensures)
-    (subst (λ (y : Tables). IsMadeFrom (stored c.new.result) (stored c.advance.new.self)
-    (y.rows c.args.number)) (sym same) made))
-    ∙ ap (changed change) same)
+    ((g.K.Keeper.content c.args.keeper.now).rows c.args.number))
+    (sym c.into_stored-before.ensures) from))
+
+pub returns-clause-served : goal.returns-clause-served
+returns-clause-served g c = λ clean list time is le.
+    let clean_asked = c.commit.ensures.kept.cleanness clean in
+    served-by c.args.shelf.now list (command.OpenAccount c.args.number) c.args.moment
+    (g.K.Keeper.content c.args.keeper.now) (g.K.Keeper.content c.has_account.new.self)
+    (g.K.Keeper.content c.commit.new.keeper) answer.Done c.commit.result
+    (c.in_ok-has_account.ensures.same clean_asked) (c.commit.ensures.done clean)
+    (c.commit.ensures.kept.err clean)
+    (λ made. done g (goal.at.returns-clause-served g c).After-commit
+    (g.K.Keeper.content c.commit.new.keeper) clean_asked made list time is le)
+
+pub returns-clause-left : goal.returns-clause-left
+returns-clause-left g c = λ honest t l.
+    let honest_asked = c.commit.ensures.kept.honesty honest in
+    left_as (c.commit.ensures.left honest t l) (c.in_ok-has_account.ensures.left honest_asked t)
+    (λ made list time is le. (done g (goal.at.returns-clause-left g c).After-commit t
+    (c.in_ok-has_account.ensures.stands honest_asked) made list time is le).tables)

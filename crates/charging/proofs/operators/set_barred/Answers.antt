@@ -1,11 +1,11 @@
-use Rattle.std.proofs.Common.{◌∙◌, ap, refl, sym, subst, None}
-use Rattle.keepers.specs.declared.loaded.Change.{Change}
+use Rattle.std.proofs.Common.{◌≡◌, refl, Some, None}
+use Rattle.commands.specs.declared.answer.Answer.TheVariants as answer
 use Rattle.keepers.specs.Tables.{Tables}
-use Rattle.keepers.specs.Change.{IsMadeFrom, changed}
-use Rattle.reserving.specs.Stored.{stored}
-use Rattle.charging.proofs.Serving.{none_loaded, some_loaded}
-use Rattle.charging.proofs.Operated.{bar-unknown, bar-done}
+use Rattle.charging.specs.Stepping.{Answers, Commits, bar_command}
+use Rattle.charging.proofs.Serving.{none_loaded, some_loaded, commits-from, left_as, served-by}
+use Rattle.charging.proofs.Operated.{bar-unknown, bar-done, made_change, made_tells}
 use Rattle.charging.proofs.operators.set_barred.Goals as goal
+use Rattle.charging.proofs.operators.set_barred.Goals.{After-commit}
 
 pub returns-in_default-clause-served : goal.returns-in_default-clause-served
 returns-in_default-clause-served g c = λ clean list time is le.
@@ -16,41 +16,46 @@ returns-in_default-clause-served g c = λ clean list time is le.
     (c.in_ok-loaded.ensures.found clean) c.in_default.is)
     (c.in_ok-loaded.ensures.same clean)
 
-pub returns-clause-served : goal.returns-clause-served
-returns-clause-served g c = λ clean list time is le.
-    let clean_load = c.in_ok-commit.ensures.kept.cleanness clean in
-    let same = c.in_ok-loaded.ensures.same clean_load in
-    let change : Change = record {
-      moment = c.set_barred.new.self.as_of;
-      number = c.in-Some.loaded.number;
-      after = stored c.set_barred.new.self;
-      before = c.in-Some.loaded.before;
-      charges = c.new.result;
-      kept = None;
-      redeemed = None;
-    } in
+-- what its commit makes is what the command comes to
+done : (g : _) (c : After-commit g) (t : Tables) → g.K.Keeper.clean c.load.new.self →
+    Commits (made_change c.in-Some.loaded c.set_barred.new.self c.new.result None None)
+    (g.K.Keeper.content c.load.new.self) t →
+    Answers c.args.shelf.now (bar_command c.args.number c.args.barred) c.args.moment
+    (g.K.Keeper.content c.args.keeper.now) t answer.Done
+done g c t clean made = λ list time is le.
     bar-done c.args.shelf.now list c.args.number c.args.barred c.args.moment
-    c.moment_on-moment.result c.in-Some.loaded c.set_barred.new.self change
-    (g.K.Keeper.content c.args.keeper.now) (g.K.Keeper.content c.commit.new.keeper) time le is
+    c.moment_on-moment.result c.in-Some.loaded c.set_barred.new.self
+    (made_change c.in-Some.loaded c.set_barred.new.self c.new.result None None)
+    (g.K.Keeper.content c.args.keeper.now) t time le is
     (record {
       load = some_loaded c.args.shelf.now c.args.moment c.args.number
           (g.K.Keeper.content c.args.keeper.now)
           (g.K.Keeper.content c.args.keeper.now) c.in_ok-loaded.field-0 c.in-Some.loaded refl
-          (c.in_ok-loaded.ensures.found clean_load) c.in-Some.is;
+          (c.in_ok-loaded.ensures.found clean) c.in-Some.is;
       account = c.moment_on-moment.ensures.kept;
     })
     c.moment_on-moment.ensures.value (λ i. (c.set_barred.ensures.rows i).shelf)
     (λ i. (c.set_barred.ensures.rows i).as_of) c.set_barred.ensures.left
-    (record {
-      number = refl;
-      moment = refl;
-      after = refl;
-      charges = c.new.ensures.items;
-      kept_is = refl;
-      redeemed_is = refl;
-    })
-    (λ made.
-    c.in_ok-commit.ensures.done clean
-    (subst (λ (y : Tables). IsMadeFrom c.in-Some.loaded.before (stored c.set_barred.new.self)
-    (y.rows c.in-Some.loaded.number)) (sym same) made)
-    ∙ ap (changed change) same)
+    (made_tells c.in-Some.loaded c.set_barred.new.self c.new.result None None None None
+    c.new.ensures.items refl refl)
+    (commits-from (made_change c.in-Some.loaded c.set_barred.new.self c.new.result None None)
+    (g.K.Keeper.content c.load.new.self) (g.K.Keeper.content c.args.keeper.now) t
+    (c.in_ok-loaded.ensures.same clean) made)
+
+pub returns-clause-served : goal.returns-clause-served
+returns-clause-served g c = λ clean list time is le.
+    let clean_load = c.commit.ensures.kept.cleanness clean in
+    served-by c.args.shelf.now list (bar_command c.args.number c.args.barred) c.args.moment
+    (g.K.Keeper.content c.args.keeper.now) (g.K.Keeper.content c.load.new.self)
+    (g.K.Keeper.content c.commit.new.keeper) answer.Done c.commit.result
+    (c.in_ok-loaded.ensures.same clean_load) (c.commit.ensures.done clean)
+    (c.commit.ensures.kept.err clean)
+    (λ made. done g (goal.at.returns-clause-served g c).After-commit
+    (g.K.Keeper.content c.commit.new.keeper) clean_load made list time is le)
+
+pub returns-clause-left : goal.returns-clause-left
+returns-clause-left g c = λ honest t l.
+    let honest_load = c.commit.ensures.kept.honesty honest in
+    left_as (c.commit.ensures.left honest t l) (c.in_ok-loaded.ensures.left honest_load t)
+    (λ made list time is le. (done g (goal.at.returns-clause-left g c).After-commit t
+    (c.in_ok-loaded.ensures.stands honest_load) made list time is le).tables)

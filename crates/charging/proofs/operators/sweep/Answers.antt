@@ -1,4 +1,5 @@
-use Rattle.charging.proofs.Operated.{sweep-served}
+use Rattle.charging.proofs.Serving.{left_as}
+use Rattle.charging.proofs.Operated.{sweep-served, sweep-writes}
 use Rattle.charging.proofs.operators.sweep.Goals as goal
 
 pub returns-clause-served : goal.returns-clause-served
@@ -6,3 +7,13 @@ returns-clause-served g c = λ clean list time is le.
     sweep-served c.args.shelf.now list c.args.moment c.in_ok-count.count
     (g.K.Keeper.content c.args.keeper.now) (g.K.Keeper.content c.sweep.new.self)
     time is le (c.in_ok-count.ensures.count clean) (c.in_ok-count.ensures.done clean)
+
+pub returns-clause-left : goal.returns-clause-left
+returns-clause-left g c = λ honest t l.
+    left_as (c.in_ok-count.ensures.kept.left honest t l) (λ before. before)
+    (sweep-writes c.args.shelf.now c.args.moment (g.K.Keeper.content c.args.keeper.now) t)
+
+pub returns-in_err-count-clause-left : goal.returns-in_err-count-clause-left
+returns-in_err-count-clause-left g c = λ honest t l.
+    left_as (c.in_err-count.ensures.kept.left honest t l) (λ before. before)
+    (sweep-writes c.args.shelf.now c.args.moment (g.K.Keeper.content c.args.keeper.now) t)

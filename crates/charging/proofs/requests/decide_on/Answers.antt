@@ -1,39 +1,63 @@
-use Rattle.std.proofs.Common.{◌≡◌, ◌∙◌, ap, refl, Some, None}
+use Rattle.std.proofs.Common.{◌≡◌, ◌∙◌, ap, refl, false, Some, None}
 use Rattle.std.specs.Prelude.{if◌then◌else◌}
 use Rattle.commands.specs.declared.answer.Answer.TheVariants as answer
+use Rattle.commands.specs.declared.command.Command.TheVariants.{Ccr}
 use Rattle.commands.specs.declared.command.Content.TheVariants as content
-use Rattle.reserving.specs.Stored.{stored}
-use Rattle.charging.proofs.Requested.{request-told, request-done, by_result}
+use Rattle.shelves.specs.Shelves.{Shelf}
+use Rattle.keepers.specs.declared.loaded.Change.{Change}
+use Rattle.keepers.specs.Change.{IsLoad}
+use Rattle.keepers.specs.Tables.{Tables}
+use Rattle.charging.specs.Stepping.{Answers, Commits, is_known, kept_of_request}
+use Rattle.charging.proofs.Operated.{made_change}
+use Rattle.charging.proofs.Requested.{request-told, request-done}
+use Rattle.charging.proofs.Serving.{left_as, served-by}
 use Rattle.charging.proofs.requests.decide_on.Goals as goal
+use Rattle.charging.proofs.requests.decide_on.Goals.{After-keep}
 
-pub returns-in-Ok-clause-served : goal.returns-in-Ok-clause-served
-returns-in-Ok-clause-served g c = λ clean b load fresh new list time is le.
-    by_result c.keep.result (g.K.Keeper.content c.keep.new.keeper ≡
-    g.K.Keeper.content c.args.keeper.now) (c.keep.ensures.done clean)
-    (c.keep.ensures.kept.err clean) (λ given kept.
-    request-done b list c.args.request c.args.moment (g.K.Keeper.content c.args.keeper.now)
-    (g.K.Keeper.content c.keep.new.keeper) c.args.loaded time le is
-    (record { load = load; account = c.moment_on-moment.ensures.kept })
+-- the change of an accepted request
+abbrev change : (g : _) → After-keep g → Change
+change g c = made_change c.args.loaded c.decide.new.account c.in-Ok.decided.charges
+    (Some (record {
+      content = content.Request c.args.request;
+      answer = answer.Request c.in-Ok.decided.answer;
+    })) None
+
+-- what its commit makes is what the request comes to
+done : (g : _) (c : After-keep g) (t : Tables) →
+    Commits (change g c) (g.K.Keeper.content c.args.keeper.now) t → (b : Shelf) →
+    IsLoad b c.args.moment c.args.request.account
+    ((g.K.Keeper.content c.args.keeper.now).rows c.args.request.account) (Some c.args.loaded) →
+    kept_of_request c.args.request (g.K.Keeper.content c.args.keeper.now) ≡ None →
+    is_known c.args.request (g.K.Keeper.content c.args.keeper.now) ≡ false →
+    Answers b (Ccr c.args.request) c.args.moment (g.K.Keeper.content c.args.keeper.now) t
+    (answer.Request c.in-Ok.decided.answer)
+done g c t made = λ b load fresh new list time is le.
+    request-done b list c.args.request c.args.moment (g.K.Keeper.content c.args.keeper.now) t
+    c.args.loaded time le is (record { load = load; account = c.moment_on-moment.ensures.kept })
     fresh new c.moment_on-moment.result c.moment_on-moment.ensures.value
     c.in-Ok.decided.answer c.in-Ok.decided.accepted c.in-Ok.ensures.answer c.in-Ok.ensures.accepted
-    c.decide.new.account
-    (record {
-      moment = c.decide.new.account.as_of;
-      number = c.args.loaded.number;
-      after = stored c.decide.new.account;
-      before = c.args.loaded.before;
-      charges = c.in-Ok.decided.charges;
-      kept = Some (record {
-        content = content.Request c.args.request;
-        answer = answer.Request c.in-Ok.decided.answer;
-      });
-      redeemed = None;
-    })
-    given c.if-decide.true c.decide.ensures.tariff
+    c.decide.new.account (change g c) (answer.Request c.in-Ok.decided.answer) c.if-decide.true
+    c.decide.ensures.tariff
     (c.in-Ok.ensures.moment ∙ ap
     (λ v. if v then c.moment_on-moment.result else c.args.loaded.account.as_of)
     c.if-decide.true)
-    c.in-Ok.ensures.rows c.in-Ok.ensures.charges refl refl refl refl refl kept.0 kept.1)
+    c.in-Ok.ensures.rows c.in-Ok.ensures.charges refl refl refl refl refl refl made
+
+pub returns-in-Ok-clause-served : goal.returns-in-Ok-clause-served
+returns-in-Ok-clause-served g c = λ clean b load fresh new list time is le.
+    served-by b list (Ccr c.args.request) c.args.moment (g.K.Keeper.content c.args.keeper.now)
+    (g.K.Keeper.content c.args.keeper.now) (g.K.Keeper.content c.keep.new.keeper)
+    (answer.Request c.in-Ok.decided.answer) c.keep.result refl (c.keep.ensures.done clean)
+    (c.keep.ensures.kept.err clean)
+    (λ made. done g (goal.at.returns-in-Ok-clause-served g c).After-keep
+    (g.K.Keeper.content c.keep.new.keeper) made b load fresh new list time is le)
+
+pub returns-in-Ok-clause-left : goal.returns-in-Ok-clause-left
+returns-in-Ok-clause-left g c = λ honest t l.
+    left_as (c.keep.ensures.left honest t l) (λ before. before)
+    (λ made b load fresh new list time is le.
+    (done g (goal.at.returns-in-Ok-clause-left g c).After-keep t made b load fresh new list
+    time is le).tables)
 
 pub returns-in-Ok-2-clause-served : goal.returns-in-Ok-2-clause-served
 returns-in-Ok-2-clause-served g c = λ clean b load fresh new list time is le.

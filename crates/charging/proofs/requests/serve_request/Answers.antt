@@ -1,10 +1,12 @@
-use Rattle.std.proofs.Common.{◌∙◌, ap, sym, subst}
+use Rattle.std.proofs.Common.{◌≡◌, ◌∙◌, ap, sym, subst, false, Some, None}
 use Rattle.commands.specs.declared.command.Command.TheVariants.{Ccr}
+use Rattle.keepers.specs.Change.{IsLoad}
 use Rattle.keepers.specs.Tables.{Tables}
-use Rattle.charging.specs.Stepping.{ServesAt, is_known, kept_of_request}
-use Rattle.charging.proofs.Serving.{none_loaded, some_loaded}
+use Rattle.charging.specs.Stepping.{ServesAt, WritesAt, is_known, kept_of_request}
+use Rattle.charging.proofs.Serving.{left_as, none_loaded, some_loaded}
 use Rattle.charging.proofs.Requested.{request-unknown, request-again, request-known}
 use Rattle.charging.proofs.requests.serve_request.Goals as goal
+use Rattle.charging.proofs.requests.serve_request.Goals.{After-decide_on}
 
 pub returns-in-Some-clause-served : goal.returns-in-Some-clause-served
 returns-in-Some-clause-served g c = λ clean list time is le.
@@ -43,9 +45,14 @@ returns-in_default-2-clause-served g c = λ clean list time is le.
     (c.in_ok-loaded.ensures.found clean) c.in_default-2.is)
     c.in_ok-failed-2.ensures (c.in_ok-loaded.ensures.same clean ∙ same)
 
-pub returns-clause-served : goal.returns-clause-served
-returns-clause-served g c = λ clean.
-    let clean_load = c.decide_on.ensures.kept.cleanness clean in
+-- what was loaded and what was looked for, of the tables before the call
+taken : (g : _) (c : After-decide_on g) → g.K.Keeper.clean c.load.new.self →
+    IsLoad c.args.shelf.now c.args.moment c.args.request.account
+    ((g.K.Keeper.content c.load.new.self).rows c.args.request.account) (Some c.in-Some-2.loaded)
+    × (kept_of_request c.args.request (g.K.Keeper.content c.load.new.self) ≡ None)
+    × (is_known c.args.request (g.K.Keeper.content c.load.new.self) ≡ false)
+    × (g.K.Keeper.content c.load.new.self ≡ g.K.Keeper.content c.args.keeper.now)
+taken g c clean_load =
     let clean_known = c.in_ok-loaded.ensures.cleanness clean_load in
     let clean_read = c.in_ok-is_known.ensures.cleanness clean_known in
     let clean_find = c.in_ok-read.ensures.kept.cleanness clean_read in
@@ -61,6 +68,28 @@ returns-clause-served g c = λ clean.
     ∙ sym (c.in_ok-kept.ensures.found clean_find) ∙ c.in_default.is in
     let new = ap (is_known c.args.request) (same_load ∙ same_known)
     ∙ sym (c.in_ok-is_known.ensures.found clean_known) ∙ c.if-branch.false in
+    (loads, fresh, new, all)
+
+pub returns-clause-served : goal.returns-clause-served
+returns-clause-served g c = λ clean.
+    let known = taken g (goal.at.returns-clause-served g c).After-decide_on
+    (c.decide_on.ensures.kept.cleanness clean) in
     subst (λ (x : Tables). ServesAt c.args.shelf.now (Ccr c.args.request) c.args.moment x
-    (g.K.Keeper.content c.decide_on.new.keeper) c.decide_on.result) all
-    (c.decide_on.ensures.served clean c.args.shelf.now loads fresh new)
+    (g.K.Keeper.content c.decide_on.new.keeper) c.decide_on.result) known.3
+    (c.decide_on.ensures.served clean c.args.shelf.now known.0 known.1 known.2)
+
+pub returns-clause-left : goal.returns-clause-left
+returns-clause-left g c = λ honest t l.
+    let honest_load = c.decide_on.ensures.kept.honesty honest in
+    let honest_known = c.in_ok-loaded.ensures.honesty honest_load in
+    let honest_read = c.in_ok-is_known.ensures.honesty honest_known in
+    let honest_find = c.in_ok-read.ensures.kept.honesty honest_read in
+    let known = taken g (goal.at.returns-clause-left g c).After-decide_on
+    (c.in_ok-loaded.ensures.stands honest_load) in
+    left_as (c.decide_on.ensures.left honest t l)
+    (λ before. c.in_ok-kept.ensures.left honest_find t (c.in_ok-read.ensures.left honest_read t
+    (c.in_ok-is_known.ensures.left honest_known t
+    (c.in_ok-loaded.ensures.left honest_load t before))))
+    (λ writes. subst (λ (x : Tables).
+    WritesAt c.args.shelf.now (Ccr c.args.request) c.args.moment x t) known.3
+    (writes c.args.shelf.now known.0 known.1 known.2))

@@ -1,20 +1,54 @@
-use Rattle.std.proofs.Common.{◌∙◌, ap, refl, sym}
+use Rattle.std.proofs.Common.{◌≡◌, ◌∙◌, ap, refl, sym}
+use Rattle.commands.specs.declared.answer.Answer.TheVariants as answer
+use Rattle.commands.specs.declared.command.Command.TheVariants as command
 use Rattle.redemptions.specs.Adding.{addition}
+use Rattle.shelves.specs.Shelves.{Shelf}
 use Rattle.keepers.specs.Change.{with_voucher}
+use Rattle.keepers.specs.Tables.{Tables}
+use Rattle.charging.specs.Stepping.{Answers}
+use Rattle.charging.proofs.Serving.{left_as}
 use Rattle.charging.proofs.Vouchered.{add-told, add-done}
 use Rattle.charging.proofs.voucher_commands.add_voucher.Goals as goal
+use Rattle.charging.proofs.voucher_commands.add_voucher.Goals.{After-add_voucher}
+
+-- what is put is what the command comes to
+done : (g : _) (c : After-add_voucher g) (t : Tables) → g.K.Keeper.clean c.find_voucher.new.self →
+    t ≡ with_voucher c.args.addition.code c.args.addition.terms c.args.moment
+    (g.K.Keeper.content c.find_voucher.new.self) → (b : Shelf) →
+    Answers b (command.AddVoucher c.args.addition) c.args.moment
+    (g.K.Keeper.content c.args.keeper.now) t answer.Done
+done g c t clean_find made = λ b list time is le.
+    let v = c.args.addition in
+    add-done b list v c.args.moment (g.K.Keeper.content c.args.keeper.now) t time le is
+    c.add.result
+    (ap (λ o. addition o v.terms) (sym (c.in_ok-found.ensures.found clean_find))
+    ∙ sym c.add.ensures.value) c.in-New.field-0 c.in-New.is
+    (made ∙ ap (with_voucher v.code v.terms c.args.moment) (c.in_ok-found.ensures.same clean_find))
 
 pub returns-in_ok-add_voucher-in-New-clause-served :
     goal.returns-in_ok-add_voucher-in-New-clause-served
-returns-in_ok-add_voucher-in-New-clause-served g c = λ clean b list time is le.
-    let clean_find = c.add_voucher.ensures.kept.cleanness clean in
-    let v = c.args.addition in
-    add-done b list v c.args.moment (g.K.Keeper.content c.args.keeper.now)
-    (g.K.Keeper.content c.add_voucher.new.self) time le is c.add.result
-    (ap (λ o. addition o v.terms) (sym (c.in_ok-found.ensures.found clean_find))
-    ∙ sym c.add.ensures.value) c.in-New.field-0 c.in-New.is
-    (c.in_ok-add_voucher-in-New.ensures.done clean
-    ∙ ap (with_voucher v.code v.terms c.args.moment) (c.in_ok-found.ensures.same clean_find))
+returns-in_ok-add_voucher-in-New-clause-served g c = λ clean.
+    done g (goal.at.returns-in_ok-add_voucher-in-New-clause-served g c).After-add_voucher
+    (g.K.Keeper.content c.add_voucher.new.self) (c.add_voucher.ensures.kept.cleanness clean)
+    (c.in_ok-add_voucher-in-New.ensures.done clean)
+
+pub returns-in_ok-add_voucher-in-New-clause-left :
+    goal.returns-in_ok-add_voucher-in-New-clause-left
+returns-in_ok-add_voucher-in-New-clause-left g c = λ honest t l.
+    let honest_find = c.add_voucher.ensures.kept.honesty honest in
+    left_as (c.add_voucher.ensures.kept.left honest t l) (c.in_ok-found.ensures.left honest_find t)
+    (λ made b list time is le.
+    (done g (goal.at.returns-in_ok-add_voucher-in-New-clause-left g c).After-add_voucher t
+    (c.in_ok-found.ensures.stands honest_find) made b list time is le).tables)
+
+pub returns-in_err-add_voucher-in-New-clause-left :
+    goal.returns-in_err-add_voucher-in-New-clause-left
+returns-in_err-add_voucher-in-New-clause-left g c = λ honest t l.
+    let honest_find = c.add_voucher.ensures.kept.honesty honest in
+    left_as (c.add_voucher.ensures.kept.left honest t l) (c.in_ok-found.ensures.left honest_find t)
+    (λ made b list time is le.
+    (done g (goal.at.returns-in_err-add_voucher-in-New-clause-left g c).After-add_voucher t
+    (c.in_ok-found.ensures.stands honest_find) made b list time is le).tables)
 
 pub returns-in-Present-clause-served : goal.returns-in-Present-clause-served
 returns-in-Present-clause-served g c = λ clean b list time is le.

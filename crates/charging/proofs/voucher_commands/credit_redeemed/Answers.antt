@@ -1,15 +1,37 @@
-use Rattle.std.proofs.Common.{ap, Some}
+use Rattle.std.proofs.Common.{◌≡◌, ap, refl, Ok, Some, None}
+use Rattle.commands.specs.declared.answer.Answer.TheVariants as answer
+use Rattle.commands.specs.declared.command.Command.TheVariants as command
+use Rattle.commands.specs.declared.command.Content.TheVariants as content
+use Rattle.redemptions.specs.Redeeming.{redemption}
+use Rattle.shelves.specs.Shelves.{Shelf}
+use Rattle.keepers.specs.Change.{IsLoad}
+use Rattle.keepers.specs.Keys.{key_of}
+use Rattle.keepers.specs.Tables.{Tables}
+use Rattle.charging.specs.Outcomes.{book_days}
+use Rattle.charging.specs.Stepping.{Answers, Commits}
+use Rattle.charging.proofs.Serving.{left_as, served-by}
 use Rattle.charging.proofs.Operated.{made_change, made_tells}
 use Rattle.charging.proofs.Vouchered.{redeem-told, redeem-done}
 use Rattle.charging.proofs.voucher_commands.credit_redeemed.Goals as goal
+use Rattle.charging.proofs.voucher_commands.credit_redeemed.Goals.{After-commit}
 
-pub returns-in_ok-commit-in-Ok-Some-clause-served :
-    goal.returns-in_ok-commit-in-Ok-Some-clause-served
-returns-in_ok-commit-in-Ok-Some-clause-served g c = λ clean b load fresh code redeems list time is
-    le.
-    redeem-done b list c.args.asked c.args.moment (g.K.Keeper.content c.args.keeper.now)
-    (g.K.Keeper.content c.commit.new.keeper) c.args.loaded time le is
-    (record { load = load; account = c.moment_on-moment.ensures.kept })
+-- what its commit makes is what the redemption comes to
+done : (g : _) (c : After-commit g) (t : Tables) →
+    Commits (made_change c.args.loaded c.make_bucket.new.account c.new.result
+    (Some c.kept_redemption-kept.result)
+    (Some (record { code = c.args.code; voucher = c.args.redeemed.voucher })))
+    (g.K.Keeper.content c.args.keeper.now) t → (b : Shelf) →
+    IsLoad b c.args.moment c.args.asked.account
+    ((g.K.Keeper.content c.args.keeper.now).rows c.args.asked.account) (Some c.args.loaded) →
+    (g.K.Keeper.content c.args.keeper.now).answers c.args.asked.account
+    (key_of (content.Redeem c.args.asked)) ≡ None → c.args.code ≡ c.args.asked.code →
+    redemption (book_days b) ((g.K.Keeper.content c.args.keeper.now).vouchers c.args.asked.code)
+    c.args.asked.account c.args.moment ≡ Ok c.args.redeemed →
+    Answers b (command.Redeem c.args.asked) c.args.moment (g.K.Keeper.content c.args.keeper.now) t
+    (answer.Bucket c.in-Ok-Some.number)
+done g c t made = λ b load fresh code redeems list time is le.
+    redeem-done b list c.args.asked c.args.moment (g.K.Keeper.content c.args.keeper.now) t
+    c.args.loaded time le is (record { load = load; account = c.moment_on-moment.ensures.kept })
     c.moment_on-moment.result fresh c.moment_on-moment.ensures.value c.args.redeemed redeems
     c.in-Ok-Some.field-0 c.make_bucket.new.account c.in-Ok-Some.ensures.makes
     c.in-Ok-Some.number
@@ -21,8 +43,23 @@ returns-in_ok-commit-in-Ok-Some-clause-served g c = λ clean b load fresh code r
     (Some c.kept_redemption-kept.result) _
     (Some (record { code = c.args.code; voucher = c.args.redeemed.voucher })) _ c.new.ensures.items
     (ap Some c.kept_redemption-kept.ensures)
-    (λ i. Some (record { code = code i; voucher = c.args.redeemed.voucher })))
-    (c.in_ok-commit-in-Ok-Some.ensures.done clean)
+    (λ i. Some (record { code = code i; voucher = c.args.redeemed.voucher }))) made
+
+pub returns-in-Ok-Some-clause-served : goal.returns-in-Ok-Some-clause-served
+returns-in-Ok-Some-clause-served g c = λ clean b load fresh code redeems list time is le.
+    served-by b list (command.Redeem c.args.asked) c.args.moment
+    (g.K.Keeper.content c.args.keeper.now) (g.K.Keeper.content c.args.keeper.now)
+    (g.K.Keeper.content c.commit.new.keeper) (answer.Bucket c.in-Ok-Some.number) c.commit.result
+    refl (c.commit.ensures.done clean) (c.commit.ensures.kept.err clean)
+    (λ made. done g (goal.at.returns-in-Ok-Some-clause-served g c).After-commit
+    (g.K.Keeper.content c.commit.new.keeper) made b load fresh code redeems list time is le)
+
+pub returns-in-Ok-Some-clause-left : goal.returns-in-Ok-Some-clause-left
+returns-in-Ok-Some-clause-left g c = λ honest t l.
+    left_as (c.commit.ensures.left honest t l) (λ before. before)
+    (λ made b load fresh code redeems list time is le.
+    (done g (goal.at.returns-in-Ok-Some-clause-left g c).After-commit t made b load fresh code
+    redeems list time is le).tables)
 
 pub returns-in-Ok-None-clause-served : goal.returns-in-Ok-None-clause-served
 returns-in-Ok-None-clause-served g c = λ clean b load fresh code redeems list time is le.

@@ -1,17 +1,19 @@
-use Rattle.std.proofs.Common.{rules, ◌≡◌, ◌∙◌, ap, sym, subst}
+use Rattle.std.proofs.Common.{rules, ◌≡◌, ◌∙◌, ap, sym, subst, Ok, Some, None}
 use Rattle.commands.specs.declared.answer.Answer.TheVariants as answer
 use Rattle.commands.specs.declared.answer.Refusal.{Refusal}
 use Rattle.commands.specs.declared.command.Command.TheVariants as command
 use Rattle.commands.specs.declared.command.Content.TheVariants as content
 use Rattle.redemptions.specs.Redeeming.{redemption}
+use Rattle.keepers.specs.Change.{IsLoad}
 use Rattle.keepers.specs.Keys.{key_of}
 use Rattle.keepers.specs.Tables.{Tables}
 use Rattle.charging.specs.Outcomes.{book_days}
 use Rattle.charging.specs.Served.{IsServed}
-use Rattle.charging.specs.Stepping.{ServesAt}
-use Rattle.charging.proofs.Serving.{none_loaded, some_loaded}
+use Rattle.charging.specs.Stepping.{ServesAt, WritesAt}
+use Rattle.charging.proofs.Serving.{left_as, none_loaded, some_loaded}
 use Rattle.charging.proofs.Vouchered.{redeem-unknown, redeem-again, redeem-refused}
 use Rattle.charging.proofs.voucher_commands.serve_redemption.Goals as goal
+use Rattle.charging.proofs.voucher_commands.serve_redemption.Goals.{After-credit_redeemed}
 
 pub returns-in-Some-clause-served : goal.returns-in-Some-clause-served
 returns-in-Some-clause-served g c = λ clean list time is le.
@@ -21,10 +23,19 @@ returns-in-Some-clause-served g c = λ clean list time is le.
     (sym (c.in_ok-kept.ensures.found clean) ∙ c.in-Some.is) c.repeated_redemption.ensures
     (c.in_ok-kept.ensures.same clean)
 
-pub returns-in-Ok-clause-served : goal.returns-in-Ok-clause-served
-returns-in-Ok-clause-served g c = λ clean.
+-- what was loaded and what was looked for, of the tables before the call
+taken : (g : _) (c : After-credit_redeemed g) → g.K.Keeper.clean c.load.new.self →
+    IsLoad c.args.shelf.now c.args.moment c.args.asked.account
+    ((g.K.Keeper.content c.load.new.self).rows c.args.asked.account) (Some c.in-Some-2.loaded)
+    × ((g.K.Keeper.content c.load.new.self).answers c.args.asked.account
+    (key_of (content.Redeem c.args.asked)) ≡ None)
+    × (c.in_ok-code.code ≡ c.args.asked.code)
+    × (redemption (book_days c.args.shelf.now)
+    ((g.K.Keeper.content c.load.new.self).vouchers c.args.asked.code) c.args.asked.account
+    c.args.moment ≡ Ok c.in-Ok.redeemed)
+    × (g.K.Keeper.content c.load.new.self ≡ g.K.Keeper.content c.args.keeper.now)
+taken g c clean_load =
     let code : c.in_ok-code.code ≡ c.args.asked.code = search rules in
-    let clean_load = c.credit_redeemed.ensures.kept.cleanness clean in
     let clean_voucher = c.in_ok-loaded.ensures.cleanness clean_load in
     let clean_find = c.in_ok-found.ensures.cleanness clean_voucher in
     let same_load = c.in_ok-loaded.ensures.same clean_load in
@@ -42,9 +53,28 @@ returns-in-Ok-clause-served g c = λ clean.
     ((λ i. ((same_load ∙ same_voucher) i).vouchers c.args.asked.code)
     ∙ sym (c.in_ok-found.ensures.found clean_voucher))
     ∙ sym c.in_ok-redeemed.ensures ∙ c.in-Ok.is in
+    (loads, fresh, code, redeems, same)
+
+pub returns-in-Ok-clause-served : goal.returns-in-Ok-clause-served
+returns-in-Ok-clause-served g c = λ clean.
+    let known = taken g (goal.at.returns-in-Ok-clause-served g c).After-credit_redeemed
+    (c.credit_redeemed.ensures.kept.cleanness clean) in
     subst (λ (x : Tables). ServesAt c.args.shelf.now (command.Redeem c.args.asked) c.args.moment x
-    (g.K.Keeper.content c.credit_redeemed.new.keeper) c.credit_redeemed.result) same
-    (c.credit_redeemed.ensures.served clean c.args.shelf.now loads fresh code redeems)
+    (g.K.Keeper.content c.credit_redeemed.new.keeper) c.credit_redeemed.result) known.4
+    (c.credit_redeemed.ensures.served clean c.args.shelf.now known.0 known.1 known.2 known.3)
+
+pub returns-in-Ok-clause-left : goal.returns-in-Ok-clause-left
+returns-in-Ok-clause-left g c = λ honest t l.
+    let honest_load = c.credit_redeemed.ensures.kept.honesty honest in
+    let honest_voucher = c.in_ok-loaded.ensures.honesty honest_load in
+    let known = taken g (goal.at.returns-in-Ok-clause-left g c).After-credit_redeemed
+    (c.in_ok-loaded.ensures.stands honest_load) in
+    left_as (c.credit_redeemed.ensures.left honest t l)
+    (λ before. c.in_ok-kept.ensures.left (c.in_ok-found.ensures.honesty honest_voucher) t
+    (c.in_ok-found.ensures.left honest_voucher t (c.in_ok-loaded.ensures.left honest_load t before)))
+    (λ writes. subst (λ (x : Tables).
+    WritesAt c.args.shelf.now (command.Redeem c.args.asked) c.args.moment x t) known.4
+    (writes c.args.shelf.now known.0 known.1 known.2 known.3))
 
 pub returns-in-Err-clause-served : goal.returns-in-Err-clause-served
 returns-in-Err-clause-served g c = λ clean list time is le.

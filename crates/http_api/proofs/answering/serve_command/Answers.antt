@@ -1,9 +1,9 @@
 use Rattle.std.proofs.Common.{subst}
 use Rattle.std.specs.Io.KnownBytes.{Appends}
 use Rattle.http_answers.specs.Texts.{Begins}
-use Rattle.http_api.proofs.Continuing.{continued_step}
+use Rattle.http_api.proofs.Continuing.{continued_step, leaves_step}
 use Rattle.http_api.proofs.RequestReplies.{ok_gives, err_gives, unclocked_reply, failed_reply}
-use Rattle.http_api.proofs.RequestReplies.{answered_reply, owed_answer, not_memory}
+use Rattle.http_api.proofs.RequestReplies.{answered_reply, owed_answer, not_memory, not_read}
 use Rattle.http_api.proofs.answering.serve_command.Goals as goal
 
 pub returns-in_default-clause-ok : goal.returns-in_default-clause-ok
@@ -84,5 +84,24 @@ returns-in-Ok-clause-goes_on g c = record {
       (g.K.Keeper.content c.args.keeper.now) (g.K.Keeper.content c.step.new.keeper) c.step.result
       (c.step.ensures.served clean);
   cleanness = c.step.ensures.cleanness;
+  honesty = c.step.ensures.honesty;
+  left = leaves_step g.K.Keeper.content g.K.Keeper.honest g.K.Keeper.clean g.K.Keeper.left
+      c.args.shelf.now c.args.command c.in-Some.moment c.args.keeper.now c.step.new.keeper
+      c.step.ensures.left;
+  failures = c.step.ensures.cause.kept;
+}
+
+pub returns-in-Err-clause-goes_on : goal.returns-in-Err-clause-goes_on
+returns-in-Err-clause-goes_on g c = record {
+  unwritten = not_memory c.tell_unable-in-Err.result c.tell_unable-in-Err.ensures.fault;
+  read = not_read c.tell_unable-in-Err.result c.tell_unable-in-Err.ensures.fault;
+  continued = λ clean. continued_step c.args.shelf.now c.args.command c.in-Some.moment
+      (g.K.Keeper.content c.args.keeper.now) (g.K.Keeper.content c.step.new.keeper) c.step.result
+      (c.step.ensures.served clean);
+  cleanness = c.step.ensures.cleanness;
+  honesty = c.step.ensures.honesty;
+  left = leaves_step g.K.Keeper.content g.K.Keeper.honest g.K.Keeper.clean g.K.Keeper.left
+      c.args.shelf.now c.args.command c.in-Some.moment c.args.keeper.now c.step.new.keeper
+      c.step.ensures.left;
   failures = c.step.ensures.cause.kept;
 }

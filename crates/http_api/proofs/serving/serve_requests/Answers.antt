@@ -1,12 +1,12 @@
 use Rattle.std.proofs.Common.{◌≡◌, ◌==◌, ℕ, List, refl, le_refl, arith, Result, Ok, Err, IfOk}
-use Rattle.std.proofs.Common.{IfSome}
+use Rattle.std.proofs.Common.{IfSome, inl}
 use Rattle.std.specs.Prelude.{IsErrAnd}
 use Rattle.byte_streams.specs.declared.StreamFault.TheVariants as broken
-use Rattle.charging.specs.Continued.{Continues}
+use Rattle.charging.specs.Continued.{Continues, LeavesOn}
 use Rattle.http_answers.specs.Asking.{Asking, IsAsked}
 use Rattle.http_api.specs.Replies.{Replies}
 use Rattle.http_api.proofs.RequestReplies.{at_err, fault_told}
-use Rattle.http_api.proofs.Continuing.{continued_none, continued_more}
+use Rattle.http_api.proofs.Continuing.{continued_none, continued_more, leaves_more}
 use Rattle.http_api.proofs.Taking.{IsOneMore, taken_one, some_left, turns-more}
 use Rattle.http_api.proofs.Taking.{so_far-none, so_far-more, so_far-closed, so_far-broken}
 use Rattle.http_api.proofs.Taking.{so_far-ended, so_far-full, so_far-begun}
@@ -22,6 +22,8 @@ loop-served-init g c = record {
       (g.K.Keeper.content c.args.keeper.now);
   continued = λ clean. continued_none c.args.shelf.now (g.K.Keeper.content c.args.keeper.now);
   cleanness = λ clean. clean;
+  honesty = λ honest. honest;
+  left = λ honest t l. inl l;
   failures = le_refl (g.K.Keeper.failed c.args.keeper.now);
 }
 
@@ -61,6 +63,16 @@ continued g c clean = continued_more c.args.shelf.now (g.K.Keeper.content c.args
     (c.loop-served.invariant.continued (c.answer_request.ensures.goes_on.cleanness clean))
     (c.answer_request.ensures.goes_on.continued clean)
 
+-- and so did what a stop leaves
+left : (g : _) (c : After-answer_request g) →
+    LeavesOn g.K.Keeper.content g.K.Keeper.honest g.K.Keeper.clean g.K.Keeper.left c.args.shelf.now
+    c.args.keeper.now c.answer_request.new.keeper
+left g c = leaves_more g.K.Keeper.content g.K.Keeper.honest g.K.Keeper.clean g.K.Keeper.left
+    c.args.shelf.now c.args.keeper.now c.loop-served.keeper c.answer_request.new.keeper
+    c.loop-served.invariant.cleanness c.loop-served.invariant.continued
+    c.answer_request.ensures.goes_on.honesty c.loop-served.invariant.left
+    c.answer_request.ensures.goes_on.left
+
 -- what failed gives no value
 no_value : {A E : Type 0} (r : Result A E) (Fault : E → Type 0) (Value : A → Type 0) →
     IsErrAnd r Fault → IfOk r Value
@@ -96,6 +108,8 @@ returns-in_err-heard g c = record {
   bounded = no_value c.from_residual.result _ _ c.from_residual.ensures.1;
   continued = c.loop-served.invariant.continued;
   cleanness = c.loop-served.invariant.cleanness;
+  honesty = c.loop-served.invariant.honesty;
+  left = c.loop-served.invariant.left;
   failures = c.loop-served.invariant.failures;
 }
 
@@ -116,6 +130,8 @@ returns-in_default g c = record {
   bounded = omega (arith, c.loop-served.invariant.turns);
   continued = c.loop-served.invariant.continued;
   cleanness = c.loop-served.invariant.cleanness;
+  honesty = c.loop-served.invariant.honesty;
+  left = c.loop-served.invariant.left;
   failures = c.loop-served.invariant.failures;
 }
 
@@ -158,6 +174,9 @@ returns-in_err-answer_request g c = record {
   continued = continued g (goal.at.returns-in_err-answer_request g c).After-answer_request;
   cleanness = λ clean.
       c.loop-served.invariant.cleanness (c.answer_request.ensures.goes_on.cleanness clean);
+  honesty = λ honest.
+      c.loop-served.invariant.honesty (c.answer_request.ensures.goes_on.honesty honest);
+  left = left g (goal.at.returns-in_err-answer_request g c).After-answer_request;
   failures = omega (arith, c.loop-served.invariant.failures, c.answer_request.ensures.goes_on.failures);
 }
 
@@ -179,6 +198,9 @@ returns-then-left-eq0 g c = record {
   continued = continued g (goal.at.returns-then-left-eq0 g c).After-answer_request;
   cleanness = λ clean.
       c.loop-served.invariant.cleanness (c.answer_request.ensures.goes_on.cleanness clean);
+  honesty = λ honest.
+      c.loop-served.invariant.honesty (c.answer_request.ensures.goes_on.honesty honest);
+  left = left g (goal.at.returns-then-left-eq0 g c).After-answer_request;
   failures = omega (arith, c.loop-served.invariant.failures, c.answer_request.ensures.goes_on.failures);
 }
 
@@ -195,6 +217,9 @@ loop-served-preserved g c = record {
       clean (c.in_ok-answer_request.ensures.ok clean));
   continued = continued g (goal.at.loop-served-preserved g c).After-answer_request;
   cleanness = λ clean. c.loop-served.invariant.cleanness (c.answer_request.ensures.goes_on.cleanness clean);
+  honesty = λ honest.
+      c.loop-served.invariant.honesty (c.answer_request.ensures.goes_on.honesty honest);
+  left = left g (goal.at.loop-served-preserved g c).After-answer_request;
   failures = omega (arith, c.loop-served.invariant.failures, c.answer_request.ensures.goes_on.failures);
 }
 
@@ -218,5 +243,7 @@ returns g c = record {
   bounded = omega arith;
   continued = c.loop-served.invariant.continued;
   cleanness = c.loop-served.invariant.cleanness;
+  honesty = c.loop-served.invariant.honesty;
+  left = c.loop-served.invariant.left;
   failures = c.loop-served.invariant.failures;
 }

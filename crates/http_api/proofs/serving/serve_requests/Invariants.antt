@@ -1,5 +1,5 @@
 use Rattle.std.proofs.Common.{◌≡◌, ◌+◌, ◌≤◌, IfSome}
-use Rattle.charging.specs.Continued.{ForEachList, IsContinued}
+use Rattle.charging.specs.Continued.{ForEachList, IsContinued, LeavesOn}
 use Rattle.http_api.proofs.Taking.{IsSoFar}
 use Rattle.http_api.proofs.serving.serve_requests.Given as goal
 
@@ -14,5 +14,8 @@ invariant-loop-served g l = record {
   continued : g.K.Keeper.clean l.keeper → ForEachList l.shelf (g.K.Keeper.content l.fn.keeper)
       (IsContinued l.shelf (g.K.Keeper.content l.keeper));
   cleanness : g.K.Keeper.clean l.keeper → g.K.Keeper.clean l.fn.keeper;
+  honesty : g.K.Keeper.honest l.keeper → g.K.Keeper.honest l.fn.keeper;
+  left : LeavesOn g.K.Keeper.content g.K.Keeper.honest g.K.Keeper.clean g.K.Keeper.left l.shelf
+      l.fn.keeper l.keeper;
   failures : g.K.Keeper.failed l.fn.keeper ≤ g.K.Keeper.failed l.keeper;
 }

@@ -4,6 +4,7 @@ use Rattle.commands.specs.declared.command.VoucherAddition.{VoucherAddition}
 use Rattle.charging.specs.Runs.{after_commands}
 use Rattle.office.specs.Counts.{total}
 use Rattle.office.specs.Imports.{additions}
+use Rattle.office.proofs.HeldImports.{left-all, left-more}
 use Rattle.office.proofs.ImportLemmas.{begun_at, one-counted, one-more}
 use Rattle.office.proofs.importing.import.Goals as goal
 
@@ -17,6 +18,20 @@ returns-in_err-addition-clause-imported g c = λ clean.
     c.loop-row.counts c.from_residual.result c.from_residual.ensures.0 all
     (c.loop-row.invariant.runs (c.in_err-addition.ensures.kept.cleanness clean))
     (c.in_err-addition.ensures.added clean)
+
+pub returns-in_err-addition-clause-left : goal.returns-in_err-addition-clause-left
+returns-in_err-addition-clause-left g c =
+    let all = append_assoc c.loop-row.yielded (c.in-Some.row ∷ []) c.next.new.self.rest.items
+    ∙ ap (λ (more : List VoucherAddition). c.loop-row.yielded ++ more)
+    (sym c.in-Some.ensures.steps.0) ∙ c.loop-row.invariant.all in
+    left-all g.K.Keeper.honest g.K.Keeper.left c.args.shelf.now c.args.moment
+    (c.loop-row.yielded ++ c.in-Some.row ∷ []) c.next.new.self.rest.items c.args.rows.items
+    (g.K.Keeper.content c.args.keeper.now) c.args.keeper.now c.add_voucher.new.keeper all
+    (left-more g.K.Keeper.content g.K.Keeper.honest g.K.Keeper.clean g.K.Keeper.left
+    c.args.shelf.now c.args.moment c.loop-row.yielded c.args.keeper.now c.loop-row.keeper
+    c.add_voucher.new.keeper c.loop-row.counts c.loop-row.invariant.runs
+    c.loop-row.invariant.left c.in_err-addition.ensures.kept.honesty c.in-Some.row
+    c.in_err-addition.ensures.kept.left)
 
 pub loop-row-preserved : goal.loop-row-preserved
 loop-row-preserved g c = record {
@@ -39,5 +54,13 @@ loop-row-preserved g c = record {
       ∙ sym (length-append c.loop-row.yielded (c.in-Some.row ∷ []));
   cleanness = λ clean.
       c.loop-row.invariant.cleanness (c.in_ok-addition.ensures.kept.cleanness clean);
+  honesty = λ honest.
+      c.loop-row.invariant.honesty (c.in_ok-addition.ensures.kept.honesty honest);
+  stands = λ honest clean. c.in_ok-addition.ensures.kept.stands honest;
+  left = left-more g.K.Keeper.content g.K.Keeper.honest g.K.Keeper.clean g.K.Keeper.left
+      c.args.shelf.now c.args.moment c.loop-row.yielded c.args.keeper.now c.loop-row.keeper
+      c.add_voucher.new.keeper c.loop-row.counts c.loop-row.invariant.runs
+      c.loop-row.invariant.left c.in_ok-addition.ensures.kept.honesty c.in-Some.row
+      c.in_ok-addition.ensures.kept.left;
   failures = omega (arith, c.loop-row.invariant.failures, c.in_ok-addition.ensures.kept.cause.kept);
 }

@@ -1,6 +1,7 @@
 use Rattle.std.proofs.Common.{◌≡◌, ◌≤◌, ◌++◌, length}
 use Rattle.office.specs.Counts.{total}
-use Rattle.office.specs.Imports.{additions}
+use Rattle.charging.specs.Parts.{Leaves}
+use Rattle.office.specs.Imports.{HoldsBeginning, additions}
 use Rattle.office.proofs.ImportLemmas.{ImportsSoFar}
 use Rattle.office.proofs.importing.import.Given as goal
 
@@ -12,5 +13,9 @@ invariant-loop-row g l = record {
   all : l.yielded ++ l.row-iterator.rest.items ≡ l.fn.rows.items;
   count : total l.counts ≡ length l.yielded;
   cleanness : g.K.Keeper.clean l.keeper → g.K.Keeper.clean l.fn.keeper;
+  honesty : g.K.Keeper.honest l.keeper → g.K.Keeper.honest l.fn.keeper;
+  stands : g.K.Keeper.honest l.keeper → g.K.Keeper.clean l.fn.keeper → g.K.Keeper.clean l.keeper;
+  left : Leaves g.K.Keeper.honest g.K.Keeper.left l.fn.keeper l.keeper
+      (HoldsBeginning l.shelf (additions l.moment l.yielded) (g.K.Keeper.content l.fn.keeper));
   failures : g.K.Keeper.failed l.fn.keeper ≤ g.K.Keeper.failed l.keeper;
 }

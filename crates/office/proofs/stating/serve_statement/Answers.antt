@@ -1,7 +1,11 @@
-use Rattle.std.proofs.Common.{subst, sym}
+use Rattle.std.proofs.Common.{subst, sym, Result}
+use Rattle.std.specs.Prelude.{OnOk}
+use Rattle.keepers.proofs.Placed.{on_ok}
 use Rattle.office.specs.Months.{IsMonthTold, OnlyReads, month_ended}
+use Rattle.office.specs.declared.fault.OfficeFault.{OfficeFault}
+use Rattle.office.specs.declared.status.Status.{Status}
 use Rattle.office.proofs.Beginnings.{nothing_written}
-use Rattle.office.proofs.MonthLemmas.{ended_done, month_told, nothing_told, reads_asked}
+use Rattle.office.proofs.MonthLemmas.{ended_done, ended_stands, month_told, nothing_told, reads_asked}
 use Rattle.office.proofs.MonthLemmas.{tells_ended, unknown_told}
 use Rattle.office.proofs.stating.serve_statement.Goals as goal
 
@@ -45,9 +49,20 @@ pub returns-in-Some-clause-reads : goal.returns-in-Some-clause-reads
 returns-in-Some-clause-reads g c =
     subst (OnlyReads g.K.Keeper.content g.K.Keeper.failed g.K.Keeper.clean c.args.keeper.now
     c.write_month.new.keeper) (sym c.month_ended.ensures)
-    (reads_asked g.K.Keeper.content g.K.Keeper.failed g.K.Keeper.clean c.args.keeper.now
-    c.account_state.new.keeper c.write_month.new.keeper c.write_month.result c.in-Ok.ensures.same
+    (reads_asked g.K.Keeper.content g.K.Keeper.failed g.K.Keeper.honest g.K.Keeper.clean
+    g.K.Keeper.left c.args.keeper.now c.account_state.new.keeper c.write_month.new.keeper c.write_month.result c.in-Ok.ensures.same
     c.in-Ok.ensures.cleanness c.in-Ok.ensures.cause.kept c.write_month.ensures.asks)
+
+pub returns-in-Some-clause-stands : goal.returns-in-Some-clause-stands
+returns-in-Some-clause-stands g c = λ honest.
+    subst (λ (x : Result Status OfficeFault). OnOk x (g.K.Keeper.clean c.write_month.new.keeper))
+    (sym c.month_ended.ensures)
+    (ended_stands c.write_month.result (g.K.Keeper.clean c.write_month.new.keeper)
+    (c.write_month.ensures.asks.stands honest))
+
+pub returns-in-None-clause-stands : goal.returns-in-None-clause-stands
+returns-in-None-clause-stands g c = λ honest.
+    on_ok c.tell_unknown.result (c.in-Ok.ensures.stands honest)
 
 pub returns-in-Some-clause-ended : goal.returns-in-Some-clause-ended
 returns-in-Some-clause-ended g c =

@@ -1,5 +1,5 @@
-use Rattle.std.proofs.Common.{arith, le_refl}
-use Rattle.http_api.proofs.Continuing.{continued_more, continued_none}
+use Rattle.std.proofs.Common.{arith, le_refl, inl}
+use Rattle.http_api.proofs.Continuing.{continued_more, continued_none, leaves_more}
 use Rattle.office_server.proofs.FaultLines.{faults_more, faults_none}
 use Rattle.office_server.proofs.serving.serve_connections.Goals as goal
 
@@ -9,6 +9,8 @@ loop-served-init g c = record {
   few = le_refl 0;
   continued = λ clean. continued_none c.args.shelf.now (g.K.Keeper.content c.args.keeper.now);
   cleanness = λ clean. clean;
+  honesty = λ honest. honest;
+  left = λ honest t l. inl l;
   failures = le_refl (g.K.Keeper.failed c.args.keeper.now);
 }
 
@@ -27,5 +29,12 @@ loop-served-preserved g c = record {
       (c.serve_next-failed.ensures.continued clean);
   cleanness = λ clean.
       c.loop-served.invariant.cleanness (c.serve_next-failed.ensures.cleanness clean);
+  honesty = λ honest.
+      c.loop-served.invariant.honesty (c.serve_next-failed.ensures.honesty honest);
+  left = leaves_more g.K.Keeper.content g.K.Keeper.honest g.K.Keeper.clean g.K.Keeper.left
+      c.args.shelf.now c.args.keeper.now c.loop-served.keeper c.serve_next-failed.new.keeper
+      c.loop-served.invariant.cleanness c.loop-served.invariant.continued
+      c.serve_next-failed.ensures.honesty c.loop-served.invariant.left
+      c.serve_next-failed.ensures.left;
   failures = omega (arith, c.loop-served.invariant.failures, c.serve_next-failed.ensures.failures);
 }

@@ -40,4 +40,5 @@ numbers-preserved c = record {
       c.row_numbered.ensures c.in-Some.is)
       c.in_ok-add_row.ensures.added c.in_ok-add_row-2.ensures.added;
   text = c.numbers.invariant.text;
+  last = c.numbers.invariant.last;
 }

@@ -7,4 +7,5 @@ abbrev pub invariant-numbers : goal.invariant-numbers
 invariant-numbers l = record {
   shelves : AreShelvedTo l.fn.read.own.first (map book_at l.rows) l.number l.read.own l.read.given;
   text : l.read.text ≡ l.fn.read.text;
+  last : l.read.last ≡ l.fn.read.last;
 }

@@ -43,7 +43,8 @@ returns-in_err-is_of_version-clause-brings g c =
     brought_err _ _ _ _ p.0 _ p.1 p.2 (other_version _ c.requires.known.0 c.requires.known.1 _ _ c.in_ok-meta.meta
     (meta_read _ c.requires.known.0 c.requires.known.1 _ _ _ c.in_ok-meta.meta
     (made_first _ _ _ _ c.requires.at c.in_ok-make_later.ensures.makes)
-    c.in_ok-meta.ensures.reads) _ c.in_err-is_of_version.ensures.told)
+    c.in_ok-meta.ensures.reads) _ c.in_err-is_of_version.ensures.told
+    c.is_of_version.ensures.number c.is_of_version.ensures.last)
 
 pub books_within-requires-clause-book : goal.books_within-requires-clause-book
 books_within-requires-clause-book g c =
@@ -118,7 +119,7 @@ returns-in-Ok-clause-brings g c =
     c.in_ok-meta.ensures.reads) c.in_ok-rows.ensures.reads))
     c.in_ok-is_of_version.ensures.version c.as_str.result.now c.as_str.ensures.value _
     c.in_ok-read.read c.in_ok-read.ensures.read c.in_ok-read.ensures.given
-    c.in_ok-read.ensures.text c.is_of_version.ensures.last
+    c.in_ok-read.ensures.text c.in_ok-read.ensures.last c.is_of_version.ensures.last
     (IsUtf8-string_bytes c.in_ok-meta.meta.book) _ c.in-Ok.ensures.makes
 
 pub returns-clause-brings : goal.returns-clause-brings

@@ -38,4 +38,4 @@ returns-clause-asks g c =
     (meta_read _ c.requires.known.0 c.requires.known.1 _ _ _ c.in_ok-meta.meta
     (made_first _ _ _ _ c.requires.at c.in_ok-make_later.ensures.makes)
     c.in_ok-meta.ensures.reads) c.is_of_version.result c.is_of_version.ensures.version
-    c.is_of_version.ensures.told
+    c.is_of_version.ensures.told c.is_of_version.ensures.number c.is_of_version.ensures.last

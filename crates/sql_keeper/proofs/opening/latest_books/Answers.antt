@@ -20,7 +20,7 @@ returns-in_err-is_of_latest-clause-reads g c =
     subst (ReadsBooks (state g.S.Store c.args.conn.now) (state g.S.Store c.find_meta.new.conn))
     (sym (p.1 ∙ ap Err p.2))
     (reads_other _ _ c.in_ok-meta.meta c.in_ok-meta.ensures.reads _
-    c.in_err-is_of_latest.ensures.told)
+    c.in_err-is_of_latest.ensures.told c.is_of_latest.ensures.number c.is_of_latest.ensures.last)
 
 pub returns-in_err-rows-clause-reads : goal.returns-in_err-rows-clause-reads
 returns-in_err-rows-clause-reads g c =
@@ -38,4 +38,5 @@ returns-clause-reads g c =
     c.deref.result.now c.deref.ensures.value c.as_str.result.now c.as_str.ensures.value
     c.in_ok-is_of_latest.ensures.version c.is_of_latest.ensures.last c.in_ok-rows.ensures.reads
     c.read_shelves.result c.read_shelves.ensures.read c.read_shelves.ensures.given
-    c.read_shelves.ensures.text c.read_shelves.ensures.rules c.read_shelves.ensures.either
+    c.read_shelves.ensures.text c.read_shelves.ensures.last c.read_shelves.ensures.rules
+    c.read_shelves.ensures.either

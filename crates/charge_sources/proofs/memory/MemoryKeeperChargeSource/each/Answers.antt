@@ -18,5 +18,8 @@ returns-clause-reads g c = record {
       (one_list kept are) (shown_visits _ _ c.show.result _ _ c.show.ensures);
   same = λ clean. refl;
   cleanness = λ clean. clean;
+  honesty = λ honest. honest;
+  stands = λ honest. honest;
+  left = λ honest t may. may;
   cause = search rules;
 }

@@ -1,5 +1,5 @@
 use Rattle.std.proofs.Common.{ap, subst}
-use Rattle.std.proofs.Common.{Err}
+use Rattle.std.proofs.Common.{Err, inl}
 use Rattle.keepers.specs.declared.fault.StoreFault.TheVariants.{Store}
 use Rattle.keepers.proofs.Raised.{raised_cause}
 use Rattle.keepers.proofs.failing.FailingKeeper.commit.Goals as goal
@@ -10,6 +10,9 @@ returns-then-fails-clause-kept c = λ c'.
     record {
       err = λ clean. ap c.K.Keeper.content c'.fails.ensures.same;
       cleanness = λ clean. subst c.K.Keeper.clean c'.fails.ensures.same clean;
+      honesty = λ honest. subst c.K.Keeper.honest c'.fails.ensures.same honest;
+      stands = λ honest. tt;
+      left = λ honest t l. inl (subst (λ k. c.K.Keeper.left k t) c'.fails.ensures.same l);
       cause = raised_cause (c.K.Keeper.failed c'.args.self.now.inner)
           (c.K.Keeper.failed c'.fails.new.self.inner) c'.args.self.now.failed
           c'.fails.new.self.failed (Err Store)

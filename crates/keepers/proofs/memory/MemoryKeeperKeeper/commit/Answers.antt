@@ -2,7 +2,7 @@ use Rattle.std.proofs.Common.{rules, ◌+◌, length, ◌∙◌, ap}
 use Rattle.std.specs.Prelude.{if◌then◌else◌}
 use Rattle.keepers.specs.Change.{redeemed_over}
 use Rattle.keepers.specs.Memory.{entry_in}
-use Rattle.keepers.proofs.Placed.{head_there, charge_over, on_err}
+use Rattle.keepers.proofs.Placed.{head_there, charge_over, on_err, on_ok}
 use Rattle.keepers.proofs.MemoryTables.{same_vouchers, same_tables}
 use Rattle.keepers.proofs.memory.MemoryKeeperKeeper.commit.Goals as goal
 
@@ -30,6 +30,9 @@ returns-in_err-make_voucher_room-clause-kept c = record {
       (same_vouchers c.args.self.now.last c.args.self.now.accounts.entries.items
       c.args.self.now.vouchers c.make_voucher_room.new.vouchers c.make_voucher_room.ensures.same);
   cleanness = λ _. tt;
+  honesty = λ _. tt;
+  stands = λ _. on_ok c.from_residual.result tt;
+  left = λ _ _ none. absurd none;
   cause = search rules;
 }
 
@@ -40,5 +43,8 @@ returns-in_err-put-clause-kept c = record {
       c.put.new.self.entries.items c.args.self.now.vouchers c.make_voucher_room.new.vouchers
       c.in_err-put.ensures.err c.make_voucher_room.ensures.same);
   cleanness = λ _. tt;
+  honesty = λ _. tt;
+  stands = λ _. on_ok c.from_residual-in_err-put.result tt;
+  left = λ _ _ none. absurd none;
   cause = search rules;
 }

@@ -8,7 +8,7 @@ returns-in-Ok-make_tables-clause-created g c =
     created g.S.Store c.keeper_of.result.0 c.make_tables.new.conn c.keeper_of.result.1
     c.in-Ok.read.given c.in-Ok.read.own c.args.text.now
     (string_bytes c.in-Ok.read.text) c.keeper_of.ensures.connection
-    c.keeper_of.ensures.shelf c.in-Ok.ensures.given c.keeper_of.ensures.names
+    c.keeper_of.ensures.shelf c.in-Ok.ensures.given c.keeper_of.ensures.own
     c.keeper_of.ensures.text
     c.keeper_of.ensures.uncounted c.in-Ok.ensures.alone.first c.in-Ok.ensures.text
     c.keeper_of.ensures.live

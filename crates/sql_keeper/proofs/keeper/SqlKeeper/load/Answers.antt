@@ -1,13 +1,19 @@
 use Rattle.std.proofs.Common.{refl}
-use Rattle.sql_keeper.proofs.Asked.{asked_in_turn, keeper_after}
+use Rattle.sql_keeper.proofs.Asked.{keeper_after}
+use Rattle.sql_keeper.proofs.Standing.{asked, asked_whole}
 use Rattle.sql_keeper.proofs.keeper.SqlKeeper.load.Goals as goal
 
 pub invariant_of-self : goal.invariant_of-self
-invariant_of-self g c = keeper_after g.S.Store _ _ c.self.invariant c.load_of-read.ensures.only
-    c.counted.ensures.bounded
+invariant_of-self g c =
+    keeper_after g.S.Store _ _ c.self.invariant c.ask_to_load-read.ensures.only
+    c.ask_to_load-read.ensures.survives refl refl refl c.counted.ensures.bounded
 
-pub returns : goal.returns
-returns g c =
-    rw (← c.self.view_is) (asked_in_turn g.S.Store _ _ _ _ c.load_of-read.result c.counted.result
-    c.self.invariant c.load_of-read.ensures refl c.counted.ensures.handed c.counted.ensures.cause
-    (λ x t. t))
+pub returns-clause-reads : goal.returns-clause-reads
+returns-clause-reads g c = rw (← c.self.view_is) (asked g.S.Store _ _ c.self.invariant refl _ _
+    c.ask_to_load-read.result c.counted.result c.ask_to_load-read.ensures
+    c.counted.ensures.handed c.counted.ensures.cause
+    (λ clean on x t. t))
+
+pub returns-clause-whole : goal.returns-clause-whole
+returns-clause-whole g c = rw (← c.self.view_is) (asked_whole g.S.Store _ _ c.self.invariant refl _
+    c.ask_to_load-read.result c.ask_to_load-read.ensures)

@@ -10,7 +10,8 @@ returns-in-Ok-clause-opened g c =
     opened g.S.Store c.keeper_of.result.0 c.books_in.new.conn c.keeper_of.result.1
     c.in-Ok.read.given c.in-Ok.read.own (string_bytes c.in-Ok.read.text)
     (string_bytes c.in-Ok.read.text) c.keeper_of.ensures.connection
-    c.keeper_of.ensures.shelf finds.given c.keeper_of.ensures.names c.keeper_of.ensures.text
+    c.keeper_of.ensures.shelf finds.given c.keeper_of.ensures.own c.keeper_of.ensures.text
     c.keeper_of.ensures.uncounted finds.read refl c.keeper_of.ensures.live
     (IsUtf8-string_bytes c.in-Ok.read.text) c.args.connection
-    finds.found finds.survives finds.idle
+    (λ clean. let it = finds.found clean in (it.0.kept, it.0.books, it.1, it.2)) finds.survives
+    finds.idle c.keeper_of.ensures.kept

@@ -1,41 +1,42 @@
 use Rattle.std.proofs.Common.{refl}
 use Rattle.sql_keeper.specs.Content.{shelf_names}
 use Rattle.sql_keeper.specs.Sweeps.{BecomesSwept}
+use Rattle.sql_keeper.proofs.Again.{held_swept}
 use Rattle.sql_keeper.proofs.Asked.{handed}
-use Rattle.sql_keeper.proofs.Committed.{committed_keeper, keeps, swept_law, whole}
+use Rattle.sql_keeper.proofs.Committed.{swept_law}
+use Rattle.sql_keeper.proofs.Standing.{keeps, standing_keeper, standing_whole}
 use Rattle.sql_keeper.proofs.Whole.{handed_on}
 use Rattle.sql_keeper.proofs.keeper.SqlKeeper.sweep.Goals as goal
 
 pub invariant_of-self : goal.invariant_of-self
-invariant_of-self g c = committed_keeper g.S.Store _ _
+invariant_of-self g c =
+    standing_keeper g.S.Store _ _ c.self.invariant refl
     (λ text. BecomesSwept (shelf_names c.self.inside.shelf) text c.args.shelf.now c.args.moment) _
-    c.self.invariant _
-    (handed_on _ _ _ _ _ c.counted.ensures.handed c.make_sweep-made.ensures.commits)
-    c.make_sweep-made.ensures.plain c.counted.ensures.bounded
+    c.ask_to_sweep-made.result c.counted.result c.counted.ensures.handed
+    c.ask_to_sweep-made.ensures.commits _ c.as_str-text.ensures.value
+    (λ db. held_swept (shelf_names c.self.inside.shelf) _ c.args.shelf.now _ _ c.args.moment _ db)
+    c.last_after.ensures.made c.last_after.ensures.kept refl c.ask_to_sweep-made.ensures.plain
+    c.counted.ensures.bounded
 
 pub returns-clause-count : goal.returns-clause-count
 returns-clause-count g c = rw (← c.self.view_is) (λ clean.
-    handed _ _ c.make_sweep-made.result c.counted.result c.counted.ensures.handed (λ x h. h)
-    (c.make_sweep-made.ensures.count clean.disk))
+    handed _ _ c.ask_to_sweep-made.result c.counted.result c.counted.ensures.handed (λ x h. h)
+    (c.ask_to_sweep-made.ensures.count clean.disk))
 
 pub returns-clause-done : goal.returns-clause-done
 returns-clause-done g c =
-    rw (← c.self.view_is) (swept_law g.S.Store _ c.make_sweep-made.new.conn _ _ _
+    rw (← c.self.view_is) (swept_law g.S.Store _ c.ask_to_sweep-made.new.conn _ _ _
     c.self.invariant _
-    (handed_on _ _ _ _ _ c.counted.ensures.handed c.make_sweep-made.ensures.commits))
+    (handed_on _ _ _ _ _ c.counted.ensures.handed c.ask_to_sweep-made.ensures.commits.commits))
 
 pub returns-clause-kept : goal.returns-clause-kept
-returns-clause-kept g c = rw (← c.self.view_is) (keeps g.S.Store _ _
+returns-clause-kept g c = rw (← c.self.view_is) (keeps g.S.Store _ _ c.self.invariant refl
     (λ text. BecomesSwept (shelf_names c.self.inside.shelf) text c.args.shelf.now c.args.moment) _
-    c.self.invariant _
-    (handed_on _ _ _ _ _ c.counted.ensures.handed c.make_sweep-made.ensures.commits) refl
-    c.counted.ensures.cause)
+    c.ask_to_sweep-made.result c.counted.result c.counted.ensures.handed
+    c.ask_to_sweep-made.ensures.commits _ c.counted.ensures.cause (λ db b. b.tables))
 
 pub returns-clause-whole : goal.returns-clause-whole
-returns-clause-whole g c = rw (← c.self.view_is) (whole g.S.Store _ _
+returns-clause-whole g c = rw (← c.self.view_is) (standing_whole g.S.Store _ _ c.self.invariant refl
     (λ text. BecomesSwept (shelf_names c.self.inside.shelf) text c.args.shelf.now c.args.moment) _
-    c.self.invariant _
-    (handed_on _ _ _ _ _ c.counted.ensures.handed c.make_sweep-made.ensures.commits)
-    c.as_str-text.ensures.value
-    (λ db. g.met.S.Store.settled c.self.inside.connection.store db)
-    (λ db. g.met.S.Store.settled c.make_sweep-made.new.conn.store db))
+    c.ask_to_sweep-made.result c.counted.result c.counted.ensures.handed
+    c.ask_to_sweep-made.ensures.commits c.as_str-text.ensures.value)

@@ -1,0 +1,14 @@
+use Rattle.charging.proofs.Serving.{left_as, writes-at}
+use Rattle.charging.proofs.stepping.serve.Goals as goal
+
+pub returns-clause-left : goal.returns-clause-left
+returns-clause-left g c = λ honest t l.
+    let honest_last = c.serve_at.ensures.kept.honesty honest in
+    let clean_last = c.in_ok-last.ensures.stands honest_last in
+    left_as (c.serve_at.ensures.left honest t l) (c.in_ok-last.ensures.left honest_last t)
+    (λ writes. (
+      c.in_ok-last.ensures.cleanness clean_last,
+      writes-at c.args.shelf.now c.args.command c.args.moment c.in_ok-last.last
+          (g.K.Keeper.content c.args.keeper.now) (g.K.Keeper.content c.last.new.self) t
+          (c.in_ok-last.ensures.found clean_last) (c.in_ok-last.ensures.same clean_last) writes,
+    ))

@@ -1,0 +1,93 @@
+-- What words make of the database that files held before, whatever they held.
+-- Source: profile.
+use Rattle.std.specs.Prelude.{◌≡◌, ◌<◌, ℕ, List, Option, None, Some, Ok}
+use Rattle.std.specs.Io.KnownBytes.{Appends}
+use Rattle.sqlite_disk.specs.declared.Disk as disk
+use Rattle.sqlite_wal.specs.Recovery.{Image}
+use Rattle.sqlite_store.specs.declared.store.FileStore.{FileStore}
+use Rattle.sqlite_trees.specs.Tree.{Trees}
+use Rattle.sqlite.specs.Files.{HoldsDatabase, file_state, over_files}
+use Rattle.sqlite.specs.State.{HasCleanDisk}
+use Rattle.commands.specs.declared.answer.Answer.{Answer}
+use Rattle.shelves.specs.Shelves.{Shelf}
+use Rattle.keepers.specs.Tables.{Tables}
+use Rattle.sql_rows.specs.Content.{content_of}
+use Rattle.sql_keeper.specs.Content.{shelf_names, tables_of}
+use Rattle.sql_keeper.specs.Inside.{KeeperState, IsClean, tables_in}
+use Rattle.sql_keeper.specs.Opened.{IsFresh, IsLeft}
+use Rattle.sql_keeper.specs.Shelves.{IsShelfOf}
+use Rattle.sql_keeper.specs.Stops.{trees_in}
+use Rattle.office.specs.Carried.{IsCarriedOut}
+use Rattle.office.specs.Counts.{counts_line}
+use Rattle.office.specs.Months.{IsMonthTold}
+use Rattle.office.specs.Told.{answer_line, status_of}
+use Rattle.office.specs.declared.stating.MonthQuery.{MonthQuery}
+use Rattle.office.specs.declared.status.Status.{Status}
+use Rattle.operator.specs.Office.{command_of}
+use Rattle.operator.specs.declared.parsed.ImportWords.{ImportWords}
+use Rattle.operator.specs.declared.parsed.OfficeWords.{OfficeWords}
+use Rattle.operator.specs.declared.parsed.StatementWords.{StatementWords}
+use Rattle.database_office.specs.Importing.{IsFileImported}
+
+-- ---- what is opened
+
+-- a keeper and its shelf are those of a database that the files held: its rows are there, whole
+pub record IsOpenedIn {D : Type 0} {g : disk.Ghosts D} (image : Image)
+    (k : KeeperState (FileStore D g)) (shelf : Shelf) : Type 0
+  where
+    pub fresh : IsFresh k shelf
+    pub clean : HasCleanDisk (file_state k.connection) → IsClean (file_state k.connection)
+    pub left : HasCleanDisk (file_state k.connection) → IsLeft k.text (trees_in over_files k)
+    pub books : HasCleanDisk (file_state k.connection) →
+        IsShelfOf k.text (content_of (trees_in over_files k)).books shelf
+    pub holds : HasCleanDisk (file_state k.connection) → (db : Trees) → HoldsDatabase image db →
+        trees_in over_files k ≡ db
+
+-- where the files held a database that was left with a text, this is so of the shelf of its books,
+-- and of the tables of its rows
+abbrev pub ForLeft : Image → (Shelf → Tables → Type 0) → Type 0
+ForLeft image says = (db : Trees) (text : List ℕ) (shelf : Shelf) → HoldsDatabase image db →
+    IsLeft text db → IsShelfOf text (content_of db).books shelf →
+    says shelf (tables_of (shelf_names shelf) (content_of db))
+
+-- so it is of the tables that were found and of those that a keeper leaves
+abbrev pub Leaves : {D : Type 0} → {g : disk.Ghosts D} → Image → KeeperState (FileStore D g) →
+    (Shelf → Tables → Tables → Type 0) → Type 0
+Leaves image k says = IsClean (file_state k.connection) →
+    ForLeft image (λ shelf found. says shelf found (tables_in over_files k))
+
+-- ---- what the words say
+
+-- the moment of a command: the one that they say, or one of the clock
+abbrev pub IsMomentOf : Option ℕ → ℕ → Type 0
+IsMomentOf (Some at) t = t ≡ at
+IsMomentOf None t = t < 4_102_444_800
+
+abbrev pub query_of : StatementWords → MonthQuery
+query_of words = record { account = words.account; month = words.month; csv = words.csv }
+
+-- ---- what becomes of them
+
+-- their command was carried out: its line is written, and the status is its answer's
+pub record IsCommandDone (words : OfficeWords) (before after : Option (List ℕ)) (status : Status)
+    (shelf : Shelf) (old new : Tables) : Type 0 where
+  pub moment : ℕ
+  pub said : IsMomentOf words.at moment
+  pub carried : IsCarriedOut shelf (command_of words.command) moment old new
+      (λ answer. (status ≡ status_of answer) × Appends before after (answer_line answer))
+
+-- their month is written, or that there is no such account, and no row has changed
+pub record IsMonthDone (words : StatementWords) (before after : Option (List ℕ)) (status : Status)
+    (shelf : Shelf) (old new : Tables) : Type 0 where
+  pub moment : ℕ
+  pub said : IsMomentOf words.at moment
+  pub told : IsMonthTold shelf (query_of words) moment old before after (Ok status)
+  pub same : new ≡ old
+
+-- the vouchers of a text were added, and the line of their counts is written
+pub record IsImportDone (words : ImportWords) (text : List ℕ) (before after : Option (List ℕ))
+    (shelf : Shelf) (old new : Tables) : Type 0 where
+  pub moment : ℕ
+  pub said : IsMomentOf words.at moment
+  pub imported : IsFileImported shelf text moment old new
+      (λ counts. Appends before after (counts_line counts))

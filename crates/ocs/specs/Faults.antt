@@ -1,0 +1,91 @@
+-- Which faults the program comes to, by what its words say.
+-- Source: profile.
+use Rattle.std.specs.Prelude.{◌≡◌, ◌⊎◌, ℕ, List, Option}
+use Rattle.byte_streams.specs.declared.StreamFault.TheVariants as stream
+use Rattle.clap.specs.Words.{Text}
+use Rattle.keepers.specs.declared.fault.StoreFault.TheVariants as store
+use Rattle.operator.specs.Read.{IsSaid}
+use Rattle.operator.specs.declared.parsed.ProgramWords.{ProgramWords}
+use Rattle.operator.specs.declared.parsed.ProgramWords.TheVariants as words
+use Rattle.request_lines.specs.declared.fault.LinesFault.{LinesFault}
+use Rattle.request_lines.specs.declared.fault.LinesFault.TheVariants.{Read, Store, Both, Write}
+use Rattle.database_office.specs.Adding.{IsAdditionFault}
+use Rattle.database_office.specs.Making.{IsInitFault}
+use Rattle.database_office.specs.Opening.{IsCommandFault, IsUnopened}
+use Rattle.database_office.specs.declared.fault.DatabaseFault.{DatabaseFault}
+use Rattle.office_server.specs.Told.{IsServeFault}
+use Rattle.ocs.specs.Ends.{Says}
+use Rattle.ocs.specs.declared.fault.ProgramFault.{ProgramFault}
+use Rattle.ocs.specs.declared.fault.ProgramFault.TheVariants as program
+
+-- ---- by what is done
+
+-- memory is a store that never fails; one that may fail there is only where this is so
+abbrev pub IsReachedByLines : Type 0 → LinesFault → Type 0
+IsReachedByLines Over (Read fault) = Unit {0}
+IsReachedByLines Over (Store store.Memory) = Unit {0}
+IsReachedByLines Over (Store store.Store) = Over
+IsReachedByLines Over (Both store.Memory) = Unit {0}
+IsReachedByLines Over (Both store.Store) = Over
+IsReachedByLines Over (Write fault) = Unit {0}
+
+-- one of lines over memory
+abbrev pub IsOnceFault : ProgramFault → Type 0
+IsOnceFault (program.Lines fault) = IsReachedByLines ⊥ fault
+IsOnceFault _ = ⊥
+
+-- one of a database of which this is so
+abbrev pub OnlyDatabase : (DatabaseFault → Type 0) → ProgramFault → Type 0
+OnlyDatabase says (program.Database fault) = says fault
+OnlyDatabase says _ = ⊥
+
+-- or of the writer to which it is told that all is done
+abbrev pub OnlyDone : (DatabaseFault → Type 0) → ProgramFault → Type 0
+OnlyDone says (program.Database fault) = says fault
+OnlyDone says (program.Stream fault) = fault ≡ stream.Write
+OnlyDone says _ = ⊥
+
+-- one of a file of vouchers, or of a command over a database
+abbrev pub IsImportFault : Option ℕ → ProgramFault → Type 0
+IsImportFault at (program.Vouchers fault) = Unit {0}
+IsImportFault at (program.Database fault) = IsCommandFault at fault
+IsImportFault at _ = ⊥
+
+-- one of a file or a database, of lines over that, or of memory to read them
+abbrev pub IsReplayFault : ProgramFault → Type 0
+IsReplayFault (program.Lines fault) = IsReachedByLines (Unit {0}) fault
+IsReplayFault (program.Stream fault) = fault ≡ stream.Memory
+IsReplayFault (program.Database fault) = IsUnopened fault
+IsReplayFault (program.Vouchers fault) = ⊥
+
+-- ---- by what the words say
+
+-- the words come to the fault
+abbrev pub IsFaultOf : ProgramWords → ProgramFault → Type 0
+IsFaultOf (words.Once once) = IsOnceFault
+IsFaultOf (words.Init init) = OnlyDone IsInitFault
+IsFaultOf (words.Migrate migrate) = OnlyDone IsUnopened
+IsFaultOf (words.Book book) = OnlyDone IsAdditionFault
+IsFaultOf (words.Serve serve) = OnlyDatabase IsServeFault
+IsFaultOf (words.Import import) = IsImportFault import.at
+IsFaultOf (words.Office office) = OnlyDatabase (IsCommandFault office.at)
+IsFaultOf (words.Statement statement) = OnlyDatabase (IsCommandFault statement.at)
+IsFaultOf (words.Replay replay) = IsReplayFault
+
+-- memory was refused
+abbrev pub IsMemoryFault : ProgramFault → Type 0
+IsMemoryFault fault = fault ≡ program.Stream stream.Memory
+
+-- the writer failed
+abbrev pub IsWriteFault : ProgramFault → Type 0
+IsWriteFault fault = fault ≡ program.Stream stream.Write
+
+-- what the words say comes to the fault, or memory was refused for its line
+abbrev pub IsFaultTold : ProgramWords → ProgramFault → Type 0
+IsFaultTold said fault = IsFaultOf said fault ⊎ IsMemoryFault fault
+
+-- so it is of what these words say; or memory was refused to read them; or they say no command, and
+-- the text that they ask for wasn't written
+abbrev pub IsFaultIn : List Text → ProgramFault → Type 0
+IsFaultIn texts fault = Says texts (λ said. IsFaultOf said fault)
+    ⊎ (IsMemoryFault fault ⊎ (((said : ProgramWords) → ¬ IsSaid texts said) × IsWriteFault fault))

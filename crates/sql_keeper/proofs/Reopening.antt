@@ -1,0 +1,161 @@
+-- A store that is stopped where it stands and opened again, and what a change leaves over a stop.
+use Rattle.std.proofs.Common.{◌≡◌, ◌≤◌, ◌⊎◌, inl, inr, ◌∙◌, ap, sym, subst, arith, refl, IsTrue, List}
+use Rattle.std.proofs.Common.{ℕ}
+use Rattle.std.specs.Prelude.{IfErr, OnOk, Ok, Err, Result}
+use Rattle.sqlite_trees.specs.Tree.{Trees}
+use Rattle.sqlite_trees.specs.View.{IsClean as IsHonest, IsQuiet, IsReopened, doubt}
+use Rattle.sqlite_trees.specs.declared.store.Store.{Ghosts}
+use Rattle.sqlite.specs.Effect.{Database, IsDatabase}
+use Rattle.sqlite.specs.Held.{Held, state}
+use Rattle.sqlite.specs.State.{HasCleanDisk, IsLive, Opens, Survives}
+use Rattle.sqlite.specs.Steps.{IsFresh}
+use Rattle.shelves.specs.Shelves.{Shelf}
+use Rattle.keepers.specs.Change.{IsMadeFrom, changed}
+use Rattle.keepers.specs.declared.fault.StoreFault.{StoreFault}
+use Rattle.keepers.specs.declared.loaded.Change.{Change}
+use Rattle.sql_opening.specs.declared.fault.OpenFault.{OpenFault}
+use Rattle.sql_rows.specs.Content.{content_of}
+use Rattle.sql_keeper.specs.Again.{IsChangedWhole, IsFoundAfter, IsLeftFresh, IsShownBy}
+use Rattle.sql_keeper.specs.Again.{IsRefusedAfter, ShowsStopped}
+use Rattle.sql_keeper.specs.Causes.{IsStores}
+use Rattle.sql_keeper.specs.Commits.{Becomes}
+use Rattle.sql_keeper.specs.Content.{shelf_names, tables_of}
+use Rattle.sql_keeper.specs.Inside.{IsClean, IsKeeper, KeeperState, names_in, tables_in}
+use Rattle.sql_keeper.specs.Left.{IsHeld, IsLeft}
+use Rattle.sql_keeper.specs.Opened.{IsNotOpened, IsOpened}
+use Rattle.sql_keeper.specs.Shelves.{IsShelfOf}
+use Rattle.sql_keeper.specs.Stops.{IsWhole, trees_in}
+use Rattle.sql_keeper.proofs.Again.{held_committed}
+use Rattle.sql_keeper.proofs.Asked.{open_of}
+use Rattle.sql_keeper.proofs.OneShelf.{same_shelf}
+use Rattle.sql_keeper.specs.Settled.{AreSettled, at_rest}
+use Rattle.sql_keeper.proofs.Stopped.{one_kept, opened_again, stopped_whole}
+
+-- ---- the store and the connection
+
+pub left_fresh : {S : Type 0} (g : Ghosts S) (old : Held S) (mid new : S)
+    → (IsHonest (g.view mid) → IsTrue (g.view mid).is_numbered)
+    → IsQuiet g.view g.faults g.recovers g.is_shielded old.store mid
+    → doubt (g.view mid).is_clean ≤ doubt (g.view new).is_clean
+    → (IsHonest (g.view new) → g.recovers mid (g.view new).committed)
+    → IsReopened (g.view mid) (g.view new) → IsHonest (g.view new) → IsLeftFresh g old new
+left_fresh g old mid new numbered quiet falls found reopened clean =
+    let before : IsHonest (g.view mid) = omega (arith, falls, clean) in
+    record {
+      honest = omega (arith, quiet.clean, before);
+      may = subst (g.recovers old.store) (sym reopened.clean)
+          (quiet.outcomes (g.view new).committed (found clean));
+      fresh = record {
+        sound = reopened.sound clean;
+        numbered = subst IsTrue (sym reopened.numbered) (numbered before);
+        clean = reopened.clean;
+        unmarked = reopened.unmarked clean;
+      };
+    }
+
+pub shown_by : {S : Type 0} (g : Ghosts S) (store : S) (new : Held S)
+    → (HasCleanDisk (state g new) → Opens (state g new) × IsLive (state g new))
+    → doubt (g.view store).is_clean ≤ doubt (state g new).is_clean
+    → (HasCleanDisk (state g new) → (state g new).now.trees ≡ (g.view store).trees)
+    → HasCleanDisk (state g new) → IsShownBy g store new
+shown_by g store new opens falls trees clean = record {
+  honest = omega (arith, falls, clean);
+  trees = trees clean;
+  sound = let it = opens clean in (it.1 it.0.is_open).0;
+}
+
+pub shows_stopped : {S : Type 0} (g : Ghosts S) (old : Held S) (store : S) (new : Held S)
+    → (IsHonest (g.view store) → IsLeftFresh g old store)
+    → (HasCleanDisk (state g new) → IsShownBy g store new)
+    → HasCleanDisk (state g new) → ShowsStopped g old new
+shows_stopped g old store new left shown clean =
+    let it = shown clean in
+    let was = left it.honest in
+    record {
+      honest = was.honest;
+      may = subst (state g old).may_leave (sym it.trees) was.may;
+      sound = it.sound;
+    }
+
+-- ---- the keeper
+
+module _ {S : Type 0} (g : Ghosts S) (law : AreSettled g) (old : KeeperState S) (conn shown : Held S)
+    (keeper : IsKeeper g old) (same : conn ≡ old.connection)
+    (shows : HasCleanDisk (state g shown) → ShowsStopped g conn shown) where
+  shows_old : HasCleanDisk (state g shown) → ShowsStopped g old.connection shown
+  shows_old = subst (λ h. HasCleanDisk (state g shown) → ShowsStopped g h shown) same shows
+
+  pub found_stopped : (new : KeeperState S) (shelf : Shelf) → IsOpened g shown new shelf
+      → HasCleanDisk (state g new.connection) → IsFoundAfter g g old new shelf
+  found_stopped new shelf o clean =
+      let it = shows_old (omega (arith, o.survives.clean, clean)) in
+      (opened_again g g law old shown keeper it.honest it.may it.sound).0 new shelf o clean
+
+  pub refused_stopped : (left : Held S) (fault : OpenFault) → IsNotOpened g shown left fault
+      → HasCleanDisk (state g left) → IsStores fault
+  refused_stopped left fault refused clean =
+      let it = shows_old (omega (arith, refused.survives.clean, clean)) in
+      (opened_again g g law old shown keeper it.honest it.may it.sound).1 left fault refused clean
+
+-- ---- a change
+
+module _ {S A : Type 0} (g : Ghosts S) (law : AreSettled g) (change : Change)
+    (old mid new : KeeperState S) (shelf : Shelf) (keeper : IsKeeper g old)
+    (rest : IsClean (state g old.connection))
+    (whole : IsWhole g old mid (Becomes (names_in old) old.text change (trees_in g old)))
+    (found : IsFoundAfter g g mid new shelf) (honest : HasCleanDisk (state g mid.connection)) where
+  held : IsHeld old.text old.shelf old.last (trees_in g old)
+  held = keeper.held rest.disk (open_of (state g old.connection) keeper.stays rest)
+
+  abbrev Written : Trees → Type 0
+  Written = Becomes (names_in old) old.text change (trees_in g old)
+
+  either : (trees_in g new ≡ trees_in g old) ⊎ Written (trees_in g new)
+  either = stopped_whole g g law old mid new shelf Written keeper rest honest whole found
+
+  kept_left : IsLeft old.text (trees_in g new)
+  kept_left = elim either [
+    | inl same ↦ subst (IsLeft old.text) (sym same) held.left
+    | inr w ↦ (held_committed (names_in old) old.text old.shelf old.last change (trees_in g old)
+        (trees_in g new) held w).left
+  ]
+
+  kept_books : (content_of (trees_in g new)).books ≡ (content_of (trees_in g old)).books
+  kept_books = elim either [
+    | inl same ↦ ap (λ d. (content_of d).books) same
+    | inr w ↦ w.books
+  ]
+
+  text_stays : new.text ≡ old.text
+  text_stays = one_kept (trees_in g new) old.text new.text kept_left.kept found.left.kept
+
+  shelf_stays : new.shelf ≡ old.shelf
+  shelf_stays = found.own ∙ same_shelf old.text (content_of (trees_in g old)).books shelf old.shelf
+      (subst (λ rows. IsShelfOf old.text rows shelf) kept_books
+      (subst (λ t. IsShelfOf t (content_of (trees_in g new)).books shelf)
+      (sym found.text ∙ text_stays) found.books)) held.books
+
+  pub changed_whole : (r : Result A StoreFault) → (HasCleanDisk (state g mid.connection)
+      → OnOk r (IsClean (state g mid.connection)))
+      → (IsClean (state g mid.connection)
+      → OnOk r (IsMadeFrom change.before change.after ((tables_in g old).rows change.number)
+      → tables_in g mid ≡ changed change (tables_in g old)))
+      → IsChangedWhole g change old new r
+  changed_whole r stands done = record {
+    either = either;
+    text = text_stays;
+    shelf = shelf_stays;
+    acknowledged = told r (stands honest) done;
+  }
+    where
+      told : (q : Result A StoreFault) → OnOk q (IsClean (state g mid.connection))
+          → (IsClean (state g mid.connection)
+          → OnOk q (IsMadeFrom change.before change.after ((tables_in g old).rows change.number)
+          → tables_in g mid ≡ changed change (tables_in g old)))
+          → OnOk q (IsMadeFrom change.before change.after ((tables_in g old).rows change.number)
+          → tables_in g new ≡ changed change (tables_in g old))
+      told (Ok x) clean to = λ made.
+          let it = found.rests clean in
+          ap (λ s. tables_of (shelf_names s) (content_of (trees_in g new))) (found.own ∙ it.1)
+          ∙ ap (λ d. tables_of (names_in mid) (content_of d)) it.0 ∙ to clean made
+      told (Err e) clean to = tt

@@ -1,0 +1,21 @@
+use Rattle.sqlite.specs.Held.{state}
+use Rattle.sql_keeper.proofs.StillOpen.{committed_standing, standing_shut}
+use Rattle.sql_keeper.proofs.committing.ask_to_change.Goals as goal
+
+pub make_change-requires-clause-plain : goal.make_change-requires-clause-plain
+make_change-requires-clause-plain g c = c.in_ok-still_open.ensures.only.mode c.requires.plain
+
+pub returns-in_err-still_open-clause-plain : goal.returns-in_err-still_open-clause-plain
+returns-in_err-still_open-clause-plain g c =
+    c.in_err-still_open.ensures.only.mode c.requires.plain
+
+pub returns-in_err-still_open-clause-commits : goal.returns-in_err-still_open-clause-commits
+returns-in_err-still_open-clause-commits g c =
+    standing_shut _ (state g.S.Store c.args.conn.now) (state g.S.Store c.still_open.new.conn) _
+    c.from_residual.result c.from_residual.ensures.0 c.in_err-still_open.ensures
+
+pub returns-clause-commits : goal.returns-clause-commits
+returns-clause-commits g c =
+    committed_standing _ (state g.S.Store c.args.conn.now)
+    (state g.S.Store c.still_open.new.conn) (state g.S.Store c.make_change.new.conn) _
+    c.make_change.result c.in_ok-still_open.ensures c.make_change.ensures.commits

@@ -1,0 +1,90 @@
+-- Why a database isn't opened: its causes, of which no two hold of one database.
+-- Source: profile.
+use Rattle.std.specs.Prelude.{◌≡◌, ◌<◌, ◌⊎◌, ℕ, Some}
+use Rattle.sqlite_trees.specs.Tree.{Trees}
+use Rattle.sqlite.specs.Effect.{Database}
+use Rattle.sql_tables.specs.Schema.{latest, schema_at}
+use Rattle.sql_tables.specs.Stages.{AreStoredAt}
+use Rattle.sql_rows.specs.Content.{content_of}
+use Rattle.sql_rows.specs.Ruled.{IsRuledMeta}
+use Rattle.sql_rows.specs.Values.{Meta}
+use Rattle.sql_opening.specs.Opens.{IsVersion}
+use Rattle.sql_opening.specs.declared.fault.OpenFault.{OpenFault}
+use Rattle.sql_opening.specs.declared.fault.OpenFault.TheVariants.{Foreign, Version, Rules, Store}
+use Rattle.sql_opening.specs.declared.fault.OpenFault.TheVariants.{Memory, Older}
+use Rattle.sql_keeper.specs.Shelves.{HasShelf}
+
+-- ---- what is kept once
+
+-- it is there in its rules, and tells this version
+pub record KeepsVersion (v : ℕ) (trees : Trees) : Type 0 where
+  pub row : Meta
+  pub is : (content_of trees).meta ≡ Some row
+  pub ruled : IsRuledMeta row
+  pub version : row.version ≡ v
+
+-- it is there in its rules, and tells another version than this
+pub record IsOtherThan (v : ℕ) (trees : Trees) : Type 0 where
+  pub row : Meta
+  pub is : (content_of trees).meta ≡ Some row
+  pub ruled : IsRuledMeta row
+  pub other : ¬ (row.version ≡ v)
+
+-- a row of it, if there is one, is out of its rules
+abbrev pub IsUnruledMeta : Trees → Type 0
+IsUnruledMeta trees = (row : Meta) → (content_of trees).meta ≡ Some row → ¬ IsRuledMeta row
+
+-- it isn't there or is out of its rules; or it tells this version, the latest, and the texts that
+-- are kept aren't those of a shelf
+abbrev pub AreUnruled : ℕ → Trees → Type 0
+AreUnruled v trees = (row : Meta) → (content_of trees).meta ≡ Some row → IsRuledMeta row
+    → (row.version ≡ v) × (v ≡ latest) × ¬ HasShelf row.book (content_of trees).books
+
+-- ---- causes
+
+-- the tables are those of no version
+abbrev pub IsForeign : Database → Type 0
+IsForeign db = (v : ℕ) → IsVersion v → ¬ (db.schema ≡ schema_at v)
+
+-- the tables are those of a version, no rowid of theirs twice, and another version is kept
+pub record IsOtherVersion (db : Database) : Type 0 where
+  pub version : ℕ
+  pub known : IsVersion version
+  pub schema : db.schema ≡ schema_at version
+  pub stored : AreStoredAt version db.trees
+  pub other : IsOtherThan version db.trees
+
+-- the tables are those of a version before the latest, no rowid of theirs twice, and that version
+-- is kept
+pub record IsOlder (db : Database) : Type 0 where
+  pub version : ℕ
+  pub known : IsVersion version
+  pub older : version < latest
+  pub schema : db.schema ≡ schema_at version
+  pub stored : AreStoredAt version db.trees
+  pub kept : KeepsVersion version db.trees
+
+-- the tables are those of a version, and a rowid of theirs stands twice, or what is kept once isn't
+-- in the rules of who opens it
+pub record IsUnruled (db : Database) : Type 0 where
+  pub version : ℕ
+  pub known : IsVersion version
+  pub schema : db.schema ≡ schema_at version
+  pub unruled : AreStoredAt version db.trees → AreUnruled version db.trees
+
+-- what a fault says of a database that has it; those of the store and of memory say nothing of it
+abbrev pub HasFault : OpenFault → Database → Type 0
+HasFault Foreign db = IsForeign db
+HasFault Version db = IsOtherVersion db
+HasFault Rules db = IsUnruled db
+HasFault Store db = ⊥
+HasFault Memory db = ⊥
+HasFault Older db = IsOlder db
+
+abbrev pub IsStores : OpenFault → Type 0
+IsStores fault = (fault ≡ Store) ⊎ (fault ≡ Memory)
+
+-- a database has one fault at most
+abbrev pub AreCausesApart : Type 0
+AreCausesApart =
+    (db : Database) (one two : OpenFault) → HasFault one db → HasFault two db → one ≡ two

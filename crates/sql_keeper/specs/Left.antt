@@ -1,0 +1,38 @@
+-- The tables of a book as they are found again.
+-- Source: profile.
+use Rattle.std.specs.Prelude.{◌≡◌, ◌≤◌, ℕ, List, Some}
+use Rattle.std.specs.Str.{IsUtf8}
+use Rattle.sqlite_trees.specs.Tree.{Trees}
+use Rattle.sqlite_trees.specs.Objects.{catalog_tree}
+use Rattle.sqlite_catalog.specs.Listing.{Lists}
+use Rattle.shelves.specs.Shelves.{Shelf}
+use Rattle.sql_tables.specs.Schema.{book_schema, latest}
+use Rattle.sql_tables.specs.Statements.{AreStored}
+use Rattle.sql_rows.specs.Values.{Meta}
+use Rattle.sql_rows.specs.Content.{content_of}
+use Rattle.sql_keeper.specs.Content.{last_in}
+use Rattle.sql_keeper.specs.Shelves.{HasShelf, IsShelfOf}
+
+-- what is kept once: the version of the tables, the text of the book, and a moment
+pub record IsKept (trees : Trees) (text : List ℕ) : Type 0 where
+  pub row : Meta
+  pub is : (content_of trees).meta ≡ Some row
+  pub version : row.version ≡ latest
+  pub book : row.book ≡ text
+  pub last : row.last ≤ 4_102_488_000
+
+-- the tables of a book as they are found again: the database lists ours, no rowid stands twice
+-- there, and it keeps their version with the text, which is one of characters and a book's; the
+-- other books that it keeps may follow it
+pub record IsLeft (text : List ℕ) (trees : Trees) : Type 0 where
+  pub lists : Lists (trees catalog_tree) book_schema
+  pub stored : AreStored trees
+  pub kept : IsKept trees text
+  pub utf8 : IsUtf8 text
+  pub shelf : HasShelf text (content_of trees).books
+
+-- the tables would be found again with this text, with this shelf and with this last moment
+pub record IsHeld (text : List ℕ) (shelf : Shelf) (last : ℕ) (trees : Trees) : Type 0 where
+  pub left : IsLeft text trees
+  pub books : IsShelfOf text (content_of trees).books shelf
+  pub moment : last ≡ last_in (content_of trees).meta

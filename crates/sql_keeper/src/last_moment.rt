@@ -1,0 +1,17 @@
+//! The last moment that a keeper knows, after a call that writes one.
+
+ghost use Rattle.std.specs.Prelude.{◌≡◌, OnErr, OnOk};
+
+use sql_tables::ReadFault;
+use units::Moment;
+
+/// The last moment after a call: that of the call where it answered, else the one before.
+pub(crate) fn last_after<T>(made: &Result<T, ReadFault>, last: Moment, moment: Moment) -> Moment
+    ensures made { OnOk made.now (result ≡ moment) }
+    ensures kept { OnErr made.now (result ≡ last) }
+{
+    match made {
+        Ok(_) => moment,
+        Err(_) => last,
+    }
+}
