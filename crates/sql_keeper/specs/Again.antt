@@ -70,8 +70,8 @@ pub record IsFoundAfter {S T : Type 0} (g : Ghosts S) (e : Ghosts T) (old : Keep
   pub rests : IsClean (state g old.connection) → (trees_in e new ≡ trees_in g old)
       × (shelf ≡ old.shelf) × (new.last ≡ old.last)
 
--- what a stop of a keeper leaves is opened again: whoever opens a connection that shows it finds it,
--- and refuses it for no row
+-- what a stop of a keeper leaves is opened again: whoever opens a connection that shows it finds
+-- it, and refuses it for no row
 abbrev pub AreOpenedAgain : {S T : Type 0} → Ghosts S → Ghosts T → Type 0
 AreOpenedAgain {S} {T} g e =
     (old : KeeperState S) (shown : Held T) → IsKeeper g old → HasCleanDisk (state g old.connection)
