@@ -67,6 +67,14 @@ pub swept_law : {S A : Type 0} (g : Ghosts S) (old : KeeperState S) (conn : Held
 swept_law g old conn text shelf t keeper (Ok x) commits clean = (commits.done clean.disk).2.tables
 swept_law g old conn text shelf t keeper (Err e) commits clean = tt
 
+-- a stop leaves what it left before, or all that is written, where the connection was open
+abbrev pub Leaves : {S : Type 0} → Ghosts S → KeeperState S → KeeperState S →
+    (Trees → Trees → Type 0) → Type 0
+Leaves g old new Become = HasCleanDisk (state g new.connection) → (db : Trees)
+    → (state g new.connection).may_leave db
+    → (state g old.connection).may_leave db
+    ⊎ (IsTrue (state g old.connection).is_open × Become (state g old.connection).now.trees db)
+
 module _ {S A : Type 0} (g : Ghosts S) (old new : KeeperState S)
     (Become : List ℕ → Trees → Trees → Type 0) (text : List ℕ) (keeper : IsKeeper g old) where
   abbrev CommitsIn : Result A StoreFault → Type 0
@@ -97,14 +105,6 @@ module _ {S A : Type 0} (g : Ghosts S) (old new : KeeperState S)
   same_tables (Err e) commits shelf clean on =
       let still = commits.err clean.disk on in
       λ i. tables_of (shelf_names (shelf i)) (content_of ((still.now_is i).trees))
-
-  -- what a stop leaves: what it left before, or all that is written, where the connection was open
-  abbrev pub Leaves : Type 0
-  Leaves = HasCleanDisk (state g new.connection) → (db : Trees)
-      → (state g new.connection).may_leave db
-      → (state g old.connection).may_leave db
-      ⊎ (IsTrue (state g old.connection).is_open
-      × Become text (state g old.connection).now.trees db)
 
   -- it is one still, whatever becomes of its shelf
   pub becomes_keeper : (r : Result A StoreFault) → CommitsIn r
@@ -148,7 +148,8 @@ module _ {S A : Type 0} (g : Ghosts S) (old new : KeeperState S)
           (keeper.held (clean_before clean) still.was_open)
 
   -- it is one still, on the same shelf and at the moment that is written
-  pub committed_keeper : (t : ℕ) (r : Result A StoreFault) → CommitsIn r → Leaves
+  pub committed_keeper : (t : ℕ) (r : Result A StoreFault) → CommitsIn r
+      → Leaves g old new (Become text)
       → text ≡ old.text
       → ((db : Trees) → IsHeld old.text old.shelf old.last (trees_in g old)
       → Become old.text (trees_in g old) db → IsHeld old.text old.shelf t db)
@@ -180,8 +181,11 @@ module _ {S A : Type 0} (g : Ghosts S) (old new : KeeperState S)
       kept (Ok x) at = tt
       kept (Err e) at = (shelf, at)
 
-  -- what a stop leaves
-  pub whole : Leaves → text ≡ old.text → IsWhole g old new (Become old.text (trees_in g old))
+-- what a stop leaves
+module _ {S : Type 0} (g : Ghosts S) (old new : KeeperState S)
+    (Become : List ℕ → Trees → Trees → Type 0) (text : List ℕ) (keeper : IsKeeper g old) where
+  pub whole : Leaves g old new (Become text) → text ≡ old.text
+      → IsWhole g old new (Become old.text (trees_in g old))
   whole leaves is = record {
     left = λ clean db may. elim (leaves clean db may) [
       | inl before ↦ inl before
