@@ -99,7 +99,7 @@ module _ {S : Type 0} (g : Ghosts S) (law : AreSettled g) (old : KeeperState S) 
 
 -- ---- a change
 
-module _ {S A : Type 0} (g : Ghosts S) (law : AreSettled g) (change : Change)
+module _ {S : Type 0} (g : Ghosts S) (law : AreSettled g) (change : Change)
     (old mid new : KeeperState S) (shelf : Shelf) (keeper : IsKeeper g old)
     (rest : IsClean (state g old.connection))
     (whole : IsWhole g old mid (Becomes (names_in old) old.text change (trees_in g old)))
@@ -135,13 +135,13 @@ module _ {S A : Type 0} (g : Ghosts S) (law : AreSettled g) (change : Change)
       (subst (λ t. IsShelfOf t (content_of (trees_in g new)).books shelf)
       (sym found.text ∙ text_stays) found.books)) held.books
 
-  pub changed_whole : (r : Result A StoreFault) → (HasCleanDisk (state g mid.connection)
+  pub changed_whole : {A : Type 0} (r : Result A StoreFault) → (HasCleanDisk (state g mid.connection)
       → OnOk r (IsClean (state g mid.connection)))
       → (IsClean (state g mid.connection)
       → OnOk r (IsMadeFrom change.before change.after ((tables_in g old).rows change.number)
       → tables_in g mid ≡ changed change (tables_in g old)))
       → IsChangedWhole g change old new r
-  changed_whole r stands done = record {
+  changed_whole {A} r stands done = record {
     either = either;
     text = text_stays;
     shelf = shelf_stays;
