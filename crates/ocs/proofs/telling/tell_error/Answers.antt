@@ -14,4 +14,5 @@ returns-clause-told g c =
     told_stream c.in-Err.fault c.tell_stream-in-Err.result (g.E.Write.contents c.args.errors.now)
     (g.E.Write.contents c.tell_stream-in-Err.new.errors)
     (inr (writer_failed c.write_whole-written.result c.in-Err.fault c.in-Err.is
-    c.write_whole-written.ensures.fault)) c.tell_stream-in-Err.ensures.status c.tell_stream-in-Err.ensures.told
+    c.write_whole-written.ensures.fault)) c.tell_stream-in-Err.ensures.status
+    c.tell_stream-in-Err.ensures.told
