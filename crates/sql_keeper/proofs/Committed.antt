@@ -1,5 +1,6 @@
 -- A keeper after what is committed whole.
-use Rattle.std.proofs.Common.{◌≡◌, ◌≤◌, ◌⊎◌, inl, inr, refl, subst, sym, ap, ℕ, List, IsTrue, arith, false}
+use Rattle.std.proofs.Common.{◌≡◌, ◌≤◌, ◌⊎◌, inl, inr, refl, subst, sym, ap, ℕ, List, IsTrue, arith}
+use Rattle.std.proofs.Common.{false}
 use Rattle.std.specs.Prelude.{Result, Ok, Err, OnOk, OnErr}
 use Rattle.sqlite_disk.specs.Disk.{MoreFaults}
 use Rattle.sqlite_trees.specs.Tree.{Trees}
@@ -42,7 +43,8 @@ pub committed : {S A : Type 0} (g : Ghosts S) (old : KeeperState S) (conn : Held
     → CommitsChange (names_in old) text change (state g old.connection) (state g conn) r
     → IsClean (state g conn)
     → OnOk r (IsMadeFrom change.before change.after ((tables_in g old).rows change.number)
-    → tables_of (names_in old) (content_of (state g conn).now.trees) ≡ changed change (tables_in g old))
+    → tables_of (names_in old) (content_of (state g conn).now.trees)
+    ≡ changed change (tables_in g old))
 committed g old conn text change keeper (Ok x) commits clean = (commits.done clean.disk).2.tables
 committed g old conn text change keeper (Err e) commits clean = tt
 
@@ -50,7 +52,8 @@ committed g old conn text change keeper (Err e) commits clean = tt
 pub added_law : {S A : Type 0} (g : Ghosts S) (old : KeeperState S) (conn : Held S)
     (text code : List ℕ) (terms : VoucherTerms) (t : ℕ) → IsKeeper g old → (r : Result A StoreFault)
     → CommitsWhole (BecomesAdded text code terms t) (state g old.connection) (state g conn) r
-    → IsClean (state g conn) → OnOk r (tables_of (names_in old) (content_of (state g conn).now.trees)
+    → IsClean (state g conn)
+    → OnOk r (tables_of (names_in old) (content_of (state g conn).now.trees)
     ≡ with_added code terms t (tables_in g old))
 added_law g old conn text code terms t keeper (Ok x) commits clean =
     (commits.done clean.disk).2.tables (names_in old)
@@ -59,7 +62,8 @@ added_law g old conn text code terms t keeper (Err e) commits clean = tt
 -- the law of a sweep
 pub swept_law : {S A : Type 0} (g : Ghosts S) (old : KeeperState S) (conn : Held S)
     (text : List ℕ) (shelf : Shelf) (t : ℕ) → IsKeeper g old → (r : Result A StoreFault)
-    → CommitsWhole (BecomesSwept (names_in old) text shelf t) (state g old.connection) (state g conn) r
+    → CommitsWhole (BecomesSwept (names_in old) text shelf t) (state g old.connection)
+    (state g conn) r
     → IsClean (state g conn)
     → OnOk r
     (IsSwept shelf t (tables_in g old)

@@ -1,6 +1,5 @@
 -- A store that is stopped where it stands and opened again, and what a change leaves over a stop.
-use Rattle.std.proofs.Common.{◌≡◌, ◌≤◌, ◌⊎◌, inl, inr, ◌∙◌, ap, sym, subst, arith, refl, IsTrue, List}
-use Rattle.std.proofs.Common.{ℕ}
+use Rattle.std.proofs.Common.{◌≡◌, ◌≤◌, ◌⊎◌, inl, inr, ◌∙◌, ap, sym, subst, arith, IsTrue}
 use Rattle.std.specs.Prelude.{IfOk, OnOk, Ok, Err, Result}
 use Rattle.sqlite_trees.specs.Tree.{Trees}
 use Rattle.sqlite_trees.specs.View.{IsClean as IsHonest, IsQuiet, IsReopened, doubt}
@@ -79,8 +78,8 @@ shows_stopped g old store new left shown clean =
 
 -- ---- the keeper
 
-module _ {S : Type 0} (g : Ghosts S) (law : AreSettled g) (old : KeeperState S) (conn shown : Held S)
-    (keeper : IsKeeper g old) (same : conn ≡ old.connection)
+module _ {S : Type 0} (g : Ghosts S) (law : AreSettled g) (old : KeeperState S)
+    (conn shown : Held S) (keeper : IsKeeper g old) (same : conn ≡ old.connection)
     (shows : HasCleanDisk (state g shown) → ShowsStopped g conn shown) where
   shows_old : HasCleanDisk (state g shown) → ShowsStopped g old.connection shown
   shows_old = subst (λ h. HasCleanDisk (state g shown) → ShowsStopped g h shown) same shows
@@ -135,8 +134,8 @@ module _ {S : Type 0} (g : Ghosts S) (law : AreSettled g) (change : Change)
       (subst (λ t. IsShelfOf t (content_of (trees_in g new)).books shelf)
       (sym found.text ∙ text_stays) found.books)) held.books
 
-  pub changed_whole : {A : Type 0} (r : Result A StoreFault) → (HasCleanDisk (state g mid.connection)
-      → OnOk r (IsClean (state g mid.connection)))
+  pub changed_whole : {A : Type 0} (r : Result A StoreFault)
+      → (HasCleanDisk (state g mid.connection) → OnOk r (IsClean (state g mid.connection)))
       → (IsClean (state g mid.connection)
       → OnOk r (IsMadeFrom change.before change.after ((tables_in g old).rows change.number)
       → tables_in g mid ≡ changed change (tables_in g old)))
