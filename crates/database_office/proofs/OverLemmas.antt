@@ -17,7 +17,7 @@ use Rattle.shelves.specs.Shelves.{Shelf}
 use Rattle.keepers.specs.Tables.{Tables}
 use Rattle.sql_rows.specs.Content.{content_of}
 use Rattle.sql_keeper.specs.Content.{shelf_names, tables_of, Names}
-use Rattle.sql_keeper.specs.Inside.{KeeperState, tables_in}
+use Rattle.sql_keeper.specs.Inside.{IsClean, KeeperState, tables_in}
 use Rattle.sql_keeper.specs.Opened.{IsKept, IsLeft, IsOpened}
 use Rattle.sql_keeper.specs.Shelves.{IsShelfOf}
 use Rattle.sql_keeper.specs.Stops.{trees_in}
@@ -33,6 +33,7 @@ use Rattle.database_office.specs.Over.{Comes, IsImportDone, IsMomentOf, IsMonthD
 use Rattle.database_office.specs.Over.{query_of}
 use Rattle.database_office.specs.Stating.{IsOfOffice, of_office}
 use Rattle.database_office.specs.declared.fault.DatabaseFault.{DatabaseFault}
+use Rattle.database_office.specs.declared.fault.DatabaseFault.TheVariants.{Office}
 
 -- what was opened over the files is what they held
 pub opened_in : {D : Type 0} {g : disk.Ghosts D} (image : Image) (c : Held (FileStore D g))
@@ -66,7 +67,7 @@ same_office image k s opened clean db text shelf held left is =
     is in (
       one,
       ap (λ (n : Names). tables_of n (content_of (trees_in over_files k)))
-          (ap shelf_names (opened.fresh.shelf ∙ one))
+          (ap shelf_names (opened.fresh.own ∙ one))
           ∙ ap (λ (t : Trees). tables_of (shelf_names shelf) (content_of t)) rows,
     )
 
@@ -124,7 +125,23 @@ import_done words t before after shelf old new (Some text) said imported =
     record { moment = t; said = said; imported = imported }
 import_done words t before after shelf old new None said imported = tt
 
--- what an office tells at an answer
+status_in : Status → Result Status DatabaseFault → Status
+status_in other (Ok status) = status
+status_in other (Err fault) = other
+
+ok_is_err : (s : Status) (f : DatabaseFault) →
+    ◌≡◌ {A = Result Status DatabaseFault} (Ok s) (Err f) → ⊥
+ok_is_err s f e = subst IsOk e tt
+
+-- what an office answers is what is handed on of it
+handed_on : (says : Result Status OfficeFault → Type 0) (s : Status)
+    (given : Result Status OfficeFault) →
+    ◌≡◌ {A = Result Status DatabaseFault} (Ok s) (of_office given) → says given → says (Ok s)
+unfolding status_in
+handed_on says s (Ok x) is was =
+    subst (λ (y : Status). says (Ok y)) (sym (ap (status_in s) is)) was
+handed_on says s (Err f) is was = absurd (ok_is_err s (Office f) is)
+
 pub month_done : (words : StatementWords) (t : ℕ) (before after : Option (List ℕ)) (shelf : Shelf)
     (old new : Tables) (status : Status) → IsMomentOf words.at t →
     IsOfOffice (IsMonthTold shelf (query_of words) t old before after) (Ok status) → new ≡ old →
@@ -132,20 +149,7 @@ pub month_done : (words : StatementWords) (t : ℕ) (before after : Option (List
 month_done words t before after shelf old new status said told same = record {
   moment = t;
   said = said;
-  told = told_by (IsMonthTold shelf (query_of words) t old before after) status told.answer
+  told = handed_on (IsMonthTold shelf (query_of words) t old before after) status told.answer
       told.is told.was;
   same = same;
 }
-  where
-    status_in : Status → Result Status DatabaseFault → Status
-    status_in other (Ok s) = s
-    status_in other (Err e) = other
-
-    told_by : (says : Result Status OfficeFault → Type 0) (s : Status)
-        (given : Result Status OfficeFault) → Ok s ≡ of_office given → says given → says (Ok s)
-    told_by says s (Ok x) is was =
-        subst (λ (y : Status). says (Ok y)) (sym (ap (status_in s) is)) was
-    told_by says s (Err e) is was = absurd (ok_err is)
-
-    ok_err : {s : Status} {f : DatabaseFault} → ◌≡◌ {A = Result Status DatabaseFault} (Ok s) (Err f) → ⊥
-    ok_err e = subst IsOk e tt

@@ -47,10 +47,10 @@ err_handed P (Err e) (Err f) h p = p
 
 module _ {S : Type 0} (g : Ghosts S) (old new : KeeperState S) (keeper : IsKeeper g old)
     (shelf : new.shelf ≡ old.shelf) where
-  before : State
+  abbrev before : State
   before = state g old.connection
 
-  after : State
+  abbrev after : State
   after = state g new.connection
 
   is_clean : HasCleanDisk after → IsTrue after.is_open → clean_in g new

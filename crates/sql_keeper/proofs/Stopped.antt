@@ -68,6 +68,7 @@ module _ {S T : Type 0} (g : Ghosts S) (e : Ghosts T) (law : AreSettled g) (old 
 
     found_after : IsFoundAfter g e old new shelf
     found_after = record {
+      honest = clean;
       may = may_now;
       left = o.left after;
       text = text_is;

@@ -62,6 +62,7 @@ IsFoundAgain g old new text fault = IsLeft text (state g old).now.trees
 -- the older one and the shelf of both; where the older one was clean, with all that it knew
 pub record IsFoundAfter {S T : Type 0} (g : Ghosts S) (e : Ghosts T) (old : KeeperState S)
     (new : KeeperState T) (shelf : Shelf) : Type 0 where
+  pub honest : HasCleanDisk (state g old.connection)
   pub may : MayLeave g old (trees_in e new)
   pub left : IsLeft new.text (trees_in e new)
   pub text : new.text ≡ old.text
