@@ -148,7 +148,7 @@ module _ {K : Type 0} (content : K → Tables) (failed : K → ℕ) (honest clea
         (had.runs (is_honest now c) list time is)
 
     -- each command was answered
-    pub run-whole : rest ≡ [] → RunsOver content failed honest clean leaves b commands old now
+    pub run-whole : length rest ≡ 0 → RunsOver content failed honest clean leaves b commands old now
         (record { answers = answers; fault = None })
     run-whole none =
         let long : length ds + length rest ≡ length commands = sym (length-append ds rest)
@@ -156,7 +156,7 @@ module _ {K : Type 0} (content : K → Tables) (failed : K → ℕ) (honest clea
         record {
           runs = runs-now;
           beginning = begun-length commands ds rest answers.items all count;
-          whole = omega (arith, long, count, ap length none);
+          whole = omega (arith, long, count, none);
           stopped = tt;
           unchanged = had.unchanged;
           cleanness = had.cleanness;

@@ -9,9 +9,12 @@ use Rattle.charging.proofs.running.answer_each.Goals.{After-reserve}
 
 pub loop-dated-init : goal.loop-dated-init
 loop-dated-init g c = record {
-  had = has-run_none g.K.Keeper.content g.K.Keeper.failed g.K.Keeper.honest g.K.Keeper.clean
+  had = subst (λ (given : List Answer). HasRun g.K.Keeper.content g.K.Keeper.failed
+      g.K.Keeper.honest g.K.Keeper.clean g.K.Keeper.left c.args.shelf.now c.args.keeper.now
+      c.args.keeper.now [] given) (sym c.new-answers.ensures.items)
+      (has-run_none g.K.Keeper.content g.K.Keeper.failed g.K.Keeper.honest g.K.Keeper.clean
       g.K.Keeper.left g.met.K.Keeper.honesty g.met.K.Keeper.settled c.args.shelf.now
-      c.args.keeper.now;
+      c.args.keeper.now);
   all = search rules;
   count = search rules;
 }
