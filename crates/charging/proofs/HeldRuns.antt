@@ -41,21 +41,26 @@ held-at b commands xs rest old t given all low high after = λ list time is. rec
       (sym ((λ i. take (length xs) (sym all i)) ∙ take-append_seam xs rest)) (after list time is);
 }
 
+-- so many commands were answered
+pub record HasRun {K : Type 0} (content : K → Tables) (failed : K → ℕ) (honest clean : K → Type 0)
+    (leaves : K → Tables → Type 0) (b : Shelf) (old now : K) (ds : List DatedCommand)
+    (given : List Answer) : Type 0 where
+  pub runs : honest now → RunsSoFar b ds (content old) (content now) given
+  pub unchanged : clean now → given ≡ [] → content now ≡ content old
+  pub cleanness : clean now → clean old
+  pub honesty : honest now → honest old
+  pub stands : honest now → clean old → clean now
+  pub left : honest now → (t : Tables) → leaves now t →
+      ((ds ≡ []) × leaves old t) ⊎ AreAfter b ds (content old) t
+  pub failures : failed old ≤ failed now
+
 module _ {K : Type 0} (content : K → Tables) (failed : K → ℕ) (honest clean : K → Type 0)
     (leaves : K → Tables → Type 0) (is_honest : (k : K) → clean k → honest k)
     (settled : (k : K) (t : Tables) → clean k → leaves k t → t ≡ content k) (b : Shelf) where
-  -- so many commands were answered
-  pub record HasRun (old now : K) (ds : List DatedCommand) (given : List Answer) : Type 0 where
-    pub runs : honest now → RunsSoFar b ds (content old) (content now) given
-    pub unchanged : clean now → given ≡ [] → content now ≡ content old
-    pub cleanness : clean now → clean old
-    pub honesty : honest now → honest old
-    pub stands : honest now → clean old → clean now
-    pub left : honest now → (t : Tables) → leaves now t →
-        ((ds ≡ []) × leaves old t) ⊎ AreAfter b ds (content old) t
-    pub failures : failed old ≤ failed now
+  abbrev Has : K → K → List DatedCommand → List Answer → Type 0
+  Has old now ds given = HasRun content failed honest clean leaves b old now ds given
 
-  pub has-run_none : (k : K) → HasRun k k [] []
+  pub has-run_none : (k : K) → Has k k [] []
   has-run_none k = record {
     runs = λ h list time is. record { answers = refl; tables = is; time = time };
     unchanged = λ c none. refl;
@@ -68,12 +73,12 @@ module _ {K : Type 0} (content : K → Tables) (failed : K → ℕ) (honest clea
 
   -- one more was answered
   module _ (old mid new : K) (ds : List DatedCommand) (d : DatedCommand) (given : List Answer)
-      (had : HasRun old mid ds given) (cleanness : clean new → clean mid)
+      (had : Has old mid ds given) (cleanness : clean new → clean mid)
       (honesty : honest new → honest mid) where
     pub has-run_more : (all : List Answer) (x : Answer) →
         (clean new → Serves b d.command d.moment (content mid) (content new) (Ok x)) →
         (honest new → clean new) → failed mid ≤ failed new → all ≡ given ++ x ∷ [] →
-        HasRun old new (ds ++ d ∷ []) all
+        Has old new (ds ++ d ∷ []) all
     has-run_more all x served stands failures grows =
         let runs : honest new → RunsSoFar b (ds ++ d ∷ []) (content old) (content new) all =
         λ h list time is.
@@ -94,7 +99,7 @@ module _ {K : Type 0} (content : K → Tables) (failed : K → ℕ) (honest clea
 
   -- what a stop leaves of so many is held
   held-now : (commands ds rest : List DatedCommand) (old now : K) (given : List Answer) (t : Tables) →
-      HasRun old now ds given → ds ++ rest ≡ commands → length given ≡ length ds → honest now →
+      Has old now ds given → ds ++ rest ≡ commands → length given ≡ length ds → honest now →
       leaves now t → ((ds ≡ []) × leaves old t) ⊎ AreHeld b commands (content old) given t
   held-now commands ds rest old now given t had all count h l = at (had.left h t l)
     where
@@ -128,7 +133,7 @@ module _ {K : Type 0} (content : K → Tables) (failed : K → ℕ) (honest clea
 
   -- the answers are those of a beginning
   answered-now : (commands ds rest : List DatedCommand) (old now : K) (given : List Answer) →
-      HasRun old now ds given → ds ++ rest ≡ commands → length given ≡ length ds → honest now →
+      Has old now ds given → ds ++ rest ≡ commands → length given ≡ length ds → honest now →
       AreAnswered b commands (content old) given
   answered-now commands ds rest old now given had all count h = λ list time is.
       (run-of b list commands ds rest (content now) given all count (had.runs h list time is)).answers
@@ -136,14 +141,14 @@ module _ {K : Type 0} (content : K → Tables) (failed : K → ℕ) (honest clea
   -- ---- a run ends
 
   module _ (commands ds rest : List DatedCommand) (old now : K) (answers : Vec Answer Global)
-      (had : HasRun old now ds answers.items) (all : ds ++ rest ≡ commands)
+      (had : Has old now ds answers.items) (all : ds ++ rest ≡ commands)
       (count : length answers.items ≡ length ds) where
     runs-now : clean now → Runs b commands (content old) (content now) answers.items
     runs-now c = λ list time is. run-of b list commands ds rest (content now) answers.items all count
         (had.runs (is_honest now c) list time is)
 
     -- each command was answered
-    pub run-whole : rest ≡ [] → RunsOver content failed honest clean leaves b commands old now
+    pub run-whole : length rest ≡ 0 → RunsOver content failed honest clean leaves b commands old now
         (record { answers = answers; fault = None })
     run-whole none =
         let long : length ds + length rest ≡ length commands = sym (length-append ds rest)
@@ -151,7 +156,7 @@ module _ {K : Type 0} (content : K → Tables) (failed : K → ℕ) (honest clea
         record {
           runs = runs-now;
           beginning = begun-length commands ds rest answers.items all count;
-          whole = omega (arith, long, count, ap length none);
+          whole = omega (arith, long, count, none);
           stopped = tt;
           unchanged = had.unchanged;
           cleanness = had.cleanness;
@@ -193,7 +198,7 @@ module _ {K : Type 0} (content : K → Tables) (failed : K → ℕ) (honest clea
 
   -- the store failed at the next one
   module _ (commands ds more : List DatedCommand) (d : DatedCommand) (old mid new : K)
-      (answers : Vec Answer Global) (had : HasRun old mid ds answers.items)
+      (answers : Vec Answer Global) (had : Has old mid ds answers.items)
       (all : ds ++ d ∷ more ≡ commands) (count : length answers.items ≡ length ds)
       (same : clean new → content new ≡ content mid) (cleanness : clean new → clean mid)
       (honesty : honest new → honest mid)
@@ -250,5 +255,5 @@ module _ {K : Type 0} (content : K → Tables) (failed : K → ℕ) (honest clea
               (held-failed t h (left h t l));
           left = λ h t l. left-or-held (held-failed t h (left h t l));
           failures = omega (arith, cause.kept, had.failures);
-          cause = λ e. omega (arith, cause.cause (same_Some fault Store e), had.failures);
+          cause = λ e. omega (arith, cause.cause (λ i. Err (same_Some fault Store e i)), had.failures);
         }

@@ -1,5 +1,5 @@
 ghost use Rattle.keepers.specs.Faults.{HasCause};
-ghost use Rattle.std.specs.Prelude.{◌≡◌, IfOk, OnErr, OnOk};
+ghost use Rattle.std.specs.Prelude.{◌≡◌, IfOk, OnErr, OnOk, max};
 ghost use Rattle.charging.specs.Parts.{Leaves, PartKeeps};
 ghost use Rattle.charging.specs.Repeats.{IsAnsweredAgain};
 ghost use Rattle.charging.specs.Served.{Serves, Writes};
@@ -61,8 +61,15 @@ fn serve<K: Keeper>(
         × Writes shelf.now command moment (K.content keeper.old) t) }
 {
     let last = keeper.last()?;
-    let moment = moment.max(last);
+    let moment = later(moment, last);
     serve_at(alloc, keeper, shelf, command, moment)
+}
+
+/// The later of a command's moment and that of the last one.
+fn later(moment: Moment, last: Moment) -> Moment
+    ensures { result ≡ max moment last }
+{
+    moment.max(last)
 }
 
 /// The same at a moment that isn't before that of the last accepted command.

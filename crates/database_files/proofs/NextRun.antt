@@ -2,12 +2,9 @@
 use Rattle.std.proofs.Common.{◌≡◌, ap, sym, subst, inl, inr, refl}
 use Rattle.std.proofs.Math.Logic.{∥∥₁_elim, ∥∥₁_map}
 use Rattle.sqlite_disk.specs.declared.Disk.{Ghosts}
-use Rattle.sqlite_store.specs.FileStore.{recovers, view}
-use Rattle.sqlite_store.specs.declared.store.FileStore.{FileStore}
+use Rattle.sqlite_store.specs.FileStore.{recovers}
 use Rattle.sqlite.specs.Effect.{Database}
 use Rattle.sqlite.specs.Files.{file_state, over_files}
-use Rattle.sqlite.specs.Held.{Held}
-use Rattle.sqlite.specs.State.{HasCleanDisk}
 use Rattle.sqlite.proofs.Theorems.{next_run}
 use Rattle.sql_opening.specs.declared.fault.OpenFault.{OpenFault}
 use Rattle.sql_opening.specs.declared.fault.OpenFault.TheVariants.{Foreign, Version, Rules, Store}

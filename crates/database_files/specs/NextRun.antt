@@ -1,6 +1,5 @@
 -- What the next process finds of the files of a keeper.
 -- Source: profile.
-use Rattle.std.specs.Prelude.{List}
 use Rattle.sqlite_disk.specs.declared.Disk.{Ghosts}
 use Rattle.sqlite_wal.specs.Recovery.{Image}
 use Rattle.sqlite_store.specs.FileStore.{recovers, state as files_of, view}

@@ -1,6 +1,9 @@
 -- What words leave of the database that files held, out of what they leave of a keeper that was
 -- opened.
-use Rattle.std.proofs.Common.{◌≡◌, ℕ, List, ap, subst, ◌∙◌, arith}
+use Rattle.std.proofs.Common.{◌≡◌, ℕ, List, Option, Some, None, Result, Ok, Err, ap, subst, sym}
+use Rattle.std.proofs.Common.{◌∙◌, arith}
+use Rattle.std.specs.Prelude.{IfOk, IfSome, IsOk}
+use Rattle.std.specs.Io.KnownBytes.{Appends}
 use Rattle.sqlite_disk.specs.declared.Disk as disk
 use Rattle.sqlite_wal.specs.Recovery.{Image}
 use Rattle.sqlite_store.specs.declared.store.FileStore.{FileStore}
@@ -14,12 +17,23 @@ use Rattle.shelves.specs.Shelves.{Shelf}
 use Rattle.keepers.specs.Tables.{Tables}
 use Rattle.sql_rows.specs.Content.{content_of}
 use Rattle.sql_keeper.specs.Content.{shelf_names, tables_of, Names}
-use Rattle.sql_keeper.specs.Inside.{KeeperState, IsClean, tables_in}
+use Rattle.sql_keeper.specs.Inside.{IsClean, KeeperState, tables_in}
 use Rattle.sql_keeper.specs.Opened.{IsKept, IsLeft, IsOpened}
 use Rattle.sql_keeper.specs.Shelves.{IsShelfOf}
 use Rattle.sql_keeper.specs.Stops.{trees_in}
 use Rattle.sql_keeper.proofs.OneShelf.{one_shelf}
-use Rattle.database_office.specs.Over.{ForLeft, IsOpenedIn, Leaves}
+use Rattle.office.specs.Counts.{counts_line}
+use Rattle.office.specs.Months.{IsMonthTold}
+use Rattle.office.specs.declared.fault.OfficeFault.{OfficeFault}
+use Rattle.office.specs.declared.status.Status.{Status}
+use Rattle.operator.specs.declared.parsed.ImportWords.{ImportWords}
+use Rattle.operator.specs.declared.parsed.StatementWords.{StatementWords}
+use Rattle.database_office.specs.Importing.{IsFileImported}
+use Rattle.database_office.specs.Over.{Comes, IsImportDone, IsMomentOf, IsMonthDone, IsOpenedIn}
+use Rattle.database_office.specs.Over.{query_of}
+use Rattle.database_office.specs.Stating.{IsOfOffice, of_office}
+use Rattle.database_office.specs.declared.fault.DatabaseFault.{DatabaseFault}
+use Rattle.database_office.specs.declared.fault.DatabaseFault.TheVariants.{Office}
 
 -- what was opened over the files is what they held
 pub opened_in : {D : Type 0} {g : disk.Ghosts D} (image : Image) (c : Held (FileStore D g))
@@ -53,19 +67,89 @@ same_office image k s opened clean db text shelf held left is =
     is in (
       one,
       ap (λ (n : Names). tables_of n (content_of (trees_in over_files k)))
-          (opened.fresh.names ∙ ap shelf_names one)
+          (ap shelf_names (opened.fresh.own ∙ one))
           ∙ ap (λ (t : Trees). tables_of (shelf_names shelf) (content_of t)) rows,
     )
 
 -- and what is so of a keeper's shelf and tables is so of those of the database
-pub leaves_from : {D : Type 0} {g : disk.Ghosts D} (image : Image)
+pub comes_from : {D : Type 0} {g : disk.Ghosts D} (image : Image)
     (old new : KeeperState (FileStore D g)) (s : Shelf) (says : Shelf → Tables → Tables → Type 0) →
-    IsOpenedIn image old s →
-    (IsClean (file_state new.connection) → IsClean (file_state old.connection)) →
-    (IsClean (file_state new.connection) →
-    says s (tables_in over_files old) (tables_in over_files new)) → Leaves image new says
-leaves_from image old new s says opened cleanness done clean db text shelf held left is =
-    let same = same_office image old s opened (cleanness clean).disk db text shelf held left is in
+    IsOpenedIn image old s → HasCleanDisk (file_state old.connection) →
+    says s (tables_in over_files old) (tables_in over_files new) → Comes image new says
+comes_from image old new s says opened clean done db text shelf held left is =
+    let same = same_office image old s opened clean db text shelf held left is in
     subst (λ (t : Tables). says shelf t (tables_in over_files new)) same.1
-    (subst (λ (x : Shelf). says x (tables_in over_files old) (tables_in over_files new)) same.0
-    (done clean))
+    (subst (λ (x : Shelf). says x (tables_in over_files old) (tables_in over_files new)) same.0 done)
+
+-- so it is of what a call answers
+pub over_from : {D A E : Type 0} {g : disk.Ghosts D} (image : Image)
+    (old : KeeperState (FileStore D g)) (s : Shelf) (r : Result A E)
+    (keeper : A → KeeperState (FileStore D g)) (says : A → Shelf → Tables → Tables → Type 0) →
+    IsOpenedIn image old s →
+    IfOk r (λ x. HasCleanDisk (file_state (keeper x).connection) →
+    HasCleanDisk (file_state old.connection)) →
+    IfOk r (λ x. HasCleanDisk (file_state (keeper x).connection) →
+    says x s (tables_in over_files old) (tables_in over_files (keeper x))) →
+    IfOk r (λ x. HasCleanDisk (file_state (keeper x).connection) →
+    Comes image (keeper x) (says x))
+over_from image old s (Ok x) keeper says opened honesty done = λ clean.
+    comes_from image old (keeper x) s (says x) opened (honesty clean) (done clean)
+over_from image old s (Err e) keeper says opened honesty done = tt
+
+-- and of what it answers over a reader that tells its bytes
+pub read_from : {D A E : Type 0} {g : disk.Ghosts D} (image : Image)
+    (old : KeeperState (FileStore D g)) (s : Shelf) (r : Result A E) (bytes : Option (List ℕ))
+    (keeper : A → KeeperState (FileStore D g))
+    (says : List ℕ → A → Shelf → Tables → Tables → Type 0) → IsOpenedIn image old s →
+    IfOk r (λ x. HasCleanDisk (file_state (keeper x).connection) →
+    HasCleanDisk (file_state old.connection)) →
+    IfOk r (λ x. IsClean (file_state old.connection) →
+    HasCleanDisk (file_state (keeper x).connection) → IfSome bytes (λ text.
+    says text x s (tables_in over_files old) (tables_in over_files (keeper x)))) →
+    IfOk r (λ x. HasCleanDisk (file_state (keeper x).connection) → IfSome bytes (λ text.
+    Comes image (keeper x) (says text x)))
+read_from image old s (Ok x) (Some text) keeper says opened honesty done = λ clean.
+    comes_from image old (keeper x) s (says text x) opened (honesty clean)
+    (done (opened.clean (honesty clean)) clean)
+read_from image old s (Ok x) None keeper says opened honesty done = λ clean. tt
+read_from image old s (Err e) bytes keeper says opened honesty done = tt
+
+-- ---- what was done at the moment of words
+
+pub import_done : (words : ImportWords) (t : ℕ) (before after : Option (List ℕ)) (shelf : Shelf)
+    (old new : Tables) (bytes : Option (List ℕ)) → IsMomentOf words.at t →
+    IfSome bytes (λ text. IsFileImported shelf text t old new
+    (λ counts. Appends before after (counts_line counts))) →
+    IfSome bytes (λ text. IsImportDone words text before after shelf old new)
+import_done words t before after shelf old new (Some text) said imported =
+    record { moment = t; said = said; imported = imported }
+import_done words t before after shelf old new None said imported = tt
+
+status_in : Status → Result Status DatabaseFault → Status
+status_in other (Ok status) = status
+status_in other (Err fault) = other
+
+ok_is_err : (s : Status) (f : DatabaseFault) →
+    ◌≡◌ {A = Result Status DatabaseFault} (Ok s) (Err f) → ⊥
+ok_is_err s f e = subst IsOk e tt
+
+-- what an office answers is what is handed on of it
+handed_on : (says : Result Status OfficeFault → Type 0) (s : Status)
+    (given : Result Status OfficeFault) →
+    ◌≡◌ {A = Result Status DatabaseFault} (Ok s) (of_office given) → says given → says (Ok s)
+unfolding status_in
+handed_on says s (Ok x) is was =
+    subst (λ (y : Status). says (Ok y)) (sym (ap (status_in s) is)) was
+handed_on says s (Err f) is was = absurd (ok_is_err s (Office f) is)
+
+pub month_done : (words : StatementWords) (t : ℕ) (before after : Option (List ℕ)) (shelf : Shelf)
+    (old new : Tables) (status : Status) → IsMomentOf words.at t →
+    IsOfOffice (IsMonthTold shelf (query_of words) t old before after) (Ok status) → new ≡ old →
+    IsMonthDone words before after status shelf old new
+month_done words t before after shelf old new status said told same = record {
+  moment = t;
+  said = said;
+  told = handed_on (IsMonthTold shelf (query_of words) t old before after) status told.answer
+      told.is told.was;
+  same = same;
+}

@@ -50,11 +50,10 @@ ForLeft image says = (db : Trees) (text : List ℕ) (shelf : Shelf) → HoldsDat
     IsLeft text db → IsShelfOf text (content_of db).books shelf →
     says shelf (tables_of (shelf_names shelf) (content_of db))
 
--- so it is of the tables that were found and of those that a keeper leaves
-abbrev pub Leaves : {D : Type 0} → {g : disk.Ghosts D} → Image → KeeperState (FileStore D g) →
+-- so it is of the tables that were found and of those that the keeper has then
+abbrev pub Comes : {D : Type 0} → {g : disk.Ghosts D} → Image → KeeperState (FileStore D g) →
     (Shelf → Tables → Tables → Type 0) → Type 0
-Leaves image k says = IsClean (file_state k.connection) →
-    ForLeft image (λ shelf found. says shelf found (tables_in over_files k))
+Comes image k says = ForLeft image (λ shelf found. says shelf found (tables_in over_files k))
 
 -- ---- what the words say
 

@@ -1,6 +1,6 @@
 //! An operator's command over a database.
 
-ghost use Rattle.std.specs.Prelude.{◌≡◌, ◌≤◌, Err, IfErr, IfOk};
+ghost use Rattle.std.specs.Prelude.{◌≡◌, ◌≤◌, Err, IfErr, IfOk, OnOk};
 ghost use Rattle.std.specs.Io.KnownBytes.{Appends};
 ghost use Rattle.byte_streams.specs.declared.StreamFault.{StreamFault};
 ghost use Rattle.keepers.specs.declared.fault.StoreFault.{StoreFault};
@@ -10,9 +10,13 @@ ghost use Rattle.office.specs.Told.{answer_line, status_of};
 ghost use Rattle.office.specs.Written.{WritesBeginning};
 ghost use Rattle.office.specs.declared.fault.OfficeFault.TheVariants.{Store, Write};
 ghost use Rattle.operator.specs.Office.{command_of};
+ghost use Rattle.sqlite.specs.Files.{file_state};
+ghost use Rattle.sqlite.specs.State.{HasCleanDisk};
 ghost use Rattle.sqlite_wal.specs.Files.{image_at};
 ghost use Rattle.database_office.specs.Opening.{IsCommandFault, IsOfficeFault, IsUnanswered};
-ghost use Rattle.database_office.specs.Over.{IsCommandDone, Leaves};
+ghost use Rattle.sql_keeper.specs.Inside.{tables_in};
+ghost use Rattle.sql_keeper.specs.Stops.{honest_in};
+ghost use Rattle.database_office.specs.Over.{Comes, IsCommandDone, IsMomentOf};
 ghost use Rattle.database_office.specs.declared.fault.DatabaseFault.TheVariants.{Office as OfOffice};
 
 use crate::clock::command_moment;
@@ -24,6 +28,7 @@ use office::{Status, serve_office};
 use operator::OfficeWords;
 use shelves::TariffShelf;
 use sql_keeper::SqlKeeper;
+use sqlite::Alter;
 use sqlite_disk::{Start, Wary};
 use std::alloc::Global;
 use std::io::Write;
@@ -63,7 +68,8 @@ pub fn command_over<S: Start, O: Write>(
     output: &mut O,
     start: S,
 ) -> Result<(Status, SqlKeeper<DatabaseFiles<S>>), DatabaseFault>
-    ensures carried { IfOk result (λ r. Leaves (image_at S.Start) r.1
+    ensures carried { IfOk result (λ r. HasCleanDisk (file_state r.1.connection) →
+        Comes (image_at S.Start) r.1
         (IsCommandDone words (O.contents output.old) (O.contents output.new) r.0)) }
     ensures printed { IfOk result (λ r.
         PrintsAnswer r.0 (O.contents output.old) (O.contents output.new)) }
@@ -71,8 +77,30 @@ pub fn command_over<S: Start, O: Write>(
     ensures fault { IfErr result (IsCommandFault words.at) }
 {
     let moment = command_moment(rt, words.at)?;
-    let Office { mut keeper, shelf } = open_office(rt, &words.database, start)?;
-    let status = carry_out(rt.alloc(), &mut keeper, &shelf, words, moment, output)?;
+    let office = open_office(rt, &words.database, start)?;
+    carry_over(rt.alloc(), office, words, moment, output)
+}
+
+/// Carries out the command of words over an office, and answers its keeper too.
+fn carry_over<S: Alter + Drop, O: Write>(
+    alloc: Global,
+    office: Office<S>,
+    words: OfficeWords,
+    moment: Moment,
+    output: &mut O,
+) -> Result<(Status, SqlKeeper<S>), DatabaseFault>
+    requires { IsMomentOf words.at moment }
+    ensures done { IfOk result (λ r. honest_in S.Store r.1 →
+        IsCommandDone words (O.contents output.old) (O.contents output.new) r.0 office.shelf
+        (tables_in S.Store office.keeper) (tables_in S.Store r.1)) }
+    ensures honesty { IfOk result (λ r. honest_in S.Store r.1 → honest_in S.Store office.keeper) }
+    ensures printed { IfOk result (λ r.
+        PrintsAnswer r.0 (O.contents output.old) (O.contents output.new)) }
+    ensures unwritten { IfErr result (λ fault. IsUnanswered fault → output.new ≡ output.old) }
+    ensures fault { IfErr result IsOfficeFault }
+{
+    let Office { mut keeper, shelf } = office;
+    let status = carry_out(alloc, &mut keeper, &shelf, words, moment, output)?;
     Ok((status, keeper))
 }
 
@@ -99,6 +127,8 @@ fn carry_out<K: Keeper, O: Write>(
         K.clean keeper.new → K.content keeper.new ≡ K.content keeper.old }
     ensures unwritten { IfErr result (λ fault. IsUnanswered fault → output.new ≡ output.old) }
     ensures fault { IfErr result IsOfficeFault }
+    ensures honesty { K.honest keeper.new → K.honest keeper.old }
+    ensures stands { K.honest keeper.new → OnOk result (K.clean keeper.new) }
     ensures cleanness { K.clean keeper.new → K.clean keeper.old }
     ensures failures { K.failed keeper.old ≤ K.failed keeper.new }
 {

@@ -6,7 +6,11 @@ ghost use Rattle.office.specs.Counts.{counts_line};
 ghost use Rattle.office.specs.Printed.{PrintsCounts};
 ghost use Rattle.database_office.specs.Importing.{IsFileFault, IsFileImported, IsImportEnd};
 ghost use Rattle.database_office.specs.Importing.{IsImportFault, IsUntold};
-ghost use Rattle.database_office.specs.Over.{IsImportDone, Leaves};
+ghost use Rattle.sql_keeper.specs.Inside.{clean_in, tables_in};
+ghost use Rattle.sql_keeper.specs.Stops.{honest_in};
+ghost use Rattle.database_office.specs.Over.{Comes, IsImportDone, IsMomentOf};
+ghost use Rattle.sqlite.specs.Files.{file_state};
+ghost use Rattle.sqlite.specs.State.{HasCleanDisk};
 ghost use Rattle.sqlite_wal.specs.Files.{image_at};
 
 use crate::clock::command_moment;
@@ -19,6 +23,7 @@ use office::serve_import;
 use operator::ImportWords;
 use shelves::TariffShelf;
 use sql_keeper::SqlKeeper;
+use sqlite::Alter;
 use sqlite_disk::{Start, Wary};
 use std::alloc::Global;
 use std::io::{Read, Write};
@@ -83,16 +88,40 @@ pub fn import_over<S: Start, R: Read + Drop, O: Write>(
     output: &mut O,
     start: S,
 ) -> Result<SqlKeeper<DatabaseFiles<S>>, ImportFault>
-    ensures imported { IfOk result (λ keeper. IfSome (R.remaining reader) (λ text.
-        Leaves (image_at S.Start) keeper
+    ensures imported { IfOk result (λ keeper. HasCleanDisk (file_state keeper.connection) →
+        IfSome (R.remaining reader) (λ text. Comes (image_at S.Start) keeper
         (IsImportDone words.now text (O.contents output.old) (O.contents output.new)))) }
     ensures printed { OnOk result (PrintsCounts (O.contents output.old) (O.contents output.new)) }
     ensures unwritten { IfErr result (λ fault. IsUntold fault → output.new ≡ output.old) }
     ensures fault { IfErr result (IsImportEnd words.now.at) }
 {
     let moment = command_moment(rt, words.at)?;
-    let Office { mut keeper, shelf } = open_office(rt, &words.database, start)?;
-    import_file(rt.alloc(), &mut keeper, &shelf, reader, moment, output)?;
+    let office = open_office(rt, &words.database, start)?;
+    add_over(rt.alloc(), office, words, reader, moment, output)
+}
+
+/// Adds the vouchers of a reader over an office, and answers its keeper.
+fn add_over<S: Alter + Drop, R: Read + Drop, O: Write>(
+    alloc: Global,
+    office: Office<S>,
+    words: &ImportWords,
+    reader: R,
+    moment: Moment,
+    output: &mut O,
+) -> Result<SqlKeeper<S>, ImportFault>
+    requires { IsMomentOf words.now.at moment }
+    ensures done { IfOk result (λ keeper. clean_in S.Store office.keeper →
+        honest_in S.Store keeper → IfSome (R.remaining reader) (λ text.
+        IsImportDone words.now text (O.contents output.old) (O.contents output.new) office.shelf
+        (tables_in S.Store office.keeper) (tables_in S.Store keeper))) }
+    ensures honesty { IfOk result (λ keeper. honest_in S.Store keeper →
+        honest_in S.Store office.keeper) }
+    ensures printed { OnOk result (PrintsCounts (O.contents output.old) (O.contents output.new)) }
+    ensures unwritten { IfErr result (λ fault. IsUntold fault → output.new ≡ output.old) }
+    ensures told { IfErr result IsFileFault }
+{
+    let Office { mut keeper, shelf } = office;
+    import_file(alloc, &mut keeper, &shelf, reader, moment, output)?;
     Ok(keeper)
 }
 
@@ -122,6 +151,8 @@ pub fn import_file<K: Keeper, R: Read + Drop, O: Write>(
         (O.contents output.old) (O.contents output.new) fault)) }
     ensures unwritten { IfErr result (λ fault. IsUntold fault → output.new ≡ output.old) }
     ensures told { IfErr result IsFileFault }
+    ensures honesty { K.honest keeper.new → K.honest keeper.old }
+    ensures stands { K.honest keeper.new → K.clean keeper.old → OnOk result (K.clean keeper.new) }
     ensures cleanness { K.clean keeper.new → K.clean keeper.old }
     ensures failures { K.failed keeper.old ≤ K.failed keeper.new }
 {

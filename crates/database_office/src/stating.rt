@@ -1,12 +1,16 @@
 //! An account's month over a database.
 
-ghost use Rattle.std.specs.Prelude.{◌≡◌, IfErr, IfOk};
+ghost use Rattle.std.specs.Prelude.{◌≡◌, IfErr, IfOk, OnOk};
 ghost use Rattle.std.specs.Io.KnownBytes.{Appends};
 ghost use Rattle.office.specs.Months.{IsMonthTold, OnlyReads, unknown_line};
 ghost use Rattle.office.specs.Printed.{IsEnded};
 ghost use Rattle.database_office.specs.Opening.{IsCommandFault, IsOfficeFault, IsUnasked};
+ghost use Rattle.sqlite.specs.Files.{file_state};
+ghost use Rattle.sqlite.specs.State.{HasCleanDisk};
 ghost use Rattle.sqlite_wal.specs.Files.{image_at};
-ghost use Rattle.database_office.specs.Over.{IsMonthDone, Leaves, query_of};
+ghost use Rattle.sql_keeper.specs.Inside.{tables_in};
+ghost use Rattle.sql_keeper.specs.Stops.{honest_in};
+ghost use Rattle.database_office.specs.Over.{Comes, IsMomentOf, IsMonthDone, query_of};
 ghost use Rattle.database_office.specs.Stating.{IsOfOffice};
 
 use crate::clock::command_moment;
@@ -18,6 +22,7 @@ use office::{MonthQuery, Status, serve_statement};
 use operator::StatementWords;
 use shelves::TariffShelf;
 use sql_keeper::SqlKeeper;
+use sqlite::Alter;
 use sqlite_disk::{Start, Wary};
 use std::alloc::Global;
 use std::io::Write;
@@ -56,7 +61,8 @@ pub fn state_over<S: Start, O: Write>(
     output: &mut O,
     start: S,
 ) -> Result<(Status, SqlKeeper<DatabaseFiles<S>>), DatabaseFault>
-    ensures told { IfOk result (λ r. Leaves (image_at S.Start) r.1
+    ensures told { IfOk result (λ r. HasCleanDisk (file_state r.1.connection) →
+        Comes (image_at S.Start) r.1
         (IsMonthDone words (O.contents output.old) (O.contents output.new) r.0)) }
     ensures ended { IfOk result (λ r. IsEnded
         (Appends (O.contents output.old) (O.contents output.new) unknown_line) r.0) }
@@ -64,8 +70,30 @@ pub fn state_over<S: Start, O: Write>(
     ensures fault { IfErr result (IsCommandFault words.at) }
 {
     let moment = command_moment(rt, words.at)?;
-    let Office { mut keeper, shelf } = open_office(rt, &words.database, start)?;
-    let status = tell_month(rt.alloc(), &mut keeper, &shelf, words, moment, output)?;
+    let office = open_office(rt, &words.database, start)?;
+    tell_over(rt.alloc(), office, words, moment, output)
+}
+
+/// Writes the month of words over an office, and answers its keeper too.
+fn tell_over<S: Alter + Drop, O: Write>(
+    alloc: Global,
+    office: Office<S>,
+    words: StatementWords,
+    moment: Moment,
+    output: &mut O,
+) -> Result<(Status, SqlKeeper<S>), DatabaseFault>
+    requires { IsMomentOf words.at moment }
+    ensures done { IfOk result (λ r. honest_in S.Store r.1 →
+        IsMonthDone words (O.contents output.old) (O.contents output.new) r.0 office.shelf
+        (tables_in S.Store office.keeper) (tables_in S.Store r.1)) }
+    ensures honesty { IfOk result (λ r. honest_in S.Store r.1 → honest_in S.Store office.keeper) }
+    ensures ended { IfOk result (λ r. IsEnded
+        (Appends (O.contents output.old) (O.contents output.new) unknown_line) r.0) }
+    ensures unwritten { IfErr result (λ fault. IsUnasked fault → output.new ≡ output.old) }
+    ensures fault { IfErr result IsOfficeFault }
+{
+    let Office { mut keeper, shelf } = office;
+    let status = tell_month(alloc, &mut keeper, &shelf, words, moment, output)?;
     Ok((status, keeper))
 }
 
@@ -102,6 +130,8 @@ fn tell_month<K: ChargeSource, O: Write>(
     ensures ended { IfOk result (IsEnded
         (Appends (O.contents output.old) (O.contents output.new) unknown_line)) }
     ensures reads { IsOfOffice (OnlyReads K.content K.failed K.clean keeper.old keeper.new) result }
+    ensures honesty { K.honest keeper.new → K.honest keeper.old }
+    ensures stands { K.honest keeper.new → OnOk result (K.clean keeper.new) }
     ensures unwritten { IfErr result (λ fault. IsUnasked fault → output.new ≡ output.old) }
     ensures fault { IfErr result IsOfficeFault }
 {

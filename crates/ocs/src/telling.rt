@@ -116,7 +116,8 @@ fn tell_error<O: Write, E: Write>(
         let _ = write_whole(errors, text.as_bytes());
         return Status::Unread;
     }
-    match write_whole(output, text.as_bytes()) {
+    let written = write_whole(output, text.as_bytes());
+    match written {
         Ok(()) => Status::Done,
         Err(fault) => tell_stream(errors, fault),
     }

@@ -37,7 +37,7 @@ const TERMINATION: &str = r#"1767607500 {"Session-Id":"s3","CC-Request-Type":3,
 /// Words, and what they come to in turn: the status, what is written, and what is told on the
 /// errors, each line feed as `~`.
 const TOLD: &str = r#"once --block 1 --price 0 --credit 0
-  => 2||ocs: a word is not one that its place takes~
+   => 2||ocs: a word is not one that its place takes~
 open ocs_tests/db 49151 --at 1767571200 => 1||ocs: open fault 1~
 statement ocs_tests/db 49151 202601 --at 1767571200 => 1||ocs: open fault 1~
 migrate ocs_tests/db => 1||ocs: open fault 1~
@@ -65,7 +65,7 @@ replay ocs_tests/db ocs_tests/initial.txt => 0|{"CC-Request-Number":0,"CC-Reques
   "Granted-Service-Unit":{"CC-Time":120},"Rating-Group":10,"Result-Code":2001,
   "Validity-Time":3600}],"Result-Code":2001,"Session-Id":"s3"}~|
 statement ocs_tests/db 49151 202601 --at 1767607200
-  => 0|ACCOUNT 49151 MONTH 202601 MOMENT 1767607200~
+   => 0|ACCOUNT 49151 MONTH 202601 MOMENT 1767607200~
       MOMENT      GROUP     BLOCKS               RATED           COLLECTED         UNCOLLECTED~
                   TOTAL          0                   0                   0                   0~
       BUCKET         CREDITED        AVAILABLE         RESERVED          CHARGED          EXPIRED~
@@ -75,7 +75,7 @@ replay ocs_tests/db ocs_tests/termination.txt => 0|{"CC-Request-Number":1,"CC-Re
   "Multiple-Services-Credit-Control":[{"Rating-Group":10,"Result-Code":2001}],
   "Result-Code":2001,"Session-Id":"s3"}~|
 statement ocs_tests/db 49151 202601 --csv --at 1767607500
-  => 0|moment,session,group,blocks,rated,collected,uncollected,covered~
+   => 0|moment,session,group,blocks,rated,collected,uncollected,covered~
   1767607500,s3,10,5,500000,250000,250000,0~|
 statement ocs_tests/db 4040404 202601 --at 1767607500 => 1|{"Refusal":"O2"}~|
 sweep ocs_tests/db --at 1767716068 => 0|{"Accounts":1,"Result-Code":2001}~|

@@ -1,7 +1,7 @@
 -- A book that is added to two shelves and to the tables, or to none of them.
-use Rattle.std.proofs.Common.{◌≡◌, ◌≤◌, ◌+◌, ◌∙◌, ◌++◌, ℕ, suc, List, [], ◌∷◌, Option, Some, None, inl}
+use Rattle.std.proofs.Common.{◌≡◌, ◌≤◌, ◌+◌, ◌∙◌, ◌++◌, ℕ, suc, List, [], ◌∷◌, Option, Some, None}
 use Rattle.std.proofs.Common.{refl, sym, ap, subst, arith, length, length-append, IsTrue, false}
-use Rattle.std.proofs.Common.{◌⊎◌, inr}
+use Rattle.std.proofs.Common.{◌⊎◌, inl, inr}
 use Rattle.std.specs.Prelude.{Result, Ok, Err, IfErr, IfSome, OnErr, OnOk}
 use Rattle.sqlite_trees.specs.Tree.{Trees}
 use Rattle.sqlite_trees.specs.declared.store.Store.{Ghosts}
@@ -80,14 +80,15 @@ module _ (from : ℕ) (text : List ℕ) (b : Book) (old mid : State) (before own
   leaves_none : LeavesDated from text b before own old mid
   leaves_none clean db may = elim (stops.crash clean db may) [
     | inl was ↦ inl was
-    | inr no ↦ absurd no
+    | inr none ↦ absurd none
   ]
 
   -- nothing was done
   pub none_added : {A E : Type 0} (after own' : Shelf) (e : E) → after ≡ before → own' ≡ own
       → AddsToAll {A = A} from text b old mid before after own own' (Err e)
   none_added after own' e shelf own_is = record {
-    commits = refused (BecomesDated (suc (count before)) from text) old mid NoMemory only reads_stop;
+    commits = refused (BecomesDated (suc (count before)) from text) old mid NoMemory only
+        reads_stop;
     leaves = leaves_none;
     own_shelf = tt;
     free = λ clean. tt;
@@ -105,7 +106,8 @@ module _ (from : ℕ) (text : List ℕ) (b : Book) (old mid : State) (before own
       → (HasCleanDisk mid → last ≡ last_at old)
       → AddsToAll {A = A} {E = E} from text b old mid before after own own' (Ok (Err f))
   refused_by after own' f last kept told is = record {
-    commits = refused (BecomesDated (suc (count before)) from text) old mid NoMemory only reads_stop;
+    commits = refused (BecomesDated (suc (count before)) from text) old mid NoMemory only
+        reads_stop;
     leaves = leaves_none;
     own_shelf = tt;
     free = λ clean. tt;
@@ -132,8 +134,8 @@ module _ (from : ℕ) (text : List ℕ) (b : Book) (old mid : State) (before own
         → CommitsWhole (BecomesDated (count after) from text) mid new r
         → LeavesDated from text b before own old new
     leaves_all r commits clean db may =
-        elim (leaves_after (BecomesDated (count after) from text) old mid new only stops on r commits
-        clean db may) [
+        elim (leaves_after (BecomesDated (count after) from text) old mid new only stops on r
+        commits clean db may) [
           | inl was ↦ inl was
           | inr it ↦ inr (record {
             was_open = it.0;
@@ -369,7 +371,8 @@ module _ {S : Type 0} (g : Ghosts S) (old new : KeeperState S) (text : List ℕ)
 
   -- the book that is added is found again behind those of the keeper's shelf
   held_more : from ≤ 4_102_488_000 → IsShelf (with_book own from b)
-      → count own ≡ count before → (db : Trees) → IsHeld old.text old.shelf old.last (trees_in g old)
+      → count own ≡ count before → (db : Trees)
+      → IsHeld old.text old.shelf old.last (trees_in g old)
       → Become [] (trees_in g old) db
       → IsHeld old.text (with_book old.shelf from b) old.last db
   held_more range behind' counts db held become =

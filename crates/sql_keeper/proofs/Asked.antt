@@ -97,6 +97,6 @@ keeper_after g old new keeper only survives text shelf last bounded = record {
   found = λ clean db may. subst (λ t. IsLeft t db) (sym text) (keeper.found (only.cleanness clean) db
       (elim (survives.crash clean db may) [
         | inl before ↦ before
-        | inr no ↦ absurd no
+        | inr none ↦ absurd none
       ]));
 }

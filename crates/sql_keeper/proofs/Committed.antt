@@ -1,5 +1,6 @@
 -- A keeper after what is committed whole.
-use Rattle.std.proofs.Common.{◌≡◌, ◌≤◌, ◌⊎◌, inl, inr, refl, subst, sym, ap, ℕ, List, IsTrue, arith, false}
+use Rattle.std.proofs.Common.{◌≡◌, ◌≤◌, ◌⊎◌, inl, inr, refl, subst, sym, ap, ℕ, List, IsTrue, arith}
+use Rattle.std.proofs.Common.{false}
 use Rattle.std.specs.Prelude.{Result, Ok, Err, OnOk, OnErr}
 use Rattle.sqlite_disk.specs.Disk.{MoreFaults}
 use Rattle.sqlite_trees.specs.Tree.{Trees}
@@ -42,7 +43,8 @@ pub committed : {S A : Type 0} (g : Ghosts S) (old : KeeperState S) (conn : Held
     → CommitsChange (names_in old) text change (state g old.connection) (state g conn) r
     → IsClean (state g conn)
     → OnOk r (IsMadeFrom change.before change.after ((tables_in g old).rows change.number)
-    → tables_of (names_in old) (content_of (state g conn).now.trees) ≡ changed change (tables_in g old))
+    → tables_of (names_in old) (content_of (state g conn).now.trees)
+    ≡ changed change (tables_in g old))
 committed g old conn text change keeper (Ok x) commits clean = (commits.done clean.disk).2.tables
 committed g old conn text change keeper (Err e) commits clean = tt
 
@@ -50,7 +52,8 @@ committed g old conn text change keeper (Err e) commits clean = tt
 pub added_law : {S A : Type 0} (g : Ghosts S) (old : KeeperState S) (conn : Held S)
     (text code : List ℕ) (terms : VoucherTerms) (t : ℕ) → IsKeeper g old → (r : Result A StoreFault)
     → CommitsWhole (BecomesAdded text code terms t) (state g old.connection) (state g conn) r
-    → IsClean (state g conn) → OnOk r (tables_of (names_in old) (content_of (state g conn).now.trees)
+    → IsClean (state g conn)
+    → OnOk r (tables_of (names_in old) (content_of (state g conn).now.trees)
     ≡ with_added code terms t (tables_in g old))
 added_law g old conn text code terms t keeper (Ok x) commits clean =
     (commits.done clean.disk).2.tables (names_in old)
@@ -59,13 +62,22 @@ added_law g old conn text code terms t keeper (Err e) commits clean = tt
 -- the law of a sweep
 pub swept_law : {S A : Type 0} (g : Ghosts S) (old : KeeperState S) (conn : Held S)
     (text : List ℕ) (shelf : Shelf) (t : ℕ) → IsKeeper g old → (r : Result A StoreFault)
-    → CommitsWhole (BecomesSwept (names_in old) text shelf t) (state g old.connection) (state g conn) r
+    → CommitsWhole (BecomesSwept (names_in old) text shelf t) (state g old.connection)
+    (state g conn) r
     → IsClean (state g conn)
     → OnOk r
     (IsSwept shelf t (tables_in g old)
     (tables_of (names_in old) (content_of (state g conn).now.trees)))
 swept_law g old conn text shelf t keeper (Ok x) commits clean = (commits.done clean.disk).2.tables
 swept_law g old conn text shelf t keeper (Err e) commits clean = tt
+
+-- a stop leaves what it left before, or all that is written, where the connection was open
+abbrev pub Leaves : {S : Type 0} → Ghosts S → KeeperState S → KeeperState S →
+    (Trees → Trees → Type 0) → Type 0
+Leaves g old new Become = HasCleanDisk (state g new.connection) → (db : Trees)
+    → (state g new.connection).may_leave db
+    → (state g old.connection).may_leave db
+    ⊎ (IsTrue (state g old.connection).is_open × Become (state g old.connection).now.trees db)
 
 module _ {S A : Type 0} (g : Ghosts S) (old new : KeeperState S)
     (Become : List ℕ → Trees → Trees → Type 0) (text : List ℕ) (keeper : IsKeeper g old) where
@@ -97,14 +109,6 @@ module _ {S A : Type 0} (g : Ghosts S) (old new : KeeperState S)
   same_tables (Err e) commits shelf clean on =
       let still = commits.err clean.disk on in
       λ i. tables_of (shelf_names (shelf i)) (content_of ((still.now_is i).trees))
-
-  -- what a stop leaves: what it left before, or all that is written, where the connection was open
-  abbrev pub Leaves : Type 0
-  Leaves = HasCleanDisk (state g new.connection) → (db : Trees)
-      → (state g new.connection).may_leave db
-      → (state g old.connection).may_leave db
-      ⊎ (IsTrue (state g old.connection).is_open
-      × Become text (state g old.connection).now.trees db)
 
   -- it is one still, whatever becomes of its shelf
   pub becomes_keeper : (r : Result A StoreFault) → CommitsIn r
@@ -148,7 +152,8 @@ module _ {S A : Type 0} (g : Ghosts S) (old new : KeeperState S)
           (keeper.held (clean_before clean) still.was_open)
 
   -- it is one still, on the same shelf and at the moment that is written
-  pub committed_keeper : (t : ℕ) (r : Result A StoreFault) → CommitsIn r → Leaves
+  pub committed_keeper : (t : ℕ) (r : Result A StoreFault) → CommitsIn r
+      → Leaves g old new (Become text)
       → text ≡ old.text
       → ((db : Trees) → IsHeld old.text old.shelf old.last (trees_in g old)
       → Become old.text (trees_in g old) db → IsHeld old.text old.shelf t db)
@@ -180,8 +185,11 @@ module _ {S A : Type 0} (g : Ghosts S) (old new : KeeperState S)
       kept (Ok x) at = tt
       kept (Err e) at = (shelf, at)
 
-  -- what a stop leaves
-  pub whole : Leaves → text ≡ old.text → IsWhole g old new (Become old.text (trees_in g old))
+-- what a stop leaves
+module _ {S : Type 0} (g : Ghosts S) (old new : KeeperState S)
+    (Become : List ℕ → Trees → Trees → Type 0) (text : List ℕ) (keeper : IsKeeper g old) where
+  pub whole : Leaves g old new (Become text) → text ≡ old.text
+      → IsWhole g old new (Become old.text (trees_in g old))
   whole leaves is = record {
     left = λ clean db may. elim (leaves clean db may) [
       | inl before ↦ inl before

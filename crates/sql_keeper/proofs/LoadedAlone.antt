@@ -42,7 +42,7 @@ if_found false o x e = absurd (no_some x e)
 -- what isn't loaded of a group that is there
 if_none : {A : Type 0} (u : Bool) (o : Option A) (x : A) → (if u then o else None) ≡ None →
     o ≡ Some x → u ≡ false
-if_none true o x e k = absurd (no_some x (sym k ∙ e))
+if_none true o x e k = absurd (no_some x (sym e ∙ k))
 if_none false o x e k = refl
 
 neither : (u p : Bool) → (u || p) ≡ false → (u ≡ false) × (p ≡ false)

@@ -98,7 +98,7 @@ module _ {S : Type 0} (g : Ghosts S) (k : KeeperState S) (conn : Held S) (shelf 
   fresh = record {
     read = subst (λ t. IsBookOf t shelf.first) (sym (told ∙ kept))
         (subst (λ (s : Shelf). IsBookOf text s.first) own_is read);
-    shelf = owned ∙ own_is;
+    own = owned ∙ own_is;
     uncounted = none;
   }
 

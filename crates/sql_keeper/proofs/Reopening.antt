@@ -1,7 +1,6 @@
 -- A store that is stopped where it stands and opened again, and what a change leaves over a stop.
-use Rattle.std.proofs.Common.{◌≡◌, ◌≤◌, ◌⊎◌, inl, inr, ◌∙◌, ap, sym, subst, arith, refl, IsTrue, List}
-use Rattle.std.proofs.Common.{ℕ}
-use Rattle.std.specs.Prelude.{IfErr, OnOk, Ok, Err, Result}
+use Rattle.std.proofs.Common.{◌≡◌, ◌≤◌, ◌⊎◌, inl, inr, ◌∙◌, ap, sym, subst, arith, IsTrue}
+use Rattle.std.specs.Prelude.{IfOk, OnOk, Ok, Err, Result}
 use Rattle.sqlite_trees.specs.Tree.{Trees}
 use Rattle.sqlite_trees.specs.View.{IsClean as IsHonest, IsQuiet, IsReopened, doubt}
 use Rattle.sqlite_trees.specs.declared.store.Store.{Ghosts}
@@ -79,8 +78,8 @@ shows_stopped g old store new left shown clean =
 
 -- ---- the keeper
 
-module _ {S : Type 0} (g : Ghosts S) (law : AreSettled g) (old : KeeperState S) (conn shown : Held S)
-    (keeper : IsKeeper g old) (same : conn ≡ old.connection)
+module _ {S : Type 0} (g : Ghosts S) (law : AreSettled g) (old : KeeperState S)
+    (conn shown : Held S) (keeper : IsKeeper g old) (same : conn ≡ old.connection)
     (shows : HasCleanDisk (state g shown) → ShowsStopped g conn shown) where
   shows_old : HasCleanDisk (state g shown) → ShowsStopped g old.connection shown
   shows_old = subst (λ h. HasCleanDisk (state g shown) → ShowsStopped g h shown) same shows
@@ -99,7 +98,7 @@ module _ {S : Type 0} (g : Ghosts S) (law : AreSettled g) (old : KeeperState S) 
 
 -- ---- a change
 
-module _ {S A : Type 0} (g : Ghosts S) (law : AreSettled g) (change : Change)
+module _ {S : Type 0} (g : Ghosts S) (law : AreSettled g) (change : Change)
     (old mid new : KeeperState S) (shelf : Shelf) (keeper : IsKeeper g old)
     (rest : IsClean (state g old.connection))
     (whole : IsWhole g old mid (Becomes (names_in old) old.text change (trees_in g old)))
@@ -135,13 +134,13 @@ module _ {S A : Type 0} (g : Ghosts S) (law : AreSettled g) (change : Change)
       (subst (λ t. IsShelfOf t (content_of (trees_in g new)).books shelf)
       (sym found.text ∙ text_stays) found.books)) held.books
 
-  pub changed_whole : (r : Result A StoreFault) → (HasCleanDisk (state g mid.connection)
-      → OnOk r (IsClean (state g mid.connection)))
+  pub changed_whole : {A : Type 0} (r : Result A StoreFault)
+      → (HasCleanDisk (state g mid.connection) → OnOk r (IsClean (state g mid.connection)))
       → (IsClean (state g mid.connection)
       → OnOk r (IsMadeFrom change.before change.after ((tables_in g old).rows change.number)
       → tables_in g mid ≡ changed change (tables_in g old)))
       → IsChangedWhole g change old new r
-  changed_whole r stands done = record {
+  changed_whole {A} r stands done = record {
     either = either;
     text = text_stays;
     shelf = shelf_stays;
@@ -159,3 +158,22 @@ module _ {S A : Type 0} (g : Ghosts S) (law : AreSettled g) (change : Change)
           ap (λ s. tables_of (shelf_names s) (content_of (trees_in g new))) (found.own ∙ it.1)
           ∙ ap (λ d. tables_of (names_in mid) (content_of d)) it.0 ∙ to clean made
       told (Err e) clean to = tt
+
+-- so it is of what is opened again, if it is
+pub changed_after : {S A E : Type 0} (g : Ghosts S) → AreSettled g → (change : Change)
+    (old mid : KeeperState S) → IsKeeper g old → IsClean (state g old.connection)
+    → IsWhole g old mid (Becomes (names_in old) old.text change (trees_in g old))
+    → (r : Result A StoreFault) → (HasCleanDisk (state g mid.connection)
+    → OnOk r (IsClean (state g mid.connection)))
+    → (IsClean (state g mid.connection)
+    → OnOk r (IsMadeFrom change.before change.after ((tables_in g old).rows change.number)
+    → tables_in g mid ≡ changed change (tables_in g old)))
+    → (q : Result (KeeperState S × Shelf) E)
+    → IfOk q (λ made. HasCleanDisk (state g made.0.connection)
+    → IsFoundAfter g g mid made.0 made.1)
+    → IfOk q (λ made. HasCleanDisk (state g made.0.connection)
+    → IsChangedWhole g change old made.0 r)
+changed_after g law change old mid keeper rest whole r stands done (Ok made) found = λ clean.
+    let it = found clean in
+    changed_whole g law change old mid made.0 made.1 keeper rest whole it it.honest r stands done
+changed_after g law change old mid keeper rest whole r stands done (Err e) found = tt

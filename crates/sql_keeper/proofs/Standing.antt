@@ -47,10 +47,10 @@ err_handed P (Err e) (Err f) h p = p
 
 module _ {S : Type 0} (g : Ghosts S) (old new : KeeperState S) (keeper : IsKeeper g old)
     (shelf : new.shelf ≡ old.shelf) where
-  before : State
+  abbrev before : State
   before = state g old.connection
 
-  after : State
+  abbrev after : State
   after = state g new.connection
 
   is_clean : HasCleanDisk after → IsTrue after.is_open → clean_in g new
@@ -82,7 +82,7 @@ module _ {S : Type 0} (g : Ghosts S) (old new : KeeperState S) (keeper : IsKeepe
         (on_ok_as _ (clean_in g new) read (λ on. is_clean honest on.1) (asks.answered honest));
     left = λ honest t l. elim (asks.survives.crash honest l.db l.may) [
       | inl may ↦ left_before t l.db may l.is
-      | inr no ↦ absurd no
+      | inr none ↦ absurd none
     ];
     cause = cause_at_most old.failures new.failures result cause;
   }

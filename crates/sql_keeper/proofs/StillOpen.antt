@@ -93,7 +93,7 @@ none_left old mid new on one two =
 pub asked_several : {A B E F : Type 0} (told : Trees → A → Type 0) (old mid new : State) (u : B)
     (r : Result A E) → IsStillOpen {A = B} {E = F} old mid (Ok u) → Gathers told mid new r
     → Asks told old new r
-asked_several {A} {B} {E} {F} told old mid new u r tested reads = record {
+asked_several {A = A} {B = B} {E = E} {F = F} told old mid new u r tested reads = record {
   found = found r reads;
   answered = answered r reads;
   only = only_reads_then old mid new tested.only reads.only;
@@ -121,7 +121,7 @@ pub asked_once : {A B E F : Type 0} (told : Trees → A → Type 0) (old mid new
     (r : Result A E) → IsStillOpen {A = B} {E = F} old mid (Ok u) → Reads told mid new r
     → Asks told old new r
 asked_once {A} {B} {E} {F} told old mid new u r tested reads =
-    asked_several {A} {B} {E} {F} told old mid new u r tested (record {
+    asked_several {A = A} {B = B} {E = E} {F = F} told old mid new u r tested (record {
       found = λ clean on. reads.found clean;
       only = reads.only;
       stays = λ clean on. reads.stays clean;

@@ -57,8 +57,7 @@ module _ {S T : Type 0} (g : Ghosts S) (e : Ghosts T) (law : AreSettled g) (old 
     at_rest_now rest =
         let same = at_rest g law old keeper rest (trees_in e new) may_now in
         let held = keeper.held rest.disk (open_of (state g old.connection) keeper.stays rest) in
-        let open_now = open_of (state e new.connection) o.keeper.stays (o.clean after) in
-        (
+        let open_now = open_of (state e new.connection) o.keeper.stays (o.clean after) in (
           same,
           same_shelf old.text (content_of (trees_in g old)).books shelf old.shelf
               (subst (λ d. IsShelfOf old.text (content_of d).books shelf) same books_are)
@@ -69,10 +68,11 @@ module _ {S T : Type 0} (g : Ghosts S) (e : Ghosts T) (law : AreSettled g) (old 
 
     found_after : IsFoundAfter g e old new shelf
     found_after = record {
+      honest = clean;
       may = may_now;
       left = o.left after;
       text = text_is;
-      own = o.fresh.shelf;
+      own = o.fresh.own;
       books = books_are;
       rests = at_rest_now;
     }

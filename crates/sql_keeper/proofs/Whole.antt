@@ -130,15 +130,18 @@ module _ (Become : Trees → Trees → Type 0) (old mid new : State) (only : Onl
         | inl before ↦ leaves_read mid_clean db before
         | inr become ↦
             let still = only.still mid_clean (on mid_clean) in
-            inr (still.was_open, subst (λ (d : Database). Become d.trees db) still.now_is
-                (become (on mid_clean)))
+            inr (
+              still.was_open,
+              subst (λ (d : Database). Become d.trees db) still.now_is
+                  (become (on mid_clean)),
+            )
       ]
     where
       leaves_read : HasCleanDisk mid → (d : Trees) → mid.may_leave d
           → old.may_leave d ⊎ (IsTrue old.is_open × Become old.now.trees d)
       leaves_read clean' d may' = elim (stops.crash clean' d may') [
         | inl before ↦ inl before
-        | inr no ↦ absurd no
+        | inr none ↦ absurd none
       ]
 
 -- what isn't written

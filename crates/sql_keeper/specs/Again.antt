@@ -62,6 +62,7 @@ IsFoundAgain g old new text fault = IsLeft text (state g old).now.trees
 -- the older one and the shelf of both; where the older one was clean, with all that it knew
 pub record IsFoundAfter {S T : Type 0} (g : Ghosts S) (e : Ghosts T) (old : KeeperState S)
     (new : KeeperState T) (shelf : Shelf) : Type 0 where
+  pub honest : HasCleanDisk (state g old.connection)
   pub may : MayLeave g old (trees_in e new)
   pub left : IsLeft new.text (trees_in e new)
   pub text : new.text ≡ old.text
@@ -70,8 +71,8 @@ pub record IsFoundAfter {S T : Type 0} (g : Ghosts S) (e : Ghosts T) (old : Keep
   pub rests : IsClean (state g old.connection) → (trees_in e new ≡ trees_in g old)
       × (shelf ≡ old.shelf) × (new.last ≡ old.last)
 
--- what a stop of a keeper leaves is opened again: whoever opens a connection that shows it finds it,
--- and refuses it for no row
+-- what a stop of a keeper leaves is opened again: whoever opens a connection that shows it finds
+-- it, and refuses it for no row
 abbrev pub AreOpenedAgain : {S T : Type 0} → Ghosts S → Ghosts T → Type 0
 AreOpenedAgain {S} {T} g e =
     (old : KeeperState S) (shown : Held T) → IsKeeper g old → HasCleanDisk (state g old.connection)

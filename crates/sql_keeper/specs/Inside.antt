@@ -51,8 +51,8 @@ abbrev pub StaysOpen : State → Type 0
 StaysOpen s = HasCleanDisk s → s.faults ≡ 0 → IsTrue s.is_open
 
 -- what a keeper keeps between calls: no transaction is open, and the tables are there; an open
--- would find them again with its text, its shelf and its last moment, and an open after a stop, also
--- after a failure that shut the connection, with its text
+-- would find them again with its text, its shelf and its last moment, and an open after a stop,
+-- also after a failure that shut the connection, with its text
 pub record IsKeeper {S : Type 0} (g : Ghosts S) (k : KeeperState S) : Type 0 where
   pub bounded : k.failures ≤ max_failures
   pub plain : k.connection.in_transaction ≡ false

@@ -30,7 +30,7 @@ use Rattle.sql_keeper.specs.Stops.{trees_in}
 -- a keeper before its first call, and the shelf on which the book of its text stands first
 pub record IsFresh {S : Type 0} (k : KeeperState S) (shelf : Shelf) : Type 0 where
   pub read : IsBookOf k.text shelf.first
-  pub shelf : k.shelf ≡ shelf
+  pub own : k.shelf ≡ shelf
   pub uncounted : k.failures ≡ 0
 
 -- ---- made

@@ -205,8 +205,8 @@ fn add_to_all<S: Alter>(
 ) -> Result<Result<(), ShelfFault>, ReadFault>
     requires plain { conn.old.in_transaction ≡ false }
     requires idle { HasIdleBook (state S.Store conn.old) }
-    requires last { HasCleanDisk (state S.Store conn.old) → IsTrue (state S.Store conn.old).is_open →
-        last ≡ last_at (state S.Store conn.old) }
+    requires last { HasCleanDisk (state S.Store conn.old) →
+        IsTrue (state S.Store conn.old).is_open → last ≡ last_at (state S.Store conn.old) }
     requires same { books.given ≡ books.own }
     ensures plain { conn.new.in_transaction ≡ false }
     ensures adds { AddsToAll from text.now books.own (state S.Store conn.old)

@@ -10,8 +10,8 @@ use std::marker::Model;
 use units::Moment;
 
 /// A keeper over a database. Between calls no transaction is open, so what it holds is what was
-/// committed last. It knows the text of its first book, its books and the moment of the last accepted
-/// command as the database keeps them, so that an open finds the same again.
+/// committed last. It knows the text of its first book, its books and the moment of the last
+/// accepted command as the database keeps them, so that an open finds the same again.
 ///
 /// Its store is clean while the disk returns what was written; where the disk failed a call, it is
 /// clean as long as the connection is open still. Nothing but a failure of the disk shuts it.

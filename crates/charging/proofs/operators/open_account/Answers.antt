@@ -58,8 +58,8 @@ done g c t clean made = λ list time is le.
       sessions = λ i. (c.new.ensures.rows i).sessions;
       groups = λ i. (c.new.ensures.rows i).groups;
     })
-    (λ from. commits-from (change g c) (g.K.Keeper.content c.has_account.new.self)
-    (g.K.Keeper.content c.args.keeper.now) t (c.in_ok-has_account.ensures.same clean) made
+    (λ from. commits-from (change g c) (g.K.Keeper.content c.args.keeper.now)
+    (g.K.Keeper.content c.has_account.new.self) t (c.in_ok-has_account.ensures.same clean) made
     (subst (λ (w : StoredRows). IsMadeFrom w (stored c.advance.new.self)
     ((g.K.Keeper.content c.args.keeper.now).rows c.args.number))
     (sym c.into_stored-before.ensures) from))

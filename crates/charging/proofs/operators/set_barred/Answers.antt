@@ -39,7 +39,7 @@ done g c t clean made = λ list time is le.
     (made_tells c.in-Some.loaded c.set_barred.new.self c.new.result None None None None
     c.new.ensures.items refl refl)
     (commits-from (made_change c.in-Some.loaded c.set_barred.new.self c.new.result None None)
-    (g.K.Keeper.content c.load.new.self) (g.K.Keeper.content c.args.keeper.now) t
+    (g.K.Keeper.content c.args.keeper.now) (g.K.Keeper.content c.load.new.self) t
     (c.in_ok-loaded.ensures.same clean) made)
 
 pub returns-clause-served : goal.returns-clause-served

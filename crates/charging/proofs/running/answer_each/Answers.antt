@@ -1,15 +1,20 @@
-use Rattle.std.proofs.Common.{◌+◌, ◌++◌, ◌∷◌, [], List, length, sym, ap, ◌∙◌}
+use Rattle.std.proofs.Common.{rules, ◌≡◌, ◌+◌, ◌++◌, ◌∷◌, [], List, length, refl, sym, ap, subst, ◌∙◌}
 use Rattle.std.proofs.lemmas.List.{length-append, append_assoc}
 use Rattle.commands.specs.declared.answer.Answer.{Answer}
 use Rattle.charging.specs.declared.running.DatedCommand.{DatedCommand}
-use Rattle.charging.proofs.HeldRuns.{has-run_none, has-run_more, run-whole, run-refused, run-failed}
+use Rattle.charging.proofs.HeldRuns.{HasRun, has-run_none, has-run_more, run-failed, run-refused}
+use Rattle.charging.proofs.HeldRuns.{run-whole}
 use Rattle.charging.proofs.running.answer_each.Goals as goal
+use Rattle.charging.proofs.running.answer_each.Goals.{After-reserve}
 
 pub loop-dated-init : goal.loop-dated-init
 loop-dated-init g c = record {
-  had = has-run_none g.K.Keeper.content g.K.Keeper.failed g.K.Keeper.honest g.K.Keeper.clean
+  had = subst (λ (given : List Answer). HasRun g.K.Keeper.content g.K.Keeper.failed
+      g.K.Keeper.honest g.K.Keeper.clean g.K.Keeper.left c.args.shelf.now c.args.keeper.now
+      c.args.keeper.now [] given) (sym c.new-answers.ensures.items)
+      (has-run_none g.K.Keeper.content g.K.Keeper.failed g.K.Keeper.honest g.K.Keeper.clean
       g.K.Keeper.left g.met.K.Keeper.honesty g.met.K.Keeper.settled c.args.shelf.now
-      c.args.keeper.now;
+      c.args.keeper.now);
   all = search rules;
   count = search rules;
 }
@@ -33,3 +38,48 @@ loop-dated-preserved g c =
           ∙ ap (λ n. n + 1) c.loop-dated.invariant.count
           ∙ sym (length-append c.loop-dated.yielded (c.in-Some.dated ∷ []));
     }
+
+-- a growth that was refused or made leaves the answers
+had_then : (g : _) (c : After-reserve g) → HasRun g.K.Keeper.content g.K.Keeper.failed
+    g.K.Keeper.honest g.K.Keeper.clean g.K.Keeper.left c.args.shelf.now c.args.keeper.now
+    c.loop-dated.keeper c.loop-dated.yielded c.reserve.new.self.items
+had_then g c = subst (λ (given : List Answer). HasRun g.K.Keeper.content g.K.Keeper.failed
+    g.K.Keeper.honest g.K.Keeper.clean g.K.Keeper.left c.args.shelf.now c.args.keeper.now
+    c.loop-dated.keeper c.loop-dated.yielded given) (sym c.reserve.ensures.items)
+    c.loop-dated.invariant.had
+
+all_then : (g : _) (c : After-reserve g) →
+    c.loop-dated.yielded ++ c.in-Some.dated ∷ c.next.new.self.rest.items ≡ c.args.commands.items
+all_then g c = ap (λ (ds : List DatedCommand). c.loop-dated.yielded ++ ds)
+    (sym c.in-Some.ensures.steps.0) ∙ c.loop-dated.invariant.all
+
+count_then : (g : _) (c : After-reserve g) →
+    length c.reserve.new.self.items ≡ length c.loop-dated.yielded
+count_then g c = ap length c.reserve.ensures.items ∙ c.loop-dated.invariant.count
+
+pub returns-then-is_err : goal.returns-then-is_err
+returns-then-is_err g c =
+    let at = (goal.at.returns-then-is_err g c).After-reserve in
+    run-refused g.K.Keeper.content g.K.Keeper.failed g.K.Keeper.honest g.K.Keeper.clean
+    g.K.Keeper.left g.met.K.Keeper.honesty g.met.K.Keeper.settled c.args.shelf.now
+    c.args.commands.items c.loop-dated.yielded (c.in-Some.dated ∷ c.next.new.self.rest.items)
+    c.args.keeper.now c.loop-dated.keeper c.reserve.new.self (had_then g at) (all_then g at)
+    (count_then g at) c.in-Some.dated c.next.new.self.rest.items refl
+
+pub returns-in-Err : goal.returns-in-Err
+returns-in-Err g c =
+    let at = (goal.at.returns-in-Err g c).After-reserve in
+    run-failed g.K.Keeper.content g.K.Keeper.failed g.K.Keeper.honest g.K.Keeper.clean
+    g.K.Keeper.left g.met.K.Keeper.honesty g.met.K.Keeper.settled c.args.shelf.now
+    c.args.commands.items c.loop-dated.yielded c.next.new.self.rest.items c.in-Some.dated
+    c.args.keeper.now c.loop-dated.keeper c.step.new.keeper c.reserve.new.self (had_then g at)
+    (all_then g at) (count_then g at) c.in-Err.ensures.err c.in-Err.ensures.cleanness
+    c.in-Err.ensures.honesty c.in-Err.ensures.left c.in-Err.fault c.in-Err.ensures.cause
+
+pub returns : goal.returns
+returns g c =
+    run-whole g.K.Keeper.content g.K.Keeper.failed g.K.Keeper.honest g.K.Keeper.clean
+    g.K.Keeper.left g.met.K.Keeper.honesty g.met.K.Keeper.settled c.args.shelf.now
+    c.args.commands.items c.loop-dated.yielded c.loop-dated.dated-iterator.rest.items
+    c.args.keeper.now c.loop-dated.keeper c.loop-dated.answers c.loop-dated.invariant.had
+    c.loop-dated.invariant.all c.loop-dated.invariant.count (search rules)

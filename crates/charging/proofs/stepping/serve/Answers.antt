@@ -1,3 +1,5 @@
+use Rattle.std.proofs.Common.{ℕ, subst}
+use Rattle.charging.specs.Stepping.{WritesAt}
 use Rattle.charging.proofs.Serving.{left_as, writes-at}
 use Rattle.charging.proofs.stepping.serve.Goals as goal
 
@@ -10,5 +12,7 @@ returns-clause-left g c = λ honest t l.
       c.in_ok-last.ensures.cleanness clean_last,
       writes-at c.args.shelf.now c.args.command c.args.moment c.in_ok-last.last
           (g.K.Keeper.content c.args.keeper.now) (g.K.Keeper.content c.last.new.self) t
-          (c.in_ok-last.ensures.found clean_last) (c.in_ok-last.ensures.same clean_last) writes,
+          (c.in_ok-last.ensures.found clean_last) (c.in_ok-last.ensures.same clean_last)
+          (subst (λ (u : ℕ). WritesAt c.args.shelf.now c.args.command u
+          (g.K.Keeper.content c.last.new.self) t) c.later-moment.ensures writes),
     ))

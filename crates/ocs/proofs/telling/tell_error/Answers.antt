@@ -13,5 +13,6 @@ pub returns-clause-told : goal.returns-clause-told
 returns-clause-told g c =
     told_stream c.in-Err.fault c.tell_stream-in-Err.result (g.E.Write.contents c.args.errors.now)
     (g.E.Write.contents c.tell_stream-in-Err.new.errors)
-    (inr (writer_failed c.write_whole-2.result c.in-Err.fault c.in-Err.is
-    c.write_whole-2.ensures.fault)) c.tell_stream-in-Err.ensures.status c.tell_stream-in-Err.ensures.told
+    (inr (writer_failed c.write_whole-written.result c.in-Err.fault c.in-Err.is
+    c.write_whole-written.ensures.fault)) c.tell_stream-in-Err.ensures.status
+    c.tell_stream-in-Err.ensures.told

@@ -5,7 +5,7 @@ use Rattle.sql_keeper.proofs.still_open.still_open.Goals as goal
 
 pub returns-in_err-_plan : goal.returns-in_err-_plan
 returns-in_err-_plan g c =
-    tested_shut [] (state g.S.Store c.args.conn.now) (state g.S.Store c.prepare.new.self)
+    tested_shut _ (state g.S.Store c.args.conn.now) (state g.S.Store c.prepare.new.self)
     c.requires.idle c.prepare.ensures.survives c.prepare.ensures.mode _ c.from_residual.result
     c.from_residual.ensures.0 c.in_err-_plan.ensures.err
 
