@@ -3,3 +3,4 @@ pub mod StatedLemmas
 pub mod Begun
 pub mod Phrases
 pub mod Written
+pub mod NotRequest

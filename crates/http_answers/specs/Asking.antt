@@ -24,6 +24,7 @@ use Rattle.http_answers.specs.declared.asking.StatementAsked.{StatementAsked}
 use Rattle.http_answers.specs.declared.routes.Route.{Route}
 use Rattle.http_answers.specs.declared.routes.Route.TheVariants.{Ccr, Account, Statement, Credits}
 use Rattle.http_answers.specs.declared.routes.Route.TheVariants.{Allowances, Redeem, Sweep}
+use Rattle.http_answers.specs.Refusals.{number_of}
 use Rattle.http_answers.specs.Routes.{route_of, serves}
 
 -- a request is refused, read as a command or with a fault, or asks for a statement
@@ -112,7 +113,7 @@ asked_of ask = asked_by (route_of ask.target) ask
 
 -- as it is told
 abbrev pub IsAsked : Asking → Asked → Type 0
-IsAsked (refuses status) (told.Refused given) = given ≡ status
+IsAsked (refuses status) (told.Refused given) = number_of given ≡ status
 IsAsked (refuses status) (told.Unread fault) = ⊥
 IsAsked (refuses status) (told.Does c) = ⊥
 IsAsked (refuses status) (told.States q) = ⊥

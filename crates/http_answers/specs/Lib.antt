@@ -1,3 +1,4 @@
+pub mod Refusals
 pub mod Routes
 pub mod Asking
 pub mod Texts

@@ -4,7 +4,7 @@ use Rattle.std.specs.Prelude.{if◌then◌else◌, unwrap_or}
 use Rattle.std.specs.Fmt.{decimal}
 use Rattle.std.specs.Io.KnownBytes.{Appends}
 use Rattle.json_fields.specs.declared.fault.WireFault.{WireFault}
-use Rattle.json_fields.specs.declared.fault.WireFault.TheVariants.{Memory}
+use Rattle.json_fields.specs.declared.fault.WireFault.TheVariants.{Memory, NotRequest}
 use Rattle.wire_answers.specs.Spelled.{fault_text}
 use Rattle.http.specs.StatusCode.{reason_phrase}
 use Rattle.http_heads.specs.Statuses.{bad_request, service_unavailable}
@@ -54,16 +54,12 @@ abbrev pub TellsText : Bool → ℕ → List ℕ → (List ℕ → Type 0) → T
 TellsText closes status body Writes = Writes (response_of Text status closes body)
     ⊎ Writes (response service_unavailable closes unable)
 
--- a refusal is told, or that there is no memory
-abbrev pub TellsRefusal : Bool → ℕ → (List ℕ → Type 0) → Type 0
-TellsRefusal closes status Writes = Writes (response status closes no_members)
-    ⊎ Writes (response service_unavailable closes unable)
-
--- a request that isn't read is told its fault, or that there is no memory
+-- a request that isn't read is told its fault, or that there is no memory: not so what is no JSON
+-- object
 abbrev pub TellsFault : Bool → WireFault → (List ℕ → Type 0) → Type 0
 TellsFault closes fault Writes =
     ((fault ≡ Memory → ⊥) × Writes (response bad_request closes (fault_text fault)))
-    ⊎ Writes (response service_unavailable closes unable)
+    ⊎ ((fault ≡ NotRequest → ⊥) × Writes (response service_unavailable closes unable))
 
 -- a beginning of a text is written
 abbrev pub Begins : Option (List ℕ) → Option (List ℕ) → List ℕ → Type 0

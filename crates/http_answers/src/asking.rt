@@ -1,7 +1,7 @@
 ghost use Rattle.std.specs.Prelude.{◌≡◌, Result};
 ghost use Rattle.std.specs.List.{before_first, after_first};
 ghost use Rattle.commands.specs.declared.command.Command.{Command};
-ghost use Rattle.json_fields.specs.Gives.{Gives, or_fault};
+ghost use Rattle.json_fields.specs.Gives.{Gives, Says, or_fault};
 ghost use Rattle.json_fields.specs.declared.fault.WireFault.{WireFault};
 ghost use Rattle.http_heads.specs.Requests.{seen};
 ghost use Rattle.http_answers.specs.Routes.{table};
@@ -11,9 +11,10 @@ ghost use Rattle.http_answers.specs.Asking.{credit_asked, month_in, redemption_a
 ghost use Rattle.http_answers.specs.Asking.{reads, stated, asking_by, asked_of, IsAsked};
 ghost use Rattle.http_answers.specs.declared.asking.StatementAsked.{StatementAsked};
 
+use crate::refusal::HttpRefusal;
 use crate::routes::{Route, is_get, route_of};
 use commands::{Avp, Command};
-use http::{Method, StatusCode};
+use http::Method;
 use http_heads::Request;
 use identifiers::{AccountNumber, VoucherCode};
 use matchit::Router;
@@ -33,8 +34,8 @@ pub struct StatementAsked {
 /// What a request asks: it is refused, isn't read, is a command or asks for a statement.
 #[derive(Drop)]
 pub enum Asked {
-    /// It is refused: 404 or 405.
-    Refused(StatusCode),
+    /// It is refused.
+    Refused(HttpRefusal),
     /// The path or the body has a fault, or memory ran out.
     Unread(WireFault),
     /// It is a command.
@@ -95,7 +96,7 @@ fn code_in(alloc: Global, target: &str) -> Result<VoucherCode, WireFault>
 
 /// The month that a path names.
 fn month_in(target: &str) -> Result<Month, WireFault>
-    ensures { Gives (λ m. m) result (month_in target.now) }
+    ensures { Says (λ m. m) result (month_in target.now) }
 {
     Month::from_word(fourth_part(target)).ok_or(WireFault::Invalid(Avp::Month))
 }
@@ -196,10 +197,10 @@ pub fn ask(alloc: Global, router: &Router<Route>, request: &Request) -> Asked
     ensures { IsAsked (asked_of (seen request.now)) result }
 {
     let Some(route) = route_of(router, request.target.as_str()) else {
-        return Asked::Refused(StatusCode::NOT_FOUND);
+        return Asked::Refused(HttpRefusal::NotFound);
     };
     if !route.serves(&request.method) {
-        return Asked::Refused(StatusCode::METHOD_NOT_ALLOWED);
+        return Asked::Refused(HttpRefusal::MethodNotAllowed);
     }
     asked_by(
         alloc,

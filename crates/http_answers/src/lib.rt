@@ -2,12 +2,12 @@
 #![tactic(auto)]
 
 mod asking;
+mod refusal;
 mod routes;
 mod text;
 
 pub use crate::asking::{Asked, StatementAsked, ask};
+pub use crate::refusal::{HttpRefusal, tell_refusal};
 pub use crate::routes::{Route, known_router};
-pub use crate::text::{
-    Media, NO_MEMBERS, response, tell_fault, tell_refusal, tell_text, tell_unable, write_text,
-};
+pub use crate::text::{Media, response, tell_fault, tell_text, tell_unable, write_text};
 pub use matchit::Router;

@@ -1,13 +1,12 @@
 ghost use Rattle.std.specs.Prelude.{◌≡◌, ◌++◌, ℕ, IfOk, OnOk, OnErr, IfSome, None};
 ghost use Rattle.std.specs.Prelude.{true, false, string_bytes};
-ghost use Rattle.json_fields.specs.declared.fault.WireFault.TheVariants.{Memory};
+ghost use Rattle.json_fields.specs.declared.fault.WireFault.TheVariants.{Memory, NotRequest};
 ghost use Rattle.std.specs.Io.KnownBytes.{Appends};
 ghost use Rattle.http_heads.specs.Statuses.{bad_request, service_unavailable};
 ghost use Rattle.wire_answers.specs.Spelled.{fault_text};
 ghost use Rattle.http_answers.specs.declared.text.Media.TheVariants.{Text};
 ghost use Rattle.http_answers.specs.Texts.{phrase, closing_line, response};
-ghost use Rattle.http_answers.specs.Texts.{text_head, unable, Begins, TellsText, TellsRefusal};
-ghost use Rattle.http_answers.specs.Texts.{TellsFault};
+ghost use Rattle.http_answers.specs.Texts.{text_head, unable, Begins, TellsText, TellsFault};
 
 use byte_streams::{StreamFault, write_whole};
 use http::StatusCode;
@@ -24,9 +23,6 @@ pub enum Media {
     Text,
 }
 
-/// The body of a refusal.
-pub const NO_MEMBERS: &str = "{}";
-
 /// The answer where there is no memory, no store or no clock.
 const UNABLE: &[u8] =
     b"HTTP/1.1 503 Service Unavailable\r\nContent-Type: application/json\r\nContent-Length: 20\r\n\r\n{\"Result-Code\":5012}";
@@ -34,6 +30,14 @@ const UNABLE: &[u8] =
 /// The answer where there is no memory, no store or no clock, before the connection ends.
 const UNABLE_AT_LAST: &[u8] =
     b"HTTP/1.1 503 Service Unavailable\r\nContent-Type: application/json\r\nContent-Length: 20\r\nConnection: close\r\n\r\n{\"Result-Code\":5012}";
+
+/// The answer to a request that is no JSON object.
+const NOT_REQUEST: &[u8] =
+    b"HTTP/1.1 400 Bad Request\r\nContent-Type: application/json\r\nContent-Length: 20\r\n\r\n{\"Result-Code\":5012}";
+
+/// The answer to a request that is no JSON object, before the connection ends.
+const NOT_REQUEST_AT_LAST: &[u8] =
+    b"HTTP/1.1 400 Bad Request\r\nContent-Type: application/json\r\nContent-Length: 20\r\nConnection: close\r\n\r\n{\"Result-Code\":5012}";
 
 /// The most bytes of an answer's head.
 const MOST_OF_HEAD: usize = 136;
@@ -176,28 +180,6 @@ pub fn tell_unable<W: Write>(writer: &mut W, closes: bool) -> Result<(), StreamF
     }
 }
 
-/// Writes that a request is refused.
-///
-/// # Errors
-/// `Write` where the writer failed. Then a beginning of it is written.
-pub fn tell_refusal<W: Write>(
-    alloc: Global,
-    writer: &mut W,
-    status: StatusCode,
-    closes: bool,
-) -> Result<(), StreamFault>
-    ensures ok { OnOk result
-        (TellsRefusal closes status (Appends (W.contents writer.old) (W.contents writer.new))) }
-    ensures err { OnErr result
-        (TellsRefusal closes status (Begins (W.contents writer.old) (W.contents writer.new))) }
-    ensures fault { OnErr result (result ≡ Err StreamFault.Write) }
-{
-    match response(alloc, status, closes, NO_MEMBERS) {
-        Ok(text) => write_text(writer, text.as_bytes()),
-        Err(_) => tell_unable(writer, closes),
-    }
-}
-
 /// The answer to a request that isn't read; None where memory ran out.
 fn fault_response(alloc: Global, fault: WireFault, closes: bool) -> Option<String>
     ensures text { IfSome result
@@ -213,7 +195,37 @@ fn fault_response(alloc: Global, fault: WireFault, closes: bool) -> Option<Strin
     }
 }
 
-/// Writes the answer to a request that isn't read.
+/// The bytes of the answer to a request that is no JSON object.
+fn not_request() -> &'static [u8]
+    ensures { result.now ≡ response bad_request false (fault_text NotRequest) }
+{
+    NOT_REQUEST
+}
+
+/// The answer to a request that is no JSON object, before the connection ends.
+fn not_request_at_last() -> &'static [u8]
+    ensures { result.now ≡ response bad_request true (fault_text NotRequest) }
+{
+    NOT_REQUEST_AT_LAST
+}
+
+/// Writes that a request is no JSON object; this takes no memory.
+fn tell_not_request<W: Write>(writer: &mut W, closes: bool) -> Result<(), StreamFault>
+    ensures ok { OnOk result (Appends (W.contents writer.old) (W.contents writer.new)
+        (response bad_request closes (fault_text NotRequest))) }
+    ensures err { OnErr result (Begins (W.contents writer.old) (W.contents writer.new)
+        (response bad_request closes (fault_text NotRequest))) }
+    ensures fault { OnErr result (result ≡ Err StreamFault.Write) }
+{
+    if closes {
+        write_text(writer, not_request_at_last())
+    } else {
+        write_text(writer, not_request())
+    }
+}
+
+/// Writes the answer to a request that isn't read; where the growth of its text is refused, or
+/// memory ran out before, that there is no memory. What is no JSON object is told without any.
 ///
 /// # Errors
 /// `Write` where the writer failed. Then a beginning of it is written.
@@ -223,6 +235,26 @@ pub fn tell_fault<W: Write>(
     fault: WireFault,
     closes: bool,
 ) -> Result<(), StreamFault>
+    ensures ok { OnOk result
+        (TellsFault closes fault (Appends (W.contents writer.old) (W.contents writer.new))) }
+    ensures err { OnErr result
+        (TellsFault closes fault (Begins (W.contents writer.old) (W.contents writer.new))) }
+    ensures fault { OnErr result (result ≡ Err StreamFault.Write) }
+{
+    match fault {
+        WireFault::NotRequest => tell_not_request(writer, closes),
+        _ => tell_member_fault(alloc, writer, fault, closes),
+    }
+}
+
+/// Writes the answer to a request with a fault of a member, or that there is no memory.
+fn tell_member_fault<W: Write>(
+    alloc: Global,
+    writer: &mut W,
+    fault: WireFault,
+    closes: bool,
+) -> Result<(), StreamFault>
+    requires { fault ≡ NotRequest → ⊥ }
     ensures ok { OnOk result
         (TellsFault closes fault (Appends (W.contents writer.old) (W.contents writer.new))) }
     ensures err { OnErr result

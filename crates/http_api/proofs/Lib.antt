@@ -4,3 +4,5 @@ pub mod StatementReplies
 pub mod Continuing
 pub mod Taking
 pub mod Statuses
+pub mod HeadRefusals
+pub mod OneText

@@ -22,10 +22,12 @@ use Rattle.http_heads.specs.Statuses as status
 use Rattle.http_answers.specs.Asking.{Asking, refuses, reads, states, IsAsked}
 use Rattle.http_answers.specs.declared.asking.StatementAsked.{StatementAsked}
 use Rattle.http_answers.specs.declared.asking.Asked.TheVariants as told
-use Rattle.http_answers.specs.Texts.{response, no_members, unable, Begins, TellsRefusal, TellsFault}
+use Rattle.http_answers.specs.Refusals.{number_of}
+use Rattle.http_answers.specs.Texts.{response, no_members, unable, Begins, TellsFault}
+use Rattle.http_answers.specs.declared.refusal.HttpRefusal.{HttpRefusal}
 use Rattle.http_api.specs.Clocks.{GivesInTurn}
 use Rattle.http_api.specs.Faults.{serve_fault}
-use Rattle.http_api.specs.Replies.{refusal, unserved, reply_at, IsDue, MayAsk, Replies}
+use Rattle.http_api.specs.Replies.{refusal, unserved, reply_at, IsDue, MayAsk, IsReply, Replies}
 use Rattle.http_api.specs.Told.{TellsAnswer, Owes}
 use Rattle.http_api.specs.Unaccepted.{is_read_command, is_unaccepted}
 use Rattle.http_api.specs.declared.fault.ServeFault.{ServeFault}
@@ -79,31 +81,38 @@ write_alone (Err stream.Memory) memory read = absurd (memory refl)
 write_alone (Err stream.Read) memory read = absurd (read refl)
 write_alone (Err stream.Write) memory read = refl
 
-may_not : (asking : Asking) → MayAsk asking []
-may_not (refuses code) = refl
-may_not (reads (Err fault)) = refl
-may_not (reads (Ok c)) = omega arith
-may_not (states q) = omega arith
+may_not : (read : Result Command WireFault) → MayAsk (reads read) []
+may_not (Err fault) = refl
+may_not (Ok c) = omega arith
 
-may_once : (c : Command) (m : Option ℕ) → MayAsk (reads (Ok c)) (m ∷ [])
-may_once c m = omega arith
+-- a request that isn't read, without the clock
+unread_unserved : (b : Shelf) (list : List Accepted) (read : Result Command WireFault) →
+    IsReply b list (reads read) [] (unserved list)
+unread_unserved b list read = inr (may_not read, refl)
+
+-- a command at the clock's moment
+once_unserved : (b : Shelf) (list : List Accepted) (c : Command) (m : Option ℕ) →
+    IsReply b list (reads (Ok c)) (m ∷ []) (unserved list)
+once_unserved b list c m = inr (omega arith, refl)
 
 module _ {C : Type 0} (gives : C → Option ℕ → C → Type 0) (b : Shelf) (closes : Bool)
     (Writes : List ℕ → Type 0) where
   -- no memory or no store
   pub unserved_reply : (asking : Asking) (moments : List (Option ℕ)) (c0 c1 : C)
-      (old new : Tables) → MayAsk asking moments → GivesInTurn gives c0 moments c1 →
+      (old new : Tables) →
+      ((list : List Accepted) → IsReply b list asking moments (unserved list)) →
+      GivesInTurn gives c0 moments c1 →
       ForEachList b old (λ list. AreTables b list new) →
       Writes (response status.service_unavailable closes unable) →
       Replies gives b asking closes c0 c1 Writes old new
-  unserved_reply asking moments c0 c1 old new may given same w = record {
+  unserved_reply asking moments c0 c1 old new is given same w = record {
     moments = moments;
     given = given;
     text = response status.service_unavailable closes unable;
     written = w;
     replied = λ list time are. record {
       reply = unserved list;
-      is_reply = inr (may, refl);
+      is_reply = is list;
       written = refl;
       tables = same list time are;
       time = time;
@@ -112,7 +121,7 @@ module _ {C : Type 0} (gives : C → Option ℕ → C → Type 0) (b : Shelf) (c
 
   -- a request that changes nothing, without the clock
   due_reply : (asking : Asking) (code : ℕ) (body : List ℕ) (c : C) (tables : Tables) →
-      ((list : List Accepted) → IsDue b list asking [] (refusal list code body)) →
+      ((list : List Accepted) → IsReply b list asking [] (refusal list code body)) →
       Writes (response code closes body) → Replies gives b asking closes c c Writes tables tables
   due_reply asking code body c tables due w = record {
     moments = [];
@@ -121,39 +130,37 @@ module _ {C : Type 0} (gives : C → Option ℕ → C → Type 0) (b : Shelf) (c
     written = w;
     replied = λ list time are. record {
       reply = refusal list code body;
-      is_reply = inl (due list);
+      is_reply = due list;
       written = refl;
       tables = are;
       time = time;
     };
   }
 
-  refused_by : (code : ℕ) (c : C) (tables : Tables) → TellsRefusal closes code Writes →
+  refused_by : (code : ℕ) (c : C) (tables : Tables) → Writes (response code closes no_members) →
       Replies gives b (refuses code) closes c c Writes tables tables
-  refused_by code c tables (inl w) =
+  refused_by code c tables w =
       due_reply (refuses code) code no_members c tables (λ list. (refl, refl)) w
-  refused_by code c tables (inr w) =
-      unserved_reply (refuses code) [] c c tables tables refl refl (λ list time are. are) w
 
   -- a refusal
-  pub refused_reply : (code : ℕ) (c : C) (tables : Tables) →
-      TellsRefusal closes code Writes → (asking : Asking) → IsAsked asking (told.Refused code) →
-      Replies gives b asking closes c c Writes tables tables
-  refused_reply code c tables tells (refuses s) asked =
+  pub refused_reply : (why : HttpRefusal) (c : C) (tables : Tables) →
+      Writes (response (number_of why) closes no_members) → (asking : Asking) →
+      IsAsked asking (told.Refused why) → Replies gives b asking closes c c Writes tables tables
+  refused_reply why c tables w (refuses s) asked =
       subst (λ x. Replies gives b (refuses x) closes c c Writes tables tables) asked
-      (refused_by code c tables tells)
-  refused_reply code c tables tells (reads read) asked = absurd asked
-  refused_reply code c tables tells (states q) asked = absurd asked
+      (refused_by (number_of why) c tables w)
+  refused_reply why c tables w (reads read) asked = absurd asked
+  refused_reply why c tables w (states q) asked = absurd asked
 
   unread_by : (fault : WireFault) (c : C) (tables : Tables) (read : Result Command WireFault) →
       TellsFault closes fault Writes → (¬ (fault ≡ Memory) → read ≡ Err fault) →
       Replies gives b (reads read) closes c c Writes tables tables
   unread_by fault c tables read (inl w) fails =
       due_reply (reads read) status.bad_request (fault_text fault) c tables
-      (λ list. subst (λ r. IsDue b list (reads r) []
-      (refusal list status.bad_request (fault_text fault))) (sym (fails w.0)) (refl, refl)) w.1
+      (λ list. inl (subst (λ r. IsDue b list (reads r) []
+      (refusal list status.bad_request (fault_text fault))) (sym (fails w.0)) (refl, refl))) w.1
   unread_by fault c tables read (inr w) fails = unserved_reply (reads read) [] c c tables tables
-      (may_not (reads read)) refl (λ list time are. are) w
+      (λ list. unread_unserved b list read) refl (λ list time are. are) w.1
 
   -- memory ran out for a statement that is asked for
   unstated_by : (fault : WireFault) (c : C) (tables : Tables) (q : StatementAsked) →
@@ -161,7 +168,7 @@ module _ {C : Type 0} (gives : C → Option ℕ → C → Type 0) (b : Shelf) (c
       Replies gives b (states q) closes c c Writes tables tables
   unstated_by fault c tables q (inl w) fails = let same = fails w.0 in absurd (cc)
   unstated_by fault c tables q (inr w) fails = unserved_reply (states q) [] c c tables tables
-      (may_not (states q)) refl (λ list time are. are) w
+      (λ list. inr (omega arith, refl)) refl (λ list time are. are) w.1
 
   -- a request that isn't read
   pub unread_reply : (fault : WireFault) (c : C) (tables : Tables) →
@@ -194,7 +201,8 @@ module _ {C : Type 0} (gives : C → Option ℕ → C → Type 0) (b : Shelf) (c
       gives c0 None c1 → Writes (response status.service_unavailable closes unable) →
       Replies gives b (reads (Ok c)) closes c0 c1 Writes tables tables
   unclocked_reply c c0 c1 tables given w = unserved_reply (reads (Ok c))
-      (None ∷ []) c0 c1 tables tables (may_once c None) (c1, given, refl) (λ list time are. are) w
+      (None ∷ []) c0 c1 tables tables (λ list. once_unserved b list c None) (c1, given, refl)
+      (λ list time are. are) w
 
   -- a store fault
   pub failed_reply : (c : Command) (t : ℕ) (c0 c1 : C) (old new : Tables) (fault : StoreFault) →
@@ -202,11 +210,8 @@ module _ {C : Type 0} (gives : C → Option ℕ → C → Type 0) (b : Shelf) (c
       Writes (response status.service_unavailable closes unable) →
       Replies gives b (reads (Ok c)) closes c0 c1 Writes old new
   failed_reply c t c0 c1 old new fault given serves w =
-      unserved_reply (reads (Ok c)) (Some t ∷ []) c0 c1 old new (may_once c (Some t)) (
-        c1,
-        given,
-        refl,
-      ) (λ list time are. subst (AreTables b list) (sym (serves list time are)) are) w
+      unserved_reply (reads (Ok c)) (Some t ∷ []) c0 c1 old new
+      (λ list. once_unserved b list c (Some t)) (c1, given, refl) (λ list time are. subst (AreTables b list) (sym (serves list time are)) are) w
 
   -- a command that is served, and its answer told
   served_reply : (c : Command) (t : ℕ) (c0 c1 : C) (old new : Tables) (answer : Answer) →
@@ -236,8 +241,8 @@ module _ {C : Type 0} (gives : C → Option ℕ → C → Type 0) (b : Shelf) (c
       Writes (response status.service_unavailable closes unable) →
       Replies gives b (reads (Ok c)) closes c0 c1 Writes old new
   untold_reply c t c0 c1 old new answer given serves is w =
-      unserved_reply (reads (Ok c)) (Some t ∷ []) c0 c1 old new (may_once c (Some t))
-      (c1, given, refl) (λ list time are. subst (AreTables b list) (sym (unaccepted_same b list c
+      unserved_reply (reads (Ok c)) (Some t ∷ []) c0 c1 old new
+      (λ list. once_unserved b list c (Some t)) (c1, given, refl) (λ list time are. subst (AreTables b list) (sym (unaccepted_same b list c
       (moment_of list t) old new answer (serves list time are) is)) are) w
 
   -- a command that is served
@@ -258,7 +263,7 @@ module _ {C : Type 0} (gives : C → Option ℕ → C → Type 0) (b : Shelf) wh
   pub owed_answer : (c : Command) (read : Bool) (t : ℕ) (c0 c1 : C) (old new : Tables)
       (answer : Answer) → read ≡ is_read_command c → gives c0 (Some t) c1 →
       Serves b c t old new (Ok answer) → is_unaccepted read answer ≡ false →
-      Owes gives b (reads (Ok c)) c0 c1 old
+      Owes gives b (reads (Ok c)) c0 c1 old new
   owed_answer c read t c0 c1 old new answer is given serves free = record {
     command = c;
     asks = refl;
@@ -267,13 +272,14 @@ module _ {C : Type 0} (gives : C → Option ℕ → C → Type 0) (b : Shelf) wh
     owed = λ list time are.
         subst (λ a. is_unaccepted (is_read_command c) a ≡ false) (serves list time are).answer
         (subst (λ r. is_unaccepted r answer ≡ false) is free);
+    tables = λ list time are. (serves list time are).tables;
   }
 
   -- whatever the command is read from
-  pub owed_command : (c : Command) (c0 c1 : C) (old : Tables) →
-      Owes gives b (reads (Ok c)) c0 c1 old → (asking : Asking) → IsAsked asking (told.Does c) →
-      Owes gives b asking c0 c1 old
-  owed_command c c0 c1 old owes (refuses s) asked = absurd asked
-  owed_command c c0 c1 old owes (reads read) asked =
-      subst (λ r. Owes gives b (reads r) c0 c1 old) (sym asked) owes
-  owed_command c c0 c1 old owes (states q) asked = absurd asked
+  pub owed_command : (c : Command) (c0 c1 : C) (old new : Tables) →
+      Owes gives b (reads (Ok c)) c0 c1 old new → (asking : Asking) →
+      IsAsked asking (told.Does c) → Owes gives b asking c0 c1 old new
+  owed_command c c0 c1 old new owes (refuses s) asked = absurd asked
+  owed_command c c0 c1 old new owes (reads read) asked =
+      subst (λ r. Owes gives b (reads r) c0 c1 old new) (sym asked) owes
+  owed_command c c0 c1 old new owes (states q) asked = absurd asked

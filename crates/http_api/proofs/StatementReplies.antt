@@ -76,8 +76,8 @@ module _ {C : Type 0} (gives : C → Option ℕ → C → Type 0) (b : Shelf) (c
       gives c0 m c1 → new ≡ old → Writes (response status.service_unavailable closes unable) →
       Replies gives b (states q) closes c0 c1 Writes old new
   unstated_reply m c0 c1 old new given same w =
-      unserved_reply gives b closes Writes (states q) (m ∷ []) c0 c1 old new (once m q)
-      (c1, given, refl) (λ list time are. subst (AreTables b list) (sym same) are) w
+      unserved_reply gives b closes Writes (states q) (m ∷ []) c0 c1 old new
+      (λ list. inr (once m q, refl)) (c1, given, refl) (λ list time are. subst (AreTables b list) (sym same) are) w
 
   -- the text of an account that isn't there
   unknown_text : (t : ℕ) (list : List Accepted) (h : History) → h.opened ≡ false →

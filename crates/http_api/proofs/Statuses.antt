@@ -72,10 +72,11 @@ told_as reply given same is = subst (λ r. IsAnswerStatus r.status) (sym same) i
 pub reply_says : (b : Shelf) (list : List Accepted) (asking : Asking) (moments : List (Option ℕ))
     (reply : Reply) → SaysStatus asking → IsReply b list asking moments reply →
     IsAnswerStatus reply.status
-reply_says b list asking moments reply says (inr h) = told_as reply _ h.1 refl
-reply_says b list (refuses status) moments reply says (inl h) = told_as reply _ h.1 says
+reply_says b list (refuses status) moments reply says h = told_as reply _ h.1 says
+reply_says b list (reads read) moments reply says (inr h) = told_as reply _ h.1 refl
 reply_says b list (reads (Err fault)) moments reply says (inl h) = told_as reply _ h.1 refl
 reply_says b list (reads (Ok c)) moments reply says (inl h) =
     told_as reply _ h.2 (served_at b list c h.0)
+reply_says b list (states q) moments reply says (inr h) = told_as reply _ h.1 refl
 reply_says b list (states q) moments reply says (inl h) =
     told_as reply _ h.2 (stated_at b list q h.0)

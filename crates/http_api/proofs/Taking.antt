@@ -462,16 +462,16 @@ module _ {C : Type 0} (gives : C → Option ℕ → C → Type 0) (b : Shelf) wh
   }
 
   owes_next : (next : Next) (rest : List ℕ) (heard : Heard) (left : Option (List ℕ)) (c1 c2 : C)
-      (mid : Tables) → IsNext rest next → HearsNext next (Some heard) left →
-      ((asking : Asking) → IsAsked asking heard.asked → Owes gives b asking c1 c2 mid) →
-      OwesNext gives b rest c1 c2 mid
-  owes_next (asks ask after) rest heard left c1 c2 mid is_next h owes =
+      (mid new : Tables) → IsNext rest next → HearsNext next (Some heard) left →
+      ((asking : Asking) → IsAsked asking heard.asked → Owes gives b asking c1 c2 mid new) →
+      OwesNext gives b rest c1 c2 mid new
+  owes_next (asks ask after) rest heard left c1 c2 mid new is_next h owes =
       record { ask = ask; left = after; is_next = is_next; owes = owes (asked_of ask) h.0 }
-  owes_next (refused code) rest heard left c1 c2 mid is_next h owes =
-      let refusal : Owes gives b (refuses code) c1 c2 mid = owes (refuses code) h.0 in
+  owes_next (refused code) rest heard left c1 c2 mid new is_next h owes =
+      let refusal : Owes gives b (refuses code) c1 c2 mid new = owes (refuses code) h.0 in
       let reads_it = refusal.asks in
       absurd (cc)
-  owes_next ended rest heard left c1 c2 mid is_next h owes = absurd h
+  owes_next ended rest heard left c1 c2 mid new is_next h owes = absurd h
 
   -- or for the text of its answer
   pub so_far-owed : (count left : ℕ) (r0 r1 r2 : Option (List ℕ)) (c0 c1 c2 : C)
@@ -479,7 +479,7 @@ module _ {C : Type 0} (gives : C → Option ℕ → C → Type 0) (b : Shelf) wh
       o ≡ Some heard → w2 ≡ w1 →
       IfSome r0 (λ stream. IsSoFar stream count left r1 c0 c1 w0 w1 old mid) →
       IfSome r1 (λ s. Hears s o r2) →
-      ((asking : Asking) → IsAsked asking heard.asked → Owes gives b asking c1 c2 mid) →
+      ((asking : Asking) → IsAsked asking heard.asked → Owes gives b asking c1 c2 mid new) →
       IfSome r0 (λ stream. IsOutOfMemory gives b stream c0 c2 w0 w2 old new)
   so_far-owed count left None r1 r2 c0 c1 c2 w0 w1 w2 old mid new o heard is same so hears owes = tt
   so_far-owed count left (Some stream) r1 r2 c0 c1 c2 w0 w1 w2 old mid new o heard is same so hears
@@ -500,7 +500,7 @@ module _ {C : Type 0} (gives : C → Option ℕ → C → Type 0) (b : Shelf) wh
             let at : IsAt b stream count left so.rest so.moments so.text mid list =
             so.at list time are in
             record { taken = at.taken; left_is = at.rest_is };
-        next = inr (owes_next here.next so.rest heard r2 c1 c2 mid here.is_next here.hears owes);
+        next = inr (owes_next here.next so.rest heard r2 c1 c2 mid new here.is_next here.hears owes);
       }
 
   -- nothing is read, since memory is refused

@@ -1,5 +1,6 @@
 -- A connection, one request after another: what is written is a function of the bytes that are read
--- and of the clock's moments, but that 503 may stand where memory or the store fails.
+-- and of the clock's moments, but that 503 may stand where memory or the store fails, and not in
+-- the place of a refusal.
 -- Source: RFC 9112 sections 2.1, 6 and 9.3; the bounds: profile.
 use Rattle.std.specs.Prelude.{◌≡◌, ◌<◌, ◌≤◌, ◌-◌, ◌==◌, ℕ, zero, suc, Bool, true, if◌then◌else◌}
 use Rattle.std.specs.Prelude.{List, [], ◌++◌, take, Option, ◌⊎◌, Result, IfOk, OnErr, IfSome}
@@ -128,11 +129,11 @@ pub record IsTakenTo (b : Shelf) (stream left : List ℕ) (count : ℕ) (moments
 
 -- its next request is a command, and the text of the answer is owed
 pub record OwesNext {C : Type 0} (gives : C → Option ℕ → C → Type 0) (b : Shelf) (stream : List ℕ)
-    (before after : C) (old : Tables) : Type 0 where
+    (before after : C) (old new : Tables) : Type 0 where
   pub ask : Ask
   pub left : List ℕ
   pub is_next : IsNext stream (asks ask left)
-  pub owes : Owes gives b (asked_of ask) before after old
+  pub owes : Owes gives b (asked_of ask) before after old new
 
 -- where memory is refused so many requests of a stream were answered whole; nothing is done for the
 -- next one, or the text of its answer is owed
@@ -148,7 +149,7 @@ pub record IsOutOfMemory {C : Type 0} (gives : C → Option ℕ → C → Type 0
   pub content : Tables
   pub left : List ℕ
   pub answered : ForEachList b old (IsTakenTo b stream left count moments text content)
-  pub next : ((after ≡ between) × (new ≡ content)) ⊎ OwesNext gives b left between after content
+  pub next : ((after ≡ between) × (new ≡ content)) ⊎ OwesNext gives b left between after content new
 
 -- so many of its requests were answered, and the connection takes more
 pub record IsTakenOn (b : Shelf) (stream : List ℕ) (count : ℕ) (moments : List (Option ℕ))

@@ -1,8 +1,15 @@
 -- A request as it is heard: what it asks, and whether the connection ends after it.
-use Rattle.std.specs.Prelude.{◌≡◌, ℕ, true, List, Option, Some, None}
+use Rattle.std.specs.Prelude.{◌≡◌, ℕ, true, List, Option, Some, None, ⊤}
 use Rattle.http_heads.specs.Requests.{Next, asks, refused, ended, IsNext}
 use Rattle.http_answers.specs.Asking.{refuses, asked_of, IsAsked}
+use Rattle.http_answers.specs.Refusals.{number_of, refusal_of}
 use Rattle.http_api.specs.declared.hearing.Heard.{Heard}
+
+-- a refusal is one of a head or a length
+abbrev pub IsOfHead : Next → Type 0
+IsOfHead (asks ask rest) = ⊤
+IsOfHead (refused status) = number_of (refusal_of status) ≡ status
+IsOfHead ended = ⊤
 
 -- a refusal ends the connection
 abbrev pub HearsNext : Next → Option Heard → Option (List ℕ) → Type 0

@@ -5,3 +5,4 @@ pub mod Replies
 pub mod Told
 pub mod Connections
 pub mod Hearing
+pub mod OneText

@@ -94,17 +94,21 @@ IsDue b list (reads (Ok c)) moments reply = (m : Option ℕ) × (moments ≡ m �
 IsDue b list (states q) moments reply = (m : Option ℕ) × (moments ≡ m ∷ [])
     × (reply ≡ statement_at b list q m)
 
--- how often the clock may be asked before memory or the store fails
+-- how often the clock may be asked before memory or the store fails; a refusal takes neither
 abbrev pub MayAsk : Asking → List (Option ℕ) → Type 0
-MayAsk (refuses code) moments = moments ≡ []
+MayAsk (refuses code) moments = ⊥
 MayAsk (reads (Err fault)) moments = moments ≡ []
 MayAsk (reads (Ok c)) moments = length moments ≤ 1
 MayAsk (states q) moments = length moments ≤ 1
 
--- what is due; or 503 where memory or the store fails: then the request isn't accepted
+-- what is due; or 503 where memory or the store fails: then the request isn't accepted. A refusal
+-- takes neither, and is always told.
 abbrev pub IsReply : Shelf → List Accepted → Asking → List (Option ℕ) → Reply → Type 0
-IsReply b list asking moments reply = IsDue b list asking moments reply
-    ⊎ (MayAsk asking moments × (reply ≡ unserved list))
+IsReply b list (refuses code) moments reply = IsDue b list (refuses code) moments reply
+IsReply b list (reads read) moments reply = IsDue b list (reads read) moments reply
+    ⊎ (MayAsk (reads read) moments × (reply ≡ unserved list))
+IsReply b list (states q) moments reply = IsDue b list (states q) moments reply
+    ⊎ (MayAsk (states q) moments × (reply ≡ unserved list))
 
 -- ---- over a keeper
 

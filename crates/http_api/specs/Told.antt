@@ -8,7 +8,7 @@ use Rattle.wire_answers.specs.Spelled.{answer_text}
 use Rattle.shelves.specs.Shelves.{Shelf}
 use Rattle.keepers.specs.Tables.{Tables}
 use Rattle.charging.specs.Continued.{ForEachList}
-use Rattle.charging.specs.Served.{moment_of, answer_to}
+use Rattle.charging.specs.Served.{AreTables, moment_of, answer_to, with_command}
 use Rattle.reserving.specs.ChargeColumns.{ChargeColumns}
 use Rattle.charge_sources.specs.Rows.{AreCharges}
 use Rattle.http_heads.specs.Statuses.{ok, service_unavailable}
@@ -23,16 +23,18 @@ abbrev pub TellsAnswer : Bool → Answer → Bool → (List ℕ → Type 0) → 
 TellsAnswer read answer closes Writes = Writes (response ok closes (answer_text answer))
     ⊎ ((is_unaccepted read answer ≡ true) × Writes (response service_unavailable closes unable))
 
--- the text of an answer is owed: a command was served at the clock's moment, and an accepted one
--- may get its answer
+-- the text of an answer is owed: a command was served at the clock's moment, an accepted one may get
+-- its answer, and the tables are those after it
 pub record Owes {C : Type 0} (gives : C → Option ℕ → C → Type 0) (b : Shelf) (asking : Asking)
-    (before after : C) (old : Tables) : Type 0 where
+    (before after : C) (old new : Tables) : Type 0 where
   pub command : Command
   pub asks : asking ≡ reads (OkOf command)
   pub moment : ℕ
   pub given : gives before (Some moment) after
   pub owed : ForEachList b old (λ list. is_unaccepted (is_read_command command)
       (answer_to b list command (moment_of list moment)) ≡ false)
+  pub tables : ForEachList b old (λ list.
+      AreTables b (with_command b list command (moment_of list moment)) new)
 
 -- the body is told, or that there is no memory or no store
 abbrev pub IsTold : Bool → List ℕ → List ℕ → Type 0

@@ -44,12 +44,13 @@ pub(crate) fn answer_request<W: Write, K: ChargeSource, C: Clock>(
         (K.content keeper.old) (K.content keeper.new)) }
     ensures memory { K.clean keeper.new → IsErrOf result StreamFault.Memory → (asking : Asking) →
         IsAsked asking asked →
-        Owes C.gives shelf.now asking clock.old clock.new (K.content keeper.old) }
+        Owes C.gives shelf.now asking clock.old clock.new
+        (K.content keeper.old) (K.content keeper.new) }
     ensures goes_on { GoesOn shelf.now (W.contents writer.old) (W.contents writer.new)
         K.content K.failed K.honest K.clean K.left keeper.old keeper.new result }
 {
     match asked {
-        Asked::Refused(status) => tell_refusal(alloc, writer, status, closes),
+        Asked::Refused(refusal) => tell_refusal(writer, refusal, closes),
         Asked::Unread(fault) => tell_fault(alloc, writer, fault, closes),
         Asked::Does(command) => serve_command(alloc, writer, keeper, shelf, clock, command, closes),
         Asked::States(statement) => {
@@ -78,7 +79,8 @@ fn serve_command<W: Write, K: ChargeSource, C: Clock>(
         (Begins (W.contents writer.old) (W.contents writer.new))
         (K.content keeper.old) (K.content keeper.new)) }
     ensures memory { K.clean keeper.new → IsErrOf result StreamFault.Memory →
-        Owes C.gives shelf.now (reads (Ok command)) clock.old clock.new (K.content keeper.old) }
+        Owes C.gives shelf.now (reads (Ok command)) clock.old clock.new
+        (K.content keeper.old) (K.content keeper.new) }
     ensures goes_on { GoesOn shelf.now (W.contents writer.old) (W.contents writer.new)
         K.content K.failed K.honest K.clean K.left keeper.old keeper.new result }
 {

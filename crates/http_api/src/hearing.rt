@@ -2,10 +2,10 @@ ghost use Rattle.std.specs.Prelude.{◌≡◌, ◌≤◌, ◌*◌, ℕ, List, Op
 ghost use Rattle.http_heads.specs.Requests.{Next, Tells, seen};
 ghost use Rattle.http_answers.specs.Routes.{table};
 ghost use Rattle.http_answers.specs.Asking.{asked_of, IsAsked};
-ghost use Rattle.http_api.specs.Hearing.{Hears, HearsNext};
+ghost use Rattle.http_api.specs.Hearing.{IsOfHead, Hears, HearsNext};
 
 use byte_streams::StreamFault;
-use http_answers::{Asked, Route, Router, ask};
+use http_answers::{Asked, HttpRefusal, Route, Router, ask};
 use http_heads::{HeaderSpan, Request, Taken, next_request};
 use std::alloc::Global;
 use std::io::BufRead;
@@ -41,13 +41,13 @@ pub(crate) fn hear<R: BufRead>(
 /// What a request that was taken asks. A refusal ends the connection.
 fn heard_of(alloc: Global, router: &Router<Route>, taken: Taken) -> Option<Heard>
     requires { router.now ≡ table }
-    ensures { (next : Next) (left : Option (List ℕ)) → Tells next taken left →
+    ensures { (next : Next) (left : Option (List ℕ)) → IsOfHead next → Tells next taken left →
         HearsNext next result left }
 {
     match taken {
         Taken::Request(request) => Some(heard_request(alloc, router, &request)),
         Taken::Refused(status) => Some(Heard {
-            asked: Asked::Refused(status),
+            asked: Asked::Refused(HttpRefusal::of_head(status)),
             closes: true,
         }),
         Taken::Ended => None,

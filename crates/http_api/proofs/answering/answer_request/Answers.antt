@@ -10,14 +10,14 @@ pub returns-in-Refused-clause-ok : goal.returns-in-Refused-clause-ok
 returns-in-Refused-clause-ok g c = λ clean. ok_gives c.tell_refusal.result
     (λ tells asking asked. refused_reply g.C.Clock.gives c.args.shelf.now c.args.closes
     (Appends (g.W.Write.contents c.args.writer.now) (g.W.Write.contents c.tell_refusal.new.writer))
-    c.in-Refused.status c.args.clock.now (g.K.Keeper.content c.args.keeper.now) tells asking
+    c.in-Refused.refusal c.args.clock.now (g.K.Keeper.content c.args.keeper.now) tells asking
     (subst (IsAsked asking) c.in-Refused.is asked)) c.tell_refusal.ensures.ok
 
 pub returns-in-Refused-clause-err : goal.returns-in-Refused-clause-err
 returns-in-Refused-clause-err g c = λ clean. err_gives c.tell_refusal.result
     (λ tells asking asked. refused_reply g.C.Clock.gives c.args.shelf.now c.args.closes
     (Begins (g.W.Write.contents c.args.writer.now) (g.W.Write.contents c.tell_refusal.new.writer))
-    c.in-Refused.status c.args.clock.now (g.K.Keeper.content c.args.keeper.now) tells asking
+    c.in-Refused.refusal c.args.clock.now (g.K.Keeper.content c.args.keeper.now) tells asking
     (subst (IsAsked asking) c.in-Refused.is asked)) c.tell_refusal.ensures.err
 
 pub returns-in-Unread-clause-ok : goal.returns-in-Unread-clause-ok
@@ -62,7 +62,7 @@ pub returns-in-Does-clause-memory : goal.returns-in-Does-clause-memory
 returns-in-Does-clause-memory g c = λ clean e asking asked.
     owed_command g.C.Clock.gives c.args.shelf.now c.in-Does.command c.args.clock.now
     c.serve_command.new.clock (g.K.Keeper.content c.args.keeper.now)
-    (c.serve_command.ensures.memory clean e) asking (subst (IsAsked asking) c.in-Does.is asked)
+    (g.K.Keeper.content c.serve_command.new.keeper) (c.serve_command.ensures.memory clean e) asking (subst (IsAsked asking) c.in-Does.is asked)
 
 pub returns-in-States-clause-memory : goal.returns-in-States-clause-memory
 returns-in-States-clause-memory g c = λ clean e.
