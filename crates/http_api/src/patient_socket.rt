@@ -8,24 +8,23 @@ use std::time::{Duration, Instant};
 /// How long the bytes of a request may take from its first ones, in seconds (profile).
 pub const REQUEST_SECONDS: u64 = 60;
 
-/// A socket that fails a read once the bytes of a request have taken longer than they may. A
-/// request begins with the first bytes that are read after an answer.
-pub(crate) struct PatientSocket<'a> {
-    rt: HostRuntime,
-    stream: &'a TcpStream,
-    begun: Cell<Option<Instant>>,
+/// What is read of a socket, with the moment at which the bytes of a request began to come: those
+/// that are read first after an answer. A read fails once they have taken longer than they may.
+#[derive(Drop)]
+pub(crate) struct PatientReader<'s, 'b> {
+    pub(crate) rt: HostRuntime,
+    pub(crate) stream: &'s TcpStream,
+    pub(crate) begun: &'b Cell<Option<Instant>>,
 }
 
-impl<'a> PatientSocket<'a> {
-    /// The socket, of which nothing was read yet.
-    pub(crate) fn new(rt: &HostRuntime, stream: &'a TcpStream) -> PatientSocket<'a> {
-        PatientSocket {
-            rt: *rt,
-            stream,
-            begun: Cell::new(None),
-        }
-    }
+/// What is written to that socket. After it the next request may begin.
+#[derive(Drop)]
+pub(crate) struct PatientWriter<'s, 'b> {
+    pub(crate) stream: &'s TcpStream,
+    pub(crate) begun: &'b Cell<Option<Instant>>,
+}
 
+impl<'s, 'b> PatientReader<'s, 'b> {
     /// Whether the request that is being read has taken longer than it may.
     fn is_late(&self) -> io::Result<bool> {
         match self.begun.get() {
@@ -43,7 +42,7 @@ impl<'a> PatientSocket<'a> {
     }
 }
 
-impl<'a, 'b> Read for &'b PatientSocket<'a> {
+impl<'s, 'b> Read for PatientReader<'s, 'b> {
     fn read(&mut self, buf: &mut [u8]) -> io::Result<usize> {
         if self.is_late()? {
             return Err(io::Error::from(ErrorKind::TimedOut));
@@ -54,7 +53,7 @@ impl<'a, 'b> Read for &'b PatientSocket<'a> {
     }
 }
 
-impl<'a, 'b> Write for &'b PatientSocket<'a> {
+impl<'s, 'b> Write for PatientWriter<'s, 'b> {
     fn write(&mut self, buf: &[u8]) -> io::Result<usize> {
         self.begun.set(None);
         (&mut &*self.stream).write(buf)

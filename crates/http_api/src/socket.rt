@@ -3,10 +3,11 @@ ghost use Rattle.charging.specs.Continued.{Continues, LeavesOn};
 
 use crate::clock::Clock;
 use crate::fault::ServeFault;
-use crate::patient_socket::PatientSocket;
+use crate::patient_socket::{PatientReader, PatientWriter};
 use crate::serving::{Served, serve};
 use charge_sources::ChargeSource;
 use shelves::TariffShelf;
+use std::cell::Cell;
 use std::io;
 use std::net::TcpStream;
 use std::time::Duration;
@@ -39,8 +40,17 @@ pub fn serve_socket<K: ChargeSource, C: Clock>(
     if limit(stream).is_err() {
         return Err(ServeFault::Read);
     }
-    let socket = PatientSocket::new(rt, stream);
-    serve(rt.alloc(), &mut &socket, &mut &socket, keeper, shelf, clock)
+    let begun = Cell::new(None);
+    let mut reader = PatientReader {
+        rt: *rt,
+        stream,
+        begun: &begun,
+    };
+    let mut writer = PatientWriter {
+        stream,
+        begun: &begun,
+    };
+    serve(rt.alloc(), &mut reader, &mut writer, keeper, shelf, clock)
 }
 
 /// Sets what a socket delays, and how long it waits.
