@@ -65,3 +65,9 @@ loop-row-preserved g c = record {
       c.in_ok-addition.ensures.left;
   failures = omega (arith, c.loop-row.invariant.failures, c.in_ok-addition.ensures.kept.cause.kept);
 }
+
+pub returns-clause-left : goal.returns-clause-left
+returns-clause-left g c =
+    left-all g.K.Keeper.honest g.K.Keeper.left c.args.shelf.now c.args.moment c.loop-row.yielded
+    c.loop-row.row-iterator.rest.items c.args.rows.items (g.K.Keeper.content c.args.keeper.now)
+    c.args.keeper.now c.loop-row.keeper c.loop-row.invariant.all c.loop-row.invariant.left
