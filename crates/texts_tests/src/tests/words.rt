@@ -200,6 +200,10 @@ ocs sweep db --at +1 -> invalid
 ocs credit db 0 1000000000000000 r1 -> credit 0 1000000000000000 r1 4102444800 None in db None
 ocs credit db 0 1 r1 --until 1 --scope 4294967295 -> credit 0 1 r1 1 Some(4294967295) in db None
 ocs credit --scope 10 db 0 1 r1 -> credit 0 1 r1 4102444800 Some(10) in db None
+ocs credit db 0 1 -x -> unread 2
+ocs credit db 0 1 -- -x -> credit 0 1 -x 4102444800 None in db None
+ocs credit --scope 10 db 0 1 -- --at -> credit 0 1 --at 4102444800 Some(10) in db None
+ocs init -- -db -book -> init -db -book
 ocs credit db 0 0 r1 -> invalid
 ocs credit db 0 1 r1 --until 0 -> invalid
 ocs credit db 0 1 r1 --scope 4294967296 -> invalid
