@@ -2,7 +2,7 @@
 -- opened.
 use Rattle.std.proofs.Common.{◌≡◌, ℕ, List, Option, Some, None, Result, Ok, Err, ap, subst, sym}
 use Rattle.std.proofs.Common.{◌∙◌, arith}
-use Rattle.std.specs.Prelude.{IfOk, IfSome, IsOk}
+use Rattle.std.specs.Prelude.{IfOk, IfSome}
 use Rattle.std.specs.Io.KnownBytes.{Appends}
 use Rattle.sqlite_disk.specs.declared.Disk as disk
 use Rattle.sqlite_wal.specs.Recovery.{Image}
@@ -129,9 +129,13 @@ status_in : Status → Result Status DatabaseFault → Status
 status_in other (Ok status) = status
 status_in other (Err fault) = other
 
+abbrev IsAnswered : Result Status DatabaseFault → Type 0
+IsAnswered (Ok status) = Unit {0}
+IsAnswered (Err fault) = ⊥
+
 ok_is_err : (s : Status) (f : DatabaseFault) →
     ◌≡◌ {A = Result Status DatabaseFault} (Ok s) (Err f) → ⊥
-ok_is_err s f e = subst IsOk e tt
+ok_is_err s f e = subst IsAnswered e tt
 
 -- what an office answers is what is handed on of it
 handed_on : (says : Result Status OfficeFault → Type 0) (s : Status)

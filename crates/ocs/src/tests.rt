@@ -1,9 +1,10 @@
 //! Words over a database in a folder that the test makes: they succeed, are refused and fail.
 
 use super::*;
+use std::alloc::Global;
 use std::fs;
 use std::process::Abort;
-use worked_book::{BOOK, joined};
+use worked_book::BOOK;
 
 const FOLDER: &str = "ocs_tests";
 
@@ -82,6 +83,11 @@ sweep ocs_tests/db --at 1767716068 => 0|{"Accounts":1,"Result-Code":2001}~|
 serve ocs_tests/none --port 65535 --connections 1 => 1||ocs: open fault 1~
 "#;
 
+/// The text on fewer lines: one that begins with two spaces goes on with the one before it.
+fn joined(abort: &impl Abort, alloc: Global, text: &str) -> String {
+    text.replace(alloc, "\n  ", "").expect(abort, "room")
+}
+
 /// Makes the folder, with the files that the words name.
 fn make_folder(rt: &HostRuntime, abort: &impl Abort) {
     let _ = fs::remove_dir_all(rt, FOLDER);
@@ -102,7 +108,7 @@ fn make_folder(rt: &HostRuntime, abort: &impl Abort) {
 
 /// Writes a file, its lines joined.
 fn write_file(rt: &HostRuntime, abort: &impl Abort, path: &str, text: &str) {
-    let text = joined(rt.alloc(), text).expect(abort, "room");
+    let text = joined(abort, rt.alloc(), text);
     fs::write(rt, path, text.as_str()).expect(abort, "a file");
 }
 
@@ -137,7 +143,7 @@ fn told(rt: &HostRuntime, abort: &impl Abort, words: &str) -> String {
 #[test]
 fn words_over_a_database(rt: HostRuntime) {
     make_folder(&rt, &rt);
-    let cases = joined(rt.alloc(), TOLD).expect(&rt, "room");
+    let cases = joined(&rt, rt.alloc(), TOLD);
     for case in cases.as_str().lines() {
         let (words, _) = case.split_once(" => ").expect(&rt, "words");
         assert_eq!(rt; told(&rt, &rt, words).as_str(), case);

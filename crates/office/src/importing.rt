@@ -4,10 +4,9 @@ ghost use Rattle.std.specs.Prelude.{◌≡◌, Err, IfOk, OnErr, OnOk, length};
 ghost use Rattle.std.specs.Io.KnownBytes.{Appends};
 ghost use Rattle.byte_streams.specs.declared.StreamFault.{StreamFault};
 ghost use Rattle.keepers.specs.Faults.{HasCause};
-ghost use Rattle.keepers.specs.Keeping.{Keeps};
 ghost use Rattle.keepers.specs.declared.fault.StoreFault.{StoreFault};
 ghost use Rattle.office.specs.Counts.{counts_line, total};
-ghost use Rattle.charging.specs.Parts.{Leaves};
+ghost use Rattle.charging.specs.Parts.{Leaves, PartKeeps};
 ghost use Rattle.charging.specs.Served.{Writes};
 ghost use Rattle.commands.specs.declared.command.Command.TheVariants.{AddVoucher};
 ghost use Rattle.office.specs.Imports.{Adds, BeginsImport, HoldsBeginning, Imports, TellsImport};
@@ -76,9 +75,9 @@ fn add_voucher<K: Keeper>(
     ensures added { K.clean keeper.new →
         Adds shelf.now (addition_at moment row) (K.content keeper.old) (K.content keeper.new)
         result }
-    ensures kept { Keeps K.content K.failed K.honest K.clean K.left keeper.old keeper.new (λ t.
-        K.clean keeper.old × Writes shelf.now (AddVoucher row) moment (K.content keeper.old) t)
-        result }
+    ensures kept { PartKeeps K.content K.failed K.honest K.clean keeper.old keeper.new result }
+    ensures left { Leaves K.honest K.left keeper.old keeper.new (λ t. K.clean keeper.old
+        × Writes shelf.now (AddVoucher row) moment (K.content keeper.old) t) }
 {
     let found = keeper.find_voucher(&row.code)?;
     let addition = add(&found, row.terms);

@@ -31,7 +31,7 @@ use units::Moment;
 /// `Store` where the keeper failed: then nothing has changed, and nothing is written. `Write` where
 /// memory ran out for the answer's text or the writer failed: then the command was carried out, and
 /// a beginning of its line is written.
-#[tactic(auto, using(crate::proofs::CarriedLemmas::done_from, crate::proofs::CarriedLemmas::untold_from))]
+#[tactic(auto, using(crate::proofs::CarriedLemmas::done_from, crate::proofs::CarriedLemmas::left_from, crate::proofs::CarriedLemmas::untold_from))]
 pub fn serve_office<K: Keeper, W: Write>(
     alloc: Global,
     keeper: &mut K,

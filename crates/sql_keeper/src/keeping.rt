@@ -33,7 +33,7 @@ impl<S: Alter> Keeper for SqlKeeper<S> {
 
     ghost honesty = { λ k clean. clean.disk };
 
-    ghost settled = { settled_in S.Store S.Store.settled };
+    ghost settled = { λ k t clean left. settled_in _ S.Store.settled k t clean left };
 
     fn failures(&self) -> u64 {
         SqlKeeper::failures(self)

@@ -1,3 +1,8 @@
+use Rattle.std.proofs.Common.{subst}
+use Rattle.commands.specs.declared.command.Command.TheVariants.{AddVoucher}
+use Rattle.keepers.specs.Tables.{Tables}
+use Rattle.charging.specs.Served.{Writes}
+use Rattle.charging.proofs.Serving.{left_as}
 use Rattle.office.proofs.ImportLemmas.{added}
 use Rattle.office.proofs.importing.add_voucher.Goals as goal
 
@@ -10,3 +15,24 @@ returns-clause-added g c = λ clean.
     c.add-addition.ensures.value (c.in_ok-found.ensures.same before)
     (λ list time tables.
     (c.in_ok-step.field-0, c.in_ok-step.ensures.served clean list time tables))
+
+-- what its command writes is written of the tables before the call
+pub returns-clause-left : goal.returns-clause-left
+returns-clause-left g c = λ honest t l.
+    left_as (c.in_ok-step.ensures.left honest t l)
+    (c.in_ok-found.ensures.left (c.in_ok-step.ensures.honesty honest) t)
+    (λ w. (
+      c.in_ok-found.ensures.cleanness w.0,
+      subst (λ (x : Tables). Writes c.args.shelf.now (AddVoucher c.args.row) c.args.moment x t)
+          (c.in_ok-found.ensures.same w.0) w.1,
+    ))
+
+pub returns-in_err-step-clause-left : goal.returns-in_err-step-clause-left
+returns-in_err-step-clause-left g c = λ honest t l.
+    left_as (c.in_err-step.ensures.left honest t l)
+    (c.in_ok-found.ensures.left (c.in_err-step.ensures.honesty honest) t)
+    (λ w. (
+      c.in_ok-found.ensures.cleanness w.0,
+      subst (λ (x : Tables). Writes c.args.shelf.now (AddVoucher c.args.row) c.args.moment x t)
+          (c.in_ok-found.ensures.same w.0) w.1,
+    ))

@@ -31,7 +31,7 @@ returns-in_err-addition-clause-left g c =
     c.args.shelf.now c.args.moment c.loop-row.yielded c.args.keeper.now c.loop-row.keeper
     c.add_voucher.new.keeper c.loop-row.counts c.loop-row.invariant.runs
     c.loop-row.invariant.left c.in_err-addition.ensures.kept.honesty c.in-Some.row
-    c.in_err-addition.ensures.kept.left)
+    c.in_err-addition.ensures.left)
 
 pub loop-row-preserved : goal.loop-row-preserved
 loop-row-preserved g c = record {
@@ -56,11 +56,18 @@ loop-row-preserved g c = record {
       c.loop-row.invariant.cleanness (c.in_ok-addition.ensures.kept.cleanness clean);
   honesty = λ honest.
       c.loop-row.invariant.honesty (c.in_ok-addition.ensures.kept.honesty honest);
-  stands = λ honest clean. c.in_ok-addition.ensures.kept.stands honest;
+  stands = λ honest clean. c.in_ok-addition.ensures.kept.stands honest
+      (c.loop-row.invariant.stands (c.in_ok-addition.ensures.kept.honesty honest) clean);
   left = left-more g.K.Keeper.content g.K.Keeper.honest g.K.Keeper.clean g.K.Keeper.left
       c.args.shelf.now c.args.moment c.loop-row.yielded c.args.keeper.now c.loop-row.keeper
       c.add_voucher.new.keeper c.loop-row.counts c.loop-row.invariant.runs
       c.loop-row.invariant.left c.in_ok-addition.ensures.kept.honesty c.in-Some.row
-      c.in_ok-addition.ensures.kept.left;
+      c.in_ok-addition.ensures.left;
   failures = omega (arith, c.loop-row.invariant.failures, c.in_ok-addition.ensures.kept.cause.kept);
 }
+
+pub returns-clause-left : goal.returns-clause-left
+returns-clause-left g c =
+    left-all g.K.Keeper.honest g.K.Keeper.left c.args.shelf.now c.args.moment c.loop-row.yielded
+    c.loop-row.row-iterator.rest.items c.args.rows.items (g.K.Keeper.content c.args.keeper.now)
+    c.args.keeper.now c.loop-row.keeper c.loop-row.invariant.all c.loop-row.invariant.left
