@@ -8,13 +8,14 @@ use keepers::MemoryKeeper;
 use std::io;
 use std::io::Write;
 use std::net::{Shutdown, TcpListener, TcpStream};
+use std::process::Abort;
 
 /// How the engine ends the connection.
-fn ending(rt: &HostRuntime, stream: &TcpStream) -> String {
-    let alloc = rt.alloc();
+fn ending(rt: &impl Abort, host: &HostRuntime, stream: &TcpStream) -> String {
+    let alloc = host.alloc();
     let shelf = shelf(rt, alloc);
     let mut keeper = MemoryKeeper::new(alloc);
-    let served = serve_socket(rt, stream, &mut keeper, &shelf, &mut clock(rt, TEN));
+    let served = serve_socket(host, stream, &mut keeper, &shelf, &mut clock(rt, TEN));
     with_ending(rt, alloc, b"", served)
 }
 
@@ -31,7 +32,7 @@ fn over_loopback(rt: HostRuntime) {
         .expect(&rt, "a request");
     client.shutdown(Shutdown::Write).expect(&rt, "an end");
     let (stream, _) = listener.accept().expect(&rt, "a stream");
-    let ending = ending(&rt, &stream);
+    let ending = ending(&rt, &rt, &stream);
     drop(stream);
     let text = io::read_to_string(alloc, &client).expect(&rt, "answers");
     assert_eq!(rt; text.as_str(), OPENED_THEN_EXISTS);
