@@ -1,3 +1,4 @@
-pub mod ImportingLemmas
 pub mod CommandLemmas
+pub mod ImportingLemmas
+pub mod MakingLemmas
 pub mod OverLemmas

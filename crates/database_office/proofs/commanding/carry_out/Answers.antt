@@ -4,6 +4,6 @@ use Rattle.database_office.proofs.CommandLemmas.{same_fault}
 use Rattle.database_office.proofs.commanding.carry_out.Goals as goal
 
 -- src/commanding.rt:54:1
-pub returns-in-Err-clause-untold : goal.returns-in-Err-clause-untold
-returns-in-Err-clause-untold g c fault e =
+pub returns-clause-untold : goal.returns-clause-untold
+returns-clause-untold g c fault e =
     c.serve_office.ensures.untold fault (c.in-Err.is ∙ ap Err (same_fault _ _ e))
