@@ -157,7 +157,7 @@ module _ (ends : DayEnds) (outcome : Option Voucher → History → Command → 
     pub moment : change.moment ≡ d.moment
     pub opened : (history_of ends outcome change.number (d ∷ list)).opened ≡ true
     pub row : AreRowsAt shelf (history_of ends outcome change.number (d ∷ list)).ledger d.moment
-        (over change.after (tables.rows change.number))
+        (over change.rows (tables.rows change.number))
     pub kept : (k : Key) → kept_under k (history_of ends outcome change.number (d ∷ list)) ≡
         kept_after change.kept k (kept_under k (history_of ends outcome change.number list))
     pub charges : charge_rows (history_of ends outcome change.number (d ∷ list)).ledger ≡
@@ -191,20 +191,20 @@ module _ (ends : DayEnds) (outcome : Option Voucher → History → Command → 
       named a t e = ap (names a) x.named ∙ e
 
       row : IsRow shelf d.moment (history_of ends outcome n (d ∷ list))
-          (over change.after (tables.rows n))
+          (over change.rows (tables.rows n))
       row = row_of shelf d.moment (history_of ends outcome n (d ∷ list))
-          (over change.after (tables.rows n)) x.opened x.row
+          (over change.rows (tables.rows n)) x.opened x.row
 
       account : (a : List ℕ) (t : Bool) → same_name n a ≡ t →
           IsRow shelf (as_of a (d ∷ list)) (history_of ends outcome a (d ∷ list))
-          (if same_name n a then over change.after (tables.rows a) else tables.rows a)
+          (if same_name n a then over change.rows (tables.rows a) else tables.rows a)
       account a true e =
           let same : n ≡ a = (bytes_decides n a).0 e in
           subst (λ (r : Rows).
           IsRow shelf (as_of a (d ∷ list)) (history_of ends outcome a (d ∷ list)) r)
-          (sym (ap (λ t. if t then over change.after (tables.rows a) else tables.rows a) e))
+          (sym (ap (λ t. if t then over change.rows (tables.rows a) else tables.rows a) e))
           (subst (λ m. IsRow shelf (as_of a (d ∷ list)) (history_of ends outcome m (d ∷ list))
-          (over change.after (tables.rows m))) same
+          (over change.rows (tables.rows m))) same
           (rw (reached a true e) row))
       account a false e =
           let moment : as_of a (d ∷ list) ≡ as_of a list =
@@ -212,8 +212,8 @@ module _ (ends : DayEnds) (outcome : Option Voucher → History → Command → 
           let same : history_of ends outcome a (d ∷ list) ≡ history_of ends outcome a list =
           ap (λ t. if t then after list d (history_of ends outcome a list)
           else history_of ends outcome a list) (named a false e) in
-          let o : (if same_name n a then over change.after (tables.rows a) else tables.rows a) ≡
-          tables.rows a = ap (λ t. if t then over change.after (tables.rows a)
+          let o : (if same_name n a then over change.rows (tables.rows a) else tables.rows a) ≡
+          tables.rows a = ap (λ t. if t then over change.rows (tables.rows a)
           else tables.rows a) e in
           subst (λ (r : Rows).
           IsRow shelf (as_of a (d ∷ list)) (history_of ends outcome a (d ∷ list)) r)

@@ -16,7 +16,7 @@ use Rattle.reserving.specs.Ledger.{Ledger, next_bucket}
 use Rattle.reserving.specs.Charges.{charge_rows}
 use Rattle.reserving.specs.Requests.{credited}
 use Rattle.reserving.specs.Rows.{AccountRows}
-use Rattle.reserving.specs.Stored.{stored, priced}
+use Rattle.reserving.specs.Stored.{priced}
 use Rattle.reserving.specs.Left.{LeftRows, IsWith, left_of}
 use Rattle.decisions.specs.Known.{is_known}
 use Rattle.keepers.specs.declared.key.Key.{Key}
@@ -25,7 +25,7 @@ use Rattle.keepers.specs.declared.loaded.Change.{Change}
 use Rattle.keepers.specs.declared.loaded.Loaded.{Loaded}
 use Rattle.keepers.specs.Keys.{key_of}
 use Rattle.keepers.specs.Tables.{Tables}
-use Rattle.keepers.specs.Change.{IsMadeFrom, changed}
+use Rattle.keepers.specs.Change.{changed}
 use Rattle.charging.specs.Histories.{History}
 use Rattle.charging.specs.Accepted.{Accepted, last_moment, IsInTime}
 use Rattle.charging.specs.Outcomes.{outcome, told, keeping, repeated, is_full, begin_of, end_of}
@@ -182,7 +182,7 @@ module _ (b : Shelf) (list : List Accepted) (a : Allowance) (t : ℕ) (old new :
       IfOk o (λ n. x.as_of ≡ m) →
       Tells change found x (Some
       (record { content = content.Allow a; answer = answer.Bucket number })) None →
-      (IsMadeFrom found.before (stored x) (old.rows found.number) → new ≡ changed change old) →
+      new ≡ changed change old →
       IsServed b list (command.Allow a) t old new (answer.Bucket number)
   allow-done number change ok shelf stands tells grown =
       let done = subst (λ (q : Result ℕ Refusal). Allows b q a m h.ledger left x) ok allowed in

@@ -281,8 +281,8 @@ keeps_collecting b = record {
     kept = kept.settle t s g used_parts reports ledger touches h.kept;
     sums = sums_settle b t s g used_parts ledger h.kept.paying.credits h.sums;
   };
-  grant = λ t s g asked reports ledger known h. record {
-    kept = kept.grant t s g asked reports ledger known h.kept;
+  grant = λ t s g asked reports ledger known some h. record {
+    kept = kept.grant t s g asked reports ledger known some h.kept;
     sums = sums_same (granted b t s g asked ledger) ledger (same_reserved b t s g _ _ ledger)
         h.sums;
   };

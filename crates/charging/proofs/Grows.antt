@@ -31,7 +31,7 @@ keeps_extends b old = record {
   credit = λ t kind from until scope amount reports ledger h. more old ledger _ h;
   settle = λ t s g used_parts reports ledger touches h.
       settled_more b t s g used_parts old ledger h;
-  grant = λ t s g asked reports ledger has h. many old _ _ (more old ledger _ h);
+  grant = λ t s g asked reports ledger has some h. many old _ _ (more old ledger _ h);
   event = λ t s g units n reports ledger new covered h. many old ledger (_ ∷ _ ∷ _) h;
 }
 

@@ -152,8 +152,8 @@ keeps_guaranteed b is = record {
     covered = covered_settle b t s g used_parts ledger h.covered;
     quotas = settled_quotas b is t s g used_parts reports ledger h;
   };
-  grant = λ t s g asked reports ledger recorded h. record {
-    paying = paying.grant t s g asked reports ledger recorded h.paying;
+  grant = λ t s g asked reports ledger recorded some h. record {
+    paying = paying.grant t s g asked reports ledger recorded some h.paying;
     covered = covered_grant b is t s g asked ledger h.paying.credits recorded h.covered;
     quotas = granted_quotas b t s g asked ledger h.quotas;
   };

@@ -151,15 +151,20 @@ module _ (b : Shelf) (P : List Report → Ledger → Type 0) (k : Keeps b P)
   either_answered s true x y p q = p
   either_answered s false x y p q = q
 
+  either_by : (s : List ℕ) (c : Bool) (x y : Answered) → (c ≡ true → IsOpen s x.after) →
+      IsOpen s y.after → IsOpen s (if c then x else y).after
+  either_by s true x y p q = p refl
+  either_by s false x y p q = q
+
   open_units : (tariff : GroupTariff) (t : ℕ) (s : List ℕ) (g : ℕ) (asked : Option ℕ)
       (ledger : Ledger) → IsOpen s ledger →
       IsOpen s (granted_units b tariff t s g asked ledger).after
   open_units tariff t s g asked ledger h =
       let grant : RatedGrant = grant_for b t g (used s g ledger) asked ledger in
-      either_answered s (nat_lt 0 grant.units.0) _ _ (
+      either_by s (nat_lt 0 grant.units.0) _ _ (λ some. (
         λ e. h.0 (sym (recorded_granted b t s g grant.units.0 (held_due grant) ledger) ∙ e),
-        k.grant t s g asked reports ledger h.0 h.1,
-      ) h
+        k.grant t s g asked reports ledger h.0 some h.1,
+      )) h
 
   open_if : (tariff : GroupTariff) (t : ℕ) (s : List ℕ) (g : ℕ) (o : Option Requested)
       (ledger : Ledger) → IsOpen s ledger → IsOpen s (granted_if b tariff t s g o ledger).after

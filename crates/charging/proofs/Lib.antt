@@ -4,6 +4,7 @@ pub mod Recorded
 pub mod Apart
 pub mod Repeated
 pub mod VouchersStay
+pub mod Refused
 pub mod Serving
 pub mod NeverOpened
 pub mod KeptKeys
@@ -30,6 +31,7 @@ pub mod KeptDecisions
 pub mod KeptHistories
 pub mod Accounted
 pub mod Sound
+pub mod PricedRows
 pub mod Collecting
 pub mod EarlyLedgers
 pub mod EarlyDecisions

@@ -23,8 +23,7 @@ use Rattle.reserving.specs.Charges.{charge_rows}
 use Rattle.reserving.specs.Requests.{credited, with_bar}
 use Rattle.reserving.specs.Rows.{AccountRows, IsAccount, IsRowsOf}
 use Rattle.reserving.specs.Stored.{StoredRows, stored, priced}
-use Rattle.reserving.specs.Left.{LeftRows, IsWith, left_of}
-use Rattle.reserving.proofs.Lists.{no_some}
+use Rattle.reserving.specs.Left.{LeftRows, IsWith, left_of, differing}
 use Rattle.reserving.proofs.StoredRows.{IsStored-stored}
 use Rattle.reserving.proofs.LeftTests.{first_alone}
 use Rattle.keepers.specs.declared.key.Key.{Key}
@@ -34,7 +33,9 @@ use Rattle.keepers.specs.declared.loaded.Loaded.{Loaded}
 use Rattle.keepers.specs.declared.loaded.Redeemed.{Redeemed}
 use Rattle.keepers.specs.Keys.{key_of}
 use Rattle.keepers.specs.Tables.{Head, Rows, Tables, group_row, held_of, no_rows}
-use Rattle.keepers.specs.Change.{AreRowsAt, IsMadeFrom, held_over, over, changed, IsSwept}
+use Rattle.keepers.specs.Change.{AreRowsAt, held_over, over, changed, IsSwept}
+use Rattle.keepers.specs.Differing.{equal_bucket, equal_counter, equal_session, equal_group}
+use Rattle.keepers.specs.Differing.{named_rows}
 use Rattle.charging.specs.Histories.{History}
 use Rattle.charging.specs.Accepted.{Accepted, one, concerned_by, is_opening, names_code}
 use Rattle.charging.specs.Accepted.{last_moment, IsInTime}
@@ -91,23 +92,22 @@ open-again b list n t old new time le tables there same =
     (outcome-opened b list (command.OpenAccount n) t n refl (is-there b list n old tables there))
     refl refl same tables
 
--- of an account that isn't there no row is
-made_of_nothing : (before after : StoredRows) (r : Rows) → r ≡ no_rows → before.buckets ≡ [] →
-    before.counters ≡ [] → before.sessions ≡ [] → before.groups ≡ [] → IsMadeFrom before after r
-made_of_nothing before after r none bs cs ss gs = record {
-  buckets = λ n x e. absurd
-      (no_some x ((λ i. Rattle.reserving.specs.Left.bucket_in n (sym bs i)) ∙ e));
-  counters = λ g c x e. absurd
-      (no_some x ((λ i. Rattle.reserving.specs.Sessions.counter_in g c (sym cs i)) ∙ e));
-  sessions = λ s x e. absurd
-      (no_some x ((λ i. Rattle.reserving.specs.Sessions.session_in s (sym ss i)) ∙ e));
-  groups = λ s g x e. absurd
-      (no_some x ((λ i. Rattle.reserving.specs.Sessions.group_in s g (sym gs i)) ∙ e));
-  holds = λ s g n x e. absurd
-      (no_some x ((λ i. Rattle.reserving.specs.Sessions.group_in s g (sym gs i)) ∙ e));
-  dead = λ n x e k. absurd (no_some x ((λ i. (sym none i).buckets n) ∙ e));
-  ended = λ s x e k. absurd (no_some x ((λ i. (sym none i).sessions s) ∙ e));
-  free = λ s g x e k. absurd (no_some x ((λ i. (sym none i).groups s g) ∙ e));
+-- where nothing was loaded all rows are named
+named_alone : {A : Type 0} (eq : A → A → Bool) (before after : List A) → before ≡ [] →
+    differing eq before after ≡ after
+named_alone {A} eq before after none = ap (λ xs. differing eq xs after) none ∙ each after
+  where
+    each : (xs : List A) → differing eq [] xs ≡ xs
+    each [] = refl
+    each (x ∷ xs) = ap (λ ys. x ∷ ys) (each xs)
+
+all_named : (before after : StoredRows) → before.buckets ≡ [] → before.counters ≡ [] →
+    before.sessions ≡ [] → before.groups ≡ [] → named_rows before after ≡ after
+all_named before after bs cs ss gs = λ i. record after {
+  buckets = named_alone equal_bucket before.buckets after.buckets bs i;
+  counters = named_alone equal_counter before.counters after.counters cs i;
+  sessions = named_alone equal_session before.sessions after.sessions ss i;
+  groups = named_alone equal_group before.groups after.groups gs i;
 }
 
 held_alone : (n : ℕ) (o : Option SessionGroup) → held_over n o 0 ≡ held_of n o
@@ -142,7 +142,7 @@ pub record IsNew (b : Shelf) (n : List ℕ) (t : ℕ) (x fresh : AccountRows) (c
   pub rows : IsRowsOf [] x
   pub named : change.number ≡ n
   pub moment : change.moment ≡ x.as_of
-  pub after : change.after ≡ stored x
+  pub after : change.rows ≡ named_rows (stored fresh) (stored x)
   pub kept : change.kept ≡ None
   pub redeemed : change.redeemed ≡ None
   pub charges : change.charges.items ≡ []
@@ -156,7 +156,7 @@ pub open-done : (b : Shelf) (list : List Accepted) (n : List ℕ) (t : ℕ) (x f
     (change : Change) (old new : Tables) → IsInTime list → last_moment list ≤ t →
     AreTables b list old → (old.rows n).head ≡ None →
     IsNew b n t x fresh change →
-    (IsMadeFrom (stored fresh) (stored x) (old.rows n) → new ≡ changed change old) →
+    new ≡ changed change old →
     IsServed b list (command.OpenAccount n) t old new answer.Done
 open-done b list n t x fresh change old new time le tables none is grown =
     let h : History = history b n list in
@@ -171,10 +171,11 @@ open-done b list n t x fresh change old new time le tables none is grown =
     (record {
       moment = is.moment ∙ is.at_moment;
       opened = refl;
-      row = subst (λ (l : Ledger). AreRowsAt b l t (over change.after (old.rows change.number)))
+      row = subst (λ (l : Ledger). AreRowsAt b l t (over change.rows (old.rows change.number)))
           (sym empty)
           (subst (λ (w : StoredRows). AreRowsAt b [] t (over w (old.rows change.number)))
-          (sym is.after)
+          (sym (is.after ∙ all_named (stored fresh) (stored x) is.buckets is.counters is.sessions
+          is.groups))
           (subst (λ (r : Rows). AreRowsAt b [] t (over (stored x) r))
           (sym closed.1 ∙ ap old.rows (sym is.named))
           (new_rows b t x is.account is.priced_by is.at_moment is.rows)));
@@ -185,8 +186,7 @@ open-done b list n t x fresh change old new time le tables none is grown =
       count = ap (λ o. if is_some o then old.count else old.count + 1)
           (ap (λ (m : List ℕ). (old.rows m).head) is.named ∙ none);
     })
-    (grown (made_of_nothing (stored fresh) (stored x) (old.rows n) closed.1 is.buckets is.counters
-    is.sessions is.groups)) tables
+    grown tables
 
 -- ---- an account is barred
 
@@ -231,7 +231,7 @@ pub record Tells (change : Change) (found : Loaded) (x : AccountRows) (kept : Op
     (redeemed : Option Redeemed) : Type 0 where
   pub number : change.number ≡ found.number
   pub moment : change.moment ≡ x.as_of
-  pub after : change.after ≡ stored x
+  pub after : change.rows ≡ named_rows found.before (stored x)
   pub charges : change.charges.items ≡ []
   pub kept_is : change.kept ≡ kept
   pub redeemed_is : change.redeemed ≡ redeemed
@@ -242,8 +242,7 @@ abbrev pub made_change : Loaded → AccountRows → Vec ChargeRow Global → Opt
 made_change found x charges kept redeemed = record {
   moment = x.as_of;
   number = found.number;
-  after = stored x;
-  before = found.before;
+  rows = named_rows found.before (stored x);
   charges = charges;
   kept = kept;
   redeemed = redeemed;
@@ -268,7 +267,7 @@ pub bar-done : (b : Shelf) (list : List Accepted) (n : List ℕ) (barred : Bool)
     m ≡ max t found.account.as_of → x.shelf ≡ found.account.shelf → x.as_of ≡ m →
     ((ledger : Ledger) (left : LeftRows) → IsWith ledger left m found.account →
     IsWith (with_bar m barred ledger) left m x) → Tells change found x None None →
-    (IsMadeFrom found.before (stored x) (old.rows found.number) → new ≡ changed change old) →
+    new ≡ changed change old →
     IsServed b list (bar_command n barred) t old new answer.Done
 bar-done b list n barred t m found x change old new time le tables loads moment shelf as_of rows
     tells grown =
@@ -395,7 +394,7 @@ module _ (b : Shelf) (list : List Accepted) (c : Credit) (t : ℕ) (old new : Ta
       IfSome o (λ n. x.as_of ≡ m) →
       Tells change found x (Some
       (record { content = content.Credit c; answer = answer.Bucket number })) None →
-      (IsMadeFrom found.before (stored x) (old.rows found.number) → new ≡ changed change old) →
+      new ≡ changed change old →
       IsServed b list (command.Credit c) t old new (answer.Bucket number)
   credit-done number change some shelf stands tells grown =
       let done = subst (λ (q : Option ℕ). Credits q c m h.ledger left x) some credit in

@@ -392,7 +392,7 @@ keeps_paying b = record {
   touch = paying_touch b;
   credit = paying_credit b;
   settle = paying_settle b;
-  grant = λ t s g asked reports ledger recorded h. paying_reserved b t s g _ _ reports ledger h;
+  grant = λ t s g asked reports ledger recorded some h. paying_reserved b t s g _ _ reports ledger h;
   event = λ t s g units n reports ledger new covered h.
       paying_quiet b t (Recorded s n) reports _ refl refl
       (paying_debit b t s g units reports ledger new covered h);

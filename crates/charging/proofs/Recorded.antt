@@ -212,7 +212,7 @@ keeps_recorded b = record {
       (record { names = λ x y. refl; touch = λ x u. refl; record_before = λ x u l e. e }) h;
   settle = λ t s g used_parts reports ledger touches h.
       settled_kept b t s g used_parts ledger touches h;
-  grant = λ t s g asked reports ledger has h. granted_kept b t s g asked ledger has h;
+  grant = λ t s g asked reports ledger has some h. granted_kept b t s g asked ledger has h;
   event = λ t s g units n reports ledger new covered h. event_kept b t s g units n ledger h;
 }
 

@@ -40,7 +40,8 @@ use Rattle.keepers.specs.declared.loaded.Change.{Change}
 use Rattle.keepers.specs.declared.loaded.Loaded.{Loaded}
 use Rattle.keepers.specs.Keys.{key_of}
 use Rattle.keepers.specs.Tables.{Head, Rows, Tables}
-use Rattle.keepers.specs.Change.{IsLoadedFrom, IsView, IsMadeFrom, changed}
+use Rattle.keepers.specs.Change.{IsLoadedFrom, IsView, changed}
+use Rattle.keepers.specs.Differing.{named_rows}
 use Rattle.keepers.proofs.Asked.{known_is, new_unleft}
 use Rattle.charging.specs.Histories.{History}
 use Rattle.charging.specs.Accepted.{Accepted, last_moment, IsInTime}
@@ -289,14 +290,14 @@ module _ (b : Shelf) (list : List Accepted) (r : Request) (t : ℕ) (old new : T
         IsAsked ledger beside r false →
         charge_rows (decision found.account.shelf m r ledger).after ≡
         charge_rows ledger ++ change.charges.items) →
-        change.number ≡ found.number → change.moment ≡ x.as_of → change.after ≡ stored x →
+        change.number ≡ found.number → change.moment ≡ x.as_of →
+        change.rows ≡ named_rows found.before (stored x) →
         change.kept ≡ Some (record {
           content = content.Request r;
           answer = answer.Request given;
         }) → change.redeemed ≡ None →
         result ≡ answer.Request given →
-        (IsMadeFrom found.before (stored x) (old.rows found.number) →
-        new ≡ changed change old) → IsServed b list (Ccr r) t old new result
+        new ≡ changed change old → IsServed b list (Ccr r) t old new result
     request-done x change result done shelf as_of rows charges number moments afters kept redeemed
         results makes =
         let after : Ledger = (decision b t r past.ledger).after in

@@ -19,7 +19,8 @@ use Rattle.keepers.specs.declared.key.KeptAnswer.{KeptAnswer}
 use Rattle.keepers.specs.declared.loaded.Change.{Change}
 use Rattle.keepers.specs.declared.loaded.Loaded.{Loaded}
 use Rattle.keepers.specs.Tables.{Head, Tables, no_rows, head_of}
-use Rattle.keepers.specs.Change.{IsLoad, IsLoadedFrom, AreRowsAt, IsMadeFrom, kept_after, over}
+use Rattle.keepers.specs.Change.{IsLoad, IsLoadedFrom, AreRowsAt, kept_after, over}
+use Rattle.keepers.specs.Differing.{named_rows}
 use Rattle.keepers.specs.Change.{redeemed_over, changed}
 use Rattle.keepers.specs.Steps.{Extends}
 use Rattle.keepers.proofs.Taking.{taken}
@@ -139,7 +140,7 @@ pub record IsChange (b : Shelf) (list : List Accepted) (t : ℕ) (c : Command)
     (before after : History) (change : Change) (tables : Tables) : Type 0 where
   pub moment : change.moment ≡ t
   pub opened : after.opened ≡ true
-  pub row : AreRowsAt b after.ledger t (over change.after (tables.rows change.number))
+  pub row : AreRowsAt b after.ledger t (over change.rows (tables.rows change.number))
   pub kept : after.kept ≡ keeps change.kept before.kept
   pub charges : charge_rows after.ledger ≡ charge_rows before.ledger ++ change.charges.items
   pub vouchers : AreSpent b list t c change
@@ -215,9 +216,9 @@ module _ (b : Shelf) (list : List Accepted) (c : Command) (t : ℕ) (a : List �
             ((λ i. (after i).opened) ∙ x.opened);
         row = subst (λ (n : List ℕ). AreRowsAt b
             (history b n (record { moment = t; command = c } ∷ list)).ledger t
-            (over change.after (old.rows change.number))) number
+            (over change.rows (old.rows change.number))) number
             (subst (λ (h : History). AreRowsAt b h.ledger t
-            (over change.after (old.rows change.number))) (sym after) x.row);
+            (over change.rows (old.rows change.number))) (sym after) x.row);
         kept = λ k. subst (λ (n : List ℕ). kept_under k
             (history b n (record { moment = t; command = c } ∷ list)) ≡
             kept_after change.kept k (kept_under k (history b n list))) number
@@ -298,26 +299,18 @@ module _ (b : Shelf) (list : List Accepted) (c : Command) (t : ℕ) (a : List �
       pub vouchers : AreSpent b list t c change
       pub number : change.number ≡ found.number
       pub moment : change.moment ≡ x.as_of
-      pub after : change.after ≡ stored x
+      pub after : change.rows ≡ named_rows found.before (stored x)
 
     left : (o : Outcome) (x : AccountRows) (change : Change) → IsCalled o x change →
-        IsMadeFrom (stored found.account) (stored x) (old.rows a)
-        × AreRowsAt b o.after.ledger x.as_of (over (stored x) (old.rows a))
+        AreRowsAt b o.after.ledger x.as_of
+        (over (named_rows (stored found.account) (stored x)) (old.rows a))
     left o x change is = left_behind b (history b a list).ledger o.after.ledger (as_of a list) t
         (old.rows a) found.account x account.are loads.account loads.load.1
         (is.shelf ∙ account.of_book) is.grows is.rows
 
-    made : (o : Outcome) (x : AccountRows) (change : Change) → IsCalled o x change →
-        IsMadeFrom found.before (stored x) (old.rows found.number)
-    made o x change is =
-        subst (λ (n : List ℕ). IsMadeFrom found.before (stored x) (old.rows n)) (sym loads.load.0)
-        (subst (λ (w : StoredRows). IsMadeFrom w (stored x) (old.rows a)) (sym loads.load.2)
-        (left o x change is).0)
-
     pub served-loaded : (o : Outcome) (given : Answer) (x : AccountRows) (change : Change) →
         is_opening c ≡ false → comes ≡ o → o.accepted ≡ true →
-        given ≡ o.answer → IsCalled o x change →
-        (IsMadeFrom found.before (stored x) (old.rows found.number) → new ≡ changed change old) →
+        given ≡ o.answer → IsCalled o x change → new ≡ changed change old →
         IsServed b list c t old new given
     served-loaded o given x change opens is done answers called grown =
         let where_is : a ≡ change.number = sym loads.load.0 ∙ sym called.number in
@@ -326,11 +319,13 @@ module _ (b : Shelf) (list : List Accepted) (c : Command) (t : ℕ) (a : List �
           moment = called.moment ∙ called.at_moment;
           opened = called.opened;
           row = subst (λ (n : List ℕ). AreRowsAt b o.after.ledger t
-              (over change.after (old.rows n))) where_is
+              (over change.rows (old.rows n))) where_is
               (subst (λ (w : StoredRows). AreRowsAt b o.after.ledger t (over w (old.rows a)))
-              (sym called.after)
-              (subst (λ (u : ℕ). AreRowsAt b o.after.ledger u (over (stored x) (old.rows a)))
-              called.at_moment (left o x change called).1));
+              (ap (λ (w : StoredRows). named_rows w (stored x)) (sym loads.load.2)
+              ∙ sym called.after)
+              (subst (λ (u : ℕ). AreRowsAt b o.after.ledger u
+              (over (named_rows (stored found.account) (stored x)) (old.rows a)))
+              called.at_moment (left o x change called)));
           kept = called.kept;
           charges = called.charges;
           vouchers = called.vouchers;
@@ -338,7 +333,7 @@ module _ (b : Shelf) (list : List Accepted) (c : Command) (t : ℕ) (a : List �
               (ap (λ (n : List ℕ). is_some (old.rows n).head) (sym where_is) ∙ account.head)
               ∙ sym (ap (λ v. if v then old.count + 1 else old.count) opens);
         })
-        (grown (made o x change called)) tables
+        grown tables
 
 -- what a stop leaves, told of what is left before a call and of what was written
 pub left_as : {A B P Q : Type 0} → A ⊎ B → (A → P) → (B → Q) → P ⊎ Q

@@ -77,8 +77,8 @@ keeps_sound b = record {
     sound = IsSoundLedger-settled_by b t s g used_parts ledger
         (all_made (validity_of b) t ledger h.paying.credits) h.sound;
   };
-  grant = λ t s g asked reports ledger has h. record {
-    paying = paying.grant t s g asked reports ledger has h.paying;
+  grant = λ t s g asked reports ledger has some h. record {
+    paying = paying.grant t s g asked reports ledger has some h.paying;
     sound = IsSoundLedger-reserved b t s g _ _ ledger
         (all_made (validity_of b) t ledger h.paying.credits) has h.sound;
   };

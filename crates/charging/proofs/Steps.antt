@@ -1,5 +1,6 @@
 -- What each step of a ledger keeps, every ledger of an account keeps.
 use Rattle.std.proofs.Common.{◌≡◌, ℕ, Bool, true, false, List, ◌∷◌, Option, None}
+use Rattle.std.specs.Prelude.{nat_lt}
 use Rattle.units.specs.declared.blocks.UsedPart.{UsedPart}
 use Rattle.shelves.specs.Shelves.{Shelf}
 use Rattle.rating.specs.declared.grant.Grant.{Grant as RatedGrant}
@@ -62,10 +63,11 @@ pub record Keeps (b : Shelf) (P : List Report → Ledger → Type 0) : Type 0 wh
   pub settle : (t : ℕ) (s : List ℕ) (g : ℕ) (parts : List UsedPart) (reports : List Report)
       (ledger : Ledger) → is_touched s ledger ≡ true → P reports ledger →
       P (with_report t s g parts reports) (settled_by b t s g parts ledger)
-  -- of a session that is recorded
+  -- of a session that is recorded, of some units
   pub grant : (t : ℕ) (s : List ℕ) (g : ℕ) (asked : Option ℕ) (reports : List Report)
-      (ledger : Ledger) → (last_recording s ledger ≡ None → ⊥) → P reports ledger →
-      P reports (granted b t s g asked ledger)
+      (ledger : Ledger) → (last_recording s ledger ≡ None → ⊥) →
+      nat_lt 0 (grant_for b t g (used s g ledger) asked ledger).units.0 ≡ true →
+      P reports ledger → P reports (granted b t s g asked ledger)
   -- of an event whose name isn't recorded yet, with its record
   pub event : (t : ℕ) (s : List ℕ) (g units n : ℕ) (reports : List Report) (ledger : Ledger) →
       last_recording s ledger ≡ None → is_covered b t g units ledger ≡ true → P reports ledger →

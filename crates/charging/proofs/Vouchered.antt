@@ -26,7 +26,7 @@ use Rattle.reserving.specs.Ledger.{Ledger, next_bucket}
 use Rattle.reserving.specs.Charges.{charge_rows}
 use Rattle.reserving.specs.Requests.{credited}
 use Rattle.reserving.specs.Rows.{AccountRows}
-use Rattle.reserving.specs.Stored.{stored, priced}
+use Rattle.reserving.specs.Stored.{priced}
 use Rattle.reserving.specs.Left.{LeftRows, IsWith, left_of}
 use Rattle.keepers.specs.declared.key.Key.{Key}
 use Rattle.keepers.specs.declared.key.KeptAnswer.{KeptAnswer}
@@ -34,7 +34,7 @@ use Rattle.keepers.specs.declared.loaded.Change.{Change}
 use Rattle.keepers.specs.declared.loaded.Loaded.{Loaded}
 use Rattle.keepers.specs.Keys.{key_of}
 use Rattle.keepers.specs.Tables.{Tables}
-use Rattle.keepers.specs.Change.{IsLoad, IsMadeFrom, redeemed_over, changed, with_voucher}
+use Rattle.keepers.specs.Change.{IsLoad, redeemed_over, changed, with_voucher}
 use Rattle.charging.specs.Histories.{History, no_history}
 use Rattle.charging.specs.Accepted.{Accepted, last_moment, IsInTime}
 use Rattle.charging.specs.Outcomes.{book_days, outcome, told, keeping, repeated, refused_as}
@@ -246,7 +246,7 @@ module _ (b : Shelf) (list : List Accepted) (r : VoucherRedemption) (t : ℕ) (o
       Tells change found x (Some
       (record { content = content.Redeem r; answer = answer.Bucket number }))
       (Some (record { code = r.code; voucher = y.voucher })) →
-      (IsMadeFrom found.before (stored x) (old.rows found.number) → new ≡ changed change old) →
+      new ≡ changed change old →
       IsServed b list (command.Redeem r) t old new (answer.Bucket number)
   redeem-done number change some shelf stands tells grown =
       let done = subst (λ (q : Option ℕ). Makes q Money y.from y.until y.scope y.amount m h.ledger left x)

@@ -21,3 +21,4 @@ pub mod RedeemedCodes
 pub mod DeadRows
 pub mod Opening
 pub mod BalanceOrder
+pub mod PricedRows

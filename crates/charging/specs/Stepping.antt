@@ -2,9 +2,10 @@
 -- holds.
 -- Source: profile.
 use Rattle.std.specs.Prelude.{◌≡◌, ℕ, ◌≤◌, Bool, true, false, List, Option, Some, None, Result, Ok, Err}
-use Rattle.std.specs.Prelude.{◌&&◌, is_some, if◌then◌else◌, MatchResult, Vec}
+use Rattle.std.specs.Prelude.{◌&&◌, not, is_some, if◌then◌else◌, MatchResult, IfOk, Vec}
 use Rattle.std.specs.Global.{Global}
 use Rattle.commands.specs.declared.answer.Answer.{Answer}
+use Rattle.commands.specs.declared.answer.Answer.TheVariants as answer
 use Rattle.commands.specs.declared.answer.Refusal.{Refusal}
 use Rattle.commands.specs.declared.allowance.Allowance.{Allowance}
 use Rattle.commands.specs.declared.command.Command.{Command}
@@ -22,6 +23,7 @@ use Rattle.reserving.specs.Rows.{AccountRows, IsAccount}
 use Rattle.reserving.specs.Left.{LeftRows, IsWith}
 use Rattle.reserving.specs.Stored.{stored}
 use Rattle.decisions.specs.Asked.{begins_session}
+use Rattle.decisions.specs.Decided.{may_be_accepted}
 use Rattle.decisions.specs.Decisions.{is_read}
 use Rattle.keepers.specs.declared.fault.StoreFault.{StoreFault}
 use Rattle.keepers.specs.declared.key.KeptAnswer.{KeptAnswer}
@@ -30,7 +32,8 @@ use Rattle.keepers.specs.declared.loaded.Loaded.{Loaded}
 use Rattle.keepers.specs.declared.loaded.Redeemed.{Redeemed}
 use Rattle.keepers.specs.Keys.{key_of}
 use Rattle.keepers.specs.Tables.{Tables}
-use Rattle.keepers.specs.Change.{IsLoad, IsMadeFrom, changed}
+use Rattle.keepers.specs.Change.{IsLoad, changed}
+use Rattle.keepers.specs.Differing.{named_rows}
 use Rattle.charging.specs.Accepted.{Accepted, last_moment, IsInTime}
 use Rattle.charging.specs.Outcomes.{from_of, until_of, is_full, is_out_of_range}
 use Rattle.charging.specs.Outcomes.{begin_of, end_of, allowance_refusal}
@@ -48,6 +51,24 @@ abbrev pub Answers : Shelf → Command → ℕ → Tables → Tables → Answer 
 Answers b c t old new given = (list : List Accepted) → IsInTime list → AreTables b list old →
     last_moment list ≤ t → IsServed b list c t old new given
 
+-- ---- refusals
+
+-- the answer tells by itself that nothing was accepted: it is a refusal, what was read, or a failure
+-- of a request that isn't a denial
+abbrev pub is_unaccepted : Answer → Bool
+is_unaccepted (answer.Request r) = not (may_be_accepted r.outcome)
+is_unaccepted (answer.Refused refusal) = true
+is_unaccepted (answer.Balance balance) = true
+is_unaccepted answer.Done = false
+is_unaccepted (answer.Bucket number) = false
+is_unaccepted (answer.Swept count) = false
+
+-- such an answer leaves the tables as they were, of no list of commands too
+abbrev pub LeavesRefused : Tables → Tables → Result Answer StoreFault → Type 0
+LeavesRefused old new result = IfOk result (λ given. is_unaccepted given ≡ true → new ≡ old)
+
+-- ---- what a commit comes to
+
 -- tables are those of the list with the command where it is accepted
 abbrev pub WritesAt : Shelf → Command → ℕ → Tables → Tables → Type 0
 WritesAt b c t old new = (list : List Accepted) → IsInTime list → AreTables b list old →
@@ -59,17 +80,15 @@ abbrev pub change_of : Loaded → Vec ChargeRow Global → Option KeptAnswer →
 change_of loaded charges kept redeemed = record {
   moment = loaded.account.as_of;
   number = loaded.number;
-  after = stored loaded.account;
-  before = loaded.before;
+  rows = named_rows loaded.before (stored loaded.account);
   charges = charges;
   kept = kept;
   redeemed = redeemed;
 }
 
--- tables are those with the change, where it is made from what stands there
+-- tables are those with the change
 abbrev pub Commits : Change → Tables → Tables → Type 0
-Commits change old new = IsMadeFrom change.before change.after (old.rows change.number) →
-    new ≡ changed change old
+Commits change old new = new ≡ changed change old
 
 -- the command that bars an account, or ends that
 abbrev pub bar_command : List ℕ → Bool → Command

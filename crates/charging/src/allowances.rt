@@ -14,7 +14,7 @@ ghost use Rattle.keepers.specs.Change.{IsLoad};
 ghost use Rattle.keepers.specs.Keeping.{Reads};
 ghost use Rattle.charging.specs.Outcomes.{is_over, repeated};
 ghost use Rattle.charging.specs.Parts.{Leaves, PartKeeps};
-ghost use Rattle.charging.specs.Stepping.{ServesAt, WritesAt, Allows, Makes};
+ghost use Rattle.charging.specs.Stepping.{ServesAt, WritesAt, Allows, Makes, LeavesRefused};
 
 use crate::committing::{commit, moment_on};
 use commands::{Allowance, AllowanceBlocks, Answer, Content, Refusal, is_kept_allowance};
@@ -34,6 +34,8 @@ pub(crate) fn serve_allowance<K: Keeper>(
 ) -> Result<Answer, StoreFault>
     ensures served { K.clean keeper.new →
         ServesAt shelf.now (command.Allow allowance) moment (K.content keeper.old)
+        (K.content keeper.new) result }
+    ensures refused { K.clean keeper.new → LeavesRefused (K.content keeper.old)
         (K.content keeper.new) result }
     ensures kept { PartKeeps K.content K.failed K.honest K.clean keeper.old keeper.new result }
     ensures left { Leaves K.honest K.left keeper.old keeper.new
@@ -177,6 +179,8 @@ fn allow_account<K: Keeper>(
         (key_of (content.Allow allowance)) ≡ None →
         ServesAt b (command.Allow allowance) moment (K.content keeper.old)
         (K.content keeper.new) result }
+    ensures refused { K.clean keeper.new → LeavesRefused (K.content keeper.old)
+        (K.content keeper.new) result }
     ensures kept { PartKeeps K.content K.failed K.honest K.clean keeper.old keeper.new result }
     ensures left { Leaves K.honest K.left keeper.old keeper.new
         (λ t. (b : Shelf) →
@@ -190,7 +194,7 @@ fn allow_account<K: Keeper>(
         Ok(Ok(number)) => {
             let kept = kept_allowance(allowance, number);
             let given = Answer::Bucket(number);
-            commit(keeper, loaded, Vec::new(alloc), Some(kept), None, given)
+            commit(alloc, keeper, loaded, Vec::new(alloc), Some(kept), None, given)
         }
         Ok(Err(refusal)) => {
             keeper.abandon(loaded);

@@ -8,7 +8,7 @@ ghost use Rattle.keepers.specs.Tables.{Tables};
 ghost use Rattle.charging.specs.Balances.{AreByNumber, bucket_balance, unit_of};
 ghost use Rattle.charging.specs.States.{IsStateOf, TellsState, TellsStateAt};
 ghost use Rattle.charging.specs.Parts.{Leaves, PartKeeps};
-ghost use Rattle.charging.specs.Stepping.{ServesAt, WritesAt};
+ghost use Rattle.charging.specs.Stepping.{ServesAt, WritesAt, LeavesRefused};
 
 use crate::committing::moment_on;
 use buckets::{Bucket, BucketKind};
@@ -115,6 +115,8 @@ pub(crate) fn tell_balance<K: Keeper>(
 ) -> Result<Answer, StoreFault>
     ensures served { K.clean keeper.new →
         ServesAt shelf.now (command.Balance number) moment (K.content keeper.old)
+        (K.content keeper.new) result }
+    ensures refused { K.clean keeper.new → LeavesRefused (K.content keeper.old)
         (K.content keeper.new) result }
     ensures kept { PartKeeps K.content K.failed K.honest K.clean keeper.old keeper.new result }
     ensures left { Leaves K.honest K.left keeper.old keeper.new

@@ -8,6 +8,7 @@ ghost use Rattle.charging.specs.Stepping.{Commits, change_of};
 use commands::Answer;
 use keepers::{Keeper, KeptAnswer, Loaded, Redeemed, StoreFault};
 use reserving::{Account, ChargeRow};
+use std::alloc::Global;
 use units::Moment;
 
 /// The moment of a command on an account: it isn't before that of the account's last change.
@@ -22,6 +23,7 @@ pub(crate) fn moment_on(account: &Account, moment: Moment) -> Moment
 /// Commits an account as it stands, with the charges that a command made, what is kept of it and
 /// the voucher that it redeemed, and gives the command's answer.
 pub(crate) fn commit<K: Keeper>(
+    alloc: Global,
     keeper: &mut K,
     loaded: Loaded,
     charges: Vec<ChargeRow>,
@@ -37,12 +39,13 @@ pub(crate) fn commit<K: Keeper>(
     ensures left { Leaves K.honest K.left keeper.old keeper.new
         (Commits (change_of loaded.entry charges kept redeemed) (K.content keeper.old)) }
 {
-    commit_change(keeper, loaded, charges, kept, redeemed)?;
+    commit_change(alloc, keeper, loaded, charges, kept, redeemed)?;
     Ok(answer)
 }
 
-/// Commits an account as it stands.
+/// Commits an account as it stands: the rows alone that differ from those loaded.
 fn commit_change<K: Keeper>(
+    alloc: Global,
     keeper: &mut K,
     loaded: Loaded,
     charges: Vec<ChargeRow>,
@@ -58,5 +61,6 @@ fn commit_change<K: Keeper>(
         (Commits (change_of loaded.entry charges kept redeemed) (K.content keeper.old)) }
 {
     let moment = loaded.account.as_of();
-    keeper.commit(loaded.into_change(moment, charges, kept, redeemed))
+    let change = loaded.into_change(alloc, moment, charges, kept, redeemed)?;
+    keeper.commit(change)
 }

@@ -11,6 +11,7 @@ ghost use Rattle.charging.specs.Runs.{IsRunOfBoth};
 ghost use Rattle.charging.specs.DeadRows.{DeadRowsStay};
 ghost use Rattle.charging.specs.Opening.{SessionsOpenByGrants};
 ghost use Rattle.charging.specs.BalanceOrder.{BalancesAreByNumber};
+ghost use Rattle.charging.specs.PricedRows.{ReservationsArePriced, NoBookIsMissing};
 ghost use Rattle.charging.specs.RedeemedCodes.{IsLeftByThese, AreRedeemedOnce};
 ghost use Rattle.charging.specs.RedeemedCodes.{IsRedeemedAtMostOnce};
 ghost use Rattle.charging.specs.Served.{history, AreTables};
@@ -43,6 +44,14 @@ pub fn runs_chain()
 pub fn soundness()
     ensures { (b : Shelf) (a : List ℕ) (list : List Accepted) →
         IsSoundLedger (history b a list).ledger }
+{}
+
+/// Each reservation that accepted commands leave has its prices on the shelf by which they were
+/// answered: its book is there, and has its group and both its periods. So no account whose rows a
+/// keeper holds is refused for another book, as it is where a reservation has no prices.
+pub fn reservations_are_priced()
+    ensures rows { ReservationsArePriced }
+    ensures lists { NoBookIsMissing }
 {}
 
 /// Dead rows are dead for good: a bucket that has nothing available and nothing reserved, a session

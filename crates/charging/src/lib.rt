@@ -20,8 +20,8 @@ pub use crate::answers::Run;
 pub use crate::balances::{AccountState, account_state};
 pub use crate::laws::{
     allowances_before_money, balances_by_number, beginning, codes_redeemed_once, collection,
-    dead_rows_stay, isolation, payment, quota, repeats, runs_chain, sessions_open_by_grants,
-    soundness,
+    dead_rows_stay, isolation, payment, quota, repeats, reservations_are_priced, runs_chain,
+    sessions_open_by_grants, soundness,
 };
 pub use crate::running::{DatedCommand, run};
 pub use crate::stepping::step;

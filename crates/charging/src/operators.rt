@@ -14,7 +14,7 @@ ghost use Rattle.keepers.specs.Change.{IsLoad};
 ghost use Rattle.keepers.specs.Keeping.{Reads};
 ghost use Rattle.charging.specs.Outcomes.{is_unusable, repeated};
 ghost use Rattle.charging.specs.Parts.{Leaves, PartKeeps};
-ghost use Rattle.charging.specs.Stepping.{ServesAt, WritesAt, Credits, Makes, bar_command};
+ghost use Rattle.charging.specs.Stepping.{ServesAt, WritesAt, Credits, Makes, bar_command, LeavesRefused};
 
 use crate::committing::{commit, moment_on};
 use commands::{Answer, Content, Credit, KeptCredit, Refusal, is_kept_credit};
@@ -36,6 +36,8 @@ pub(crate) fn open_account<K: Keeper>(
     ensures served { K.clean keeper.new →
         ServesAt shelf.now (command.OpenAccount number) moment (K.content keeper.old)
         (K.content keeper.new) result }
+    ensures refused { K.clean keeper.new → LeavesRefused (K.content keeper.old)
+        (K.content keeper.new) result }
     ensures kept { PartKeeps K.content K.failed K.honest K.clean keeper.old keeper.new result }
     ensures left { Leaves K.honest K.left keeper.old keeper.new
         (WritesAt shelf.now (command.OpenAccount number) moment (K.content keeper.old)) }
@@ -51,7 +53,7 @@ pub(crate) fn open_account<K: Keeper>(
         account,
         before,
     };
-    commit(keeper, loaded, Vec::new(alloc), None, None, Answer::Done)
+    commit(alloc, keeper, loaded, Vec::new(alloc), None, None, Answer::Done)
 }
 
 /// Bars an account, or ends that.
@@ -66,6 +68,8 @@ pub(crate) fn set_barred<K: Keeper>(
     ensures served { K.clean keeper.new →
         ServesAt shelf.now (bar_command number barred) moment (K.content keeper.old)
         (K.content keeper.new) result }
+    ensures refused { K.clean keeper.new → LeavesRefused (K.content keeper.old)
+        (K.content keeper.new) result }
     ensures kept { PartKeeps K.content K.failed K.honest K.clean keeper.old keeper.new result }
     ensures left { Leaves K.honest K.left keeper.old keeper.new
         (WritesAt shelf.now (bar_command number barred) moment (K.content keeper.old)) }
@@ -75,7 +79,7 @@ pub(crate) fn set_barred<K: Keeper>(
     };
     let moment = moment_on(&loaded.account, moment);
     loaded.account.set_barred(barred, moment);
-    commit(keeper, loaded, Vec::new(alloc), None, None, Answer::Done)
+    commit(alloc, keeper, loaded, Vec::new(alloc), None, None, Answer::Done)
 }
 
 /// Brings each account to the moment.
@@ -86,6 +90,8 @@ pub(crate) fn sweep<K: Keeper>(
 ) -> Result<Answer, StoreFault>
     ensures served { K.clean keeper.new →
         ServesAt shelf.now command.Sweep moment (K.content keeper.old)
+        (K.content keeper.new) result }
+    ensures refused { K.clean keeper.new → LeavesRefused (K.content keeper.old)
         (K.content keeper.new) result }
     ensures kept { PartKeeps K.content K.failed K.honest K.clean keeper.old keeper.new result }
     ensures left { Leaves K.honest K.left keeper.old keeper.new
@@ -105,6 +111,8 @@ pub(crate) fn serve_credit<K: Keeper>(
 ) -> Result<Answer, StoreFault>
     ensures served { K.clean keeper.new →
         ServesAt shelf.now (command.Credit credit) moment (K.content keeper.old)
+        (K.content keeper.new) result }
+    ensures refused { K.clean keeper.new → LeavesRefused (K.content keeper.old)
         (K.content keeper.new) result }
     ensures kept { PartKeeps K.content K.failed K.honest K.clean keeper.old keeper.new result }
     ensures left { Leaves K.honest K.left keeper.old keeper.new
@@ -223,6 +231,8 @@ fn credit_account<K: Keeper>(
         (key_of (content.Credit credit)) ≡ None →
         ServesAt b (command.Credit credit) moment (K.content keeper.old)
         (K.content keeper.new) result }
+    ensures refused { K.clean keeper.new → LeavesRefused (K.content keeper.old)
+        (K.content keeper.new) result }
     ensures kept { PartKeeps K.content K.failed K.honest K.clean keeper.old keeper.new result }
     ensures left { Leaves K.honest K.left keeper.old keeper.new
         (λ t. (b : Shelf) →
@@ -236,7 +246,7 @@ fn credit_account<K: Keeper>(
         Ok(Some(number)) => {
             let kept = kept_credit(credit, number);
             let given = Answer::Bucket(number);
-            commit(keeper, loaded, Vec::new(alloc), Some(kept), None, given)
+            commit(alloc, keeper, loaded, Vec::new(alloc), Some(kept), None, given)
         }
         Ok(None) => {
             keeper.abandon(loaded);

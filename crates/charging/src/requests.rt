@@ -11,7 +11,7 @@ ghost use Rattle.keepers.specs.Change.{IsLoad};
 ghost use Rattle.keepers.specs.Tables.{Tables};
 ghost use Rattle.charging.specs.Outcomes.{failed, repeated};
 ghost use Rattle.charging.specs.Parts.{Leaves, PartKeeps, PartReads};
-ghost use Rattle.charging.specs.Stepping.{Answers, Commits, ServesAt, WritesAt, change_of};
+ghost use Rattle.charging.specs.Stepping.{Answers, Commits, ServesAt, WritesAt, change_of, LeavesRefused};
 ghost use Rattle.charging.specs.Stepping.{is_known, kept_of_request};
 
 use crate::committing::{commit, moment_on};
@@ -33,6 +33,8 @@ pub(crate) fn serve_request<K: Keeper>(
 ) -> Result<Answer, StoreFault>
     ensures served { K.clean keeper.new →
         ServesAt shelf.now (Ccr request) moment (K.content keeper.old)
+        (K.content keeper.new) result }
+    ensures refused { K.clean keeper.new → LeavesRefused (K.content keeper.old)
         (K.content keeper.new) result }
     ensures kept { PartKeeps K.content K.failed K.honest K.clean keeper.old keeper.new result }
     ensures left { Leaves K.honest K.left keeper.old keeper.new
@@ -146,6 +148,8 @@ fn decide_on<K: Keeper>(
         kept_of_request request (K.content keeper.old) ≡ None →
         is_known request (K.content keeper.old) ≡ false →
         ServesAt b (Ccr request) moment (K.content keeper.old) (K.content keeper.new) result }
+    ensures refused { K.clean keeper.new → LeavesRefused (K.content keeper.old)
+        (K.content keeper.new) result }
     ensures kept { PartKeeps K.content K.failed K.honest K.clean keeper.old keeper.new result }
     ensures left { Leaves K.honest K.left keeper.old keeper.new
         (λ t. (b : Shelf) →
@@ -157,7 +161,7 @@ fn decide_on<K: Keeper>(
 {
     let moment = moment_on(&loaded.account, moment);
     match decide(alloc, &mut loaded.account, &request, false, moment) {
-        Ok(decided) if decided.accepted => keep(keeper, loaded, decided, request),
+        Ok(decided) if decided.accepted => keep(alloc, keeper, loaded, decided, request),
         Ok(decided) => {
             keeper.abandon(loaded);
             Ok(Answer::Request(decided.answer))
@@ -171,6 +175,7 @@ fn decide_on<K: Keeper>(
 
 /// Commits an accepted request with its answer.
 fn keep<K: Keeper>(
+    alloc: Global,
     keeper: &mut K,
     loaded: Loaded,
     decided: Decided,
@@ -198,5 +203,5 @@ fn keep<K: Keeper>(
         content: Content::Request(request),
         answer,
     };
-    commit(keeper, loaded, decided.charges, Some(kept), None, copy)
+    commit(alloc, keeper, loaded, decided.charges, Some(kept), None, copy)
 }

@@ -3,7 +3,7 @@ ghost use Rattle.std.specs.Prelude.{◌≡◌, IfOk, OnErr, OnOk, max};
 ghost use Rattle.charging.specs.Parts.{Leaves, PartKeeps};
 ghost use Rattle.charging.specs.Repeats.{IsAnsweredAgain};
 ghost use Rattle.charging.specs.Served.{Serves, Writes};
-ghost use Rattle.charging.specs.Stepping.{ServesAt, WritesAt};
+ghost use Rattle.charging.specs.Stepping.{ServesAt, WritesAt, LeavesRefused};
 
 use crate::allowances::serve_allowance;
 use crate::balances::tell_balance;
@@ -18,7 +18,7 @@ use units::Moment;
 
 /// Answers a command, and commits it where it is accepted, at the later of this moment and that of
 /// the last accepted command. A repeat gets its first answer and changes nothing; neither does a
-/// read or a refused command.
+/// read or a refused command, whatever the keeper holds.
 ///
 /// # Errors
 /// Store fault 1 where a growth was refused, 2 where the store failed. Then nothing has changed.
@@ -31,6 +31,8 @@ pub fn step<K: Keeper>(
 ) -> Result<Answer, StoreFault>
     ensures served { K.clean keeper.new →
         Serves shelf.now command moment (K.content keeper.old) (K.content keeper.new) result }
+    ensures refused { K.clean keeper.new → LeavesRefused (K.content keeper.old)
+        (K.content keeper.new) result }
     ensures err { K.clean keeper.new → OnErr result (K.content keeper.new ≡ K.content keeper.old) }
     ensures cleanness { K.clean keeper.new → K.clean keeper.old }
     ensures honesty { K.honest keeper.new → K.honest keeper.old }
@@ -55,6 +57,8 @@ fn serve<K: Keeper>(
 ) -> Result<Answer, StoreFault>
     ensures served { K.clean keeper.new →
         Serves shelf.now command moment (K.content keeper.old) (K.content keeper.new) result }
+    ensures refused { K.clean keeper.new → LeavesRefused (K.content keeper.old)
+        (K.content keeper.new) result }
     ensures kept { PartKeeps K.content K.failed K.honest K.clean keeper.old keeper.new result }
     ensures stands { K.honest keeper.new → OnOk result (K.clean keeper.new) }
     ensures left { Leaves K.honest K.left keeper.old keeper.new (λ t. K.clean keeper.old
@@ -82,6 +86,8 @@ fn serve_at<K: Keeper>(
 ) -> Result<Answer, StoreFault>
     ensures served { K.clean keeper.new →
         ServesAt shelf.now command moment (K.content keeper.old) (K.content keeper.new) result }
+    ensures refused { K.clean keeper.new → LeavesRefused (K.content keeper.old)
+        (K.content keeper.new) result }
     ensures kept { PartKeeps K.content K.failed K.honest K.clean keeper.old keeper.new result }
     ensures left { Leaves K.honest K.left keeper.old keeper.new
         (WritesAt shelf.now command moment (K.content keeper.old)) }

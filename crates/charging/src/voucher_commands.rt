@@ -11,7 +11,7 @@ ghost use Rattle.keepers.specs.Keeping.{Reads};
 ghost use Rattle.redemptions.specs.Redeeming.{redemption};
 ghost use Rattle.charging.specs.Outcomes.{book_days, refused_as, repeated};
 ghost use Rattle.charging.specs.Parts.{Leaves, PartKeeps};
-ghost use Rattle.charging.specs.Stepping.{ServesAt, WritesAt};
+ghost use Rattle.charging.specs.Stepping.{ServesAt, WritesAt, LeavesRefused};
 
 use crate::committing::{commit, moment_on};
 use crate::operators::make_bucket;
@@ -48,6 +48,8 @@ pub(crate) fn add_voucher<K: Keeper>(
     ensures served { K.clean keeper.new → (b : Shelf) →
         ServesAt b (command.AddVoucher addition) moment (K.content keeper.old)
         (K.content keeper.new) result }
+    ensures refused { K.clean keeper.new → LeavesRefused (K.content keeper.old)
+        (K.content keeper.new) result }
     ensures kept { PartKeeps K.content K.failed K.honest K.clean keeper.old keeper.new result }
     ensures left { Leaves K.honest K.left keeper.old keeper.new
         (λ t. (b : Shelf) →
@@ -74,6 +76,8 @@ pub(crate) fn serve_redemption<K: Keeper>(
 ) -> Result<Answer, StoreFault>
     ensures served { K.clean keeper.new →
         ServesAt shelf.now (command.Redeem asked) moment (K.content keeper.old)
+        (K.content keeper.new) result }
+    ensures refused { K.clean keeper.new → LeavesRefused (K.content keeper.old)
         (K.content keeper.new) result }
     ensures kept { PartKeeps K.content K.failed K.honest K.clean keeper.old keeper.new result }
     ensures left { Leaves K.honest K.left keeper.old keeper.new
@@ -178,6 +182,8 @@ fn credit_redeemed<K: Keeper>(
         moment ≡ Ok redeemed →
         ServesAt b (command.Redeem asked) moment (K.content keeper.old)
         (K.content keeper.new) result }
+    ensures refused { K.clean keeper.new → LeavesRefused (K.content keeper.old)
+        (K.content keeper.new) result }
     ensures kept { PartKeeps K.content K.failed K.honest K.clean keeper.old keeper.new result }
     ensures left { Leaves K.honest K.left keeper.old keeper.new
         (λ t. (b : Shelf) →
@@ -202,6 +208,7 @@ fn credit_redeemed<K: Keeper>(
             let spent = Redeemed { code, voucher };
             let given = Answer::Bucket(number);
             commit(
+                alloc,
                 keeper,
                 loaded,
                 Vec::new(alloc),

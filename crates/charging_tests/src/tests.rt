@@ -1,5 +1,6 @@
 mod allowances;
 mod balances;
+mod counting;
 mod deciding;
 mod denials;
 mod ends;

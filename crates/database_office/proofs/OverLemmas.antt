@@ -8,17 +8,21 @@ use Rattle.sqlite_disk.specs.declared.Disk as disk
 use Rattle.sqlite_wal.specs.Recovery.{Image}
 use Rattle.sqlite_store.specs.declared.store.FileStore.{FileStore}
 use Rattle.sqlite_trees.specs.Tree.{Trees}
-use Rattle.sqlite.specs.Effect.{Database}
+use Rattle.sqlite.specs.Effect.{Database, IsDatabase}
 use Rattle.sqlite.specs.Files.{HoldsDatabase, IsOpened as IsNewlyOpened, file_state, over_files}
 use Rattle.sqlite.specs.Held.{Held}
 use Rattle.sqlite.specs.Start.{FindsIn}
 use Rattle.sqlite.specs.State.{HasCleanDisk}
+use Rattle.sqlite_schema.specs.declared.schema.Schema.{Schema}
 use Rattle.shelves.specs.Shelves.{Shelf}
 use Rattle.keepers.specs.Tables.{Tables}
+use Rattle.sql_tables.specs.Texts.{stage}
 use Rattle.sql_rows.specs.Content.{content_of}
 use Rattle.sql_keeper.specs.Content.{shelf_names, tables_of, Names}
 use Rattle.sql_keeper.specs.Inside.{IsClean, KeeperState, tables_in}
-use Rattle.sql_keeper.specs.Opened.{IsKept, IsLeft, IsOpened}
+use Rattle.sql_keeper.specs.Creates.{IsNewBook}
+use Rattle.sql_keeper.specs.Migrates.{BecomesLatest, IsMigrated}
+use Rattle.sql_keeper.specs.Opened.{IsCreated, IsKept, IsLeft, IsOpened}
 use Rattle.sql_keeper.specs.Shelves.{IsShelfOf}
 use Rattle.sql_keeper.specs.Stops.{trees_in}
 use Rattle.sql_keeper.proofs.OneShelf.{one_shelf}
@@ -29,8 +33,8 @@ use Rattle.office.specs.declared.status.Status.{Status}
 use Rattle.operator.specs.declared.parsed.ImportWords.{ImportWords}
 use Rattle.operator.specs.declared.parsed.StatementWords.{StatementWords}
 use Rattle.database_office.specs.Importing.{IsFileImported}
-use Rattle.database_office.specs.Over.{Comes, IsImportDone, IsMomentOf, IsMonthDone, IsOpenedIn}
-use Rattle.database_office.specs.Over.{query_of}
+use Rattle.database_office.specs.Over.{Comes, IsImportDone, IsMadeIn, IsMigratedIn, IsMomentOf}
+use Rattle.database_office.specs.Over.{IsMonthDone, IsOpenedIn, query_of}
 use Rattle.database_office.specs.Stating.{IsOfOffice, of_office}
 use Rattle.database_office.specs.declared.fault.DatabaseFault.{DatabaseFault}
 use Rattle.database_office.specs.declared.fault.DatabaseFault.TheVariants.{Office}
@@ -51,6 +55,56 @@ opened_in image c k shelf new found opened = record {
       ap (λ (d : Database). d.trees) ((opened.still clean).now_is ∙ (new early).0.clean)
       ∙ (found early).holds db held;
 }
+
+-- what was committed last of what is opened is what the files held
+held_by : {D : Type 0} {g : disk.Ghosts D} (image : Image) (c : Held (FileStore D g)) →
+    IsNewlyOpened c → FindsIn image (file_state c) → (db : Trees) → HoldsDatabase image db →
+    (file_state c).now.trees ≡ db
+held_by image c new found db held =
+    ap (λ (d : Database). d.trees) new.0.clean ∙ found.holds db held
+
+-- a database that was made over the files
+pub made_in : {D : Type 0} {g : disk.Ghosts D} (image : Image) (text bytes : List ℕ)
+    (c : Held (FileStore D g)) (k : KeeperState (FileStore D g)) (shelf : Shelf) → text ≡ bytes →
+    (HasCleanDisk (file_state c) → IsNewlyOpened c) →
+    (HasCleanDisk (file_state c) → FindsIn image (file_state c)) →
+    IsCreated over_files text c k shelf → HasCleanDisk (file_state k.connection) →
+    IsMadeIn image bytes k
+made_in image text bytes c k shelf same new found created clean =
+    let early : HasCleanDisk (file_state c) = omega (arith, clean, created.survives.clean) in
+    subst (λ (x : List ℕ). IsMadeIn image x k) same (record {
+      blank = λ db held.
+          let opened = new early in
+          subst (λ (t : Trees). IsDatabase (record { schema = stage 0; trees = t }))
+          (held_by image c opened (found early) db held)
+          (subst (λ (s : Schema). IsDatabase (record {
+            schema = s;
+            trees = (file_state c).now.trees;
+          })) created.blank (opened.1 opened.0.is_open).0);
+      of_text = created.of_text;
+      made = created.made clean;
+    })
+
+-- and one that was migrated over them
+pub migrated_in : {D : Type 0} {g : disk.Ghosts D} (image : Image) (c : Held (FileStore D g))
+    (k : KeeperState (FileStore D g)) (shelf : Shelf) →
+    (HasCleanDisk (file_state c) → IsNewlyOpened c) →
+    (HasCleanDisk (file_state c) → FindsIn image (file_state c)) →
+    IsMigrated over_files c k shelf → HasCleanDisk (file_state k.connection) →
+    IsMigratedIn image k shelf
+migrated_in image c k shelf new found migrated clean =
+    let early : HasCleanDisk (file_state c) = omega (arith, clean, migrated.survives.clean) in
+    record {
+      left = migrated.left clean;
+      books = migrated.books clean;
+      version = migrated.version;
+      known = migrated.known;
+      becomes = λ older db held.
+          subst (λ (t : Trees). BecomesLatest migrated.version t (trees_in over_files k))
+          (held_by image c (new early) (found early) db held) (migrated.becomes clean older);
+      still = λ same db held. ap (λ (d : Database). d.trees) (migrated.still clean same).now_is
+          ∙ held_by image c (new early) (found early) db held;
+    }
 
 -- it has the shelf of that database, and its tables
 pub same_office : {D : Type 0} {g : disk.Ghosts D} (image : Image)

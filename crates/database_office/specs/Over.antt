@@ -6,14 +6,20 @@ use Rattle.sqlite_disk.specs.declared.Disk as disk
 use Rattle.sqlite_wal.specs.Recovery.{Image}
 use Rattle.sqlite_store.specs.declared.store.FileStore.{FileStore}
 use Rattle.sqlite_trees.specs.Tree.{Trees}
+use Rattle.sqlite.specs.Effect.{IsDatabase}
 use Rattle.sqlite.specs.Files.{HoldsDatabase, file_state, over_files}
 use Rattle.sqlite.specs.State.{HasCleanDisk}
 use Rattle.commands.specs.declared.answer.Answer.{Answer}
 use Rattle.shelves.specs.Shelves.{Shelf}
 use Rattle.keepers.specs.Tables.{Tables}
+use Rattle.sql_tables.specs.Schema.{latest}
+use Rattle.sql_tables.specs.Texts.{stage}
+use Rattle.sql_opening.specs.Opens.{IsVersion}
 use Rattle.sql_rows.specs.Content.{content_of}
 use Rattle.sql_keeper.specs.Content.{shelf_names, tables_of}
+use Rattle.sql_keeper.specs.Creates.{IsNewBook}
 use Rattle.sql_keeper.specs.Inside.{KeeperState, IsClean, tables_in}
+use Rattle.sql_keeper.specs.Migrates.{BecomesLatest}
 use Rattle.sql_keeper.specs.Opened.{IsFresh, IsLeft}
 use Rattle.sql_keeper.specs.Shelves.{IsShelfOf}
 use Rattle.sql_keeper.specs.Stops.{trees_in}
@@ -41,6 +47,30 @@ pub record IsOpenedIn {D : Type 0} {g : disk.Ghosts D} (image : Image)
     pub books : HasCleanDisk (file_state k.connection) →
         IsShelfOf k.text (content_of (trees_in over_files k)).books shelf
     pub holds : HasCleanDisk (file_state k.connection) → (db : Trees) → HoldsDatabase image db →
+        trees_in over_files k ≡ db
+
+-- a keeper has the tables of the book of a text, with no row but what is kept once: what database
+-- the files held, if any, had no table
+pub record IsMadeIn {D : Type 0} {g : disk.Ghosts D} (image : Image) (text : List ℕ)
+    (k : KeeperState (FileStore D g)) : Type 0
+  where
+    pub blank : (db : Trees) → HoldsDatabase image db →
+        IsDatabase (record { schema = stage 0; trees = db })
+    pub of_text : k.text ≡ text
+    pub made : IsNewBook text (trees_in over_files k)
+
+-- a keeper has the tables of the latest version, and what the files held of a database of the same
+-- or of an older one
+pub record IsMigratedIn {D : Type 0} {g : disk.Ghosts D} (image : Image)
+    (k : KeeperState (FileStore D g)) (shelf : Shelf) : Type 0
+  where
+    pub left : IsLeft k.text (trees_in over_files k)
+    pub books : IsShelfOf k.text (content_of (trees_in over_files k)).books shelf
+    pub version : ℕ
+    pub known : IsVersion version
+    pub becomes : version < latest → (db : Trees) → HoldsDatabase image db →
+        BecomesLatest version db (trees_in over_files k)
+    pub still : version ≡ latest → (db : Trees) → HoldsDatabase image db →
         trees_in over_files k ≡ db
 
 -- where the files held a database that was left with a text, this is so of the shelf of its books,

@@ -3,16 +3,20 @@
 ghost use Rattle.std.specs.Prelude.{◌≡◌, IfErr, IfOk, OnOk};
 ghost use Rattle.sql_keeper.specs.Books.{IsBookText};
 ghost use Rattle.sql_keeper.specs.Opened.{IsCreated, IsFresh, IsNotCreated};
+ghost use Rattle.sqlite.specs.Files.{file_state};
+ghost use Rattle.sqlite.specs.State.{HasCleanDisk};
+ghost use Rattle.sqlite_wal.specs.Files.{image_at};
 ghost use Rattle.database_office.specs.Making.{IsInitFault, IsNotMade, IsTextFault};
+ghost use Rattle.database_office.specs.Over.{IsMadeIn};
 
 use crate::fault::{DatabaseFault, making_fault};
 use crate::files::{connect, read_file};
 use crate::opening::Office;
 use database_files::DatabaseFiles;
-use operator::InitWords;
+use operator::{FilePath, InitWords};
 use sql_keeper::SqlKeeper;
 use sqlite::{Alter, Connection};
-use sqlite_disk::Wary;
+use sqlite_disk::{Start, Wary};
 use std::alloc::Global;
 use tariffs::{BookFault, TariffBook};
 
@@ -30,8 +34,28 @@ pub fn make_database(
     ensures fault { IfErr result IsInitFault }
 {
     let bytes = read_file(rt, words.book.as_str())?;
-    let text = book_text(rt.alloc(), &bytes)?;
-    let connection = connect(rt, words.database.as_str(), Wary)?;
+    make_over(rt, &words.database, &bytes, Wary)
+}
+
+/// Makes the database of a tariff book at a path as `make_database` does of a file's bytes, whatever
+/// the database's files held (`start`).
+///
+/// # Errors
+/// In this order: as `book_text`; `File` or `Memory` where the database can't be opened as one; then
+/// as `make_tables`.
+pub fn make_over<S: Start>(
+    rt: &HostRuntime,
+    path: &FilePath,
+    bytes: &[u8],
+    start: S,
+) -> Result<Office<DatabaseFiles<S>>, DatabaseFault>
+    ensures fresh { IfOk result (λ office. IsFresh office.keeper office.shelf) }
+    ensures made { IfOk result (λ office. HasCleanDisk (file_state office.keeper.connection) →
+        IsMadeIn (image_at S.Start) bytes.now office.keeper) }
+    ensures fault { IfErr result IsInitFault }
+{
+    let text = book_text(rt.alloc(), bytes)?;
+    let connection = connect(rt, path.as_str(), start)?;
     match make_tables(rt.alloc(), connection, text) {
         Ok(office) => Ok(office),
         Err((fault, _left)) => Err(fault),

@@ -3,7 +3,11 @@
 ghost use Rattle.std.specs.Prelude.{IfErr, IfOk};
 ghost use Rattle.sql_keeper.specs.Migrates.{IsMigrated, IsNotMigrated};
 ghost use Rattle.sql_keeper.specs.Opened.{IsFresh};
+ghost use Rattle.sqlite.specs.Files.{file_state};
+ghost use Rattle.sqlite.specs.State.{HasCleanDisk};
+ghost use Rattle.sqlite_wal.specs.Files.{image_at};
 ghost use Rattle.database_office.specs.Opening.{IsNotFound, IsUnopened};
+ghost use Rattle.database_office.specs.Over.{IsMigratedIn};
 
 use crate::fault::DatabaseFault;
 use crate::files::connect_there;
@@ -12,7 +16,7 @@ use database_files::DatabaseFiles;
 use operator::MigrateWords;
 use sql_keeper::SqlKeeper;
 use sqlite::{Alter, Connection};
-use sqlite_disk::Wary;
+use sqlite_disk::{Start, Wary};
 use std::alloc::Global;
 
 /// Brings the database of the words to the latest version, and answers its office. One of that
@@ -28,7 +32,25 @@ pub fn migrate_database(
     ensures fresh { IfOk result (λ office. IsFresh office.keeper office.shelf) }
     ensures told { IfErr result IsUnopened }
 {
-    let connection = connect_there(rt, words.database.as_str(), Wary)?;
+    migrate_over(rt, words, Wary)
+}
+
+/// Brings the database of the words to the latest version as `migrate_database`, whatever its files
+/// held (`start`).
+///
+/// # Errors
+/// As `migrate_database`.
+pub fn migrate_over<S: Start>(
+    rt: &HostRuntime,
+    words: &MigrateWords,
+    start: S,
+) -> Result<Office<DatabaseFiles<S>>, DatabaseFault>
+    ensures fresh { IfOk result (λ office. IsFresh office.keeper office.shelf) }
+    ensures migrated { IfOk result (λ office. HasCleanDisk (file_state office.keeper.connection) →
+        IsMigratedIn (image_at S.Start) office.keeper office.shelf) }
+    ensures told { IfErr result IsUnopened }
+{
+    let connection = connect_there(rt, words.database.as_str(), start)?;
     match migrate_tables(rt.alloc(), connection) {
         Ok(office) => Ok(office),
         Err((fault, _left)) => Err(fault),

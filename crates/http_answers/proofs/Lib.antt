@@ -4,3 +4,4 @@ pub mod Begun
 pub mod Phrases
 pub mod Written
 pub mod NotRequest
+pub mod Paths

@@ -1,4 +1,5 @@
 pub mod Refusals
 pub mod Routes
+pub mod Paths
 pub mod Asking
 pub mod Texts

@@ -1,5 +1,6 @@
 pub mod Unaccepted
 pub mod RequestReplies
+pub mod ShownReplies
 pub mod StatementReplies
 pub mod Continuing
 pub mod Taking

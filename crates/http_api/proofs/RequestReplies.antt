@@ -211,7 +211,8 @@ module _ {C : Type 0} (gives : C → Option ℕ → C → Type 0) (b : Shelf) (c
       Replies gives b (reads (Ok c)) closes c0 c1 Writes old new
   failed_reply c t c0 c1 old new fault given serves w =
       unserved_reply (reads (Ok c)) (Some t ∷ []) c0 c1 old new
-      (λ list. once_unserved b list c (Some t)) (c1, given, refl) (λ list time are. subst (AreTables b list) (sym (serves list time are)) are) w
+      (λ list. once_unserved b list c (Some t)) (c1, given, refl)
+      (λ list time are. subst (AreTables b list) (sym (serves list time are)) are) w
 
   -- a command that is served, and its answer told
   served_reply : (c : Command) (t : ℕ) (c0 c1 : C) (old new : Tables) (answer : Answer) →
@@ -242,7 +243,8 @@ module _ {C : Type 0} (gives : C → Option ℕ → C → Type 0) (b : Shelf) (c
       Replies gives b (reads (Ok c)) closes c0 c1 Writes old new
   untold_reply c t c0 c1 old new answer given serves is w =
       unserved_reply (reads (Ok c)) (Some t ∷ []) c0 c1 old new
-      (λ list. once_unserved b list c (Some t)) (c1, given, refl) (λ list time are. subst (AreTables b list) (sym (unaccepted_same b list c
+      (λ list. once_unserved b list c (Some t)) (c1, given, refl)
+      (λ list time are. subst (AreTables b list) (sym (unaccepted_same b list c
       (moment_of list t) old new answer (serves list time are) is)) are) w
 
   -- a command that is served

@@ -77,7 +77,8 @@ module _ {C : Type 0} (gives : C → Option ℕ → C → Type 0) (b : Shelf) (c
       Replies gives b (states q) closes c0 c1 Writes old new
   unstated_reply m c0 c1 old new given same w =
       unserved_reply gives b closes Writes (states q) (m ∷ []) c0 c1 old new
-      (λ list. inr (once m q, refl)) (c1, given, refl) (λ list time are. subst (AreTables b list) (sym same) are) w
+      (λ list. inr (once m q, refl)) (c1, given, refl)
+      (λ list time are. subst (AreTables b list) (sym same) are) w
 
   -- the text of an account that isn't there
   unknown_text : (t : ℕ) (list : List Accepted) (h : History) → h.opened ≡ false →

@@ -195,6 +195,13 @@ module _ {C : Type 0} (gives : C → Option ℕ → C → Type 0) (b : Shelf) wh
     written : Appends w0 w1 text
     at : ForEachList b old (IsAt b stream count left rest moments text new)
 
+  -- the same, of the tables at the last moment at which a store could be asked
+  pub record IsHeldSoFar (count left : ℕ) (r0 r1 : Option (List ℕ)) (c0 c1 : C)
+      (w0 w1 : Option (List ℕ)) (old : Tables) (Now : Tables → Type 0) : Type 0 where
+    pub held : Tables
+    pub now : Now held
+    pub so_far : IfSome r0 (λ stream. IsSoFar stream count left r1 c0 c1 w0 w1 old held)
+
   pub so_far-none : (r : Option (List ℕ)) (c : C) (w : Option (List ℕ)) (tables : Tables) →
       IfSome r (λ stream. IsSoFar stream 0 1000 r c c w w tables tables)
   so_far-none None c w tables = tt
@@ -500,7 +507,8 @@ module _ {C : Type 0} (gives : C → Option ℕ → C → Type 0) (b : Shelf) wh
             let at : IsAt b stream count left so.rest so.moments so.text mid list =
             so.at list time are in
             record { taken = at.taken; left_is = at.rest_is };
-        next = inr (owes_next here.next so.rest heard r2 c1 c2 mid new here.is_next here.hears owes);
+        next = inr (owes_next here.next so.rest heard r2 c1 c2 mid new here.is_next here.hears
+            owes);
       }
 
   -- nothing is read, since memory is refused
@@ -517,6 +525,12 @@ module _ {C : Type 0} (gives : C → Option ℕ → C → Type 0) (b : Shelf) wh
     read = λ is_clean e. absurd (cc);
     write = λ is_clean e. absurd (cc);
     bounded = tt;
+    shown = λ is_honest. record {
+      held = content k;
+      served = tt;
+      begun = so_far-begun 0 1000 r r c c w w (content k) (content k) (omega arith)
+          (so_far-none r c w (content k));
+    };
     continued = λ is_clean. continued_none b (content k);
     cleanness = λ is_clean. is_clean;
     honesty = λ is_honest. is_honest;

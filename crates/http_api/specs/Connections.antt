@@ -196,6 +196,17 @@ pub record IsCutOff {C : Type 0} (gives : C → Option ℕ → C → Type 0) (b 
   pub written : Appends empty full (text ++ take begun more)
   pub taken : ForEachList b old (IsTakenWith b stream count moments text more new)
 
+-- the same of an honest keeper that may not be asked any more: of the tables at the last moment at
+-- which it could be asked
+pub record IsShown {C : Type 0} (gives : C → Option ℕ → C → Type 0) (b : Shelf)
+    (bytes : Option (List ℕ)) (before after : C) (empty full : Option (List ℕ)) (old : Tables)
+    (result : Result Served ServeFault) : Type 0 where
+  pub held : Tables
+  pub served : IfOk result (λ done. IfSome bytes (λ stream.
+      IsServed gives b stream done.requests before after empty full old held))
+  pub begun : OnErr result (IfSome bytes (λ stream.
+      IsBegun gives b stream before after empty full old held))
+
 -- what comes of a connection over a keeper that stays clean, where the reader tells its bytes: it
 -- is served to its end, or a beginning of it is, and each fault says which; at most 1,000 requests
 -- are answered, and the accepted commands go on, also those that are found after a stop
@@ -213,6 +224,7 @@ pub record ServesConnection {C K : Type 0} (gives : C → Option ℕ → C → T
       IsUnread gives b stream before after empty full (content old) (content new))
   pub write : clean new → IsErrOf result Write → IfSome bytes (λ stream.
       IsCutOff gives b stream before after empty full (content old) (content new))
+  pub shown : honest new → IsShown gives b bytes before after empty full (content old) result
   pub bounded : IfOk result (λ done. done.requests ≤ 1000)
   pub continued : clean new → Continues b (content old) (content new)
   pub cleanness : clean new → clean old

@@ -1,7 +1,8 @@
 -- What a request is answered after a list of accepted commands, and the list after it.
 -- Source: profile; the statuses: RFC 9110 section 15.
 use Rattle.std.specs.Prelude.{◌≡◌, ◌≤◌, ℕ, Bool, true, false, if◌then◌else◌, List, [], ◌∷◌, length}
-use Rattle.std.specs.Prelude.{Option, Some, None, Result, Ok, Err, IsErrOf, ◌⊎◌}
+use Rattle.std.specs.Prelude.{Option, Some, None, Result, Ok, Err, IsErrOf, OnOk, OnErr, ◌⊎◌}
+use Rattle.std.specs.Io.KnownBytes.{Appends}
 use Rattle.byte_streams.specs.declared.StreamFault.{StreamFault}
 use Rattle.byte_streams.specs.declared.StreamFault.TheVariants.{Memory, Read}
 use Rattle.commands.specs.declared.answer.Answer.TheVariants.{Refused}
@@ -24,7 +25,7 @@ use Rattle.http_answers.specs.Asking.{Asking, refuses, reads, states}
 use Rattle.http_answers.specs.declared.asking.StatementAsked.{StatementAsked}
 use Rattle.http_answers.specs.declared.text.Media.{Media}
 use Rattle.http_answers.specs.declared.text.Media.TheVariants.{Json, Text}
-use Rattle.http_answers.specs.Texts.{response_of, no_members, unable}
+use Rattle.http_answers.specs.Texts.{response_of, no_members, unable, Begins}
 use Rattle.http_api.specs.Clocks.{GivesInTurn}
 
 -- an answer's status and body, what the body is, and the accepted commands after it
@@ -129,6 +130,24 @@ pub record Replies {C : Type 0} (gives : C → Option ℕ → C → Type 0) (b :
   pub text : List ℕ
   pub written : Writes text
   pub replied : ForEachList b old (IsReplied b asking closes moments text new)
+
+-- what is told of tables and of those after them, over a store that may not be asked any more: of
+-- the tables at the last moment at which it could be asked
+pub record ShowsReply {A : Type 0} (Told : (List ℕ → Type 0) → Tables → Tables → Type 0)
+    (empty full : Option (List ℕ)) (held : Tables) (Now : Tables → Type 0)
+    (result : Result A StreamFault) : Type 0 where
+  pub next : Tables
+  pub now : Now next
+  pub ok : OnOk result (Told (Appends empty full) held next)
+  pub err : OnErr result (Told (Begins empty full) held next)
+
+-- so it is over an honest keeper, from any tables on that are the keeper's where it is clean
+abbrev pub Shows : {A K : Type 0} → ((List ℕ → Type 0) → Tables → Tables → Type 0) →
+    Option (List ℕ) → Option (List ℕ) → (K → Tables) → (K → Type 0) → (K → Type 0) → K → K →
+    Result A StreamFault → Type 0
+Shows Told empty full content honest clean old new result =
+    honest new → (held : Tables) → (clean old → held ≡ content old) →
+    ShowsReply Told empty full held (λ t. clean new → t ≡ content new) result
 
 -- what answering a request leaves, whatever it asks: nothing is written where memory is refused, no
 -- reader fails, and the accepted commands go on

@@ -23,8 +23,8 @@ abbrev pub TellsAnswer : Bool → Answer → Bool → (List ℕ → Type 0) → 
 TellsAnswer read answer closes Writes = Writes (response ok closes (answer_text answer))
     ⊎ ((is_unaccepted read answer ≡ true) × Writes (response service_unavailable closes unable))
 
--- the text of an answer is owed: a command was served at the clock's moment, an accepted one may get
--- its answer, and the tables are those after it
+-- the text of an answer is owed: a command was served at the clock's moment, an accepted one may
+-- get its answer, and the tables are those after it
 pub record Owes {C : Type 0} (gives : C → Option ℕ → C → Type 0) (b : Shelf) (asking : Asking)
     (before after : C) (old new : Tables) : Type 0 where
   pub command : Command

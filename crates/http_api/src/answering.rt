@@ -2,7 +2,7 @@ ghost use Rattle.std.specs.Prelude.{Ok, IsErrOf, OnOk, OnErr};
 ghost use Rattle.std.specs.Io.KnownBytes.{Appends};
 ghost use Rattle.http_answers.specs.Asking.{Asking, reads, IsAsked};
 ghost use Rattle.http_answers.specs.Texts.{Begins};
-ghost use Rattle.http_api.specs.Replies.{GoesOn, Replies};
+ghost use Rattle.http_api.specs.Replies.{GoesOn, Replies, Shows};
 ghost use Rattle.http_api.specs.Told.{Owes};
 
 use crate::clock::Clock;
@@ -46,6 +46,10 @@ pub(crate) fn answer_request<W: Write, K: ChargeSource, C: Clock>(
         IsAsked asking asked →
         Owes C.gives shelf.now asking clock.old clock.new
         (K.content keeper.old) (K.content keeper.new) }
+    ensures shown { Shows (λ Writes x y. (asking : Asking) → IsAsked asking asked →
+        Replies C.gives shelf.now asking closes clock.old clock.new Writes x y)
+        (W.contents writer.old) (W.contents writer.new)
+        K.content K.honest K.clean keeper.old keeper.new result }
     ensures goes_on { GoesOn shelf.now (W.contents writer.old) (W.contents writer.new)
         K.content K.failed K.honest K.clean K.left keeper.old keeper.new result }
 {
@@ -81,6 +85,9 @@ fn serve_command<W: Write, K: ChargeSource, C: Clock>(
     ensures memory { K.clean keeper.new → IsErrOf result StreamFault.Memory →
         Owes C.gives shelf.now (reads (Ok command)) clock.old clock.new
         (K.content keeper.old) (K.content keeper.new) }
+    ensures shown { Shows (Replies C.gives shelf.now (reads (Ok command)) closes clock.old clock.new)
+        (W.contents writer.old) (W.contents writer.new)
+        K.content K.honest K.clean keeper.old keeper.new result }
     ensures goes_on { GoesOn shelf.now (W.contents writer.old) (W.contents writer.new)
         K.content K.failed K.honest K.clean K.left keeper.old keeper.new result }
 {

@@ -11,7 +11,7 @@ ghost use Rattle.statements.specs.Charges.{Asks};
 ghost use Rattle.statements.specs.Texts.{statement_text};
 ghost use Rattle.http_answers.specs.Asking.{states};
 ghost use Rattle.http_answers.specs.Texts.{Begins};
-ghost use Rattle.http_api.specs.Replies.{Replies};
+ghost use Rattle.http_api.specs.Replies.{Replies, Shows};
 ghost use Rattle.http_api.specs.Told.{TellsAnswer, TellsCharges};
 
 use crate::clock::Clock;
@@ -48,6 +48,9 @@ pub(crate) fn serve_statement<W: Write, K: ChargeSource, C: Clock>(
         (Replies C.gives shelf.now (states asked.now) closes clock.old clock.new
         (Begins (W.contents writer.old) (W.contents writer.new))
         (K.content keeper.old) (K.content keeper.new)) }
+    ensures shown { Shows (Replies C.gives shelf.now (states asked.now) closes clock.old clock.new)
+        (W.contents writer.old) (W.contents writer.new)
+        K.content K.honest K.clean keeper.old keeper.new result }
     ensures fault { OnErr result (result ≡ Err StreamFault.Write) }
     ensures same { K.clean keeper.new → K.content keeper.new ≡ K.content keeper.old }
     ensures cleanness { K.clean keeper.new → K.clean keeper.old }
@@ -78,12 +81,12 @@ fn tell_statement<W: Write, K: ChargeSource>(
     state: &AccountState,
     closes: bool,
 ) -> Result<(), StreamFault>
-    ensures ok { K.clean keeper.new → OnOk result
+    ensures ok { K.honest keeper.new → OnOk result
         (TellsCharges ((K.content keeper.old).charges asked.now.account)
         (λ rows. statement_text shelf.now.first asked.now.account asked.now.month state.now.moment
         rows state.now.buckets.items) closes
         (Appends (W.contents writer.old) (W.contents writer.new))) }
-    ensures err { K.clean keeper.new → OnErr result
+    ensures err { K.honest keeper.new → OnErr result
         (TellsCharges ((K.content keeper.old).charges asked.now.account)
         (λ rows. statement_text shelf.now.first asked.now.account asked.now.month state.now.moment
         rows state.now.buckets.items) closes

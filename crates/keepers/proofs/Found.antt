@@ -1,5 +1,5 @@
 -- Rows found by number among those that pass, and among merged ones.
-use Rattle.std.proofs.Common.{◌≡◌, ℕ, Bool, true, false, cond, List, [], ◌∷◌, refl, sym}
+use Rattle.std.proofs.Common.{◌≡◌, ℕ, Bool, true, false, cond, List, [], ◌∷◌, ◌++◌, refl, sym}
 use Rattle.std.proofs.Common.{ap, ◌∙◌, Option, Some, None}
 use Rattle.std.specs.Prelude.{if◌then◌else◌, ◌==◌, ◌≢◌, filter}
 use Rattle.buckets.specs.Row.{Row, precedes}
@@ -162,3 +162,20 @@ bucket_merged n (b ∷ bs) rows h =
     at is t e = ap (first_of (bucket_in n rows)) (cond_first t b (bucket_in n bs) (λ k.
         second_none (bucket_in n rows) (bucket_in n bs)
         (is ∙ none (merged bs rows) (e ∙ k) (distinct_placed b (merged bs rows) h).0)))
+
+-- ---- two lists of which no row has the key of another
+
+pub apart_first : {A : Type 0} (same : A → A → Bool) (xs ys : List A) → AreApart same (xs ++ ys) →
+    AreApart same xs
+apart_first same [] ys h = tt
+apart_first same (x ∷ xs) ys h =
+    (each_first (λ y. same x y ≡ false) xs ys h.0, apart_first same xs ys h.1)
+  where
+    each_first : {A : Type 0} (P : A → Type 0) (xs ys : List A) → EachIn P (xs ++ ys) → EachIn P xs
+    each_first P [] ys k = tt
+    each_first P (x ∷ xs) ys k = (k.0, each_first P xs ys k.1)
+
+pub apart_rest : {A : Type 0} (same : A → A → Bool) (xs ys : List A) → AreApart same (xs ++ ys) →
+    AreApart same ys
+apart_rest same [] ys h = h
+apart_rest same (x ∷ xs) ys h = apart_rest same xs ys h.1

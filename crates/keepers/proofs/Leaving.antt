@@ -7,7 +7,6 @@ use Rattle.buckets.specs.Row.{Row}
 use Rattle.shelves.specs.Shelves.{Shelf}
 use Rattle.reserving.specs.declared.session.Session.{Session}
 use Rattle.reserving.specs.declared.session.SessionGroup.{SessionGroup}
-use Rattle.reserving.specs.declared.session.Reservation.{Reservation}
 use Rattle.reserving.specs.declared.session.Counter.{Counter}
 use Rattle.reserving.specs.Ledger.{Ledger, is_same}
 use Rattle.reserving.specs.Pricing.{cycle_at, validity_of}
@@ -18,17 +17,22 @@ use Rattle.reserving.specs.Rows.{AccountRows, IsAccount, IsRowsOf}
 use Rattle.reserving.specs.Stored.{stored, priced}
 use Rattle.reserving.specs.Left.{LeftRows, is_dead, is_open_row, only, first_of, bucket_in}
 use Rattle.reserving.specs.Left.{merged, joined, left_of, IsWith}
-use Rattle.reserving.proofs.Lists.{no_some, some_of, find-passes, EachIn-found}
+use Rattle.reserving.proofs.Lists.{no_some, find-passes}
 use Rattle.reserving.proofs.Holds.{same_from}
 use Rattle.reserving.proofs.Keys.{first_true}
 use Rattle.reserving.proofs.StoredRows.{IsStored-stored}
 use Rattle.reserving.proofs.LeftTests.{find_filter}
-use Rattle.reserving.proofs.LeftParted.{one_session, one_group, one_counter, find_both, dead_parts}
+use Rattle.reserving.proofs.LeftParted.{one_session, one_group, one_counter, find_both}
 use Rattle.reserving.proofs.LeftMore.{apart_none}
 use Rattle.keepers.specs.Tables.{Rows, GroupRow, group_row, held_of}
-use Rattle.keepers.specs.Change.{is_loaded, held_over, IsLoadedFrom, AreRowsAt, IsMadeFrom, over}
+use Rattle.keepers.specs.Change.{is_loaded, held_over, IsLoadedFrom, AreRowsAt, over}
+use Rattle.keepers.specs.Differing.{AreThere, named_rows}
+use Rattle.keepers.specs.Keyed.{same_session, same_group, same_counter}
+use Rattle.keepers.specs.Naming.{AreRowsApart}
 use Rattle.keepers.specs.Steps.{Extends}
-use Rattle.keepers.proofs.Found.{told_by_one, bucket_filter, bucket_merged}
+use Rattle.keepers.proofs.Found.{told_by_one, bucket_filter, bucket_merged, distinct_apart}
+use Rattle.keepers.proofs.Found.{distinct_merged, apart_rest}
+use Rattle.keepers.proofs.NamedOver.{named_over}
 use Rattle.keepers.proofs.Grows.{session_stays, group_stays, counter_stays, bucket_stays}
 use Rattle.keepers.proofs.GroupRows.{row_over, held_over_is}
 use Rattle.keepers.proofs.Taking as taking
@@ -186,10 +190,10 @@ module _ (shelf : Shelf) (before after : Ledger) (u t : ℕ) (r : Rows) (a x : A
           (subst (λ (b : Shelf). Rattle.reserving.specs.Sessions.counter_at
           (cycle_at b g) after g c ≡ None) same gone)) ∙ sym (h.rows.counters g c) ∙ e))
 
-  -- ---- the change may be committed
+  -- ---- what was loaded is there
 
-  pub made : IsMadeFrom (stored a) (stored x) r
-  made = record {
+  there : AreThere (stored a) r
+  there = record {
     buckets = λ n y e. only_some (λ b. not (is_dead b)) (r.buckets n) y (sym (loads.buckets n) ∙ e);
     counters = λ g c y e. if_some (c == cycle_at shelf g t) (r.counters g c) y
         (sym (loads.counters g c) ∙ e);
@@ -200,27 +204,7 @@ module _ (shelf : Shelf) (before after : Ledger) (u t : ℕ) (r : Rows) (a x : A
     holds = λ s g n y e. held_if (is_loaded r s g) (r.groups s g) (group_row y) (held_of n (Some y))
         (r.holds s g n) (sym (loads.groups s g) ∙ ap (option_map group_row) e)
         (ap (held_of n) (sym e) ∙ loads.holds s g n);
-    dead = λ n y e k. dead_parts y (bucket_gone n y (sym (h.are.buckets n) ∙ e) k);
-    ended = λ s y e k. session_gone s y (sym (h.are.sessions s) ∙ e) k;
-    free = λ s g y e k. free_row s g y (group_in s g w.groups) refl (sym (h.are.groups s g) ∙ e) k;
   }
-    where
-      free_row : (s : List ℕ) (g : ℕ) (row : GroupRow) (o : Option SessionGroup) →
-          group_in s g w.groups ≡ o → option_map group_row o ≡ Some row →
-          group_in s g x.groups ≡ None → (row.terms ≡ None) × (session_in s x.sessions ≡ None)
-      free_row s g row None there e k = absurd (no_some row e)
-      free_row s g row (Some y) there e k =
-          let closed : of_open y ≡ false = group_gone s g y there k in
-          let of : y.session ≡ s = own_session s g y there in
-          let is_left : group_in s g left.groups ≡ Some y = group_is_left s g y there closed in (
-            ap (λ (z : GroupRow). z.terms) (sym (some_of (group_row y) row e))
-                ∙ ap (λ (o : Option Reservation). option_map (λ (z : Reservation). z.terms) o)
-                (EachIn-found (λ z. z.reservation ≡ None) (is_of s g) left.groups y
-                left_with.apart.free is_left),
-            ap (λ n. session_in n x.sessions) (sym of)
-                ∙ EachIn-found (λ z. session_in z.session x.sessions ≡ None)
-                (is_of s g) left.groups y left_with.apart.others is_left,
-          )
 
   -- ---- the tables after it
 
@@ -230,7 +214,7 @@ module _ (shelf : Shelf) (before after : Ledger) (u t : ℕ) (r : Rows) (a x : A
   same_left p None l e k = sym e
   same_left p (Some y) l e k = sym (e ∙ ap (λ v. if v then Some y else None) (k y refl))
 
-  pub leaves : AreRowsAt shelf after x.as_of (over (stored x) r)
+  leaves : AreRowsAt shelf after x.as_of (over (stored x) r)
   leaves = record {
     listed = stored (joined left x);
     are = record {
@@ -283,6 +267,24 @@ module _ (shelf : Shelf) (before after : Ledger) (u t : ℕ) (r : Rows) (a x : A
           (λ y e. bucket_gone n y e k)
       by_bucket n (Some y) k = refl
 
-  pub left_behind : IsMadeFrom (stored a) (stored x) r
-      × AreRowsAt shelf after x.as_of (over (stored x) r)
-  left_behind = (made, leaves)
+  loaded_apart : AreRowsApart (stored a)
+  loaded_apart = record {
+    buckets = distinct_apart a.buckets own.sound.distinct;
+    counters = own.counters;
+    sessions = own.sessions;
+    groups = own.groups;
+  }
+
+  left_apart : AreRowsApart (stored x)
+  left_apart = record {
+    buckets = distinct_apart x.buckets
+        (distinct_merged left.buckets x.buckets left_with.apart.whole.sound.distinct);
+    counters = apart_rest same_counter left.counters x.counters left_with.apart.whole.counters;
+    sessions = apart_rest same_session left.sessions x.sessions left_with.apart.whole.sessions;
+    groups = apart_rest same_group left.groups x.groups left_with.apart.whole.groups;
+  }
+
+  -- the rows that differ alone are committed
+  pub left_behind : AreRowsAt shelf after x.as_of (over (named_rows (stored a) (stored x)) r)
+  left_behind = subst (AreRowsAt shelf after x.as_of)
+      (sym (named_over (stored a) (stored x) r loaded_apart left_apart there)) leaves

@@ -1,5 +1,7 @@
 pub mod GroupRows
 pub mod GroupsOverlaid
+pub mod NamedOver
+pub mod Overlaid
 pub mod Grows
 pub mod Told
 pub mod Equal

@@ -73,7 +73,7 @@ none_of : {A : Type 0} (o : Option A) → not (is_some o) ≡ true → o ≡ Non
 none_of None e = refl
 none_of (Some x) e = absurd (not_both e)
 
-apart_with : {A : Type 0} (same : A → A → Bool) (p : A → Bool) (before after : List A) →
+pub apart_with : {A : Type 0} (same : A → A → Bool) (p : A → Bool) (before after : List A) →
     AreApart same before → AreApart same after →
     ((y : A) → p y ≡ true → find (same y) after ≡ None) → AreApart same (filter p before ++ after)
 apart_with same p before after hb ha gone =

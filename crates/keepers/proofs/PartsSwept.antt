@@ -1,6 +1,6 @@
 -- As time goes on, what the keeper in memory has of an account stays a list of its rows, brought to
 -- the moment.
-use Rattle.std.proofs.Common.{◌≡◌, ℕ, Bool, false, List, ◌++◌, refl, sym, ap, ◌∙◌, Option, Some, None}
+use Rattle.std.proofs.Common.{◌≡◌, ℕ, false, List, ◌++◌, refl, sym, ap, ◌∙◌, Option, Some, None}
 use Rattle.std.specs.Prelude.{◌==◌, is_some, option_map}
 use Rattle.shelves.specs.Shelves.{Shelf}
 use Rattle.reserving.specs.declared.session.SessionGroup.{SessionGroup}
@@ -18,7 +18,8 @@ use Rattle.reserving.proofs.LeftParted.{one_session, one_group, one_counter, fin
 use Rattle.reserving.proofs.LeftMore.{apart_none}
 use Rattle.keepers.specs.Keyed.{same_bucket, same_session, same_group, same_counter}
 use Rattle.keepers.specs.Tables.{GroupRow, group_row, held_of, AreListed}
-use Rattle.keepers.specs.Change.{AreBroughtTo, IsMadeFrom, over}
+use Rattle.keepers.specs.Change.{AreBroughtTo, over}
+use Rattle.keepers.specs.Overlaying.{IsMadeFrom}
 use Rattle.keepers.specs.Parts.{Parts, AreParts, rows_of, advanced_parts}
 use Rattle.keepers.proofs.Found.{told_by_one, one_bucket}
 use Rattle.keepers.proofs.GroupRows.{row_over, held_over_is}

@@ -21,7 +21,8 @@ use Rattle.reserving.proofs.LeftTests.{find_filter}
 use Rattle.reserving.proofs.LeftParted.{one_session, one_group, one_counter, find_both}
 use Rattle.reserving.proofs.LeftMore.{apart_none}
 use Rattle.keepers.specs.Tables.{head_of, group_row, held_of, no_rows}
-use Rattle.keepers.specs.Change.{held_over, over, IsMadeFrom}
+use Rattle.keepers.specs.Change.{held_over, over}
+use Rattle.keepers.specs.Overlaying.{IsRestDead}
 use Rattle.keepers.specs.Parts.{Parts, AreParts, rows_of, leaves_bucket, leaves_counter}
 use Rattle.keepers.specs.Parts.{leaves_session, leaves_group, with_live}
 use Rattle.keepers.specs.Keyed.{same_bucket, same_session, same_group, same_counter}
@@ -58,8 +59,8 @@ dead_test : (b : Row) → IsDead b → is_dead b ≡ true
 dead_test b d = both_true (b.available == 0) (b.reserved == 0) (zero_is b.available d.available)
     (zero_is b.reserved d.reserved)
 
-module _ (before w : StoredRows) (p : Parts) (h : AreParts p) (live : IsStored p.live)
-    (is : IsStored w) (made : IsMadeFrom before w (rows_of p)) where
+module _ (w : StoredRows) (p : Parts) (h : AreParts p) (live : IsStored p.live)
+    (is : IsStored w) (rest : IsRestDead w (rows_of p)) where
   after : AreParts (with_live w p)
   after = parts_replaced w p is live h
 
@@ -70,7 +71,7 @@ module _ (before w : StoredRows) (p : Parts) (h : AreParts p) (live : IsStored p
       same_number y.number n (find-passes (λ b. b.number == n)
       (p.left.buckets ++ p.live.buckets) y e) in
       both_true (is_dead y) (not (is_some (bucket_in y.number w.buckets)))
-      (dead_test y (made.dead n y e k))
+      (dead_test y (rest.dead n y e k))
       (none_not (bucket_in y.number w.buckets) (ap (λ m. bucket_in m w.buckets) number ∙ k))
 
   gone_counter : (g c : ℕ) (y : Counter) →
@@ -90,7 +91,7 @@ module _ (before w : StoredRows) (p : Parts) (h : AreParts p) (live : IsStored p
       let name : y.id ≡ s = same_from y.id s
       (find-passes (is_session s) (p.left.sessions ++ p.live.sessions) y e) in
       both_true (not (is_open y.state)) (not (is_some (session_in y.id w.sessions)))
-      (not_from_false (is_open y.state) (made.ended s y e k))
+      (not_from_false (is_open y.state) (rest.ended s y e k))
       (none_not (session_in y.id w.sessions) (ap (λ m. session_in m w.sessions) name ∙ k))
 
   gone_group : (s : List ℕ) (g : ℕ) (y : SessionGroup) →
@@ -102,7 +103,7 @@ module _ (before w : StoredRows) (p : Parts) (h : AreParts p) (live : IsStored p
       same_from y.session s (first_true (is_same y.session s) (y.group == g) key) in
       let number : y.group ≡ g =
       same_number y.group g (second_true (is_same y.session s) (y.group == g) key) in
-      let free = made.free s g (group_row y) (ap (option_map group_row) e) k in
+      let free = rest.free s g (group_row y) (ap (option_map group_row) e) k in
       both_true (not (is_some y.reservation))
       (not (is_some (session_in y.session w.sessions)) && not
       (is_some (group_in y.session y.group w.groups)))

@@ -3,7 +3,6 @@
 use Rattle.std.proofs.Common.{◌≡◌, ℕ, ◌+◌, ◌-◌, ◌≤◌, Bool, true, false, cond, List, [], ◌∷◌, map, refl, sym}
 use Rattle.std.proofs.Common.{ap, subst, ◌∙◌, arith, Option, Some, None}
 use Rattle.std.specs.Prelude.{if◌then◌else◌, ◌==◌, ◌&&◌, ◌*◌, not, nat_lt, option_map}
-use Rattle.std.specs.List.{find}
 use Rattle.shelves.specs.Shelves.{Shelf, IsShelf}
 use Rattle.buckets.specs.Row.{Row, with_end, with_release}
 use Rattle.buckets.specs.Spend.{Each}
@@ -11,13 +10,12 @@ use Rattle.buckets.specs.Holding.{held_in}
 use Rattle.reserving.specs.declared.session.Session.{Session}
 use Rattle.reserving.specs.declared.session.SessionState.TheVariants.{Ended}
 use Rattle.reserving.specs.declared.session.SessionGroup.{SessionGroup}
-use Rattle.reserving.specs.declared.session.Reservation.{Reservation}
 use Rattle.reserving.specs.Ledger.{Ledger, is_same}
 use Rattle.reserving.specs.Pricing.{validity_of}
 use Rattle.reserving.specs.Sessions.{is_session, is_of, is_open, session_in, group_in, counter_in}
 use Rattle.reserving.specs.Sessions.{is_live_in, is_live_row, holds_in, held_by}
 use Rattle.reserving.specs.Changes.{advanced, lapse, lapse_group, lapsed_in}
-use Rattle.reserving.specs.Rows.{EachIn, IsAccount, IsRowsOf}
+use Rattle.reserving.specs.Rows.{EachIn, IsAccount}
 use Rattle.reserving.specs.Stored.{StoredRows, IsStored, priced, advanced_stored}
 use Rattle.reserving.specs.Left.{bucket_in, first_of, IsDead}
 use Rattle.reserving.proofs.Lists.{find-map, find-passes, no_some, some_of}
@@ -28,9 +26,10 @@ use Rattle.reserving.proofs.Advanced.{IsAccount-advanced}
 use Rattle.reserving.proofs.LeftMerged.{release_none, end_dead}
 use Rattle.reserving.proofs.StoredRows.{IsAccount-priced, IsStored-stored}
 use Rattle.reserving.proofs.calls.RowParts.{key_kept}
-use Rattle.keepers.specs.Tables.{Rows, GroupRow, Head, head_of, group_row, held_at, held_of}
+use Rattle.keepers.specs.Tables.{Rows, GroupRow, head_of, group_row, held_at, held_of}
 use Rattle.keepers.specs.Tables.{AreListed}
-use Rattle.keepers.specs.Change.{held_over, AreRowsAt, AreBroughtTo, IsMadeFrom, over}
+use Rattle.keepers.specs.Change.{held_over, AreRowsAt, AreBroughtTo, over}
+use Rattle.keepers.specs.Overlaying.{IsMadeFrom}
 use Rattle.keepers.proofs.GroupRows.{no_terms}
 use Rattle.keepers.proofs.HeldWithin.{held_found, AreWithin, held_within}
 

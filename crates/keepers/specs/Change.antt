@@ -2,6 +2,7 @@
 -- Source: profile.
 use Rattle.std.specs.Prelude.{◌≡◌, ℕ, ◌+◌, ◌==◌, ◌≤◌, ◌||◌, Bool, false, not, Option}
 use Rattle.std.specs.Prelude.{Some, None, List, is_some, option_map, if◌then◌else◌}
+use Rattle.std.specs.List.Sorted.{IsNonDecreasingBy}
 use Rattle.identifiers.specs.Texts.{same_name}
 use Rattle.buckets.specs.Row.{Row}
 use Rattle.shelves.specs.Shelves.{Shelf}
@@ -13,7 +14,7 @@ use Rattle.reserving.specs.Pricing.{cycle_at}
 use Rattle.reserving.specs.Sessions.{is_open, session_in, group_in, counter_in}
 use Rattle.reserving.specs.Rows.{AccountRows, AreApart, IsRowsOf}
 use Rattle.reserving.specs.Stored.{StoredRows, IsStored, stored, priced, advanced_stored}
-use Rattle.reserving.specs.Left.{is_dead, is_open_row, only, first_of, bucket_in, IsDead}
+use Rattle.reserving.specs.Left.{is_dead, is_open_row, only, first_of, bucket_in}
 use Rattle.redemptions.specs.declared.terms.VoucherTerms.{VoucherTerms}
 use Rattle.redemptions.specs.declared.voucher.Voucher.{Voucher}
 use Rattle.redemptions.specs.Standing.{unspent}
@@ -62,10 +63,11 @@ abbrev pub IsView : Shelf → ℕ → Rows → Option AccountRows → Type 0
 IsView shelf t r None = r.head ≡ None
 IsView shelf t r (Some a) = IsLoadedFrom shelf t r a
 
--- the buckets that can't be used any more, each once
+-- the buckets that can't be used any more, each once, in the order of their numbers
 pub record AreDeadOf (r : Rows) (rows : List Row) : Type 0 where
   pub found : (n : ℕ) → bucket_in n rows ≡ only is_dead (r.buckets n)
   pub apart : AreApart same_bucket rows
+  pub order : IsNonDecreasingBy (λ b. b.number) rows
 
 -- ---- a commit
 
@@ -99,7 +101,7 @@ redeemed_over (Some redeemed) code before =
 abbrev pub changed : Change → Tables → Tables
 changed change tables = record {
   last = change.moment;
-  rows = λ a. if same_name change.number a then over change.after (tables.rows a)
+  rows = λ a. if same_name change.number a then over change.rows (tables.rows a)
       else tables.rows a;
   answers = λ a k. if same_name change.number a then kept_after change.kept k (tables.answers a k)
       else tables.answers a k;
@@ -108,23 +110,6 @@ changed change tables = record {
   vouchers = λ code. redeemed_over change.redeemed code (tables.vouchers code);
   count = if is_some (tables.rows change.number).head then tables.count else tables.count + 1;
 }
-
--- the rows before the change are there, and what isn't among those after it can't change any more
-pub record IsMadeFrom (before after : StoredRows) (r : Rows) : Type 0 where
-  pub buckets : (n : ℕ) (x : Row) → bucket_in n before.buckets ≡ Some x → r.buckets n ≡ Some x
-  pub counters : (g c : ℕ) (x : Counter) → counter_in g c before.counters ≡ Some x →
-      r.counters g c ≡ Some x
-  pub sessions : (s : List ℕ) (x : Session) → session_in s before.sessions ≡ Some x →
-      r.sessions s ≡ Some x
-  pub groups : (s : List ℕ) (g : ℕ) (x : SessionGroup) → group_in s g before.groups ≡ Some x →
-      r.groups s g ≡ Some (group_row x)
-  pub holds : (s : List ℕ) (g n : ℕ) (x : SessionGroup) → group_in s g before.groups ≡ Some x →
-      r.holds s g n ≡ held_of n (Some x)
-  pub dead : (n : ℕ) (x : Row) → r.buckets n ≡ Some x → bucket_in n after.buckets ≡ None → IsDead x
-  pub ended : (s : List ℕ) (x : Session) → r.sessions s ≡ Some x →
-      session_in s after.sessions ≡ None → is_open x.state ≡ false
-  pub free : (s : List ℕ) (g : ℕ) (x : GroupRow) → r.groups s g ≡ Some x →
-      group_in s g after.groups ≡ None → (x.terms ≡ None) × (session_in s after.sessions ≡ None)
 
 -- ---- a voucher that is added
 

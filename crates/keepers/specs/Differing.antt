@@ -1,7 +1,7 @@
--- Rows that differ from those before: a change is told by them alone.
+-- Rows that differ from those before: a change names them alone.
 -- Source: profile.
 use Rattle.std.specs.Prelude.{◌≡◌, ℕ, ◌==◌, ◌&&◌, Bool, true, false, List, Option, Some}
-use Rattle.std.specs.Prelude.{None, option_map}
+use Rattle.std.specs.Prelude.{None}
 use Rattle.std.specs.Cmp.Lexicographic.{pointwise}
 use Rattle.buckets.specs.declared.holds.Hold.{Hold}
 use Rattle.buckets.specs.Row.{Row}
@@ -18,11 +18,11 @@ use Rattle.reserving.specs.declared.session.Counter.{Counter}
 use Rattle.reserving.specs.Ledger.{is_same}
 use Rattle.reserving.specs.Sessions.{session_in, group_in}
 use Rattle.reserving.specs.Sessions.{counter_in}
-use Rattle.reserving.specs.Rows.{AreApart}
-use Rattle.reserving.specs.Left.{bucket_in, differing, first_of}
-use Rattle.keepers.specs.Tables.{GroupRow, group_row, held_of}
-use Rattle.keepers.specs.Change.{held_over}
-use Rattle.keepers.specs.Keyed.{same_bucket, same_session, same_group, same_counter}
+use Rattle.reserving.specs.Stored.{StoredRows}
+use Rattle.reserving.specs.Left.{bucket_in, differing}
+use Rattle.keepers.specs.Tables.{Rows, group_row, held_of}
+use Rattle.keepers.specs.Change.{over}
+use Rattle.keepers.specs.Naming.{AreRowsApart}
 
 -- ---- rows that are equal
 
@@ -75,44 +75,30 @@ abbrev pub equal_group : SessionGroup → SessionGroup → Bool
 equal_group x y = is_same x.session y.session &&
     (x.group == y.group && (x.used == y.used && equal_reservation x.reservation y.reservation))
 
--- ---- a keeper that writes only the rows that differ leaves what one leaves that writes all: the
--- rows before are there
+-- ---- the rows of a change
 
-abbrev pub AreBucketsOverlaid : Type 0
-AreBucketsOverlaid =
-    (before after : List Row) (r : Option Row) (n : ℕ) → AreApart same_bucket before →
-    AreApart same_bucket after →
-    ((y : Row) → bucket_in n before ≡ Some y → r ≡ Some y) →
-    first_of (bucket_in n (differing equal_bucket before after)) r ≡ first_of (bucket_in n after) r
+-- what is kept of the account once, and of its rows those that differ from all before
+abbrev pub named_rows : StoredRows → StoredRows → StoredRows
+named_rows before after = record after {
+  buckets = differing equal_bucket before.buckets after.buckets;
+  counters = differing equal_counter before.counters after.counters;
+  sessions = differing equal_session before.sessions after.sessions;
+  groups = differing equal_group before.groups after.groups;
+}
 
-abbrev pub AreCountersOverlaid : Type 0
-AreCountersOverlaid =
-    (before after : List Counter) (r : Option Counter) (g c : ℕ) → AreApart same_counter before →
-    AreApart same_counter after →
-    ((y : Counter) → counter_in g c before ≡ Some y → r ≡ Some y) →
-    first_of (counter_in g c (differing equal_counter before after)) r ≡
-    first_of (counter_in g c after) r
+-- rows that were loaded are there
+pub record AreThere (before : StoredRows) (r : Rows) : Type 0 where
+  pub buckets : (n : ℕ) (x : Row) → bucket_in n before.buckets ≡ Some x → r.buckets n ≡ Some x
+  pub counters : (g c : ℕ) (x : Counter) → counter_in g c before.counters ≡ Some x →
+      r.counters g c ≡ Some x
+  pub sessions : (s : List ℕ) (x : Session) → session_in s before.sessions ≡ Some x →
+      r.sessions s ≡ Some x
+  pub groups : (s : List ℕ) (g : ℕ) (x : SessionGroup) → group_in s g before.groups ≡ Some x →
+      r.groups s g ≡ Some (group_row x)
+  pub holds : (s : List ℕ) (g n : ℕ) (x : SessionGroup) → group_in s g before.groups ≡ Some x →
+      r.holds s g n ≡ held_of n (Some x)
 
-abbrev pub AreSessionsOverlaid : Type 0
-AreSessionsOverlaid =
-    (before after : List Session) (r : Option Session) (s : List ℕ) → AreApart same_session before →
-    AreApart same_session after →
-    ((y : Session) → session_in s before ≡ Some y → r ≡ Some y) →
-    first_of (session_in s (differing equal_session before after)) r ≡
-    first_of (session_in s after) r
-
-abbrev pub AreGroupsOverlaid : Type 0
-AreGroupsOverlaid =
-    (before after : List SessionGroup) (r : Option GroupRow) (s : List ℕ) (g : ℕ) →
-    AreApart same_group before → AreApart same_group after →
-    ((y : SessionGroup) → group_in s g before ≡ Some y → r ≡ Some (group_row y)) →
-    first_of (option_map group_row (group_in s g (differing equal_group before after))) r ≡
-    first_of (option_map group_row (group_in s g after)) r
-
-abbrev pub AreHoldsOverlaid : Type 0
-AreHoldsOverlaid =
-    (before after : List SessionGroup) (held : ℕ) (s : List ℕ) (g n : ℕ) →
-    AreApart same_group before → AreApart same_group after →
-    ((y : SessionGroup) → group_in s g before ≡ Some y → held ≡ held_of n (Some y)) →
-    held_over n (group_in s g (differing equal_group before after)) held ≡
-    held_over n (group_in s g after) held
+-- so to name the rows that differ from them is to name all
+abbrev pub IsNamedOver : Type 0
+IsNamedOver = (before after : StoredRows) (r : Rows) → AreRowsApart before → AreRowsApart after →
+    AreThere before r → over (named_rows before after) r ≡ over after r

@@ -1,6 +1,7 @@
 pub mod Faults
 pub mod Keys
 pub mod Keyed
+pub mod Naming
 pub mod Tables
 pub mod Whole
 pub mod Change
@@ -10,6 +11,7 @@ pub mod Named
 pub mod Inside
 pub mod Keeping
 pub mod Replacing
+pub mod Overlaying
 pub mod Memory
 pub mod Failing
 pub mod Steps

@@ -17,7 +17,7 @@ use Rattle.keepers.specs.Keys.{same_key}
 use Rattle.keepers.specs.declared.entries.Entry.{Entry}
 use Rattle.keepers.specs.Tables.{Rows, Tables, no_rows, charge_in}
 use Rattle.keepers.specs.Parts.{rows_of}
-use Rattle.keepers.specs.Change.{AreRowsAt, AreBroughtTo, IsMadeFrom, kept_after, over}
+use Rattle.keepers.specs.Change.{AreRowsAt, AreBroughtTo, kept_after, over}
 use Rattle.reserving.specs.Ledger.{Ledger}
 use Rattle.reserving.specs.Stored.{StoredRows}
 
@@ -54,12 +54,11 @@ ArePlaced places entries = (a : List ℕ) → get same_name places a ≡ positio
 
 -- ---- an account that is written
 
--- each account, once the rows of one, its further charges and an answer are written
-pub record ArePut (number : List ℕ) (after : StoredRows) (more : List ChargeRow)
+-- each account, once rows are put over those of one, with its further charges and an answer
+pub record ArePut (number : List ℕ) (named : StoredRows) (more : List ChargeRow)
     (kept : Option KeptAnswer) (old new : List Entry) : Type 0 where
-  pub rows : (before : StoredRows) → IsMadeFrom before after (rows_of_entry (entry_in number old)) →
-      (a : List ℕ) → rows_of_entry (entry_in a new) ≡
-      (if same_name number a then over after (rows_of_entry (entry_in a old))
+  pub rows : (a : List ℕ) → rows_of_entry (entry_in a new) ≡
+      (if same_name number a then over named (rows_of_entry (entry_in a old))
       else rows_of_entry (entry_in a old))
   pub answers : (a : List ℕ) (k : Key) → answer_of_entry k (entry_in a new) ≡
       (if same_name number a then kept_after kept k (answer_of_entry k (entry_in a old))

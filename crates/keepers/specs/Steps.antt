@@ -12,7 +12,8 @@ use Rattle.reserving.specs.Balance.{buckets_at}
 use Rattle.buckets.specs.Spend.{Each}
 use Rattle.buckets.specs.Row.{IsBalanced}
 use Rattle.reserving.specs.Pricing.{validity_of}
-use Rattle.keepers.specs.Change.{IsLoadedFrom, AreRowsAt, IsMadeFrom, over}
+use Rattle.keepers.specs.Change.{IsLoadedFrom, AreRowsAt, over}
+use Rattle.keepers.specs.Differing.{named_rows}
 
 -- a ledger only grows
 pub record Extends (old new : Ledger) : Type 0 where
@@ -26,15 +27,14 @@ IsLoadStep =
     (h : AreRowsAt shelf ledger u r) → IsAccount a → IsLoadedFrom shelf t r a →
     IsWith ledger (left_of t (priced shelf h.listed)) t a
 
--- what a call left beside the same rows: the tables after the commit, and that the change may be
--- committed
+-- what a call left beside the same rows: the tables after the commit of the rows that differ
 abbrev pub IsCommitStep : Type 0
 IsCommitStep =
     (shelf : Shelf) (before after : Ledger) (u t : ℕ) (r : Rows) (a x : AccountRows)
     (h : AreRowsAt shelf before u r) → IsAccount a → IsLoadedFrom shelf t r a → x.shelf ≡ shelf →
     Extends before after →
     IsWith after (left_of t (priced shelf h.listed)) t x →
-    IsMadeFrom (stored a) (stored x) r × AreRowsAt shelf after x.as_of (over (stored x) r)
+    AreRowsAt shelf after x.as_of (over (named_rows (stored a) (stored x)) r)
 
 -- ---- what a request asks of a session
 

@@ -6,8 +6,9 @@ ghost use Rattle.keepers.specs.Memory.{entry_in, AreSwept, ArePlaced, ArePut, Ar
 
 use crate::entries::{Entry, advance_entries, place_of, put_entry};
 use crate::key::KeptAnswer;
+use crate::named_rows::NamedRows;
 use identifiers::AccountNumber;
-use reserving::{ChargeRow, StoredAccount};
+use reserving::ChargeRow;
 use shelves::TariffShelf;
 use std::alloc::{AllocError, Global};
 use std::collections::HashMap;
@@ -45,12 +46,12 @@ impl Accounts {
         }
     }
 
-    /// Writes the rows of an account, which is new where there is none of its number, its further
-    /// charges and an answer. At a fault nothing has changed.
+    /// Puts the rows of a change over those of an account, which is new where there is none of its
+    /// number, with its further charges and an answer. At a fault nothing has changed.
     pub(crate) fn put(
         &mut self,
         number: AccountNumber,
-        rows: StoredAccount,
+        rows: NamedRows,
         charges: Vec<ChargeRow>,
         kept: Option<KeptAnswer>,
     ) -> Result<(), AllocError>

@@ -15,7 +15,7 @@ use rating::Periods;
 use reserving::{Counter, Reservation, Session, SessionGroup, SessionState, StoredAccount, Terms};
 
 /// Whether a bucket's row differs from all before, from this place on.
-pub fn is_new_bucket(before: &StoredAccount, cursor: &mut usize, row: &Bucket) -> bool
+pub(crate) fn is_new_bucket(before: &StoredAccount, cursor: &mut usize, row: &Bucket) -> bool
     ensures { result ≡ not (list_any (equal_bucket row.now) before.now.buckets) }
 {
     // For the prover alone: looking at the value makes known here what its type keeps.
@@ -37,7 +37,7 @@ pub fn is_new_bucket(before: &StoredAccount, cursor: &mut usize, row: &Bucket) -
 }
 
 /// Whether a counter's row differs from all before, from this place on.
-pub fn is_new_counter(before: &StoredAccount, cursor: &mut usize, row: &Counter) -> bool
+pub(crate) fn is_new_counter(before: &StoredAccount, cursor: &mut usize, row: &Counter) -> bool
     ensures { result ≡ not (list_any (equal_counter row.now) before.now.counters) }
 {
     let _kept = before.as_of();
@@ -58,7 +58,7 @@ pub fn is_new_counter(before: &StoredAccount, cursor: &mut usize, row: &Counter)
 }
 
 /// Whether a session's row differs from all before, from this place on.
-pub fn is_new_session(before: &StoredAccount, cursor: &mut usize, row: &Session) -> bool
+pub(crate) fn is_new_session(before: &StoredAccount, cursor: &mut usize, row: &Session) -> bool
     ensures { result ≡ not (list_any (equal_session row.now) before.now.sessions) }
 {
     let _kept = before.as_of();
@@ -79,7 +79,7 @@ pub fn is_new_session(before: &StoredAccount, cursor: &mut usize, row: &Session)
 }
 
 /// Whether what a session has of a group differs from all before, from this place on.
-pub fn is_new_group(before: &StoredAccount, cursor: &mut usize, row: &SessionGroup) -> bool
+pub(crate) fn is_new_group(before: &StoredAccount, cursor: &mut usize, row: &SessionGroup) -> bool
     ensures { result ≡ not (list_any (equal_group row.now) before.now.groups) }
 {
     let _kept = before.as_of();

@@ -9,21 +9,21 @@ ghost use Rattle.keepers.specs.Keys.{same_key, key_of};
 ghost use Rattle.keepers.specs.Change.{kept_after, AreDeadOf};
 ghost use Rattle.keepers.specs.Tables.{no_rows};
 ghost use Rattle.keepers.specs.Whole.{AreWhole};
-ghost use Rattle.keepers.specs.Change.{IsLoad, IsView, IsMadeFrom, over};
+ghost use Rattle.keepers.specs.Change.{IsLoad, IsView, over};
 ghost use Rattle.keepers.specs.Parts.{rows_of};
 ghost use Rattle.keepers.specs.Memory.{entry_in, rows_of_entry, answer_of_entry, charges_of_entry};
 ghost use Rattle.keepers.specs.Memory.{session_of_entry, IsSweptEntry, AreSwept, ArePlaced, ArePut};
 ghost use Rattle.keepers.specs.Memory.{AreUnchanged};
-ghost use Rattle.reserving.specs.Stored.{StoredRows};
 
 use crate::accounts::Accounts;
 use crate::key::{KeptAnswer, Key};
 use crate::loaded::Loaded;
+use crate::named_rows::NamedRows;
 use crate::store::Store;
 use crate::whole::WholeAccount;
 use buckets::Bucket;
 use identifiers::{AccountNumber, SessionId};
-use reserving::{Account, ChargeRow, LoadFault, StoredAccount};
+use reserving::{Account, ChargeRow, LoadFault};
 use shelves::TariffShelf;
 use std::alloc::{AllocError, Global};
 use std::collections::HashMap;
@@ -181,18 +181,16 @@ fn keep(
     Ok(())
 }
 
-/// Writes the rows of an account that is there, its further charges and an answer. The room is
-/// taken first: at a fault nothing has changed.
+/// Puts the rows of a change over those of an account that is there, with its further charges and
+/// an answer. The room is taken first: at a fault nothing has changed.
 fn write_entry(
     entry: &mut Entry,
-    rows: StoredAccount,
+    rows: NamedRows,
     mut charges: Vec<ChargeRow>,
     kept: Option<KeptAnswer>,
 ) -> Result<(), AllocError>
     ensures number { entry.new.number ≡ entry.old.number }
-    ensures rows { OnOk result ((before : StoredRows) →
-        IsMadeFrom before rows (rows_of entry.old.rows) →
-        rows_of entry.new.rows ≡ over rows (rows_of entry.old.rows)) }
+    ensures rows { OnOk result (rows_of entry.new.rows ≡ over rows (rows_of entry.old.rows)) }
     ensures answers { OnOk result ((k : Key) →
         get same_key entry.new.answers k ≡ kept_after kept k (get same_key entry.old.answers k)) }
     ensures charges { OnOk result (entry.new.charges.items ≡
@@ -204,7 +202,7 @@ fn write_entry(
 {
     entry.charges.reserve(charges.len())?;
     let key = make_room(&mut entry.answers, &kept)?;
-    entry.rows.replace(rows)?;
+    entry.rows.put(rows)?;
     keep(&mut entry.answers, key, kept)?;
     entry.charges.append(&mut charges)?;
     Ok(())
@@ -214,7 +212,7 @@ fn write_entry(
 fn new_entry(
     alloc: Global,
     number: AccountNumber,
-    rows: StoredAccount,
+    rows: NamedRows,
     charges: Vec<ChargeRow>,
     kept: Option<KeptAnswer>,
 ) -> Result<Entry, AllocError>
@@ -227,7 +225,7 @@ fn new_entry(
     let mut answers = HashMap::new(alloc);
     let key = make_room(&mut answers, &kept)?;
     keep(&mut answers, key, kept)?;
-    let rows = Store::new(alloc, rows);
+    let rows = Store::first(alloc, rows)?;
     Ok(Entry {
         number,
         rows,
@@ -261,14 +259,14 @@ fn put_place(
     Ok(())
 }
 
-/// Writes the rows of an account, which is new where there is none of its number, its further
-/// charges and an answer. At a fault nothing has changed.
+/// Puts the rows of a change over those of an account, which is new where there is none of its
+/// number, with its further charges and an answer. At a fault nothing has changed.
 pub(crate) fn put_entry(
     alloc: Global,
     entries: &mut Vec<Entry>,
     places: &mut HashMap<AccountNumber, usize>,
     number: AccountNumber,
-    rows: StoredAccount,
+    rows: NamedRows,
     charges: Vec<ChargeRow>,
     kept: Option<KeptAnswer>,
 ) -> Result<(), AllocError>

@@ -2,7 +2,7 @@ ghost use Rattle.std.specs.Prelude.{◌≡◌, ◌≤◌, ℕ, IfOk, OnOk, is_so
 ghost use Rattle.keepers.specs.Faults.{max_failures};
 ghost use Rattle.keepers.specs.Keeping.{Reads, Keeps};
 ghost use Rattle.keepers.specs.Tables.{Tables};
-ghost use Rattle.keepers.specs.Change.{IsLoad, IsView, AreDeadOf, IsMadeFrom, changed};
+ghost use Rattle.keepers.specs.Change.{IsLoad, IsView, AreDeadOf, changed};
 ghost use Rattle.keepers.specs.Change.{with_voucher, IsSwept};
 
 use crate::fault::StoreFault;
@@ -20,7 +20,8 @@ use units::Moment;
 /// Contracts see its content as tables. What a call says of them it says where the store is clean
 /// after it, and a store that is clean was clean before. Where the store is honest a call that
 /// answers leaves it clean, also over a disk that fails. A store fault comes only where the store
-/// failed in the call.
+/// failed in the call. A change that would leave rows which a keeper can't tell, as holds without
+/// the reservation that holds them, is refused as a fault: store fault 1 in memory, 2 over a store.
 pub trait Keeper {
     /// The tables.
     ghost content: { Self → Tables };
@@ -84,8 +85,8 @@ pub trait Keeper {
             (λ known. known ≡ is_some (((content self.old).rows account.now).sessions session.now))
             result };
 
-    /// The buckets of an account that can't be used any more, which `load` leaves, in any order;
-    /// none where there is no account.
+    /// The buckets of an account that can't be used any more, which `load` leaves, in the order of
+    /// their numbers; none where there is no account.
     fn dead_buckets(&mut self, account: &AccountNumber) -> Result<Vec<Bucket>, StoreFault>
         ensures { Reads content failed honest clean left self.old self.new
             (λ found. AreDeadOf ((content self.old).rows account.now) found.items) result };
@@ -104,15 +105,12 @@ pub trait Keeper {
         ensures { Reads content failed honest clean left self.old self.new
             (λ found. found ≡ (content self.old).vouchers code.now) result };
 
-    /// Makes the change, in one transaction. At a fault nothing has changed.
+    /// Makes the change, in one transaction, and nothing else. At a fault nothing has changed.
     fn commit(&mut self, change: Change) -> Result<(), StoreFault>
         ensures done { clean self.new →
-            OnOk result (IsMadeFrom change.before change.after
-            ((content self.old).rows change.number) →
-            content self.new ≡ changed change (content self.old)) }
+            OnOk result (content self.new ≡ changed change (content self.old)) }
         ensures kept { Keeps content failed honest clean left self.old self.new
-            (λ t. IsMadeFrom change.before change.after ((content self.old).rows change.number) →
-            t ≡ changed change (content self.old)) result };
+            (λ t. t ≡ changed change (content self.old)) result };
 
     /// Puts a voucher of these terms, which no account has redeemed, under the code, as a command
     /// of the moment, in one transaction. At a fault nothing has changed.

@@ -1,7 +1,6 @@
 ghost use Rattle.keepers.specs.Steps.{IsLoadStep, IsCommitStep, IsKnownStep, IsNewStep};
 ghost use Rattle.keepers.specs.Steps.{IsBucketsTold, IsListTold};
-ghost use Rattle.keepers.specs.Differing.{AreBucketsOverlaid, AreCountersOverlaid};
-ghost use Rattle.keepers.specs.Differing.{AreSessionsOverlaid, AreGroupsOverlaid, AreHoldsOverlaid};
+ghost use Rattle.keepers.specs.Differing.{IsNamedOver};
 
 /// What is loaded and what was left are together the ledger's rows, and so they are after a commit;
 /// a session has a row where it has a record; the rows of an account are those of its ledger.
@@ -14,12 +13,8 @@ pub fn taken_and_left()
     ensures lists { IsListTold }
 {}
 
-/// A keeper that writes only the rows that differ from those before leaves what one leaves that
-/// writes all.
+/// A change that names only the rows that differ from those loaded leaves what one leaves that
+/// names all.
 pub fn only_what_differs()
-    ensures buckets { AreBucketsOverlaid }
-    ensures counters { AreCountersOverlaid }
-    ensures sessions { AreSessionsOverlaid }
-    ensures groups { AreGroupsOverlaid }
-    ensures holds { AreHoldsOverlaid }
+    ensures { IsNamedOver }
 {}

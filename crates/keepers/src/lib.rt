@@ -13,6 +13,8 @@ mod key;
 mod laws;
 mod loaded;
 mod memory;
+mod named_rows;
+mod overlaying;
 mod store;
 mod voucher_map;
 mod whole;
@@ -20,7 +22,6 @@ mod whole;
 pub use crate::copies::{
     copy_answer, copy_content, copy_credit, copy_redemption, copy_request, copy_voucher,
 };
-pub use crate::differing::{is_new_bucket, is_new_counter, is_new_group, is_new_session};
 pub use crate::failing::Failing;
 pub use crate::fault::StoreFault;
 pub use crate::keeper::Keeper;
@@ -28,4 +29,5 @@ pub use crate::key::{KeptAnswer, Key};
 pub use crate::laws::{only_what_differs, taken_and_left};
 pub use crate::loaded::{Change, Loaded, Redeemed};
 pub use crate::memory::MemoryKeeper;
+pub use crate::named_rows::NamedRows;
 pub use crate::whole::WholeAccount;

@@ -1,10 +1,13 @@
-ghost use Rattle.std.specs.Prelude.{◌≡◌};
+ghost use Rattle.std.specs.Prelude.{◌≡◌, IfOk};
 ghost use Rattle.reserving.specs.Stored.{stored};
+ghost use Rattle.keepers.specs.Differing.{named_rows};
 
 use crate::key::KeptAnswer;
+use crate::named_rows::NamedRows;
 use identifiers::{AccountNumber, VoucherCode};
 use redemptions::Voucher;
 use reserving::{Account, ChargeRow, StoredAccount};
+use std::alloc::{AllocError, Global};
 use units::Moment;
 
 /// What a keeper loads of an account: the rows that may still change. It is spent by a commit or
@@ -27,18 +30,17 @@ pub struct Redeemed {
     pub voucher: Voucher,
 }
 
-/// What an accepted command changes. It is spent by a commit.
+/// What an accepted command changes: each row once, and of an account's rows those alone that
+/// differ from what was loaded. It is spent by a commit.
 #[derive(Drop)]
 pub struct Change {
     /// The moment of the command.
     pub moment: Moment,
     /// The account's number; it may be a new account.
     pub number: AccountNumber,
-    /// The rows as they become.
-    pub after: StoredAccount,
-    /// The rows as they were loaded.
-    pub before: StoredAccount,
-    /// The charges that the command made, in order.
+    /// What is kept of the account once, and its rows that differ.
+    pub rows: NamedRows,
+    /// The charges that the command made, in order, each under its number.
     pub charges: Vec<ChargeRow>,
     /// What is kept of the command, where it has a key.
     pub kept: Option<KeptAnswer>,
@@ -47,37 +49,41 @@ pub struct Change {
 }
 
 impl Loaded<'_> {
-    /// What changes, once a command made its call on the account. It takes no memory.
+    /// What changes, once a command made its call on the account.
+    ///
+    /// # Errors
+    /// Out of memory; the account is given up then, and nothing has changed.
     pub fn into_change(
         self,
+        alloc: Global,
         moment: Moment,
         charges: Vec<ChargeRow>,
         kept: Option<KeptAnswer>,
         redeemed: Option<Redeemed>,
-    ) -> Change
-        ensures { result ≡ record {
+    ) -> Result<Change, AllocError>
+        ensures { IfOk result (λ change. change ≡ record {
           moment = moment;
           number = self.entry.number;
-          after = stored self.entry.account;
-          before = self.entry.before;
+          rows = named_rows self.entry.before (stored self.entry.account);
           charges = charges;
           kept = kept;
           redeemed = redeemed;
-        } }
+        }) }
     {
         let Loaded {
             number,
             account,
             before,
         } = self;
-        Change {
+        let after = account.into_stored();
+        let rows = NamedRows::differing(alloc, &before, &after)?;
+        Ok(Change {
             moment,
             number,
-            after: account.into_stored(),
-            before,
+            rows,
             charges,
             kept,
             redeemed,
-        }
+        })
     }
 }

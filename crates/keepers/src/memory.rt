@@ -160,14 +160,13 @@ impl Keeper for MemoryKeeper {
         let Change {
             moment,
             number,
-            after,
-            before: _,
+            rows,
             charges,
             kept,
             redeemed,
         } = change;
         make_voucher_room(&mut self.vouchers)?;
-        self.accounts.put(number, after, charges, kept)?;
+        self.accounts.put(number, rows, charges, kept)?;
         put_redeemed(&mut self.vouchers, redeemed)?;
         self.last = moment;
         Ok(())

@@ -1,15 +1,14 @@
 //! The rows of an account in memory.
 
 ghost use Rattle.std.specs.List.{list_any};
+ghost use Rattle.std.specs.List.Sorted.{IsNonDecreasingBy, IsPermutation};
 ghost use Rattle.std.specs.Prelude.{◌≡◌, ℕ, List, true, IsOk, ◌≤◌, ◌++◌, ◌&&◌, ◌||◌, ◌==◌};
 ghost use Rattle.std.specs.Prelude.{if◌then◌else◌, [], filter, is_some, IfOk, OnOk, OnErr};
 ghost use Rattle.std.specs.Prelude.{position};
 ghost use Rattle.reserving.specs.Sessions.{session_in, group_in, counter_in, is_session, is_of};
 ghost use Rattle.reserving.specs.Sessions.{is_counter};
 ghost use Rattle.reserving.specs.Left.{bucket_in, is_dead};
-ghost use Rattle.keepers.specs.Change.{IsLoadedFrom, IsMadeFrom, over, AreRowsAt, AreBroughtTo};
-ghost use Rattle.keepers.specs.Change.{AreDeadOf};
-ghost use Rattle.reserving.specs.Stored.{StoredRows};
+ghost use Rattle.keepers.specs.Change.{IsLoadedFrom, over, AreRowsAt, AreBroughtTo, AreDeadOf};
 ghost use Rattle.reserving.specs.Ledger.{Ledger};
 ghost use Rattle.keepers.specs.Tables.{no_rows};
 ghost use Rattle.keepers.specs.Whole.{AreWhole};
@@ -22,7 +21,10 @@ ghost use Rattle.keepers.specs.Named.{AreLeftGroups};
 ghost use Rattle.keepers.specs.Inside.{AreSameRows, HasRoom};
 ghost use Rattle.keepers.specs.Replacing.{IsLeaving, KnowsMore, AreNoted, IsAppended, AreKnown};
 ghost use Rattle.keepers.specs.Replacing.{IsFiltered};
+ghost use Rattle.keepers.specs.Overlaying.{IsRestDead, back_from};
 
+use crate::named_rows::NamedRows;
+use crate::overlaying::{rows_alone, rows_over};
 use crate::whole::WholeAccount;
 use buckets::Bucket;
 use calendar::Cycle;
@@ -74,8 +76,18 @@ impl Model for Store {
 }
 
 impl Store {
+    /// A new account's rows: those of a change.
+    pub(crate) fn first(alloc: Global, named: NamedRows) -> Result<Store, AllocError>
+        ensures { IfOk result (λ store. rows_of store ≡ over named no_rows) }
+    {
+        // For the prover alone: looking at the value makes known here what its type keeps.
+        let _named = named.as_of();
+        let live = rows_alone(alloc, named)?;
+        Ok(Store::new(alloc, live))
+    }
+
     /// A new account's rows. It takes no memory.
-    pub(crate) fn new(alloc: Global, live: StoredAccount) -> Store
+    fn new(alloc: Global, live: StoredAccount) -> Store
         ensures parts { result ≡ record {
           live = live;
           left = record { buckets = []; counters = []; sessions = []; groups = [] };
@@ -145,11 +157,22 @@ impl Store {
             || (self.known.names.contains_key(session) && has_session(&self.left.sessions, session))
     }
 
+    /// Puts the rows of a change over those that stand. At a fault nothing has changed, as where
+    /// they would be no rows of an account.
+    pub(crate) fn put(&mut self, named: NamedRows) -> Result<(), AllocError>
+        ensures over { OnOk result (rows_of self.new ≡ over named (rows_of self.old)) }
+        ensures err { OnErr result (self.new ≡ self.old) }
+    {
+        let _named = named.as_of();
+        let back = back_from(&self.known.names, named.sessions(), &self.left.groups);
+        let live = rows_over(self.alloc, named, back, &self.live)?;
+        self.replace(live)
+    }
+
     /// Puts these rows in the place of those that were live. At a fault nothing has changed.
-    pub(crate) fn replace(&mut self, after: StoredAccount) -> Result<(), AllocError>
+    fn replace(&mut self, after: StoredAccount) -> Result<(), AllocError>
         ensures parts { OnOk result (self.new ≡ with_live after self.old) }
-        ensures over { OnOk result ((before : StoredRows) →
-            IsMadeFrom before after (rows_of self.old) →
+        ensures over { OnOk result (IsRestDead after (rows_of self.old) →
             rows_of self.new ≡ over after (rows_of self.old)) }
         ensures err { OnErr result (self.new ≡ self.old) }
     {
@@ -184,13 +207,13 @@ fn session_place(rows: &[Session], session: &SessionId) -> Option<usize>
     rows.iter().position(|row| row.id == *session)
 }
 
-fn has_session(rows: &[Session], session: &SessionId) -> bool
+pub(crate) fn has_session(rows: &[Session], session: &SessionId) -> bool
     ensures { result ≡ is_some (session_in session.now rows.now) }
 {
     session_place(rows, session).is_some()
 }
 
-fn has_bucket(rows: &[Bucket], number: u32) -> bool
+pub(crate) fn has_bucket(rows: &[Bucket], number: u32) -> bool
     ensures { result ≡ is_some (bucket_in number rows.now) }
 {
     bucket_place(rows, number).is_some()
@@ -202,7 +225,7 @@ fn bucket_place(rows: &[Bucket], number: u32) -> Option<usize>
     rows.iter().position(|row| row.number() == number)
 }
 
-fn has_group(rows: &[SessionGroup], session: &SessionId, group: u32) -> bool
+pub(crate) fn has_group(rows: &[SessionGroup], session: &SessionId, group: u32) -> bool
     ensures { result ≡ is_some (group_in session.now group rows.now) }
 {
     group_place(rows, session, group).is_some()
@@ -228,7 +251,18 @@ fn counter_place(rows: &[Counter], group: u32, cycle: u32) -> Option<usize>
         .position(|row| row.group == group && row.cycle == cycle)
 }
 
+/// The buckets among both that can't be used any more, in the order of their numbers.
 fn dead_rows(left: &Vec<Bucket>, live: &StoredAccount) -> Result<Vec<Bucket>, AllocError>
+    ensures same { IfOk result (λ rows.
+        IsPermutation (filter is_dead (left.now.items ++ live.now.buckets)) rows.items) }
+    ensures order { IfOk result (λ rows. IsNonDecreasingBy (λ b. b.number) rows.items) }
+{
+    let mut rows = dead_among(left, live)?;
+    sort_by_number(&mut rows)?;
+    Ok(rows)
+}
+
+fn dead_among(left: &Vec<Bucket>, live: &StoredAccount) -> Result<Vec<Bucket>, AllocError>
     ensures { IfOk result (λ rows. rows.items ≡
         filter is_dead (left.now.items ++ live.now.buckets)) }
 {
@@ -236,6 +270,14 @@ fn dead_rows(left: &Vec<Bucket>, live: &StoredAccount) -> Result<Vec<Bucket>, Al
     rows.append(&mut live.purse().to_vec()?)?;
     rows.retain(|row| row.is_dead());
     Ok(rows)
+}
+
+fn sort_by_number(rows: &mut Vec<Bucket>) -> Result<(), AllocError>
+    ensures same { IsPermutation rows.old.items rows.new.items }
+    ensures order { OnOk result (IsNonDecreasingBy (λ b. b.number) rows.new.items) }
+{
+    rows.sort_by_key(|row| row.number())?;
+    Ok(())
 }
 
 // ---- counters that were left, and may be of a cycle at the moment
@@ -273,6 +315,24 @@ fn going_on<'s>(
 {
     if may_go_on(cycles, shelf, moment) {
         rows
+    } else {
+        &[]
+    }
+}
+
+// ---- groups that were left, and stand beside a session that is named
+
+/// The groups that were left, where the session of one of them may be among these; else none, so
+/// that past sessions' groups are neither searched nor copied.
+fn back_from<'s>(
+    names: &HashMap<SessionId, bool>,
+    sessions: &[Session],
+    groups: &'s [SessionGroup],
+) -> &'s [SessionGroup]
+    ensures { result.now ≡ back_from names.now sessions.now groups.now }
+{
+    if any_named(names, sessions) {
+        groups
     } else {
         &[]
     }
@@ -589,13 +649,13 @@ fn copy_of_buckets(rows: &Vec<Bucket>) -> Result<Vec<Bucket>, AllocError>
     rows.clone()
 }
 
-fn sessions_of(alloc: Global, rows: &[Session]) -> Result<Vec<Session>, AllocError>
+pub(crate) fn sessions_of(alloc: Global, rows: &[Session]) -> Result<Vec<Session>, AllocError>
     ensures { IfOk result (λ copy. copy.items ≡ rows.now) }
 {
     rows.to_vec(alloc)
 }
 
-fn groups_of(alloc: Global, rows: &[SessionGroup]) -> Result<Vec<SessionGroup>, AllocError>
+pub(crate) fn groups_of(alloc: Global, rows: &[SessionGroup]) -> Result<Vec<SessionGroup>, AllocError>
     ensures { IfOk result (λ copy. copy.items ≡ rows.now) }
 {
     rows.to_vec(alloc)

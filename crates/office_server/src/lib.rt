@@ -8,5 +8,5 @@ mod serving;
 mod telling;
 
 pub use crate::clock::OfficeClock;
-pub use crate::listening::serve_database;
+pub use crate::listening::{serve_database, serve_over};
 pub use crate::serving::serve_connections;

@@ -2,6 +2,11 @@
 
 ghost use Rattle.std.specs.Prelude.{◌≡◌, ◌≤◌, IfErr, IfOk, OnErr, OnOk, string_bytes};
 ghost use Rattle.std.specs.Io.KnownBytes.{Appends};
+ghost use Rattle.sqlite.specs.Files.{file_state};
+ghost use Rattle.sqlite_wal.specs.Files.{image_at};
+ghost use Rattle.charging.specs.Continued.{Continues};
+ghost use Rattle.sql_keeper.specs.Inside.{IsClean, clean_in, tables_in};
+ghost use Rattle.database_office.specs.Over.{Comes};
 ghost use Rattle.office.specs.Written.{WritesBeginning};
 ghost use Rattle.office_server.specs.Told.{IsServeFault, IsTellFault, IsUnlistened, TellsFaults};
 ghost use Rattle.office_server.specs.Told.{listening_line};
@@ -9,16 +14,20 @@ ghost use Rattle.office_server.specs.Told.{listening_line};
 use crate::clock::OfficeClock;
 use crate::serving::serve_connections;
 use byte_streams::{StreamFault, write_whole};
+use database_files::DatabaseFiles;
 use database_office::{DatabaseFault, Office, open_office};
 use operator::ServeWords;
-use sqlite_disk::Wary;
+use sql_keeper::SqlKeeper;
+use sqlite::Alter;
+use sqlite_disk::{Start, Wary};
 use std::alloc::{AllocError, Global};
 use std::io::Write;
 use std::net::{Ipv4Addr, TcpListener};
 
 /// Serves the connections of the words over their database, one after another, and answers how many
 /// of them ended in a fault. Once the port of 127.0.0.1 is listened to, `output` is told so in a
-/// line; each connection's fault is a line on `errors`, and the next one is served.
+/// line; each connection's fault is a line on `errors`, and the next one is served. Nothing is
+/// supposed of a write of the database that was torn.
 ///
 /// # Errors
 /// In this order, each before the first connection: as `open_office`; `Net` where the port can't be
@@ -40,13 +49,71 @@ pub fn serve_database<O: Write, E: Write>(
     ensures untold { OnErr result (errors.new ≡ errors.old) }
     ensures fault { IfErr result IsServeFault }
 {
-    let Office { mut keeper, shelf } = open_office(rt, &words.database, Wary)?;
+    match serve_over(rt, words, output, errors, Wary) {
+        Ok((failed, _keeper)) => Ok(failed),
+        Err(fault) => Err(fault),
+    }
+}
+
+/// Serves the connections of the words as `serve_database`, whatever the database's files held
+/// (`start`), and answers its keeper too.
+///
+/// # Errors
+/// As `serve_database`.
+pub fn serve_over<S: Start, O: Write, E: Write>(
+    rt: &HostRuntime,
+    words: &ServeWords,
+    output: &mut O,
+    errors: &mut E,
+    start: S,
+) -> Result<(u32, SqlKeeper<DatabaseFiles<S>>), DatabaseFault>
+    ensures continued { IfOk result (λ r. IsClean (file_state r.1.connection) →
+        Comes (image_at S.Start) r.1 Continues) }
+    ensures listening { OnOk result (Appends (O.contents output.old) (O.contents output.new)
+        (listening_line words.now.port)) }
+    ensures begun { OnErr result (WritesBeginning (O.contents output.old) (O.contents output.new)
+        (listening_line words.now.port)) }
+    ensures unwritten { IfErr result (λ fault. IsUnlistened fault → output.new ≡ output.old) }
+    ensures told { IfOk result
+        (λ r. TellsFaults r.0 (E.contents errors.old) (E.contents errors.new)) }
+    ensures bounded { IfOk result (λ r. r.0 ≤ words.now.connections) }
+    ensures untold { OnErr result (errors.new ≡ errors.old) }
+    ensures fault { IfErr result IsServeFault }
+{
+    let office = open_office(rt, &words.database, start)?;
+    serve_office(rt, office, words, output, errors)
+}
+
+/// Serves the connections of the words over an office, and answers its keeper too.
+fn serve_office<S: Alter + Drop, O: Write, E: Write>(
+    rt: &HostRuntime,
+    office: Office<S>,
+    words: &ServeWords,
+    output: &mut O,
+    errors: &mut E,
+) -> Result<(u32, SqlKeeper<S>), DatabaseFault>
+    ensures continued { IfOk result (λ r. clean_in S.Store r.1 →
+        Continues office.shelf (tables_in S.Store office.keeper) (tables_in S.Store r.1)) }
+    ensures cleanness { IfOk result (λ r. clean_in S.Store r.1 →
+        clean_in S.Store office.keeper) }
+    ensures listening { OnOk result (Appends (O.contents output.old) (O.contents output.new)
+        (listening_line words.now.port)) }
+    ensures begun { OnErr result (WritesBeginning (O.contents output.old) (O.contents output.new)
+        (listening_line words.now.port)) }
+    ensures unwritten { IfErr result (λ fault. IsUnlistened fault → output.new ≡ output.old) }
+    ensures told { IfOk result
+        (λ r. TellsFaults r.0 (E.contents errors.old) (E.contents errors.new)) }
+    ensures bounded { IfOk result (λ r. r.0 ≤ words.now.connections) }
+    ensures untold { OnErr result (errors.new ≡ errors.old) }
+    ensures fault { IfErr result IsServeFault }
+{
+    let Office { mut keeper, shelf } = office;
     let Ok(listener) = TcpListener::bind(rt, (Ipv4Addr::LOCALHOST, words.port)) else {
         return Err(DatabaseFault::Net);
     };
     tell_listening(rt.alloc(), words.port, output)?;
     let mut clock = OfficeClock::new(rt, words.at);
-    Ok(serve_connections(
+    let failed = serve_connections(
         rt,
         &listener,
         words.connections,
@@ -54,7 +121,8 @@ pub fn serve_database<O: Write, E: Write>(
         &shelf,
         &mut clock,
         errors,
-    ))
+    );
+    Ok((failed, keeper))
 }
 
 /// The line that tells that a port is listened to, with its line feed.

@@ -1,6 +1,6 @@
 ghost use Rattle.std.specs.Prelude.{◌≡◌, ◌≤◌, IfOk};
 ghost use Rattle.clap.specs.Words.{found_of, rows_of};
-ghost use Rattle.first_fault.specs.Steps.{GivesUnless};
+ghost use Rattle.first_fault.specs.Steps.{GivesUnless, Says};
 ghost use Rattle.operator.specs.Read.{IsBookInRange, IsImportInRange, IsOfficeCommandInRange};
 ghost use Rattle.operator.specs.Read.{IsOfficeInRange, IsOnceInRange, IsServeInRange};
 ghost use Rattle.operator.specs.Read.{IsStatementInRange};
@@ -26,8 +26,7 @@ use std::alloc::Global;
 /// The words of `once`.
 #[tactic(auto, unfolding(crate::specs::Said::once_said))]
 pub(crate) fn once_said(matches: &ArgMatches<'_>) -> Result<OnceWords, ValueFault>
-    ensures value { GivesUnless Memory (λ w. w) result
-        (once_said (rows_of (found_of matches.now))) }
+    ensures value { Says (λ w. w) result (once_said (rows_of (found_of matches.now))) }
     ensures in_range { IfOk result IsOnceInRange }
 {
     let credit = amount_at(matches, "credit")?;

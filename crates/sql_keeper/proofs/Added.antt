@@ -1,5 +1,5 @@
 -- A voucher that is added: what is written of it, and what is committed.
-use Rattle.std.proofs.Common.{◌≡◌, ◌≤◌, ◌∙◌, ℕ, List, IsTrue, ap}
+use Rattle.std.proofs.Common.{◌≡◌, ◌≤◌, ◌∙◌, ℕ, List, IsTrue, ap, subst, sym}
 use Rattle.std.specs.Prelude.{Ok, Err}
 use Rattle.identifiers.specs.Texts.{same_name}
 use Rattle.redemptions.specs.declared.terms.VoucherTerms.{VoucherTerms}
@@ -13,8 +13,10 @@ use Rattle.sql_rows.specs.Makes.{Turns}
 use Rattle.sql_keeper.specs.Additions.{BecomesAdded, with_addition}
 use Rattle.sql_keeper.specs.Commits.{CommitsWhole, Transacts}
 use Rattle.sql_keeper.specs.Content.{tables_of, voucher_in, Names}
+use Rattle.sql_keeper.specs.Tidy.{IsTidy}
 use Rattle.sql_keeper.specs.Writes.{row_of}
 use Rattle.sql_keeper.proofs.Redeemed.{told_over}
+use Rattle.sql_keeper.proofs.TidyChanges.{tidy_addition}
 
 -- ---- a voucher that is added
 
@@ -34,6 +36,8 @@ pub become_added : (text code : List ℕ) (terms : VoucherTerms) (t : ℕ) → t
 become_added text code terms t last old new turns = record {
   tables = λ names. ap (tables_of names) turns.content
       ∙ addition_read names text code terms t (content_of old);
+  tidy = λ names tidy. subst (IsTidy names) (sym turns.content)
+      (tidy_addition names text code terms t (content_of old) tidy);
   meta = ap (λ (c : Content). c.meta) turns.content;
   last = last;
   books = ap (λ (c : Content). c.books) turns.content;

@@ -1,13 +1,13 @@
 -- What a change writes reads as the change.
 use Rattle.std.proofs.Common.{◌≡◌, ℕ, Bool, true, false, cond, List, [], ◌∷◌, refl, sym, ap, ◌∙◌}
-use Rattle.std.proofs.Common.{subst, Option, Some, None}
+use Rattle.std.proofs.Common.{subst, ◌⊎◌, inl, inr, Option, Some, None}
 use Rattle.std.specs.Prelude.{if◌then◌else◌, ◌&&◌, ◌+◌, nat_eq, nat_lt, option_map, option_and_then}
-use Rattle.std.specs.Prelude.{unwrap_or, is_some, not, ◌||◌, ◌==◌}
-use Rattle.std.specs.List.{list_any}
-use Rattle.std.proofs.lemmas.Bool.{and_parts, not-true}
+use Rattle.std.specs.Prelude.{unwrap_or, is_some}
+use Rattle.std.proofs.lemmas.Bool.{and_parts}
 use Rattle.std.proofs.lemmas.Option.{same_Some}
 use Rattle.identifiers.specs.Texts.{same_name}
 use Rattle.calendar.specs.declared.week.Period.{Period}
+use Rattle.buckets.specs.Row.{IsBalanced}
 use Rattle.buckets.specs.Kinds.{IsScopeOf}
 use Rattle.rating.specs.declared.grant.Periods.{Periods}
 use Rattle.reserving.specs.declared.charge.ChargeRow.{ChargeRow}
@@ -15,19 +15,13 @@ use Rattle.reserving.specs.declared.session.Session.{Session}
 use Rattle.reserving.specs.declared.session.SessionGroup.{SessionGroup}
 use Rattle.reserving.specs.declared.session.Reservation.{Reservation}
 use Rattle.reserving.specs.declared.session.Terms.{Terms}
-use Rattle.reserving.specs.Sessions.{session_in, is_session, is_counter, is_of, group_in, holds_in}
-use Rattle.reserving.specs.Rows.{AreApart}
+use Rattle.reserving.specs.Sessions.{session_in, is_session, is_of, is_open, group_in, holds_in}
+use Rattle.reserving.specs.Rows.{AreApart, EachIn}
 use Rattle.reserving.specs.Stored.{StoredRows, IsStored}
-use Rattle.reserving.specs.Left.{is_open_row, first_of, only}
-use Rattle.reserving.proofs.Keys.{first_true, second_true}
-use Rattle.reserving.proofs.KeysFound.{found_session, is_none_is}
-use Rattle.reserving.proofs.LeftParted.{one_session, one_counter, one_group}
-use Rattle.reserving.proofs.LeftTests.{find_filter, differing_over, apart_filter}
-use Rattle.reserving.proofs.LeftTests.{each_filter}
+use Rattle.reserving.specs.Left.{is_open_row, first_of}
+use Rattle.reserving.proofs.Lists.{find-passes, EachIn-found, EachIn-weaker}
 use Rattle.keepers.specs.Keyed.{same_bucket, same_counter, same_session, same_group}
-use Rattle.keepers.specs.Differing.{equal_bucket, equal_counter, equal_session, equal_group}
-use Rattle.keepers.proofs.Equal.{bucket_from, counter_from, session_from, group_from}
-use Rattle.keepers.proofs.Found.{one_bucket, distinct_apart}
+use Rattle.keepers.proofs.Found.{distinct_apart}
 use Rattle.keepers.specs.declared.key.Key.{Key}
 use Rattle.keepers.specs.declared.key.Key.TheVariants.{Request, Reference}
 use Rattle.keepers.specs.declared.key.KeptAnswer.{KeptAnswer}
@@ -35,7 +29,8 @@ use Rattle.keepers.specs.declared.loaded.Change.{Change}
 use Rattle.keepers.specs.Keys.{same_key, key_of}
 use Rattle.keepers.specs.Tables.{GroupRow, group_row, charge_in}
 use Rattle.keepers.specs.Tables as tables
-use Rattle.keepers.specs.Change.{IsMadeFrom, over, held_over, kept_after, redeemed_over, changed}
+use Rattle.keepers.specs.Change.{over, held_over, kept_after, redeemed_over, changed}
+use Rattle.keepers.specs.Naming.{IsNamed as AreRowsNamed}
 use Rattle.sql_tables.proofs.Found.{is_some_map}
 use Rattle.sql_tables.proofs.Steps.{and_true}
 use Rattle.sql_rows.specs.Values.{Meta, Group, Kept, request_kind, reference_kind}
@@ -45,14 +40,14 @@ use Rattle.sql_rows.specs.Each.{with_counters, with_sessions}
 use Rattle.sql_keeper.specs.Content.{periods_in, terms_in, group_in as stored_group, is_reserved}
 use Rattle.sql_keeper.specs.Content.{held_in, Names}
 use Rattle.sql_keeper.specs.Content.{rows_of, is_numbered, charge_of, kept_in, answer_in}
-use Rattle.sql_keeper.specs.Content.{voucher_in, tables_of, names_numbered, told_buckets}
+use Rattle.sql_keeper.specs.Content.{voucher_in, tables_of, names_numbered}
 use Rattle.sql_keeper.specs.Content.{told_charge}
 use Rattle.sql_keeper.specs.Content as content
 use Rattle.sql_keeper.specs.Writes.{name_at, names_at, names_held, columns_of, head_of}
 use Rattle.sql_keeper.specs.Writes.{with_all_counted, with_stored, with_texts}
-use Rattle.sql_keeper.specs.Writes.{with_kept, with_redeemed, AreTexts, with_change, new_rows}
-use Rattle.sql_keeper.specs.Writes.{new_sessions, equal_beside, is_written_session}
-use Rattle.sql_keeper.specs.Tests.{IsNamed, MayStand, AreWritable, AreNumbered, first_number}
+use Rattle.sql_keeper.specs.Writes.{with_kept, with_redeemed, AreTexts, with_change}
+use Rattle.sql_keeper.specs.Tests.{IsNamed, MayStand, AreNumbered, AreWritable}
+use Rattle.sql_keeper.specs.Tests.{first_number, is_open_over, IsSettled, AreSettled, MayBeMade}
 use Rattle.sql_keeper.specs.Laws.{AreChangesRead}
 use Rattle.sql_keeper.proofs.CountedPuts.{AreScoped, scoped, over_counted, counted_over, counted_told}
 use Rattle.sql_keeper.proofs.CountedPuts.{over_paid, paid_over, paid_told}
@@ -133,23 +128,29 @@ none_reserved : (names : Names) (b : Bool) (book : Option ℕ) →
 none_reserved names true book = refl
 none_reserved names false book = refl
 
--- the session of a group that isn't written stays as it is
+-- one that isn't written is told as before, whether its session is open or not, where it has no
+-- reservation
+free_told : (names : Names) (b c : Bool) (book : Option ℕ) (y : Group) → y.periods ≡ None →
+    stored_group names b book y ≡ stored_group names c book y
+free_told names b c book y none = λ i. record {
+  used = y.used;
+  terms = (ap (content.reserved_in names b book) none ∙ none_reserved names b book
+      ∙ sym (none_reserved names c book) ∙ ap (content.reserved_in names c book) (sym none)) i;
+}
+
+-- a group that isn't written stands in a session that is open as before, or has no reservation
 module _ (names : Names) (w : StoredRows) (r : Stored)
-    (free : (s : List ℕ) (g : ℕ) (x : GroupRow) → (rows_of names r).groups s g ≡ Some x →
-    group_in s g w.groups ≡ None → (x.terms ≡ None) × (session_in s w.sessions ≡ None))
+    (settled : AreSettled w.sessions w.groups r)
     (may : (s : List ℕ) (g : ℕ) (x : SessionGroup) → group_in s g w.groups ≡ Some x →
     MayStand names w.sessions s x.reservation) where
   pub open_after : List ℕ → Bool
-  open_after s = is_open_row (first_of (session_in s w.sessions) (r.sessions s))
+  open_after s = is_open_over w.sessions r s
 
-  same_open : (s : List ℕ) (g : ℕ) (y : Group) → r.groups s g ≡ Some y →
-      group_in s g w.groups ≡ None → open_after s ≡ is_open_row (r.sessions s)
+  told_beside : (s : List ℕ) (g : ℕ) (y : Group) → r.groups s g ≡ Some y →
+      group_in s g w.groups ≡ None →
+      (open_after s ≡ is_open_row (r.sessions s)) ⊎ (y.periods ≡ None)
   unfolding open_after
-  same_open s g y there none =
-      ap (λ o. is_open_row (first_of o (r.sessions s)))
-      (free s g (stored_group names (is_open_row (r.sessions s)) (r.grant_books s g) y)
-      (ap (option_map (stored_group names (is_open_row (r.sessions s)) (r.grant_books s g))) there)
-      none).1
+  told_beside s g y there none = settled s g y there none
 
   still_open : (s : List ℕ) → is_open_row (session_in s w.sessions) ≡ true → open_after s ≡ true
   unfolding open_after
@@ -188,8 +189,14 @@ module _ (names : Names) (w : StoredRows) (r : Stored)
           (option_map (stored_group names (is_open_row (r.sessions s)) (r.grant_books s g)) p)
       at (Some x) p e f = ap Some (back x.reservation x.used (may s g x e))
       at None None e f = refl
-      at None (Some y) e f =
-          λ i. Some (stored_group names (same_open s g y f e i) (r.grant_books s g) y)
+      at None (Some y) e f = ap Some (beside (told_beside s g y f e))
+        where
+          beside : (open_after s ≡ is_open_row (r.sessions s)) ⊎ (y.periods ≡ None) →
+              stored_group names (open_after s) (r.grant_books s g) y ≡
+              stored_group names (is_open_row (r.sessions s)) (r.grant_books s g) y
+          beside (inl same) = λ i. stored_group names (same i) (r.grant_books s g) y
+          beside (inr none) =
+              free_told names (open_after s) (is_open_row (r.sessions s)) (r.grant_books s g) y none
 
   pub holds_read : (s : List ℕ) (g n : ℕ)
       → held_in (open_after s && is_reserved
@@ -218,8 +225,18 @@ module _ (names : Names) (w : StoredRows) (r : Stored)
       at (Some x) p e f = back x.reservation (may s g x e)
       at None None e f = not_held (open_after s) (r.holds s g n)
           ∙ sym (not_held (is_open_row (r.sessions s)) (r.holds s g n))
-      at None (Some y) e f =
-          λ i. held_in (same_open s g y f e i && is_some y.periods) (r.holds s g n)
+      at None (Some y) e f = beside (told_beside s g y f e)
+        where
+          beside : (open_after s ≡ is_open_row (r.sessions s)) ⊎ (y.periods ≡ None) →
+              held_in (open_after s && is_some y.periods) (r.holds s g n) ≡
+              held_in (is_open_row (r.sessions s) && is_some y.periods) (r.holds s g n)
+          beside (inl same) = λ i. held_in (same i && is_some y.periods) (r.holds s g n)
+          beside (inr none) =
+              ap (λ o. held_in (open_after s && is_some o) (r.holds s g n)) none
+              ∙ not_held (open_after s) (r.holds s g n)
+              ∙ sym (not_held (is_open_row (r.sessions s)) (r.holds s g n))
+              ∙ ap (λ o. held_in (is_open_row (r.sessions s) && is_some o) (r.holds s g n))
+              (sym none)
 
   pub rows_read : AreScoped w.buckets →
       rows_of names (over_stored names w r) ≡ over w (rows_of names r)
@@ -230,171 +247,49 @@ module _ (names : Names) (w : StoredRows) (r : Stored)
     holds = λ s g n. holds_read s g n i;
   }
 
--- the rows that differ, written alone, read as all of them
-module _ (names : Names) (before after : StoredRows) (r : Stored)
-    (made : IsMadeFrom before after (rows_of names r)) (earlier : AreKeyed before)
-    (later : AreKeyed after)
-    (may : (s : List ℕ) (g : ℕ) (x : SessionGroup) → group_in s g after.groups ≡ Some x →
-    MayStand names after.sessions s x.reservation) where
-  abbrev new : StoredRows
-  new = new_rows before after
+-- a session that is named by no group of those that are stored: what was loaded and isn't written
+-- has no reservation, and its session isn't written either
+pub free_settled : (names : Names) (w : StoredRows) (r : Stored) →
+    ((s : List ℕ) (g : ℕ) (x : GroupRow) → (rows_of names r).groups s g ≡ Some x →
+    group_in s g w.groups ≡ None → (x.terms ≡ None) × (session_in s w.sessions ≡ None)) →
+    AreSettled w.sessions w.groups r
+free_settled names w r free s g y there none = inl
+    (ap (λ o. is_open_row (first_of o (r.sessions s)))
+    (free s g (stored_group names (is_open_row (r.sessions s)) (r.grant_books s g) y)
+    (ap (option_map (stored_group names (is_open_row (r.sessions s)) (r.grant_books s g))) there)
+    none).1)
 
-  abbrev same_beside : SessionGroup → SessionGroup → Bool
-  same_beside = equal_beside (new_sessions before after)
+-- so of each session that is named by itself
+pub settled_each : (sessions : List Session) (groups : List SessionGroup) (r : Stored) →
+    EachIn (IsSettled groups r) sessions → AreSettled sessions groups r
+settled_each sessions groups r each s g y there none = at (session_in s sessions) refl
+  where
+    at : (o : Option Session) → session_in s sessions ≡ o →
+        (is_open_row (first_of o (r.sessions s)) ≡ is_open_row (r.sessions s))
+        ⊎ (y.periods ≡ None)
+    at None e = inl refl
+    at (Some x) e =
+        let name : x.id ≡ s = name_from x.id s (find-passes (is_session s) sessions x e) in
+        by (subst (λ n. (is_open x.state ≡ is_open_row (r.sessions n))
+        ⊎ ((h : ℕ) (z : Group) → r.groups n h ≡ Some z → group_in n h groups ≡ None →
+        z.periods ≡ None)) name (EachIn-found (IsSettled groups r) (is_session s) sessions x each e))
+      where
+        by : (is_open x.state ≡ is_open_row (r.sessions s))
+            ⊎ ((h : ℕ) (z : Group) → r.groups s h ≡ Some z → group_in s h groups ≡ None →
+            z.periods ≡ None) →
+            (is_open x.state ≡ is_open_row (r.sessions s)) ⊎ (y.periods ≡ None)
+        by (inl same) = inl same
+        by (inr free) = inr (free g y there none)
 
-  abbrev is_open_before : List ℕ → Bool
-  is_open_before s = is_open_row (r.sessions s)
-
-  abbrev is_open_now : List ℕ → Bool
-  is_open_now s = is_open_row (first_of (session_in s new.sessions) (r.sessions s))
-
-  sessions_same : (s : List ℕ) → first_of (session_in s new.sessions) (r.sessions s)
-      ≡ first_of (session_in s after.sessions) (r.sessions s)
-  sessions_same s =
-      differing_over same_session (is_session s) (one_session s) equal_session session_from
-      before.sessions after.sessions (r.sessions s) earlier.sessions later.sessions
-      (made.sessions s)
-
-  opened_same : (s : List ℕ) → is_open_now s ≡ open_after names after r made.free may s
-  unfolding open_after
-  opened_same s = ap is_open_row (sessions_same s)
-
-  beside_from : (x y : SessionGroup) → same_beside x y ≡ true → x ≡ y
-  beside_from x y e = group_from x y (first_true (equal_group x y) _ e)
-
-  not_written : (x : SessionGroup) (ys : List SessionGroup) → list_any (same_beside x) ys ≡ true
-      → is_written_session new.sessions x.session ≡ false
-  not_written x [] e = not_both (sym e)
-  not_written x (y ∷ ys) e = at (same_beside x y) refl e (not_written x ys)
-    where
-      at : (t : Bool) → same_beside x y ≡ t → (t || list_any (same_beside x) ys) ≡ true
-          → (list_any (same_beside x) ys ≡ true
-          → is_written_session new.sessions x.session ≡ false)
-          → is_written_session new.sessions x.session ≡ false
-      at true k f rest =
-          not-true (is_written_session new.sessions x.session)
-          (second_true (equal_group x y) _ k)
-      at false k f rest = rest f
-
-  -- the session of a group that isn't written isn't either
-  stays_open : (s : List ℕ) (g : ℕ) (x : SessionGroup) → group_in s g after.groups ≡ Some x
-      → is_written_session new.sessions x.session ≡ false → is_open_now s ≡ is_open_before s
-  stays_open s g x e n =
-      let none : session_in s new.sessions ≡ None =
-      subst (λ m. session_in m new.sessions ≡ None) (found_session s g after.groups x e)
-      (is_none_is (session_in x.session new.sessions) n) in
-      ap (λ o. is_open_row (first_of o (r.sessions s))) none
-
-  abbrev is_written_group : SessionGroup → Bool
-  is_written_group x = not (list_any (same_beside x) before.groups)
-
-  written_group : (s : List ℕ) (g : ℕ)
-      → group_in s g new.groups ≡ only is_written_group (group_in s g after.groups)
-  written_group s g =
-      find_filter same_group (is_of s g) (one_group s g) is_written_group after.groups later.groups
-
-  -- what isn't written stood there
-  stood_before : (s : List ℕ) (g : ℕ) (x : SessionGroup) → group_in s g after.groups ≡ Some x
-      → list_any (same_beside x) before.groups ≡ true → group_in s g before.groups ≡ Some x
-  stood_before s g x e k =
-      let none : group_in s g new.groups ≡ None =
-      written_group s g ∙ ap (only is_written_group) e
-      ∙ ap (λ t. if not t then Some x else None) k in
-      ap (λ o. first_of o (group_in s g before.groups)) (sym none)
-      ∙ differing_over same_group (is_of s g) (one_group s g) same_beside beside_from
-      before.groups after.groups (group_in s g before.groups) earlier.groups later.groups
-      (λ y e. e)
-      ∙ ap (λ o. first_of o (group_in s g before.groups)) e
-
-  -- a group is written as it is, or it stood there
-  by_group : (P : Option SessionGroup → Type 0) (s : List ℕ) (g : ℕ)
-      → P (group_in s g after.groups)
-      → ((x : SessionGroup) → group_in s g after.groups ≡ Some x
-      → group_in s g before.groups ≡ Some x → is_open_now s ≡ is_open_before s → P None)
-      → P (group_in s g new.groups)
-  by_group P s g same stood =
-      subst P (sym (written_group s g)) (at (group_in s g after.groups) refl)
-    where
-      by_test : (x : SessionGroup) (t : Bool) → group_in s g after.groups ≡ Some x
-          → list_any (same_beside x) before.groups ≡ t → P (if not t then Some x else None)
-      by_test x true e k =
-          stood x e (stood_before s g x e k)
-          (stays_open s g x e (not_written x before.groups k))
-      by_test x false e k = subst P e same
-
-      at : (o : Option SessionGroup) → group_in s g after.groups ≡ o
-          → P (only is_written_group o)
-      at None e = subst P e same
-      at (Some x) e = by_test x (list_any (same_beside x) before.groups) e refl
-
-  new_groups_read : (s : List ℕ) (g : ℕ)
-      → option_map
-      (stored_group names (is_open_now s) (book_over (group_in s g new.groups) (r.grant_books s g)))
-      (first_of (option_map (columns_of names) (group_in s g new.groups)) (r.groups s g))
-      ≡ first_of (option_map group_row (group_in s g after.groups))
-      (option_map (stored_group names (is_open_before s) (r.grant_books s g)) (r.groups s g))
-  new_groups_read s g =
-      by_group (λ o.
-      option_map (stored_group names (is_open_now s) (book_over o (r.grant_books s g)))
-      (first_of (option_map (columns_of names) o) (r.groups s g))
-      ≡ first_of (option_map group_row (group_in s g after.groups))
-      (option_map (stored_group names (is_open_before s) (r.grant_books s g)) (r.groups s g))) s g
-      (ap (λ b. option_map
-      (stored_group names b (book_over (group_in s g after.groups) (r.grant_books s g)))
-      (first_of (option_map (columns_of names) (group_in s g after.groups)) (r.groups s g)))
-      (opened_same s)
-      ∙ groups_read names after r made.free may s g)
-      (λ x is stood stays.
-      ap (λ b. option_map (stored_group names b (r.grant_books s g)) (r.groups s g)) stays
-      ∙ made.groups s g x stood
-      ∙ ap (λ o. first_of (option_map group_row o)
-      (option_map (stored_group names (is_open_before s) (r.grant_books s g)) (r.groups s g)))
-      (sym is))
-
-  new_holds_read : (s : List ℕ) (g n : ℕ)
-      → held_in (is_open_now s && is_reserved
-      (first_of (option_map (columns_of names) (group_in s g new.groups)) (r.groups s g)))
-      (amount_in n (group_in s g new.groups) (r.holds s g n))
-      ≡ held_over n (group_in s g after.groups)
-      (held_in (is_open_before s && is_reserved (r.groups s g)) (r.holds s g n))
-  new_holds_read s g n =
-      by_group (λ o. held_in (is_open_now s && is_reserved
-      (first_of (option_map (columns_of names) o) (r.groups s g))) (amount_in n o (r.holds s g n))
-      ≡ held_over n (group_in s g after.groups)
-      (held_in (is_open_before s && is_reserved (r.groups s g)) (r.holds s g n))) s g
-      (ap (λ b. held_in (b && is_reserved
-      (first_of (option_map (columns_of names) (group_in s g after.groups)) (r.groups s g)))
-      (amount_in n (group_in s g after.groups) (r.holds s g n))) (opened_same s)
-      ∙ holds_read names after r made.free may s g n)
-      (λ x is stood stays.
-      ap (λ b. held_in (b && is_reserved (r.groups s g)) (r.holds s g n)) stays
-      ∙ made.holds s g n x stood
-      ∙ ap (λ o. held_over n o
-      (held_in (is_open_before s && is_reserved (r.groups s g)) (r.holds s g n))) (sym is))
-
-  pub new_rows_read : rows_of names (over_stored names new r) ≡ over after (rows_of names r)
-  new_rows_read = λ i. record (over after (rows_of names r)) {
-    buckets = λ n. (counted_told n new.buckets r (each_filter (λ b. IsScopeOf b.kind b.scope) _
-        after.buckets later.scoped)
-        ∙ differing_over same_bucket (λ b. b.number == n) (one_bucket n) equal_bucket bucket_from
-        before.buckets after.buckets (told_buckets r n) earlier.buckets later.buckets
-        (made.buckets n)) i;
-    counters = λ g n. differing_over same_counter (is_counter g n) (one_counter g n) equal_counter
-        counter_from before.counters after.counters (r.counters g n) earlier.counters
-        later.counters (made.counters g n) i;
-    sessions = λ s. sessions_same s i;
-    groups = λ s g. new_groups_read s g i;
-    holds = λ s g n. new_holds_read s g n i;
-  }
-
--- the new rows have different keys, and may be written where all may
-pub new_keyed : (before after : StoredRows) → AreKeyed after → AreKeyed (new_rows before after)
-new_keyed before after h = record {
-  buckets = apart_filter same_bucket _ after.buckets h.buckets;
-  scoped = each_filter (λ b. IsScopeOf b.kind b.scope) _ after.buckets h.scoped;
-  counters = apart_filter same_counter _ after.counters h.counters;
-  sessions = apart_filter same_session _ after.sessions h.sessions;
-  groups = apart_filter same_group _ after.groups h.groups;
+-- the rows of a change have different keys
+pub keyed_named : (w : StoredRows) → AreRowsNamed w → AreKeyed w
+keyed_named w h = record {
+  buckets = h.apart.buckets;
+  scoped = EachIn-weaker IsBalanced (λ b. IsScopeOf b.kind b.scope) w.buckets
+      (λ b balanced. balanced.scope) h.balanced;
+  counters = h.apart.counters;
+  sessions = h.apart.sessions;
+  groups = h.apart.groups;
 }
 
 -- the test of a group that is found
@@ -500,50 +395,41 @@ same_texts a (Reference x) names w cs r = refl
 -- ---- all of it
 
 module _ (names : Names) (m : Meta) (change : Change) (texts : Option Kept) (c : Content)
-    (loaded : IsStored change.before) (kept : IsStored change.after)
-    (may : AreWritable names change.after.sessions change.after.groups)
-    (numbers : AreNumbered (first_number (c.rows change.number).head) change.after.next_charge
-    change.charges.items) (told : AreTexts change.number change.kept texts) where
-  abbrev written_rows : StoredRows
-  written_rows = new_rows change.before change.after
-
+    (named : AreRowsNamed change.rows) (may : MayBeMade names change (c.rows change.number))
+    (told : AreTexts change.number change.kept texts) where
   row_after : Stored → Stored
   row_after r = put_kept change.kept texts
-      (over_paid change.charges.items (over_stored names written_rows r))
+      (over_paid change.charges.items (over_stored names change.rows r))
 
   content_after : with_change names m change texts c
       ≡ with_redeemed change.redeemed (opened change.number row_after (with_meta m c))
   unfolding row_after
   content_after =
       ap (with_redeemed change.redeemed) (ap (with_kept change.number change.kept texts)
-      (paid_over change.number change.charges.items (with_stored change.number names written_rows
+      (paid_over change.number change.charges.items (with_stored change.number names change.rows
       (with_meta m c)) (numbered_apart (first_number (c.rows change.number).head)
-      change.after.next_charge change.charges.items numbers)
+      change.rows.next_charge change.charges.items may.numbers)
       ∙ ap (with_rows change.number (over_paid change.charges.items))
-      (stored_over change.number names change.after.sessions written_rows (with_meta m c)
-      (new_keyed change.before change.after (keyed change.after kept))
-      (each_filter (λ x. MayStand names change.after.sessions x.session x.reservation) _
-      change.after.groups may))
+      (stored_over change.number names change.rows.sessions change.rows (with_meta m c)
+      (keyed_named change.rows named) may.reservations)
       ∙ with_opened change.number (over_paid change.charges.items)
-      (over_stored names written_rows) (with_meta m c))
+      (over_stored names change.rows) (with_meta m c))
       ∙ kept_over change.number change.kept texts
-      (λ r. over_paid change.charges.items (over_stored names written_rows r)) (with_meta m c))
+      (λ r. over_paid change.charges.items (over_stored names change.rows r)) (with_meta m c))
 
-  module _ (last : m.last ≡ change.moment)
-      (made : IsMadeFrom change.before change.after (rows_of names (c.rows change.number))) where
+  module _ (last : m.last ≡ change.moment) where
     rows_at : (x : List ℕ) (t : Bool) → same_name change.number x ≡ t
         → rows_of names (if t then row_after (c.rows x) else c.rows x)
-        ≡ (if t then over change.after (rows_of names (c.rows x)) else rows_of names (c.rows x))
+        ≡ (if t then over change.rows (rows_of names (c.rows x)) else rows_of names (c.rows x))
     unfolding row_after
     rows_at x true e =
-        let made_here =
-        subst (λ a. IsMadeFrom change.before change.after (rows_of names (c.rows a)))
-        (name_from change.number x e) made in
         kept_rows names change.kept texts
-        (over_paid change.charges.items (over_stored names written_rows (c.rows x)))
-        ∙ new_rows_read names change.before change.after (c.rows x) made_here
-        (keyed change.before loaded) (keyed change.after kept)
-        (may_at names change.after.sessions change.after.groups may)
+        (over_paid change.charges.items (over_stored names change.rows (c.rows x)))
+        ∙ rows_read names change.rows (c.rows x)
+        (subst (λ a. AreSettled change.rows.sessions change.rows.groups (c.rows a))
+        (name_from change.number x e) may.settled)
+        (may_at names change.rows.sessions change.rows.groups may.reservations)
+        (keyed_named change.rows named).scoped
     rows_at x false e = refl
 
     answers_at : (x : List ℕ) (k : Key) (t : Bool) → same_name change.number x ≡ t
@@ -552,10 +438,10 @@ module _ (names : Names) (m : Meta) (change : Change) (texts : Option Kept) (c :
     unfolding row_after
     answers_at x k true e =
         kept_answer x k change.kept texts
-        (over_paid change.charges.items (over_stored names written_rows (c.rows x)))
+        (over_paid change.charges.items (over_stored names change.rows (c.rows x)))
         (subst (λ a. AreTexts a change.kept texts) (name_from change.number x e) told)
         ∙ ap (kept_after change.kept k)
-        (same_texts x k names written_rows change.charges.items (c.rows x))
+        (same_texts x k names change.rows change.charges.items (c.rows x))
     answers_at x k false e = refl
 
     charges_at : (x : List ℕ) (n : ℕ) (t : Bool) → same_name change.number x ≡ t
@@ -565,12 +451,12 @@ module _ (names : Names) (m : Meta) (change : Change) (texts : Option Kept) (c :
     unfolding row_after
     charges_at x n true e =
         kept_charges n change.kept texts
-        (over_paid change.charges.items (over_stored names written_rows (c.rows x)))
-        ∙ ap (λ o. if nat_lt 0 n && nat_lt n change.after.next_charge then o else None)
-        (paid_told n change.charges.items (over_stored names written_rows (c.rows x)))
-        ∙ seen_after n (first_number (c.rows x).head) change.after.next_charge change.charges.items
+        (over_paid change.charges.items (over_stored names change.rows (c.rows x)))
+        ∙ ap (λ o. if nat_lt 0 n && nat_lt n change.rows.next_charge then o else None)
+        (paid_told n change.charges.items (over_stored names change.rows (c.rows x)))
+        ∙ seen_after n (first_number (c.rows x).head) change.rows.next_charge change.charges.items
         (is_numbered n (c.rows x).head) (subst (λ a. AreNumbered (first_number (c.rows a).head)
-        change.after.next_charge change.charges.items) (name_from change.number x e) numbers)
+        change.rows.next_charge change.charges.items) (name_from change.number x e) may.numbers)
         (begins n (c.rows x).head) (told_charge (c.rows x) n)
     charges_at x n false e = refl
 
@@ -592,5 +478,5 @@ module _ (names : Names) (m : Meta) (change : Change) (texts : Option Kept) (c :
         })
 
 pub changes_read : AreChangesRead
-changes_read names m change texts c loaded kept may numbers told last made =
-    change_read names m change texts c loaded kept may numbers told last made
+changes_read names m change texts c named may told last =
+    change_read names m change texts c named may told last

@@ -1,24 +1,24 @@
 -- What is committed of a change.
 use Rattle.std.proofs.Common.{◌≡◌, ◌≤◌, ◌∙◌, ap, refl, subst, ℕ, List, [], ◌∷◌, Option, Some, None}
-use Rattle.std.proofs.Common.{IsTrue}
+use Rattle.std.proofs.Common.{IsTrue, sym}
 use Rattle.keepers.specs.declared.key.Key.{Key}
 use Rattle.keepers.specs.declared.key.Key.TheVariants.{Request, Reference}
 use Rattle.keepers.specs.declared.key.KeptAnswer.{KeptAnswer}
 use Rattle.keepers.specs.declared.loaded.Change.{Change}
 use Rattle.keepers.specs.declared.loaded.Redeemed.{Redeemed}
 use Rattle.keepers.specs.Keys.{key_of}
+use Rattle.keepers.specs.Naming.{IsNamed}
 use Rattle.buckets.specs.Row.{Row as Bucket}
 use Rattle.buckets.specs.declared.kind.BucketKind.{BucketKind}
 use Rattle.buckets.specs.declared.holds.Hold.{Hold}
 use Rattle.reserving.specs.declared.session.SessionGroup.{SessionGroup}
 use Rattle.reserving.specs.Sessions.{holds_in}
-use Rattle.reserving.specs.Stored.{StoredRows, IsStored}
+use Rattle.reserving.specs.Stored.{StoredRows}
 use Rattle.sqlite.specs.Effect.{Database}
 use Rattle.sqlite.specs.State.{State, HasCleanDisk}
 use Rattle.sqlite_trees.specs.Tree.{Trees}
 use Rattle.sql_tables.specs.Statements.{OnlyReads}
 use Rattle.sql_rows.specs.Values.{DatedBook, Meta, Kept}
-use Rattle.sql_rows.specs.declared.head.Head.{Head as HeadColumns}
 use Rattle.sql_rows.specs.Content.{Content, content_of, rows_in, with_rows, with_meta, with_account}
 use Rattle.sql_rows.specs.Content.{with_counter, with_session, with_group, with_hold}
 use Rattle.sql_rows.specs.Content.{with_bucket, without_holds}
@@ -27,11 +27,13 @@ use Rattle.sql_rows.specs.Each.{with_each, with_counters, with_sessions}
 use Rattle.sql_rows.specs.Makes.{Turns}
 use Rattle.sql_keeper.specs.Content.{tables_of, Names}
 use Rattle.sql_keeper.specs.Commits.{Becomes}
-use Rattle.sql_keeper.specs.Tests.{AreNumbered, AreWritable, first_number}
+use Rattle.sql_keeper.specs.Tests.{MayBeMade}
+use Rattle.sql_keeper.specs.Tidy.{IsTidy}
 use Rattle.sql_keeper.specs.Writes.{AreTexts, columns_of, head_of, meta_with, with_change}
 use Rattle.sql_keeper.specs.Writes.{with_all_counted, with_all_paid, with_book_of, with_counted}
 use Rattle.sql_keeper.specs.Writes.{with_held_group, with_kept, with_paid, with_redeemed}
-use Rattle.sql_keeper.specs.Writes.{with_scoped, with_stored, new_rows, with_texts}
+use Rattle.sql_keeper.specs.Writes.{with_scoped, with_stored, with_texts}
+use Rattle.sql_keeper.proofs.TidyChanges.{tidy_change}
 use Rattle.sql_keeper.proofs.Changed.{changes_read}
 
 -- ---- what is kept once, and the later books
@@ -99,30 +101,27 @@ stored_meta a names w c =
 change_meta : (names : Names) (m : Meta) (change : Change) (texts : Option Kept) (c : Content)
     → beside (with_change names m change texts c) ≡ beside (with_meta m c)
 change_meta names m change texts c =
-    let rows = new_rows change.before change.after in
-    let stored = with_stored change.number names rows (with_meta m c) in
+    let stored = with_stored change.number names change.rows (with_meta m c) in
     let charged = with_all_paid change.number change.charges.items stored in
     redeemed_meta change.redeemed (with_kept change.number change.kept texts charged)
     ∙ kept_meta change.number change.kept texts charged
     ∙ each_meta (with_paid change.number) (λ x c. refl) change.charges.items stored
-    ∙ stored_meta change.number names rows (with_meta m c)
+    ∙ stored_meta change.number names change.rows (with_meta m c)
 
 -- ---- a change that passed the tests
 
 module _ (names : Names) (text : List ℕ) (change : Change) (texts : Option Kept)
-    (head : Option HeadColumns) (loaded : IsStored change.before) (stored : IsStored change.after)
-    (may : AreWritable names change.after.sessions change.after.groups)
-    (numbers : AreNumbered (first_number head) change.after.next_charge change.charges.items)
-    (told : AreTexts change.number change.kept texts) (last : change.moment ≤ 4_102_488_000) where
-  become : (old new : Trees) → head ≡ (rows_in old change.number).head
+    (named : IsNamed change.rows) (told : AreTexts change.number change.kept texts) (last : change.moment ≤ 4_102_488_000) where
+  become : (old new : Trees) → MayBeMade names change (rows_in old change.number)
       → Turns (with_change names (meta_with text change) change texts) old new
       → Becomes names text change old new
-  become old new is turns = record {
-    tables = λ made.
-        ap (tables_of names) turns.content
-        ∙ changes_read names (meta_with text change) change texts (content_of old) loaded stored may
-        (subst (λ h. AreNumbered (first_number h) change.after.next_charge change.charges.items) is
-        numbers) told refl made;
+  become old new may turns = record {
+    tables = ap (tables_of names) turns.content
+        ∙ changes_read names (meta_with text change) change texts (content_of old) named may told
+        refl;
+    tidy = λ scopes t. subst (IsTidy names) (sym turns.content)
+        (tidy_change names (meta_with text change) change texts (content_of old) named may told
+        scopes t);
     meta = ap (λ (c : Content). c.meta) turns.content ∙ ap (λ (b : Beside). b.meta)
         (change_meta names (meta_with text change) change texts (content_of old));
     last = last;
@@ -133,11 +132,12 @@ module _ (names : Names) (text : List ℕ) (change : Change) (texts : Option Kep
   }
 
   pub become_at : (old mid : State) → OnlyReads old mid
-      → (HasCleanDisk mid → head ≡ (rows_in old.now.trees change.number).head) → HasCleanDisk mid
+      → (HasCleanDisk mid → IsTrue mid.is_open
+      → MayBeMade names change (rows_in old.now.trees change.number)) → HasCleanDisk mid
       → IsTrue mid.is_open → (db : Trees)
       → Turns (with_change names (meta_with text change) change texts) mid.now.trees db
       → Becomes names text change old.now.trees db
-  become_at old mid only is clean on db turns =
-      become old.now.trees db (is clean) (subst (λ (d : Database).
+  become_at old mid only may clean on db turns =
+      become old.now.trees db (may clean on) (subst (λ (d : Database).
       Turns (with_change names (meta_with text change) change texts) d.trees db)
       (only.still clean on).now_is turns)

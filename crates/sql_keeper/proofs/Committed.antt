@@ -11,7 +11,7 @@ use Rattle.sqlite.specs.State.{State, HasCleanDisk, Survives}
 use Rattle.sql_rows.specs.Content.{content_of}
 use Rattle.keepers.specs.declared.fault.StoreFault.{StoreFault}
 use Rattle.keepers.specs.declared.loaded.Change.{Change}
-use Rattle.keepers.specs.Change.{IsMadeFrom, IsSwept, changed}
+use Rattle.keepers.specs.Change.{IsSwept, changed}
 use Rattle.keepers.specs.Change.{with_voucher as with_added}
 use Rattle.redemptions.specs.declared.terms.VoucherTerms.{VoucherTerms}
 use Rattle.keepers.specs.Faults.{max_failures}
@@ -42,8 +42,7 @@ pub committed : {S A : Type 0} (g : Ghosts S) (old : KeeperState S) (conn : Held
     → IsKeeper g old → (r : Result A StoreFault)
     → CommitsChange (names_in old) text change (state g old.connection) (state g conn) r
     → IsClean (state g conn)
-    → OnOk r (IsMadeFrom change.before change.after ((tables_in g old).rows change.number)
-    → tables_of (names_in old) (content_of (state g conn).now.trees)
+    → OnOk r (tables_of (names_in old) (content_of (state g conn).now.trees)
     ≡ changed change (tables_in g old))
 committed g old conn text change keeper (Ok x) commits clean = (commits.done clean.disk).2.tables
 committed g old conn text change keeper (Err e) commits clean = tt

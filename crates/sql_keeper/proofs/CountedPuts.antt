@@ -59,7 +59,7 @@ kind_put Money n r = refl
 kind_put Blocks n r = refl
 
 -- whether the row beside a bucket is there
-abbrev counts_scoped : Option ℕ → BucketKind → Bool → Bool
+abbrev pub counts_scoped : Option ℕ → BucketKind → Bool → Bool
 counts_scoped None k before = before
 counts_scoped (Some g) k before = counts_blocks k
 
@@ -87,11 +87,11 @@ counted_one : (a : List ℕ) (o : Option ℕ) (k : BucketKind) (n : ℕ) (f : Ro
 counted_one a None k n f c = refl
 counted_one a (Some g) k n f c = with_twice a (with_kind k n) f c
 
-abbrev counted_in : Option Bucket → Option Bucket → Option Bucket
+abbrev pub counted_in : Option Bucket → Option Bucket → Option Bucket
 counted_in None before = before
 counted_in (Some b) before = Some (plain_bucket b)
 
-abbrev counts_in : Option Bucket → Bool → Bool
+abbrev pub counts_in : Option Bucket → Bool → Bool
 counts_in None before = before
 counts_in (Some b) before = counts_scoped b.scope b.kind before
 
@@ -188,11 +188,11 @@ blocks_put n m r = at (m == 0)
 abbrev put_paid : ChargeRow → Rows → Rows
 put_paid x r = with_blocks x.number x.covered.0 (with_charge (plain_charge x) r)
 
-abbrev paid_in : Option ChargeRow → Option ChargeRow → Option ChargeRow
+abbrev pub paid_in : Option ChargeRow → Option ChargeRow → Option ChargeRow
 paid_in None before = before
 paid_in (Some x) before = Some (plain_charge x)
 
-abbrev blocks_in : Option ChargeRow → Option ℕ → Option ℕ
+abbrev pub blocks_in : Option ChargeRow → Option ℕ → Option ℕ
 blocks_in None before = before
 blocks_in (Some x) before = row_of_blocks x.covered.0
 

@@ -18,7 +18,7 @@ use Rattle.sql_keeper.specs.Content.{told_buckets}
 use Rattle.sql_keeper.specs.Dead.{AreDead}
 use Rattle.sql_keeper.specs.Kinds.{IsScoped, counted_by, counted_row, counted_rows}
 use Rattle.sql_keeper.specs.LiveRows.{AreLiveBuckets}
-use Rattle.sql_keeper.proofs.DeadRows.{apart, spent_is_dead}
+use Rattle.sql_keeper.proofs.DeadRows.{apart, spent_is_dead, in_order}
 use Rattle.sql_keeper.proofs.Overlays.{number_from}
 
 -- ---- one row
@@ -132,6 +132,7 @@ dead_told rows xs numbers bs found rise are made =
     subst (AreDead (told_buckets rows)) (sym is) (record {
       found = counted_told lists.is_dead is_dead (λ k b. spent_is_dead b) rows xs found;
       apart = apart (counted_rows rows xs) (rise_counted rows xs rise);
+      order = in_order (counted_rows rows xs) (rise_counted rows xs rise);
     })
 
 -- of rows and numbers that are handed on

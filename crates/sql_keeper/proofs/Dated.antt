@@ -1,6 +1,6 @@
 -- What a book more leaves of what the tables held.
 use Rattle.std.proofs.Common.{◌≡◌, ◌≤◌, ◌<◌, ◌∙◌, ◌++◌, ℕ, zero, suc, Bool, true, false, List, []}
-use Rattle.std.proofs.Common.{◌∷◌, Option, Some, None, refl, sym, ap, arith, length}
+use Rattle.std.proofs.Common.{◌∷◌, Option, Some, None, refl, sym, ap, subst, arith, length}
 use Rattle.std.specs.Prelude.{option_map, slice_get, unwrap_or}
 use Rattle.sqlite_trees.specs.Tree.{Trees}
 use Rattle.reserving.specs.Left.{is_open_row}
@@ -10,6 +10,8 @@ use Rattle.sql_rows.specs.Values.{Group, PeriodNames}
 use Rattle.sql_keeper.specs.AddsBook.{AreBooksKnown, BecomesDated, with_dated}
 use Rattle.sql_keeper.specs.Content.{Names, book_in, group_in, names_numbered, periods_in, rows_of}
 use Rattle.sql_keeper.specs.Content.{tables_of, terms_in}
+use Rattle.sql_keeper.specs.Tidy.{IsTidy}
+use Rattle.sql_keeper.proofs.TidyChanges.{tidy_dated}
 
 -- what stands in a list stands where it stood once there is one more
 got_still : {A : Type 0} (xs : List A) (x : A) (i : ℕ) → i < length xs →
@@ -67,6 +69,8 @@ become_dated n from text old new turns = record {
   tables = λ names more some is known.
       ap (tables_of (names ++ more ∷ [])) turns.content
       ∙ dated_tables names more n from text (content_of old) some known;
+  tidy = λ names more t. subst (IsTidy (names ++ more ∷ [])) (sym turns.content)
+      (tidy_dated names more n from text (content_of old) t);
   books = ap (λ (c : Content). c.books) turns.content;
   meta = ap (λ (c : Content). c.meta) turns.content;
   catalog = turns.catalog;

@@ -1,12 +1,15 @@
 -- The dead buckets of an account, as rows that rise tell them.
-use Rattle.std.proofs.Common.{◌≡◌, ◌<◌, ℕ, ◌==◌, List, [], ◌∷◌, Bool, true, false, not, ◌||◌, ◌&&◌}
+use Rattle.std.proofs.Common.{◌≡◌, ◌<◌, ◌≤◌, ℕ, zero, suc, ◌==◌, List, [], ◌∷◌, length, Bool, true}
+use Rattle.std.proofs.Common.{false, not, ◌||◌, ◌&&◌}
 use Rattle.std.proofs.Common.{Option, Some, None, Result, Ok, Err, IfOk, refl, sym, ap, ◌∙◌, subst}
 use Rattle.std.proofs.Common.{arith, nat_eq, nat_lt, ltb-true, ltb-false, eqb-true}
 use Rattle.std.proofs.lemmas.Bool.{eqb-false}
-use Rattle.std.specs.Prelude.{if◌then◌else◌}
+use Rattle.std.specs.Prelude.{if◌then◌else◌, slice_index_or}
+use Rattle.std.specs.List.Sorted.{IsNonDecreasingBy}
 use Rattle.buckets.specs.Row.{Row}
 use Rattle.reserving.specs.Rows.{AreApart, EachIn}
 use Rattle.reserving.specs.Left.{is_dead, only}
+use Rattle.reserving.proofs.order.Searched.{no_less}
 use Rattle.keepers.specs.Keyed.{same_bucket}
 use Rattle.sql_tables.specs.Selects.{only as those}
 use Rattle.sql_rows.specs.Lists.{BucketsRise, is_dead as is_spent}
@@ -61,3 +64,22 @@ apart (b ∷ bs) rise = (others b bs rise, apart bs (tail b bs rise))
     tail : (b : Row) (bs : List Row) → BucketsRise (b ∷ bs) → BucketsRise bs
     tail b [] rise = tt
     tail b (x ∷ xs) rise = rise.1
+
+-- numbers that rise don't fall
+pub in_order : (bs : List Row) → BucketsRise bs → IsNonDecreasingBy (λ b. b.number) bs
+in_order [] rise i j d le less = absurd (no_less j less)
+in_order (b ∷ bs) rise zero j d le less = first b bs rise j d less
+  where
+    first : (b : Row) (bs : List Row) → BucketsRise (b ∷ bs) → (j : ℕ) (d : Row) →
+        j < length (b ∷ bs) → b.number ≤ (slice_index_or (b ∷ bs) j d).number
+    first b bs rise zero d less = omega arith
+    first b [] rise (suc j) d less = absurd (no_less j (omega (arith, less)))
+    first b (x ∷ xs) rise (suc j) d less =
+        omega (arith, rise.0, first x xs rise.1 j d (omega (arith, less)))
+in_order (b ∷ bs) rise (suc i) zero d le less = absurd (no_less i le)
+in_order (b ∷ bs) rise (suc i) (suc j) d le less =
+    in_order bs (later b bs rise) i j d (omega (arith, le)) (omega (arith, less))
+  where
+    later : (b : Row) (bs : List Row) → BucketsRise (b ∷ bs) → BucketsRise bs
+    later b [] rise = tt
+    later b (x ∷ xs) rise = rise.1

@@ -17,11 +17,14 @@ use Rattle.sql_tables.specs.Stages.{AreEmpty, BuildsAll}
 use Rattle.sql_tables.specs.Statements.{Attempts}
 use Rattle.sql_tables.specs.Schema as table
 use Rattle.sql_rows.specs.Values as values
+use Rattle.sql_rows.specs.Values.{Meta}
 use Rattle.sql_rows.specs.Content.{Rows as Stored, Content, content_of, with_meta}
 use Rattle.sql_rows.specs.Makes.{Makes, Turns}
-use Rattle.sql_keeper.specs.Content.{answer_in, tables_of}
+use Rattle.sql_keeper.specs.Content.{Names, answer_in, tables_of}
 use Rattle.sql_keeper.specs.Creates.{first_meta, BuildsBook, IsNewBook}
 use Rattle.sql_keeper.specs.Laws.{AreNewTablesEmpty}
+use Rattle.sql_keeper.specs.Tidy.{AreTidyRows, IsTidy}
+use Rattle.sql_keeper.proofs.Overlays.{not_both}
 
 pub none_stored : (t : Table) (trees : Trees) → trees t.tree ≡ [] → (key : Row) →
     look t trees key ≡ None
@@ -45,6 +48,7 @@ nothing = record {
 abbrev no_content : Content
 no_content = record {
   meta = None;
+  kept = 0;
   rows = λ a. nothing;
   vouchers = λ code. None;
   books = λ n. None;
@@ -69,6 +73,7 @@ empty_content trees e =
     let at_covered = e.1.1.1.1.1.1.1.1.1.1.1.1.1.0 in
     λ i. record {
       meta = option_map values.meta_in (none_stored table.meta trees at_meta values.meta_key i);
+      kept = length (at_meta i);
       rows = λ a. record {
         head = option_map values.head_in
             (none_stored table.accounts trees at_accounts (values.head_key a) i);
@@ -139,6 +144,21 @@ new_empty names =
     ))
     ∙ (λ i. record (tables_of names no_content) { answers = λ a k. none_kept a k i })
 
+tidy_nothing : (names : Names) (a : List ℕ) → AreTidyRows names a nothing
+tidy_nothing names a = record {
+  live = λ s g k. not_both (sym k);
+  terms = λ s g. refl;
+  books = λ s g k. not_both (sym k);
+  holds = λ s g n k. not_both (sym k);
+  kinds = λ n k. not_both (sym k);
+  charges = λ n k. not_both (sym k);
+  covered = λ n k. not_both (sym k);
+  texts = λ kind name number k e. absurd (cc);
+}
+
+tidy_new : (names : Names) (m : Meta) → IsTidy names (with_meta m no_content)
+tidy_new names m = record { there = refl; once = refl; rows = tidy_nothing names }
+
 -- the row of meta in tables without rows
 new_book : (text : List ℕ) (old new : Trees) → AreEmpty book_schema.tables old
     → Lists (old catalog_tree) book_schema → Turns (with_meta (first_meta text)) old new
@@ -154,6 +174,9 @@ new_book text old new e lists turns = record {
       });
   books = λ n. ap (λ (c : Content). c.books n)
       (turns.content ∙ ap (with_meta (first_meta text)) (empty_content old e));
+  tidy = λ names. subst (IsTidy names)
+      (sym (turns.content ∙ ap (with_meta (first_meta text)) (empty_content old e)))
+      (tidy_new names (first_meta text));
 }
 
 pub builds_book : {A B D E : Type 0} (text : List ℕ) (first : ℕ) → first ≡ 0 →

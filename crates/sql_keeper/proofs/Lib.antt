@@ -34,6 +34,7 @@ pub mod Puts
 pub mod Redeemed
 pub mod Reopening
 pub mod Repeating
+pub mod Settling
 pub mod Shelved
 pub mod Shelving
 pub mod Standing
@@ -41,5 +42,8 @@ pub mod StillOpen
 pub mod Stopped
 pub mod Swept
 pub mod SweptReads
+pub mod Tidy
+pub mod TidyChanges
+pub mod TidySweeps
 pub mod Told
 pub mod Whole

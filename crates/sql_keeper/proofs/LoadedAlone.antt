@@ -15,7 +15,8 @@ use Rattle.reserving.proofs.KeysFound.{is_none_is}
 use Rattle.reserving.proofs.LeftParted.{dead_parts}
 use Rattle.reserving.proofs.Advancing.{session_in-advanced}
 use Rattle.keepers.specs.Tables.{Rows, GroupRow, group_row, held_of}
-use Rattle.keepers.specs.Change.{has_reservation, is_loaded, IsLoadedFrom, IsMadeFrom}
+use Rattle.keepers.specs.Change.{has_reservation, is_loaded, IsLoadedFrom}
+use Rattle.keepers.specs.Overlaying.{IsMadeFrom}
 use Rattle.keepers.proofs.SweptRows.{none_lapsed}
 
 -- of what doesn't pass nothing is loaded

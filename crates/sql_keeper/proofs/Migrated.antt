@@ -30,8 +30,10 @@ use Rattle.sql_keeper.specs.Content.{answer_in, tables_of}
 use Rattle.sql_keeper.specs.Migrates.{AreGranted, BecomesLatest, before_2, before_3, content_at}
 use Rattle.sql_keeper.specs.Migrates.{granted_in, with_granted}
 use Rattle.sql_keeper.specs.Opened.{IsLeft}
+use Rattle.sql_keeper.specs.Tidy.{AreTidyRows, IsTidy, are_terms, has_terms}
 use Rattle.sql_keeper.specs.Shelves.{IsShelfOf}
 use Rattle.sql_keeper.proofs.Empty.{none_stored}
+use Rattle.sql_keeper.proofs.Tidy.{tidy_meta}
 
 -- ---- the rows of the tables that stay, and no row of those that are new
 
@@ -48,6 +50,7 @@ AreKept v old new = KeepsRows (schema_at v).tables old new
 kept_1 : (old new : Trees) → AreKept 1 old new → content_of new ≡ content_at 1 old
 kept_1 old new (k, e) = λ i. record {
   meta = option_map values.meta_in (looked_still table.meta old new k.0 values.meta_key i);
+  kept = length (k.0 i);
   rows = λ a. record {
     head = option_map values.head_in
         (looked_still table.accounts old new k.1.0 (values.head_key a) i);
@@ -83,6 +86,7 @@ kept_1 old new (k, e) = λ i. record {
 kept_2 : (old new : Trees) → AreKept 2 old new → content_of new ≡ content_at 2 old
 kept_2 old new (k, e) = λ i. record {
   meta = option_map values.meta_in (looked_still table.meta old new k.0 values.meta_key i);
+  kept = length (k.0 i);
   rows = λ a. record {
     head = option_map values.head_in
         (looked_still table.accounts old new k.1.0 (values.head_key a) i);
@@ -204,6 +208,53 @@ granted_books : (b : Bool) (c : Content) → (if b then c else record c {
 granted_books true c = refl
 granted_books false c = refl
 
+-- a reservation without a number is of the first book, and so it is with that number
+granted_terms : (names : Names) (o : Option Group) → has_terms names None o ≡ true
+    → has_terms names (if is_reserved o then Some 1 else None) o ≡ true
+granted_terms names None k = refl
+granted_terms names (Some x) k = at x.periods k
+  where
+    at : (p : Option PeriodNames) → are_terms names None p ≡ true →
+        are_terms names (if is_some p then Some 1 else None) p ≡ true
+    at None k = refl
+    at (Some q) k = k
+
+granted_number : (o : Option Group) →
+    is_some {T = ℕ} (if is_reserved o then Some 1 else None) ≡ true → is_reserved o ≡ true
+granted_number o = at (is_reserved o)
+  where
+    at : (b : Bool) → is_some {T = ℕ} (if b then Some 1 else None) ≡ true → b ≡ true
+    at true k = refl
+    at false k = k
+
+tidy_first : (names : Names) (trees : Trees) → IsTidy names (content_at 1 trees)
+    → IsTidy names (with_granted 1 (content_at 1 trees))
+tidy_first names trees t = record {
+  there = t.there;
+  once = t.once;
+  rows = λ a.
+      let own : AreTidyRows names a ((content_at 1 trees).rows a) = t.rows a in
+      record {
+        live = own.live;
+        terms = λ s g. granted_terms names (((content_at 1 trees).rows a).groups s g)
+            (own.terms s g);
+        books = λ s g. granted_number (((content_at 1 trees).rows a).groups s g);
+        holds = own.holds;
+        kinds = own.kinds;
+        charges = own.charges;
+        covered = own.covered;
+        texts = own.texts;
+      };
+}
+
+tidy_granted : (v : ℕ) → IsVersion v → v < latest → (names : Names) (trees : Trees)
+    → IsTidy names (content_at v trees) → IsTidy names (with_granted v (content_at v trees))
+tidy_granted zero known less names trees t = absurd (omega (arith, known.0))
+tidy_granted (suc zero) known less names trees t = tidy_first names trees t
+tidy_granted (suc (suc zero)) known less names trees t = t
+tidy_granted (suc (suc (suc n))) known less names trees t =
+    let low : suc (suc (suc n)) < 3 = less in absurd (omega (arith, low))
+
 -- what is put last, over what the tables held
 abbrev pub with_latest : ℕ → Meta → Content → Content
 with_latest v m c = with_meta (record m { version = latest }) (with_granted v c)
@@ -232,6 +283,9 @@ module _ (v : ℕ) (known : IsVersion v) (less : v < latest) (old mid new : Tree
         ∙ granted_tables v known less names old;
     granted = λ a s g. ap (λ (c : Content). (c.rows a).grant_books s g) after
         ∙ granted_rows v known less old a s g;
+    tidy = λ names t. subst (IsTidy names) (sym after)
+        (tidy_meta names (record m { version = latest }) (with_granted v (content_at v old))
+        (tidy_granted v known less names old t));
     books = books_stay;
     left = λ text row there same.
         let one : Some m ≡ Some row = sym is ∙ there in

@@ -12,7 +12,7 @@ use Rattle.sql_keeper.specs.Content.{is_numbered}
 use Rattle.sql_keeper.specs.Tests.{AreNumbered, first_number}
 use Rattle.sql_keeper.proofs.Overlays.{number_from, number_itself, not_both, same_charge}
 
-rises : (from next : ℕ) (cs : List ChargeRow) → AreNumbered from next cs → from ≤ next
+pub rises : (from next : ℕ) (cs : List ChargeRow) → AreNumbered from next cs → from ≤ next
 rises from next [] h = omega (arith, h)
 rises from next (c ∷ cs) h = let r = rises (from + 1) next cs h.1 in omega (arith, r)
 
@@ -44,7 +44,7 @@ positive k e = at (nat_lt 0 k) refl
     at true l = let s = ltb-true 0 k l in omega (arith, s)
     at false l = let s = ltb-false 0 k l in not_both (sym (same_is k 0 (omega (arith, s))) ∙ e)
 
-none_below : (n from next : ℕ) (cs : List ChargeRow) → AreNumbered from next cs → n < from →
+pub none_below : (n from next : ℕ) (cs : List ChargeRow) → AreNumbered from next cs → n < from →
     charge_in n cs ≡ None
 none_below n from next [] h low = refl
 none_below n from next (c ∷ cs) h low =
@@ -52,7 +52,7 @@ none_below n from next (c ∷ cs) h low =
     ap (λ t. cond t (Some c) (charge_in n cs)) (other c.number n (λ e. omega (arith, is, e, low)))
     ∙ none_below n (from + 1) next cs h.1 (omega (arith, low))
 
-none_above : (n from next : ℕ) (cs : List ChargeRow) → AreNumbered from next cs → next ≤ n →
+pub none_above : (n from next : ℕ) (cs : List ChargeRow) → AreNumbered from next cs → next ≤ n →
     charge_in n cs ≡ None
 none_above n from next [] h high = refl
 none_above n from next (c ∷ cs) h high =
@@ -180,3 +180,39 @@ begins n (Some h) = at h.next_charge (nat_eq h.next_charge 0) refl
       above = λ high. ap (λ u. nat_lt 0 n && u) (not_less n k high) ∙ and_false (nat_lt 0 n);
       none = λ z. ap (λ u. u && nat_lt n k) (not_less 0 n (omega (arith, z)));
     }
+
+-- ---- a number among those that are seen
+
+-- one that was seen is seen on
+pub numbered_on : (n from next : ℕ) (seen : Bool) → Begins seen n from → from ≤ next → seen ≡ true
+    → (nat_lt 0 n && nat_lt n next) ≡ true
+numbered_on n from next seen b up is =
+    let low = below (nat_lt n from) refl in
+    rw (lt-ltb 0 n (some (nat_lt 0 n) refl), lt-ltb n next (omega (arith, low, up))) refl
+  where
+    some : (t : Bool) → nat_lt 0 n ≡ t → 0 < n
+    some true e = ltb-true 0 n e
+    some false e = let l = ltb-false 0 n e in not_both (sym is ∙ b.none (omega (arith, l)))
+
+    below : (t : Bool) → nat_lt n from ≡ t → n < from
+    below true e = ltb-true n from e
+    below false e = not_both (sym is ∙ b.above (ltb-false n from e))
+
+-- and so is each of those that are numbered on
+pub numbered_among : (n from next : ℕ) (cs : List ChargeRow) (x : ChargeRow)
+    → AreNumbered from next cs → 1 ≤ from → charge_in n cs ≡ Some x
+    → (nat_lt 0 n && nat_lt n next) ≡ true
+numbered_among n from next cs x h first is =
+    let low = least (nat_lt n from) refl in
+    rw (lt-ltb 0 n (omega (arith, low, first)), lt-ltb n next (below (nat_lt n next) refl)) refl
+  where
+    missing : {X : Type 0} → charge_in n cs ≡ None → X
+    missing none = absurd (let no : Some x ≡ None = sym is ∙ none in cc)
+
+    least : (t : Bool) → nat_lt n from ≡ t → from ≤ n
+    least true e = missing (none_below n from next cs h (ltb-true n from e))
+    least false e = ltb-false n from e
+
+    below : (t : Bool) → nat_lt n next ≡ t → n < next
+    below true e = ltb-true n next e
+    below false e = missing (none_above n from next cs h (ltb-false n next e))

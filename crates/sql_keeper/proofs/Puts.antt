@@ -7,11 +7,9 @@ use Rattle.sqlite.specs.State.{State, KeepsCommit}
 use Rattle.sqlite.proofs.StateLemmas.{survives_then}
 use Rattle.sql_tables.specs.Statements.{Attempts}
 use Rattle.reserving.specs.declared.charge.ChargeRow.{ChargeRow}
-use Rattle.reserving.specs.Stored.{StoredRows}
 use Rattle.sql_rows.specs.Content.{Content, Rows, with_rows, with_covered, without_covered}
 use Rattle.sql_rows.specs.Makes.{Makes, MakesIfOpen}
-use Rattle.sql_keeper.specs.Content.{Names}
-use Rattle.sql_keeper.specs.Writes.{with_all_paid, with_blocks, with_stored}
+use Rattle.sql_keeper.specs.Writes.{with_all_paid, with_blocks}
 use Rattle.sql_keeper.proofs.Overlays.{number_from}
 
 pub made_then : (f g : Content → Content) (a b c : State) → Makes f a b → Makes g b c →
@@ -82,14 +80,6 @@ pub puts_paid : {A E : Type 0} (a : List ℕ) (xs ys : List ChargeRow) → ys �
     → Attempts {A = A} {E = E} (MakesIfOpen (with_all_paid a xs)) old new r
 puts_paid {A} {E} a xs ys is old new r =
     subst (λ zs. Attempts {A = A} {E = E} (MakesIfOpen (with_all_paid a zs)) old new r) is
-
--- the same rows
-pub puts_stored : {A E : Type 0} (a : List ℕ) (names : Names) (v w : StoredRows) → v ≡ w
-    → (old new : State) (r : Result A E)
-    → Attempts {A = A} {E = E} (Makes (with_stored a names v)) old new r
-    → Attempts {A = A} {E = E} (Makes (with_stored a names w)) old new r
-puts_stored {A} {E} a names v w is old new r =
-    subst (λ rows. Attempts {A = A} {E = E} (Makes (with_stored a names rows)) old new r) is
 
 -- the covered blocks of a charge: none, or some
 pub puts_none : {A E : Type 0} (a : List ℕ) (n m k l : ℕ) (old new : State) (r : Result A E)

@@ -9,7 +9,7 @@ use Rattle.sqlite.specs.Held.{Held, state}
 use Rattle.sqlite.specs.State.{HasCleanDisk, IsLive, Opens, Survives}
 use Rattle.sqlite.specs.Steps.{IsFresh}
 use Rattle.shelves.specs.Shelves.{Shelf}
-use Rattle.keepers.specs.Change.{IsMadeFrom, changed}
+use Rattle.keepers.specs.Change.{changed}
 use Rattle.keepers.specs.declared.fault.StoreFault.{StoreFault}
 use Rattle.keepers.specs.declared.loaded.Change.{Change}
 use Rattle.sql_opening.specs.declared.fault.OpenFault.{OpenFault}
@@ -137,8 +137,7 @@ module _ {S : Type 0} (g : Ghosts S) (law : AreSettled g) (change : Change)
   pub changed_whole : {A : Type 0} (r : Result A StoreFault)
       → (HasCleanDisk (state g mid.connection) → OnOk r (IsClean (state g mid.connection)))
       → (IsClean (state g mid.connection)
-      → OnOk r (IsMadeFrom change.before change.after ((tables_in g old).rows change.number)
-      → tables_in g mid ≡ changed change (tables_in g old)))
+      → OnOk r (tables_in g mid ≡ changed change (tables_in g old)))
       → IsChangedWhole g change old new r
   changed_whole {A} r stands done = record {
     either = either;
@@ -149,14 +148,12 @@ module _ {S : Type 0} (g : Ghosts S) (law : AreSettled g) (change : Change)
     where
       told : (q : Result A StoreFault) → OnOk q (IsClean (state g mid.connection))
           → (IsClean (state g mid.connection)
-          → OnOk q (IsMadeFrom change.before change.after ((tables_in g old).rows change.number)
-          → tables_in g mid ≡ changed change (tables_in g old)))
-          → OnOk q (IsMadeFrom change.before change.after ((tables_in g old).rows change.number)
-          → tables_in g new ≡ changed change (tables_in g old))
-      told (Ok x) clean to = λ made.
+          → OnOk q (tables_in g mid ≡ changed change (tables_in g old)))
+          → OnOk q (tables_in g new ≡ changed change (tables_in g old))
+      told (Ok x) clean to =
           let it = found.rests clean in
           ap (λ s. tables_of (shelf_names s) (content_of (trees_in g new))) (found.own ∙ it.1)
-          ∙ ap (λ d. tables_of (names_in mid) (content_of d)) it.0 ∙ to clean made
+          ∙ ap (λ d. tables_of (names_in mid) (content_of d)) it.0 ∙ to clean
       told (Err e) clean to = tt
 
 -- so it is of what is opened again, if it is
@@ -166,8 +163,7 @@ pub changed_after : {S A E : Type 0} (g : Ghosts S) → AreSettled g → (change
     → (r : Result A StoreFault) → (HasCleanDisk (state g mid.connection)
     → OnOk r (IsClean (state g mid.connection)))
     → (IsClean (state g mid.connection)
-    → OnOk r (IsMadeFrom change.before change.after ((tables_in g old).rows change.number)
-    → tables_in g mid ≡ changed change (tables_in g old)))
+    → OnOk r (tables_in g mid ≡ changed change (tables_in g old)))
     → (q : Result (KeeperState S × Shelf) E)
     → IfOk q (λ made. HasCleanDisk (state g made.0.connection)
     → IsFoundAfter g g mid made.0 made.1)

@@ -14,21 +14,21 @@ use Rattle.reserving.proofs.Lists.{no_some, some_of, EachIn-weaker}
 use Rattle.reserving.proofs.LeftTests.{none_more}
 use Rattle.keepers.specs.declared.key.Key.{Key}
 use Rattle.keepers.specs.Tables.{Head, head_of as kept_head, GroupRow, AreListed}
-use Rattle.keepers.specs.Change.{IsLoadedFrom, AreRowsAt, AreBroughtTo, IsMadeFrom, IsSwept, over}
+use Rattle.keepers.specs.Change.{IsLoadedFrom, AreRowsAt, AreBroughtTo, IsSwept, over}
+use Rattle.keepers.specs.Overlaying.{IsMadeFrom}
 use Rattle.keepers.proofs.SweptRows.{brought_over, rows_brought}
 use Rattle.sql_rows.specs.declared.head.Head.{Head as HeadColumns}
 use Rattle.sql_rows.specs.Content.{Rows as Stored, Content, with_meta}
 use Rattle.sql_keeper.specs.Content.{head_in, rows_of, is_numbered, charge_of, answer_in, last_in}
 use Rattle.sql_keeper.specs.Content.{voucher_in, tables_of, Names}
 use Rattle.sql_keeper.specs.Laws.{AreSweepsRead}
-use Rattle.sql_keeper.specs.LiveRows.{IsLiveAccount}
 use Rattle.sql_keeper.specs.Sweeps.{rows_at, AreSweptRows, IsSweptOf, AreAllSwept, with_accounts}
 use Rattle.sql_keeper.specs.Sweeps.{with_sweep}
 use Rattle.sql_keeper.specs.Tests.{AreWritable}
 use Rattle.sql_keeper.specs.Writes.{head_of, meta_at, with_stored}
 use Rattle.sql_keeper.specs.declared.swept_rows.SweptAccount.{SweptAccount}
 use Rattle.sql_keeper.proofs.Changed.{over_stored, stored_over, keyed, rows_read, may_at}
-use Rattle.sql_keeper.proofs.Changed.{same_texts}
+use Rattle.sql_keeper.proofs.Changed.{free_settled, same_texts}
 use Rattle.sql_keeper.specs.Content.{told_charge}
 use Rattle.sql_keeper.proofs.LiveRows.{live_loaded}
 use Rattle.sql_keeper.proofs.LoadedAlone.{loaded_may_change, free_later}
@@ -69,7 +69,7 @@ module _ (names : Names) (shelf : Shelf) (t : ℕ) (rows : Stored) where
       subst (λ n. n ≤ t) (sym (ap (λ (x : Head). x.as_of) same)) early in
       let is : advanced_stored shelf t s.before ≡ w = sym (s.is ∙ swept_is s.before no_later) in
       subst (AreListed (advanced_stored shelf t v))
-      (sym (rows_read names w rows (free_of w s.before made is)
+      (sym (rows_read names w rows (free_settled names w rows (free_of w s.before made is))
       (may_at names w.sessions w.groups s.may) (keyed w s.stored).scoped))
       (subst (λ x. AreListed (advanced_stored shelf t v) (over x (rows_of names rows))) is
       (brought_over shelf t s.before v (rows_of names rows) made loads.head s.kept are kept))
@@ -79,7 +79,7 @@ module _ (names : Names) (shelf : Shelf) (t : ℕ) (rows : Stored) where
       free_of x before made is =
           subst IsFree is (free_later shelf t before (rows_of names rows) made)
 
-next_is : (shelf : Shelf) (t : ℕ) (w : StoredRows) → (rows_at shelf t w).next_charge ≡ w.next_charge
+pub next_is : (shelf : Shelf) (t : ℕ) (w : StoredRows) → (rows_at shelf t w).next_charge ≡ w.next_charge
 next_is shelf t w = at (nat_le w.as_of t)
   where
     at : (b : Bool) → (if b then advanced_stored shelf t w else w).next_charge ≡ w.next_charge
@@ -96,13 +96,13 @@ numbered_still n h k rows same there =
 
 -- ---- an account after all of a list are written
 
-abbrev swept_at : List ℕ → List SweptAccount → Option SweptAccount
+abbrev pub swept_at : List ℕ → List SweptAccount → Option SweptAccount
 swept_at a xs = find (λ x. same_name x.number a) xs
 
 abbrev same_account : SweptAccount → SweptAccount → Bool
 same_account x y = same_name y.number x.number
 
-abbrev row_after : Names → Option SweptAccount → Stored → Stored
+abbrev pub row_after : Names → Option SweptAccount → Stored → Stored
 row_after names None r = r
 row_after names (Some x) r = over_stored names x.rows r
 
@@ -135,6 +135,13 @@ module _ (names : Names) where
   books_after (x ∷ xs) c may =
       ap (λ d. (with_accounts names xs d).books) (step x c may.0)
       ∙ books_after xs (one_after x c) may.1
+
+  kept_after : (xs : List SweptAccount) (c : Content) → EachIn (MayBePut names) xs →
+      (with_accounts names xs c).kept ≡ c.kept
+  kept_after [] c may = refl
+  kept_after (x ∷ xs) c may =
+      ap (λ d. (with_accounts names xs d).kept) (step x c may.0)
+      ∙ kept_after xs (one_after x c) may.1
 
   vouchers_after : (xs : List SweptAccount) (c : Content) → EachIn (MayBePut names) xs
       → (with_accounts names xs c).vouchers ≡ c.vouchers
@@ -212,7 +219,7 @@ found_number a (x ∷ xs) = at (same_name x.number a) (found_number a xs)
     at false e = e
 
 -- the one that is found
-found_one : (P : SweptAccount → Type 0) (a : List ℕ) (xs : List SweptAccount) (x : SweptAccount)
+pub found_one : (P : SweptAccount → Type 0) (a : List ℕ) (xs : List SweptAccount) (x : SweptAccount)
     → EachIn P xs → swept_at a xs ≡ Some x → P x × (x.number ≡ a)
 found_one P a [] x h e = absurd (no_some x e)
 found_one P a (y ∷ ys) x h e = at (same_name y.number a) refl e (found_one P a ys x h.1)
@@ -234,7 +241,7 @@ module _ (names : Names) (text : List ℕ) (shelf : Shelf) (t : ℕ) (c : Conten
   there = EachIn-weaker (IsSweptOf names shelf t c) (IsThere c) xs
       (λ x h. ap is_some h.live.0) all.each
 
-  rows_are : (a : List ℕ) →
+  pub rows_are : (a : List ℕ) →
       (with_sweep names text t xs c).rows a ≡ row_after names (swept_at a xs) (c.rows a)
   rows_are a = rows_after names a xs (with_meta (meta_at text t) c) may (apart_of xs all.all.apart)
 
@@ -304,6 +311,10 @@ module _ (names : Names) (text : List ℕ) (shelf : Shelf) (t : ℕ) (c : Conten
 
   pub swept_meta : (with_sweep names text t xs c).meta ≡ Some (meta_at text t)
   swept_meta = meta_after names xs (with_meta (meta_at text t) c) may
+
+  pub swept_kept :
+      (with_sweep names text t xs c).kept ≡ (with_meta (meta_at text t) c).kept
+  swept_kept = kept_after names xs (with_meta (meta_at text t) c) may
 
   pub swept_books : (with_sweep names text t xs c).books ≡ c.books
   swept_books = books_after names xs (with_meta (meta_at text t) c) may

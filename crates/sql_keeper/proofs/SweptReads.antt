@@ -28,7 +28,9 @@ use Rattle.sql_keeper.specs.declared.swept_rows.SweptAccount.{SweptAccount}
 use Rattle.sql_keeper.proofs.InTurn.{HaveRead, none_read, have_gathered, have_read_then}
 use Rattle.sql_keeper.proofs.InTurn.{gathers_from}
 use Rattle.sql_keeper.proofs.LiveGroups.{told_before}
+use Rattle.sql_keeper.specs.Tidy.{IsTidy}
 use Rattle.sql_keeper.proofs.Swept.{sweeps_read, swept_books, swept_meta}
+use Rattle.sql_keeper.proofs.TidySweeps.{tidy_sweep}
 
 -- ---- one account
 
@@ -156,6 +158,8 @@ become names text shelf t xs ranges last old new all turns = record {
       subst (λ (c : Content). IsSwept shelf t (tables_of names (content_of old))
       (tables_of names c))
       (sym turns.content) (sweeps_read names text shelf t (content_of old) xs ranges all);
+  tidy = λ tidy. subst (IsTidy names) (sym turns.content)
+      (tidy_sweep names text shelf t (content_of old) xs ranges all tidy);
   meta = ap (λ (c : Content). c.meta) turns.content
       ∙ swept_meta names text shelf t (content_of old) xs ranges all;
   last = last;

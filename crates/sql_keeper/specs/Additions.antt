@@ -9,6 +9,7 @@ use Rattle.keepers.specs.Change.{with_voucher as with_added}
 use Rattle.sql_tables.specs.Statements.{AreStored}
 use Rattle.sql_rows.specs.Content.{Content, content_of, with_meta, with_voucher}
 use Rattle.sql_keeper.specs.Content.{tables_of, Names}
+use Rattle.sql_keeper.specs.Tidy.{IsTidy}
 use Rattle.sql_keeper.specs.Writes.{meta_at, row_of}
 
 -- what is written: the moment, and a voucher that no account has redeemed
@@ -24,6 +25,8 @@ pub record BecomesAdded (text code : List ℕ) (terms : VoucherTerms) (t : ℕ)
     pub tables : (names : Names)
         → tables_of names (content_of new)
         ≡ with_added code terms t (tables_of names (content_of old))
+    -- where nothing stood that isn't told, nothing does
+    pub tidy : (names : Names) → IsTidy names (content_of old) → IsTidy names (content_of new)
     pub meta : (content_of new).meta ≡ Some (meta_at text t)
     pub last : t ≤ 4_102_488_000
     pub books : (content_of new).books ≡ (content_of old).books

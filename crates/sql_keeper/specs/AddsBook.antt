@@ -20,6 +20,7 @@ use Rattle.sql_keeper.specs.Commits.{CommitsWhole}
 use Rattle.sql_keeper.specs.Content.{Names, last_in, tables_of}
 use Rattle.sql_keeper.specs.Inside.{KeeperState, clean_in, failed_in, tables_in}
 use Rattle.sql_keeper.specs.Shelves.{IsShelfOf}
+use Rattle.sql_keeper.specs.Tidy.{IsTidy}
 use Rattle.sql_keeper.specs.Stops.{IsWhole, trees_in}
 use Rattle.sql_keeper.specs.declared.add_fault.AddFault.{AddFault}
 use Rattle.sql_keeper.specs.declared.add_fault.AddFault.TheVariants.{Book as OfBook}
@@ -43,6 +44,9 @@ pub record BecomesDated (n from : ℕ) (text : List ℕ) (old new : Trees) : Typ
   pub tables : (names : Names) (more : List (List ℕ)) → 1 ≤ length names
       → n ≡ suc (length names) → AreBooksKnown (length names) (content_of old)
       → tables_of (names ++ more ∷ []) (content_of new) ≡ tables_of names (content_of old)
+  -- where nothing stood that isn't told, nothing does
+  pub tidy : (names : Names) (more : List (List ℕ)) → IsTidy names (content_of old) →
+      IsTidy (names ++ more ∷ []) (content_of new)
   pub books : (content_of new).books ≡ (with_dated n from text (content_of old)).books
   pub meta : (content_of new).meta ≡ (content_of old).meta
   pub catalog : new catalog_tree ≡ old catalog_tree

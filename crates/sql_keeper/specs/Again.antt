@@ -12,7 +12,7 @@ use Rattle.sqlite.specs.State.{HasCleanDisk}
 use Rattle.sqlite.specs.Steps.{IsFresh}
 use Rattle.sql_rows.specs.Content.{content_of}
 use Rattle.sql_opening.specs.declared.fault.OpenFault.{OpenFault}
-use Rattle.keepers.specs.Change.{IsMadeFrom, changed}
+use Rattle.keepers.specs.Change.{changed}
 use Rattle.keepers.specs.declared.fault.StoreFault.{StoreFault}
 use Rattle.keepers.specs.declared.loaded.Change.{Change}
 use Rattle.redemptions.specs.declared.terms.VoucherTerms.{VoucherTerms}
@@ -140,6 +140,4 @@ pub record IsChangedWhole {S A : Type 0} (g : Ghosts S) (change : Change) (old n
       ⊎ Becomes (names_in old) old.text change (trees_in g old) (trees_in g new)
   pub text : new.text ≡ old.text
   pub shelf : new.shelf ≡ old.shelf
-  pub acknowledged : OnOk answered (IsMadeFrom change.before change.after
-      ((tables_in g old).rows change.number) →
-      tables_in g new ≡ changed change (tables_in g old))
+  pub acknowledged : OnOk answered (tables_in g new ≡ changed change (tables_in g old))

@@ -6,12 +6,13 @@ use Rattle.sqlite_trees.specs.Objects.{catalog_tree}
 use Rattle.sqlite.specs.State.{State, HasCleanDisk, Survives}
 use Rattle.reserving.specs.Stored.{StoredRows}
 use Rattle.keepers.specs.declared.loaded.Change.{Change}
-use Rattle.keepers.specs.Change.{IsMadeFrom, changed}
+use Rattle.keepers.specs.Change.{changed}
 use Rattle.sql_tables.specs.Statements.{AreStored, HasIdleBook, IsStill}
 use Rattle.sql_rows.specs.Content.{Content, content_of, with_account}
 use Rattle.sql_rows.specs.Each.{with_counters}
 use Rattle.sql_rows.specs.Makes.{Commits, Turns}
 use Rattle.sql_keeper.specs.Content.{tables_of, Names}
+use Rattle.sql_keeper.specs.Tidy.{IsTidy, KeepsScopes}
 use Rattle.sql_keeper.specs.Writes.{head_of, meta_with, with_all_counted}
 
 -- an account, its buckets and its counters as they become
@@ -30,15 +31,16 @@ pub record Transacts {A E : Type 0} (change : Content → Content) (old new : St
     pub idle : HasIdleBook new
     pub survives : Survives old new (λ db. IsTrue old.is_open × Turns change old.now.trees db)
 
--- the tables hold the change, if it is one of the rows that were there; they would be found again:
--- the catalog is the same, and so are the version and the books, no rowid stands twice, and the
--- moment is in the range of moments
+-- the tables hold the change and nothing else; they would be found again: the catalog is the same,
+-- and so are the version and the books, no rowid stands twice, and the moment is in the range of
+-- moments
 pub record Becomes (names : Names) (text : List ℕ) (change : Change)
     (old new : Trees) : Type 0
   where
-    pub tables : IsMadeFrom change.before change.after
-        ((tables_of names (content_of old)).rows change.number)
-        → tables_of names (content_of new) ≡ changed change (tables_of names (content_of old))
+    pub tables : tables_of names (content_of new) ≡ changed change (tables_of names (content_of old))
+    -- where nothing stood that isn't told, nothing does
+    pub tidy : KeepsScopes change.rows ((content_of old).rows change.number) →
+        IsTidy names (content_of old) → IsTidy names (content_of new)
     pub meta : (content_of new).meta ≡ Some (meta_with text change)
     pub last : change.moment ≤ 4_102_488_000
     pub books : (content_of new).books ≡ (content_of old).books

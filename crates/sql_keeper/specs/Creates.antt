@@ -11,6 +11,7 @@ use Rattle.sql_tables.specs.Statements.{AreStored, HasIdleBook, IsBook, IsStill}
 use Rattle.sql_rows.specs.Values.{Meta}
 use Rattle.sql_rows.specs.Content.{content_of}
 use Rattle.sql_keeper.specs.Content.{tables_of, Names}
+use Rattle.sql_keeper.specs.Tidy.{IsTidy}
 
 -- what is kept once of new tables: their version, the text of the book, and the first moment
 abbrev pub first_meta : List ℕ → Meta
@@ -24,6 +25,8 @@ pub record IsNewBook (text : List ℕ) (trees : Trees) : Type 0 where
   pub meta : (content_of trees).meta ≡ Some (first_meta text)
   pub tables : (names : Names) → tables_of names (content_of trees) ≡ no_tables
   pub books : (n : ℕ) → (content_of trees).books n ≡ None
+  -- nothing stands there that isn't told
+  pub tidy : (names : Names) → IsTidy names (content_of trees)
 
 -- inside a transaction
 pub record BuildsBook (text : List ℕ) (old new : State) : Type 0 where

@@ -2,16 +2,16 @@
 -- Source: profile.
 use Rattle.std.specs.Prelude.{◌≡◌, ℕ, List, [], Option}
 use Rattle.shelves.specs.Shelves.{Shelf, IsShelf}
-use Rattle.reserving.specs.Stored.{IsStored}
 use Rattle.keepers.specs.declared.loaded.Change.{Change}
 use Rattle.keepers.specs.Tables.{no_tables}
-use Rattle.keepers.specs.Change.{IsMadeFrom, IsSwept, changed}
+use Rattle.keepers.specs.Change.{IsSwept, changed}
+use Rattle.keepers.specs.Naming.{IsNamed}
 use Rattle.sql_rows.specs.Values.{Meta, Kept}
 use Rattle.sql_rows.specs.Content.{Content, content_of}
 use Rattle.sql_keeper.specs.Content.{tables_of, Names}
 use Rattle.sql_keeper.specs.Sweeps.{AreAllSwept, with_sweep}
 use Rattle.sql_keeper.specs.Writes.{AreTexts, with_change}
-use Rattle.sql_keeper.specs.Tests.{AreWritable, AreNumbered, first_number}
+use Rattle.sql_keeper.specs.Tests.{MayBeMade}
 use Rattle.sql_keeper.specs.declared.swept_rows.SweptAccount.{SweptAccount}
 
 -- the rows that a change writes, put one after another, read as the change over the tables that
@@ -19,12 +19,8 @@ use Rattle.sql_keeper.specs.declared.swept_rows.SweptAccount.{SweptAccount}
 abbrev pub AreChangesRead : Type 0
 AreChangesRead =
     (names : Names) (m : Meta) (change : Change) (texts : Option Kept) (c : Content)
-    → IsStored change.before → IsStored change.after
-    → AreWritable names change.after.sessions change.after.groups
-    → AreNumbered (first_number (c.rows change.number).head) change.after.next_charge
-    change.charges.items
+    → IsNamed change.rows → MayBeMade names change (c.rows change.number)
     → AreTexts change.number change.kept texts → m.last ≡ change.moment
-    → IsMadeFrom change.before change.after ((tables_of names c).rows change.number)
     → tables_of names (with_change names m change texts c) ≡ changed change (tables_of names c)
 
 -- the rows that a sweep writes, one account after another, read as a sweep of the tables that were

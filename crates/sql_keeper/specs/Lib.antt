@@ -27,5 +27,6 @@ pub mod Shelves
 pub mod Stops
 pub mod Sweeps
 pub mod Tests
+pub mod Tidy
 pub mod Writes
 pub mod ChargePages

@@ -32,6 +32,7 @@ use Rattle.sql_keeper.specs.Inside.{KeeperState, IsClean}
 use Rattle.sql_keeper.specs.Left.{IsHeld}
 use Rattle.sql_keeper.specs.Opened.{IsFresh, IsLeft}
 use Rattle.sql_keeper.specs.Shelves.{HasShelf, IsShelfOf}
+use Rattle.sql_keeper.specs.Tidy.{IsTidy}
 use Rattle.sql_keeper.specs.Stops.{trees_in}
 use Rattle.sql_keeper.specs.declared.books.ReadBooks.{ReadBooks}
 
@@ -70,6 +71,8 @@ AreGranted v old new = (a s : List ℕ) (g : ℕ)
 pub record BecomesLatest (v : ℕ) (old new : Trees) : Type 0 where
   pub tables : (names : Names) →
       tables_of names (content_of new) ≡ tables_of names (content_at v old)
+  -- where nothing stood that isn't told, nothing does
+  pub tidy : (names : Names) → IsTidy names (content_at v old) → IsTidy names (content_of new)
   pub granted : AreGranted v (content_at v old) (content_of new)
   pub books : (content_of new).books ≡ (content_at v old).books
   pub left : (text : List ℕ) (row : Meta) → (content_of old).meta ≡ Some row → row.book ≡ text

@@ -14,6 +14,7 @@ use Rattle.sql_rows.specs.Lists.{AreAccounts}
 use Rattle.sql_keeper.specs.Content.{tables_of, Names}
 use Rattle.sql_keeper.specs.LiveRows.{IsLiveAccount}
 use Rattle.sql_keeper.specs.Tests.{AreWritable}
+use Rattle.sql_keeper.specs.Tidy.{IsTidy}
 use Rattle.sql_keeper.specs.Writes.{meta_at, with_stored}
 use Rattle.sql_keeper.specs.declared.swept_rows.SweptAccount.{SweptAccount}
 
@@ -89,6 +90,8 @@ pub record BecomesSwept (names : Names) (text : List ℕ) (shelf : Shelf) (t : �
     (old new : Trees)
     : Type 0 where
   pub tables : IsSwept shelf t (tables_of names (content_of old)) (tables_of names (content_of new))
+  -- where nothing stood that isn't told, nothing does
+  pub tidy : IsTidy names (content_of old) → IsTidy names (content_of new)
   pub meta : (content_of new).meta ≡ Some (meta_at text t)
   pub last : t ≤ 4_102_488_000
   pub books : (content_of new).books ≡ (content_of old).books

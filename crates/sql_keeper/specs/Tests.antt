@@ -1,6 +1,8 @@
 -- What is tested of a change before it is written, so that what is written reads as the change.
 -- Source: profile.
-use Rattle.std.specs.Prelude.{◌≡◌, ℕ, ◌+◌, ◌==◌, true, List, [], ◌∷◌, Option, Some, None}
+use Rattle.std.specs.Prelude.{◌≡◌, ◌⊎◌, ℕ, ◌+◌, ◌==◌, ◌||◌, Bool, true, not, List, [], ◌∷◌, Option}
+use Rattle.std.specs.Prelude.{Some, None, is_some}
+use Rattle.std.specs.List.{list_all}
 use Rattle.std.specs.Prelude.{if◌then◌else◌}
 use Rattle.calendar.specs.declared.week.Period.{Period}
 use Rattle.tariffs.specs.Names.{period_named}
@@ -9,10 +11,14 @@ use Rattle.reserving.specs.declared.charge.ChargeRow.{ChargeRow}
 use Rattle.reserving.specs.declared.session.Session.{Session}
 use Rattle.reserving.specs.declared.session.SessionGroup.{SessionGroup}
 use Rattle.reserving.specs.declared.session.Reservation.{Reservation}
-use Rattle.reserving.specs.Sessions.{session_in}
+use Rattle.reserving.specs.Sessions.{is_open, session_in, group_in}
 use Rattle.reserving.specs.Rows.{EachIn}
-use Rattle.reserving.specs.Left.{is_open_row}
+use Rattle.reserving.specs.Left.{first_of, is_open_row}
+use Rattle.keepers.specs.declared.loaded.Change.{Change}
 use Rattle.sql_rows.specs.declared.head.Head.{Head as HeadColumns}
+use Rattle.sql_rows.specs.Values.{Group}
+use Rattle.sql_rows.specs.Lists.{GroupAt}
+use Rattle.sql_rows.specs.Content.{Rows as Stored}
 use Rattle.sql_keeper.specs.Content.{Names, names_numbered}
 use Rattle.sql_keeper.specs.Writes.{name_at}
 
@@ -46,3 +52,41 @@ AreNumbered from next (c ∷ cs) = (c.number ≡ from) × AreNumbered (from + 1)
 abbrev pub first_number : Option HeadColumns → ℕ
 first_number None = 1
 first_number (Some h) = if h.next_charge == 0 then 1 else h.next_charge
+
+-- ---- sessions that a change opens or ends
+
+-- whether a session is open by the rows of a change over those that are stored
+abbrev pub is_open_over : List Session → Stored → List ℕ → Bool
+is_open_over sessions r s = is_open_row (first_of (session_in s sessions) (r.sessions s))
+
+-- whether a session is open by its row as it is by the one that is stored
+abbrev pub is_as_open : Session → Option Session → Bool
+is_as_open x o = if is_open x.state then is_open_row o else not (is_open_row o)
+
+-- of a session that is opened or ended no group that isn't named has a reservation
+abbrev pub AreSettled : List Session → List SessionGroup → Stored → Type 0
+AreSettled sessions groups r =
+    (s : List ℕ) (g : ℕ) (y : Group) → r.groups s g ≡ Some y → group_in s g groups ≡ None →
+    (is_open_over sessions r s ≡ is_open_row (r.sessions s)) ⊎ (y.periods ≡ None)
+
+-- the same of one session that is named
+abbrev pub IsSettled : List SessionGroup → Stored → Session → Type 0
+IsSettled groups r x =
+    (is_open x.state ≡ is_open_row (r.sessions x.id))
+    ⊎ ((g : ℕ) (y : Group) → r.groups x.id g ≡ Some y → group_in x.id g groups ≡ None →
+    y.periods ≡ None)
+
+-- a stored group of a session is named, or has no reservation
+abbrev pub is_beside : List SessionGroup → List ℕ → GroupAt → Bool
+is_beside groups s x = is_some (group_in s x.group groups) || not (is_some x.row.periods)
+
+abbrev pub are_beside : List SessionGroup → List ℕ → List GroupAt → Bool
+are_beside groups s xs = list_all (is_beside groups s) xs
+
+-- ---- all that is tested
+
+-- a change may be made of what is stored of its account
+pub record MayBeMade (names : Names) (change : Change) (r : Stored) : Type 0 where
+  pub reservations : AreWritable names change.rows.sessions change.rows.groups
+  pub numbers : AreNumbered (first_number r.head) change.rows.next_charge change.charges.items
+  pub settled : AreSettled change.rows.sessions change.rows.groups r

@@ -1,24 +1,21 @@
 -- What a change writes, one row after another.
 -- Source: profile.
 use Rattle.std.specs.Prelude.{◌≡◌, ◌==◌, ℕ, List, [], Option, Some, None, unwrap_or, if◌then◌else◌}
-use Rattle.std.specs.Prelude.{option_map, slice_get, ◌&&◌, Bool, not, is_some}
+use Rattle.std.specs.Prelude.{option_map, slice_get}
 use Rattle.calendar.specs.declared.week.Period.{Period}
 use Rattle.buckets.specs.Row.{Row}
 use Rattle.buckets.specs.declared.kind.BucketKind.{BucketKind}
 use Rattle.buckets.specs.declared.kind.BucketKind.TheVariants.{Money, Blocks}
 use Rattle.rating.specs.declared.grant.Periods.{Periods}
 use Rattle.reserving.specs.declared.charge.ChargeRow.{ChargeRow}
-use Rattle.reserving.specs.declared.session.Session.{Session}
 use Rattle.reserving.specs.declared.session.SessionGroup.{SessionGroup}
 use Rattle.reserving.specs.declared.session.Reservation.{Reservation}
-use Rattle.reserving.specs.Sessions.{holds_in, session_in}
-use Rattle.reserving.specs.Left.{differing}
+use Rattle.reserving.specs.Sessions.{holds_in}
 use Rattle.reserving.specs.Stored.{StoredRows}
 use Rattle.keepers.specs.declared.key.Key.{Key}
 use Rattle.keepers.specs.declared.key.KeptAnswer.{KeptAnswer}
 use Rattle.keepers.specs.declared.loaded.Change.{Change}
 use Rattle.keepers.specs.declared.loaded.Redeemed.{Redeemed}
-use Rattle.keepers.specs.Differing.{equal_bucket, equal_counter, equal_session, equal_group}
 use Rattle.keepers.specs.Keys.{key_of}
 use Rattle.keepers.specs.declared.key.Key.TheVariants.{Request, Reference}
 use Rattle.redemptions.specs.declared.voucher.Voucher.{Voucher}
@@ -31,7 +28,6 @@ use Rattle.sql_rows.specs.Content.{without_holds, with_answer, with_voucher, wit
 use Rattle.sql_rows.specs.Content.{with_charge, with_grant_book, without_grant_book, with_allowance}
 use Rattle.sql_rows.specs.Content.{without_allowance, with_covered, without_covered}
 use Rattle.sql_rows.specs.Each.{with_each, with_counters, with_sessions, with_holds}
-use Rattle.sql_keeper.specs.declared.new_rows.NewRows.{NewRows}
 use Rattle.sql_keeper.specs.Content.{kept_in, Names, names_numbered}
 
 -- ---- periods by their names
@@ -153,39 +149,14 @@ meta_at text t = record { version = latest; book = text; last = t }
 abbrev pub meta_with : List ℕ → Change → Meta
 meta_with text change = meta_at text change.moment
 
--- the sessions that differ from all before
-abbrev pub new_sessions : StoredRows → StoredRows → List Session
-new_sessions before after = differing equal_session before.sessions after.sessions
-
--- a row of a group that stays as it is, beside sessions that are written: so does its session's
-abbrev pub is_written_session : List Session → List ℕ → Bool
-is_written_session sessions s = is_some (session_in s sessions)
-
-abbrev pub equal_beside : List Session → SessionGroup → SessionGroup → Bool
-equal_beside sessions x y = equal_group x y && not (is_written_session sessions x.session)
-
--- the rows that a change writes: those that differ from all before, and what a session has of
--- groups where its own row differs
-abbrev pub new_rows : StoredRows → StoredRows → StoredRows
-new_rows before after = record after {
-  buckets = differing equal_bucket before.buckets after.buckets;
-  counters = differing equal_counter before.counters after.counters;
-  sessions = new_sessions before after;
-  groups = differing (equal_beside (new_sessions before after)) before.groups after.groups;
-}
-
--- an account with these rows in the place of its own
-abbrev pub with_new : StoredRows → NewRows → StoredRows
-with_new after new = record after {
-  buckets = new.buckets.items;
-  counters = new.counters.items;
-  sessions = new.sessions.items;
-  groups = new.groups.items;
-}
+-- an account's rows that a change names, and its charges
+abbrev pub with_changed_rows : Names → Change → Content → Content
+with_changed_rows names change c =
+    with_all_paid change.number change.charges.items (with_stored change.number names change.rows c)
 
 -- all of a change
 abbrev pub with_change : Names → Meta → Change → Option Kept → Content → Content
 with_change names m change texts c =
     with_redeemed change.redeemed (with_kept change.number change.kept texts
     (with_all_paid change.number change.charges.items
-    (with_stored change.number names (new_rows change.before change.after) (with_meta m c))))
+    (with_stored change.number names change.rows (with_meta m c))))

@@ -1,7 +1,7 @@
 //! A change in one transaction: all of it or nothing, also over a stop.
 
 ghost use Rattle.std.specs.Prelude.{◌≡◌, false, option_map, OnOk};
-ghost use Rattle.keepers.specs.Change.{IsMadeFrom, changed};
+ghost use Rattle.keepers.specs.Change.{changed};
 ghost use Rattle.keepers.specs.Keeping.{Keeps};
 ghost use Rattle.sql_rows.specs.Texts.{kept_of};
 ghost use Rattle.sql_tables.specs.Statements.{HasIdleBook};
@@ -9,20 +9,19 @@ ghost use Rattle.sql_keeper.specs.Content.{shelf_names};
 ghost use Rattle.sql_keeper.specs.Commits.{Becomes, CommitsChange, CommitsStanding, Transacts};
 ghost use Rattle.sql_keeper.specs.Inside.{clean_in, failed_in, names_in, tables_in};
 ghost use Rattle.sql_keeper.specs.Stops.{IsWhole, LeavesIn, honest_in, trees_in};
-ghost use Rattle.sql_keeper.specs.Writes.{meta_with, new_rows, with_change, with_new};
+ghost use Rattle.sql_keeper.specs.Writes.{meta_with, with_change};
 ghost use Rattle.sqlite.specs.Held.{state};
 
 use crate::faults::counted;
 use crate::keeper::SqlKeeper;
 use crate::last_moment::last_after;
-use crate::new_rows::{NewRows, new_rows};
 use crate::putting::put_change;
+use crate::settling::test_change;
 use crate::still_open::still_open;
-use crate::testing::may_be_written;
 use crate::texts::kept_texts;
 use keepers::{Change, StoreFault};
 use shelves::TariffShelf;
-use sql_rows::{Kept, read_account};
+use sql_rows::Kept;
 use sql_tables::ReadFault;
 use sqlite::{Alter, Connection, Error};
 use std::alloc::Global;
@@ -33,19 +32,17 @@ fn write_change<S: Alter>(
     books: &TariffShelf,
     text: &str,
     change: &Change,
-    new: &NewRows,
     texts: &Option<Kept>,
 ) -> Result<(), Error>
     requires plain { conn.old.in_transaction ≡ false }
     requires idle { HasIdleBook (state S.Store conn.old) }
-    requires new { with_new change.now.after new.now ≡ new_rows change.now.before change.now.after }
     ensures plain { conn.new.in_transaction ≡ false }
     ensures transacts { Transacts (with_change (shelf_names books.now)
         (meta_with text.now change.now) change.now (option_map kept_of texts.now))
         (state S.Store conn.old) (state S.Store conn.new) result }
 {
     let mut tx = conn.transaction();
-    put_change(&mut tx, books, text, change, new, texts)?;
+    put_change(&mut tx, books, text, change, texts)?;
     tx.commit()
 }
 
@@ -66,16 +63,11 @@ fn make_change<S: Alter>(
         (state S.Store conn.old) (state S.Store conn.new) result }
 {
     // For the prover alone: looking at the value makes known here what its type keeps.
-    let _stored = change.after.as_of();
-    let _loaded = change.before.as_of();
+    let _named = change.rows.as_of();
     let _moment = change.moment.seconds();
-    let head = read_account(conn, &change.number)?;
-    if !may_be_written(books, &head, change) {
-        return Err(ReadFault::Rules);
-    }
+    test_change(conn, alloc, books, change)?;
     let texts = kept_texts(alloc, &change.number, &change.kept)?;
-    let new = new_rows(alloc, &change.before, &change.after)?;
-    write_change(conn, books, text, change, &new, &texts)?;
+    write_change(conn, books, text, change, &texts)?;
     Ok(())
 }
 
@@ -98,23 +90,20 @@ fn ask_to_change<S: Alter>(
 }
 
 impl<S: Alter> SqlKeeper<S> {
-    /// Makes the change, in one transaction: the account's rows, the charges, the kept answer, the
-    /// voucher that is redeemed and the moment together. At a fault nothing has changed, and
-    /// whatever a stop leaves is the rows before the change or with it.
+    /// Makes the change and nothing else, in one transaction: the account's rows that are named,
+    /// the charges, the kept answer, the voucher that is redeemed and the moment together. At a
+    /// fault nothing has changed, and whatever a stop leaves is the rows before the change or with
+    /// it.
     ///
     /// # Errors
     /// Want of memory; a fault of the store, which is counted, as is a change that may not be
     /// written.
     pub fn commit(&mut self, change: Change) -> Result<(), StoreFault>
         ensures done { clean_in S.Store self.new →
-            OnOk result (IsMadeFrom change.before change.after
-            ((tables_in S.Store self.old).rows change.number) →
-            tables_in S.Store self.new ≡ changed change (tables_in S.Store self.old)) }
+            OnOk result (tables_in S.Store self.new ≡ changed change (tables_in S.Store self.old)) }
         ensures kept { Keeps (tables_in S.Store) failed_in (honest_in S.Store) (clean_in S.Store)
             (LeavesIn S.Store) self.old self.new
-            (λ t. IsMadeFrom change.before change.after
-            ((tables_in S.Store self.old).rows change.number) →
-            t ≡ changed change (tables_in S.Store self.old)) result }
+            (λ t. t ≡ changed change (tables_in S.Store self.old)) result }
         ensures whole { IsWhole S.Store self.old self.new
             (Becomes (names_in self.old) self.old.text change (trees_in S.Store self.old)) }
     {

@@ -20,11 +20,11 @@ use commands::{Answer, Content};
 use identifiers::AccountNumber;
 use json_fields::WireFault;
 use keepers::{KeptAnswer, Key, StoreFault};
-use sql_rows::{Kept, read_answer_reference, read_answer_request};
+use sql_rows::{Kept, read_answer};
 use sql_tables::ReadFault;
 use sqlite::{Alter, Connection};
 use std::alloc::Global;
-use wire::{read_answer, read_content};
+use wire::read_content;
 
 /// Why a text isn't read: it is out of the rules, or memory ran out.
 fn fault_of(fault: WireFault) -> ReadFault {
@@ -51,7 +51,7 @@ fn answer_said(alloc: Global, text: &str) -> Result<Answer, ReadFault>
     ensures { IfOk result (λ a. answer_of text.now ≡ Ok a) }
 {
     let bytes = text.as_bytes();
-    match read_answer(alloc, bytes) {
+    match wire::read_answer(alloc, bytes) {
         Ok(answer) => Ok(answer),
         Err(fault) => Err(fault_of(fault)),
     }
@@ -78,8 +78,10 @@ fn texts_under<S: Alter>(
         (state S.Store conn.old) (state S.Store conn.new) result }
 {
     match key {
-        Key::Request { session, number } => read_answer_request(conn, account, session, *number),
-        Key::Reference(reference) => read_answer_reference(conn, account, reference),
+        Key::Request { session, number } => {
+            read_answer(conn, account, 1, session.as_str(), *number)
+        }
+        Key::Reference(reference) => read_answer(conn, account, 2, reference.as_str(), 0),
     }
 }
 

@@ -6,18 +6,17 @@ ghost use Rattle.sql_tables.specs.Statements.{Attempts, HasBook, IsInside};
 ghost use Rattle.sql_rows.specs.Content.{with_group, with_rows};
 ghost use Rattle.sql_rows.specs.Each.{with_holds};
 ghost use Rattle.sql_rows.specs.Makes.{Makes, MakesIfOpen};
+ghost use Rattle.sql_rows.specs.Texts.{names_put};
 ghost use Rattle.sql_keeper.specs.Content.{names_numbered, shelf_names};
-ghost use Rattle.sql_keeper.specs.Writes.{columns_of, name_at, with_book_of, with_groups};
-ghost use Rattle.sql_keeper.specs.Writes.{with_held_group};
+ghost use Rattle.sql_keeper.specs.Writes.{columns_of, name_at, names_at, with_book_of};
+ghost use Rattle.sql_keeper.specs.Writes.{with_groups, with_held_group};
 ghost use Rattle.sqlite.specs.Held.{state};
 
 use calendar::Period;
 use identifiers::AccountNumber;
 use reserving::{SessionGroup, Terms};
 use shelves::TariffShelf;
-use sql_rows::{
-    put_grant_book, put_group_free, put_group_reserved, put_holds, remove_grant_book, remove_holds,
-};
+use sql_rows::{PutNames, put_grant_book, put_group, put_holds, remove_grant_book, remove_holds};
 use sqlite::{Alter, Error, Transaction};
 
 /// The name of a period in the book of a number; the empty text for one that it doesn't have, or
@@ -31,6 +30,18 @@ fn name_of(books: &TariffShelf, number: u8, period: Period) -> &str
     match book.period_name(period) {
         Some(name) => name,
         None => "",
+    }
+}
+
+/// The names of the periods of a reservation in its book.
+fn names_of(books: &TariffShelf, terms: Terms) -> PutNames<'_>
+    ensures { names_put result ≡
+        names_at (names_numbered (shelf_names books.now) terms.book) terms.periods }
+{
+    let Terms { book, periods } = terms;
+    PutNames {
+        before: name_of(books, book, periods.before),
+        after: name_of(books, book, periods.after),
     }
 }
 
@@ -48,20 +59,10 @@ fn put_columns<S: Alter>(
         (state S.Store tx.old.conn.now) (state S.Store tx.new.conn.now) result }
 {
     match &row.reservation {
-        None => put_group_free(tx, account, &row.session, row.group, row.used),
+        None => put_group(tx, account, &row.session, row.group, row.used, None),
         Some(reservation) => {
-            let Terms { book, periods } = reservation.terms;
-            let before = name_of(books, book, periods.before);
-            let after = name_of(books, book, periods.after);
-            put_group_reserved(
-                tx,
-                account,
-                &row.session,
-                row.group,
-                row.used,
-                before,
-                after,
-            )
+            let names = names_of(books, reservation.terms);
+            put_group(tx, account, &row.session, row.group, row.used, Some(names))
         }
     }
 }
@@ -112,7 +113,7 @@ fn put_held<S: Alter>(
 
 /// Puts what a session has of a rating group, the number of its reservation's book, and what its
 /// reservation holds in the place of what was held there.
-fn put_group<S: Alter>(
+fn put_held_group<S: Alter>(
     tx: &mut Transaction<'_, S>,
     account: &AccountNumber,
     books: &TariffShelf,
@@ -144,7 +145,7 @@ pub(crate) fn put_groups<S: Alter>(
         (state S.Store tx.old.conn.now) (state S.Store tx.new.conn.now) result }
 {
     'rows: for row in rows {
-        put_group(tx, account, books, row)?;
+        put_held_group(tx, account, books, row)?;
     }
     Ok(())
 }

@@ -9,28 +9,36 @@ ghost use Rattle.sql_rows.specs.Texts.{kept_of};
 ghost use Rattle.sql_keeper.specs.Content.{shelf_names};
 ghost use Rattle.sql_keeper.specs.Commits.{with_money};
 ghost use Rattle.sql_keeper.specs.Writes.{head_of, meta_with, with_change, with_kept, with_stored};
-ghost use Rattle.sql_keeper.specs.Writes.{new_rows, with_new, with_texts};
+ghost use Rattle.sql_keeper.specs.Writes.{with_changed_rows, with_texts};
 ghost use Rattle.sqlite.specs.Held.{state};
 
 use crate::counted_buckets::put_counted;
 use crate::held_groups::put_groups;
-use crate::new_rows::NewRows;
 use crate::paid_charges::put_paid;
 use crate::voucher_puts::put_redeemed;
 use commands::Content;
 use identifiers::AccountNumber;
-use keepers::{Change, KeptAnswer};
+use keepers::{Change, KeptAnswer, NamedRows};
 use reserving::StoredAccount;
 use shelves::TariffShelf;
-use sql_rows::{
-    Head, Kept, put_account, put_answer_reference, put_answer_request, put_counters, put_meta,
-    put_sessions,
-};
+use sql_rows::{Head, Kept, put_account, put_answer, put_counters, put_meta, put_sessions};
 use sql_tables::LATEST;
 use sqlite::{Alter, Error, Transaction};
 
 /// What is kept of an account once.
 fn head_of(rows: &StoredAccount) -> Head
+    ensures { result ≡ head_of rows.now }
+{
+    Head {
+        barred: rows.is_barred(),
+        as_of: rows.as_of(),
+        next_bucket: rows.next_bucket(),
+        next_charge: rows.next_charge(),
+    }
+}
+
+/// What a change leaves of an account once.
+fn head_named(rows: &NamedRows) -> Head
     ensures { result ≡ head_of rows.now }
 {
     Head {
@@ -58,41 +66,38 @@ fn put_money<S: Alter>(
     put_counters(tx, account, rows.counters())
 }
 
-/// Puts an account, and of its buckets and counters the new ones.
-fn put_new_money<S: Alter>(
+/// Puts an account, and its buckets and counters that are named.
+fn put_named_money<S: Alter>(
     tx: &mut Transaction<'_, S>,
     account: &AccountNumber,
-    rows: &StoredAccount,
-    new: &NewRows,
+    rows: &NamedRows,
 ) -> Result<(), Error>
     requires book { HasBook (state S.Store tx.old.conn.now) }
     ensures same_reference { tx.new.conn.ghost_name ≡ tx.old.conn.ghost_name }
-    ensures makes { Attempts (Makes (with_money account.now (with_new rows.now new.now)))
+    ensures makes { Attempts (Makes (with_money account.now rows.now))
         (state S.Store tx.old.conn.now) (state S.Store tx.new.conn.now) result }
 {
-    let head = head_of(rows);
+    let head = head_named(rows);
     put_account(tx, account, &head)?;
-    put_counted(tx, account, &new.buckets)?;
-    put_counters(tx, account, &new.counters)
+    put_counted(tx, account, rows.buckets())?;
+    put_counters(tx, account, rows.counters())
 }
 
-/// Puts an account and its new rows.
-fn put_new<S: Alter>(
+/// Puts an account and its rows that are named.
+fn put_named<S: Alter>(
     tx: &mut Transaction<'_, S>,
     account: &AccountNumber,
     books: &TariffShelf,
-    rows: &StoredAccount,
-    new: &NewRows,
+    rows: &NamedRows,
 ) -> Result<(), Error>
     requires book { HasBook (state S.Store tx.old.conn.now) }
     ensures same_reference { tx.new.conn.ghost_name ≡ tx.old.conn.ghost_name }
-    ensures makes { Attempts
-        (Makes (with_stored account.now (shelf_names books.now) (with_new rows.now new.now)))
+    ensures makes { Attempts (Makes (with_stored account.now (shelf_names books.now) rows.now))
         (state S.Store tx.old.conn.now) (state S.Store tx.new.conn.now) result }
 {
-    put_new_money(tx, account, rows, new)?;
-    put_sessions(tx, account, &new.sessions)?;
-    put_groups(tx, account, books, &new.groups)
+    put_named_money(tx, account, rows)?;
+    put_sessions(tx, account, rows.sessions())?;
+    put_groups(tx, account, books, rows.groups())
 }
 
 /// Puts the rows of an account.
@@ -129,20 +134,20 @@ fn put_texts<S: Alter>(
     let of_answer = texts.answer.as_str();
     match content {
         Content::Request(request) => {
-            let session = &request.session;
-            put_answer_request(tx, account, session, request.number, of_content, of_answer)
+            let name = request.session.as_str();
+            put_answer(tx, account, 1, name, request.number, of_content, of_answer)
         }
         Content::Credit(kept) => {
-            let reference = &kept.credit().reference;
-            put_answer_reference(tx, account, reference, of_content, of_answer)
+            let name = kept.credit().reference.as_str();
+            put_answer(tx, account, 2, name, 0, of_content, of_answer)
         }
         Content::Allow(allowance) => {
-            let reference = &allowance.reference;
-            put_answer_reference(tx, account, reference, of_content, of_answer)
+            let name = allowance.reference.as_str();
+            put_answer(tx, account, 2, name, 0, of_content, of_answer)
         }
         Content::Redeem(redemption) => {
-            let reference = &redemption.reference;
-            put_answer_reference(tx, account, reference, of_content, of_answer)
+            let name = redemption.reference.as_str();
+            put_answer(tx, account, 2, name, 0, of_content, of_answer)
         }
     }
 }
@@ -173,27 +178,38 @@ fn put_kept<S: Alter>(
     }
 }
 
-/// Puts all that a change writes: the moment, the account's new rows, the charges, the texts of
+/// Puts an account's rows that a change names, and its charges.
+fn put_rows<S: Alter>(
+    tx: &mut Transaction<'_, S>,
+    books: &TariffShelf,
+    change: &Change,
+) -> Result<(), Error>
+    requires book { HasBook (state S.Store tx.old.conn.now) }
+    ensures same_reference { tx.new.conn.ghost_name ≡ tx.old.conn.ghost_name }
+    ensures makes { Attempts (Makes (with_changed_rows (shelf_names books.now) change.now))
+        (state S.Store tx.old.conn.now) (state S.Store tx.new.conn.now) result }
+{
+    put_named(tx, &change.number, books, &change.rows)?;
+    put_paid(tx, &change.number, &change.charges)
+}
+
+/// Puts all that a change names: the moment, the account and its rows, the charges, the texts of
 /// what is kept, and the voucher that is redeemed.
 pub(crate) fn put_change<S: Alter>(
     tx: &mut Transaction<'_, S>,
     books: &TariffShelf,
     text: &str,
     change: &Change,
-    new: &NewRows,
     texts: &Option<Kept>,
 ) -> Result<(), Error>
     requires book { HasBook (state S.Store tx.old.conn.now) }
-    requires new { with_new change.now.after new.now ≡ new_rows change.now.before change.now.after }
     ensures same_reference { tx.new.conn.ghost_name ≡ tx.old.conn.ghost_name }
     ensures makes { Attempts (Makes (with_change (shelf_names books.now)
         (meta_with text.now change.now) change.now (option_map kept_of texts.now)))
         (state S.Store tx.old.conn.now) (state S.Store tx.new.conn.now) result }
 {
-    let account = &change.number;
     put_meta(tx, LATEST, text, change.moment)?;
-    put_new(tx, account, books, &change.after, new)?;
-    put_paid(tx, account, &change.charges)?;
-    put_kept(tx, account, &change.kept, texts)?;
+    put_rows(tx, books, change)?;
+    put_kept(tx, &change.number, &change.kept, texts)?;
     put_redeemed(tx, &change.redeemed)
 }

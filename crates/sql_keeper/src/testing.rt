@@ -112,15 +112,15 @@ pub(crate) fn are_writable(
 }
 
 /// Whether a change may be written over an account with this head, so that what is written reads as
-/// the change: each reservation stands in an open session, with periods that have names in its
-/// book, and the charges are numbered on.
+/// the change: each reservation stands in an open session that is named with it, with periods that
+/// have names in its book, and the charges are numbered on.
 pub fn may_be_written(books: &TariffShelf, head: &Option<Head>, change: &Change) -> bool
     ensures reservations { IsTrue result →
-        AreWritable (shelf_names books.now) change.now.after.sessions change.now.after.groups }
+        AreWritable (shelf_names books.now) change.now.rows.sessions change.now.rows.groups }
     ensures numbers { IsTrue result →
-        AreNumbered (first_number head.now) change.now.after.next_charge change.now.charges.items }
+        AreNumbered (first_number head.now) change.now.rows.next_charge change.now.charges.items }
 {
-    let rows = &change.after;
+    let rows = &change.rows;
     are_writable(books, rows.sessions(), rows.groups())
         && are_numbered(&change.charges, first_number(head), rows.next_charge())
 }

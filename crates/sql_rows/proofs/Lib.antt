@@ -19,6 +19,7 @@ pub mod PutGrantBook
 pub mod PutGroup
 pub mod PutHold
 pub mod PutMeta
+pub mod NamesPut
 pub mod PutSession
 pub mod PutVoucher
 pub mod Ranges

@@ -37,7 +37,7 @@ use Rattle.sql_rows.specs.Values.{nat, Meta, meta_values, meta_key, meta_in}
 use Rattle.sql_rows.specs.Content.{Rows, Content, with_meta, rows_in, content_of}
 use Rattle.sql_rows.specs.Makes.{Makes}
 use Rattle.sql_rows.proofs.Stays.{only_changed}
-use Rattle.sql_rows.proofs.Writes.{writes, puts_make}
+use Rattle.sql_rows.proofs.Writes.{writes, makes_turned}
 
 abbrev pub put_meta_text : List ℕ
 put_meta_text =
@@ -92,10 +92,15 @@ module _ (m : Meta) where
       put_meta_text terms project 5 4 put_is put_plain values (λ olds new. refl) again unset
       (λ id met r. refl) (λ id met. refl) refl (λ v. refl) (λ id. (refl, tt)) meets
 
-  turns : (old new : Trees) → Changes meta values old new →
-      content_of new ≡ with_meta m (content_of old)
-  turns old new c = only_changed 0 old new c.others ∙ (λ i. record (content_of old) {
+  abbrev grown : Trees → ℕ
+  grown old = if is_some (look meta old meta_key) then length (old 0) else length (old 0) + 1
+
+  turns : (old new : Trees) → Changes meta values old new → length (new 0) ≡ grown old
+      → content_of new ≡ with_meta m (content_of old)
+  turns old new c more = only_changed 0 old new c.others ∙ (λ i. record (content_of old) {
     meta = put_tells meta_in meta values old new c m refl meta_key true (number_last 1 1) i;
+    kept = (more ∙ ap (λ b. if b then length (old 0) else length (old 0) + 1)
+        (sym (is_some_map meta_in (look meta old meta_key)))) i;
   })
 
   pub makes_meta : (params : Row) → params ≡ values
@@ -103,7 +108,8 @@ module _ (m : Meta) where
       → Attempts (λ old new. ExecutesInside 0 put_meta_text params old new r) old new r
       → Attempts (Makes (with_meta m)) old new r
   makes_meta = writes put_meta_text values (Puts meta values) (with_meta m) puts
-      (puts_make meta values (with_meta m) turns)
+      (λ old new p. makes_turned (with_meta m) old new
+      (turns old.now.trees new.now.trees p.changes p.counts) p.changes.catalog p.book p.shows)
 
   -- the parameters, as they are bound
   pub bound_meta : (v1 v2 v3 v4 : Value)

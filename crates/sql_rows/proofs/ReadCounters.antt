@@ -44,14 +44,15 @@ names = codes "rating_group" ∷ codes "cycle" ∷ codes "blocks" ∷ []
 
 abbrev pub read_counters_in_text : List ℕ
 read_counters_in_text =
-    codes "SELECT rating_group, cycle, blocks FROM counters WHERE account = ?1 AND cycle = ?2"
+    codes "SELECT rating_group, cycle, blocks FROM counters "
+    ++ codes "WHERE account = ?1 AND cycle = ?2 ORDER BY rating_group"
 
 abbrev terms : List Term
 terms =
     op2 (Compare Eq Binary) (col 1 1) (col 0 0) ∷ op2 (Compare Eq Binary) (col 1 3) (col 0 1) ∷ []
 
 abbrev order : List (Term × Key)
-order = []
+order = (col 1 2, record { collation = Binary; descending = false }) ∷ []
 
 text_is : (command_of (understood book_schema read_counters_in_text)
     ≡ Select (record { lets = []; body = select_from 6 terms project order }) names) ×

@@ -62,7 +62,7 @@ back x r is = same_columns r ∙ ap (λ w. at_in (Null ∷ Null ∷ w)) (sym is)
 
 abbrev pub read_groups_text : List ℕ
 read_groups_text = codes "SELECT rating_group, used, reserved, period_before, period_after "
-    ++ codes "FROM session_groups WHERE account = ?1 AND session = ?2"
+    ++ codes "FROM session_groups WHERE account = ?1 AND session = ?2 ORDER BY rating_group"
 
 abbrev groups_terms : List Term
 groups_terms =
@@ -70,7 +70,7 @@ groups_terms =
     ∷ op2 (Compare Eq Binary) (col 1 2) (col 0 1) ∷ []
 
 abbrev groups_order : List (Term × Key)
-groups_order = []
+groups_order = (col 1 3, record { collation = Binary; descending = false }) ∷ []
 
 groups_is : (command_of (understood book_schema read_groups_text)
     ≡ Select (record { lets = []; body = select_from 10 groups_terms project groups_order }) names)

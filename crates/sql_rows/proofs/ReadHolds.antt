@@ -57,7 +57,7 @@ back x r is = same_columns r ∙ ap (λ w. at_in (Null ∷ Null ∷ w)) (sym is)
 
 abbrev pub read_holds_text : List ℕ
 read_holds_text = codes "SELECT rating_group, bucket, amount "
-    ++ codes "FROM holds WHERE account = ?1 AND session = ?2"
+    ++ codes "FROM holds WHERE account = ?1 AND session = ?2 ORDER BY rating_group, bucket"
 
 abbrev holds_terms : List Term
 holds_terms =
@@ -65,7 +65,8 @@ holds_terms =
     ∷ op2 (Compare Eq Binary) (col 1 2) (col 0 1) ∷ []
 
 abbrev holds_order : List (Term × Key)
-holds_order = []
+holds_order = (col 1 3, record { collation = Binary; descending = false }) ∷
+    (col 1 4, record { collation = Binary; descending = false }) ∷ []
 
 holds_is : (command_of (understood book_schema read_holds_text)
     ≡ Select (record { lets = []; body = select_from 12 holds_terms project holds_order }) names) ×

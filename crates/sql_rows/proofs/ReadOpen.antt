@@ -36,7 +36,7 @@ use Rattle.sql_rows.proofs.Tests.{open_tested, tested_open}
 
 abbrev pub read_sessions_open_text : List ℕ
 read_sessions_open_text = codes "SELECT session, last_number, touched, state "
-    ++ codes "FROM sessions WHERE account = ?1 AND state = 1"
+    ++ codes "FROM sessions WHERE account = ?1 AND state = 1 ORDER BY session"
 
 abbrev sessions_open_terms : List Term
 sessions_open_terms =
@@ -44,7 +44,7 @@ sessions_open_terms =
     ∷ op2 (Compare Eq Binary) (col 1 5) (lit (Int (pos 1))) ∷ []
 
 abbrev sessions_open_order : List (Term × Key)
-sessions_open_order = []
+sessions_open_order = (col 1 2, record { collation = Binary; descending = false }) ∷ []
 
 sessions_open_is : (command_of (understood book_schema read_sessions_open_text)
     ≡ Select (record {

@@ -100,6 +100,7 @@ pub only_changed : (at : ℕ) (old new : Trees)
     → content_of new ≡ content_of (swapped at old new)
 only_changed at old new same = λ i. record {
   meta = meta_kept mix new (is meta same.0) i;
+  kept = length (is meta same.0 i);
   rows = λ x. record {
     head = head_kept mix new (is accounts same.1.0) x i;
     buckets = λ n. buckets_kept mix new (is buckets same.1.1.0) x n i;

@@ -46,6 +46,8 @@ pub record Rows : Type 0 where
 
 pub record Content : Type 0 where
   pub meta : Option Meta
+  -- how many rows there are of what is kept once
+  pub kept : ℕ
   -- by account
   pub rows : List ℕ → Rows
   -- by code
@@ -63,7 +65,10 @@ with_rows a change c =
     record c { rows = λ x. if same_name a x then change (c.rows x) else c.rows x }
 
 abbrev pub with_meta : Meta → Content → Content
-with_meta m c = record c { meta = Some m }
+with_meta m c = record c {
+  meta = Some m;
+  kept = if is_some c.meta then c.kept else c.kept + 1;
+}
 
 abbrev pub with_head : Head → Rows → Rows
 with_head h r = record r { head = Some h }
@@ -170,6 +175,7 @@ rows_in trees a = record {
 abbrev pub content_of : Trees → Content
 content_of trees = record {
   meta = option_map meta_in (look meta trees meta_key);
+  kept = length (trees meta.tree);
   rows = rows_in trees;
   vouchers = λ code. option_map voucher_in (look vouchers trees (voucher_key code));
   books = λ n. option_map book_in (look books trees (book_key n));

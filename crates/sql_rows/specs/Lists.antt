@@ -3,7 +3,9 @@
 -- Source: profile.
 use Rattle.std.specs.Prelude.{◌≡◌, ℕ, ◌&&◌, ◌||◌, nat_eq, nat_lt, nat_le, ◌<◌, Bool, not, List, []}
 use Rattle.std.specs.Prelude.{◌∷◌, length, Option, Some, None, option_map, is_some, false}
-use Rattle.std.specs.Prelude.{if◌then◌else◌}
+use Rattle.std.specs.Prelude.{if◌then◌else◌, IsTrue}
+use Rattle.std.specs.Ordering.{nat_cmp, is_lt}
+use Rattle.std.specs.Cmp.Lexicographic.{slice_cmp}
 use Rattle.std.specs.List.{find}
 use Rattle.sqlite_value.specs.declared.value.Value.TheVariants.{Text}
 use Rattle.sqlite_value.specs.Order.{Row as Values}
@@ -38,6 +40,16 @@ Rises number [] = Unit {0}
 Rises number (x ∷ []) = Unit {0}
 Rises number (x ∷ y ∷ zs) = (number x < number y) × Rises number (y ∷ zs)
 
+-- each row stands before the one after it
+abbrev pub Ascends : {X : Type 0} → (X → X → Bool) → List X → Type 0
+Ascends before [] = Unit {0}
+Ascends before (x ∷ []) = Unit {0}
+Ascends before (x ∷ y ∷ zs) = IsTrue (before x y) × Ascends before (y ∷ zs)
+
+-- names stand in the order of their bytes
+abbrev pub name_before : List ℕ → List ℕ → Bool
+name_before x y = is_lt (slice_cmp nat_cmp x y)
+
 -- all accounts, each once
 pub record AreAccounts (content : Content) (xs : List (List ℕ)) : Type 0 where
   pub found : (a : List ℕ) → is_some (find (λ x. same_name x a) xs) ≡ is_some (content.rows a).head
@@ -66,6 +78,9 @@ pub record GroupAt : Type 0 where
   pub group : ℕ
   pub row : Group
 
+abbrev pub group_at_before : GroupAt → GroupAt → Bool
+group_at_before x y = nat_lt x.group y.group
+
 -- the columns after the session's
 abbrev pub group_at_cells : GroupAt → Values
 group_at_cells x = group_cells x.group x.row
@@ -80,6 +95,11 @@ pub record HoldAt : Type 0 where
   pub group : ℕ
   pub bucket : ℕ
   pub amount : ℕ
+
+-- by the rating group, and within one by the bucket
+abbrev pub hold_before : HoldAt → HoldAt → Bool
+hold_before x y =
+    nat_lt x.group y.group || (nat_eq x.group y.group && nat_lt x.bucket y.bucket)
 
 abbrev pub hold_cells : HoldAt → Values
 hold_cells h = nat h.group ∷ nat h.bucket ∷ nat h.amount ∷ []

@@ -16,6 +16,7 @@ use Rattle.sql_rows.specs.declared.covered_rows.CoveredColumns.{CoveredColumns}
 use Rattle.sql_rows.specs.declared.grant_book_rows.GrantBook.{GrantBook}
 use Rattle.sql_rows.specs.declared.group_rows.GroupColumns.{GroupColumns}
 use Rattle.sql_rows.specs.declared.group_rows.PeriodNames.{PeriodNames as ReadNames}
+use Rattle.sql_rows.specs.declared.group_rows.PutNames.{PutNames}
 use Rattle.sql_rows.specs.declared.hold_rows.HeldColumns.{HeldColumns}
 use Rattle.sql_rows.specs.declared.meta_rows.Meta.{Meta as MetaRow}
 use Rattle.sql_rows.specs.declared.reserved_rows.ReservedColumns.{ReservedColumns}
@@ -42,6 +43,10 @@ voucher_of v = record { amount = v.amount; days = v.days; scope = v.scope; accou
 
 abbrev pub names_of : ReadNames → PeriodNames
 names_of p = record { before = string_bytes p.before; after = string_bytes p.after }
+
+-- the names as they are put
+abbrev pub names_put : PutNames → PeriodNames
+names_put p = record { before = p.before.now; after = p.after.now }
 
 abbrev pub group_at : GroupColumns → GroupAt
 group_at g = record {

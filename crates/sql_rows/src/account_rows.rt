@@ -1,12 +1,13 @@
 ghost use Rattle.std.specs.Prelude.{◌≡◌, map, IfOk};
 ghost use Rattle.sql_rows.specs.Content.{content_of, rows_in, with_account};
 ghost use Rattle.sql_rows.specs.Values.{head_cells, head_key};
-ghost use Rattle.sql_rows.specs.Lists.{AreAccounts};
+ghost use Rattle.sql_rows.specs.Lists.{AreAccounts, Ascends, name_before};
 ghost use Rattle.sql_rows.specs.Makes.{Makes};
 ghost use Rattle.sql_tables.specs.Statements.{Attempts, HasBook, HasIdleBook, Reads};
 ghost use Rattle.sql_tables.specs.Selects.{one_or_none};
 ghost use Rattle.sqlite.specs.Held.{state};
 
+use crate::ascending::{InOrder, do_ascend};
 use crate::decoding::{account_at, flag_at, moment_at};
 use crate::head::Head;
 use identifiers::AccountNumber;
@@ -95,11 +96,19 @@ fn head_from(row: &Row) -> Result<Head, ReadFault>
     })
 }
 
-/// The numbers of all accounts, each once.
+impl InOrder for AccountNumber {
+    ghost before = { name_before };
+
+    fn is_before(&self, other: &AccountNumber) -> bool {
+        self.as_str().cmp(other.as_str()).is_lt()
+    }
+}
+
+/// The numbers of all accounts, in order, each once.
 ///
 /// # Errors
-/// `Store` where the store failed, `Rules` where a row is out of its rules, `Memory` where a growth
-/// was refused. Nothing is changed then either.
+/// `Store` where the store failed, `Rules` where a row is out of its rules or the numbers don't
+/// rise, `Memory` where a growth was refused. Nothing is changed then either.
 pub fn read_accounts<S: Alter>(
     conn: &mut Connection<S>,
     alloc: Global,
@@ -107,13 +116,15 @@ pub fn read_accounts<S: Alter>(
     requires idle { HasIdleBook (state S.Store conn.old) }
     ensures reads { Reads (λ trees xs. AreAccounts (content_of trees) xs.items)
         (state S.Store conn.old) (state S.Store conn.new) result }
+    ensures order { IfOk result (λ xs. Ascends name_before xs.items) }
 {
     let rows = read(conn, "SELECT account FROM accounts ORDER BY account", &[])?;
     accounts_from(alloc, &rows)
 }
 
 fn accounts_from(alloc: Global, rows: &[Row]) -> Result<Vec<AccountNumber>, ReadFault>
-    ensures { IfOk result (λ xs. map head_key xs.items ≡ rows.now) }
+    ensures cells { IfOk result (λ xs. map head_key xs.items ≡ rows.now) }
+    ensures order { IfOk result (λ xs. Ascends name_before xs.items) }
 {
     let mut accounts = Vec::new(alloc);
     'rows: for row in rows {
@@ -121,6 +132,9 @@ fn accounts_from(alloc: Global, rows: &[Row]) -> Result<Vec<AccountNumber>, Read
         let Ok(()) = accounts.push(account) else {
             return Err(ReadFault::Memory);
         };
+    }
+    if !do_ascend(&accounts) {
+        return Err(ReadFault::Rules);
     }
     Ok(accounts)
 }

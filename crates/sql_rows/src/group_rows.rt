@@ -1,17 +1,22 @@
-ghost use Rattle.std.specs.Prelude.{◌≡◌, map, false, IfOk, Some, None};
+ghost use Rattle.std.specs.Prelude.{◌≡◌, map, false, option_map, IfOk};
+ghost use Rattle.sqlite_value.specs.Value.{owned};
+ghost use Rattle.sqlite_value.specs.declared.value.Value.TheVariants.{Text};
 ghost use Rattle.sql_rows.specs.Content.{rows_in, with_group, with_rows};
-ghost use Rattle.sql_rows.specs.Lists.{AreGroups, group_at_cells};
-ghost use Rattle.sql_rows.specs.Texts.{ArePeriods, group_at};
+ghost use Rattle.sql_rows.specs.Lists.{AreGroups, Ascends, group_at_before, group_at_cells};
+ghost use Rattle.sql_rows.specs.Texts.{ArePeriods, group_at, names_put};
 ghost use Rattle.sql_rows.specs.Makes.{Makes};
 ghost use Rattle.sql_tables.specs.Statements.{Attempts, HasBook, HasIdleBook, Reads};
 ghost use Rattle.sqlite.specs.Held.{state};
+ghost use Rattle.sqlite.specs.Values.{bound_value, or_null};
 
+use crate::ascending::{InOrder, do_ascend};
 use crate::decoding::flag_at;
 use identifiers::{AccountNumber, SessionId};
 use sql_tables::{
     ReadFault, checked, flag, has_columns, null, null_at, number_at, read, small_at, text, text_at,
     whole, write,
 };
+use sqlite::types::ValueRef;
 use sqlite::{Alter, Connection, Error, Row, Transaction};
 use std::alloc::Global;
 
@@ -35,93 +40,91 @@ pub struct GroupColumns {
     pub periods: Option<PeriodNames>,
 }
 
-/// Puts a row of `session_groups` in the place of one with its key.
-const PUT_GROUP: &str = "INSERT INTO session_groups VALUES (?1, ?2, ?3, ?4, ?5, ?6, ?7) \
-    ON CONFLICT (account, session, rating_group) DO UPDATE SET \
-    account = excluded.account, session = excluded.session, \
-    rating_group = excluded.rating_group, used = excluded.used, \
-    reserved = excluded.reserved, period_before = excluded.period_before, \
-    period_after = excluded.period_after";
+impl InOrder for GroupColumns {
+    ghost before = { λ x y. group_at_before (group_at x) (group_at y) };
 
-/// Puts what a session has of a rating group, with a reservation: the units used, and the names of
-/// the tariff periods at the grant and at the switch. What the reservation holds is put by
-/// `put_hold`.
+    fn is_before(&self, other: &GroupColumns) -> bool {
+        self.group < other.group
+    }
+}
+
+/// The names of the tariff periods at a grant and at its switch, as they are put.
+#[derive(Clone, Copy, Debug)]
+pub struct PutNames<'a> {
+    /// The name of the tariff period at the grant.
+    pub before: &'a str,
+    /// The name of the tariff period at the switch.
+    pub after: &'a str,
+}
+
+/// The name of the period at a grant as a statement's parameter; NULL without a reservation.
+fn before_or_null(periods: Option<PutNames<'_>>) -> ValueRef<'_>
+    ensures { bound_value (owned result) ≡ or_null (λ p. Text p.before.now) periods.entry }
+{
+    match periods {
+        Some(names) => text(names.before),
+        None => null(),
+    }
+}
+
+/// The name of the period at a switch as a statement's parameter; NULL without a reservation.
+fn after_or_null(periods: Option<PutNames<'_>>) -> ValueRef<'_>
+    ensures { bound_value (owned result) ≡ or_null (λ p. Text p.after.now) periods.entry }
+{
+    match periods {
+        Some(names) => text(names.after),
+        None => null(),
+    }
+}
+
+/// Puts what a session has of a rating group (Rating-Group, RFC 8506 section 8.29): the units used,
+/// and of a reservation the names of its tariff periods; none without one. What the reservation
+/// holds is put by `put_hold`.
 ///
 /// # Errors
 /// `IntegralValueOutOfRange` where the number of units is 2^63 or more, else an error of the store.
 /// Then nothing is committed.
-pub fn put_group_reserved<S: Alter>(
+pub fn put_group<S: Alter>(
     tx: &mut Transaction<'_, S>,
     account: &AccountNumber,
     session: &SessionId,
     group: u32,
     used: u64,
-    before: &str,
-    after: &str,
+    periods: Option<PutNames<'_>>,
 ) -> Result<usize, Error>
     requires book { HasBook (state S.Store tx.old.conn.now) }
     ensures same_reference { tx.new.conn.ghost_name ≡ tx.old.conn.ghost_name }
-    ensures makes { Attempts (Makes (with_rows account.now (with_group session.now group (record {
-      used = used;
-      periods = Some (record { before = before.now; after = after.now });
-    }))))
+    ensures makes { Attempts (Makes (with_rows account.now (with_group session.now group
+        (record { used = used; periods = option_map names_put periods.entry }))))
         (state S.Store tx.old.conn.now) (state S.Store tx.new.conn.now) result }
 {
     let of_account = text(account.as_str());
     let of_session = text(session.as_str());
     let of_group = whole(group);
     let units = checked(used as u128, 4)?;
-    let reserved = flag(true);
-    let at_grant = text(before);
-    let at_switch = text(after);
+    let reserved = flag(periods.is_some());
+    let at_grant = before_or_null(periods);
+    let at_switch = after_or_null(periods);
     write(
         tx,
-        PUT_GROUP,
+        "INSERT INTO session_groups VALUES (?1, ?2, ?3, ?4, ?5, ?6, ?7) \
+         ON CONFLICT (account, session, rating_group) DO UPDATE SET \
+         account = excluded.account, session = excluded.session, \
+         rating_group = excluded.rating_group, used = excluded.used, \
+         reserved = excluded.reserved, period_before = excluded.period_before, \
+         period_after = excluded.period_after",
         &[
             of_account, of_session, of_group, units, reserved, at_grant, at_switch,
         ],
     )
 }
 
-/// Puts what a session has of a rating group, without a reservation: the units used.
+/// What a session has of rating groups, in their order, each once; what its reservations hold is
+/// read by `read_holds`.
 ///
 /// # Errors
-/// `IntegralValueOutOfRange` where the number of units is 2^63 or more, else an error of the store.
-/// Then nothing is committed.
-pub fn put_group_free<S: Alter>(
-    tx: &mut Transaction<'_, S>,
-    account: &AccountNumber,
-    session: &SessionId,
-    group: u32,
-    used: u64,
-) -> Result<usize, Error>
-    requires book { HasBook (state S.Store tx.old.conn.now) }
-    ensures same_reference { tx.new.conn.ghost_name ≡ tx.old.conn.ghost_name }
-    ensures makes { Attempts (Makes (with_rows account.now
-        (with_group session.now group (record { used = used; periods = None }))))
-        (state S.Store tx.old.conn.now) (state S.Store tx.new.conn.now) result }
-{
-    let of_account = text(account.as_str());
-    let of_session = text(session.as_str());
-    let of_group = whole(group);
-    let units = checked(used as u128, 4)?;
-    let reserved = flag(false);
-    let at_grant = null();
-    let at_switch = null();
-    write(
-        tx,
-        PUT_GROUP,
-        &[
-            of_account, of_session, of_group, units, reserved, at_grant, at_switch,
-        ],
-    )
-}
-
-/// What a session has of rating groups; what its reservations hold is read by `read_holds`.
-///
-/// # Errors
-/// `Store` where the store failed, `Rules` where a row is out of its rules, `Memory` where a growth
-/// was refused. Nothing is changed then either.
+/// `Store` where the store failed, `Rules` where a row is out of its rules or the groups don't
+/// rise, `Memory` where a growth was refused. Nothing is changed then either.
 pub fn read_groups<S: Alter>(
     conn: &mut Connection<S>,
     alloc: Global,
@@ -132,18 +135,20 @@ pub fn read_groups<S: Alter>(
     ensures reads { Reads (λ trees xs.
         AreGroups (rows_in trees account.now) session.now (map group_at xs.items))
         (state S.Store conn.old) (state S.Store conn.new) result }
+    ensures order { IfOk result (λ xs. Ascends group_at_before (map group_at xs.items)) }
 {
     let rows = read(
         conn,
         "SELECT rating_group, used, reserved, period_before, period_after \
-         FROM session_groups WHERE account = ?1 AND session = ?2",
+         FROM session_groups WHERE account = ?1 AND session = ?2 ORDER BY rating_group",
         &[text(account.as_str()), text(session.as_str())],
     )?;
     groups_from(alloc, &rows)
 }
 
 fn groups_from(alloc: Global, rows: &[Row]) -> Result<Vec<GroupColumns>, ReadFault>
-    ensures { IfOk result (λ xs. map group_at_cells (map group_at xs.items) ≡ rows.now) }
+    ensures cells { IfOk result (λ xs. map group_at_cells (map group_at xs.items) ≡ rows.now) }
+    ensures order { IfOk result (λ xs. Ascends group_at_before (map group_at xs.items)) }
 {
     let mut groups = Vec::new(alloc);
     'rows: for row in rows {
@@ -151,6 +156,9 @@ fn groups_from(alloc: Global, rows: &[Row]) -> Result<Vec<GroupColumns>, ReadFau
         let Ok(()) = groups.push(group) else {
             return Err(ReadFault::Memory);
         };
+    }
+    if !do_ascend(&groups) {
+        return Err(ReadFault::Rules);
     }
     Ok(groups)
 }

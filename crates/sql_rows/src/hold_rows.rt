@@ -1,12 +1,13 @@
 ghost use Rattle.std.specs.Prelude.{◌≡◌, map, IfOk};
 ghost use Rattle.sql_rows.specs.Content.{rows_in, with_hold, with_rows, without_holds};
 ghost use Rattle.sql_rows.specs.Each.{with_holds};
-ghost use Rattle.sql_rows.specs.Lists.{AreHolds, hold_cells};
+ghost use Rattle.sql_rows.specs.Lists.{AreHolds, Ascends, hold_before, hold_cells};
 ghost use Rattle.sql_rows.specs.Texts.{hold_at};
 ghost use Rattle.sql_rows.specs.Makes.{Makes, MakesIfOpen};
 ghost use Rattle.sql_tables.specs.Statements.{Attempts, HasBook, HasIdleBook, IsInside, Reads};
 ghost use Rattle.sqlite.specs.Held.{state};
 
+use crate::ascending::{InOrder, do_ascend};
 use buckets::Hold;
 use identifiers::{AccountNumber, SessionId};
 use sql_tables::{ReadFault, checked, has_columns, number_at, read, small_at, text, whole, write};
@@ -22,6 +23,14 @@ pub struct HeldColumns {
     pub bucket: u32,
     /// Micro-units.
     pub amount: u64,
+}
+
+impl InOrder for HeldColumns {
+    ghost before = { λ x y. hold_before (hold_at x) (hold_at y) };
+
+    fn is_before(&self, other: &HeldColumns) -> bool {
+        self.group < other.group || self.group == other.group && self.bucket < other.bucket
+    }
 }
 
 /// Puts what a session's reservation in a rating group holds of a bucket, in micro-units.
@@ -82,11 +91,11 @@ pub fn remove_holds<S: Alter>(
     )
 }
 
-/// What is held for a session, by rating group and bucket.
+/// What is held for a session, in the order of rating groups and of each one's buckets, each once.
 ///
 /// # Errors
-/// `Store` where the store failed, `Rules` where a row is out of its rules, `Memory` where a growth
-/// was refused. Nothing is changed then either.
+/// `Store` where the store failed, `Rules` where a row is out of its rules or the keys don't rise,
+/// `Memory` where a growth was refused. Nothing is changed then either.
 pub fn read_holds<S: Alter>(
     conn: &mut Connection<S>,
     alloc: Global,
@@ -97,18 +106,20 @@ pub fn read_holds<S: Alter>(
     ensures reads { Reads (λ trees xs.
         AreHolds (rows_in trees account.now) session.now (map hold_at xs.items))
         (state S.Store conn.old) (state S.Store conn.new) result }
+    ensures order { IfOk result (λ xs. Ascends hold_before (map hold_at xs.items)) }
 {
     let rows = read(
         conn,
         "SELECT rating_group, bucket, amount \
-         FROM holds WHERE account = ?1 AND session = ?2",
+         FROM holds WHERE account = ?1 AND session = ?2 ORDER BY rating_group, bucket",
         &[text(account.as_str()), text(session.as_str())],
     )?;
     helds_from(alloc, &rows)
 }
 
 fn helds_from(alloc: Global, rows: &[Row]) -> Result<Vec<HeldColumns>, ReadFault>
-    ensures { IfOk result (λ xs. map hold_cells (map hold_at xs.items) ≡ rows.now) }
+    ensures cells { IfOk result (λ xs. map hold_cells (map hold_at xs.items) ≡ rows.now) }
+    ensures order { IfOk result (λ xs. Ascends hold_before (map hold_at xs.items)) }
 {
     let mut helds = Vec::new(alloc);
     'rows: for row in rows {
@@ -116,6 +127,9 @@ fn helds_from(alloc: Global, rows: &[Row]) -> Result<Vec<HeldColumns>, ReadFault
         let Ok(()) = helds.push(held) else {
             return Err(ReadFault::Memory);
         };
+    }
+    if !do_ascend(&helds) {
+        return Err(ReadFault::Rules);
     }
     Ok(helds)
 }

@@ -5,6 +5,7 @@
 mod account_rows;
 mod allowance_rows;
 mod answer_rows;
+mod ascending;
 mod book_rows;
 mod bucket_rows;
 mod charge_rows;
@@ -24,9 +25,7 @@ mod voucher_rows;
 
 pub use crate::account_rows::{put_account, read_account, read_accounts};
 pub use crate::allowance_rows::{put_allowance, read_allowance, read_allowances, remove_allowance};
-pub use crate::answer_rows::{
-    Kept, put_answer_reference, put_answer_request, read_answer_reference, read_answer_request,
-};
+pub use crate::answer_rows::{Kept, put_answer, read_answer};
 pub use crate::book_rows::{BookColumns, put_book, read_books, read_books_within};
 pub use crate::bucket_rows::{put_bucket, put_buckets, read_buckets_all, read_buckets_dead};
 pub use crate::charge_rows::{put_charge, put_charges, read_charges_within};
@@ -34,9 +33,7 @@ pub use crate::counter_lists::read_counters_in;
 pub use crate::counter_rows::{put_counter, put_counters, read_counter};
 pub use crate::covered_rows::{CoveredColumns, put_covered, read_covered_within, remove_covered};
 pub use crate::grant_book_rows::{GrantBook, put_grant_book, read_grant_books, remove_grant_book};
-pub use crate::group_rows::{
-    GroupColumns, PeriodNames, put_group_free, put_group_reserved, read_groups,
-};
+pub use crate::group_rows::{GroupColumns, PeriodNames, PutNames, put_group, read_groups};
 pub use crate::head::Head;
 pub use crate::hold_rows::{HeldColumns, put_hold, put_holds, read_holds, remove_holds};
 pub use crate::live_bucket_rows::read_buckets_live;

@@ -2,11 +2,13 @@
 
 ghost use Rattle.std.specs.Prelude.{◌≤◌, length, map, IfOk};
 ghost use Rattle.sql_rows.specs.Content.{rows_in};
-ghost use Rattle.sql_rows.specs.Lists.{AreBuckets, AreJoined, is_held, is_left, is_live};
+ghost use Rattle.buckets.specs.Row.{precedes};
+ghost use Rattle.sql_rows.specs.Lists.{AreBuckets, AreJoined, Ascends, is_held, is_left, is_live};
 ghost use Rattle.sql_rows.specs.Texts.{ReadsBuckets, bucket_row};
 ghost use Rattle.sql_tables.specs.Statements.{HasIdleBook, Reads};
 ghost use Rattle.sqlite.specs.Held.{state};
 
+use crate::ascending::{InOrder, do_ascend};
 use crate::bucket_rows::buckets_from;
 use buckets::Columns as BucketColumns;
 use identifiers::AccountNumber;
@@ -80,9 +82,12 @@ fn read_parts<S: Alter>(
     Ok(LiveBuckets { left, held })
 }
 
-/// Whether a bucket is used before another: by their ends, then by their numbers.
-fn is_before(bucket: &BucketColumns, other: &BucketColumns) -> bool {
-    bucket.until < other.until || bucket.until == other.until && bucket.number < other.number
+impl InOrder for BucketColumns {
+    ghost before = { λ x y. precedes (bucket_row x) (bucket_row y) };
+
+    fn is_before(&self, other: &BucketColumns) -> bool {
+        self.until < other.until || self.until == other.until && self.number < other.number
+    }
 }
 
 /// The first place from one on whose bucket isn't used before this one.
@@ -91,7 +96,7 @@ fn place_of(rows: &[BucketColumns], from: usize, bucket: &BucketColumns) -> usiz
     ensures { (from ≤ result) × (result ≤ length rows.now) }
 {
     'rows: for at in from..rows.len() {
-        if !is_before(&rows[at], bucket) {
+        if !rows[at].is_before(bucket) {
             return at;
         }
     }
@@ -114,12 +119,28 @@ fn joined(left: Vec<BucketColumns>, held: &[BucketColumns]) -> Result<Vec<Bucket
     Ok(rows)
 }
 
-/// The buckets of which something is available or reserved, in the order of their use, as their
-/// columns stand: no rule of theirs is tested yet, and each is told as one of money.
+/// Those of both, if they stand in the order of their use.
+fn in_order(
+    left: Vec<BucketColumns>,
+    held: &[BucketColumns],
+) -> Result<Vec<BucketColumns>, ReadFault>
+    ensures joined { IfOk result
+        (λ rows. AreJoined (λ b. b.number) left.items held.now rows.items) }
+    ensures order { IfOk result (λ rows. Ascends precedes (map bucket_row rows.items)) }
+{
+    let rows = joined(left, held)?;
+    if !do_ascend(&rows) {
+        return Err(ReadFault::Rules);
+    }
+    Ok(rows)
+}
+
+/// The buckets of which something is available or reserved, in the order of their use, each once,
+/// as their columns stand: no other rule of theirs is tested yet, and each is told as one of money.
 ///
 /// # Errors
-/// `Store` where the store failed, `Rules` where a row is out of its rules, `Memory` where a growth
-/// was refused. Nothing is changed then either.
+/// `Store` where the store failed, `Rules` where a row is out of its rules or they don't stand in
+/// the order of their use, `Memory` where a growth was refused. Nothing is changed then either.
 pub fn read_buckets_live<S: Alter>(
     conn: &mut Connection<S>,
     alloc: Global,
@@ -128,7 +149,8 @@ pub fn read_buckets_live<S: Alter>(
     requires idle { HasIdleBook (state S.Store conn.old) }
     ensures reads { ReadsBuckets is_live account.now
         (state S.Store conn.old) (state S.Store conn.new) result }
+    ensures order { IfOk result (λ bs. Ascends precedes (map bucket_row bs.items)) }
 {
     let LiveBuckets { left, held } = read_parts(conn, alloc, account)?;
-    joined(left, &held)
+    in_order(left, &held)
 }

@@ -1,20 +1,29 @@
 ghost use Rattle.std.specs.Prelude.{◌≡◌, map, IfOk};
 ghost use Rattle.sql_rows.specs.Content.{rows_in, with_rows, with_session};
 ghost use Rattle.sql_rows.specs.Values.{session_cells, state_number};
-ghost use Rattle.sql_rows.specs.Lists.{AreSessions};
-ghost use Rattle.reserving.specs.Sessions.{is_open};
+ghost use Rattle.sql_rows.specs.Lists.{AreSessions, Ascends};
+ghost use Rattle.reserving.specs.Sessions.{is_open, session_before};
 ghost use Rattle.sql_rows.specs.Each.{with_sessions};
 ghost use Rattle.sql_rows.specs.Makes.{Makes, MakesIfOpen};
 ghost use Rattle.sql_tables.specs.Statements.{Attempts, HasBook, HasIdleBook, IsInside, Reads};
 ghost use Rattle.sql_tables.specs.Selects.{one_or_none};
 ghost use Rattle.sqlite.specs.Held.{state};
 
+use crate::ascending::{InOrder, do_ascend};
 use crate::decoding::{moment_at, session_at, state_at};
 use identifiers::{AccountNumber, SessionId};
 use reserving::{Session, SessionState};
 use sql_tables::{ReadFault, has_columns, large, one_of, read, small_at, text, whole, write};
 use sqlite::{Alter, Connection, Error, Row, Transaction};
 use std::alloc::Global;
+
+impl InOrder for Session {
+    ghost before = { session_before };
+
+    fn is_before(&self, other: &Session) -> bool {
+        self.id.cmp(&other.id).is_lt()
+    }
+}
 
 /// Puts a session of an account, or a recorded event.
 ///
@@ -106,11 +115,12 @@ fn session_from(alloc: Global, row: &Row) -> Result<Session, ReadFault>
     })
 }
 
-/// The open sessions of an account; the index finds them without its past ones.
+/// The open sessions of an account, in the order of their names, each once; the index finds them
+/// without its past ones.
 ///
 /// # Errors
-/// `Store` where the store failed, `Rules` where a row is out of its rules, `Memory` where a growth
-/// was refused. Nothing is changed then either.
+/// `Store` where the store failed, `Rules` where a row is out of its rules or the names don't rise,
+/// `Memory` where a growth was refused. Nothing is changed then either.
 pub fn read_sessions_open<S: Alter>(
     conn: &mut Connection<S>,
     alloc: Global,
@@ -120,18 +130,20 @@ pub fn read_sessions_open<S: Alter>(
     ensures reads { Reads (λ trees xs.
         AreSessions (λ x. is_open x.state) (rows_in trees account.now) xs.items)
         (state S.Store conn.old) (state S.Store conn.new) result }
+    ensures order { IfOk result (λ xs. Ascends session_before xs.items) }
 {
     let rows = read(
         conn,
         "SELECT session, last_number, touched, state \
-         FROM sessions WHERE account = ?1 AND state = 1",
+         FROM sessions WHERE account = ?1 AND state = 1 ORDER BY session",
         &[text(account.as_str())],
     )?;
     sessions_from(alloc, &rows)
 }
 
 fn sessions_from(alloc: Global, rows: &[Row]) -> Result<Vec<Session>, ReadFault>
-    ensures { IfOk result (λ xs. map session_cells xs.items ≡ rows.now) }
+    ensures cells { IfOk result (λ xs. map session_cells xs.items ≡ rows.now) }
+    ensures order { IfOk result (λ xs. Ascends session_before xs.items) }
 {
     let mut sessions = Vec::new(alloc);
     'rows: for row in rows {
@@ -139,6 +151,9 @@ fn sessions_from(alloc: Global, rows: &[Row]) -> Result<Vec<Session>, ReadFault>
         let Ok(()) = sessions.push(session) else {
             return Err(ReadFault::Memory);
         };
+    }
+    if !do_ascend(&sessions) {
+        return Err(ReadFault::Rules);
     }
     Ok(sessions)
 }

@@ -5,6 +5,7 @@ use crate::tests::row_readers::stored;
 use crate::tests::row_writers::{push, push_account};
 use crate::tests::values::{account, moment};
 use identifiers::AccountNumber;
+use keepers::StoreFault;
 use reserving::{Account, StoredAccount};
 use shelves::TariffShelf;
 use sql_keeper::SqlKeeper;
@@ -33,6 +34,15 @@ session over 1 1767607200 ended
 group open 10 60 1 0 2 3
 group over 10 120";
 
+/// The same with the open session ended, and what it has of the rating group as it was.
+const ENDED: &str = "counter 10 0 2
+counter 20 683 9
+counter 20 684 4
+session open 2 1767607200 ended
+session over 1 1767607200 ended
+group open 10 60 1 0 2 3
+group over 10 120";
+
 /// An account whose second bucket is this.
 fn account_with(rt: &impl Abort, alloc: Global, bucket: &str) -> StoredAccount {
     let rows = format!(in alloc; "{FIRST}\n{bucket}\n{OTHERS}").expect(rt, "room");
@@ -56,6 +66,13 @@ fn tell_view(
     }
 }
 
+/// An account as the last of these changes leaves it, with its open session ended beside the
+/// reservation: no account of a list of commands has such rows.
+fn account_ended(rt: &impl Abort, alloc: Global) -> StoredAccount {
+    let rows = format!(in alloc; "{FIRST}\n{FIVE}\n{ENDED}").expect(rt, "room");
+    stored(rt, alloc, moment(rt, AT), rows.as_str())
+}
+
 /// Commits the change of the account from these rows to those.
 fn commit(
     rt: &impl Abort,
@@ -67,8 +84,21 @@ fn commit(
     keeper.commit(change).expect(rt, "a commit");
 }
 
+/// Commits a change that ends a session and leaves its reservation, and tells what is answered.
+fn tell_ended(rt: &impl Abort, alloc: Global, keeper: &mut SqlKeeper<MemStore>, text: &mut String) {
+    let rows = (account_with(rt, alloc, FIVE), account_ended(rt, alloc));
+    let change = change_of(rt, alloc, moment(rt, AT), "49151", rows);
+    let told = match keeper.commit(change) {
+        Ok(()) => "a change\n",
+        Err(StoreFault::Store) => "a store fault\n",
+        Err(StoreFault::Memory) => "no memory\n",
+    };
+    push(rt, text, told);
+}
+
 /// What is viewed before the account is written, and after; after a change by which its second
-/// bucket has 5 before and after; and after one by which it has 7 and then 5.
+/// bucket has 5 before and after; after one by which it has 7 and then 5; and after one that may
+/// not be made.
 fn views(
     rt: &impl Abort,
     alloc: Global,
@@ -90,10 +120,12 @@ fn views(
     );
     commit(rt, alloc, keeper, (old, new));
     tell_view(rt, keeper, shelf, &number, text);
+    tell_ended(rt, alloc, keeper, text);
+    tell_view(rt, keeper, shelf, &number, text);
 }
 
-/// What may still change is viewed. A row that is the same before and after isn't written, whatever
-/// stands there; one that differs is.
+/// What may still change is viewed. A row that is the same before and after isn't named, whatever
+/// stands there; one that differs is. A session isn't ended beside a reservation.
 const VIEWS: &str = "no account
 account as of 1767607200, next charge 1
 bucket 2 1767607200 1767700000 - 10 7 3 0 0
@@ -107,6 +139,13 @@ counter 10 0 2
 counter 20 684 4
 session open 1 1767607200 open
 group open 10 60 1 0 2 3
+account as of 1767607200, next charge 1
+bucket 2 1767607200 1767700000 - 10 5 3 2 0
+counter 10 0 2
+counter 20 684 4
+session open 1 1767607200 open
+group open 10 60 1 0 2 3
+a store fault
 account as of 1767607200, next charge 1
 bucket 2 1767607200 1767700000 - 10 5 3 2 0
 counter 10 0 2

@@ -1,7 +1,7 @@
 //! A keeper over a new database in memory, and changes of accounts.
 
 use crate::tests::values::account;
-use keepers::Change;
+use keepers::{Change, NamedRows};
 use reserving::StoredAccount;
 use shelves::TariffShelf;
 use sql_keeper::SqlKeeper;
@@ -26,11 +26,11 @@ pub(crate) fn change_of(
     rows: (StoredAccount, StoredAccount),
 ) -> Change {
     let (before, after) = rows;
+    let rows = NamedRows::differing(alloc, &before, &after).expect(rt, "room");
     Change {
         moment,
         number: account(rt, alloc, number),
-        after,
-        before,
+        rows,
         charges: Vec::new(alloc),
         kept: None,
         redeemed: None,

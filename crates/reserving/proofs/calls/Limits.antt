@@ -1,13 +1,11 @@
 -- The limits of calls, told by an account's rows.
-use Rattle.std.proofs.Common.{◌≡◌, ℕ, ◌<◌, Bool, true, false, List, [], ◌∷◌, refl, sym, ap, ◌∙◌}
+use Rattle.std.proofs.Common.{◌≡◌, ℕ, ◌<◌, Bool, false, List, [], ◌∷◌, refl, sym, ap, ◌∙◌}
 use Rattle.std.proofs.Common.{Option}
 use Rattle.std.specs.Prelude.{nat_le, nat_lt, not}
 use Rattle.std.specs.Ordering.{is_lt, nat_cmp}
 use Rattle.units.specs.declared.blocks.UsedPart.{UsedPart}
 use Rattle.buckets.specs.Spend.{funds}
-use Rattle.buckets.specs.declared.kind.Due.{Due}
 use Rattle.rating.specs.declared.grant.Grant.{Grant}
-use Rattle.rating.specs.declared.report.Rated.{Rated}
 use Rattle.reserving.specs.Pricing.{cycle_at, switch_at, validity_at}
 use Rattle.reserving.specs.Settlement.{reported, passes}
 use Rattle.reserving.specs.Reservation.{held_due}

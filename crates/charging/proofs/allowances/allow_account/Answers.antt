@@ -10,6 +10,7 @@ use Rattle.charging.specs.Stepping.{Answers, Commits}
 use Rattle.charging.proofs.Serving.{left_as, served-by}
 use Rattle.charging.proofs.Operated.{made_change, made_tells}
 use Rattle.charging.proofs.Allowing.{allow-told, allow-done}
+use Rattle.charging.proofs.Refused.{accepted_given}
 use Rattle.charging.proofs.allowances.allow_account.Goals as goal
 use Rattle.charging.proofs.allowances.allow_account.Goals.{After-commit}
 
@@ -60,3 +61,11 @@ returns-in-Ok-Err-clause-served g c = λ clean b load fresh list time is le.
     c.moment_on-moment.result fresh c.moment_on-moment.ensures.value c.in-Ok-Err.field-0
     c.add_allowance.new.account c.in-Ok-Err.ensures.allows c.in-Ok-Err.refusal
     c.in-Ok-Err.field-0-is (ap g.K.Keeper.content c.abandon.ensures)
+
+pub returns-in-Ok-Ok-clause-refused : goal.returns-in-Ok-Ok-clause-refused
+returns-in-Ok-Ok-clause-refused g c = λ clean.
+    accepted_given c.commit.result (answer.Bucket c.in-Ok-Ok.number) _ _ refl
+    (c.commit.ensures.done clean)
+
+pub returns-in-Ok-Err-clause-refused : goal.returns-in-Ok-Err-clause-refused
+returns-in-Ok-Err-clause-refused g c = λ clean e. ap g.K.Keeper.content c.abandon.ensures

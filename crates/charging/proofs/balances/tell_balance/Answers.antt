@@ -22,3 +22,9 @@ returns-clause-served g c = λ clean list time is le.
     (g.K.Keeper.content c.args.keeper.now) o) c.in-Some.is (c.in_ok-state.ensures.found clean)
     list time is le)
     c.in_ok-balance.ensures (c.in_ok-state.ensures.same clean)
+
+pub returns-in_default-clause-refused : goal.returns-in_default-clause-refused
+returns-in_default-clause-refused g c = λ clean e. c.in_ok-state.ensures.same clean
+
+pub returns-clause-refused : goal.returns-clause-refused
+returns-clause-refused g c = λ clean e. c.in_ok-state.ensures.same clean

@@ -9,6 +9,7 @@ use Rattle.keepers.specs.Tables.{Tables}
 use Rattle.charging.specs.Stepping.{Answers, Commits}
 use Rattle.charging.proofs.Serving.{left_as, served-by}
 use Rattle.charging.proofs.Operated.{credit-told, credit-done, made_change, made_tells}
+use Rattle.charging.proofs.Refused.{accepted_given}
 use Rattle.charging.proofs.operators.credit_account.Goals as goal
 use Rattle.charging.proofs.operators.credit_account.Goals.{After-commit}
 
@@ -59,3 +60,11 @@ returns-in-Ok-None-clause-served g c = λ clean b load fresh list time is le.
     c.moment_on-moment.result fresh c.moment_on-moment.ensures.value c.in-Ok-None.field-0
     c.add_bucket.new.account c.in-Ok-None.ensures.credits
     c.in-Ok-None.field-0-is (ap g.K.Keeper.content c.abandon.ensures)
+
+pub returns-in-Ok-Some-clause-refused : goal.returns-in-Ok-Some-clause-refused
+returns-in-Ok-Some-clause-refused g c = λ clean.
+    accepted_given c.commit.result (answer.Bucket c.in-Ok-Some.number) _ _ refl
+    (c.commit.ensures.done clean)
+
+pub returns-in-Ok-None-clause-refused : goal.returns-in-Ok-None-clause-refused
+returns-in-Ok-None-clause-refused g c = λ clean e. ap g.K.Keeper.content c.abandon.ensures

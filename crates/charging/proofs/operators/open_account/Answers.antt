@@ -3,11 +3,12 @@ use Rattle.commands.specs.declared.answer.Answer.TheVariants as answer
 use Rattle.commands.specs.declared.command.Command.TheVariants as command
 use Rattle.reserving.specs.Stored.{StoredRows, stored}
 use Rattle.keepers.specs.declared.loaded.Change.{Change}
-use Rattle.keepers.specs.Change.{IsMadeFrom}
+use Rattle.keepers.specs.Differing.{named_rows}
 use Rattle.keepers.specs.Tables.{Tables}
 use Rattle.charging.specs.Stepping.{Answers, Commits}
 use Rattle.charging.proofs.Serving.{commits-from, left_as, served-by}
 use Rattle.charging.proofs.Operated.{not-there, open-again, open-done}
+use Rattle.charging.proofs.Refused.{accepted_given}
 use Rattle.charging.proofs.operators.open_account.Goals as goal
 use Rattle.charging.proofs.operators.open_account.Goals.{After-commit}
 
@@ -24,8 +25,7 @@ abbrev change : (g : _) → After-commit g → Change
 change g c = record {
   moment = c.advance.new.self.as_of;
   number = c.args.number;
-  after = stored c.advance.new.self;
-  before = c.into_stored-before.result;
+  rows = named_rows c.into_stored-before.result (stored c.advance.new.self);
   charges = c.new-2.result;
   kept = None;
   redeemed = None;
@@ -49,7 +49,8 @@ done g c t clean made = λ list time is le.
       rows = c.advance.ensures.ledger [] c.new-account.ensures.ledger;
       named = refl;
       moment = refl;
-      after = refl;
+      after = ap (λ (w : StoredRows). named_rows w (stored c.advance.new.self))
+          c.into_stored-before.ensures;
       kept = refl;
       redeemed = refl;
       charges = c.new-2.ensures.items;
@@ -58,11 +59,8 @@ done g c t clean made = λ list time is le.
       sessions = λ i. (c.new.ensures.rows i).sessions;
       groups = λ i. (c.new.ensures.rows i).groups;
     })
-    (λ from. commits-from (change g c) (g.K.Keeper.content c.args.keeper.now)
-    (g.K.Keeper.content c.has_account.new.self) t (c.in_ok-has_account.ensures.same clean) made
-    (subst (λ (w : StoredRows). IsMadeFrom w (stored c.advance.new.self)
-    ((g.K.Keeper.content c.args.keeper.now).rows c.args.number))
-    (sym c.into_stored-before.ensures) from))
+    (commits-from (change g c) (g.K.Keeper.content c.args.keeper.now)
+    (g.K.Keeper.content c.has_account.new.self) t (c.in_ok-has_account.ensures.same clean) made)
 
 pub returns-clause-served : goal.returns-clause-served
 returns-clause-served g c = λ clean list time is le.
@@ -81,3 +79,10 @@ returns-clause-left g c = λ honest t l.
     left_as (c.commit.ensures.left honest t l) (c.in_ok-has_account.ensures.left honest_asked t)
     (λ made list time is le. (done g (goal.at.returns-clause-left g c).After-commit t
     (c.in_ok-has_account.ensures.stands honest_asked) made list time is le).tables)
+
+pub returns-then-branch-clause-refused : goal.returns-then-branch-clause-refused
+returns-then-branch-clause-refused g c = λ clean e. c.in_ok-has_account.ensures.same clean
+
+pub returns-clause-refused : goal.returns-clause-refused
+returns-clause-refused g c = λ clean.
+    accepted_given c.commit.result answer.Done _ _ refl (c.commit.ensures.done clean)

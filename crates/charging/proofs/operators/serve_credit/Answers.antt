@@ -4,7 +4,7 @@ use Rattle.commands.specs.declared.command.Content.TheVariants as content
 use Rattle.keepers.specs.Change.{IsLoad}
 use Rattle.keepers.specs.Keys.{key_of}
 use Rattle.keepers.specs.Tables.{Tables}
-use Rattle.charging.specs.Stepping.{ServesAt, WritesAt}
+use Rattle.charging.specs.Stepping.{ServesAt, WritesAt, LeavesRefused}
 use Rattle.charging.proofs.Serving.{left_as, none_loaded, some_loaded}
 use Rattle.charging.proofs.Operated.{credit-unknown, credit-again}
 use Rattle.charging.proofs.operators.serve_credit.Goals as goal
@@ -68,3 +68,18 @@ returns-clause-left g c = λ honest t l.
     (λ writes. subst (λ (x : Tables).
     WritesAt c.args.shelf.now (command.Credit c.args.credit) c.args.moment x t) known.2
     (writes c.args.shelf.now known.0 known.1))
+
+pub returns-in-Some-clause-refused : goal.returns-in-Some-clause-refused
+returns-in-Some-clause-refused g c = λ clean e. c.in_ok-kept.ensures.same clean
+
+pub returns-in_default-2-clause-refused : goal.returns-in_default-2-clause-refused
+returns-in_default-2-clause-refused g c = λ clean e.
+    c.in_ok-loaded.ensures.same clean
+    ∙ c.in_ok-kept.ensures.same (c.in_ok-loaded.ensures.cleanness clean)
+
+pub returns-clause-refused : goal.returns-clause-refused
+returns-clause-refused g c = λ clean.
+    let known = taken g (goal.at.returns-clause-refused g c).After-credit_account
+    (c.credit_account.ensures.kept.cleanness clean) in
+    subst (λ (x : Tables). LeavesRefused x (g.K.Keeper.content c.credit_account.new.keeper)
+    c.credit_account.result) known.2 (c.credit_account.ensures.refused clean)

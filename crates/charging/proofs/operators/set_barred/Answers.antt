@@ -4,6 +4,7 @@ use Rattle.keepers.specs.Tables.{Tables}
 use Rattle.charging.specs.Stepping.{Answers, Commits, bar_command}
 use Rattle.charging.proofs.Serving.{none_loaded, some_loaded, commits-from, left_as, served-by}
 use Rattle.charging.proofs.Operated.{bar-unknown, bar-done, made_change, made_tells}
+use Rattle.charging.proofs.Refused.{accepted_given}
 use Rattle.charging.proofs.operators.set_barred.Goals as goal
 use Rattle.charging.proofs.operators.set_barred.Goals.{After-commit}
 
@@ -59,3 +60,10 @@ returns-clause-left g c = λ honest t l.
     left_as (c.commit.ensures.left honest t l) (c.in_ok-loaded.ensures.left honest_load t)
     (λ made list time is le. (done g (goal.at.returns-clause-left g c).After-commit t
     (c.in_ok-loaded.ensures.stands honest_load) made list time is le).tables)
+
+pub returns-in_default-clause-refused : goal.returns-in_default-clause-refused
+returns-in_default-clause-refused g c = λ clean e. c.in_ok-loaded.ensures.same clean
+
+pub returns-clause-refused : goal.returns-clause-refused
+returns-clause-refused g c = λ clean.
+    accepted_given c.commit.result answer.Done _ _ refl (c.commit.ensures.done clean)

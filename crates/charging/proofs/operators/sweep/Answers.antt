@@ -1,5 +1,6 @@
 use Rattle.charging.proofs.Serving.{left_as}
 use Rattle.charging.proofs.Operated.{sweep-served, sweep-writes}
+use Rattle.charging.proofs.Refused.{not_told}
 use Rattle.charging.proofs.operators.sweep.Goals as goal
 
 pub returns-clause-served : goal.returns-clause-served
@@ -17,3 +18,6 @@ pub returns-in_err-count-clause-left : goal.returns-in_err-count-clause-left
 returns-in_err-count-clause-left g c = λ honest t l.
     left_as (c.in_err-count.ensures.kept.left honest t l) (λ before. before)
     (sweep-writes c.args.shelf.now c.args.moment (g.K.Keeper.content c.args.keeper.now) t)
+
+pub returns-clause-refused : goal.returns-clause-refused
+returns-clause-refused g c = λ clean e. not_told _ e

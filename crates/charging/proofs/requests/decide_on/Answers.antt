@@ -1,5 +1,5 @@
 use Rattle.std.proofs.Common.{◌≡◌, ◌∙◌, ap, refl, false, Some, None}
-use Rattle.std.specs.Prelude.{if◌then◌else◌}
+use Rattle.std.specs.Prelude.{if◌then◌else◌, not}
 use Rattle.commands.specs.declared.answer.Answer.TheVariants as answer
 use Rattle.commands.specs.declared.command.Command.TheVariants.{Ccr}
 use Rattle.commands.specs.declared.command.Content.TheVariants as content
@@ -11,6 +11,7 @@ use Rattle.charging.specs.Stepping.{Answers, Commits, is_known, kept_of_request}
 use Rattle.charging.proofs.Operated.{made_change}
 use Rattle.charging.proofs.Requested.{request-told, request-done}
 use Rattle.charging.proofs.Serving.{left_as, served-by}
+use Rattle.charging.proofs.Refused.{accepted_given}
 use Rattle.charging.proofs.requests.decide_on.Goals as goal
 use Rattle.charging.proofs.requests.decide_on.Goals.{After-keep}
 
@@ -67,3 +68,11 @@ returns-in-Ok-2-clause-served g c = λ clean b load fresh new list time is le.
     fresh new c.moment_on-moment.result c.moment_on-moment.ensures.value
     c.in-Ok.decided.answer c.in-Ok.decided.accepted c.in-Ok.ensures.answer c.in-Ok.ensures.accepted
     c.if-decide.false (ap g.K.Keeper.content c.abandon.ensures)
+
+pub returns-in-Ok-clause-refused : goal.returns-in-Ok-clause-refused
+returns-in-Ok-clause-refused g c = λ clean.
+    accepted_given c.keep.result (answer.Request c.in-Ok.decided.answer) _ _
+    (ap not (c.in-Ok.decided.told c.if-decide.true)) (c.keep.ensures.done clean)
+
+pub returns-in-Ok-2-clause-refused : goal.returns-in-Ok-2-clause-refused
+returns-in-Ok-2-clause-refused g c = λ clean e. ap g.K.Keeper.content c.abandon.ensures

@@ -2,7 +2,7 @@ use Rattle.std.proofs.Common.{◌≡◌, ◌∙◌, ap, sym, subst, false, Some,
 use Rattle.commands.specs.declared.command.Command.TheVariants.{Ccr}
 use Rattle.keepers.specs.Change.{IsLoad}
 use Rattle.keepers.specs.Tables.{Tables}
-use Rattle.charging.specs.Stepping.{ServesAt, WritesAt, is_known, kept_of_request}
+use Rattle.charging.specs.Stepping.{ServesAt, WritesAt, is_known, kept_of_request, LeavesRefused}
 use Rattle.charging.proofs.Serving.{left_as, none_loaded, some_loaded}
 use Rattle.charging.proofs.Requested.{request-unknown, request-again, request-known}
 use Rattle.charging.proofs.requests.serve_request.Goals as goal
@@ -93,3 +93,27 @@ returns-clause-left g c = λ honest t l.
     (λ writes. subst (λ (x : Tables).
     WritesAt c.args.shelf.now (Ccr c.args.request) c.args.moment x t) known.3
     (writes c.args.shelf.now known.0 known.1 known.2))
+
+pub returns-in-Some-clause-refused : goal.returns-in-Some-clause-refused
+returns-in-Some-clause-refused g c = λ clean e. c.in_ok-kept.ensures.same clean
+
+pub returns-then-branch-clause-refused : goal.returns-then-branch-clause-refused
+returns-then-branch-clause-refused g c = λ clean e.
+    let clean_read = c.in_ok-is_known.ensures.cleanness clean in
+    c.in_ok-is_known.ensures.same clean ∙ c.in_ok-read.ensures.same clean_read
+    ∙ c.in_ok-kept.ensures.same (c.in_ok-read.ensures.kept.cleanness clean_read)
+
+pub returns-in_default-2-clause-refused : goal.returns-in_default-2-clause-refused
+returns-in_default-2-clause-refused g c = λ clean e.
+    let clean_known = c.in_ok-loaded.ensures.cleanness clean in
+    let clean_read = c.in_ok-is_known.ensures.cleanness clean_known in
+    c.in_ok-loaded.ensures.same clean ∙ c.in_ok-is_known.ensures.same clean_known
+    ∙ c.in_ok-read.ensures.same clean_read
+    ∙ c.in_ok-kept.ensures.same (c.in_ok-read.ensures.kept.cleanness clean_read)
+
+pub returns-clause-refused : goal.returns-clause-refused
+returns-clause-refused g c = λ clean.
+    let known = taken g (goal.at.returns-clause-refused g c).After-decide_on
+    (c.decide_on.ensures.kept.cleanness clean) in
+    subst (λ (x : Tables). LeavesRefused x (g.K.Keeper.content c.decide_on.new.keeper)
+    c.decide_on.result) known.3 (c.decide_on.ensures.refused clean)

@@ -1,5 +1,6 @@
 use Rattle.std.proofs.Common.{ℕ, subst}
-use Rattle.charging.specs.Stepping.{WritesAt}
+use Rattle.keepers.specs.Tables.{Tables}
+use Rattle.charging.specs.Stepping.{WritesAt, LeavesRefused}
 use Rattle.charging.proofs.Serving.{left_as, writes-at}
 use Rattle.charging.proofs.stepping.serve.Goals as goal
 
@@ -16,3 +17,9 @@ returns-clause-left g c = λ honest t l.
           (subst (λ (u : ℕ). WritesAt c.args.shelf.now c.args.command u
           (g.K.Keeper.content c.last.new.self) t) c.later-moment.ensures writes),
     ))
+
+pub returns-clause-refused : goal.returns-clause-refused
+returns-clause-refused g c = λ clean.
+    subst (λ (x : Tables). LeavesRefused x (g.K.Keeper.content c.serve_at.new.keeper)
+    c.serve_at.result) (c.in_ok-last.ensures.same (c.serve_at.ensures.kept.cleanness clean))
+    (c.serve_at.ensures.refused clean)

@@ -8,6 +8,7 @@ use Rattle.keepers.specs.Tables.{Tables}
 use Rattle.charging.specs.Stepping.{Answers}
 use Rattle.charging.proofs.Serving.{left_as}
 use Rattle.charging.proofs.Vouchered.{add-told, add-done}
+use Rattle.charging.proofs.Refused.{not_told}
 use Rattle.charging.proofs.voucher_commands.add_voucher.Goals as goal
 use Rattle.charging.proofs.voucher_commands.add_voucher.Goals.{After-add_voucher}
 
@@ -67,3 +68,12 @@ returns-in-Conflicting-clause-served g c = λ clean b list time is le.
     add-told b list v c.args.moment (g.K.Keeper.content c.args.keeper.now)
     (g.K.Keeper.content c.find_voucher.new.self) time le is _ conflicting _ refl refl
     (c.in_ok-found.ensures.same clean)
+
+pub returns-in_ok-add_voucher-in-New-clause-refused : goal.returns-in_ok-add_voucher-in-New-clause-refused
+returns-in_ok-add_voucher-in-New-clause-refused g c = λ clean e. not_told _ e
+
+pub returns-in-Present-clause-refused : goal.returns-in-Present-clause-refused
+returns-in-Present-clause-refused g c = λ clean e. not_told _ e
+
+pub returns-in-Conflicting-clause-refused : goal.returns-in-Conflicting-clause-refused
+returns-in-Conflicting-clause-refused g c = λ clean e. c.in_ok-found.ensures.same clean

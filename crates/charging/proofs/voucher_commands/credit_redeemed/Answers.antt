@@ -12,6 +12,7 @@ use Rattle.charging.specs.Stepping.{Answers, Commits}
 use Rattle.charging.proofs.Serving.{left_as, served-by}
 use Rattle.charging.proofs.Operated.{made_change, made_tells}
 use Rattle.charging.proofs.Vouchered.{redeem-told, redeem-done}
+use Rattle.charging.proofs.Refused.{accepted_given}
 use Rattle.charging.proofs.voucher_commands.credit_redeemed.Goals as goal
 use Rattle.charging.proofs.voucher_commands.credit_redeemed.Goals.{After-commit}
 
@@ -69,3 +70,11 @@ returns-in-Ok-None-clause-served g c = λ clean b load fresh code redeems list t
     c.moment_on-moment.result fresh c.moment_on-moment.ensures.value c.args.redeemed redeems
     c.in-Ok-None.field-0 c.make_bucket.new.account c.in-Ok-None.ensures.makes
     c.in-Ok-None.field-0-is (ap g.K.Keeper.content c.abandon.ensures)
+
+pub returns-in-Ok-Some-clause-refused : goal.returns-in-Ok-Some-clause-refused
+returns-in-Ok-Some-clause-refused g c = λ clean.
+    accepted_given c.commit.result (answer.Bucket c.in-Ok-Some.number) _ _ refl
+    (c.commit.ensures.done clean)
+
+pub returns-in-Ok-None-clause-refused : goal.returns-in-Ok-None-clause-refused
+returns-in-Ok-None-clause-refused g c = λ clean e. ap g.K.Keeper.content c.abandon.ensures

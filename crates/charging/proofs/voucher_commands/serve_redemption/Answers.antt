@@ -9,7 +9,7 @@ use Rattle.keepers.specs.Keys.{key_of}
 use Rattle.keepers.specs.Tables.{Tables}
 use Rattle.charging.specs.Outcomes.{book_days}
 use Rattle.charging.specs.Served.{IsServed}
-use Rattle.charging.specs.Stepping.{ServesAt, WritesAt}
+use Rattle.charging.specs.Stepping.{ServesAt, WritesAt, LeavesRefused}
 use Rattle.charging.proofs.Serving.{left_as, none_loaded, some_loaded}
 use Rattle.charging.proofs.Vouchered.{redeem-unknown, redeem-again, redeem-refused}
 use Rattle.charging.proofs.voucher_commands.serve_redemption.Goals as goal
@@ -116,3 +116,27 @@ returns-in_default-2-clause-served g c = λ clean list time is le.
     (g.K.Keeper.content c.args.keeper.now) c.in_ok-loaded.field-0 same
     (c.in_ok-loaded.ensures.found clean) c.in_default-2.is)
     (c.in_ok-loaded.ensures.same clean ∙ same)
+
+pub returns-in-Some-clause-refused : goal.returns-in-Some-clause-refused
+returns-in-Some-clause-refused g c = λ clean e. c.in_ok-kept.ensures.same clean
+
+pub returns-in-Ok-clause-refused : goal.returns-in-Ok-clause-refused
+returns-in-Ok-clause-refused g c = λ clean.
+    let known = taken g (goal.at.returns-in-Ok-clause-refused g c).After-credit_redeemed
+    (c.credit_redeemed.ensures.kept.cleanness clean) in
+    subst (λ (x : Tables). LeavesRefused x (g.K.Keeper.content c.credit_redeemed.new.keeper)
+    c.credit_redeemed.result) known.4 (c.credit_redeemed.ensures.refused clean)
+
+pub returns-in-Err-clause-refused : goal.returns-in-Err-clause-refused
+returns-in-Err-clause-refused g c = λ clean e.
+    let clean_load = subst g.K.Keeper.clean c.abandon.ensures clean in
+    let clean_voucher = c.in_ok-loaded.ensures.cleanness clean_load in
+    ap g.K.Keeper.content c.abandon.ensures ∙ c.in_ok-loaded.ensures.same clean_load
+    ∙ c.in_ok-found.ensures.same clean_voucher
+    ∙ c.in_ok-kept.ensures.same (c.in_ok-found.ensures.cleanness clean_voucher)
+
+pub returns-in_default-2-clause-refused : goal.returns-in_default-2-clause-refused
+returns-in_default-2-clause-refused g c = λ clean e.
+    let clean_voucher = c.in_ok-loaded.ensures.cleanness clean in
+    c.in_ok-loaded.ensures.same clean ∙ c.in_ok-found.ensures.same clean_voucher
+    ∙ c.in_ok-kept.ensures.same (c.in_ok-found.ensures.cleanness clean_voucher)

@@ -6,10 +6,7 @@ ghost use Rattle.sqlite.specs.Held.{state};
 use crate::tests::row_writers::{push, push_perhaps};
 use crate::tests::values::money;
 use identifiers::{AccountNumber, Reference, SessionId};
-use sql_rows::{
-    Kept, VoucherColumns, put_answer_reference, put_answer_request, put_voucher,
-    read_answer_reference, read_answer_request, read_voucher,
-};
+use sql_rows::{Kept, VoucherColumns, put_answer, put_voucher, read_answer, read_voucher};
 use sqlite::{Alter, Connection};
 use std::alloc::Global;
 use std::process::Abort;
@@ -33,8 +30,9 @@ pub(crate) fn keep_answers<S: Alter>(
 {
     let (account, session, reference) = (names.account, names.session, names.reference);
     let mut tx = conn.transaction();
-    put_answer_request(&mut tx, account, session, 0, "a request", answer).expect(rt, "a row");
-    put_answer_reference(&mut tx, account, reference, "a credit", answer).expect(rt, "a row");
+    let (session, reference) = (session.as_str(), reference.as_str());
+    put_answer(&mut tx, account, 1, session, 0, "a request", answer).expect(rt, "a row");
+    put_answer(&mut tx, account, 2, reference, 0, "a credit", answer).expect(rt, "a row");
     tx.commit().expect(rt, "a commit");
 }
 
@@ -57,11 +55,12 @@ pub(crate) fn tell_answers<S: Alter>(
     ensures ready { IsReady (state S.Store conn.new) }
 {
     let (account, session, reference) = (names.account, names.session, names.reference);
-    let first = read_answer_request(conn, account, session, 0).expect(rt, "a reading");
+    let (session, reference) = (session.as_str(), reference.as_str());
+    let first = read_answer(conn, account, 1, session, 0).expect(rt, "a reading");
     push_kept(rt, text, &first);
-    let second = read_answer_request(conn, account, session, 1).expect(rt, "a reading");
+    let second = read_answer(conn, account, 1, session, 1).expect(rt, "a reading");
     push_kept(rt, text, &second);
-    let credit = read_answer_reference(conn, account, reference).expect(rt, "a reading");
+    let credit = read_answer(conn, account, 2, reference, 0).expect(rt, "a reading");
     push_kept(rt, text, &credit);
 }
 

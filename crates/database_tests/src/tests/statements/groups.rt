@@ -7,8 +7,8 @@ use crate::tests::row_writers::push;
 use buckets::Hold;
 use identifiers::{AccountNumber, SessionId};
 use sql_rows::{
-    GroupColumns, HeldColumns, put_group_free, put_group_reserved, put_hold, put_holds,
-    read_groups, read_holds, remove_holds,
+    GroupColumns, HeldColumns, PutNames, put_group, put_hold, put_holds, read_groups, read_holds,
+    remove_holds,
 };
 use sqlite::{Alter, Connection};
 use std::alloc::Global;
@@ -37,7 +37,11 @@ pub(crate) fn keep_reserved<S: Alter>(
         amount: 9,
     };
     let mut tx = conn.transaction();
-    put_group_reserved(&mut tx, account, session, group, 60, "day", "night").expect(rt, "a row");
+    let names = PutNames {
+        before: "day",
+        after: "night",
+    };
+    put_group(&mut tx, account, session, group, 60, Some(names)).expect(rt, "a row");
     put_holds(&mut tx, account, session, group, &[first, second]).expect(rt, "holds");
     put_hold(&mut tx, account, session, group, &again).expect(rt, "a hold");
     tx.commit().expect(rt, "a commit");
@@ -55,7 +59,7 @@ pub(crate) fn keep_free<S: Alter>(
     ensures ready { IsReady (state S.Store conn.new) }
 {
     let mut tx = conn.transaction();
-    put_group_free(&mut tx, account, session, group, 75).expect(rt, "a row");
+    put_group(&mut tx, account, session, group, 75, None).expect(rt, "a row");
     remove_holds(&mut tx, account, session, group).expect(rt, "a removal");
     tx.commit().expect(rt, "a commit");
 }

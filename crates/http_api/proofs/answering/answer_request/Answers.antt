@@ -1,9 +1,13 @@
-use Rattle.std.proofs.Common.{subst}
+use Rattle.std.proofs.Common.{refl, subst, Ok}
 use Rattle.std.specs.Io.KnownBytes.{Appends}
-use Rattle.http_answers.specs.Asking.{IsAsked}
-use Rattle.http_answers.specs.Texts.{Begins}
+use Rattle.http_answers.specs.Asking.{Asking, IsAsked, reads, states}
+use Rattle.http_answers.specs.Refusals.{number_of}
+use Rattle.http_answers.specs.Texts.{Begins, TellsFault, no_members, response}
+use Rattle.http_api.specs.Replies.{Replies}
 use Rattle.http_api.proofs.RequestReplies.{ok_gives, err_gives, refused_reply, unread_reply}
-use Rattle.http_api.proofs.RequestReplies.{statement_reply, owed_command, not_memory}
+use Rattle.http_api.proofs.RequestReplies.{command_reply, statement_reply, owed_command}
+use Rattle.http_api.proofs.RequestReplies.{not_memory}
+use Rattle.http_api.proofs.ShownReplies.{shows_as, shows_same}
 use Rattle.http_api.proofs.answering.answer_request.Goals as goal
 
 pub returns-in-Refused-clause-ok : goal.returns-in-Refused-clause-ok
@@ -62,8 +66,59 @@ pub returns-in-Does-clause-memory : goal.returns-in-Does-clause-memory
 returns-in-Does-clause-memory g c = λ clean e asking asked.
     owed_command g.C.Clock.gives c.args.shelf.now c.in-Does.command c.args.clock.now
     c.serve_command.new.clock (g.K.Keeper.content c.args.keeper.now)
-    (g.K.Keeper.content c.serve_command.new.keeper) (c.serve_command.ensures.memory clean e) asking (subst (IsAsked asking) c.in-Does.is asked)
+    (g.K.Keeper.content c.serve_command.new.keeper) (c.serve_command.ensures.memory clean e) asking
+    (subst (IsAsked asking) c.in-Does.is asked)
 
 pub returns-in-States-clause-memory : goal.returns-in-States-clause-memory
 returns-in-States-clause-memory g c = λ clean e.
     not_memory c.serve_statement.result c.serve_statement.ensures.fault e
+
+pub returns-in-Refused-clause-shown : goal.returns-in-Refused-clause-shown
+returns-in-Refused-clause-shown g c = shows_same
+    (λ Writes x y. (asking : Asking) → IsAsked asking c.args.asked →
+    Replies g.C.Clock.gives c.args.shelf.now asking c.args.closes c.args.clock.now
+    c.args.clock.now Writes x y) (g.W.Write.contents c.args.writer.now)
+    (g.W.Write.contents c.tell_refusal.new.writer) g.K.Keeper.content g.K.Keeper.honest
+    g.K.Keeper.clean c.args.keeper.now c.args.keeper.now c.tell_refusal.result
+    (λ Writes. Writes (response (number_of c.in-Refused.refusal) c.args.closes no_members)) (λ clean. clean) (λ clean. refl)
+    (λ Writes t tells asking asked. refused_reply g.C.Clock.gives c.args.shelf.now c.args.closes
+    Writes c.in-Refused.refusal c.args.clock.now t tells asking
+    (subst (IsAsked asking) c.in-Refused.is asked)) c.tell_refusal.ensures.ok c.tell_refusal.ensures.err
+
+pub returns-in-Unread-clause-shown : goal.returns-in-Unread-clause-shown
+returns-in-Unread-clause-shown g c = shows_same
+    (λ Writes x y. (asking : Asking) → IsAsked asking c.args.asked →
+    Replies g.C.Clock.gives c.args.shelf.now asking c.args.closes c.args.clock.now
+    c.args.clock.now Writes x y) (g.W.Write.contents c.args.writer.now)
+    (g.W.Write.contents c.tell_fault.new.writer) g.K.Keeper.content g.K.Keeper.honest
+    g.K.Keeper.clean c.args.keeper.now c.args.keeper.now c.tell_fault.result
+    (TellsFault c.args.closes c.in-Unread.fault) (λ clean. clean) (λ clean. refl)
+    (λ Writes t tells asking asked. unread_reply g.C.Clock.gives c.args.shelf.now c.args.closes
+    Writes c.in-Unread.fault c.args.clock.now t tells asking
+    (subst (IsAsked asking) c.in-Unread.is asked)) c.tell_fault.ensures.ok c.tell_fault.ensures.err
+
+pub returns-in-Does-clause-shown : goal.returns-in-Does-clause-shown
+returns-in-Does-clause-shown g c = shows_as
+    (Replies g.C.Clock.gives c.args.shelf.now (reads (Ok c.in-Does.command)) c.args.closes
+    c.args.clock.now c.serve_command.new.clock) (g.W.Write.contents c.args.writer.now)
+    (g.W.Write.contents c.serve_command.new.writer) g.K.Keeper.content g.K.Keeper.honest
+    g.K.Keeper.clean c.args.keeper.now c.serve_command.new.keeper c.serve_command.result
+    (λ Writes x y. (asking : Asking) → IsAsked asking c.args.asked →
+    Replies g.C.Clock.gives c.args.shelf.now asking c.args.closes c.args.clock.now
+    c.serve_command.new.clock Writes x y)
+    (λ Writes x y replies asking asked. command_reply g.C.Clock.gives c.args.shelf.now c.args.closes
+    Writes c.in-Does.command c.args.clock.now c.serve_command.new.clock x y replies asking
+    (subst (IsAsked asking) c.in-Does.is asked)) c.serve_command.ensures.shown
+
+pub returns-in-States-clause-shown : goal.returns-in-States-clause-shown
+returns-in-States-clause-shown g c = shows_as
+    (Replies g.C.Clock.gives c.args.shelf.now (states c.in-States.statement) c.args.closes
+    c.args.clock.now c.serve_statement.new.clock) (g.W.Write.contents c.args.writer.now)
+    (g.W.Write.contents c.serve_statement.new.writer) g.K.Keeper.content g.K.Keeper.honest
+    g.K.Keeper.clean c.args.keeper.now c.serve_statement.new.keeper c.serve_statement.result
+    (λ Writes x y. (asking : Asking) → IsAsked asking c.args.asked →
+    Replies g.C.Clock.gives c.args.shelf.now asking c.args.closes c.args.clock.now
+    c.serve_statement.new.clock Writes x y)
+    (λ Writes x y replies asking asked. statement_reply g.C.Clock.gives c.args.shelf.now c.args.closes
+    Writes c.in-States.statement c.args.clock.now c.serve_statement.new.clock x y replies asking
+    (subst (IsAsked asking) c.in-States.is asked)) c.serve_statement.ensures.shown

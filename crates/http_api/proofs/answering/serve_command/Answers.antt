@@ -1,9 +1,14 @@
-use Rattle.std.proofs.Common.{subst}
+use Rattle.std.proofs.Common.{refl, subst, Ok}
 use Rattle.std.specs.Io.KnownBytes.{Appends}
-use Rattle.http_answers.specs.Texts.{Begins}
+use Rattle.http_answers.specs.Asking.{reads}
+use Rattle.http_answers.specs.Texts.{Begins, response, unable}
+use Rattle.http_heads.specs.Statuses.{service_unavailable}
+use Rattle.http_api.specs.Replies.{Replies}
+use Rattle.http_api.specs.Told.{TellsAnswer}
 use Rattle.http_api.proofs.Continuing.{continued_step, leaves_step}
 use Rattle.http_api.proofs.RequestReplies.{ok_gives, err_gives, unclocked_reply, failed_reply}
 use Rattle.http_api.proofs.RequestReplies.{answered_reply, owed_answer, not_memory, not_read}
+use Rattle.http_api.proofs.ShownReplies.{shows_new, shows_same}
 use Rattle.http_api.proofs.answering.serve_command.Goals as goal
 
 pub returns-in_default-clause-ok : goal.returns-in_default-clause-ok
@@ -105,3 +110,44 @@ returns-in-Err-clause-goes_on g c = record {
       c.step.ensures.left;
   failures = c.step.ensures.cause.kept;
 }
+
+pub returns-in_default-clause-shown : goal.returns-in_default-clause-shown
+returns-in_default-clause-shown g c = shows_same
+    (Replies g.C.Clock.gives c.args.shelf.now (reads (Ok c.args.command)) c.args.closes
+    c.args.clock.now c.now.new.self) (g.W.Write.contents c.args.writer.now)
+    (g.W.Write.contents c.tell_unable.new.writer) g.K.Keeper.content g.K.Keeper.honest
+    g.K.Keeper.clean c.args.keeper.now c.args.keeper.now c.tell_unable.result
+    (λ Writes. Writes (response service_unavailable c.args.closes unable)) (λ clean. clean)
+    (λ clean. refl)
+    (λ Writes t w. unclocked_reply g.C.Clock.gives c.args.shelf.now c.args.closes Writes
+    c.args.command c.args.clock.now c.now.new.self t
+    (subst (λ o. g.C.Clock.gives c.args.clock.now o c.now.new.self) c.in_default.is c.now.ensures)
+    w) c.tell_unable.ensures.ok c.tell_unable.ensures.err
+
+pub returns-in-Ok-clause-shown : goal.returns-in-Ok-clause-shown
+returns-in-Ok-clause-shown g c = shows_new
+    (Replies g.C.Clock.gives c.args.shelf.now (reads (Ok c.args.command)) c.args.closes
+    c.args.clock.now c.now.new.self) (g.W.Write.contents c.args.writer.now)
+    (g.W.Write.contents c.tell_answer.new.writer) g.K.Keeper.content g.K.Keeper.honest
+    g.K.Keeper.clean c.args.keeper.now c.step.new.keeper c.tell_answer.result
+    (TellsAnswer c.is_read_command-read.result c.in-Ok.answer c.args.closes)
+    c.in-Ok.ensures.stands c.in-Ok.ensures.cleanness
+    (λ Writes clean tells. answered_reply g.C.Clock.gives c.args.shelf.now c.args.closes Writes
+    c.args.command c.is_read_command-read.result c.in-Some.moment c.args.clock.now c.now.new.self
+    (g.K.Keeper.content c.args.keeper.now) (g.K.Keeper.content c.step.new.keeper) c.in-Ok.answer
+    c.is_read_command-read.ensures
+    (subst (λ o. g.C.Clock.gives c.args.clock.now o c.now.new.self) c.in-Some.is c.now.ensures)
+    (c.in-Ok.ensures.served clean) tells) c.tell_answer.ensures.ok c.tell_answer.ensures.err
+
+pub returns-in-Err-clause-shown : goal.returns-in-Err-clause-shown
+returns-in-Err-clause-shown g c = shows_same
+    (Replies g.C.Clock.gives c.args.shelf.now (reads (Ok c.args.command)) c.args.closes
+    c.args.clock.now c.now.new.self) (g.W.Write.contents c.args.writer.now)
+    (g.W.Write.contents c.tell_unable-in-Err.new.writer) g.K.Keeper.content g.K.Keeper.honest
+    g.K.Keeper.clean c.args.keeper.now c.step.new.keeper c.tell_unable-in-Err.result
+    (λ Writes. Writes (response service_unavailable c.args.closes unable))
+    c.in-Err.ensures.cleanness c.in-Err.ensures.err
+    (λ Writes t w. failed_reply g.C.Clock.gives c.args.shelf.now c.args.closes Writes
+    c.args.command c.in-Some.moment c.args.clock.now c.now.new.self t t c.in-Err.field-0
+    (subst (λ o. g.C.Clock.gives c.args.clock.now o c.now.new.self) c.in-Some.is c.now.ensures)
+    (λ list time are. refl) w) c.tell_unable-in-Err.ensures.ok c.tell_unable-in-Err.ensures.err

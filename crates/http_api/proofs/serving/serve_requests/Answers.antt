@@ -4,10 +4,11 @@ use Rattle.std.specs.Prelude.{IsErrAnd}
 use Rattle.byte_streams.specs.declared.StreamFault.TheVariants as broken
 use Rattle.charging.specs.Continued.{Continues, LeavesOn}
 use Rattle.http_answers.specs.Asking.{Asking, IsAsked}
+use Rattle.keepers.specs.Tables.{Tables}
 use Rattle.http_api.specs.Replies.{Replies}
 use Rattle.http_api.proofs.RequestReplies.{at_err, fault_told}
 use Rattle.http_api.proofs.Continuing.{continued_none, continued_more, leaves_more}
-use Rattle.http_api.proofs.Taking.{IsOneMore, taken_one, some_left, turns-more}
+use Rattle.http_api.proofs.Taking.{IsOneMore, IsSoFar, taken_one, some_left, turns-more}
 use Rattle.http_api.proofs.Taking.{so_far-none, so_far-more, so_far-closed, so_far-broken}
 use Rattle.http_api.proofs.Taking.{so_far-ended, so_far-full, so_far-begun}
 use Rattle.http_api.proofs.Taking.{so_far-short, so_far-owed, so_far-unread, so_far-cut}
@@ -20,6 +21,13 @@ loop-served-init g c = record {
   so_far = λ clean. so_far-none g.C.Clock.gives c.args.shelf.now
       (g.R.Read.remaining c.args.reader.now) c.args.clock.now (g.W.Write.contents c.args.writer.now)
       (g.K.Keeper.content c.args.keeper.now);
+  shown = λ honest. record {
+    held = g.K.Keeper.content c.args.keeper.now;
+    now = λ clean. refl;
+    so_far = so_far-none g.C.Clock.gives c.args.shelf.now (g.R.Read.remaining c.args.reader.now)
+        c.args.clock.now (g.W.Write.contents c.args.writer.now)
+        (g.K.Keeper.content c.args.keeper.now);
+  };
   continued = λ clean. continued_none c.args.shelf.now (g.K.Keeper.content c.args.keeper.now);
   cleanness = λ clean. clean;
   honesty = λ honest. honest;
@@ -28,6 +36,33 @@ loop-served-init g c = record {
 }
 
 -- one request more was heard, and its answer is written so
+one_more_of : (g : _) (c : After-answer_request g) (Writes : List ℕ → Type 0) (mid new : Tables) →
+    IfSome (g.R.Read.remaining c.args.reader.now) (λ stream.
+    IsSoFar g.C.Clock.gives c.args.shelf.now stream c.loop-served.served c.loop-served.left
+    (g.R.Read.remaining c.loop-served.reader) c.args.clock.now c.loop-served.clock
+    (g.W.Write.contents c.args.writer.now) (g.W.Write.contents c.loop-served.writer)
+    (g.K.Keeper.content c.args.keeper.now) mid) →
+    ((asking : Asking) → IsAsked asking c.in-Some.heard.asked →
+    Replies g.C.Clock.gives c.args.shelf.now asking (c.left_after-left.result == 0)
+    c.loop-served.clock c.answer_request.new.clock Writes mid new) →
+    IfSome (g.R.Read.remaining c.args.reader.now) (λ stream.
+    IsOneMore g.C.Clock.gives c.args.shelf.now stream c.loop-served.served c.loop-served.left
+    c.in-Some.heard.closes (g.R.Read.remaining c.hear.new.reader) c.args.clock.now
+    c.answer_request.new.clock (g.W.Write.contents c.args.writer.now)
+    (g.W.Write.contents c.loop-served.writer) Writes (g.K.Keeper.content c.args.keeper.now) new)
+one_more_of g c Writes mid new so replies = taken_one g.C.Clock.gives c.args.shelf.now
+    c.loop-served.served
+    c.loop-served.left c.left_after-left.result (c.left_after-left.result == 0)
+    (g.R.Read.remaining c.args.reader.now) (g.R.Read.remaining c.loop-served.reader)
+    (g.R.Read.remaining c.hear.new.reader) c.args.clock.now c.loop-served.clock
+    c.answer_request.new.clock (g.W.Write.contents c.args.writer.now)
+    (g.W.Write.contents c.loop-served.writer) Writes (g.K.Keeper.content c.args.keeper.now) mid new
+    c.in_ok-heard.field-0 c.in-Some.heard
+    (some_left c.loop-served.left c.loop-served.served c.loop-served.invariant.turns
+    c.loop-served-test.true) c.in-Some.is c.left_after-left.ensures refl so
+    c.in_ok-heard.ensures.heard replies
+
+-- of the keeper's tables
 one_more : (g : _) (c : After-answer_request g) (Writes : List ℕ → Type 0) →
     g.K.Keeper.clean c.answer_request.new.keeper →
     ((asking : Asking) → IsAsked asking c.in-Some.heard.asked →
@@ -40,18 +75,9 @@ one_more : (g : _) (c : After-answer_request g) (Writes : List ℕ → Type 0) �
     c.answer_request.new.clock (g.W.Write.contents c.args.writer.now)
     (g.W.Write.contents c.loop-served.writer) Writes (g.K.Keeper.content c.args.keeper.now)
     (g.K.Keeper.content c.answer_request.new.keeper))
-one_more g c Writes clean replies = taken_one g.C.Clock.gives c.args.shelf.now c.loop-served.served
-    c.loop-served.left c.left_after-left.result (c.left_after-left.result == 0)
-    (g.R.Read.remaining c.args.reader.now) (g.R.Read.remaining c.loop-served.reader)
-    (g.R.Read.remaining c.hear.new.reader) c.args.clock.now c.loop-served.clock
-    c.answer_request.new.clock (g.W.Write.contents c.args.writer.now)
-    (g.W.Write.contents c.loop-served.writer) Writes (g.K.Keeper.content c.args.keeper.now)
+one_more g c Writes clean replies = one_more_of g c Writes
     (g.K.Keeper.content c.loop-served.keeper) (g.K.Keeper.content c.answer_request.new.keeper)
-    c.in_ok-heard.field-0 c.in-Some.heard
-    (some_left c.loop-served.left c.loop-served.served c.loop-served.invariant.turns
-    c.loop-served-test.true) c.in-Some.is c.left_after-left.ensures refl
-    (c.loop-served.invariant.so_far (c.answer_request.ensures.goes_on.cleanness clean))
-    c.in_ok-heard.ensures.heard replies
+    (c.loop-served.invariant.so_far (c.answer_request.ensures.goes_on.cleanness clean)) replies
 
 -- and the accepted commands went on
 continued : (g : _) (c : After-answer_request g) →
@@ -105,6 +131,18 @@ returns-in_err-heard g c = record {
       c.loop-served-test.true) (c.loop-served.invariant.so_far clean);
   write = λ clean e. absurd (c.hear.ensures.fault (fault_told c.hear.result c.from_residual.result _
       broken.Write c.in_err-heard.was c.from_residual.ensures.1 e));
+  shown = λ honest.
+      let had = c.loop-served.invariant.shown honest in
+      record {
+        held = had.held;
+        served = no_value c.from_residual.result _ _ c.from_residual.ensures.1;
+        begun = at_err c.from_residual.result
+            (so_far-begun g.C.Clock.gives c.args.shelf.now c.loop-served.served c.loop-served.left
+            (g.R.Read.remaining c.args.reader.now) (g.R.Read.remaining c.loop-served.reader)
+            c.args.clock.now c.loop-served.clock (g.W.Write.contents c.args.writer.now)
+            (g.W.Write.contents c.loop-served.writer) (g.K.Keeper.content c.args.keeper.now)
+            had.held (omega (arith, c.loop-served.invariant.turns)) had.so_far);
+      };
   bounded = no_value c.from_residual.result _ _ c.from_residual.ensures.1;
   continued = c.loop-served.invariant.continued;
   cleanness = c.loop-served.invariant.cleanness;
@@ -127,6 +165,18 @@ returns-in_default g c = record {
   memory = λ clean e. absurd (cc);
   read = λ clean e. absurd (cc);
   write = λ clean e. absurd (cc);
+  shown = λ honest.
+      let had = c.loop-served.invariant.shown honest in
+      record {
+        held = had.held;
+        served = so_far-ended g.C.Clock.gives c.args.shelf.now c.loop-served.served
+            c.loop-served.left (g.R.Read.remaining c.args.reader.now)
+            (g.R.Read.remaining c.loop-served.reader) (g.R.Read.remaining c.hear.new.reader)
+            c.args.clock.now c.loop-served.clock (g.W.Write.contents c.args.writer.now)
+            (g.W.Write.contents c.loop-served.writer) (g.K.Keeper.content c.args.keeper.now)
+            had.held c.in_ok-heard.field-0 c.in_default.is had.so_far c.in_ok-heard.ensures.heard;
+        begun = tt;
+      };
   bounded = omega (arith, c.loop-served.invariant.turns);
   continued = c.loop-served.invariant.continued;
   cleanness = c.loop-served.invariant.cleanness;
@@ -169,6 +219,20 @@ returns-in_err-answer_request g c = record {
       (g.W.Write.contents c.loop-served.writer) _ _ _ c.loop-served-test.true
       (one_more g (goal.at.returns-in_err-answer_request g c).After-answer_request _ clean
       (c.in_err-answer_request.ensures.err clean));
+  shown = λ honest.
+      let had = c.loop-served.invariant.shown (c.answer_request.ensures.goes_on.honesty honest) in
+      let told = c.in_err-answer_request.ensures.shown honest had.held had.now in
+      record {
+        held = told.next;
+        served = no_value c.from_residual-in_err-answer_request.result _ _
+            c.from_residual-in_err-answer_request.ensures.1;
+        begun = at_err c.from_residual-in_err-answer_request.result
+            (so_far-broken g.C.Clock.gives c.args.shelf.now c.loop-served.served c.loop-served.left
+            c.in-Some.heard.closes (g.R.Read.remaining c.args.reader.now) _ _ _ _
+            (g.W.Write.contents c.loop-served.writer) _ _ told.next c.loop-served-test.true
+            (one_more_of g (goal.at.returns-in_err-answer_request g c).After-answer_request _
+            had.held told.next had.so_far told.err));
+      };
   bounded = no_value c.from_residual-in_err-answer_request.result _ _
       c.from_residual-in_err-answer_request.ensures.1;
   continued = continued g (goal.at.returns-in_err-answer_request g c).After-answer_request;
@@ -194,6 +258,20 @@ returns-then-left-eq0 g c = record {
   memory = λ clean e. absurd (cc);
   read = λ clean e. absurd (cc);
   write = λ clean e. absurd (cc);
+  shown = λ honest.
+      let had = c.loop-served.invariant.shown (c.answer_request.ensures.goes_on.honesty honest) in
+      let told = c.in_ok-answer_request.ensures.shown honest had.held had.now in
+      record {
+        held = told.next;
+        served = so_far-closed g.C.Clock.gives c.args.shelf.now c.loop-served.served
+            c.one_more.result.requests c.loop-served.left c.left_after-left.result
+            c.in-Some.heard.closes (g.R.Read.remaining c.args.reader.now)
+            (g.R.Read.remaining c.hear.new.reader) _ _ _ (g.W.Write.contents c.loop-served.writer)
+            _ _ told.next c.one_more.ensures c.left_after-left.ensures c.if-left-eq0.true
+            (one_more_of g (goal.at.returns-then-left-eq0 g c).After-answer_request _ had.held
+            told.next had.so_far told.ok);
+        begun = tt;
+      };
   bounded = omega (arith, c.one_more.ensures, c.loop-served-test.true);
   continued = continued g (goal.at.returns-then-left-eq0 g c).After-answer_request;
   cleanness = λ clean.
@@ -215,6 +293,20 @@ loop-served-preserved g c = record {
       (g.W.Write.contents c.loop-served.writer) _ _ _ c.left_after-left.ensures
       c.if-left-eq0.false (one_more g (goal.at.loop-served-preserved g c).After-answer_request _
       clean (c.in_ok-answer_request.ensures.ok clean));
+  shown = λ honest.
+      let had = c.loop-served.invariant.shown (c.answer_request.ensures.goes_on.honesty honest) in
+      let told = c.in_ok-answer_request.ensures.shown honest had.held had.now in
+      record {
+        held = told.next;
+        now = told.now;
+        so_far = so_far-more g.C.Clock.gives c.args.shelf.now c.loop-served.served
+            c.loop-served.left c.left_after-left.result c.in-Some.heard.closes
+            (g.R.Read.remaining c.args.reader.now) _ _ _ _
+            (g.W.Write.contents c.loop-served.writer) _ _ told.next c.left_after-left.ensures
+            c.if-left-eq0.false
+            (one_more_of g (goal.at.loop-served-preserved g c).After-answer_request _ had.held
+            told.next had.so_far told.ok);
+      };
   continued = continued g (goal.at.loop-served-preserved g c).After-answer_request;
   cleanness = λ clean. c.loop-served.invariant.cleanness (c.answer_request.ensures.goes_on.cleanness clean);
   honesty = λ honest.
@@ -240,6 +332,22 @@ returns g c = record {
   memory = λ clean e. absurd (cc);
   read = λ clean e. absurd (cc);
   write = λ clean e. absurd (cc);
+  shown = λ honest.
+      let had = c.loop-served.invariant.shown honest in
+      record {
+        held = had.held;
+        served = so_far-full g.C.Clock.gives c.args.shelf.now c.loop-served.served 1000
+            c.loop-served.left (g.R.Read.remaining c.args.reader.now)
+            (g.R.Read.remaining c.loop-served.reader) c.args.clock.now c.loop-served.clock
+            (g.W.Write.contents c.args.writer.now) (g.W.Write.contents c.loop-served.writer)
+            (g.K.Keeper.content c.args.keeper.now) had.held
+            (omega (arith, c.loop-served.invariant.turns, c.loop-served-test.false)) (omega (
+              arith,
+              c.loop-served.invariant.turns,
+              c.loop-served-test.false,
+            )) had.so_far;
+        begun = tt;
+      };
   bounded = omega arith;
   continued = c.loop-served.invariant.continued;
   cleanness = c.loop-served.invariant.cleanness;

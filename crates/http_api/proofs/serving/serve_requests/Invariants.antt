@@ -1,6 +1,6 @@
 use Rattle.std.proofs.Common.{◌≡◌, ◌+◌, ◌≤◌, IfSome}
 use Rattle.charging.specs.Continued.{ForEachList, IsContinued, LeavesOn}
-use Rattle.http_api.proofs.Taking.{IsSoFar}
+use Rattle.http_api.proofs.Taking.{IsHeldSoFar, IsSoFar}
 use Rattle.http_api.proofs.serving.serve_requests.Given as goal
 
 abbrev pub invariant-loop-served : goal.invariant-loop-served
@@ -11,6 +11,11 @@ invariant-loop-served g l = record {
       (g.R.Read.remaining l.reader) l.fn.clock
       l.clock (g.W.Write.contents l.fn.writer) (g.W.Write.contents l.writer)
       (g.K.Keeper.content l.fn.keeper) (g.K.Keeper.content l.keeper));
+  shown : g.K.Keeper.honest l.keeper → IsHeldSoFar g.C.Clock.gives l.shelf l.served l.left
+      (g.R.Read.remaining l.fn.reader) (g.R.Read.remaining l.reader) l.fn.clock l.clock
+      (g.W.Write.contents l.fn.writer) (g.W.Write.contents l.writer)
+      (g.K.Keeper.content l.fn.keeper)
+      (λ t. g.K.Keeper.clean l.keeper → t ≡ g.K.Keeper.content l.keeper);
   continued : g.K.Keeper.clean l.keeper → ForEachList l.shelf (g.K.Keeper.content l.fn.keeper)
       (IsContinued l.shelf (g.K.Keeper.content l.keeper));
   cleanness : g.K.Keeper.clean l.keeper → g.K.Keeper.clean l.fn.keeper;

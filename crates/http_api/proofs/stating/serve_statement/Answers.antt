@@ -1,9 +1,17 @@
-use Rattle.std.proofs.Common.{subst, refl}
-use Rattle.std.specs.Prelude.{None, Some}
+use Rattle.std.proofs.Common.{true, List, subst, sym, refl}
+use Rattle.std.specs.Prelude.{ℕ, None, Some, OnOk, OnErr}
 use Rattle.std.specs.Io.KnownBytes.{Appends}
-use Rattle.http_answers.specs.Texts.{Begins}
+use Rattle.commands.specs.declared.answer.Answer.TheVariants.{Refused}
+use Rattle.commands.specs.declared.answer.Refusal.TheVariants.{AccountUnknown}
+use Rattle.keepers.specs.Tables.{Tables}
+use Rattle.http_heads.specs.Statuses.{service_unavailable}
+use Rattle.http_answers.specs.Asking.{states}
+use Rattle.http_answers.specs.Texts.{Begins, response, unable}
+use Rattle.http_api.specs.Replies.{Replies}
+use Rattle.http_api.specs.Told.{TellsAnswer, TellsCharges}
 use Rattle.http_api.proofs.RequestReplies.{ok_gives, err_gives}
 use Rattle.http_api.proofs.StatementReplies.{unstated_reply, unknown_reply, stated_reply}
+use Rattle.http_api.proofs.ShownReplies.{shows_new, shows_same}
 use Rattle.http_api.proofs.stating.serve_statement.Goals as goal
 
 pub returns-in_default-clause-ok : goal.returns-in_default-clause-ok
@@ -52,7 +60,8 @@ returns-in-Some-state-clause-ok g c = λ clean. ok_gives c.tell_statement.result
     (subst (λ o. g.C.Clock.gives c.args.clock.now o c.now.new.self) c.in-Some.is c.now.ensures)
     (c.in-Ok.ensures.found (c.tell_statement.ensures.cleanness clean)) c.in-Some-state.is
     (c.in-Ok.ensures.same (c.tell_statement.ensures.cleanness clean))
-    (c.tell_statement.ensures.same clean)) (c.tell_statement.ensures.ok clean)
+    (c.tell_statement.ensures.same clean)) (c.tell_statement.ensures.ok
+    (g.met.K.Keeper.honesty c.tell_statement.new.keeper clean))
 
 pub returns-in-Some-state-clause-err : goal.returns-in-Some-state-clause-err
 returns-in-Some-state-clause-err g c = λ clean. err_gives c.tell_statement.result
@@ -64,7 +73,8 @@ returns-in-Some-state-clause-err g c = λ clean. err_gives c.tell_statement.resu
     (subst (λ o. g.C.Clock.gives c.args.clock.now o c.now.new.self) c.in-Some.is c.now.ensures)
     (c.in-Ok.ensures.found (c.tell_statement.ensures.cleanness clean)) c.in-Some-state.is
     (c.in-Ok.ensures.same (c.tell_statement.ensures.cleanness clean))
-    (c.tell_statement.ensures.same clean)) (c.tell_statement.ensures.err clean)
+    (c.tell_statement.ensures.same clean)) (c.tell_statement.ensures.err
+    (g.met.K.Keeper.honesty c.tell_statement.new.keeper clean))
 
 pub returns-in-None-clause-ok : goal.returns-in-None-clause-ok
 returns-in-None-clause-ok g c = λ clean. ok_gives c.tell_unknown.result
@@ -85,3 +95,76 @@ returns-in-None-clause-err g c = λ clean. err_gives c.tell_unknown.result
     c.in-Ok.state (subst (λ o. g.C.Clock.gives c.args.clock.now o c.now.new.self) c.in-Some.is
     c.now.ensures) (c.in-Ok.ensures.found clean) c.in-None.is (c.in-Ok.ensures.same clean))
     c.tell_unknown.ensures.err
+
+pub returns-in_default-clause-shown : goal.returns-in_default-clause-shown
+returns-in_default-clause-shown g c = shows_same
+    (Replies g.C.Clock.gives c.args.shelf.now (states c.args.asked.now) c.args.closes
+    c.args.clock.now c.now.new.self) (g.W.Write.contents c.args.writer.now)
+    (g.W.Write.contents c.tell_unable.new.writer) g.K.Keeper.content g.K.Keeper.honest
+    g.K.Keeper.clean c.args.keeper.now c.args.keeper.now c.tell_unable.result
+    (λ Writes. Writes (response service_unavailable c.args.closes unable)) (λ clean. clean)
+    (λ clean. refl)
+    (λ Writes t w. unstated_reply g.C.Clock.gives c.args.shelf.now c.args.closes Writes
+    c.args.asked.now None c.args.clock.now c.now.new.self t t
+    (subst (λ o. g.C.Clock.gives c.args.clock.now o c.now.new.self) c.in_default.is c.now.ensures)
+    refl w) c.tell_unable.ensures.ok c.tell_unable.ensures.err
+
+pub returns-in-Err-clause-shown : goal.returns-in-Err-clause-shown
+returns-in-Err-clause-shown g c = shows_same
+    (Replies g.C.Clock.gives c.args.shelf.now (states c.args.asked.now) c.args.closes
+    c.args.clock.now c.now.new.self) (g.W.Write.contents c.args.writer.now)
+    (g.W.Write.contents c.tell_unable-in-Err.new.writer) g.K.Keeper.content g.K.Keeper.honest
+    g.K.Keeper.clean c.args.keeper.now c.account_state.new.keeper c.tell_unable-in-Err.result
+    (λ Writes. Writes (response service_unavailable c.args.closes unable))
+    c.in-Err.ensures.cleanness c.in-Err.ensures.same
+    (λ Writes t w. unstated_reply g.C.Clock.gives c.args.shelf.now c.args.closes Writes
+    c.args.asked.now (Some c.in-Some.moment) c.args.clock.now c.now.new.self t t
+    (subst (λ o. g.C.Clock.gives c.args.clock.now o c.now.new.self) c.in-Some.is c.now.ensures)
+    refl w) c.tell_unable-in-Err.ensures.ok c.tell_unable-in-Err.ensures.err
+
+pub returns-in-None-clause-shown : goal.returns-in-None-clause-shown
+returns-in-None-clause-shown g c = shows_new
+    (Replies g.C.Clock.gives c.args.shelf.now (states c.args.asked.now) c.args.closes
+    c.args.clock.now c.now.new.self) (g.W.Write.contents c.args.writer.now)
+    (g.W.Write.contents c.tell_unknown.new.writer) g.K.Keeper.content g.K.Keeper.honest
+    g.K.Keeper.clean c.args.keeper.now c.account_state.new.keeper c.tell_unknown.result
+    (TellsAnswer true (Refused AccountUnknown) c.args.closes) c.in-Ok.ensures.stands
+    c.in-Ok.ensures.cleanness
+    (λ Writes clean tells. unknown_reply g.C.Clock.gives c.args.shelf.now c.args.closes Writes
+    c.args.asked.now c.in-Some.moment c.args.clock.now c.now.new.self
+    (g.K.Keeper.content c.args.keeper.now) (g.K.Keeper.content c.account_state.new.keeper)
+    c.in-Ok.state
+    (subst (λ o. g.C.Clock.gives c.args.clock.now o c.now.new.self) c.in-Some.is c.now.ensures)
+    (c.in-Ok.ensures.found clean) c.in-None.is (c.in-Ok.ensures.same clean) tells)
+    c.tell_unknown.ensures.ok c.tell_unknown.ensures.err
+
+pub returns-in-Some-state-clause-shown : goal.returns-in-Some-state-clause-shown
+returns-in-Some-state-clause-shown g c = λ h held before.
+    let viewed = c.in-Ok.ensures.stands (c.tell_statement.ensures.honesty h) in
+    let is = sym (before (c.in-Ok.ensures.cleanness viewed)) in
+    let told : (Writes : List ℕ → Type 0) → TellsCharges _ _ c.args.closes Writes →
+    Replies g.C.Clock.gives c.args.shelf.now (states c.args.asked.now) c.args.closes
+    c.args.clock.now c.now.new.self Writes (g.K.Keeper.content c.args.keeper.now)
+    (g.K.Keeper.content c.account_state.new.keeper) = λ Writes tells.
+    stated_reply g.C.Clock.gives c.args.shelf.now c.args.closes Writes c.args.asked.now
+    c.in-Some.moment c.args.clock.now c.now.new.self (g.K.Keeper.content c.args.keeper.now)
+    (g.K.Keeper.content c.account_state.new.keeper) (g.K.Keeper.content c.account_state.new.keeper)
+    c.in-Ok.state c.in-Some-state.state
+    (subst (λ o. g.C.Clock.gives c.args.clock.now o c.now.new.self) c.in-Some.is c.now.ensures)
+    (c.in-Ok.ensures.found viewed) c.in-Some-state.is (c.in-Ok.ensures.same viewed) refl tells in
+    record {
+      next = g.K.Keeper.content c.account_state.new.keeper;
+      now = λ clean. sym (c.tell_statement.ensures.same clean);
+      ok = subst (λ (x : Tables). OnOk c.tell_statement.result (Replies g.C.Clock.gives
+          c.args.shelf.now (states c.args.asked.now) c.args.closes c.args.clock.now c.now.new.self
+          (Appends (g.W.Write.contents c.args.writer.now)
+          (g.W.Write.contents c.tell_statement.new.writer)) x
+          (g.K.Keeper.content c.account_state.new.keeper))) is
+          (ok_gives c.tell_statement.result (told _) (c.tell_statement.ensures.ok h));
+      err = subst (λ (x : Tables). OnErr c.tell_statement.result (Replies g.C.Clock.gives
+          c.args.shelf.now (states c.args.asked.now) c.args.closes c.args.clock.now c.now.new.self
+          (Begins (g.W.Write.contents c.args.writer.now)
+          (g.W.Write.contents c.tell_statement.new.writer)) x
+          (g.K.Keeper.content c.account_state.new.keeper))) is
+          (err_gives c.tell_statement.result (told _) (c.tell_statement.ensures.err h));
+    }

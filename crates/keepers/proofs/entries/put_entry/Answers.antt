@@ -5,11 +5,11 @@ use Rattle.std.proofs.lemmas.List.{length-set}
 use Rattle.identifiers.specs.Texts.{same_name}
 use Rattle.keepers.specs.Change.{kept_after}
 use Rattle.keepers.specs.declared.entries.Entry.{Entry}
-use Rattle.keepers.specs.Change.{over, IsMadeFrom}
+use Rattle.keepers.specs.Change.{over}
 use Rattle.keepers.specs.Parts.{rows_of}
 use Rattle.keepers.specs.Memory.{is_entry, entry_in, rows_of_entry, answer_of_entry}
 use Rattle.keepers.specs.Memory.{charges_of_entry}
-use Rattle.keepers.proofs.Placed.{place_added, on_err, found_at, seen_written}
+use Rattle.keepers.proofs.Placed.{place_added, on_err, seen_written}
 use Rattle.keepers.proofs.Placed.{seen_left, count_written, seen_added, count_added}
 use Rattle.keepers.proofs.entries.put_entry.Goals as goal
 
@@ -36,15 +36,11 @@ pub returns-in-Some-clause-done : goal.returns-in-Some-clause-done
 returns-in-Some-clause-done c =
     let at : position (is_entry c.args.number) c.args.entries.now.items ≡ Some c.in-Some.place =
     sym (c.requires c.args.number) ∙ sym c.place_of.ensures ∙ c.in-Some.is in
-    let there = found_at c.args.number c.in-Some.place c.args.entries.now.items
-    c.index_mut.result.now at c.index_mut.ensures.value in
     record {
-      rows = λ before made a. seen_written rows_of_entry c.args.number c.in-Some.place
+      rows = λ a. seen_written rows_of_entry c.args.number c.in-Some.place
           c.args.entries.now.items c.index_mut.result.now c.write_entry.new.entry at
           c.index_mut.ensures.value c.write_entry.ensures.number (over c.args.rows) a
-          (c.in_ok-write_entry.ensures.rows before
-          (subst (λ (o : Option Entry). IsMadeFrom before c.args.rows (rows_of_entry o))
-          there.found made));
+          c.in_ok-write_entry.ensures.rows;
       answers = λ a k. seen_written (answer_of_entry k) c.args.number c.in-Some.place
           c.args.entries.now.items c.index_mut.result.now c.write_entry.new.entry at
           c.index_mut.ensures.value c.write_entry.ensures.number (kept_after c.args.kept k) a
@@ -68,7 +64,7 @@ added c = c.push_reserved.ensures.items
 
 pub returns-clause-done : goal.returns-clause-done
 returns-clause-done c = record {
-  rows = λ before made a. ap (λ xs. rows_of_entry (entry_in a xs)) (added c)
+  rows = λ a. ap (λ xs. rows_of_entry (entry_in a xs)) (added c)
       ∙ seen_added c.args.number c.args.entries.now.items _
       (none_there c) c.in_ok-entry.ensures.number rows_of_entry
       (over c.args.rows) a c.in_ok-entry.ensures.rows;

@@ -1,11 +1,9 @@
-use Rattle.std.proofs.Common.{rules, ap, ◌∙◌, ◌++◌}
-use Rattle.std.specs.Prelude.{filter}
-use Rattle.std.proofs.lemmas.Fn.{filter_same}
-use Rattle.reserving.specs.Left.{is_dead}
+use Rattle.std.proofs.Common.{List, subst}
+use Rattle.std.specs.List.Sorted.{IsPermutation}
+use Rattle.buckets.specs.Row.{Row}
 use Rattle.keepers.proofs.store.dead_rows.Goals as goal
 
-pub returns : goal.returns
-returns c =
-    filter_same _ (is_dead) _ (λ x b f' k. search rules) _ _ c.retain.ensures.filtered
-    ∙ ap (filter (is_dead)) (c.in_ok-append.ensures.items
-    ∙ (λ i. c.in_ok-rows.ensures i ++ (c.in_ok-to_vec.ensures ∙ c.purse.ensures) i))
+pub returns-clause-same : goal.returns-clause-same
+returns-clause-same c =
+    subst (λ (xs : List Row). IsPermutation xs c.sort_by_number.new.rows.items)
+    c.in_ok-rows.ensures c.sort_by_number.ensures.same

@@ -1,4 +1,4 @@
-use Rattle.std.proofs.Common.{arith, refl}
+use Rattle.std.proofs.Common.{arith}
 use Rattle.std.proofs.lemmas.Result.{err_from_is_err_and}
 use Rattle.sql_keeper.proofs.Commits.{become_at}
 use Rattle.sql_keeper.proofs.Whole.{written, not_written}
@@ -8,20 +8,16 @@ pub returns-in_err-write_change-clause-commits : goal.returns-in_err-write_chang
 returns-in_err-write_change-clause-commits g c =
     let p = err_from_is_err_and c.from_residual-in_err-write_change.result
     c.from_residual-in_err-write_change.ensures.1 in
-    rw p.1 (not_written _ _ _ _ _ c.in_ok-head.ensures.reads.only c.in_ok-head.ensures.reads.survives
-    (become_at _ _ c.args.change.now _ c.in_ok-head.head c.as_of-loaded.ensures.kept c.as_of-stored.ensures.kept
-    (c.if-not-may_be_written.ensures.reservations refl)
-    (c.if-not-may_be_written.ensures.numbers refl) c.in_ok-texts.ensures
+    rw p.1 (not_written _ _ _ _ _ c.in_ok-test_change.ensures.only c.in_ok-test_change.ensures.survives
+    (become_at _ _ c.args.change.now _ c.as_of-named.ensures.named c.in_ok-texts.ensures
     (omega (arith, c.seconds-moment.ensures.in_range, c.seconds-moment.ensures.value)) _ _
-    c.in_ok-head.ensures.reads.only c.in_ok-head.ensures.reads.found) _ _
+    c.in_ok-test_change.ensures.only c.in_ok-test_change.ensures.found) _ _
     c.in_err-write_change.ensures.transacts)
 
 pub returns-clause-commits : goal.returns-clause-commits
 returns-clause-commits g c =
-    written _ _ _ _ _ c.in_ok-head.ensures.reads.only c.in_ok-head.ensures.reads.survives
-    (become_at _ _ c.args.change.now _ c.in_ok-head.head c.as_of-loaded.ensures.kept c.as_of-stored.ensures.kept
-    (c.if-not-may_be_written.ensures.reservations refl)
-    (c.if-not-may_be_written.ensures.numbers refl) c.in_ok-texts.ensures
+    written _ _ _ _ _ c.in_ok-test_change.ensures.only c.in_ok-test_change.ensures.survives
+    (become_at _ _ c.args.change.now _ c.as_of-named.ensures.named c.in_ok-texts.ensures
     (omega (arith, c.seconds-moment.ensures.in_range, c.seconds-moment.ensures.value)) _ _
-    c.in_ok-head.ensures.reads.only c.in_ok-head.ensures.reads.found) _ _
+    c.in_ok-test_change.ensures.only c.in_ok-test_change.ensures.found) _ _
     c.in_ok-write_change.ensures.transacts

@@ -2,30 +2,21 @@ use Rattle.std.proofs.Common.{option_map, Ok}
 use Rattle.sql_rows.specs.Content.{with_meta}
 use Rattle.sql_rows.specs.Texts.{kept_of}
 use Rattle.sql_keeper.specs.Content.{shelf_names}
-use Rattle.sql_keeper.specs.Writes.{meta_with, with_all_paid, with_kept, with_redeemed}
-use Rattle.sql_keeper.specs.Writes.{with_stored, new_rows}
-use Rattle.sql_keeper.proofs.Puts.{makes_then, makes_all_then, puts_paid, puts_stored}
+use Rattle.sql_keeper.specs.Writes.{meta_with, with_changed_rows, with_kept, with_redeemed}
+use Rattle.sql_keeper.proofs.Puts.{makes_then, makes_all_then}
 use Rattle.sql_keeper.proofs.putting.put_change.Goals as goal
 
 pub returns-clause-makes : goal.returns-clause-makes
 returns-clause-makes g c =
     let change = c.args.change.now in
     let opened = with_meta (meta_with c.args.text.now change) in
-    let stored =
-    with_stored change.number (shelf_names c.args.books.now)
-    (new_rows change.before change.after) in
-    let charged = with_all_paid change.number change.charges.items in
+    let rows = with_changed_rows (shelf_names c.args.books.now) change in
     let kept = with_kept change.number change.kept (option_map kept_of c.args.texts.now) in
     let redeemed = with_redeemed change.redeemed in
-    makes_all_then (λ x. kept (charged (stored (opened x)))) redeemed _ _ _ c.in_ok-put_kept.field-0
+    makes_all_then (λ x. kept (rows (opened x))) redeemed _ _ _ c.in_ok-put_kept.field-0
     c.put_redeemed.result
-    (makes_all_then (λ x. charged (stored (opened x))) kept _ _ _ c.in_ok-put_paid.field-0
+    (makes_all_then (λ x. rows (opened x)) kept _ _ _ c.in_ok-put_rows.field-0
     (Ok c.in_ok-put_kept.field-0)
-    (makes_all_then (λ x. stored (opened x)) charged _ _ _ c.in_ok-put_new.field-0
-    (Ok c.in_ok-put_paid.field-0)
-    (makes_then opened stored _ _ _ c.in_ok-put_meta.field-0 (Ok c.in_ok-put_new.field-0)
-    c.in_ok-put_meta.ensures.makes
-    (puts_stored change.number (shelf_names c.args.books.now) _ _ c.requires.new _ _
-    (Ok c.in_ok-put_new.field-0) c.in_ok-put_new.ensures.makes))
-    (puts_paid change.number _ _ c.deref.ensures.value _ _ (Ok c.in_ok-put_paid.field-0)
-    c.in_ok-put_paid.ensures.makes)) c.in_ok-put_kept.ensures.makes) c.put_redeemed.ensures.makes
+    (makes_then opened rows _ _ _ c.in_ok-put_meta.field-0 (Ok c.in_ok-put_rows.field-0)
+    c.in_ok-put_meta.ensures.makes c.in_ok-put_rows.ensures.makes) c.in_ok-put_kept.ensures.makes)
+    c.put_redeemed.ensures.makes

@@ -6,10 +6,9 @@ use Rattle.sql_rows.proofs.account_rows.read_accounts.Goals as goal
 pub read-requires-clause-plain : goal.read-requires-clause-plain
 read-requires-clause-plain g c = read_accounts_plain
 
-pub returns : goal.returns
-returns g c = record {
-  reads = reads_as _ read_accounts_text _ _ _ _ _ _ c.accounts_from.result c.read.ensures.reads
-      c.read.ensures.stops c.in_ok-rows.ensures.answers
-      refl
-      c.deref.ensures.value c.accounts_from.ensures (λ xs. accounts_read _ _ _ xs.items);
-}
+pub returns-clause-reads : goal.returns-clause-reads
+returns-clause-reads g c =
+    reads_as _ read_accounts_text _ _ _ _ _ _ c.accounts_from.result c.read.ensures.reads
+    c.read.ensures.stops c.in_ok-rows.ensures.answers
+    refl
+    c.deref.ensures.value c.accounts_from.ensures.cells (λ xs. accounts_read _ _ _ xs.items)

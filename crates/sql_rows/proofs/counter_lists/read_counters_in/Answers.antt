@@ -10,11 +10,10 @@ use Rattle.sql_rows.proofs.counter_lists.read_counters_in.Goals as goal
 pub read-requires-clause-plain : goal.read-requires-clause-plain
 read-requires-clause-plain g c = read_counters_in_plain
 
-pub returns : goal.returns
-returns g c = record {
-  reads = reads_as _ read_counters_in_text _ _ _ _ _ _ c.counters_from.result c.read.ensures.reads
-      c.read.ensures.stops c.in_ok-rows.ensures.answers
-      (λ i. map bound_value ((c.text-of_account.ensures ∙ ap Text c.as_str.ensures.value) i
-      ∷ c.whole-of_cycle.ensures i ∷ [])) c.deref.ensures.value c.counters_from.ensures
-      (λ xs. counters_read c.args.account.now c.args.cycle _ _ _ xs.items);
-}
+pub returns-clause-reads : goal.returns-clause-reads
+returns-clause-reads g c =
+    reads_as _ read_counters_in_text _ _ _ _ _ _ c.counters_from.result c.read.ensures.reads
+    c.read.ensures.stops c.in_ok-rows.ensures.answers
+    (λ i. map bound_value ((c.text-of_account.ensures ∙ ap Text c.as_str.ensures.value) i
+    ∷ c.whole-of_cycle.ensures i ∷ [])) c.deref.ensures.value c.counters_from.ensures.cells
+    (λ xs. counters_read c.args.account.now c.args.cycle _ _ _ xs.items)

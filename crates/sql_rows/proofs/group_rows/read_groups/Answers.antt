@@ -9,12 +9,11 @@ use Rattle.sql_rows.proofs.group_rows.read_groups.Goals as goal
 pub read-requires-clause-plain : goal.read-requires-clause-plain
 read-requires-clause-plain g c = read_groups_plain
 
-pub returns : goal.returns
-returns g c = record {
-  reads = reads_as _ read_groups_text _ _ _ _ _ _ c.groups_from.result c.read.ensures.reads
-      c.read.ensures.stops c.in_ok-rows.ensures.answers
-      (λ i. map bound_value ((c.text.ensures ∙ ap Text c.as_str.ensures.value) i ∷
-      (c.text-2.ensures ∙ ap Text c.as_str-2.ensures.value) i ∷ []))
-      c.deref.ensures.value c.groups_from.ensures
-      (λ xs. groups_read c.args.account.now c.args.session.now _ _ _ (map group_at xs.items));
-}
+pub returns-clause-reads : goal.returns-clause-reads
+returns-clause-reads g c =
+    reads_as _ read_groups_text _ _ _ _ _ _ c.groups_from.result c.read.ensures.reads
+    c.read.ensures.stops c.in_ok-rows.ensures.answers
+    (λ i. map bound_value ((c.text.ensures ∙ ap Text c.as_str.ensures.value) i ∷
+    (c.text-2.ensures ∙ ap Text c.as_str-2.ensures.value) i ∷ []))
+    c.deref.ensures.value c.groups_from.ensures.cells
+    (λ xs. groups_read c.args.account.now c.args.session.now _ _ _ (map group_at xs.items))

@@ -8,11 +8,10 @@ use Rattle.sql_rows.proofs.session_rows.read_sessions_open.Goals as goal
 pub read-requires-clause-plain : goal.read-requires-clause-plain
 read-requires-clause-plain g c = read_sessions_open_plain
 
-pub returns : goal.returns
-returns g c = record {
-  reads = reads_as _ read_sessions_open_text _ _ _ _ _ _ c.sessions_from.result c.read.ensures.reads
-      c.read.ensures.stops c.in_ok-rows.ensures.answers
-      (λ i. map bound_value ((c.text.ensures ∙ ap Text c.as_str.ensures.value) i ∷ []))
-      c.deref.ensures.value c.sessions_from.ensures
-      (λ xs. open_read c.args.account.now _ _ _ xs.items);
-}
+pub returns-clause-reads : goal.returns-clause-reads
+returns-clause-reads g c =
+    reads_as _ read_sessions_open_text _ _ _ _ _ _ c.sessions_from.result c.read.ensures.reads
+    c.read.ensures.stops c.in_ok-rows.ensures.answers
+    (λ i. map bound_value ((c.text.ensures ∙ ap Text c.as_str.ensures.value) i ∷ []))
+    c.deref.ensures.value c.sessions_from.ensures.cells
+    (λ xs. open_read c.args.account.now _ _ _ xs.items)

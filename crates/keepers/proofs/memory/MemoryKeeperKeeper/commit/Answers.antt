@@ -7,12 +7,12 @@ use Rattle.keepers.proofs.MemoryTables.{same_vouchers, same_tables}
 use Rattle.keepers.proofs.memory.MemoryKeeperKeeper.commit.Goals as goal
 
 pub returns-clause-done : goal.returns-clause-done
-returns-clause-done c = λ _ made.
+returns-clause-done c = λ _.
     let items = c.args.self.now.accounts.entries.items in
     let change = c.args.change in
     (λ i. record {
       last = change.moment;
-      rows = λ a. c.in_ok-put.ensures.done.rows change.before made a i;
+      rows = λ a. c.in_ok-put.ensures.done.rows a i;
       answers = λ a k. c.in_ok-put.ensures.done.answers a k i;
       charges = λ a n. charge_over change.number a n items _ change.charges.items
           (c.in_ok-put.ensures.done.charges a) i;

@@ -12,7 +12,7 @@ pub returns-clause-reads : goal.returns-clause-reads
 returns-clause-reads g c = rw (← c.self.view_is) (asked g.S.Store _ _ c.self.invariant refl _ _
     c.ask_for_dead-read.result c.counted.result c.ask_for_dead-read.ensures
     c.counted.ensures.handed c.counted.ensures.cause
-    (λ clean on x t. record { found = t.found; apart = t.apart }))
+    (λ clean on x t. record { found = t.found; apart = t.apart; order = t.order }))
 
 pub returns-clause-whole : goal.returns-clause-whole
 returns-clause-whole g c = rw (← c.self.view_is) (asked_whole g.S.Store _ _ c.self.invariant refl _

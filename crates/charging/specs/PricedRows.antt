@@ -1,0 +1,26 @@
+-- Each reservation that accepted commands leave has its prices on the shelf by which they were
+-- answered.
+-- Source: profile.
+use Rattle.std.specs.Prelude.{◌≡◌, ℕ, true, List, Some, is_some}
+use Rattle.shelves.specs.Shelves.{Shelf, IsShelf}
+use Rattle.reserving.specs.declared.session.Terms.{Terms}
+use Rattle.reserving.specs.Placed.{prices_on, ArePlaced}
+use Rattle.reserving.specs.Stored.{StoredRows, IsStored}
+use Rattle.keepers.specs.Tables.{GroupRow, Tables, AreListed}
+use Rattle.charging.specs.Accepted.{Accepted}
+use Rattle.charging.specs.Served.{AreTables}
+
+-- by the row of a session's group: its book is on the shelf, and has the group and both periods
+abbrev pub ReservationsArePriced : Type 0
+ReservationsArePriced =
+    (shelf : Shelf) → IsShelf shelf → (list : List Accepted) (tables : Tables) →
+    AreTables shelf list tables → (a s : List ℕ) (g : ℕ) (row : GroupRow) (x : Terms) →
+    (tables.rows a).groups s g ≡ Some row → row.terms ≡ Some x →
+    is_some (prices_on shelf g x) ≡ true
+
+-- so no list of an account's rows is refused for another book
+abbrev pub NoBookIsMissing : Type 0
+NoBookIsMissing =
+    (shelf : Shelf) → IsShelf shelf → (list : List Accepted) (tables : Tables) →
+    AreTables shelf list tables → (a : List ℕ) (w : StoredRows) → AreListed w (tables.rows a) →
+    IsStored w → ArePlaced shelf w.groups

@@ -1,0 +1,45 @@
+-- The paths of each row of the table, in words.
+-- Source: profile.
+use Rattle.std.specs.Prelude.{◌≡◌, ◌<◌, ℕ, List, [], ◌++◌, length, false, codes, Some}
+use Rattle.matchit.specs.Seek.{has_slash}
+use Rattle.matchit.specs.Level.{IsText}
+use Rattle.http_answers.specs.declared.routes.Route.{Route}
+use Rattle.http_answers.specs.declared.routes.Route.TheVariants.{Ccr, Account, Statement, Credits}
+use Rattle.http_answers.specs.declared.routes.Route.TheVariants.{Allowances, Redeem, Sweep}
+use Rattle.http_answers.specs.Routes.{row_of}
+
+-- a part of a path: it isn't empty and has no slash
+pub record IsPart (part : List ℕ) : Type 0 where
+  pub some : 0 < length part
+  pub slashless : has_slash part ≡ false
+
+-- a path with one part between two texts
+pub record HasPart (front back path : List ℕ) : Type 0 where
+  pub part : List ℕ
+  pub is_part : IsPart part
+  pub is : path ≡ front ++ (part ++ back)
+
+-- the path of a statement, with its account and its month
+pub record IsStatementPath (path : List ℕ) : Type 0 where
+  pub account : List ℕ
+  pub is_account : IsPart account
+  pub month : List ℕ
+  pub is_month : IsPart month
+  pub is : path ≡ codes "/accounts/" ++ (account ++ (codes "/statement/" ++ month))
+
+-- the paths of a row
+abbrev pub IsPathOf : Route → List ℕ → Type 0
+IsPathOf Ccr path = path ≡ codes "/ccr"
+IsPathOf Account path = HasPart (codes "/accounts/") [] path
+IsPathOf Statement path = IsStatementPath path
+IsPathOf Credits path = HasPart (codes "/accounts/") (codes "/credits") path
+IsPathOf Allowances path = HasPart (codes "/accounts/") (codes "/allowances") path
+IsPathOf Redeem path = HasPart (codes "/vouchers/") (codes "/redeem") path
+IsPathOf Sweep path = path ≡ codes "/sweep"
+
+-- a path of bytes has a row exactly where it is one of that row's
+pub record AreRoutesPaths : Type 0 where
+  pub found : (path : List ℕ) (route : Route) → IsText path → row_of path ≡ Some route →
+      IsPathOf route path
+  pub each : (path : List ℕ) (route : Route) → IsText path → IsPathOf route path →
+      row_of path ≡ Some route

@@ -1,0 +1,93 @@
+-- What the keeper in memory makes live of an account by a change: the change's rows, and of those
+-- that stand the ones that may still change. Of private functions alone.
+use Rattle.std.specs.Prelude.{◌≡◌, ℕ, Bool, false, not, ◌==◌, ◌&&◌, ◌||◌, ◌++◌, List, [], None, Some}
+use Rattle.std.specs.Prelude.{filter, is_some, if◌then◌else◌}
+use Rattle.std.specs.List.{list_any}
+use Rattle.buckets.specs.Row.{Row}
+use Rattle.reserving.specs.declared.session.Session.{Session}
+use Rattle.reserving.specs.declared.session.SessionGroup.{SessionGroup}
+use Rattle.reserving.specs.declared.session.Counter.{Counter}
+use Rattle.reserving.specs.Sessions.{is_open, session_in, group_in, counter_in}
+use Rattle.reserving.specs.Rows.{AreApart}
+use Rattle.reserving.specs.Stored.{StoredRows}
+use Rattle.reserving.specs.Left.{is_dead, bucket_in, IsDead}
+use Rattle.reserving.specs.Restored.{FindsSame}
+use Rattle.keepers.specs.Tables.{Rows, GroupRow, head_of, group_row, held_of}
+use Rattle.keepers.specs.Named.{Names, is_named}
+use Rattle.keepers.specs.Keyed.{same_bucket}
+
+-- ---- of the rows that stand, those that stay live beside the ones that are named
+
+abbrev pub stays_bucket : List Row → Row → Bool
+stays_bucket named b = not (is_dead b) && not (is_some (bucket_in b.number named))
+
+-- the counter of the group that isn't named is one of a past cycle
+abbrev pub stays_counter : List Counter → Counter → Bool
+stays_counter named c = not (list_any (λ x. x.group == c.group) named)
+
+abbrev pub stays_session : List Session → Session → Bool
+stays_session named r = is_open r.state && not (is_some (session_in r.id named))
+
+-- a group stays with its reservation, or where its session is among these
+abbrev pub stays_group : List SessionGroup → List Session → SessionGroup → Bool
+stays_group named sessions r = not (is_some (group_in r.session r.group named)) &&
+    (is_some r.reservation || is_some (session_in r.session sessions))
+
+-- the groups that were left, where the session of one may be named
+abbrev pub back_from : Names → List Session → List SessionGroup → List SessionGroup
+back_from names sessions left =
+    if list_any (λ r. is_named names r.id) sessions then left else []
+
+-- ---- all of them
+
+abbrev pub sessions_over : List Session → List Session → List Session
+sessions_over named live = filter (stays_session named) live ++ named
+
+abbrev pub groups_over : List SessionGroup → List Session → List SessionGroup →
+    List SessionGroup → List SessionGroup
+groups_over named sessions back live =
+    (filter (stays_group named sessions) back ++ filter (stays_group named sessions) live) ++ named
+
+abbrev pub rows_over : StoredRows → List SessionGroup → StoredRows → StoredRows
+rows_over named back live = record named {
+  buckets = filter (stays_bucket named.buckets) live.buckets ++ named.buckets;
+  counters = filter (stays_counter named.counters) live.counters ++ named.counters;
+  sessions = sessions_over named.sessions live.sessions;
+  groups = groups_over named.groups (sessions_over named.sessions live.sessions) back live.groups;
+}
+
+-- an account has these rows, whatever their order
+pub record IsAccountOf (w v : StoredRows) : Type 0 where
+  pub head : head_of v ≡ head_of w
+  pub buckets : AreApart same_bucket w.buckets → (n : ℕ) →
+      bucket_in n v.buckets ≡ bucket_in n w.buckets
+  pub others : FindsSame w v
+
+-- ---- and of what isn't live any more
+
+-- it can't change any more
+pub record IsRestDead (after : StoredRows) (r : Rows) : Type 0 where
+  pub dead : (n : ℕ) (x : Row) → r.buckets n ≡ Some x → bucket_in n after.buckets ≡ None → IsDead x
+  pub ended : (s : List ℕ) (x : Session) → r.sessions s ≡ Some x →
+      session_in s after.sessions ≡ None → is_open x.state ≡ false
+  pub free : (s : List ℕ) (g : ℕ) (x : GroupRow) → r.groups s g ≡ Some x →
+      group_in s g after.groups ≡ None → (x.terms ≡ None) × (session_in s after.sessions ≡ None)
+
+-- ---- rows that are put in the place of all that were loaded
+
+-- the rows before are there, and what isn't among those after it can't change any more
+pub record IsMadeFrom (before after : StoredRows) (r : Rows) : Type 0 where
+  pub buckets : (n : ℕ) (x : Row) → bucket_in n before.buckets ≡ Some x → r.buckets n ≡ Some x
+  pub counters : (g c : ℕ) (x : Counter) → counter_in g c before.counters ≡ Some x →
+      r.counters g c ≡ Some x
+  pub sessions : (s : List ℕ) (x : Session) → session_in s before.sessions ≡ Some x →
+      r.sessions s ≡ Some x
+  pub groups : (s : List ℕ) (g : ℕ) (x : SessionGroup) → group_in s g before.groups ≡ Some x →
+      r.groups s g ≡ Some (group_row x)
+  pub holds : (s : List ℕ) (g n : ℕ) (x : SessionGroup) → group_in s g before.groups ≡ Some x →
+      r.holds s g n ≡ held_of n (Some x)
+  pub dead : (n : ℕ) (x : Row) → r.buckets n ≡ Some x → bucket_in n after.buckets ≡ None → IsDead x
+  pub ended : (s : List ℕ) (x : Session) → r.sessions s ≡ Some x →
+      session_in s after.sessions ≡ None → is_open x.state ≡ false
+  pub free : (s : List ℕ) (g : ℕ) (x : GroupRow) → r.groups s g ≡ Some x →
+      group_in s g after.groups ≡ None → (x.terms ≡ None) × (session_in s after.sessions ≡ None)
