@@ -1,5 +1,4 @@
-//! Tests of databases: the statements over the ten tables, the keeper over them, and files that
-//! stop.
+//! Tests of databases: the statements over the tables, their versions, and the keeper over them.
 #![tactic(auto)]
 
 #[cfg(test)]

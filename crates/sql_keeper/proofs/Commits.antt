@@ -119,9 +119,8 @@ module _ (names : Names) (text : List ℕ) (change : Change) (texts : Option Kep
     tables = ap (tables_of names) turns.content
         ∙ changes_read names (meta_with text change) change texts (content_of old) named may told
         refl;
-    tidy = λ scopes t. subst (IsTidy names) (sym turns.content)
-        (tidy_change names (meta_with text change) change texts (content_of old) named may told
-        scopes t);
+    tidy = λ t. subst (IsTidy names) (sym turns.content)
+        (tidy_change names (meta_with text change) change texts (content_of old) named may told t);
     meta = ap (λ (c : Content). c.meta) turns.content ∙ ap (λ (b : Beside). b.meta)
         (change_meta names (meta_with text change) change texts (content_of old));
     last = last;

@@ -14,7 +14,7 @@ use Rattle.reserving.specs.declared.session.SessionGroup.{SessionGroup}
 use Rattle.reserving.specs.Rows.{EachIn}
 use Rattle.reserving.specs.Sessions.{group_in, is_open}
 use Rattle.reserving.specs.Left.{is_open_row}
-use Rattle.reserving.proofs.Lists.{not_both, no_some, some_of}
+use Rattle.reserving.proofs.Lists.{find-passes, not_both, no_some, some_of}
 use Rattle.reserving.proofs.KeysFound.{is_none_is}
 use Rattle.reserving.proofs.LeftTests.{each_append}
 use Rattle.keepers.specs.declared.loaded.Change.{Change}
@@ -30,8 +30,9 @@ use Rattle.sql_keeper.specs.Tests.{AreWritable}
 use Rattle.sql_keeper.specs.Tests.{AreNumbered, MayBeMade, first_number}
 use Rattle.sql_keeper.proofs.Changed.{settled_each}
 use Rattle.sql_keeper.proofs.InTurn.{HaveRead, none_read, have_read, have_gathered, have_read_then}
-use Rattle.sql_keeper.proofs.InTurn.{gathers_from, gathers_made}
+use Rattle.sql_keeper.proofs.InTurn.{gathers_from, gathers_made, gives_up}
 use Rattle.sql_keeper.proofs.LiveGroups.{told_before}
+use Rattle.sql_keeper.proofs.Overlays.{number_from}
 
 -- ---- the groups of a session
 
@@ -67,8 +68,7 @@ free_beside groups s xs r are all g y there none =
     at None e k = absurd (no_some y k)
     at (Some x) e k =
         not_reserved groups s g x y
-        (Rattle.sql_keeper.proofs.Overlays.number_from x.group g
-        (Rattle.reserving.proofs.Lists.find-passes (λ z. nat_eq z.group g) xs x e))
+        (number_from x.group g (find-passes (λ z. nat_eq z.group g) xs x e))
         (some_of x.row y k) none
         (all_found (is_beside groups s) (λ z. nat_eq z.group g) xs x all e)
 
@@ -191,34 +191,36 @@ not_made {E} names change o old new reads =
     (have_read {A = Option Head} {E = E} (λ trees p. p ≡ (rows_in trees change.number).head) old
     new o reads) (λ clean on t. absurd (not_both t))
 
+-- the sessions and groups are those of the change
 pub may_be_made : {E : Type 0} (names : Names) (change : Change) (o : Option Head)
-    (r : Result Bool E) (old mid new : State) → Reads {A = Option Head} {E = E}
+    (xs : List Session) (ys : List SessionGroup) (r : Result Bool E) (old mid new : State) →
+    xs ≡ change.rows.sessions → ys ≡ change.rows.groups → Reads {A = Option Head} {E = E}
     (λ trees p. p ≡ (rows_in trees change.number).head) old mid (Ok o) →
     AreWritable names change.rows.sessions change.rows.groups →
     AreNumbered (first_number o) change.rows.next_charge change.charges.items →
     Gathers {A = Bool} {E = E}
-    (λ trees c. IsTrue c → AreSettled change.rows.sessions change.rows.groups
-    (rows_in trees change.number)) mid new r →
+    (λ trees c. IsTrue c → AreSettled xs ys (rows_in trees change.number)) mid new r →
     Gathers {A = Bool} {E = E}
     (λ trees c. IsTrue c → MayBeMade names change (rows_in trees change.number)) old new r
-may_be_made {E} names change o (Ok b) old mid new one writable numbered two =
+may_be_made {E} names change o xs ys (Ok b) old mid new same_xs same_ys one writable numbered two =
     gathers_from {A = Bool} {E = E}
     (λ trees c. IsTrue c → MayBeMade names change (rows_in trees change.number)) old new (Ok b)
     (have_read_then old mid new
     (have_read {A = Option Head} {E = E} (λ trees p. p ≡ (rows_in trees change.number).head) old
     mid o one)
-    (have_gathered {A = Bool} {E = E} (λ trees c. IsTrue c → AreSettled change.rows.sessions
-    change.rows.groups (rows_in trees change.number)) mid new b two))
+    (have_gathered {A = Bool} {E = E}
+    (λ trees c. IsTrue c → AreSettled xs ys (rows_in trees change.number)) mid new b two))
     (λ clean on t. record {
       reservations = writable;
       numbers = subst (λ h. AreNumbered (first_number h) change.rows.next_charge
           change.charges.items) (one.found (two.only.cleanness clean)) numbered;
-      settled = told_before (λ trees. AreSettled change.rows.sessions change.rows.groups
-          (rows_in trees change.number)) old mid new one.only two.only clean on
-          (two.found clean on t);
+      settled = subst (λ zs. AreSettled zs change.rows.groups (rows_in old.now.trees change.number))
+          same_xs (subst (λ zs. AreSettled xs zs (rows_in old.now.trees change.number)) same_ys
+          (told_before (λ trees. AreSettled xs ys (rows_in trees change.number)) old mid new
+          one.only two.only clean on (two.found clean on t)));
     })
-may_be_made {E} names change o (Err e) old mid new one writable numbered two =
-    Rattle.sql_keeper.proofs.InTurn.gives_up {A = Bool} {E = E}
+may_be_made {E} names change o xs ys (Err e) old mid new same_xs same_ys one writable numbered two =
+    gives_up {A = Bool} {E = E}
     (λ trees c. IsTrue c → MayBeMade names change (rows_in trees change.number)) old mid new e
     (have_read {A = Option Head} {E = E} (λ trees p. p ≡ (rows_in trees change.number).head) old
     mid o one) two.only two.survives

@@ -1,8 +1,7 @@
 -- What is written over tidy rows leaves tidy rows.
-use Rattle.std.proofs.Common.{◌≡◌, ◌≤◌, ◌<◌, ℕ, Bool, true, false, cond, List, [], ◌∷◌, refl, sym, ap}
-use Rattle.std.proofs.Common.{◌∙◌, subst, arith, Option, Some, None, ltb-true, ltb-false, lt-ltb}
-use Rattle.std.specs.Prelude.{if◌then◌else◌, ◌&&◌, ◌+◌, nat_eq, nat_lt, is_some, option_map}
-use Rattle.std.proofs.lemmas.Bool.{and_parts}
+use Rattle.std.proofs.Common.{◌≡◌, ◌∙◌, ℕ, Bool, true, false, List, refl, sym, ap, subst}
+use Rattle.std.proofs.Common.{Option, Some, None}
+use Rattle.std.specs.Prelude.{if◌then◌else◌, ◌&&◌, ◌+◌, nat_eq, is_some, option_map}
 use Rattle.identifiers.specs.Texts.{same_name}
 use Rattle.buckets.specs.Row.{Row as Bucket}
 use Rattle.reserving.specs.declared.charge.ChargeRow.{ChargeRow}
@@ -21,16 +20,14 @@ use Rattle.keepers.specs.Keys.{key_of}
 use Rattle.keepers.specs.Tables.{charge_in}
 use Rattle.sql_rows.specs.Values.{Kept, Meta, reference_kind, request_kind}
 use Rattle.sql_rows.specs.Content.{Content, Rows as Stored, with_answer, with_meta, with_rows}
-use Rattle.sql_rows.specs.declared.head.Head.{Head}
 use Rattle.sql_keeper.specs.Content.{Names, is_numbered, is_reserved, kept_in, names_numbered}
 use Rattle.sql_keeper.specs.Tests.{AreNumbered, AreWritable, IsNamed, IsWritable, MayStand}
 use Rattle.sql_keeper.specs.Tests.{first_number}
-use Rattle.sql_keeper.specs.Tidy.{AreTidyRows, IsLeftTidy, IsTidy, are_terms, has_terms, is_key}
-use Rattle.sql_keeper.specs.Tidy.{is_scoped}
+use Rattle.sql_keeper.specs.Tidy.{AreTidyRows, EndsTidy, IsTidy, are_terms, has_terms, is_key}
 use Rattle.sql_keeper.specs.Writes.{AreTexts, columns_of, head_of, names_held, with_kept}
 use Rattle.sql_keeper.specs.Writes.{with_all_paid, with_redeemed, with_stored, with_texts}
 use Rattle.sql_keeper.proofs.Changed.{AreKeyed, may_at, over_stored, stored_over}
-use Rattle.sql_keeper.proofs.CountedPuts.{blocks_in, counted_in, counts_in, counts_scoped, over_paid}
+use Rattle.sql_keeper.proofs.CountedPuts.{blocks_in, counted_in, counts_in, over_paid}
 use Rattle.sql_keeper.proofs.CountedPuts.{paid_in, paid_over}
 use Rattle.sql_keeper.proofs.Groups.{amount_at, amount_in, book_over, book_put}
 use Rattle.sql_keeper.proofs.Numbers.{begins, numbered_among, numbered_apart, numbered_on, rises}
@@ -53,7 +50,7 @@ pub record MayBeOver (names : Names) (w : StoredRows) (r : Stored) : Type 0 wher
   pub numbers : (n : ℕ) → is_numbered n r.head ≡ true → is_numbered n (Some (head_of w)) ≡ true
 
 module _ (names : Names) (a : List ℕ) (w : StoredRows) (r : Stored) (t : AreTidyRows names a r)
-    (over : IsLeftTidy w r) (may : MayBeOver names w r) where
+    (ends : EndsTidy w r) (may : MayBeOver names w r) where
   live_after : (s : List ℕ) (g : ℕ)
       → is_reserved (first_of (option_map (columns_of names) (group_in s g w.groups)) (r.groups s g))
       ≡ true
@@ -69,7 +66,7 @@ module _ (names : Names) (a : List ℕ) (w : StoredRows) (r : Stored) (t : AreTi
       at : (o : Option SessionGroup) → group_in s g w.groups ≡ o
           → is_reserved (first_of (option_map (columns_of names) o) (r.groups s g)) ≡ true
           → is_open_row (first_of (session_in s w.sessions) (r.sessions s)) ≡ true
-      at None e k = over.ended s g e k (t.live s g k)
+      at None e k = ends s g e k (t.live s g k)
       at (Some x) e k = put x x.reservation e refl k
 
   terms_after : (s : List ℕ) (g : ℕ)
@@ -122,18 +119,13 @@ module _ (names : Names) (a : List ℕ) (w : StoredRows) (r : Stored) (t : AreTi
       at (Some x) k = put x.reservation k
 
   kinds_after : (n : ℕ) → counts_in (bucket_in n w.buckets) (r.allowances n) ≡ true →
-      is_scoped (counted_in (bucket_in n w.buckets) (r.buckets n)) ≡ true
-  kinds_after n = at (bucket_in n w.buckets) refl
+      is_some (counted_in (bucket_in n w.buckets) (r.buckets n)) ≡ true
+  kinds_after n = at (bucket_in n w.buckets)
     where
-      put : (b : Bucket) (o : Option ℕ) → bucket_in n w.buckets ≡ Some b → b.scope ≡ o
-          → counts_scoped o b.kind (r.allowances n) ≡ true → is_some o ≡ true
-      put b None e f k = subst (λ o. is_some o ≡ true) f (over.scopes n b e k)
-      put b (Some g) e f k = refl
-
-      at : (o : Option Bucket) → bucket_in n w.buckets ≡ o → counts_in o (r.allowances n) ≡ true →
-          is_scoped (counted_in o (r.buckets n)) ≡ true
-      at None e k = t.kinds n k
-      at (Some b) e k = put b b.scope e refl k
+      at : (o : Option Bucket) → counts_in o (r.allowances n) ≡ true →
+          is_some (counted_in o (r.buckets n)) ≡ true
+      at None k = t.kinds n k
+      at (Some b) k = refl
 
   pub tidy_stored : AreTidyRows names a (over_stored names w r)
   tidy_stored = record {
@@ -263,13 +255,13 @@ tidy_meta names m c t = record {
 }
 
 pub tidy_opened : (names : Names) (a : List ℕ) (w : StoredRows) (c : Content)
-    → IsLeftTidy w (c.rows a) → MayBeOver names w (c.rows a) → IsTidy names c
+    → EndsTidy w (c.rows a) → MayBeOver names w (c.rows a) → IsTidy names c
     → IsTidy names (opened a (over_stored names w) c)
-tidy_opened names a w c over may t = record {
+tidy_opened names a w c ends may t = record {
   there = t.there;
   once = t.once;
   rows = tidy_at names a (over_stored names w) c
-      (λ own. tidy_stored names a w (c.rows a) own over may) t.rows;
+      (λ own. tidy_stored names a w (c.rows a) own ends may) t.rows;
 }
 
 pub tidy_charges : (names : Names) (a : List ℕ) (cs : List ChargeRow) (c : Content)
@@ -316,11 +308,11 @@ module _ (names : Names) (a : List ℕ) (w : StoredRows) (cs : List ChargeRow)
   head_is : after_rows.rows a ≡ over_stored names w (c.rows a)
   head_is = ap (λ b. if b then over_stored names w (c.rows a) else c.rows a) (name_itself a)
 
-  pub tidy_written : IsLeftTidy w (c.rows a) → MayBeOver names w (c.rows a) → IsTidy names c
+  pub tidy_written : EndsTidy w (c.rows a) → MayBeOver names w (c.rows a) → IsTidy names c
       → IsTidy names (with_redeemed redeemed (with_kept a kept texts
       (with_all_paid a cs (with_stored a names w (with_meta m c)))))
-  tidy_written over put t =
-      let rows = tidy_opened names a w (with_meta m c) over put (tidy_meta names m c t) in
+  tidy_written ends put t =
+      let rows = tidy_opened names a w (with_meta m c) ends put (tidy_meta names m c t) in
       let paid = tidy_charges names a cs after_rows (λ n x is.
       subst (λ (r : Stored). is_numbered n r.head ≡ true) (sym head_is)
       (numbered_among n (first_number (c.rows a).head) w.next_charge cs x numbers

@@ -1,13 +1,13 @@
 -- What a change, a voucher and a book more leave of tables in which nothing stands that isn't told.
-use Rattle.std.proofs.Common.{◌≡◌, ◌⊎◌, inl, inr, ◌∙◌, ◌++◌, ℕ, zero, suc, Bool, true, false, List}
-use Rattle.std.proofs.Common.{[], ◌∷◌, Option, Some, None, refl, sym, ap, subst}
-use Rattle.std.specs.Prelude.{◌&&◌, is_some, slice_get, unwrap_or}
+use Rattle.std.proofs.Common.{◌≡◌, inl, inr, ◌∙◌, ◌++◌, ℕ, zero, suc, Bool, true, false, List, []}
+use Rattle.std.proofs.Common.{◌∷◌, Option, Some, None, refl, sym, ap}
+use Rattle.std.specs.Prelude.{is_some, slice_get, unwrap_or}
 use Rattle.std.proofs.lemmas.Bool.{and_parts}
 use Rattle.tariffs.specs.Names.{period_named}
 use Rattle.redemptions.specs.declared.terms.VoucherTerms.{VoucherTerms}
 use Rattle.reserving.specs.declared.session.Session.{Session}
 use Rattle.reserving.specs.Left.{first_of, is_open_row}
-use Rattle.reserving.specs.Sessions.{group_in, session_in}
+use Rattle.reserving.specs.Sessions.{session_in}
 use Rattle.keepers.specs.declared.loaded.Change.{Change}
 use Rattle.keepers.specs.Naming.{IsNamed}
 use Rattle.sql_rows.specs.Values.{Group, Kept, Meta, PeriodNames}
@@ -16,7 +16,7 @@ use Rattle.sql_keeper.specs.AddsBook.{with_dated}
 use Rattle.sql_keeper.specs.Additions.{with_addition}
 use Rattle.sql_keeper.specs.Content.{Names, book_in, is_reserved, names_numbered}
 use Rattle.sql_keeper.specs.Tests.{AreSettled, MayBeMade}
-use Rattle.sql_keeper.specs.Tidy.{AreTidyRows, IsLeftTidy, IsTidy, KeepsScopes, are_named, are_terms}
+use Rattle.sql_keeper.specs.Tidy.{AreTidyRows, EndsTidy, IsTidy, are_terms}
 use Rattle.sql_keeper.specs.Tidy.{has_terms}
 use Rattle.sql_keeper.specs.Writes.{AreTexts, meta_at, with_change}
 use Rattle.sql_keeper.proofs.Changed.{keyed_named}
@@ -37,9 +37,7 @@ module _ (change : Change) (r : Stored)
       at None k = not_both (sym k)
       at (Some x) k = k
 
-  ended : (s : List ℕ) (g : ℕ) → group_in s g change.rows.groups ≡ None
-      → is_reserved (r.groups s g) ≡ true → is_open_row (r.sessions s) ≡ true
-      → is_open_row (first_of (session_in s change.rows.sessions) (r.sessions s)) ≡ true
+  ended : EndsTidy change.rows r
   ended s g none = at (r.groups s g) refl
     where
       at : (o : Option Group) → r.groups s g ≡ o → is_reserved o ≡ true
@@ -53,14 +51,13 @@ module _ (change : Change) (r : Stored)
 
 pub tidy_change : (names : Names) (m : Meta) (change : Change) (texts : Option Kept) (c : Content)
     → IsNamed change.rows → MayBeMade names change (c.rows change.number)
-    → AreTexts change.number change.kept texts
-    → KeepsScopes change.rows (c.rows change.number) → IsTidy names c
+    → AreTexts change.number change.kept texts → IsTidy names c
     → IsTidy names (with_change names m change texts c)
-tidy_change names m change texts c named may told scopes t =
+tidy_change names m change texts c named may told t =
     tidy_written names change.number change.rows change.charges.items change.kept texts
     change.redeemed m c change.rows.sessions (keyed_named change.rows named) may.reservations
     may.numbers told
-    (record { ended = ended change (c.rows change.number) may.settled; scopes = scopes })
+    (ended change (c.rows change.number) may.settled)
     (may_be_over names change.number change.rows change.charges.items change.kept texts
     change.redeemed m c change.rows.sessions (keyed_named change.rows named) may.reservations
     may.numbers told (stays_open change (c.rows change.number) may.settled)) t

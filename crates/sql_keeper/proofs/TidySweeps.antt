@@ -1,49 +1,41 @@
 -- What a sweep leaves of tables in which nothing stands that isn't told.
 use Rattle.std.proofs.Common.{◌≡◌, ◌∙◌, ℕ, Bool, true, false, List, map, Option, Some, None, refl, sym}
 use Rattle.std.proofs.Common.{ap, subst}
-use Rattle.std.specs.Prelude.{if◌then◌else◌, ◌+◌, ◌-◌, ◌==◌, ◌&&◌, is_some, nat_le, nat_lt, not}
-use Rattle.std.specs.Prelude.{option_map}
-use Rattle.buckets.specs.Row.{Row as Bucket, with_end, with_release}
+use Rattle.std.specs.Prelude.{if◌then◌else◌, is_some, nat_le, option_map}
 use Rattle.shelves.specs.Shelves.{Shelf, IsShelf}
 use Rattle.reserving.specs.declared.session.Reservation.{Reservation}
 use Rattle.reserving.specs.declared.session.Session.{Session}
 use Rattle.reserving.specs.declared.session.SessionGroup.{SessionGroup}
 use Rattle.reserving.specs.Changes.{lapse_group}
-use Rattle.reserving.specs.Left.{bucket_in, first_of, is_dead, is_open_row, only}
+use Rattle.reserving.specs.Left.{first_of, is_open_row}
 use Rattle.reserving.specs.Sessions.{group_in, is_of, is_open, session_in}
 use Rattle.reserving.specs.Stored.{StoredRows, advanced_stored}
-use Rattle.reserving.proofs.Lists.{find-map, no_some, some_of}
+use Rattle.reserving.proofs.Lists.{find-map, no_some}
 use Rattle.keepers.specs.Tables.{group_row}
 use Rattle.sql_tables.specs.Selects.{only as only_of}
 use Rattle.sql_rows.specs.Values.{Group}
 use Rattle.sql_rows.specs.Content.{Content, Rows as Stored}
 use Rattle.sql_keeper.specs.Content as content
-use Rattle.sql_keeper.specs.Content.{Names, is_numbered, is_reserved, told_buckets}
+use Rattle.sql_keeper.specs.Content.{Names, is_numbered, is_reserved}
 use Rattle.sql_keeper.specs.LiveGroups.{is_among}
 use Rattle.sql_keeper.specs.LiveRows.{AreLiveRows}
 use Rattle.sql_keeper.specs.Sweeps.{AreAllSwept, AreSweptRows, IsSweptOf, rows_at, with_sweep}
 use Rattle.sql_keeper.specs.Tests.{IsWritable, MayStand}
-use Rattle.sql_keeper.specs.Tidy.{AreTidyRows, IsLeftTidy, IsTidy, KeepsScopes, is_scoped}
+use Rattle.sql_keeper.specs.Tidy.{AreTidyRows, IsTidy}
 use Rattle.sql_keeper.specs.Writes.{head_of, meta_at}
 use Rattle.sql_keeper.specs.declared.swept_rows.SweptAccount.{SweptAccount}
 use Rattle.sql_keeper.proofs.Changed.{may_at, over_stored}
 use Rattle.sql_keeper.proofs.Overlays.{not_both}
 use Rattle.sql_keeper.proofs.Swept.{found_one, next_is, row_after, rows_are, swept_at, swept_kept}
 use Rattle.sql_keeper.proofs.Swept.{swept_meta}
-use Rattle.sql_keeper.proofs.Tidy.{MayBeOver, tidy_meta, tidy_stored}
+use Rattle.sql_keeper.proofs.Tidy.{tidy_meta, tidy_stored}
 
 -- ---- an account's rows at a later moment
 
--- a bucket of the list has this number and this scope
-record HasScope (n : ℕ) (bs : List Bucket) (scope : Option ℕ) : Type 0 where
-  row : Bucket
-  is : bucket_in n bs ≡ Some row
-  same : scope ≡ row.scope
-
--- the same groups, and buckets of the same scopes
-record AreSameKeys (before w : StoredRows) : Type 0 where
-  groups : (s : List ℕ) (g : ℕ) → group_in s g w.groups ≡ None → group_in s g before.groups ≡ None
-  scopes : (n : ℕ) (b : Bucket) → bucket_in n w.buckets ≡ Some b → HasScope n before.buckets b.scope
+-- each group is named that was
+abbrev SameGroups : StoredRows → StoredRows → Type 0
+SameGroups before w = (s : List ℕ) (g : ℕ) → group_in s g w.groups ≡ None →
+    group_in s g before.groups ≡ None
 
 group_lapsed : (keeps : List ℕ → Bool) (s : List ℕ) (g : ℕ) (rows : List SessionGroup)
     → group_in s g (map (lapse_group keeps) rows) ≡ None → group_in s g rows ≡ None
@@ -60,72 +52,20 @@ group_lapsed keeps s g rows none =
     at None e = refl
     at (Some x) e = absurd (no_some _ (sym e))
 
--- what a moment makes of a bucket leaves its number and its scope
-abbrev IsAlike : Bucket → Bucket → Type 0
-IsAlike x y = (x.number ≡ y.number) × (x.scope ≡ y.scope)
-
-released_alike : (t : ℕ) (b : Bucket) (m : ℕ) → IsAlike (with_release t b m) b
-released_alike t b m = at (nat_lt t b.until)
+same_groups : (shelf : Shelf) (t : ℕ) (before : StoredRows) →
+    SameGroups before (rows_at shelf t before)
+same_groups shelf t before = at (nat_le before.as_of t)
   where
-    at : (p : Bool)
-        → IsAlike (if p then record b { reserved = b.reserved - m; available = b.available + m }
-        else record b { reserved = b.reserved - m; expired = b.expired + m }) b
-    at true = (refl, refl)
-    at false = (refl, refl)
-
-ended_alike : (t : ℕ) (b : Bucket) → IsAlike (with_end t b) b
-ended_alike t b = at (nat_lt t b.until)
-  where
-    at : (p : Bool)
-        → IsAlike (if p then b else record b { available = 0; expired = b.expired + b.available }) b
-    at true = (refl, refl)
-    at false = (refl, refl)
-
-bucket_later : (t n : ℕ) (amount : Bucket → ℕ) (bs : List Bucket) (b : Bucket)
-    → bucket_in n (map (λ x. with_end t (with_release t x (amount x))) bs) ≡ Some b
-    → HasScope n bs b.scope
-bucket_later t n amount bs b found =
-    at (bucket_in n bs) refl (sym (find-map (λ x. x.number == n)
-    (λ x. with_end t (with_release t x (amount x))) bs (λ x. ap (λ m. m == n) (number_same x))) ∙ found)
-  where
-    number_same : (x : Bucket) → (with_end t (with_release t x (amount x))).number ≡ x.number
-    number_same x = (ended_alike t (with_release t x (amount x))).0
-        ∙ (released_alike t x (amount x)).0
-
-    scope_same : (x : Bucket) → (with_end t (with_release t x (amount x))).scope ≡ x.scope
-    scope_same x = (ended_alike t (with_release t x (amount x))).1
-        ∙ (released_alike t x (amount x)).1
-
-    at : (o : Option Bucket) → bucket_in n bs ≡ o
-        → option_map (λ x. with_end t (with_release t x (amount x))) o ≡ Some b
-        → HasScope n bs b.scope
-    at None e f = absurd (no_some b f)
-    at (Some x) e f = record {
-      row = x;
-      is = e;
-      same = sym (ap (λ (y : Bucket). y.scope) (some_of _ b f)) ∙ scope_same x;
-    }
-
-same_keys : (shelf : Shelf) (t : ℕ) (before : StoredRows) →
-    AreSameKeys before (rows_at shelf t before)
-same_keys shelf t before = at (nat_le before.as_of t)
-  where
-    at : (p : Bool) → AreSameKeys before (if p then advanced_stored shelf t before else before)
-    at true = record {
-      groups = λ s g. group_lapsed _ s g before.groups;
-      scopes = λ n b. bucket_later t n _ before.buckets b;
-    }
-    at false = record {
-      groups = λ s g none. none;
-      scopes = λ n b is. record { row = b; is = is; same = refl };
-    }
+    at : (p : Bool) → SameGroups before (if p then advanced_stored shelf t before else before)
+    at true = λ s g. group_lapsed _ s g before.groups
+    at false = λ s g none. none
 
 -- ---- what is written of it
 
 module _ (names : Names) (shelf : Shelf) (t : ℕ) (a : List ℕ) (r : Stored)
     (tidy : AreTidyRows names a r) (w : StoredRows) (swept : AreSweptRows names shelf t r w) where
-  keys : AreSameKeys swept.before w
-  keys = subst (AreSameKeys swept.before) (sym swept.is) (same_keys shelf t swept.before)
+  groups : SameGroups swept.before w
+  groups = subst (SameGroups swept.before) (sym swept.is) (same_groups shelf t swept.before)
 
   rows : AreLiveRows names r swept.before.buckets swept.before.sessions swept.before.groups
   rows = swept.live.1
@@ -165,33 +105,10 @@ module _ (names : Names) (shelf : Shelf) (t : ℕ) (a : List ℕ) (r : Stored)
       at None e k = not_both (sym k)
       at (Some x) e k = absurd (no_some _ e)
 
-  scopes : KeepsScopes w r
-  scopes n b found blocks =
-      let it = keys.scopes n b found in
-      ap is_some it.same
-      ∙ at (r.buckets n) (sym it.is ∙ rows.buckets n) (tidy.kinds n blocks)
-    where
-      test : (x y : Bucket) (p : Bool) → Some x ≡ (if p then Some y else None) →
-          x.scope ≡ y.scope
-      test x y true e = ap (λ (z : Bucket). z.scope) (some_of x y e)
-      test x y false e = absurd (no_some x (sym e))
-
-      at : (o : Option Bucket)
-          → Some (keys.scopes n b found).row
-          ≡ only (λ x. not (is_dead x)) (option_map (content.bucket_in (r.allowances n)) o)
-          → is_scoped o ≡ true → is_some (keys.scopes n b found).row.scope ≡ true
-      at None e k = absurd (no_some _ (sym e))
-      at (Some x) e k =
-          ap is_some (test (keys.scopes n b found).row (content.bucket_in (r.allowances n) x)
-          (not (is_dead (content.bucket_in (r.allowances n) x))) e)
-          ∙ k
-
   tidy_swept : AreTidyRows names a (over_stored names w r)
   tidy_swept =
-      tidy_stored names a w r tidy (record {
-        ended = λ s g none reserved on. none_reserved s g (keys.groups s g none) on reserved;
-        scopes = scopes;
-      }) (record {
+      tidy_stored names a w r tidy
+      (λ s g none reserved on. none_reserved s g (groups s g none) on reserved) (record {
         live = λ s g x y is has. stays_open s (stands s g x y is has).live;
         before = λ s g x y is has. (stands s g x y is has).before;
         after = λ s g x y is has. (stands s g x y is has).after;

@@ -12,7 +12,7 @@ use Rattle.sql_rows.specs.Content.{Content, content_of, with_account}
 use Rattle.sql_rows.specs.Each.{with_counters}
 use Rattle.sql_rows.specs.Makes.{Commits, Turns}
 use Rattle.sql_keeper.specs.Content.{tables_of, Names}
-use Rattle.sql_keeper.specs.Tidy.{IsTidy, KeepsScopes}
+use Rattle.sql_keeper.specs.Tidy.{IsTidy}
 use Rattle.sql_keeper.specs.Writes.{head_of, meta_with, with_all_counted}
 
 -- an account, its buckets and its counters as they become
@@ -39,8 +39,7 @@ pub record Becomes (names : Names) (text : List ℕ) (change : Change)
   where
     pub tables : tables_of names (content_of new) ≡ changed change (tables_of names (content_of old))
     -- where nothing stood that isn't told, nothing does
-    pub tidy : KeepsScopes change.rows ((content_of old).rows change.number) →
-        IsTidy names (content_of old) → IsTidy names (content_of new)
+    pub tidy : IsTidy names (content_of old) → IsTidy names (content_of new)
     pub meta : (content_of new).meta ≡ Some (meta_with text change)
     pub last : change.moment ≤ 4_102_488_000
     pub books : (content_of new).books ≡ (content_of old).books

@@ -1,11 +1,10 @@
 -- Tables in which nothing stands that isn't told. What a keeper writes over such tables leaves such
 -- tables; those of another writer may hold more, and are read all the same.
 -- Source: profile.
-use Rattle.std.specs.Prelude.{◌≡◌, ℕ, ◌&&◌, ◌||◌, Bool, true, false, List, Option, Some, None}
+use Rattle.std.specs.Prelude.{◌≡◌, ℕ, ◌&&◌, ◌||◌, Bool, true, List, Option, Some, None}
 use Rattle.std.specs.Prelude.{is_some, nat_eq}
 use Rattle.tariffs.specs.Names.{period_named}
-use Rattle.buckets.specs.Row.{Row as Bucket}
-use Rattle.reserving.specs.Left.{bucket_in, first_of, is_open_row}
+use Rattle.reserving.specs.Left.{first_of, is_open_row}
 use Rattle.reserving.specs.Sessions.{group_in, session_in}
 use Rattle.reserving.specs.Stored.{StoredRows}
 use Rattle.sql_rows.specs.Values.{Group, Kept, PeriodNames, reference_kind, request_kind}
@@ -28,11 +27,6 @@ abbrev pub has_terms : Names → Option ℕ → Option Group → Bool
 has_terms names book None = true
 has_terms names book (Some x) = are_terms names book x.periods
 
--- a bucket of one rating group
-abbrev pub is_scoped : Option Bucket → Bool
-is_scoped None = false
-is_scoped (Some b) = is_some b.scope
-
 -- a request has a number, an operator's command has 0
 abbrev pub is_key : ℕ → ℕ → Bool
 is_key kind number =
@@ -49,8 +43,8 @@ pub record AreTidyRows (names : Names) (a : List ℕ) (r : Stored) : Type 0 wher
       is_reserved (r.groups s g) ≡ true
   pub holds : (s : List ℕ) (g n : ℕ) → is_some (r.holds s g n) ≡ true →
       is_reserved (r.groups s g) ≡ true
-  -- a bucket that counts blocks is there, and of one rating group
-  pub kinds : (n : ℕ) → r.allowances n ≡ true → is_scoped (r.buckets n) ≡ true
+  -- a bucket that counts blocks is there
+  pub kinds : (n : ℕ) → r.allowances n ≡ true → is_some (r.buckets n) ≡ true
   -- charges are numbered, and covered blocks stand beside one
   pub charges : (n : ℕ) → is_some (r.charges n) ≡ true → is_numbered n r.head ≡ true
   pub covered : (n : ℕ) → is_some (r.covered n) ≡ true → is_some (r.charges n) ≡ true
@@ -65,15 +59,9 @@ pub record IsTidy (names : Names) (c : Content) : Type 0 where
   pub once : c.kept ≡ 1
   pub rows : (a : List ℕ) → AreTidyRows names a (c.rows a)
 
--- a bucket that counts blocks stays one of one rating group
-abbrev pub KeepsScopes : StoredRows → Stored → Type 0
-KeepsScopes w r = (n : ℕ) (b : Bucket) → bucket_in n w.buckets ≡ Some b → r.allowances n ≡ true →
-    is_some b.scope ≡ true
-
--- rows that are written over those that stand leave none without its meaning: a session that ends
--- leaves no reservation that isn't among them
-pub record IsLeftTidy (w : StoredRows) (r : Stored) : Type 0 where
-  pub ended : (s : List ℕ) (g : ℕ) → group_in s g w.groups ≡ None
-      → is_reserved (r.groups s g) ≡ true → is_open_row (r.sessions s) ≡ true
-      → is_open_row (first_of (session_in s w.sessions) (r.sessions s)) ≡ true
-  pub scopes : KeepsScopes w r
+-- rows that are written over those that stand end no session with a reservation that isn't among
+-- them
+abbrev pub EndsTidy : StoredRows → Stored → Type 0
+EndsTidy w r = (s : List ℕ) (g : ℕ) → group_in s g w.groups ≡ None
+    → is_reserved (r.groups s g) ≡ true → is_open_row (r.sessions s) ≡ true
+    → is_open_row (first_of (session_in s w.sessions) (r.sessions s)) ≡ true

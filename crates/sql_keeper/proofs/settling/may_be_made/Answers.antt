@@ -13,7 +13,9 @@ returns-then-not-may_be_written g c =
 pub returns : goal.returns
 returns g c =
     may_be_made (shelf_names c.args.books.now) c.args.change.now c.in_ok-head.head
-    c.are_settled.result (state g.S.Store c.args.conn.now) (state g.S.Store c.read_account.new.conn)
-    (state g.S.Store c.are_settled.new.conn) c.in_ok-head.ensures.reads
+    c.sessions.result.now c.groups.result.now c.are_settled.result
+    (state g.S.Store c.args.conn.now) (state g.S.Store c.read_account.new.conn)
+    (state g.S.Store c.are_settled.new.conn) c.sessions.ensures c.groups.ensures
+    c.in_ok-head.ensures.reads
     (c.if-not-may_be_written.ensures.reservations refl)
     (c.if-not-may_be_written.ensures.numbers refl) c.are_settled.ensures
