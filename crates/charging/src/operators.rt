@@ -14,7 +14,8 @@ ghost use Rattle.keepers.specs.Change.{IsLoad};
 ghost use Rattle.keepers.specs.Keeping.{Reads};
 ghost use Rattle.charging.specs.Outcomes.{is_unusable, repeated};
 ghost use Rattle.charging.specs.Parts.{Leaves, PartKeeps};
-ghost use Rattle.charging.specs.Stepping.{ServesAt, WritesAt, Credits, Makes, bar_command, LeavesRefused};
+ghost use Rattle.charging.specs.Stepping.{ServesAt, WritesAt, Credits, Makes, bar_command};
+ghost use Rattle.charging.specs.Stepping.{LeavesRefused};
 
 use crate::committing::{commit, moment_on};
 use commands::{Answer, Content, Credit, KeptCredit, Refusal, is_kept_credit};

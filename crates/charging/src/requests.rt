@@ -11,8 +11,8 @@ ghost use Rattle.keepers.specs.Change.{IsLoad};
 ghost use Rattle.keepers.specs.Tables.{Tables};
 ghost use Rattle.charging.specs.Outcomes.{failed, repeated};
 ghost use Rattle.charging.specs.Parts.{Leaves, PartKeeps, PartReads};
-ghost use Rattle.charging.specs.Stepping.{Answers, Commits, ServesAt, WritesAt, change_of, LeavesRefused};
-ghost use Rattle.charging.specs.Stepping.{is_known, kept_of_request};
+ghost use Rattle.charging.specs.Stepping.{Answers, Commits, ServesAt, WritesAt, change_of};
+ghost use Rattle.charging.specs.Stepping.{LeavesRefused, is_known, kept_of_request};
 
 use crate::committing::{commit, moment_on};
 use crate::repetition::repeated;

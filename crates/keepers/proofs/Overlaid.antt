@@ -115,8 +115,8 @@ one_of (Some z) l y e left live = left e
 
 module _ (named : StoredRows) (names : Names) (p : Parts) (after : StoredRows) (h : AreParts p)
     (is : IsNamed named) (known : AreLeftGroups names p.left.groups)
-    (of : IsAccountOf (rows_over named (back_from names named.sessions p.left.groups) p.live) after)
-    where
+    (of : IsAccountOf (rows_over named (back_from names named.sessions p.left.groups) p.live)
+    after) where
   abbrev back : List SessionGroup
   back = back_from names named.sessions p.left.groups
 

@@ -1,7 +1,7 @@
--- Rows that are brought to a moment: those that may still change alone, over all that are there, are
--- the rows of the whole list at the moment. No ledger is needed.
-use Rattle.std.proofs.Common.{◌≡◌, ℕ, ◌+◌, ◌-◌, ◌≤◌, Bool, true, false, cond, List, [], ◌∷◌, map, refl, sym}
-use Rattle.std.proofs.Common.{ap, subst, ◌∙◌, arith, Option, Some, None}
+-- Rows that are brought to a moment: those that may still change alone, over all that are there,
+-- are the rows of the whole list at the moment. No ledger is needed.
+use Rattle.std.proofs.Common.{◌≡◌, ℕ, ◌+◌, ◌-◌, ◌≤◌, Bool, true, false, cond, List, [], ◌∷◌, map}
+use Rattle.std.proofs.Common.{refl, sym, ap, subst, ◌∙◌, arith, Option, Some, None}
 use Rattle.std.specs.Prelude.{if◌then◌else◌, ◌==◌, ◌&&◌, ◌*◌, not, nat_lt, option_map}
 use Rattle.shelves.specs.Shelves.{Shelf, IsShelf}
 use Rattle.buckets.specs.Row.{Row, with_end, with_release}

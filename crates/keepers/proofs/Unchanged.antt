@@ -29,8 +29,8 @@ all_pass p (x ∷ xs) h = ap (λ ys. x ∷ ys) (all_pass p xs h.1)
     ∙ sym (ap (λ t. cond t (x ∷ filter p xs) (filter p xs)) h.0)
 
 -- one that is found passes, so that not none does
-pub any_found : {A : Type 0} (q p : A → Bool) (xs : List A) (x : A) → find q xs ≡ Some x → p x ≡ true →
-    list_any p xs ≡ true
+pub any_found : {A : Type 0} (q p : A → Bool) (xs : List A) (x : A) → find q xs ≡ Some x →
+    p x ≡ true → list_any p xs ≡ true
 any_found q p [] x e k = absurd (no_some x e)
 any_found {A} q p (y ∷ ys) x e k = at (q y) e (λ f. any_found q p ys x f k)
   where

@@ -134,8 +134,8 @@ pub record AreRowsAt (shelf : Shelf) (ledger : Ledger) (t : ℕ) (r : Rows) : Ty
   pub moment : listed.as_of ≡ t
   pub rows : IsRowsOf ledger (priced shelf listed)
 
--- from any list of an account's rows that isn't of a later moment, of no ledger too: its rows at the
--- moment
+-- from any list of an account's rows that isn't of a later moment, of no ledger too: its rows at
+-- the moment
 abbrev pub AreBroughtTo : Shelf → ℕ → Rows → Rows → Type 0
 AreBroughtTo shelf t old new = (w : StoredRows) → AreListed w old → IsStored w → w.as_of ≤ t →
     AreListed (advanced_stored shelf t w) new

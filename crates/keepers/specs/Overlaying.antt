@@ -1,7 +1,7 @@
 -- What the keeper in memory makes live of an account by a change: the change's rows, and of those
 -- that stand the ones that may still change. Of private functions alone.
-use Rattle.std.specs.Prelude.{◌≡◌, ℕ, Bool, false, not, ◌==◌, ◌&&◌, ◌||◌, ◌++◌, List, [], None, Some}
-use Rattle.std.specs.Prelude.{filter, is_some, if◌then◌else◌}
+use Rattle.std.specs.Prelude.{◌≡◌, ℕ, Bool, false, not, ◌==◌, ◌&&◌, ◌||◌, ◌++◌, List, [], None}
+use Rattle.std.specs.Prelude.{Some, filter, is_some, if◌then◌else◌}
 use Rattle.std.specs.List.{list_any}
 use Rattle.buckets.specs.Row.{Row}
 use Rattle.reserving.specs.declared.session.Session.{Session}

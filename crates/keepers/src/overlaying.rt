@@ -18,9 +18,7 @@ fn sort_by_use(buckets: &mut Vec<Bucket>)
     ensures { IsPermutation buckets.old.items buckets.new.items }
 {
     buckets.sort_unstable_by(|a, b| {
-        a.until()
-            .cmp(&b.until())
-            .then(a.number().cmp(&b.number()))
+        a.until().cmp(&b.until()).then(a.number().cmp(&b.number()))
     });
 }
 

@@ -655,7 +655,10 @@ pub(crate) fn sessions_of(alloc: Global, rows: &[Session]) -> Result<Vec<Session
     rows.to_vec(alloc)
 }
 
-pub(crate) fn groups_of(alloc: Global, rows: &[SessionGroup]) -> Result<Vec<SessionGroup>, AllocError>
+pub(crate) fn groups_of(
+    alloc: Global,
+    rows: &[SessionGroup],
+) -> Result<Vec<SessionGroup>, AllocError>
     ensures { IfOk result (λ copy. copy.items ≡ rows.now) }
 {
     rows.to_vec(alloc)

@@ -34,7 +34,6 @@ pub mod Puts
 pub mod Redeemed
 pub mod Reopening
 pub mod Repeating
-pub mod Settling
 pub mod Shelved
 pub mod Shelving
 pub mod Standing
@@ -42,6 +41,7 @@ pub mod StillOpen
 pub mod Stopped
 pub mod Swept
 pub mod SweptReads
+pub mod Tested
 pub mod Tidy
 pub mod TidyChanges
 pub mod TidySweeps

@@ -1,7 +1,7 @@
 use Rattle.std.proofs.Common.{arith}
 use Rattle.sqlite.specs.Held.{state}
 use Rattle.sql_keeper.proofs.InTurn.{failed_then}
-use Rattle.sql_keeper.proofs.Settling.{none_settled, next_settled, not_settled, all_settled}
+use Rattle.sql_keeper.proofs.Tested.{none_settled, next_settled, not_settled, all_settled}
 use Rattle.sql_keeper.proofs.settling.are_settled.Goals as goal
 
 pub sessions-init : goal.sessions-init

@@ -1,6 +1,6 @@
 use Rattle.std.proofs.Common.{take}
 use Rattle.sqlite.specs.Held.{state}
-use Rattle.sql_keeper.proofs.Settling.{HasSettled}
+use Rattle.sql_keeper.proofs.Tested.{HasSettled}
 use Rattle.sql_keeper.proofs.settling.are_settled.Given as goal
 
 abbrev pub invariant-sessions : goal.invariant-sessions

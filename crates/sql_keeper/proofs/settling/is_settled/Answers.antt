@@ -3,7 +3,7 @@ use Rattle.std.specs.List.{list_all}
 use Rattle.sqlite.specs.Held.{state}
 use Rattle.sql_rows.specs.Texts.{group_at}
 use Rattle.sql_keeper.specs.Tests.{is_beside}
-use Rattle.sql_keeper.proofs.Settling.{all_map, settled_stays, settled_groups}
+use Rattle.sql_keeper.proofs.Tested.{all_map, settled_stays, settled_groups}
 use Rattle.sql_keeper.proofs.settling.is_settled.Goals as goal
 
 pub returns-then-stays : goal.returns-then-stays

@@ -1,7 +1,7 @@
 use Rattle.std.proofs.Common.{refl}
 use Rattle.sqlite.specs.Held.{state}
 use Rattle.sql_keeper.specs.Content.{shelf_names}
-use Rattle.sql_keeper.proofs.Settling.{may_be_made, not_made}
+use Rattle.sql_keeper.proofs.Tested.{may_be_made, not_made}
 use Rattle.sql_keeper.proofs.settling.may_be_made.Goals as goal
 
 pub returns-then-not-may_be_written : goal.returns-then-not-may_be_written

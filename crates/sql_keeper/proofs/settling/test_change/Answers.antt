@@ -1,6 +1,6 @@
 use Rattle.sqlite.specs.Held.{state}
 use Rattle.sql_keeper.specs.Content.{shelf_names}
-use Rattle.sql_keeper.proofs.Settling.{tested}
+use Rattle.sql_keeper.proofs.Tested.{tested}
 use Rattle.sql_keeper.proofs.settling.test_change.Goals as goal
 
 pub returns : goal.returns
