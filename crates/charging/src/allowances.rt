@@ -194,7 +194,15 @@ fn allow_account<K: Keeper>(
         Ok(Ok(number)) => {
             let kept = kept_allowance(allowance, number);
             let given = Answer::Bucket(number);
-            commit(alloc, keeper, loaded, Vec::new(alloc), Some(kept), None, given)
+            commit(
+                alloc,
+                keeper,
+                loaded,
+                Vec::new(alloc),
+                Some(kept),
+                None,
+                given,
+            )
         }
         Ok(Err(refusal)) => {
             keeper.abandon(loaded);

@@ -54,7 +54,15 @@ pub(crate) fn open_account<K: Keeper>(
         account,
         before,
     };
-    commit(alloc, keeper, loaded, Vec::new(alloc), None, None, Answer::Done)
+    commit(
+        alloc,
+        keeper,
+        loaded,
+        Vec::new(alloc),
+        None,
+        None,
+        Answer::Done,
+    )
 }
 
 /// Bars an account, or ends that.
@@ -80,7 +88,15 @@ pub(crate) fn set_barred<K: Keeper>(
     };
     let moment = moment_on(&loaded.account, moment);
     loaded.account.set_barred(barred, moment);
-    commit(alloc, keeper, loaded, Vec::new(alloc), None, None, Answer::Done)
+    commit(
+        alloc,
+        keeper,
+        loaded,
+        Vec::new(alloc),
+        None,
+        None,
+        Answer::Done,
+    )
 }
 
 /// Brings each account to the moment.
@@ -247,7 +263,15 @@ fn credit_account<K: Keeper>(
         Ok(Some(number)) => {
             let kept = kept_credit(credit, number);
             let given = Answer::Bucket(number);
-            commit(alloc, keeper, loaded, Vec::new(alloc), Some(kept), None, given)
+            commit(
+                alloc,
+                keeper,
+                loaded,
+                Vec::new(alloc),
+                Some(kept),
+                None,
+                given,
+            )
         }
         Ok(None) => {
             keeper.abandon(loaded);

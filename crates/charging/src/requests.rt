@@ -203,5 +203,13 @@ fn keep<K: Keeper>(
         content: Content::Request(request),
         answer,
     };
-    commit(alloc, keeper, loaded, decided.charges, Some(kept), None, copy)
+    commit(
+        alloc,
+        keeper,
+        loaded,
+        decided.charges,
+        Some(kept),
+        None,
+        copy,
+    )
 }

@@ -11,3 +11,4 @@ mod reading;
 
 pub use crate::fault::LinesFault;
 pub use crate::line_answers::lines;
+pub use crate::reading::read_line;

@@ -21,8 +21,12 @@ fn parted(line: &[u8]) -> Option<DatedLine<'_>>
     dated_line(text)
 }
 
-/// The request of a line as a command, or the first fault.
-pub(crate) fn read_line(alloc: Global, line: &[u8]) -> Result<DatedCommand, WireFault>
+/// The request of a line as a command with its moment.
+///
+/// # Errors
+/// The first fault: `NotRequest` where the line isn't UTF-8, or isn't a moment of 1 to 10 digits, a
+/// space and a body, then those of `read_request`; `Memory` where a growth was refused.
+pub fn read_line(alloc: Global, line: &[u8]) -> Result<DatedCommand, WireFault>
     ensures { Gives (λ d. d) result (line_request line.now) }
 {
     let Some(DatedLine { moment, body }) = parted(line) else {
