@@ -1,6 +1,6 @@
 -- Each charge of an account is within its bounds, and so are their sums.
 use Rattle.std.proofs.Common.{◌≡◌, ℕ, zero, suc, ◌+◌, ◌-◌, ◌*◌, ◌<◌, ◌≤◌, ◌^◌, Bool, true, false}
-use Rattle.std.proofs.Common.{cond, List, [], ◌∷◌, ◌++◌, length, refl, sym, ap, subst, arith}
+use Rattle.std.proofs.Common.{cond, List, [], ◌∷◌, ◌++◌, length, refl, sym, subst, arith}
 use Rattle.std.proofs.Common.{Option, Some, None}
 use Rattle.std.specs.Prelude.{if◌then◌else◌, ◌==◌, filter, find, sum_by, slice_get}
 use Rattle.std.specs.Prelude.{slice_index_or, option_map, option_and_then, unwrap_or}
