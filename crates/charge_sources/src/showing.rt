@@ -10,7 +10,7 @@ use reserving::ChargeRow;
 use units::Moment;
 
 /// Whether a charge's moment is `from` or later and before `until`.
-fn is_between(from: Moment, until: Moment, row: &ChargeRow) -> bool
+pub(crate) fn is_between(from: Moment, until: Moment, row: &ChargeRow) -> bool
     ensures { result ≡ is_between from until row.now }
 {
     from.seconds() <= row.moment.seconds() && row.moment.seconds() < until.seconds()

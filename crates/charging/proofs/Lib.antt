@@ -45,3 +45,7 @@ pub mod DeadFacts
 pub mod DeadRows
 pub mod Opened
 pub mod BalanceOrder
+pub mod PartedRows
+pub mod OpenGrants
+pub mod SharesTold
+pub mod BoundedCharges

@@ -22,3 +22,7 @@ pub mod DeadRows
 pub mod Opening
 pub mod BalanceOrder
 pub mod PricedRows
+pub mod PartedRows
+pub mod OpenGrants
+pub mod SharesTold
+pub mod BoundedCharges

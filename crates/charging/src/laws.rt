@@ -12,6 +12,10 @@ ghost use Rattle.charging.specs.DeadRows.{DeadRowsStay};
 ghost use Rattle.charging.specs.Opening.{SessionsOpenByGrants};
 ghost use Rattle.charging.specs.BalanceOrder.{BalancesAreByNumber};
 ghost use Rattle.charging.specs.PricedRows.{ReservationsArePriced, NoBookIsMissing};
+ghost use Rattle.charging.specs.PartedRows.{RowsAreParted, NewSessionsAreNotLeft};
+ghost use Rattle.charging.specs.OpenGrants.{GrantsAreOne};
+ghost use Rattle.charging.specs.BoundedCharges.{ChargesAreBounded};
+ghost use Rattle.charging.specs.SharesTold.{ChargesAreShares, HoldsAreShares};
 ghost use Rattle.charging.specs.RedeemedCodes.{IsLeftByThese, AreRedeemedOnce};
 ghost use Rattle.charging.specs.RedeemedCodes.{IsRedeemedAtMostOnce};
 ghost use Rattle.charging.specs.Served.{history, AreTables};
@@ -52,6 +56,29 @@ pub fn soundness()
 pub fn reservations_are_priced()
     ensures rows { ReservationsArePriced }
     ensures lists { NoBookIsMissing }
+{}
+
+/// Rows that are loaded and rows that were left are an account's rows together: under each key
+/// stands the row of one of both, and none has a row in both. Of a session without a recorded
+/// request no row was left (profile).
+pub fn loaded_or_left()
+    ensures rows { RowsAreParted }
+    ensures sessions { NewSessionsAreNotLeft }
+{}
+
+/// What a call charges or holds are the shares of its buckets: each share is one fact, in the order
+/// of the buckets, and adds its amount to what is charged to its bucket, or held of it, and to
+/// nothing else (TS 32.296, account balance management function).
+pub fn shares_are_facts()
+    ensures charges { ChargesAreShares }
+    ensures holds { HoldsAreShares }
+{}
+
+/// What a session was granted of a group is one grant: the terms by which a report of it is priced,
+/// and the units and the place of the counter that its quota has, are those of the last grant that
+/// no later fact ended (TS 32.299, session charging with unit reservation).
+pub fn open_grants_are_one()
+    ensures { GrantsAreOne }
 {}
 
 /// Dead rows are dead for good: a bucket that has nothing available and nothing reserved, a session
@@ -102,6 +129,13 @@ pub fn collection()
     ensures { (kind : BucketKind) (b : Shelf) (a : List ℕ) (list : List Accepted) (t : ℕ) →
         taken_to_date kind (history b a list).ledger ≡
         charged_to_date kind (validity_of b) t (history b a list).ledger }
+{}
+
+/// The charges of an account are within bounds: each starts no more blocks than a counter counts,
+/// none of them dearer than 10^9 micro-units, and the sums of an account's charges, and of any among
+/// them, are numbers of 128 bits. So no statement of them ends for a sum (profile).
+pub fn charges_within_bounds()
+    ensures { ChargesAreBounded }
 {}
 
 /// A balance tells each bucket of an account once, in the order of their numbers, as the account's
