@@ -9,9 +9,9 @@ use Rattle.charging.specs.Stepping.{is_unaccepted}
 pub accepted_given : (r : Result Answer StoreFault) (told : Answer) (W P : Type 0) →
     is_unaccepted told ≡ false → IfOk r (λ given. (given ≡ told) × W) →
     IfOk r (λ given. is_unaccepted given ≡ true → P)
-accepted_given (Ok x) told W P no h =
-    λ e. absurd (true≢false (sym e ∙ ap is_unaccepted h.0 ∙ no))
-accepted_given (Err f) told W P no h = tt
+accepted_given (Ok x) told W P kept h =
+    λ e. absurd (true≢false (sym e ∙ ap is_unaccepted h.0 ∙ kept))
+accepted_given (Err f) told W P kept h = tt
 
 pub not_told : (P : Type 0) → false ≡ true → P
 not_told P e = absurd (true≢false (sym e))

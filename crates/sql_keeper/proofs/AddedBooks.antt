@@ -17,8 +17,8 @@ use Rattle.keepers.specs.Faults.{HasCause, max_failures}
 use Rattle.keepers.specs.declared.fault.StoreFault.{StoreFault}
 use Rattle.keepers.specs.declared.fault.StoreFault.TheVariants.{Memory as NoMemory}
 use Rattle.sql_tables.specs.Statements.{OnlyReads}
-use Rattle.sql_keeper.specs.AddsBook.{AddsBook, AddsToAll, BecomesDated, IfRefused, IsAddFault}
-use Rattle.sql_keeper.specs.AddsBook.{IsAdded, IsBehind, IsLeftDated, IsOnBoth, IsTextFault}
+use Rattle.sql_keeper.specs.AddsBook.{AddsBook, AddsToAll, BecomesDated, IsAddFault}
+use Rattle.sql_keeper.specs.AddsBook.{IsAdded, IsBehind, IsOnBoth, IsTextFault}
 use Rattle.sql_keeper.specs.AddsBook.{AreTakenBack, LeavesDated}
 use Rattle.sql_keeper.specs.AddsBook.{add_told, last_at, was_added}
 use Rattle.sql_keeper.specs.Asks.{IsHanded}

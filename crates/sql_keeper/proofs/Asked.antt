@@ -8,7 +8,7 @@ use Rattle.sqlite_trees.specs.declared.store.Store.{Ghosts}
 use Rattle.shelves.specs.Shelves.{Shelf}
 use Rattle.sqlite.specs.Effect.{Database}
 use Rattle.sqlite.specs.Held.{state}
-use Rattle.sqlite.specs.State.{State, HasCleanDisk, Survives}
+use Rattle.sqlite.specs.State.{State, Survives}
 use Rattle.sql_tables.specs.declared.reading.ReadFault.{ReadFault}
 use Rattle.sql_tables.specs.Statements.{OnlyReads}
 use Rattle.keepers.specs.declared.fault.StoreFault.{StoreFault}
@@ -94,7 +94,8 @@ keeper_after g old new keeper only survives text shelf last bounded = record {
       (state g old.connection).now.trees (state g new.connection).now.trees text shelf last
       (ap (λ (d : Database). d.trees) still.now_is)
       (keeper.held (only.cleanness clean) still.was_open);
-  found = λ clean db may. subst (λ t. IsLeft t db) (sym text) (keeper.found (only.cleanness clean) db
+  found = λ clean db may. subst (λ t. IsLeft t db) (sym text)
+      (keeper.found (only.cleanness clean) db
       (elim (survives.crash clean db may) [
         | inl before ↦ before
         | inr none ↦ absurd none

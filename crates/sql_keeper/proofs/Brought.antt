@@ -1,8 +1,9 @@
 -- Within the transaction that brings a database of an older version to the latest.
-use Rattle.std.proofs.Common.{◌≡◌, ◌<◌, ◌≤◌, ◌⊎◌, inl, inr, ◌∙◌, ap, refl, sym, subst, ℕ, List, Some}
-use Rattle.std.proofs.Common.{arith, IsTrue, length}
+use Rattle.std.proofs.Common.{◌≡◌, ◌<◌, ◌≤◌, ◌⊎◌, inl, inr, ◌∙◌, ap, refl, sym, subst, ℕ, List}
+use Rattle.std.proofs.Common.{Some}
+use Rattle.std.proofs.Common.{arith, length}
 use Rattle.std.proofs.lemmas.Option.{same_Some}
-use Rattle.std.specs.Prelude.{◌^◌, Ok, Err, Result, IfErr, IfOk, OnErr, OnOk, Vec, map, option_map}
+use Rattle.std.specs.Prelude.{◌^◌, Ok, Err, Result, IfErr, OnOk, Vec, map}
 use Rattle.std.specs.Global.{Global}
 use Rattle.std.specs.Str.{IsUtf8}
 use Rattle.std.specs.String.{string_bytes}
@@ -23,9 +24,9 @@ use Rattle.sql_tables.proofs.Keeps.{sound_fits}
 use Rattle.sql_rows.specs.Content.{Content, content_of}
 use Rattle.sql_rows.specs.Lists.{AreBooks}
 use Rattle.sql_rows.specs.Makes.{Makes}
-use Rattle.sql_rows.specs.Ruled.{AreRuledBooks, AreRuledReserved, IsRuledMeta}
+use Rattle.sql_rows.specs.Ruled.{AreRuledBooks, AreRuledReserved}
 use Rattle.sql_rows.specs.Texts.{book_at, meta_of}
-use Rattle.sql_rows.specs.Values.{DatedBook as DatedText, Meta}
+use Rattle.sql_rows.specs.Values.{Meta}
 use Rattle.sql_rows.specs.declared.book_rows.BookColumns.{BookColumns}
 use Rattle.sql_rows.specs.declared.meta_rows.Meta.{Meta as MetaRow}
 use Rattle.sql_opening.specs.Opens.{IsNoVersion, IsVersion}
@@ -189,13 +190,17 @@ pub not_made : {A F : Type 0} (v : ℕ) (old new : State) (e : OpenFault) (f : F
 not_made v old new e f (inl is) failed =
     ends_brought v old new e failed.kept failed.survives
     (λ clean k. absurd (let no : Store ≡ Version = sym is ∙ k in cc))
-    (λ clean k. absurd (let no : Store ≡ Rules = sym is ∙ k in cc))
-    ((λ k. let no : Store ≡ Foreign = sym is ∙ k in cc), (λ k. let no : Store ≡ Older = sym is ∙ k in cc))
+    (λ clean k. absurd (let no : Store ≡ Rules = sym is ∙ k in cc)) (
+      (λ k. let no : Store ≡ Foreign = sym is ∙ k in cc),
+      (λ k. let no : Store ≡ Older = sym is ∙ k in cc),
+    )
 not_made v old new e f (inr is) failed =
     ends_brought v old new e failed.kept failed.survives
     (λ clean k. absurd (let no : Memory ≡ Version = sym is ∙ k in cc))
-    (λ clean k. absurd (let no : Memory ≡ Rules = sym is ∙ k in cc))
-    ((λ k. let no : Memory ≡ Foreign = sym is ∙ k in cc), (λ k. let no : Memory ≡ Older = sym is ∙ k in cc))
+    (λ clean k. absurd (let no : Memory ≡ Rules = sym is ∙ k in cc)) (
+      (λ k. let no : Memory ≡ Foreign = sym is ∙ k in cc),
+      (λ k. let no : Memory ≡ Older = sym is ∙ k in cc),
+    )
 
 module _ (v : ℕ) (known : IsVersion v) (less : v < latest) (old mid : State)
     (has : HasMade v old mid) where
@@ -215,7 +220,8 @@ module _ (v : ℕ) (known : IsVersion v) (less : v < latest) (old mid : State)
   -- what is kept once wasn't read
   pub no_meta : (new : State) (e : OpenFault)
       → ReadsWithin {A = MetaRow} {E = OpenFault}
-      (λ trees m. (content_of trees).meta ≡ Some (meta_of m)) mid new (Err e) → IsNoVersion e → ¬ (e ≡ Foreign)
+      (λ trees m. (content_of trees).meta ≡ Some (meta_of m)) mid new (Err e) → IsNoVersion e
+      → ¬ (e ≡ Foreign)
       → (HasCleanDisk new → e ≡ Rules → IsUnruledMeta mid.now.trees)
       → BringsToLatest v old new (Err e)
   no_meta new e reads told ours rules =

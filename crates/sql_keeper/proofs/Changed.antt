@@ -49,7 +49,8 @@ use Rattle.sql_keeper.specs.Writes.{with_kept, with_redeemed, AreTexts, with_cha
 use Rattle.sql_keeper.specs.Tests.{IsNamed, MayStand, AreNumbered, AreWritable}
 use Rattle.sql_keeper.specs.Tests.{first_number, is_open_over, IsSettled, AreSettled, MayBeMade}
 use Rattle.sql_keeper.specs.Laws.{AreChangesRead}
-use Rattle.sql_keeper.proofs.CountedPuts.{AreScoped, scoped, over_counted, counted_over, counted_told}
+use Rattle.sql_keeper.proofs.CountedPuts.{AreScoped, scoped, over_counted, counted_over}
+use Rattle.sql_keeper.proofs.CountedPuts.{counted_told}
 use Rattle.sql_keeper.proofs.CountedPuts.{over_paid, paid_over, paid_told}
 use Rattle.sql_keeper.proofs.Overlays.{name_from, not_both, with_opened, opened, over_counters}
 use Rattle.sql_keeper.proofs.Overlays.{over_sessions, counters_over, sessions_over}
@@ -272,7 +273,8 @@ settled_each sessions groups r each s g y there none = at (session_in s sessions
         let name : x.id ≡ s = name_from x.id s (find-passes (is_session s) sessions x e) in
         by (subst (λ n. (is_open x.state ≡ is_open_row (r.sessions n))
         ⊎ ((h : ℕ) (z : Group) → r.groups n h ≡ Some z → group_in n h groups ≡ None →
-        z.periods ≡ None)) name (EachIn-found (IsSettled groups r) (is_session s) sessions x each e))
+        z.periods ≡ None)) name
+        (EachIn-found (IsSettled groups r) (is_session s) sessions x each e))
       where
         by : (is_open x.state ≡ is_open_row (r.sessions s))
             ⊎ ((h : ℕ) (z : Group) → r.groups s h ≡ Some z → group_in s h groups ≡ None →

@@ -111,7 +111,8 @@ change_meta names m change texts c =
 -- ---- a change that passed the tests
 
 module _ (names : Names) (text : List ℕ) (change : Change) (texts : Option Kept)
-    (named : IsNamed change.rows) (told : AreTexts change.number change.kept texts) (last : change.moment ≤ 4_102_488_000) where
+    (named : IsNamed change.rows) (told : AreTexts change.number change.kept texts)
+    (last : change.moment ≤ 4_102_488_000) where
   become : (old new : Trees) → MayBeMade names change (rows_in old change.number)
       → Turns (with_change names (meta_with text change) change texts) old new
       → Becomes names text change old new

@@ -23,7 +23,8 @@ use Rattle.sql_keeper.specs.Content as content
 use Rattle.sql_keeper.specs.Content.{kind_in, covered_in, told_buckets, told_charge}
 use Rattle.sql_keeper.specs.Writes.{with_kind, with_scoped, with_counted, with_all_counted}
 use Rattle.sql_keeper.specs.Writes.{with_blocks, with_paid, with_all_paid}
-use Rattle.sql_keeper.proofs.Overlays.{each, each_over, not_both, number_from, one_charge, same_charge}
+use Rattle.sql_keeper.proofs.Overlays.{each, each_over, not_both, number_from, one_charge}
+use Rattle.sql_keeper.proofs.Overlays.{same_charge}
 use Rattle.sql_keeper.proofs.Overlays.{with_twice}
 
 -- ---- one row over those after it, as another value

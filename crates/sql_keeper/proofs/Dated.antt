@@ -9,7 +9,7 @@ use Rattle.sql_rows.specs.Makes.{Turns}
 use Rattle.sql_rows.specs.Values.{Group, PeriodNames}
 use Rattle.sql_keeper.specs.AddsBook.{AreBooksKnown, BecomesDated, with_dated}
 use Rattle.sql_keeper.specs.Content.{Names, book_in, group_in, names_numbered, periods_in, rows_of}
-use Rattle.sql_keeper.specs.Content.{tables_of, terms_in}
+use Rattle.sql_keeper.specs.Content.{tables_of}
 use Rattle.sql_keeper.specs.Tidy.{IsTidy}
 use Rattle.sql_keeper.proofs.TidyChanges.{tidy_dated}
 

@@ -85,7 +85,8 @@ module _ (names : Names) (buckets : List Row) (held : List HeldColumns) (books :
     holds_are distinct g n (Some p) (Some r) h =
         ap (held_at n) h.1.order ∙ held_along buckets g n held distinct h.1.all
 
-    row_is : (s : List ℕ) (c : GroupAt) (x : SessionGroup) → IsGroupOf names buckets held books s c x
+    row_is : (s : List ℕ) (c : GroupAt) (x : SessionGroup)
+        → IsGroupOf names buckets held books s c x
         → group_row x ≡ group_told names true (book_of c.group books) c.row
     row_is s c x h = λ i. record {
       used = h.used i;
@@ -100,7 +101,8 @@ module _ (names : Names) (buckets : List Row) (held : List HeldColumns) (books :
     IsFound s g (Some c) None = ⊥
     IsFound s g (Some c) (Some x) = (c.group ≡ g) × IsGroupOf names buckets held books s c x
 
-    found : (s t : List ℕ) (g : ℕ) (cs : List GroupAt) (xs : List SessionGroup) → same_name s t ≡ true
+    found : (s t : List ℕ) (g : ℕ) (cs : List GroupAt) (xs : List SessionGroup)
+        → same_name s t ≡ true
         → AreGroupsOf names buckets held books s cs xs
         → IsFound s g (find (λ c. nat_eq c.group g) cs) (group_in t g xs)
     found s t g [] [] e h = tt
@@ -141,7 +143,8 @@ module _ (names : Names) (buckets : List Row) (held : List HeldColumns) (books :
 
     row_told : (s : List ℕ) (g : ℕ) (c : Option GroupAt) (x : Option SessionGroup) → IsFound s g c x
         → option_map group_row x
-        ≡ option_map (group_told names true (book_of g books)) (option_map (λ (y : GroupAt). y.row) c)
+        ≡ option_map (group_told names true (book_of g books))
+        (option_map (λ (y : GroupAt). y.row) c)
     row_told s g None None h = refl
     row_told s g None (Some x) h = absurd h
     row_told s g (Some c) None h = absurd h

@@ -84,7 +84,8 @@ more_told names rows ss x xs ys before here = record {
       ∙ joined_rows (is_among s ss) (same_name x.id s) (group_in s g xs) (group_in s g ys)
       (option_map (group_told names true (rows.grant_books s g)) (rows.groups s g))
       (before.groups s g) (here.groups s g)
-      ∙ ap (λ t. if t then option_map (group_told names true (rows.grant_books s g)) (rows.groups s g)
+      ∙ ap (λ t. if t then option_map (group_told names true (rows.grant_books s g))
+      (rows.groups s g)
       else None)
       (sym (among_more s ss x));
   holds = λ s g n.
@@ -136,7 +137,8 @@ pub open_loaded : AreOpenGroupsLoaded
 open_loaded names rows sessions xs open_ones told = record {
   groups = λ s g.
       told.groups s g
-      ∙ ap (λ t. if t then option_map (group_told names true (rows.grant_books s g)) (rows.groups s g)
+      ∙ ap (λ t. if t then option_map (group_told names true (rows.grant_books s g))
+      (rows.groups s g)
       else None)
       (among_open (session_in s sessions) (rows.sessions s) (open_ones s))
       ∙ loaded_rows names (is_open_row (rows.sessions s)) (rows.grant_books s g) (rows.groups s g);

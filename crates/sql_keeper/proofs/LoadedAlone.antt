@@ -1,6 +1,7 @@
 -- What is loaded of an account's rows is what may still change of them, so that it may be changed
 -- alone.
-use Rattle.std.proofs.Common.{◌≡◌, ℕ, Bool, true, false, List, refl, sym, ap, ◌∙◌, Option, Some, None}
+use Rattle.std.proofs.Common.{◌≡◌, ℕ, Bool, true, false, List, refl, sym, ap, ◌∙◌, Option, Some}
+use Rattle.std.proofs.Common.{None}
 use Rattle.std.specs.Prelude.{if◌then◌else◌, ◌==◌, ◌||◌, not, option_map}
 use Rattle.shelves.specs.Shelves.{Shelf}
 use Rattle.buckets.specs.Row.{Row}

@@ -1,21 +1,19 @@
 -- A keeper before its first call keeps what is asked of it.
 use Rattle.std.proofs.Common.{◌≡◌, ◌∙◌, sym, subst, ap, arith, refl, false, IsTrue, List, ℕ}
-use Rattle.std.specs.Prelude.{OnOk, Ok, Result}
+use Rattle.std.specs.Prelude.{Ok}
 use Rattle.std.specs.String.{string_bytes}
 use Rattle.std.proofs.lemmas.Str.{IsUtf8-string_bytes}
 use Rattle.sqlite_trees.specs.declared.store.Store.{Ghosts}
 use Rattle.sqlite_trees.specs.Objects.{catalog_tree}
-use Rattle.sqlite_trees.specs.Tree.{Trees}
 use Rattle.sqlite_catalog.specs.Listing.{Lists}
 use Rattle.sqlite.specs.Held.{Held, state}
 use Rattle.sqlite.specs.State.{HasCleanDisk, IsLive, State}
-use Rattle.sql_tables.specs.Schema.{book_schema}
 use Rattle.sql_tables.specs.Statements.{HasIdleBook}
 use Rattle.sql_rows.specs.Content.{content_of}
 use Rattle.sql_keeper.specs.Content.{last_in}
 use Rattle.sql_keeper.specs.Creates.{CreatesBook, first_meta}
 use Rattle.sql_keeper.specs.Finds.{IsReadOf}
-use Rattle.sql_keeper.specs.Inside.{IsKeeper, KeeperState}
+use Rattle.sql_keeper.specs.Inside.{IsKeeper}
 use Rattle.sql_keeper.specs.Left.{IsHeld, IsLeft}
 use Rattle.sql_keeper.specs.Shelves.{IsAlone, IsShelfOf}
 use Rattle.sql_keeper.specs.declared.books.ReadBooks.{ReadBooks}

@@ -3,9 +3,9 @@ use Rattle.std.proofs.Common.{◌≡◌, ◌≤◌, ◌<◌, ◌∙◌, ℕ, zer
 use Rattle.std.proofs.Common.{Some, None, refl, sym, ap, subst, arith, length, nat_le}
 use Rattle.std.proofs.lemmas.Option.{same_Some}
 use Rattle.std.specs.Prelude.{if◌then◌else◌, is_some, option_map}
-use Rattle.std.specs.FinMap.{get, get-empty}
+use Rattle.std.specs.FinMap.{get}
 use Rattle.std.specs.Str.{IsUtf8}
-use Rattle.sqlite_value.specs.Order.{Row, row_cmp}
+use Rattle.sqlite_value.specs.Order.{Row}
 use Rattle.sqlite_trees.specs.Objects.{catalog_tree}
 use Rattle.sqlite_trees.specs.Tree.{Trees}
 use Rattle.sqlite_schema.specs.declared.schema.Table.{Table}
@@ -13,7 +13,6 @@ use Rattle.sqlite_catalog.specs.Change.{KeepsRows}
 use Rattle.sqlite_catalog.specs.Listing.{Lists}
 use Rattle.shelves.specs.Shelves.{Shelf}
 use Rattle.reserving.specs.Left.{is_open_row}
-use Rattle.keepers.specs.Tables.{GroupRow}
 use Rattle.keepers.specs.declared.key.Key.{Key}
 use Rattle.keepers.specs.declared.key.Key.TheVariants.{Reference, Request}
 use Rattle.sql_tables.specs.Keyed.{look, table_of}
@@ -25,7 +24,7 @@ use Rattle.sql_rows.specs.Makes.{Turns}
 use Rattle.sql_rows.specs.Values as values
 use Rattle.sql_rows.specs.Values.{Group, Meta, PeriodNames}
 use Rattle.sql_opening.specs.Opens.{IsVersion}
-use Rattle.sql_keeper.specs.Content.{Names, charge_of, group_in, is_reserved, last_in, rows_of}
+use Rattle.sql_keeper.specs.Content.{Names, group_in, is_reserved, last_in, rows_of}
 use Rattle.sql_keeper.specs.Content.{answer_in, tables_of}
 use Rattle.sql_keeper.specs.Migrates.{AreGranted, BecomesLatest, before_2, before_3, content_at}
 use Rattle.sql_keeper.specs.Migrates.{granted_in, with_granted}

@@ -1,7 +1,7 @@
 -- A migration over its transaction: committed whole, or nothing is changed, and what a stop leaves.
-use Rattle.std.proofs.Common.{◌≡◌, ◌<◌, ◌≤◌, ◌⊎◌, inl, inr, ◌∙◌, ap, refl, sym, subst, ℕ, List, Some}
+use Rattle.std.proofs.Common.{◌≡◌, ◌<◌, ◌≤◌, ◌⊎◌, inl, inr, ◌∙◌, ap, refl, sym, subst, ℕ}
 use Rattle.std.proofs.Common.{arith, IsTrue, Bool, true, false, nat_lt, ltb-true, ltb-false}
-use Rattle.std.specs.Prelude.{Ok, Err, Result, IfErr, IfOk, OnErr, OnOk}
+use Rattle.std.specs.Prelude.{Ok, Err, Result}
 use Rattle.std.specs.Str.{IsUtf8}
 use Rattle.std.specs.String.{string_bytes}
 use Rattle.shelves.specs.Shelves.{Shelf}
@@ -15,20 +15,19 @@ use Rattle.sqlite.specs.State.{Survives}
 use Rattle.sqlite.specs.Steps.{FailsToCommit}
 use Rattle.sqlite.proofs.StateLemmas.{survives_then, survives_weaker}
 use Rattle.sql_tables.specs.Schema.{latest, schema_at}
-use Rattle.sql_tables.specs.Statements.{AreStored, HasIdleBook, IsBook, IsStill}
+use Rattle.sql_tables.specs.Statements.{AreStored, HasIdleBook, IsStill}
 use Rattle.sql_rows.specs.Content.{content_of}
 use Rattle.sql_opening.specs.Opens.{IsFound, IsNoVersion, IsTold, IsVersion}
 use Rattle.sql_opening.specs.declared.fault.OpenFault.{OpenFault}
 use Rattle.sql_opening.specs.declared.fault.OpenFault.TheVariants.{Foreign, Version, Rules, Older}
 use Rattle.sql_opening.specs.declared.fault.OpenFault.TheVariants.{Store, Memory}
-use Rattle.sql_keeper.specs.Books.{IsBookOf}
 use Rattle.sql_keeper.specs.Finds.{FindsBooks, IsReadOf, ReadsBooks}
 use Rattle.sql_keeper.specs.Inside.{IsClean, IsKeeper, KeeperState}
 use Rattle.sql_keeper.specs.Migrates.{BecomesLatest, BringsToLatest, FindsAny, FindsNone, HasAt}
 use Rattle.sql_keeper.specs.Migrates.{HasIdleAt, IsLeftLatest, IsMigrated, IsRuledAt}
-use Rattle.sql_keeper.specs.Migrates.{IsHeldBy, MigratesTables, content_at}
+use Rattle.sql_keeper.specs.Migrates.{IsHeldBy, MigratesTables}
 use Rattle.sql_keeper.specs.Causes.{IsOtherThan, IsUnruledMeta, KeepsVersion}
-use Rattle.sql_keeper.specs.Opened.{IsFresh, IsLeft, IsOpened}
+use Rattle.sql_keeper.specs.Opened.{IsLeft, IsOpened}
 use Rattle.sql_keeper.specs.OlderVersions.{AsksVersion, IsNotLatest}
 use Rattle.sql_keeper.specs.Shelves.{IsShelfOf}
 use Rattle.sql_keeper.specs.declared.books.ReadBooks.{ReadBooks}

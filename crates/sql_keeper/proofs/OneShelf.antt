@@ -1,17 +1,16 @@
 -- The texts and rows of a database are those of one shelf at most.
 use Rattle.std.proofs.Common.{◌≡◌, ◌+◌, ◌<◌, ◌∙◌, ℕ, suc, List, [], ◌∷◌, length, Option, Some, None}
-use Rattle.std.proofs.Common.{inl, inr, refl, sym, ap, ap₂, subst, arith}
+use Rattle.std.proofs.Common.{inr, refl, sym, ap, ap₂, subst, arith}
 use Rattle.std.proofs.lemmas.Option.{same_Some}
 use Rattle.std.specs.Prelude.{Ok}
-use Rattle.toml.specs.Data.{Members}
 use Rattle.tariffs.specs.Books.{Book, book_of}
-use Rattle.shelves.specs.Shelves.{Shelf, count}
+use Rattle.shelves.specs.Shelves.{Shelf}
 use Rattle.shelves.specs.declared.dated.DatedBook.{DatedBook}
 use Rattle.sql_rows.specs.Content.{content_of}
 use Rattle.sql_rows.specs.Values.{DatedBook as DatedText, Meta}
 use Rattle.sql_keeper.specs.Again.{AreShelvesOne}
 use Rattle.sql_keeper.specs.Books.{IsBookOf}
-use Rattle.sql_keeper.specs.Shelves.{AreLater, IsDatedAt, IsDatedOf, IsShelfOf}
+use Rattle.sql_keeper.specs.Shelves.{AreLater, IsDatedAt, IsShelfOf}
 
 -- a text is that of one book at most
 pub one_text : (text : List ℕ) (b c : Book) → IsBookOf text b → IsBookOf text c → b ≡ c

@@ -2,7 +2,7 @@
 use Rattle.std.proofs.Common.{◌≡◌, ◌≤◌, ◌⊎◌, inl, inr, ◌∙◌, ap, refl, sym, subst, ℕ, List, Some}
 use Rattle.std.proofs.Common.{IsTrue, true, false, arith, ◌<◌, Bool, nat_lt, ltb-true}
 use Rattle.std.proofs.Common.{ltb-false}
-use Rattle.std.specs.Prelude.{◌^◌, Ok, Err, Result, IfErr, IfOk, OnOk, map, Vec}
+use Rattle.std.specs.Prelude.{◌^◌, Ok, Err, Result, IfErr, IfOk, map, Vec}
 use Rattle.std.specs.Global.{Global}
 use Rattle.std.specs.Str.{IsUtf8}
 use Rattle.std.specs.String.{string_bytes}

@@ -1,5 +1,5 @@
 -- A voucher that is put under its code reads as the voucher.
-use Rattle.std.proofs.Common.{◌≡◌, ℕ, Bool, true, false, List, Option, Some, None, refl}
+use Rattle.std.proofs.Common.{◌≡◌, Bool, true, false, Option, Some, None, refl}
 use Rattle.std.specs.Prelude.{if◌then◌else◌, option_map}
 use Rattle.identifiers.specs.Texts.{same_name}
 use Rattle.keepers.specs.declared.loaded.Redeemed.{Redeemed}

@@ -4,10 +4,8 @@ use Rattle.std.specs.Prelude.{IfOk, OnOk, Ok, Err, Result}
 use Rattle.sqlite_trees.specs.Tree.{Trees}
 use Rattle.sqlite_trees.specs.View.{IsClean as IsHonest, IsQuiet, IsReopened, doubt}
 use Rattle.sqlite_trees.specs.declared.store.Store.{Ghosts}
-use Rattle.sqlite.specs.Effect.{Database, IsDatabase}
 use Rattle.sqlite.specs.Held.{Held, state}
-use Rattle.sqlite.specs.State.{HasCleanDisk, IsLive, Opens, Survives}
-use Rattle.sqlite.specs.Steps.{IsFresh}
+use Rattle.sqlite.specs.State.{HasCleanDisk, IsLive, Opens}
 use Rattle.shelves.specs.Shelves.{Shelf}
 use Rattle.keepers.specs.Change.{changed}
 use Rattle.keepers.specs.declared.fault.StoreFault.{StoreFault}
@@ -15,7 +13,7 @@ use Rattle.keepers.specs.declared.loaded.Change.{Change}
 use Rattle.sql_opening.specs.declared.fault.OpenFault.{OpenFault}
 use Rattle.sql_rows.specs.Content.{content_of}
 use Rattle.sql_keeper.specs.Again.{IsChangedWhole, IsFoundAfter, IsLeftFresh, IsShownBy}
-use Rattle.sql_keeper.specs.Again.{IsRefusedAfter, ShowsStopped}
+use Rattle.sql_keeper.specs.Again.{ShowsStopped}
 use Rattle.sql_keeper.specs.Causes.{IsStores}
 use Rattle.sql_keeper.specs.Commits.{Becomes}
 use Rattle.sql_keeper.specs.Content.{shelf_names, tables_of}
@@ -27,7 +25,7 @@ use Rattle.sql_keeper.specs.Stops.{IsWhole, trees_in}
 use Rattle.sql_keeper.proofs.Again.{held_committed}
 use Rattle.sql_keeper.proofs.Asked.{open_of}
 use Rattle.sql_keeper.proofs.OneShelf.{same_shelf}
-use Rattle.sql_keeper.specs.Settled.{AreSettled, at_rest}
+use Rattle.sql_keeper.specs.Settled.{AreSettled}
 use Rattle.sql_keeper.proofs.Stopped.{one_kept, opened_again, stopped_whole}
 
 -- ---- the store and the connection

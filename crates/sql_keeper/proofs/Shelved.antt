@@ -3,7 +3,6 @@ use Rattle.std.proofs.Common.{◌≡◌, ◌≤◌, ◌<◌, ◌+◌, ◌∙◌,
 use Rattle.std.proofs.Common.{Some, None, refl, sym, ap, subst, arith, length, nat_eq, nat_lt}
 use Rattle.std.proofs.Common.{inl, inr, ltb-true, ltb-false}
 use Rattle.std.proofs.lemmas.Bool.{eqb-false}
-use Rattle.std.proofs.lemmas.Option.{same_Some}
 use Rattle.shelves.specs.Shelves.{Shelf, count}
 use Rattle.shelves.specs.declared.dated.DatedBook.{DatedBook}
 use Rattle.sql_rows.specs.Ruled.{AreRuledBooks, IsRuledBook}

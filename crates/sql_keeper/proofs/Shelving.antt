@@ -1,8 +1,8 @@
 -- The shelf of a text and of rows, as its books are read one after another.
-use Rattle.std.proofs.Common.{◌≡◌, ◌≤◌, ◌<◌, ◌⊎◌, inl, inr, ◌+◌, ◌∙◌, ◌++◌, ◌&&◌, ◌||◌, ℕ, suc, zero}
-use Rattle.std.proofs.Common.{Bool, true, false, not, List, [], ◌∷◌, Option, Some, None, Ok, Err, cond}
-use Rattle.std.proofs.Common.{refl, sym, ap, ap₂, subst, arith, length, length-append, nat_eq, nat_lt}
-use Rattle.std.proofs.Common.{eq-eqb, eqb-true, append-nil, map}
+use Rattle.std.proofs.Common.{◌≡◌, ◌≤◌, ◌<◌, ◌⊎◌, inl, inr, ◌+◌, ◌∙◌, ◌++◌, ◌&&◌, ◌||◌, ℕ, suc}
+use Rattle.std.proofs.Common.{Bool, true, false, not, List, [], ◌∷◌, Option, Some, None, Ok, cond}
+use Rattle.std.proofs.Common.{refl, sym, ap, ap₂, subst, arith, length, length-append, nat_eq}
+use Rattle.std.proofs.Common.{eq-eqb, eqb-true, map}
 use Rattle.std.specs.Prelude.{option_map, nat_le, if◌then◌else◌, ◌==◌}
 use Rattle.std.specs.List.{find, list_all}
 use Rattle.std.specs.Str.{IsUtf8}
@@ -26,7 +26,7 @@ use Rattle.sql_rows.specs.Values.{DatedBook as DatedText}
 use Rattle.sql_rows.specs.declared.book_rows.BookColumns.{BookColumns}
 use Rattle.sql_keeper.specs.Books.{IsBookFault, IsBookOf}
 use Rattle.sql_keeper.specs.Shelves.{AreLater, AreOnly, AreShelved, HasShelf, IsDatedAt, IsDatedOf}
-use Rattle.sql_keeper.specs.Shelves.{IsNoneBehind, IsOnlyAt, IsOnlyOf, IsRefusedRow, IsShelfOf}
+use Rattle.sql_keeper.specs.Shelves.{IsNoneBehind, IsOnlyAt, IsRefusedRow, IsShelfOf}
 use Rattle.sql_keeper.specs.Shelves.{IsShelfRead, IsShelved, are_up_to, row_numbered}
 
 -- ---- one row
@@ -450,7 +450,8 @@ dated_shelf text more rows n from s b h read number range behind = record {
         book = read;
       });
   none = λ m out.
-      row_still rows n (record { starts = from; content = more }) m (apart m out) ∙ h.none m (low m out);
+      row_still rows n (record { starts = from; content = more }) m (apart m out)
+      ∙ h.none m (low m out);
 }
   where
     long : length (s.later ++ record { from = from; book = b } ∷ []) ≡ length s.later + 1

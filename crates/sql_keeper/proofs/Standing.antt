@@ -1,9 +1,8 @@
 -- The laws of keepers, of a call over a connection that may be shut.
-use Rattle.std.proofs.Common.{◌≡◌, ◌≤◌, ◌⊎◌, inl, inr, ℕ, List, Result, Ok, Err, IfOk, OnOk, OnErr}
+use Rattle.std.proofs.Common.{◌≡◌, ◌≤◌, ◌⊎◌, inl, inr, ℕ, List, Result, Ok, Err, OnOk, OnErr}
 use Rattle.std.proofs.Common.{IsTrue, ap, sym, ◌∙◌, subst, arith, false}
 use Rattle.sqlite_trees.specs.Tree.{Trees}
 use Rattle.sqlite_trees.specs.declared.store.Store.{Ghosts}
-use Rattle.shelves.specs.Shelves.{Shelf}
 use Rattle.sqlite.specs.Held.{state}
 use Rattle.sqlite.specs.State.{State, HasCleanDisk}
 use Rattle.sql_tables.specs.declared.reading.ReadFault.{ReadFault}
@@ -16,7 +15,7 @@ use Rattle.keepers.specs.Tables.{Tables}
 use Rattle.sql_keeper.specs.Asks.{Asks, IsHanded}
 use Rattle.sql_keeper.specs.Commits.{CommitsStanding, CommitsWhole}
 use Rattle.sql_keeper.specs.Content.{shelf_names, tables_of}
-use Rattle.sql_keeper.specs.Inside.{KeeperState, IsClean, IsKeeper, StaysOpen, names_in, tables_in}
+use Rattle.sql_keeper.specs.Inside.{KeeperState, IsKeeper, StaysOpen, names_in, tables_in}
 use Rattle.sql_keeper.specs.Inside.{clean_in, failed_in}
 use Rattle.sql_keeper.specs.Left.{IsHeld}
 use Rattle.sql_keeper.specs.Stops.{IsWhole, LeavesIn, MayLeave, honest_in, trees_in}

@@ -1,7 +1,7 @@
 -- What a connection is after it was tested whether it can still be asked.
 use Rattle.std.proofs.Common.{◌≡◌, ◌∙◌, inl, inr, ℕ, List, Ok, Err, Result, IsTrue, OnOk, false, []}
-use Rattle.std.proofs.Common.{sym, ap, subst, arith, ◌⊎◌, refl, true≢false, IfOk}
-use Rattle.std.specs.Result.{IfErr, IsErr}
+use Rattle.std.proofs.Common.{sym, ap, subst, arith, ◌⊎◌, true≢false, IfOk}
+use Rattle.std.specs.Result.{IsErr}
 use Rattle.sqlite_value.specs.Order.{Row}
 use Rattle.sqlite_trees.specs.Tree.{Trees}
 use Rattle.sqlite.specs.declared.error.Error.{Error}

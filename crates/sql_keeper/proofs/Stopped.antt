@@ -1,5 +1,5 @@
 -- A keeper that was stopped, and its database opened again.
-use Rattle.std.proofs.Common.{◌≡◌, ◌⊎◌, inl, inr, ◌∙◌, ap, sym, subst, List, ℕ, Some}
+use Rattle.std.proofs.Common.{◌≡◌, ◌⊎◌, inl, inr, ◌∙◌, ap, sym, subst, List, ℕ}
 use Rattle.std.proofs.lemmas.Option.{same_Some}
 use Rattle.sqlite_trees.specs.Tree.{Trees}
 use Rattle.sqlite_trees.specs.declared.store.Store.{Ghosts}
@@ -16,10 +16,10 @@ use Rattle.sql_keeper.specs.Commits.{Becomes}
 use Rattle.sql_keeper.specs.Sweeps.{BecomesSwept}
 use Rattle.sql_keeper.specs.Content.{last_in}
 use Rattle.sql_keeper.specs.Inside.{IsClean, IsKeeper, KeeperState, names_in}
-use Rattle.sql_keeper.specs.Left.{IsKept, IsLeft}
+use Rattle.sql_keeper.specs.Left.{IsKept}
 use Rattle.sql_keeper.specs.Opened.{IsOpened}
 use Rattle.sql_keeper.specs.Shelves.{IsShelfOf}
-use Rattle.sql_keeper.specs.Stops.{IsAtRest, MayLeave, trees_in}
+use Rattle.sql_keeper.specs.Stops.{MayLeave, trees_in}
 use Rattle.sql_keeper.proofs.Again.{found_again}
 use Rattle.sql_keeper.proofs.Asked.{open_of}
 use Rattle.sql_keeper.proofs.OneShelf.{same_shelf}

@@ -79,7 +79,8 @@ module _ (names : Names) (shelf : Shelf) (t : ℕ) (rows : Stored) where
       free_of x before made is =
           subst IsFree is (free_later shelf t before (rows_of names rows) made)
 
-pub next_is : (shelf : Shelf) (t : ℕ) (w : StoredRows) → (rows_at shelf t w).next_charge ≡ w.next_charge
+pub next_is : (shelf : Shelf) (t : ℕ) (w : StoredRows) →
+    (rows_at shelf t w).next_charge ≡ w.next_charge
 next_is shelf t w = at (nat_le w.as_of t)
   where
     at : (b : Bool) → (if b then advanced_stored shelf t w else w).next_charge ≡ w.next_charge

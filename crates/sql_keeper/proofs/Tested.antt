@@ -7,7 +7,6 @@ use Rattle.std.specs.Prelude.{OnOk}
 use Rattle.std.specs.List.{find, list_all}
 use Rattle.std.proofs.lemmas.Bool.{and_parts, not-true}
 use Rattle.std.proofs.lemmas.List.{take_more, take_all}
-use Rattle.sqlite_trees.specs.Tree.{Trees}
 use Rattle.sqlite.specs.State.{State, HasCleanDisk}
 use Rattle.reserving.specs.declared.session.Session.{Session}
 use Rattle.reserving.specs.declared.session.SessionGroup.{SessionGroup}
@@ -138,7 +137,7 @@ pub next_settled : {E : Type 0} (groups : List SessionGroup) (a : List ℕ) (xs 
     b ≡ true → HasSettled groups a (take i xs) old mid →
     Gathers {A = Bool} {E = E} (λ trees c. IsTrue c → IsSettled groups (rows_in trees a) x) mid new
     (Ok b) → HasSettled groups a (take (i + 1) xs) old new
-next_settled {E} groups a xs i x b old mid new less is yes before here =
+next_settled {E} groups a xs i x b old mid new less is passes before here =
     subst (λ l. HasSettled groups a l old new)
     (ap (λ y. take i xs ++ y ∷ []) is ∙ sym (take_more xs i x less))
     (record {
@@ -147,7 +146,7 @@ next_settled {E} groups a xs i x b old mid new less is yes before here =
           each_append (IsSettled groups (rows_in old.now.trees a)) (take i xs) (x ∷ [])
           (before.found (here.only.cleanness clean) after.was_open) (
             told_before (λ trees. IsSettled groups (rows_in trees a) x) old mid new
-                before.reads.only here.only clean on (here.found clean on yes),
+                before.reads.only here.only clean on (here.found clean on passes),
             tt,
           );
       reads = have_read_then old mid new before.reads (have_gathered {A = Bool} {E = E}
@@ -175,7 +174,7 @@ all_settled {E} groups a xs i old new end h =
     gathers_from {A = Bool} {E = E} (λ trees c. IsTrue c → AreSettled xs groups (rows_in trees a))
     old new (Ok true) h.reads
     (λ clean on t. settled_each xs groups (rows_in old.now.trees a)
-    (subst (EachIn (IsSettled groups (rows_in old.now.trees a))) (take_all xs i end)
+    (subst (EachIn (IsSettled groups (rows_in old.now.trees a))) (take_all i xs end)
     (h.found clean on)))
 
 -- ---- a change
@@ -231,11 +230,11 @@ pub tested : {E : Type 0} (names : Names) (change : Change) (b : Bool) (r : Resu
     (λ trees c. IsTrue c → MayBeMade names change (rows_in trees change.number)) old new (Ok b) →
     Gathers {A = Unit {0}} {E = E}
     (λ trees c. MayBeMade names change (rows_in trees change.number)) old new r
-tested {E} names change b r old new yes h =
+tested {E} names change b r old new passes h =
     gathers_made {A = Bool} {B = Unit {0}} {E = E}
     (λ trees c. IsTrue c → MayBeMade names change (rows_in trees change.number))
     (λ trees c. MayBeMade names change (rows_in trees change.number)) old new b r h
-    (λ trees may. so r yes (rows_in trees change.number) may)
+    (λ trees may. so r passes (rows_in trees change.number) may)
   where
     so : (r : Result (Unit {0}) E) → OnOk r (IsTrue b) → (s : Stored) →
         (IsTrue b → MayBeMade names change s) → IfOk r (λ _. MayBeMade names change s)

@@ -52,8 +52,8 @@ pub record MayBeOver (names : Names) (w : StoredRows) (r : Stored) : Type 0 wher
 module _ (names : Names) (a : List ℕ) (w : StoredRows) (r : Stored) (t : AreTidyRows names a r)
     (ends : EndsTidy w r) (may : MayBeOver names w r) where
   live_after : (s : List ℕ) (g : ℕ)
-      → is_reserved (first_of (option_map (columns_of names) (group_in s g w.groups)) (r.groups s g))
-      ≡ true
+      → is_reserved
+      (first_of (option_map (columns_of names) (group_in s g w.groups)) (r.groups s g)) ≡ true
       → is_open_row (first_of (session_in s w.sessions) (r.sessions s)) ≡ true
   live_after s g = at (group_in s g w.groups) refl
     where
@@ -88,8 +88,8 @@ module _ (names : Names) (a : List ℕ) (w : StoredRows) (r : Stored) (t : AreTi
 
   books_after : (s : List ℕ) (g : ℕ)
       → is_some (book_over (group_in s g w.groups) (r.grant_books s g)) ≡ true
-      → is_reserved (first_of (option_map (columns_of names) (group_in s g w.groups)) (r.groups s g))
-      ≡ true
+      → is_reserved
+      (first_of (option_map (columns_of names) (group_in s g w.groups)) (r.groups s g)) ≡ true
   books_after s g = at (group_in s g w.groups)
     where
       put : (o : Option Reservation) → is_some (book_put o) ≡ true →
@@ -104,8 +104,8 @@ module _ (names : Names) (a : List ℕ) (w : StoredRows) (r : Stored) (t : AreTi
 
   holds_after : (s : List ℕ) (g n : ℕ)
       → is_some (amount_in n (group_in s g w.groups) (r.holds s g n)) ≡ true
-      → is_reserved (first_of (option_map (columns_of names) (group_in s g w.groups)) (r.groups s g))
-      ≡ true
+      → is_reserved
+      (first_of (option_map (columns_of names) (group_in s g w.groups)) (r.groups s g)) ≡ true
   holds_after s g n = at (group_in s g w.groups)
     where
       put : (o : Option Reservation) → is_some (amount_at n (holds_in o)) ≡ true →
@@ -147,8 +147,8 @@ module _ (names : Names) (a : List ℕ) (cs : List ChargeRow) (r : Stored)
         is_numbered n r.head ≡ true
     charges_after n = at (charge_in n cs) refl
       where
-        at : (o : Option ChargeRow) → charge_in n cs ≡ o → is_some (paid_in o (r.charges n)) ≡ true →
-            is_numbered n r.head ≡ true
+        at : (o : Option ChargeRow) → charge_in n cs ≡ o
+            → is_some (paid_in o (r.charges n)) ≡ true → is_numbered n r.head ≡ true
         at None e k = t.charges n k
         at (Some x) e k = numbered n x e
 
@@ -325,4 +325,5 @@ module _ (names : Names) (a : List ℕ) (w : StoredRows) (cs : List ChargeRow)
       written_is =
           paid_over a cs (with_stored a names w (with_meta m c))
           (numbered_apart (first_number (c.rows a).head) w.next_charge cs numbers)
-          ∙ ap (with_rows a (over_paid cs)) (stored_over a names sessions w (with_meta m c) keyed may)
+          ∙ ap (with_rows a (over_paid cs))
+          (stored_over a names sessions w (with_meta m c) keyed may)

@@ -100,8 +100,9 @@ terms_still names more book (Some x) k = at x.periods k
         are_terms (names ++ more ∷ []) book o ≡ true
     at None k = refl
     at (Some p) k =
-        let parts = and_parts (is_some (period_named (names_numbered names (book_in book)) p.before))
-        (is_some (period_named (names_numbered names (book_in book)) p.after)) k in
+        let own = names_numbered names (book_in book) in
+        let parts =
+        and_parts (is_some (period_named own p.before)) (is_some (period_named own p.after)) k in
         rw (named p.before parts.0, named p.after parts.1) refl
 
 pub tidy_dated : (names : Names) (more : List (List ℕ)) (n from : ℕ) (text : List ℕ) (c : Content)

@@ -1,6 +1,6 @@
 -- What a sweep leaves of tables in which nothing stands that isn't told.
-use Rattle.std.proofs.Common.{◌≡◌, ◌∙◌, ℕ, Bool, true, false, List, map, Option, Some, None, refl, sym}
-use Rattle.std.proofs.Common.{ap, subst}
+use Rattle.std.proofs.Common.{◌≡◌, ◌∙◌, ℕ, Bool, true, false, List, map, Option, Some, None}
+use Rattle.std.proofs.Common.{refl, sym, ap, subst}
 use Rattle.std.specs.Prelude.{if◌then◌else◌, is_some, nat_le, option_map}
 use Rattle.shelves.specs.Shelves.{Shelf, IsShelf}
 use Rattle.reserving.specs.declared.session.Reservation.{Reservation}
@@ -95,7 +95,8 @@ module _ (names : Names) (shelf : Shelf) (t : ℕ) (a : List ℕ) (r : Stored)
       → is_open_row (first_of (session_in s w.sessions) (r.sessions s)) ≡ true
   none_reserved s g none on = at (r.groups s g) (sym (ap (option_map group_row) none)
       ∙ rows.groups.groups s g
-      ∙ ap (λ b. if b then option_map (content.group_in names true (r.grant_books s g)) (r.groups s g)
+      ∙ ap (λ b. if b
+      then option_map (content.group_in names true (r.grant_books s g)) (r.groups s g)
       else None) (among s on))
     where
       at : (o : Option Group)

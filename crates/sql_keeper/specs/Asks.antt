@@ -13,8 +13,8 @@ pub record IsStillOpen {A E : Type 0} (old new : State) (result : Result A E) : 
   pub survives : Survives old new (λ _. ⊥)
 
 -- outside a transaction, over a connection that may be shut: what is answered is told by the tables
--- of one that is open; whether there is an answer or not, nothing is changed, and a stop leaves what
--- it left before
+-- of one that is open; whether there is an answer or not, nothing is changed, and a stop leaves
+-- what it left before
 pub record Asks {A E : Type 0} (told : Trees → A → Type 0) (old new : State)
     (result : Result A E) : Type 0 where
   pub found : HasCleanDisk new → IfOk result (told old.now.trees)

@@ -37,7 +37,8 @@ pub record Transacts {A E : Type 0} (change : Content → Content) (old new : St
 pub record Becomes (names : Names) (text : List ℕ) (change : Change)
     (old new : Trees) : Type 0
   where
-    pub tables : tables_of names (content_of new) ≡ changed change (tables_of names (content_of old))
+    pub tables : tables_of names (content_of new) ≡
+        changed change (tables_of names (content_of old))
     -- where nothing stood that isn't told, nothing does
     pub tidy : IsTidy names (content_of old) → IsTidy names (content_of new)
     pub meta : (content_of new).meta ≡ Some (meta_with text change)

@@ -1,7 +1,7 @@
 -- A database of an older version, brought to the latest whole or not at all.
 -- Source: profile.
 use Rattle.std.specs.Prelude.{◌≡◌, ◌<◌, ℕ, List, Some, None, true, false, nat_le, if◌then◌else◌}
-use Rattle.std.specs.Prelude.{IsTrue, Result, Ok, Err, IfErr, IfOk, OnErr, OnOk, ⊤}
+use Rattle.std.specs.Prelude.{IsTrue, Result, Ok, Err, IfErr, IfOk, OnErr, OnOk}
 use Rattle.std.specs.String.{string_bytes}
 use Rattle.sqlite_trees.specs.declared.store.Store.{Ghosts}
 use Rattle.sqlite_trees.specs.Objects.{catalog_tree}
@@ -23,7 +23,7 @@ use Rattle.sql_rows.specs.Values.{Meta}
 use Rattle.sql_opening.specs.Opens.{IsVersion}
 use Rattle.sql_opening.specs.declared.fault.OpenFault.{OpenFault}
 use Rattle.sql_opening.specs.declared.fault.OpenFault.TheVariants.{Foreign, Version, Rules, Older}
-use Rattle.sql_opening.specs.declared.fault.OpenFault.TheVariants.{Store, Memory}
+use Rattle.sql_opening.specs.declared.fault.OpenFault.TheVariants.{Store}
 use Rattle.sql_keeper.specs.Books.{IsBookOf}
 use Rattle.sql_keeper.specs.Causes.{IsOtherThan}
 use Rattle.sql_keeper.specs.Content.{Names, is_reserved, tables_of}

@@ -1,30 +1,23 @@
 -- A keeper that was just made over a database, and what is left where none was made.
 -- Source: profile.
-use Rattle.std.specs.Prelude.{◌≡◌, ◌≤◌, ◌⊎◌, ℕ, false, List, [], Some, IsTrue}
-use Rattle.std.specs.Str.{IsUtf8}
+use Rattle.std.specs.Prelude.{◌≡◌, ◌≤◌, ◌⊎◌, ℕ, false, List, [], IsTrue}
 use Rattle.shelves.specs.Shelves.{Shelf}
 use Rattle.sqlite_trees.specs.declared.store.Store.{Ghosts}
-use Rattle.sqlite_trees.specs.Tree.{Trees}
-use Rattle.sqlite_trees.specs.Objects.{catalog_tree}
-use Rattle.sqlite_catalog.specs.Listing.{Lists}
 use Rattle.sqlite.specs.Held.{Held, state}
 use Rattle.sqlite.specs.State.{HasCleanDisk, Survives}
-use Rattle.sql_tables.specs.Schema.{book_schema, latest}
-use Rattle.sql_tables.specs.Statements.{AreStored, IsStill}
+use Rattle.sql_tables.specs.Statements.{IsStill}
 use Rattle.sql_tables.specs.Texts.{stage}
-use Rattle.sql_rows.specs.Values.{Meta}
 use Rattle.sql_rows.specs.Content.{content_of}
 use Rattle.sql_opening.specs.declared.fault.OpenFault.{OpenFault}
 use Rattle.keepers.specs.Tables.{no_tables}
 use Rattle.sql_keeper.specs.Books.{IsBookOf}
 use Rattle.sql_keeper.specs.Causes.{HasFault, IsStores}
-use Rattle.sql_keeper.specs.Content.{shelf_names}
 use Rattle.sql_keeper.specs.Creates.{IsNewBook}
 use Rattle.sql_keeper.specs.Faults.{IsCreateFault}
 use Rattle.sql_keeper.specs.declared.create_fault.CreateFault.{CreateFault}
 use Rattle.sql_keeper.specs.Inside.{KeeperState, IsClean, IsKeeper, tables_in}
 pub use Rattle.sql_keeper.specs.Left.{IsKept, IsLeft}
-use Rattle.sql_keeper.specs.Shelves.{HasShelf, IsShelfOf}
+use Rattle.sql_keeper.specs.Shelves.{IsShelfOf}
 use Rattle.sql_keeper.specs.Stops.{trees_in}
 
 -- a keeper before its first call, and the shelf on which the book of its text stands first

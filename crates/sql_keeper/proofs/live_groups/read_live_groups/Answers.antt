@@ -28,7 +28,8 @@ returns-in_default g c =
 
 pub sessions-preserved : goal.sessions-preserved
 sessions-preserved g c = next_gathered (λ xs. xs.items) (shelf_names c.args.books.now)
-    c.args.account.now c.args.sessions.now c.sessions.session-index c.session-item.result c.sessions.groups.items
+    c.args.account.now c.args.sessions.now c.sessions.session-index c.session-item.result
+    c.sessions.groups.items
     c.append.new.self.items (state g.S.Store c.args.conn.now) (state g.S.Store c.sessions.conn)
     (state g.S.Store c.read_session_groups.new.conn) c.in_ok-more.more
     (omega arith) c.session-item.is c.in-Ok.ensures.items c.sessions.invariant c.in_ok-more.ensures

@@ -1,9 +1,9 @@
 use Rattle.std.proofs.Common.{sym, subst}
-use Rattle.std.specs.String.{string_bytes}
 use Rattle.std.proofs.lemmas.Result.{err_from_is_err_and}
 use Rattle.std.proofs.lemmas.Str.{IsUtf8-string_bytes}
-use Rattle.sql_keeper.proofs.Brought.{HasMade, HasMeta, HasRows, brought, brought_err, made_book, made_first}
-use Rattle.sql_keeper.proofs.Brought.{made_inside, made_rules, meta_read, no_meta, no_rows, no_shelf}
+use Rattle.sql_keeper.proofs.Brought.{HasRows, brought, brought_err, made_book, made_first}
+use Rattle.sql_keeper.proofs.Brought.{made_inside, made_rules, meta_read, no_meta, no_rows}
+use Rattle.sql_keeper.proofs.Brought.{no_shelf}
 use Rattle.sql_keeper.proofs.Brought.{not_made, not_put, other_version, rows_read}
 use Rattle.sql_keeper.proofs.migrating.bring_to_latest.Goals as goal
 
@@ -40,7 +40,8 @@ pub returns-in_err-is_of_version-clause-brings : goal.returns-in_err-is_of_versi
 returns-in_err-is_of_version-clause-brings g c =
     let p = err_from_is_err_and c.from_residual-in_err-is_of_version.result
     c.from_residual-in_err-is_of_version.ensures.1 in
-    brought_err _ _ _ _ p.0 _ p.1 p.2 (other_version _ c.requires.known.0 c.requires.known.1 _ _ c.in_ok-meta.meta
+    brought_err _ _ _ _ p.0 _ p.1 p.2
+    (other_version _ c.requires.known.0 c.requires.known.1 _ _ c.in_ok-meta.meta
     (meta_read _ c.requires.known.0 c.requires.known.1 _ _ _ c.in_ok-meta.meta
     (made_first _ _ _ _ c.requires.at c.in_ok-make_later.ensures.makes)
     c.in_ok-meta.ensures.reads) _ c.in_err-is_of_version.ensures.told
@@ -62,7 +63,8 @@ pub returns-in_err-rows-clause-brings : goal.returns-in_err-rows-clause-brings
 returns-in_err-rows-clause-brings g c =
     let p = err_from_is_err_and c.from_residual-in_err-rows.result
     c.from_residual-in_err-rows.ensures.1 in
-    brought_err _ _ _ _ p.0 _ p.1 p.2 (no_rows _ c.requires.known.0 c.requires.known.1 _ _ c.in_ok-meta.meta
+    brought_err _ _ _ _ p.0 _ p.1 p.2
+    (no_rows _ c.requires.known.0 c.requires.known.1 _ _ c.in_ok-meta.meta
     (meta_read _ c.requires.known.0 c.requires.known.1 _ _ _ c.in_ok-meta.meta
     (made_first _ _ _ _ c.requires.at c.in_ok-make_later.ensures.makes)
     c.in_ok-meta.ensures.reads) _ _ _ c.in_err-rows.ensures.reads c.in_err-rows.ensures.told
@@ -72,7 +74,8 @@ pub returns-in_err-read-clause-brings : goal.returns-in_err-read-clause-brings
 returns-in_err-read-clause-brings g c =
     let p = err_from_is_err_and c.from_residual-in_err-read.result
     c.from_residual-in_err-read.ensures.1 in
-    brought_err _ _ _ _ p.0 _ p.1 p.2 (no_shelf _ c.requires.known.0 c.requires.known.1 _ _ c.in_ok-meta.meta
+    brought_err _ _ _ _ p.0 _ p.1 p.2
+    (no_shelf _ c.requires.known.0 c.requires.known.1 _ _ c.in_ok-meta.meta
     c.deref.result.now
     (subst (HasRows _ _ _ c.in_ok-meta.meta) (sym c.deref.ensures.value)
     (rows_read _ c.requires.known.0 c.requires.known.1 _ _ _ c.in_ok-meta.meta c.in_ok-rows.rows

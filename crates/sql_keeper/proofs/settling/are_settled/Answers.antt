@@ -19,7 +19,7 @@ returns-in_err-settled g c =
 
 pub returns-then-not-settled : goal.returns-then-not-settled
 returns-then-not-settled g c =
-    not_settled c.args.groups.now c.args.account.now _ c.args.sessions.now _
+    not_settled c.args.groups.now c.args.account.now _ c.args.sessions.now c.session-item.result
     c.in_ok-settled.settled (state g.S.Store c.args.conn.now) (state g.S.Store c.sessions.conn)
     (state g.S.Store c.is_settled.new.conn) c.sessions.invariant c.in_ok-settled.ensures
 

@@ -14,7 +14,8 @@ invariant_of-self g c =
     c.ask_to_add-made.result c.counted.result c.counted.ensures.handed
     c.ask_to_add-made.ensures.commits _ c.as_str-text.ensures.value
     (λ db. held_added _ _ _ c.args.code c.args.terms c.args.moment _ db)
-    c.last_after-self-inside.ensures.made c.last_after-self-inside.ensures.kept refl c.ask_to_add-made.ensures.plain
+    c.last_after-self-inside.ensures.made c.last_after-self-inside.ensures.kept refl
+    c.ask_to_add-made.ensures.plain
     c.counted.ensures.bounded
 
 pub returns-clause-done : goal.returns-clause-done
@@ -27,7 +28,8 @@ pub returns-clause-kept : goal.returns-clause-kept
 returns-clause-kept g c = rw (← c.self.view_is) (keeps g.S.Store _ _ c.self.invariant refl
     (λ text. BecomesAdded text c.args.code c.args.terms c.args.moment) _
     c.ask_to_add-made.result c.counted.result c.counted.ensures.handed
-    c.ask_to_add-made.ensures.commits _ c.counted.ensures.cause (λ db b. b.tables (shelf_names c.self.inside.shelf)))
+    c.ask_to_add-made.ensures.commits _ c.counted.ensures.cause
+    (λ db b. b.tables (shelf_names c.self.inside.shelf)))
 
 pub returns-clause-whole : goal.returns-clause-whole
 returns-clause-whole g c = rw (← c.self.view_is) (standing_whole g.S.Store _ _ c.self.invariant refl

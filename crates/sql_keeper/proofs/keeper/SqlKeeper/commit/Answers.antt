@@ -14,7 +14,8 @@ invariant_of-self g c =
     c.ask_to_change-made.result c.counted.result c.counted.ensures.handed
     c.ask_to_change-made.ensures.commits _ c.as_str-text.ensures.value
     (λ db. held_committed (shelf_names c.self.inside.shelf) _ _ _ c.args.change _ db)
-    c.last_after-self-inside.ensures.made c.last_after-self-inside.ensures.kept refl c.ask_to_change-made.ensures.plain
+    c.last_after-self-inside.ensures.made c.last_after-self-inside.ensures.kept refl
+    c.ask_to_change-made.ensures.plain
     c.counted.ensures.bounded
 
 pub returns-clause-done : goal.returns-clause-done

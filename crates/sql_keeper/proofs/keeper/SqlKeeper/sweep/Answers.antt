@@ -15,7 +15,8 @@ invariant_of-self g c =
     c.ask_to_sweep-made.result c.counted.result c.counted.ensures.handed
     c.ask_to_sweep-made.ensures.commits _ c.as_str-text.ensures.value
     (λ db. held_swept (shelf_names c.self.inside.shelf) _ c.args.shelf.now _ _ c.args.moment _ db)
-    c.last_after-self-inside.ensures.made c.last_after-self-inside.ensures.kept refl c.ask_to_sweep-made.ensures.plain
+    c.last_after-self-inside.ensures.made c.last_after-self-inside.ensures.kept refl
+    c.ask_to_sweep-made.ensures.plain
     c.counted.ensures.bounded
 
 pub returns-clause-count : goal.returns-clause-count
