@@ -1,4 +1,5 @@
 pub mod Inserts
+pub mod Fitting
 pub mod StatedLemmas
 pub mod Begun
 pub mod Phrases

@@ -1,12 +1,12 @@
 -- The table of routes: what a path names, and its method.
 -- Source: profile.
-use Rattle.std.specs.Prelude.{ℕ, Bool, List, [], ◌==◌, ◌||◌, Option, None, Result}
+use Rattle.std.specs.Prelude.{◌≡◌, ℕ, Bool, List, [], ◌==◌, ◌||◌, Option, None, Result}
 use Rattle.std.specs.Prelude.{Ok, Err, codes, option_map, if◌then◌else◌}
 use Rattle.std.specs.List.{list_any}
 use Rattle.matchit.specs.Rows.{RowsOf}
 use Rattle.matchit.specs.Seek.{first}
 use Rattle.matchit.specs.Route.{parse_route, Scan}
-use Rattle.matchit.specs.Router.{RouteOf, route_from}
+use Rattle.matchit.specs.Router.{RouteOf, nearest, route_from}
 use Rattle.matchit.specs.Order.{placed}
 use Rattle.matchit.specs.declared.InsertError.{InsertError}
 use Rattle.http_heads.specs.Methods.{is_get, is_post, is_put}
@@ -24,6 +24,14 @@ added_read (Err e) value rows = rows
 
 abbrev pub added : List ℕ → Route → Routes → Routes
 added text value rows = added_read (parse_route text) value rows
+
+-- a route that reads well, and conflicts with none of the rows
+abbrev pub fits_read : Result Scan InsertError → Routes → Type 0
+fits_read (Ok scan) rows = nearest scan.pattern rows ≡ None
+fits_read (Err e) rows = ⊥
+
+abbrev pub Fits : List ℕ → Routes → Type 0
+Fits text rows = fits_read (parse_route text) rows
 
 -- the table; a part in braces is any that isn't empty
 unfoldable pub table : Routes

@@ -1,6 +1,8 @@
 ghost use Rattle.std.specs.Prelude.{◌≡◌, IfOk, OnOk, OnErr};
+ghost use Rattle.matchit.specs.declared.InsertError.TheVariants.{OutOfMemory};
 ghost use Rattle.http_heads.specs.Methods.{is_get, is_post, is_put};
 ghost use Rattle.http_answers.specs.Routes.{added, table, row_of, has_query, route_of, serves};
+ghost use Rattle.http_answers.specs.Routes.{Fits};
 
 use byte_streams::StreamFault;
 use http::Method;
@@ -64,17 +66,35 @@ impl Route {
     }
 }
 
-/// One more route.
-fn add(router: &mut Router<Route>, text: &str, value: Route) -> Result<(), InsertError>
-    ensures { OnOk result (router.new ≡ added text.now value router.old) }
+/// The fault of an error of a growth that was refused.
+fn refused(error: InsertError) -> StreamFault
+    requires { error ≡ OutOfMemory }
+    ensures { result ≡ StreamFault.Memory }
 {
-    router.insert(text, value)
+    let _ = error;
+    StreamFault::Memory
 }
 
-/// The table of routes.
+/// One more route, of those that fit. The one fault is `Memory`, where a growth was refused.
+fn add(router: &mut Router<Route>, text: &str, value: Route) -> Result<(), StreamFault>
+    requires { Fits text.now router.old }
+    ensures added { OnOk result (router.new ≡ added text.now value router.old) }
+    ensures fault { OnErr result (result ≡ Err StreamFault.Memory) }
+{
+    match router.insert(text, value) {
+        Ok(()) => Ok(()),
+        Err(error) => Err(refused(error)),
+    }
+}
+
+/// The table of routes, made once a connection.
+///
+/// # Errors
+/// `Memory` where a growth was refused.
 #[tactic(auto, unfolding(crate::specs::Routes::table))]
-fn api_router(alloc: Global) -> Result<Router<Route>, InsertError>
-    ensures { IfOk result (λ r. r ≡ table) }
+pub fn known_router(alloc: Global) -> Result<Router<Route>, StreamFault>
+    ensures table { IfOk result (λ r. r ≡ table) }
+    ensures fault { OnErr result (result ≡ Err StreamFault.Memory) }
 {
     let mut router = Router::new(alloc);
     add(&mut router, "/ccr", Route::Ccr)?;
@@ -89,20 +109,6 @@ fn api_router(alloc: Global) -> Result<Router<Route>, InsertError>
     add(&mut router, "/vouchers/{code}/redeem", Route::Redeem)?;
     add(&mut router, "/sweep", Route::Sweep)?;
     Ok(router)
-}
-
-/// The table of routes, made once a connection.
-///
-/// # Errors
-/// A growth was refused.
-pub fn known_router(alloc: Global) -> Result<Router<Route>, StreamFault>
-    ensures table { IfOk result (λ r. r ≡ table) }
-    ensures fault { OnErr result (result ≡ Err StreamFault.Memory) }
-{
-    match api_router(alloc) {
-        Ok(router) => Ok(router),
-        Err(_) => Err(StreamFault::Memory),
-    }
 }
 
 /// The row of a path.
