@@ -1,3 +1,5 @@
+//! Why a command over a database isn't carried out.
+
 ghost use Rattle.std.specs.Prelude.{◌≡◌};
 ghost use Rattle.database_office.specs.Adding.{IsAddingFault};
 ghost use Rattle.database_office.specs.Opening.{IsUnopened};

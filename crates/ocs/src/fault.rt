@@ -1,3 +1,5 @@
+//! Why the program ends with status 1.
+
 use byte_streams::StreamFault;
 use database_office::DatabaseFault;
 use request_lines::LinesFault;

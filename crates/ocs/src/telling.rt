@@ -1,3 +1,5 @@
+//! The lines of faults on standard error.
+
 ghost use Rattle.std.specs.Prelude.{◌≡◌, ◌++◌, ◌∷◌, [], string_bytes, IfOk};
 ghost use Rattle.clap.specs.Words.{kind_of};
 ghost use Rattle.office.specs.Written.{WritesBeginning};
