@@ -23,7 +23,7 @@ TABLES = (
     "counters", "allowance_buckets", "buckets", "accounts",
 )
 COLUMNS = ("credited", "available", "reserved", "charged", "expired")
-# Buckets of money, allowances, and charges with their covered blocks, each as its sums are told.
+# Buckets of money, allowances, and charges with their covered blocks, each as its sums are reported.
 SUMS = {
     "money": COLUMNS,
     "allowances": COLUMNS,
@@ -92,7 +92,7 @@ class Rows:
         return [row[1:] for row in self.buckets[account] if row[0] == is_blocks]
 
     def check(self, people, moment):
-        """Compares the rows with the rules that they stand under, and with what was reckoned."""
+        """Compares the rows with the rules that hold for them, and with what was reckoned."""
         agree("the file", shell(self.place, "PRAGMA integrity_check"), [("ok",)])
         agree("references", shell(self.place, "PRAGMA foreign_key_check"), [])
         self.check_answers(people)
@@ -106,7 +106,7 @@ class Rows:
             self.check_charges(person)
 
     def check_answers(self, people):
-        """Each answer that was told stands, and no other: what wasn't told was answered once."""
+        """Each answer that was given is kept, and no other: what wasn't given was answered once."""
         asked = "SELECT account, name, number, answer FROM answers WHERE kind = "
         found = {tuple(row[:3]): row[3] for row in shell(self.place, asked + "1")}
         wanted = {

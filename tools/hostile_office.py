@@ -1,5 +1,5 @@
 """The database with which the batches of tools/hostile begin, runs of the program over copies of
-it, and their rows as SQLite tells them."""
+it, and their rows as SQLite shows them."""
 import collections
 import contextlib
 import pathlib

@@ -158,7 +158,7 @@ class Client:
 
 
 class Counts:
-    """Checks that passed and failed; each that fails is told."""
+    """Checks that passed and failed; each that fails is reported."""
 
     def __init__(self, name):
         self.name, self.passed, self.failed, self.skipped = name, 0, 0, 0

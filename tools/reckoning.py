@@ -389,7 +389,7 @@ class Account:
         agree(f"a grant of {granted} blocks with {held} of allowances", granted >= held, True)
 
     def grants_at(self, moment):
-        """The session, group and book of each grant that stands at a moment."""
+        """The session, group and book of each grant that is open at a moment."""
         self.advance(moment)
         return sorted(
             (name, group, grant.book)
