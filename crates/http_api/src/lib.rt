@@ -18,4 +18,4 @@ pub use crate::fault::ServeFault;
 pub use crate::laws::text_is_one;
 pub use crate::patient_socket::REQUEST_SECONDS;
 pub use crate::serving::{MAX_REQUESTS, Served, serve};
-pub use crate::socket::{SOCKET_SECONDS, serve_socket};
+pub use crate::socket::{MAX_WAITING, SOCKET_SECONDS, serve_socket};

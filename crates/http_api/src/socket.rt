@@ -1,27 +1,36 @@
-ghost use Rattle.std.specs.Prelude.{◌≡◌, ◌≤◌, IfOk};
+ghost use Rattle.std.specs.Prelude.{◌≡◌, ◌≤◌, ◌⊎◌, Err, IfOk};
 ghost use Rattle.charging.specs.Continued.{Continues, LeavesOn};
+ghost use Rattle.http_api.specs.declared.fault.ServeFault.TheVariants as fault;
 
 use crate::clock::Clock;
 use crate::fault::ServeFault;
-use crate::patient_socket::{PatientReader, PatientWriter};
+use crate::patient_socket::{JoinedAnswers, PatientReader, PatientWriter};
 use crate::serving::{Served, serve};
 use charge_sources::ChargeSource;
 use shelves::TariffShelf;
-use std::cell::Cell;
-use std::io;
+use std::cell::{Cell, RefCell};
+use std::io::{self, BufWriter, Write};
 use std::net::TcpStream;
 use std::time::Duration;
 
 /// How long a read or a write of a socket may take, in seconds (profile).
 pub const SOCKET_SECONDS: u64 = 30;
 
+/// The most bytes of answers that wait to be written together (profile).
+pub const MAX_WAITING: usize = 8192;
+
 /// Serves the requests of a socket, as `serve`. Answers leave it without delay, and a read or a
 /// write that takes more than 30 seconds is a fault. So is a read 60 seconds after the first bytes
 /// of a request, so that a peer that sends byte by byte keeps the next one waiting for no more than
 /// 90 seconds.
 ///
+/// Where more requests have come already (RFC 9112 section 9.3.2) their answers are written
+/// together: an answer waits until the socket is read again, or the connection ends, or more than
+/// 8,192 bytes would wait.
+///
 /// # Errors
-/// As `serve`, and `Read` where the socket can't be set so; then nothing is read.
+/// As `serve`, and `Read` where the socket can't be set so; then nothing is read. `Write` where the
+/// socket failed as answers were written together: then a beginning of all answers is written.
 pub fn serve_socket<K: ChargeSource, C: Clock>(
     rt: &HostRuntime,
     stream: &TcpStream,
@@ -40,17 +49,66 @@ pub fn serve_socket<K: ChargeSource, C: Clock>(
     if limit(stream).is_err() {
         return Err(ServeFault::Read);
     }
+    let Ok(waiting) = BufWriter::with_capacity(rt.alloc(), MAX_WAITING, stream) else {
+        return Err(ServeFault::Memory);
+    };
+    let answers = JoinedAnswers {
+        waiting: RefCell::new(waiting),
+        failed: Cell::new(false),
+    };
+    let served = serve_joined(rt, stream, &answers, keeper, shelf, clock);
+    let JoinedAnswers { waiting, failed } = answers;
+    if failed.get() {
+        return Err(ServeFault::Write);
+    }
+    ended(served, waiting.into_inner())
+}
+
+/// Serves the requests of a socket that is set, whose answers wait for each other.
+fn serve_joined<'s, K: ChargeSource, C: Clock>(
+    rt: &HostRuntime,
+    stream: &'s TcpStream,
+    answers: &JoinedAnswers<'s>,
+    keeper: &mut K,
+    shelf: &TariffShelf,
+    clock: &mut C,
+) -> Result<Served, ServeFault>
+    ensures bounded { IfOk result (λ done. done.requests ≤ 1000) }
+    ensures continued { K.clean keeper.new →
+        Continues shelf.now (K.content keeper.old) (K.content keeper.new) }
+    ensures cleanness { K.clean keeper.new → K.clean keeper.old }
+    ensures honesty { K.honest keeper.new → K.honest keeper.old }
+    ensures left { LeavesOn K.content K.honest K.clean K.left shelf.now keeper.old keeper.new }
+    ensures failures { K.failed keeper.old ≤ K.failed keeper.new }
+{
     let begun = Cell::new(None);
     let mut reader = PatientReader {
         rt: *rt,
         stream,
         begun: &begun,
+        answers,
     };
     let mut writer = PatientWriter {
-        stream,
         begun: &begun,
+        answers,
     };
     serve(rt.alloc(), &mut reader, &mut writer, keeper, shelf, clock)
+}
+
+/// How a connection ends once the answers that wait are written. What a failure leaves of them is
+/// let go.
+fn ended(
+    served: Result<Served, ServeFault>,
+    mut waiting: BufWriter<&TcpStream>,
+) -> Result<Served, ServeFault>
+    ensures { (result ≡ served) ⊎ (result ≡ Err fault.Write) }
+{
+    let written = waiting.flush();
+    let (_, _) = waiting.into_parts();
+    match written {
+        Ok(()) => served,
+        Err(_) => Err(ServeFault::Write),
+    }
 }
 
 /// Sets what a socket delays, and how long it waits.
