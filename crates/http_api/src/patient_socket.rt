@@ -1,8 +1,9 @@
 //! A socket that doesn't wait for a request that comes byte by byte, and whose answers leave
 //! together where more requests have come already.
 
+use crate::joining::{join, write_waiting};
 use std::cell::{Cell, RefCell};
-use std::io::{self, BufWriter, ErrorKind, Read, Write};
+use std::io::{self, ErrorKind, Read, Write};
 use std::net::TcpStream;
 use std::time::{Duration, Instant};
 
@@ -10,8 +11,10 @@ use std::time::{Duration, Instant};
 pub const REQUEST_SECONDS: u64 = 60;
 
 /// The answers of a socket that aren't written yet, and whether a write of them failed.
+#[derive(Drop)]
 pub(crate) struct JoinedAnswers<'s> {
-    pub(crate) waiting: RefCell<BufWriter<&'s TcpStream>>,
+    pub(crate) stream: &'s TcpStream,
+    pub(crate) waiting: RefCell<Vec<u8>>,
     pub(crate) failed: Cell<bool>,
 }
 
@@ -21,7 +24,6 @@ pub(crate) struct JoinedAnswers<'s> {
 #[derive(Drop)]
 pub(crate) struct PatientReader<'s, 'b> {
     pub(crate) rt: HostRuntime,
-    pub(crate) stream: &'s TcpStream,
     pub(crate) begun: &'b Cell<Option<Instant>>,
     pub(crate) answers: &'b JoinedAnswers<'s>,
 }
@@ -35,21 +37,42 @@ pub(crate) struct PatientWriter<'s, 'b> {
 }
 
 impl<'s> JoinedAnswers<'s> {
-    /// Adds bytes to those that wait, and answers how many; those that find no room are written
-    /// after them.
-    fn add(&self, bytes: &[u8]) -> io::Result<usize> {
+    ghost use Rattle.std.specs.Prelude.{◌≡◌, length, IfOk};
+
+    /// Adds bytes to those that wait, and answers how many there are; where they find no room, all
+    /// are written.
+    fn add(&self, bytes: &[u8]) -> io::Result<usize>
+        ensures { IfOk result (λ count. count ≡ length bytes.now) }
+    {
         let Ok(mut waiting) = self.waiting.try_borrow_mut() else {
             return Err(io::Error::from(ErrorKind::Other));
         };
-        waiting.write(bytes)
+        let mut stream = self.stream;
+        match join(&mut stream, &mut waiting, bytes) {
+            Ok(()) => Ok(bytes.len()),
+            Err(_) => Err(self.failure()),
+        }
     }
 
-    /// Writes those that wait.
-    fn write_all(&self) -> io::Result<()> {
+    /// Writes those that wait; no more once a write failed.
+    pub(crate) fn write(&self) -> io::Result<()> {
+        if self.failed.get() {
+            return Err(io::Error::from(ErrorKind::Other));
+        }
         let Ok(mut waiting) = self.waiting.try_borrow_mut() else {
             return Err(io::Error::from(ErrorKind::Other));
         };
-        waiting.flush()
+        let mut stream = self.stream;
+        match write_waiting(&mut stream, &mut waiting) {
+            Ok(()) => Ok(()),
+            Err(_) => Err(self.failure()),
+        }
+    }
+
+    /// Sees that a write failed.
+    fn failure(&self) -> io::Error {
+        self.failed.set(true);
+        io::Error::from(ErrorKind::Other)
     }
 }
 
@@ -69,13 +92,6 @@ impl<'s, 'b> PatientReader<'s, 'b> {
         }
         Ok(())
     }
-
-    /// Writes the answers that wait, and sees where that fails.
-    fn write_answers(&self) -> io::Result<()> {
-        let written = self.answers.write_all();
-        self.answers.failed.set(written.is_err());
-        written
-    }
 }
 
 impl<'s, 'b> Read for PatientReader<'s, 'b> {
@@ -83,8 +99,8 @@ impl<'s, 'b> Read for PatientReader<'s, 'b> {
         if self.is_late()? {
             return Err(io::Error::from(ErrorKind::TimedOut));
         }
-        self.write_answers()?;
-        let count = (&mut &*self.stream).read(buf)?;
+        self.answers.write()?;
+        let count = (&mut &*self.answers.stream).read(buf)?;
         self.begin()?;
         Ok(count)
     }
@@ -97,6 +113,6 @@ impl<'s, 'b> Write for PatientWriter<'s, 'b> {
     }
 
     fn flush(&mut self) -> io::Result<()> {
-        self.answers.write_all()
+        self.answers.write()
     }
 }

@@ -1,6 +1,5 @@
-ghost use Rattle.std.specs.Prelude.{◌≡◌, ◌≤◌, ◌⊎◌, Err, IfOk};
+ghost use Rattle.std.specs.Prelude.{◌≡◌, ◌≤◌, IfOk};
 ghost use Rattle.charging.specs.Continued.{Continues, LeavesOn};
-ghost use Rattle.http_api.specs.declared.fault.ServeFault.TheVariants as fault;
 
 use crate::clock::Clock;
 use crate::fault::ServeFault;
@@ -9,15 +8,12 @@ use crate::serving::{Served, serve};
 use charge_sources::ChargeSource;
 use shelves::TariffShelf;
 use std::cell::{Cell, RefCell};
-use std::io::{self, BufWriter, Write};
+use std::io;
 use std::net::TcpStream;
 use std::time::Duration;
 
 /// How long a read or a write of a socket may take, in seconds (profile).
 pub const SOCKET_SECONDS: u64 = 30;
-
-/// The most bytes of answers that wait to be written together (profile).
-pub const MAX_WAITING: usize = 8192;
 
 /// Serves the requests of a socket, as `serve`. Answers leave it without delay, and a read or a
 /// write that takes more than 30 seconds is a fault. So is a read 60 seconds after the first bytes
@@ -49,26 +45,22 @@ pub fn serve_socket<K: ChargeSource, C: Clock>(
     if limit(stream).is_err() {
         return Err(ServeFault::Read);
     }
-    let Ok(waiting) = BufWriter::with_capacity(rt.alloc(), MAX_WAITING, stream) else {
-        return Err(ServeFault::Memory);
-    };
     let answers = JoinedAnswers {
-        waiting: RefCell::new(waiting),
+        stream,
+        waiting: RefCell::new(Vec::new(rt.alloc())),
         failed: Cell::new(false),
     };
-    let served = serve_joined(rt, stream, &answers, keeper, shelf, clock);
-    let JoinedAnswers { waiting, failed } = answers;
-    if failed.get() {
-        return Err(ServeFault::Write);
+    let served = serve_joined(rt, &answers, keeper, shelf, clock);
+    match answers.write() {
+        Ok(()) => served,
+        Err(_) => Err(ServeFault::Write),
     }
-    ended(served, waiting.into_inner())
 }
 
 /// Serves the requests of a socket that is set, whose answers wait for each other.
-fn serve_joined<'s, K: ChargeSource, C: Clock>(
+fn serve_joined<K: ChargeSource, C: Clock>(
     rt: &HostRuntime,
-    stream: &'s TcpStream,
-    answers: &JoinedAnswers<'s>,
+    answers: &JoinedAnswers<'_>,
     keeper: &mut K,
     shelf: &TariffShelf,
     clock: &mut C,
@@ -84,7 +76,6 @@ fn serve_joined<'s, K: ChargeSource, C: Clock>(
     let begun = Cell::new(None);
     let mut reader = PatientReader {
         rt: *rt,
-        stream,
         begun: &begun,
         answers,
     };
@@ -93,22 +84,6 @@ fn serve_joined<'s, K: ChargeSource, C: Clock>(
         answers,
     };
     serve(rt.alloc(), &mut reader, &mut writer, keeper, shelf, clock)
-}
-
-/// How a connection ends once the answers that wait are written. What a failure leaves of them is
-/// let go.
-fn ended(
-    served: Result<Served, ServeFault>,
-    mut waiting: BufWriter<&TcpStream>,
-) -> Result<Served, ServeFault>
-    ensures { (result ≡ served) ⊎ (result ≡ Err fault.Write) }
-{
-    let written = waiting.flush();
-    let (_, _) = waiting.into_parts();
-    match written {
-        Ok(()) => served,
-        Err(_) => Err(ServeFault::Write),
-    }
 }
 
 /// Sets what a socket delays, and how long it waits.

@@ -1,0 +1,86 @@
+//! Texts that are written together.
+
+ghost use Rattle.std.specs.Prelude.{◌≡◌, ◌≤◌, ◌<◌, ◌+◌, ◌++◌, [], true, false, length, Err, OnOk, OnErr};
+ghost use Rattle.std.specs.Io.KnownBytes.{Appends, append_known};
+ghost use Rattle.http_answers.specs.Texts.{Begins};
+
+use byte_streams::StreamFault;
+use http_answers::write_text;
+use std::io::Write;
+
+/// The most bytes that wait to be written together (profile).
+pub const MAX_WAITING: usize = 8192;
+
+/// Adds a text to what waits, and answers whether it was added: not where more than 8,192 bytes
+/// would wait, or where the growth is refused.
+fn adds(waiting: &mut Vec<u8>, text: &[u8]) -> bool
+    ensures added { result ≡ true → waiting.new.items ≡ waiting.old.items ++ text.now }
+    ensures other { result ≡ false → waiting.new.items ≡ waiting.old.items }
+    ensures room { 8192 < length waiting.old.items + length text.now → result ≡ false }
+    ensures bounded { length waiting.old.items ≤ 8192 → length waiting.new.items ≤ 8192 }
+{
+    if text.len() > MAX_WAITING.saturating_sub(waiting.len()) {
+        return false;
+    }
+    waiting.extend_from_slice(text).is_ok()
+}
+
+/// Writes what waits. Then nothing waits, also where the writer failed.
+///
+/// # Errors
+/// `Write` where the writer failed. Then a beginning of what waits is written.
+pub(crate) fn write_waiting<W: Write>(
+    writer: &mut W,
+    waiting: &mut Vec<u8>,
+) -> Result<(), StreamFault>
+    ensures ok { OnOk result
+        (Appends (W.contents writer.old) (W.contents writer.new) waiting.old.items) }
+    ensures err { OnErr result
+        (Begins (W.contents writer.old) (W.contents writer.new) waiting.old.items) }
+    ensures none { waiting.new.items ≡ [] }
+    ensures fault { OnErr result (result ≡ Err StreamFault.Write) }
+{
+    let written = write_text(writer, waiting.as_slice());
+    waiting.clear();
+    written
+}
+
+/// Writes what waits, and then a text.
+fn write_after<W: Write>(
+    writer: &mut W,
+    waiting: &mut Vec<u8>,
+    text: &[u8],
+) -> Result<(), StreamFault>
+    ensures ok { OnOk result (Appends (W.contents writer.old) (W.contents writer.new)
+        (waiting.old.items ++ text.now)) }
+    ensures err { OnErr result (Begins (W.contents writer.old) (W.contents writer.new)
+        (waiting.old.items ++ text.now)) }
+    ensures none { waiting.new.items ≡ [] }
+    ensures fault { OnErr result (result ≡ Err StreamFault.Write) }
+{
+    write_waiting(writer, waiting)?;
+    write_text(writer, text)
+}
+
+/// Adds a text to what waits to be written; where it finds no room there, both are written. So what
+/// is written and what waits, together, grow by the text.
+///
+/// # Errors
+/// `Write` where the writer failed. Then a beginning of both is written, and nothing waits.
+pub(crate) fn join<W: Write>(
+    writer: &mut W,
+    waiting: &mut Vec<u8>,
+    text: &[u8],
+) -> Result<(), StreamFault>
+    ensures ok { OnOk result (Appends (append_known (W.contents writer.old) waiting.old.items)
+        (append_known (W.contents writer.new) waiting.new.items) text.now) }
+    ensures err { OnErr result (Begins (W.contents writer.old) (W.contents writer.new)
+        (waiting.old.items ++ text.now)) }
+    ensures bounded { length waiting.old.items ≤ 8192 → length waiting.new.items ≤ 8192 }
+    ensures fault { OnErr result (result ≡ Err StreamFault.Write) }
+{
+    if adds(waiting, text) {
+        return Ok(());
+    }
+    write_after(writer, waiting, text)
+}
