@@ -3,7 +3,6 @@ pub mod RequestReplies
 pub mod ShownReplies
 pub mod StatementReplies
 pub mod Continuing
-pub mod Joined
 pub mod Taking
 pub mod Statuses
 pub mod HeadRefusals

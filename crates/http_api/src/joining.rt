@@ -1,6 +1,6 @@
 //! Texts that are written together.
 
-ghost use Rattle.std.specs.Prelude.{◌≡◌, ◌≤◌, ◌<◌, ◌+◌, ◌++◌, [], true, false, length, Err, OnOk, OnErr};
+ghost use Rattle.std.specs.Prelude.{◌≡◌, ◌≤◌, ◌++◌, [], true, false, length, Err, OnOk, OnErr};
 ghost use Rattle.std.specs.Io.KnownBytes.{Appends, append_known};
 ghost use Rattle.http_answers.specs.Texts.{Begins};
 
@@ -16,7 +16,6 @@ pub const MAX_WAITING: usize = 8192;
 fn adds(waiting: &mut Vec<u8>, text: &[u8]) -> bool
     ensures added { result ≡ true → waiting.new.items ≡ waiting.old.items ++ text.now }
     ensures other { result ≡ false → waiting.new.items ≡ waiting.old.items }
-    ensures room { 8192 < length waiting.old.items + length text.now → result ≡ false }
     ensures bounded { length waiting.old.items ≤ 8192 → length waiting.new.items ≤ 8192 }
 {
     if text.len() > MAX_WAITING.saturating_sub(waiting.len()) {
