@@ -1,7 +1,7 @@
--- What a session has of a rating group, made of its row and of what is held for the session.
+-- What sessions have of rating groups, made of their rows and of what is held for them.
 -- Source: profile.
 use Rattle.std.specs.Prelude.{◌≡◌, ℕ, ◌==◌, ◌&&◌, ◌||◌, Bool, true, not, List, Option, Some, None}
-use Rattle.std.specs.Prelude.{option_map, unwrap_or, nat_lt, if◌then◌else◌}
+use Rattle.std.specs.Prelude.{option_map, unwrap_or, nat_lt, map, filter}
 use Rattle.std.specs.List.{find, list_all, list_any, AllZip}
 use Rattle.buckets.specs.declared.holds.Hold.{Hold}
 use Rattle.buckets.specs.Row.{Row}
@@ -11,18 +11,21 @@ use Rattle.tariffs.specs.Names.{period_named}
 use Rattle.reserving.specs.declared.session.SessionGroup.{SessionGroup}
 use Rattle.reserving.specs.declared.session.Reservation.{Reservation}
 use Rattle.reserving.specs.declared.session.Terms.{Terms}
-use Rattle.reserving.specs.Sessions.{group_in}
-use Rattle.keepers.specs.Tables.{group_row, held_of}
 use Rattle.sql_tables.specs.Keyed.{same_name}
-use Rattle.sql_rows.specs.declared.grant_book_rows.GrantBook.{GrantBook}
 use Rattle.sql_rows.specs.declared.hold_rows.HeldColumns.{HeldColumns}
-use Rattle.sql_rows.specs.Content.{Rows as Stored}
-use Rattle.sql_rows.specs.Lists.{GroupAt}
+use Rattle.sql_rows.specs.declared.session_book_rows.SessionBook.{SessionBook}
+use Rattle.sql_rows.specs.declared.session_hold_rows.SessionHold.{SessionHold}
+use Rattle.sql_rows.specs.Lists.{OpenGroupAt}
 use Rattle.sql_rows.specs.Values.{PeriodNames}
-use Rattle.sql_keeper.specs.Content.{group_in as group_told, is_reserved, held_in, Names}
-use Rattle.sql_keeper.specs.Content.{names_numbered}
+use Rattle.sql_keeper.specs.Content.{Names, names_numbered}
 
 -- ---- what is held for a session
+
+-- of what is held for sessions
+abbrev pub held_for : List ℕ → List SessionHold → List HeldColumns
+held_for s held =
+    map (λ (x : SessionHold). x.columns)
+    (filter (λ (x : SessionHold). same_name x.session s) held)
 
 -- of a bucket for a rating group, in micro-units; 0 where nothing is
 abbrev pub amount_of : ℕ → List HeldColumns → ℕ → ℕ
@@ -49,9 +52,11 @@ pub record ArePeriodsOf (names : List (List ℕ)) (p : PeriodNames) (periods : P
   pub before : period_named names p.before ≡ Some periods.before
   pub after : period_named names p.after ≡ Some periods.after
 
--- the number of the book that a reservation goes by
-abbrev pub book_of : ℕ → List GrantBook → Option ℕ
-book_of g books = option_map (λ (x : GrantBook). x.book) (find (λ x. x.group == g) books)
+-- the number of the book that a session's reservation in a rating group goes by
+abbrev pub book_of : List ℕ → ℕ → List SessionBook → Option ℕ
+book_of s g books =
+    option_map (λ (x : SessionBook). x.columns.book)
+    (find (λ x. same_name x.session s && x.columns.group == g) books)
 
 -- the terms of a reservation of this book with these names, which its periods have there
 pub record AreTermsOf (names : Names) (number : Option ℕ) (p : PeriodNames) (x : Terms) : Type 0
@@ -66,34 +71,25 @@ pub record AreHoldsOf (buckets : List Row) (held : List HeldColumns) (g : ℕ)
     pub order : holds ≡ holds_along buckets g held
     pub all : are_held_of buckets g held ≡ true
 
--- a reservation is there where it has names of periods
-abbrev pub IsReservationOf : Names → List Row → List HeldColumns → List GrantBook → ℕ
+-- a reservation is there where it has names of periods; it goes by the book of the number
+abbrev pub IsReservationOf : Names → List Row → List HeldColumns → Option ℕ → ℕ
     → Option PeriodNames → Option Reservation → Type 0
-IsReservationOf names buckets held books g None None = Unit {0}
-IsReservationOf names buckets held books g None (Some r) = ⊥
-IsReservationOf names buckets held books g (Some p) None = ⊥
-IsReservationOf names buckets held books g (Some p) (Some r) =
-    AreTermsOf names (book_of g books) p r.terms × AreHoldsOf buckets held g r.holds
+IsReservationOf names buckets held number g None None = Unit {0}
+IsReservationOf names buckets held number g None (Some r) = ⊥
+IsReservationOf names buckets held number g (Some p) None = ⊥
+IsReservationOf names buckets held number g (Some p) (Some r) =
+    AreTermsOf names number p r.terms × AreHoldsOf buckets held g r.holds
 
 -- what a session has of a rating group is that of the row
-pub record IsGroupOf (names : Names) (buckets : List Row) (held : List HeldColumns)
-    (books : List GrantBook) (s : List ℕ) (c : GroupAt) (x : SessionGroup) : Type 0 where
-  pub session : x.session ≡ s
+pub record IsGroupOf (names : Names) (buckets : List Row) (held : List SessionHold)
+    (books : List SessionBook) (c : OpenGroupAt) (x : SessionGroup) : Type 0 where
+  pub session : x.session ≡ c.session
   pub group : x.group ≡ c.group
   pub used : x.used ≡ c.row.used
-  pub reservation : IsReservationOf names buckets held books c.group c.row.periods x.reservation
+  pub reservation : IsReservationOf names buckets (held_for c.session held)
+      (book_of c.session c.group books) c.group c.row.periods x.reservation
 
 -- so is each of a list
-abbrev pub AreGroupsOf : Names → List Row → List HeldColumns → List GrantBook → List ℕ
-    → List GroupAt → List SessionGroup → Type 0
-AreGroupsOf names buckets held books s cs xs = AllZip (IsGroupOf names buckets held books s) cs xs
-
--- all that one session has, as of an open one, and nothing of another
-pub record AreSessionGroups (names : Names) (rows : Stored) (s : List ℕ)
-    (xs : List SessionGroup)
-    : Type 0 where
-  pub groups : (t : List ℕ) (g : ℕ) → option_map group_row (group_in t g xs) ≡
-      (if same_name s t
-      then option_map (group_told names true (rows.grant_books t g)) (rows.groups t g) else None)
-  pub holds : (t : List ℕ) (g n : ℕ) → held_of n (group_in t g xs) ≡
-      (if same_name s t then held_in (is_reserved (rows.groups t g)) (rows.holds t g n) else 0)
+abbrev pub AreGroupsOf : Names → List Row → List SessionHold → List SessionBook → List OpenGroupAt
+    → List SessionGroup → Type 0
+AreGroupsOf names buckets held books cs xs = AllZip (IsGroupOf names buckets held books) cs xs

@@ -1,6 +1,7 @@
 -- The counters of an account at a moment, by how often they begin again.
 -- Source: TS 32.296, counters.
-use Rattle.std.specs.Prelude.{◌≡◌, ℕ, ◌==◌, List, Option, Some, None, if◌then◌else◌}
+use Rattle.std.specs.Prelude.{◌≡◌, ℕ, ◌==◌, Bool, true, List, Option, Some, None, if◌then◌else◌}
+use Rattle.std.specs.List.{list_any}
 use Rattle.calendar.specs.declared.cycle.Cycle.{Cycle}
 use Rattle.calendar.specs.declared.cycle.Cycle.TheVariants as often
 use Rattle.calendar.specs.contracts.cycle.CyclePartialEq.TheImpl.{ghosts as cycles}
@@ -20,6 +21,15 @@ repeats_with (Some x) = x.cycle
 -- have
 abbrev pub repeats_in : Book → ℕ → Cycle
 repeats_in b g = repeats_with (tariff_of b g)
+
+abbrev pub has_repeating : Book → Cycle → Bool
+has_repeating b repeats = list_any (λ (t : GroupTariff). cycles.eq t.cycle repeats) b.tariffs
+
+-- whether a counter may begin again so often, of any rating group
+abbrev pub may_repeat : Book → Cycle → Bool
+may_repeat b often.None = true
+may_repeat b often.Day = has_repeating b often.Day
+may_repeat b often.Month = has_repeating b often.Month
 
 -- the counters of the groups whose counters begin again so often, each of the cycle at the moment
 abbrev pub AreRepeating : Book → Cycle → ℕ → Stored → List Counter → Type 0

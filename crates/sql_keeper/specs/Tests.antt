@@ -1,7 +1,7 @@
 -- What is tested of a change before it is written, so that what is written reads as the change.
 -- Source: profile.
 use Rattle.std.specs.Prelude.{◌≡◌, ◌⊎◌, ℕ, ◌+◌, ◌==◌, ◌||◌, Bool, true, not, List, [], ◌∷◌, Option}
-use Rattle.std.specs.Prelude.{Some, None, is_some}
+use Rattle.std.specs.Prelude.{Some, None, IsTrue, is_some}
 use Rattle.std.specs.List.{list_all}
 use Rattle.std.specs.Prelude.{if◌then◌else◌}
 use Rattle.calendar.specs.declared.week.Period.{Period}
@@ -17,10 +17,11 @@ use Rattle.reserving.specs.Left.{first_of, is_open_row}
 use Rattle.keepers.specs.declared.loaded.Change.{Change}
 use Rattle.sql_rows.specs.declared.head.Head.{Head as HeadColumns}
 use Rattle.sql_rows.specs.Values.{Group}
-use Rattle.sql_rows.specs.Lists.{GroupAt}
+use Rattle.sql_rows.specs.Lists.{GroupAt, HasNoGroups}
 use Rattle.sql_rows.specs.Content.{Rows as Stored}
 use Rattle.sql_keeper.specs.Content.{Names, names_numbered}
 use Rattle.sql_keeper.specs.Writes.{name_at}
+use Rattle.sql_keeper.specs.declared.settling.NamedSessions.{NamedSessions}
 
 -- the name at the period's place is its own
 abbrev pub IsNamed : List (List ℕ) → Period → Type 0
@@ -83,6 +84,27 @@ is_beside groups s x = is_some (group_in s x.group groups) || not (is_some x.row
 abbrev pub are_beside : List SessionGroup → List ℕ → List GroupAt → Bool
 are_beside groups s xs = list_all (is_beside groups s) xs
 
+-- what is found of a session that is named: whether it is settled, and whether it is new
+pub record IsFound (groups : List SessionGroup) (r : Stored) (x : Session)
+    (y : NamedSessions) : Type 0 where
+  pub settled : IsTrue y.are_settled → IsSettled groups r x
+  pub new : IsTrue y.are_new → HasNoGroups r x.id
+
+-- and of all of them
+pub record AreFound (sessions : List Session) (groups : List SessionGroup) (r : Stored)
+    (y : NamedSessions) : Type 0 where
+  pub settled : IsTrue y.are_settled → AreSettled sessions groups r
+  pub new : IsTrue y.are_new → EachIn (λ (x : Session). HasNoGroups r x.id) sessions
+
+-- each group is of one of the sessions
+abbrev pub are_among : List Session → List SessionGroup → Bool
+are_among sessions groups =
+    list_all (λ (x : SessionGroup). is_some (session_in x.session sessions)) groups
+
+-- nothing is there of the groups' sessions
+abbrev pub AreNewGroups : Stored → List SessionGroup → Type 0
+AreNewGroups r groups = EachIn (λ (x : SessionGroup). HasNoGroups r x.session) groups
+
 -- ---- all that is tested
 
 -- a change may be made of what is stored of its account
@@ -90,3 +112,14 @@ pub record MayBeMade (names : Names) (change : Change) (r : Stored) : Type 0 whe
   pub reservations : AreWritable names change.rows.sessions change.rows.groups
   pub numbers : AreNumbered (first_number r.head) change.rows.next_charge change.charges.items
   pub settled : AreSettled change.rows.sessions change.rows.groups r
+
+-- what is found of a change: whether it may be made, and whether its groups are new
+pub record IsChangeFound (names : Names) (change : Change) (r : Stored) (y : NamedSessions) : Type 0
+  where
+    pub made : IsTrue y.are_settled → MayBeMade names change r
+    pub new : IsTrue y.are_new → AreNewGroups r change.rows.groups
+
+-- it may be made, and whether its groups are new
+pub record IsTested (names : Names) (change : Change) (r : Stored) (are_new : Bool) : Type 0 where
+  pub made : MayBeMade names change r
+  pub new : IsTrue are_new → AreNewGroups r change.rows.groups

@@ -1,6 +1,7 @@
 -- What a change writes, one row after another.
 -- Source: profile.
-use Rattle.std.specs.Prelude.{◌≡◌, ◌==◌, ℕ, List, [], Option, Some, None, unwrap_or, if◌then◌else◌}
+use Rattle.std.specs.Prelude.{◌≡◌, ◌==◌, ℕ, Bool, true, false, List, [], Option, Some, None}
+use Rattle.std.specs.Prelude.{unwrap_or, if◌then◌else◌}
 use Rattle.std.specs.Prelude.{option_map, slice_get}
 use Rattle.calendar.specs.declared.week.Period.{Period}
 use Rattle.buckets.specs.Row.{Row}
@@ -70,6 +71,25 @@ with_held_group a names r c =
 
 abbrev pub with_groups : List ℕ → Names → List SessionGroup → Content → Content
 with_groups a names = with_each (with_held_group a names)
+
+-- the same of a group of which nothing was there
+abbrev pub with_new_book : List ℕ → List ℕ → ℕ → Option Reservation → Content → Content
+with_new_book a s g None c = c
+with_new_book a s g (Some x) c = with_rows a (with_grant_book s g x.terms.book) c
+
+abbrev pub with_new_group : List ℕ → Names → SessionGroup → Content → Content
+with_new_group a names r c =
+    with_holds a r.session r.group (holds_in r.reservation)
+    (with_new_book a r.session r.group r.reservation
+    (with_rows a (with_group r.session r.group (columns_of names r)) c))
+
+abbrev pub with_new_groups : List ℕ → Names → List SessionGroup → Content → Content
+with_new_groups a names = with_each (with_new_group a names)
+
+-- groups of which nothing was there, or any
+abbrev pub with_groups_put : List ℕ → Names → Bool → List SessionGroup → Content → Content
+with_groups_put a names true gs c = with_new_groups a names gs c
+with_groups_put a names false gs c = with_groups a names gs c
 
 abbrev pub with_texts : List ℕ → Key → Kept → Content → Content
 with_texts a (Request s n) k c = with_rows a (with_answer request_kind s n k) c
@@ -149,10 +169,23 @@ meta_at text t = record { version = latest; book = text; last = t }
 abbrev pub meta_with : List ℕ → Change → Meta
 meta_with text change = meta_at text change.moment
 
+-- the rows of an account as they are put, where nothing was there of its groups, or any
+abbrev pub with_named : List ℕ → Names → Bool → StoredRows → Content → Content
+with_named a names new w c =
+    with_groups_put a names new w.groups (with_sessions a w.sessions (with_counters a w.counters
+    (with_all_counted a w.buckets (with_account a (head_of w) c))))
+
 -- an account's rows that a change names, and its charges
-abbrev pub with_changed_rows : Names → Change → Content → Content
-with_changed_rows names change c =
-    with_all_paid change.number change.charges.items (with_stored change.number names change.rows c)
+abbrev pub with_changed_rows : Names → Bool → Change → Content → Content
+with_changed_rows names new change c =
+    with_all_paid change.number change.charges.items
+    (with_named change.number names new change.rows c)
+
+-- all of a change, as it is put
+abbrev pub with_change_put : Names → Bool → Meta → Change → Option Kept → Content → Content
+with_change_put names new m change texts c =
+    with_redeemed change.redeemed (with_kept change.number change.kept texts
+    (with_changed_rows names new change (with_meta m c)))
 
 -- all of a change
 abbrev pub with_change : Names → Meta → Change → Option Kept → Content → Content

@@ -5,6 +5,7 @@ ghost use Rattle.calendar.specs.contracts.cycle.CyclePartialEq.TheImpl.{ghosts a
 ghost use Rattle.sql_keeper.specs.Content.{Names, shelf_names};
 ghost use Rattle.sql_keeper.specs.LiveGroups.{Gathers};
 ghost use Rattle.sql_keeper.specs.Repeating.{AreEachRepeating, AreRepeating, repeats_in};
+ghost use Rattle.sql_keeper.specs.Repeating.{has_repeating, may_repeat};
 ghost use Rattle.sql_keeper.specs.LiveRows.{account_with, AreCountersAt, AreLiveBuckets};
 ghost use Rattle.sql_keeper.specs.LiveRows.{AreLiveRows, IsReadAccount, IsLiveAccount};
 ghost use Rattle.reserving.specs.Restored.{in_key_order, FindsSame};
@@ -14,17 +15,17 @@ ghost use Rattle.sqlite.specs.Held.{state};
 ghost use Rattle.shelves.specs.Shelves.{Shelf};
 
 use crate::counted_buckets::read_counted;
-use crate::live_groups::read_live_groups;
+use crate::live_groups::{OpenSessions, read_open_sessions};
 use buckets::{Bucket, Purse};
 use calendar::Cycle;
 use identifiers::AccountNumber;
 use reserving::{Counter, GivenRows, Session, SessionGroup, StoredAccount};
 use shelves::TariffShelf;
-use sql_rows::{Head, read_account, read_buckets_live, read_counters_in, read_sessions_open};
+use sql_rows::{Head, read_account, read_buckets_live, read_counters_in};
 use sql_tables::ReadFault;
 use sqlite::{Alter, Connection};
 use std::alloc::Global;
-use tariffs::TariffBook;
+use tariffs::{Tariff, TariffBook};
 use units::Moment;
 
 /// What may still change of an account, whatever the moment.
@@ -115,6 +116,54 @@ fn read_repeating<S: Alter>(
     Ok(counters_repeating(counters, book, repeats))
 }
 
+/// Whether the counter of a tariff's rating group begins again so often.
+fn repeats_so(tariff: &Tariff, repeats: Cycle) -> bool
+    ensures { result ≡ cycles.eq tariff.now.cycle repeats }
+{
+    tariff.cycle() == repeats
+}
+
+/// Whether a book has a rating group whose counter begins again so often.
+fn has_repeating(book: &TariffBook, repeats: Cycle) -> bool
+    ensures { result ≡ has_repeating book.now repeats }
+{
+    let tariffs = book.tariffs();
+    tariffs.iter().any(|tariff| repeats_so(tariff, repeats))
+}
+
+/// Whether a counter may begin again so often: that of a group that the book doesn't have never
+/// does.
+fn may_repeat(book: &TariffBook, repeats: Cycle) -> bool
+    ensures { result ≡ may_repeat book.now repeats }
+{
+    match repeats {
+        Cycle::None => true,
+        Cycle::Day => has_repeating(book, Cycle::Day),
+        Cycle::Month => has_repeating(book, Cycle::Month),
+    }
+}
+
+/// The counters of an account, at a moment, of the groups whose counters begin again so often. None
+/// is read where the book has no such group.
+fn read_if_any<S: Alter>(
+    conn: &mut Connection<S>,
+    alloc: Global,
+    account: &AccountNumber,
+    book: &TariffBook,
+    repeats: Cycle,
+    moment: Moment,
+) -> Result<Vec<Counter>, ReadFault>
+    requires idle { HasIdleBook (state S.Store conn.old) }
+    ensures { Gathers (λ trees xs.
+        AreRepeating book.now repeats moment (rows_in trees account.now) xs.items)
+        (state S.Store conn.old) (state S.Store conn.new) result }
+{
+    if !may_repeat(book, repeats) {
+        return Ok(Vec::new(alloc));
+    }
+    Ok(read_repeating(conn, alloc, account, book, repeats, moment)?)
+}
+
 /// Counters of a moment, by how often they begin again.
 #[derive(Drop)]
 struct RepeatingCounters {
@@ -136,9 +185,9 @@ fn read_each_repeating<S: Alter>(
         x.never.items x.daily.items x.monthly.items)
         (state S.Store conn.old) (state S.Store conn.new) result }
 {
-    let never = read_repeating(conn, alloc, account, book, Cycle::None, moment)?;
-    let daily = read_repeating(conn, alloc, account, book, Cycle::Day, moment)?;
-    let monthly = read_repeating(conn, alloc, account, book, Cycle::Month, moment)?;
+    let never = read_if_any(conn, alloc, account, book, Cycle::None, moment)?;
+    let daily = read_if_any(conn, alloc, account, book, Cycle::Day, moment)?;
+    let monthly = read_if_any(conn, alloc, account, book, Cycle::Month, moment)?;
     Ok(RepeatingCounters {
         never,
         daily,
@@ -196,8 +245,9 @@ fn read_live_rows<S: Alter>(
         (state S.Store conn.old) (state S.Store conn.new) result }
 {
     let purse = read_purse(conn, alloc, account)?;
-    let sessions = read_sessions_open(conn, alloc, account)?;
-    let groups = read_live_groups(conn, alloc, account, names, &purse, &sessions)?;
+    let OpenSessions { sessions, groups } = read_open_sessions(
+        conn, alloc, account, names, &purse,
+    )?;
     Ok(LiveRows {
         purse,
         sessions,

@@ -2,9 +2,9 @@
 -- none.
 -- Source: profile.
 use Rattle.std.specs.Prelude.{◌≡◌, ℕ, ◌&&◌, ◌||◌, nat_eq, nat_lt, nat_le, ◌<◌, Bool, not, List, []}
-use Rattle.std.specs.Prelude.{◌∷◌, length, Option, Some, None, option_map, is_some, false}
+use Rattle.std.specs.Prelude.{◌∷◌, ◌++◌, length, Option, Some, None, option_map, is_some, false}
 use Rattle.std.specs.Prelude.{if◌then◌else◌, IsTrue}
-use Rattle.std.specs.Ordering.{nat_cmp, is_lt}
+use Rattle.std.specs.Ordering.{nat_cmp, is_lt, ordering_then}
 use Rattle.std.specs.Cmp.Lexicographic.{slice_cmp}
 use Rattle.std.specs.List.{find}
 use Rattle.sqlite_value.specs.declared.value.Value.TheVariants.{Text}
@@ -13,6 +13,7 @@ use Rattle.buckets.specs.Row.{Row as Bucket}
 use Rattle.reserving.specs.declared.session.Session.{Session}
 use Rattle.reserving.specs.declared.session.Counter.{Counter}
 use Rattle.reserving.specs.declared.charge.ChargeRow.{ChargeRow}
+use Rattle.reserving.specs.Left.{is_open_row}
 use Rattle.reserving.specs.Rows.{AreApart}
 use Rattle.sql_tables.specs.Keyed.{same_name}
 use Rattle.sql_tables.specs.Selects.{only}
@@ -78,8 +79,38 @@ pub record GroupAt : Type 0 where
   pub group : ℕ
   pub row : Group
 
+-- of a session: nothing of rating groups, no book of a reservation, and nothing is held
+pub record HasNoGroups (rows : Rows) (s : List ℕ) : Type 0 where
+  pub groups : (g : ℕ) → rows.groups s g ≡ None
+  pub books : (g : ℕ) → rows.grant_books s g ≡ None
+  pub holds : (g n : ℕ) → rows.holds s g n ≡ None
+
 abbrev pub group_at_before : GroupAt → GroupAt → Bool
 group_at_before x y = nat_lt x.group y.group
+
+-- what an open session has of a rating group
+pub record OpenGroupAt : Type 0 where
+  pub session : List ℕ
+  pub group : ℕ
+  pub row : Group
+
+-- the columns after the session's, and then the session
+abbrev pub open_group_cells : OpenGroupAt → Values
+open_group_cells x = group_cells x.group x.row ++ Text x.session ∷ []
+
+-- by the session, and within one by the rating group
+abbrev pub open_group_before : OpenGroupAt → OpenGroupAt → Bool
+open_group_before x y =
+    is_lt (ordering_then (slice_cmp nat_cmp x.session y.session) (nat_cmp x.group y.group))
+
+abbrev pub is_group_of : List ℕ → ℕ → OpenGroupAt → Bool
+is_group_of s g x = same_name x.session s && nat_eq x.group g
+
+-- all that open sessions have of rating groups
+abbrev pub AreOpenGroups : Rows → List OpenGroupAt → Type 0
+AreOpenGroups rows xs = (s : List ℕ) (g : ℕ) →
+    option_map (λ (x : OpenGroupAt). x.row) (find (is_group_of s g) xs)
+    ≡ (if is_open_row (rows.sessions s) then rows.groups s g else None)
 
 -- the columns after the session's
 abbrev pub group_at_cells : GroupAt → Values
@@ -109,6 +140,53 @@ abbrev pub AreHolds : Rows → List ℕ → List HoldAt → Type 0
 AreHolds rows s xs = (g n : ℕ) →
     option_map (λ (x : HoldAt). x.amount) (find (λ x. nat_eq x.group g && nat_eq x.bucket n) xs)
     ≡ rows.holds s g n
+
+-- what is held for a session of an account
+pub record SessionHoldAt : Type 0 where
+  pub session : List ℕ
+  pub group : ℕ
+  pub bucket : ℕ
+  pub amount : ℕ
+
+-- the columns after the session's, and then the session
+abbrev pub session_hold_cells : SessionHoldAt → Values
+session_hold_cells h =
+    nat h.group ∷ nat h.bucket ∷ nat h.amount ∷ Text h.session ∷ []
+
+-- by the session, within one by the rating group, and within that by the bucket
+abbrev pub session_hold_before : SessionHoldAt → SessionHoldAt → Bool
+session_hold_before x y =
+    is_lt (ordering_then (ordering_then (slice_cmp nat_cmp x.session y.session)
+    (nat_cmp x.group y.group)) (nat_cmp x.bucket y.bucket))
+
+abbrev pub is_hold_of : List ℕ → ℕ → ℕ → SessionHoldAt → Bool
+is_hold_of s g n x = same_name x.session s && (nat_eq x.group g && nat_eq x.bucket n)
+
+-- all that is held for sessions of the account
+abbrev pub AreAllHolds : Rows → List SessionHoldAt → Type 0
+AreAllHolds rows xs = (s : List ℕ) (g n : ℕ) →
+    option_map (λ (x : SessionHoldAt). x.amount) (find (is_hold_of s g n) xs) ≡ rows.holds s g n
+
+-- the number of the book of a reservation of one of the account's sessions
+pub record SessionBookAt : Type 0 where
+  pub session : List ℕ
+  pub group : ℕ
+  pub book : ℕ
+
+abbrev pub session_book_cells : SessionBookAt → Values
+session_book_cells x = nat x.group ∷ nat x.book ∷ Text x.session ∷ []
+
+abbrev pub session_book_before : SessionBookAt → SessionBookAt → Bool
+session_book_before x y =
+    is_lt (ordering_then (slice_cmp nat_cmp x.session y.session) (nat_cmp x.group y.group))
+
+abbrev pub is_book_of : List ℕ → ℕ → SessionBookAt → Bool
+is_book_of s g x = same_name x.session s && nat_eq x.group g
+
+-- those of all reservations of the account
+abbrev pub AreAllGrantBooks : Rows → List SessionBookAt → Type 0
+AreAllGrantBooks rows xs = (s : List ℕ) (g : ℕ) →
+    option_map (λ (x : SessionBookAt). x.book) (find (is_book_of s g) xs) ≡ rows.grant_books s g
 
 -- the number of the book of a session's reservation in a rating group
 pub record GrantBookAt : Type 0 where

@@ -179,7 +179,7 @@ fn group_from(row: &Row) -> Result<GroupColumns, ReadFault>
 }
 
 /// The names of the periods, which are there exactly where the group has a reservation.
-fn periods_from(row: &Row, is_reserved: bool) -> Result<Option<PeriodNames>, ReadFault>
+pub(crate) fn periods_from(row: &Row, is_reserved: bool) -> Result<Option<PeriodNames>, ReadFault>
     ensures { IfOk result (λ o. ArePeriods row.now is_reserved o) }
 {
     if !is_reserved {

@@ -9,6 +9,8 @@ ghost use Rattle.sqlite.specs.Held.{state};
 ghost use Rattle.sqlite.specs.Listing.{understood};
 ghost use Rattle.sqlite.specs.State.{HasCleanDisk, IsUnchanged, Survives};
 ghost use Rattle.sqlite.specs.Values.{bound, or_null};
+ghost use Rattle.sqlite_schema.specs.Rules.{Keeps};
+ghost use Rattle.sqlite_schema.specs.declared.schema.Constraint.TheVariants.{ForeignKey};
 ghost use Rattle.sqlite_value.specs.Order.{Row as Values, column};
 ghost use Rattle.sqlite_value.specs.declared.value.Value.TheVariants.{Int, Null, Text};
 ghost use Rattle.std.specs.Str.{IsUtf8};
@@ -60,6 +62,9 @@ pub fn read<S: Alter>(
     ensures stops { Survives (state S.Store conn.old) (state S.Store conn.new)
         (λ _. (state S.Store conn.old).is_open ≡ false) }
     ensures fault { IfErr result (λ e. ¬ (e ≡ ReadFault.Rules)) }
+    // A row whose columns are a key of another table has a row there.
+    ensures keys { HasCleanDisk (state S.Store conn.new) → IfOk result (λ _.
+        Keeps ForeignKey book_schema (state S.Store conn.old).now.trees) }
 {
     // For the prover alone: looking at the value makes known here what its type keeps.
     let _ours = conn.schema();
