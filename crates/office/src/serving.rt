@@ -65,8 +65,8 @@ pub fn serve_office<K: Keeper, W: Write>(
         Ok(answer) => answer,
         Err(fault) => return Err(OfficeFault::Store(fault)),
     };
-    match write_answer_line(alloc, writer, &answer) {
-        Ok(()) => Ok(status_of(&answer)),
+    match write_answer_line(writer, &answer) {
+        Ok(()) => Ok(status_of(answer.answer())),
         Err(fault) => Err(OfficeFault::Write(fault)),
     }
 }

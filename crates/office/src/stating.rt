@@ -26,6 +26,7 @@ use shelves::TariffShelf;
 use statements::{AccountMonth, StatementFault, export, statement};
 use std::alloc::Global;
 use std::io::Write;
+use wire_answers::WrittenAnswer;
 use units::Moment;
 
 /// What is asked of an account: its charges of a month.
@@ -153,5 +154,6 @@ fn write_unknown<W: Write>(alloc: Global, writer: &mut W) -> Result<(), StreamFa
         (WritesBeginning (W.contents writer.old) (W.contents writer.new) unknown_line) }
 {
     let unknown = Answer::Refused(Refusal::AccountUnknown);
-    write_answer_line(alloc, writer, &unknown)
+    let unknown = WrittenAnswer::new(alloc, unknown)?;
+    write_answer_line(writer, &unknown)
 }
