@@ -1,2 +1,0 @@
-pub mod OnceLemmas
-pub mod EndLemmas
