@@ -1,3 +1,5 @@
+//! Why a tariff book was not read.
+
 ghost use Rattle.std.specs.Prelude.{◌≡◌};
 ghost use Rattle.book_fields.specs.Faults.{number_of};
 ghost use Rattle.book_fields.specs.declared.fault.BookFault.TheVariants.{Memory};

@@ -202,9 +202,7 @@ pub fn next_line<R: Read>(alloc: Global, reader: &mut R) -> Result<Option<Vec<u8
         if ends_line(byte) {
             return Ok(Some(line));
         }
-        let Ok(()) = line.push(byte) else {
-            return Err(StreamFault::Memory);
-        };
+        line.push(byte)?;
     }
     Err(StreamFault::Memory)
 }

@@ -1,3 +1,5 @@
+//! The charges of a keeper whose store fails, for tests.
+
 use crate::source::{ChargeSource, ChargeVisitor};
 use identifiers::AccountNumber;
 use keepers::{Failing, StoreFault};

@@ -1,3 +1,5 @@
+//! The charges of the keeper in memory.
+
 ghost use Rattle.std.specs.Prelude.{◌≡◌, None, option_map, [], ◌∷◌};
 ghost use Rattle.std.specs.List.{filter};
 ghost use Rattle.keepers.specs.Tables.{charge_in};

@@ -1,3 +1,5 @@
+//! What gives an account's charges, and what is shown them.
+
 ghost use Rattle.std.specs.Prelude.{◌≡◌, Bool, OnErr};
 ghost use Rattle.keepers.specs.Keeping.{Reads};
 ghost use Rattle.reserving.specs.ChargeColumns.{ChargeColumns};

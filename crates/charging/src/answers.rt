@@ -1,3 +1,5 @@
+//! The answers of a run.
+
 use commands::Answer;
 use keepers::StoreFault;
 

@@ -1,3 +1,5 @@
+//! One command, answered and committed.
+
 ghost use Rattle.keepers.specs.Faults.{HasCause};
 ghost use Rattle.std.specs.Prelude.{◌≡◌, IfOk, OnErr, OnOk, max};
 ghost use Rattle.charging.specs.Parts.{Leaves, PartKeeps};

@@ -1,3 +1,5 @@
+//! Tests of commands over the keeper in memory.
+
 mod allowances;
 mod balances;
 mod counting;

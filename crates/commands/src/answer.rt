@@ -1,3 +1,5 @@
+//! Answers to requests and to operators.
+
 ghost use Rattle.std.specs.Prelude.{◌≡◌, ◌==◌, nat_eq};
 ghost use Rattle.std.specs.List.{find};
 ghost use Rattle.std.specs.Cmp.Lexicographic.{pointwise};

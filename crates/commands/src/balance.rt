@@ -1,3 +1,5 @@
+//! The balance of an account.
+
 ghost use Rattle.std.specs.Prelude.{◌≡◌};
 
 use identifiers::AccountNumber;

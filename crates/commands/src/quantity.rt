@@ -1,3 +1,5 @@
+//! A number of units of a kind.
+
 ghost use Rattle.std.specs.Prelude.{◌≡◌, ◌≤◌, IsTrue};
 ghost use Rattle.commands.specs.Quantities.{is_quantity};
 

@@ -1,3 +1,5 @@
+//! The bytes of an answer of HTTP.
+
 ghost use Rattle.std.specs.Prelude.{◌≡◌, ◌++◌, ℕ, IfOk, OnOk, OnErr, IfSome, None};
 ghost use Rattle.std.specs.Prelude.{true, false, string_bytes};
 ghost use Rattle.json_fields.specs.declared.fault.WireFault.TheVariants.{Memory, NotRequest};

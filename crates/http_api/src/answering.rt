@@ -1,3 +1,5 @@
+//! A request, answered over a keeper.
+
 ghost use Rattle.std.specs.Prelude.{Ok, IsErrOf, OnOk, OnErr};
 ghost use Rattle.std.specs.Io.KnownBytes.{Appends};
 ghost use Rattle.http_answers.specs.Asking.{Asking, reads, IsAsked};

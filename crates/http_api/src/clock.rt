@@ -1,3 +1,5 @@
+//! What tells the time of requests.
+
 ghost use Rattle.std.specs.Prelude.{◌≡◌, ℕ, Option, Some};
 
 use units::Moment;

@@ -1,3 +1,5 @@
+//! Why a connection wasn't served to its end.
+
 use byte_streams::StreamFault;
 use thiserror::Error;
 

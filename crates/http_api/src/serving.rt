@@ -1,3 +1,5 @@
+//! The requests of a connection, one after another.
+
 ghost use Rattle.std.specs.Prelude.{◌≡◌, ◌≤◌, ◌<◌, ◌+◌, ◌*◌, length};
 ghost use Rattle.http_answers.specs.Routes.{table};
 ghost use Rattle.http_api.specs.Connections.{left_after, ServesConnection};

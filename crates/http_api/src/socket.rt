@@ -1,3 +1,5 @@
+//! The requests of a socket.
+
 ghost use Rattle.std.specs.Prelude.{◌≡◌, ◌≤◌, IfOk};
 ghost use Rattle.charging.specs.Continued.{Continues, LeavesOn};
 

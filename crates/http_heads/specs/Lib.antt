@@ -5,3 +5,4 @@ pub mod Fields
 pub mod Found
 pub mod Requests
 pub mod Shortest
+pub mod Words

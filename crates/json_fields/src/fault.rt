@@ -1,3 +1,5 @@
+//! Why a text was not read.
+
 ghost use Rattle.std.specs.Prelude.{◌≡◌};
 ghost use Rattle.json_fields.specs.declared.fault.WireFault.TheVariants.{Memory};
 

@@ -1,3 +1,5 @@
+//! Why a keeper didn't do what it was asked.
+
 use std::alloc::AllocError;
 use thiserror::Error;
 

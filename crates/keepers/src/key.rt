@@ -1,3 +1,5 @@
+//! Keys of kept answers.
+
 ghost use Rattle.std.specs.Prelude.{◌≡◌, IfOk};
 ghost use Rattle.keepers.specs.Keys.{same_key, key_of};
 

@@ -1,3 +1,5 @@
+//! A keeper in memory.
+
 ghost use Rattle.std.specs.Prelude.{◌≡◌, ℕ, IfOk};
 ghost use Rattle.keepers.specs.Tables.{no_tables, charge_in};
 ghost use Rattle.keepers.specs.Whole.{AreWhole};
@@ -110,10 +112,7 @@ impl Keeper for MemoryKeeper {
         account: &AccountNumber,
         moment: Moment,
     ) -> Result<Option<Loaded<'b>>, StoreFault> {
-        match load_entry(&self.accounts, shelf, account, moment) {
-            Ok(found) => Ok(found),
-            Err(fault) => Err(refused(fault)),
-        }
+        load_entry(&self.accounts, shelf, account, moment).map_err(refused)
     }
 
     fn view<'b>(
@@ -122,10 +121,7 @@ impl Keeper for MemoryKeeper {
         account: &AccountNumber,
         moment: Moment,
     ) -> Result<Option<Account<'b>>, StoreFault> {
-        match view_entry(&self.accounts, shelf, account, moment) {
-            Ok(found) => Ok(found),
-            Err(fault) => Err(refused(fault)),
-        }
+        view_entry(&self.accounts, shelf, account, moment).map_err(refused)
     }
 
     fn has_account(&mut self, account: &AccountNumber) -> Result<bool, StoreFault> {

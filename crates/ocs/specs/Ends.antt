@@ -1,7 +1,8 @@
 -- How the program ends, by what its words say.
 -- Source: profile.
-use Rattle.std.specs.Prelude.{◌≡◌, ◌⊎◌, ℕ, Bool, true, false, List, Option}
+use Rattle.std.specs.Prelude.{◌≡◌, ◌⊎◌, Bool, true, false, List, Option}
 use Rattle.std.specs.Io.KnownBytes.{Appends}
+use Rattle.byte_streams.specs.Words.{Bytes}
 use Rattle.clap.specs.Values.{kind_of}
 use Rattle.clap.specs.Words.{IsAmong, Text, fault_of}
 use Rattle.clap.specs.declared.error.kind.ErrorKind.{ErrorKind}
@@ -27,13 +28,13 @@ IfOnce _ says = Unit {0}
 
 -- a refusal of it is printed: of an operator's command, or that the account of a statement isn't
 -- there; no other is refused
-abbrev pub IsRefused : ProgramWords → Option (List ℕ) → Option (List ℕ) → Type 0
+abbrev pub IsRefused : ProgramWords → Option Bytes → Option Bytes → Type 0
 IsRefused (words.Office office) old new = PrintsAnswer Failed old new
 IsRefused (words.Statement statement) old new = Appends old new unknown_line
 IsRefused _ old new = ⊥
 
 -- an import has printed its counts, an operator's command its answer, with which it ends so
-abbrev pub HasPrinted : ProgramWords → Option (List ℕ) → Option (List ℕ) → Status → Type 0
+abbrev pub HasPrinted : ProgramWords → Option Bytes → Option Bytes → Status → Type 0
 HasPrinted (words.Import import) old new status = PrintsCounts old new
 HasPrinted (words.Office office) old new status = PrintsAnswer status old new
 HasPrinted _ old new status = Unit {0}

@@ -39,10 +39,7 @@ pub(crate) fn answer_office<O: Write>(
     ensures unwritten { IfErr result (λ fault.
         IfDatabase fault IsUnanswered → output.new ≡ output.old) }
 {
-    match command_office(rt, words, output) {
-        Ok(status) => Ok(status),
-        Err(fault) => Err(ProgramFault::Database(fault)),
-    }
+    command_office(rt, words, output).map_err(ProgramFault::Database)
 }
 
 /// Tells an account's month.
@@ -57,10 +54,7 @@ pub(crate) fn answer_statement<O: Write>(
     ensures unwritten { IfErr result (λ fault.
         IfDatabase fault IsUnasked → output.new ≡ output.old) }
 {
-    match state_office(rt, words, output) {
-        Ok(status) => Ok(status),
-        Err(fault) => Err(ProgramFault::Database(fault)),
-    }
+    state_office(rt, words, output).map_err(ProgramFault::Database)
 }
 
 /// Adds the vouchers of a file, and tells what became of them.
@@ -92,10 +86,7 @@ pub(crate) fn answer_replay<O: Write>(
     ensures reached { IfErr result IsReplayFault }
     ensures unwritten { IfErr result (λ fault. IfLines fault AreUnread → output.new ≡ output.old) }
 {
-    let file = match open_file(rt, replay.file.as_str()) {
-        Ok(file) => file,
-        Err(fault) => return Err(ProgramFault::Database(fault)),
-    };
+    let file = open_file(rt, replay.file.as_str()).map_err(ProgramFault::Database)?;
     let Office { mut keeper, shelf } = match open_office(rt, &replay.database, Wary) {
         Ok(office) => office,
         Err(fault) => return Err(ProgramFault::Database(fault)),

@@ -1,8 +1,10 @@
 -- What is told of an account's month: a statement or an export of it, or that there is no account.
 -- Source: profile.
-use Rattle.std.specs.Prelude.{◌≡◌, ◌+◌, ◌≤◌, ℕ, Bool, List, Option, Result, if◌then◌else◌, IfOk}
+use Rattle.std.specs.Prelude.{◌≡◌, ◌+◌, ◌≤◌, ℕ, List, Option, Result, if◌then◌else◌, IfOk}
 use Rattle.std.specs.Prelude.{Ok, Err, IsErrOf, OnErr, min}
 use Rattle.std.specs.Io.KnownBytes.{Appends}
+use Rattle.units.specs.Words.{Moment}
+use Rattle.byte_streams.specs.Words.{Bytes}
 use Rattle.byte_streams.specs.declared.StreamFault.TheVariants as stream
 use Rattle.buckets.specs.Row.{Row}
 use Rattle.commands.specs.declared.answer.Answer.TheVariants.{Refused}
@@ -35,22 +37,22 @@ use Rattle.office.specs.declared.status.Status.TheVariants.{Done, Failed}
 
 -- the text of these charges and buckets, as of a moment; the month is civil in the zone of the
 -- first book, which all books of a shelf have
-abbrev pub rows_text : Shelf → MonthQuery → ℕ → List ChargeColumns → List Row → List ℕ
+abbrev pub rows_text : Shelf → MonthQuery → Moment → List ChargeColumns → List Row → Bytes
 rows_text b q t charges buckets =
     if q.csv then export_text b.first q.month charges
     else statement_text b.first q.account q.month t charges buckets
 
 -- of an account's ledger: all of its charges, and its buckets at the moment, by number
-abbrev pub ledger_text : Shelf → MonthQuery → ℕ → Ledger → List ℕ
+abbrev pub ledger_text : Shelf → MonthQuery → Moment → Ledger → Bytes
 ledger_text b q t ledger =
     rows_text b q t (charge_rows ledger) (by_number (buckets_at (validity_of b) t ledger))
 
 -- the line of an account that isn't there
-abbrev pub unknown_line : List ℕ
+abbrev pub unknown_line : Bytes
 unknown_line = answer_line (Refused AccountUnknown)
 
 -- what is told of an account by its history, and how that ends: one that wasn't opened is refused
-abbrev pub month_text : Shelf → MonthQuery → ℕ → History → List ℕ
+abbrev pub month_text : Shelf → MonthQuery → Moment → History → Bytes
 month_text b q t h = if h.opened then ledger_text b q t h.ledger else unknown_line
 
 abbrev pub month_status : History → Status
@@ -59,14 +61,14 @@ month_status h = if h.opened then Done else Failed
 -- ---- what is written
 
 -- the text is written, and it ends so; at a fault a beginning of the text is
-pub record Tells (ends : Status) (old new : Option (List ℕ)) (text : List ℕ)
+pub record Tells (ends : Status) (old new : Option Bytes) (text : Bytes)
     (result : Result Status OfficeFault) : Type 0 where
   pub whole : IfOk result (λ status. (status ≡ ends) × Appends old new text)
   pub beginning : OnErr result (WritesBeginning old new text)
 
 -- so the month is told as of the moment of a command, for every list of accepted commands whose
 -- tables a keeper holds
-abbrev pub IsMonthTold : Shelf → MonthQuery → ℕ → Tables → Option (List ℕ) → Option (List ℕ) →
+abbrev pub IsMonthTold : Shelf → MonthQuery → Moment → Tables → Option Bytes → Option Bytes →
     Result Status OfficeFault → Type 0
 IsMonthTold b q t tables old new result =
     (list : List Accepted) → IsInTime list → AreTables b list tables →

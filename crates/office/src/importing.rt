@@ -120,14 +120,8 @@ pub fn serve_import<K: Keeper, W: Write>(
     ensures stops { StopsAtStore K.failed K.clean keeper.old keeper.new writer.old writer.new
         result }
 {
-    let counts = match import(alloc, keeper, shelf, rows, moment) {
-        Ok(counts) => counts,
-        Err(fault) => return Err(OfficeFault::Store(fault)),
-    };
-    match write_counts(alloc, writer, counts) {
-        Ok(()) => Ok(()),
-        Err(fault) => Err(OfficeFault::Write(fault)),
-    }
+    let counts = import(alloc, keeper, shelf, rows, moment).map_err(OfficeFault::Store)?;
+    write_counts(alloc, writer, counts).map_err(OfficeFault::Write)
 }
 
 /// Writes counts as a line.

@@ -1,3 +1,5 @@
+//! The exit status.
+
 ghost use Rattle.std.specs.Prelude.{◌≡◌};
 ghost use Rattle.office.specs.Told.{status_number, status_of};
 

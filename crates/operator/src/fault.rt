@@ -1,3 +1,5 @@
+//! Why words aren't the program's.
+
 use std::alloc::AllocError;
 use thiserror::Error;
 

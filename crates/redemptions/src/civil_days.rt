@@ -1,3 +1,5 @@
+//! What knows where civil days end.
+
 ghost use Rattle.std.specs.Prelude.{◌≡◌, ℕ, Option};
 
 use units::Moment;

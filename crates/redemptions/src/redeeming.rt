@@ -1,3 +1,5 @@
+//! A voucher that is redeemed.
+
 ghost use Rattle.std.specs.Prelude.{◌≡◌, ◌↔◌, IsErrOf, IsTrue, None};
 ghost use Rattle.redemptions.specs.Standing.{is_spent};
 ghost use Rattle.redemptions.specs.Redeeming.{redemption, EndsTooLate};
@@ -57,16 +59,14 @@ pub fn redeem<C: CivilDays>(
     ensures late { IsErrOf result RedeemRefusal.EndOutOfRange ↔
         EndsTooLate (C.day_end calendar.now) found moment }
 {
-    let Some(voucher) = found else {
-        return Err(RedeemRefusal::VoucherUnknown);
-    };
+    let voucher = found.ok_or(RedeemRefusal::VoucherUnknown)?;
     if voucher.redeemer.is_some() {
         return Err(RedeemRefusal::VoucherSpent);
     }
     let terms = voucher.terms;
-    let Some(until) = terms.bucket_end(moment, calendar) else {
-        return Err(RedeemRefusal::EndOutOfRange);
-    };
+    let until = terms
+        .bucket_end(moment, calendar)
+        .ok_or(RedeemRefusal::EndOutOfRange)?;
     Ok(Redemption {
         amount: terms.amount(),
         from: moment,

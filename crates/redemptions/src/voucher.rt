@@ -1,3 +1,5 @@
+//! The voucher of a code, spent or not.
+
 use crate::terms::VoucherTerms;
 use identifiers::AccountNumber;
 

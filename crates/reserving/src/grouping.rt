@@ -134,9 +134,7 @@ pub(crate) fn add_group(
         used: 0,
         reservation: None,
     };
-    let Ok(()) = groups.insert(place, row) else {
-        return Err(AllocError);
-    };
+    groups.insert(place, row)?;
     Ok(())
 }
 

@@ -26,6 +26,7 @@ pub mod LoadedAlone
 pub mod Made
 pub mod Migrated
 pub mod Moved
+pub mod NewGroups
 pub mod Numbers
 pub mod OneShelf
 pub mod Opens

@@ -1,3 +1,5 @@
+//! Why a book isn't added.
+
 use keepers::StoreFault;
 use shelves::ShelfFault;
 use tariffs::BookFault;

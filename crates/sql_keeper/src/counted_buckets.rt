@@ -142,9 +142,7 @@ pub(crate) fn read_counted<S: Alter>(
     let mut buckets = Vec::new(alloc);
     'rows: for row in rows {
         let bucket = read_bucket(conn, account, row)?;
-        let Ok(()) = buckets.push(bucket) else {
-            return Err(ReadFault::Memory);
-        };
+        buckets.push(bucket)?;
     }
     Ok(buckets)
 }

@@ -1,3 +1,5 @@
+//! Why the database of a book isn't made.
+
 ghost use Rattle.std.specs.Prelude.{◌≡◌};
 ghost use Rattle.sql_keeper.specs.Faults.{fault_number};
 

@@ -1,3 +1,5 @@
+//! Laws of what a database holds and what a stop leaves.
+
 ghost use Rattle.std.specs.Prelude.{ℕ, List};
 ghost use Rattle.sqlite.specs.Held.{Held};
 ghost use Rattle.sql_opening.specs.declared.fault.OpenFault.{OpenFault};

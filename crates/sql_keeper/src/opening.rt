@@ -95,10 +95,7 @@ fn make_tables<S: Alter>(conn: &mut Connection<S>, text: &str) -> Result<(), Cre
     if !conn.is_autocommit() || !is_blank(conn.schema()) {
         return Err(CreateFault::Store);
     }
-    match create_book(conn, text) {
-        Ok(()) => Ok(()),
-        Err(error) => Err(store_fault(error)),
-    }
+    create_book(conn, text).map_err(store_fault)
 }
 
 /// The fault of an error of the store.
@@ -154,10 +151,7 @@ fn find_books<S: Alter>(
     ensures rules { HasCleanDisk (state S.Store conn.new) → IfErr result (λ fault. fault ≡ Rules →
         ¬ AreRuledBooks (content_of (state S.Store conn.old).now.trees).books) }
 {
-    match read_books(conn, alloc) {
-        Ok(books) => Ok(books),
-        Err(fault) => Err(read_fault(fault)),
-    }
+    read_books(conn, alloc).map_err(read_fault)
 }
 
 /// The version that is kept is this one, and its number in the range of versions.

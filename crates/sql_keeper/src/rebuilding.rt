@@ -29,10 +29,7 @@ pub(crate) fn bucket_of(row: &BucketColumns, is_allowance: bool) -> Result<Bucke
 {
     let mut columns = *row;
     columns.kind = kind_of(row.scope.is_some() && is_allowance);
-    match Bucket::from_columns(&columns) {
-        Some(bucket) => Ok(bucket),
-        None => Err(ReadFault::Rules),
-    }
+    Bucket::from_columns(&columns).ok_or(ReadFault::Rules)
 }
 
 /// Whether the number is one of these.
@@ -53,9 +50,7 @@ pub(crate) fn buckets_of(
     let mut buckets = Vec::new(alloc);
     'rows: for row in rows {
         let bucket = bucket_of(row, is_among(numbers, row.number))?;
-        let Ok(()) = buckets.push(bucket) else {
-            return Err(ReadFault::Memory);
-        };
+        buckets.push(bucket)?;
     }
     Ok(buckets)
 }

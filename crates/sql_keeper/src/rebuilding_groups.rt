@@ -49,9 +49,7 @@ fn number_of(numbers: &[GrantBook], group: u32) -> Option<u32>
 fn small_number(number: Option<u32>) -> Result<u8, ReadFault>
     ensures { IfOk result (λ n. number ≡ Some n) }
 {
-    let Some(number) = number else {
-        return Err(ReadFault::Rules);
-    };
+    let number = number.ok_or(ReadFault::Rules)?;
     match u8::try_from(number) {
         Ok(number) => Ok(number),
         Err(_) => Err(ReadFault::Rules),
@@ -68,9 +66,7 @@ fn terms_of(
     ensures { IfOk result (λ x. AreTermsOf (shelf_names books.now) number (names_of names.now) x) }
 {
     let number = small_number(number)?;
-    let Some(book) = books.book(number) else {
-        return Err(ReadFault::Rules);
-    };
+    let book = books.book(number).ok_or(ReadFault::Rules)?;
     let periods = periods_of(book, names)?;
     Ok(Terms {
         book: number,
@@ -130,9 +126,7 @@ fn holds_along(
                 bucket: number,
                 amount,
             };
-            let Ok(()) = holds.push(hold) else {
-                return Err(ReadFault::Memory);
-            };
+            holds.push(hold)?;
         }
     }
     Ok(holds)
@@ -152,10 +146,7 @@ fn holds_of(
         return Err(ReadFault::Rules);
     }
     let items = holds_along(alloc, buckets, group, held)?;
-    match Holds::from_items(items) {
-        Some(holds) => Ok(holds),
-        None => Err(ReadFault::Rules),
-    }
+    Holds::from_items(items).ok_or(ReadFault::Rules)
 }
 
 /// The reservation of a rating group, where it has names of periods.
@@ -219,9 +210,7 @@ pub(crate) fn groups_of(
     let mut groups = Vec::new(alloc);
     'rows: for row in rows {
         let group = group_of(alloc, books, buckets, session, row, held, numbers)?;
-        let Ok(()) = groups.push(group) else {
-            return Err(ReadFault::Memory);
-        };
+        groups.push(group)?;
     }
     Ok(groups)
 }

@@ -50,9 +50,7 @@ fn swept_of(
 ) -> Result<SweptAccount, ReadFault>
     ensures { IfOk result (IsSweptFrom (shelf_names names.now) shelf.now moment account.now rows) }
 {
-    let Some(before) = rows else {
-        return Err(ReadFault::Rules);
-    };
+    let before = rows.ok_or(ReadFault::Rules)?;
     // For the prover alone: looking at the value makes known here what its type keeps.
     let _kept = before.as_of();
     let number = account.clone()?;
@@ -83,9 +81,7 @@ fn read_each<S: Alter>(
     'accounts: for account in accounts {
         let rows = read_live_account(conn, alloc, account, names, shelf, moment)?;
         let next = swept_of(account, rows, names, shelf, moment)?;
-        let Ok(()) = swept.push(next) else {
-            return Err(ReadFault::Memory);
-        };
+        swept.push(next)?;
     }
     Ok(swept)
 }

@@ -25,6 +25,8 @@ pub mod PutVoucher
 pub mod Ranges
 pub mod ReadAccount
 pub mod ReadAccounts
+pub mod ReadAllGrantBooks
+pub mod ReadAllHolds
 pub mod ReadAllowance
 pub mod ReadAllowances
 pub mod ReadAnswer
@@ -40,6 +42,7 @@ pub mod ReadHolds
 pub mod ReadLive
 pub mod ReadMeta
 pub mod ReadOpen
+pub mod ReadOpenGroups
 pub mod ReadReserved
 pub mod ReadSession
 pub mod ReadVoucher

@@ -5,3 +5,4 @@ pub mod Makes
 pub mod Ruled
 pub mod Texts
 pub mod Values
+pub mod Words

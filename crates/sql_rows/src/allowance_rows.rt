@@ -1,3 +1,5 @@
+//! Rows that say which buckets count blocks.
+
 ghost use Rattle.std.specs.Prelude.{◌≡◌, ℕ, Option, map, is_some, IfOk};
 ghost use Rattle.sql_rows.specs.Content.{rows_in, with_allowance, with_rows, without_allowance};
 ghost use Rattle.sql_rows.specs.Lists.{AreAllowances};
@@ -131,9 +133,7 @@ fn numbers_from(alloc: Global, rows: &[Row]) -> Result<Vec<u32>, ReadFault>
     let mut numbers = Vec::new(alloc);
     'rows: for row in rows {
         let number = number_from(row)?;
-        let Ok(()) = numbers.push(number) else {
-            return Err(ReadFault::Memory);
-        };
+        numbers.push(number)?;
     }
     Ok(numbers)
 }

@@ -1,3 +1,5 @@
+//! Rows of tariff books after the first.
+
 ghost use Rattle.std.specs.Prelude.{◌≡◌, List, map, IfErr, MatchResult};
 ghost use Rattle.std.specs.List.{AllByRecursion};
 ghost use Rattle.sql_rows.specs.Content.{content_of, with_book};
@@ -116,9 +118,7 @@ fn books_from(alloc: Global, rows: &[Row]) -> Result<Vec<BookColumns>, ReadFault
     let mut books = Vec::new(alloc);
     'rows: for row in rows {
         let book = book_from(row)?;
-        let Ok(()) = books.push(book) else {
-            return Err(ReadFault::Memory);
-        };
+        books.push(book)?;
     }
     Ok(books)
 }

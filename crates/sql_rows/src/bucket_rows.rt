@@ -1,3 +1,5 @@
+//! Rows of buckets.
+
 ghost use Rattle.std.specs.Prelude.{◌≡◌, map, filter, true, IsTrue, IfOk, OnOk};
 ghost use Rattle.sql_rows.specs.Content.{with_bucket, with_rows};
 ghost use Rattle.sql_rows.specs.Values.{bucket_cells, plain_bucket};
@@ -145,9 +147,7 @@ pub(crate) fn buckets_from(alloc: Global, rows: &[Row]) -> Result<Vec<BucketColu
     let mut buckets = Vec::new(alloc);
     'rows: for row in rows {
         let bucket = bucket_from(row)?;
-        let Ok(()) = buckets.push(bucket) else {
-            return Err(ReadFault::Memory);
-        };
+        buckets.push(bucket)?;
     }
     Ok(buckets)
 }

@@ -1,3 +1,5 @@
+//! Rows of charges.
+
 ghost use Rattle.std.specs.Prelude.{◌≡◌, map, false, IsTrue, IfOk};
 ghost use Rattle.sql_rows.specs.Content.{rows_in, with_charge, with_rows};
 ghost use Rattle.sql_rows.specs.Values.{charge_cells, plain_charge};
@@ -101,9 +103,7 @@ fn charges_from(alloc: Global, rows: &[Row]) -> Result<Vec<ChargeRow>, ReadFault
     let mut charges = Vec::new(alloc);
     'rows: for row in rows {
         let charge = charge_from(alloc, row)?;
-        let Ok(()) = charges.push(charge) else {
-            return Err(ReadFault::Memory);
-        };
+        charges.push(charge)?;
     }
     if !do_numbers_rise(&charges) {
         return Err(ReadFault::Rules);

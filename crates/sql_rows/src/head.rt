@@ -1,3 +1,5 @@
+//! What is kept of an account once.
+
 use units::Moment;
 
 /// What is kept of an account once.

@@ -111,9 +111,7 @@ fn joined(left: Vec<BucketColumns>, held: &[BucketColumns]) -> Result<Vec<Bucket
     let mut at = 0;
     'held: for bucket in held {
         let place = place_of(&rows, at, bucket);
-        let Ok(()) = rows.insert(place, *bucket) else {
-            return Err(ReadFault::Memory);
-        };
+        rows.insert(place, *bucket)?;
         at = place + 1;
     }
     Ok(rows)

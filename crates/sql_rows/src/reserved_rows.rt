@@ -1,3 +1,5 @@
+//! Rating groups of sessions that have a reservation.
+
 ghost use Rattle.std.specs.Prelude.{◌≡◌, map, List, IfErr, MatchResult};
 ghost use Rattle.std.specs.List.{AllByRecursion};
 ghost use Rattle.sql_rows.specs.Content.{content_of};
@@ -61,9 +63,7 @@ fn reserved_rows_from(alloc: Global, rows: &[Row]) -> Result<Vec<ReservedColumns
     let mut reserved = Vec::new(alloc);
     'rows: for row in rows {
         let one = reserved_from(alloc, row)?;
-        let Ok(()) = reserved.push(one) else {
-            return Err(ReadFault::Memory);
-        };
+        reserved.push(one)?;
     }
     Ok(reserved)
 }

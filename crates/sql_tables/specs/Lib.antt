@@ -5,3 +5,4 @@ pub mod Selects
 pub mod Stages
 pub mod Statements
 pub mod Texts
+pub mod Words

@@ -1,3 +1,5 @@
+//! A statement that writes.
+
 ghost use Rattle.std.specs.Prelude.{◌≡◌};
 ghost use Rattle.sql_tables.specs.Statements.{Attempts};
 ghost use Rattle.sqlite.specs.Held.{state};

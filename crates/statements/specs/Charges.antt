@@ -2,6 +2,8 @@
 -- Source: profile.
 use Rattle.std.specs.Prelude.{◌≡◌, ℕ, ◌+◌, ◌≤◌, min, List, Option, Result, OnErr, OnOk, IsErrOf}
 use Rattle.std.specs.Io.KnownBytes.{Appends}
+use Rattle.byte_streams.specs.Words.{Bytes}
+use Rattle.reserving.specs.Words.{ChargeNumber}
 use Rattle.keepers.specs.Faults.{max_failures}
 use Rattle.keepers.specs.Tables.{Tables}
 use Rattle.reserving.specs.ChargeColumns.{ChargeColumns}
@@ -23,8 +25,9 @@ pub record Asks {K T : Type 0} (content : K → Tables) (failed : K → ℕ) (ho
   pub cause : IsErrOf result Store → min (failed old + 1) max_failures ≤ failed new
 
 -- the text of an account's charges is written, or a beginning of it at a fault
-pub record Writes {T : Type 0} (charges : ℕ → Option ChargeColumns) (old new : Option (List ℕ))
-    (text : List ChargeColumns → List ℕ) (result : Result T StatementFault) : Type 0 where
+pub record Writes {T : Type 0} (charges : ChargeNumber → Option ChargeColumns)
+    (old new : Option Bytes) (text : List ChargeColumns → Bytes) (result : Result T StatementFault)
+    : Type 0 where
   pub whole : (rows : List ChargeColumns) → AreCharges charges rows →
       OnOk result (Appends old new (text rows))
   pub beginning : (rows : List ChargeColumns) → AreCharges charges rows →

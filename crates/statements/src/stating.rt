@@ -1,3 +1,5 @@
+//! A statement and an export of a month.
+
 ghost use Rattle.std.specs.Prelude.{◌≡◌, OnOk, OnErr, IfOk, ℕ};
 ghost use Rattle.std.specs.Io.KnownBytes.{Appends};
 ghost use Rattle.reserving.specs.ChargeColumns.{ChargeColumns};

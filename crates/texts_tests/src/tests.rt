@@ -1,3 +1,5 @@
+//! Tests of texts in and out.
+
 mod answers;
 mod contents;
 mod faults;

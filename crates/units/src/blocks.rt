@@ -1,3 +1,5 @@
+//! Units, blocks, and the blocks that units start.
+
 ghost use Rattle.std.specs.Prelude.{◌≡◌, ◌<◌, ◌≤◌};
 ghost use Rattle.units.specs.Blocks.{started, CutsAlike};
 

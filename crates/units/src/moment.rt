@@ -1,3 +1,5 @@
+//! Moments.
+
 ghost use Rattle.std.specs.Prelude.{◌≡◌, ℕ, ◌≤◌, ◌<◌, ◌↔◌, IsSome, IfSome};
 
 use std::marker::Model;

@@ -1,5 +1,7 @@
 -- Reading a balance that was written.
 use Rattle.std.specs.Prelude.{ℕ, List, [], ◌∷◌, Bool, Option, Some, None, Result, Ok}
+use Rattle.units.specs.Words.{Moment, GroupId, greatest_number}
+use Rattle.identifiers.specs.Words.{AccountName}
 use Rattle.serde_json.specs.Data.{Data, Items}
 use Rattle.serde_json.specs.Find.{get, as_array, as_bool}
 use Rattle.identifiers.specs.Texts.{is_account_number}
@@ -22,11 +24,11 @@ use Rattle.wire_answers.specs.Members.{member_in, number_in, text_in}
 abbrev pub amount_in : List ℕ → Data → Result ℕ WireFault
 amount_in name d = number_in name 0 18446744073709551615 d
 
-abbrev pub moment_in : List ℕ → Data → Result ℕ WireFault
+abbrev pub moment_in : List ℕ → Data → Result Moment WireFault
 moment_in name d = number_in name 0 4102488000 d
 
-abbrev pub scope_in : Data → Result (Option ℕ) WireFault
-scope_in d = optional_in (name_of avp.Scope) NotRequest 0 4294967295 d
+abbrev pub scope_in : Data → Result (Option GroupId) WireFault
+scope_in d = optional_in (name_of avp.Scope) NotRequest 0 greatest_number d
 
 -- which unit a Unit names is seen where its text is compared
 abbrev pub unit_when : Option Data → BucketUnit
@@ -51,7 +53,7 @@ amounts_in d = do
 unfoldable pub bucket_with : Amounts → Data → Result BucketBalance WireFault
 bucket_with amounts d = do
   f ← moment_in (name_of avp.From) d
-  n ← number_in names.number 0 4294967295 d
+  n ← number_in names.number 0 greatest_number d
   s ← scope_in d
   u ← moment_in (name_of avp.Until) d
   Ok (record {
@@ -81,7 +83,7 @@ buckets_in d = do
   ds ← or_fault NotRequest (as_array v)
   buckets_from ds
 
-unfoldable pub account_in : Data → Result (List ℕ) WireFault
+unfoldable pub account_in : Data → Result AccountName WireFault
 account_in d = do
   s ← text_in account d
   where_holds (is_account_number s) NotRequest s

@@ -1,3 +1,5 @@
+//! An answer, read.
+
 ghost use Rattle.std.specs.Prelude.{◌≡◌, ◌≤◌, ◌⊎◌, IfOk, Ok};
 ghost use Rattle.serde_json.specs.View.{view};
 ghost use Rattle.serde_json.specs.Find.{get};
@@ -9,7 +11,8 @@ ghost use Rattle.wire_answers.specs.ReadingAnswers.{checked_when, unserved_in, s
 ghost use Rattle.wire_answers.specs.ReadingAnswers.{outcome_told, request_answer_at, refusal_at};
 ghost use Rattle.wire_answers.specs.ReadingAnswers.{done_at, answer_when, balance_when};
 ghost use Rattle.wire_answers.specs.ReadingAnswers.{refused_when, answer_of, AnswersReadAgain};
-ghost use Rattle.wire_answers.specs.ReadingAnswers.{ReadsWritten, AnswersAreInOrder};
+ghost use Rattle.wire_answers.specs.ReadingAnswers.{ReadsTexts, ReadsWritten};
+ghost use Rattle.wire_answers.specs.ReadingAnswers.{AnswersAreInOrder};
 
 use crate::members;
 use crate::reading_balances::balance;
@@ -209,6 +212,7 @@ pub fn read_answer(alloc: Global, bytes: &[u8]) -> Result<Answer, WireFault>
     ensures text { IfOk result (λ a. answer_text a ≡ bytes.now) }
     ensures said { IfOk result (λ a. answer_of bytes.now ≡ Ok a) }
     ensures written { ReadsWritten bytes.now result }
+    ensures texts { ReadsTexts bytes.now result }
 {
     let answer = match answer(alloc, bytes) {
         Ok(answer) => answer,

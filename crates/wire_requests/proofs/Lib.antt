@@ -6,3 +6,4 @@ pub mod Said
 pub mod SaidServices
 pub mod Told
 pub mod SaidIsRead
+pub mod ReadIsFree

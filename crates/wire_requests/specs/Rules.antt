@@ -1,6 +1,7 @@
 -- What the types of a request's parts keep: each value of the program keeps it.
 use Rattle.std.specs.Prelude.{◌≡◌, ℕ, ◌≤◌, List, true, Ok, IfSome, ⊤}
 use Rattle.std.specs.List.{AllByRecursion}
+use Rattle.units.specs.Words.{greatest_number}
 use Rattle.identifiers.specs.Texts.{is_session_id, is_account_number}
 use Rattle.commands.specs.Quantities.{is_quantity}
 use Rattle.commands.specs.Used.{Used}
@@ -26,12 +27,12 @@ abbrev pub IsUsed : Used → Type 0
 IsUsed u = is_report u.kind u.parts ≡ true
 
 pub record IsService (s : Service) : Type 0 where
-  pub group : s.group ≤ 4294967295
+  pub group : s.group ≤ greatest_number
   pub requested : IfSome s.requested IsRequested
   pub used : IfSome s.used IsUsed
 
 pub record IsEvent (e : Event) : Type 0 where
-  pub group : e.group ≤ 4294967295
+  pub group : e.group ≤ greatest_number
   pub requested : IsRequested e.requested
 
 abbrev pub IsAsk : Ask → Type 0
@@ -43,7 +44,7 @@ IsAsk (ask.Refund r) = is_refund r.micros r.currency ≡ true
 
 pub record IsRequest (r : Request) : Type 0 where
   pub session : is_session_id r.session ≡ true
-  pub number : r.number ≤ 4294967295
+  pub number : r.number ≤ greatest_number
   pub account : is_account_number r.account ≡ true
   pub ask : IsAsk r.ask
 

@@ -1,3 +1,5 @@
+//! Where a request is in its session.
+
 /// Where a session's request stands in its session.
 #[derive(Clone, Copy, PartialEq, Eq)]
 pub(crate) enum Phase {

@@ -1,2 +1,3 @@
 pub mod Numbers
 pub mod Months
+pub mod Words

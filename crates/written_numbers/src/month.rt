@@ -1,3 +1,5 @@
+//! A civil month.
+
 ghost use Rattle.std.specs.Prelude.{◌≡◌, ◌≤◌, ◌%◌, IsTrue, if◌then◌else◌, Some, None};
 ghost use Rattle.written_numbers.specs.Months.{as_month, is_month, month_of};
 

@@ -1,0 +1,227 @@
+-- Groups of which nothing was there, put without a removal.
+use Rattle.std.proofs.Common.{◌≡◌, ℕ, Bool, true, false, cond, List, [], ◌∷◌, refl, sym, ap, subst}
+use Rattle.std.proofs.Common.{◌∙◌, Option, Some, None}
+use Rattle.std.specs.Prelude.{if◌then◌else◌, ◌&&◌, nat_eq, option_map}
+use Rattle.identifiers.specs.Texts.{same_name}
+use Rattle.buckets.specs.Holding.{AreHolds}
+use Rattle.reserving.specs.declared.session.Session.{Session}
+use Rattle.reserving.specs.declared.session.SessionGroup.{SessionGroup}
+use Rattle.reserving.specs.declared.session.Reservation.{Reservation}
+use Rattle.reserving.specs.Sessions.{is_of, group_in, holds_in}
+use Rattle.reserving.specs.Stored.{StoredRows}
+use Rattle.reserving.specs.Rows.{EachIn, AreApart}
+use Rattle.reserving.specs.Left.{first_of}
+use Rattle.reserving.proofs.KeysFound.{found_session}
+use Rattle.reserving.proofs.LeftParted.{one_group}
+use Rattle.reserving.proofs.LeftTests.{none_more, first_alone}
+use Rattle.reserving.proofs.Lists.{EachIn-found, EachIn-weaker}
+use Rattle.keepers.specs.Keyed.{same_group}
+use Rattle.keepers.specs.declared.loaded.Change.{Change}
+use Rattle.keepers.specs.Naming.{IsNamed}
+use Rattle.sql_rows.specs.Values.{Kept, Meta}
+use Rattle.sql_rows.specs.Content.{Rows, Content, with_group, with_meta, with_rows}
+use Rattle.sql_rows.specs.Lists.{HasNoGroups}
+use Rattle.sql_keeper.specs.Content.{Names}
+use Rattle.sql_keeper.specs.Tests.{AreNewGroups, AreWritable, IsTested}
+use Rattle.sql_keeper.specs.Writes.{columns_of, with_all_paid, with_change, with_change_put}
+use Rattle.sql_keeper.specs.Writes.{with_kept, with_named, with_new_book, with_new_group}
+use Rattle.sql_keeper.specs.Writes.{with_new_groups, with_redeemed, with_stored}
+use Rattle.sql_keeper.proofs.Changed.{AreKeyed, keyed_named, over_stored, stored_over}
+use Rattle.sql_keeper.proofs.Groups.{amount_at, amount_in, book_over, book_put, column_over}
+use Rattle.sql_keeper.proofs.Groups.{holds_over, may_hold, over_groups, over_holds}
+use Rattle.sql_keeper.proofs.Overlays.{each, each_over, name_from, opened, with_none, with_opened}
+use Rattle.sql_keeper.proofs.Overlays.{with_twice}
+
+-- ---- one group
+
+abbrev new_booked : List ℕ → ℕ → Option Reservation → Rows → Rows
+new_booked s g o r = record r {
+  grant_books = λ t h. if same_name s t && nat_eq g h then first_of (book_put o) (r.grant_books t h)
+      else r.grant_books t h;
+}
+
+either : {A : Type 0} (p : Bool) (o : Option A) → o ≡ (if p then o else o)
+either true o = refl
+either false o = refl
+
+new_book_is : (a s : List ℕ) (g : ℕ) (o : Option Reservation) (c : Content) →
+    with_new_book a s g o c ≡ with_rows a (new_booked s g o) c
+new_book_is a s g None c = with_none a c ∙ (λ i. with_rows a (λ r. record r {
+  grant_books = λ t h. either (same_name s t && nat_eq g h) (r.grant_books t h) i;
+}) c)
+new_book_is a s g (Some x) c = refl
+
+-- what is put of it, over what was there
+abbrev put_new : Names → SessionGroup → Rows → Rows
+put_new names r x = record x {
+  groups = λ t h. if same_name r.session t && nat_eq r.group h then Some (columns_of names r)
+      else x.groups t h;
+  grant_books = λ t h. if same_name r.session t && nat_eq r.group h
+      then first_of (book_put r.reservation) (x.grant_books t h) else x.grant_books t h;
+  holds = λ t h n. if same_name r.session t && nat_eq r.group h
+      then first_of (amount_at n (holds_in r.reservation)) (x.holds t h n) else x.holds t h n;
+}
+
+new_put : (a : List ℕ) (names : Names) (r : SessionGroup) (c : Content) →
+    AreHolds (holds_in r.reservation) →
+    with_new_group a names r c ≡ with_rows a (put_new names r) c
+new_put a names r c h =
+    let one = with_group r.session r.group (columns_of names r) in
+    let book = new_booked r.session r.group r.reservation in
+    let three = over_holds r.session r.group (holds_in r.reservation) in
+    holds_over a r.session r.group (holds_in r.reservation)
+    (with_new_book a r.session r.group r.reservation (with_rows a one c)) h
+    ∙ ap (with_rows a three)
+    (new_book_is a r.session r.group r.reservation (with_rows a one c))
+    ∙ with_twice a three book (with_rows a one c)
+    ∙ with_twice a (λ x. three (book x)) one c
+
+-- ---- all groups
+
+abbrev new_amount : ℕ → Option SessionGroup → Option ℕ → Option ℕ
+new_amount n None before = before
+new_amount n (Some r) before = first_of (amount_at n (holds_in r.reservation)) before
+
+abbrev new_book : Option SessionGroup → Option ℕ → Option ℕ
+new_book None before = before
+new_book (Some r) before = first_of (book_put r.reservation) before
+
+abbrev over_new : Names → List SessionGroup → Rows → Rows
+over_new names gs x = record x {
+  groups = λ s g. first_of (option_map (columns_of names) (group_in s g gs)) (x.groups s g);
+  grant_books = λ s g. new_book (group_in s g gs) (x.grant_books s g);
+  holds = λ s g n. new_amount n (group_in s g gs) (x.holds s g n);
+}
+
+new_each : (a : List ℕ) (names : Names) (sessions : List Session) (gs : List SessionGroup)
+    (c : Content) → AreWritable names sessions gs →
+    with_new_groups a names gs c ≡ each a (put_new names) gs c
+unfolding each
+new_each a names sessions [] c h = refl
+new_each a names sessions (r ∷ rs) c h =
+    new_each a names sessions rs (with_new_group a names r c) h.1
+    ∙ ap (each a (put_new names) rs)
+    (new_put a names r c (may_hold names sessions r.session r.reservation h.0))
+
+new_amounts : (n : ℕ) (s : List ℕ) (g : ℕ) (x : SessionGroup) (xs : List SessionGroup)
+    (before : Option ℕ) → EachIn (λ y. same_group x y ≡ false) xs →
+    new_amount n (group_in s g xs)
+    (if is_of s g x then first_of (amount_at n (holds_in x.reservation)) before else before)
+    ≡ new_amount n (group_in s g (x ∷ xs)) before
+new_amounts n s g x xs before h = at (is_of s g x) refl
+  where
+    at : (t : Bool) → is_of s g x ≡ t → new_amount n (group_in s g xs)
+        (if t then first_of (amount_at n (holds_in x.reservation)) before else before)
+        ≡ new_amount n (cond t (Some x) (group_in s g xs)) before
+    at true e = ap (λ o. new_amount n o (first_of (amount_at n (holds_in x.reservation)) before))
+        (none_more same_group (is_of s g) (one_group s g) x xs e h)
+    at false e = refl
+
+new_books : (s : List ℕ) (g : ℕ) (x : SessionGroup) (xs : List SessionGroup)
+    (before : Option ℕ) → EachIn (λ y. same_group x y ≡ false) xs →
+    new_book (group_in s g xs)
+    (if is_of s g x then first_of (book_put x.reservation) before else before)
+    ≡ new_book (group_in s g (x ∷ xs)) before
+new_books s g x xs before h = at (is_of s g x) refl
+  where
+    at : (t : Bool) → is_of s g x ≡ t → new_book (group_in s g xs)
+        (if t then first_of (book_put x.reservation) before else before)
+        ≡ new_book (cond t (Some x) (group_in s g xs)) before
+    at true e = ap (λ o. new_book o (first_of (book_put x.reservation) before))
+        (none_more same_group (is_of s g) (one_group s g) x xs e h)
+    at false e = refl
+
+new_over : (a : List ℕ) (names : Names) (sessions : List Session) (gs : List SessionGroup)
+    (c : Content) → AreApart same_group gs → AreWritable names sessions gs →
+    with_new_groups a names gs c ≡ with_rows a (over_new names gs) c
+new_over a names sessions gs c apart h =
+    new_each a names sessions gs c h
+    ∙ each_over a same_group (put_new names) (over_new names) (λ r. refl)
+    (λ x xs r k i. record r {
+      groups = λ s g. column_over names s g x xs (r.groups s g) k i;
+      grant_books = λ s g. new_books s g x xs (r.grant_books s g) k i;
+      holds = λ s g n. new_amounts n s g x xs (r.holds s g n) k i;
+    }) gs c apart
+
+-- over rows in which nothing was there of them, it is as if what was there were replaced
+module _ (names : Names) (gs : List SessionGroup) (r : Rows) (new : AreNewGroups r gs) where
+  nothing : (s : List ℕ) (g : ℕ) (x : SessionGroup) → group_in s g gs ≡ Some x → HasNoGroups r s
+  nothing s g x e = subst (HasNoGroups r) (found_session s g gs x e)
+      (EachIn-found (λ (y : SessionGroup). HasNoGroups r y.session) (is_of s g) gs x new e)
+
+  book_same : (s : List ℕ) (g : ℕ) (o : Option SessionGroup) → group_in s g gs ≡ o →
+      new_book o (r.grant_books s g) ≡ book_over o (r.grant_books s g)
+  book_same s g None e = refl
+  book_same s g (Some x) e =
+      ap (first_of (book_put x.reservation)) ((nothing s g x e).books g)
+      ∙ first_alone (book_put x.reservation)
+
+  amount_same : (s : List ℕ) (g n : ℕ) (o : Option SessionGroup) → group_in s g gs ≡ o →
+      new_amount n o (r.holds s g n) ≡ amount_in n o (r.holds s g n)
+  amount_same s g n None e = refl
+  amount_same s g n (Some x) e =
+      ap (first_of (amount_at n (holds_in x.reservation))) ((nothing s g x e).holds g n)
+      ∙ first_alone (amount_at n (holds_in x.reservation))
+
+  new_is : over_new names gs r ≡ over_groups names gs r
+  new_is = λ i. record (over_groups names gs r) {
+    grant_books = λ s g. book_same s g (group_in s g gs) refl i;
+    holds = λ s g n. amount_same s g n (group_in s g gs) refl i;
+  }
+
+-- ---- the rows of an account
+
+opened_same : (a : List ℕ) (f g : Rows → Rows) (c : Content) → f (c.rows a) ≡ g (c.rows a) →
+    opened a f c ≡ opened a g c
+opened_same a f g c same = λ i. record (opened a f c) {
+  rows = λ x. at x (same_name a x) refl i;
+}
+  where
+    at : (x : List ℕ) (t : Bool) → same_name a x ≡ t →
+        (if t then f (c.rows x) else c.rows x) ≡ (if t then g (c.rows x) else c.rows x)
+    at x true e = subst (λ y. f (c.rows y) ≡ g (c.rows y)) (name_from a x e) same
+    at x false e = refl
+
+module _ (a : List ℕ) (names : Names) (sessions : List Session) (w : StoredRows) (c : Content)
+    (keyed : AreKeyed w) (may : AreWritable names sessions w.groups)
+    (new : AreNewGroups (c.rows a) w.groups) where
+  -- all but the groups
+  abbrev others : StoredRows
+  others = record w { groups = [] }
+
+  keyed_others : AreKeyed others
+  keyed_others = record {
+    buckets = keyed.buckets;
+    scoped = keyed.scoped;
+    counters = keyed.counters;
+    sessions = keyed.sessions;
+    groups = tt;
+  }
+
+  still_new : AreNewGroups (over_stored names others (c.rows a)) w.groups
+  still_new = EachIn-weaker (λ (x : SessionGroup). HasNoGroups (c.rows a) x.session)
+      (λ x. HasNoGroups (over_stored names others (c.rows a)) x.session) w.groups
+      (λ x h. record { groups = h.groups; books = h.books; holds = h.holds }) new
+
+  named_new : with_named a names true w c ≡ with_stored a names w c
+  named_new =
+      new_over a names sessions w.groups (with_stored a names others c) keyed.groups may
+      ∙ ap (with_rows a (over_new names w.groups))
+      (stored_over a names sessions others c keyed_others tt)
+      ∙ with_opened a (over_new names w.groups) (over_stored names others) c
+      ∙ opened_same a (λ r. over_new names w.groups (over_stored names others r))
+      (over_stored names w) c
+      (new_is names w.groups (over_stored names others (c.rows a)) still_new)
+      ∙ sym (stored_over a names sessions w c keyed may)
+
+-- ---- a change
+
+pub put_is : (names : Names) (new : Bool) (m : Meta) (change : Change) (texts : Option Kept)
+    (c : Content) → IsNamed change.rows → IsTested names change (c.rows change.number) new →
+    with_change_put names new m change texts c ≡ with_change names m change texts c
+put_is names false m change texts c named t = refl
+put_is names true m change texts c named t =
+    ap (λ (d : Content). with_redeemed change.redeemed (with_kept change.number change.kept texts
+    (with_all_paid change.number change.charges.items d)))
+    (named_new change.number names change.rows.sessions change.rows (with_meta m c)
+    (keyed_named change.rows named) t.made.reservations (t.new refl))

@@ -1,0 +1,200 @@
+-- The content of tables whose rows are in their rules.
+use Rattle.std.proofs.Common.{◌≡◌, ◌≤◌, ◌<◌, ℕ, pos, negsuc, List, [], ◌∷◌, length, Bool, true, false}
+use Rattle.std.proofs.Common.{◌&&◌, Some, None, Option, refl, sym, ap, subst, ◌∙◌, arith, nat_eq}
+use Rattle.std.proofs.Common.{inl, inr, drop, IsTrue}
+use Rattle.std.proofs.Common.{nat_le, nat_lt, is_eq}
+use Rattle.std.specs.Prelude.{is_some, option_map}
+use Rattle.std.specs.Cmp.{unsigned_Decides}
+use Rattle.std.specs.Ordering.{eq_by_cmp}
+use Rattle.std.proofs.lemmas.Bool.{and_parts}
+use Rattle.std.proofs.lemmas.Bool.Decides.{nat_tests}
+use Rattle.std.proofs.lemmas.Cmp.{tied_itself}
+use Rattle.identifiers.specs.Texts.{is_account_number}
+use Rattle.shelves.specs.Shelves.{Shelf, count}
+use Rattle.sqlite_value.specs.declared.value.Value.{Value}
+use Rattle.sqlite_value.specs.declared.value.Value.TheVariants.{Null, Int, Real, Text, Blob}
+use Rattle.sqlite_value.specs.Order.{Row, column, row_cmp, value_cmp}
+use Rattle.sqlite_value.proofs.OrderLemmas.{value_cmp_total}
+use Rattle.sqlite_trees.specs.Tree.{Trees, rowid, IsAscending}
+use Rattle.sqlite_schema.specs.Rules.{Fits}
+use Rattle.sqlite_rules.specs.Lists.{Has}
+use Rattle.sqlite_rules.proofs.ListLemmas.{all_has}
+use Rattle.sql_tables.specs.Keyed.{look}
+use Rattle.sql_tables.specs.Schema.{accounts, allowance_buckets, answers, book_schema, books, buckets}
+use Rattle.sql_tables.specs.Schema.{charges, counters, covered, grant_books, holds, key_index, latest}
+use Rattle.sql_tables.specs.Schema.{meta, session_groups, sessions, vouchers}
+use Rattle.sql_tables.proofs.Keys.{keys_split, number_last}
+use Rattle.sql_tables.proofs.Selections.{full_key, meets, one_row}
+use Rattle.sql_rows.specs.Content.{content_of, rows_in}
+use Rattle.sql_rows.specs.Values.{nat, nat_in, text_in, meta_key, head_key, bucket_key, counter_key}
+use Rattle.sql_rows.specs.Values.{session_key, group_key, hold_key, answer_key, voucher_key}
+use Rattle.sql_rows.specs.Values.{charge_key, book_key, meta_in, head_in, bucket_in, counter_in}
+use Rattle.sql_rows.specs.Values.{session_in, group_in, hold_in, answer_in, voucher_in, charge_in}
+use Rattle.sql_rows.specs.Values.{book_in, grant_book_in, allowance_in, covered_in}
+use Rattle.sql_rules.specs.Columns.{is_moment, is_numbering, is_some_money, is_within}
+use Rattle.sql_rules.specs.Rules.{are_kept_texts, is_ruled_account, is_ruled_allowance}
+use Rattle.sql_rules.specs.Rules.{is_ruled_answer, is_ruled_book, is_ruled_bucket, is_ruled_charge}
+use Rattle.sql_rules.specs.Rules.{is_ruled_counter, is_ruled_covered, is_ruled_grant_book}
+use Rattle.sql_rules.specs.Rules.{is_ruled_group, is_ruled_hold, is_ruled_meta, is_ruled_session}
+use Rattle.sql_rules.specs.Rules.{is_ruled_voucher}
+use Rattle.sql_rules.specs.Ruled.{AreInRules, IsInRules, is_answer, is_book, is_bucket, is_charge}
+use Rattle.sql_rules.specs.Ruled.{is_counter, is_group, is_head, is_session, is_voucher}
+use Rattle.sql_rules.specs.Tables.{AreRuled, IsRuledAt}
+use Rattle.sql_rules.proofs.Decoded.{account_told, answer_told, book_told, bucket_told, charge_told}
+use Rattle.sql_rules.proofs.Decoded.{counter_told, covered_told, grant_book_told, group_told}
+use Rattle.sql_rules.proofs.Decoded.{head_told, hold_told, meta_told, number_key, session_told}
+use Rattle.sql_rules.proofs.Decoded.{text_key, voucher_told}
+use Rattle.sql_rules.proofs.Lookups.{found_in}
+
+-- ---- parts of keys
+
+first_key : (v w : Value) (vs ws : Row) → eq_by_cmp row_cmp (v ∷ vs) (w ∷ ws) ≡ true →
+    is_eq (value_cmp v w) ≡ true
+first_key v w vs ws e =
+    (and_parts (is_eq (value_cmp v w)) (eq_by_cmp row_cmp vs ws) (sym (keys_split v w vs ws) ∙ e)).0
+
+later_key : (v w : Value) (vs ws : Row) → eq_by_cmp row_cmp (v ∷ vs) (w ∷ ws) ≡ true →
+    eq_by_cmp row_cmp vs ws ≡ true
+later_key v w vs ws e =
+    (and_parts (is_eq (value_cmp v w)) (eq_by_cmp row_cmp vs ws) (sym (keys_split v w vs ws) ∙ e)).1
+
+some_of : {A : Type 0} (o : Option A) → is_some o ≡ true → (x : A) × (o ≡ Some x)
+some_of None e = absurd (cc e)
+some_of (Some x) e = (x, refl)
+
+from_two : (n : ℕ) → nat_le 2 n ≡ true → nat_le 1 n ≡ true
+from_two n e = grind (arith, nat_tests, e)
+
+above_zero : (n : ℕ) → nat_lt 0 n ≡ true → 0 < n
+above_zero n e = grind (arith, nat_tests, e)
+
+-- ---- one row of what is kept once
+
+meta_meets : (v : Value) → nat_eq 1 (nat_in v) ≡ true →
+    eq_by_cmp row_cmp (nat 1 ∷ []) (v ∷ []) ≡ true
+meta_meets Null e = absurd (cc e)
+meta_meets (Int (pos m)) e =
+    number_last m 1 ∙ (unsigned_Decides m 1).1 (sym ((unsigned_Decides 1 m).0 e))
+meta_meets (Int (negsuc m)) e = absurd (cc e)
+meta_meets (Real x) e = absurd (cc e)
+meta_meets (Text t) e = absurd (cc e)
+meta_meets (Blob b) e = absurd (cc e)
+
+alone : (rows : List Row) → ((r s : Row) → Has rows r → Has rows s → r ≡ s)
+    → IsAscending (λ a b. is_eq (value_cmp (rowid a) (rowid b)) ≡ false) rows → length rows ≤ 1
+alone [] same up = omega arith
+alone (r ∷ []) same up = omega arith
+alone (r ∷ s ∷ more) same up =
+    let is : r ≡ s = same r s (inl refl) (inr (inl refl)) in
+    let tie : is_eq (value_cmp (rowid r) (rowid s)) ≡ true =
+    ap (λ x. is_eq (value_cmp (rowid r) (rowid x))) (sym is)
+    ∙ ap is_eq (tied_itself value_cmp_total (rowid r)) in
+    absurd (let clash : true ≡ false = sym tie ∙ up.0.0 in cc)
+
+module _ (shelf : Shelf) (trees : Trees) (fits : Fits book_schema trees)
+    (all : AreRuled shelf latest trees) where
+  ruled : (at : ℕ) → at < 14 → IsRuledAt shelf at trees
+  ruled at low = all at low
+
+  one_meta : length (trees meta.tree) ≤ 1
+  one_meta =
+      let so : IsRuledAt shelf 0 trees = ruled 0 (omega arith) in
+      alone (trees meta.tree) (λ r s h k.
+      one_row meta.primary book_schema meta (inl refl) (key_index meta) (inl refl) refl refl refl
+      trees fits so.stored meta_key
+      (λ x e. full_key meta.primary meta_key x (refl, tt) e) r s h k
+      (meta_meets (column r 1) (and_parts (nat_eq 1 (nat_in (column r 1))) (is_moment (nat_in (column r 4)))
+      (all_has (λ x. IsTrue (is_ruled_meta x)) (trees meta.tree) r so.rows h)).0)
+      (meta_meets (column s 1) (and_parts (nat_eq 1 (nat_in (column s 1))) (is_moment (nat_in (column s 4)))
+      (all_has (λ x. IsTrue (is_ruled_meta x)) (trees meta.tree) s so.rows k)).0))
+      so.stored.0
+
+  account_rows : (a : List ℕ) → AreInRules shelf a (rows_in trees a)
+  account_rows a = record {
+    head = λ h e.
+        let it = found_in accounts trees is_ruled_account (ruled 1 (omega arith)).rows head_in
+        (head_key a) h e in (
+          subst (λ t. is_account_number t ≡ true)
+              (text_key a (column it.0 1) (first_key (Text a) (column it.0 1) [] [] it.1))
+              (account_told it.0 it.2),
+          subst (λ x. is_head x ≡ true) it.3 (head_told it.0 it.2),
+        );
+    buckets = λ n b e.
+        let it = found_in buckets trees is_ruled_bucket (ruled 2 (omega arith)).rows bucket_in
+        (bucket_key a n) b e in
+        subst (λ x. is_bucket x ≡ true) it.3 (bucket_told it.0 it.2);
+    counters = λ g k x e.
+        let it = found_in counters trees is_ruled_counter (ruled 3 (omega arith)).rows counter_in
+        (counter_key a g k) x e in
+        subst (λ y. is_counter y ≡ true) it.3 (counter_told it.0 it.2);
+    sessions = λ s x e.
+        let it = found_in sessions trees is_ruled_session (ruled 4 (omega arith)).rows session_in
+        (session_key a s) x e in
+        subst (λ y. is_session y ≡ true) it.3 (session_told it.0 it.2);
+    groups = λ s g x e.
+        let it = found_in session_groups trees (is_ruled_group shelf) (ruled 5 (omega arith)).rows
+        group_in (group_key a s g) x e in
+        subst (λ y. is_group shelf y ≡ true) it.3 (group_told shelf it.0 it.2);
+    holds = λ s g n amount e.
+        let it = found_in holds trees is_ruled_hold (ruled 6 (omega arith)).rows hold_in
+        (hold_key a s g n) amount e in
+        subst (λ y. is_some_money y ≡ true) it.3 (hold_told it.0 it.2);
+    answers = λ kind name number k e.
+        let it = found_in answers trees is_ruled_answer (ruled 7 (omega arith)).rows answer_in
+        (answer_key a kind name number) k e in
+        subst (λ y. is_answer a y ≡ true) it.3
+        (subst (λ t. is_answer t (answer_in (drop 1 it.0)) ≡ true)
+        (text_key a (column it.0 1) (first_key (Text a) (column it.0 1)
+        (nat kind ∷ Text name ∷ nat number ∷ [])
+        (column it.0 2 ∷ column it.0 3 ∷ column it.0 4 ∷ []) it.1))
+        (answer_told it.0 it.2));
+    charges = λ n x e.
+        let it = found_in charges trees is_ruled_charge (ruled 9 (omega arith)).rows charge_in
+        (charge_key a n) x e in
+        subst (λ y. is_charge y ≡ true) it.3 (charge_told it.0 it.2);
+    grant_books = λ s g n e.
+        let it = found_in grant_books trees (is_ruled_grant_book shelf) (ruled 11 (omega arith)).rows
+        grant_book_in (group_key a s g) n e in
+        subst (λ y. is_within 1 (count shelf) y ≡ true) it.3 (grant_book_told shelf it.0 it.2);
+    allowances = λ n e.
+        let some = some_of (option_map allowance_in (look allowance_buckets trees (bucket_key a n))) e in
+        let it = found_in allowance_buckets trees is_ruled_allowance (ruled 12 (omega arith)).rows
+        allowance_in (bucket_key a n) some.0 some.1 in
+        let low = and_parts (nat_le 1 (nat_in (column it.0 2)))
+        (nat_le (nat_in (column it.0 2)) 4_294_967_295) it.2 in
+        subst (λ m. is_numbering m ≡ true)
+        (number_key n (column it.0 2) low.0
+        (first_key (nat n) (column it.0 2) [] []
+        (later_key (Text a) (column it.0 1) (nat n ∷ []) (column it.0 2 ∷ []) it.1))) it.2;
+    covered = λ n blocks e.
+        let it = found_in covered trees is_ruled_covered (ruled 13 (omega arith)).rows covered_in
+        (charge_key a n) blocks e in
+        above_zero blocks (subst (λ y. nat_lt 0 y ≡ true) it.3 (covered_told it.0 it.2));
+  }
+
+  pub content_ruled : IsInRules shelf (content_of trees)
+  content_ruled = record {
+    once = one_meta;
+    meta = λ m e.
+        let it = found_in meta trees is_ruled_meta (ruled 0 (omega arith)).rows meta_in meta_key m e in
+        subst (λ x. is_moment x.last ≡ true) it.3 (meta_told it.0 it.2);
+    rows = account_rows;
+    vouchers = λ code x e.
+        let it = found_in vouchers trees is_ruled_voucher (ruled 8 (omega arith)).rows voucher_in
+        (voucher_key code) x e in
+        subst (λ y. is_voucher code y ≡ true) it.3
+        (subst (λ t. is_voucher t (voucher_in (drop 1 it.0)) ≡ true)
+        (text_key code (column it.0 1) (first_key (Text code) (column it.0 1) [] [] it.1))
+        (voucher_told it.0 it.2));
+    books = λ n x e.
+        let it = found_in books trees is_ruled_book (ruled 10 (omega arith)).rows book_in (book_key n)
+        x e in
+        let low = and_parts (nat_le 2 (nat_in (column it.0 1))) (nat_le (nat_in (column it.0 1)) 16)
+        (and_parts (is_within 2 16 (nat_in (column it.0 1)))
+        (is_within 1 4_102_444_799 (nat_in (column it.0 2))) it.2).0 in
+        subst (λ y. is_book n y ≡ true) it.3
+        (subst (λ m. is_book m (book_in (drop 1 it.0)) ≡ true)
+        (number_key n (column it.0 1) (from_two (nat_in (column it.0 1)) low.0)
+        (first_key (nat n) (column it.0 1) [] [] it.1))
+        (book_told it.0 it.2));
+  }

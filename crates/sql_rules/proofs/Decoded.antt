@@ -1,0 +1,194 @@
+-- A row that is in its rules is told as a row that is.
+use Rattle.std.proofs.Common.{◌≡◌, ℕ, pos, negsuc, List, [], ◌∷◌, drop, Bool, true, false, ◌&&◌, ◌||◌}
+use Rattle.std.proofs.Common.{Some, None, Option, refl, sym, ◌∙◌, nat_le, nat_eq, nat_lt, is_eq}
+use Rattle.std.proofs.Common.{arith, subst}
+use Rattle.std.specs.Prelude.{if◌then◌else◌, ◌==◌}
+use Rattle.std.specs.Cmp.{unsigned_Decides}
+use Rattle.std.specs.Cmp.Lexicographic.{bytes_decides}
+use Rattle.std.proofs.lemmas.Bool.{and_from, and_parts}
+use Rattle.std.proofs.lemmas.Bool.Decides.{nat_tests}
+use Rattle.identifiers.specs.Texts.{is_account_number, is_session_id, is_voucher_code}
+use Rattle.shelves.specs.Shelves.{Shelf, count}
+use Rattle.sqlite_value.specs.declared.value.Value.{Value}
+use Rattle.sqlite_value.specs.declared.value.Value.TheVariants.{Null, Int, Real, Text, Blob}
+use Rattle.sqlite_value.specs.Order.{Row, column, value_cmp}
+use Rattle.sql_tables.proofs.Keys.{int_tie, text_tie}
+use Rattle.sql_rows.specs.Values.{nat, nat_in, optional_in, text_in, meta_in, head_in, bucket_in}
+use Rattle.sql_rows.specs.Values.{counter_in, session_in, group_in, hold_in, answer_in, voucher_in}
+use Rattle.sql_rows.specs.Values.{charge_in, book_in, grant_book_in, covered_in, PeriodNames}
+use Rattle.sql_rules.specs.Columns.{is_within, is_optional_within, is_moment, is_some_money}
+use Rattle.sql_rules.specs.Columns.{is_money, is_next, is_numbering, is_small}
+use Rattle.sql_rules.specs.Rules.{are_kept_texts, are_periods, is_ruled_answer, is_ruled_book}
+use Rattle.sql_rules.specs.Rules.{is_ruled_grant_book, is_ruled_meta}
+use Rattle.sql_rules.specs.Rules.{is_ruled_account, is_ruled_bucket, is_ruled_counter}
+use Rattle.sql_rules.specs.Rules.{is_ruled_session, is_ruled_group, is_ruled_hold}
+use Rattle.sql_rules.specs.Rules.{is_ruled_charge, is_ruled_covered, is_ruled_voucher}
+use Rattle.sql_rules.specs.Ruled.{is_none_or_within, is_head, is_bucket, is_counter, is_session}
+use Rattle.sql_rules.specs.Ruled.{are_named, is_book, is_group, is_charge, is_voucher}
+
+-- ---- tests of tests
+
+last_three : (a b c d e : Bool) → (a && b && c && d && e) ≡ true → (c && d && e) ≡ true
+last_three true true c d e h = h
+last_three true false c d e h = absurd (cc h)
+last_three false b c d e h = absurd (cc h)
+
+first_three : (a b c d : Bool) → (a && b && c && d) ≡ true → (a && b && c) ≡ true
+first_three true true true d h = refl
+first_three true true false d h = absurd (cc h)
+first_three true false c d h = absurd (cc h)
+first_three false b c d h = absurd (cc h)
+
+pub optional : (low high : ℕ) (v : Value) → is_optional_within low high v ≡ true →
+    is_none_or_within low high (optional_in v) ≡ true
+optional low high Null h = refl
+optional low high (Int n) h = h
+optional low high (Real x) h = refl
+optional low high (Text t) h = refl
+optional low high (Blob b) h = refl
+
+fourth : (a b c d e f : Bool) → (d ≡ true → f ≡ true) → (a && b && c && d && e) ≡ true
+    → (a && b && c && f && e) ≡ true
+fourth true true true true e true to h = h
+fourth true true true true e false to h = absurd (let no : false ≡ true = to refl in cc)
+fourth true true true false e f to h = absurd (cc h)
+fourth true true false d e f to h = absurd (cc h)
+fourth true false c d e f to h = absurd (cc h)
+fourth false b c d e f to h = absurd (cc h)
+
+-- ---- the tables
+
+pub meta_told : (row : Row) → is_ruled_meta row ≡ true → is_moment (meta_in (drop 1 row)).last ≡ true
+meta_told [] h = absurd (cc h)
+meta_told (v ∷ cells) h =
+    (and_parts (nat_eq 1 (nat_in (column cells 0))) (is_moment (nat_in (column cells 3))) h).1
+
+pub head_told : (row : Row) → is_ruled_account row ≡ true → is_head (head_in (drop 1 row)) ≡ true
+head_told [] h = absurd (cc h)
+head_told (v ∷ cells) h =
+    last_three (is_account_number (text_in (column cells 0))) (nat_le (nat_in (column cells 1)) 1)
+    (is_moment (nat_in (column cells 2))) (is_next (nat_in (column cells 3)))
+    (is_next (nat_in (column cells 4))) h
+
+pub bucket_told : (row : Row) → is_ruled_bucket row ≡ true → is_bucket (bucket_in (drop 1 row)) ≡ true
+bucket_told [] h = absurd (cc h)
+bucket_told (v ∷ cells) h =
+    fourth (is_numbering (nat_in (column cells 1))) (is_moment (nat_in (column cells 2)))
+    (is_within 1 4_102_444_800 (nat_in (column cells 3)))
+    (is_optional_within 0 4_294_967_295 (column cells 4)) (is_money (nat_in (column cells 5)))
+    (is_none_or_within 0 4_294_967_295 (optional_in (column cells 4)))
+    (optional 0 4_294_967_295 (column cells 4)) h
+
+pub counter_told : (row : Row) → is_ruled_counter row ≡ true →
+    is_counter (counter_in (drop 1 row)) ≡ true
+counter_told [] h = refl
+counter_told (v ∷ cells) h = h
+
+pub session_told : (row : Row) → is_ruled_session row ≡ true →
+    is_session (session_in (drop 1 row)) ≡ true
+session_told [] h = absurd (cc h)
+session_told (v ∷ cells) h =
+    first_three (is_session_id (text_in (column cells 1))) (is_small (nat_in (column cells 2)))
+    (is_moment (nat_in (column cells 3))) (is_within 1 3 (nat_in (column cells 4))) h
+
+pub hold_told : (row : Row) → is_ruled_hold row ≡ true → is_some_money (hold_in (drop 1 row)) ≡ true
+hold_told [] h = absurd (cc h)
+hold_told (v ∷ cells) h = h
+
+pub charge_told : (row : Row) → is_ruled_charge row ≡ true → is_charge (charge_in (drop 1 row)) ≡ true
+charge_told [] h = absurd (cc h)
+charge_told (v ∷ cells) h = h
+
+pub covered_told : (row : Row) → is_ruled_covered row ≡ true →
+    nat_lt 0 (covered_in (drop 1 row)) ≡ true
+covered_told [] h = absurd (cc h)
+covered_told (v ∷ cells) h = h
+
+-- ---- reservations
+
+named_if : (shelf : Shelf) (b : Bool) (p : PeriodNames) → (b ≡ true → are_named shelf (Some p) ≡ true)
+    → are_named shelf (if b then Some p else None) ≡ true
+named_if shelf true p to = to refl
+named_if shelf false p to = refl
+
+named : (shelf : Shelf) (n : ℕ) (before after : Value) → are_periods shelf n before after ≡ true
+    → are_named shelf (if n == 1 then Some (record { before = text_in before; after = text_in after })
+    else None) ≡ true
+named shelf n before after h =
+    named_if shelf (n == 1) (record { before = text_in before; after = text_in after }) (λ e.
+    let one : n ≡ 1 = grind (arith, nat_tests, e) in
+    subst (λ m. are_periods shelf m before after ≡ true) one h)
+
+pub group_told : (shelf : Shelf) (row : Row) → is_ruled_group shelf row ≡ true →
+    is_group shelf (group_in (drop 1 row)) ≡ true
+group_told shelf [] h = refl
+group_told shelf (v ∷ cells) h =
+    let rest = and_parts _ (are_periods shelf (nat_in (column cells 4)) (column cells 5)
+    (column cells 6)) h in
+    and_from _ _ (and_parts _ _ rest.0).1
+    (named shelf (nat_in (column cells 4)) (column cells 5) (column cells 6) rest.1)
+
+pub grant_book_told : (shelf : Shelf) (row : Row) → is_ruled_grant_book shelf row ≡ true →
+    is_within 1 (count shelf) (grant_book_in (drop 1 row)) ≡ true
+grant_book_told shelf [] h = absurd (cc h)
+grant_book_told shelf (v ∷ cells) h = h
+
+-- ---- with a part of the key
+
+pub account_told : (row : Row) → is_ruled_account row ≡ true →
+    is_account_number (text_in (column row 1)) ≡ true
+account_told row h =
+    first_five (is_account_number (text_in (column row 1))) _ _ _ _ h
+  where
+    first_five : (a b c d e : Bool) → (a && b && c && d && e) ≡ true → a ≡ true
+    first_five true b c d e h = refl
+    first_five false b c d e h = absurd (cc h)
+
+pub answer_told : (row : Row) → is_ruled_answer row ≡ true → are_kept_texts (text_in (column row 1))
+    (answer_in (drop 1 row)).content (answer_in (drop 1 row)).answer ≡ true
+answer_told [] h = absurd (cc h)
+answer_told (v ∷ cells) h = (and_parts _ (are_kept_texts (text_in (column cells 0))
+    (text_in (column cells 4)) (text_in (column cells 5))) h).1
+
+third_fourth : (a b c d e f : Bool) → (c ≡ true → e ≡ true) → (d ≡ true → f ≡ true)
+    → (a && b && c && d) ≡ true → (a && b && e && f) ≡ true
+third_fourth true true true true e f to too h = and_from e f (to refl) (too refl)
+third_fourth true true true false e f to too h = absurd (cc h)
+third_fourth true true false d e f to too h = absurd (cc h)
+third_fourth true false c d e f to too h = absurd (cc h)
+third_fourth false b c d e f to too h = absurd (cc h)
+
+pub voucher_told : (row : Row) → is_ruled_voucher row ≡ true →
+    is_voucher (text_in (column row 1)) (voucher_in (drop 1 row)) ≡ true
+voucher_told [] h = absurd (cc h)
+voucher_told (v ∷ cells) h =
+    third_fourth (is_voucher_code (text_in (column cells 0))) (is_some_money (nat_in (column cells 1)))
+    (is_optional_within 1 3650 (column cells 2))
+    (is_optional_within 0 4_294_967_295 (column cells 3))
+    (is_none_or_within 1 3650 (optional_in (column cells 2)))
+    (is_none_or_within 0 4_294_967_295 (optional_in (column cells 3)))
+    (optional 1 3650 (column cells 2)) (optional 0 4_294_967_295 (column cells 3)) h
+
+pub book_told : (row : Row) → is_ruled_book row ≡ true →
+    is_book (nat_in (column row 1)) (book_in (drop 1 row)) ≡ true
+book_told [] h = absurd (cc h)
+book_told (v ∷ cells) h = h
+
+-- ---- what a value that is a part of a key is
+
+pub text_key : (a : List ℕ) (v : Value) → is_eq (value_cmp (Text a) v) ≡ true → text_in v ≡ a
+unfolding value_cmp
+text_key a Null e = absurd (cc e)
+text_key a (Int n) e = absurd (cc e)
+text_key a (Real x) e = absurd (cc e)
+text_key a (Blob b) e = absurd (cc e)
+text_key a (Text t) e = (bytes_decides t a).0 (sym (text_tie t a) ∙ e)
+
+pub number_key : (n : ℕ) (v : Value) → nat_le 1 (nat_in v) ≡ true → is_eq (value_cmp (nat n) v) ≡ true
+    → nat_in v ≡ n
+number_key n Null some e = absurd (cc some)
+number_key n (Int (pos m)) some e = (unsigned_Decides m n).0 (sym (int_tie m n) ∙ e)
+number_key n (Int (negsuc m)) some e = absurd (cc some)
+number_key n (Real x) some e = absurd (cc some)
+number_key n (Text t) some e = absurd (cc some)
+number_key n (Blob b) some e = absurd (cc some)

@@ -1,0 +1,11 @@
+pub mod Anywhere
+pub mod Contents
+pub mod Decoded
+pub mod Ends
+pub mod Lookups
+pub mod MappedPuts
+pub mod MappedRows
+pub mod Passing
+pub mod Standing
+pub mod Steps
+pub mod Texts

@@ -1,0 +1,149 @@
+-- One more table whose rows are in their rules.
+use Rattle.std.proofs.Common.{◌≡◌, ◌<◌, ℕ, zero, suc, ◌+◌, List, [], ◌∷◌, map, length, sym, ap, subst}
+use Rattle.std.proofs.Common.{◌∙◌, refl, arith, Ok, Err, Result}
+use Rattle.shelves.specs.Shelves.{Shelf}
+use Rattle.sqlite_value.specs.Order.{Row, column}
+use Rattle.sqlite_trees.specs.Tree.{Trees}
+use Rattle.sqlite_trees.specs.declared.store.Store.{Ghosts}
+use Rattle.sqlite_schema.specs.declared.schema.Table.{Table}
+use Rattle.sqlite.specs.Effect.{Database}
+use Rattle.sqlite.specs.Held.{Held, state}
+use Rattle.sqlite.specs.State.{State, HasCleanDisk, IsUnchanged, Shown, Survives}
+use Rattle.sqlite.proofs.Callers.{unchanged_then}
+use Rattle.sqlite.proofs.StateLemmas.{survives_then}
+use Rattle.sql_tables.specs.Schema.{schema_at}
+use Rattle.sql_opening.specs.declared.fault.OpenFault.{OpenFault}
+use Rattle.sql_rules.specs.Rules.{rule_at}
+use Rattle.sql_rules.specs.Tables.{table_at, places_at, places_from, IsTable, IsRuledAt}
+use Rattle.sql_rules.specs.Tables.{AreRuled, AreRuledTo, Tells}
+use Rattle.sql_rules.specs.Walks.{Pass}
+use Rattle.sql_rules.proofs.Standing.{rows_pass, rows_stand}
+
+-- a test sees in a row as it is selected what it sees in the row that is stored
+same_rule : (shelf : Shelf) (at : ℕ) (r : Row)
+    → rule_at shelf at (map (column r) (places_at at)) ≡ rule_at shelf at r
+same_rule shelf zero r = refl
+same_rule shelf (suc zero) r = refl
+same_rule shelf (suc (suc zero)) r = refl
+same_rule shelf (suc (suc (suc zero))) r = refl
+same_rule shelf (suc (suc (suc (suc zero)))) r = refl
+same_rule shelf (suc (suc (suc (suc (suc zero))))) r = refl
+same_rule shelf (suc (suc (suc (suc (suc (suc zero)))))) r = refl
+same_rule shelf (suc (suc (suc (suc (suc (suc (suc zero))))))) r = refl
+same_rule shelf (suc (suc (suc (suc (suc (suc (suc (suc zero)))))))) r = refl
+same_rule shelf (suc (suc (suc (suc (suc (suc (suc (suc (suc zero))))))))) r = refl
+same_rule shelf (suc (suc (suc (suc (suc (suc (suc (suc (suc (suc zero)))))))))) r = refl
+same_rule shelf (suc (suc (suc (suc (suc (suc (suc (suc (suc (suc (suc zero))))))))))) r = refl
+same_rule shelf (suc (suc (suc (suc (suc (suc (suc (suc (suc (suc (suc (suc zero)))))))))))) r =
+    refl
+same_rule shelf (suc (suc (suc (suc (suc (suc (suc (suc (suc (suc (suc (suc (suc zero))))))))))))) r
+    = refl
+same_rule shelf
+    (suc (suc (suc (suc (suc (suc (suc (suc (suc (suc (suc (suc (suc (suc n)))))))))))))) r = refl
+
+-- ---- one table
+
+module _ {S : Type 0} (g : Ghosts S) (shelf : Shelf) (v at : ℕ) (text : List ℕ)
+    (is : IsTable v text at) (old was : Held S) (new : State) (rows : List Row)
+    (then' : IsUnchanged (state g old) (state g was))
+    (shown : Shown text [] (state g was) new rows)
+    (so : (state g old).now.schema ≡ schema_at v) where
+  stays : (state g was).now ≡ (state g old).now
+  stays = then'.0.now_is
+
+  has : (state g was).now.schema ≡ schema_at v
+  has = ap (λ (d : Database). d.schema) stays ∙ so
+
+  pub table_stands : Pass (rule_at shelf at) rows → IsRuledAt shelf at (state g old).now.trees
+  table_stands pass =
+      let all = rows_stand (table_at at).tree (places_from 1 (length (table_at at).columns)) v text is
+      (rule_at shelf at) (same_rule shelf at) (state g was) new rows has shown pass in
+      subst (λ (d : Database). IsRuledAt shelf at d.trees) stays
+      (record { stored = all.0; rows = all.1 })
+
+  pub table_passes : IsRuledAt shelf at (state g old).now.trees → Pass (rule_at shelf at) rows
+  table_passes so' =
+      let here = subst (λ (d : Database). IsRuledAt shelf at d.trees) (sym stays) so' in
+      rows_pass (table_at at).tree (places_from 1 (length (table_at at).columns)) v text is
+      (rule_at shelf at) (same_rule shelf at) (state g was) new rows has shown here.stored here.rows
+
+-- ---- several tables in turn
+
+to_next : (P : ℕ → Type 0) (k : ℕ) → ((i : ℕ) → i < k → P i) → P k → (i : ℕ) → i < k + 1 → P i
+to_next P zero so one zero low = one
+to_next P zero so one (suc i) low = absurd (omega (arith, low))
+to_next P (suc k) so one zero low = so 0 (omega arith)
+to_next P (suc k) so one (suc i) low =
+    to_next (λ j. P (suc j)) k (λ j l. so (suc j) (omega (arith, l))) one i (omega (arith, low))
+
+-- so far
+abbrev pub FoundTo : Shelf → ℕ → State → State → Type 0
+FoundTo shelf k old now = Survives old now (λ _. ⊥)
+    × (HasCleanDisk now → IsUnchanged old now × AreRuledTo shelf k now.now.trees)
+
+pub found_first : {A : Type 0} (shelf : Shelf) (a b : State) (u : A)
+    → Tells (IsRuledAt shelf 0) a b (Ok u) → FoundTo shelf 1 a b
+found_first shelf a b u f = (
+  f.survives,
+  λ clean.
+      let here = f.found clean in (
+        here.0,
+        to_next (λ i. IsRuledAt shelf i b.now.trees) 0 (λ i low. absurd (omega (arith, low))) here.1,
+      ),
+)
+
+pub found_next : {A : Type 0} (shelf : Shelf) (k : ℕ) (a b c : State) (u : A)
+    → FoundTo shelf k a b → Tells (IsRuledAt shelf k) b c (Ok u) → FoundTo shelf (k + 1) a c
+found_next shelf k a b c u so f = (
+  survives_then a b c (λ _. ⊥) (λ _. ⊥) (λ _. ⊥) (λ clean db none. none) (λ clean db none. none)
+      so.0 f.survives,
+  λ clean.
+      let here = so.1 (omega (arith, f.survives.clean, clean)) in
+      let more = f.found clean in
+      let before : AreRuledTo shelf k c.now.trees =
+      subst (λ (d : Database). AreRuledTo shelf k d.trees) (sym more.0.0.now_is) here.1 in (
+        unchanged_then a b c here.0 more.0,
+        to_next (λ i. IsRuledAt shelf i c.now.trees) k before more.1,
+      ),
+)
+
+pub found_not : {A B : Type 0} (shelf : Shelf) (v k : ℕ) (a b c : State) (e : OpenFault)
+    (r : Result B OpenFault) → r ≡ Err e → k < length (schema_at v).tables → FoundTo shelf k a b
+    → Tells {A = A} (IsRuledAt shelf k) b c (Err e) → Tells (AreRuled shelf v) a c r
+found_not shelf v k a b c e r is low so f = subst (Tells (AreRuled shelf v) a c) (sym is) (record {
+  found = λ clean. tt;
+  means = λ clean rules all.
+      let here = so.1 (omega (arith, f.survives.clean, clean)) in
+      f.means clean rules
+      (subst (λ (d : Database). IsRuledAt shelf k d.trees) (sym here.0.0.now_is) (all k low));
+  told = f.told;
+  survives = survives_then a b c (λ _. ⊥) (λ _. ⊥) (λ _. ⊥) (λ clean db none. none)
+      (λ clean db none. none) so.0 f.survives;
+})
+
+pub none_found_not : {A B : Type 0} (shelf : Shelf) (v : ℕ) (a c : State) (e : OpenFault)
+    (r : Result B OpenFault) → r ≡ Err e → 0 < length (schema_at v).tables
+    → Tells {A = A} (IsRuledAt shelf 0) a c (Err e) → Tells (AreRuled shelf v) a c r
+none_found_not shelf v a c e r is low f = subst (Tells (AreRuled shelf v) a c) (sym is) (record {
+  found = λ clean. tt;
+  means = λ clean rules all. f.means clean rules (all 0 low);
+  told = f.told;
+  survives = f.survives;
+})
+
+pub found_all : {A : Type 0} (shelf : Shelf) (v k : ℕ) (a b : State) (u : A)
+    → k ≡ length (schema_at v).tables → FoundTo shelf k a b → Tells (AreRuled shelf v) a b (Ok u)
+found_all shelf v k a b u end so = record {
+  found = λ clean. let here = so.1 clean in
+      (here.0, subst (λ n. AreRuledTo shelf n b.now.trees) end here.1);
+  means = λ clean. tt;
+  told = tt;
+  survives = so.0;
+}
+
+-- the schema stays that of the version
+pub still_ours : (shelf : Shelf) (v k : ℕ) (a b : State) → FoundTo shelf k a b
+    → (HasCleanDisk a → a.now.schema ≡ schema_at v) → HasCleanDisk b → b.now.schema ≡ schema_at v
+still_ours shelf v k a b so ours clean =
+    ap (λ (d : Database). d.schema) (so.1 clean).0.0.now_is
+    ∙ ours (omega (arith, so.0.clean, clean))

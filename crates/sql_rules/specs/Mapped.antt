@@ -1,0 +1,20 @@
+-- Rows that are in their rules, each under its key: what a statement that puts or removes rows keeps.
+-- Source: profile.
+use Rattle.std.specs.Prelude.{◌≡◌, ◌<◌, ℕ, ◌∷◌, Bool, Some, IsTrue}
+use Rattle.shelves.specs.Shelves.{Shelf}
+use Rattle.sqlite_value.specs.declared.value.Value.TheVariants.{Null}
+use Rattle.sqlite_value.specs.Order.{Row}
+use Rattle.sqlite_trees.specs.Tree.{Trees}
+use Rattle.sqlite_schema.specs.declared.schema.Table.{Table}
+use Rattle.sql_tables.specs.Keyed.{look}
+use Rattle.sql_rules.specs.Rules.{rule_at}
+use Rattle.sql_rules.specs.Tables.{table_at}
+
+-- the columns under each key pass the test; no test sees a rowid
+abbrev pub IsMapped : (Row → Bool) → Table → Trees → Type 0
+IsMapped rule table trees =
+    (key cells : Row) → look table trees key ≡ Some cells → IsTrue (rule (Null ∷ cells))
+
+-- in each table of the latest version
+abbrev pub AreMapped : Shelf → Trees → Type 0
+AreMapped shelf trees = (at : ℕ) → at < 14 → IsMapped (rule_at shelf at) (table_at at) trees

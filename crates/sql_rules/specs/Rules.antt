@@ -1,0 +1,130 @@
+-- The rules of the rows, a test a table. That a column is of its kind and no number below 0, that
+-- sums are right and that a row which another one names is there, the schema says already; so a
+-- column that names another row isn't tested again.
+-- Source: profile.
+use Rattle.std.specs.Prelude.{ℕ, ◌&&◌, ◌||◌, Bool, true, List, [], ◌∷◌, is_some, nat_eq, nat_le}
+use Rattle.std.specs.Prelude.{nat_lt, slice_index_or}
+use Rattle.std.specs.List.{list_any}
+use Rattle.identifiers.specs.Texts.{is_account_number, is_reference, is_session_id}
+use Rattle.identifiers.specs.Texts.{is_voucher_code}
+use Rattle.tariffs.specs.Names.{period_named}
+use Rattle.shelves.specs.Shelves.{Shelf, count, dated_books}
+use Rattle.shelves.specs.declared.dated.DatedBook.{DatedBook}
+use Rattle.sqlite_sql.specs.Ops.{is_null}
+use Rattle.sqlite_value.specs.declared.value.Value.{Value}
+use Rattle.sqlite_value.specs.Order.{Row, column}
+use Rattle.wire.specs.Contents.{is_content_text}
+use Rattle.wire_answers.specs.ReadingAnswers.{is_answer_text}
+use Rattle.sql_rows.specs.Values.{text_in}
+use Rattle.sql_rules.specs.Columns.{number_at, text_at, is_within, is_optional_within, is_small}
+use Rattle.sql_rules.specs.Columns.{is_numbering, is_next, is_moment, is_money, is_some_money}
+
+-- one row alone, at 1; its version and its book are read by who opens the database
+abbrev pub is_ruled_meta : Row → Bool
+is_ruled_meta row = nat_eq 1 (number_at row 1) && is_moment (number_at row 4)
+
+abbrev pub is_ruled_account : Row → Bool
+is_ruled_account row =
+    is_account_number (text_at row 1) && nat_le (number_at row 2) 1 && is_moment (number_at row 3)
+    && is_next (number_at row 4) && is_next (number_at row 5)
+
+abbrev pub is_ruled_bucket : Row → Bool
+is_ruled_bucket row =
+    is_numbering (number_at row 2) && is_moment (number_at row 3)
+    && is_within 1 4_102_444_800 (number_at row 4)
+    && is_optional_within 0 4_294_967_295 (column row 5) && is_money (number_at row 6)
+
+abbrev pub is_ruled_counter : Row → Bool
+is_ruled_counter row =
+    is_small (number_at row 2) && is_small (number_at row 3)
+    && nat_le (number_at row 4) 4_000_000_000_000_000_000
+
+-- open, ended, or never opened
+abbrev pub is_ruled_session : Row → Bool
+is_ruled_session row =
+    is_session_id (text_at row 2) && is_small (number_at row 3) && is_moment (number_at row 4)
+    && is_within 1 3 (number_at row 5)
+
+-- ---- reservations
+
+abbrev pub has_period : List ℕ → DatedBook → Bool
+has_period name d = is_some (period_named d.book.periods name)
+
+-- a book on the shelf has a period of this name
+abbrev pub is_period_name : Shelf → List ℕ → Bool
+is_period_name shelf name = list_any (has_period name) (dated_books shelf)
+
+abbrev pub is_period : Shelf → Value → Bool
+is_period shelf v = is_period_name shelf (text_in v)
+
+-- a reservation has two periods, and a group without one has none
+abbrev pub are_periods : Shelf → ℕ → Value → Value → Bool
+are_periods shelf reserved before after =
+    (nat_eq 0 reserved && is_null before && is_null after)
+    || (nat_eq 1 reserved && is_period shelf before && is_period shelf after)
+
+abbrev pub is_ruled_group : Shelf → Row → Bool
+is_ruled_group shelf row =
+    is_small (number_at row 3) && nat_le (number_at row 4) 1_000_000_000_000_000_000
+    && are_periods shelf (number_at row 5) (column row 6) (column row 7)
+
+abbrev pub is_ruled_hold : Row → Bool
+is_ruled_hold row = is_some_money (number_at row 5)
+
+-- a reservation's book is on the shelf
+abbrev pub is_ruled_grant_book : Shelf → Row → Bool
+is_ruled_grant_book shelf row = is_within 1 (count shelf) (number_at row 4)
+
+-- ---- kept answers
+
+-- a request under its session's name and its number, an operator's command under its reference
+abbrev pub is_answer_key : ℕ → List ℕ → ℕ → Bool
+is_answer_key kind name number =
+    (nat_eq 1 kind && is_session_id name && is_small number)
+    || (nat_eq 2 kind && is_reference name && nat_eq 0 number)
+
+abbrev pub are_kept_texts : List ℕ → List ℕ → List ℕ → Bool
+are_kept_texts account content answer =
+    is_account_number account && is_content_text account content && is_answer_text answer
+
+abbrev pub is_ruled_answer : Row → Bool
+is_ruled_answer row =
+    is_answer_key (number_at row 2) (text_at row 3) (number_at row 4)
+    && are_kept_texts (text_at row 1) (text_at row 5) (text_at row 6)
+
+-- ---- vouchers, charges, books, blocks
+
+abbrev pub is_ruled_voucher : Row → Bool
+is_ruled_voucher row =
+    is_voucher_code (text_at row 1) && is_some_money (number_at row 2)
+    && is_optional_within 1 3650 (column row 3)
+    && is_optional_within 0 4_294_967_295 (column row 4)
+
+abbrev pub is_ruled_charge : Row → Bool
+is_ruled_charge row =
+    is_numbering (number_at row 2) && is_moment (number_at row 3) && is_session_id (text_at row 4)
+    && is_small (number_at row 5)
+
+-- a book after the first; its text is read by who opens the database
+abbrev pub is_ruled_book : Row → Bool
+is_ruled_book row =
+    is_within 2 16 (number_at row 1) && is_within 1 4_102_444_799 (number_at row 2)
+
+abbrev pub is_ruled_allowance : Row → Bool
+is_ruled_allowance row = is_numbering (number_at row 2)
+
+-- some block is covered
+abbrev pub is_ruled_covered : Row → Bool
+is_ruled_covered row = nat_lt 0 (number_at row 3)
+
+-- ---- by the table's place
+
+-- the tests, in the order of the tables of all versions
+abbrev pub rules : Shelf → List (Row → Bool)
+rules shelf =
+    is_ruled_meta ∷ is_ruled_account ∷ is_ruled_bucket ∷ is_ruled_counter ∷ is_ruled_session
+    ∷ is_ruled_group shelf ∷ is_ruled_hold ∷ is_ruled_answer ∷ is_ruled_voucher ∷ is_ruled_charge
+    ∷ is_ruled_book ∷ is_ruled_grant_book shelf ∷ is_ruled_allowance ∷ is_ruled_covered ∷ []
+
+abbrev pub rule_at : Shelf → ℕ → Row → Bool
+rule_at shelf at = slice_index_or (rules shelf) at (λ row. true)

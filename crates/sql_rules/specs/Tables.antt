@@ -1,0 +1,110 @@
+-- Tables whose rows are in their rules.
+-- Source: profile.
+use Rattle.std.specs.Prelude.{◌≡◌, ◌<◌, ℕ, zero, suc, List, [], ◌∷◌, codes, map, length, slice_index_or}
+use Rattle.std.specs.Prelude.{None, pos, negsuc, false, IsTrue, Result, IfErr, OnOk}
+use Rattle.std.specs.List.{AllByRecursion}
+use Rattle.shelves.specs.Shelves.{Shelf}
+use Rattle.sqlite_value.specs.declared.value.Value.TheVariants.{Int}
+use Rattle.sqlite_value.specs.declared.keys.Collation.TheVariants.{Binary}
+use Rattle.sqlite_sql.specs.Term.{lit, col}
+use Rattle.sqlite_sql.specs.Query.{Query, inner, end}
+use Rattle.sqlite_trees.specs.Tree.{Trees}
+use Rattle.sqlite_schema.specs.declared.schema.Table.{Table}
+use Rattle.sqlite_schema.specs.declared.command.Command.TheVariants.{Select}
+use Rattle.sqlite.specs.Given.{IsPlain}
+use Rattle.sqlite.specs.Listing.{understood, reads_listing}
+use Rattle.sqlite.proofs.Callers.{command_of}
+use Rattle.sqlite.specs.State.{State, HasCleanDisk, IsUnchanged, Survives}
+use Rattle.sql_tables.specs.Keyed.{IsStored}
+use Rattle.sql_tables.specs.Schema.{book_schema, meta, schema_at}
+use Rattle.sql_opening.specs.declared.fault.OpenFault.{OpenFault}
+use Rattle.sql_opening.specs.declared.fault.OpenFault.TheVariants.{Foreign, Version, Rules, Older}
+use Rattle.sql_rules.specs.Rules.{rule_at}
+
+-- ---- what is in its rules
+
+-- the table at a place among those of all versions
+abbrev pub table_at : ℕ → Table
+table_at at = slice_index_or book_schema.tables at meta
+
+-- no rowid stands twice in the table at this place, and each row is in its rules
+pub record IsRuledAt (shelf : Shelf) (at : ℕ) (trees : Trees) : Type 0 where
+  pub stored : IsStored (trees (table_at at).tree)
+  pub rows : AllByRecursion (λ row. IsTrue (rule_at shelf at row)) (trees (table_at at).tree)
+
+-- of the first tables
+abbrev pub AreRuledTo : Shelf → ℕ → Trees → Type 0
+AreRuledTo shelf k trees = (at : ℕ) → at < k → IsRuledAt shelf at trees
+
+-- of all tables of a version
+abbrev pub AreRuled : Shelf → ℕ → Trees → Type 0
+AreRuled shelf v trees = AreRuledTo shelf (length (schema_at v).tables) trees
+
+-- ---- how it is found
+
+-- a fault of rows, of the store or of memory
+pub record IsOfRows (fault : OpenFault) : Type 0 where
+  pub ours : ¬ (fault ≡ Foreign)
+  pub version : ¬ (fault ≡ Version)
+  pub latest : ¬ (fault ≡ Older)
+
+-- where it answers, the rows are so; where it tells a fault of the rules, they weren't; whatever it
+-- answers, nothing is changed
+pub record Tells {A : Type 0} (are : Trees → Type 0) (old new : State)
+    (result : Result A OpenFault) : Type 0 where
+  pub found : HasCleanDisk new → OnOk result (IsUnchanged old new × are new.now.trees)
+  pub means : HasCleanDisk new → IfErr result (λ fault. fault ≡ Rules → ¬ are old.now.trees)
+  pub told : IfErr result IsOfRows
+  pub survives : Survives old new (λ _. ⊥)
+
+-- the columns at these places of each row of a table, in the order of their rowids
+abbrev pub rows_of : ℕ → List ℕ → Query
+rows_of tree places = record {
+  from = inner tree end;
+  filter = [];
+  group = None;
+  project = map (col 1) places;
+  distinct = false;
+  collations = [];
+  order = (col 1 0, record { collation = Binary; descending = false }) ∷ [];
+  limit = lit (Int (negsuc 0));
+  offset = lit (Int (pos 0));
+}
+
+-- over the schema of a version the text selects these columns
+pub record IsRows (v : ℕ) (text : List ℕ) (tree : ℕ) (places : List ℕ) : Type 0 where
+  pub names : List (List ℕ)
+  pub command : command_of (understood (schema_at v) text)
+      ≡ Select (record { lets = []; body = rows_of tree places }) names
+  pub listing : reads_listing (schema_at v) text ≡ false
+  pub plain : IsPlain (understood (schema_at v) text)
+
+-- the texts for the tables of all versions, in their order
+abbrev pub texts : List (List ℕ)
+texts = codes "SELECT rowid, id, version, book, last_moment FROM meta ORDER BY rowid"
+    ∷ codes "SELECT rowid, account, barred, as_of, next_bucket, next_charge FROM accounts ORDER BY rowid"
+    ∷ codes "SELECT rowid, account, number, starts, ends, scope, credited, available, reserved, charged, expired FROM buckets ORDER BY rowid"
+    ∷ codes "SELECT rowid, account, rating_group, cycle, blocks FROM counters ORDER BY rowid"
+    ∷ codes "SELECT rowid, account, session, last_number, touched, state FROM sessions ORDER BY rowid"
+    ∷ codes "SELECT rowid, account, session, rating_group, used, reserved, period_before, period_after FROM session_groups ORDER BY rowid"
+    ∷ codes "SELECT rowid, account, session, rating_group, bucket, amount FROM holds ORDER BY rowid"
+    ∷ codes "SELECT rowid, account, kind, name, number, content, answer FROM answers ORDER BY rowid"
+    ∷ codes "SELECT rowid, code, amount, days, scope, account FROM vouchers ORDER BY rowid"
+    ∷ codes "SELECT rowid, account, number, moment, session, rating_group, blocks, rated, collected, uncollected FROM charges ORDER BY rowid"
+    ∷ codes "SELECT rowid, number, starts, content FROM books ORDER BY rowid"
+    ∷ codes "SELECT rowid, account, session, rating_group, book FROM grant_books ORDER BY rowid"
+    ∷ codes "SELECT rowid, account, number FROM allowance_buckets ORDER BY rowid"
+    ∷ codes "SELECT rowid, account, number, blocks FROM covered ORDER BY rowid" ∷ []
+
+-- so many places, from one on
+abbrev pub places_from : ℕ → ℕ → List ℕ
+places_from place zero = []
+places_from place (suc count) = place ∷ places_from (suc place) count
+
+-- the places of the rowid and of all columns
+abbrev pub places_at : ℕ → List ℕ
+places_at at = places_from 0 (suc (length (table_at at).columns))
+
+-- over the schema of a version the text selects all columns of the table at this place
+abbrev pub IsTable : ℕ → List ℕ → ℕ → Type 0
+IsTable v text at = IsRows v text (table_at at).tree (places_at at)

@@ -1,0 +1,16 @@
+//! The rules of the rows of each table, and a walk over all tables that tests them.
+#![tactic(auto)]
+
+mod columns;
+mod kept;
+mod laws;
+mod names;
+mod periods;
+mod rows;
+mod ruling;
+mod walking;
+
+pub use crate::laws::{
+    puts_keep_the_rules, ruled_rows_are_ruled_under_their_keys, ruled_rows_are_told_ruled,
+};
+pub use crate::ruling::rules_of;

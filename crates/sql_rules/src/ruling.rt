@@ -1,0 +1,52 @@
+//! Whether each row of each table is in its rules.
+
+ghost use Rattle.std.specs.Prelude.{◌≡◌, length};
+ghost use Rattle.sqlite.specs.Held.{state};
+ghost use Rattle.sqlite.specs.State.{HasCleanDisk};
+ghost use Rattle.sql_tables.specs.Schema.{schema_at};
+ghost use Rattle.sql_opening.specs.Opens.{IsVersion};
+ghost use Rattle.sql_rules.specs.Tables.{AreRuled, Tells};
+
+use crate::walking::table_passes;
+use shelves::TariffShelf;
+use sql_opening::OpenFault;
+use sqlite::{Alter, Connection};
+use std::alloc::Global;
+
+/// How many tables a version has.
+fn count_of(version: u32) -> usize
+    requires { IsVersion version }
+    ensures { result ≡ length (schema_at version).tables }
+{
+    match version {
+        1 => 10,
+        2 => 12,
+        _ => 14,
+    }
+}
+
+/// Tests each row of each table of a version: that no rowid stands twice in its table, and that it
+/// is in the table's rules, where the tariff books are those of the shelf. Each row is read once,
+/// in one pass a table, what is kept once first. Nothing is changed, whatever is answered.
+///
+/// # Errors
+/// `Rules` only where a row is out of its rules or a rowid stands twice; `Store` where the store
+/// failed; `Memory` where memory was refused.
+pub fn rules_of<S: Alter>(
+    conn: &mut Connection<S>,
+    alloc: Global,
+    version: u32,
+    shelf: &TariffShelf,
+) -> Result<(), OpenFault>
+    requires known { IsVersion version }
+    requires ours { HasCleanDisk (state S.Store conn.old) → conn.old.schema ≡ schema_at version }
+    ensures { Tells (AreRuled shelf.now version) (state S.Store conn.old)
+        (state S.Store conn.new) result }
+{
+    let count = count_of(version);
+    table_passes(conn, alloc, version, shelf, 0)?;
+    'tables: for at in 1..count {
+        table_passes(conn, alloc, version, shelf, at)?;
+    }
+    Ok(())
+}

@@ -1,0 +1,205 @@
+//! A walk over all rows of a table, which tests that their rowids rise and that they are in their
+//! rules.
+
+ghost use Rattle.std.specs.Prelude.{◌≡◌, ◌<◌, ℕ, ℤ, Bool, [], ◌∷◌, ◌++◌, List, None, IsTrue, IfOk};
+ghost use Rattle.std.specs.Prelude.{IfSome, OnOk, length, slice_index_or};
+ghost use Rattle.sqlite_value.specs.Order.{Row as Values};
+ghost use Rattle.sqlite.specs.Given.{IsPlain};
+ghost use Rattle.sqlite.specs.Held.{Held, state};
+ghost use Rattle.sqlite.specs.Listing.{understood};
+ghost use Rattle.sqlite.specs.State.{HasCleanDisk, IsUnchanged, Shown, Survives};
+ghost use Rattle.sql_tables.specs.Schema.{schema_at};
+ghost use Rattle.sql_opening.specs.Opens.{IsVersion};
+ghost use Rattle.sql_opening.specs.Rises.{IsAbove};
+ghost use Rattle.sql_opening.specs.declared.fault.OpenFault.TheVariants.{Rules};
+ghost use Rattle.sql_rules.specs.Rules.{rule_at};
+ghost use Rattle.sql_rules.specs.Tables.{IsOfRows, IsRuledAt, Tells, texts};
+ghost use Rattle.sql_rules.specs.Walks.{Pass, Walks};
+
+use crate::rows::is_ruled;
+use shelves::TariffShelf;
+use sql_opening::OpenFault;
+use sqlite::types::ValueRef;
+use sqlite::{Alter, Connection, Error, ErrorCode, Row};
+use std::alloc::Global;
+
+/// The first value of the row, if it is an integer above the last.
+fn next_id(row: &Row, last: Option<i64>) -> Option<i64>
+    ensures id { IfSome result (IsAbove last row.now) }
+    ensures none { result ≡ None → (id : ℤ) → ¬ IsAbove last row.now id }
+{
+    let Ok(ValueRef::Int(id)) = row.get_ref(0) else {
+        return None;
+    };
+    match last {
+        Some(before) if before >= id => None,
+        _ => Some(id),
+    }
+}
+
+/// Whether the rows so far are in their rules and their rowids rise, and the last of these.
+#[derive(Clone, Copy)]
+struct Walk {
+    passes: bool,
+    last: Option<i64>,
+}
+
+impl Walk {
+    /// With one more row, which is in its rules or not.
+    #[tactic(auto, using(crate::proofs::Passing::still_fails, crate::proofs::Passing::row_fails, crate::proofs::Passing::walks_on))]
+    fn with(self, row: &Row, is_ruled: bool) -> Walk
+        ensures { (rule : Values → Bool) (given : List Values) → is_ruled ≡ rule row.now
+            → Walks rule self.passes self.last given
+            → Walks rule result.passes result.last (given ++ row.now ∷ []) }
+    {
+        if !self.passes {
+            return self;
+        }
+        if !is_ruled {
+            return Walk {
+                passes: false,
+                last: None,
+            };
+        }
+        let last = next_id(row, self.last);
+        Walk {
+            passes: last.is_some(),
+            last,
+        }
+    }
+}
+
+/// The walk with one more row of the table at a place.
+fn with_row(
+    alloc: Global,
+    shelf: &TariffShelf,
+    at: usize,
+    walk: Walk,
+    row: &Row,
+) -> Result<Walk, Error>
+    requires { at < 14 }
+    ensures { IfOk result (λ w. (given : List Values)
+        → Walks (rule_at shelf.now at) walk.passes walk.last given
+        → Walks (rule_at shelf.now at) w.passes w.last (given ++ row.now ∷ [])) }
+{
+    match is_ruled(alloc, shelf, at, row) {
+        Ok(is_ruled) => Ok(walk.with(row, is_ruled)),
+        Err(_) => Err(Error::SqliteFailure(ErrorCode::OutOfMemory)),
+    }
+}
+
+/// Whether the first value of each row of a selection is an integer above that of the row before,
+/// and each is in the rules of the table at a place. Each row is read, also after one that isn't.
+fn do_pass<S: Alter>(
+    conn: &mut Connection<S>,
+    alloc: Global,
+    shelf: &TariffShelf,
+    at: usize,
+    sql: &str,
+) -> Result<bool, Error>
+    requires plain { HasCleanDisk (state S.Store conn.old) →
+        IsPlain (understood conn.old.schema sql.now) }
+    requires place { at < 14 }
+    ensures walk { HasCleanDisk (state S.Store conn.new) →
+        IfOk result (λ passes. (was : Held S) × (rows : List Values)
+        × IsUnchanged (state S.Store conn.old) (state S.Store was)
+        × Shown sql.now [] (state S.Store was) (state S.Store conn.new) rows
+        × (IsTrue passes → Pass (rule_at shelf.now at) rows)
+        × (Pass (rule_at shelf.now at) rows → IsTrue passes)) }
+    ensures same { HasCleanDisk (state S.Store conn.new) →
+        OnOk result (IsUnchanged (state S.Store conn.old) (state S.Store conn.new)) }
+    ensures crash { Survives (state S.Store conn.old) (state S.Store conn.new) (λ _. ⊥) }
+{
+    let mut walk = Walk {
+        passes: true,
+        last: None,
+    };
+    let mut rows = conn.query(sql, &[])?;
+    'rows: for _ in 0..u64::MAX {
+        let Some(row) = rows.next()? else {
+            return Ok(walk.passes);
+        };
+        walk = with_row(alloc, shelf, at, walk, &row)?;
+    }
+    Err(Error::SqliteFailure(ErrorCode::TooBig))
+}
+
+/// The text that selects all rows of a table in the order of their rowids, by the table's place
+/// among those of all versions.
+fn text_of(at: usize) -> &'static str
+    requires { at < 14 }
+    ensures { result.now ≡ slice_index_or texts at [] }
+{
+    match at {
+        0 => "SELECT rowid, id, version, book, last_moment FROM meta ORDER BY rowid",
+        1 => {
+            "SELECT rowid, account, barred, as_of, next_bucket, next_charge \
+             FROM accounts ORDER BY rowid"
+        }
+        2 => {
+            "SELECT rowid, account, number, starts, ends, scope, credited, available, \
+             reserved, charged, expired FROM buckets ORDER BY rowid"
+        }
+        3 => "SELECT rowid, account, rating_group, cycle, blocks FROM counters ORDER BY rowid",
+        4 => {
+            "SELECT rowid, account, session, last_number, touched, state \
+             FROM sessions ORDER BY rowid"
+        }
+        5 => {
+            "SELECT rowid, account, session, rating_group, used, reserved, period_before, \
+             period_after FROM session_groups ORDER BY rowid"
+        }
+        6 => {
+            "SELECT rowid, account, session, rating_group, bucket, amount \
+             FROM holds ORDER BY rowid"
+        }
+        7 => {
+            "SELECT rowid, account, kind, name, number, content, answer \
+             FROM answers ORDER BY rowid"
+        }
+        8 => "SELECT rowid, code, amount, days, scope, account FROM vouchers ORDER BY rowid",
+        9 => {
+            "SELECT rowid, account, number, moment, session, rating_group, blocks, rated, \
+             collected, uncollected FROM charges ORDER BY rowid"
+        }
+        10 => "SELECT rowid, number, starts, content FROM books ORDER BY rowid",
+        11 => "SELECT rowid, account, session, rating_group, book FROM grant_books ORDER BY rowid",
+        12 => "SELECT rowid, account, number FROM allowance_buckets ORDER BY rowid",
+        _ => "SELECT rowid, account, number, blocks FROM covered ORDER BY rowid",
+    }
+}
+
+/// The fault of a call of the store.
+fn fault_of(error: Error) -> OpenFault
+    ensures told { IsOfRows result }
+    ensures none { ¬ (result ≡ Rules) }
+{
+    match error {
+        Error::SqliteFailure(ErrorCode::OutOfMemory) => OpenFault::Memory,
+        _ => OpenFault::Store,
+    }
+}
+
+/// Tests that no rowid of a table stands twice and that each of its rows is in its rules.
+pub(crate) fn table_passes<S: Alter>(
+    conn: &mut Connection<S>,
+    alloc: Global,
+    version: u32,
+    shelf: &TariffShelf,
+    at: usize,
+) -> Result<(), OpenFault>
+    requires known { IsVersion version }
+    requires place { at < length (schema_at version).tables }
+    requires most { at < 14 }
+    requires ours { HasCleanDisk (state S.Store conn.old) → conn.old.schema ≡ schema_at version }
+    ensures { Tells (IsRuledAt shelf.now at) (state S.Store conn.old) (state S.Store conn.new)
+        result }
+{
+    // For the prover alone: the version whose schema the text is read over.
+    let _version = version;
+    match do_pass(conn, alloc, shelf, at, text_of(at)) {
+        Ok(true) => Ok(()),
+        Ok(false) => Err(OpenFault::Rules),
+        Err(error) => Err(fault_of(error)),
+    }
+}
