@@ -62,7 +62,9 @@ fn book(alloc: Global, table: &Table) -> Result<TariffBook, BookFault>
     let validity = book_fields::number(table, "validity", 60, 43_200)? as u32;
     let periods = PeriodNames::read(alloc, table)?;
     let entries = week_fields::entries(alloc, &periods, table)?;
-    let calendar = Calendar::new(zone, entries).ok_or(BookFault::WeekNotCovered)?;
+    let Some(calendar) = Calendar::new(zone, entries) else {
+        return Err(BookFault::WeekNotCovered);
+    };
     let tariffs = group_fields::groups(alloc, &periods, table)?;
     Ok(TariffBook {
         zone_text,
