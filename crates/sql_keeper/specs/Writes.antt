@@ -78,7 +78,8 @@ abbrev pub with_groups : AccountName → Names → List SessionGroup → Content
 with_groups a names = with_each (with_held_group a names)
 
 -- the same of a group of which nothing was there
-abbrev pub with_new_book : AccountName → SessionName → GroupId → Option Reservation → Content → Content
+abbrev pub with_new_book : AccountName → SessionName → GroupId → Option Reservation → Content →
+    Content
 with_new_book a s g None c = c
 with_new_book a s g (Some x) c = with_rows a (with_grant_book s g x.terms.book) c
 

@@ -33,7 +33,8 @@ sessions-preserved g c = next_gathered (λ xs. xs.items) (shelf_names c.args.boo
     c.sessions.groups.items
     c.append.new.self.items (state g.S.Store c.args.conn.now) (state g.S.Store c.sessions.conn)
     (state g.S.Store c.read_session_groups.new.conn) c.in_ok-more.more
-    (omega arith) c.session-item.is c.in_ok-append.ensures.items c.sessions.invariant c.in_ok-more.ensures
+    (omega arith) c.session-item.is c.in_ok-append.ensures.items c.sessions.invariant
+    c.in_ok-more.ensures
 
 pub returns : goal.returns
 returns g c =
