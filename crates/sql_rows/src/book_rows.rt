@@ -118,7 +118,9 @@ fn books_from(alloc: Global, rows: &[Row]) -> Result<Vec<BookColumns>, ReadFault
     let mut books = Vec::new(alloc);
     'rows: for row in rows {
         let book = book_from(row)?;
-        books.push(book)?;
+        let Ok(()) = books.push(book) else {
+            return Err(ReadFault::Memory);
+        };
     }
     Ok(books)
 }

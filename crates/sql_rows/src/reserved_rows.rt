@@ -63,7 +63,9 @@ fn reserved_rows_from(alloc: Global, rows: &[Row]) -> Result<Vec<ReservedColumns
     let mut reserved = Vec::new(alloc);
     'rows: for row in rows {
         let one = reserved_from(alloc, row)?;
-        reserved.push(one)?;
+        let Ok(()) = reserved.push(one) else {
+            return Err(ReadFault::Memory);
+        };
     }
     Ok(reserved)
 }
