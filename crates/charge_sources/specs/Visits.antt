@@ -41,3 +41,9 @@ abbrev pub SeesBeginning : {V : Type 0} → (V → ChargeColumns → Bool → V 
 SeesBeginning Sees from until charges old new =
     (rows : List ChargeColumns) → AreCharges charges rows →
     (count : ℕ) × Visits Sees (take count (filter (is_between from until) rows)) old new
+
+-- it is shown some rows of the range, whichever those are
+pub record IsShown {V : Type 0} (Sees : V → ChargeColumns → Bool → V → Type 0)
+    (from until : Moment) (old new : V) : Type 0 where
+  pub rows : List ChargeColumns
+  pub visits : Visits Sees (filter (is_between from until) rows) old new

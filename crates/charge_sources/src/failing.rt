@@ -6,6 +6,7 @@ use keepers::{Failing, StoreFault};
 use units::Moment;
 
 impl<K: ChargeSource> ChargeSource for Failing<K> {
+    #[tactic(auto, using(crate::proofs::ShownRows::nothing_shown))]
     fn each<V: ChargeVisitor>(
         &mut self,
         account: &AccountNumber,

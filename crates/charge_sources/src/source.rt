@@ -3,7 +3,7 @@
 ghost use Rattle.std.specs.Prelude.{◌≡◌, Bool, OnErr};
 ghost use Rattle.keepers.specs.Keeping.{Reads};
 ghost use Rattle.reserving.specs.ChargeColumns.{ChargeColumns};
-ghost use Rattle.charge_sources.specs.Visits.{SeesCharges, SeesBeginning};
+ghost use Rattle.charge_sources.specs.Visits.{SeesCharges, SeesBeginning, IsShown};
 
 use identifiers::AccountNumber;
 use keepers::{Keeper, StoreFault};
@@ -26,7 +26,8 @@ pub trait ChargeSource: Keeper {
     /// `until`, in the order of their numbers, until it stops; none where there is no account.
     ///
     /// # Errors
-    /// A store fault. Then the visitor was shown a beginning of those rows.
+    /// A store fault. Then the visitor was shown a beginning of those rows. Of a store that doesn't
+    /// answer what was written it is shown the rows that the store answers.
     fn each<V: ChargeVisitor>(
         &mut self,
         account: &AccountNumber,
@@ -39,5 +40,6 @@ pub trait ChargeSource: Keeper {
             ((Self.content self.old).charges account.now) visitor.old visitor.new) result }
         ensures beginning { Self.clean self.new →
             OnErr result (SeesBeginning V.sees from until
-            ((Self.content self.old).charges account.now) visitor.old visitor.new) };
+            ((Self.content self.old).charges account.now) visitor.old visitor.new) }
+        ensures shown { IsShown V.sees from until visitor.old visitor.new };
 }

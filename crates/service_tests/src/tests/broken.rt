@@ -5,7 +5,7 @@ ghost use Rattle.keepers.specs.Faults.{max_failures};
 ghost use Rattle.keepers.specs.Tables.{no_tables};
 
 use buckets::Bucket;
-use charge_sources::{ChargeSource, ChargeVisitor};
+use charge_sources::{ChargeSource, ChargeVisitor, show};
 use identifiers::{AccountNumber, SessionId, VoucherCode};
 use keepers::{Change, Keeper, KeptAnswer, Key, Loaded, MemoryKeeper, StoreFault};
 use redemptions::{Voucher, VoucherTerms};
@@ -111,18 +111,19 @@ impl Keeper for Broken {
 }
 
 impl ChargeSource for Broken {
+    #[tactic(auto, using(charge_sources::proofs::ShownRows::rows_shown))]
     fn each<V: ChargeVisitor>(
         &mut self,
         account: &AccountNumber,
-        _from: Moment,
-        _until: Moment,
+        from: Moment,
+        until: Moment,
         visitor: &mut V,
     ) -> Result<(), StoreFault> {
-        for row in self.keeper.charges(account).iter().take(self.left) {
-            if !visitor.row(row) {
-                return Ok(());
-            }
+        let rows = self.keeper.charges(account);
+        let first = rows.get(..self.left).unwrap_or(rows);
+        if show(first, from, until, visitor) {
+            return Err(StoreFault::Store);
         }
-        Err(StoreFault::Store)
+        Ok(())
     }
 }
