@@ -1,5 +1,6 @@
 -- The content of tables whose rows are in their rules.
-use Rattle.std.proofs.Common.{◌≡◌, ◌≤◌, ◌<◌, ℕ, pos, negsuc, List, [], ◌∷◌, length, Bool, true, false}
+use Rattle.std.proofs.Common.{◌≡◌, ◌≤◌, ◌<◌, ℕ, pos, negsuc, List, [], ◌∷◌, length, Bool, true}
+use Rattle.std.proofs.Common.{false}
 use Rattle.std.proofs.Common.{◌&&◌, Some, None, Option, refl, sym, ap, subst, ◌∙◌, arith, nat_eq}
 use Rattle.std.proofs.Common.{inl, inr, drop, IsTrue}
 use Rattle.std.proofs.Common.{nat_le, nat_lt, is_eq}
@@ -20,8 +21,10 @@ use Rattle.sqlite_schema.specs.Rules.{Fits}
 use Rattle.sqlite_rules.specs.Lists.{Has}
 use Rattle.sqlite_rules.proofs.ListLemmas.{all_has}
 use Rattle.sql_tables.specs.Keyed.{look}
-use Rattle.sql_tables.specs.Schema.{accounts, allowance_buckets, answers, book_schema, books, buckets}
-use Rattle.sql_tables.specs.Schema.{charges, counters, covered, grant_books, holds, key_index, latest}
+use Rattle.sql_tables.specs.Schema.{accounts, allowance_buckets, answers, book_schema, books}
+use Rattle.sql_tables.specs.Schema.{buckets}
+use Rattle.sql_tables.specs.Schema.{charges, counters, covered, grant_books, holds, key_index}
+use Rattle.sql_tables.specs.Schema.{latest}
 use Rattle.sql_tables.specs.Schema.{meta, session_groups, sessions, vouchers}
 use Rattle.sql_tables.proofs.Keys.{keys_split, number_last}
 use Rattle.sql_tables.proofs.Selections.{full_key, meets, one_row}
@@ -103,9 +106,11 @@ module _ (shelf : Shelf) (trees : Trees) (fits : Fits book_schema trees)
       one_row meta.primary book_schema meta (inl refl) (key_index meta) (inl refl) refl refl refl
       trees fits so.stored meta_key
       (λ x e. full_key meta.primary meta_key x (refl, tt) e) r s h k
-      (meta_meets (column r 1) (and_parts (nat_eq 1 (nat_in (column r 1))) (is_moment (nat_in (column r 4)))
+      (meta_meets (column r 1) (and_parts (nat_eq 1 (nat_in (column r 1)))
+      (is_moment (nat_in (column r 4)))
       (all_has (λ x. IsTrue (is_ruled_meta x)) (trees meta.tree) r so.rows h)).0)
-      (meta_meets (column s 1) (and_parts (nat_eq 1 (nat_in (column s 1))) (is_moment (nat_in (column s 4)))
+      (meta_meets (column s 1) (and_parts (nat_eq 1 (nat_in (column s 1)))
+      (is_moment (nat_in (column s 4)))
       (all_has (λ x. IsTrue (is_ruled_meta x)) (trees meta.tree) s so.rows k)).0))
       so.stored.0
 
@@ -153,11 +158,12 @@ module _ (shelf : Shelf) (trees : Trees) (fits : Fits book_schema trees)
         (charge_key a n) x e in
         subst (λ y. is_charge y ≡ true) it.3 (charge_told it.0 it.2);
     grant_books = λ s g n e.
-        let it = found_in grant_books trees (is_ruled_grant_book shelf) (ruled 11 (omega arith)).rows
-        grant_book_in (group_key a s g) n e in
+        let it = found_in grant_books trees (is_ruled_grant_book shelf)
+        (ruled 11 (omega arith)).rows grant_book_in (group_key a s g) n e in
         subst (λ y. is_within 1 (count shelf) y ≡ true) it.3 (grant_book_told shelf it.0 it.2);
     allowances = λ n e.
-        let some = some_of (option_map allowance_in (look allowance_buckets trees (bucket_key a n))) e in
+        let some =
+        some_of (option_map allowance_in (look allowance_buckets trees (bucket_key a n))) e in
         let it = found_in allowance_buckets trees is_ruled_allowance (ruled 12 (omega arith)).rows
         allowance_in (bucket_key a n) some.0 some.1 in
         let low = and_parts (nat_le 1 (nat_in (column it.0 2)))
@@ -176,7 +182,8 @@ module _ (shelf : Shelf) (trees : Trees) (fits : Fits book_schema trees)
   content_ruled = record {
     once = one_meta;
     meta = λ m e.
-        let it = found_in meta trees is_ruled_meta (ruled 0 (omega arith)).rows meta_in meta_key m e in
+        let it =
+        found_in meta trees is_ruled_meta (ruled 0 (omega arith)).rows meta_in meta_key m e in
         subst (λ x. is_moment x.last ≡ true) it.3 (meta_told it.0 it.2);
     rows = account_rows;
     vouchers = λ code x e.
@@ -187,8 +194,8 @@ module _ (shelf : Shelf) (trees : Trees) (fits : Fits book_schema trees)
         (text_key code (column it.0 1) (first_key (Text code) (column it.0 1) [] [] it.1))
         (voucher_told it.0 it.2));
     books = λ n x e.
-        let it = found_in books trees is_ruled_book (ruled 10 (omega arith)).rows book_in (book_key n)
-        x e in
+        let it = found_in books trees is_ruled_book (ruled 10 (omega arith)).rows book_in
+        (book_key n) x e in
         let low = and_parts (nat_le 2 (nat_in (column it.0 1))) (nat_le (nat_in (column it.0 1)) 16)
         (and_parts (is_within 2 16 (nat_in (column it.0 1)))
         (is_within 1 4_102_444_799 (nat_in (column it.0 2))) it.2).0 in

@@ -1,5 +1,6 @@
 -- A row that is in its rules is told as a row that is.
-use Rattle.std.proofs.Common.{◌≡◌, ℕ, pos, negsuc, List, [], ◌∷◌, drop, Bool, true, false, ◌&&◌, ◌||◌}
+use Rattle.std.proofs.Common.{◌≡◌, ℕ, pos, negsuc, List, [], ◌∷◌, drop, Bool, true, false, ◌&&◌}
+use Rattle.std.proofs.Common.{◌||◌}
 use Rattle.std.proofs.Common.{Some, None, Option, refl, sym, ◌∙◌, nat_le, nat_eq, nat_lt, is_eq}
 use Rattle.std.proofs.Common.{arith, subst}
 use Rattle.std.specs.Prelude.{if◌then◌else◌, ◌==◌}
@@ -58,7 +59,8 @@ fourth false b c d e f to h = absurd (cc h)
 
 -- ---- the tables
 
-pub meta_told : (row : Row) → is_ruled_meta row ≡ true → is_moment (meta_in (drop 1 row)).last ≡ true
+pub meta_told : (row : Row) → is_ruled_meta row ≡ true
+    → is_moment (meta_in (drop 1 row)).last ≡ true
 meta_told [] h = absurd (cc h)
 meta_told (v ∷ cells) h =
     (and_parts (nat_eq 1 (nat_in (column cells 0))) (is_moment (nat_in (column cells 3))) h).1
@@ -70,7 +72,8 @@ head_told (v ∷ cells) h =
     (is_moment (nat_in (column cells 2))) (is_next (nat_in (column cells 3)))
     (is_next (nat_in (column cells 4))) h
 
-pub bucket_told : (row : Row) → is_ruled_bucket row ≡ true → is_bucket (bucket_in (drop 1 row)) ≡ true
+pub bucket_told : (row : Row) → is_ruled_bucket row ≡ true
+    → is_bucket (bucket_in (drop 1 row)) ≡ true
 bucket_told [] h = absurd (cc h)
 bucket_told (v ∷ cells) h =
     fourth (is_numbering (nat_in (column cells 1))) (is_moment (nat_in (column cells 2)))
@@ -95,7 +98,8 @@ pub hold_told : (row : Row) → is_ruled_hold row ≡ true → is_some_money (ho
 hold_told [] h = absurd (cc h)
 hold_told (v ∷ cells) h = h
 
-pub charge_told : (row : Row) → is_ruled_charge row ≡ true → is_charge (charge_in (drop 1 row)) ≡ true
+pub charge_told : (row : Row) → is_ruled_charge row ≡ true
+    → is_charge (charge_in (drop 1 row)) ≡ true
 charge_told [] h = absurd (cc h)
 charge_told (v ∷ cells) h = h
 
@@ -106,13 +110,15 @@ covered_told (v ∷ cells) h = h
 
 -- ---- reservations
 
-named_if : (shelf : Shelf) (b : Bool) (p : PeriodNames) → (b ≡ true → are_named shelf (Some p) ≡ true)
+named_if : (shelf : Shelf) (b : Bool) (p : PeriodNames)
+    → (b ≡ true → are_named shelf (Some p) ≡ true)
     → are_named shelf (if b then Some p else None) ≡ true
 named_if shelf true p to = to refl
 named_if shelf false p to = refl
 
 named : (shelf : Shelf) (n : ℕ) (before after : Value) → are_periods shelf n before after ≡ true
-    → are_named shelf (if n == 1 then Some (record { before = text_in before; after = text_in after })
+    → are_named shelf (if n == 1
+    then Some (record { before = text_in before; after = text_in after })
     else None) ≡ true
 named shelf n before after h =
     named_if shelf (n == 1) (record { before = text_in before; after = text_in after }) (λ e.
@@ -162,7 +168,8 @@ pub voucher_told : (row : Row) → is_ruled_voucher row ≡ true →
     is_voucher (text_in (column row 1)) (voucher_in (drop 1 row)) ≡ true
 voucher_told [] h = absurd (cc h)
 voucher_told (v ∷ cells) h =
-    third_fourth (is_voucher_code (text_in (column cells 0))) (is_some_money (nat_in (column cells 1)))
+    third_fourth (is_voucher_code (text_in (column cells 0)))
+    (is_some_money (nat_in (column cells 1)))
     (is_optional_within 1 3650 (column cells 2))
     (is_optional_within 0 4_294_967_295 (column cells 3))
     (is_none_or_within 1 3650 (optional_in (column cells 2)))
@@ -184,7 +191,8 @@ text_key a (Real x) e = absurd (cc e)
 text_key a (Blob b) e = absurd (cc e)
 text_key a (Text t) e = (bytes_decides t a).0 (sym (text_tie t a) ∙ e)
 
-pub number_key : (n : ℕ) (v : Value) → nat_le 1 (nat_in v) ≡ true → is_eq (value_cmp (nat n) v) ≡ true
+pub number_key : (n : ℕ) (v : Value) → nat_le 1 (nat_in v) ≡ true
+    → is_eq (value_cmp (nat n) v) ≡ true
     → nat_in v ≡ n
 number_key n Null some e = absurd (cc some)
 number_key n (Int (pos m)) some e = (unsigned_Decides m n).0 (sym (int_tie m n) ∙ e)

@@ -1,5 +1,6 @@
 -- A row that is found under a key is one of the table.
-use Rattle.std.proofs.Common.{◌≡◌, ℕ, List, true, drop, Option, Some, None, refl, sym, ap, ◌∙◌, IsTrue, Bool}
+use Rattle.std.proofs.Common.{◌≡◌, ℕ, List, true, drop, Option, Some, None, refl, sym, ap, ◌∙◌}
+use Rattle.std.proofs.Common.{IsTrue, Bool}
 use Rattle.std.specs.Prelude.{option_map}
 use Rattle.std.specs.FinMap.{get-from_entries}
 use Rattle.std.specs.List.{AllByRecursion}
@@ -25,7 +26,8 @@ pub found_in : {X : Type 0} (table : Table) (trees : Trees) (rule : Row → Bool
 found_in table trees rule all of key x e =
     let it = mapped of (look table trees key) x e in
     let back = met_some table.primary key it.0 (trees table.tree)
-    (sym (get-from_entries row_cmp_total (entries_of table.primary (trees table.tree)) key) ∙ it.1) in (
+    (sym (get-from_entries row_cmp_total (entries_of table.primary (trees table.tree)) key)
+    ∙ it.1) in (
       back.0,
       back.2,
       all_has (λ r. IsTrue (rule r)) (trees table.tree) back.0 all back.1,

@@ -1,5 +1,6 @@
 -- Rows in their rules, and the same under their keys.
-use Rattle.std.proofs.Common.{◌≡◌, ◌<◌, ◌≤◌, ℕ, zero, suc, ◌+◌, List, [], ◌∷◌, map, drop, take, length}
+use Rattle.std.proofs.Common.{◌≡◌, ◌<◌, ◌≤◌, ℕ, zero, suc, ◌+◌, List, [], ◌∷◌, map, drop, take}
+use Rattle.std.proofs.Common.{length}
 use Rattle.std.proofs.Common.{Bool, true, false, not, ◌||◌, ◌&&◌, Some, None, Option, is_eq, IsTrue}
 use Rattle.std.proofs.Common.{refl, sym, ap, subst, ◌∙◌, arith, inl, inr}
 use Rattle.std.specs.FinMap.{get-from_entries}
@@ -22,9 +23,9 @@ use Rattle.sqlite_schema.specs.Rules.{Fits, are_present, guards, passes}
 use Rattle.sqlite_rules.specs.Lists.{Has}
 use Rattle.sqlite_rules.proofs.ListLemmas.{all_has}
 use Rattle.sql_tables.specs.Keyed.{entries_of, key_of, look, IsStored}
-use Rattle.sql_tables.specs.Schema.{accounts, allowance_buckets, answers, book_schema, books, buckets}
-use Rattle.sql_tables.specs.Schema.{charges, counters, covered, grant_books, holds, key_index, latest}
-use Rattle.sql_tables.specs.Schema.{meta, session_groups, sessions, vouchers}
+use Rattle.sql_tables.specs.Schema.{accounts, allowance_buckets, answers, book_schema, books}
+use Rattle.sql_tables.specs.Schema.{buckets, charges, counters, covered, grant_books, holds}
+use Rattle.sql_tables.specs.Schema.{key_index, latest, meta, session_groups, sessions, vouchers}
 use Rattle.sql_tables.specs.Statements.{AreStored}
 use Rattle.sql_tables.proofs.Selections.{full_key, meets, met_has, met_some, one_row}
 use Rattle.sql_rules.specs.Mapped.{AreMapped, IsMapped}
@@ -80,8 +81,8 @@ module _ (table : Table) (tabled : Has book_schema.tables table)
       let back = met_some table.primary key it.0 (trees table.tree) it.1 in
       let full' : AllByRecursion (λ v. is_null v ≡ false) key =
       all-map (λ v. is_null v ≡ false) (column r) table.primary full in
-      let same : back.0 ≡ r = one_row table.primary book_schema table tabled (key_index table) listed
-      guarding refl refl trees fits stored key
+      let same : back.0 ≡ r = one_row table.primary book_schema table tabled (key_index table)
+      listed guarding refl refl trees fits stored key
       (λ x e. full_key table.primary key x full' e) back.0 r back.1 has back.2 tie in
       sym (free r)
       ∙ subst (λ v. rule (Null ∷ v) ≡ true) (back.3 ∙ ap (drop 1) same)
@@ -237,7 +238,8 @@ keyed (suc (suc (suc (suc (suc (suc (suc (suc (suc (suc (suc zero))))))))))) low
 }
 keyed (suc (suc (suc (suc (suc (suc (suc (suc (suc (suc (suc (suc zero)))))))))))) low = record {
   tabled = inr (inr (inr (inr (inr (inr (inr (inr (inr (inr (inr (inr (inl refl))))))))))));
-  listed = inr (inr (inr (inr (inr (inr (inr (inr (inr (inr (inr (inr (inr (inr (inr (inl refl)))))))))))))));
+  listed = inr (inr (inr (inr (inr (inr (inr (inr (
+      inr (inr (inr (inr (inr (inr (inr (inl refl)))))))))))))));
   guarding = refl;
   front = 2;
   primary = refl;
@@ -245,19 +247,24 @@ keyed (suc (suc (suc (suc (suc (suc (suc (suc (suc (suc (suc (suc zero))))))))))
   low = omega arith;
   alone = refl;
 }
-keyed (suc (suc (suc (suc (suc (suc (suc (suc (suc (suc (suc (suc (suc zero))))))))))))) low = record {
-  tabled = inr (inr (inr (inr (inr (inr (inr (inr (inr (inr (inr (inr (inr (inl refl)))))))))))));
-  listed = inr (inr (inr (inr (inr (inr (inr (inr (inr (inr (inr (inr (inr (inr (inr (inr (inl refl))))))))))))))));
-  guarding = refl;
-  front = 2;
-  primary = refl;
-  full = (refl, (refl, tt));
-  low = omega arith;
-  alone = refl;
-}
-keyed (suc (suc (suc (suc (suc (suc (suc (suc (suc (suc (suc (suc (suc (suc n)))))))))))))) low = absurd (omega (arith, low))
+keyed (suc (suc (suc (suc (suc (suc (suc (suc (suc (suc (suc (suc (suc zero))))))))))))) low =
+    record {
+      tabled = inr (inr (inr (inr (inr (inr (inr (inr (
+          inr (inr (inr (inr (inr (inl refl)))))))))))));
+      listed = inr (inr (inr (inr (inr (inr (inr (inr (
+          inr (inr (inr (inr (inr (inr (inr (inr (inl refl))))))))))))))));
+      guarding = refl;
+      front = 2;
+      primary = refl;
+      full = (refl, (refl, tt));
+      low = omega arith;
+      alone = refl;
+    }
+keyed (suc (suc (suc (suc (suc (suc (suc (suc (suc (suc (suc (suc (suc (suc n)))))))))))))) low =
+    absurd (omega (arith, low))
 
-free_rule : (shelf : Shelf) (at : ℕ) (r : Row) → rule_at shelf at (Null ∷ drop 1 r) ≡ rule_at shelf at r
+free_rule : (shelf : Shelf) (at : ℕ) (r : Row) →
+    rule_at shelf at (Null ∷ drop 1 r) ≡ rule_at shelf at r
 free_rule shelf zero [] = refl
 free_rule shelf zero (v ∷ cells) = refl
 free_rule shelf (suc zero) [] = refl
@@ -281,12 +288,19 @@ free_rule shelf (suc (suc (suc (suc (suc (suc (suc (suc (suc zero))))))))) (v �
 free_rule shelf (suc (suc (suc (suc (suc (suc (suc (suc (suc (suc zero)))))))))) [] = refl
 free_rule shelf (suc (suc (suc (suc (suc (suc (suc (suc (suc (suc zero)))))))))) (v ∷ cells) = refl
 free_rule shelf (suc (suc (suc (suc (suc (suc (suc (suc (suc (suc (suc zero))))))))))) [] = refl
-free_rule shelf (suc (suc (suc (suc (suc (suc (suc (suc (suc (suc (suc zero))))))))))) (v ∷ cells) = refl
-free_rule shelf (suc (suc (suc (suc (suc (suc (suc (suc (suc (suc (suc (suc zero)))))))))))) [] = refl
-free_rule shelf (suc (suc (suc (suc (suc (suc (suc (suc (suc (suc (suc (suc zero)))))))))))) (v ∷ cells) = refl
-free_rule shelf (suc (suc (suc (suc (suc (suc (suc (suc (suc (suc (suc (suc (suc zero))))))))))))) [] = refl
-free_rule shelf (suc (suc (suc (suc (suc (suc (suc (suc (suc (suc (suc (suc (suc zero))))))))))))) (v ∷ cells) = refl
-free_rule shelf (suc (suc (suc (suc (suc (suc (suc (suc (suc (suc (suc (suc (suc (suc n)))))))))))))) r = refl
+free_rule shelf (suc (suc (suc (suc (suc (suc (suc (suc (suc (suc (suc zero))))))))))) (v ∷ cells) =
+    refl
+free_rule shelf (suc (suc (suc (suc (suc (suc (suc (suc (suc (suc (suc (suc zero)))))))))))) [] =
+    refl
+free_rule shelf (suc (suc (suc (suc (suc (suc (suc (suc (suc (suc (suc (suc zero))))))))))))
+    (v ∷ cells) = refl
+free_rule shelf (suc (suc (suc (suc (suc (suc (suc (suc (suc (suc (suc (suc (suc zero)))))))))))))
+    [] = refl
+free_rule shelf (suc (suc (suc (suc (suc (suc (suc (suc (suc (suc (suc (suc (suc zero)))))))))))))
+    (v ∷ cells) = refl
+free_rule shelf
+    (suc (suc (suc (suc (suc (suc (suc (suc (suc (suc (suc (suc (suc (suc n))))))))))))))
+    r = refl
 
 module _ (shelf : Shelf) (trees : Trees) (fits : Fits book_schema trees) where
   full_rows : (table : Table) → IsKeyed table → (r : Row) → Has (trees table.tree) r

@@ -207,7 +207,8 @@ module _ (tree : ℕ) (ps : List ℕ) where
         all-permutation (λ (o : Output). o.0 ≡ rowid o.1 ∷ []) a.kept a.ordered a.same
         (subst (AllByRecursion (λ (o : Output). o.0 ≡ rowid o.1 ∷ []))
         (sym (kept_rows old.now.trees rows a)) (all_twins table)) in
-        let whole : a.ordered ≡ map both rows = twins a.ordered twin ∙ ap (map both) (sym a.shown) in
+        let whole : a.ordered ≡ map both rows =
+        twins a.ordered twin ∙ ap (map both) (sym a.shown) in
         let sorted = sorted_ids rows
         (subst (IsSorted (output_cmp (rows_of tree places))) whole a.sorted) in (
           (climbs rows sorted apart, ints),

@@ -1,5 +1,6 @@
 -- One more table whose rows are in their rules.
-use Rattle.std.proofs.Common.{◌≡◌, ◌<◌, ℕ, zero, suc, ◌+◌, List, [], ◌∷◌, map, length, sym, ap, subst}
+use Rattle.std.proofs.Common.{◌≡◌, ◌<◌, ℕ, zero, suc, ◌+◌, List, [], ◌∷◌, map, length, sym, ap}
+use Rattle.std.proofs.Common.{subst}
 use Rattle.std.proofs.Common.{◌∙◌, refl, arith, Ok, Err, Result}
 use Rattle.shelves.specs.Shelves.{Shelf}
 use Rattle.sqlite_value.specs.Order.{Row, column}
@@ -56,8 +57,8 @@ module _ {S : Type 0} (g : Ghosts S) (shelf : Shelf) (v at : ℕ) (text : List �
 
   pub table_stands : Pass (rule_at shelf at) rows → IsRuledAt shelf at (state g old).now.trees
   table_stands pass =
-      let all = rows_stand (table_at at).tree (places_from 1 (length (table_at at).columns)) v text is
-      (rule_at shelf at) (same_rule shelf at) (state g was) new rows has shown pass in
+      let all = rows_stand (table_at at).tree (places_from 1 (length (table_at at).columns)) v text
+      is (rule_at shelf at) (same_rule shelf at) (state g was) new rows has shown pass in
       subst (λ (d : Database). IsRuledAt shelf at d.trees) stays
       (record { stored = all.0; rows = all.1 })
 
@@ -88,7 +89,8 @@ found_first shelf a b u f = (
   λ clean.
       let here = f.found clean in (
         here.0,
-        to_next (λ i. IsRuledAt shelf i b.now.trees) 0 (λ i low. absurd (omega (arith, low))) here.1,
+        to_next (λ i. IsRuledAt shelf i b.now.trees) 0 (λ i low. absurd (omega (arith, low)))
+            here.1,
       ),
 )
 

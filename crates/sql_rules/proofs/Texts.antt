@@ -37,7 +37,8 @@ meta_at_3 = record {
 accounts_at_1 : IsTable 1 (slice_index_or texts 1 []) 1
 unfolding understood everything
 accounts_at_1 = record {
-  names = codes "rowid" ∷ codes "account" ∷ codes "barred" ∷ codes "as_of" ∷ codes "next_bucket" ∷ codes "next_charge" ∷ [];
+  names = codes "rowid" ∷ codes "account" ∷ codes "barred" ∷ codes "as_of" ∷ codes "next_bucket"
+      ∷ codes "next_charge" ∷ [];
   command = refl;
   listing = refl;
   plain = (refl, refl);
@@ -46,7 +47,8 @@ accounts_at_1 = record {
 accounts_at_2 : IsTable 2 (slice_index_or texts 1 []) 1
 unfolding understood everything
 accounts_at_2 = record {
-  names = codes "rowid" ∷ codes "account" ∷ codes "barred" ∷ codes "as_of" ∷ codes "next_bucket" ∷ codes "next_charge" ∷ [];
+  names = codes "rowid" ∷ codes "account" ∷ codes "barred" ∷ codes "as_of" ∷ codes "next_bucket"
+      ∷ codes "next_charge" ∷ [];
   command = refl;
   listing = refl;
   plain = (refl, refl);
@@ -55,7 +57,8 @@ accounts_at_2 = record {
 accounts_at_3 : IsTable 3 (slice_index_or texts 1 []) 1
 unfolding understood everything
 accounts_at_3 = record {
-  names = codes "rowid" ∷ codes "account" ∷ codes "barred" ∷ codes "as_of" ∷ codes "next_bucket" ∷ codes "next_charge" ∷ [];
+  names = codes "rowid" ∷ codes "account" ∷ codes "barred" ∷ codes "as_of" ∷ codes "next_bucket"
+      ∷ codes "next_charge" ∷ [];
   command = refl;
   listing = refl;
   plain = (refl, refl);
@@ -64,7 +67,9 @@ accounts_at_3 = record {
 buckets_at_1 : IsTable 1 (slice_index_or texts 2 []) 2
 unfolding understood everything
 buckets_at_1 = record {
-  names = codes "rowid" ∷ codes "account" ∷ codes "number" ∷ codes "starts" ∷ codes "ends" ∷ codes "scope" ∷ codes "credited" ∷ codes "available" ∷ codes "reserved" ∷ codes "charged" ∷ codes "expired" ∷ [];
+  names = codes "rowid" ∷ codes "account" ∷ codes "number" ∷ codes "starts" ∷ codes "ends"
+      ∷ codes "scope" ∷ codes "credited" ∷ codes "available" ∷ codes "reserved" ∷ codes "charged"
+      ∷ codes "expired" ∷ [];
   command = refl;
   listing = refl;
   plain = (refl, refl);
@@ -73,7 +78,9 @@ buckets_at_1 = record {
 buckets_at_2 : IsTable 2 (slice_index_or texts 2 []) 2
 unfolding understood everything
 buckets_at_2 = record {
-  names = codes "rowid" ∷ codes "account" ∷ codes "number" ∷ codes "starts" ∷ codes "ends" ∷ codes "scope" ∷ codes "credited" ∷ codes "available" ∷ codes "reserved" ∷ codes "charged" ∷ codes "expired" ∷ [];
+  names = codes "rowid" ∷ codes "account" ∷ codes "number" ∷ codes "starts" ∷ codes "ends"
+      ∷ codes "scope" ∷ codes "credited" ∷ codes "available" ∷ codes "reserved" ∷ codes "charged"
+      ∷ codes "expired" ∷ [];
   command = refl;
   listing = refl;
   plain = (refl, refl);
@@ -82,7 +89,9 @@ buckets_at_2 = record {
 buckets_at_3 : IsTable 3 (slice_index_or texts 2 []) 2
 unfolding understood everything
 buckets_at_3 = record {
-  names = codes "rowid" ∷ codes "account" ∷ codes "number" ∷ codes "starts" ∷ codes "ends" ∷ codes "scope" ∷ codes "credited" ∷ codes "available" ∷ codes "reserved" ∷ codes "charged" ∷ codes "expired" ∷ [];
+  names = codes "rowid" ∷ codes "account" ∷ codes "number" ∷ codes "starts" ∷ codes "ends"
+      ∷ codes "scope" ∷ codes "credited" ∷ codes "available" ∷ codes "reserved" ∷ codes "charged"
+      ∷ codes "expired" ∷ [];
   command = refl;
   listing = refl;
   plain = (refl, refl);
@@ -91,7 +100,8 @@ buckets_at_3 = record {
 counters_at_1 : IsTable 1 (slice_index_or texts 3 []) 3
 unfolding understood everything
 counters_at_1 = record {
-  names = codes "rowid" ∷ codes "account" ∷ codes "rating_group" ∷ codes "cycle" ∷ codes "blocks" ∷ [];
+  names = codes "rowid" ∷ codes "account" ∷ codes "rating_group" ∷ codes "cycle" ∷ codes "blocks"
+      ∷ [];
   command = refl;
   listing = refl;
   plain = (refl, refl);
@@ -100,7 +110,8 @@ counters_at_1 = record {
 counters_at_2 : IsTable 2 (slice_index_or texts 3 []) 3
 unfolding understood everything
 counters_at_2 = record {
-  names = codes "rowid" ∷ codes "account" ∷ codes "rating_group" ∷ codes "cycle" ∷ codes "blocks" ∷ [];
+  names = codes "rowid" ∷ codes "account" ∷ codes "rating_group" ∷ codes "cycle" ∷ codes "blocks"
+      ∷ [];
   command = refl;
   listing = refl;
   plain = (refl, refl);
@@ -109,7 +120,8 @@ counters_at_2 = record {
 counters_at_3 : IsTable 3 (slice_index_or texts 3 []) 3
 unfolding understood everything
 counters_at_3 = record {
-  names = codes "rowid" ∷ codes "account" ∷ codes "rating_group" ∷ codes "cycle" ∷ codes "blocks" ∷ [];
+  names = codes "rowid" ∷ codes "account" ∷ codes "rating_group" ∷ codes "cycle" ∷ codes "blocks"
+      ∷ [];
   command = refl;
   listing = refl;
   plain = (refl, refl);
@@ -118,7 +130,8 @@ counters_at_3 = record {
 sessions_at_1 : IsTable 1 (slice_index_or texts 4 []) 4
 unfolding understood everything
 sessions_at_1 = record {
-  names = codes "rowid" ∷ codes "account" ∷ codes "session" ∷ codes "last_number" ∷ codes "touched" ∷ codes "state" ∷ [];
+  names = codes "rowid" ∷ codes "account" ∷ codes "session" ∷ codes "last_number"
+      ∷ codes "touched" ∷ codes "state" ∷ [];
   command = refl;
   listing = refl;
   plain = (refl, refl);
@@ -127,7 +140,8 @@ sessions_at_1 = record {
 sessions_at_2 : IsTable 2 (slice_index_or texts 4 []) 4
 unfolding understood everything
 sessions_at_2 = record {
-  names = codes "rowid" ∷ codes "account" ∷ codes "session" ∷ codes "last_number" ∷ codes "touched" ∷ codes "state" ∷ [];
+  names = codes "rowid" ∷ codes "account" ∷ codes "session" ∷ codes "last_number"
+      ∷ codes "touched" ∷ codes "state" ∷ [];
   command = refl;
   listing = refl;
   plain = (refl, refl);
@@ -136,7 +150,8 @@ sessions_at_2 = record {
 sessions_at_3 : IsTable 3 (slice_index_or texts 4 []) 4
 unfolding understood everything
 sessions_at_3 = record {
-  names = codes "rowid" ∷ codes "account" ∷ codes "session" ∷ codes "last_number" ∷ codes "touched" ∷ codes "state" ∷ [];
+  names = codes "rowid" ∷ codes "account" ∷ codes "session" ∷ codes "last_number"
+      ∷ codes "touched" ∷ codes "state" ∷ [];
   command = refl;
   listing = refl;
   plain = (refl, refl);
@@ -145,7 +160,8 @@ sessions_at_3 = record {
 session_groups_at_1 : IsTable 1 (slice_index_or texts 5 []) 5
 unfolding understood everything
 session_groups_at_1 = record {
-  names = codes "rowid" ∷ codes "account" ∷ codes "session" ∷ codes "rating_group" ∷ codes "used" ∷ codes "reserved" ∷ codes "period_before" ∷ codes "period_after" ∷ [];
+  names = codes "rowid" ∷ codes "account" ∷ codes "session" ∷ codes "rating_group" ∷ codes "used"
+      ∷ codes "reserved" ∷ codes "period_before" ∷ codes "period_after" ∷ [];
   command = refl;
   listing = refl;
   plain = (refl, refl);
@@ -154,7 +170,8 @@ session_groups_at_1 = record {
 session_groups_at_2 : IsTable 2 (slice_index_or texts 5 []) 5
 unfolding understood everything
 session_groups_at_2 = record {
-  names = codes "rowid" ∷ codes "account" ∷ codes "session" ∷ codes "rating_group" ∷ codes "used" ∷ codes "reserved" ∷ codes "period_before" ∷ codes "period_after" ∷ [];
+  names = codes "rowid" ∷ codes "account" ∷ codes "session" ∷ codes "rating_group" ∷ codes "used"
+      ∷ codes "reserved" ∷ codes "period_before" ∷ codes "period_after" ∷ [];
   command = refl;
   listing = refl;
   plain = (refl, refl);
@@ -163,7 +180,8 @@ session_groups_at_2 = record {
 session_groups_at_3 : IsTable 3 (slice_index_or texts 5 []) 5
 unfolding understood everything
 session_groups_at_3 = record {
-  names = codes "rowid" ∷ codes "account" ∷ codes "session" ∷ codes "rating_group" ∷ codes "used" ∷ codes "reserved" ∷ codes "period_before" ∷ codes "period_after" ∷ [];
+  names = codes "rowid" ∷ codes "account" ∷ codes "session" ∷ codes "rating_group" ∷ codes "used"
+      ∷ codes "reserved" ∷ codes "period_before" ∷ codes "period_after" ∷ [];
   command = refl;
   listing = refl;
   plain = (refl, refl);
@@ -172,7 +190,8 @@ session_groups_at_3 = record {
 holds_at_1 : IsTable 1 (slice_index_or texts 6 []) 6
 unfolding understood everything
 holds_at_1 = record {
-  names = codes "rowid" ∷ codes "account" ∷ codes "session" ∷ codes "rating_group" ∷ codes "bucket" ∷ codes "amount" ∷ [];
+  names = codes "rowid" ∷ codes "account" ∷ codes "session" ∷ codes "rating_group"
+      ∷ codes "bucket" ∷ codes "amount" ∷ [];
   command = refl;
   listing = refl;
   plain = (refl, refl);
@@ -181,7 +200,8 @@ holds_at_1 = record {
 holds_at_2 : IsTable 2 (slice_index_or texts 6 []) 6
 unfolding understood everything
 holds_at_2 = record {
-  names = codes "rowid" ∷ codes "account" ∷ codes "session" ∷ codes "rating_group" ∷ codes "bucket" ∷ codes "amount" ∷ [];
+  names = codes "rowid" ∷ codes "account" ∷ codes "session" ∷ codes "rating_group"
+      ∷ codes "bucket" ∷ codes "amount" ∷ [];
   command = refl;
   listing = refl;
   plain = (refl, refl);
@@ -190,7 +210,8 @@ holds_at_2 = record {
 holds_at_3 : IsTable 3 (slice_index_or texts 6 []) 6
 unfolding understood everything
 holds_at_3 = record {
-  names = codes "rowid" ∷ codes "account" ∷ codes "session" ∷ codes "rating_group" ∷ codes "bucket" ∷ codes "amount" ∷ [];
+  names = codes "rowid" ∷ codes "account" ∷ codes "session" ∷ codes "rating_group"
+      ∷ codes "bucket" ∷ codes "amount" ∷ [];
   command = refl;
   listing = refl;
   plain = (refl, refl);
@@ -199,7 +220,8 @@ holds_at_3 = record {
 answers_at_1 : IsTable 1 (slice_index_or texts 7 []) 7
 unfolding understood everything
 answers_at_1 = record {
-  names = codes "rowid" ∷ codes "account" ∷ codes "kind" ∷ codes "name" ∷ codes "number" ∷ codes "content" ∷ codes "answer" ∷ [];
+  names = codes "rowid" ∷ codes "account" ∷ codes "kind" ∷ codes "name" ∷ codes "number"
+      ∷ codes "content" ∷ codes "answer" ∷ [];
   command = refl;
   listing = refl;
   plain = (refl, refl);
@@ -208,7 +230,8 @@ answers_at_1 = record {
 answers_at_2 : IsTable 2 (slice_index_or texts 7 []) 7
 unfolding understood everything
 answers_at_2 = record {
-  names = codes "rowid" ∷ codes "account" ∷ codes "kind" ∷ codes "name" ∷ codes "number" ∷ codes "content" ∷ codes "answer" ∷ [];
+  names = codes "rowid" ∷ codes "account" ∷ codes "kind" ∷ codes "name" ∷ codes "number"
+      ∷ codes "content" ∷ codes "answer" ∷ [];
   command = refl;
   listing = refl;
   plain = (refl, refl);
@@ -217,7 +240,8 @@ answers_at_2 = record {
 answers_at_3 : IsTable 3 (slice_index_or texts 7 []) 7
 unfolding understood everything
 answers_at_3 = record {
-  names = codes "rowid" ∷ codes "account" ∷ codes "kind" ∷ codes "name" ∷ codes "number" ∷ codes "content" ∷ codes "answer" ∷ [];
+  names = codes "rowid" ∷ codes "account" ∷ codes "kind" ∷ codes "name" ∷ codes "number"
+      ∷ codes "content" ∷ codes "answer" ∷ [];
   command = refl;
   listing = refl;
   plain = (refl, refl);
@@ -226,7 +250,8 @@ answers_at_3 = record {
 vouchers_at_1 : IsTable 1 (slice_index_or texts 8 []) 8
 unfolding understood everything
 vouchers_at_1 = record {
-  names = codes "rowid" ∷ codes "code" ∷ codes "amount" ∷ codes "days" ∷ codes "scope" ∷ codes "account" ∷ [];
+  names = codes "rowid" ∷ codes "code" ∷ codes "amount" ∷ codes "days" ∷ codes "scope"
+      ∷ codes "account" ∷ [];
   command = refl;
   listing = refl;
   plain = (refl, refl);
@@ -235,7 +260,8 @@ vouchers_at_1 = record {
 vouchers_at_2 : IsTable 2 (slice_index_or texts 8 []) 8
 unfolding understood everything
 vouchers_at_2 = record {
-  names = codes "rowid" ∷ codes "code" ∷ codes "amount" ∷ codes "days" ∷ codes "scope" ∷ codes "account" ∷ [];
+  names = codes "rowid" ∷ codes "code" ∷ codes "amount" ∷ codes "days" ∷ codes "scope"
+      ∷ codes "account" ∷ [];
   command = refl;
   listing = refl;
   plain = (refl, refl);
@@ -244,7 +270,8 @@ vouchers_at_2 = record {
 vouchers_at_3 : IsTable 3 (slice_index_or texts 8 []) 8
 unfolding understood everything
 vouchers_at_3 = record {
-  names = codes "rowid" ∷ codes "code" ∷ codes "amount" ∷ codes "days" ∷ codes "scope" ∷ codes "account" ∷ [];
+  names = codes "rowid" ∷ codes "code" ∷ codes "amount" ∷ codes "days" ∷ codes "scope"
+      ∷ codes "account" ∷ [];
   command = refl;
   listing = refl;
   plain = (refl, refl);
@@ -253,7 +280,9 @@ vouchers_at_3 = record {
 charges_at_1 : IsTable 1 (slice_index_or texts 9 []) 9
 unfolding understood everything
 charges_at_1 = record {
-  names = codes "rowid" ∷ codes "account" ∷ codes "number" ∷ codes "moment" ∷ codes "session" ∷ codes "rating_group" ∷ codes "blocks" ∷ codes "rated" ∷ codes "collected" ∷ codes "uncollected" ∷ [];
+  names = codes "rowid" ∷ codes "account" ∷ codes "number" ∷ codes "moment" ∷ codes "session"
+      ∷ codes "rating_group" ∷ codes "blocks" ∷ codes "rated" ∷ codes "collected"
+      ∷ codes "uncollected" ∷ [];
   command = refl;
   listing = refl;
   plain = (refl, refl);
@@ -262,7 +291,9 @@ charges_at_1 = record {
 charges_at_2 : IsTable 2 (slice_index_or texts 9 []) 9
 unfolding understood everything
 charges_at_2 = record {
-  names = codes "rowid" ∷ codes "account" ∷ codes "number" ∷ codes "moment" ∷ codes "session" ∷ codes "rating_group" ∷ codes "blocks" ∷ codes "rated" ∷ codes "collected" ∷ codes "uncollected" ∷ [];
+  names = codes "rowid" ∷ codes "account" ∷ codes "number" ∷ codes "moment" ∷ codes "session"
+      ∷ codes "rating_group" ∷ codes "blocks" ∷ codes "rated" ∷ codes "collected"
+      ∷ codes "uncollected" ∷ [];
   command = refl;
   listing = refl;
   plain = (refl, refl);
@@ -271,7 +302,9 @@ charges_at_2 = record {
 charges_at_3 : IsTable 3 (slice_index_or texts 9 []) 9
 unfolding understood everything
 charges_at_3 = record {
-  names = codes "rowid" ∷ codes "account" ∷ codes "number" ∷ codes "moment" ∷ codes "session" ∷ codes "rating_group" ∷ codes "blocks" ∷ codes "rated" ∷ codes "collected" ∷ codes "uncollected" ∷ [];
+  names = codes "rowid" ∷ codes "account" ∷ codes "number" ∷ codes "moment" ∷ codes "session"
+      ∷ codes "rating_group" ∷ codes "blocks" ∷ codes "rated" ∷ codes "collected"
+      ∷ codes "uncollected" ∷ [];
   command = refl;
   listing = refl;
   plain = (refl, refl);
@@ -298,7 +331,8 @@ books_at_3 = record {
 grant_books_at_2 : IsTable 2 (slice_index_or texts 11 []) 11
 unfolding understood everything
 grant_books_at_2 = record {
-  names = codes "rowid" ∷ codes "account" ∷ codes "session" ∷ codes "rating_group" ∷ codes "book" ∷ [];
+  names = codes "rowid" ∷ codes "account" ∷ codes "session" ∷ codes "rating_group" ∷ codes "book"
+      ∷ [];
   command = refl;
   listing = refl;
   plain = (refl, refl);
@@ -307,7 +341,8 @@ grant_books_at_2 = record {
 grant_books_at_3 : IsTable 3 (slice_index_or texts 11 []) 11
 unfolding understood everything
 grant_books_at_3 = record {
-  names = codes "rowid" ∷ codes "account" ∷ codes "session" ∷ codes "rating_group" ∷ codes "book" ∷ [];
+  names = codes "rowid" ∷ codes "account" ∷ codes "session" ∷ codes "rating_group" ∷ codes "book"
+      ∷ [];
   command = refl;
   listing = refl;
   plain = (refl, refl);
@@ -342,7 +377,8 @@ texts_at_1 (suc (suc (suc (suc (suc (suc zero)))))) low = holds_at_1
 texts_at_1 (suc (suc (suc (suc (suc (suc (suc zero))))))) low = answers_at_1
 texts_at_1 (suc (suc (suc (suc (suc (suc (suc (suc zero)))))))) low = vouchers_at_1
 texts_at_1 (suc (suc (suc (suc (suc (suc (suc (suc (suc zero))))))))) low = charges_at_1
-texts_at_1 (suc (suc (suc (suc (suc (suc (suc (suc (suc (suc n)))))))))) low = absurd (omega (arith, low))
+texts_at_1 (suc (suc (suc (suc (suc (suc (suc (suc (suc (suc n)))))))))) low =
+    absurd (omega (arith, low))
 
 texts_at_2 : (at : ℕ) → at < 12 → IsTable 2 (slice_index_or texts at []) at
 texts_at_2 zero low = meta_at_2
@@ -356,8 +392,10 @@ texts_at_2 (suc (suc (suc (suc (suc (suc (suc zero))))))) low = answers_at_2
 texts_at_2 (suc (suc (suc (suc (suc (suc (suc (suc zero)))))))) low = vouchers_at_2
 texts_at_2 (suc (suc (suc (suc (suc (suc (suc (suc (suc zero))))))))) low = charges_at_2
 texts_at_2 (suc (suc (suc (suc (suc (suc (suc (suc (suc (suc zero)))))))))) low = books_at_2
-texts_at_2 (suc (suc (suc (suc (suc (suc (suc (suc (suc (suc (suc zero))))))))))) low = grant_books_at_2
-texts_at_2 (suc (suc (suc (suc (suc (suc (suc (suc (suc (suc (suc (suc n)))))))))))) low = absurd (omega (arith, low))
+texts_at_2 (suc (suc (suc (suc (suc (suc (suc (suc (suc (suc (suc zero))))))))))) low =
+    grant_books_at_2
+texts_at_2 (suc (suc (suc (suc (suc (suc (suc (suc (suc (suc (suc (suc n)))))))))))) low =
+    absurd (omega (arith, low))
 
 texts_at_3 : (at : ℕ) → at < 14 → IsTable 3 (slice_index_or texts at []) at
 texts_at_3 zero low = meta_at_3
@@ -371,10 +409,14 @@ texts_at_3 (suc (suc (suc (suc (suc (suc (suc zero))))))) low = answers_at_3
 texts_at_3 (suc (suc (suc (suc (suc (suc (suc (suc zero)))))))) low = vouchers_at_3
 texts_at_3 (suc (suc (suc (suc (suc (suc (suc (suc (suc zero))))))))) low = charges_at_3
 texts_at_3 (suc (suc (suc (suc (suc (suc (suc (suc (suc (suc zero)))))))))) low = books_at_3
-texts_at_3 (suc (suc (suc (suc (suc (suc (suc (suc (suc (suc (suc zero))))))))))) low = grant_books_at_3
-texts_at_3 (suc (suc (suc (suc (suc (suc (suc (suc (suc (suc (suc (suc zero)))))))))))) low = allowance_buckets_at_3
-texts_at_3 (suc (suc (suc (suc (suc (suc (suc (suc (suc (suc (suc (suc (suc zero))))))))))))) low = covered_at_3
-texts_at_3 (suc (suc (suc (suc (suc (suc (suc (suc (suc (suc (suc (suc (suc (suc n)))))))))))))) low = absurd (omega (arith, low))
+texts_at_3 (suc (suc (suc (suc (suc (suc (suc (suc (suc (suc (suc zero))))))))))) low =
+    grant_books_at_3
+texts_at_3 (suc (suc (suc (suc (suc (suc (suc (suc (suc (suc (suc (suc zero)))))))))))) low =
+    allowance_buckets_at_3
+texts_at_3 (suc (suc (suc (suc (suc (suc (suc (suc (suc (suc (suc (suc (suc zero))))))))))))) low =
+    covered_at_3
+texts_at_3 (suc (suc (suc (suc (suc (suc (suc (suc (suc (suc (suc (suc (suc (suc n))))))))))))))
+    low = absurd (omega (arith, low))
 
 texts_at : (v at : ℕ) → IsVersion v → at < length (schema_at v).tables
     → IsTable v (slice_index_or texts at []) at

@@ -1,4 +1,5 @@
--- Rows that are in their rules, each under its key: what a statement that puts or removes rows keeps.
+-- Rows that are in their rules, each under its key: what a statement that puts or removes rows
+-- keeps.
 -- Source: profile.
 use Rattle.std.specs.Prelude.{◌≡◌, ◌<◌, ℕ, ◌∷◌, Bool, Some, IsTrue}
 use Rattle.shelves.specs.Shelves.{Shelf}

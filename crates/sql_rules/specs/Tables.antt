@@ -1,6 +1,7 @@
 -- Tables whose rows are in their rules.
 -- Source: profile.
-use Rattle.std.specs.Prelude.{◌≡◌, ◌<◌, ℕ, zero, suc, List, [], ◌∷◌, codes, map, length, slice_index_or}
+use Rattle.std.specs.Prelude.{◌≡◌, ◌<◌, ℕ, zero, suc, List, [], ◌∷◌, codes, map, length}
+use Rattle.std.specs.Prelude.{slice_index_or}
 use Rattle.std.specs.Prelude.{None, pos, negsuc, false, IsTrue, Result, IfErr, OnOk}
 use Rattle.std.specs.List.{AllByRecursion}
 use Rattle.shelves.specs.Shelves.{Shelf}
@@ -82,15 +83,20 @@ pub record IsRows (v : ℕ) (text : List ℕ) (tree : ℕ) (places : List ℕ) :
 -- the texts for the tables of all versions, in their order
 abbrev pub texts : List (List ℕ)
 texts = codes "SELECT rowid, id, version, book, last_moment FROM meta ORDER BY rowid"
-    ∷ codes "SELECT rowid, account, barred, as_of, next_bucket, next_charge FROM accounts ORDER BY rowid"
-    ∷ codes "SELECT rowid, account, number, starts, ends, scope, credited, available, reserved, charged, expired FROM buckets ORDER BY rowid"
+    ∷ (codes "SELECT rowid, account, barred, as_of, next_bucket, next_charge FROM accounts"
+    ++ codes " ORDER BY rowid")
+    ∷ (codes "SELECT rowid, account, number, starts, ends, scope, credited, available,"
+    ++ codes " reserved, charged, expired FROM buckets ORDER BY rowid")
     ∷ codes "SELECT rowid, account, rating_group, cycle, blocks FROM counters ORDER BY rowid"
-    ∷ codes "SELECT rowid, account, session, last_number, touched, state FROM sessions ORDER BY rowid"
-    ∷ codes "SELECT rowid, account, session, rating_group, used, reserved, period_before, period_after FROM session_groups ORDER BY rowid"
+    ∷ (codes "SELECT rowid, account, session, last_number, touched, state FROM sessions"
+    ++ codes " ORDER BY rowid")
+    ∷ (codes "SELECT rowid, account, session, rating_group, used, reserved, period_before,"
+    ++ codes " period_after FROM session_groups ORDER BY rowid")
     ∷ codes "SELECT rowid, account, session, rating_group, bucket, amount FROM holds ORDER BY rowid"
     ∷ codes "SELECT rowid, account, kind, name, number, content, answer FROM answers ORDER BY rowid"
     ∷ codes "SELECT rowid, code, amount, days, scope, account FROM vouchers ORDER BY rowid"
-    ∷ codes "SELECT rowid, account, number, moment, session, rating_group, blocks, rated, collected, uncollected FROM charges ORDER BY rowid"
+    ∷ (codes "SELECT rowid, account, number, moment, session, rating_group, blocks, rated,"
+    ++ codes " collected, uncollected FROM charges ORDER BY rowid")
     ∷ codes "SELECT rowid, number, starts, content FROM books ORDER BY rowid"
     ∷ codes "SELECT rowid, account, session, rating_group, book FROM grant_books ORDER BY rowid"
     ∷ codes "SELECT rowid, account, number FROM allowance_buckets ORDER BY rowid"

@@ -14,7 +14,8 @@ returns-in_err-table_passes g c =
     let v = c.args.version in
     none_found_not c.args.shelf.now v (state g.S.Store c.args.conn.now)
     (state g.S.Store c.table_passes.new.conn) c.in_err-table_passes.field-0.0
-    c.from_residual.result (search rules) (at_least v c.requires.known) c.in_err-table_passes.ensures
+    c.from_residual.result (search rules) (at_least v c.requires.known)
+    c.in_err-table_passes.ensures
 
 pub tables-init : goal.tables-init
 tables-init g c =

@@ -16,8 +16,8 @@ pub do_pass-requires-clause-plain : goal.do_pass-requires-clause-plain
 do_pass-requires-clause-plain g c clean =
     let is = text_at c.args.version c.args.at c.text_of.result.now c.requires.known c.requires.place
     c.text_of.ensures in
-    subst (λ (s : Schema). IsPlain (understood s c.text_of.result.now)) (sym (c.requires.ours clean))
-    is.plain
+    subst (λ (s : Schema). IsPlain (understood s c.text_of.result.now))
+    (sym (c.requires.ours clean)) is.plain
 
 pub returns-in-Ok-true : goal.returns-in-Ok-true
 returns-in-Ok-true g c = record {
@@ -55,7 +55,11 @@ returns-in-Ok-false g c = record {
       (c.requires.ours was) ruled in
       let yes' = walk.5 pass in
       cc (yes', c.in-Ok-false.field-0-test);
-  told = record { ours = λ is. absurd (cc is); version = λ is. absurd (cc is); latest = λ is. absurd (cc is) };
+  told = record {
+    ours = λ is. absurd (cc is);
+    version = λ is. absurd (cc is);
+    latest = λ is. absurd (cc is);
+  };
   survives = c.in-Ok-false.ensures.crash;
 }
 
