@@ -35,6 +35,7 @@ pub mod Puts
 pub mod Redeemed
 pub mod Reopening
 pub mod Repeating
+pub mod RuledOpening
 pub mod Shelved
 pub mod Shelving
 pub mod Standing

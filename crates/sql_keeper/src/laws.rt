@@ -10,6 +10,7 @@ ghost use Rattle.sql_keeper.specs.Inside.{KeeperState};
 ghost use Rattle.sql_keeper.specs.Laws.{AreChangesRead, AreNewTablesEmpty, AreSweepsRead};
 ghost use Rattle.sql_keeper.specs.LiveGroups.{AreOpenGroupsLoaded};
 ghost use Rattle.sql_keeper.specs.LiveRows.{AreLiveRowsLoaded};
+ghost use Rattle.sql_keeper.specs.RuledOpening.{AreRowsApart};
 ghost use Rattle.sql_keeper.specs.Stops.{IsAtRest};
 
 use sqlite::Alter;
@@ -59,6 +60,12 @@ pub fn shelves_are_one()
 #[tactic(auto, using(crate::proofs::Causes::causes_apart))]
 pub fn causes_are_apart()
     ensures { AreCausesApart }
+{}
+
+/// A database that has one is refused for no row.
+#[tactic(auto, using(crate::proofs::RuledOpening::rows_apart))]
+pub fn rows_are_apart()
+    ensures { AreRowsApart }
 {}
 
 /// Where the connection shows what was left, no fault is told but the store's or memory's.

@@ -193,7 +193,10 @@ pub(crate) fn latest_books<S: Alter>(
 }
 
 /// The shelf of a database of this system.
-fn books_in<S: Alter>(alloc: Global, conn: &mut Connection<S>) -> Result<ReadBooks, OpenFault>
+pub(crate) fn books_in<S: Alter>(
+    alloc: Global,
+    conn: &mut Connection<S>,
+) -> Result<ReadBooks, OpenFault>
     ensures plain { OnOk result (conn.new.in_transaction ≡ false) }
     ensures finds { FindsBooks (state S.Store conn.old) (state S.Store conn.new) result }
 {

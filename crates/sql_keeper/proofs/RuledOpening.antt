@@ -1,0 +1,209 @@
+-- A database whose rows were read when it was opened, each once.
+use Rattle.std.proofs.Common.{◌≡◌, ◌≤◌, ◌<◌, ◌⊎◌, inl, inr, ◌∙◌, ap, refl, sym, subst, ℕ, Some}
+use Rattle.std.proofs.Common.{arith, List, IsTrue, false}
+use Rattle.std.proofs.lemmas.Str.{IsUtf8-string_bytes}
+use Rattle.std.specs.Prelude.{◌^◌, Ok, Err}
+use Rattle.std.specs.Str.{IsUtf8}
+use Rattle.std.specs.String.{string_bytes}
+use Rattle.shelves.specs.Shelves.{Shelf}
+use Rattle.sqlite_trees.specs.Tree.{Trees}
+use Rattle.sqlite_trees.specs.declared.store.Store.{Ghosts}
+use Rattle.sqlite.specs.Effect.{Database}
+use Rattle.sqlite.specs.Held.{Held, state}
+use Rattle.sqlite.specs.State.{State, HasCleanDisk, IsUnchanged, Survives}
+use Rattle.sqlite.proofs.StateLemmas.{survives_then}
+use Rattle.sql_tables.specs.Schema.{book_schema, latest, schema_at}
+use Rattle.sql_tables.specs.Stages.{AreStoredAt}
+use Rattle.sql_tables.specs.Statements.{AreStored, HasIdleBook, IsStill}
+use Rattle.sql_rows.specs.Content.{content_of}
+use Rattle.sql_rows.specs.Values.{Meta}
+use Rattle.sql_opening.specs.declared.fault.OpenFault.{OpenFault}
+use Rattle.sql_opening.specs.declared.fault.OpenFault.TheVariants.{Foreign, Version, Rules, Store}
+use Rattle.sql_opening.specs.declared.fault.OpenFault.TheVariants.{Memory, Older}
+use Rattle.sql_rules.specs.Tables.{AreRuled, IsOfRows, Tells}
+use Rattle.sql_keeper.specs.Causes.{HasFault, IsStores, KeepsVersion}
+use Rattle.sql_keeper.specs.Finds.{FindsBooks, IsReadOf}
+use Rattle.sql_keeper.specs.Inside.{KeeperState}
+use Rattle.sql_keeper.specs.Opened.{IsKept, IsOpened}
+use Rattle.sql_keeper.specs.RuledOpening.{AreRowsApart, FindsRuled, HasUnruledRow, IsOpenedRuled}
+use Rattle.sql_keeper.specs.RuledOpening.{IsRowFault}
+use Rattle.sql_keeper.specs.Shelves.{IsShelfOf}
+use Rattle.sql_keeper.specs.Stops.{trees_in}
+use Rattle.sql_keeper.specs.declared.books.ReadBooks.{ReadBooks}
+use Rattle.sql_keeper.proofs.Causes.{latest_known, same_version}
+
+-- ---- a fault and its cause
+
+row_caused : (e : OpenFault) (db : Database) → IsOfRows e → (e ≡ Rules → HasUnruledRow db)
+    → IsRowFault e db
+row_caused Foreign db told rules = absurd (told.ours refl)
+row_caused Version db told rules = absurd (told.version refl)
+row_caused Rules db told rules = inr (inr (refl, rules refl))
+row_caused Store db told rules = inl (inl refl)
+row_caused Memory db told rules = inl (inr refl)
+row_caused Older db told rules = absurd (told.latest refl)
+
+-- what is kept is in its rules, and tells the latest version
+kept_latest : (trees : Trees) (text : List ℕ) → IsUtf8 text → IsKept trees text →
+    KeepsVersion latest trees
+kept_latest trees text utf8 kept = record {
+  row = kept.row;
+  is = kept.is;
+  ruled = record {
+    version = let is : kept.row.version ≡ 3 = kept.version in omega (arith, is);
+    book = subst IsUtf8 (sym kept.book) utf8;
+    last = kept.last;
+  };
+  version = kept.version;
+}
+
+-- ---- what is found
+
+module _ (old mid new : State) (r : ReadBooks) (finds : FindsBooks old mid (Ok r)) where
+  -- a row is out of its rules
+  unruled : HasCleanDisk mid → ¬ AreRuled r.own latest mid.now.trees → HasUnruledRow old.now
+  unruled clean not_ruled =
+      let it = finds.found clean in
+      let book = (finds.idle clean it.2).book in
+      subst HasUnruledRow it.1.now_is (record {
+        schema = book.schema;
+        stored = book.stored;
+        kept = kept_latest mid.now.trees (string_bytes r.text) (IsUtf8-string_bytes r.text)
+            it.0.kept;
+        shelf = r.own;
+        books = subst (λ t. IsShelfOf t (content_of mid.now.trees).books r.own)
+            (sym it.0.kept.book) it.0.books;
+        unruled = not_ruled;
+      })
+
+  module _ (before : HasCleanDisk new → HasCleanDisk mid) (two : Survives mid new (λ _. ⊥)) where
+    both_survive : Survives old new (λ _. ⊥)
+    both_survive = survives_then old mid new (λ _. ⊥) (λ _. ⊥) (λ _. ⊥) (λ clean db no'. no')
+        (λ clean db no'. no') finds.survives two
+
+    -- why it isn't told whether each row is in its rules
+    pub rows_refused : (e : OpenFault) → (HasCleanDisk new → IsRowFault e old.now)
+        → FindsRuled old new (Err e)
+    rows_refused e cause = record {
+      found = λ clean. tt;
+      given = tt;
+      read = tt;
+      idle = tt;
+      cause = cause;
+      survives = both_survive;
+    }
+
+    -- each row is in its rules
+    pub rows_found : (HasCleanDisk new → IsUnchanged mid new × AreRuled r.own latest new.now.trees)
+        → FindsRuled old new (Ok r)
+    rows_found found = record {
+      found = λ clean.
+          let it = finds.found (before clean) in
+          let then' = found clean in (
+            subst (λ (d : Database). IsReadOf r d.trees) (sym then'.0.0.now_is) it.0,
+            record {
+              was_open = it.1.was_open;
+              now_is = then'.0.0.now_is ∙ it.1.now_is;
+              committed_is = then'.0.0.committed_is ∙ it.1.committed_is;
+            },
+            then'.0.0.is_open,
+            then'.1,
+          );
+      given = finds.given;
+      read = finds.read;
+      idle = λ clean on.
+          let it = finds.found (before clean) in
+          let then' = (found clean).0.0 in
+          let idle = finds.idle (before clean) it.2 in
+          record {
+            book = record {
+              schema = ap (λ (d : Database). d.schema) then'.now_is ∙ idle.book.schema;
+              stored = subst (λ (d : Database). AreStored d.trees) (sym then'.now_is)
+                  idle.book.stored;
+            };
+            settled = then'.now_is ∙ idle.settled ∙ sym then'.committed_is;
+          };
+      cause = λ clean. tt;
+      survives = both_survive;
+    }
+
+-- the tables weren't found, or aren't those of the latest version
+pub rows_unasked : (old mid : State) (e : OpenFault) → FindsBooks old mid (Err e)
+    → FindsRuled old mid (Err e)
+rows_unasked old mid e finds = record {
+  found = λ clean. tt;
+  given = tt;
+  read = tt;
+  idle = tt;
+  cause = λ clean. elim (finds.cause clean) [
+    | inl stores ↦ inl stores
+    | inr has ↦ inr (inl has)
+  ];
+  survives = finds.survives;
+}
+
+-- each row was read
+pub rows_told : {A : Type 0} (old mid new : State) (r : ReadBooks) (u : A)
+    → FindsBooks old mid (Ok r) → Tells (AreRuled r.own latest) mid new (Ok u)
+    → FindsRuled old new (Ok r)
+rows_told old mid new r u finds tells =
+    rows_found old mid new r finds (λ clean. omega (arith, tells.survives.clean, clean))
+    tells.survives tells.found
+
+-- they weren't, or one is out of its rules
+pub rows_untold : {A : Type 0} (old mid new : State) (r : ReadBooks) (e : OpenFault)
+    → FindsBooks old mid (Ok r) → Tells {A = A} (AreRuled r.own latest) mid new (Err e)
+    → FindsRuled old new (Err e)
+rows_untold old mid new r e finds tells =
+    let before : HasCleanDisk new → HasCleanDisk mid =
+    λ clean. omega (arith, tells.survives.clean, clean) in
+    rows_refused old mid new r finds before tells.survives e (λ clean.
+    row_caused e old.now tells.told
+    (λ is. unruled old mid new r finds (before clean) (tells.means clean is)))
+
+-- they were, and no keeper is made
+pub rows_unheld : {A : Type 0} (old mid new : State) (r : ReadBooks) (u : A)
+    → FindsBooks old mid (Ok r) → Tells (AreRuled r.own latest) mid new (Ok u)
+    → FindsRuled old new (Err Store)
+rows_unheld old mid new r u finds tells =
+    rows_refused old mid new r finds (λ clean. omega (arith, tells.survives.clean, clean))
+    tells.survives Store (λ clean. inl (inl refl))
+
+-- the schema that the rows are read over
+pub ruled_schema : (old mid : State) (r : ReadBooks) → FindsBooks old mid (Ok r)
+    → HasCleanDisk mid → mid.now.schema ≡ schema_at latest
+ruled_schema old mid r finds clean = (finds.idle clean (finds.found clean).2).book.schema
+
+-- ---- a keeper
+
+pub opened_ruled : {S : Type 0} (g : Ghosts S) (k : KeeperState S) (conn old : Held S)
+    (shelf own : Shelf) → k.connection ≡ conn → shelf ≡ own → IsOpened g old k shelf
+    → (HasCleanDisk (state g conn) → AreRuled own latest (state g conn).now.trees)
+    → IsOpenedRuled g old k shelf
+opened_ruled g k conn old shelf own is same opened ruled = record {
+  opened = opened;
+  ruled = subst (λ h. HasCleanDisk (state g h) → AreRuled shelf latest (state g h).now.trees)
+      (sym is)
+      (λ clean. subst (λ s. AreRuled s latest (state g conn).now.trees) (sym same) (ruled clean));
+}
+
+-- ---- of a database that has a fault no row is told
+
+pub rows_apart : AreRowsApart
+rows_apart db Foreign h k = h latest latest_known k.schema
+rows_apart db Version h k =
+    let same = same_version h.version latest h.known latest_known (sym h.schema ∙ k.schema) in
+    let one : Some h.other.row ≡ Some k.kept.row = sym h.other.is ∙ k.kept.is in
+    let row : h.other.row ≡ k.kept.row = cc one in
+    h.other.other (ap (λ (m : Meta). m.version) row ∙ k.kept.version ∙ sym same)
+rows_apart db Rules h k =
+    let same = same_version h.version latest h.known latest_known (sym h.schema ∙ k.schema) in
+    let stored = subst (λ v. AreStoredAt v db.trees) (sym same) k.stored in
+    (h.unruled stored k.kept.row k.kept.is k.kept.ruled).2 (k.shelf, k.books)
+rows_apart db Store h k = h
+rows_apart db Memory h k = h
+rows_apart db Older h k =
+    let same = same_version h.version latest h.known latest_known (sym h.schema ∙ k.schema) in
+    let low : h.version < 3 = h.older in
+    let is : h.version ≡ 3 = same in
+    omega (arith, low, is)
