@@ -1,7 +1,7 @@
 -- Tables whose rows are in their rules.
 -- Source: profile.
 use Rattle.std.specs.Prelude.{◌≡◌, ◌<◌, ℕ, zero, suc, List, [], ◌∷◌, codes, map, length}
-use Rattle.std.specs.Prelude.{slice_index_or}
+use Rattle.std.specs.Prelude.{◌++◌, slice_index_or}
 use Rattle.std.specs.Prelude.{None, pos, negsuc, false, IsTrue, Result, IfErr, OnOk}
 use Rattle.std.specs.List.{AllByRecursion}
 use Rattle.shelves.specs.Shelves.{Shelf}
