@@ -62,6 +62,7 @@ kept_latest trees text utf8 kept = record {
 module _ (old mid new : State) (r : ReadBooks) (finds : FindsBooks old mid (Ok r)) where
   -- a row is out of its rules
   unruled : HasCleanDisk mid → ¬ AreRuled r.own latest mid.now.trees → HasUnruledRow old.now
+  unfolding kept_latest
   unruled clean not_ruled =
       let it = finds.found clean in
       let book = (finds.idle clean it.2).book in
