@@ -202,13 +202,11 @@ module _ {A : Type 0} (b : Shelf) (amount : Option ℕ) (w0 w1 r : Option (List 
 
 -- ---- what is told, whatever the keeper holds
 
-module _ {A : Type 0} (w0 w1 : Option (List ℕ)) (input : Input) (given : List Answer) where
-  abbrev Text : List ℕ
-  Text = texts_of (map told_fault input.lines.items) given
-
+module _ (w0 w1 : Option (List ℕ)) (input : Input) (given : List Answer) where
   told_in : (r : Option (List ℕ)) →
       IfSome r (λ stream. IsInput (map line_request (lines_of stream)) input) →
-      length given ≡ length input.requests.items → Appends w0 w1 Text →
+      length given ≡ length input.requests.items →
+      Appends w0 w1 (texts_of (map told_fault input.lines.items) given) →
       IfSome r (TellsLines w0 w1)
   told_in None read all written = tt
   told_in (Some stream) read all written = record {
@@ -219,29 +217,32 @@ module _ {A : Type 0} (w0 w1 : Option (List ℕ)) (input : Input) (given : List 
 
   pub begun_in : (r : Option (List ℕ)) →
       IfSome r (λ stream. IsInput (map line_request (lines_of stream)) input) →
-      WritesBeginning w0 w1 Text → IfSome r (BeginsLines w0 w1)
+      WritesBeginning w0 w1 (texts_of (map told_fault input.lines.items) given) →
+      IfSome r (BeginsLines w0 w1)
   begun_in None read written = tt
   begun_in (Some stream) read written = record {
     answers = given;
     written = subst (λ faults. WritesBeginning w0 w1 (texts_of faults given)) read.lines written;
   }
 
-  told : (fault : Option StoreFault) (written : Result A StreamFault) (r : Option (List ℕ)) →
+  told : {A : Type 0} (fault : Option StoreFault) (written : Result A StreamFault)
+      (r : Option (List ℕ)) →
       IfSome r (λ stream. IsInput (map line_request (lines_of stream)) input) →
       IfNone fault (length given ≡ length input.requests.items) →
-      OnOk written (Appends w0 w1 Text) →
+      OnOk written (Appends w0 w1 (texts_of (map told_fault input.lines.items) given)) →
       OnOk (ended_as fault written) (IfSome r (TellsLines w0 w1))
   told None (Ok x) r read all whole = told_in r read all whole
   told None (Err g) r read all whole = tt
   told (Some f) (Ok x) r read all whole = tt
   told (Some f) (Err g) r read all whole = tt
 
-  pub ended-told : (fault : Option StoreFault) (written : Result A StreamFault)
+  pub ended-told : {A : Type 0} (fault : Option StoreFault) (written : Result A StreamFault)
       (result : Result A LinesFault) (r : Option (List ℕ)) → result ≡ ended_as fault written →
       IfSome r (λ stream. IsInput (map line_request (lines_of stream)) input) →
       IfNone fault (length given ≡ length input.requests.items) →
-      OnOk written (Appends w0 w1 Text) → OnOk result (IfSome r (TellsLines w0 w1))
-  ended-told fault written result r e read all whole =
+      OnOk written (Appends w0 w1 (texts_of (map told_fault input.lines.items) given)) →
+      OnOk result (IfSome r (TellsLines w0 w1))
+  ended-told {A = A} fault written result r e read all whole =
       subst (λ (res : Result A LinesFault). OnOk res (IfSome r (TellsLines w0 w1))) (sym e)
       (told fault written r read all whole)
 
