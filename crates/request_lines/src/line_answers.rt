@@ -1,13 +1,14 @@
 //! Lines that are read, run and told.
 
-ghost use Rattle.std.specs.Prelude.{◌≡◌, ◌≤◌, ◌+◌, Err, Some, min};
+ghost use Rattle.std.specs.Prelude.{◌≡◌, ◌≤◌, ◌+◌, Err, IfNone, IfSome, OnErr, OnOk, Some, length};
+ghost use Rattle.std.specs.Prelude.{min};
 ghost use Rattle.byte_streams.specs.declared.StreamFault.{StreamFault};
 ghost use Rattle.charging.specs.Continued.{ForEachList};
 ghost use Rattle.keepers.specs.Faults.{max_failures};
 ghost use Rattle.keepers.specs.declared.fault.StoreFault.TheVariants.{Store as StoreFailed};
 ghost use Rattle.request_lines.specs.declared.fault.LinesFault.TheVariants.{Read};
 ghost use Rattle.request_lines.specs.Faults.{ended_as};
-ghost use Rattle.request_lines.specs.Served.{AnswersLines, IsRunOpened};
+ghost use Rattle.request_lines.specs.Served.{AnswersLines, BeginsLines, IsRunOpened, TellsLines};
 
 use crate::fault::LinesFault;
 use crate::input::{Input, read_input};
@@ -44,6 +45,10 @@ pub fn lines<K: Keeper, R: Read, W: Write>(
     ensures answers { AnswersLines shelf.now opening (R.remaining reader.old)
         (W.contents writer.old) (W.contents writer.new)
         K.content K.failed K.clean keeper.old keeper.new result }
+    ensures told { OnOk result (IfSome (R.remaining reader.old)
+        (TellsLines (W.contents writer.old) (W.contents writer.new))) }
+    ensures begun { OnErr result (IfSome (R.remaining reader.old)
+        (BeginsLines (W.contents writer.old) (W.contents writer.new))) }
     ensures unread { (fault : StreamFault) → result ≡ Err (Read fault) → keeper.new ≡ keeper.old }
     ensures unwritten { (fault : StreamFault) → result ≡ Err (Read fault) →
         writer.new ≡ writer.old }
@@ -83,6 +88,8 @@ fn run_opened<K: Keeper>(
     ensures runs { K.clean keeper.new → ForEachList shelf.now (K.content keeper.old)
         (IsRunOpened shelf.now opening.items requests.items
         (K.content keeper.new) result.answers.items result.fault) }
+    ensures whole { IfNone result.fault
+        (length result.answers.items ≡ length requests.items) }
     ensures cleanness { K.clean keeper.new → K.clean keeper.old }
     ensures failures { K.failed keeper.old ≤ K.failed keeper.new }
     ensures cause { result.fault ≡ Some StoreFailed →

@@ -2,7 +2,7 @@ use Rattle.std.proofs.Common.{◌≡◌, List, length, sym, subst, ◌∙◌}
 use Rattle.commands.specs.declared.answer.Answer.{Answer}
 use Rattle.charging.specs.Continued.{ForEachList}
 use Rattle.request_lines.specs.Served.{IsRunOpened}
-use Rattle.request_lines.proofs.Answered.{where_none, opening-stopped, requests-run}
+use Rattle.request_lines.proofs.Answered.{no_none, where_none, opening-stopped, requests-run}
 use Rattle.request_lines.proofs.line_answers.run_opened.Goals as goal
 
 pub returns-then-is_some-clause-runs : goal.returns-then-is_some-clause-runs
@@ -29,3 +29,7 @@ returns-clause-runs g c = λ clean.
     before c.run.result.answers.items old mid new all
     (c.run-fault.ensures.runs (c.run.ensures.cleanness clean))
     (c.run.ensures.runs clean) c.run.ensures.whole c.run.ensures.stopped
+
+pub returns-then-is_some-clause-whole : goal.returns-then-is_some-clause-whole
+returns-then-is_some-clause-whole g c =
+    no_none _ c.run-fault.result.fault (sym c.is_some.ensures ∙ c.if-is_some.true)
