@@ -200,6 +200,35 @@ module _ {A : Type 0} (b : Shelf) (amount : Option ℕ) (w0 w1 r : Option (List 
   ended-untold fault written result f e k h =
       untold fault written (subst IsWrite (sym k ∙ e) tt) h
 
+-- ---- whether the keeper can be asked after it
+
+-- after all was run, and only then is it no fault of the keeper
+stands_told : {A : Type 0} (P : Type 0) (fault : Option StoreFault)
+    (written : Result A StreamFault) → IfNone fault P → OnOk (ended_as fault written) P
+stands_told P None (Ok x) h = h
+stands_told P None (Err g) h = tt
+stands_told P (Some f) (Ok x) h = tt
+stands_told P (Some f) (Err g) h = tt
+
+pub ended-stands : {A : Type 0} (P : Type 0) (fault : Option StoreFault)
+    (written : Result A StreamFault) (result : Result A LinesFault) →
+    result ≡ ended_as fault written → IfNone fault P → OnOk result P
+ended-stands {A = A} P fault written result e h =
+    subst (λ (r : Result A LinesFault). OnOk r P) (sym e) (stands_told P fault written h)
+
+asked_told : {A P : Type 0} (fault : Option StoreFault) (written : Result A StreamFault) →
+    IsWrite (ended_as fault written) → IfNone fault P → P
+asked_told None (Ok x) k h = absurd k
+asked_told None (Err g) k h = h
+asked_told (Some f) (Ok x) k h = absurd k
+asked_told (Some f) (Err g) k h = absurd k
+
+pub ended-asked : {A P : Type 0} (fault : Option StoreFault) (written : Result A StreamFault)
+    (result : Result A LinesFault) (f : StreamFault) → result ≡ ended_as fault written →
+    result ≡ Err (Write f) → IfNone fault P → P
+ended-asked fault written result f e k h =
+    asked_told fault written (subst IsWrite (sym k ∙ e) tt) h
+
 -- ---- what is told, whatever the keeper holds
 
 module _ (w0 w1 : Option (List ℕ)) (input : Input) (given : List Answer) where
