@@ -48,7 +48,10 @@ fn answer_said(alloc: Global, text: &str) -> Result<Answer, ReadFault>
     ensures { IfOk result (λ a. answer_of text.now ≡ Ok a) }
 {
     let bytes = text.as_bytes();
-    wire::read_answer(alloc, bytes).map_err(fault_of)
+    match wire::read_answer(alloc, bytes) {
+        Ok(answer) => Ok(answer),
+        Err(fault) => Err(fault_of(fault)),
+    }
 }
 
 /// What texts that are kept under an account say; texts that say nothing are out of the rules.
