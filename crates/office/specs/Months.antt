@@ -1,6 +1,6 @@
 -- What is told of an account's month: a statement or an export of it, or that there is no account.
 -- Source: profile.
-use Rattle.std.specs.Prelude.{◌≡◌, ◌+◌, ◌≤◌, ℕ, List, Option, Result, if◌then◌else◌, IfOk}
+use Rattle.std.specs.Prelude.{◌≡◌, ◌⊎◌, ◌+◌, ◌≤◌, ℕ, List, Option, Result, if◌then◌else◌, IfOk}
 use Rattle.std.specs.Prelude.{Ok, Err, IsErrOf, OnErr, min}
 use Rattle.std.specs.Io.KnownBytes.{Appends}
 use Rattle.units.specs.Words.{Moment}
@@ -31,7 +31,7 @@ use Rattle.office.specs.declared.fault.OfficeFault.{OfficeFault}
 use Rattle.office.specs.declared.fault.OfficeFault.TheVariants.{Store, Write}
 use Rattle.office.specs.declared.stating.MonthQuery.{MonthQuery}
 use Rattle.office.specs.declared.status.Status.{Status}
-use Rattle.office.specs.declared.status.Status.TheVariants.{Done, Failed}
+use Rattle.office.specs.declared.status.Status.TheVariants.{Done, Failed, Unread}
 
 -- ---- texts
 
@@ -74,6 +74,26 @@ IsMonthTold b q t tables old new result =
     (list : List Accepted) → IsInTime list → AreTables b list tables →
     Tells (month_status (history b q.account list)) old new
     (month_text b q (moment_of list t) (history b q.account list)) result
+
+-- ---- what is written, whatever a keeper holds
+
+-- the text of an account's month with some charges and buckets, as of some moment
+pub record WritesMonth (b : Shelf) (q : MonthQuery) (Writes : Bytes → Type 0) : Type 0 where
+  pub moment : Moment
+  pub charges : List ChargeColumns
+  pub buckets : List Row
+  pub written : Writes (rows_text b q moment charges buckets)
+
+-- it is written where all is done; where it is refused, that the account isn't there
+abbrev pub PrintsMonth : Shelf → MonthQuery → Option Bytes → Option Bytes → Status → Type 0
+PrintsMonth b q old new Done = WritesMonth b q (Appends old new)
+PrintsMonth b q old new Failed = Appends old new unknown_line
+PrintsMonth b q old new Unread = ⊥
+
+-- or a beginning of one of them
+abbrev pub BeginsMonth : Shelf → MonthQuery → Option Bytes → Option Bytes → Type 0
+BeginsMonth b q old new =
+    WritesMonth b q (WritesBeginning old new) ⊎ WritesBeginning old new unknown_line
 
 -- ---- what is read
 

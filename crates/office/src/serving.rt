@@ -63,12 +63,8 @@ pub fn serve_office<K: Keeper, W: Write>(
     ensures stops { StopsAtStore K.failed K.clean keeper.old keeper.new writer.old writer.new
         result }
 {
-    let answer = match step(alloc, keeper, shelf, command.into_command(), moment) {
-        Ok(answer) => answer,
-        Err(fault) => return Err(OfficeFault::Store(fault)),
-    };
-    match write_answer_line(alloc, writer, &answer) {
-        Ok(()) => Ok(status_of(&answer)),
-        Err(fault) => Err(OfficeFault::Write(fault)),
-    }
+    let command = command.into_command();
+    let answer = step(alloc, keeper, shelf, command, moment).map_err(OfficeFault::Store)?;
+    write_answer_line(alloc, writer, &answer).map_err(OfficeFault::Write)?;
+    Ok(status_of(&answer))
 }
