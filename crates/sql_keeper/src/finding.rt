@@ -40,7 +40,10 @@ fn content_said(alloc: Global, account: &AccountNumber, text: &str) -> Result<Co
 {
     let account = account.clone()?;
     let bytes = text.as_bytes();
-    read_content(alloc, account, bytes).map_err(fault_of)
+    match read_content(alloc, account, bytes) {
+        Ok(content) => Ok(content),
+        Err(fault) => Err(fault_of(fault)),
+    }
 }
 
 /// The answer that a kept text says.
