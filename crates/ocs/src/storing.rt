@@ -39,7 +39,10 @@ pub(crate) fn answer_office<O: Write>(
     ensures unwritten { IfErr result (λ fault.
         IfDatabase fault IsUnanswered → output.new ≡ output.old) }
 {
-    command_office(rt, words, output).map_err(ProgramFault::Database)
+    match command_office(rt, words, output) {
+        Ok(status) => Ok(status),
+        Err(fault) => Err(ProgramFault::Database(fault)),
+    }
 }
 
 /// Tells an account's month.
@@ -54,7 +57,10 @@ pub(crate) fn answer_statement<O: Write>(
     ensures unwritten { IfErr result (λ fault.
         IfDatabase fault IsUnasked → output.new ≡ output.old) }
 {
-    state_office(rt, words, output).map_err(ProgramFault::Database)
+    match state_office(rt, words, output) {
+        Ok(status) => Ok(status),
+        Err(fault) => Err(ProgramFault::Database(fault)),
+    }
 }
 
 /// Adds the vouchers of a file, and tells what became of them.
@@ -86,7 +92,10 @@ pub(crate) fn answer_replay<O: Write>(
     ensures reached { IfErr result IsReplayFault }
     ensures unwritten { IfErr result (λ fault. IfLines fault AreUnread → output.new ≡ output.old) }
 {
-    let file = open_file(rt, replay.file.as_str()).map_err(ProgramFault::Database)?;
+    let file = match open_file(rt, replay.file.as_str()) {
+        Ok(file) => file,
+        Err(fault) => return Err(ProgramFault::Database(fault)),
+    };
     let Office { mut keeper, shelf } = match open_office(rt, &replay.database, Wary) {
         Ok(office) => office,
         Err(fault) => return Err(ProgramFault::Database(fault)),
