@@ -115,6 +115,8 @@ pub fn serve_import<K: Keeper, W: Write>(
         (K.content keeper.new) }
     ensures honesty { K.honest keeper.new → K.honest keeper.old }
     ensures stands { K.honest keeper.new → K.clean keeper.old → OnOk result (K.clean keeper.new) }
+    ensures asked { (fault : StreamFault) → result ≡ Err (Write fault) → K.honest keeper.new →
+        K.clean keeper.old → K.clean keeper.new }
     ensures left { Leaves K.honest K.left keeper.old keeper.new
         (HoldsBeginning shelf.now (additions moment rows.items) (K.content keeper.old)) }
     ensures stops { StopsAtStore K.failed K.clean keeper.old keeper.new writer.old writer.new
