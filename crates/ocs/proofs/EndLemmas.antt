@@ -3,7 +3,7 @@ use Rattle.std.proofs.Common.{◌≡◌, ℕ, ◌≤◌, ◌+◌, ◌++◌, ◌�
 use Rattle.std.proofs.Common.{sym, ap, subst, ◌∙◌, refl, inl, inr, Option, Some, None, Result, Ok}
 use Rattle.std.proofs.Common.{Err}
 use Rattle.std.proofs.Common.{◌==◌}
-use Rattle.std.specs.Prelude.{IfErr, IfSome, OnErr, OnOk, if◌then◌else◌, min}
+use Rattle.std.specs.Prelude.{IfErr, IfSome, OnErr, if◌then◌else◌, min}
 use Rattle.std.specs.Io.Buffered.{reader_remaining, reader_capacity, reader_buffer, reader_inner}
 use Rattle.std.specs.Io.KnownBytes.{Appends, Keeps, prepend_known}
 use Rattle.std.specs.declared.io.buffered.BufReader.{BufReader}
@@ -34,13 +34,12 @@ use Rattle.operator.specs.declared.parsed.ProgramWords.{ProgramWords}
 use Rattle.operator.specs.declared.parsed.ProgramWords.TheVariants as words
 use Rattle.database_office.specs.declared.fault.DatabaseFault.{DatabaseFault}
 use Rattle.ocs.specs.Ends.{HasPrinted, IfOnce, IsEnd, IsEndBy, IsEndOf, IsMemory, IsRefused}
-use Rattle.ocs.specs.Ends.{BeginsLinesOf, HasBegun, PrintsLines, Says}
+use Rattle.ocs.specs.Ends.{HasBegun, Says}
 use Rattle.ocs.specs.Faults.{IsFaultIn, IsFaultOf, IsFaultTold, IsMemoryFault, IsReachedByLines}
 use Rattle.ocs.specs.Faults.{IsWriteFault, OnlyDone}
 use Rattle.ocs.specs.Told.{AreUnread, IsSilent, IsTextTold, IsTold}
 use Rattle.ocs.specs.Told.{IsToldAtEnd, IsToldBy, IsToldOf, LeavesOutput, ServesConnections, TellsAs}
 use Rattle.ocs.specs.Told.{TellsFault, fault_line, line_of}
-use Rattle.request_lines.specs.Served.{BeginsLines, TellsLines}
 use Rattle.request_lines.specs.declared.fault.LinesFault.{LinesFault}
 use Rattle.request_lines.specs.declared.fault.LinesFault.TheVariants.{Read, Store, Both, Write}
 use Rattle.ocs.specs.declared.fault.ProgramFault.{ProgramFault}
@@ -229,19 +228,6 @@ buffer_unread r inner remaining capacity empty is =
     ∙ ap (λ (b : List ℕ). prepend_known b (remaining r.inner)) empty
     ∙ prepend_known-nil (remaining r.inner)
     ∙ ap remaining is
-
--- what a reader's lines are told is printed of the file that it is
-pub prints_lines : {F A E : Type 0} (bytes : F → Option (List ℕ)) (file : F)
-    (old new : Option (List ℕ)) (r : Result A E) → OnOk r (IfSome (bytes file) (TellsLines old new)) →
-    OnOk r (PrintsLines bytes old new)
-prints_lines bytes file old new (Ok x) told = record { file = file; told = told }
-prints_lines bytes file old new (Err e) told = tt
-
-pub begins_lines : {F A E : Type 0} (bytes : F → Option (List ℕ)) (file : F)
-    (old new : Option (List ℕ)) (r : Result A E) → OnErr r (IfSome (bytes file) (BeginsLines old new)) →
-    OnErr r (BeginsLinesOf bytes old new)
-begins_lines bytes file old new (Ok x) begun = tt
-begins_lines bytes file old new (Err e) begun = inl (record { file = file; begun = begun })
 
 abbrev IsRead : Status → Type 0
 IsRead Done = Unit {0}

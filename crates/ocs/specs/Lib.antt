@@ -2,3 +2,4 @@ pub mod Once
 pub mod Ends
 pub mod Faults
 pub mod Told
+pub mod Replayed

@@ -16,8 +16,9 @@ ghost use Rattle.ocs.specs.Told.{AreUnread, IfLines, IsSilent, IsToldAtEnd, line
 
 use crate::fault::ProgramFault;
 use crate::making::{answer_book, answer_init, answer_migrate};
+use crate::replaying::answer_replay;
 use crate::serving::answer_serve;
-use crate::storing::{answer_import, answer_office, answer_replay, answer_statement};
+use crate::storing::{answer_import, answer_office, answer_statement};
 use keepers::MemoryKeeper;
 use office::Status;
 use one_price::once_book;

@@ -4,6 +4,7 @@
 mod doing;
 mod fault;
 mod making;
+mod replaying;
 mod serving;
 mod storing;
 mod telling;

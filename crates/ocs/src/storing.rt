@@ -1,31 +1,20 @@
 //! What words say that work over what a database holds.
 
-ghost use Rattle.std.specs.Prelude.{◌≡◌, IfErr, IfOk, IfSome, None, OnErr, OnOk};
+ghost use Rattle.std.specs.Prelude.{◌≡◌, IfErr, IfOk, OnErr, OnOk};
 ghost use Rattle.std.specs.Io.KnownBytes.{Appends};
 ghost use Rattle.database_office.specs.Opening.{IsCommandFault, IsUnanswered, IsUnasked};
 ghost use Rattle.database_office.specs.Stating.{BeginsMonthOf, PrintsMonthOf};
 ghost use Rattle.office.specs.Months.{unknown_line};
 ghost use Rattle.office.specs.Printed.{IsEnded, PrintsAnswer, PrintsCounts};
 ghost use Rattle.office.specs.declared.status.Status.TheVariants.{Failed};
-ghost use Rattle.request_lines.specs.Served.{AnswersLines, BeginsLines, TellsLines};
-ghost use Rattle.ocs.specs.Ends.{BeginsLinesOf, PrintsLines};
-ghost use Rattle.ocs.specs.Faults.{IsImportFault, IsReachedByLines, IsReplayFault, OnlyDatabase};
-ghost use Rattle.ocs.specs.Told.{AreUnread, IfDatabase, IfLines};
+ghost use Rattle.ocs.specs.Faults.{IsImportFault, OnlyDatabase};
+ghost use Rattle.ocs.specs.Told.{IfDatabase};
 
 use crate::fault::ProgramFault;
-use byte_streams::StreamFault;
-use database_office::{
-    ImportFault, Office, command_office, import_office, open_file, open_office, state_office,
-};
-use keepers::Keeper;
+use database_office::{ImportFault, command_office, import_office, state_office};
 use office::Status;
-use operator::{ImportWords, OfficeWords, ReplayWords, StatementWords};
-use request_lines::{LinesFault, lines};
-use shelves::TariffShelf;
-use sqlite_disk::Wary;
-use std::alloc::Global;
-use std::fs::Files;
-use std::io::{BufReader, Read, Write};
+use operator::{ImportWords, OfficeWords, StatementWords};
+use std::io::Write;
 
 /// Carries out an operator's command.
 #[tactic(auto, using(crate::proofs::EndLemmas::answered_ends))]
@@ -42,7 +31,10 @@ pub(crate) fn answer_office<O: Write>(
     ensures unwritten { IfErr result (λ fault.
         IfDatabase fault IsUnanswered → output.new ≡ output.old) }
 {
-    command_office(rt, words, output).map_err(ProgramFault::Database)
+    match command_office(rt, words, output) {
+        Ok(status) => Ok(status),
+        Err(fault) => Err(ProgramFault::Database(fault)),
+    }
 }
 
 /// Tells an account's month.
@@ -61,7 +53,10 @@ pub(crate) fn answer_statement<O: Write>(
     ensures unwritten { IfErr result (λ fault.
         IfDatabase fault IsUnasked → output.new ≡ output.old) }
 {
-    state_office(rt, words, output).map_err(ProgramFault::Database)
+    match state_office(rt, words, output) {
+        Ok(status) => Ok(status),
+        Err(fault) => Err(ProgramFault::Database(fault)),
+    }
 }
 
 /// Adds the vouchers of a file, and tells what became of them.
@@ -81,74 +76,4 @@ pub(crate) fn answer_import<O: Write>(
         Err(ImportFault::Vouchers(fault)) => Err(ProgramFault::Vouchers(fault)),
         Err(ImportFault::Database(fault)) => Err(ProgramFault::Database(fault)),
     }
-}
-
-/// Answers the lines of a file. It is opened before the database is.
-pub(crate) fn answer_replay<F: Files, O: Write>(
-    rt: &HostRuntime,
-    files: &F,
-    replay: &ReplayWords,
-    output: &mut O,
-) -> Result<Status, ProgramFault>
-    ensures ended { IfOk result (IsEnded ⊥) }
-    ensures printed { OnOk result
-        (PrintsLines F.File.remaining (O.contents output.old) (O.contents output.new)) }
-    ensures begun { OnErr result
-        (BeginsLinesOf F.File.remaining (O.contents output.old) (O.contents output.new)) }
-    ensures reached { IfErr result IsReplayFault }
-    ensures unwritten { IfErr result (λ fault. IfLines fault AreUnread → output.new ≡ output.old) }
-{
-    let file = open_file(files, replay.file.as_str()).map_err(ProgramFault::Database)?;
-    replay_reader(rt, replay, file, output)
-}
-
-/// Answers the lines of a reader over the database of the words.
-fn replay_reader<R: Read + Drop, O: Write>(
-    rt: &HostRuntime,
-    replay: &ReplayWords,
-    reader: R,
-    output: &mut O,
-) -> Result<Status, ProgramFault>
-    ensures ended { IfOk result (IsEnded ⊥) }
-    ensures told { OnOk result (IfSome (R.remaining reader)
-        (TellsLines (O.contents output.old) (O.contents output.new))) }
-    ensures begun { OnErr result (IfSome (R.remaining reader)
-        (BeginsLines (O.contents output.old) (O.contents output.new))) }
-    ensures reached { IfErr result IsReplayFault }
-    ensures unwritten { IfErr result (λ fault. IfLines fault AreUnread → output.new ≡ output.old) }
-{
-    let Office { mut keeper, shelf } = match open_office(rt, &replay.database, Wary) {
-        Ok(office) => office,
-        Err(fault) => return Err(ProgramFault::Database(fault)),
-    };
-    let Ok(mut buffered) = BufReader::new(rt.alloc(), reader) else {
-        return Err(ProgramFault::Stream(StreamFault::Memory));
-    };
-    match answer_requests(rt.alloc(), &mut keeper, &shelf, &mut buffered, output) {
-        Ok(()) => Ok(Status::Done),
-        Err(fault) => Err(ProgramFault::Lines(fault)),
-    }
-}
-
-/// Answers the lines of a reader over a keeper, which may fail.
-#[tactic(auto, using(crate::proofs::EndLemmas::reached_over, crate::proofs::EndLemmas::where_unread))]
-fn answer_requests<K: Keeper, R: Read, O: Write>(
-    alloc: Global,
-    keeper: &mut K,
-    shelf: &TariffShelf,
-    reader: &mut R,
-    output: &mut O,
-) -> Result<(), LinesFault>
-    ensures reached { IfErr result (IsReachedByLines (Unit {0})) }
-    ensures unwritten { IfErr result (λ fault. AreUnread fault → output.new ≡ output.old) }
-    ensures unread { IfErr result (λ fault. AreUnread fault → keeper.new ≡ keeper.old) }
-    ensures answers { AnswersLines shelf.now None (R.remaining reader.old)
-        (O.contents output.old) (O.contents output.new)
-        K.content K.failed K.clean keeper.old keeper.new result }
-    ensures told { OnOk result (IfSome (R.remaining reader.old)
-        (TellsLines (O.contents output.old) (O.contents output.new))) }
-    ensures begun { OnErr result (IfSome (R.remaining reader.old)
-        (BeginsLines (O.contents output.old) (O.contents output.new))) }
-{
-    lines(alloc, keeper, shelf, None, reader, output)
 }

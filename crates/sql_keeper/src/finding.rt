@@ -40,7 +40,10 @@ fn content_said(alloc: Global, account: &AccountNumber, text: &str) -> Result<Co
 {
     let account = account.clone()?;
     let bytes = text.as_bytes();
-    read_content(alloc, account, bytes).map_err(fault_of)
+    match read_content(alloc, account, bytes) {
+        Ok(content) => Ok(content),
+        Err(fault) => Err(fault_of(fault)),
+    }
 }
 
 /// The answer that a kept text says.
@@ -48,7 +51,10 @@ fn answer_said(alloc: Global, text: &str) -> Result<Answer, ReadFault>
     ensures { IfOk result (λ a. answer_of text.now ≡ Ok a) }
 {
     let bytes = text.as_bytes();
-    wire::read_answer(alloc, bytes).map_err(fault_of)
+    match wire::read_answer(alloc, bytes) {
+        Ok(answer) => Ok(answer),
+        Err(fault) => Err(fault_of(fault)),
+    }
 }
 
 /// What texts that are kept under an account say; texts that say nothing are out of the rules.

@@ -70,7 +70,9 @@ pub(crate) fn read_live_groups<S: Alter>(
     let mut groups = Vec::new(alloc);
     'sessions: for session in sessions {
         let mut more = read_session_groups(conn, alloc, account, books, purse, &session.id)?;
-        groups.append(&mut more)?;
+        let Ok(()) = groups.append(&mut more) else {
+            return Err(ReadFault::Memory);
+        };
     }
     Ok(groups)
 }

@@ -109,7 +109,10 @@ pub(crate) fn make_later<S: Alter>(
     ensures store { IfErr result
         (λ fault. (fault ≡ OpenFault.Store) ⊎ (fault ≡ OpenFault.Memory)) }
 {
-    create_since(tx, version).map_err(open_fault)
+    match create_since(tx, version) {
+        Ok(()) => Ok(()),
+        Err(error) => Err(open_fault(error)),
+    }
 }
 
 /// What is kept once.
@@ -158,7 +161,10 @@ fn books_within<S: Alter>(
         fault ≡ Rules →
         ¬ AreRuledBooks (content_of (state S.Store tx.old.conn.now).now.trees).books) }
 {
-    read_books_within(tx, alloc).map_err(read_fault)
+    match read_books_within(tx, alloc) {
+        Ok(books) => Ok(books),
+        Err(fault) => Err(read_fault(fault)),
+    }
 }
 
 /// Puts what the latest version has and the tables of an older one haven't: the numbers of books,

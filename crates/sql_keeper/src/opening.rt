@@ -95,7 +95,10 @@ fn make_tables<S: Alter>(conn: &mut Connection<S>, text: &str) -> Result<(), Cre
     if !conn.is_autocommit() || !is_blank(conn.schema()) {
         return Err(CreateFault::Store);
     }
-    create_book(conn, text).map_err(store_fault)
+    match create_book(conn, text) {
+        Ok(()) => Ok(()),
+        Err(error) => Err(store_fault(error)),
+    }
 }
 
 /// The fault of an error of the store.

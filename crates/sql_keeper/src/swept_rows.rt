@@ -50,7 +50,9 @@ fn swept_of(
 ) -> Result<SweptAccount, ReadFault>
     ensures { IfOk result (IsSweptFrom (shelf_names names.now) shelf.now moment account.now rows) }
 {
-    let before = rows.ok_or(ReadFault::Rules)?;
+    let Some(before) = rows else {
+        return Err(ReadFault::Rules);
+    };
     // For the prover alone: looking at the value makes known here what its type keeps.
     let _kept = before.as_of();
     let number = account.clone()?;
@@ -81,7 +83,9 @@ fn read_each<S: Alter>(
     'accounts: for account in accounts {
         let rows = read_live_account(conn, alloc, account, names, shelf, moment)?;
         let next = swept_of(account, rows, names, shelf, moment)?;
-        swept.push(next)?;
+        let Ok(()) = swept.push(next) else {
+            return Err(ReadFault::Memory);
+        };
     }
     Ok(swept)
 }

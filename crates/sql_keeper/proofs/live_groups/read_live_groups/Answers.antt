@@ -1,6 +1,6 @@
 use Rattle.std.proofs.Common.{arith}
 use Rattle.sqlite.specs.Held.{state}
-use Rattle.sql_keeper.proofs.InTurn.{failed_then}
+use Rattle.sql_keeper.proofs.InTurn.{failed_then, gives_up}
 use Rattle.sql_keeper.proofs.LiveGroups.{none_yet, next_gathered, all_gathered}
 use Rattle.sql_keeper.proofs.live_groups.read_live_groups.Goals as goal
 use Rattle.sql_keeper.specs.Content.{shelf_names}
@@ -20,11 +20,10 @@ returns-in_err-more g c =
     c.from_residual.ensures.0 c.sessions.invariant.reads c.read_session_groups.ensures.only
     c.read_session_groups.ensures.survives
 
-pub returns-in_err-append : goal.returns-in_err-append
-returns-in_err-append g c =
-    failed_then _ (state g.S.Store c.args.conn.now) (state g.S.Store c.sessions.conn)
-    (state g.S.Store c.read_session_groups.new.conn) c.from_residual-in_err-append.result
-    c.from_residual-in_err-append.ensures.0 c.sessions.invariant.reads
+pub returns-in_default : goal.returns-in_default
+returns-in_default g c =
+    gives_up _ (state g.S.Store c.args.conn.now) (state g.S.Store c.sessions.conn)
+    (state g.S.Store c.read_session_groups.new.conn) _ c.sessions.invariant.reads
     c.read_session_groups.ensures.only c.read_session_groups.ensures.survives
 
 pub sessions-preserved : goal.sessions-preserved
@@ -33,8 +32,7 @@ sessions-preserved g c = next_gathered (λ xs. xs.items) (shelf_names c.args.boo
     c.sessions.groups.items
     c.append.new.self.items (state g.S.Store c.args.conn.now) (state g.S.Store c.sessions.conn)
     (state g.S.Store c.read_session_groups.new.conn) c.in_ok-more.more
-    (omega arith) c.session-item.is c.in_ok-append.ensures.items c.sessions.invariant
-    c.in_ok-more.ensures
+    (omega arith) c.session-item.is c.in-Ok.ensures.items c.sessions.invariant c.in_ok-more.ensures
 
 pub returns : goal.returns
 returns g c =

@@ -2,7 +2,7 @@ use Rattle.std.proofs.Common.{Ok, arith}
 use Rattle.sqlite.specs.Held.{state}
 use Rattle.sql_tables.specs.declared.reading.ReadFault.{ReadFault}
 use Rattle.sql_rows.specs.Content.{content_of}
-use Rattle.sql_keeper.proofs.InTurn.{failed_then, gathers_made}
+use Rattle.sql_keeper.proofs.InTurn.{failed_then, gathers_made, gives_up}
 use Rattle.sql_keeper.proofs.SweptReads.{none_swept, swept_made, next_swept, all_swept}
 use Rattle.sql_keeper.proofs.swept_rows.read_each.Goals as goal
 use Rattle.sql_keeper.specs.Content.{shelf_names}
@@ -30,11 +30,10 @@ returns-in_err-next g c =
     c.from_residual-in_err-next.ensures.0 c.accounts.invariant.reads
     c.read_live_account.ensures.only c.read_live_account.ensures.survives
 
-pub returns-in_err-push : goal.returns-in_err-push
-returns-in_err-push g c =
-    failed_then _ (state g.S.Store c.args.conn.now) (state g.S.Store c.accounts.conn)
-    (state g.S.Store c.read_live_account.new.conn) c.from_residual-in_err-push.result
-    c.from_residual-in_err-push.ensures.0 c.accounts.invariant.reads
+pub returns-in_default : goal.returns-in_default
+returns-in_default g c =
+    gives_up _ (state g.S.Store c.args.conn.now) (state g.S.Store c.accounts.conn)
+    (state g.S.Store c.read_live_account.new.conn) _ c.accounts.invariant.reads
     c.read_live_account.ensures.only c.read_live_account.ensures.survives
 
 pub accounts-preserved : goal.accounts-preserved
@@ -43,7 +42,7 @@ accounts-preserved g c =
     c.accounts.account-index c.account-item.result c.accounts.swept.items c.push.new.self.items
     (state g.S.Store c.args.conn.now) (state g.S.Store c.accounts.conn)
     (state g.S.Store c.read_live_account.new.conn) c.in_ok-next.next
-    (omega arith) c.account-item.is c.in_ok-push.ensures.items c.accounts.invariant
+    (omega arith) c.account-item.is c.in-Ok.ensures.items c.accounts.invariant
     (gathers_made _ _ (state g.S.Store c.accounts.conn)
     (state g.S.Store c.read_live_account.new.conn) c.in_ok-rows.rows (Ok c.in_ok-next.next)
     c.in_ok-rows.ensures

@@ -1,0 +1,34 @@
+use Rattle.std.proofs.Common.{ℕ, List, Option, IfSome, subst}
+use Rattle.request_lines.proofs.Ended.{none_begun}
+use Rattle.request_lines.specs.Served.{BeginsLines, TellsLines}
+use Rattle.ocs.specs.Replayed.{IsReplayDone}
+use Rattle.ocs.proofs.EndLemmas.{buffer_unread}
+use Rattle.ocs.proofs.replaying.answer_reader.Goals as goal
+
+pub returns-in_default-clause-begun : goal.returns-in_default-clause-begun
+returns-in_default-clause-begun g c =
+    none_begun (g.O.Write.contents c.args.output.now) (g.R.Read.remaining c.args.reader)
+
+pub returns-in-Ok-answer_requests-clause-done : goal.returns-in-Ok-answer_requests-clause-done
+returns-in-Ok-answer_requests-clause-done g c = λ clean honest.
+    subst (λ (bytes : Option (List ℕ)). IfSome bytes (λ stream. IsReplayDone stream
+    (g.O.Write.contents c.args.output.now) (g.O.Write.contents c.answer_requests.new.output)
+    c.args.shelf.now (g.K.Keeper.content c.args.keeper.now)
+    (g.K.Keeper.content c.answer_requests.new.keeper)))
+    (buffer_unread c.in-Ok.buffered c.args.reader g.R.Read.remaining c.in-Ok.ensures.capacity
+    c.in-Ok.ensures.empty c.in-Ok.ensures.inner)
+    (c.answer_requests.ensures.answers.answered (c.answer_requests.ensures.stands honest clean))
+
+pub returns-in-Ok-answer_requests-clause-told : goal.returns-in-Ok-answer_requests-clause-told
+returns-in-Ok-answer_requests-clause-told g c =
+    subst (λ (bytes : Option (List ℕ)). IfSome bytes (TellsLines
+    (g.O.Write.contents c.args.output.now) (g.O.Write.contents c.answer_requests.new.output)))
+    (buffer_unread c.in-Ok.buffered c.args.reader g.R.Read.remaining c.in-Ok.ensures.capacity
+    c.in-Ok.ensures.empty c.in-Ok.ensures.inner) c.in-Ok-answer_requests.ensures.told
+
+pub returns-clause-begun : goal.returns-clause-begun
+returns-clause-begun g c =
+    subst (λ (bytes : Option (List ℕ)). IfSome bytes (BeginsLines
+    (g.O.Write.contents c.args.output.now) (g.O.Write.contents c.answer_requests.new.output)))
+    (buffer_unread c.in-Ok.buffered c.args.reader g.R.Read.remaining c.in-Ok.ensures.capacity
+    c.in-Ok.ensures.empty c.in-Ok.ensures.inner) c.in-Err.ensures.begun

@@ -1,0 +1,14 @@
+-- What a replay leaves of the tables that it found.
+-- Source: profile.
+use Rattle.std.specs.Prelude.{Option, None}
+use Rattle.byte_streams.specs.Words.{Bytes}
+use Rattle.shelves.specs.Shelves.{Shelf}
+use Rattle.keepers.specs.Tables.{Tables}
+use Rattle.charging.specs.Continued.{ForEachList}
+use Rattle.request_lines.specs.Served.{IsAnswered}
+
+-- the lines of a stream are answered, for every list of accepted commands whose tables were found:
+-- their text is written, and the tables are those of their commands too
+abbrev pub IsReplayDone : Bytes → Option Bytes → Option Bytes → Shelf → Tables → Tables → Type 0
+IsReplayDone stream before after shelf old new =
+    ForEachList shelf old (IsAnswered shelf None stream before after new)

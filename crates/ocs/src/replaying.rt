@@ -1,0 +1,155 @@
+//! Lines of a file that are answered over what a database holds.
+
+ghost use Rattle.std.specs.Prelude.{◌≡◌, IfErr, IfOk, IfSome, None, OnErr, OnOk};
+ghost use Rattle.office.specs.Printed.{IsEnded};
+ghost use Rattle.request_lines.specs.Served.{AnswersLines, BeginsLines, TellsLines};
+ghost use Rattle.sqlite.specs.Files.{file_state};
+ghost use Rattle.sqlite.specs.State.{HasCleanDisk};
+ghost use Rattle.sqlite_wal.specs.Files.{image_at};
+ghost use Rattle.sql_keeper.specs.Inside.{clean_in, tables_in};
+ghost use Rattle.sql_keeper.specs.Stops.{honest_in};
+ghost use Rattle.database_office.specs.Over.{Comes};
+ghost use Rattle.ocs.specs.Ends.{BeginsLinesOf, PrintsLines};
+ghost use Rattle.ocs.specs.Faults.{IsReachedByLines, IsReplayFault};
+ghost use Rattle.ocs.specs.Replayed.{IsReplayDone};
+ghost use Rattle.ocs.specs.Told.{AreUnread, IfLines};
+
+use crate::fault::ProgramFault;
+use byte_streams::StreamFault;
+use database_files::DatabaseFiles;
+use database_office::{Office, open_file, open_office};
+use keepers::Keeper;
+use office::Status;
+use operator::ReplayWords;
+use request_lines::{LinesFault, lines};
+use shelves::TariffShelf;
+use sql_keeper::SqlKeeper;
+use sqlite::Alter;
+use sqlite_disk::{Start, Wary};
+use std::alloc::Global;
+use std::fs::Files;
+use std::io::{BufReader, Read, Write};
+
+/// Answers the lines of a file. It is opened before the database is.
+pub(crate) fn answer_replay<F: Files, O: Write>(
+    rt: &HostRuntime,
+    files: &F,
+    replay: &ReplayWords,
+    output: &mut O,
+) -> Result<Status, ProgramFault>
+    ensures ended { IfOk result (IsEnded ⊥) }
+    ensures printed { OnOk result
+        (PrintsLines F.File.remaining (O.contents output.old) (O.contents output.new)) }
+    ensures begun { OnErr result
+        (BeginsLinesOf F.File.remaining (O.contents output.old) (O.contents output.new)) }
+    ensures reached { IfErr result IsReplayFault }
+    ensures unwritten { IfErr result (λ fault. IfLines fault AreUnread → output.new ≡ output.old) }
+{
+    let file = open_file(files, replay.file.as_str()).map_err(ProgramFault::Database)?;
+    match replay_over(rt, replay, file, output, Wary) {
+        Ok(_keeper) => Ok(Status::Done),
+        Err(fault) => Err(fault),
+    }
+}
+
+/// Answers the lines of a reader over the database of the words, whatever its files held (`start`),
+/// and answers its keeper.
+fn replay_over<S: Start, R: Read + Drop, O: Write>(
+    rt: &HostRuntime,
+    replay: &ReplayWords,
+    reader: R,
+    output: &mut O,
+    start: S,
+) -> Result<SqlKeeper<DatabaseFiles<S>>, ProgramFault>
+    ensures answered { IfOk result (λ keeper. HasCleanDisk (file_state keeper.connection) →
+        IfSome (R.remaining reader) (λ stream. Comes (image_at S.Start) keeper
+        (IsReplayDone stream (O.contents output.old) (O.contents output.new)))) }
+    ensures told { OnOk result (IfSome (R.remaining reader)
+        (TellsLines (O.contents output.old) (O.contents output.new))) }
+    ensures begun { OnErr result (IfSome (R.remaining reader)
+        (BeginsLines (O.contents output.old) (O.contents output.new))) }
+    ensures reached { IfErr result IsReplayFault }
+    ensures unwritten { IfErr result (λ fault. IfLines fault AreUnread → output.new ≡ output.old) }
+{
+    let office = open_office(rt, &replay.database, start).map_err(ProgramFault::Database)?;
+    answer_over(rt.alloc(), office, reader, output)
+}
+
+/// Answers the lines of a reader over an office, and answers its keeper.
+fn answer_over<S: Alter + Drop, R: Read + Drop, O: Write>(
+    alloc: Global,
+    office: Office<S>,
+    reader: R,
+    output: &mut O,
+) -> Result<SqlKeeper<S>, ProgramFault>
+    ensures done { IfOk result (λ keeper. clean_in S.Store office.keeper →
+        honest_in S.Store keeper → IfSome (R.remaining reader) (λ stream.
+        IsReplayDone stream (O.contents output.old) (O.contents output.new) office.shelf
+        (tables_in S.Store office.keeper) (tables_in S.Store keeper))) }
+    ensures honesty { IfOk result (λ keeper. honest_in S.Store keeper →
+        honest_in S.Store office.keeper) }
+    ensures told { OnOk result (IfSome (R.remaining reader)
+        (TellsLines (O.contents output.old) (O.contents output.new))) }
+    ensures begun { OnErr result (IfSome (R.remaining reader)
+        (BeginsLines (O.contents output.old) (O.contents output.new))) }
+    ensures reached { IfErr result IsReplayFault }
+    ensures unwritten { IfErr result (λ fault. IfLines fault AreUnread → output.new ≡ output.old) }
+{
+    let Office { mut keeper, shelf } = office;
+    answer_reader(alloc, &mut keeper, &shelf, reader, output)?;
+    Ok(keeper)
+}
+
+/// Answers the lines of a reader over a keeper.
+fn answer_reader<K: Keeper, R: Read + Drop, O: Write>(
+    alloc: Global,
+    keeper: &mut K,
+    shelf: &TariffShelf,
+    reader: R,
+    output: &mut O,
+) -> Result<(), ProgramFault>
+    ensures done { K.clean keeper.old → K.honest keeper.new → OnOk result
+        (IfSome (R.remaining reader) (λ stream. IsReplayDone stream
+        (O.contents output.old) (O.contents output.new) shelf.now
+        (K.content keeper.old) (K.content keeper.new))) }
+    ensures honesty { K.honest keeper.new → K.honest keeper.old }
+    ensures told { OnOk result (IfSome (R.remaining reader)
+        (TellsLines (O.contents output.old) (O.contents output.new))) }
+    ensures begun { OnErr result (IfSome (R.remaining reader)
+        (BeginsLines (O.contents output.old) (O.contents output.new))) }
+    ensures reached { IfErr result IsReplayFault }
+    ensures unwritten { IfErr result (λ fault. IfLines fault AreUnread → output.new ≡ output.old) }
+{
+    let Ok(mut buffered) = BufReader::new(alloc, reader) else {
+        return Err(ProgramFault::Stream(StreamFault::Memory));
+    };
+    match answer_requests(alloc, keeper, shelf, &mut buffered, output) {
+        Ok(()) => Ok(()),
+        Err(fault) => Err(ProgramFault::Lines(fault)),
+    }
+}
+
+/// Answers the lines of a reader over a keeper, which may fail.
+#[tactic(auto, using(crate::proofs::EndLemmas::reached_over, crate::proofs::EndLemmas::where_unread))]
+fn answer_requests<K: Keeper, R: Read, O: Write>(
+    alloc: Global,
+    keeper: &mut K,
+    shelf: &TariffShelf,
+    reader: &mut R,
+    output: &mut O,
+) -> Result<(), LinesFault>
+    ensures reached { IfErr result (IsReachedByLines (Unit {0})) }
+    ensures unwritten { IfErr result (λ fault. AreUnread fault → output.new ≡ output.old) }
+    ensures unread { IfErr result (λ fault. AreUnread fault → keeper.new ≡ keeper.old) }
+    ensures answers { AnswersLines shelf.now None (R.remaining reader.old)
+        (O.contents output.old) (O.contents output.new)
+        K.content K.failed K.clean keeper.old keeper.new result }
+    ensures told { OnOk result (IfSome (R.remaining reader.old)
+        (TellsLines (O.contents output.old) (O.contents output.new))) }
+    ensures begun { OnErr result (IfSome (R.remaining reader.old)
+        (BeginsLines (O.contents output.old) (O.contents output.new))) }
+    ensures honesty { K.honest keeper.new → K.honest keeper.old }
+    ensures stands { K.honest keeper.new → K.clean keeper.old → OnOk result (K.clean keeper.new) }
+{
+    lines(alloc, keeper, shelf, None, reader, output)
+}
