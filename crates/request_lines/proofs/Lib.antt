@@ -4,3 +4,4 @@ pub mod Streams
 pub mod Texts
 pub mod Answered
 pub mod Ended
+pub mod HeldLines

@@ -192,3 +192,16 @@ pub record AnswersLines {A K : Type 0} (b : Shelf) (opening : Option Micros)
   pub cause : result ≡ Err (Store StoreFailed) → min (failed old + 1) max_failures ≤ failed new
   pub cause_of_both : result ≡ Err (Both StoreFailed) →
       min (failed old + 1) max_failures ≤ failed new
+
+-- ---- whatever a keeper holds
+
+-- each line of a stream is told its fault or an answer, and none is left out
+pub record TellsLines (old new : Option Bytes) (stream : Bytes) : Type 0 where
+  pub answers : List Answer
+  pub all : length answers ≡ length (requests_in stream)
+  pub written : Appends old new (texts_of (faults_in stream) answers)
+
+-- or a beginning of that is written
+pub record BeginsLines (old new : Option Bytes) (stream : Bytes) : Type 0 where
+  pub answers : List Answer
+  pub written : WritesBeginning old new (texts_of (faults_in stream) answers)
