@@ -59,9 +59,9 @@ fn run_own_words(rt: &HostRuntime) -> io::Result<Status> {
 
 /// Runs the program's words; the lines of a file are read of `files`. `Done` where what they say was
 /// done, or a text that they ask for was written: the help or the version; of connections that were
-/// served, each one's fault is one line on `errors`. `Failed` where an operator's command or a statement is refused, and at a fault,
-/// which is one line on `errors`. `Unread` where they aren't words of the program: then `output`
-/// gets nothing, and `errors` a text that says why.
+/// served, each one's fault is one line on `errors`. `Failed` where an operator's command or a
+/// statement is refused, and at a fault, which is one line on `errors`. `Unread` where they aren't
+/// words of the program: then `output` gets nothing, and `errors` a text that says why.
 pub fn run_words<'a, F: Files, I: Read, O: Write, E: Write>(
     rt: &HostRuntime,
     files: &F,
