@@ -37,6 +37,6 @@ returns-in-Ok-clause-printed g c = record {
 
 pub returns-clause-begun : goal.returns-clause-begun
 returns-clause-begun g c =
-    begins_of c.args.words c.args.shelf.now c.query_of-query.query
+    begins_of c.args.words c.args.shelf.now c.query_of-query.result
     (g.O.Write.contents c.args.output.now) (g.O.Write.contents c.serve_statement.new.writer)
     c.query_of-query.ensures c.in-Err.ensures.begun
