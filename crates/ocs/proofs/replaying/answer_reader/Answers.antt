@@ -17,7 +17,8 @@ returns-in-Ok-answer_requests-clause-done g c = λ clean honest.
     (g.K.Keeper.content c.answer_requests.new.keeper)))
     (buffer_unread c.in-Ok.buffered c.args.reader g.R.Read.remaining c.in-Ok.ensures.capacity
     c.in-Ok.ensures.empty c.in-Ok.ensures.inner)
-    (c.answer_requests.ensures.answers.answered (c.answer_requests.ensures.stands honest clean))
+    (c.in-Ok-answer_requests.ensures.answers.answered
+    (c.in-Ok-answer_requests.ensures.stands honest clean))
 
 pub returns-in-Ok-answer_requests-clause-told : goal.returns-in-Ok-answer_requests-clause-told
 returns-in-Ok-answer_requests-clause-told g c =
