@@ -2,12 +2,9 @@
 use Rattle.std.proofs.Common.{◌≡◌, ℕ, ◌≤◌, ◌+◌, ◌++◌, ◌∷◌, ◌⊎◌, Bool, true, false, List, [], take}
 use Rattle.std.proofs.Common.{sym, ap, subst, ◌∙◌, refl, inl, inr, Option, Some, None, Result, Ok}
 use Rattle.std.proofs.Common.{Err}
-use Rattle.std.proofs.Common.{◌==◌}
-use Rattle.std.specs.Prelude.{IfErr, IfSome, OnErr, if◌then◌else◌, min}
-use Rattle.std.specs.Io.Buffered.{reader_remaining, reader_capacity, reader_buffer, reader_inner}
-use Rattle.std.specs.Io.KnownBytes.{Appends, Keeps, prepend_known}
-use Rattle.std.specs.declared.io.buffered.BufReader.{BufReader}
-use Rattle.std.proofs.KnownBytes.{Keeps-refl, prepend_known-nil}
+use Rattle.std.specs.Prelude.{IfErr, IfSome, OnErr, min}
+use Rattle.std.specs.Io.KnownBytes.{Appends, Keeps}
+use Rattle.std.proofs.KnownBytes.{Keeps-refl}
 use Rattle.byte_streams.specs.declared.StreamFault.{StreamFault}
 use Rattle.byte_streams.specs.declared.StreamFault.TheVariants as stream
 use Rattle.clap.specs.Values.{kind_of}
@@ -217,17 +214,6 @@ pub started_said : {F : Type 0} (bytes : F → Option (List ℕ)) (texts : List 
     IsSaid texts other → HasBegun bytes said before after → HasBegun bytes other before after
 started_said bytes texts said other before after h k is =
     subst (λ (s : ProgramWords). HasBegun bytes s before after) (same_said texts said other h k) is
-
--- a new buffer has what its reader has
-pub buffer_unread : {T A : Type 0} (r : BufReader T A) (inner : T)
-    (remaining : T → Option (List ℕ)) → reader_capacity r ≡ 8192 → reader_buffer r ≡ [] →
-    reader_inner r ≡ inner → reader_remaining remaining r ≡ remaining inner
-buffer_unread r inner remaining capacity empty is =
-    ap (λ (n : ℕ). if n == 0 then None else prepend_known (reader_buffer r) (remaining r.inner))
-    capacity
-    ∙ ap (λ (b : List ℕ). prepend_known b (remaining r.inner)) empty
-    ∙ prepend_known-nil (remaining r.inner)
-    ∙ ap remaining is
 
 abbrev IsRead : Status → Type 0
 IsRead Done = Unit {0}

@@ -1,2 +1,3 @@
 pub mod OnceLemmas
 pub mod EndLemmas
+pub mod Buffers

@@ -71,7 +71,10 @@ fn replay_over<S: Start, R: Read + Drop, O: Write>(
     ensures reached { IfErr result IsReplayFault }
     ensures unwritten { IfErr result (λ fault. IfLines fault AreUnread → output.new ≡ output.old) }
 {
-    let office = open_office(rt, &replay.database, start).map_err(ProgramFault::Database)?;
+    let office = match open_office(rt, &replay.database, start) {
+        Ok(office) => office,
+        Err(fault) => return Err(ProgramFault::Database(fault)),
+    };
     answer_over(rt.alloc(), office, reader, output)
 }
 

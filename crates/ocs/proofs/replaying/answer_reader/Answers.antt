@@ -2,7 +2,7 @@ use Rattle.std.proofs.Common.{ℕ, List, Option, IfSome, subst}
 use Rattle.request_lines.proofs.Ended.{none_begun}
 use Rattle.request_lines.specs.Served.{BeginsLines, TellsLines}
 use Rattle.ocs.specs.Replayed.{IsReplayDone}
-use Rattle.ocs.proofs.EndLemmas.{buffer_unread}
+use Rattle.ocs.proofs.Buffers.{buffer_unread}
 use Rattle.ocs.proofs.replaying.answer_reader.Goals as goal
 
 pub returns-in_default-clause-begun : goal.returns-in_default-clause-begun

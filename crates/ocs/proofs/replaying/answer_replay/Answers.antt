@@ -6,8 +6,8 @@ pub returns-in-Ok-clause-printed : goal.returns-in-Ok-clause-printed
 returns-in-Ok-clause-printed g c =
     record { file = c.in_ok-file.file; told = c.in-Ok.ensures.told }
 
-pub returns-clause-begun : goal.returns-clause-begun
-returns-clause-begun g c =
+pub returns-in-Err-clause-begun : goal.returns-in-Err-clause-begun
+returns-in-Err-clause-begun g c =
     inl (record { file = c.in_ok-file.file; begun = c.in-Err.ensures.begun })
 
 pub returns-in_err-file-clause-begun : goal.returns-in_err-file-clause-begun
