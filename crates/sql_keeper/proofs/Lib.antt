@@ -3,6 +3,7 @@ pub mod AddedBooks
 pub mod Again
 pub mod Asked
 pub mod Beside
+pub mod BookPlaces
 pub mod BookTexts
 pub mod Brought
 pub mod Causes
@@ -19,6 +20,7 @@ pub mod Granted
 pub mod GroupRows
 pub mod Groups
 pub mod HeldAlong
+pub mod HoldRuns
 pub mod InTurn
 pub mod LiveGroups
 pub mod LiveRows
@@ -36,6 +38,7 @@ pub mod Redeemed
 pub mod Reopening
 pub mod Repeating
 pub mod RuledOpening
+pub mod SeenRows
 pub mod Shelved
 pub mod Shelving
 pub mod Standing

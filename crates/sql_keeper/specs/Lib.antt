@@ -23,6 +23,7 @@ pub mod OlderVersions
 pub mod Opened
 pub mod Repeating
 pub mod RuledOpening
+pub mod Seen
 pub mod Settled
 pub mod Shelves
 pub mod Stops

@@ -63,9 +63,9 @@ first_number (Some h) = if h.next_charge == 0 then 1 else h.next_charge
 abbrev pub is_open_over : List Session → Stored → SessionName → Bool
 is_open_over sessions r s = is_open_row (first_of (session_in s sessions) (r.sessions s))
 
--- whether a session is open by its row as it is by the one that is stored
-abbrev pub is_as_open : Session → Option Session → Bool
-is_as_open x o = if is_open x.state then is_open_row o else not (is_open_row o)
+-- whether a session is open by its row as it was before
+abbrev pub is_as : Session → Bool → Bool
+is_as x before = if is_open x.state then before else not before
 
 -- of a session that is opened or ended no group that isn't named has a reservation
 abbrev pub AreSettled : List Session → List SessionGroup → Stored → Type 0

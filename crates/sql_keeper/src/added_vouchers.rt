@@ -122,6 +122,7 @@ impl<S: Alter> SqlKeeper<S> {
     {
         let text = self.text.as_str();
         let made = ask_to_add(&mut self.connection, text, &code, terms, moment);
+        self.seen = None;
         self.last = last_after(&made, self.last, moment);
         counted(&mut self.failures, made)
     }
