@@ -1,4 +1,4 @@
-"""What an office answers at the end of a day: rows by the shell sqlite3, balances over HTTP, and
+"""What an office tells at the end of a day: rows by the shell sqlite3, balances over HTTP, and
 statements and exports by the program's words. Each is compared with what was answered and
 reckoned."""
 import collections
@@ -54,7 +54,7 @@ def shell(place, asked):
 
 
 def whole(row):
-    """A row's numbers; None is an empty field."""
+    """A row's numbers; None stands for an empty field."""
     return tuple(int(field) if field else None for field in row)
 
 
@@ -130,7 +130,7 @@ class Rows:
         agree("books", texts, wanted)
 
     def check_grants(self, people, moment):
-        """Each grant that is there has its book, and no other."""
+        """Each grant that stands has its book, and no other."""
         asked = "SELECT account, session, rating_group, book FROM grant_books"
         found = sorted((*row[:2], *whole(row[2:])) for row in shell(self.place, asked))
         wanted = sorted(
@@ -143,7 +143,7 @@ class Rows:
         agree("grants", shell(self.place, reserved), [(str(len(wanted)),)])
 
     def check_vouchers(self, people, vouchers):
-        """Each voucher of the file is there as it says, spent by the account that redeemed it."""
+        """Each voucher of the file stands as it says, spent by the account that redeemed it."""
         told = shell(self.place, "SELECT code, amount, days, scope, account FROM vouchers")
         found = {code: (*whole(row), account) for code, *row, account in told}
         spent = {code: person.number for person in people for code in person.codes}

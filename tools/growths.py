@@ -1,4 +1,4 @@
-"""Runs the program with its growths of memory counted and some of them refused, and gives the rows that
+"""Runs the program with its growths of memory counted and some of them refused, and tells the rows that
 it leaves.
 
 A growth is a call of the C library's malloc or of its kin. growths.c, which gcc compiles, is loaded into
@@ -67,7 +67,7 @@ class Program:
 
 
 def ending(running, told=b""):
-    """How a run ends that printed this before; one that doesn't end is killed."""
+    """How a run ends that told this before; one that doesn't end is killed."""
     try:
         out, err = running.communicate(timeout=SECONDS)
     except subprocess.TimeoutExpired:

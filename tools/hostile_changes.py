@@ -7,7 +7,7 @@ EDGES = [2**bits for bits in (16, 31, 32, 53, 63, 64)]
 EDGES += [0, 10**9, 10**15, 10**18, 4 * 10**18, 4_102_444_800]
 NUMBERS = [b"%d" % (edge + more) for edge in EDGES for more in (-1, 0, 1)]
 NUMBERS += [b"-0", b"00", b"1.0", b"1e0", b"1e999", b"+1", b"0x1", b"1_0", 40 * b"9", 5000 * b"9"]
-# Values of JSON that may be where another was.
+# Values of JSON that may stand where another stood.
 VALUES = [b"null", b"true", b"[]", b"{}", b"[{}]", b'""', b'" "', rb'"\u0000"', rb'"\ud800"']
 VALUES += [b'"\xc3\xa9"', b'"\xff"', b'"%s"' % (128 * b"x"), b'"%s"' % (129 * b"x")]
 VALUES += [126 * b"[" + 126 * b"]", 9000 * b"[", 9000 * b'{"a":', 9000 * b"{a="]

@@ -12,7 +12,7 @@ from dataclasses import dataclass
 SECONDS = 60
 LONGEST_HEAD = 8192
 REFUSED = (5002, 5004, 5005, 5012, 5030)
-# All but 503, which comes if memory is refused, for a store that failed or a clock.
+# All but 503, which comes for want of memory, a store that failed or a clock.
 STATUSES = (
     "200 OK|400 Bad Request|404 Not Found|405 Method Not Allowed|411 Length Required"
     "|413 Payload Too Large|431 Request Header Fields Too Large|501 Not Implemented")
@@ -65,7 +65,7 @@ class Answer:
 
 
 def request(line, body=None):
-    """The bytes of a request, which says its length where it has a body."""
+    """The bytes of a request, which tells its length where it has a body."""
     length = b"" if body is None else b"Content-Length: %d\r\n" % len(body)
     return b"%s HTTP/1.1\r\nHost: office\r\n%s\r\n%s" % (line.encode(), length, body or b"")
 
@@ -145,7 +145,7 @@ def answers_in(text):
 
 
 def body_length(head):
-    """The length of the body that a head says."""
+    """The length of the body that a head tells."""
     return sum(map(int, LENGTH.findall(head)))
 
 

@@ -1,6 +1,6 @@
 """What the scripts about many offices share: processes on the loopback address, and requests.
 
-The program is what tools/program prints, or the file that the variable OCS names."""
+The program is what tools/program tells, or the file that the variable OCS names."""
 import contextlib
 import functools
 import http.client
@@ -174,7 +174,7 @@ class Counts:
         return False
 
     def skip(self, what):
-        """Prints what isn't tried since a tool is missing; it counts neither as passed nor as failed."""
+        """Tells what isn't tried for want of a tool; it counts neither as passed nor as failed."""
         self.skipped += 1
         print(f"{self.name}: skipped: {what}")
 

@@ -22,7 +22,7 @@ PARTS = (None, 0, 2, 1)
 
 
 class Difference(Exception):
-    """What the program answered isn't what was reckoned."""
+    """What the program told isn't what was reckoned."""
 
 
 def agree(what, found, wanted):

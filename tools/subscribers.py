@@ -1,4 +1,4 @@
-"""What subscribers of an office ask for in a day: requests as their gateways send them.
+"""What subscribers of an office want in a day: requests as their gateways send them.
 
 Each subscriber draws from a source of chance of its own, so that a seed gives the same day again as
 long as the program answers the same."""
@@ -129,7 +129,7 @@ class Subscriber:
         return self.request(name, kind, number + 1, Multiple_Services_Credit_Control=services)
 
     def service(self, kind, group, moment):
-        """What one group used, and what it asks for next."""
+        """What one group used, and what it wants next."""
         told = {"Rating-Group": group}
         if self.happens(0.95):
             told["Used-Service-Unit"] = self.used(group, moment)

@@ -1,5 +1,3 @@
-//! Why a tariff book was not read.
-
 ghost use Rattle.std.specs.Prelude.{◌≡◌};
 ghost use Rattle.book_fields.specs.Faults.{number_of};
 ghost use Rattle.book_fields.specs.declared.fault.BookFault.TheVariants.{Memory};

@@ -1,5 +1,3 @@
-//! A bucket of money or of blocks.
-
 ghost use Rattle.std.specs.Prelude.{◌≡◌, ℕ, ◌+◌, ◌-◌, ◌≤◌, ◌<◌, ◌==◌, ◌&&◌, IsTrue, ◌↔◌};
 ghost use Rattle.std.specs.Prelude.{if◌then◌else◌};
 ghost use Rattle.buckets.specs.Kinds.{is_alike, most_of, IsScopeOf};

@@ -1,5 +1,3 @@
-//! The buckets of an account in their order of use.
-
 ghost use Rattle.std.specs.Prelude.{◌≡◌, ℕ, ◌+◌, ◌-◌, ◌≤◌, ◌<◌, ◌^◌, ◌↔◌, ◌==◌, ◌&&◌, not, []};
 ghost use Rattle.std.specs.Prelude.{OnOk, OnErr, IfOk, IsErrOf, map, length, filter};
 ghost use Rattle.std.specs.Prelude.{Some, None};
@@ -96,7 +94,7 @@ impl Purse {
     /// balance management function).
     ///
     /// # Errors
-    /// A growth was refused. Then the purse is unchanged.
+    /// `Memory` and no other: a growth was refused. Then the purse is unchanged.
     pub fn credit(
         &mut self,
         number: u32,
@@ -104,11 +102,12 @@ impl Purse {
         until: Moment,
         scope: Option<u32>,
         amount: Money,
-    ) -> Result<(), AllocError>
+    ) -> Result<(), PurseFault>
         requires { IsBelow number self.old }
         ensures ok { OnOk result
             (self.new ≡ inserted (new_row BucketKind.Money number from until scope amount)
             self.old) }
+        ensures memory { OnErr result (result ≡ Err PurseFault.Memory) }
         ensures err { OnErr result (self.new ≡ self.old) }
     {
         self.add(
@@ -125,7 +124,7 @@ impl Purse {
     /// above all others (TS 32.296, account balance management function).
     ///
     /// # Errors
-    /// A growth was refused. Then the purse is unchanged.
+    /// `Memory` and no other: a growth was refused. Then the purse is unchanged.
     pub fn allow(
         &mut self,
         number: u32,
@@ -133,12 +132,13 @@ impl Purse {
         until: Moment,
         group: u32,
         blocks: Blocks,
-    ) -> Result<(), AllocError>
+    ) -> Result<(), PurseFault>
         requires below { IsBelow number self.old }
         requires most { blocks.0 ≤ 1_000_000_000 }
         ensures ok { OnOk result
             (self.new ≡ inserted (new_row BucketKind.Blocks number from until (Some group) blocks.0)
             self.old) }
+        ensures memory { OnErr result (result ≡ Err PurseFault.Memory) }
         ensures err { OnErr result (self.new ≡ self.old) }
     {
         self.add(
@@ -154,7 +154,7 @@ impl Purse {
     /// Adds a bucket of either kind, as `credit` and `allow` do.
     ///
     /// # Errors
-    /// A growth was refused. Then the purse is unchanged.
+    /// `Memory` and no other: a growth was refused. Then the purse is unchanged.
     pub fn add(
         &mut self,
         number: u32,
@@ -163,17 +163,20 @@ impl Purse {
         until: Moment,
         scope: Option<u32>,
         amount: u64,
-    ) -> Result<(), AllocError>
+    ) -> Result<(), PurseFault>
         requires below { IsBelow number self.old }
         requires most { amount ≤ most_of kind }
         requires scope { IsScopeOf kind scope }
         ensures ok { OnOk result
             (self.new ≡ inserted (new_row kind number from until scope amount) self.old) }
+        ensures memory { OnErr result (result ≡ Err PurseFault.Memory) }
         ensures err { OnErr result (self.new ≡ self.old) }
     {
         let place = along::place_of(&self.buckets, until);
         let bucket = Bucket::new(number, kind, from, until, scope, amount);
-        self.buckets.insert(place, bucket)?;
+        let Ok(()) = self.buckets.insert(place, bucket) else {
+            return Err(PurseFault::Memory);
+        };
         Ok(())
     }
 
@@ -358,7 +361,9 @@ impl Purse {
         ensures err { OnErr result (self.new ≡ self.old) }
         ensures err_holds { OnErr result (holds.new ≡ holds.old) }
     {
-        let rest = along::rest_of(self.alloc, &self.buckets, &holds.items, due)?;
+        let Ok(rest) = along::rest_of(self.alloc, &self.buckets, &holds.items, due) else {
+            return Err(PurseFault::Memory);
+        };
         let left = along::charge_holds_along(&mut self.buckets, &holds.items, due);
         let unpaid = along::charge_along(&mut self.buckets, group, at, left);
         holds.items = rest;

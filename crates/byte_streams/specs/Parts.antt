@@ -1,23 +1,22 @@
 -- So many bytes of a stream, and the pieces that they are taken in.
 -- Source: profile.
-use Rattle.std.specs.Prelude.{◌≡◌, ◌≢◌, ◌<◌, ◌≤◌, ◌-◌, ◌++◌, ℕ, All, length, take, drop}
+use Rattle.std.specs.Prelude.{◌≡◌, ◌≢◌, ◌<◌, ◌≤◌, ◌-◌, ◌++◌, ℕ, List, All, length, take, drop}
 use Rattle.std.specs.Prelude.{Option, Some, None, IfSome, OnSome}
 use Rattle.std.specs.Io.KnownBytes.{Consumes, IsAtEnd}
 use Rattle.std.specs.Prelude.{Vec}
 use Rattle.std.specs.Global.{Global}
-use Rattle.byte_streams.specs.Words.{Byte, Bytes}
 
 -- the part is the next so many bytes, and this is left; none where the stream has fewer
-abbrev pub IsPartOf : ℕ → Bytes → Option (Vec ℕ Global) → Option Bytes → Type 0
+abbrev pub IsPartOf : ℕ → List ℕ → Option (Vec ℕ Global) → Option (List ℕ) → Type 0
 IsPartOf count stream (Some part) left = (count ≤ length stream) × (part.items ≡ take count stream)
     × (left ≡ Some (drop count stream))
 IsPartOf count stream None left = length stream < count
 
 -- the next so many bytes, at most `most`, come to a part; none but the last of them is one that
 -- stops
-pub record TakesPiece (stop : Option Byte) (most : ℕ) (before after : Bytes)
-    (old left : Option Bytes) (count : ℕ) : Type 0 where
-  pub piece : Bytes
+pub record TakesPiece (stop : Option ℕ) (most : ℕ) (before after : List ℕ)
+    (old left : Option (List ℕ)) (count : ℕ) : Type 0 where
+  pub piece : List ℕ
   pub counted : length piece ≡ count
   pub within : count ≤ most
   pub part : after ≡ before ++ piece

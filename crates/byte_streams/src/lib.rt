@@ -202,7 +202,9 @@ pub fn next_line<R: Read>(alloc: Global, reader: &mut R) -> Result<Option<Vec<u8
         if ends_line(byte) {
             return Ok(Some(line));
         }
-        line.push(byte)?;
+        let Ok(()) = line.push(byte) else {
+            return Err(StreamFault::Memory);
+        };
     }
     Err(StreamFault::Memory)
 }

@@ -2,7 +2,6 @@
 -- Source: profile; the Gregorian calendar. A rule's changes are made by specs/Summer.
 use Rattle.std.specs.Prelude.{◌≡◌, ℕ, ℤ, ◌+◌, ◌-◌, ◌/◌, ◌%◌, ◌≤◌, pos, ◌+ℤ◌, ◌*ℤ◌, unsigned_abs}
 use Rattle.std.specs.Prelude.{List, [], ◌∷◌, nat_le, if◌then◌else◌}
-use Rattle.units.specs.Words.{Moment}
 use Rattle.calendar.specs.declared.zone.Change.{Change}
 
 -- a zone: the lead of its clock before its first change, and its changes in the order of time, each
@@ -26,11 +25,11 @@ minutes_ahead minutes = always (lead_of minutes)
 
 -- changes are reckoned in seconds since 1968-12-31 00:00 UTC, 366 days before 1970: none of a year
 -- from 1969 on is earlier
-abbrev pub since_1968 : Moment → ℕ
+abbrev pub since_1968 : ℕ → ℕ
 since_1968 t = t + 31_622_400
 
 -- the lead after the last change at or before a moment
-abbrev pub lead_after : ℕ → List Change → Moment → ℕ
+abbrev pub lead_after : ℕ → List Change → ℕ → ℕ
 lead_after now [] t = now
 lead_after now (c ∷ cs) t = if nat_le c.at t then lead_after c.lead cs t else now
 
@@ -40,11 +39,11 @@ next_after [] t = 60_000_000_000
 next_after (c ∷ cs) t = if nat_le c.at t then next_after cs t else c.at
 
 -- the lead of the zone's clock at a moment: all else asks this
-abbrev pub lead : ZoneRule → Moment → ℕ
+abbrev pub lead : ZoneRule → ℕ → ℕ
 lead zone t = lead_after zone.before zone.changes (since_1968 t)
 
 -- up to which moment this lead holds
-abbrev pub next_change : ZoneRule → Moment → Moment
+abbrev pub next_change : ZoneRule → ℕ → ℕ
 next_change zone t = next_after zone.changes (since_1968 t) - 31_622_400
 
 -- a clock at most 14 hours from UTC, by whole minutes
@@ -71,7 +70,7 @@ pub record IsZone (zone : ZoneRule) : Type 0 where
   pub apart : AreApart zone.changes
 
 -- the seconds from 1969-12-31 00:00 to what the zone's clock shows at a moment
-abbrev pub clock : ZoneRule → Moment → ℕ
+abbrev pub clock : ZoneRule → ℕ → ℕ
 clock zone t = t + lead zone t
 
 -- what a clock shows, in seconds since 1969-12-31 00:00: the day since then, the weekday from 0 for
@@ -86,13 +85,13 @@ abbrev pub shown_minute : ℕ → ℕ
 shown_minute shown = shown % 86400 / 60
 
 -- the civil day at a moment: days since 1969-12-31
-abbrev pub day : ZoneRule → Moment → ℕ
+abbrev pub day : ZoneRule → ℕ → ℕ
 day zone t = shown_day (clock zone t)
 
 -- the weekday at a moment
-abbrev pub weekday : ZoneRule → Moment → ℕ
+abbrev pub weekday : ZoneRule → ℕ → ℕ
 weekday zone t = shown_weekday (clock zone t)
 
 -- the minute of the civil day at a moment
-abbrev pub minute : ZoneRule → Moment → ℕ
+abbrev pub minute : ZoneRule → ℕ → ℕ
 minute zone t = shown_minute (clock zone t)

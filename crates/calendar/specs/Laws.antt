@@ -1,7 +1,6 @@
 -- What the definitions of periods, weekdays and day ends say in other words.
 -- Source: profile; the Gregorian calendar.
 use Rattle.std.specs.Prelude.{◌≡◌, ◌≢◌, ℕ, ◌+◌, ◌-◌, ◌<◌, ◌≤◌, ◌⊎◌, pos, ◌+ℤ◌, Contains, Some}
-use Rattle.units.specs.Words.{Moment, DayCount}
 use Rattle.jiff.specs.Types.{Date}
 use Rattle.jiff.specs.Words.{epoch_day, weekday_of}
 use Rattle.calendar.specs.declared.week.Entry.{Entry}
@@ -15,18 +14,17 @@ use Rattle.calendar.specs.Timetable.{day_end}
 -- the period at a moment is that of any entry that holds its civil minute, wherever in the list it
 -- stands
 abbrev pub IsPeriodOfEntry : Type 0
-IsPeriodOfEntry = (c : Timetable) (t : Moment) (e : Entry) → IsTimetable c → IsEntryAt c t e →
+IsPeriodOfEntry = (c : Timetable) (t : ℕ) (e : Entry) → IsTimetable c → IsEntryAt c t e →
     period_at c t ≡ e.period
 
 -- the weekday at a moment is that of the date that the clock shows, by the Gregorian calendar
 abbrev pub IsWeekdayOfDate : Type 0
-IsWeekdayOfDate = (zone : ZoneRule) (t : Moment) (d : Date) →
-    epoch_day d +ℤ pos 1 ≡ pos (day zone t) →
+IsWeekdayOfDate = (zone : ZoneRule) (t : ℕ) (d : Date) → epoch_day d +ℤ pos 1 ≡ pos (day zone t) →
     weekday_of d ≡ weekday zone t
 
 -- the lead at a moment is that after the last change at or before it
 abbrev pub IsLeadOfLast : Type 0
-IsLeadOfLast = (zone : ZoneRule) (t : Moment) (last : Change) → IsZone zone →
+IsLeadOfLast = (zone : ZoneRule) (t : ℕ) (last : Change) → IsZone zone →
     Contains zone.changes last → last.at ≤ since_1968 t →
     ((c : Change) → Contains zone.changes c → c.at ≤ since_1968 t → c.at ≤ last.at) →
     lead zone t ≡ last.lead
@@ -36,12 +34,12 @@ abbrev pub IsZoneOfRule : Type 0
 IsZoneOfRule = (rule : SummerTime) → IsSummerTime rule → IsZone (zone_of_rule rule)
 
 -- where some moment shows the 00:00 after a day, the day ends at the first that does
-pub record IsShownFirst (zone : ZoneRule) (t : Moment) (days : DayCount) (s : Moment) : Type 0 where
+pub record IsShownFirst (zone : ZoneRule) (t days s : ℕ) : Type 0 where
   pub shows : clock zone s ≡ midnight zone t days
   pub first : (r : ℕ) → clock zone r ≡ midnight zone t days → s ≤ r
 
 -- where none does, a change skips it, and it is read with the lead before that change
-pub record IsSkipped (zone : ZoneRule) (t : Moment) (days : DayCount) (s : Moment) : Type 0 where
+pub record IsSkipped (zone : ZoneRule) (t days s : ℕ) : Type 0 where
   pub never : (r : ℕ) → clock zone r ≢ midnight zone t days
   pub change : ℕ
   pub before : (r : ℕ) → r < change → clock zone r < midnight zone t days
@@ -50,6 +48,6 @@ pub record IsSkipped (zone : ZoneRule) (t : Moment) (days : DayCount) (s : Momen
 
 -- the end of a day that ends after the first moment of all
 abbrev pub IsDayEndRead : Type 0
-IsDayEndRead = (zone : ZoneRule) (t : Moment) (days : DayCount) (s : Moment) → IsZone zone →
+IsDayEndRead = (zone : ZoneRule) (t days s : ℕ) → IsZone zone →
     clock zone 0 < midnight zone t days →
     day_end zone t days ≡ Some s → IsShownFirst zone t days s ⊎ IsSkipped zone t days s

@@ -1,18 +1,16 @@
 -- The charges of rows that don't stand in the order of their numbers: of each number the first.
 -- Source: profile.
-use Rattle.std.specs.Prelude.{◌&&◌, List, [], ◌∷◌, Option, Some, None, nat_le, nat_lt}
+use Rattle.std.specs.Prelude.{ℕ, ◌&&◌, List, [], ◌∷◌, Option, Some, None, nat_le, nat_lt}
 use Rattle.std.specs.Prelude.{if◌then◌else◌}
-use Rattle.reserving.specs.Words.{ChargeNumber}
 use Rattle.reserving.specs.ChargeColumns.{ChargeColumns}
 
 -- a number from `least` on, where none was found before it that isn't greater
-abbrev pub nearer : ChargeNumber → ChargeNumber → Option ChargeNumber → Option ChargeNumber
+abbrev pub nearer : ℕ → ℕ → Option ℕ → Option ℕ
 nearer least n None = if nat_le least n then Some n else None
 nearer least n (Some m) = if nat_le least n && nat_lt n m then Some n else Some m
 
 -- the least number of the rows from `least` on, where this one was found before them
-abbrev pub next_number : ChargeNumber → Option ChargeNumber → List ChargeColumns →
-    Option ChargeNumber
+abbrev pub next_number : ℕ → Option ℕ → List ChargeColumns → Option ℕ
 next_number least found [] = found
 next_number least found (c ∷ rest) = next_number least (nearer least c.number found) rest
 

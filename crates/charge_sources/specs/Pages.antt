@@ -1,19 +1,18 @@
 -- The charges of an account, some of them at a time.
 -- Source: profile.
-use Rattle.std.specs.Prelude.{◌≡◌, ◌<◌, ◌≤◌, ◌&&◌, Bool, true, false, List, Option, None, nat_lt}
+use Rattle.std.specs.Prelude.{◌≡◌, ℕ, ◌<◌, ◌≤◌, ◌&&◌, Bool, true, false, List, Option, None, nat_lt}
 use Rattle.std.specs.Prelude.{nat_le}
 use Rattle.std.specs.List.{filter}
-use Rattle.reserving.specs.Words.{ChargeNumber}
 use Rattle.reserving.specs.ChargeColumns.{ChargeColumns}
 use Rattle.charge_sources.specs.Rows.{AreCharges}
 use Rattle.charge_sources.specs.declared.pages.ChargePage.{ChargePage}
 
 -- whether a charge lies beyond a number, and up to another
-abbrev pub is_within : ChargeNumber → ChargeNumber → ChargeColumns → Bool
+abbrev pub is_within : ℕ → ℕ → ChargeColumns → Bool
 is_within after last c = nat_lt after c.number && nat_le c.number last
 
 -- the page has an account's charges beyond a number, up to its last one
-pub record IsPage (charges : ChargeNumber → Option ChargeColumns) (after : ChargeNumber)
+pub record IsPage (charges : ℕ → Option ChargeColumns) (after : ℕ)
     (page : ChargePage) : Type 0 where
   pub rows : (all : List ChargeColumns) → AreCharges charges all →
       page.rows.items ≡ filter (is_within after page.last) all
@@ -21,4 +20,4 @@ pub record IsPage (charges : ChargeNumber → Option ChargeColumns) (after : Cha
   pub from_there : after ≤ page.last
   pub goes_on : page.is_last ≡ false → after < page.last
   -- where it is the last page, none is beyond it
-  pub end : page.is_last ≡ true → (n : ChargeNumber) → page.last < n → charges n ≡ None
+  pub end : page.is_last ≡ true → (n : ℕ) → page.last < n → charges n ≡ None

@@ -2,8 +2,6 @@
 -- Source: profile.
 use Rattle.std.specs.Prelude.{◌≡◌, ℕ, Bool, true, false, List, [], ◌∷◌, Option, take}
 use Rattle.std.specs.List.{filter}
-use Rattle.units.specs.Words.{Moment}
-use Rattle.reserving.specs.Words.{ChargeNumber}
 use Rattle.reserving.specs.ChargeColumns.{ChargeColumns}
 use Rattle.charge_sources.specs.Rows.{is_between, AreCharges}
 
@@ -29,21 +27,15 @@ Shows {V} Sees (c ∷ rest) all old new =
     × GoesOn goes (Shows Sees rest all next new) ((all ≡ false) × (new ≡ next))
 
 -- it is shown the charges of the range
-abbrev pub SeesCharges : {V : Type 0} → (V → ChargeColumns → Bool → V → Type 0) → Moment → Moment →
-    (ChargeNumber → Option ChargeColumns) → V → V → Type 0
+abbrev pub SeesCharges : {V : Type 0} → (V → ChargeColumns → Bool → V → Type 0) → ℕ → ℕ →
+    (ℕ → Option ChargeColumns) → V → V → Type 0
 SeesCharges Sees from until charges old new =
     (rows : List ChargeColumns) → AreCharges charges rows →
     Visits Sees (filter (is_between from until) rows) old new
 
 -- it is shown the first of them, and no other
-abbrev pub SeesBeginning : {V : Type 0} → (V → ChargeColumns → Bool → V → Type 0) → Moment →
-    Moment → (ChargeNumber → Option ChargeColumns) → V → V → Type 0
+abbrev pub SeesBeginning : {V : Type 0} → (V → ChargeColumns → Bool → V → Type 0) → ℕ → ℕ →
+    (ℕ → Option ChargeColumns) → V → V → Type 0
 SeesBeginning Sees from until charges old new =
     (rows : List ChargeColumns) → AreCharges charges rows →
     (count : ℕ) × Visits Sees (take count (filter (is_between from until) rows)) old new
-
--- it is shown some rows of the range, whichever those are
-pub record IsShown {V : Type 0} (Sees : V → ChargeColumns → Bool → V → Type 0)
-    (from until : Moment) (old new : V) : Type 0 where
-  pub rows : List ChargeColumns
-  pub visits : Visits Sees (filter (is_between from until) rows) old new

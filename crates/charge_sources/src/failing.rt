@@ -1,12 +1,9 @@
-//! The charges of a keeper whose store fails, for tests.
-
 use crate::source::{ChargeSource, ChargeVisitor};
 use identifiers::AccountNumber;
 use keepers::{Failing, StoreFault};
 use units::Moment;
 
 impl<K: ChargeSource> ChargeSource for Failing<K> {
-    #[tactic(auto, using(crate::proofs::ShownRows::nothing_shown))]
     fn each<V: ChargeVisitor>(
         &mut self,
         account: &AccountNumber,

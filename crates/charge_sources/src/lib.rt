@@ -8,5 +8,4 @@ mod showing;
 mod source;
 
 pub use crate::pages::{ChargePage, ChargePages, show_pages};
-pub use crate::showing::show;
 pub use crate::source::{ChargeSource, ChargeVisitor};

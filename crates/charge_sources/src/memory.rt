@@ -1,11 +1,9 @@
-//! The charges of the keeper in memory.
-
 ghost use Rattle.std.specs.Prelude.{◌≡◌, None, option_map, [], ◌∷◌};
 ghost use Rattle.std.specs.List.{filter};
 ghost use Rattle.keepers.specs.Tables.{charge_in};
 ghost use Rattle.charge_sources.specs.Rows.{are_rising, is_between};
 ghost use Rattle.charge_sources.specs.Numbers.{nearer, next_number, one_or_none};
-ghost use Rattle.charge_sources.specs.Visits.{Shows, SeesCharges, IsShown};
+ghost use Rattle.charge_sources.specs.Visits.{Shows, SeesCharges};
 
 use crate::showing::{is_between, show};
 use crate::source::{ChargeSource, ChargeVisitor};
@@ -106,9 +104,7 @@ fn show_by_number<V: ChargeVisitor>(
     until: Moment,
     visitor: &mut V,
 )
-    ensures sees { SeesCharges V.sees from until (λ n. charge_in n rows.now) visitor.old
-        visitor.new }
-    ensures shown { IsShown V.sees from until visitor.old visitor.new }
+    ensures { SeesCharges V.sees from until (λ n. charge_in n rows.now) visitor.old visitor.new }
 {
     let mut least = 0u64;
     for _turn in 0..4_294_967_297u64 {
@@ -125,9 +121,7 @@ fn show_by_number<V: ChargeVisitor>(
 /// Shows a visitor the rows of the range in the order of their numbers, until it stops. Rows that
 /// rise in their numbers are shown as they stand.
 fn show_in_order<V: ChargeVisitor>(rows: &[ChargeRow], from: Moment, until: Moment, visitor: &mut V)
-    ensures sees { SeesCharges V.sees from until (λ n. charge_in n rows.now) visitor.old
-        visitor.new }
-    ensures shown { IsShown V.sees from until visitor.old visitor.new }
+    ensures { SeesCharges V.sees from until (λ n. charge_in n rows.now) visitor.old visitor.new }
 {
     if are_rising(rows) {
         show(rows, from, until, visitor);

@@ -3,7 +3,7 @@
 ghost use Rattle.std.specs.Prelude.{◌≡◌, ℕ, List, None, OnErr};
 ghost use Rattle.keepers.specs.Keeping.{Reads};
 ghost use Rattle.charge_sources.specs.Pages.{IsPage};
-ghost use Rattle.charge_sources.specs.Visits.{SeesCharges, SeesBeginning, IsShown};
+ghost use Rattle.charge_sources.specs.Visits.{SeesCharges, SeesBeginning};
 
 use crate::showing::show;
 use crate::source::ChargeVisitor;
@@ -53,7 +53,6 @@ pub fn show_pages<K: ChargePages, V: ChargeVisitor>(
     ensures beginning { K.clean keeper.new →
         OnErr result (SeesBeginning V.sees from until
         ((K.content keeper.old).charges account.now) visitor.old visitor.new) }
-    ensures shown { IsShown V.sees from until visitor.old visitor.new }
 {
     let mut after = 0u32;
     for _page in 0..4_294_967_296u64 {

@@ -16,9 +16,8 @@ pub(crate) fn is_between(from: Moment, until: Moment, row: &ChargeRow) -> bool
     from.seconds() <= row.moment.seconds() && row.moment.seconds() < until.seconds()
 }
 
-/// Shows a visitor each row whose moment is `from` or later and before `until`, until it stops.
-/// Whether it was shown all of them.
-pub fn show<V: ChargeVisitor>(
+/// Shows a visitor each row of the range, until it stops. Whether it was shown all of them.
+pub(crate) fn show<V: ChargeVisitor>(
     rows: &[ChargeRow],
     from: Moment,
     until: Moment,

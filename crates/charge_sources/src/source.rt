@@ -1,9 +1,7 @@
-//! What gives an account's charges, and what is shown them.
-
 ghost use Rattle.std.specs.Prelude.{◌≡◌, Bool, OnErr};
 ghost use Rattle.keepers.specs.Keeping.{Reads};
 ghost use Rattle.reserving.specs.ChargeColumns.{ChargeColumns};
-ghost use Rattle.charge_sources.specs.Visits.{SeesCharges, SeesBeginning, IsShown};
+ghost use Rattle.charge_sources.specs.Visits.{SeesCharges, SeesBeginning};
 
 use identifiers::AccountNumber;
 use keepers::{Keeper, StoreFault};
@@ -26,8 +24,7 @@ pub trait ChargeSource: Keeper {
     /// `until`, in the order of their numbers, until it stops; none where there is no account.
     ///
     /// # Errors
-    /// A store fault. Then the visitor was shown a beginning of those rows. Of a store that doesn't
-    /// answer what was written it is shown the rows that the store answers.
+    /// A store fault. Then the visitor was shown a beginning of those rows.
     fn each<V: ChargeVisitor>(
         &mut self,
         account: &AccountNumber,
@@ -40,6 +37,5 @@ pub trait ChargeSource: Keeper {
             ((Self.content self.old).charges account.now) visitor.old visitor.new) result }
         ensures beginning { Self.clean self.new →
             OnErr result (SeesBeginning V.sees from until
-            ((Self.content self.old).charges account.now) visitor.old visitor.new) }
-        ensures shown { IsShown V.sees from until visitor.old visitor.new };
+            ((Self.content self.old).charges account.now) visitor.old visitor.new) };
 }

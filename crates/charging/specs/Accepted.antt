@@ -3,9 +3,6 @@
 -- Source: profile.
 use Rattle.std.specs.Prelude.{◌≡◌, ℕ, ◌+◌, ◌≤◌, Bool, true, false, if◌then◌else◌, List, [], ◌∷◌}
 use Rattle.std.specs.Prelude.{Option, Some, None}
-use Rattle.units.specs.Words.{Moment}
-use Rattle.identifiers.specs.Words.{AccountName, VoucherCode}
-use Rattle.reserving.specs.Words.{ChargeNumber}
 use Rattle.identifiers.specs.Texts.{same_name}
 use Rattle.commands.specs.declared.command.Command.{Command}
 use Rattle.commands.specs.declared.command.Command.TheVariants as command
@@ -22,7 +19,7 @@ use Rattle.charging.specs.Histories.{History, no_history, kept_under}
 
 -- a command with its moment
 pub record Accepted : Type 0 where
-  pub moment : Moment
+  pub moment : ℕ
   pub command : Command
 
 -- what a command is answered on an account's history, whether it is accepted, and the history after
@@ -34,7 +31,7 @@ pub record Outcome : Type 0 where
 
 -- which accounts a command concerns: one of this number, each, or none
 pub data Concerned : Type 0 where
-  one : AccountName → Concerned
+  one : List ℕ → Concerned
   each : Concerned
   none : Concerned
 
@@ -51,13 +48,13 @@ concerned_by command.Sweep = each
 concerned_by (command.Balance n) = one n
 
 -- a command names an account where it concerns that one alone
-abbrev pub names : AccountName → Concerned → Bool
+abbrev pub names : List ℕ → Concerned → Bool
 names a (one b) = same_name b a
 names a each = false
 names a none = false
 
 -- a command brings an account to its moment where it concerns that one or each
-abbrev pub reaches : AccountName → Concerned → Bool
+abbrev pub reaches : List ℕ → Concerned → Bool
 reaches a (one b) = same_name b a
 reaches a each = true
 reaches a none = false
@@ -75,12 +72,12 @@ is_opening command.Sweep = false
 is_opening (command.Balance n) = false
 
 -- the moment of the last accepted command
-abbrev pub last_moment : List Accepted → Moment
+abbrev pub last_moment : List Accepted → ℕ
 last_moment [] = 0
 last_moment (d ∷ before) = d.moment
 
 -- the moment of the last accepted command that names the account or is a sweep
-abbrev pub as_of : AccountName → List Accepted → Moment
+abbrev pub as_of : List ℕ → List Accepted → ℕ
 as_of a [] = 0
 as_of a (d ∷ before) = if reaches a (concerned_by d.command) then d.moment else as_of a before
 
@@ -98,7 +95,7 @@ IsInTime (d ∷ before) = (last_moment before ≤ d.moment) × IsInTime before
 -- ---- vouchers
 
 -- a command names this code
-abbrev pub names_code : VoucherCode → Command → Bool
+abbrev pub names_code : List ℕ → Command → Bool
 names_code code (command.Ccr r) = false
 names_code code (command.OpenAccount n) = false
 names_code code (command.Credit c) = false
@@ -111,7 +108,7 @@ names_code code command.Sweep = false
 names_code code (command.Balance n) = false
 
 -- what stands under the code that it names, once it is accepted
-abbrev pub voucher_after : DayEnds → Command → Moment → Option Voucher → Option Voucher
+abbrev pub voucher_after : DayEnds → Command → ℕ → Option Voucher → Option Voucher
 voucher_after ends (command.Ccr r) t found = found
 voucher_after ends (command.OpenAccount n) t found = found
 voucher_after ends (command.Credit c) t found = found
@@ -125,7 +122,7 @@ voucher_after ends command.Sweep t found = found
 voucher_after ends (command.Balance n) t found = found
 
 -- what stands under a code after accepted commands
-abbrev pub voucher_under : DayEnds → VoucherCode → List Accepted → Option Voucher
+abbrev pub voucher_under : DayEnds → List ℕ → List Accepted → Option Voucher
 voucher_under ends code [] = None
 voucher_under ends code (d ∷ before) =
     if names_code code d.command
@@ -148,19 +145,19 @@ standing_for ends (command.Balance n) list = None
 -- ---- one account alone
 
 -- the rows of an account that is there, or none
-abbrev pub IsRowOf : Option Head → Shelf → Moment → History → Rows → Type 0
+abbrev pub IsRowOf : Option Head → Shelf → ℕ → History → Rows → Type 0
 IsRowOf None shelf t history r = (history.opened ≡ false) × (r ≡ no_rows)
 IsRowOf (Some head) shelf t history r = (history.opened ≡ true) × AreRowsAt shelf history.ledger t r
 
 -- an account's rows are those of its history at a moment
-abbrev pub IsRow : Shelf → Moment → History → Rows → Type 0
+abbrev pub IsRow : Shelf → ℕ → History → Rows → Type 0
 IsRow shelf t history r = IsRowOf r.head shelf t history r
 
 -- by where days end, and what commands come to over what stands under their codes and on an
 -- account's history
-module _ (ends : DayEnds) (outcome : Option Voucher → History → Command → Moment → Outcome) where
+module _ (ends : DayEnds) (outcome : Option Voucher → History → Command → ℕ → Outcome) where
   -- the account's history
-  abbrev pub history_of : AccountName → List Accepted → History
+  abbrev pub history_of : List ℕ → List Accepted → History
   history_of a [] = no_history
   history_of a (d ∷ before) =
       if names a (concerned_by d.command)
@@ -173,11 +170,9 @@ module _ (ends : DayEnds) (outcome : Option Voucher → History → Command → 
   -- the tables of the accepted commands
   pub record AreTablesOf (shelf : Shelf) (list : List Accepted) (tables : Tables) : Type 0 where
     pub last : tables.last ≡ last_moment list
-    pub accounts : (a : AccountName) →
-        IsRow shelf (as_of a list) (history_of a list) (tables.rows a)
-    pub answers : (a : AccountName) (k : Key) →
-        tables.answers a k ≡ kept_under k (history_of a list)
-    pub charges : (a : AccountName) (n : ChargeNumber) →
+    pub accounts : (a : List ℕ) → IsRow shelf (as_of a list) (history_of a list) (tables.rows a)
+    pub answers : (a : List ℕ) (k : Key) → tables.answers a k ≡ kept_under k (history_of a list)
+    pub charges : (a : List ℕ) (n : ℕ) →
         tables.charges a n ≡ charge_in n (charge_rows (history_of a list).ledger)
-    pub vouchers : (code : VoucherCode) → tables.vouchers code ≡ voucher_under ends code list
+    pub vouchers : (code : List ℕ) → tables.vouchers code ≡ voucher_under ends code list
     pub count : tables.count ≡ account_count list

@@ -1,10 +1,7 @@
 -- A balance tells each bucket of an account once, in the order of their numbers.
 -- Source: TS 32.296, account balance management function; the order: profile.
-use Rattle.std.specs.Prelude.{◌≡◌, ◌<◌, List, [], ◌∷◌}
+use Rattle.std.specs.Prelude.{◌≡◌, ℕ, ◌<◌, List, [], ◌∷◌}
 use Rattle.std.specs.List.{AllByRecursion}
-use Rattle.units.specs.Words.{Moment}
-use Rattle.identifiers.specs.Words.{AccountName}
-use Rattle.buckets.specs.Words.{BucketNumber}
 use Rattle.buckets.specs.Row.{Row}
 use Rattle.shelves.specs.Shelves.{Shelf}
 use Rattle.reserving.specs.Balance.{buckets_at}
@@ -21,12 +18,12 @@ AreRising (b ∷ bs) = AllByRecursion (λ (x : Row). b.number < x.number) bs × 
 
 -- under each number the bucket is told that has it, and numbers rise
 pub record AreToldByNumber (buckets told : List Row) : Type 0 where
-  pub each : (n : BucketNumber) → bucket_in n told ≡ bucket_in n buckets
+  pub each : (n : ℕ) → bucket_in n told ≡ bucket_in n buckets
   pub order : AreRising told
 
 -- so are the buckets of an account at any moment
 abbrev pub BalancesAreByNumber : Type 0
 BalancesAreByNumber =
-    (b : Shelf) (a : AccountName) (list : List Accepted) (t : Moment) →
+    (b : Shelf) (a : List ℕ) (list : List Accepted) (t : ℕ) →
     AreToldByNumber (buckets_at (validity_of b) t (history b a list).ledger)
     (by_number (buckets_at (validity_of b) t (history b a list).ledger))

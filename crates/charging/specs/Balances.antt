@@ -1,9 +1,7 @@
 -- An account's balance: its buckets at a moment, by number.
 -- Source: TS 32.296, account balance management function; the order by number: profile.
-use Rattle.std.specs.Prelude.{List, [], ◌∷◌, map, nat_lt, if◌then◌else◌}
+use Rattle.std.specs.Prelude.{ℕ, List, [], ◌∷◌, map, nat_lt, if◌then◌else◌}
 use Rattle.std.specs.List.Sorted.{IsNonDecreasingBy, IsPermutation}
-use Rattle.units.specs.Words.{Moment}
-use Rattle.identifiers.specs.Words.{AccountName}
 use Rattle.buckets.specs.Row.{Row}
 use Rattle.buckets.specs.declared.kind.BucketKind.{BucketKind}
 use Rattle.buckets.specs.declared.kind.BucketKind.TheVariants as kind
@@ -46,7 +44,7 @@ bucket_balance b = record {
 }
 
 -- the balance at a moment of the account of this number, by its ledger
-abbrev pub account_balance : Shelf → AccountName → Moment → Ledger → AccountBalance
+abbrev pub account_balance : Shelf → List ℕ → ℕ → Ledger → AccountBalance
 account_balance b n t ledger = record {
   account = n;
   barred = is_barred ledger;

@@ -1,9 +1,7 @@
 -- What the charges of an account come to: each within its bounds, and their sums within what 128 bits
 -- hold.
 -- Source: profile.
-use Rattle.std.specs.Prelude.{◌*◌, ◌<◌, ◌≤◌, ◌^◌, Bool, List, filter, length, sum_by}
-use Rattle.units.specs.Words.{most_counted}
-use Rattle.identifiers.specs.Words.{AccountName}
+use Rattle.std.specs.Prelude.{ℕ, ◌*◌, ◌<◌, ◌≤◌, ◌^◌, Bool, List, filter, length, sum_by}
 use Rattle.shelves.specs.Shelves.{Shelf, IsShelf}
 use Rattle.reserving.specs.declared.charge.ChargeRow.{ChargeRow}
 use Rattle.reserving.specs.Charges.{charge_rows}
@@ -15,7 +13,7 @@ use Rattle.charging.specs.Served.{AreTables, history}
 -- no more blocks than a counter counts, none dearer than 10^9 micro-units; what is collected and
 -- what isn't are parts of the price
 pub record IsBounded (c : ChargeRow) : Type 0 where
-  pub blocks : c.blocks.0 ≤ most_counted
+  pub blocks : c.blocks.0 ≤ 4_000_000_000_000_000_000
   pub rated : c.rated.0 ≤ c.blocks.0 * 1_000_000_000
   pub collected : c.collected.0 ≤ c.rated.0
   pub uncollected : c.uncollected.0 ≤ c.rated.0
@@ -36,5 +34,5 @@ pub record AreBounded (charges : List ChargeRow) : Type 0 where
 abbrev pub ChargesAreBounded : Type 0
 ChargesAreBounded =
     (shelf : Shelf) → IsShelf shelf → (list : List Accepted) (tables : Tables) →
-    AreTables shelf list tables → (a : AccountName) →
+    AreTables shelf list tables → (a : List ℕ) →
     AreBounded (charge_rows (history shelf a list).ledger)

@@ -1,8 +1,6 @@
 -- What was collected of an account, and what allowances covered of it, to date: by its charges, and
 -- from its buckets (TS 32.296, account balance management function).
-use Rattle.std.specs.Prelude.{sum_by}
-use Rattle.units.specs.Words.{Moment, Seconds}
-use Rattle.buckets.specs.Words.{BucketAmount}
+use Rattle.std.specs.Prelude.{ℕ, sum_by}
 use Rattle.buckets.specs.declared.kind.BucketKind.{BucketKind}
 use Rattle.buckets.specs.declared.kind.BucketKind.TheVariants.{Money, Blocks}
 use Rattle.buckets.specs.Share.{sum_in}
@@ -12,14 +10,14 @@ use Rattle.reserving.specs.Balance.{buckets_at}
 use Rattle.reserving.specs.Charges.{charge_rows}
 
 -- what a charge took of the buckets of a kind, in its unit: micro-units, or blocks
-abbrev pub taken_of : BucketKind → ChargeRow → BucketAmount
+abbrev pub taken_of : BucketKind → ChargeRow → ℕ
 taken_of Money c = c.collected.0
 taken_of Blocks c = c.covered.0
 
 -- by the charges of all reports and debits
-abbrev pub taken_to_date : BucketKind → Ledger → BucketAmount
+abbrev pub taken_to_date : BucketKind → Ledger → ℕ
 taken_to_date kind ledger = sum_by (taken_of kind) (charge_rows ledger)
 
 -- from all buckets of a kind, as they stand at a moment
-abbrev pub charged_to_date : BucketKind → (Moment → Seconds) → Moment → Ledger → BucketAmount
+abbrev pub charged_to_date : BucketKind → (ℕ → ℕ) → ℕ → Ledger → ℕ
 charged_to_date kind v t ledger = sum_in kind (λ x. x.charged) (buckets_at v t ledger)

@@ -1,9 +1,6 @@
 -- Rows that nothing can change any more: dead for good.
 -- Source: profile.
-use Rattle.std.specs.Prelude.{◌≡◌, ◌≤◌, false, List, Some}
-use Rattle.units.specs.Words.{Moment, Seconds, GroupId}
-use Rattle.identifiers.specs.Words.{SessionName, AccountName}
-use Rattle.buckets.specs.Words.{BucketNumber}
+use Rattle.std.specs.Prelude.{◌≡◌, ℕ, ◌≤◌, false, List, Some}
 use Rattle.buckets.specs.Row.{Row}
 use Rattle.shelves.specs.Shelves.{Shelf}
 use Rattle.reserving.specs.declared.session.Session.{Session}
@@ -18,23 +15,21 @@ use Rattle.charging.specs.Served.{history}
 use Rattle.charging.specs.Runs.{after_commands}
 
 -- the rows of a ledger at a moment that are dead are those of a later ledger at a later moment
-pub record AreDeadForGood (v : Moment → Seconds) (t u : Moment) (old new : Ledger) : Type 0 where
+pub record AreDeadForGood (v : ℕ → ℕ) (t u : ℕ) (old new : Ledger) : Type 0 where
   -- a bucket that has nothing available and nothing reserved
-  pub buckets : (n : BucketNumber) (x : Row) → bucket_in n (buckets_at v t old) ≡ Some x →
-      IsDead x →
+  pub buckets : (n : ℕ) (x : Row) → bucket_in n (buckets_at v t old) ≡ Some x → IsDead x →
       bucket_in n (buckets_at v u new) ≡ Some x
   -- a session that is over, or that was never opened
-  pub sessions : (s : SessionName) (x : Session) → session_at v t old s ≡ Some x →
+  pub sessions : (s : List ℕ) (x : Session) → session_at v t old s ≡ Some x →
       is_open x.state ≡ false → session_at v u new s ≡ Some x
   -- what it used of each group
-  pub groups : (s : SessionName) (g : GroupId) (x : Session) → session_at v t old s ≡ Some x →
+  pub groups : (s : List ℕ) (g : ℕ) (x : Session) → session_at v t old s ≡ Some x →
       is_open x.state ≡ false → group_at v u new s g ≡ group_at v t old s g
 
 -- so each account's, from the last of some accepted commands on, whatever commands come
 abbrev pub DeadRowsStay : Type 0
 DeadRowsStay =
-    (b : Shelf) (a : AccountName) (list : List Accepted) (between : List DatedCommand)
-    (u : Moment) →
+    (b : Shelf) (a : List ℕ) (list : List Accepted) (between : List DatedCommand) (u : ℕ) →
     last_moment (after_commands b list between) ≤ u →
     AreDeadForGood (validity_of b) (last_moment list) u (history b a list).ledger
     (history b a (after_commands b list between)).ledger

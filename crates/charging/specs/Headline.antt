@@ -1,11 +1,7 @@
 -- The promise of a run, account by account: its buckets and its charges are sums of its ledger, and
 -- each use was paid as the rules say (TS 32.296, account balance management function; RFC 8506
 -- section 5.3).
-use Rattle.std.specs.Prelude.{◌≡◌, List, Option, Some, take, length}
-use Rattle.units.specs.Words.{Moment}
-use Rattle.identifiers.specs.Words.{AccountName}
-use Rattle.buckets.specs.Words.{BucketNumber}
-use Rattle.reserving.specs.Words.{ChargeNumber}
+use Rattle.std.specs.Prelude.{◌≡◌, ℕ, List, Option, Some, take, length}
 use Rattle.commands.specs.declared.answer.Answer.{Answer}
 use Rattle.buckets.specs.Row.{IsBalanced}
 use Rattle.buckets.specs.Spend.{Each}
@@ -25,15 +21,14 @@ use Rattle.charging.specs.SessionReports.{Report, reports_of}
 use Rattle.charging.specs.Paid.{ArePaid}
 use Rattle.charging.specs.Quotas.{AreQuotasPaid}
 
-pub record IsAccounted (b : Shelf) (reports : List Report) (ledger : Ledger) (t : Moment)
-    (rows : Rows) (told : ChargeNumber → Option ChargeRow) : Type 0 where
+pub record IsAccounted (b : Shelf) (reports : List Report) (ledger : Ledger) (t : ℕ) (rows : Rows)
+    (told : ℕ → Option ChargeRow) : Type 0 where
   -- each bucket is what the ledger sums to, as of the account's last command
-  pub buckets : (n : BucketNumber) →
-      rows.buckets n ≡ bucket_in n (buckets_at (validity_of b) t ledger)
+  pub buckets : (n : ℕ) → rows.buckets n ≡ bucket_in n (buckets_at (validity_of b) t ledger)
   -- what was credited of a bucket is available, reserved, charged or expired, in the bucket's unit
   pub balanced : Each IsBalanced (buckets_at (validity_of b) t ledger)
   -- the charges are the ledger's uses, by their numbers
-  pub charges : (n : ChargeNumber) → told n ≡ charge_in n (charge_rows ledger)
+  pub charges : (n : ℕ) → told n ≡ charge_in n (charge_rows ledger)
   -- of each use what is collected and what isn't are the price of the blocks that its report or
   -- debit started and no allowance covered, allowances give just the blocks that are covered, and
   -- something isn't collected only where its reservation and every eligible bucket are empty
@@ -45,8 +40,7 @@ pub record IsAccounted (b : Shelf) (reports : List Report) (ledger : Ledger) (t 
 -- before it
 abbrev pub AreAccounted : Shelf → List DatedCommand → Tables → Tables → List Answer → Type 0
 AreAccounted b commands old new given =
-    (list : List Accepted) → IsInTime list → AreTables b list old →
-    (a : AccountName) (head : Head) →
+    (list : List Accepted) → IsInTime list → AreTables b list old → (a : List ℕ) (head : Head) →
     (new.rows a).head ≡ Some head →
     IsAccounted b (reports_of b a (after_commands b list (take (length given) commands)))
     (history b a (after_commands b list (take (length given) commands))).ledger head.as_of

@@ -1,12 +1,8 @@
 -- Isolation: an account's answers and rows are those of its own commands and of the additions of
 -- the vouchers that it redeems; others reach it through the moment alone.
 -- Source: profile.
-use Rattle.std.specs.Prelude.{◌≡◌, ◌≤◌, ◌&&◌, ◌||◌, Bool, true, false, List, [], ◌∷◌, is_some}
+use Rattle.std.specs.Prelude.{◌≡◌, ℕ, ◌≤◌, ◌&&◌, ◌||◌, Bool, true, false, List, [], ◌∷◌, is_some}
 use Rattle.std.specs.Prelude.{filter, if◌then◌else◌}
-use Rattle.units.specs.Words.{Moment, GroupId, CycleNumber}
-use Rattle.identifiers.specs.Words.{SessionName, AccountName, VoucherCode}
-use Rattle.buckets.specs.Words.{BucketNumber}
-use Rattle.reserving.specs.Words.{ChargeNumber}
 use Rattle.identifiers.specs.Texts.{same_name}
 use Rattle.commands.specs.declared.answer.Answer.{Answer}
 use Rattle.commands.specs.declared.command.Command.{Command}
@@ -23,7 +19,7 @@ use Rattle.charging.specs.Runs.{after_command, answers_to, after_commands}
 -- ---- the commands that are an account's own
 
 -- a command redeems this code for the account
-abbrev pub is_redemption_of : AccountName → VoucherCode → Command → Bool
+abbrev pub is_redemption_of : List ℕ → List ℕ → Command → Bool
 is_redemption_of a code (command.Ccr r) = false
 is_redemption_of a code (command.OpenAccount n) = false
 is_redemption_of a code (command.Credit c) = false
@@ -36,12 +32,12 @@ is_redemption_of a code command.Sweep = false
 is_redemption_of a code (command.Balance n) = false
 
 -- one of the commands names the code in a redemption for the account
-abbrev pub redeems : AccountName → VoucherCode → List DatedCommand → Bool
+abbrev pub redeems : List ℕ → List ℕ → List DatedCommand → Bool
 redeems a code [] = false
 redeems a code (d ∷ ds) = is_redemption_of a code d.command || redeems a code ds
 
 -- a command adds the voucher of such a code
-abbrev pub adds_for : AccountName → List DatedCommand → Command → Bool
+abbrev pub adds_for : List ℕ → List DatedCommand → Command → Bool
 adds_for a ds (command.Ccr r) = false
 adds_for a ds (command.OpenAccount n) = false
 adds_for a ds (command.Credit c) = false
@@ -55,12 +51,12 @@ adds_for a ds (command.Balance n) = false
 
 -- of a run's commands those are an account's own that name it, and the additions of the codes that
 -- redemptions for it name
-abbrev pub is_own : AccountName → List DatedCommand → Command → Bool
+abbrev pub is_own : List ℕ → List DatedCommand → Command → Bool
 is_own a ds c = names a (concerned_by c) || adds_for a ds c
 
 -- no code that a redemption for the account names is named by one for another account
-pub record HasOwnCodes (a : AccountName) (ds : List DatedCommand) : Type 0 where
-  pub codes : (code : VoucherCode) → redeems a code ds ≡ true → (other : AccountName) →
+pub record HasOwnCodes (a : List ℕ) (ds : List DatedCommand) : Type 0 where
+  pub codes : (code : List ℕ) → redeems a code ds ≡ true → (other : List ℕ) →
       same_name other a ≡ false → redeems other code ds ≡ false
 
 -- the own commands of a run, each with its moment in the run
@@ -81,7 +77,7 @@ own_answers own (d ∷ ds) (x ∷ given) =
     if own d.command then x ∷ own_answers own ds given else own_answers own ds given
 
 -- moments that don't fall, from one on
-abbrev pub DontFall : Moment → List DatedCommand → Type 0
+abbrev pub DontFall : ℕ → List DatedCommand → Type 0
 DontFall t [] = Unit {0}
 DontFall t (d ∷ ds) = (t ≤ d.moment) × DontFall d.moment ds
 
@@ -89,14 +85,14 @@ DontFall t (d ∷ ds) = (t ≤ d.moment) × DontFall d.moment ds
 -- under each key
 pub record TellTheSame (x y : Rows) : Type 0 where
   pub head : x.head ≡ y.head
-  pub buckets : (n : BucketNumber) → x.buckets n ≡ y.buckets n
-  pub counters : (g : GroupId) (c : CycleNumber) → x.counters g c ≡ y.counters g c
-  pub sessions : (s : SessionName) → x.sessions s ≡ y.sessions s
-  pub groups : (s : SessionName) (g : GroupId) → x.groups s g ≡ y.groups s g
-  pub holds : (s : SessionName) (g : GroupId) (n : BucketNumber) → x.holds s g n ≡ y.holds s g n
+  pub buckets : (n : ℕ) → x.buckets n ≡ y.buckets n
+  pub counters : (g c : ℕ) → x.counters g c ≡ y.counters g c
+  pub sessions : (s : List ℕ) → x.sessions s ≡ y.sessions s
+  pub groups : (s : List ℕ) (g : ℕ) → x.groups s g ≡ y.groups s g
+  pub holds : (s : List ℕ) (g n : ℕ) → x.holds s g n ≡ y.holds s g n
 
 -- an account's rows at a moment: those of a list of its rows that was brought there
-pub record AreRowsBroughtTo (b : Shelf) (t : Moment) (rows brought : Rows) : Type 0 where
+pub record AreRowsBroughtTo (b : Shelf) (t : ℕ) (rows brought : Rows) : Type 0 where
   pub listed : StoredRows
   pub are : AreListed listed rows
   pub kept : IsStored listed
@@ -104,21 +100,21 @@ pub record AreRowsBroughtTo (b : Shelf) (t : Moment) (rows brought : Rows) : Typ
 
 -- the tables of two runs show an account alike, at a moment that isn't before the last accepted
 -- command, and so the vouchers whose codes redemptions for it name among these commands
-pub record ShowAlike (b : Shelf) (t : Moment) (a : AccountName) (ds : List DatedCommand)
+pub record ShowAlike (b : Shelf) (t : ℕ) (a : List ℕ) (ds : List DatedCommand)
     (x y : Tables) : Type 0 where
   pub opened : is_some (x.rows a).head ≡ is_some (y.rows a).head
   pub rows : (v w : Rows) → AreRowsBroughtTo b t (x.rows a) v → AreRowsBroughtTo b t (y.rows a) w →
       TellTheSame v w
   pub answers : (k : Key) → x.answers a k ≡ y.answers a k
-  pub charges : (n : ChargeNumber) → x.charges a n ≡ y.charges a n
-  pub vouchers : (code : VoucherCode) → redeems a code ds ≡ true → x.vouchers code ≡ y.vouchers code
+  pub charges : (n : ℕ) → x.charges a n ≡ y.charges a n
+  pub vouchers : (code : List ℕ) → redeems a code ds ≡ true → x.vouchers code ≡ y.vouchers code
 
 -- in a run from nothing an account's answers are those of its own commands alone, and so are its
 -- rows
-pub record IsIsolated (b : Shelf) (a : AccountName) (ds : List DatedCommand) : Type 0 where
+pub record IsIsolated (b : Shelf) (a : List ℕ) (ds : List DatedCommand) : Type 0 where
   pub answers : own_answers (is_own a ds) ds (answers_to b [] ds) ≡
       answers_to b [] (own_commands b (is_own a ds) [] ds)
-  pub tables : (t : Moment) (x y : Tables) → AreTables b (after_commands b [] ds) x →
+  pub tables : (t : ℕ) (x y : Tables) → AreTables b (after_commands b [] ds) x →
       AreTables b (after_commands b [] (own_commands b (is_own a ds) [] ds)) y →
       last_moment (after_commands b [] ds) ≤ t → ShowAlike b t a ds x y
   -- where moments never fall, its own commands are those of the run as they were handed in

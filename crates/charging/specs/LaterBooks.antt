@@ -1,9 +1,7 @@
 -- A tariff book that is added to the shelf later changes nothing of any history before it: a run
 -- before it and one after it are one run over the shelf after it.
 -- Source: profile; prices are those of the rating function (TS 32.296).
-use Rattle.std.specs.Prelude.{◌≡◌, ◌↔◌, ◌<◌, List, [], ◌∷◌, ◌++◌, Some, None, take, length}
-use Rattle.units.specs.Words.{Moment}
-use Rattle.identifiers.specs.Words.{AccountName, VoucherCode}
+use Rattle.std.specs.Prelude.{◌≡◌, ◌↔◌, ℕ, ◌<◌, List, [], ◌∷◌, ◌++◌, Some, None, take, length}
 use Rattle.commands.specs.declared.answer.Answer.{Answer}
 use Rattle.commands.specs.declared.command.Command.{Command}
 use Rattle.tariffs.specs.Books.{Book}
@@ -22,15 +20,15 @@ use Rattle.charging.specs.Headline.{IsAccounted}
 
 -- one shelf finds what the other one finds of moments before some moment after this one, and by the
 -- other's numbers
-pub record GoesOnAfter (last : Moment) (s u : Shelf) : Type 0 where
-  pub from : Moment
+pub record GoesOnAfter (last : ℕ) (s u : Shelf) : Type 0 where
+  pub from : ℕ
   pub later : last < from
   pub goes_on : GoesOnFrom from s u
 
 -- a book was added to a shelf, where the last accepted command had this moment: there was no fault
 -- of `TariffShelf::add`
-pub record IsAddition (last : Moment) (s u : Shelf) : Type 0 where
-  pub from : Moment
+pub record IsAddition (last : ℕ) (s u : Shelf) : Type 0 where
+  pub from : ℕ
   pub book : Book
   pub allowed : shelf_fault s from book last ≡ None
   pub added : u ≡ with_book s from book
@@ -40,13 +38,13 @@ pub record IsAddition (last : Moment) (s u : Shelf) : Type 0 where
 -- accepted commands have left the same over both shelves: each account's history and reports, what
 -- stands under each code, and the tables; and a command of a moment before the new books begin is
 -- answered alike
-pub record LeaveTheSame (from : Moment) (s u : Shelf) (list : List Accepted) : Type 0 where
-  pub histories : (a : AccountName) → history s a list ≡ history u a list
-  pub reports : (a : AccountName) → reports_of s a list ≡ reports_of u a list
-  pub vouchers : (code : VoucherCode) → voucher s code list ≡ voucher u code list
+pub record LeaveTheSame (from : ℕ) (s u : Shelf) (list : List Accepted) : Type 0 where
+  pub histories : (a : List ℕ) → history s a list ≡ history u a list
+  pub reports : (a : List ℕ) → reports_of s a list ≡ reports_of u a list
+  pub vouchers : (code : List ℕ) → voucher s code list ≡ voucher u code list
   pub tables : (tables : Tables) → AreTables s list tables ↔ AreTables u list tables
-  pub answers : (c : Command) (t : Moment) → t < from → answer_to s list c t ≡ answer_to u list c t
-  pub acceptance : (c : Command) (t : Moment) → t < from → accepts s list c t ≡ accepts u list c t
+  pub answers : (c : Command) (t : ℕ) → t < from → answer_to s list c t ≡ answer_to u list c t
+  pub acceptance : (c : Command) (t : ℕ) → t < from → accepts s list c t ≡ accepts u list c t
 
 -- so where the books of the second shelf that the first doesn't have begin after these commands
 abbrev pub ChangeNothingBefore : Shelf → Shelf → List Accepted → Type 0
@@ -69,7 +67,7 @@ abbrev pub answered_of : AnsweredRun → List DatedCommand
 answered_of x = take (length x.given) x.commands
 
 -- commands are handed in before a moment
-abbrev pub AreBefore : Moment → List DatedCommand → Type 0
+abbrev pub AreBefore : ℕ → List DatedCommand → Type 0
 AreBefore from [] = Unit {0}
 AreBefore from (d ∷ ds) = (d.moment < from) × AreBefore from ds
 
@@ -99,7 +97,7 @@ joined_run x y = record {
 pub record IsAccountedRun (list : List Accepted) (x : AnsweredRun) : Type 0 where
   pub tables : AreTables x.shelf list x.old
   pub run : IsRun x.shelf list x.commands x.new x.given
-  pub accounted : (a : AccountName) (head : Head) → (x.new.rows a).head ≡ Some head →
+  pub accounted : (a : List ℕ) (head : Head) → (x.new.rows a).head ≡ Some head →
       IsAccounted x.shelf (reports_of x.shelf a (after_commands x.shelf list (answered_of x)))
       (history x.shelf a (after_commands x.shelf list (answered_of x))).ledger head.as_of
       (x.new.rows a) (x.new.charges a)

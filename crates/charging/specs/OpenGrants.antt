@@ -1,9 +1,7 @@
 -- What a session was granted of a group and hasn't ended yet, in one reader.
 -- Source: TS 32.299, session charging with unit reservation; the ledger: profile.
-use Rattle.std.specs.Prelude.{◌≡◌, ◌==◌, ◌&&◌, Option, Some, None, option_map}
+use Rattle.std.specs.Prelude.{◌≡◌, ℕ, ◌==◌, ◌&&◌, List, Option, Some, None, option_map}
 use Rattle.std.specs.Prelude.{if◌then◌else◌}
-use Rattle.units.specs.Words.{UnitCount, Place, GroupId}
-use Rattle.identifiers.specs.Words.{SessionName}
 use Rattle.reserving.specs.declared.session.Terms.{Terms}
 use Rattle.reserving.specs.Ledger.{Fact, Dated, Ledger, is_same, newest, inner, open_grant}
 use Rattle.reserving.specs.Ledger.Fact.{Grant, End}
@@ -12,10 +10,10 @@ use Rattle.charging.specs.Quotas.{grant_open}
 -- a grant: its terms, its units, and its place of the group's counter
 pub record Granted : Type 0 where
   pub terms : Terms
-  pub units : UnitCount
-  pub counter : Place
+  pub units : ℕ
+  pub counter : ℕ
 
-abbrev pub granting : SessionName → GroupId → Dated → Option (Option Granted)
+abbrev pub granting : List ℕ → ℕ → Dated → Option (Option Granted)
 granting s g d = granted_by d.fact
   where
     granted_by : Fact → Option (Option Granted)
@@ -27,15 +25,15 @@ granting s g d = granted_by d.fact
     granted_by _ = None
 
 -- the grant of a session's group that no later fact ended
-abbrev pub granted : SessionName → GroupId → Ledger → Option Granted
+abbrev pub granted : List ℕ → ℕ → Ledger → Option Granted
 granted s g ledger = inner (newest (granting s g) ledger)
 
 -- by its terms a report is priced, and by its units and its counter a quota is told: both are of
 -- this one grant
-pub record IsOneGrant (s : SessionName) (g : GroupId) (ledger : Ledger) : Type 0 where
+pub record IsOneGrant (s : List ℕ) (g : ℕ) (ledger : Ledger) : Type 0 where
   pub priced : open_grant s g ledger ≡ option_map (λ x. x.terms) (granted s g ledger)
   pub paid : grant_open s g ledger
       ≡ option_map (λ x. record { units = x.units; counter = x.counter }) (granted s g ledger)
 
 abbrev pub GrantsAreOne : Type 0
-GrantsAreOne = (s : SessionName) (g : GroupId) (ledger : Ledger) → IsOneGrant s g ledger
+GrantsAreOne = (s : List ℕ) (g : ℕ) (ledger : Ledger) → IsOneGrant s g ledger

@@ -1,9 +1,7 @@
 -- Whether an initial request opens a session: by the grants that are made, one after the other.
 -- Source: RFC 8506 sections 5.2.1 and 8.3.
-use Rattle.std.specs.Prelude.{◌≡◌, Bool, true, false, List, [], ◌∷◌, None}
+use Rattle.std.specs.Prelude.{◌≡◌, ℕ, Bool, true, false, List, [], ◌∷◌, None}
 use Rattle.std.specs.List.{list_any}
-use Rattle.units.specs.Words.{Moment, CcRequestNumber}
-use Rattle.identifiers.specs.Words.{SessionName, AccountName}
 use Rattle.commands.specs.Services.{are_initial}
 use Rattle.commands.specs.declared.answer.ServiceAnswer.{ServiceAnswer}
 use Rattle.commands.specs.declared.answer.ServiceFailure.{ServiceFailure}
@@ -31,8 +29,8 @@ IsFirstDenial failure (x ∷ xs) = x.outcome ≡ service.Failed failure
 
 -- the session opens exactly where some service is granted units, asked in the order of the request,
 -- each on the ledger that the one before left; else the request is denied for the first one's reason
-pub record IsOpenedByGrants (b : Shelf) (t : Moment) (s : SessionName) (n : CcRequestNumber)
-    (services : List Service) (ledger : Ledger) : Type 0 where
+pub record IsOpenedByGrants (b : Shelf) (t : ℕ) (s : List ℕ) (n : ℕ) (services : List Service)
+    (ledger : Ledger) : Type 0 where
   pub opens : any_grants b t ledger services ≡
       list_any (λ x. is_granted x.outcome)
       (grant_answers b t s services (touched t s n ledger))
@@ -43,8 +41,7 @@ pub record IsOpenedByGrants (b : Shelf) (t : Moment) (s : SessionName) (n : CcRe
 -- so each initial request of a new name, of an account that isn't barred
 abbrev pub SessionsOpenByGrants : Type 0
 SessionsOpenByGrants =
-    (b : Shelf) (a : AccountName) (list : List Accepted) (t : Moment) (s : SessionName)
-    (n : CcRequestNumber)
+    (b : Shelf) (a : List ℕ) (list : List Accepted) (t : ℕ) (s : List ℕ) (n : ℕ)
     (services : List Service) → are_initial services ≡ true →
     last_recording s (history b a list).ledger ≡ None →
     is_barred (history b a list).ledger ≡ false →

@@ -1,9 +1,8 @@
 -- What a command comes to over the voucher whose code it names and on the history of the account
 -- that it names: its answer, whether it is accepted, and the history after it (requests: RFC 8506;
 -- operators' commands, vouchers, keys and repeats: profile).
-use Rattle.std.specs.Prelude.{◌==◌, ◌||◌, nat_le, nat_lt, Bool, true, false, if◌then◌else◌, ◌∷◌}
+use Rattle.std.specs.Prelude.{ℕ, ◌==◌, ◌||◌, nat_le, nat_lt, Bool, true, false, if◌then◌else◌, ◌∷◌}
 use Rattle.std.specs.Prelude.{Option, Some, None, Result, Ok, Err, unwrap_or}
-use Rattle.units.specs.Words.{Moment, no_end, greatest_number}
 use Rattle.commands.specs.Alike.{same_request, same_credit, same_allowance, same_redemption}
 use Rattle.commands.specs.declared.allowance.Allowance.{Allowance}
 use Rattle.commands.specs.declared.avp.Avp.TheVariants.{RequestNumber}
@@ -92,7 +91,7 @@ decided_by r d h =
     then keeping (content.Request r) (answer.Request (answer_of r d.outcome)) d.after h
     else told (answer.Request (answer_of r d.outcome)) h
 
-abbrev pub request_outcome : Shelf → Request → Moment → History → Outcome
+abbrev pub request_outcome : Shelf → Request → ℕ → History → Outcome
 request_outcome b r t h =
     if is_read r.ask
     then told (answer.Request (answer_of r (decision b t r h.ledger).outcome)) h
@@ -102,64 +101,64 @@ request_outcome b r t h =
 -- ---- credits
 
 -- without a beginning a credit is usable from the moment on, without an end for good
-abbrev pub from_of : Credit → Moment → Moment
+abbrev pub from_of : Credit → ℕ → ℕ
 from_of c t = unwrap_or c.from t
 
-abbrev pub until_of : Credit → Moment
-until_of c = unwrap_or c.until no_end
+abbrev pub until_of : Credit → ℕ
+until_of c = unwrap_or c.until 4102444800
 
 -- it is of nothing, or there is no moment left at which it could be used
-abbrev pub is_unusable : Credit → Moment → Bool
+abbrev pub is_unusable : Credit → ℕ → Bool
 is_unusable c t = c.amount == 0 || (nat_le (until_of c) (from_of c t) || nat_le (until_of c) t)
 
 -- the next bucket would have no number
 abbrev pub is_full : Ledger → Bool
-is_full ledger = nat_lt greatest_number (next_bucket ledger)
+is_full ledger = nat_lt 4294967295 (next_bucket ledger)
 
-abbrev pub is_out_of_range : Credit → Moment → Ledger → Bool
+abbrev pub is_out_of_range : Credit → ℕ → Ledger → Bool
 is_out_of_range c t ledger = is_unusable c t || is_full ledger
 
-abbrev pub new_credit : Credit → Moment → History → Outcome
+abbrev pub new_credit : Credit → ℕ → History → Outcome
 new_credit c t h =
     if is_out_of_range c t h.ledger
     then told (answer.Refused OutOfRange) h
     else keeping (content.Credit c) (answer.Bucket (next_bucket h.ledger))
     (credited t Money (from_of c t) (until_of c) c.scope c.amount h.ledger) h
 
-abbrev pub credit_outcome : Credit → Moment → History → Outcome
+abbrev pub credit_outcome : Credit → ℕ → History → Outcome
 credit_outcome c t h = unless_kept (kept_under (key_of (content.Credit c)) h) (content.Credit c)
     (answer.Refused ContentDiffers) h (new_credit c t h)
 
 -- ---- allowances
 
 -- without a beginning an allowance is usable from the moment on, without an end for good
-abbrev pub begin_of : Allowance → Moment → Moment
+abbrev pub begin_of : Allowance → ℕ → ℕ
 begin_of a t = unwrap_or a.from t
 
-abbrev pub end_of : Allowance → Moment
-end_of a = unwrap_or a.until no_end
+abbrev pub end_of : Allowance → ℕ
+end_of a = unwrap_or a.until 4102444800
 
 -- there is no moment left at which it could be used
-abbrev pub is_over : Allowance → Moment → Bool
+abbrev pub is_over : Allowance → ℕ → Bool
 is_over a t = nat_le (end_of a) (begin_of a t) || nat_le (end_of a) t
 
 -- why it is refused: out of range as a credit is, or else for a rating group that the book at the
 -- moment doesn't have
-abbrev pub allowance_refusal : Shelf → Allowance → Moment → Ledger → Option Refusal
+abbrev pub allowance_refusal : Shelf → Allowance → ℕ → Ledger → Option Refusal
 allowance_refusal b a t ledger =
     if is_over a t || is_full ledger then Some OutOfRange
     else (if is_known (book_at b t) a.scope then None else Some ScopeUnknown)
 
 -- else it is a credit in blocks of the group
-abbrev pub allowed_unless : Option Refusal → Allowance → Moment → History → Outcome
+abbrev pub allowed_unless : Option Refusal → Allowance → ℕ → History → Outcome
 allowed_unless (Some refusal) a t h = told (answer.Refused refusal) h
 allowed_unless None a t h = keeping (content.Allow a) (answer.Bucket (next_bucket h.ledger))
     (credited t Blocks (begin_of a t) (end_of a) (Some a.scope) a.blocks h.ledger) h
 
-abbrev pub new_allowance : Shelf → Allowance → Moment → History → Outcome
+abbrev pub new_allowance : Shelf → Allowance → ℕ → History → Outcome
 new_allowance b a t h = allowed_unless (allowance_refusal b a t h.ledger) a t h
 
-abbrev pub allowance_outcome : Shelf → Allowance → Moment → History → Outcome
+abbrev pub allowance_outcome : Shelf → Allowance → ℕ → History → Outcome
 allowance_outcome b a t h =
     unless_kept (kept_under (key_of (content.Allow a)) h) (content.Allow a)
     (answer.Refused ContentDiffers) h (new_allowance b a t h)
@@ -182,23 +181,23 @@ refused_as refusal.VoucherSpent = VoucherSpent
 refused_as refusal.EndOutOfRange = OutOfRange
 
 -- its bucket is a credit's
-abbrev pub redeemed_outcome : Redemption → VoucherRedemption → Moment → History → Outcome
+abbrev pub redeemed_outcome : Redemption → VoucherRedemption → ℕ → History → Outcome
 redeemed_outcome x r t h =
     if is_full h.ledger
     then told (answer.Refused OutOfRange) h
     else keeping (content.Redeem r) (answer.Bucket (next_bucket h.ledger))
     (credited t Money x.from x.until x.scope x.amount h.ledger) h
 
-abbrev pub redemption_outcome : Result Redemption RedeemRefusal → VoucherRedemption → Moment →
-    History → Outcome
+abbrev pub redemption_outcome : Result Redemption RedeemRefusal → VoucherRedemption → ℕ → History →
+    Outcome
 redemption_outcome (Err refusal) r t h = told (answer.Refused (refused_as refusal)) h
 redemption_outcome (Ok x) r t h = redeemed_outcome x r t h
 
-abbrev pub new_redemption : Shelf → Option Voucher → VoucherRedemption → Moment → History → Outcome
+abbrev pub new_redemption : Shelf → Option Voucher → VoucherRedemption → ℕ → History → Outcome
 new_redemption b standing r t h =
     redemption_outcome (redemption (book_days b) standing r.account t) r t h
 
-abbrev pub redeem_outcome : Shelf → Option Voucher → VoucherRedemption → Moment → History → Outcome
+abbrev pub redeem_outcome : Shelf → Option Voucher → VoucherRedemption → ℕ → History → Outcome
 redeem_outcome b standing r t h =
     unless_kept (kept_under (key_of (content.Redeem r)) h) (content.Redeem r)
     (answer.Refused ContentDiffers) h (new_redemption b standing r t h)
@@ -209,7 +208,7 @@ abbrev pub with_ledger : Ledger → History → History
 with_ledger ledger h = record { opened = h.opened; ledger = ledger; kept = h.kept }
 
 -- of an account that is there
-abbrev pub opened_outcome : Shelf → Option Voucher → History → Command → Moment → Outcome
+abbrev pub opened_outcome : Shelf → Option Voucher → History → Command → ℕ → Outcome
 opened_outcome b standing h (command.Ccr r) t = request_outcome b r t h
 opened_outcome b standing h (command.OpenAccount n) t = told (answer.Refused AccountExists) h
 opened_outcome b standing h (command.Credit c) t = credit_outcome c t h
@@ -240,6 +239,6 @@ unopened_outcome standing h (command.Redeem r) = told (answer.Refused AccountUnk
 unopened_outcome standing h command.Sweep = told answer.Done h
 unopened_outcome standing h (command.Balance n) = told (answer.Refused AccountUnknown) h
 
-abbrev pub outcome : Shelf → Option Voucher → History → Command → Moment → Outcome
+abbrev pub outcome : Shelf → Option Voucher → History → Command → ℕ → Outcome
 outcome b standing h c t =
     if h.opened then opened_outcome b standing h c t else unopened_outcome standing h c

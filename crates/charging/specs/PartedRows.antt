@@ -1,10 +1,7 @@
 -- Rows that are loaded and rows that were left, together: under each key stands the row of one of
 -- both, and none has a row in both.
 -- Source: profile.
-use Rattle.std.specs.Prelude.{◌≡◌, false, ◌&&◌, List, Option, None, is_some}
-use Rattle.units.specs.Words.{GroupId, CycleNumber}
-use Rattle.identifiers.specs.Words.{SessionName, AccountName}
-use Rattle.buckets.specs.Words.{BucketNumber}
+use Rattle.std.specs.Prelude.{◌≡◌, ℕ, false, ◌&&◌, List, Option, None, is_some}
 use Rattle.shelves.specs.Shelves.{Shelf}
 use Rattle.reserving.specs.Ledger.{last_recording}
 use Rattle.reserving.specs.Sessions.{session_in, group_in, counter_in}
@@ -20,13 +17,13 @@ pub record IsInOne {A : Type 0} (found left loaded : Option A) : Type 0 where
 
 -- so of each kind of rows
 pub record AreParted (left : LeftRows) (a : AccountRows) : Type 0 where
-  pub buckets : (n : BucketNumber) → IsInOne (bucket_in n (joined left a).buckets)
+  pub buckets : (n : ℕ) → IsInOne (bucket_in n (joined left a).buckets)
       (bucket_in n left.buckets) (bucket_in n a.buckets)
-  pub counters : (g : GroupId) (c : CycleNumber) → IsInOne (counter_in g c (joined left a).counters)
+  pub counters : (g c : ℕ) → IsInOne (counter_in g c (joined left a).counters)
       (counter_in g c left.counters) (counter_in g c a.counters)
-  pub sessions : (s : SessionName) → IsInOne (session_in s (joined left a).sessions)
+  pub sessions : (s : List ℕ) → IsInOne (session_in s (joined left a).sessions)
       (session_in s left.sessions) (session_in s a.sessions)
-  pub groups : (s : SessionName) (g : GroupId) → IsInOne (group_in s g (joined left a).groups)
+  pub groups : (s : List ℕ) (g : ℕ) → IsInOne (group_in s g (joined left a).groups)
       (group_in s g left.groups) (group_in s g a.groups)
 
 abbrev pub RowsAreParted : Type 0
@@ -34,6 +31,6 @@ RowsAreParted = (left : LeftRows) (a : AccountRows) → IsLeft left a → ArePar
 
 -- of a session without a recorded request no row was left: one that begins needs no look at those
 abbrev pub NewSessionsAreNotLeft : Type 0
-NewSessionsAreNotLeft = (b : Shelf) (account : AccountName) (list : List Accepted) (left : LeftRows)
-    (a : AccountRows) (s : SessionName) → IsJoined (history b account list).ledger left a →
+NewSessionsAreNotLeft = (b : Shelf) (account : List ℕ) (list : List Accepted) (left : LeftRows)
+    (a : AccountRows) (s : List ℕ) → IsJoined (history b account list).ledger left a →
     last_recording s (history b account list).ledger ≡ None → NotLeft s left

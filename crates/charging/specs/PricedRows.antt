@@ -1,9 +1,7 @@
 -- Each reservation that accepted commands leave has its prices on the shelf by which they were
 -- answered.
 -- Source: profile.
-use Rattle.std.specs.Prelude.{◌≡◌, true, List, Some, is_some}
-use Rattle.units.specs.Words.{GroupId}
-use Rattle.identifiers.specs.Words.{SessionName, AccountName}
+use Rattle.std.specs.Prelude.{◌≡◌, ℕ, true, List, Some, is_some}
 use Rattle.shelves.specs.Shelves.{Shelf, IsShelf}
 use Rattle.reserving.specs.declared.session.Terms.{Terms}
 use Rattle.reserving.specs.Placed.{prices_on, ArePlaced}
@@ -16,8 +14,7 @@ use Rattle.charging.specs.Served.{AreTables}
 abbrev pub ReservationsArePriced : Type 0
 ReservationsArePriced =
     (shelf : Shelf) → IsShelf shelf → (list : List Accepted) (tables : Tables) →
-    AreTables shelf list tables →
-    (a : AccountName) (s : SessionName) (g : GroupId) (row : GroupRow) (x : Terms) →
+    AreTables shelf list tables → (a s : List ℕ) (g : ℕ) (row : GroupRow) (x : Terms) →
     (tables.rows a).groups s g ≡ Some row → row.terms ≡ Some x →
     is_some (prices_on shelf g x) ≡ true
 
@@ -25,5 +22,5 @@ ReservationsArePriced =
 abbrev pub NoBookIsMissing : Type 0
 NoBookIsMissing =
     (shelf : Shelf) → IsShelf shelf → (list : List Accepted) (tables : Tables) →
-    AreTables shelf list tables → (a : AccountName) (w : StoredRows) → AreListed w (tables.rows a) →
+    AreTables shelf list tables → (a : List ℕ) (w : StoredRows) → AreListed w (tables.rows a) →
     IsStored w → ArePlaced shelf w.groups

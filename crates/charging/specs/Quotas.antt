@@ -1,9 +1,7 @@
 -- The quota guarantee: a report within its grant is collected whole (TS 32.299, session charging
 -- with unit reservation).
-use Rattle.std.specs.Prelude.{◌≡◌, ◌≤◌, ◌==◌, ◌&&◌, [], ◌∷◌, Option, Some, None}
+use Rattle.std.specs.Prelude.{◌≡◌, ℕ, ◌≤◌, ◌==◌, ◌&&◌, List, [], ◌∷◌, Option, Some, None}
 use Rattle.std.specs.Prelude.{if◌then◌else◌}
-use Rattle.units.specs.Words.{Moment, Micros, UnitCount, Place, GroupId}
-use Rattle.identifiers.specs.Words.{SessionName}
 use Rattle.shelves.specs.Shelves.{Shelf}
 use Rattle.reserving.specs.Ledger.{Fact, Dated, Ledger, is_same, newest, inner, counter}
 use Rattle.reserving.specs.Ledger.Fact.{Grant, End, Use}
@@ -12,10 +10,10 @@ use Rattle.charging.specs.Paid.{before_charges}
 
 -- what a session was granted of a group, and from which place of the group's counter on
 pub record OpenGrant : Type 0 where
-  pub units : UnitCount
-  pub counter : Place
+  pub units : ℕ
+  pub counter : ℕ
 
-abbrev pub grant_told : SessionName → GroupId → Dated → Option (Option OpenGrant)
+abbrev pub grant_told : List ℕ → ℕ → Dated → Option (Option OpenGrant)
 grant_told s g d = told_by d.fact
   where
     told_by : Fact → Option (Option OpenGrant)
@@ -25,18 +23,17 @@ grant_told s g d = told_by d.fact
     told_by _ = None
 
 -- the grant of a session's group that no later fact ended
-abbrev pub grant_open : SessionName → GroupId → Ledger → Option OpenGrant
+abbrev pub grant_open : List ℕ → ℕ → Ledger → Option OpenGrant
 grant_open s g ledger = inner (newest (grant_told s g) ledger)
 
 -- a use that ends a grant, has at most its units and starts at its counter is collected whole: what
 -- the grant held of allowances and of money pays for it
-abbrev pub IsWithinGrant : Shelf → Moment → SessionName → GroupId → UnitCount → Micros → Ledger →
-    Type 0
+abbrev pub IsWithinGrant : Shelf → ℕ → List ℕ → ℕ → ℕ → ℕ → Ledger → Type 0
 IsWithinGrant b t s g units uncollected before =
     (x : OpenGrant) → grant_open s g before ≡ Some x → units ≤ x.units →
     counter (cycle_at b g) g (cycle_at b g t) before ≡ x.counter → uncollected ≡ 0
 
-abbrev pub IsQuotaPaid : Shelf → Moment → Fact → Ledger → Type 0
+abbrev pub IsQuotaPaid : Shelf → ℕ → Fact → Ledger → Type 0
 IsQuotaPaid b t (Use s g units blocks covered rated uncollected) older =
     IsWithinGrant b t s g units uncollected (before_charges older)
 IsQuotaPaid b t _ older = Unit {0}

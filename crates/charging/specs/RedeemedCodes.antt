@@ -2,8 +2,6 @@
 -- Source: profile.
 use Rattle.std.specs.Prelude.{◌≡◌, ℕ, ◌+◌, ◌≤◌, Bool, true, false, if◌then◌else◌, List, [], ◌∷◌}
 use Rattle.std.specs.Prelude.{◌++◌, None}
-use Rattle.units.specs.Words.{Moment}
-use Rattle.identifiers.specs.Words.{VoucherCode}
 use Rattle.identifiers.specs.Texts.{same_name}
 use Rattle.commands.specs.declared.command.Command.{Command}
 use Rattle.commands.specs.declared.command.Command.TheVariants as command
@@ -17,7 +15,7 @@ use Rattle.charging.specs.Served.{voucher}
 use Rattle.charging.specs.Runs.{after_commands}
 
 -- what a command asks of vouchers
-abbrev pub voucher_command : Command → Moment → List VoucherCommand
+abbrev pub voucher_command : Command → ℕ → List VoucherCommand
 voucher_command (command.Ccr r) t = []
 voucher_command (command.OpenAccount n) t = []
 voucher_command (command.Credit c) t = []
@@ -37,11 +35,11 @@ voucher_commands (d ∷ before) = voucher_commands before ++ voucher_command d.c
 -- what stands under a code is what these leave of it: what is redeemed over one account's history
 -- and what is redeemed at all is one telling
 abbrev pub IsLeftByThese : Type 0
-IsLeftByThese = (b : Shelf) (list : List Accepted) (code : VoucherCode) →
+IsLeftByThese = (b : Shelf) (list : List Accepted) (code : List ℕ) →
     voucher b code list ≡ with_commands (book_days b) (voucher_commands list) (λ k. None) code
 
 -- a command redeems this code, for whichever account
-abbrev pub is_redemption : VoucherCode → Command → Bool
+abbrev pub is_redemption : List ℕ → Command → Bool
 is_redemption code (command.Ccr r) = false
 is_redemption code (command.OpenAccount n) = false
 is_redemption code (command.Credit c) = false
@@ -54,14 +52,14 @@ is_redemption code command.Sweep = false
 is_redemption code (command.Balance n) = false
 
 -- how often accepted commands redeem it
-abbrev pub redemption_count : VoucherCode → List Accepted → ℕ
+abbrev pub redemption_count : List ℕ → List Accepted → ℕ
 redemption_count code [] = 0
 redemption_count code (d ∷ before) =
     (if is_redemption code d.command then 1 else 0) + redemption_count code before
 
 -- in a run, from whichever commands on, it is redeemed once more at most, and not at all where the
 -- voucher that stands under it is spent
-pub record AreRedeemedOnce (b : Shelf) (code : VoucherCode) (list : List Accepted)
+pub record AreRedeemedOnce (b : Shelf) (code : List ℕ) (list : List Accepted)
     (ds : List DatedCommand) : Type 0 where
   pub once : redemption_count code (after_commands b list ds) ≤ redemption_count code list + 1
   pub never : is_spent (voucher b code list) ≡ true →
@@ -69,5 +67,5 @@ pub record AreRedeemedOnce (b : Shelf) (code : VoucherCode) (list : List Accepte
 
 -- so from nothing on at most once
 abbrev pub IsRedeemedAtMostOnce : Type 0
-IsRedeemedAtMostOnce = (b : Shelf) (code : VoucherCode) (ds : List DatedCommand) →
+IsRedeemedAtMostOnce = (b : Shelf) (code : List ℕ) (ds : List DatedCommand) →
     redemption_count code (after_commands b [] ds) ≤ 1

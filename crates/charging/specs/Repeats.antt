@@ -1,8 +1,7 @@
 -- Repeats: a command that comes again with equal content gets its first answer and changes nothing,
 -- whatever stood between (RFC 8506 section 8.2: CC-Request-Number; references of operators'
 -- commands and codes of vouchers: profile).
-use Rattle.std.specs.Prelude.{◌≡◌, Bool, true, false, not, List, ◌∷◌}
-use Rattle.units.specs.Words.{Moment}
+use Rattle.std.specs.Prelude.{◌≡◌, ℕ, Bool, true, false, not, List, ◌∷◌}
 use Rattle.commands.specs.declared.command.Command.{Command}
 use Rattle.commands.specs.declared.command.Command.TheVariants as command
 use Rattle.shelves.specs.Shelves.{Shelf}
@@ -29,23 +28,22 @@ has_key command.Sweep = false
 has_key (command.Balance n) = false
 
 -- the command comes again after these
-pub record IsRepeated (b : Shelf) (before after : List Accepted) (c : Command) (t u : Moment)
-    : Type 0 where
+pub record IsRepeated (b : Shelf) (before after : List Accepted) (c : Command)
+    (t u : ℕ) : Type 0 where
   pub answer : answer_to b after c u ≡ answer_to b before c t
   pub accepted : accepts b after c u ≡ false
 
 -- once a command with a key is accepted it has one answer for good
 abbrev pub AnswersOnce : Type 0
 AnswersOnce =
-    (b : Shelf) (list : List Accepted) (c : Command) (t : Moment) (between : List DatedCommand)
-    (u : Moment) →
+    (b : Shelf) (list : List Accepted) (c : Command) (t : ℕ) (between : List DatedCommand) (u : ℕ) →
     has_key c ≡ true → accepts b list c t ≡ true →
     IsRepeated b list (after_commands b (record { moment = t; command = c } ∷ list) between) c t u
 
 -- a command that was accepted before gets its first answer, and no table changes
 abbrev pub IsAnsweredAgain : Shelf → Command → Tables → Tables → Answer → Type 0
 IsAnsweredAgain b c old new given =
-    (before : List Accepted) (t : Moment) (between : List DatedCommand) → has_key c ≡ true →
+    (before : List Accepted) (t : ℕ) (between : List DatedCommand) → has_key c ≡ true →
     accepts b before c t ≡ true →
     IsInTime (after_commands b (record { moment = t; command = c } ∷ before) between) →
     AreTables b (after_commands b (record { moment = t; command = c } ∷ before) between) old →

@@ -1,9 +1,7 @@
 -- What a command is answered after a list of accepted commands, and the list after it.
 -- Source: profile.
-use Rattle.std.specs.Prelude.{◌≡◌, Bool, true, false, List, ◌∷◌, Option, Result, if◌then◌else◌}
+use Rattle.std.specs.Prelude.{◌≡◌, ℕ, Bool, true, false, List, ◌∷◌, Option, Result, if◌then◌else◌}
 use Rattle.std.specs.Prelude.{max, MatchResult}
-use Rattle.units.specs.Words.{Moment}
-use Rattle.identifiers.specs.Words.{AccountName, VoucherCode}
 use Rattle.commands.specs.declared.answer.Answer.{Answer}
 use Rattle.commands.specs.declared.answer.Answer.TheVariants.{Swept}
 use Rattle.commands.specs.declared.command.Command.{Command}
@@ -18,11 +16,11 @@ use Rattle.charging.specs.Accepted as accepted
 use Rattle.charging.specs.Outcomes.{book_days, outcome}
 
 -- the history of an account after a list of accepted commands
-abbrev pub history : Shelf → AccountName → List Accepted → History
+abbrev pub history : Shelf → List ℕ → List Accepted → History
 history b a list = accepted.history_of (book_days b) (outcome b) a list
 
 -- what stands under a code after it
-abbrev pub voucher : Shelf → VoucherCode → List Accepted → Option Voucher
+abbrev pub voucher : Shelf → List ℕ → List Accepted → Option Voucher
 voucher b code list = accepted.voucher_under (book_days b) code list
 
 -- and under the code that a command names
@@ -34,29 +32,29 @@ abbrev pub AreTables : Shelf → List Accepted → Tables → Type 0
 AreTables b list tables = accepted.AreTablesOf (book_days b) (outcome b) b list tables
 
 -- the moment of a command: the later of the one handed in and that of the last accepted command
-abbrev pub moment_of : List Accepted → Moment → Moment
+abbrev pub moment_of : List Accepted → ℕ → ℕ
 moment_of list t = max t (last_moment list)
 
-abbrev pub answer_on : Concerned → Shelf → List Accepted → Command → Moment → Answer
+abbrev pub answer_on : Concerned → Shelf → List Accepted → Command → ℕ → Answer
 answer_on each b list c t = Swept (account_count list)
 answer_on none b list c t = (outcome b (standing b c list) no_history c t).answer
 answer_on (one a) b list c t = (outcome b (standing b c list) (history b a list) c t).answer
 
 -- a command's answer at its moment: by what stands under the code that it names, and the history of
 -- the account that it names, where it names one; a sweep's is the number of accounts
-abbrev pub answer_to : Shelf → List Accepted → Command → Moment → Answer
+abbrev pub answer_to : Shelf → List Accepted → Command → ℕ → Answer
 answer_to b list c t = answer_on (concerned_by c) b list c t
 
-abbrev pub accepts_on : Concerned → Shelf → List Accepted → Command → Moment → Bool
+abbrev pub accepts_on : Concerned → Shelf → List Accepted → Command → ℕ → Bool
 accepts_on each b list c t = true
 accepts_on none b list c t = (outcome b (standing b c list) no_history c t).accepted
 accepts_on (one a) b list c t = (outcome b (standing b c list) (history b a list) c t).accepted
 
-abbrev pub accepts : Shelf → List Accepted → Command → Moment → Bool
+abbrev pub accepts : Shelf → List Accepted → Command → ℕ → Bool
 accepts b list c t = accepts_on (concerned_by c) b list c t
 
 -- the list with the command where it is accepted
-abbrev pub with_command : Shelf → List Accepted → Command → Moment → List Accepted
+abbrev pub with_command : Shelf → List Accepted → Command → ℕ → List Accepted
 with_command b list c t = if accepts b list c t then record { moment = t; command = c } ∷ list
     else list
 
@@ -64,7 +62,7 @@ with_command b list c t = if accepts b list c t then record { moment = t; comman
 
 -- the answer is the definition's, and the tables are those of the list with the command where it is
 -- accepted, which is in time again; a command that isn't accepted changes no table
-pub record IsServed (b : Shelf) (list : List Accepted) (c : Command) (t : Moment) (old new : Tables)
+pub record IsServed (b : Shelf) (list : List Accepted) (c : Command) (t : ℕ) (old new : Tables)
     (given : Answer) : Type 0 where
   pub answer : given ≡ answer_to b list c t
   pub tables : AreTables b (with_command b list c t) new
@@ -73,13 +71,13 @@ pub record IsServed (b : Shelf) (list : List Accepted) (c : Command) (t : Moment
 
 -- for every list of accepted commands whose tables a keeper holds: the command is served, or the
 -- tables are as before
-abbrev pub Serves : Shelf → Command → Moment → Tables → Tables → Result Answer StoreFault → Type 0
+abbrev pub Serves : Shelf → Command → ℕ → Tables → Tables → Result Answer StoreFault → Type 0
 Serves b c t old new result =
     (list : List Accepted) → IsInTime list → AreTables b list old →
     MatchResult result (λ given. IsServed b list c (moment_of list t) old new given) (λ fault. new ≡
     old)
 
 -- for every such list: tables are those of the list with the command where it is accepted
-abbrev pub Writes : Shelf → Command → Moment → Tables → Tables → Type 0
+abbrev pub Writes : Shelf → Command → ℕ → Tables → Tables → Type 0
 Writes b c t old new = (list : List Accepted) → IsInTime list → AreTables b list old →
     AreTables b (with_command b list c (moment_of list t)) new

@@ -1,8 +1,6 @@
 -- What the sessions of an account report, as its accepted commands tell (RFC 8506 sections 8.16 and
 -- 8.18).
-use Rattle.std.specs.Prelude.{List, [], ◌∷◌, if◌then◌else◌}
-use Rattle.units.specs.Words.{Moment, GroupId}
-use Rattle.identifiers.specs.Words.{SessionName, AccountName}
+use Rattle.std.specs.Prelude.{ℕ, List, [], ◌∷◌, if◌then◌else◌}
 use Rattle.units.specs.declared.blocks.UsedPart.{UsedPart}
 use Rattle.commands.specs.declared.command.Command.{Command}
 use Rattle.commands.specs.declared.command.Command.TheVariants as command
@@ -20,19 +18,19 @@ use Rattle.charging.specs.Served.{history, standing}
 -- a session's report of a rating group: its parts tell which units were used before, on both sides
 -- of and after a tariff switch
 pub record Report : Type 0 where
-  pub at : Moment
-  pub session : SessionName
-  pub group : GroupId
+  pub at : ℕ
+  pub session : List ℕ
+  pub group : ℕ
   pub parts : List UsedPart
 
 -- a group that is named without a part is not reported
-abbrev pub with_report : Moment → SessionName → GroupId → List UsedPart → List Report → List Report
+abbrev pub with_report : ℕ → List ℕ → ℕ → List UsedPart → List Report → List Report
 with_report t s g [] reports = reports
 with_report t s g (p ∷ ps) reports =
     record { at = t; session = s; group = g; parts = p ∷ ps } ∷ reports
 
 -- of a request's services those report whose groups have a tariff, in the request's order
-abbrev pub with_services : Shelf → Moment → SessionName → List Service → List Report → List Report
+abbrev pub with_services : Shelf → ℕ → List ℕ → List Service → List Report → List Report
 with_services b t s [] reports = reports
 with_services b t s (x ∷ xs) reports =
     with_services b t s xs
@@ -40,14 +38,14 @@ with_services b t s (x ∷ xs) reports =
     reports else reports)
 
 -- updates and terminations report
-abbrev pub with_ask : Shelf → Moment → SessionName → Ask → List Report → List Report
+abbrev pub with_ask : Shelf → ℕ → List ℕ → Ask → List Report → List Report
 with_ask b t s (Initial services) reports = reports
 with_ask b t s (Update services) reports = with_services b t s services reports
 with_ask b t s (Termination services) reports = with_services b t s services reports
 with_ask b t s (Event event) reports = reports
 with_ask b t s (Refund refund) reports = reports
 
-abbrev pub with_reports : Shelf → Moment → Command → List Report → List Report
+abbrev pub with_reports : Shelf → ℕ → Command → List Report → List Report
 with_reports b t (command.Ccr r) reports = with_ask b t r.session r.ask reports
 with_reports b t (command.OpenAccount n) reports = reports
 with_reports b t (command.Credit c) reports = reports
@@ -60,7 +58,7 @@ with_reports b t command.Sweep reports = reports
 with_reports b t (command.Balance n) reports = reports
 
 -- the reports of an account's sessions, the newest first
-abbrev pub reports_of : Shelf → AccountName → List Accepted → List Report
+abbrev pub reports_of : Shelf → List ℕ → List Accepted → List Report
 reports_of b a [] = []
 reports_of b a (d ∷ before) =
     if names a (concerned_by d.command)

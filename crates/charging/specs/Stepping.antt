@@ -1,18 +1,16 @@
 -- What the parts of a step come to, for every list of accepted commands whose tables a keeper
 -- holds.
 -- Source: profile.
-use Rattle.std.specs.Prelude.{◌≡◌, ◌≤◌, Bool, true, false, List, Option, Some, None, Result, Ok, Err}
+use Rattle.std.specs.Prelude.{◌≡◌, ℕ, ◌≤◌, Bool, true, false, List, Option, Some, None, Result, Ok, Err}
 use Rattle.std.specs.Prelude.{◌&&◌, not, is_some, if◌then◌else◌, MatchResult, IfOk, Vec}
 use Rattle.std.specs.Global.{Global}
-use Rattle.units.specs.Words.{Moment, GroupId}
-use Rattle.identifiers.specs.Words.{AccountName}
-use Rattle.buckets.specs.Words.{BucketNumber, BucketAmount}
 use Rattle.commands.specs.declared.answer.Answer.{Answer}
 use Rattle.commands.specs.declared.answer.Answer.TheVariants as answer
 use Rattle.commands.specs.declared.answer.Refusal.{Refusal}
 use Rattle.commands.specs.declared.allowance.Allowance.{Allowance}
 use Rattle.commands.specs.declared.command.Command.{Command}
 use Rattle.commands.specs.declared.command.Command.TheVariants.{Bar, Unbar}
+use Rattle.commands.specs.declared.command.Content.{Content}
 use Rattle.commands.specs.declared.command.Content.TheVariants as content
 use Rattle.commands.specs.declared.command.Credit.{Credit}
 use Rattle.commands.specs.declared.request.Request.{Request}
@@ -44,13 +42,13 @@ use Rattle.charging.specs.Served.{AreTables, IsServed, with_command}
 
 -- a command is served at a moment that isn't before that of the last accepted command, or the
 -- tables are as before
-abbrev pub ServesAt : Shelf → Command → Moment → Tables → Tables → Result Answer StoreFault → Type 0
+abbrev pub ServesAt : Shelf → Command → ℕ → Tables → Tables → Result Answer StoreFault → Type 0
 ServesAt b c t old new result =
     (list : List Accepted) → IsInTime list → AreTables b list old → last_moment list ≤ t →
     MatchResult result (λ given. IsServed b list c t old new given) (λ fault. new ≡ old)
 
 -- so it is, with this answer
-abbrev pub Answers : Shelf → Command → Moment → Tables → Tables → Answer → Type 0
+abbrev pub Answers : Shelf → Command → ℕ → Tables → Tables → Answer → Type 0
 Answers b c t old new given = (list : List Accepted) → IsInTime list → AreTables b list old →
     last_moment list ≤ t → IsServed b list c t old new given
 
@@ -73,9 +71,14 @@ LeavesRefused old new result = IfOk result (λ given. is_unaccepted given ≡ tr
 -- ---- what a commit comes to
 
 -- tables are those of the list with the command where it is accepted
-abbrev pub WritesAt : Shelf → Command → Moment → Tables → Tables → Type 0
+abbrev pub WritesAt : Shelf → Command → ℕ → Tables → Tables → Type 0
 WritesAt b c t old new = (list : List Accepted) → IsInTime list → AreTables b list old →
     last_moment list ≤ t → AreTables b (with_command b list c t) new
+
+-- what is kept of a command with this content, where it has a key
+abbrev pub kept_as : Option Content → Answer → Option KeptAnswer
+kept_as None given = None
+kept_as (Some c) given = Some (record { content = c; answer = given })
 
 -- what a commit of an account makes, with the charges of a command, what is kept of it and the
 -- voucher that it redeemed
@@ -94,34 +97,33 @@ abbrev pub Commits : Change → Tables → Tables → Type 0
 Commits change old new = new ≡ changed change old
 
 -- the command that bars an account, or ends that
-abbrev pub bar_command : AccountName → Bool → Command
+abbrev pub bar_command : List ℕ → Bool → Command
 bar_command n barred = if barred then Bar n else Unbar n
 
 -- an account was loaded at a moment from the tables; it keeps what each account keeps
-pub record IsTaken (b : Shelf) (t : Moment) (a : AccountName) (tables : Tables) (found : Loaded)
-    : Type 0 where
+pub record IsTaken (b : Shelf) (t : ℕ) (a : List ℕ) (tables : Tables)
+    (found : Loaded) : Type 0 where
   pub load : IsLoad b t a (tables.rows a) (Some found)
   pub account : IsAccount found.account
 
 -- a bucket is made under this number, and the same rows are left; None: there is no number
-abbrev pub Makes : Option BucketNumber → BucketKind → Moment → Moment → Option GroupId →
-    BucketAmount → Moment → Ledger → LeftRows → AccountRows → Type 0
+abbrev pub Makes : Option ℕ → BucketKind → ℕ → ℕ → Option ℕ → ℕ → ℕ → Ledger → LeftRows →
+    AccountRows → Type 0
 Makes None kind from until scope amount t ledger left new = is_full ledger ≡ true
 Makes (Some n) kind from until scope amount t ledger left new =
     (is_full ledger ≡ false) × (n ≡ next_bucket ledger)
     × IsWith (credited t kind from until scope amount ledger) left t new
 
 -- a credit's bucket is made under this number, and the same rows are left; None: it is out of range
-abbrev pub Credits : Option BucketNumber → Credit → Moment → Ledger → LeftRows → AccountRows →
-    Type 0
+abbrev pub Credits : Option ℕ → Credit → ℕ → Ledger → LeftRows → AccountRows → Type 0
 Credits None c t ledger left new = is_out_of_range c t ledger ≡ true
 Credits (Some n) c t ledger left new =
     (is_out_of_range c t ledger ≡ false) × (n ≡ next_bucket ledger)
     × IsWith (credited t Money (from_of c t) (until_of c) c.scope c.amount ledger) left t new
 
 -- an allowance's bucket is made under this number, and the same rows are left; or it is refused
-abbrev pub Allows : Shelf → Result BucketNumber Refusal → Allowance → Moment → Ledger → LeftRows →
-    AccountRows → Type 0
+abbrev pub Allows : Shelf → Result ℕ Refusal → Allowance → ℕ → Ledger → LeftRows → AccountRows →
+    Type 0
 Allows b (Err refusal) a t ledger left new = allowance_refusal b a t ledger ≡ Some refusal
 Allows b (Ok n) a t ledger left new =
     (allowance_refusal b a t ledger ≡ None) × (n ≡ next_bucket ledger)

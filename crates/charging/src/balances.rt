@@ -19,6 +19,7 @@ use reserving::Account;
 use shelves::TariffShelf;
 use std::alloc::{AllocError, Global};
 use units::Moment;
+use wire_answers::WrittenAnswer;
 
 /// What became of an account's money and of its allowances, as of a moment.
 #[derive(Debug, Drop)]
@@ -112,7 +113,7 @@ pub(crate) fn tell_balance<K: Keeper>(
     shelf: &TariffShelf,
     number: AccountNumber,
     moment: Moment,
-) -> Result<Answer, StoreFault>
+) -> Result<WrittenAnswer, StoreFault>
     ensures served { K.clean keeper.new →
         ServesAt shelf.now (command.Balance number) moment (K.content keeper.old)
         (K.content keeper.new) result }
@@ -123,10 +124,10 @@ pub(crate) fn tell_balance<K: Keeper>(
         (WritesAt shelf.now (command.Balance number) moment (K.content keeper.old)) }
 {
     let Some(state) = state_at(keeper, shelf, &number, moment)? else {
-        return Ok(Answer::Refused(Refusal::AccountUnknown));
+        return Ok(WrittenAnswer::new(alloc, Answer::Refused(Refusal::AccountUnknown))?);
     };
     let balance = balance_of(alloc, number, &state)?;
-    Ok(Answer::Balance(balance))
+    Ok(WrittenAnswer::new(alloc, Answer::Balance(balance))?)
 }
 
 /// The balance that an account's state tells.

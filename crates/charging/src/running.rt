@@ -1,5 +1,3 @@
-//! A run of commands.
-
 ghost use Rattle.std.specs.Prelude.{◌≡◌, ◌≤◌, ◌<◌, ◌+◌, [], Some, None, length, min, IfNone};
 ghost use Rattle.std.specs.Prelude.{IfSome};
 ghost use Rattle.keepers.specs.Faults.{max_failures};

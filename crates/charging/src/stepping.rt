@@ -1,5 +1,3 @@
-//! One command, answered and committed.
-
 ghost use Rattle.keepers.specs.Faults.{HasCause};
 ghost use Rattle.std.specs.Prelude.{◌≡◌, IfOk, OnErr, OnOk, max};
 ghost use Rattle.charging.specs.Parts.{Leaves, PartKeeps};
@@ -12,11 +10,12 @@ use crate::balances::tell_balance;
 use crate::operators::{open_account, serve_credit, set_barred, sweep};
 use crate::requests::serve_request;
 use crate::voucher_commands::{add_voucher, serve_redemption};
-use commands::{Answer, Command};
+use commands::Command;
 use keepers::{Keeper, StoreFault};
 use shelves::TariffShelf;
 use std::alloc::Global;
 use units::Moment;
+use wire_answers::WrittenAnswer;
 
 /// Answers a command, and commits it where it is accepted, at the later of this moment and that of
 /// the last accepted command. A repeat gets its first answer and changes nothing; neither does a
@@ -30,7 +29,7 @@ pub fn step<K: Keeper>(
     shelf: &TariffShelf,
     command: Command,
     moment: Moment,
-) -> Result<Answer, StoreFault>
+) -> Result<WrittenAnswer, StoreFault>
     ensures served { K.clean keeper.new →
         Serves shelf.now command moment (K.content keeper.old) (K.content keeper.new) result }
     ensures refused { K.clean keeper.new → LeavesRefused (K.content keeper.old)
@@ -56,7 +55,7 @@ fn serve<K: Keeper>(
     shelf: &TariffShelf,
     command: Command,
     moment: Moment,
-) -> Result<Answer, StoreFault>
+) -> Result<WrittenAnswer, StoreFault>
     ensures served { K.clean keeper.new →
         Serves shelf.now command moment (K.content keeper.old) (K.content keeper.new) result }
     ensures refused { K.clean keeper.new → LeavesRefused (K.content keeper.old)
@@ -85,7 +84,7 @@ fn serve_at<K: Keeper>(
     shelf: &TariffShelf,
     command: Command,
     moment: Moment,
-) -> Result<Answer, StoreFault>
+) -> Result<WrittenAnswer, StoreFault>
     ensures served { K.clean keeper.new →
         ServesAt shelf.now command moment (K.content keeper.old) (K.content keeper.new) result }
     ensures refused { K.clean keeper.new → LeavesRefused (K.content keeper.old)
@@ -101,9 +100,9 @@ fn serve_at<K: Keeper>(
         Command::Allow(allowance) => serve_allowance(alloc, keeper, shelf, allowance, moment),
         Command::Bar(number) => set_barred(alloc, keeper, shelf, number, true, moment),
         Command::Unbar(number) => set_barred(alloc, keeper, shelf, number, false, moment),
-        Command::AddVoucher(addition) => add_voucher(keeper, addition, moment),
+        Command::AddVoucher(addition) => add_voucher(alloc, keeper, addition, moment),
         Command::Redeem(asked) => serve_redemption(alloc, keeper, shelf, asked, moment),
-        Command::Sweep => sweep(keeper, shelf, moment),
+        Command::Sweep => sweep(alloc, keeper, shelf, moment),
         Command::Balance(number) => tell_balance(alloc, keeper, shelf, number, moment),
     }
 }

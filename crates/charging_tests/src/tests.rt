@@ -1,5 +1,3 @@
-//! Tests of commands over the keeper in memory.
-
 mod allowances;
 mod balances;
 mod counting;

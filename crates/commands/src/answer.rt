@@ -1,5 +1,3 @@
-//! Answers to requests and to operators.
-
 ghost use Rattle.std.specs.Prelude.{◌≡◌, ◌==◌, nat_eq};
 ghost use Rattle.std.specs.List.{find};
 ghost use Rattle.std.specs.Cmp.Lexicographic.{pointwise};

@@ -1,5 +1,3 @@
-//! The balance of an account.
-
 ghost use Rattle.std.specs.Prelude.{◌≡◌};
 
 use identifiers::AccountNumber;

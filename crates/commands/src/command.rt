@@ -1,5 +1,3 @@
-//! Commands, and what is kept of them.
-
 ghost use Rattle.std.specs.Prelude.{◌≡◌, ◌↔◌, ◌≤◌, IsSome, IfSome, IsTrue, unwrap_or};
 ghost use Rattle.commands.specs.Kept.{is_kept};
 

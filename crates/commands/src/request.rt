@@ -1,5 +1,3 @@
-//! A request for credit control.
-
 ghost use Rattle.std.specs.Prelude.{◌≡◌, ◌==◌, ◌↔◌, IsTrue};
 ghost use Rattle.std.specs.List.{find};
 ghost use Rattle.commands.specs.Codes.{kind_number, kind_numbered, kind_of_ask, action_number};

@@ -1,5 +1,3 @@
-//! A service of a request, and what it asks for.
-
 ghost use Rattle.std.specs.Prelude.{◌≡◌, IsTrue};
 ghost use Rattle.commands.specs.Services.{are_initial, are_update, are_termination};
 

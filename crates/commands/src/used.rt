@@ -1,5 +1,3 @@
-//! What a service reports as used.
-
 ghost use Rattle.std.specs.Prelude.{◌≡◌, ◌≤◌, ◌==◌, IsTrue};
 ghost use Rattle.std.specs.List.{find};
 ghost use Rattle.commands.specs.Reports.{usage_number, usage_numbered, is_report};

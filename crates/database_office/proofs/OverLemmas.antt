@@ -1,7 +1,7 @@
 -- What words leave of the database that files held, out of what they leave of a keeper that was
 -- opened.
 use Rattle.std.proofs.Common.{◌≡◌, ℕ, List, Option, Some, None, Result, Ok, Err, ap, subst, sym}
-use Rattle.std.proofs.Common.{◌∙◌, arith, inl, inr}
+use Rattle.std.proofs.Common.{◌∙◌, arith}
 use Rattle.std.specs.Prelude.{IfOk, IfSome}
 use Rattle.std.specs.Io.KnownBytes.{Appends}
 use Rattle.sqlite_disk.specs.declared.Disk as disk
@@ -27,17 +27,15 @@ use Rattle.sql_keeper.specs.Shelves.{IsShelfOf}
 use Rattle.sql_keeper.specs.Stops.{trees_in}
 use Rattle.sql_keeper.proofs.OneShelf.{one_shelf}
 use Rattle.office.specs.Counts.{counts_line}
-use Rattle.office.specs.Months.{BeginsMonth, IsMonthTold, WritesMonth}
-use Rattle.office.specs.Written.{WritesBeginning}
+use Rattle.office.specs.Months.{IsMonthTold}
 use Rattle.office.specs.declared.fault.OfficeFault.{OfficeFault}
-use Rattle.office.specs.declared.stating.MonthQuery.{MonthQuery}
 use Rattle.office.specs.declared.status.Status.{Status}
 use Rattle.operator.specs.declared.parsed.ImportWords.{ImportWords}
 use Rattle.operator.specs.declared.parsed.StatementWords.{StatementWords}
 use Rattle.database_office.specs.Importing.{IsFileImported}
 use Rattle.database_office.specs.Over.{Comes, IsImportDone, IsMadeIn, IsMigratedIn, IsMomentOf}
 use Rattle.database_office.specs.Over.{IsMonthDone, IsOpenedIn, query_of}
-use Rattle.database_office.specs.Stating.{BeginsMonthOf, IsOfOffice, of_office}
+use Rattle.database_office.specs.Stating.{IsOfOffice, of_office}
 use Rattle.database_office.specs.declared.fault.DatabaseFault.{DatabaseFault}
 use Rattle.database_office.specs.declared.fault.DatabaseFault.TheVariants.{Office}
 
@@ -213,13 +211,3 @@ month_done words t before after shelf old new status said told same = record {
       told.is told.was;
   same = same;
 }
-
--- a beginning of what an office writes is one of what is asked for
-pub begins_of : (words : StatementWords) (shelf : Shelf) (q : MonthQuery)
-    (old new : Option (List ℕ)) → q ≡ query_of words → BeginsMonth shelf q old new →
-    BeginsMonthOf words old new
-begins_of words shelf q old new same (inl month) = inl (record {
-  shelf = shelf;
-  begun = subst (λ (x : MonthQuery). WritesMonth shelf x (WritesBeginning old new)) same month;
-})
-begins_of words shelf q old new same (inr line) = inr line

@@ -1,9 +1,7 @@
 -- What becomes of a file of vouchers, for every list of accepted commands whose tables a keeper
 -- holds, and which faults are told.
 -- Source: profile.
-use Rattle.std.specs.Prelude.{◌≡◌, List, Option, Ok, Err, IsTrue, false}
-use Rattle.units.specs.Words.{Moment}
-use Rattle.byte_streams.specs.Words.{Bytes}
+use Rattle.std.specs.Prelude.{◌≡◌, ℕ, List, Option, Ok, Err, IsTrue, false}
 use Rattle.commands.specs.declared.command.VoucherAddition.{VoucherAddition}
 use Rattle.shelves.specs.Shelves.{Shelf}
 use Rattle.keepers.specs.Tables.{Tables}
@@ -21,21 +19,21 @@ use Rattle.database_office.specs.declared.importing.ImportFault.{ImportFault}
 use Rattle.database_office.specs.declared.importing.ImportFault.TheVariants.{Vouchers, Database}
 
 -- the text's vouchers were added, in their order, and this is so of the counts
-pub record IsFileImported (b : Shelf) (text : Bytes) (t : Moment) (old new : Tables)
+pub record IsFileImported (b : Shelf) (text : List ℕ) (t : ℕ) (old new : Tables)
     (tells : Counts → Type 0) : Type 0 where
   pub rows : List VoucherAddition
   pub says : vouchers_in text ≡ Ok rows
   pub imported : TellsImport b (additions t rows) old new tells
 
 -- a beginning of them was
-pub record IsFileBegun (b : Shelf) (text : Bytes) (t : Moment) (old new : Tables) : Type 0 where
+pub record IsFileBegun (b : Shelf) (text : List ℕ) (t : ℕ) (old new : Tables) : Type 0 where
   pub rows : List VoucherAddition
   pub says : vouchers_in text ≡ Ok rows
   pub begun : BeginsImport b (additions t rows) old new
 
 -- over a keeper, a fault of the database is the store's or the writer's
-abbrev pub IsOverKeeper : Shelf → Bytes → Moment → Tables → Tables → Option Bytes → Option Bytes →
-    DatabaseFault → Type 0
+abbrev pub IsOverKeeper : Shelf → List ℕ → ℕ → Tables → Tables → Option (List ℕ) →
+    Option (List ℕ) → DatabaseFault → Type 0
 IsOverKeeper b text t old new before after (Office (Store fault)) = IsFileBegun b text t old new
 IsOverKeeper b text t old new before after (Office (Write fault)) =
     IsFileImported b text t old new (λ counts. WritesBeginning before after (counts_line counts))
@@ -43,8 +41,8 @@ IsOverKeeper b text t old new before after _ = ⊥
 
 -- one of the text is its first, or reading it stopped, which it may do at that record: then no
 -- table has changed
-abbrev pub IsImportFault : Shelf → Bytes → Moment → Tables → Tables → Option Bytes → Option Bytes →
-    ImportFault → Type 0
+abbrev pub IsImportFault : Shelf → List ℕ → ℕ → Tables → Tables → Option (List ℕ) →
+    Option (List ℕ) → ImportFault → Type 0
 IsImportFault b text t old new before after (Vouchers fault) =
     (IsTrue (is_in_file fault.kind) → vouchers_in text ≡ Err fault)
     × (is_in_file fault.kind ≡ false → MayStopAt fault.record_number text) × (new ≡ old)
@@ -57,7 +55,7 @@ IsFileFault (Vouchers fault) = Unit {0}
 IsFileFault (Database fault) = IsOfficeFault fault
 
 -- one of the file, or of a command over a database
-abbrev pub IsImportEnd : Option Moment → ImportFault → Type 0
+abbrev pub IsImportEnd : Option ℕ → ImportFault → Type 0
 IsImportEnd at (Vouchers fault) = Unit {0}
 IsImportEnd at (Database fault) = IsCommandFault at fault
 

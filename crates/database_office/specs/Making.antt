@@ -1,7 +1,6 @@
 -- Which faults the making of a book's database tells.
 -- Source: profile.
-use Rattle.std.specs.Prelude.{◌≡◌}
-use Rattle.shelves.specs.Words.{BookText}
+use Rattle.std.specs.Prelude.{◌≡◌, ℕ, List}
 use Rattle.sql_keeper.specs.Books.{IsBookFault}
 use Rattle.sql_keeper.specs.declared.create_fault.CreateFault.{CreateFault}
 use Rattle.database_office.specs.Told.{making_fault}
@@ -9,7 +8,7 @@ use Rattle.database_office.specs.declared.fault.DatabaseFault.{DatabaseFault}
 use Rattle.database_office.specs.declared.fault.DatabaseFault.TheVariants.{File, Book, Open, Memory}
 
 -- the fault is the book's: memory was refused, or it is the first of the text
-abbrev pub IsTextFault : BookText → DatabaseFault → Type 0
+abbrev pub IsTextFault : List ℕ → DatabaseFault → Type 0
 IsTextFault text (Book fault) = IsBookFault text fault
 IsTextFault text _ = ⊥
 

@@ -1,7 +1,6 @@
 -- Which faults a call tells.
 -- Source: profile.
-use Rattle.std.specs.Prelude.{◌≡◌, Option, None}
-use Rattle.units.specs.Words.{Moment}
+use Rattle.std.specs.Prelude.{◌≡◌, ℕ, Option, None}
 use Rattle.sql_opening.specs.declared.fault.OpenFault.{OpenFault}
 use Rattle.office.specs.declared.fault.OfficeFault.{OfficeFault}
 use Rattle.office.specs.declared.fault.OfficeFault.TheVariants as office
@@ -28,7 +27,7 @@ IsOfficeFault (Office fault) = Unit {0}
 IsOfficeFault _ = ⊥
 
 -- one of a command over a database: of the clock only where the words say no moment
-abbrev pub IsCommandFault : Option Moment → DatabaseFault → Type 0
+abbrev pub IsCommandFault : Option ℕ → DatabaseFault → Type 0
 IsCommandFault at File = Unit {0}
 IsCommandFault at Clock = at ≡ None
 IsCommandFault at (Open fault) = Unit {0}

@@ -1,10 +1,7 @@
 -- What words make of the database that files held before, whatever they held.
 -- Source: profile.
-use Rattle.std.specs.Prelude.{◌≡◌, ◌<◌, ℕ, Option, None, Some, Ok}
+use Rattle.std.specs.Prelude.{◌≡◌, ◌<◌, ℕ, List, Option, None, Some, Ok}
 use Rattle.std.specs.Io.KnownBytes.{Appends}
-use Rattle.units.specs.Words.{Moment, no_end}
-use Rattle.byte_streams.specs.Words.{Bytes}
-use Rattle.shelves.specs.Words.{BookText}
 use Rattle.sqlite_disk.specs.declared.Disk as disk
 use Rattle.sqlite_wal.specs.Recovery.{Image}
 use Rattle.sqlite_store.specs.declared.store.FileStore.{FileStore}
@@ -54,12 +51,13 @@ pub record IsOpenedIn {D : Type 0} {g : disk.Ghosts D} (image : Image)
 
 -- a keeper has the tables of the book of a text, with no row but what is kept once: what database
 -- the files held, if any, had no table
-pub record IsMadeIn {D : Type 0} {g : disk.Ghosts D} (image : Image) (text : BookText)
-    (k : KeeperState (FileStore D g)) : Type 0 where
-  pub blank : (db : Trees) → HoldsDatabase image db →
-      IsDatabase (record { schema = stage 0; trees = db })
-  pub of_text : k.text ≡ text
-  pub made : IsNewBook text (trees_in over_files k)
+pub record IsMadeIn {D : Type 0} {g : disk.Ghosts D} (image : Image) (text : List ℕ)
+    (k : KeeperState (FileStore D g)) : Type 0
+  where
+    pub blank : (db : Trees) → HoldsDatabase image db →
+        IsDatabase (record { schema = stage 0; trees = db })
+    pub of_text : k.text ≡ text
+    pub made : IsNewBook text (trees_in over_files k)
 
 -- a keeper has the tables of the latest version, and what the files held of a database of the same
 -- or of an older one
@@ -78,7 +76,7 @@ pub record IsMigratedIn {D : Type 0} {g : disk.Ghosts D} (image : Image)
 -- where the files held a database that was left with a text, this is so of the shelf of its books,
 -- and of the tables of its rows
 abbrev pub ForLeft : Image → (Shelf → Tables → Type 0) → Type 0
-ForLeft image says = (db : Trees) (text : BookText) (shelf : Shelf) → HoldsDatabase image db →
+ForLeft image says = (db : Trees) (text : List ℕ) (shelf : Shelf) → HoldsDatabase image db →
     IsLeft text db → IsShelfOf text (content_of db).books shelf →
     says shelf (tables_of (shelf_names shelf) (content_of db))
 
@@ -90,9 +88,9 @@ Comes image k says = ForLeft image (λ shelf found. says shelf found (tables_in 
 -- ---- what the words say
 
 -- the moment of a command: the one that they say, or one of the clock
-abbrev pub IsMomentOf : Option Moment → Moment → Type 0
+abbrev pub IsMomentOf : Option ℕ → ℕ → Type 0
 IsMomentOf (Some at) t = t ≡ at
-IsMomentOf None t = t < no_end
+IsMomentOf None t = t < 4_102_444_800
 
 abbrev pub query_of : StatementWords → MonthQuery
 query_of words = record { account = words.account; month = words.month; csv = words.csv }
@@ -100,25 +98,25 @@ query_of words = record { account = words.account; month = words.month; csv = wo
 -- ---- what becomes of them
 
 -- their command was carried out: its line is written, and the status is its answer's
-pub record IsCommandDone (words : OfficeWords) (before after : Option Bytes) (status : Status)
+pub record IsCommandDone (words : OfficeWords) (before after : Option (List ℕ)) (status : Status)
     (shelf : Shelf) (old new : Tables) : Type 0 where
-  pub moment : Moment
+  pub moment : ℕ
   pub said : IsMomentOf words.at moment
   pub carried : IsCarriedOut shelf (command_of words.command) moment old new
       (λ answer. (status ≡ status_of answer) × Appends before after (answer_line answer))
 
 -- their month is written, or that there is no such account, and no row has changed
-pub record IsMonthDone (words : StatementWords) (before after : Option Bytes) (status : Status)
+pub record IsMonthDone (words : StatementWords) (before after : Option (List ℕ)) (status : Status)
     (shelf : Shelf) (old new : Tables) : Type 0 where
-  pub moment : Moment
+  pub moment : ℕ
   pub said : IsMomentOf words.at moment
   pub told : IsMonthTold shelf (query_of words) moment old before after (Ok status)
   pub same : new ≡ old
 
 -- the vouchers of a text were added, and the line of their counts is written
-pub record IsImportDone (words : ImportWords) (text : Bytes) (before after : Option Bytes)
+pub record IsImportDone (words : ImportWords) (text : List ℕ) (before after : Option (List ℕ))
     (shelf : Shelf) (old new : Tables) : Type 0 where
-  pub moment : Moment
+  pub moment : ℕ
   pub said : IsMomentOf words.at moment
   pub imported : IsFileImported shelf text moment old new
       (λ counts. Appends before after (counts_line counts))

@@ -1,14 +1,8 @@
--- What an office answers, among the answers of a database, and what is printed of a month.
+-- What an office answers, among the answers of a database.
 -- Source: profile.
-use Rattle.std.specs.Prelude.{◌≡◌, ◌⊎◌, Option, Result, Ok, Err}
-use Rattle.byte_streams.specs.Words.{Bytes}
-use Rattle.shelves.specs.Shelves.{Shelf}
-use Rattle.office.specs.Months.{PrintsMonth, WritesMonth, unknown_line}
-use Rattle.office.specs.Written.{WritesBeginning}
+use Rattle.std.specs.Prelude.{◌≡◌, Result, Ok, Err}
 use Rattle.office.specs.declared.fault.OfficeFault.{OfficeFault}
 use Rattle.office.specs.declared.status.Status.{Status}
-use Rattle.operator.specs.declared.parsed.StatementWords.{StatementWords}
-use Rattle.database_office.specs.Over.{query_of}
 use Rattle.database_office.specs.declared.fault.DatabaseFault.{DatabaseFault}
 use Rattle.database_office.specs.declared.fault.DatabaseFault.TheVariants.{Office}
 
@@ -22,21 +16,3 @@ pub record IsOfOffice (says : Result Status OfficeFault → Type 0)
   pub answer : Result Status OfficeFault
   pub is : result ≡ of_office answer
   pub was : says answer
-
--- ---- what is printed, whatever a database holds
-
--- the month of words by the books of some shelf, or that there is no such account: it ends so
-pub record PrintsMonthOf (words : StatementWords) (old new : Option Bytes) (status : Status)
-    : Type 0 where
-  pub shelf : Shelf
-  pub printed : PrintsMonth shelf (query_of words) old new status
-
--- a beginning of that month
-pub record BeginsSomeMonth (words : StatementWords) (old new : Option Bytes) : Type 0 where
-  pub shelf : Shelf
-  pub begun : WritesMonth shelf (query_of words) (WritesBeginning old new)
-
--- or of the line; it may be empty
-abbrev pub BeginsMonthOf : StatementWords → Option Bytes → Option Bytes → Type 0
-BeginsMonthOf words old new =
-    BeginsSomeMonth words old new ⊎ WritesBeginning old new unknown_line

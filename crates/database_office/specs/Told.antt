@@ -1,7 +1,6 @@
 -- What a fault of a command over a database tells: one line.
 -- Source: profile.
-use Rattle.std.specs.Prelude.{codes}
-use Rattle.byte_streams.specs.Words.{Bytes}
+use Rattle.std.specs.Prelude.{ℕ, List, codes}
 use Rattle.book_fields.specs.declared.fault.BookFault.{BookFault}
 use Rattle.book_fields.specs.declared.fault.BookFault.TheVariants as book
 use Rattle.shelves.specs.declared.fault.ShelfFault.{ShelfFault}
@@ -19,7 +18,7 @@ use Rattle.database_office.specs.declared.fault.DatabaseFault.TheVariants.{File,
 use Rattle.database_office.specs.declared.fault.DatabaseFault.TheVariants.{Shelf, Net, Memory}
 use Rattle.database_office.specs.declared.fault.DatabaseFault.TheVariants.{Office}
 
-abbrev pub book_line : BookFault → Bytes
+abbrev pub book_line : BookFault → List ℕ
 book_line book.NotToml = codes "ocs: book fault 1"
 book_line book.Missing = codes "ocs: book fault 2"
 book_line book.WrongKind = codes "ocs: book fault 3"
@@ -30,7 +29,7 @@ book_line book.TiersNotRising = codes "ocs: book fault 7"
 book_line book.TooMany = codes "ocs: book fault 8"
 book_line book.Memory = codes "ocs: book fault 9"
 
-abbrev pub open_line : OpenFault → Bytes
+abbrev pub open_line : OpenFault → List ℕ
 open_line opening.Foreign = codes "ocs: open fault 1"
 open_line opening.Version = codes "ocs: open fault 2"
 open_line opening.Rules = codes "ocs: open fault 3"
@@ -38,7 +37,7 @@ open_line opening.Store = codes "ocs: open fault 4"
 open_line opening.Memory = codes "ocs: open fault 5"
 open_line opening.Older = codes "ocs: open fault 6"
 
-abbrev pub shelf_line : ShelfFault → Bytes
+abbrev pub shelf_line : ShelfFault → List ℕ
 shelf_line shelf.Memory = codes "ocs: shelf fault 1"
 shelf_line shelf.Full = codes "ocs: shelf fault 2"
 shelf_line shelf.TooEarly = codes "ocs: shelf fault 3"
@@ -47,7 +46,7 @@ shelf_line shelf.GroupMissing = codes "ocs: shelf fault 5"
 shelf_line shelf.GroupDiffers = codes "ocs: shelf fault 6"
 
 -- a fault's line, without its line feed
-abbrev pub fault_line : DatabaseFault → Bytes
+abbrev pub fault_line : DatabaseFault → List ℕ
 fault_line File = codes "ocs: file fault"
 fault_line Clock = codes "ocs: clock fault"
 fault_line (Book fault) = book_line fault

@@ -12,7 +12,7 @@ use database_files::{DatabaseFiles, open_database};
 use sql_opening::OpenFault;
 use sqlite::Connection;
 use sqlite_disk::Start;
-use std::fs::{self, Files};
+use std::fs::{self, File};
 use std::io::ErrorKind;
 use std::path::Path;
 
@@ -20,10 +20,10 @@ use std::path::Path;
 ///
 /// # Errors
 /// `File`, also where there is none; `Memory`.
-pub fn open_file<F: Files>(files: &F, path: &str) -> Result<F::File, DatabaseFault>
+pub fn open_file(rt: &HostRuntime, path: &str) -> Result<File, DatabaseFault>
     ensures { IfErr result IsUnopened }
 {
-    match fs::open(files, path) {
+    match fs::open(rt, path) {
         Ok(file) => Ok(file),
         Err(error) => Err(file_fault(error.kind())),
     }

@@ -2,7 +2,7 @@
 
 ghost use Rattle.std.specs.Prelude.{IfErr, IfOk};
 ghost use Rattle.sqlite_wal.specs.Files.{image_at};
-ghost use Rattle.sql_keeper.specs.RuledOpening.{IsNotOpenedRuled, IsOpenedRuled};
+ghost use Rattle.sql_keeper.specs.Opened.{IsNotOpened, IsOpened};
 ghost use Rattle.database_office.specs.Opening.{IsNotFound, IsUnopened};
 ghost use Rattle.database_office.specs.Over.{IsOpenedIn};
 
@@ -47,22 +47,22 @@ pub fn open_office<S: Start>(
     }
 }
 
-/// Opens the office of a connection, after each row of its tables was read once. It writes nothing.
+/// Opens the office of a connection. It writes nothing.
 ///
 /// # Errors
 /// The connection is given back. `Open`: the tables aren't this system's, their version isn't
-/// known, a rowid stands twice or a row is out of the rules of its table, the store failed, or
+/// known, a rowid stands twice or what is kept once is out of its rules, the store failed, or
 /// memory was refused.
 pub fn open_tables<S: Alter + Drop>(
     alloc: Global,
     connection: Connection<S>,
 ) -> Result<Office<S>, (DatabaseFault, Connection<S>)>
     ensures opened { IfOk result
-        (λ office. IsOpenedRuled S.Store connection office.keeper office.shelf) }
+        (λ office. IsOpened S.Store connection office.keeper office.shelf) }
     ensures refused { IfErr result
-        (λ left. IsNotFound (IsNotOpenedRuled S.Store connection left.1) left.0) }
+        (λ left. IsNotFound (IsNotOpened S.Store connection left.1) left.0) }
 {
-    match SqlKeeper::open_ruled(alloc, connection) {
+    match SqlKeeper::open(alloc, connection) {
         Ok((keeper, shelf)) => Ok(Office { keeper, shelf }),
         Err((fault, left)) => Err((DatabaseFault::Open(fault), left)),
     }

@@ -1,6 +1,6 @@
 //! An account's month over a database.
 
-ghost use Rattle.std.specs.Prelude.{◌≡◌, IfErr, IfOk, OnErr, OnOk};
+ghost use Rattle.std.specs.Prelude.{◌≡◌, IfErr, IfOk, OnOk};
 ghost use Rattle.std.specs.Io.KnownBytes.{Appends};
 ghost use Rattle.office.specs.Months.{IsMonthTold, OnlyReads, unknown_line};
 ghost use Rattle.office.specs.Printed.{IsEnded};
@@ -11,7 +11,7 @@ ghost use Rattle.sqlite_wal.specs.Files.{image_at};
 ghost use Rattle.sql_keeper.specs.Inside.{tables_in};
 ghost use Rattle.sql_keeper.specs.Stops.{honest_in};
 ghost use Rattle.database_office.specs.Over.{Comes, IsMomentOf, IsMonthDone, query_of};
-ghost use Rattle.database_office.specs.Stating.{BeginsMonthOf, IsOfOffice, PrintsMonthOf};
+ghost use Rattle.database_office.specs.Stating.{IsOfOffice};
 
 use crate::clock::command_moment;
 use crate::fault::DatabaseFault;
@@ -39,10 +39,6 @@ pub fn state_office<O: Write>(
     words: StatementWords,
     output: &mut O,
 ) -> Result<Status, DatabaseFault>
-    ensures printed { IfOk result
-        (PrintsMonthOf words (O.contents output.old) (O.contents output.new)) }
-    ensures begun { OnErr result
-        (BeginsMonthOf words (O.contents output.old) (O.contents output.new)) }
     ensures ended { IfOk result (IsEnded
         (Appends (O.contents output.old) (O.contents output.new) unknown_line)) }
     ensures unwritten { IfErr result (λ fault. IsUnasked fault → output.new ≡ output.old) }
@@ -68,10 +64,6 @@ pub fn state_over<S: Start, O: Write>(
     ensures told { IfOk result (λ r. HasCleanDisk (file_state r.1.connection) →
         Comes (image_at S.Start) r.1
         (IsMonthDone words (O.contents output.old) (O.contents output.new) r.0)) }
-    ensures printed { IfOk result (λ r.
-        PrintsMonthOf words (O.contents output.old) (O.contents output.new) r.0) }
-    ensures begun { OnErr result
-        (BeginsMonthOf words (O.contents output.old) (O.contents output.new)) }
     ensures ended { IfOk result (λ r. IsEnded
         (Appends (O.contents output.old) (O.contents output.new) unknown_line) r.0) }
     ensures unwritten { IfErr result (λ fault. IsUnasked fault → output.new ≡ output.old) }
@@ -95,10 +87,6 @@ fn tell_over<S: Alter + Drop, O: Write>(
         IsMonthDone words (O.contents output.old) (O.contents output.new) r.0 office.shelf
         (tables_in S.Store office.keeper) (tables_in S.Store r.1)) }
     ensures honesty { IfOk result (λ r. honest_in S.Store r.1 → honest_in S.Store office.keeper) }
-    ensures printed { IfOk result (λ r.
-        PrintsMonthOf words (O.contents output.old) (O.contents output.new) r.0) }
-    ensures begun { OnErr result
-        (BeginsMonthOf words (O.contents output.old) (O.contents output.new)) }
     ensures ended { IfOk result (λ r. IsEnded
         (Appends (O.contents output.old) (O.contents output.new) unknown_line) r.0) }
     ensures unwritten { IfErr result (λ fault. IsUnasked fault → output.new ≡ output.old) }
@@ -141,10 +129,6 @@ fn tell_month<K: ChargeSource, O: Write>(
         (O.contents output.old) (O.contents output.new)) result }
     ensures ended { IfOk result (IsEnded
         (Appends (O.contents output.old) (O.contents output.new) unknown_line)) }
-    ensures printed { IfOk result
-        (PrintsMonthOf words (O.contents output.old) (O.contents output.new)) }
-    ensures begun { OnErr result
-        (BeginsMonthOf words (O.contents output.old) (O.contents output.new)) }
     ensures reads { IsOfOffice (OnlyReads K.content K.failed K.clean keeper.old keeper.new) result }
     ensures honesty { K.honest keeper.new → K.honest keeper.old }
     ensures stands { K.honest keeper.new → OnOk result (K.clean keeper.new) }

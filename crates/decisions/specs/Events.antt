@@ -1,9 +1,7 @@
 -- One-time events (RFC 8506 section 6; TS 32.299, immediate event charging): direct debiting,
 -- refund of money, check of the balance, and price enquiry.
-use Rattle.std.specs.Prelude.{Bool, true, false, ◌==◌, ◌||◌, nat_lt, if◌then◌else◌, []}
+use Rattle.std.specs.Prelude.{ℕ, Bool, true, false, ◌==◌, ◌||◌, nat_lt, if◌then◌else◌, List, []}
 use Rattle.std.specs.Prelude.{◌∷◌, Option, Some, None, option_map, unwrap_or}
-use Rattle.units.specs.Words.{Moment, UnitCount, GroupId, CcRequestNumber, no_end, greatest_number}
-use Rattle.identifiers.specs.Words.{SessionName}
 use Rattle.commands.specs.declared.avp.Avp.{Avp}
 use Rattle.commands.specs.declared.avp.Avp.TheVariants.{SessionId, RequestedUnit, CurrencyCode}
 use Rattle.commands.specs.declared.service.Requested.{Requested}
@@ -37,7 +35,7 @@ use Rattle.decisions.specs.Reports.{units_of, asks_other}
 use Rattle.decisions.specs.Decided.{Decision, accepted, denied, told, invalid, refused_or}
 
 -- the units of an event: those that it asks for, or the group's slice
-abbrev pub event_units : GroupTariff → Requested → UnitCount
+abbrev pub event_units : GroupTariff → Requested → ℕ
 event_units tariff requested = unwrap_or (units_of requested) tariff.slice
 
 -- an event that asks for other units than the group's, or for units that start more than 10^9
@@ -54,13 +52,12 @@ event_fault b e = wrong_event (tariff_of b e.group) e.requested
 -- ---- direct debiting
 
 -- a Session-Id names one event for good
-abbrev pub debit_refusal : Book → SessionName → Event → Ledger → Option Failure
+abbrev pub debit_refusal : Book → List ℕ → Event → Ledger → Option Failure
 debit_refusal b s e ledger = if has_record s ledger then Some (invalid SessionId)
     else option_map invalid (event_fault b e)
 
 -- its units are charged at once
-abbrev pub charged : Shelf → GroupTariff → Moment → SessionName → CcRequestNumber → GroupId →
-    UnitCount → Ledger → Decision
+abbrev pub charged : Shelf → GroupTariff → ℕ → List ℕ → ℕ → ℕ → ℕ → Ledger → Decision
 charged b tariff t s n g units ledger =
     if debit_passes b t s g units ledger
     then told (Failed UnableToComply) ledger
@@ -71,27 +68,23 @@ charged b tariff t s n g units ledger =
     (recorded t s n (debited b t s g units ledger))
 
 -- where the eligible buckets have their price
-abbrev pub charged_if_covered : Shelf → GroupTariff → Moment → SessionName → CcRequestNumber →
-    GroupId → UnitCount → Ledger → Decision
+abbrev pub charged_if_covered : Shelf → GroupTariff → ℕ → List ℕ → ℕ → ℕ → ℕ → Ledger → Decision
 charged_if_covered b tariff t s n g units ledger =
     if is_covered b t g units ledger then charged b tariff t s n g units ledger
     else denied t s n CreditLimitReached ledger
 
-abbrev pub charged_by : Option GroupTariff → Shelf → Moment → SessionName → CcRequestNumber →
-    Event → Ledger → Decision
+abbrev pub charged_by : Option GroupTariff → Shelf → ℕ → List ℕ → ℕ → Event → Ledger → Decision
 charged_by None b t s n e ledger = denied t s n RatingFailed ledger
 charged_by (Some tariff) b t s n e ledger =
     charged_if_covered b tariff t s n e.group (event_units tariff e.requested) ledger
 
 -- a barred account is charged nothing
-abbrev pub charged_unless_barred : Shelf → Moment → SessionName → CcRequestNumber → Event → Ledger →
-    Decision
+abbrev pub charged_unless_barred : Shelf → ℕ → List ℕ → ℕ → Event → Ledger → Decision
 charged_unless_barred b t s n e ledger =
     if is_barred ledger then denied t s n EndUserServiceDenied ledger
     else charged_by (tariff_at b t e.group) b t s n e ledger
 
-abbrev pub debit_decision : Shelf → Moment → SessionName → CcRequestNumber → Event → Ledger →
-    Decision
+abbrev pub debit_decision : Shelf → ℕ → List ℕ → ℕ → Event → Ledger → Decision
 debit_decision b t s n e ledger =
     refused_or (debit_refusal (book_at b t) s e ledger) ledger
     (charged_unless_barred b t s n e ledger)
@@ -101,12 +94,12 @@ debit_decision b t s n e ledger =
 abbrev pub balance_of : Bool → Balance
 balance_of covered = if covered then EnoughCredit else NoCredit
 
-abbrev pub checked_by : Option GroupTariff → Shelf → Moment → Event → Ledger → Outcome
+abbrev pub checked_by : Option GroupTariff → Shelf → ℕ → Event → Ledger → Outcome
 checked_by None b t e ledger = Failed (Denied RatingFailed)
 checked_by (Some tariff) b t e ledger =
     Checked (balance_of (is_covered b t e.group (event_units tariff e.requested) ledger))
 
-abbrev pub priced_by : Option GroupTariff → Shelf → Moment → Event → Ledger → Outcome
+abbrev pub priced_by : Option GroupTariff → Shelf → ℕ → Event → Ledger → Outcome
 priced_by None b t e ledger = Failed (Denied RatingFailed)
 priced_by (Some tariff) b t e ledger =
     Priced (record {
@@ -117,12 +110,12 @@ priced_by (Some tariff) b t e ledger =
 abbrev pub read_refusal : Book → Event → Option Failure
 read_refusal b e = option_map invalid (event_fault b e)
 
-abbrev pub check_decision : Shelf → Moment → Event → Ledger → Decision
+abbrev pub check_decision : Shelf → ℕ → Event → Ledger → Decision
 check_decision b t e ledger =
     refused_or (read_refusal (book_at b t) e) ledger
     (told (checked_by (tariff_at b t e.group) b t e ledger) ledger)
 
-abbrev pub enquiry_decision : Shelf → Moment → Event → Ledger → Decision
+abbrev pub enquiry_decision : Shelf → ℕ → Event → Ledger → Decision
 enquiry_decision b t e ledger =
     refused_or (read_refusal (book_at b t) e) ledger
     (told (priced_by (tariff_at b t e.group) b t e ledger) ledger)
@@ -134,32 +127,29 @@ is_read_action DirectDebiting = false
 is_read_action CheckBalance = true
 is_read_action PriceEnquiry = true
 
-abbrev pub decided_action : EventAction → Shelf → Moment → SessionName → CcRequestNumber → Event →
-    Ledger → Decision
+abbrev pub decided_action : EventAction → Shelf → ℕ → List ℕ → ℕ → Event → Ledger → Decision
 decided_action DirectDebiting b t s n e ledger = debit_decision b t s n e ledger
 decided_action CheckBalance b t s n e ledger = check_decision b t e ledger
 decided_action PriceEnquiry b t s n e ledger = enquiry_decision b t e ledger
 
-abbrev pub event_decision : Shelf → Moment → SessionName → CcRequestNumber → Event → Ledger →
-    Decision
+abbrev pub event_decision : Shelf → ℕ → List ℕ → ℕ → Event → Ledger → Decision
 event_decision b t s n e ledger = decided_action e.action b t s n e ledger
 
 -- ---- a refund
 
 -- it is in the book's currency
-abbrev pub refund_refusal : Book → SessionName → Refund → Ledger → Option Failure
+abbrev pub refund_refusal : Book → List ℕ → Refund → Ledger → Option Failure
 refund_refusal b s r ledger =
     if has_record s ledger then Some (invalid SessionId)
     else (if r.currency == b.currency then None else Some (invalid CurrencyCode))
 
 -- the money is a bucket from the moment on, without an end, for all groups
-abbrev pub refunded : Moment → SessionName → CcRequestNumber → Refund → Ledger → Decision
+abbrev pub refunded : ℕ → List ℕ → ℕ → Refund → Ledger → Decision
 refunded t s n r ledger =
-    if nat_lt greatest_number (next_bucket ledger)
+    if nat_lt 4294967295 (next_bucket ledger)
     then told (Failed UnableToComply) ledger
-    else accepted Refunded (recorded t s n (credited t Money t no_end None r.micros ledger))
+    else accepted Refunded (recorded t s n (credited t Money t 4102444800 None r.micros ledger))
 
-abbrev pub refund_decision : Shelf → Moment → SessionName → CcRequestNumber → Refund → Ledger →
-    Decision
+abbrev pub refund_decision : Shelf → ℕ → List ℕ → ℕ → Refund → Ledger → Decision
 refund_decision b t s n r ledger =
     refused_or (refund_refusal (book_at b t) s r ledger) ledger (refunded t s n r ledger)

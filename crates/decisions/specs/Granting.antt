@@ -1,9 +1,7 @@
 -- The grants of a request, service by service (RFC 8506 sections 5.2 and 5.3; TS 32.299, session
 -- charging with unit reservation).
-use Rattle.std.specs.Prelude.{Bool, nat_lt, if◌then◌else◌, List, [], ◌∷◌, Option, Some, None}
+use Rattle.std.specs.Prelude.{ℕ, Bool, nat_lt, if◌then◌else◌, List, [], ◌∷◌, Option, Some, None}
 use Rattle.std.specs.List.{list_any}
-use Rattle.units.specs.Words.{Moment, UnitCount, GroupId}
-use Rattle.identifiers.specs.Words.{SessionName}
 use Rattle.commands.specs.declared.service.Service.{Service}
 use Rattle.commands.specs.declared.service.Requested.{Requested}
 use Rattle.commands.specs.declared.answer.FinalUnit.{FinalUnit}
@@ -42,8 +40,7 @@ last_unit (action.Redirect address) = final.Redirect address
 abbrev pub final_unit : GroupTariff → Bool → Option FinalUnit
 final_unit tariff fewer = if fewer then Some (last_unit tariff.final_action) else None
 
-abbrev pub grant_answer : Shelf → GroupTariff → Moment → UnitCount → Option UnitCount →
-    ServiceOutcome
+abbrev pub grant_answer : Shelf → GroupTariff → ℕ → ℕ → Option ℕ → ServiceOutcome
 grant_answer b tariff t units asked = service.Granted (record {
   quantity = record { kind = tariff.unit; units = units };
   switch = switch_at b t;
@@ -52,8 +49,8 @@ grant_answer b tariff t units asked = service.Granted (record {
 })
 
 -- what a session is granted of a group with this tariff; no unit is 4012
-abbrev pub granted_with : Shelf → GroupTariff → Moment → SessionName → GroupId → Option UnitCount →
-    Grant → Ledger → Answered
+abbrev pub granted_with : Shelf → GroupTariff → ℕ → List ℕ → ℕ → Option ℕ → Grant →
+    Ledger → Answered
 granted_with b tariff t s g asked grant ledger =
     if nat_lt 0 grant.units.0
     then record {
@@ -63,14 +60,13 @@ granted_with b tariff t s g asked grant ledger =
     else record { outcome = service.Failed CreditLimitReached; after = ledger }
 
 -- the same, as far as the funds cover it
-abbrev pub granted_units : Shelf → GroupTariff → Moment → SessionName → GroupId → Option UnitCount →
-    Ledger → Answered
+abbrev pub granted_units : Shelf → GroupTariff → ℕ → List ℕ → ℕ → Option ℕ → Ledger → Answered
 granted_units b tariff t s g asked ledger =
     granted_with b tariff t s g asked (grant_for b t g (used s g ledger) asked ledger) ledger
 
 -- a barred account is granted nothing: 4010
-abbrev pub granted_unless_barred : Shelf → GroupTariff → Moment → SessionName → GroupId →
-    Option UnitCount → Ledger → Answered
+abbrev pub granted_unless_barred : Shelf → GroupTariff → ℕ → List ℕ → ℕ → Option ℕ → Ledger →
+    Answered
 granted_unless_barred b tariff t s g asked ledger =
     if is_barred ledger then record {
       outcome = service.Failed EndUserServiceDenied;
@@ -78,42 +74,40 @@ granted_unless_barred b tariff t s g asked ledger =
     } else granted_units b tariff t s g asked ledger
 
 -- a service that asks for nothing is granted nothing, and that is 2001
-abbrev pub granted_if : Shelf → GroupTariff → Moment → SessionName → GroupId → Option Requested →
-    Ledger → Answered
+abbrev pub granted_if : Shelf → GroupTariff → ℕ → List ℕ → ℕ → Option Requested → Ledger → Answered
 granted_if b tariff t s g None ledger = record { outcome = service.Settled; after = ledger }
 granted_if b tariff t s g (Some requested) ledger =
     granted_unless_barred b tariff t s g (units_of requested) ledger
 
 -- a rating group without a tariff is 5031
-abbrev pub granted_by : Option GroupTariff → Shelf → Moment → SessionName → Service → Ledger →
-    Answered
+abbrev pub granted_by : Option GroupTariff → Shelf → ℕ → List ℕ → Service → Ledger → Answered
 granted_by None b t s x ledger = record { outcome = service.Failed RatingFailed; after = ledger }
 granted_by (Some tariff) b t s x ledger = granted_if b tariff t s x.group x.requested ledger
 
 -- the grant of a service
-abbrev pub granted : Shelf → Moment → SessionName → Service → Ledger → Answered
+abbrev pub granted : Shelf → ℕ → List ℕ → Service → Ledger → Answered
 granted b t s x ledger = granted_by (tariff_at b t x.group) b t s x ledger
 
 -- the grants of all services, one after the other
-abbrev pub grant_answers : Shelf → Moment → SessionName → List Service → Ledger → List ServiceAnswer
+abbrev pub grant_answers : Shelf → ℕ → List ℕ → List Service → Ledger → List ServiceAnswer
 grant_answers b t s [] ledger = []
 grant_answers b t s (x ∷ xs) ledger =
     record { group = x.group; outcome = (granted b t s x ledger).outcome }
     ∷ grant_answers b t s xs (granted b t s x ledger).after
 
-abbrev pub after_grants : Shelf → Moment → SessionName → List Service → Ledger → Ledger
+abbrev pub after_grants : Shelf → ℕ → List ℕ → List Service → Ledger → Ledger
 after_grants b t s [] ledger = ledger
 after_grants b t s (x ∷ xs) ledger = after_grants b t s xs (granted b t s x ledger).after
 
 -- ---- a session that isn't open yet
 
 -- the service of a new session, which asks for units, would be granted one
-abbrev pub grants_new : Shelf → Moment → Ledger → Service → Bool
+abbrev pub grants_new : Shelf → ℕ → Ledger → Service → Bool
 grants_new b t ledger x =
     nat_lt 0 (grant_for b t x.group 0 (asked_units x.requested) ledger).units.0
 
 -- until one is granted the funds stay the same, so that each can be asked for by itself
-abbrev pub any_grants : Shelf → Moment → Ledger → List Service → Bool
+abbrev pub any_grants : Shelf → ℕ → Ledger → List Service → Bool
 any_grants b t ledger services = list_any (grants_new b t ledger) services
 
 -- why a service that grants nothing doesn't

@@ -9,7 +9,7 @@ use crate::request_head::Asked;
 use crate::ruling::{Ruled, Ruling};
 use commands::{Failure, Outcome, ServiceFailure};
 use reserving::Account;
-use std::alloc::Global;
+use std::alloc::{AllocError, Global};
 
 /// Denies a request of a session that isn't known: it is recorded, and neither granted nor charged
 /// anything.
@@ -26,6 +26,8 @@ pub(crate) fn deny(
         asked.now.moment account.old account.new) }
     ensures tariff { account.new.shelf ≡ account.old.shelf }
 {
-    account.deny(asked.session, asked.number, asked.moment)?;
-    Ok(Ruling::accepted(Outcome::Failed(Failure::Denied(why)), Vec::new(alloc)))
+    match account.deny(asked.session, asked.number, asked.moment) {
+        Ok(()) => Ok(Ruling::accepted(Outcome::Failed(Failure::Denied(why)), Vec::new(alloc))),
+        Err(_) => Err(AllocError),
+    }
 }

@@ -1,11 +1,8 @@
 -- What a request asks.
 -- Source: profile.
-use Rattle.std.specs.Prelude.{◌≡◌, ℕ, Bool, ◌==◌, Option, Some, None, Result, Ok, Err}
+use Rattle.std.specs.Prelude.{◌≡◌, ℕ, Bool, ◌==◌, List, Option, Some, None, Result, Ok, Err}
 use Rattle.std.specs.Prelude.{if◌then◌else◌}
 use Rattle.std.specs.List.{before_first, after_first}
-use Rattle.identifiers.specs.Words.{AccountName, VoucherCode}
-use Rattle.written_numbers.specs.Words.{MonthNumber}
-use Rattle.byte_streams.specs.Words.{Bytes}
 use Rattle.identifiers.specs.Texts.{is_account_number, is_voucher_code}
 use Rattle.written_numbers.specs.Months.{month_of}
 use Rattle.commands.specs.declared.avp.Avp.TheVariants as avp
@@ -42,52 +39,52 @@ is_slash b = b == 47
 -- ---- parts of a path
 
 -- between the second slash of a path and the third, or the end
-abbrev pub second_part : Bytes → Bytes
+abbrev pub second_part : List ℕ → List ℕ
 second_part target = before_first is_slash (after_first is_slash (after_first is_slash target))
 
 -- between the fourth slash of a path and the fifth, or the end
-abbrev pub fourth_part : Bytes → Bytes
+abbrev pub fourth_part : List ℕ → List ℕ
 fourth_part target = before_first is_slash
     (after_first is_slash
     (after_first is_slash (after_first is_slash (after_first is_slash target))))
 
 -- the number of an account in a path
-abbrev pub account_in : Bytes → Result AccountName WireFault
+abbrev pub account_in : List ℕ → Result (List ℕ) WireFault
 account_in target = if is_account_number (second_part target) then Ok (second_part target)
     else Err (Invalid avp.SubscriptionIdData)
 
 -- the code of a voucher in a path
-abbrev pub code_in : Bytes → Result VoucherCode WireFault
+abbrev pub code_in : List ℕ → Result (List ℕ) WireFault
 code_in target = if is_voucher_code (second_part target) then Ok (second_part target)
     else Err (Invalid avp.VoucherCode)
 
 -- the month in a path
-abbrev pub month_in : Bytes → Result MonthNumber WireFault
+abbrev pub month_in : List ℕ → Result ℕ WireFault
 month_in target = or_fault (Invalid avp.Month) (month_of (fourth_part target))
 
 -- ---- what is asked by a path and a body
 
 -- of an account GET asks for the balance, PUT opens it
-abbrev pub account_command : Bytes → AccountName → Command
+abbrev pub account_command : List ℕ → List ℕ → Command
 account_command method a = if is_get method then command.Balance a else command.OpenAccount a
 
-abbrev pub account_asked : Bytes → Bytes → Result Command WireFault
+abbrev pub account_asked : List ℕ → List ℕ → Result Command WireFault
 account_asked method target = account_in target >>= λ a. Ok (account_command method a)
 
-abbrev pub credit_asked : Bytes → Bytes → Result Command WireFault
+abbrev pub credit_asked : List ℕ → List ℕ → Result Command WireFault
 credit_asked target body =
     account_in target >>= λ a. credit_of a body >>= λ c. Ok (command.Credit c)
 
-abbrev pub allowance_asked : Bytes → Bytes → Result Command WireFault
+abbrev pub allowance_asked : List ℕ → List ℕ → Result Command WireFault
 allowance_asked target body =
     account_in target >>= λ a. allowance_of a body >>= λ x. Ok (command.Allow x)
 
-abbrev pub redemption_asked : Bytes → Bytes → Result Command WireFault
+abbrev pub redemption_asked : List ℕ → List ℕ → Result Command WireFault
 redemption_asked target body =
     code_in target >>= λ c. redemption_of c body >>= λ r. Ok (command.Redeem r)
 
 -- the account, and then the month
-abbrev pub statement_in : Bytes → Result StatementAsked WireFault
+abbrev pub statement_in : List ℕ → Result StatementAsked WireFault
 statement_in target =
     account_in target >>= λ a. month_in target >>= λ m. Ok (record { account = a; month = m })
 
@@ -96,7 +93,7 @@ stated (Ok q) = states q
 stated (Err fault) = reads (Err fault)
 
 -- of a row, by the path and then by the body
-abbrev pub asking_by : Route → Bytes → Bytes → Bytes → Asking
+abbrev pub asking_by : Route → List ℕ → List ℕ → List ℕ → Asking
 asking_by Ccr method target body = reads (command_of body)
 asking_by Account method target body = reads (account_asked method target)
 asking_by Statement method target body = stated (statement_in target)

@@ -1,7 +1,6 @@
 -- The statuses of requests that are refused.
 -- Source: RFC 9110 section 15.5; 431: RFC 6585 section 5.
 use Rattle.std.specs.Prelude.{ℕ, ◌==◌, if◌then◌else◌}
-use Rattle.http_heads.specs.Words.{StatusCode}
 use Rattle.http_heads.specs.Statuses as status
 use Rattle.http_answers.specs.declared.refusal.HttpRefusal.{HttpRefusal}
 use Rattle.http_answers.specs.declared.refusal.HttpRefusal.TheVariants.{BadRequest, NotFound}
@@ -22,7 +21,7 @@ number_of FieldsTooLarge = status.fields_too_large
 number_of NotImplemented = status.not_implemented
 
 -- the refusal of a head or of a length that has this status
-abbrev pub refusal_of : StatusCode → HttpRefusal
+abbrev pub refusal_of : ℕ → HttpRefusal
 refusal_of code =
     if code == status.length_required then LengthRequired
     else (if code == status.payload_too_large then PayloadTooLarge

@@ -1,5 +1,3 @@
-//! What a request of HTTP asks.
-
 ghost use Rattle.std.specs.Prelude.{◌≡◌, Result};
 ghost use Rattle.std.specs.List.{before_first, after_first};
 ghost use Rattle.commands.specs.declared.command.Command.{Command};

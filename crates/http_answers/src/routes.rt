@@ -1,5 +1,3 @@
-//! The table of routes.
-
 ghost use Rattle.std.specs.Prelude.{◌≡◌, IfOk, OnOk, OnErr};
 ghost use Rattle.matchit.specs.declared.InsertError.TheVariants.{OutOfMemory};
 ghost use Rattle.http_heads.specs.Methods.{is_get, is_post, is_put};

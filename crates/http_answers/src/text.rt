@@ -1,5 +1,3 @@
-//! The bytes of an answer of HTTP.
-
 ghost use Rattle.std.specs.Prelude.{◌≡◌, ◌++◌, ℕ, IfOk, OnOk, OnErr, IfSome, None};
 ghost use Rattle.std.specs.Prelude.{true, false, string_bytes};
 ghost use Rattle.json_fields.specs.declared.fault.WireFault.TheVariants.{Memory, NotRequest};
@@ -41,6 +39,10 @@ const NOT_REQUEST: &[u8] =
 const NOT_REQUEST_AT_LAST: &[u8] =
     b"HTTP/1.1 400 Bad Request\r\nContent-Type: application/json\r\nContent-Length: 20\r\nConnection: close\r\n\r\n{\"Result-Code\":5012}";
 
+/// The head of an answer 200 whose body is JSON, up to its length.
+const OK_AND_LENGTH: &[u8] =
+    b"HTTP/1.1 200 OK\r\nContent-Type: application/json\r\nContent-Length: ";
+
 /// The most bytes of an answer's head.
 const MOST_OF_HEAD: usize = 136;
 
@@ -80,6 +82,32 @@ pub fn response(
         "HTTP/1.1 {code} {phrase}\r\nContent-Type: application/json\r\nContent-Length: {length}\r\n{closing}\r\n{body}"
     )?;
     Ok(text)
+}
+
+/// Writes the answer 200 whose body is so much JSON; this takes no memory.
+///
+/// # Errors
+/// `Write` where the writer failed. Then a beginning of it is written.
+pub fn tell_json<W: Write>(writer: &mut W, closes: bool, body: &[u8]) -> Result<(), StreamFault>
+    ensures ok { OnOk result (Appends (W.contents writer.old) (W.contents writer.new)
+        (response ok closes body.now)) }
+    ensures err { OnErr result (Begins (W.contents writer.old) (W.contents writer.new)
+        (response ok closes body.now)) }
+    ensures fault { OnErr result (result ≡ Err StreamFault.Write) }
+{
+    let mut digits = itoa::Buffer::new();
+    let length = digits.format(body.len());
+    write_text(writer, OK_AND_LENGTH)?;
+    write_text(writer, length.as_bytes())?;
+    write_text(writer, after_length(closes))?;
+    write_text(writer, body)
+}
+
+/// What stands between an answer's length and its body.
+fn after_length(closes: bool) -> &'static [u8]
+    ensures { result.now ≡ codes "\r\n" ++ (closing_line closes ++ codes "\r\n") }
+{
+    if closes { b"\r\nConnection: close\r\n\r\n" } else { b"\r\n\r\n" }
 }
 
 /// The bytes of an answer where there is no memory, no store or no clock.

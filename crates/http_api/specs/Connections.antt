@@ -6,8 +6,6 @@ use Rattle.std.specs.Prelude.{◌≡◌, ◌<◌, ◌≤◌, ◌-◌, ◌==◌, 
 use Rattle.std.specs.Prelude.{List, [], ◌++◌, take, Option, ◌⊎◌, Result, IfOk, OnErr, IfSome}
 use Rattle.std.specs.Prelude.{IsErrOf}
 use Rattle.std.specs.Io.KnownBytes.{Appends}
-use Rattle.units.specs.Words.{Moment}
-use Rattle.byte_streams.specs.Words.{Bytes}
 use Rattle.shelves.specs.Shelves.{Shelf}
 use Rattle.keepers.specs.Tables.{Tables}
 use Rattle.charging.specs.Accepted.{Accepted, IsInTime}
@@ -19,7 +17,6 @@ use Rattle.http_answers.specs.Asking.{Asking, refuses, asked_of}
 use Rattle.http_answers.specs.Texts.{Begins}
 use Rattle.http_api.specs.Clocks.{GivesInTurn}
 use Rattle.http_api.specs.Replies.{Reply, reply_text, IsReply}
-use Rattle.http_api.specs.Told.{Owes}
 use Rattle.http_api.specs.declared.fault.ServeFault.{ServeFault}
 use Rattle.http_api.specs.declared.fault.ServeFault.TheVariants.{Memory, Read, Write}
 use Rattle.http_api.specs.declared.serving.Served.{Served}
@@ -28,13 +25,13 @@ use Rattle.http_api.specs.declared.serving.Served.{Served}
 -- moments that the clock gave, and what was written
 pub record Connection : Type 0 where
   pub left : ℕ
-  pub rest : Bytes
+  pub rest : List ℕ
   pub list : List Accepted
-  pub moments : List (Option Moment)
-  pub written : Bytes
+  pub moments : List (Option ℕ)
+  pub written : List ℕ
 
 -- a new one takes 1,000 requests
-abbrev pub new_connection : Bytes → List Accepted → Connection
+abbrev pub new_connection : List ℕ → List Accepted → Connection
 new_connection stream list =
     record { left = 1000; rest = stream; list = list; moments = []; written = [] }
 
@@ -43,7 +40,7 @@ abbrev pub left_after : Bool → ℕ → ℕ
 left_after closes left = if closes then 0 else left - 1
 
 -- it after an answer, which says so where no request is taken after it
-abbrev pub after_reply : Connection → Bool → Bytes → List (Option Moment) → Reply → Connection
+abbrev pub after_reply : Connection → Bool → List ℕ → List (Option ℕ) → Reply → Connection
 after_reply old closes rest moments reply = record {
   left = left_after closes old.left;
   rest = rest;
@@ -53,9 +50,9 @@ after_reply old closes rest moments reply = record {
 }
 
 -- a request is answered, with one of the statuses of answers
-pub record IsAnswered (b : Shelf) (asking : Asking) (closes : Bool) (rest : Bytes)
+pub record IsAnswered (b : Shelf) (asking : Asking) (closes : Bool) (rest : List ℕ)
     (old new : Connection) : Type 0 where
-  pub moments : List (Option Moment)
+  pub moments : List (Option ℕ)
   pub reply : Reply
   pub is_reply : IsReply b old.list asking moments reply
   pub status : IsAnswerStatus reply.status
@@ -87,8 +84,8 @@ IsOver last = (last.left ≡ 0) ⊎ IsNext last.rest ended
 -- ---- over a reader, a writer, a keeper and a clock
 
 -- so many requests of a stream come to these moments, this text and these tables
-pub record IsTaken (b : Shelf) (stream : Bytes) (count : ℕ) (moments : List (Option Moment))
-    (text : Bytes) (content : Tables) (list : List Accepted) : Type 0 where
+pub record IsTaken (b : Shelf) (stream : List ℕ) (count : ℕ) (moments : List (Option ℕ))
+    (text : List ℕ) (content : Tables) (list : List Accepted) : Type 0 where
   pub last : Connection
   pub turns : Turns b count (new_connection stream list) last
   pub given : last.moments ≡ moments
@@ -97,85 +94,53 @@ pub record IsTaken (b : Shelf) (stream : Bytes) (count : ℕ) (moments : List (O
   pub time : IsInTime last.list
 
 -- and the connection is over
-pub record IsWhole (b : Shelf) (stream : Bytes) (count : ℕ) (moments : List (Option Moment))
-    (text : Bytes) (content : Tables) (list : List Accepted) : Type 0 where
+pub record IsWhole (b : Shelf) (stream : List ℕ) (count : ℕ) (moments : List (Option ℕ))
+    (text : List ℕ) (content : Tables) (list : List Accepted) : Type 0 where
   pub taken : IsTaken b stream count moments text content list
   pub over : IsOver taken.last
 
 -- a stream is served to the end of the connection
-pub record IsServed {C : Type 0} (gives : C → Option Moment → C → Type 0) (b : Shelf)
-    (stream : Bytes) (count : ℕ) (before after : C) (empty full : Option Bytes) (old new : Tables)
-    : Type 0 where
-  pub moments : List (Option Moment)
+pub record IsServed {C : Type 0} (gives : C → Option ℕ → C → Type 0) (b : Shelf)
+    (stream : List ℕ) (count : ℕ) (before after : C) (empty full : Option (List ℕ))
+    (old new : Tables) : Type 0 where
+  pub moments : List (Option ℕ)
   pub given : GivesInTurn gives before moments after
-  pub text : Bytes
+  pub text : List ℕ
   pub written : Appends empty full text
   pub whole : ForEachList b old (IsWhole b stream count moments text new)
 
 -- so many requests of it were taken, and a beginning of their answers is written
-pub record IsBegun {C : Type 0} (gives : C → Option Moment → C → Type 0) (b : Shelf)
-    (stream : Bytes) (before after : C) (empty full : Option Bytes) (old new : Tables)
-    : Type 0 where
+pub record IsBegun {C : Type 0} (gives : C → Option ℕ → C → Type 0) (b : Shelf) (stream : List ℕ)
+    (before after : C) (empty full : Option (List ℕ)) (old new : Tables) : Type 0 where
   pub count : ℕ
   pub bounded : count ≤ 1000
-  pub moments : List (Option Moment)
+  pub moments : List (Option ℕ)
   pub given : GivesInTurn gives before moments after
-  pub text : Bytes
+  pub text : List ℕ
   pub written : Begins empty full text
   pub taken : ForEachList b old (IsTaken b stream count moments text new)
 
--- so many of its requests were answered, and this is left of it
-pub record IsTakenTo (b : Shelf) (stream left : Bytes) (count : ℕ) (moments : List (Option Moment))
-    (text : Bytes) (content : Tables) (list : List Accepted) : Type 0 where
-  pub taken : IsTaken b stream count moments text content list
-  pub left_is : taken.last.rest ≡ left
-
--- its next request is a command, and the text of the answer is owed
-pub record OwesNext {C : Type 0} (gives : C → Option Moment → C → Type 0) (b : Shelf)
-    (stream : Bytes) (before after : C) (old new : Tables) : Type 0 where
-  pub ask : Ask
-  pub left : Bytes
-  pub is_next : IsNext stream (asks ask left)
-  pub owes : Owes gives b (asked_of ask) before after old new
-
--- where memory is refused so many requests of a stream were answered whole; nothing is done for the
--- next one, or the text of its answer is owed
-pub record IsOutOfMemory {C : Type 0} (gives : C → Option Moment → C → Type 0) (b : Shelf)
-    (stream : Bytes) (before after : C) (empty full : Option Bytes) (old new : Tables)
-    : Type 0 where
-  pub count : ℕ
-  pub moments : List (Option Moment)
-  pub between : C
-  pub given : GivesInTurn gives before moments between
-  pub text : Bytes
-  pub written : Appends empty full text
-  pub content : Tables
-  pub left : Bytes
-  pub answered : ForEachList b old (IsTakenTo b stream left count moments text content)
-  pub next : ((after ≡ between) × (new ≡ content)) ⊎ OwesNext gives b left between after content new
-
 -- so many of its requests were answered, and the connection takes more
-pub record IsTakenOn (b : Shelf) (stream : Bytes) (count : ℕ) (moments : List (Option Moment))
-    (text : Bytes) (content : Tables) (list : List Accepted) : Type 0 where
+pub record IsTakenOn (b : Shelf) (stream : List ℕ) (count : ℕ) (moments : List (Option ℕ))
+    (text : List ℕ) (content : Tables) (list : List Accepted) : Type 0 where
   pub taken : IsTaken b stream count moments text content list
   pub goes_on : 0 < taken.last.left
 
--- where the reader fails so many requests of a stream were answered whole, and nothing is done for
--- the next one
-pub record IsUnread {C : Type 0} (gives : C → Option Moment → C → Type 0) (b : Shelf)
-    (stream : Bytes) (before after : C) (empty full : Option Bytes) (old new : Tables)
-    : Type 0 where
+-- where the reader fails, or memory is refused, so many requests of a stream were answered whole,
+-- and nothing is done for the next one
+pub record IsUnread {C : Type 0} (gives : C → Option ℕ → C → Type 0) (b : Shelf) (stream : List ℕ)
+    (before after : C) (empty full : Option (List ℕ)) (old new : Tables) : Type 0 where
   pub count : ℕ
   pub bounded : count < 1000
-  pub moments : List (Option Moment)
+  pub moments : List (Option ℕ)
   pub given : GivesInTurn gives before moments after
-  pub text : Bytes
+  pub text : List ℕ
   pub written : Appends empty full text
   pub taken : ForEachList b old (IsTakenOn b stream count moments text new)
 
 -- so many of its requests were answered with a text, and one more with another
-pub record IsTakenWith (b : Shelf) (stream : Bytes) (count : ℕ) (moments : List (Option Moment))
-    (text more : Bytes) (content : Tables) (list : List Accepted) : Type 0 where
+pub record IsTakenWith (b : Shelf) (stream : List ℕ) (count : ℕ) (moments : List (Option ℕ))
+    (text more : List ℕ) (content : Tables) (list : List Accepted) : Type 0 where
   pub between : Connection
   pub turns : Turns b count (new_connection stream list) between
   pub whole : between.written ≡ text
@@ -188,23 +153,22 @@ pub record IsTakenWith (b : Shelf) (stream : Bytes) (count : ℕ) (moments : Lis
 
 -- where the writer fails so many requests of a stream were answered whole, and of the answer to the
 -- next one a beginning is written
-pub record IsCutOff {C : Type 0} (gives : C → Option Moment → C → Type 0) (b : Shelf)
-    (stream : Bytes) (before after : C) (empty full : Option Bytes) (old new : Tables)
-    : Type 0 where
+pub record IsCutOff {C : Type 0} (gives : C → Option ℕ → C → Type 0) (b : Shelf) (stream : List ℕ)
+    (before after : C) (empty full : Option (List ℕ)) (old new : Tables) : Type 0 where
   pub count : ℕ
   pub bounded : count < 1000
-  pub moments : List (Option Moment)
+  pub moments : List (Option ℕ)
   pub given : GivesInTurn gives before moments after
-  pub text : Bytes
-  pub more : Bytes
+  pub text : List ℕ
+  pub more : List ℕ
   pub begun : ℕ
   pub written : Appends empty full (text ++ take begun more)
   pub taken : ForEachList b old (IsTakenWith b stream count moments text more new)
 
 -- the same of an honest keeper that may not be asked any more: of the tables at the last moment at
 -- which it could be asked
-pub record IsShown {C : Type 0} (gives : C → Option Moment → C → Type 0) (b : Shelf)
-    (bytes : Option Bytes) (before after : C) (empty full : Option Bytes) (old : Tables)
+pub record IsShown {C : Type 0} (gives : C → Option ℕ → C → Type 0) (b : Shelf)
+    (bytes : Option (List ℕ)) (before after : C) (empty full : Option (List ℕ)) (old : Tables)
     (result : Result Served ServeFault) : Type 0 where
   pub held : Tables
   pub served : IfOk result (λ done. IfSome bytes (λ stream.
@@ -215,16 +179,16 @@ pub record IsShown {C : Type 0} (gives : C → Option Moment → C → Type 0) (
 -- what comes of a connection over a keeper that stays clean, where the reader tells its bytes: it
 -- is served to its end, or a beginning of it is, and each fault says which; at most 1,000 requests
 -- are answered, and the accepted commands go on, also those that are found after a stop
-pub record ServesConnection {C K : Type 0} (gives : C → Option Moment → C → Type 0) (b : Shelf)
-    (bytes : Option Bytes) (before after : C) (empty full : Option Bytes) (content : K → Tables)
-    (failed : K → ℕ) (honest clean : K → Type 0) (leaves : K → Tables → Type 0) (old new : K)
-    (result : Result Served ServeFault) : Type 0 where
+pub record ServesConnection {C K : Type 0} (gives : C → Option ℕ → C → Type 0) (b : Shelf)
+    (bytes : Option (List ℕ)) (before after : C) (empty full : Option (List ℕ))
+    (content : K → Tables) (failed : K → ℕ) (honest clean : K → Type 0)
+    (leaves : K → Tables → Type 0) (old new : K) (result : Result Served ServeFault) : Type 0 where
   pub served : clean new → IfOk result (λ done. IfSome bytes (λ stream.
       IsServed gives b stream done.requests before after empty full (content old) (content new)))
   pub begun : clean new → OnErr result (IfSome bytes (λ stream.
       IsBegun gives b stream before after empty full (content old) (content new)))
   pub memory : clean new → IsErrOf result Memory → IfSome bytes (λ stream.
-      IsOutOfMemory gives b stream before after empty full (content old) (content new))
+      IsUnread gives b stream before after empty full (content old) (content new))
   pub read : clean new → IsErrOf result Read → IfSome bytes (λ stream.
       IsUnread gives b stream before after empty full (content old) (content new))
   pub write : clean new → IsErrOf result Write → IfSome bytes (λ stream.

@@ -1,6 +1,5 @@
 -- A request as it is heard: what it asks, and whether the connection ends after it.
-use Rattle.std.specs.Prelude.{◌≡◌, true, Option, Some, None, ⊤}
-use Rattle.byte_streams.specs.Words.{Bytes}
+use Rattle.std.specs.Prelude.{◌≡◌, ℕ, true, List, Option, Some, None, ⊤}
 use Rattle.http_heads.specs.Requests.{Next, asks, refused, ended, IsNext}
 use Rattle.http_answers.specs.Asking.{refuses, asked_of, IsAsked}
 use Rattle.http_answers.specs.Refusals.{number_of, refusal_of}
@@ -13,7 +12,7 @@ IsOfHead (refused status) = number_of (refusal_of status) ≡ status
 IsOfHead ended = ⊤
 
 -- a refusal ends the connection
-abbrev pub HearsNext : Next → Option Heard → Option Bytes → Type 0
+abbrev pub HearsNext : Next → Option Heard → Option (List ℕ) → Type 0
 HearsNext (asks ask rest) (Some heard) left = IsAsked (asked_of ask) heard.asked
     × (heard.closes ≡ ask.closes) × (left ≡ Some rest)
 HearsNext (asks ask rest) None left = ⊥
@@ -24,7 +23,7 @@ HearsNext ended (Some heard) left = ⊥
 HearsNext ended None left = Unit {0}
 
 -- the stream's next request is heard, and this is left
-pub record Hears (stream : Bytes) (heard : Option Heard) (left : Option Bytes) : Type 0 where
+pub record Hears (stream : List ℕ) (heard : Option Heard) (left : Option (List ℕ)) : Type 0 where
   pub next : Next
   pub is_next : IsNext stream next
   pub hears : HearsNext next heard left

@@ -1,6 +1,5 @@
 pub mod Clocks
 pub mod Faults
-pub mod Unaccepted
 pub mod Replies
 pub mod Told
 pub mod Connections

@@ -1,8 +1,6 @@
 -- A connection without a failure of memory or of the store: what is written, and what is accepted,
 -- is one function of the bytes that are read and of the clock's moments.
 use Rattle.std.specs.Prelude.{◌≡◌, ◌<◌, ℕ, zero, suc, Bool, true, List, [], Option}
-use Rattle.units.specs.Words.{Moment}
-use Rattle.byte_streams.specs.Words.{Bytes}
 use Rattle.shelves.specs.Shelves.{Shelf}
 use Rattle.charging.specs.Accepted.{Accepted}
 use Rattle.http_heads.specs.Requests.{Next, asks, refused, ended, IsNext}
@@ -11,9 +9,9 @@ use Rattle.http_api.specs.Replies.{Reply, IsDue}
 use Rattle.http_api.specs.Connections.{Connection, new_connection, after_reply, IsOver, Turns}
 
 -- a request gets what is due
-pub record GetsDue (b : Shelf) (asking : Asking) (closes : Bool) (rest : Bytes)
+pub record GetsDue (b : Shelf) (asking : Asking) (closes : Bool) (rest : List ℕ)
     (old new : Connection) : Type 0 where
-  pub moments : List (Option Moment)
+  pub moments : List (Option ℕ)
   pub reply : Reply
   pub due : IsDue b old.list asking moments reply
   pub after : new ≡ after_reply old closes rest moments reply
@@ -44,12 +42,12 @@ DueTurnsAreTurns = (b : Shelf) (n : ℕ) (first last : Connection) → DueTurns 
 
 -- the same stream, list of accepted commands and moments give the same text and list
 abbrev pub TextIsOne : Type 0
-TextIsOne = (b : Shelf) (n : ℕ) (stream : Bytes) (list : List Accepted) (x y : Connection) →
+TextIsOne = (b : Shelf) (n : ℕ) (stream : List ℕ) (list : List Accepted) (x y : Connection) →
     DueTurns b n (new_connection stream list) x → DueTurns b n (new_connection stream list) y →
     x.moments ≡ y.moments → (x.written ≡ y.written) × (x.list ≡ y.list)
 
 -- to its end a connection has one number of turns
 abbrev pub TurnsAreOne : Type 0
-TurnsAreOne = (b : Shelf) (n m : ℕ) (stream : Bytes) (list : List Accepted) (x y : Connection) →
+TurnsAreOne = (b : Shelf) (n m : ℕ) (stream : List ℕ) (list : List Accepted) (x y : Connection) →
     DueTurns b n (new_connection stream list) x → DueTurns b m (new_connection stream list) y →
     IsOver x → IsOver y → n ≡ m

@@ -3,9 +3,6 @@
 use Rattle.std.specs.Prelude.{◌≡◌, ◌≤◌, ℕ, Bool, true, false, if◌then◌else◌, List, [], ◌∷◌, length}
 use Rattle.std.specs.Prelude.{Option, Some, None, Result, Ok, Err, IsErrOf, OnOk, OnErr, ◌⊎◌}
 use Rattle.std.specs.Io.KnownBytes.{Appends}
-use Rattle.units.specs.Words.{Moment}
-use Rattle.byte_streams.specs.Words.{Bytes}
-use Rattle.http_heads.specs.Words.{StatusCode}
 use Rattle.byte_streams.specs.declared.StreamFault.{StreamFault}
 use Rattle.byte_streams.specs.declared.StreamFault.TheVariants.{Memory, Read}
 use Rattle.commands.specs.declared.answer.Answer.TheVariants.{Refused}
@@ -33,13 +30,13 @@ use Rattle.http_api.specs.Clocks.{GivesInTurn}
 
 -- an answer's status and body, what the body is, and the accepted commands after it
 pub record Reply : Type 0 where
-  pub status : StatusCode
+  pub status : ℕ
   pub media : Media
-  pub body : Bytes
+  pub body : List ℕ
   pub after : List Accepted
 
 -- a request that isn't accepted leaves the list
-abbrev pub refusal : List Accepted → StatusCode → Bytes → Reply
+abbrev pub refusal : List Accepted → ℕ → List ℕ → Reply
 refusal list code text = record { status = code; media = Json; body = text; after = list }
 
 -- no memory, no store or no clock
@@ -47,7 +44,7 @@ abbrev pub unserved : List Accepted → Reply
 unserved list = refusal list status.service_unavailable unable
 
 -- a command at the clock's moment; without one it isn't served
-abbrev pub reply_at : Shelf → List Accepted → Command → Option Moment → Reply
+abbrev pub reply_at : Shelf → List Accepted → Command → Option ℕ → Reply
 reply_at b list c None = unserved list
 reply_at b list c (Some t) = record {
   status = status.ok;
@@ -63,13 +60,13 @@ statement_media false = Json
 
 -- an account's statement by its history, as of a moment: all of its charges of the month, and its
 -- buckets by number
-abbrev pub statement_body : Shelf → StatementAsked → Moment → History → Bytes
+abbrev pub statement_body : Shelf → StatementAsked → ℕ → History → List ℕ
 statement_body b q t h = if h.opened
     then statement_text b.first q.account q.month t (charge_rows h.ledger)
     (by_number (buckets_at (validity_of b) t h.ledger))
     else answer_text (Refused AccountUnknown)
 
-abbrev pub statement_reply : Shelf → List Accepted → StatementAsked → Moment → History → Reply
+abbrev pub statement_reply : Shelf → List Accepted → StatementAsked → ℕ → History → Reply
 statement_reply b list q t h = record {
   status = status.ok;
   media = statement_media h.opened;
@@ -78,18 +75,18 @@ statement_reply b list q t h = record {
 }
 
 -- a statement at the clock's moment
-abbrev pub statement_at : Shelf → List Accepted → StatementAsked → Option Moment → Reply
+abbrev pub statement_at : Shelf → List Accepted → StatementAsked → Option ℕ → Reply
 statement_at b list q None = unserved list
 statement_at b list q (Some t) =
     statement_reply b list q (moment_of list t) (history b q.account list)
 
 -- the bytes of a reply
-abbrev pub reply_text : Bool → Reply → Bytes
+abbrev pub reply_text : Bool → Reply → List ℕ
 reply_text closes reply = response_of reply.media reply.status closes reply.body
 
 -- what is due, by what a request asks; the clock is asked once for a command or a statement, and
 -- for nothing else
-abbrev pub IsDue : Shelf → List Accepted → Asking → List (Option Moment) → Reply → Type 0
+abbrev pub IsDue : Shelf → List Accepted → Asking → List (Option ℕ) → Reply → Type 0
 IsDue b list (refuses code) moments reply = (moments ≡ []) × (reply ≡ refusal list code no_members)
 IsDue b list (reads (Err fault)) moments reply = (moments ≡ [])
     × (reply ≡ refusal list status.bad_request (fault_text fault))
@@ -99,7 +96,7 @@ IsDue b list (states q) moments reply = (m : Option ℕ) × (moments ≡ m ∷ [
     × (reply ≡ statement_at b list q m)
 
 -- how often the clock may be asked before memory or the store fails; a refusal takes neither
-abbrev pub MayAsk : Asking → List (Option Moment) → Type 0
+abbrev pub MayAsk : Asking → List (Option ℕ) → Type 0
 MayAsk (refuses code) moments = ⊥
 MayAsk (reads (Err fault)) moments = moments ≡ []
 MayAsk (reads (Ok c)) moments = length moments ≤ 1
@@ -107,7 +104,7 @@ MayAsk (states q) moments = length moments ≤ 1
 
 -- what is due; or 503 where memory or the store fails: then the request isn't accepted. A refusal
 -- takes neither, and is always told.
-abbrev pub IsReply : Shelf → List Accepted → Asking → List (Option Moment) → Reply → Type 0
+abbrev pub IsReply : Shelf → List Accepted → Asking → List (Option ℕ) → Reply → Type 0
 IsReply b list (refuses code) moments reply = IsDue b list (refuses code) moments reply
 IsReply b list (reads read) moments reply = IsDue b list (reads read) moments reply
     ⊎ (MayAsk (reads read) moments × (reply ≡ unserved list))
@@ -117,8 +114,8 @@ IsReply b list (states q) moments reply = IsDue b list (states q) moments reply
 -- ---- over a keeper
 
 -- the text is that of a reply, and the tables are those of the list after it
-pub record IsReplied (b : Shelf) (asking : Asking) (closes : Bool) (moments : List (Option Moment))
-    (text : Bytes) (content : Tables) (list : List Accepted) : Type 0 where
+pub record IsReplied (b : Shelf) (asking : Asking) (closes : Bool) (moments : List (Option ℕ))
+    (text : List ℕ) (content : Tables) (list : List Accepted) : Type 0 where
   pub reply : Reply
   pub is_reply : IsReply b list asking moments reply
   pub written : text ≡ reply_text closes reply
@@ -126,19 +123,18 @@ pub record IsReplied (b : Shelf) (asking : Asking) (closes : Bool) (moments : Li
   pub time : IsInTime reply.after
 
 -- what a request leaves: moments that the clock gave, a text that is written, and tables
-pub record Replies {C : Type 0} (gives : C → Option Moment → C → Type 0) (b : Shelf)
-    (asking : Asking) (closes : Bool) (before after : C) (Writes : Bytes → Type 0)
-    (old new : Tables) : Type 0 where
-  pub moments : List (Option Moment)
+pub record Replies {C : Type 0} (gives : C → Option ℕ → C → Type 0) (b : Shelf) (asking : Asking)
+    (closes : Bool) (before after : C) (Writes : List ℕ → Type 0) (old new : Tables) : Type 0 where
+  pub moments : List (Option ℕ)
   pub given : GivesInTurn gives before moments after
-  pub text : Bytes
+  pub text : List ℕ
   pub written : Writes text
   pub replied : ForEachList b old (IsReplied b asking closes moments text new)
 
 -- what is told of tables and of those after them, over a store that may not be asked any more: of
 -- the tables at the last moment at which it could be asked
-pub record ShowsReply {A : Type 0} (Told : (Bytes → Type 0) → Tables → Tables → Type 0)
-    (empty full : Option Bytes) (held : Tables) (Now : Tables → Type 0)
+pub record ShowsReply {A : Type 0} (Told : (List ℕ → Type 0) → Tables → Tables → Type 0)
+    (empty full : Option (List ℕ)) (held : Tables) (Now : Tables → Type 0)
     (result : Result A StreamFault) : Type 0 where
   pub next : Tables
   pub now : Now next
@@ -146,16 +142,16 @@ pub record ShowsReply {A : Type 0} (Told : (Bytes → Type 0) → Tables → Tab
   pub err : OnErr result (Told (Begins empty full) held next)
 
 -- so it is over an honest keeper, from any tables on that are the keeper's where it is clean
-abbrev pub Shows : {A K : Type 0} → ((Bytes → Type 0) → Tables → Tables → Type 0) → Option Bytes →
-    Option Bytes → (K → Tables) → (K → Type 0) → (K → Type 0) → K → K → Result A StreamFault →
-    Type 0
+abbrev pub Shows : {A K : Type 0} → ((List ℕ → Type 0) → Tables → Tables → Type 0) →
+    Option (List ℕ) → Option (List ℕ) → (K → Tables) → (K → Type 0) → (K → Type 0) → K → K →
+    Result A StreamFault → Type 0
 Shows Told empty full content honest clean old new result =
     honest new → (held : Tables) → (clean old → held ≡ content old) →
     ShowsReply Told empty full held (λ t. clean new → t ≡ content new) result
 
 -- what answering a request leaves, whatever it asks: nothing is written where memory is refused, no
 -- reader fails, and the accepted commands go on
-pub record GoesOn {A K : Type 0} (b : Shelf) (empty full : Option Bytes) (content : K → Tables)
+pub record GoesOn {A K : Type 0} (b : Shelf) (empty full : Option (List ℕ)) (content : K → Tables)
     (failed : K → ℕ) (honest clean : K → Type 0) (leaves : K → Tables → Type 0) (old new : K)
     (result : Result A StreamFault) : Type 0 where
   pub unwritten : IsErrOf result Memory → full ≡ empty

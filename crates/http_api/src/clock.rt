@@ -1,5 +1,3 @@
-//! What tells the time of requests.
-
 ghost use Rattle.std.specs.Prelude.{◌≡◌, ℕ, Option, Some};
 
 use units::Moment;

@@ -1,5 +1,3 @@
-//! A request taken off a stream, with what it asks.
-
 ghost use Rattle.std.specs.Prelude.{◌≡◌, ◌≤◌, ◌*◌, ℕ, List, Option, length, IfOk, IsErrOf, IfSome};
 ghost use Rattle.http_heads.specs.Requests.{Next, Tells, seen};
 ghost use Rattle.http_answers.specs.Routes.{table};

@@ -6,7 +6,6 @@ mod answering;
 mod clock;
 mod fault;
 mod hearing;
-mod joining;
 mod laws;
 mod patient_socket;
 mod serving;
@@ -16,7 +15,6 @@ mod telling;
 
 pub use crate::clock::{Clock, FixedClock};
 pub use crate::fault::ServeFault;
-pub use crate::joining::MAX_WAITING;
 pub use crate::laws::text_is_one;
 pub use crate::patient_socket::REQUEST_SECONDS;
 pub use crate::serving::{MAX_REQUESTS, Served, serve};

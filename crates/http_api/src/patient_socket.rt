@@ -1,8 +1,6 @@
-//! A socket that doesn't wait for a request that comes byte by byte, and whose answers leave
-//! together where more requests have come already.
+//! A socket that doesn't wait for a request that comes byte by byte.
 
-use crate::joining::{join, write_waiting};
-use std::cell::{Cell, RefCell};
+use std::cell::Cell;
 use std::io::{self, ErrorKind, Read, Write};
 use std::net::TcpStream;
 use std::time::{Duration, Instant};
@@ -10,70 +8,20 @@ use std::time::{Duration, Instant};
 /// How long the bytes of a request may take from its first ones, in seconds (profile).
 pub const REQUEST_SECONDS: u64 = 60;
 
-/// The answers of a socket that aren't written yet, and whether a write of them failed.
-#[derive(Drop)]
-pub(crate) struct JoinedAnswers<'s> {
-    pub(crate) stream: &'s TcpStream,
-    pub(crate) waiting: RefCell<Vec<u8>>,
-    pub(crate) failed: Cell<bool>,
-}
-
 /// What is read of a socket, with the moment at which the bytes of a request began to come: those
-/// that are read first after an answer. A read fails once they have taken longer than they may. The
-/// answers that wait are written before it: the peer may wait for them, too.
+/// that are read first after an answer. A read fails once they have taken longer than they may.
 #[derive(Drop)]
 pub(crate) struct PatientReader<'s, 'b> {
     pub(crate) rt: HostRuntime,
+    pub(crate) stream: &'s TcpStream,
     pub(crate) begun: &'b Cell<Option<Instant>>,
-    pub(crate) answers: &'b JoinedAnswers<'s>,
 }
 
-/// What is written to that socket: it waits until the socket is read again, or there is no room for
-/// more. After it the next request may begin.
+/// What is written to that socket. After it the next request may begin.
 #[derive(Drop)]
 pub(crate) struct PatientWriter<'s, 'b> {
+    pub(crate) stream: &'s TcpStream,
     pub(crate) begun: &'b Cell<Option<Instant>>,
-    pub(crate) answers: &'b JoinedAnswers<'s>,
-}
-
-impl<'s> JoinedAnswers<'s> {
-    ghost use Rattle.std.specs.Prelude.{◌≡◌, length, IfOk};
-
-    /// Adds bytes to those that wait, and answers how many there are; where they find no room, all
-    /// are written.
-    fn add(&self, bytes: &[u8]) -> io::Result<usize>
-        ensures { IfOk result (λ count. count ≡ length bytes.now) }
-    {
-        let Ok(mut waiting) = self.waiting.try_borrow_mut() else {
-            return Err(io::Error::from(ErrorKind::Other));
-        };
-        let mut stream = self.stream;
-        match join(&mut stream, &mut waiting, bytes) {
-            Ok(()) => Ok(bytes.len()),
-            Err(_) => Err(self.failure()),
-        }
-    }
-
-    /// Writes those that wait; no more once a write failed.
-    pub(crate) fn write(&self) -> io::Result<()> {
-        if self.failed.get() {
-            return Err(io::Error::from(ErrorKind::Other));
-        }
-        let Ok(mut waiting) = self.waiting.try_borrow_mut() else {
-            return Err(io::Error::from(ErrorKind::Other));
-        };
-        let mut stream = self.stream;
-        match write_waiting(&mut stream, &mut waiting) {
-            Ok(()) => Ok(()),
-            Err(_) => Err(self.failure()),
-        }
-    }
-
-    /// Sees that a write failed.
-    fn failure(&self) -> io::Error {
-        self.failed.set(true);
-        io::Error::from(ErrorKind::Other)
-    }
 }
 
 impl<'s, 'b> PatientReader<'s, 'b> {
@@ -99,8 +47,7 @@ impl<'s, 'b> Read for PatientReader<'s, 'b> {
         if self.is_late()? {
             return Err(io::Error::from(ErrorKind::TimedOut));
         }
-        self.answers.write()?;
-        let count = (&mut &*self.answers.stream).read(buf)?;
+        let count = (&mut &*self.stream).read(buf)?;
         self.begin()?;
         Ok(count)
     }
@@ -109,10 +56,10 @@ impl<'s, 'b> Read for PatientReader<'s, 'b> {
 impl<'s, 'b> Write for PatientWriter<'s, 'b> {
     fn write(&mut self, buf: &[u8]) -> io::Result<usize> {
         self.begun.set(None);
-        self.answers.add(buf)
+        (&mut &*self.stream).write(buf)
     }
 
     fn flush(&mut self) -> io::Result<()> {
-        self.answers.write()
+        (&mut &*self.stream).flush()
     }
 }

@@ -1,5 +1,3 @@
-//! The requests of a connection, one after another.
-
 ghost use Rattle.std.specs.Prelude.{◌≡◌, ◌≤◌, ◌<◌, ◌+◌, ◌*◌, length};
 ghost use Rattle.http_answers.specs.Routes.{table};
 ghost use Rattle.http_api.specs.Connections.{left_after, ServesConnection};
@@ -33,8 +31,8 @@ pub struct Served {
 /// dated commands.
 ///
 /// # Errors
-/// `Memory` where a growth was refused for a head, a body or the text of an answer that an accepted
-/// command may get; `Read` where the reader failed: then all answers are written; `Write` where the
+/// `Memory` where a growth was refused for a head or a body, `Read` where the reader failed: then all
+/// answers are written, and nothing is done for the next request; `Write` where the
 /// writer did: then all but the last are, and a beginning of that. What was accepted stays so.
 pub fn serve<R: Read, W: Write, K: ChargeSource, C: Clock>(
     alloc: Global,

@@ -1,15 +1,13 @@
-//! The requests of a socket.
-
 ghost use Rattle.std.specs.Prelude.{◌≡◌, ◌≤◌, IfOk};
 ghost use Rattle.charging.specs.Continued.{Continues, LeavesOn};
 
 use crate::clock::Clock;
 use crate::fault::ServeFault;
-use crate::patient_socket::{JoinedAnswers, PatientReader, PatientWriter};
+use crate::patient_socket::{PatientReader, PatientWriter};
 use crate::serving::{Served, serve};
 use charge_sources::ChargeSource;
 use shelves::TariffShelf;
-use std::cell::{Cell, RefCell};
+use std::cell::Cell;
 use std::io;
 use std::net::TcpStream;
 use std::time::Duration;
@@ -22,13 +20,8 @@ pub const SOCKET_SECONDS: u64 = 30;
 /// of a request, so that a peer that sends byte by byte keeps the next one waiting for no more than
 /// 90 seconds.
 ///
-/// Where more requests have come already (RFC 9112 section 9.3.2) their answers are written
-/// together: an answer waits until the socket is read again, or the connection ends, or more than
-/// 8,192 bytes would wait.
-///
 /// # Errors
-/// As `serve`, and `Read` where the socket can't be set so; then nothing is read. `Write` where the
-/// socket failed as answers were written together: then a beginning of all answers is written.
+/// As `serve`, and `Read` where the socket can't be set so; then nothing is read.
 pub fn serve_socket<K: ChargeSource, C: Clock>(
     rt: &HostRuntime,
     stream: &TcpStream,
@@ -47,43 +40,15 @@ pub fn serve_socket<K: ChargeSource, C: Clock>(
     if limit(stream).is_err() {
         return Err(ServeFault::Read);
     }
-    let answers = JoinedAnswers {
-        stream,
-        waiting: RefCell::new(Vec::new(rt.alloc())),
-        failed: Cell::new(false),
-    };
-    let served = serve_joined(rt, &answers, keeper, shelf, clock);
-    match answers.write() {
-        Ok(()) => served,
-        Err(_) => Err(ServeFault::Write),
-    }
-}
-
-/// Serves the requests of a socket that is set, whose answers wait for each other.
-fn serve_joined<K: ChargeSource, C: Clock>(
-    rt: &HostRuntime,
-    answers: &JoinedAnswers<'_>,
-    keeper: &mut K,
-    shelf: &TariffShelf,
-    clock: &mut C,
-) -> Result<Served, ServeFault>
-    ensures bounded { IfOk result (λ done. done.requests ≤ 1000) }
-    ensures continued { K.clean keeper.new →
-        Continues shelf.now (K.content keeper.old) (K.content keeper.new) }
-    ensures cleanness { K.clean keeper.new → K.clean keeper.old }
-    ensures honesty { K.honest keeper.new → K.honest keeper.old }
-    ensures left { LeavesOn K.content K.honest K.clean K.left shelf.now keeper.old keeper.new }
-    ensures failures { K.failed keeper.old ≤ K.failed keeper.new }
-{
     let begun = Cell::new(None);
     let mut reader = PatientReader {
         rt: *rt,
+        stream,
         begun: &begun,
-        answers,
     };
     let mut writer = PatientWriter {
+        stream,
         begun: &begun,
-        answers,
     };
     serve(rt.alloc(), &mut reader, &mut writer, keeper, shelf, clock)
 }

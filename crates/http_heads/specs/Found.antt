@@ -1,6 +1,5 @@
 -- The fields of a name, as they are found.
 use Rattle.std.specs.Prelude.{◌≡◌, ◌≤◌, ℕ, List, [], ◌∷◌, length}
-use Rattle.byte_streams.specs.Words.{Bytes}
 use Rattle.httparse.specs.Spans.{IsWithin, span_bytes}
 use Rattle.http_heads.specs.declared.fields.Found.{Found}
 use Rattle.http_heads.specs.declared.fields.Found.TheVariants.{None, One, Many}
@@ -12,7 +11,7 @@ FoundWithin n (One span) = IsWithin n span
 FoundWithin n Many = Unit {0}
 
 -- none, one or more of these values
-abbrev pub IsFound : Bytes → List Bytes → Found → Type 0
+abbrev pub IsFound : List ℕ → List (List ℕ) → Found → Type 0
 IsFound part values None = values ≡ []
 IsFound part values (One span) = values ≡ span_bytes part span ∷ []
 IsFound part values Many = 2 ≤ length values

@@ -5,4 +5,3 @@ pub mod Fields
 pub mod Found
 pub mod Requests
 pub mod Shortest
-pub mod Words

@@ -3,7 +3,6 @@
 use Rattle.std.specs.Prelude.{◌≡◌, ◌≤◌, ℕ, Bool, List, [], ◌∷◌, ◌++◌, length, if◌then◌else◌, nat_lt}
 use Rattle.std.specs.Prelude.{nat_eq, Option, Some}
 use Rattle.std.specs.List.{ends_with}
-use Rattle.byte_streams.specs.Words.{Bytes}
 use Rattle.http_heads.specs.declared.head_part.HeadPart.{HeadPart}
 use Rattle.http_heads.specs.declared.head_part.HeadPart.TheVariants as head_part
 
@@ -14,11 +13,11 @@ pub data Part : Type 0 where
   too_long cut : Part
 
 -- the bytes end with an empty line: CR LF CR LF
-abbrev pub ends_head : Bytes → Bool
+abbrev pub ends_head : List ℕ → Bool
 ends_head bytes = ends_with nat_eq bytes (13 ∷ 10 ∷ 13 ∷ 10 ∷ [])
 
 -- the head part that these bytes begin and the rest goes on with
-abbrev pub part_after : Bytes → Bytes → Part
+abbrev pub part_after : List ℕ → List ℕ → Part
 part_after taken [] = if nat_lt (length taken) 8192 then cut else too_long
 part_after taken (b ∷ bytes) =
     if nat_lt (length taken) 8192
@@ -27,13 +26,13 @@ part_after taken (b ∷ bytes) =
     else too_long
 
 -- what a stream begins with
-abbrev pub first_part : Bytes → Part
+abbrev pub first_part : List ℕ → Part
 first_part stream = part_after [] stream
 
 -- ---- as it is told
 
 -- this part is told, and what follows a head part is left
-abbrev pub IsHeadPart : Part → HeadPart → Option Bytes → Type 0
+abbrev pub IsHeadPart : Part → HeadPart → Option (List ℕ) → Type 0
 IsHeadPart (whole part rest) (head_part.Whole bytes) left = (bytes.items ≡ part)
     × (left ≡ Some rest)
 IsHeadPart (whole part rest) head_part.TooLong left = ⊥

@@ -1,7 +1,6 @@
 -- The next request of a stream, or why there is none.
 use Rattle.std.specs.Prelude.{◌≡◌, ℕ, Bool, List, [], map, length, take, drop, nat_lt}
 use Rattle.std.specs.Prelude.{if◌then◌else◌, Option, Some, None, Result, Ok, Err, ◌⊎◌, string_bytes}
-use Rattle.byte_streams.specs.Words.{Bytes}
 use Rattle.httparse.specs.Grammar.{RequestHead, ReadsRequest}
 use Rattle.httparse.specs.Spans.{name_and_value}
 use Rattle.http_heads.specs.declared.head.Head.{Head}
@@ -14,10 +13,10 @@ use Rattle.http_heads.specs.Fields.{Fields, body_length, closes}
 
 -- what a request asks, and whether it ends the connection
 pub record Ask : Type 0 where
-  pub method : Bytes
-  pub target : Bytes
+  pub method : List ℕ
+  pub target : List ℕ
   pub closes : Bool
-  pub body : Bytes
+  pub body : List ℕ
 
 -- a request and the bytes after it, a refusal, or the stream's end before a request's
 pub data Next : Type 0 where
@@ -28,7 +27,7 @@ pub data Next : Type 0 where
 -- ---- a head
 
 -- the head part as a whole is this head (RFC 9112 sections 3 and 5)
-abbrev pub IsHead : Bytes → RequestHead → Type 0
+abbrev pub IsHead : List ℕ → RequestHead → Type 0
 IsHead part head = ReadsRequest part head []
 
 -- the names and the values of its fields
@@ -38,7 +37,7 @@ fields_of head = map name_and_value head.fields
 abbrev pub length_of : RequestHead → Result ℕ ℕ
 length_of head = body_length head.method (fields_of head)
 
-abbrev pub ask_of : RequestHead → Bytes → Ask
+abbrev pub ask_of : RequestHead → List ℕ → Ask
 ask_of head body = record {
   method = head.method;
   target = head.target;
@@ -49,12 +48,12 @@ ask_of head body = record {
 -- ---- what follows
 
 -- the body is the next so many bytes
-abbrev pub after_length : RequestHead → Result ℕ ℕ → Bytes → Next
+abbrev pub after_length : RequestHead → Result ℕ ℕ → List ℕ → Next
 after_length head (Err status) rest = refused status
 after_length head (Ok n) rest =
     if nat_lt (length rest) n then ended else asks (ask_of head (take n rest)) (drop n rest)
 
-abbrev pub after_head : RequestHead → Bytes → Next
+abbrev pub after_head : RequestHead → List ℕ → Next
 after_head head rest = after_length head (length_of head) rest
 
 -- a head part that is no head is refused
@@ -65,7 +64,7 @@ IsNextOf (whole part rest) next =
 IsNextOf too_long next = next ≡ refused fields_too_large
 IsNextOf cut next = next ≡ ended
 
-abbrev pub IsNext : Bytes → Next → Type 0
+abbrev pub IsNext : List ℕ → Next → Type 0
 IsNext stream next = IsNextOf (first_part stream) next
 
 -- ---- as it is told
@@ -77,7 +76,7 @@ pub record IsHeadOf (head : RequestHead) (told : Head) : Type 0 where
   pub closes : told.closes ≡ closes head.minor (fields_of head)
 
 -- the head that a head part is, or that it is none
-abbrev pub IsHeadIn : Bytes → Option Head → Type 0
+abbrev pub IsHeadIn : List ℕ → Option Head → Type 0
 IsHeadIn part (Some told) = (head : RequestHead) × IsHead part head × IsHeadOf head told
 IsHeadIn part None = (head : RequestHead) → ¬ (IsHead part head)
 
@@ -87,7 +86,7 @@ pub record IsRequest (ask : Ask) (told : Request) : Type 0 where
   pub closes : told.closes ≡ ask.closes
   pub body : told.body.items ≡ ask.body
 
-abbrev pub Tells : Next → Taken → Option Bytes → Type 0
+abbrev pub Tells : Next → Taken → Option (List ℕ) → Type 0
 Tells (asks ask rest) (taken.Request told) left = IsRequest ask told × (left ≡ Some rest)
 Tells (asks ask rest) (taken.Refused status) left = ⊥
 Tells (asks ask rest) taken.Ended left = ⊥
@@ -99,7 +98,7 @@ Tells ended (taken.Refused status) left = ⊥
 Tells ended taken.Ended left = Unit {0}
 
 -- the request that the part begins is told, and what follows it is left
-pub record TellsNext (part : Part) (told : Taken) (left : Option Bytes) : Type 0 where
+pub record TellsNext (part : Part) (told : Taken) (left : Option (List ℕ)) : Type 0 where
   pub next : Next
   pub is_next : IsNextOf part next
   pub tells : Tells next told left

@@ -2,7 +2,6 @@
 -- Source: RFC 9110 section 15; 431: RFC 6585 section 5.
 use Rattle.std.specs.Prelude.{ℕ, ◌==◌, List, [], ◌∷◌, IsTrue}
 use Rattle.std.specs.List.{list_any}
-use Rattle.http_heads.specs.Words.{StatusCode}
 
 -- the request is answered
 abbrev pub ok : ℕ
@@ -46,5 +45,5 @@ answer_statuses = ok ∷ bad_request ∷ not_found ∷ method_not_allowed ∷ le
     ∷ payload_too_large ∷ fields_too_large ∷ not_implemented ∷ service_unavailable ∷ []
 
 -- the status is one of the nine
-abbrev pub IsAnswerStatus : StatusCode → Type 0
+abbrev pub IsAnswerStatus : ℕ → Type 0
 IsAnswerStatus status = IsTrue (list_any (λ s. s == status) answer_statuses)

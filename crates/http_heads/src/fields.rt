@@ -1,5 +1,3 @@
-//! The fields of a head, and the length of a body.
-
 ghost use Rattle.std.specs.Prelude.{◌≡◌, ◌<◌, ◌≤◌, ◌++◌, ◌∷◌, [], List, ℕ, true, length, map, All};
 ghost use Rattle.std.specs.Prelude.{Some, count_by};
 ghost use Rattle.std.specs.List.{list_all};

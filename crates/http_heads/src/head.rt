@@ -1,5 +1,3 @@
-//! What a head says.
-
 ghost use Rattle.std.specs.Prelude.{◌≡◌, ◌≤◌, ◌*◌, List, ℕ, length, IfOk, IfSome, IfNone};
 ghost use Rattle.http.specs.Token.{IsToken};
 ghost use Rattle.httparse.specs.Grammar.{RequestHead};

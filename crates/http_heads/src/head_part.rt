@@ -1,5 +1,3 @@
-//! The bytes of a head, taken off a stream.
-
 ghost use Rattle.std.specs.Prelude.{◌≡◌, ◌≤◌, IfOk, IsErrOf, IfSome};
 ghost use Rattle.http_heads.specs.Parts.{first_part, IsHeadPart, IsShort};
 

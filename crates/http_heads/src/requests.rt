@@ -1,5 +1,3 @@
-//! A request with its body, taken off a stream.
-
 ghost use Rattle.std.specs.Prelude.{◌≡◌, ◌≤◌, ◌*◌, length, IfOk, IsErrOf, IfSome};
 ghost use Rattle.httparse.specs.Grammar.{RequestHead};
 ghost use Rattle.http_heads.specs.Parts.{Part, whole, first_part, IsHeadPart, IsShort};

@@ -1,5 +1,3 @@
-//! The number of an account.
-
 ghost use Rattle.std.specs.Prelude.{◌≡◌, IfOk, Some, None, IsTrue, if◌then◌else◌};
 ghost use Rattle.identifiers.specs.Texts.{is_account_number};
 

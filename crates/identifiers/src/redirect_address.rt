@@ -1,5 +1,3 @@
-//! The address to which a user is sent.
-
 ghost use Rattle.std.specs.Prelude.{◌≡◌, IfOk, Some, None, IsTrue, if◌then◌else◌};
 ghost use Rattle.identifiers.specs.Texts.{is_redirect_address};
 

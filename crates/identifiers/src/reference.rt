@@ -1,5 +1,3 @@
-//! An operator's name for a command.
-
 ghost use Rattle.std.specs.Prelude.{◌≡◌, IfOk, Some, None, IsTrue, if◌then◌else◌};
 ghost use Rattle.identifiers.specs.Texts.{is_reference};
 

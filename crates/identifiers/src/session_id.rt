@@ -1,5 +1,3 @@
-//! The name of a session.
-
 ghost use Rattle.std.specs.Prelude.{◌≡◌, IfOk, Some, None, IsTrue, if◌then◌else◌};
 ghost use Rattle.identifiers.specs.Texts.{is_session_id};
 

@@ -1,5 +1,3 @@
-//! Bytes and digits of names.
-
 ghost use Rattle.std.specs.Prelude.{◌≡◌};
 ghost use Rattle.std.specs.List.{list_all};
 ghost use Rattle.identifiers.specs.Texts.{is_visible, is_digit};

@@ -1,5 +1,3 @@
-//! The code of a voucher.
-
 ghost use Rattle.std.specs.Prelude.{◌≡◌, IfOk, Some, None, IsTrue, if◌then◌else◌};
 ghost use Rattle.identifiers.specs.Texts.{is_voucher_code};
 

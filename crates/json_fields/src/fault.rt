@@ -1,5 +1,3 @@
-//! Why a text was not read.
-
 ghost use Rattle.std.specs.Prelude.{◌≡◌};
 ghost use Rattle.json_fields.specs.declared.fault.WireFault.TheVariants.{Memory};
 

@@ -1,5 +1,3 @@
-//! Members of a JSON object, each with its kind and range.
-
 ghost use Rattle.std.specs.Prelude.{◌≡◌, ◌≤◌, ◌↔◌, List, [], Result, IfOk, IfSome, IsTrue};
 ghost use Rattle.serde_json.specs.Data.{Data};
 ghost use Rattle.serde_json.specs.View.{view, items_view};

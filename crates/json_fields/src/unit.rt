@@ -1,5 +1,3 @@
-//! The members that count units.
-
 ghost use Rattle.std.specs.Prelude.{◌≡◌, ◌≤◌, ◌&&◌, nat_le, IfOk};
 ghost use Rattle.serde_json.specs.View.{view};
 ghost use Rattle.commands.specs.Quantities.{most_units};

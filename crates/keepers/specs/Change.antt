@@ -1,12 +1,8 @@
 -- What a keeper loads of an account, and what a commit and a sweep leave.
 -- Source: profile.
-use Rattle.std.specs.Prelude.{◌≡◌, ◌+◌, ◌==◌, ◌≤◌, ◌||◌, Bool, false, not, Option}
+use Rattle.std.specs.Prelude.{◌≡◌, ℕ, ◌+◌, ◌==◌, ◌≤◌, ◌||◌, Bool, false, not, Option}
 use Rattle.std.specs.Prelude.{Some, None, List, is_some, option_map, if◌then◌else◌}
 use Rattle.std.specs.List.Sorted.{IsNonDecreasingBy}
-use Rattle.units.specs.Words.{Moment, GroupId, CycleNumber}
-use Rattle.identifiers.specs.Words.{SessionName, AccountName, VoucherCode}
-use Rattle.buckets.specs.Words.{BucketNumber, BucketAmount}
-use Rattle.reserving.specs.Words.{ChargeNumber}
 use Rattle.identifiers.specs.Texts.{same_name}
 use Rattle.buckets.specs.Row.{Row}
 use Rattle.shelves.specs.Shelves.{Shelf}
@@ -39,47 +35,44 @@ has_reservation None = false
 has_reservation (Some r) = is_some r.terms
 
 -- a group's row and what is held there are loaded
-abbrev pub is_loaded : Rows → SessionName → GroupId → Bool
+abbrev pub is_loaded : Rows → List ℕ → ℕ → Bool
 is_loaded r s g = is_open_row (r.sessions s) || has_reservation (r.groups s g)
 
 -- the account is what may still change at the moment: the buckets that aren't dead, the open
 -- sessions, what they have of groups and whatever holds a reservation, and the counters of the
 -- cycles at the moment
-pub record IsLoadedFrom (shelf : Shelf) (t : Moment) (r : Rows) (a : AccountRows) : Type 0 where
+pub record IsLoadedFrom (shelf : Shelf) (t : ℕ) (r : Rows) (a : AccountRows) : Type 0 where
   pub priced_by : a.shelf ≡ shelf
   pub head : r.head ≡ Some (head_of (stored a))
-  pub buckets : (n : BucketNumber) →
-      bucket_in n a.buckets ≡ only (λ b. not (is_dead b)) (r.buckets n)
-  pub sessions : (s : SessionName) →
-      session_in s a.sessions ≡ only (λ x. is_open x.state) (r.sessions s)
-  pub groups : (s : SessionName) (g : GroupId) → option_map group_row (group_in s g a.groups) ≡
+  pub buckets : (n : ℕ) → bucket_in n a.buckets ≡ only (λ b. not (is_dead b)) (r.buckets n)
+  pub sessions : (s : List ℕ) → session_in s a.sessions ≡ only (λ x. is_open x.state) (r.sessions s)
+  pub groups : (s : List ℕ) (g : ℕ) → option_map group_row (group_in s g a.groups) ≡
       (if is_loaded r s g then r.groups s g else None)
-  pub holds : (s : SessionName) (g : GroupId) (n : BucketNumber) →
-      held_of n (group_in s g a.groups) ≡
+  pub holds : (s : List ℕ) (g n : ℕ) → held_of n (group_in s g a.groups) ≡
       (if is_loaded r s g then r.holds s g n else 0)
-  pub counters : (g : GroupId) (c : CycleNumber) → counter_in g c a.counters ≡
+  pub counters : (g c : ℕ) → counter_in g c a.counters ≡
       (if c == cycle_at shelf g t then r.counters g c else None)
 
-abbrev pub IsLoad : Shelf → Moment → AccountName → Rows → Option Loaded → Type 0
+abbrev pub IsLoad : Shelf → ℕ → List ℕ → Rows → Option Loaded → Type 0
 IsLoad shelf t n r None = r.head ≡ None
 IsLoad shelf t n r (Some l) = (l.number ≡ n) × IsLoadedFrom shelf t r l.account
     × (l.before ≡ stored l.account)
 
 -- the same without a copy of what was loaded
-abbrev pub IsView : Shelf → Moment → Rows → Option AccountRows → Type 0
+abbrev pub IsView : Shelf → ℕ → Rows → Option AccountRows → Type 0
 IsView shelf t r None = r.head ≡ None
 IsView shelf t r (Some a) = IsLoadedFrom shelf t r a
 
 -- the buckets that can't be used any more, each once, in the order of their numbers
 pub record AreDeadOf (r : Rows) (rows : List Row) : Type 0 where
-  pub found : (n : BucketNumber) → bucket_in n rows ≡ only is_dead (r.buckets n)
+  pub found : (n : ℕ) → bucket_in n rows ≡ only is_dead (r.buckets n)
   pub apart : AreApart same_bucket rows
   pub order : IsNonDecreasingBy (λ b. b.number) rows
 
 -- ---- a commit
 
 -- what is held of a bucket, where a change may name the group
-abbrev pub held_over : BucketNumber → Option SessionGroup → BucketAmount → BucketAmount
+abbrev pub held_over : ℕ → Option SessionGroup → ℕ → ℕ
 held_over n None before = before
 held_over n (Some r) before = held_of n (Some r)
 
@@ -100,7 +93,7 @@ kept_after None k before = before
 kept_after (Some kept) k before = if same_key (key_of kept.content) k then Some kept else before
 
 -- what stands under a code once a voucher was redeemed
-abbrev pub redeemed_over : Option Redeemed → VoucherCode → Option Voucher → Option Voucher
+abbrev pub redeemed_over : Option Redeemed → List ℕ → Option Voucher → Option Voucher
 redeemed_over None code before = before
 redeemed_over (Some redeemed) code before =
     if same_name redeemed.code code then Some redeemed.voucher else before
@@ -121,7 +114,7 @@ changed change tables = record {
 -- ---- a voucher that is added
 
 -- an unspent voucher stands under the code, from the moment on
-abbrev pub with_voucher : VoucherCode → VoucherTerms → Moment → Tables → Tables
+abbrev pub with_voucher : List ℕ → VoucherTerms → ℕ → Tables → Tables
 with_voucher code terms moment tables = record {
   last = moment;
   rows = tables.rows;
@@ -134,7 +127,7 @@ with_voucher code terms moment tables = record {
 -- ---- a sweep
 
 -- from each ledger whose rows the account has at a moment, its rows at the later one
-pub record AreRowsAt (shelf : Shelf) (ledger : Ledger) (t : Moment) (r : Rows) : Type 0 where
+pub record AreRowsAt (shelf : Shelf) (ledger : Ledger) (t : ℕ) (r : Rows) : Type 0 where
   pub listed : StoredRows
   pub are : AreListed listed r
   pub kept : IsStored listed
@@ -143,18 +136,18 @@ pub record AreRowsAt (shelf : Shelf) (ledger : Ledger) (t : Moment) (r : Rows) :
 
 -- from any list of an account's rows that isn't of a later moment, of no ledger too: its rows at
 -- the moment
-abbrev pub AreBroughtTo : Shelf → Moment → Rows → Rows → Type 0
+abbrev pub AreBroughtTo : Shelf → ℕ → Rows → Rows → Type 0
 AreBroughtTo shelf t old new = (w : StoredRows) → AreListed w old → IsStored w → w.as_of ≤ t →
     AreListed (advanced_stored shelf t w) new
 
-pub record IsSwept (shelf : Shelf) (t : Moment) (old new : Tables) : Type 0 where
+pub record IsSwept (shelf : Shelf) (t : ℕ) (old new : Tables) : Type 0 where
   pub last : new.last ≡ t
-  pub none : (a : AccountName) → (old.rows a).head ≡ None → new.rows a ≡ old.rows a
-  pub rows : (a : AccountName) (ledger : Ledger) (u : Moment) → u ≤ t →
+  pub none : (a : List ℕ) → (old.rows a).head ≡ None → new.rows a ≡ old.rows a
+  pub rows : (a : List ℕ) (ledger : Ledger) (u : ℕ) → u ≤ t →
       AreRowsAt shelf ledger u (old.rows a) →
       AreRowsAt shelf ledger t (new.rows a)
-  pub listed : (a : AccountName) → AreBroughtTo shelf t (old.rows a) (new.rows a)
-  pub answers : (a : AccountName) (k : Key) → new.answers a k ≡ old.answers a k
-  pub charges : (a : AccountName) (n : ChargeNumber) → new.charges a n ≡ old.charges a n
-  pub vouchers : (code : VoucherCode) → new.vouchers code ≡ old.vouchers code
+  pub listed : (a : List ℕ) → AreBroughtTo shelf t (old.rows a) (new.rows a)
+  pub answers : (a : List ℕ) (k : Key) → new.answers a k ≡ old.answers a k
+  pub charges : (a : List ℕ) (n : ℕ) → new.charges a n ≡ old.charges a n
+  pub vouchers : (code : List ℕ) → new.vouchers code ≡ old.vouchers code
   pub count : new.count ≡ old.count

@@ -1,11 +1,8 @@
 -- Rows that differ from those before: a change names them alone.
 -- Source: profile.
-use Rattle.std.specs.Prelude.{◌≡◌, ◌==◌, ◌&&◌, Bool, true, false, Option, Some}
+use Rattle.std.specs.Prelude.{◌≡◌, ℕ, ◌==◌, ◌&&◌, Bool, true, false, List, Option, Some}
 use Rattle.std.specs.Prelude.{None}
 use Rattle.std.specs.Cmp.Lexicographic.{pointwise}
-use Rattle.units.specs.Words.{GroupId, CycleNumber}
-use Rattle.identifiers.specs.Words.{SessionName}
-use Rattle.buckets.specs.Words.{BucketNumber}
 use Rattle.buckets.specs.declared.holds.Hold.{Hold}
 use Rattle.buckets.specs.Row.{Row}
 use Rattle.rating.specs.declared.grant.Periods.{Periods}
@@ -29,7 +26,7 @@ use Rattle.keepers.specs.Naming.{AreRowsApart}
 
 -- ---- rows that are equal
 
-abbrev pub same_scope : Option GroupId → Option GroupId → Bool
+abbrev pub same_scope : Option ℕ → Option ℕ → Bool
 same_scope None None = true
 same_scope (Some x) (Some y) = x == y
 same_scope x y = false
@@ -91,18 +88,14 @@ named_rows before after = record after {
 
 -- rows that were loaded are there
 pub record AreThere (before : StoredRows) (r : Rows) : Type 0 where
-  pub buckets : (n : BucketNumber) (x : Row) → bucket_in n before.buckets ≡ Some x →
-      r.buckets n ≡ Some x
-  pub counters : (g : GroupId) (c : CycleNumber) (x : Counter) →
-      counter_in g c before.counters ≡ Some x →
+  pub buckets : (n : ℕ) (x : Row) → bucket_in n before.buckets ≡ Some x → r.buckets n ≡ Some x
+  pub counters : (g c : ℕ) (x : Counter) → counter_in g c before.counters ≡ Some x →
       r.counters g c ≡ Some x
-  pub sessions : (s : SessionName) (x : Session) → session_in s before.sessions ≡ Some x →
+  pub sessions : (s : List ℕ) (x : Session) → session_in s before.sessions ≡ Some x →
       r.sessions s ≡ Some x
-  pub groups : (s : SessionName) (g : GroupId) (x : SessionGroup) →
-      group_in s g before.groups ≡ Some x →
+  pub groups : (s : List ℕ) (g : ℕ) (x : SessionGroup) → group_in s g before.groups ≡ Some x →
       r.groups s g ≡ Some (group_row x)
-  pub holds : (s : SessionName) (g : GroupId) (n : BucketNumber) (x : SessionGroup) →
-      group_in s g before.groups ≡ Some x →
+  pub holds : (s : List ℕ) (g n : ℕ) (x : SessionGroup) → group_in s g before.groups ≡ Some x →
       r.holds s g n ≡ held_of n (Some x)
 
 -- so to name the rows that differ from them is to name all

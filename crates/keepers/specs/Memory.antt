@@ -6,8 +6,6 @@ use Rattle.std.specs.List.{find}
 use Rattle.std.specs.HashMap.{HashMap, get}
 use Rattle.std.specs.declared.hash.FoldHasher.{FoldHasher}
 use Rattle.std.specs.declared.hash.BuildHasherDefault.{BuildHasherDefault}
-use Rattle.units.specs.Words.{Moment}
-use Rattle.identifiers.specs.Words.{SessionName, AccountName}
 use Rattle.identifiers.specs.Texts.{same_name}
 use Rattle.shelves.specs.Shelves.{Shelf}
 use Rattle.reserving.specs.declared.charge.ChargeRow.{ChargeRow}
@@ -24,17 +22,17 @@ use Rattle.reserving.specs.Ledger.{Ledger}
 use Rattle.reserving.specs.Stored.{StoredRows}
 
 -- whether it is the account of this number
-abbrev pub is_entry : AccountName → Entry → Bool
+abbrev pub is_entry : List ℕ → Entry → Bool
 is_entry a e = same_name e.number a
 
-abbrev pub entry_in : AccountName → List Entry → Option Entry
+abbrev pub entry_in : List ℕ → List Entry → Option Entry
 entry_in a entries = find (is_entry a) entries
 
 abbrev pub rows_of_entry : Option Entry → Rows
 rows_of_entry None = no_rows
 rows_of_entry (Some e) = rows_of e.rows
 
-abbrev pub session_of_entry : SessionName → Option Entry → Option Session
+abbrev pub session_of_entry : List ℕ → Option Entry → Option Session
 session_of_entry s o = (rows_of_entry o).sessions s
 
 abbrev pub answer_of_entry : Key → Option Entry → Option KeptAnswer
@@ -52,46 +50,44 @@ Places = HashMap (List ℕ) ℕ (BuildHasherDefault FoldHasher)
 
 -- each number is found at the place of its account
 abbrev pub ArePlaced : Places → List Entry → Type 0
-ArePlaced places entries = (a : AccountName) →
-    get same_name places a ≡ position (is_entry a) entries
+ArePlaced places entries = (a : List ℕ) → get same_name places a ≡ position (is_entry a) entries
 
 -- ---- an account that is written
 
 -- each account, once rows are put over those of one, with its further charges and an answer
-pub record ArePut (number : AccountName) (named : StoredRows) (more : List ChargeRow)
+pub record ArePut (number : List ℕ) (named : StoredRows) (more : List ChargeRow)
     (kept : Option KeptAnswer) (old new : List Entry) : Type 0 where
-  pub rows : (a : AccountName) → rows_of_entry (entry_in a new) ≡
+  pub rows : (a : List ℕ) → rows_of_entry (entry_in a new) ≡
       (if same_name number a then over named (rows_of_entry (entry_in a old))
       else rows_of_entry (entry_in a old))
-  pub answers : (a : AccountName) (k : Key) → answer_of_entry k (entry_in a new) ≡
+  pub answers : (a : List ℕ) (k : Key) → answer_of_entry k (entry_in a new) ≡
       (if same_name number a then kept_after kept k (answer_of_entry k (entry_in a old))
       else answer_of_entry k (entry_in a old))
-  pub charges : (a : AccountName) → charges_of_entry (entry_in a new) ≡
+  pub charges : (a : List ℕ) → charges_of_entry (entry_in a new) ≡
       (if same_name number a then charges_of_entry (entry_in a old) ++ more
       else charges_of_entry (entry_in a old))
   pub count : length new ≡ (if is_some (entry_in number old) then length old else length old + 1)
 
 -- nothing is written
 pub record AreUnchanged (old new : List Entry) : Type 0 where
-  pub rows : (a : AccountName) → rows_of_entry (entry_in a new) ≡ rows_of_entry (entry_in a old)
-  pub answers : (a : AccountName) (k : Key) →
+  pub rows : (a : List ℕ) → rows_of_entry (entry_in a new) ≡ rows_of_entry (entry_in a old)
+  pub answers : (a : List ℕ) (k : Key) →
       answer_of_entry k (entry_in a new) ≡ answer_of_entry k (entry_in a old)
-  pub charges : (a : AccountName) →
-      charges_of_entry (entry_in a new) ≡ charges_of_entry (entry_in a old)
+  pub charges : (a : List ℕ) → charges_of_entry (entry_in a new) ≡ charges_of_entry (entry_in a old)
   pub count : length new ≡ length old
 
 -- ---- a sweep
 
 -- an account as a sweep leaves it
-pub record IsSweptEntry (shelf : Shelf) (t : Moment) (old new : Entry) : Type 0 where
+pub record IsSweptEntry (shelf : Shelf) (t : ℕ) (old new : Entry) : Type 0 where
   pub number : new.number ≡ old.number
-  pub rows : (ledger : Ledger) (u : Moment) → u ≤ t → AreRowsAt shelf ledger u (rows_of old.rows) →
+  pub rows : (ledger : Ledger) (u : ℕ) → u ≤ t → AreRowsAt shelf ledger u (rows_of old.rows) →
       AreRowsAt shelf ledger t (rows_of new.rows)
   pub listed : AreBroughtTo shelf t (rows_of old.rows) (rows_of new.rows)
   pub charges : new.charges ≡ old.charges
   pub answers : new.answers ≡ old.answers
 
-abbrev pub AreSwept : Shelf → Moment → List Entry → List Entry → Type 0
+abbrev pub AreSwept : Shelf → ℕ → List Entry → List Entry → Type 0
 AreSwept shelf t [] [] = Unit {0}
 AreSwept shelf t (x ∷ xs) (y ∷ ys) = IsSweptEntry shelf t x y × AreSwept shelf t xs ys
 AreSwept shelf t xs ys = ⊥
@@ -100,7 +96,7 @@ AreSwept shelf t xs ys = ⊥
 abbrev pub VoucherMap : Type 0
 VoucherMap = HashMap (List ℕ) Voucher (BuildHasherDefault FoldHasher)
 
-abbrev pub memory_tables : Moment → List Entry → VoucherMap → Tables
+abbrev pub memory_tables : ℕ → List Entry → VoucherMap → Tables
 memory_tables last entries vouchers = record {
   last = last;
   rows = λ a. rows_of_entry (entry_in a entries);

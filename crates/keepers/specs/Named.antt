@@ -4,8 +4,6 @@ use Rattle.std.specs.Prelude.{◌≡◌, ℕ, Bool, true, false, ◌||◌, List,
 use Rattle.std.specs.HashMap.{HashMap, get}
 use Rattle.std.specs.declared.hash.FoldHasher.{FoldHasher}
 use Rattle.std.specs.declared.hash.BuildHasherDefault.{BuildHasherDefault}
-use Rattle.units.specs.Words.{Moment}
-use Rattle.identifiers.specs.Words.{SessionName}
 use Rattle.buckets.specs.Row.{Row}
 use Rattle.calendar.specs.declared.cycle.Cycle.{Cycle}
 use Rattle.calendar.specs.declared.cycle.Cycle.TheVariants as Each
@@ -29,7 +27,7 @@ Names = HashMap (List ℕ) Bool (BuildHasherDefault FoldHasher)
 abbrev pub is_numbered : Numbers → ℕ → Bool
 is_numbered numbers n = is_some (get nat_eq numbers n)
 
-abbrev pub is_named : Names → SessionName → Bool
+abbrev pub is_named : Names → List ℕ → Bool
 is_named names s = is_some (get same_name names s)
 
 -- each that was left can't change, and is known by its number or name
@@ -50,11 +48,11 @@ abbrev pub AreLeftCounters : Numbers → List Counter → Type 0
 AreLeftCounters cycles rows = EachIn (λ c. is_numbered cycles c.cycle ≡ true) rows
 
 -- one that was left may be of a cycle at the moment: of none, of the day, or of the month
-abbrev pub is_left_now : Shelf → Moment → Numbers → Cycle → Bool
+abbrev pub is_left_now : Shelf → ℕ → Numbers → Cycle → Bool
 is_left_now shelf t cycles cycle = is_numbered cycles
     (cycle_of (book_at shelf t).calendar.zone cycle t)
 
-abbrev pub may_go_on : Shelf → Moment → Numbers → Bool
+abbrev pub may_go_on : Shelf → ℕ → Numbers → Bool
 may_go_on shelf t cycles =
     (is_left_now shelf t cycles Each.None || is_left_now shelf t cycles Each.Day)
     || is_left_now shelf t cycles Each.Month

@@ -1,11 +1,8 @@
 -- What the keeper in memory makes live of an account by a change: the change's rows, and of those
 -- that stand the ones that may still change. Of private functions alone.
-use Rattle.std.specs.Prelude.{◌≡◌, Bool, false, not, ◌==◌, ◌&&◌, ◌||◌, ◌++◌, List, [], None}
+use Rattle.std.specs.Prelude.{◌≡◌, ℕ, Bool, false, not, ◌==◌, ◌&&◌, ◌||◌, ◌++◌, List, [], None}
 use Rattle.std.specs.Prelude.{Some, filter, is_some, if◌then◌else◌}
 use Rattle.std.specs.List.{list_any}
-use Rattle.units.specs.Words.{GroupId, CycleNumber}
-use Rattle.identifiers.specs.Words.{SessionName}
-use Rattle.buckets.specs.Words.{BucketNumber}
 use Rattle.buckets.specs.Row.{Row}
 use Rattle.reserving.specs.declared.session.Session.{Session}
 use Rattle.reserving.specs.declared.session.SessionGroup.{SessionGroup}
@@ -62,7 +59,7 @@ rows_over named back live = record named {
 -- an account has these rows, whatever their order
 pub record IsAccountOf (w v : StoredRows) : Type 0 where
   pub head : head_of v ≡ head_of w
-  pub buckets : AreApart same_bucket w.buckets → (n : BucketNumber) →
+  pub buckets : AreApart same_bucket w.buckets → (n : ℕ) →
       bucket_in n v.buckets ≡ bucket_in n w.buckets
   pub others : FindsSame w v
 
@@ -70,33 +67,27 @@ pub record IsAccountOf (w v : StoredRows) : Type 0 where
 
 -- it can't change any more
 pub record IsRestDead (after : StoredRows) (r : Rows) : Type 0 where
-  pub dead : (n : BucketNumber) (x : Row) → r.buckets n ≡ Some x →
-      bucket_in n after.buckets ≡ None → IsDead x
-  pub ended : (s : SessionName) (x : Session) → r.sessions s ≡ Some x →
+  pub dead : (n : ℕ) (x : Row) → r.buckets n ≡ Some x → bucket_in n after.buckets ≡ None → IsDead x
+  pub ended : (s : List ℕ) (x : Session) → r.sessions s ≡ Some x →
       session_in s after.sessions ≡ None → is_open x.state ≡ false
-  pub free : (s : SessionName) (g : GroupId) (x : GroupRow) → r.groups s g ≡ Some x →
+  pub free : (s : List ℕ) (g : ℕ) (x : GroupRow) → r.groups s g ≡ Some x →
       group_in s g after.groups ≡ None → (x.terms ≡ None) × (session_in s after.sessions ≡ None)
 
 -- ---- rows that are put in the place of all that were loaded
 
 -- the rows before are there, and what isn't among those after it can't change any more
 pub record IsMadeFrom (before after : StoredRows) (r : Rows) : Type 0 where
-  pub buckets : (n : BucketNumber) (x : Row) → bucket_in n before.buckets ≡ Some x →
-      r.buckets n ≡ Some x
-  pub counters : (g : GroupId) (c : CycleNumber) (x : Counter) →
-      counter_in g c before.counters ≡ Some x →
+  pub buckets : (n : ℕ) (x : Row) → bucket_in n before.buckets ≡ Some x → r.buckets n ≡ Some x
+  pub counters : (g c : ℕ) (x : Counter) → counter_in g c before.counters ≡ Some x →
       r.counters g c ≡ Some x
-  pub sessions : (s : SessionName) (x : Session) → session_in s before.sessions ≡ Some x →
+  pub sessions : (s : List ℕ) (x : Session) → session_in s before.sessions ≡ Some x →
       r.sessions s ≡ Some x
-  pub groups : (s : SessionName) (g : GroupId) (x : SessionGroup) →
-      group_in s g before.groups ≡ Some x →
+  pub groups : (s : List ℕ) (g : ℕ) (x : SessionGroup) → group_in s g before.groups ≡ Some x →
       r.groups s g ≡ Some (group_row x)
-  pub holds : (s : SessionName) (g : GroupId) (n : BucketNumber) (x : SessionGroup) →
-      group_in s g before.groups ≡ Some x →
+  pub holds : (s : List ℕ) (g n : ℕ) (x : SessionGroup) → group_in s g before.groups ≡ Some x →
       r.holds s g n ≡ held_of n (Some x)
-  pub dead : (n : BucketNumber) (x : Row) → r.buckets n ≡ Some x →
-      bucket_in n after.buckets ≡ None → IsDead x
-  pub ended : (s : SessionName) (x : Session) → r.sessions s ≡ Some x →
+  pub dead : (n : ℕ) (x : Row) → r.buckets n ≡ Some x → bucket_in n after.buckets ≡ None → IsDead x
+  pub ended : (s : List ℕ) (x : Session) → r.sessions s ≡ Some x →
       session_in s after.sessions ≡ None → is_open x.state ≡ false
-  pub free : (s : SessionName) (g : GroupId) (x : GroupRow) → r.groups s g ≡ Some x →
+  pub free : (s : List ℕ) (g : ℕ) (x : GroupRow) → r.groups s g ≡ Some x →
       group_in s g after.groups ≡ None → (x.terms ≡ None) × (session_in s after.sessions ≡ None)

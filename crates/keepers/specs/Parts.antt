@@ -1,9 +1,8 @@
 -- An account as the keeper in memory has it: what was live after its last command, and the rows
 -- that were left.
 -- Source: profile.
-use Rattle.std.specs.Prelude.{◌≡◌, ◌&&◌, ◌++◌, ◌≤◌, Bool, true, false, not}
+use Rattle.std.specs.Prelude.{◌≡◌, ℕ, ◌&&◌, ◌++◌, ◌≤◌, Bool, true, false, not}
 use Rattle.std.specs.Prelude.{Some, is_some, option_map, filter}
-use Rattle.units.specs.Words.{Moment, most_used, most_counted}
 use Rattle.buckets.specs.Row.{Row, IsBalanced}
 use Rattle.shelves.specs.Shelves.{Shelf}
 use Rattle.reserving.specs.declared.session.Session.{Session}
@@ -43,8 +42,8 @@ pub record AreParts (p : Parts) : Type 0 where
   pub free : EachIn (λ r. is_some r.reservation ≡ false) p.left.groups
   pub others : EachIn (λ r. is_some (session_in r.session p.live.sessions) ≡ false) p.left.groups
   pub balanced : EachIn IsBalanced p.left.buckets
-  pub used : EachIn (λ r. r.used ≤ most_used) p.left.groups
-  pub counted : EachIn (λ c. c.blocks ≤ most_counted) p.left.counters
+  pub used : EachIn (λ r. r.used ≤ 1000000000000000000) p.left.groups
+  pub counted : EachIn (λ c. c.blocks ≤ 4000000000000000000) p.left.counters
 
 -- ---- what is left once the rows are others
 
@@ -73,5 +72,5 @@ left_after w p = record {
 abbrev pub with_live : StoredRows → Parts → Parts
 with_live w p = record { live = w; left = left_after w p }
 
-abbrev pub advanced_parts : Shelf → Moment → Parts → Parts
+abbrev pub advanced_parts : Shelf → ℕ → Parts → Parts
 advanced_parts shelf t p = record { live = advanced_stored shelf t p.live; left = p.left }

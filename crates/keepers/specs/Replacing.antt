@@ -1,9 +1,6 @@
 -- What a store in memory does, step by step, where rows are put in the place of those that were
 -- live.
-use Rattle.std.specs.Prelude.{◌≡◌, ◌++◌, true, filter}
-use Rattle.units.specs.Words.{CycleNumber}
-use Rattle.identifiers.specs.Words.{SessionName}
-use Rattle.buckets.specs.Words.{BucketNumber}
+use Rattle.std.specs.Prelude.{◌≡◌, ◌++◌, ℕ, List, true, filter}
 use Rattle.reserving.specs.Rows.{EachIn}
 use Rattle.reserving.specs.Stored.{StoredRows}
 use Rattle.keepers.specs.declared.store.LeftStore.{LeftStore}
@@ -21,11 +18,9 @@ pub record IsLeaving (after live : StoredRows) (rows : LeftStore) : Type 0 where
 
 -- what was known is known
 pub record KnowsMore (old new : Known) : Type 0 where
-  pub numbers : (n : BucketNumber) → is_numbered old.numbers n ≡ true →
-      is_numbered new.numbers n ≡ true
-  pub names : (s : SessionName) → is_named old.names s ≡ true → is_named new.names s ≡ true
-  pub cycles : (c : CycleNumber) → is_numbered old.cycles c ≡ true →
-      is_numbered new.cycles c ≡ true
+  pub numbers : (n : ℕ) → is_numbered old.numbers n ≡ true → is_numbered new.numbers n ≡ true
+  pub names : (s : List ℕ) → is_named old.names s ≡ true → is_named new.names s ≡ true
+  pub cycles : (n : ℕ) → is_numbered old.cycles n ≡ true → is_numbered new.cycles n ≡ true
 
 -- so is what these rows name
 pub record AreNoted (rows : LeftStore) (known : Known) : Type 0 where

@@ -1,9 +1,6 @@
 -- What a step concludes from what it loaded and what the call gave.
-use Rattle.std.specs.Prelude.{◌≡◌, ◌++◌, None}
+use Rattle.std.specs.Prelude.{◌≡◌, ℕ, ◌++◌, List, None}
 use Rattle.std.specs.Prelude.{false, is_some}
-use Rattle.units.specs.Words.{Moment, GroupId}
-use Rattle.identifiers.specs.Words.{SessionName}
-use Rattle.buckets.specs.Words.{BucketNumber}
 use Rattle.shelves.specs.Shelves.{Shelf, IsShelf}
 use Rattle.reserving.specs.Ledger.{Ledger, has_group, last_recording}
 use Rattle.reserving.specs.Sessions.{group_in}
@@ -26,14 +23,14 @@ pub record Extends (old new : Ledger) : Type 0 where
 -- what is loaded and what was left: the rows that a call gets
 abbrev pub IsLoadStep : Type 0
 IsLoadStep =
-    (shelf : Shelf) (ledger : Ledger) (u t : Moment) (r : Rows) (a : AccountRows)
+    (shelf : Shelf) (ledger : Ledger) (u t : ℕ) (r : Rows) (a : AccountRows)
     (h : AreRowsAt shelf ledger u r) → IsAccount a → IsLoadedFrom shelf t r a →
     IsWith ledger (left_of t (priced shelf h.listed)) t a
 
 -- what a call left beside the same rows: the tables after the commit of the rows that differ
 abbrev pub IsCommitStep : Type 0
 IsCommitStep =
-    (shelf : Shelf) (before after : Ledger) (u t : Moment) (r : Rows) (a x : AccountRows)
+    (shelf : Shelf) (before after : Ledger) (u t : ℕ) (r : Rows) (a x : AccountRows)
     (h : AreRowsAt shelf before u r) → IsAccount a → IsLoadedFrom shelf t r a → x.shelf ≡ shelf →
     Extends before after →
     IsWith after (left_of t (priced shelf h.listed)) t x →
@@ -41,28 +38,26 @@ IsCommitStep =
 
 -- ---- what a request asks of a session
 
-abbrev pub HasNoGroups : SessionName → Ledger → Type 0
-HasNoGroups s ledger = (g : GroupId) → has_group s g ledger ≡ false
+abbrev pub HasNoGroups : List ℕ → Ledger → Type 0
+HasNoGroups s ledger = (g : ℕ) → has_group s g ledger ≡ false
 
 abbrev pub IsKnownStep : Type 0
-IsKnownStep = (shelf : Shelf) (ledger : Ledger) (u : Moment) (r : Rows) (s : SessionName) →
+IsKnownStep = (shelf : Shelf) (ledger : Ledger) (u : ℕ) (r : Rows) (s : List ℕ) →
     AreRowsAt shelf ledger u r → is_some (r.sessions s) ≡ is_some (last_recording s ledger)
 
 abbrev pub IsNewStep : Type 0
-IsNewStep = (shelf : Shelf) (ledger : Ledger) (u t : Moment) (r : Rows) (s : SessionName)
-    (g : GroupId)
+IsNewStep = (shelf : Shelf) (ledger : Ledger) (u t : ℕ) (r : Rows) (s : List ℕ) (g : ℕ)
     (h : AreRowsAt shelf ledger u r) → IsShelf shelf → HasNoGroups s ledger →
     group_in s g (left_of t (priced shelf h.listed)).groups ≡ None
 
 -- ---- what a run promises of an account's rows
 
 abbrev pub IsBucketsTold : Type 0
-IsBucketsTold = (shelf : Shelf) (ledger : Ledger) (t : Moment) (r : Rows) →
-    AreRowsAt shelf ledger t r →
-    ((n : BucketNumber) → r.buckets n ≡ bucket_in n (buckets_at (validity_of shelf) t ledger))
+IsBucketsTold = (shelf : Shelf) (ledger : Ledger) (t : ℕ) (r : Rows) → AreRowsAt shelf ledger t r →
+    ((n : ℕ) → r.buckets n ≡ bucket_in n (buckets_at (validity_of shelf) t ledger))
     × Each IsBalanced (buckets_at (validity_of shelf) t ledger)
 
 abbrev pub IsListTold : Type 0
-IsListTold = (shelf : Shelf) (ledger : Ledger) (t : Moment) (r : Rows) (v : StoredRows) →
+IsListTold = (shelf : Shelf) (ledger : Ledger) (t : ℕ) (r : Rows) (v : StoredRows) →
     AreRowsAt shelf ledger t r → AreListed v r → IsStored v → IsRowsOf ledger (priced shelf v)
     × (v.as_of ≡ t)

@@ -3,10 +3,6 @@
 use Rattle.std.specs.Prelude.{◌≡◌, ℕ, ◌==◌, Bool, List, Option, Some, None, option_map, sum_by}
 use Rattle.std.specs.Prelude.{if◌then◌else◌}
 use Rattle.std.specs.List.{find}
-use Rattle.units.specs.Words.{Moment, UnitCount, GroupId, CycleNumber}
-use Rattle.identifiers.specs.Words.{SessionName, AccountName, VoucherCode}
-use Rattle.buckets.specs.Words.{BucketNumber, BucketAmount}
-use Rattle.reserving.specs.Words.{ChargeNumber}
 use Rattle.buckets.specs.declared.holds.Hold.{Hold}
 use Rattle.buckets.specs.Row.{Row}
 use Rattle.reserving.specs.declared.session.Terms.{Terms}
@@ -23,14 +19,14 @@ use Rattle.keepers.specs.declared.key.KeptAnswer.{KeptAnswer}
 
 -- what is kept of an account once
 pub record Head : Type 0 where
-  pub as_of : Moment
+  pub as_of : ℕ
   pub barred : Bool
-  pub next_bucket : BucketNumber
-  pub next_charge : ChargeNumber
+  pub next_bucket : ℕ
+  pub next_charge : ℕ
 
 -- what a session has of a group: its use, and the terms of its reservation where it has one
 pub record GroupRow : Type 0 where
-  pub used : UnitCount
+  pub used : ℕ
   pub terms : Option Terms
 
 -- an account's rows: a bucket by its number, a counter by group and cycle, a session by its name,
@@ -38,11 +34,11 @@ pub record GroupRow : Type 0 where
 -- bucket's number too, 0 where it holds nothing
 pub record Rows : Type 0 where
   pub head : Option Head
-  pub buckets : BucketNumber → Option Row
-  pub counters : GroupId → CycleNumber → Option Counter
-  pub sessions : SessionName → Option Session
-  pub groups : SessionName → GroupId → Option GroupRow
-  pub holds : SessionName → GroupId → BucketNumber → BucketAmount
+  pub buckets : ℕ → Option Row
+  pub counters : ℕ → ℕ → Option Counter
+  pub sessions : List ℕ → Option Session
+  pub groups : List ℕ → ℕ → Option GroupRow
+  pub holds : List ℕ → ℕ → ℕ → ℕ
 
 -- no account
 abbrev pub no_rows : Rows
@@ -59,15 +55,15 @@ no_rows = record {
 -- the tables; accounts are known by the bytes of their numbers
 pub record Tables : Type 0 where
   -- the moment of the last accepted command
-  pub last : Moment
+  pub last : ℕ
   -- the rows of accounts
-  pub rows : AccountName → Rows
+  pub rows : List ℕ → Rows
   -- what is kept under the keys of an account
-  pub answers : AccountName → Key → Option KeptAnswer
+  pub answers : List ℕ → Key → Option KeptAnswer
   -- the charges of an account, by their numbers
-  pub charges : AccountName → ChargeNumber → Option ChargeRow
+  pub charges : List ℕ → ℕ → Option ChargeRow
   -- what stands under the code of a voucher
-  pub vouchers : VoucherCode → Option Voucher
+  pub vouchers : List ℕ → Option Voucher
   -- how many accounts there are
   pub count : ℕ
 
@@ -96,24 +92,22 @@ head_of w = record {
 abbrev pub group_row : SessionGroup → GroupRow
 group_row r = record { used = r.used; terms = option_map (λ x. x.terms) r.reservation }
 
-abbrev pub held_at : BucketNumber → List Hold → BucketAmount
+abbrev pub held_at : ℕ → List Hold → ℕ
 held_at n holds = sum_by (λ h. if h.bucket == n then h.amount else 0) holds
 
 -- what is held of a bucket
-abbrev pub held_of : BucketNumber → Option SessionGroup → BucketAmount
+abbrev pub held_of : ℕ → Option SessionGroup → ℕ
 held_of n None = 0
 held_of n (Some r) = held_at n (holds_in r.reservation)
 
 -- the rows are those of the list, whatever its order
 pub record AreListed (w : StoredRows) (r : Rows) : Type 0 where
   pub head : r.head ≡ Some (head_of w)
-  pub buckets : (n : BucketNumber) → r.buckets n ≡ bucket_in n w.buckets
-  pub counters : (g : GroupId) (c : CycleNumber) → r.counters g c ≡ counter_in g c w.counters
-  pub sessions : (s : SessionName) → r.sessions s ≡ session_in s w.sessions
-  pub groups : (s : SessionName) (g : GroupId) →
-      r.groups s g ≡ option_map group_row (group_in s g w.groups)
-  pub holds : (s : SessionName) (g : GroupId) (n : BucketNumber) →
-      r.holds s g n ≡ held_of n (group_in s g w.groups)
+  pub buckets : (n : ℕ) → r.buckets n ≡ bucket_in n w.buckets
+  pub counters : (g c : ℕ) → r.counters g c ≡ counter_in g c w.counters
+  pub sessions : (s : List ℕ) → r.sessions s ≡ session_in s w.sessions
+  pub groups : (s : List ℕ) (g : ℕ) → r.groups s g ≡ option_map group_row (group_in s g w.groups)
+  pub holds : (s : List ℕ) (g n : ℕ) → r.holds s g n ≡ held_of n (group_in s g w.groups)
 
-abbrev pub charge_in : ChargeNumber → List ChargeRow → Option ChargeRow
+abbrev pub charge_in : ℕ → List ChargeRow → Option ChargeRow
 charge_in n rows = find (λ c. c.number == n) rows

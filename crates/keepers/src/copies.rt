@@ -2,16 +2,9 @@
 
 ghost use Rattle.std.specs.Prelude.{◌≡◌, IfOk};
 
-use commands::{Allowance, Answer, Ask, Content, Credit, KeptCredit, Request, VoucherRedemption};
+use commands::{Allowance, Ask, Content, Credit, KeptCredit, Request, VoucherRedemption};
 use redemptions::Voucher;
 use std::alloc::AllocError;
-
-/// The same answer once more.
-pub fn copy_answer(answer: &Answer) -> Result<Answer, AllocError>
-    ensures { IfOk result (λ copy. copy ≡ answer.now) }
-{
-    answer.clone()
-}
 
 fn copy_ask(ask: &Ask) -> Result<Ask, AllocError>
     ensures { IfOk result (λ copy. copy ≡ ask.now) }

@@ -1,5 +1,3 @@
-//! A keeper whose store fails once, for tests.
-
 ghost use Rattle.std.specs.Prelude.{◌≡◌, ◌==◌, ◌-◌, ◌&&◌, not, true, false};
 
 use crate::fault::StoreFault;

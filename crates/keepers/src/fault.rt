@@ -1,5 +1,3 @@
-//! Why a keeper didn't do what it was asked.
-
 use std::alloc::AllocError;
 use thiserror::Error;
 

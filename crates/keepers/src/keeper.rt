@@ -1,5 +1,3 @@
-//! The trait of all keepers, with its laws.
-
 ghost use Rattle.std.specs.Prelude.{◌≡◌, ◌≤◌, ℕ, IfOk, OnOk, is_some};
 ghost use Rattle.keepers.specs.Faults.{max_failures};
 ghost use Rattle.keepers.specs.Keeping.{Reads, Keeps};

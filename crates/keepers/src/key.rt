@@ -1,13 +1,12 @@
-//! Keys of kept answers.
-
 ghost use Rattle.std.specs.Prelude.{◌≡◌, IfOk};
 ghost use Rattle.keepers.specs.Keys.{same_key, key_of};
 
-use crate::copies::{copy_answer, copy_content};
-use commands::{Answer, Content};
+use crate::copies::copy_content;
+use commands::Content;
 use identifiers::{Reference, SessionId};
 use std::alloc::AllocError;
 use std::hash::{Hash, Hasher};
+use wire_answers::WrittenAnswer;
 
 /// The key of a kept answer within its account: an accepted command with the same key is its
 /// repeat, or at fault.
@@ -24,8 +23,8 @@ pub enum Key {
 pub struct KeptAnswer {
     /// The command. It tells the key.
     pub content: Content,
-    /// Its first answer.
-    pub answer: Answer,
+    /// Its first answer, with the text that was written of it.
+    pub answer: WrittenAnswer,
 }
 
 impl Key {
@@ -55,7 +54,7 @@ impl KeptAnswer {
     {
         Ok(KeptAnswer {
             content: copy_content(&self.content)?,
-            answer: copy_answer(&self.answer)?,
+            answer: self.answer.copy()?,
         })
     }
 }

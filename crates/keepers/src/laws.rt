@@ -1,5 +1,3 @@
-//! Laws for callers and writers of keepers.
-
 ghost use Rattle.keepers.specs.Steps.{IsLoadStep, IsCommitStep, IsKnownStep, IsNewStep};
 ghost use Rattle.keepers.specs.Steps.{IsBucketsTold, IsListTold};
 ghost use Rattle.keepers.specs.Differing.{IsNamedOver};

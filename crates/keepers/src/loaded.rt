@@ -1,5 +1,3 @@
-//! What is loaded of an account, and the change made of it.
-
 ghost use Rattle.std.specs.Prelude.{◌≡◌, IfOk};
 ghost use Rattle.reserving.specs.Stored.{stored};
 ghost use Rattle.keepers.specs.Differing.{named_rows};

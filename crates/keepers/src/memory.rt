@@ -1,5 +1,3 @@
-//! A keeper in memory.
-
 ghost use Rattle.std.specs.Prelude.{◌≡◌, ℕ, IfOk};
 ghost use Rattle.keepers.specs.Tables.{no_tables, charge_in};
 ghost use Rattle.keepers.specs.Whole.{AreWhole};
@@ -112,7 +110,10 @@ impl Keeper for MemoryKeeper {
         account: &AccountNumber,
         moment: Moment,
     ) -> Result<Option<Loaded<'b>>, StoreFault> {
-        load_entry(&self.accounts, shelf, account, moment).map_err(refused)
+        match load_entry(&self.accounts, shelf, account, moment) {
+            Ok(found) => Ok(found),
+            Err(fault) => Err(refused(fault)),
+        }
     }
 
     fn view<'b>(
@@ -121,7 +122,10 @@ impl Keeper for MemoryKeeper {
         account: &AccountNumber,
         moment: Moment,
     ) -> Result<Option<Account<'b>>, StoreFault> {
-        view_entry(&self.accounts, shelf, account, moment).map_err(refused)
+        match view_entry(&self.accounts, shelf, account, moment) {
+            Ok(found) => Ok(found),
+            Err(fault) => Err(refused(fault)),
+        }
     }
 
     fn has_account(&mut self, account: &AccountNumber) -> Result<bool, StoreFault> {

@@ -28,7 +28,10 @@ fn purse_of(alloc: Global, buckets: Vec<Bucket>) -> Result<Purse, AllocError>
 {
     let mut buckets = buckets;
     sort_by_use(&mut buckets);
-    Purse::from_buckets(alloc, buckets).ok_or(AllocError)
+    match Purse::from_buckets(alloc, buckets) {
+        Some(purse) => Ok(purse),
+        None => Err(AllocError),
+    }
 }
 
 /// The account of these rows, which are refused as if there were no room for them where they are
@@ -36,7 +39,10 @@ fn purse_of(alloc: Global, buckets: Vec<Bucket>) -> Result<Purse, AllocError>
 fn account_of(alloc: Global, rows: GivenRows) -> Result<StoredAccount, AllocError>
     ensures { IfOk result (IsAccountOf (given rows)) }
 {
-    StoredAccount::from_rows(alloc, rows).ok_or(AllocError)
+    match StoredAccount::from_rows(alloc, rows) {
+        Some(account) => Ok(account),
+        None => Err(AllocError),
+    }
 }
 
 /// A new account of the rows of a change.

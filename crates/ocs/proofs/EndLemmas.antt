@@ -15,11 +15,10 @@ use Rattle.keepers.specs.declared.fault.StoreFault.TheVariants as store
 use Rattle.vouchers.specs.declared.fault.VoucherFault.{VoucherFault}
 use Rattle.commands.specs.declared.answer.Answer.{Answer}
 use Rattle.commands.specs.declared.answer.Answer.TheVariants as answer
-use Rattle.office.specs.Months.{unknown_line}
 use Rattle.office.specs.Printed.{IsEnded, PrintsAnswer}
 use Rattle.office.specs.Told.{status_of}
 use Rattle.office.specs.Written.{WritesBeginning}
-use Rattle.office.proofs.Beginnings.{all_written, beginning_before, nothing_written, some_written}
+use Rattle.office.proofs.Beginnings.{beginning_before, nothing_written, some_written}
 use Rattle.office.specs.declared.status.Status.{Status}
 use Rattle.office.specs.declared.status.Status.TheVariants.{Done, Failed, Unread}
 use Rattle.operator.specs.Program.{program_app}
@@ -30,8 +29,7 @@ use Rattle.operator.specs.declared.parsed.OnceWords.{OnceWords}
 use Rattle.operator.specs.declared.parsed.ProgramWords.{ProgramWords}
 use Rattle.operator.specs.declared.parsed.ProgramWords.TheVariants as words
 use Rattle.database_office.specs.declared.fault.DatabaseFault.{DatabaseFault}
-use Rattle.ocs.specs.Ends.{HasPrinted, IfOnce, IsEnd, IsEndBy, IsEndOf, IsMemory, IsRefused}
-use Rattle.ocs.specs.Ends.{HasBegun, Says}
+use Rattle.ocs.specs.Ends.{HasPrinted, IfOnce, IsEnd, IsEndBy, IsEndOf, IsMemory, IsRefused, Says}
 use Rattle.ocs.specs.Faults.{IsFaultIn, IsFaultOf, IsFaultTold, IsMemoryFault, IsReachedByLines}
 use Rattle.ocs.specs.Faults.{IsWriteFault, OnlyDone}
 use Rattle.ocs.specs.Told.{AreUnread, IsSilent, IsTextTold, IsTold}
@@ -181,39 +179,11 @@ ended_told said before after Failed old new ended told =
 ended_told said before after Unread old new ended told = absurd ended
 
 -- what has printed as it ended
-pub printed_done : {F : Type 0} (bytes : F → Option (List ℕ)) (said : ProgramWords)
-    (before after : Option (List ℕ)) (status : Status) →
-    HasPrinted bytes said before after status → status ≡ Done →
-    HasPrinted bytes said before after Done
-printed_done bytes said before after status printed done =
-    subst (HasPrinted bytes said before after) done printed
-
--- what is refused has begun with its line
-pub refused_begun : {F : Type 0} (bytes : F → Option (List ℕ)) (said : ProgramWords)
-    (before after : Option (List ℕ)) (status : Status) →
-    IsEnded (IsRefused said before after) status → status ≡ Failed →
-    HasBegun bytes said before after
-refused_begun bytes (words.Statement statement) before after status ended failed =
-    inr (all_written before after unknown_line
-    (subst (IsEnded (Appends before after unknown_line)) failed ended))
-refused_begun bytes (words.Replay replay) before after status ended failed =
-    absurd (subst (IsEnded ⊥) failed ended)
-refused_begun bytes _ before after status ended failed = tt
-
--- nothing has, too
-pub nothing_started : {F : Type 0} (bytes : F → Option (List ℕ)) (said : ProgramWords)
-    (before after : Option (List ℕ)) → after ≡ before → HasBegun bytes said before after
-nothing_started bytes (words.Statement statement) before after same =
-    inr (subst (λ (w : Option (List ℕ)). WritesBeginning before w unknown_line) (sym same)
-    (nothing_written before unknown_line))
-nothing_started bytes (words.Replay replay) before after same = inr same
-nothing_started bytes _ before after same = tt
-
-pub started_said : {F : Type 0} (bytes : F → Option (List ℕ)) (texts : List Text)
-    (said other : ProgramWords) (before after : Option (List ℕ)) → IsSaid texts said →
-    IsSaid texts other → HasBegun bytes said before after → HasBegun bytes other before after
-started_said bytes texts said other before after h k is =
-    subst (λ (s : ProgramWords). HasBegun bytes s before after) (same_said texts said other h k) is
+pub printed_done : (said : ProgramWords) (before after : Option (List ℕ)) (status : Status) →
+    HasPrinted said before after status → status ≡ Done →
+    HasPrinted said before after Done
+printed_done said before after status printed done =
+    subst (HasPrinted said before after) done printed
 
 abbrev IsRead : Status → Type 0
 IsRead Done = Unit {0}
@@ -305,13 +275,12 @@ pub line_said : (texts : List Text) (said other : ProgramWords) (P : List ℕ �
 line_said texts said other P h k is =
     subst (λ (s : ProgramWords). IfSome (line_of s) P) (same_said texts said other h k) is
 
-pub printed_said : {F : Type 0} (bytes : F → Option (List ℕ)) (texts : List Text)
-    (said other : ProgramWords) (before after : Option (List ℕ)) → IsSaid texts said →
-    IsSaid texts other → HasPrinted bytes said before after Done →
-    HasPrinted bytes other before after Done
-printed_said bytes texts said other before after h k is =
-    subst (λ (s : ProgramWords). HasPrinted bytes s before after Done)
-    (same_said texts said other h k) is
+pub printed_said : (texts : List Text) (said other : ProgramWords)
+    (before after : Option (List ℕ)) → IsSaid texts said → IsSaid texts other →
+    HasPrinted said before after Done →
+    HasPrinted other before after Done
+printed_said texts said other before after h k is =
+    subst (λ (s : ProgramWords). HasPrinted s before after Done) (same_said texts said other h k) is
 
 -- ---- words that aren't read
 

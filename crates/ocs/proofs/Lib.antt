@@ -1,3 +1,2 @@
 pub mod OnceLemmas
 pub mod EndLemmas
-pub mod Buffers

@@ -1,8 +1,7 @@
 -- How the program ends, by what its words say.
 -- Source: profile.
-use Rattle.std.specs.Prelude.{◌≡◌, ◌⊎◌, Bool, true, false, List, Option, IfSome}
+use Rattle.std.specs.Prelude.{◌≡◌, ◌⊎◌, ℕ, Bool, true, false, List, Option}
 use Rattle.std.specs.Io.KnownBytes.{Appends}
-use Rattle.byte_streams.specs.Words.{Bytes}
 use Rattle.clap.specs.Values.{kind_of}
 use Rattle.clap.specs.Words.{IsAmong, Text, fault_of}
 use Rattle.clap.specs.declared.error.kind.ErrorKind.{ErrorKind}
@@ -11,7 +10,6 @@ use Rattle.office.specs.Months.{unknown_line}
 use Rattle.office.specs.Printed.{PrintsAnswer, PrintsCounts}
 use Rattle.office.specs.declared.status.Status.{Status}
 use Rattle.office.specs.declared.status.Status.TheVariants.{Done, Failed, Unread}
-use Rattle.database_office.specs.Stating.{BeginsMonthOf, PrintsMonthOf}
 use Rattle.operator.specs.Program.{program_app}
 use Rattle.operator.specs.Read.{IsInvalid, IsSaid}
 use Rattle.operator.specs.declared.fault.WordsFault.{WordsFault}
@@ -19,7 +17,6 @@ use Rattle.operator.specs.declared.fault.WordsFault.TheVariants as fault
 use Rattle.operator.specs.declared.parsed.OnceWords.{OnceWords}
 use Rattle.operator.specs.declared.parsed.ProgramWords.{ProgramWords}
 use Rattle.operator.specs.declared.parsed.ProgramWords.TheVariants as words
-use Rattle.request_lines.specs.Served.{BeginsLines, TellsLines}
 
 -- ---- what words say
 
@@ -30,46 +27,16 @@ IfOnce _ says = Unit {0}
 
 -- a refusal of it is printed: of an operator's command, or that the account of a statement isn't
 -- there; no other is refused
-abbrev pub IsRefused : ProgramWords → Option Bytes → Option Bytes → Type 0
+abbrev pub IsRefused : ProgramWords → Option (List ℕ) → Option (List ℕ) → Type 0
 IsRefused (words.Office office) old new = PrintsAnswer Failed old new
 IsRefused (words.Statement statement) old new = Appends old new unknown_line
 IsRefused _ old new = ⊥
 
--- the lines of some file are told, where it tells its bytes
-pub record PrintsLines {File : Type 0} (bytes : File → Option Bytes) (old new : Option Bytes)
-    : Type 0 where
-  pub file : File
-  pub told : IfSome (bytes file) (TellsLines old new)
-
--- a beginning of that is
-pub record BeginsSomeLines {File : Type 0} (bytes : File → Option Bytes) (old new : Option Bytes)
-    : Type 0 where
-  pub file : File
-  pub begun : IfSome (bytes file) (BeginsLines old new)
-
--- or nothing is written
-abbrev pub BeginsLinesOf : {File : Type 0} → (File → Option Bytes) → Option Bytes →
-    Option Bytes → Type 0
-BeginsLinesOf bytes old new = BeginsSomeLines bytes old new ⊎ (new ≡ old)
-
--- an import has printed its counts; an operator's command its answer, and a statement the month
--- that is asked for or that there is no such account, with which they end so; a replay what the
--- lines of a file are told, by the bytes that files tell
-abbrev pub HasPrinted : {File : Type 0} → (File → Option Bytes) → ProgramWords → Option Bytes →
-    Option Bytes → Status → Type 0
-HasPrinted bytes (words.Import import) old new status = PrintsCounts old new
-HasPrinted bytes (words.Office office) old new status = PrintsAnswer status old new
-HasPrinted bytes (words.Statement statement) old new status =
-    PrintsMonthOf statement old new status
-HasPrinted bytes (words.Replay replay) old new status = PrintsLines bytes old new
-HasPrinted bytes _ old new status = Unit {0}
-
--- a statement or a replay has printed a beginning of that, or of the line that it is refused by
-abbrev pub HasBegun : {File : Type 0} → (File → Option Bytes) → ProgramWords → Option Bytes →
-    Option Bytes → Type 0
-HasBegun bytes (words.Statement statement) old new = BeginsMonthOf statement old new
-HasBegun bytes (words.Replay replay) old new = BeginsLinesOf bytes old new
-HasBegun bytes _ old new = Unit {0}
+-- an import has printed its counts, an operator's command its answer, with which it ends so
+abbrev pub HasPrinted : ProgramWords → Option (List ℕ) → Option (List ℕ) → Status → Type 0
+HasPrinted (words.Import import) old new status = PrintsCounts old new
+HasPrinted (words.Office office) old new status = PrintsAnswer status old new
+HasPrinted _ old new status = Unit {0}
 
 -- the words say something that is so
 pub record Says (texts : List Text) (Is : ProgramWords → Type 0) : Type 0 where

@@ -1,7 +1,6 @@
 -- Which faults the program comes to, by what its words say.
 -- Source: profile.
-use Rattle.std.specs.Prelude.{◌≡◌, ◌⊎◌, List, Option}
-use Rattle.units.specs.Words.{Moment}
+use Rattle.std.specs.Prelude.{◌≡◌, ◌⊎◌, ℕ, List, Option}
 use Rattle.byte_streams.specs.declared.StreamFault.TheVariants as stream
 use Rattle.clap.specs.Words.{Text}
 use Rattle.keepers.specs.declared.fault.StoreFault.TheVariants as store
@@ -47,7 +46,7 @@ OnlyDone says (program.Stream fault) = fault ≡ stream.Write
 OnlyDone says _ = ⊥
 
 -- one of a file of vouchers, or of a command over a database
-abbrev pub IsImportFault : Option Moment → ProgramFault → Type 0
+abbrev pub IsImportFault : Option ℕ → ProgramFault → Type 0
 IsImportFault at (program.Vouchers fault) = Unit {0}
 IsImportFault at (program.Database fault) = IsCommandFault at fault
 IsImportFault at _ = ⊥

@@ -2,4 +2,3 @@ pub mod Once
 pub mod Ends
 pub mod Faults
 pub mod Told
-pub mod Replayed

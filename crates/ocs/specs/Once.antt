@@ -1,9 +1,7 @@
 -- What `once` writes.
 -- Source: profile.
-use Rattle.std.specs.Prelude.{[], Option, Some, IfSome}
+use Rattle.std.specs.Prelude.{ℕ, List, [], Option, Some, IfSome}
 use Rattle.std.specs.Io.KnownBytes.{Appends}
-use Rattle.units.specs.Words.{Micros}
-use Rattle.byte_streams.specs.Words.{Bytes}
 use Rattle.tariffs.specs.Books.{Book}
 use Rattle.shelves.specs.Shelves.{one_book}
 use Rattle.office.specs.Written.{WritesBeginning}
@@ -11,15 +9,15 @@ use Rattle.request_lines.specs.Served.{text_of}
 
 -- the text of a stream, before any command, by a book alone on its shelf: the first request's
 -- account is opened with this amount
-abbrev pub once_text : Book → Micros → Bytes → Bytes
+abbrev pub once_text : Book → ℕ → List ℕ → List ℕ
 once_text b credit stream = text_of (one_book b) [] (Some credit) stream
 
 -- where the reader tells its bytes, that text of them is written
-abbrev pub WritesOnce : Book → Micros → Option Bytes → Option Bytes → Option Bytes → Type 0
+abbrev pub WritesOnce : Book → ℕ → Option (List ℕ) → Option (List ℕ) → Option (List ℕ) → Type 0
 WritesOnce b credit bytes old new =
     IfSome bytes (λ stream. Appends old new (once_text b credit stream))
 
 -- or a beginning of it
-abbrev pub BeginsOnce : Book → Micros → Option Bytes → Option Bytes → Option Bytes → Type 0
+abbrev pub BeginsOnce : Book → ℕ → Option (List ℕ) → Option (List ℕ) → Option (List ℕ) → Type 0
 BeginsOnce b credit bytes old new =
     IfSome bytes (λ stream. WritesBeginning old new (once_text b credit stream))

@@ -3,7 +3,6 @@
 use Rattle.std.specs.Prelude.{◌≡◌, ◌≤◌, ◌⊎◌, ◌++◌, ◌∷◌, ℕ, List, [], Option, Some, None, codes}
 use Rattle.std.specs.Fmt.{decimal}
 use Rattle.std.specs.Io.KnownBytes.{Keeps}
-use Rattle.byte_streams.specs.Words.{Bytes}
 use Rattle.byte_streams.specs.declared.StreamFault.{StreamFault}
 use Rattle.byte_streams.specs.declared.StreamFault.TheVariants as stream
 use Rattle.clap.specs.Words.{Text}
@@ -34,25 +33,25 @@ use Rattle.ocs.specs.declared.fault.ProgramFault.TheVariants as program
 -- ---- lines, without their line feeds
 
 -- a fault of a file of vouchers
-abbrev pub voucher_line : VoucherFault → Bytes
+abbrev pub voucher_line : VoucherFault → List ℕ
 voucher_line fault = codes "ocs: voucher fault " ++ (decimal (number_of fault.kind)
     ++ (codes " at record " ++ decimal fault.record_number))
 
 -- and of the program
-abbrev pub fault_line : ProgramFault → Bytes
+abbrev pub fault_line : ProgramFault → List ℕ
 fault_line (program.Lines fault) = lines_line fault
 fault_line (program.Stream fault) = stream_line fault
 fault_line (program.Database fault) = database_line fault
 fault_line (program.Vouchers fault) = voucher_line fault
 
 -- a word isn't what its place takes
-abbrev pub invalid_line : Bytes
+abbrev pub invalid_line : List ℕ
 invalid_line = codes "ocs: a word is not one that its place takes"
 
 -- ---- what is printed
 
 -- the line of words that print one alone
-abbrev pub line_of : ProgramWords → Option Bytes
+abbrev pub line_of : ProgramWords → Option (List ℕ)
 line_of (words.Init init) = Some (codes "ok\n")
 line_of (words.Migrate migrate) = Some (codes "version 3\n")
 line_of (words.Book book) = Some (codes "ok\n")
@@ -97,21 +96,21 @@ IsSilent (words.Replay replay) fault = IfLines fault AreUnread
 IsSilent _ fault = IfStream fault (λ _. ⊥)
 
 -- then the output is as it was
-abbrev pub LeavesOutput : ProgramWords → Option Bytes → Option Bytes → ProgramFault → Type 0
+abbrev pub LeavesOutput : ProgramWords → Option (List ℕ) → Option (List ℕ) → ProgramFault → Type 0
 LeavesOutput said before after fault = IsSilent said fault → after ≡ before
 
 -- ---- what is told
 
 -- a fault of which this is so is told by its line, as far as it can be written
-pub record TellsFault (Reached Silent : ProgramFault → Type 0) (old new : Option Bytes)
-    : Type 0 where
-  pub fault : ProgramFault
-  pub reached : Reached fault
-  pub silent : Silent fault
-  pub written : WritesBeginning old new (fault_line fault ++ 10 ∷ [])
+pub record TellsFault (Reached Silent : ProgramFault → Type 0) (old new : Option (List ℕ)) : Type 0
+  where
+    pub fault : ProgramFault
+    pub reached : Reached fault
+    pub silent : Silent fault
+    pub written : WritesBeginning old new (fault_line fault ++ 10 ∷ [])
 
 -- this fault is, or, where it is one of a file of vouchers, want of memory for its line
-abbrev pub TellsAs : ProgramFault → Option Bytes → Option Bytes → Type 0
+abbrev pub TellsAs : ProgramFault → Option (List ℕ) → Option (List ℕ) → Type 0
 TellsAs (program.Lines fault) old new = WritesBeginning old new (lines_line fault ++ 10 ∷ [])
 TellsAs (program.Stream fault) old new = WritesBeginning old new (stream_line fault ++ 10 ∷ [])
 TellsAs (program.Database fault) old new = WritesBeginning old new (database_line fault ++ 10 ∷ [])
@@ -119,13 +118,13 @@ TellsAs (program.Vouchers fault) old new = WritesBeginning old new (voucher_line
     ⊎ WritesBeginning old new (stream_line stream.Memory ++ 10 ∷ [])
 
 -- connections were served: the faults of some of them, each by its line
-pub record ConnectionsTold (connections : ℕ) (old new : Option Bytes) : Type 0 where
+pub record ConnectionsTold (connections : ℕ) (old new : Option (List ℕ)) : Type 0 where
   pub failed : ℕ
   pub few : failed ≤ connections
   pub told : TellsFaults failed old new
 
 -- so it is where the words say `serve`
-pub record ServesConnections (texts : List Text) (old new : Option Bytes) : Type 0 where
+pub record ServesConnections (texts : List Text) (old new : Option (List ℕ)) : Type 0 where
   pub serve : ServeWords
   pub says : IsSaid texts (words.Serve serve)
   pub told : ConnectionsTold serve.connections old new
@@ -133,8 +132,8 @@ pub record ServesConnections (texts : List Text) (old new : Option Bytes) : Type
 -- nothing where all is done, but faults of connections that were served, or where an operator's
 -- command or a statement is refused, which is printed; a fault by its line, which leaves the output
 -- as it was where the words print nothing before it; of words that aren't read the text is `clap`'s, and where `clap` takes them a line
-abbrev pub IsTold : List Text → Option Bytes → Option Bytes → Status → Option Bytes → Option Bytes →
-    Type 0
+abbrev pub IsTold : List Text → Option (List ℕ) → Option (List ℕ) → Status → Option (List ℕ) →
+    Option (List ℕ) → Type 0
 IsTold texts before after Done old new = Keeps old new ⊎ ServesConnections texts old new
 IsTold texts before after Failed old new =
     TellsFault (IsFaultIn texts)
@@ -145,13 +144,13 @@ IsTold texts before after Unread old new =
 
 -- ---- the same by the fault of the words
 
-abbrev pub IsTextTold : Status → Option Bytes → Option Bytes → Type 0
+abbrev pub IsTextTold : Status → Option (List ℕ) → Option (List ℕ) → Type 0
 IsTextTold Done old new = Keeps old new
 IsTextTold Failed old new =
     TellsFault (λ fault. IsMemoryFault fault ⊎ IsWriteFault fault) (λ _. Unit {0}) old new
 IsTextTold Unread old new = Unit {0}
 
-abbrev pub IsToldOf : WordsFault → Status → Option Bytes → Option Bytes → Type 0
+abbrev pub IsToldOf : WordsFault → Status → Option (List ℕ) → Option (List ℕ) → Type 0
 IsToldOf (fault.Unread error) status old new = IsTextTold status old new
 IsToldOf fault.Invalid status old new = WritesBeginning old new (invalid_line ++ 10 ∷ [])
 IsToldOf fault.Memory status old new = TellsFault IsMemoryFault (λ _. Unit {0}) old new
@@ -159,12 +158,12 @@ IsToldOf fault.Memory status old new = TellsFault IsMemoryFault (λ _. Unit {0})
 -- ---- the same by what the words say
 
 -- what is told of what ends well, or is refused
-abbrev pub IsToldAtEnd : ProgramWords → Option Bytes → Option Bytes → Type 0
+abbrev pub IsToldAtEnd : ProgramWords → Option (List ℕ) → Option (List ℕ) → Type 0
 IsToldAtEnd (words.Serve serve) old new = ConnectionsTold serve.connections old new
 IsToldAtEnd _ old new = new ≡ old
 
-abbrev pub IsToldBy : ProgramWords → Option Bytes → Option Bytes → Status → Option Bytes →
-    Option Bytes → Type 0
+abbrev pub IsToldBy : ProgramWords → Option (List ℕ) → Option (List ℕ) → Status →
+    Option (List ℕ) → Option (List ℕ) → Type 0
 IsToldBy said before after Done old new = IsToldAtEnd said old new
 IsToldBy said before after Failed old new =
     TellsFault (IsFaultTold said) (LeavesOutput said before after) old new

@@ -9,16 +9,15 @@ ghost use Rattle.office.specs.Written.{WritesBeginning};
 ghost use Rattle.one_price.specs.OnceBook.{once_book};
 ghost use Rattle.operator.specs.Read.{IsInRange, IsOnceInRange};
 ghost use Rattle.shelves.specs.Shelves.{one_book};
-ghost use Rattle.ocs.specs.Ends.{HasBegun, HasPrinted, IfOnce, IsRefused};
+ghost use Rattle.ocs.specs.Ends.{HasPrinted, IfOnce, IsRefused};
 ghost use Rattle.ocs.specs.Faults.{IsFaultOf, IsOnceFault, IsReachedByLines};
 ghost use Rattle.ocs.specs.Once.{BeginsOnce, WritesOnce};
 ghost use Rattle.ocs.specs.Told.{AreUnread, IfLines, IsSilent, IsToldAtEnd, line_of};
 
 use crate::fault::ProgramFault;
 use crate::making::{answer_book, answer_init, answer_migrate};
-use crate::replaying::answer_replay;
 use crate::serving::answer_serve;
-use crate::storing::{answer_import, answer_office, answer_statement};
+use crate::storing::{answer_import, answer_office, answer_replay, answer_statement};
 use keepers::MemoryKeeper;
 use office::Status;
 use one_price::once_book;
@@ -26,20 +25,18 @@ use operator::{OnceWords, ProgramWords};
 use request_lines::{LinesFault, lines};
 use shelves::TariffShelf;
 use std::alloc::{AllocError, Global};
-use std::fs::Files;
 use std::io::{Read, Write};
 
-/// Does what the words say; the lines of a file are read of `files`. The status is `Failed` where
-/// an operator's command or a statement is refused.
+/// Does what the words say. The status is `Failed` where an operator's command or a statement is
+/// refused.
 ///
 /// # Errors
 /// Each word has its own: `once` one of lines over memory, `init`, `migrate` and `book` one of the
 /// database or of the writer, `serve` one before the first connection, `import` one of the file or
 /// of its command, an operator's command and a statement their command's, `replay` one of a file, of
 /// the database or of the lines.
-pub(crate) fn do_said<F: Files, I: Read, O: Write, E: Write>(
+pub(crate) fn do_said<I: Read, O: Write, E: Write>(
     rt: &HostRuntime,
-    files: &F,
     said: ProgramWords,
     input: &mut I,
     output: &mut O,
@@ -49,9 +46,7 @@ pub(crate) fn do_said<F: Files, I: Read, O: Write, E: Write>(
     ensures ended { IfOk result (IsEnded
         (IsRefused said (O.contents output.old) (O.contents output.new))) }
     ensures answered { IfOk result
-        (HasPrinted F.File.remaining said (O.contents output.old) (O.contents output.new)) }
-    ensures started { OnErr result
-        (HasBegun F.File.remaining said (O.contents output.old) (O.contents output.new)) }
+        (HasPrinted said (O.contents output.old) (O.contents output.new)) }
     ensures reached { IfErr result (IsFaultOf said) }
     ensures told { OnOk result (IsToldAtEnd said (E.contents errors.old) (E.contents errors.new)) }
     ensures untold { OnErr result (errors.new ≡ errors.old) }
@@ -75,7 +70,7 @@ pub(crate) fn do_said<F: Files, I: Read, O: Write, E: Write>(
         ProgramWords::Import(import) => answer_import(rt, import, output),
         ProgramWords::Office(office) => answer_office(rt, office, output),
         ProgramWords::Statement(statement) => answer_statement(rt, statement, output),
-        ProgramWords::Replay(replay) => answer_replay(rt, files, &replay, output),
+        ProgramWords::Replay(replay) => answer_replay(rt, &replay, output),
     }
 }
 

@@ -4,7 +4,6 @@
 mod doing;
 mod fault;
 mod making;
-mod replaying;
 mod serving;
 mod storing;
 mod telling;
@@ -18,7 +17,7 @@ ghost use Rattle.operator.specs.Read.{IsInRange, IsSaid, texts_of};
 ghost use Rattle.operator.specs.declared.parsed.OnceWords.{OnceWords};
 ghost use Rattle.operator.specs.declared.parsed.ProgramWords.{ProgramWords};
 ghost use Rattle.operator.specs.declared.parsed.ProgramWords.TheVariants.{Once};
-ghost use Rattle.ocs.specs.Ends.{HasBegun, HasPrinted, IfOnce, IsEnd, IsEndBy};
+ghost use Rattle.ocs.specs.Ends.{HasPrinted, IfOnce, IsEnd, IsEndBy};
 ghost use Rattle.ocs.specs.Once.{once_text};
 ghost use Rattle.ocs.specs.Told.{IsTold, IsToldBy, line_of};
 
@@ -26,7 +25,6 @@ use crate::doing::do_said;
 use crate::telling::{tell_fault, tell_start, tell_unread};
 use office::Status;
 use operator::{ProgramWords, program_words};
-use std::fs::Files;
 use std::io::{BufReader, Read, Write};
 use std::process::ExitCode;
 use std::{env, io};
@@ -47,24 +45,16 @@ fn run_own_words(rt: &HostRuntime) -> io::Result<Status> {
     let mut reader = BufReader::new(alloc, rt.reader())?;
     let mut writer = io::writer(rt);
     let mut errors = rt.stderr();
-    Ok(run_words(
-        rt,
-        rt,
-        words.as_slice(),
-        &mut reader,
-        &mut writer,
-        &mut errors,
-    ))
+    Ok(run_words(rt, words.as_slice(), &mut reader, &mut writer, &mut errors))
 }
 
-/// Runs the program's words; the lines of a file are read of `files`. `Done` where what they say was
-/// done, or a text that they ask for was written: the help or the version; of connections that were
-/// served, each one's fault is one line on `errors`. `Failed` where an operator's command or a
-/// statement is refused, and at a fault, which is one line on `errors`. `Unread` where they aren't
-/// words of the program: then `output` gets nothing, and `errors` a text that says why.
-pub fn run_words<'a, F: Files, I: Read, O: Write, E: Write>(
+/// Runs the program's words. `Done` where what they say was done, or a text that they ask for was
+/// written: the help or the version; of connections that were served, each one's fault is one line
+/// on `errors`. `Failed` where an operator's command or a statement is refused, and at a fault,
+/// which is one line on `errors`. `Unread` where they aren't words of the program: then `output`
+/// gets nothing, and `errors` a text that says why.
+pub fn run_words<'a, I: Read, O: Write, E: Write>(
     rt: &HostRuntime,
-    files: &F,
     words: &'a [&'a str],
     input: &mut I,
     output: &mut O,
@@ -83,11 +73,7 @@ pub fn run_words<'a, F: Files, I: Read, O: Write, E: Write>(
         result ≡ Failed →
         IfSome (line_of said) (WritesBeginning (O.contents output.old) (O.contents output.new)) }
     ensures answered { (said : ProgramWords) → IsSaid (texts_of words.entry.now) said →
-        result ≡ Done →
-        HasPrinted F.File.remaining said (O.contents output.old) (O.contents output.new) Done }
-    ensures started { (said : ProgramWords) → IsSaid (texts_of words.entry.now) said →
-        result ≡ Failed →
-        HasBegun F.File.remaining said (O.contents output.old) (O.contents output.new) }
+        result ≡ Done → HasPrinted said (O.contents output.old) (O.contents output.new) Done }
     ensures done { (once : OnceWords) → IsSaid (texts_of words.entry.now) (Once once) →
         result ≡ Done → IfSome (I.remaining input.old) (λ stream.
         Appends (O.contents output.old) (O.contents output.new)
@@ -98,16 +84,15 @@ pub fn run_words<'a, F: Files, I: Read, O: Write, E: Write>(
         (once_text (once_book once.price once.block) once.credit stream)) }
 {
     match program_words(rt.alloc(), words) {
-        Ok(said) => run_said(rt, files, said, input, output, errors),
+        Ok(said) => run_said(rt, said, input, output, errors),
         Err(fault) => tell_unread(rt.alloc(), fault, output, errors),
     }
 }
 
 /// Does what the words say, and tells a fault.
-#[tactic(auto, using(crate::proofs::EndLemmas::ended_told, crate::proofs::EndLemmas::ended_end, crate::proofs::EndLemmas::fault_end, crate::proofs::EndLemmas::once_ends, crate::proofs::EndLemmas::line_ends, crate::proofs::EndLemmas::printed_done, crate::proofs::EndLemmas::refused_begun))]
-fn run_said<F: Files, I: Read, O: Write, E: Write>(
+#[tactic(auto, using(crate::proofs::EndLemmas::ended_told, crate::proofs::EndLemmas::ended_end, crate::proofs::EndLemmas::fault_end, crate::proofs::EndLemmas::once_ends, crate::proofs::EndLemmas::line_ends, crate::proofs::EndLemmas::printed_done))]
+fn run_said<I: Read, O: Write, E: Write>(
     rt: &HostRuntime,
-    files: &F,
     said: ProgramWords,
     input: &mut I,
     output: &mut O,
@@ -122,9 +107,7 @@ fn run_said<F: Files, I: Read, O: Write, E: Write>(
     ensures begun { result ≡ Failed →
         IfSome (line_of said) (WritesBeginning (O.contents output.old) (O.contents output.new)) }
     ensures answered { result ≡ Done →
-        HasPrinted F.File.remaining said (O.contents output.old) (O.contents output.new) Done }
-    ensures started { result ≡ Failed →
-        HasBegun F.File.remaining said (O.contents output.old) (O.contents output.new) }
+        HasPrinted said (O.contents output.old) (O.contents output.new) Done }
     ensures unread { IfOnce said (λ _. ⊥) → input.new ≡ input.old }
     ensures done { IfOnce said (λ once. result ≡ Done → IfSome (I.remaining input.old) (λ stream.
         Appends (O.contents output.old) (O.contents output.new)
@@ -133,7 +116,7 @@ fn run_said<F: Files, I: Read, O: Write, E: Write>(
         WritesBeginning (O.contents output.old) (O.contents output.new)
         (once_text (once_book once.price once.block) once.credit stream))) }
 {
-    match do_said(rt, files, said, input, output, errors) {
+    match do_said(rt, said, input, output, errors) {
         Ok(status) => status,
         Err(fault) => tell_fault(rt.alloc(), errors, fault),
     }

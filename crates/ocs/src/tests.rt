@@ -122,7 +122,7 @@ fn run(
 ) -> u8 {
     let words: Vec<&str> = line.split(' ').collect(rt.alloc()).expect(abort, "room");
     let mut input: &[u8] = b"";
-    run_words(rt, rt, words.as_slice(), &mut input, output, errors).number()
+    run_words(rt, words.as_slice(), &mut input, output, errors).number()
 }
 
 /// The line that says what the words come to.

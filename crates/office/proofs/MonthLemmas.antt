@@ -1,6 +1,6 @@
 -- What is told of an account's month is its ledger's.
 use Rattle.std.proofs.Common.{◌≡◌, ℕ, Bool, true, false, List, Option, None, Some, refl, sym, ap}
-use Rattle.std.proofs.Common.{subst, ◌∙◌, ◌≤◌, Result, Ok, Err, arith, inl, inr}
+use Rattle.std.proofs.Common.{subst, ◌∙◌, ◌≤◌, Result, Ok, Err, arith}
 use Rattle.std.specs.Prelude.{if◌then◌else◌, IfOk, OnErr, OnOk}
 use Rattle.std.specs.Io.KnownBytes.{Appends}
 use Rattle.buckets.specs.Row.{Row}
@@ -17,13 +17,12 @@ use Rattle.charging.specs.States.{IsState, IsStateAt, TellsState}
 use Rattle.charging.specs.declared.balances.AccountState.{AccountState}
 use Rattle.charge_sources.specs.Rows.{AreCharges}
 use Rattle.charge_sources.proofs.Numbered.{charges_rise}
-use Rattle.statements.specs.Charges.{Asks, Writes, WritesSome}
+use Rattle.statements.specs.Charges.{Asks, Writes}
 use Rattle.statements.specs.Texts.{export_text, statement_text}
 use Rattle.statements.specs.Texts as month
 use Rattle.statements.specs.declared.fault.StatementFault.{StatementFault}
 use Rattle.statements.specs.declared.fault.StatementFault.TheVariants as statement
-use Rattle.office.specs.Months.{BeginsMonth, IsMonthTold, OnlyReads, PrintsMonth, Tells}
-use Rattle.office.specs.Months.{ledger_text, month_ended}
+use Rattle.office.specs.Months.{IsMonthTold, OnlyReads, Tells, ledger_text, month_ended}
 use Rattle.office.specs.Months.{month_status, month_text, rows_text, unknown_line}
 use Rattle.office.specs.Printed.{IsEnded}
 use Rattle.office.specs.Written.{WritesBeginning}
@@ -73,20 +72,6 @@ writes_as charges old new f g (Err e) same w = record {
   beginning = λ rows are. subst (month.WritesBeginning old new) (same rows) (w.beginning rows are);
 }
 
-pub some_as : {T : Type 0} (old new : Option (List ℕ)) (f g : List ChargeColumns → List ℕ)
-    (r : Result T StatementFault) → ((rows : List ChargeColumns) → f rows ≡ g rows) →
-    WritesSome old new f r → WritesSome old new g r
-some_as old new f g (Ok x) same w = record {
-  rows = w.rows;
-  whole = subst (Appends old new) (same w.rows) w.whole;
-  beginning = tt;
-}
-some_as old new f g (Err e) same w = record {
-  rows = w.rows;
-  whole = tt;
-  beginning = subst (month.WritesBeginning old new) (same w.rows) w.beginning;
-}
-
 -- ---- what is written
 
 begun : {old new : Option (List ℕ)} {text : List ℕ} → month.WritesBeginning old new text →
@@ -111,61 +96,6 @@ pub ended_done : {T : Type 0} (r : Result T StatementFault) (result : Result Sta
     (Refused : Type 0) → result ≡ month_ended r → IfOk result (IsEnded Refused)
 ended_done r result Refused is =
     subst (λ (x : Result Status OfficeFault). IfOk x (IsEnded Refused)) (sym is) (done r Refused)
-
--- ---- what is written, whatever a keeper holds
-
-module _ (b : Shelf) (q : MonthQuery) (t : ℕ) (buckets : List Row) (old new : Option (List ℕ)) where
-  abbrev Text : List ChargeColumns → List ℕ
-  Text rows = rows_text b q t rows buckets
-
-  prints : {T : Type 0} (r : Result T StatementFault) → WritesSome old new Text r →
-      IfOk (month_ended r) (PrintsMonth b q old new)
-  prints (Ok x) w =
-      record { moment = t; charges = w.rows; buckets = buckets; written = w.whole }
-  prints (Err e) w = tt
-
-  begins : {T : Type 0} (r : Result T StatementFault) → WritesSome old new Text r →
-      OnErr (month_ended r) (BeginsMonth b q old new)
-  begins (Ok x) w = tt
-  begins (Err e) w = inl (record {
-    moment = t;
-    charges = w.rows;
-    buckets = buckets;
-    written = begun w.beginning;
-  })
-
-  pub some_printed : {T : Type 0} (r : Result T StatementFault)
-      (result : Result Status OfficeFault) → result ≡ month_ended r → WritesSome old new Text r →
-      IfOk result (PrintsMonth b q old new)
-  some_printed r result is w =
-      subst (λ (x : Result Status OfficeFault). IfOk x (PrintsMonth b q old new)) (sym is)
-      (prints r w)
-
-  pub some_begun : {T : Type 0} (r : Result T StatementFault)
-      (result : Result Status OfficeFault) → result ≡ month_ended r → WritesSome old new Text r →
-      OnErr result (BeginsMonth b q old new)
-  some_begun r result is w =
-      subst (λ (x : Result Status OfficeFault). OnErr x (BeginsMonth b q old new)) (sym is)
-      (begins r w)
-
--- that there is no such account
-pub unknown_printed : (b : Shelf) (q : MonthQuery) (old new : Option (List ℕ))
-    (r : Result Status OfficeFault) → Tells Failed old new unknown_line r →
-    IfOk r (PrintsMonth b q old new)
-unknown_printed b q old new (Ok status) h =
-    subst (PrintsMonth b q old new) (sym h.whole.0) h.whole.1
-unknown_printed b q old new (Err f) h = tt
-
-pub unknown_begun : (b : Shelf) (q : MonthQuery) (old new : Option (List ℕ))
-    (r : Result Status OfficeFault) → Tells Failed old new unknown_line r →
-    OnErr r (BeginsMonth b q old new)
-unknown_begun b q old new (Ok status) h = tt
-unknown_begun b q old new (Err f) h = inr h.beginning
-
--- nothing is a beginning
-pub nothing_begun : (b : Shelf) (q : MonthQuery) (old : Option (List ℕ)) →
-    ((text : List ℕ) → WritesBeginning old old text) → BeginsMonth b q old old
-nothing_begun b q old none = inr (none unknown_line)
 
 -- ---- what is read
 

@@ -1,8 +1,7 @@
 -- What becomes of vouchers that are added, counted.
 -- Source: profile.
-use Rattle.std.specs.Prelude.{ℕ, ◌+◌, ◌++◌, Bool, true, false, [], ◌∷◌, codes}
+use Rattle.std.specs.Prelude.{ℕ, ◌+◌, ◌++◌, Bool, true, false, List, [], ◌∷◌, codes}
 use Rattle.std.specs.Fmt.{decimal}
-use Rattle.byte_streams.specs.Words.{Bytes}
 use Rattle.commands.specs.declared.answer.Answer.{Answer}
 use Rattle.commands.specs.declared.answer.Answer.TheVariants as answer
 use Rattle.redemptions.specs.declared.adding.Addition.{Addition}
@@ -32,10 +31,10 @@ counted true given n = record n { new = n.new + 1 }
 counted false given n = counted_unaccepted given n
 
 -- what is told of them
-abbrev pub counts_text : Counts → Bytes
+abbrev pub counts_text : Counts → List ℕ
 counts_text n = codes "new " ++ (decimal n.new ++ (codes " present " ++ (decimal n.present
     ++ (codes " conflicting " ++ decimal n.conflicting))))
 
 -- and its line feed
-abbrev pub counts_line : Counts → Bytes
+abbrev pub counts_line : Counts → List ℕ
 counts_line n = counts_text n ++ 10 ∷ []

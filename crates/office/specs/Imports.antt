@@ -2,7 +2,6 @@
 -- keeper holds.
 -- Source: profile.
 use Rattle.std.specs.Prelude.{◌≡◌, ◌<◌, ◌≤◌, ℕ, List, [], ◌∷◌, length, map, take, MatchResult, Result}
-use Rattle.units.specs.Words.{Moment}
 use Rattle.commands.specs.declared.command.Command.TheVariants.{AddVoucher}
 use Rattle.commands.specs.declared.command.VoucherAddition.{VoucherAddition}
 use Rattle.shelves.specs.Shelves.{Shelf}
@@ -17,11 +16,11 @@ use Rattle.office.specs.Counts.{counted, counted_as, no_counts}
 use Rattle.office.specs.declared.counts.Counts.{Counts}
 
 -- the command that adds a voucher, handed in with a moment
-abbrev pub addition_at : Moment → VoucherAddition → DatedCommand
+abbrev pub addition_at : ℕ → VoucherAddition → DatedCommand
 addition_at t row = record { moment = t; command = AddVoucher row }
 
 -- those that add vouchers, in their order
-abbrev pub additions : Moment → List VoucherAddition → List DatedCommand
+abbrev pub additions : ℕ → List VoucherAddition → List DatedCommand
 additions t rows = map (addition_at t) rows
 
 -- with one command more, as it was decided after a list

@@ -1,10 +1,8 @@
 -- What is told of an account's month: a statement or an export of it, or that there is no account.
 -- Source: profile.
-use Rattle.std.specs.Prelude.{◌≡◌, ◌⊎◌, ◌+◌, ◌≤◌, ℕ, List, Option, Result, if◌then◌else◌, IfOk}
+use Rattle.std.specs.Prelude.{◌≡◌, ◌+◌, ◌≤◌, ℕ, Bool, List, Option, Result, if◌then◌else◌, IfOk}
 use Rattle.std.specs.Prelude.{Ok, Err, IsErrOf, OnErr, min}
 use Rattle.std.specs.Io.KnownBytes.{Appends}
-use Rattle.units.specs.Words.{Moment}
-use Rattle.byte_streams.specs.Words.{Bytes}
 use Rattle.byte_streams.specs.declared.StreamFault.TheVariants as stream
 use Rattle.buckets.specs.Row.{Row}
 use Rattle.commands.specs.declared.answer.Answer.TheVariants.{Refused}
@@ -31,28 +29,28 @@ use Rattle.office.specs.declared.fault.OfficeFault.{OfficeFault}
 use Rattle.office.specs.declared.fault.OfficeFault.TheVariants.{Store, Write}
 use Rattle.office.specs.declared.stating.MonthQuery.{MonthQuery}
 use Rattle.office.specs.declared.status.Status.{Status}
-use Rattle.office.specs.declared.status.Status.TheVariants.{Done, Failed, Unread}
+use Rattle.office.specs.declared.status.Status.TheVariants.{Done, Failed}
 
 -- ---- texts
 
 -- the text of these charges and buckets, as of a moment; the month is civil in the zone of the
 -- first book, which all books of a shelf have
-abbrev pub rows_text : Shelf → MonthQuery → Moment → List ChargeColumns → List Row → Bytes
+abbrev pub rows_text : Shelf → MonthQuery → ℕ → List ChargeColumns → List Row → List ℕ
 rows_text b q t charges buckets =
     if q.csv then export_text b.first q.month charges
     else statement_text b.first q.account q.month t charges buckets
 
 -- of an account's ledger: all of its charges, and its buckets at the moment, by number
-abbrev pub ledger_text : Shelf → MonthQuery → Moment → Ledger → Bytes
+abbrev pub ledger_text : Shelf → MonthQuery → ℕ → Ledger → List ℕ
 ledger_text b q t ledger =
     rows_text b q t (charge_rows ledger) (by_number (buckets_at (validity_of b) t ledger))
 
 -- the line of an account that isn't there
-abbrev pub unknown_line : Bytes
+abbrev pub unknown_line : List ℕ
 unknown_line = answer_line (Refused AccountUnknown)
 
 -- what is told of an account by its history, and how that ends: one that wasn't opened is refused
-abbrev pub month_text : Shelf → MonthQuery → Moment → History → Bytes
+abbrev pub month_text : Shelf → MonthQuery → ℕ → History → List ℕ
 month_text b q t h = if h.opened then ledger_text b q t h.ledger else unknown_line
 
 abbrev pub month_status : History → Status
@@ -61,39 +59,19 @@ month_status h = if h.opened then Done else Failed
 -- ---- what is written
 
 -- the text is written, and it ends so; at a fault a beginning of the text is
-pub record Tells (ends : Status) (old new : Option Bytes) (text : Bytes)
+pub record Tells (ends : Status) (old new : Option (List ℕ)) (text : List ℕ)
     (result : Result Status OfficeFault) : Type 0 where
   pub whole : IfOk result (λ status. (status ≡ ends) × Appends old new text)
   pub beginning : OnErr result (WritesBeginning old new text)
 
 -- so the month is told as of the moment of a command, for every list of accepted commands whose
 -- tables a keeper holds
-abbrev pub IsMonthTold : Shelf → MonthQuery → Moment → Tables → Option Bytes → Option Bytes →
+abbrev pub IsMonthTold : Shelf → MonthQuery → ℕ → Tables → Option (List ℕ) → Option (List ℕ) →
     Result Status OfficeFault → Type 0
 IsMonthTold b q t tables old new result =
     (list : List Accepted) → IsInTime list → AreTables b list tables →
     Tells (month_status (history b q.account list)) old new
     (month_text b q (moment_of list t) (history b q.account list)) result
-
--- ---- what is written, whatever a keeper holds
-
--- the text of an account's month with some charges and buckets, as of some moment
-pub record WritesMonth (b : Shelf) (q : MonthQuery) (Writes : Bytes → Type 0) : Type 0 where
-  pub moment : Moment
-  pub charges : List ChargeColumns
-  pub buckets : List Row
-  pub written : Writes (rows_text b q moment charges buckets)
-
--- it is written where all is done; where it is refused, that the account isn't there
-abbrev pub PrintsMonth : Shelf → MonthQuery → Option Bytes → Option Bytes → Status → Type 0
-PrintsMonth b q old new Done = WritesMonth b q (Appends old new)
-PrintsMonth b q old new Failed = Appends old new unknown_line
-PrintsMonth b q old new Unread = ⊥
-
--- or a beginning of one of them
-abbrev pub BeginsMonth : Shelf → MonthQuery → Option Bytes → Option Bytes → Type 0
-BeginsMonth b q old new =
-    WritesMonth b q (WritesBeginning old new) ⊎ WritesBeginning old new unknown_line
 
 -- ---- what is read
 

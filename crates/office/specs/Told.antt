@@ -1,7 +1,6 @@
 -- What an operator's command tells: its answer as a line, a fault as one line, and a status.
 -- Source: profile.
-use Rattle.std.specs.Prelude.{ℕ, ◌++◌, ◌∷◌, [], codes}
-use Rattle.byte_streams.specs.Words.{Bytes}
+use Rattle.std.specs.Prelude.{ℕ, ◌++◌, ◌∷◌, [], List, codes}
 use Rattle.byte_streams.specs.declared.StreamFault.{StreamFault}
 use Rattle.byte_streams.specs.declared.StreamFault.TheVariants as stream
 use Rattle.commands.specs.declared.answer.Answer.{Answer}
@@ -15,7 +14,7 @@ use Rattle.office.specs.declared.status.Status.TheVariants.{Done, Failed, Unread
 use Rattle.wire_answers.specs.Spelled.{answer_text}
 
 -- an answer with its line feed
-abbrev pub answer_line : Answer → Bytes
+abbrev pub answer_line : Answer → List ℕ
 answer_line given = answer_text given ++ 10 ∷ []
 
 -- a refusal is no success
@@ -32,16 +31,16 @@ status_number Done = 0
 status_number Failed = 1
 status_number Unread = 2
 
-abbrev pub store_line : StoreFault → Bytes
+abbrev pub store_line : StoreFault → List ℕ
 store_line store.Memory = codes "ocs: store fault 1"
 store_line store.Store = codes "ocs: store fault 2"
 
-abbrev pub stream_line : StreamFault → Bytes
+abbrev pub stream_line : StreamFault → List ℕ
 stream_line stream.Memory = codes "ocs: memory fault"
 stream_line stream.Read = codes "ocs: file fault"
 stream_line stream.Write = codes "ocs: file fault"
 
 -- a fault's line
-abbrev pub fault_line : OfficeFault → Bytes
+abbrev pub fault_line : OfficeFault → List ℕ
 fault_line (Store fault) = store_line fault
 fault_line (Write fault) = stream_line fault

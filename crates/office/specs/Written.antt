@@ -1,12 +1,11 @@
 -- What is written at a fault.
 -- Source: profile.
-use Rattle.std.specs.Prelude.{◌≡◌, ◌++◌, Option}
+use Rattle.std.specs.Prelude.{◌≡◌, ℕ, List, ◌++◌, Option}
 use Rattle.std.specs.Io.KnownBytes.{Appends}
-use Rattle.byte_streams.specs.Words.{Bytes}
 
 -- a beginning of a text is written
-pub record WritesBeginning (old new : Option Bytes) (text : Bytes) : Type 0 where
-  pub part : Bytes
-  pub rest : Bytes
+pub record WritesBeginning (old new : Option (List ℕ)) (text : List ℕ) : Type 0 where
+  pub part : List ℕ
+  pub rest : List ℕ
   pub written : Appends old new part
   pub whole : text ≡ part ++ rest

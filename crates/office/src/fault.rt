@@ -1,5 +1,3 @@
-//! Why an operator's command wasn't done or answered.
-
 ghost use Rattle.std.specs.Prelude.{◌≡◌};
 ghost use Rattle.office.specs.Told.{fault_line, store_line, stream_line};
 

@@ -115,15 +115,19 @@ pub fn serve_import<K: Keeper, W: Write>(
         (K.content keeper.new) }
     ensures honesty { K.honest keeper.new → K.honest keeper.old }
     ensures stands { K.honest keeper.new → K.clean keeper.old → OnOk result (K.clean keeper.new) }
-    ensures asked { (fault : StreamFault) → result ≡ Err (Write fault) → K.honest keeper.new →
-        K.clean keeper.old → K.clean keeper.new }
     ensures left { Leaves K.honest K.left keeper.old keeper.new
         (HoldsBeginning shelf.now (additions moment rows.items) (K.content keeper.old)) }
     ensures stops { StopsAtStore K.failed K.clean keeper.old keeper.new writer.old writer.new
         result }
 {
-    let counts = import(alloc, keeper, shelf, rows, moment).map_err(OfficeFault::Store)?;
-    write_counts(alloc, writer, counts).map_err(OfficeFault::Write)
+    let counts = match import(alloc, keeper, shelf, rows, moment) {
+        Ok(counts) => counts,
+        Err(fault) => return Err(OfficeFault::Store(fault)),
+    };
+    match write_counts(alloc, writer, counts) {
+        Ok(()) => Ok(()),
+        Err(fault) => Err(OfficeFault::Write(fault)),
+    }
 }
 
 /// Writes counts as a line.

@@ -1,5 +1,3 @@
-//! An operator's command over a keeper.
-
 ghost use Rattle.std.specs.Prelude.{◌≡◌, Err, IfOk, OnOk};
 ghost use Rattle.std.specs.Io.KnownBytes.{Appends};
 ghost use Rattle.byte_streams.specs.declared.StreamFault.{StreamFault};
@@ -63,8 +61,12 @@ pub fn serve_office<K: Keeper, W: Write>(
     ensures stops { StopsAtStore K.failed K.clean keeper.old keeper.new writer.old writer.new
         result }
 {
-    let command = command.into_command();
-    let answer = step(alloc, keeper, shelf, command, moment).map_err(OfficeFault::Store)?;
-    write_answer_line(alloc, writer, &answer).map_err(OfficeFault::Write)?;
-    Ok(status_of(&answer))
+    let answer = match step(alloc, keeper, shelf, command.into_command(), moment) {
+        Ok(answer) => answer,
+        Err(fault) => return Err(OfficeFault::Store(fault)),
+    };
+    match write_answer_line(writer, &answer) {
+        Ok(()) => Ok(status_of(answer.answer())),
+        Err(fault) => Err(OfficeFault::Write(fault)),
+    }
 }

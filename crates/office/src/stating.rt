@@ -4,9 +4,9 @@ ghost use Rattle.std.specs.Prelude.{◌≡◌, IfOk, OnOk, OnErr, IsErrOf};
 ghost use Rattle.std.specs.Io.KnownBytes.{Appends};
 ghost use Rattle.keepers.specs.Tables.{Tables};
 ghost use Rattle.keepers.specs.declared.fault.StoreFault.TheVariants.{Store as StoreFailed};
-ghost use Rattle.statements.specs.Charges.{Asks, Writes, WritesSome};
-ghost use Rattle.office.specs.Months.{BeginsMonth, IsMonthTold, OnlyReads, PrintsMonth, Tells};
-ghost use Rattle.office.specs.Months.{month_ended, month_fault, rows_text, unknown_line};
+ghost use Rattle.statements.specs.Charges.{Asks, Writes};
+ghost use Rattle.office.specs.Months.{IsMonthTold, OnlyReads, Tells, month_ended, month_fault};
+ghost use Rattle.office.specs.Months.{rows_text, unknown_line};
 ghost use Rattle.office.specs.Printed.{IsEnded};
 ghost use Rattle.office.specs.Written.{WritesBeginning};
 ghost use Rattle.office.specs.declared.fault.OfficeFault.TheVariants.{Store};
@@ -26,6 +26,7 @@ use shelves::TariffShelf;
 use statements::{AccountMonth, StatementFault, export, statement};
 use std::alloc::Global;
 use std::io::Write;
+use wire_answers::WrittenAnswer;
 use units::Moment;
 
 /// What is asked of an account: its charges of a month.
@@ -60,10 +61,6 @@ pub fn serve_statement<K: ChargeSource, W: Write>(
         (W.contents writer.old) (W.contents writer.new) result }
     ensures ended { IfOk result (IsEnded
         (Appends (W.contents writer.old) (W.contents writer.new) unknown_line)) }
-    ensures printed { IfOk result (PrintsMonth shelf.now query.now
-        (W.contents writer.old) (W.contents writer.new)) }
-    ensures begun { OnErr result (BeginsMonth shelf.now query.now
-        (W.contents writer.old) (W.contents writer.new)) }
     ensures reads { OnlyReads K.content K.failed K.clean keeper.old keeper.new result }
     ensures honesty { K.honest keeper.new → K.honest keeper.old }
     ensures stands { K.honest keeper.new → OnOk result (K.clean keeper.new) }
@@ -91,9 +88,6 @@ fn write_month<K: ChargeSource, W: Write>(
     ensures writes { K.clean keeper.new →
         Writes ((K.content keeper.old).charges query.now.account)
         (W.contents writer.old) (W.contents writer.new)
-        (λ rows. rows_text shelf.now query.now state.now.moment rows state.now.buckets.items)
-        result }
-    ensures some { WritesSome (W.contents writer.old) (W.contents writer.new)
         (λ rows. rows_text shelf.now query.now state.now.moment rows state.now.buckets.items)
         result }
     ensures asks { Asks K.content K.failed K.honest K.clean K.left keeper.old keeper.new
@@ -160,5 +154,6 @@ fn write_unknown<W: Write>(alloc: Global, writer: &mut W) -> Result<(), StreamFa
         (WritesBeginning (W.contents writer.old) (W.contents writer.new) unknown_line) }
 {
     let unknown = Answer::Refused(Refusal::AccountUnknown);
-    write_answer_line(alloc, writer, &unknown)
+    let unknown = WrittenAnswer::new(alloc, unknown)?;
+    write_answer_line(writer, &unknown)
 }

@@ -1,5 +1,3 @@
-//! The exit status.
-
 ghost use Rattle.std.specs.Prelude.{◌≡◌};
 ghost use Rattle.office.specs.Told.{status_number, status_of};
 

@@ -1,15 +1,11 @@
-//! Lines of answers.
-
 ghost use Rattle.std.specs.Prelude.{◌≡◌, ◌++◌, ◌∷◌, [], string_bytes, OnOk, OnErr};
 ghost use Rattle.std.specs.Io.KnownBytes.{Appends};
 ghost use Rattle.office.specs.Told.{answer_line};
 ghost use Rattle.office.specs.Written.{WritesBeginning};
 
 use byte_streams::{StreamFault, write_whole};
-use commands::Answer;
-use std::alloc::Global;
 use std::io::Write;
-use wire_answers::write_answer;
+use wire_answers::WrittenAnswer;
 
 /// Writes a text and a line feed.
 ///
@@ -29,17 +25,16 @@ pub fn write_line<W: Write>(writer: &mut W, text: String) -> Result<(), StreamFa
     Ok(())
 }
 
-/// Writes an answer as a line.
+/// Writes an answer as a line; this takes no memory.
 pub(crate) fn write_answer_line<W: Write>(
-    alloc: Global,
     writer: &mut W,
-    answer: &Answer,
+    answer: &WrittenAnswer,
 ) -> Result<(), StreamFault>
     ensures written { OnOk result
         (Appends (W.contents writer.old) (W.contents writer.new) (answer_line answer.now)) }
     ensures err { OnErr result
         (WritesBeginning (W.contents writer.old) (W.contents writer.new) (answer_line answer.now)) }
 {
-    let text = write_answer(alloc, answer)?;
-    write_line(writer, text)
+    write_whole(writer, answer.text().as_bytes())?;
+    write_whole(writer, b"\n")
 }

@@ -2,7 +2,6 @@
 -- Source: profile.
 use Rattle.std.specs.Prelude.{◌≡◌, ℕ, List, [], ◌∷◌, ◌++◌, codes, length, Option}
 use Rattle.std.specs.Fmt.{decimal}
-use Rattle.byte_streams.specs.Words.{Bytes}
 use Rattle.office.specs.Written.{WritesBeginning}
 use Rattle.http_api.specs.declared.fault.ServeFault.{ServeFault}
 use Rattle.http_api.specs.declared.fault.ServeFault.TheVariants.{Memory, Read, Write}
@@ -12,11 +11,11 @@ use Rattle.database_office.specs.declared.fault.DatabaseFault.TheVariants as dat
 -- ---- lines, with their line feeds
 
 -- a port is listened to
-abbrev pub listening_line : ℕ → Bytes
+abbrev pub listening_line : ℕ → List ℕ
 listening_line port = codes "listening 127.0.0.1:" ++ (decimal port ++ codes "\n")
 
 -- a connection's fault: a socket's is the network's
-abbrev pub fault_line : ServeFault → Bytes
+abbrev pub fault_line : ServeFault → List ℕ
 fault_line Memory = codes "ocs: memory fault\n"
 fault_line Read = codes "ocs: net fault\n"
 fault_line Write = codes "ocs: net fault\n"
@@ -24,14 +23,14 @@ fault_line Write = codes "ocs: net fault\n"
 -- ---- connections
 
 -- the faults are written one after another, each as its line or a beginning of it
-abbrev pub WritesFaults : List ServeFault → Option Bytes → Option Bytes → Type 0
+abbrev pub WritesFaults : List ServeFault → Option (List ℕ) → Option (List ℕ) → Type 0
 WritesFaults [] old new = new ≡ old
 WritesFaults (fault ∷ faults) old new =
     (between : Option (List ℕ)) × WritesBeginning old between (fault_line fault)
     × WritesFaults faults between new
 
 -- so many faults are
-pub record TellsFaults (count : ℕ) (old new : Option Bytes) : Type 0 where
+pub record TellsFaults (count : ℕ) (old new : Option (List ℕ)) : Type 0 where
   pub faults : List ServeFault
   pub count_is : length faults ≡ count
   pub written : WritesFaults faults old new

@@ -3,16 +3,15 @@
 use Rattle.std.specs.Prelude.{◌≡◌, ℕ, ◌<◌, ◌==◌, List, length, Option, Some, None, nat_le, nat_lt}
 use Rattle.std.specs.Prelude.{if◌then◌else◌, option_and_then}
 use Rattle.std.specs.List.{before_first, after_first, position_or_len}
-use Rattle.units.specs.Words.{Moment, no_end}
 use Rattle.written_numbers.specs.Numbers.{number_of}
 use Rattle.operator.specs.declared.dated.DatedLine.{DatedLine}
 
 -- a moment of a command
-abbrev pub as_command : Moment → Option Moment
-as_command seconds = if nat_lt seconds no_end then Some seconds else None
+abbrev pub as_command : ℕ → Option ℕ
+as_command seconds = if nat_lt seconds 4102444800 then Some seconds else None
 
 -- 1 to 10 digits say it
-abbrev pub moment_of : List ℕ → Option Moment
+abbrev pub moment_of : List ℕ → Option ℕ
 moment_of digits =
     if nat_le (length digits) 10 then option_and_then as_command (number_of digits) else None
 

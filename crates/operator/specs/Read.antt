@@ -2,7 +2,6 @@
 -- Source: profile.
 use Rattle.std.specs.Prelude.{◌≡◌, ◌≢◌, ℕ, ◌≤◌, List, [], map, Option, IfSome, Ok, Err}
 use Rattle.std.specs.Borrow.{Bor}
-use Rattle.units.specs.Words.{Moment}
 use Rattle.clap.specs.Values.{kind_of}
 use Rattle.clap.specs.Words.{IsAmong, Kinds, Text, fault_of, subcommand_of}
 use Rattle.operator.specs.Program.{program_app}
@@ -57,7 +56,7 @@ IsRefused kinds Memory = Unit {0}
 -- ---- ranges
 
 -- the moment of a command, where it is told
-abbrev pub IsAtInRange : Option Moment → Type 0
+abbrev pub IsAtInRange : Option ℕ → Type 0
 IsAtInRange at = IfSome at (λ t. t ≤ 4_102_444_799)
 
 -- 1 micro-unit or more, a price up to 10^9 micro-units a block, and 1 to 10^15 seconds a block

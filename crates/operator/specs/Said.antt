@@ -3,8 +3,6 @@
 -- Source: profile.
 use Rattle.std.specs.Prelude.{ℕ, ◌&&◌, nat_le, Bool, List, [], Option, Some, None, Result, Ok, Err}
 use Rattle.std.specs.Prelude.{codes, unwrap_or}
-use Rattle.units.specs.Words.{Moment, GroupId, no_end, greatest_number}
-use Rattle.written_numbers.specs.Words.{MonthNumber}
 use Rattle.commands.specs.declared.allowance.Allowance.{Allowance}
 use Rattle.commands.specs.declared.command.Credit.{Credit}
 use Rattle.clap.specs.Words.{Row, Text, first_of}
@@ -59,23 +57,23 @@ optional_in low high (Some text) = do
   Ok (Some n)
 
 -- the moment of a command, where it is told
-abbrev pub at_of : List Row → Result (Option Moment) ValueFault
+abbrev pub at_of : List Row → Result (Option ℕ) ValueFault
 at_of rows = optional_in 0 4_102_444_799 (first_of (codes "at") rows)
 
 -- until when a credit can be used, where it is told
-abbrev pub until_of : List Row → Result (Option Moment) ValueFault
-until_of rows = optional_in 1 no_end (first_of (codes "until") rows)
+abbrev pub until_of : List Row → Result (Option ℕ) ValueFault
+until_of rows = optional_in 1 4_102_444_800 (first_of (codes "until") rows)
 
 -- the rating group that a credit pays for, where it is told
-abbrev pub scope_of : List Row → Result (Option GroupId) ValueFault
-scope_of rows = optional_in 0 greatest_number (first_of (codes "scope") rows)
+abbrev pub scope_of : List Row → Result (Option ℕ) ValueFault
+scope_of rows = optional_in 0 4_294_967_295 (first_of (codes "scope") rows)
 
 -- the rating group of an allowance, which must be told
-abbrev pub group_of : List Row → Result GroupId ValueFault
-group_of rows = number_at 0 greatest_number (codes "scope") rows
+abbrev pub group_of : List Row → Result ℕ ValueFault
+group_of rows = number_at 0 4_294_967_295 (codes "scope") rows
 
 -- the moment from which a book holds
-abbrev pub from_of : List Row → Result Moment ValueFault
+abbrev pub from_of : List Row → Result ℕ ValueFault
 from_of rows = number_at 0 4_102_444_799 (codes "from") rows
 
 unfoldable pub path_at : Text → List Row → Result Text ValueFault
@@ -96,7 +94,7 @@ reference_of rows = do
   text ← word (codes "REFERENCE") rows
   where_holds (is_reference text) Invalid text
 
-unfoldable pub month_at : List Row → Result MonthNumber ValueFault
+unfoldable pub month_at : List Row → Result ℕ ValueFault
 month_at rows = do
   text ← word (codes "YYYYMM") rows
   or_fault Invalid (month_of text)

@@ -1,5 +1,3 @@
-//! The names of the program's commands.
-
 ghost use Rattle.std.specs.Prelude.{◌≡◌, nat_eq};
 ghost use Rattle.std.specs.List.{find};
 ghost use Rattle.std.specs.Cmp.Lexicographic.{pointwise};

@@ -1,5 +1,3 @@
-//! A line with a moment in front.
-
 ghost use Rattle.std.specs.Prelude.{◌≡◌, IfSome, IfNone, ◌≢◌};
 ghost use Rattle.operator.specs.Lines.{moment_of, IsDated};
 

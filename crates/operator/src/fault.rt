@@ -1,5 +1,3 @@
-//! Why words aren't the program's.
-
 use std::alloc::AllocError;
 use thiserror::Error;
 

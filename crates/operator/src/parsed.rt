@@ -1,5 +1,3 @@
-//! What the program's words say.
-
 ghost use Rattle.std.specs.Prelude.{◌≡◌};
 ghost use Rattle.operator.specs.Office.{command_of};
 

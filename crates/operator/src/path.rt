@@ -1,5 +1,3 @@
-//! The path of a file.
-
 ghost use Rattle.std.specs.Prelude.{◌≡◌, IfOk, Some, None, IsTrue, if◌then◌else◌};
 ghost use Rattle.operator.specs.Paths.{is_file_path};
 

@@ -1,5 +1,3 @@
-//! The program's words, read.
-
 ghost use Rattle.std.specs.Prelude.{◌≡◌, [], IfErr, IfOk, option_map};
 ghost use Rattle.clap.specs.Words.{FailsBy, fault_of, found_of, rows_of, subcommand_of};
 ghost use Rattle.clap.specs.Words.{subcommand_rows_of};
@@ -56,7 +54,10 @@ fn found_in<'a>(alloc: Global, words: &'a [&'a str]) -> Result<ArgMatches<'a>, W
     ensures refused { IfErr result
         (IsRefused (fault_of program_app (texts_of words.entry.now))) }
 {
-    matches_in(alloc, words).map_err(refusal)
+    match matches_in(alloc, words) {
+        Ok(matches) => Ok(matches),
+        Err(error) => Err(refusal(error)),
+    }
 }
 
 fn matches_in<'a>(alloc: Global, words: &'a [&'a str]) -> Result<ArgMatches<'a>, Error>
@@ -86,7 +87,9 @@ fn said_in(alloc: Global, matches: &ArgMatches<'_>) -> Result<ProgramWords, Valu
     let Some((name, inner)) = entered(matches) else {
         return Err(ValueFault::Invalid);
     };
-    let command = CommandName::named(name).ok_or(ValueFault::Invalid)?;
+    let Some(command) = CommandName::named(name) else {
+        return Err(ValueFault::Invalid);
+    };
     said_of(alloc, command, inner)
 }
 

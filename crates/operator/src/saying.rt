@@ -1,5 +1,3 @@
-//! What the words of each command say.
-
 ghost use Rattle.std.specs.Prelude.{◌≡◌, ◌≤◌, IfOk};
 ghost use Rattle.clap.specs.Words.{found_of, rows_of};
 ghost use Rattle.first_fault.specs.Steps.{GivesUnless, Says};

@@ -1,5 +1,3 @@
-//! The values of operands and options.
-
 ghost use Rattle.std.specs.Prelude.{◌≡◌, ◌≤◌, IfOk, IfSome, codes, option_map};
 ghost use Rattle.clap.specs.Words.{found_of, first_of, rows_of};
 ghost use Rattle.first_fault.specs.Steps.{GivesUnless, Says};
@@ -37,7 +35,9 @@ fn number_in(low: u64, high: u64, word: &str) -> Result<u64, ValueFault>
     ensures value { Says (λ n. n) result (number_in low high word.now) }
     ensures in_range { IfOk result (λ n. (low ≤ n) × (n ≤ high)) }
 {
-    let number = number(word).ok_or(ValueFault::Invalid)?;
+    let Some(number) = number(word) else {
+        return Err(ValueFault::Invalid);
+    };
     if low <= number && number <= high {
         Ok(number)
     } else {

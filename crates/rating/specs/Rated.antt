@@ -1,7 +1,6 @@
 -- Rated amounts (TS 32.296, rating), block by block.
-use Rattle.std.specs.Prelude.{◌≡◌, zero, suc, ◌+◌, ◌-◌, ◌<◌, min, List, [], ◌∷◌, ◌++◌, sum_by}
+use Rattle.std.specs.Prelude.{◌≡◌, ℕ, zero, suc, ◌+◌, ◌-◌, ◌<◌, min, List, [], ◌∷◌, ◌++◌, sum_by}
 use Rattle.std.specs.Prelude.{length, drop}
-use Rattle.units.specs.Words.{Micros, UnitCount, BlockCount, Place}
 use Rattle.units.specs.Blocks.{started}
 use Rattle.tariffs.specs.Prices.{block_price}
 use Rattle.tariffs.specs.declared.tiers.Tier.{Tier}
@@ -11,24 +10,24 @@ use Rattle.rating.specs.declared.report.Part.{Part}
 use Rattle.rating.specs.declared.report.Rated.{Rated}
 
 -- the rated amount of n blocks: the sum of their prices, at the places after one on the counter
-unfoldable pub rated_amount : List Tier → Place → BlockCount → Micros
+unfoldable pub rated_amount : List Tier → ℕ → ℕ → ℕ
 rated_amount tiers place zero = 0
 rated_amount tiers place (suc n) = rated_amount tiers place n + block_price tiers (place + suc n)
 
 -- the same of n blocks the first of which are covered: these cost nothing, and each other block
 -- keeps its place
-abbrev pub uncovered_amount : List Tier → Place → BlockCount → BlockCount → Micros
+abbrev pub uncovered_amount : List Tier → ℕ → ℕ → ℕ → ℕ
 uncovered_amount tiers place covered n = rated_amount tiers (place + covered) (n - covered)
 
 -- the blocks that the parts of a report start, each after the use that the one before left
-unfoldable pub report_blocks : UnitCount → UnitCount → List Part → BlockCount
+unfoldable pub report_blocks : ℕ → ℕ → List Part → ℕ
 report_blocks block used [] = 0
 report_blocks block used (part ∷ parts) =
     started used part.units.0 block + report_blocks block (used + part.units.0) parts
 
 -- their rated amount: each part on its side, after the use, at the place, and with what is left of
 -- the covered blocks, as the one before left them
-unfoldable pub report_amount : GroupPrices → UnitCount → Place → BlockCount → List Part → Micros
+unfoldable pub report_amount : GroupPrices → ℕ → ℕ → ℕ → List Part → ℕ
 report_amount p used place covered [] = 0
 report_amount p used place covered (part ∷ parts) =
     uncovered_amount (tiers_on p part.side) place covered
@@ -37,7 +36,7 @@ report_amount p used place covered (part ∷ parts) =
     (covered - started used part.units.0 p.tariff.block) parts
 
 -- a report's price: its rated amount, its blocks, and how many of them are covered
-abbrev pub rated_report : GroupPrices → UnitCount → Place → BlockCount → List Part → Rated
+abbrev pub rated_report : GroupPrices → ℕ → ℕ → ℕ → List Part → Rated
 rated_report p used place covered parts = record {
   amount = record { 0 = report_amount p used place covered parts };
   blocks = report_blocks p.tariff.block used parts;
@@ -45,56 +44,53 @@ rated_report p used place covered parts = record {
 }
 
 -- a part of some units on a side
-abbrev pub part_of : Side → UnitCount → Part
+abbrev pub part_of : Side → ℕ → Part
 part_of side units = record { side = side; units = record { 0 = units } }
 
 -- the law of cutting: units used in two parts on one side, with nothing between, start and cost
 -- what they do as one
 abbrev pub CutsAlike : Type 0
 CutsAlike =
-    (p : GroupPrices) (used : UnitCount) (place : Place) (covered : BlockCount)
-    (before after : List Part) (side : Side)
-    (one two : UnitCount) →
+    (p : GroupPrices) (used place covered : ℕ) (before after : List Part) (side : Side)
+    (one two : ℕ) →
     0 < p.tariff.block
     → rated_report p used place covered (before ++ part_of side one ∷ part_of side two ∷ after)
     ≡ rated_report p used place covered (before ++ part_of side (one + two) ∷ after)
 
 -- the units of a report
-abbrev pub units_of : List Part → UnitCount
+abbrev pub units_of : List Part → ℕ
 units_of parts = sum_by (λ part. part.units.0) parts
 
 -- two reports after each other start and cost what their parts do as one report; the second has
 -- what the first leaves of the covered blocks
-pub record FollowsAt (p : GroupPrices) (used : UnitCount) (place : Place) (covered : BlockCount)
-    (parts more : List Part) : Type 0 where
-  pub blocks : report_blocks p.tariff.block used (parts ++ more)
-      ≡ report_blocks p.tariff.block used parts
-      + report_blocks p.tariff.block (used + units_of parts) more
-  pub amount : report_amount p used place covered (parts ++ more)
-      ≡ report_amount p used place covered parts
-      + report_amount p (used + units_of parts)
-      (place + report_blocks p.tariff.block used parts)
-      (covered - report_blocks p.tariff.block used parts) more
+pub record FollowsAt (p : GroupPrices) (used place covered : ℕ) (parts more : List Part) : Type 0
+  where
+    pub blocks : report_blocks p.tariff.block used (parts ++ more)
+        ≡ report_blocks p.tariff.block used parts
+        + report_blocks p.tariff.block (used + units_of parts) more
+    pub amount : report_amount p used place covered (parts ++ more)
+        ≡ report_amount p used place covered parts
+        + report_amount p (used + units_of parts)
+        (place + report_blocks p.tariff.block used parts)
+        (covered - report_blocks p.tariff.block used parts) more
 
 abbrev pub FollowsOn : Type 0
-FollowsOn = (p : GroupPrices) (used : UnitCount) (place : Place) (covered : BlockCount)
-    (parts more : List Part) →
+FollowsOn = (p : GroupPrices) (used place covered : ℕ) (parts more : List Part) →
     FollowsAt p used place covered parts more
 
 -- no more blocks are covered than are started
 abbrev pub CoversNoMore : Type 0
-CoversNoMore = (p : GroupPrices) (used : UnitCount) (place : Place) (covered : BlockCount)
-    (parts : List Part) →
+CoversNoMore = (p : GroupPrices) (used place covered : ℕ) (parts : List Part) →
     report_amount p used place covered parts
     ≡ report_amount p used place (min (report_blocks p.tariff.block used parts) covered) parts
 
 -- the prices of n blocks, each at its own place after one on the counter
-unfoldable pub block_prices : List Tier → Place → BlockCount → List Micros
+unfoldable pub block_prices : List Tier → ℕ → ℕ → List ℕ
 block_prices tiers place zero = []
 block_prices tiers place (suc n) = block_price tiers (place + 1) ∷ block_prices tiers (place + 1) n
 
 -- the prices of the blocks that a report starts, each on its part's side and at its own place
-unfoldable pub report_prices : GroupPrices → UnitCount → Place → List Part → List Micros
+unfoldable pub report_prices : GroupPrices → ℕ → ℕ → List Part → List ℕ
 report_prices p used place [] = []
 report_prices p used place (part ∷ parts) =
     block_prices (tiers_on p part.side) place (started used part.units.0 p.tariff.block)
@@ -103,14 +99,12 @@ report_prices p used place (part ∷ parts) =
 
 -- each started block has its price at its own place, and the rated amount is the sum of these
 -- prices without the first ones, which are covered
-pub record CoversAt (p : GroupPrices) (used : UnitCount) (place : Place) (covered : BlockCount)
-    (parts : List Part) : Type 0 where
+pub record CoversAt (p : GroupPrices) (used place covered : ℕ) (parts : List Part) : Type 0 where
   pub blocks : report_blocks p.tariff.block used parts
       ≡ length (report_prices p used place parts)
   pub amount : report_amount p used place covered parts
       ≡ sum_by (λ price. price) (drop covered (report_prices p used place parts))
 
 abbrev pub CoversTheFirst : Type 0
-CoversTheFirst = (p : GroupPrices) (used : UnitCount) (place : Place) (covered : BlockCount)
-    (parts : List Part) →
+CoversTheFirst = (p : GroupPrices) (used place covered : ℕ) (parts : List Part) →
     CoversAt p used place covered parts

@@ -2,8 +2,6 @@
 -- Source: profile.
 use Rattle.std.specs.Prelude.{ℕ, ◌+◌, ◌&&◌, Bool, false, List, [], ◌∷◌, Option, is_ok}
 use Rattle.std.specs.Prelude.{if◌then◌else◌}
-use Rattle.units.specs.Words.{Moment}
-use Rattle.identifiers.specs.Words.{AccountName, VoucherCode}
 use Rattle.identifiers.specs.Texts.{same_name}
 use Rattle.redemptions.specs.declared.terms.VoucherTerms.{VoucherTerms}
 use Rattle.redemptions.specs.declared.voucher.Voucher.{Voucher}
@@ -12,16 +10,16 @@ use Rattle.redemptions.specs.Redeeming.{DayEnds, redemption, after_redemption}
 
 -- a voucher is added under a code; an account redeems one at a moment
 pub data VoucherCommand : Type 0 where
-  Adds : (code : VoucherCode) (terms : VoucherTerms) → VoucherCommand
-  Redeems : (code : VoucherCode) (account : AccountName) (moment : Moment) → VoucherCommand
+  Adds : (code : List ℕ) (terms : VoucherTerms) → VoucherCommand
+  Redeems : (code account : List ℕ) (moment : ℕ) → VoucherCommand
 
 -- the code that it names
-abbrev pub code_of : VoucherCommand → VoucherCode
+abbrev pub code_of : VoucherCommand → List ℕ
 code_of (Adds code terms) = code
 code_of (Redeems code account t) = code
 
 -- it is about this code
-abbrev pub is_about : VoucherCode → VoucherCommand → Bool
+abbrev pub is_about : List ℕ → VoucherCommand → Bool
 is_about code c = same_name (code_of c) code
 
 -- what stands under its code after a command
@@ -37,7 +35,7 @@ is_redeeming day_end (Redeems code account t) found = is_ok (redemption day_end 
 
 -- what stands under each code
 abbrev pub Vouchers : Type 0
-Vouchers = VoucherCode → Option Voucher
+Vouchers = List ℕ → Option Voucher
 
 abbrev pub with_command : DayEnds → VoucherCommand → Vouchers → Vouchers
 with_command day_end c vouchers code =
@@ -50,7 +48,7 @@ with_commands day_end (c ∷ cs) vouchers =
     with_commands day_end cs (with_command day_end c vouchers)
 
 -- how often a code is redeemed by them
-abbrev pub redemption_count : DayEnds → VoucherCode → List VoucherCommand → Vouchers → ℕ
+abbrev pub redemption_count : DayEnds → List ℕ → List VoucherCommand → Vouchers → ℕ
 redemption_count day_end code [] vouchers = 0
 redemption_count day_end code (c ∷ cs) vouchers =
     (if is_about code c && is_redeeming day_end c (vouchers code) then 1 else 0)

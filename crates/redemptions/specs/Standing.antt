@@ -1,8 +1,7 @@
 -- What stands under the code of a voucher: the voucher as it was added, or as an account redeemed
 -- it; nothing where none was added.
 -- Source: profile.
-use Rattle.std.specs.Prelude.{Bool, false, Option, Some, None, is_some}
-use Rattle.identifiers.specs.Words.{AccountName}
+use Rattle.std.specs.Prelude.{ℕ, Bool, false, List, Option, Some, None, is_some}
 use Rattle.redemptions.specs.declared.terms.VoucherTerms.{VoucherTerms}
 use Rattle.redemptions.specs.declared.voucher.Voucher.{Voucher}
 
@@ -11,7 +10,7 @@ abbrev pub unspent : VoucherTerms → Voucher
 unspent terms = record { terms = terms; redeemer = None }
 
 -- a voucher that an account has redeemed
-abbrev pub spent_by : AccountName → VoucherTerms → Voucher
+abbrev pub spent_by : List ℕ → VoucherTerms → Voucher
 spent_by account terms = record { terms = terms; redeemer = Some account }
 
 -- a voucher stands there that an account has redeemed

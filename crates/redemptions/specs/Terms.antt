@@ -1,20 +1,19 @@
 -- What a voucher says beside its code.
 -- Source: profile.
-use Rattle.std.specs.Prelude.{◌&&◌, Bool, true, Option, Some, None, nat_le}
-use Rattle.units.specs.Words.{DayCount, Micros, GroupId}
+use Rattle.std.specs.Prelude.{ℕ, ◌&&◌, Bool, true, Option, Some, None, nat_le}
 
 -- micro-units of the book's currency; the days that the bucket lasts, none without an end; the
 -- rating group that it pays for, none for all
 pub record Terms : Type 0 where
-  pub amount : Micros
-  pub days : Option DayCount
-  pub scope : Option GroupId
+  pub amount : ℕ
+  pub days : Option ℕ
+  pub scope : Option ℕ
 
 -- 1 to 3,650 days, or none
-abbrev pub are_days : Option DayCount → Bool
+abbrev pub are_days : Option ℕ → Bool
 are_days None = true
 are_days (Some days) = nat_le 1 days && nat_le days 3650
 
 -- 1 to 10^15 micro-units, and such days; any rating group is a scope
-abbrev pub are_terms : Micros → Option DayCount → Bool
+abbrev pub are_terms : ℕ → Option ℕ → Bool
 are_terms amount days = nat_le 1 amount && nat_le amount 1_000_000_000_000_000 && are_days days

@@ -1,5 +1,3 @@
-//! A voucher that is added.
-
 ghost use Rattle.std.specs.Prelude.{◌≡◌, ◌↔◌, IfSome, IsTrue};
 ghost use Rattle.redemptions.specs.Adding.{addition, same_terms};
 

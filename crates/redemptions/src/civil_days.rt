@@ -1,5 +1,3 @@
-//! What knows where civil days end.
-
 ghost use Rattle.std.specs.Prelude.{◌≡◌, ℕ, Option};
 
 use units::Moment;

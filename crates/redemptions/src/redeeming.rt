@@ -1,5 +1,3 @@
-//! A voucher that is redeemed.
-
 ghost use Rattle.std.specs.Prelude.{◌≡◌, ◌↔◌, IsErrOf, IsTrue, None};
 ghost use Rattle.redemptions.specs.Standing.{is_spent};
 ghost use Rattle.redemptions.specs.Redeeming.{redemption, EndsTooLate};
@@ -59,14 +57,16 @@ pub fn redeem<C: CivilDays>(
     ensures late { IsErrOf result RedeemRefusal.EndOutOfRange ↔
         EndsTooLate (C.day_end calendar.now) found moment }
 {
-    let voucher = found.ok_or(RedeemRefusal::VoucherUnknown)?;
+    let Some(voucher) = found else {
+        return Err(RedeemRefusal::VoucherUnknown);
+    };
     if voucher.redeemer.is_some() {
         return Err(RedeemRefusal::VoucherSpent);
     }
     let terms = voucher.terms;
-    let until = terms
-        .bucket_end(moment, calendar)
-        .ok_or(RedeemRefusal::EndOutOfRange)?;
+    let Some(until) = terms.bucket_end(moment, calendar) else {
+        return Err(RedeemRefusal::EndOutOfRange);
+    };
     Ok(Redemption {
         amount: terms.amount(),
         from: moment,

@@ -1,5 +1,3 @@
-//! What a voucher says beside its code.
-
 ghost use Rattle.std.specs.Prelude.{◌≡◌, ◌≤◌, IfSome, None, Some, if◌then◌else◌};
 ghost use Rattle.redemptions.specs.Terms.{are_days, are_terms};
 ghost use Rattle.redemptions.specs.Redeeming.{bucket_end, moment_in_time};

@@ -1,5 +1,3 @@
-//! The voucher of a code, spent or not.
-
 use crate::terms::VoucherTerms;
 use identifiers::AccountNumber;
 

@@ -55,7 +55,7 @@ answers_taken b list (d ∷ ds) (suc n) =
 
 -- ---- what opens an account, and then requests
 
-pub no_none : {F : Type 0} (P : Type 0) (fault : Option F) → is_some fault ≡ true → IfNone fault P
+no_none : {F : Type 0} (P : Type 0) (fault : Option F) → is_some fault ≡ true → IfNone fault P
 no_none P (Some f) some = tt
 no_none P None some = absurd (false≢true some)
 

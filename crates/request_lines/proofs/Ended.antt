@@ -1,8 +1,8 @@
 -- What answering lines ends with, by the keeper's fault and by what became of writing the answers.
 use Rattle.std.proofs.Common.{◌≡◌, ℕ, List, map, refl, sym, ap, subst, ◌∙◌, Option, Some, None}
-use Rattle.std.proofs.Common.{IfSome, Result, Ok, Err, le_refl, length, []}
+use Rattle.std.proofs.Common.{IfSome, Result, Ok, Err, le_refl}
 use Rattle.std.proofs.lemmas.Option.{none-some}
-use Rattle.std.specs.Prelude.{IfNone, OnOk, OnErr}
+use Rattle.std.specs.Prelude.{OnOk, OnErr}
 use Rattle.std.specs.Io.KnownBytes.{Appends}
 use Rattle.byte_streams.specs.Lines.{lines_of}
 use Rattle.byte_streams.specs.declared.StreamFault.{StreamFault}
@@ -13,15 +13,15 @@ use Rattle.keepers.specs.declared.fault.StoreFault.{StoreFault}
 use Rattle.charging.specs.Continued.{ForEachList}
 use Rattle.charging.specs.declared.running.DatedCommand.{DatedCommand}
 use Rattle.office.specs.Written.{WritesBeginning}
-use Rattle.office.proofs.Beginnings.{nothing_written, on_err, whole_or_begun}
+use Rattle.office.proofs.Beginnings.{on_err, whole_or_begun}
 use Rattle.request_lines.specs.declared.fault.LinesFault.{LinesFault}
 use Rattle.request_lines.specs.declared.fault.LinesFault.TheVariants.{Read, Store, Both, Write}
 use Rattle.request_lines.specs.declared.input.Input.{Input}
 use Rattle.request_lines.specs.Faults.{ended_as}
 use Rattle.request_lines.specs.Input.{told_fault, IsInput}
 use Rattle.request_lines.specs.Lines.{line_request}
-use Rattle.request_lines.specs.Served.{opening_for, texts_of, faults_in, AnswersLines, IsAnswered}
-use Rattle.request_lines.specs.Served.{BeginsLines, IsBegun, IsCut, TellsLines}
+use Rattle.request_lines.specs.Served.{opening_for, texts_of, AnswersLines, IsAnswered, IsBegun}
+use Rattle.request_lines.specs.Served.{IsCut}
 use Rattle.request_lines.specs.Served.{IsRunOpened, IsStopped, IsUntold}
 use Rattle.request_lines.proofs.Answered.{answered-run, begun-none, begun-run, continued-same}
 use Rattle.request_lines.proofs.Answered.{short-run}
@@ -200,87 +200,7 @@ module _ {A : Type 0} (b : Shelf) (amount : Option ℕ) (w0 w1 r : Option (List 
   ended-untold fault written result f e k h =
       untold fault written (subst IsWrite (sym k ∙ e) tt) h
 
--- ---- whether the keeper can be asked after it
-
--- after all was run, and only then is it no fault of the keeper
-stands_told : {A : Type 0} (P : Type 0) (fault : Option StoreFault)
-    (written : Result A StreamFault) → IfNone fault P → OnOk (ended_as fault written) P
-stands_told P None (Ok x) h = h
-stands_told P None (Err g) h = tt
-stands_told P (Some f) (Ok x) h = tt
-stands_told P (Some f) (Err g) h = tt
-
-pub ended-stands : {A : Type 0} (P : Type 0) (fault : Option StoreFault)
-    (written : Result A StreamFault) (result : Result A LinesFault) →
-    result ≡ ended_as fault written → IfNone fault P → OnOk result P
-ended-stands {A = A} P fault written result e h =
-    subst (λ (r : Result A LinesFault). OnOk r P) (sym e) (stands_told P fault written h)
-
-asked_told : {A P : Type 0} (fault : Option StoreFault) (written : Result A StreamFault) →
-    IsWrite (ended_as fault written) → IfNone fault P → P
-asked_told None (Ok x) k h = absurd k
-asked_told None (Err g) k h = h
-asked_told (Some f) (Ok x) k h = absurd k
-asked_told (Some f) (Err g) k h = absurd k
-
-pub ended-asked : {A P : Type 0} (fault : Option StoreFault) (written : Result A StreamFault)
-    (result : Result A LinesFault) (f : StreamFault) → result ≡ ended_as fault written →
-    result ≡ Err (Write f) → IfNone fault P → P
-ended-asked fault written result f e k h =
-    asked_told fault written (subst IsWrite (sym k ∙ e) tt) h
-
--- ---- what is told, whatever the keeper holds
-
-module _ (w0 w1 : Option (List ℕ)) (input : Input) (given : List Answer) where
-  told_in : (r : Option (List ℕ)) →
-      IfSome r (λ stream. IsInput (map line_request (lines_of stream)) input) →
-      length given ≡ length input.requests.items →
-      Appends w0 w1 (texts_of (map told_fault input.lines.items) given) →
-      IfSome r (TellsLines w0 w1)
-  told_in None read all written = tt
-  told_in (Some stream) read all written = record {
-    answers = given;
-    all = all ∙ ap length read.requests;
-    written = subst (λ faults. Appends w0 w1 (texts_of faults given)) read.lines written;
-  }
-
-  pub begun_in : (r : Option (List ℕ)) →
-      IfSome r (λ stream. IsInput (map line_request (lines_of stream)) input) →
-      WritesBeginning w0 w1 (texts_of (map told_fault input.lines.items) given) →
-      IfSome r (BeginsLines w0 w1)
-  begun_in None read written = tt
-  begun_in (Some stream) read written = record {
-    answers = given;
-    written = subst (λ faults. WritesBeginning w0 w1 (texts_of faults given)) read.lines written;
-  }
-
-  told : {A : Type 0} (fault : Option StoreFault) (written : Result A StreamFault)
-      (r : Option (List ℕ)) →
-      IfSome r (λ stream. IsInput (map line_request (lines_of stream)) input) →
-      IfNone fault (length given ≡ length input.requests.items) →
-      OnOk written (Appends w0 w1 (texts_of (map told_fault input.lines.items) given)) →
-      OnOk (ended_as fault written) (IfSome r (TellsLines w0 w1))
-  told None (Ok x) r read all whole = told_in r read all whole
-  told None (Err g) r read all whole = tt
-  told (Some f) (Ok x) r read all whole = tt
-  told (Some f) (Err g) r read all whole = tt
-
-  pub ended-told : {A : Type 0} (fault : Option StoreFault) (written : Result A StreamFault)
-      (result : Result A LinesFault) (r : Option (List ℕ)) → result ≡ ended_as fault written →
-      IfSome r (λ stream. IsInput (map line_request (lines_of stream)) input) →
-      IfNone fault (length given ≡ length input.requests.items) →
-      OnOk written (Appends w0 w1 (texts_of (map told_fault input.lines.items) given)) →
-      OnOk result (IfSome r (TellsLines w0 w1))
-  ended-told {A = A} fault written result r e read all whole =
-      subst (λ (res : Result A LinesFault). OnOk res (IfSome r (TellsLines w0 w1))) (sym e)
-      (told fault written r read all whole)
-
 -- ---- before the lines are read
-
-pub none_begun : (w r : Option (List ℕ)) → IfSome r (BeginsLines w w)
-none_begun w None = tt
-none_begun w (Some stream) =
-    record { answers = []; written = nothing_written w (texts_of (faults_in stream) []) }
 
 -- nothing was run and nothing was written
 pub none_answered : {A K : Type 0} (b : Shelf) (amount : Option ℕ) (r w : Option (List ℕ))

@@ -4,4 +4,3 @@ pub mod Streams
 pub mod Texts
 pub mod Answered
 pub mod Ended
-pub mod HeldLines

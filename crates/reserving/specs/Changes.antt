@@ -1,12 +1,8 @@
 -- What each call makes of an account's rows.
 -- Source: profile; they follow the ledger's definitions.
-use Rattle.std.specs.Prelude.{◌+◌, ◌*◌, ◌≤◌, Bool, false, not, ◌&&◌, nat_lt, nat_le}
+use Rattle.std.specs.Prelude.{ℕ, ◌+◌, ◌*◌, ◌≤◌, Bool, false, not, ◌&&◌, nat_lt, nat_le}
 use Rattle.std.specs.Prelude.{if◌then◌else◌, List, [], ◌∷◌, Option, Some, None, map, unwrap_or}
 use Rattle.std.specs.Prelude.{option_map}
-use Rattle.units.specs.Words.{Moment, Seconds, UnitCount, BlockCount, Place, GroupId, CycleNumber}
-use Rattle.units.specs.Words.{CcRequestNumber}
-use Rattle.identifiers.specs.Words.{SessionName}
-use Rattle.buckets.specs.Words.{BucketAmount}
 use Rattle.units.specs.declared.blocks.UsedPart.{UsedPart}
 use Rattle.buckets.specs.declared.holds.Hold.{Hold}
 use Rattle.buckets.specs.Row.{Row, is_eligible, with_end, with_release, new_row}
@@ -39,20 +35,20 @@ use Rattle.reserving.specs.Sessions.{group_before, session_before, counter_befor
 -- ---- time goes on: sessions whose supervision time is over end, what they held is given up, and
 -- what is left of buckets that ended is expired
 
-abbrev pub lapse : (Moment → Seconds) → Moment → Session → Session
+abbrev pub lapse : (ℕ → ℕ) → ℕ → Session → Session
 lapse v t r =
     if is_open r.state && not (nat_lt t (r.touched + 2 * v r.touched))
     then record r { state = Ended } else r
 
 -- a group of a session that doesn't keep its reservations
-abbrev pub lapse_group : (SessionName → Bool) → SessionGroup → SessionGroup
+abbrev pub lapse_group : (List ℕ → Bool) → SessionGroup → SessionGroup
 lapse_group keeps r = if keeps r.session then r else record r { reservation = None }
 
 -- what the reservations of sessions that don't keep them hold of a bucket
-abbrev pub lapsed_in : (SessionName → Bool) → List SessionGroup → Row → BucketAmount
+abbrev pub lapsed_in : (List ℕ → Bool) → List SessionGroup → Row → ℕ
 lapsed_in keeps groups b = held_by (λ s. not (keeps s)) groups b
 
-abbrev pub advanced : Moment → AccountRows → AccountRows
+abbrev pub advanced : ℕ → AccountRows → AccountRows
 advanced t a = record a {
   as_of = t;
   buckets =
@@ -65,47 +61,45 @@ advanced t a = record a {
 
 -- ---- sessions
 
-abbrev pub session_put : SessionName → CcRequestNumber → Moment → SessionState → List Session →
-    List Session
+abbrev pub session_put : List ℕ → ℕ → ℕ → SessionState → List Session → List Session
 session_put s number t state rows =
     put session_before (is_session s)
     (record { id = s; last_number = number; touched = t; state = state }) rows
 
-abbrev pub with_session : SessionName → CcRequestNumber → Moment → SessionState → AccountRows →
-    AccountRows
+abbrev pub with_session : List ℕ → ℕ → ℕ → SessionState → AccountRows → AccountRows
 with_session s number t state a = record a { sessions = session_put s number t state a.sessions }
 
-abbrev pub touched_session : SessionName → CcRequestNumber → Moment → Session → Session
+abbrev pub touched_session : List ℕ → ℕ → ℕ → Session → Session
 touched_session s number t r =
     if is_session s r then record r { last_number = number; touched = t; state = Open } else r
 
-abbrev pub touched_account : SessionName → CcRequestNumber → AccountRows → AccountRows
+abbrev pub touched_account : List ℕ → ℕ → AccountRows → AccountRows
 touched_account s number a =
     record a { sessions = map (touched_session s number a.as_of) a.sessions }
 
 -- ---- groups and counters
 
-abbrev pub new_group : SessionName → GroupId → SessionGroup
+abbrev pub new_group : List ℕ → ℕ → SessionGroup
 new_group s g = record { session = s; group = g; used = 0; reservation = None }
 
-abbrev pub group_or_new : SessionName → GroupId → List SessionGroup → SessionGroup
+abbrev pub group_or_new : List ℕ → ℕ → List SessionGroup → SessionGroup
 group_or_new s g rows = unwrap_or (group_in s g rows) (new_group s g)
 
-abbrev pub used_in : SessionName → GroupId → List SessionGroup → UnitCount
+abbrev pub used_in : List ℕ → ℕ → List SessionGroup → ℕ
 used_in s g rows = (group_or_new s g rows).used
 
-abbrev pub reserved_in : SessionName → GroupId → List SessionGroup → List Hold
+abbrev pub reserved_in : List ℕ → ℕ → List SessionGroup → List Hold
 reserved_in s g rows = holds_in (group_or_new s g rows).reservation
 
-abbrev pub count_in : GroupId → CycleNumber → List Counter → Place
+abbrev pub count_in : ℕ → ℕ → List Counter → ℕ
 count_in g c rows = unwrap_or (option_map (λ r. r.blocks) (counter_in g c rows)) 0
 
-abbrev pub with_use : SessionName → GroupId → UnitCount → List SessionGroup → List SessionGroup
+abbrev pub with_use : List ℕ → ℕ → ℕ → List SessionGroup → List SessionGroup
 with_use s g units rows =
     put group_before (is_of s g)
     (record { session = s; group = g; used = used_in s g rows + units; reservation = None }) rows
 
-abbrev pub with_count : GroupId → CycleNumber → BlockCount → List Counter → List Counter
+abbrev pub with_count : ℕ → ℕ → ℕ → List Counter → List Counter
 with_count g c blocks rows =
     put counter_before (is_counter g c)
     (record { group = g; cycle = c; blocks = count_in g c rows + blocks }) rows
@@ -113,17 +107,16 @@ with_count g c blocks rows =
 -- ---- settlement
 
 -- the group's reservation alone ends
-abbrev pub ended_group : SessionName → GroupId → SessionGroup → SessionGroup
+abbrev pub ended_group : List ℕ → ℕ → SessionGroup → SessionGroup
 ended_group s g r = if is_of s g r then record r { reservation = None } else r
 
-abbrev pub ended_rows : SessionName → GroupId → AccountRows → AccountRows
+abbrev pub ended_rows : List ℕ → ℕ → AccountRows → AccountRows
 ended_rows s g a = record a {
   buckets = released_rows (reserved_in s g a.groups) a.as_of a.buckets;
   groups = map (ended_group s g) a.groups;
 }
 
-abbrev pub settled_account : SessionName → GroupId → UnitCount → BlockCount → Due → AccountRows →
-    AccountRows
+abbrev pub settled_account : List ℕ → ℕ → ℕ → ℕ → Due → AccountRows → AccountRows
 settled_account s g units blocks due a = record a {
   buckets = settled_rows (reserved_in s g a.groups) g a.as_of due a.buckets;
   counters = with_count g (cycle_at a.shelf g a.as_of) blocks a.counters;
@@ -132,29 +125,29 @@ settled_account s g units blocks due a = record a {
 }
 
 -- the terms of the group's reservation
-abbrev pub terms_in : SessionName → GroupId → List SessionGroup → Option Terms
+abbrev pub terms_in : List ℕ → ℕ → List SessionGroup → Option Terms
 terms_in s g rows = option_map (λ r. r.terms) (group_or_new s g rows).reservation
 
 -- the blocks that may cover a report, by the rows
-abbrev pub coverable_in : SessionName → GroupId → Moment → AccountRows → BlockCount
+abbrev pub coverable_in : List ℕ → ℕ → ℕ → AccountRows → ℕ
 coverable_in s g t a =
     held_sum Blocks (reserved_in s g a.groups) a.buckets
     + allowance g t (advanced t a).buckets
 
 -- what a report costs, by the rows
-abbrev pub price_in : SessionName → GroupId → Moment → List UsedPart → AccountRows → Rated
+abbrev pub price_in : List ℕ → ℕ → ℕ → List UsedPart → AccountRows → Rated
 price_in s g t used_parts a =
     price_of a.shelf t g (terms_in s g a.groups) (used_in s g a.groups)
     (count_in g (cycle_at a.shelf g t) a.counters) (coverable_in s g t a) used_parts
 
 -- a stored number would pass its limit, by the rows
-abbrev pub passes_in : SessionName → GroupId → Moment → List UsedPart → AccountRows → Bool
+abbrev pub passes_in : List ℕ → ℕ → ℕ → List UsedPart → AccountRows → Bool
 passes_in s g t [] a = false
 passes_in s g t (p ∷ ps) a =
     passes (used_in s g a.groups) (reported (p ∷ ps)) (count_in g (cycle_at a.shelf g t) a.counters)
     (price_in s g t (p ∷ ps) a).blocks a.next_charge
 
-abbrev pub settled_by_rows : SessionName → GroupId → List UsedPart → AccountRows → AccountRows
+abbrev pub settled_by_rows : List ℕ → ℕ → List UsedPart → AccountRows → AccountRows
 settled_by_rows s g [] a = ended_rows s g a
 settled_by_rows s g (p ∷ ps) a =
     settled_account s g (reported (p ∷ ps)) (price_in s g a.as_of (p ∷ ps) a).blocks
@@ -163,28 +156,28 @@ settled_by_rows s g (p ∷ ps) a =
 -- ---- debits
 
 -- what an event's units cost, by the rows, where so many blocks are covered
-abbrev pub event_price_in : GroupId → BlockCount → UnitCount → Moment → AccountRows → Rated
+abbrev pub event_price_in : ℕ → ℕ → ℕ → ℕ → AccountRows → Rated
 event_price_in g covered units t a =
     price_of a.shelf t g None 0 (count_in g (cycle_at a.shelf g t) a.counters) covered
     (untagged units)
 
 -- what they cost beside the allowance
-abbrev pub rest_price_in : GroupId → UnitCount → Moment → AccountRows → Rated
+abbrev pub rest_price_in : ℕ → ℕ → ℕ → AccountRows → Rated
 rest_price_in g units t a = event_price_in g (allowance g t (advanced t a).buckets) units t a
 
 -- the eligible buckets have this price
-abbrev pub is_covered_in : GroupId → UnitCount → Moment → AccountRows → Bool
+abbrev pub is_covered_in : ℕ → ℕ → ℕ → AccountRows → Bool
 is_covered_in g units t a =
     nat_le (rest_price_in g units t a).amount.0 (funds g t (advanced t a).buckets)
 
 -- a stored number would pass its limit
-abbrev pub debit_passes_in : SessionName → GroupId → UnitCount → Moment → AccountRows → Bool
+abbrev pub debit_passes_in : List ℕ → ℕ → ℕ → ℕ → AccountRows → Bool
 debit_passes_in s g units t a =
     passes (used_in s g a.groups) units (count_in g (cycle_at a.shelf g t) a.counters)
     (rest_price_in g units t a).blocks a.next_charge
 
 -- an event's use leaves the group's reservation as it is
-abbrev pub with_event : SessionName → GroupId → UnitCount → List SessionGroup → List SessionGroup
+abbrev pub with_event : List ℕ → ℕ → ℕ → List SessionGroup → List SessionGroup
 with_event s g units rows =
     put group_before (is_of s g)
     (record {
@@ -194,8 +187,7 @@ with_event s g units rows =
       reservation = (group_or_new s g rows).reservation;
     }) rows
 
-abbrev pub debited_account : SessionName → GroupId → UnitCount → BlockCount → Due → AccountRows →
-    AccountRows
+abbrev pub debited_account : List ℕ → ℕ → ℕ → ℕ → Due → AccountRows → AccountRows
 debited_account s g units blocks due a = record a {
   buckets = settled_rows [] g a.as_of due a.buckets;
   counters = with_count g (cycle_at a.shelf g a.as_of) blocks a.counters;
@@ -206,13 +198,13 @@ debited_account s g units blocks due a = record a {
 -- ---- reservation
 
 -- what a session would be granted, by the rows
-abbrev pub granted_in : SessionName → GroupId → Moment → Option UnitCount → AccountRows → Grant
+abbrev pub granted_in : List ℕ → ℕ → ℕ → Option ℕ → AccountRows → Grant
 granted_in s g t requested a =
     grant_with (tariff_at a.shelf t g) (periods_at a.shelf t) (used_in s g a.groups)
     (count_in g (cycle_at a.shelf g t) a.counters) requested (funds g t (advanced t a).buckets)
     (allowance g t (advanced t a).buckets)
 
-abbrev pub with_reservation : SessionName → GroupId → Terms → List Hold → List SessionGroup →
+abbrev pub with_reservation : List ℕ → ℕ → Terms → List Hold → List SessionGroup →
     List SessionGroup
 with_reservation s g terms holds rows =
     put group_before (is_of s g)
@@ -223,7 +215,7 @@ with_reservation s g terms holds rows =
       reservation = Some (record { terms = terms; holds = holds });
     }) rows
 
-abbrev pub reserved_account : SessionName → GroupId → Due → AccountRows → AccountRows
+abbrev pub reserved_account : List ℕ → ℕ → Due → AccountRows → AccountRows
 reserved_account s g due a = record a {
   buckets = held_rows g a.as_of due a.buckets;
   groups = with_reservation s g (terms_at a.shelf a.as_of) (holds_of g a.as_of due a.buckets)
@@ -232,8 +224,7 @@ reserved_account s g due a = record a {
 
 -- ---- credit
 
-abbrev pub credited_account : BucketKind → Moment → Moment → Option GroupId → BucketAmount →
-    AccountRows → AccountRows
+abbrev pub credited_account : BucketKind → ℕ → ℕ → Option ℕ → ℕ → AccountRows → AccountRows
 credited_account kind from until scope amount a = record a {
   buckets = inserted (new_row kind a.next_bucket from until scope amount) a.buckets;
   next_bucket = a.next_bucket + 1;
@@ -242,13 +233,13 @@ credited_account kind from until scope amount a = record a {
 -- ---- the end of a session
 
 -- the other sessions keep their reservations
-abbrev pub is_other : SessionName → SessionName → Bool
+abbrev pub is_other : List ℕ → List ℕ → Bool
 is_other s x = not (is_same x s)
 
-abbrev pub closed_session : SessionName → Session → Session
+abbrev pub closed_session : List ℕ → Session → Session
 closed_session s r = if is_session s r then record r { state = Ended } else r
 
-abbrev pub closed_account : SessionName → AccountRows → AccountRows
+abbrev pub closed_account : List ℕ → AccountRows → AccountRows
 closed_account s a = record a {
   buckets = map (λ b. with_release a.as_of b (lapsed_in (is_other s) a.groups b)) a.buckets;
   sessions = map (closed_session s) a.sessions;
@@ -257,28 +248,27 @@ closed_account s a = record a {
 
 -- ---- the same, one reservation after another
 
-abbrev pub lapse_from : Bool → Moment → Option Reservation → List Row → List Row
+abbrev pub lapse_from : Bool → ℕ → Option Reservation → List Row → List Row
 lapse_from live t reservation rows =
     if live then rows else released_rows (holds_in reservation) t rows
 
-abbrev pub lapsed_rows : (SessionName → Bool) → Moment → List SessionGroup → List Row → List Row
+abbrev pub lapsed_rows : (List ℕ → Bool) → ℕ → List SessionGroup → List Row → List Row
 lapsed_rows keeps t [] rows = rows
 lapsed_rows keeps t (r ∷ rs) rows =
     lapsed_rows keeps t rs (lapse_from (keeps r.session) t r.reservation rows)
 
 -- what the remaining reservations hold is within what is reserved
-abbrev pub AreLapsable : (SessionName → Bool) → List SessionGroup → List Row → Type 0
+abbrev pub AreLapsable : (List ℕ → Bool) → List SessionGroup → List Row → Type 0
 AreLapsable p groups rows = Each (λ b. held_by p groups b ≤ b.reserved) rows
 
 -- ---- funds at a later moment
 
 -- what a bucket has available for a group at a later moment, with what ended sessions held of it
-abbrev pub amount_later : GroupId → (Moment → Seconds) → Moment → List Session → List SessionGroup →
-    Row → BucketAmount
+abbrev pub amount_later : ℕ → (ℕ → ℕ) → ℕ → List Session → List SessionGroup → Row → ℕ
 amount_later group v t sessions groups b =
     if is_eligible group t b then b.available + lapsed_in (is_live_in v t sessions) groups b else 0
 
-abbrev pub funds_later : BucketKind → GroupId → (Moment → Seconds) → Moment → List Session →
-    List SessionGroup → List Row → BucketAmount
+abbrev pub funds_later : BucketKind → ℕ → (ℕ → ℕ) → ℕ → List Session →
+    List SessionGroup → List Row → ℕ
 funds_later kind group v t sessions groups rows =
     sum_in kind (amount_later group v t sessions groups) rows

@@ -1,8 +1,6 @@
 -- A debit: an event's units are priced and charged at once, with no reservation (TS 32.299,
 -- immediate event charging; RFC 8506 section 6.3).
-use Rattle.std.specs.Prelude.{Bool, nat_le, List, [], ◌∷◌, ◌++◌, None}
-use Rattle.units.specs.Words.{Moment, Seconds, UnitCount, BlockCount, GroupId}
-use Rattle.identifiers.specs.Words.{SessionName}
+use Rattle.std.specs.Prelude.{ℕ, Bool, nat_le, List, [], ◌∷◌, ◌++◌, None}
 use Rattle.units.specs.declared.blocks.UsedPart.{UsedPart}
 use Rattle.shelves.specs.Shelves.{Shelf}
 use Rattle.rating.specs.declared.report.Rated.{Rated}
@@ -18,29 +16,28 @@ use Rattle.reserving.specs.Pricing.{cycle_at, validity_of}
 use Rattle.reserving.specs.Balance.{buckets_at}
 use Rattle.reserving.specs.Settlement.{price_of, due_of, charge_facts, passes}
 
-abbrev pub untagged : UnitCount → List UsedPart
+abbrev pub untagged : ℕ → List UsedPart
 untagged units = record { units = record { 0 = units }; change = None } ∷ []
 
 -- what an event's units cost, where so many blocks are covered: they start blocks from no use on,
 -- at the period of the moment, from the group's counter in the cycle on
-abbrev pub event_price : Shelf → Moment → GroupId → BlockCount → UnitCount → Ledger → Rated
+abbrev pub event_price : Shelf → ℕ → ℕ → ℕ → ℕ → Ledger → Rated
 event_price b t group covered units ledger =
     price_of b t group None 0 (counter (cycle_at b group) group (cycle_at b group t) ledger)
     covered (untagged units)
 
 -- what they cost beside the allowance
-abbrev pub rest_price : Shelf → Moment → GroupId → UnitCount → Ledger → Rated
+abbrev pub rest_price : Shelf → ℕ → ℕ → ℕ → Ledger → Rated
 rest_price b t group units ledger =
     event_price b t group (allowance group t (buckets_at (validity_of b) t ledger)) units ledger
 
 -- the eligible buckets have this price
-abbrev pub is_covered : Shelf → Moment → GroupId → UnitCount → Ledger → Bool
+abbrev pub is_covered : Shelf → ℕ → ℕ → ℕ → Ledger → Bool
 is_covered b t group units ledger =
     nat_le (rest_price b t group units ledger).amount.0
     (funds group t (buckets_at (validity_of b) t ledger))
 
-abbrev pub charged_use : (Moment → Seconds) → Moment → SessionName → GroupId → UnitCount →
-    BlockCount → Due → Ledger → Ledger
+abbrev pub charged_use : (ℕ → ℕ) → ℕ → List ℕ → ℕ → ℕ → ℕ → Due → Ledger → Ledger
 charged_use v t session group units blocks due ledger =
     record { at = t; fact = Use session group units blocks due.blocks due.money 0 }
     ∷ charge_facts t (parts (paid [] group t due rows) rows) ++ ledger
@@ -49,13 +46,13 @@ charged_use v t session group units blocks due ledger =
     rows = buckets_at v t ledger
 
 -- the ledger with a debit that is covered
-abbrev pub debited : Shelf → Moment → SessionName → GroupId → UnitCount → Ledger → Ledger
+abbrev pub debited : Shelf → ℕ → List ℕ → ℕ → ℕ → Ledger → Ledger
 debited b t session group units ledger =
     charged_use (validity_of b) t session group units (rest_price b t group units ledger).blocks
     (due_of (rest_price b t group units ledger)) ledger
 
 -- a stored number would pass its limit
-abbrev pub debit_passes : Shelf → Moment → SessionName → GroupId → UnitCount → Ledger → Bool
+abbrev pub debit_passes : Shelf → ℕ → List ℕ → ℕ → ℕ → Ledger → Bool
 debit_passes b t session group units ledger =
     passes (used session group ledger) units
     (counter (cycle_at b group) group (cycle_at b group t) ledger)

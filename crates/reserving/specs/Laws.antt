@@ -1,9 +1,6 @@
 -- Laws over the definitions alone.
 -- Source: profile.
-use Rattle.std.specs.Prelude.{◌≡◌, ◌≤◌, ◌+◌, ◌&&◌, ◌==◌, Bool, true, false, not, List, [], ◌∷◌}
-use Rattle.units.specs.Words.{Moment, Seconds, UnitCount, BlockCount, GroupId}
-use Rattle.identifiers.specs.Words.{SessionName}
-use Rattle.buckets.specs.Words.{BucketNumber, BucketAmount}
+use Rattle.std.specs.Prelude.{◌≡◌, ℕ, ◌≤◌, ◌+◌, ◌&&◌, ◌==◌, Bool, true, false, not, List, [], ◌∷◌}
 use Rattle.buckets.specs.declared.kind.Due.{Due}
 use Rattle.buckets.specs.Row.{Row, IsBalanced, with_end, with_release}
 use Rattle.reserving.specs.Ledger.{Fact, Ledger, is_same, is_live, any, hold_of, held}
@@ -16,26 +13,25 @@ use Rattle.reserving.specs.Rows.{AccountRows}
 use Rattle.reserving.specs.Changes.{advanced}
 
 -- the reservations of sessions that ended between two moments
-abbrev pub ended_between : (Moment → Seconds) → Moment → Moment → Ledger → SessionName → GroupId →
-    Bool
+abbrev pub ended_between : (ℕ → ℕ) → ℕ → ℕ → Ledger → List ℕ → ℕ → Bool
 ended_between v t1 t2 ledger s g = is_live v t1 ledger s && not (is_live v t2 ledger s)
 
 -- a bucket that is brought from a moment to a later one: what sessions that ended between them held
 -- is given up, and from its end on what is left is expired
-abbrev pub brought : (Moment → Seconds) → Moment → Moment → Ledger → Row → Row
+abbrev pub brought : (ℕ → ℕ) → ℕ → ℕ → Ledger → Row → Row
 brought v t1 t2 ledger b =
     with_end t2 (with_release t2 b (held (ended_between v t1 t2 ledger) b.number ledger))
 
 -- a bucket's position, brought to a later moment, is its position then
 abbrev pub IsBroughtOn : Type 0
-IsBroughtOn = (v : Moment → Seconds) (t1 t2 : Moment) (ledger : Ledger) (c : Row) → t1 ≤ t2 →
+IsBroughtOn = (v : ℕ → ℕ) (t1 t2 : ℕ) (ledger : Ledger) (c : Row) → t1 ≤ t2 →
     IsBalanced (bucket_at v t1 ledger c) →
     brought v t1 t2 ledger (bucket_at v t1 ledger c) ≡ bucket_at v t2 ledger c
 
 -- and in two steps it is brought to where one step brings it
 abbrev pub IsBroughtAlike : Type 0
 IsBroughtAlike =
-    (v : Moment → Seconds) (t1 t2 t3 : Moment) (ledger : Ledger) (c : Row) → t1 ≤ t2 → t2 ≤ t3 →
+    (v : ℕ → ℕ) (t1 t2 t3 : ℕ) (ledger : Ledger) (c : Row) → t1 ≤ t2 → t2 ≤ t3 →
     IsBalanced (bucket_at v t1 ledger c) →
     brought v t2 t3 ledger (brought v t1 t2 ledger (bucket_at v t1 ledger c))
     ≡ brought v t1 t3 ledger (bucket_at v t1 ledger c)
@@ -43,8 +39,7 @@ IsBroughtAlike =
 -- the whole account, whatever its rows: brought to a moment and then to a later one it is as
 -- `advance` to the later one alone makes it
 abbrev pub IsAdvancedAlike : Type 0
-IsAdvancedAlike = (a : AccountRows) (t u : Moment) → t ≤ u →
-    advanced u (advanced t a) ≡ advanced u a
+IsAdvancedAlike = (a : AccountRows) (t u : ℕ) → t ≤ u → advanced u (advanced t a) ≡ advanced u a
 
 -- ---- a dead bucket never changes again: a law of the ledger
 
@@ -56,15 +51,14 @@ AreDeadKept (x ∷ xs) (y ∷ ys) = (IsDead x → y ≡ x) × AreDeadKept xs ys
 
 -- as time goes on
 abbrev pub IsDeadLater : Type 0
-IsDeadLater = (v : Moment → Seconds) (t u : Moment) (ledger : Ledger) → t ≤ u →
+IsDeadLater = (v : ℕ → ℕ) (t u : ℕ) (ledger : Ledger) → t ≤ u →
     Each IsBalanced (buckets_at v t ledger) →
     AreDeadKept (buckets_at v t ledger) (buckets_at v u ledger)
 
 -- and by a settlement
 abbrev pub IsDeadSettled : Type 0
 IsDeadSettled =
-    (v : Moment → Seconds) (t : Moment) (session : SessionName) (group : GroupId)
-    (units : UnitCount) (blocks : BlockCount) (due : Due) (ledger : Ledger) →
+    (v : ℕ → ℕ) (t : ℕ) (session : List ℕ) (group units blocks : ℕ) (due : Due) (ledger : Ledger) →
     is_live v t ledger session ≡ true → Each IsBalanced (buckets_at v t ledger) →
     AreDistinct (buckets_at v t ledger) →
     AreDeadKept (buckets_at v t ledger)
@@ -73,13 +67,12 @@ IsDeadSettled =
 -- ---- what is reserved of a bucket, in the words of its holds
 
 -- the fact ends this reservation
-abbrev pub is_end_of : SessionName → GroupId → Fact → Bool
+abbrev pub is_end_of : List ℕ → ℕ → Fact → Bool
 is_end_of s g (End session group) = is_same s session && g == group
 is_end_of s g _ = false
 
 -- the sum of a bucket's holds that count, of reservations that no fact after the hold ended
-abbrev pub held_unended : (SessionName → GroupId → Bool) → BucketNumber → Ledger → Ledger →
-    BucketAmount
+abbrev pub held_unended : (List ℕ → ℕ → Bool) → ℕ → Ledger → Ledger → ℕ
 held_unended counts n newer [] = 0
 held_unended counts n newer (d ∷ older) =
     hold_of (λ s g. counts s g && not (any (is_end_of s g) newer)) n d.fact
@@ -87,12 +80,12 @@ held_unended counts n newer (d ∷ older) =
 
 -- what is held of a bucket is that sum
 abbrev pub IsHeldUnended : Type 0
-IsHeldUnended = (counts : SessionName → GroupId → Bool) (n : BucketNumber) (ledger : Ledger) →
+IsHeldUnended = (counts : List ℕ → ℕ → Bool) (n : ℕ) (ledger : Ledger) →
     held counts n ledger ≡ held_unended counts n [] ledger
 
 -- so what is reserved of it is the sum of its holds whose session is live and whose reservation
 -- hasn't ended
 abbrev pub IsReservedUnended : Type 0
-IsReservedUnended = (v : Moment → Seconds) (t : Moment) (ledger : Ledger) (c : Row) →
+IsReservedUnended = (v : ℕ → ℕ) (t : ℕ) (ledger : Ledger) (c : Row) →
     (bucket_at v t ledger c).reserved
     ≡ held_unended (λ s g. is_live v t ledger s) c.number [] ledger

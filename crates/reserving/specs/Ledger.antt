@@ -3,11 +3,6 @@
 use Rattle.std.specs.Prelude.{ℕ, ◌+◌, ◌*◌, Bool, false, not, ◌==◌, ◌&&◌, ◌||◌, nat_lt, nat_eq}
 use Rattle.std.specs.Prelude.{if◌then◌else◌, List, [], ◌∷◌, Option, Some, None, unwrap_or}
 use Rattle.std.specs.Cmp.Lexicographic.{pointwise}
-use Rattle.units.specs.Words.{Moment, Seconds, Micros, UnitCount, BlockCount, Place, GroupId}
-use Rattle.units.specs.Words.{CycleNumber, CcRequestNumber}
-use Rattle.identifiers.specs.Words.{SessionName}
-use Rattle.buckets.specs.Words.{BucketNumber, BucketAmount}
-use Rattle.reserving.specs.Words.{ChargeNumber}
 use Rattle.reserving.specs.declared.session.Terms.{Terms}
 use Rattle.buckets.specs.declared.kind.BucketKind.{BucketKind}
 
@@ -19,30 +14,26 @@ use Rattle.buckets.specs.declared.kind.BucketKind.{BucketKind}
 -- Close: a request of the session is accepted; the session ends. Recorded: a request of the session
 -- is kept under its number. Barred: the account is barred, or no longer.
 pub data Fact : Type 0 where
-  Credit : (kind : BucketKind) (number : BucketNumber) (from until : Moment)
-      (scope : Option GroupId) (amount : BucketAmount) → Fact
-  Grant : (session : SessionName) (group : GroupId) (terms : Terms) (units : UnitCount)
-      (counter : Place) → Fact
-  Hold : (session : SessionName) (group : GroupId) (bucket : BucketNumber)
-      (amount : BucketAmount) → Fact
-  End : (session : SessionName) (group : GroupId) → Fact
-  Use : (session : SessionName) (group : GroupId) (units : UnitCount) (blocks covered : BlockCount)
-      (rated uncollected : Micros) → Fact
-  Charge : (bucket : BucketNumber) (amount : BucketAmount) → Fact
-  Touch : (session : SessionName) → Fact
-  Close : (session : SessionName) → Fact
-  Recorded : (session : SessionName) (number : CcRequestNumber) → Fact
+  Credit : (kind : BucketKind) (number from until : ℕ) (scope : Option ℕ) (amount : ℕ) → Fact
+  Grant : (session : List ℕ) (group : ℕ) (terms : Terms) (units counter : ℕ) → Fact
+  Hold : (session : List ℕ) (group bucket amount : ℕ) → Fact
+  End : (session : List ℕ) (group : ℕ) → Fact
+  Use : (session : List ℕ) (group units blocks covered rated uncollected : ℕ) → Fact
+  Charge : (bucket amount : ℕ) → Fact
+  Touch : (session : List ℕ) → Fact
+  Close : (session : List ℕ) → Fact
+  Recorded : (session : List ℕ) (number : ℕ) → Fact
   Barred : (barred : Bool) → Fact
 
 pub record Dated : Type 0 where
-  pub at : Moment
+  pub at : ℕ
   pub fact : Fact
 
 abbrev pub Ledger : Type 0
 Ledger = List Dated
 
 -- names of sessions are compared byte by byte
-abbrev pub is_same : SessionName → SessionName → Bool
+abbrev pub is_same : List ℕ → List ℕ → Bool
 is_same a b = pointwise nat_eq a b
 
 -- ---- reading a ledger: sums, and the newest fact of a kind
@@ -78,12 +69,12 @@ is_barred ledger = unwrap_or (newest bar_in ledger) false
 
 -- ---- buckets
 
-abbrev pub charge_to : BucketNumber → Fact → BucketAmount
+abbrev pub charge_to : ℕ → Fact → ℕ
 charge_to n (Charge bucket amount) = if bucket == n then amount else 0
 charge_to n _ = 0
 
 -- all charges to a bucket
-abbrev pub charged : BucketNumber → Ledger → BucketAmount
+abbrev pub charged : ℕ → Ledger → ℕ
 charged n ledger = total (λ d. charge_to n d.fact) ledger
 
 abbrev pub credits_in : Fact → ℕ
@@ -91,27 +82,27 @@ credits_in (Credit kind number from until scope amount) = 1
 credits_in _ = 0
 
 -- the number of the next bucket
-abbrev pub next_bucket : Ledger → BucketNumber
+abbrev pub next_bucket : Ledger → ℕ
 next_bucket ledger = total (λ d. credits_in d.fact) ledger + 1
 
 -- ---- use
 
-abbrev pub units_in : SessionName → GroupId → Fact → UnitCount
+abbrev pub units_in : List ℕ → ℕ → Fact → ℕ
 units_in s g (Use session group units blocks covered rated uncollected) =
     if is_same session s && group == g then units else 0
 units_in s g _ = 0
 
 -- a session's use of a group so far
-abbrev pub used : SessionName → GroupId → Ledger → UnitCount
+abbrev pub used : List ℕ → ℕ → Ledger → ℕ
 used s g ledger = total (λ d. units_in s g d.fact) ledger
 
-abbrev pub blocks_in : GroupId → Fact → BlockCount
+abbrev pub blocks_in : ℕ → Fact → ℕ
 blocks_in g (Use session group units blocks covered rated uncollected) =
     if group == g then blocks else 0
 blocks_in g _ = 0
 
 -- the account's counter of a group in a cycle: the blocks of the uses whose moments lie in it
-abbrev pub counter : (Moment → CycleNumber) → GroupId → CycleNumber → Ledger → Place
+abbrev pub counter : (ℕ → ℕ) → ℕ → ℕ → Ledger → ℕ
 counter cycle_at g c ledger =
     total (λ d. if cycle_at d.at == c then blocks_in g d.fact else 0) ledger
 
@@ -120,44 +111,44 @@ uses_in (Use session group units blocks covered rated uncollected) = 1
 uses_in _ = 0
 
 -- the number of the next charge row: each use is one
-abbrev pub next_charge : Ledger → ChargeNumber
+abbrev pub next_charge : Ledger → ℕ
 next_charge ledger = total (λ d. uses_in d.fact) ledger + 1
 
 -- ---- sessions
 
-abbrev pub touch_in : SessionName → Dated → Option Moment
+abbrev pub touch_in : List ℕ → Dated → Option ℕ
 touch_in s d = touched_by d.fact
   where
-    touched_by : Fact → Option Moment
+    touched_by : Fact → Option ℕ
     touched_by (Touch session) = if is_same session s then Some d.at else None
     touched_by _ = None
 
 -- the moment of a session's last touch
-abbrev pub last_touch : SessionName → Ledger → Option Moment
+abbrev pub last_touch : List ℕ → Ledger → Option ℕ
 last_touch s ledger = newest (touch_in s) ledger
 
-abbrev pub closes : SessionName → Fact → Bool
+abbrev pub closes : List ℕ → Fact → Bool
 closes s (Close session) = is_same session s
 closes s _ = false
 
-abbrev pub is_closed : SessionName → Ledger → Bool
+abbrev pub is_closed : List ℕ → Ledger → Bool
 is_closed s ledger = any (closes s) ledger
 
 -- a session that was touched lives until two validity times after its last touch
-abbrev pub is_within : (Moment → Seconds) → Moment → Option Moment → Bool
+abbrev pub is_within : (ℕ → ℕ) → ℕ → Option ℕ → Bool
 is_within v t None = false
 is_within v t (Some at) = nat_lt t (at + 2 * v at)
 
 -- a live session: it has a touch, wasn't closed, and its supervision time is not over (profile, in
 -- the place of the session supervision timer Tcc of RFC 8506 section 13)
-abbrev pub is_live : (Moment → Seconds) → Moment → Ledger → SessionName → Bool
+abbrev pub is_live : (ℕ → ℕ) → ℕ → Ledger → List ℕ → Bool
 is_live v t ledger s = is_within v t (last_touch s ledger) && not (is_closed s ledger)
 
 pub record Recording : Type 0 where
-  pub number : CcRequestNumber
-  pub at : Moment
+  pub number : ℕ
+  pub at : ℕ
 
-abbrev pub recording_in : SessionName → Dated → Option Recording
+abbrev pub recording_in : List ℕ → Dated → Option Recording
 recording_in s d = recorded_by d.fact
   where
     recorded_by : Fact → Option Recording
@@ -166,32 +157,32 @@ recording_in s d = recorded_by d.fact
     recorded_by _ = None
 
 -- a session's last accepted request
-abbrev pub last_recording : SessionName → Ledger → Option Recording
+abbrev pub last_recording : List ℕ → Ledger → Option Recording
 last_recording s ledger = newest (recording_in s) ledger
 
 -- ---- reservations
 
 -- which reservations' holds count, seen from before a fact: none that it ends
-abbrev pub counts_before : Fact → (SessionName → GroupId → Bool) → SessionName → GroupId → Bool
+abbrev pub counts_before : Fact → (List ℕ → ℕ → Bool) → List ℕ → ℕ → Bool
 counts_before (End session group) counts =
     λ s g. counts s g && not (is_same s session && g == group)
 counts_before _ counts = counts
 
-abbrev pub hold_of : (SessionName → GroupId → Bool) → BucketNumber → Fact → BucketAmount
+abbrev pub hold_of : (List ℕ → ℕ → Bool) → ℕ → Fact → ℕ
 hold_of counts n (Hold session group bucket amount) =
     if counts session group && bucket == n then amount else 0
 hold_of counts n _ = 0
 
 -- what reservations hold of a bucket: those that count, and that no later fact ended
-abbrev pub held : (SessionName → GroupId → Bool) → BucketNumber → Ledger → BucketAmount
+abbrev pub held : (List ℕ → ℕ → Bool) → ℕ → Ledger → ℕ
 held counts n [] = 0
 held counts n (d ∷ older) = hold_of counts n d.fact + held (counts_before d.fact counts) n older
 
 -- one reservation alone
-abbrev pub only : SessionName → GroupId → SessionName → GroupId → Bool
+abbrev pub only : List ℕ → ℕ → List ℕ → ℕ → Bool
 only session group s g = is_same s session && g == group
 
-abbrev pub grant_in : SessionName → GroupId → Dated → Option (Option Terms)
+abbrev pub grant_in : List ℕ → ℕ → Dated → Option (Option Terms)
 grant_in s g d = granted_by d.fact
   where
     granted_by : Fact → Option (Option Terms)
@@ -205,20 +196,20 @@ inner None = None
 inner (Some x) = x
 
 -- the terms of a session's grant of a group that no later fact ended
-abbrev pub open_grant : SessionName → GroupId → Ledger → Option Terms
+abbrev pub open_grant : List ℕ → ℕ → Ledger → Option Terms
 open_grant s g ledger = inner (newest (grant_in s g) ledger)
 
-abbrev pub names_group : SessionName → GroupId → Fact → Bool
+abbrev pub names_group : List ℕ → ℕ → Fact → Bool
 names_group s g (Grant session group terms units counter) = is_same session s && group == g
 names_group s g (Use session group units blocks covered rated uncollected) =
     is_same session s && group == g
 names_group s g _ = false
 
 -- the session has a grant or a use of the group
-abbrev pub has_group : SessionName → GroupId → Ledger → Bool
+abbrev pub has_group : List ℕ → ℕ → Ledger → Bool
 has_group s g ledger = any (names_group s g) ledger
 
-abbrev pub counts_group : (Moment → CycleNumber) → GroupId → CycleNumber → Dated → Bool
+abbrev pub counts_group : (ℕ → ℕ) → ℕ → ℕ → Dated → Bool
 counts_group cycle_at g c d = counted_by d.fact
   where
     counted_by : Fact → Bool
@@ -231,5 +222,5 @@ any_dated p [] = false
 any_dated p (d ∷ older) = p d || any_dated p older
 
 -- the account has a use of the group in the cycle
-abbrev pub has_counter : (Moment → CycleNumber) → GroupId → CycleNumber → Ledger → Bool
+abbrev pub has_counter : (ℕ → ℕ) → ℕ → ℕ → Ledger → Bool
 has_counter cycle_at g c ledger = any_dated (counts_group cycle_at g c) ledger

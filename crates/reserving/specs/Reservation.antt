@@ -1,9 +1,7 @@
 -- Reservation: units are granted as far as the funds cover their blocks, and their price is held in
 -- what is eligible (RFC 8506 sections 5.2 and 5.3; TS 32.299, session charging with unit
 -- reservation).
-use Rattle.std.specs.Prelude.{List, [], ◌∷◌, ◌++◌, Option}
-use Rattle.units.specs.Words.{Moment, UnitCount, GroupId}
-use Rattle.identifiers.specs.Words.{SessionName}
+use Rattle.std.specs.Prelude.{ℕ, List, [], ◌∷◌, ◌++◌, Option}
 use Rattle.buckets.specs.declared.holds.Hold.{Hold}
 use Rattle.buckets.specs.declared.kind.Due.{Due}
 use Rattle.buckets.specs.Kinds.{due}
@@ -17,14 +15,14 @@ use Rattle.reserving.specs.Pricing.{tariff_at, cycle_at, periods_at, terms_at, g
 use Rattle.reserving.specs.Pricing.{validity_of}
 use Rattle.reserving.specs.Balance.{buckets_at}
 
-abbrev pub hold_facts : Moment → SessionName → GroupId → List Hold → Ledger
+abbrev pub hold_facts : ℕ → List ℕ → ℕ → List Hold → Ledger
 hold_facts t session group [] = []
 hold_facts t session group (h ∷ hs) =
     record { at = t; fact = HoldFact session group h.bucket h.amount }
     ∷ hold_facts t session group hs
 
 -- the ledger with a grant
-abbrev pub reserved : Shelf → Moment → SessionName → GroupId → UnitCount → Due → Ledger → Ledger
+abbrev pub reserved : Shelf → ℕ → List ℕ → ℕ → ℕ → Due → Ledger → Ledger
 reserved b t session group units due ledger =
     hold_facts t session group (holds_of group t due (buckets_at (validity_of b) t ledger))
     ++ (record {
@@ -39,7 +37,7 @@ held_due g = due g.amount.0 g.allowed.0
 
 -- what a session with this use would be granted: the blocks of the allowance, and after them the
 -- greatest number of new blocks, each at the dearer of its two prices, that the funds cover
-abbrev pub grant_for : Shelf → Moment → GroupId → UnitCount → Option UnitCount → Ledger → RatedGrant
+abbrev pub grant_for : Shelf → ℕ → ℕ → ℕ → Option ℕ → Ledger → RatedGrant
 grant_for b t group before requested ledger =
     grant_with (tariff_at b t group) (periods_at b t) before
     (counter (cycle_at b group) group (cycle_at b group t) ledger) requested

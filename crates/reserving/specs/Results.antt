@@ -1,10 +1,8 @@
 -- What settlements and grants answer, as a ledger tells it.
 -- Source: RFC 8506 sections 5.2 to 5.4; TS 32.299, session charging with unit reservation.
-use Rattle.std.specs.Prelude.{◌≡◌, ◌+◌, ◌-◌, ◌<◌, ◌≤◌, Bool, true, false, nat_lt, List, Option}
+use Rattle.std.specs.Prelude.{◌≡◌, ℕ, ◌+◌, ◌-◌, ◌<◌, ◌≤◌, Bool, true, false, nat_lt, List, Option}
 use Rattle.std.specs.Prelude.{None}
 use Rattle.std.specs.Prelude.{Some}
-use Rattle.units.specs.Words.{Moment, Seconds, UnitCount, GroupId}
-use Rattle.identifiers.specs.Words.{SessionName}
 use Rattle.units.specs.declared.blocks.UsedPart.{UsedPart}
 use Rattle.units.specs.Blocks.{started}
 use Rattle.shelves.specs.Shelves.{Shelf}
@@ -26,7 +24,7 @@ use Rattle.reserving.specs.Changes.{advanced, granted_in, reserved_account}
 
 -- the blocks that a report starts, those that allowances cover, the price of the others, and what
 -- of it is collected and isn't
-pub record IsSettlementOf (b : Shelf) (t : Moment) (session : SessionName) (group : GroupId)
+pub record IsSettlementOf (b : Shelf) (t : ℕ) (session : List ℕ) (group : ℕ)
     (used_parts : List UsedPart) (ledger : Ledger) (s : Settled) : Type 0 where
   pub blocks : s.blocks.0 ≡ (report_price b t session group used_parts ledger).blocks
   pub covered : s.covered.0 ≡ (report_price b t session group used_parts ledger).covered.0
@@ -37,9 +35,9 @@ pub record IsSettlementOf (b : Shelf) (t : Moment) (session : SessionName) (grou
 -- ---- grants
 
 -- units that are granted: their price is held
-pub record IsGrantOf (b : Shelf) (t : Moment) (session : SessionName) (group : GroupId)
-    (requested : Option UnitCount) (ledger : Ledger) (after : AccountRows) (given : UnitCount)
-    (at : Option Moment) (seconds : Seconds) (final : Bool) : Type 0 where
+pub record IsGrantOf (b : Shelf) (t : ℕ) (session : List ℕ) (group : ℕ) (requested : Option ℕ)
+    (ledger : Ledger) (after : AccountRows) (given : ℕ) (at : Option ℕ) (seconds : ℕ) (final : Bool)
+    : Type 0 where
   pub some : 0 < given
   pub units : given ≡ (grant_for b t group (used session group ledger) requested ledger).units.0
   pub switch : at ≡ switch_at b t
@@ -60,8 +58,7 @@ pub record IsGrantOf (b : Shelf) (t : Moment) (session : SessionName) (group : G
 
 -- what a reservation answers, and what it makes of the account: nothing is granted exactly where no
 -- unit is covered
-abbrev pub GivesGrant : Shelf → Moment → SessionName → GroupId → Option UnitCount → Ledger →
-    AccountRows → Granted → Type 0
+abbrev pub GivesGrant : Shelf → ℕ → List ℕ → ℕ → Option ℕ → Ledger → AccountRows → Granted → Type 0
 GivesGrant b t session group requested ledger after Nothing =
     ((grant_for b t group (used session group ledger) requested ledger).units.0 ≡ 0) ×
     IsRowsOf ledger after
@@ -69,9 +66,9 @@ GivesGrant b t session group requested ledger after (Units units switch validity
     IsGrantOf b t session group requested ledger after units.0 switch validity fewer
 
 -- the same by the account's rows, whatever they are
-pub record IsGrantIn (session : SessionName) (group : GroupId) (t : Moment)
-    (requested : Option UnitCount) (before after : AccountRows) (given : UnitCount)
-    (at : Option Moment) (seconds : Seconds) (final : Bool) : Type 0 where
+pub record IsGrantIn (session : List ℕ) (group t : ℕ) (requested : Option ℕ)
+    (before after : AccountRows) (given : ℕ) (at : Option ℕ) (seconds : ℕ) (final : Bool)
+    : Type 0 where
   pub some : 0 < given
   pub units : given ≡ (granted_in session group t requested before).units.0
   pub switch : at ≡ switch_at before.shelf t
@@ -81,15 +78,14 @@ pub record IsGrantIn (session : SessionName) (group : GroupId) (t : Moment)
       ≡ reserved_account session group (held_due (granted_in session group t requested before))
       (advanced t before)
 
-abbrev pub GivesGrantIn : SessionName → GroupId → Moment → Option UnitCount → AccountRows →
-    AccountRows → Granted → Type 0
+abbrev pub GivesGrantIn : List ℕ → ℕ → ℕ → Option ℕ → AccountRows → AccountRows → Granted → Type 0
 GivesGrantIn session group t requested before after Nothing =
     ((granted_in session group t requested before).units.0 ≡ 0) × (after ≡ advanced t before)
 GivesGrantIn session group t requested before after (Units units switch validity fewer) =
     IsGrantIn session group t requested before after units.0 switch validity fewer
 
 -- units that are granted are some, of a group with a tariff, and no more than its greatest grant
-pub record IsWithin (t : Option GroupTariff) (units : UnitCount) : Type 0 where
+pub record IsWithin (t : Option GroupTariff) (units : ℕ) : Type 0 where
   pub some : 0 < units
   pub tariff : GroupTariff
   pub known : t ≡ Some tariff
@@ -102,8 +98,8 @@ IsWithinGrant t (Units units switch validity fewer) = IsWithin t units.0
 -- ---- debits
 
 -- an event's units are charged whole: their price is covered
-pub record IsDebitOf (b : Shelf) (t : Moment) (session : SessionName) (group : GroupId)
-    (units : UnitCount) (ledger : Ledger) (after : AccountRows) (s : Settled) : Type 0 where
+pub record IsDebitOf (b : Shelf) (t : ℕ) (session : List ℕ) (group units : ℕ) (ledger : Ledger)
+    (after : AccountRows) (s : Settled) : Type 0 where
   pub covered : is_covered b t group units ledger ≡ true
   pub within : debit_passes b t session group units ledger ≡ false
   pub blocks : s.blocks.0 ≡ (rest_price b t group units ledger).blocks
@@ -114,8 +110,7 @@ pub record IsDebitOf (b : Shelf) (t : Moment) (session : SessionName) (group : G
   pub rows : IsRowsOf (debited b t session group units ledger) after
 
 -- what a debit answers, and what it makes of the account; nothing where the funds don't cover it
-abbrev pub IsDebit : Shelf → Moment → SessionName → GroupId → UnitCount → Ledger → AccountRows →
-    Option Settled → Type 0
+abbrev pub IsDebit : Shelf → ℕ → List ℕ → ℕ → ℕ → Ledger → AccountRows → Option Settled → Type 0
 IsDebit b t session group units ledger after None = is_covered b t group units ledger ≡ false
 IsDebit b t session group units ledger after (Some s) =
     IsDebitOf b t session group units ledger after s

@@ -3,10 +3,6 @@
 -- reservation).
 use Rattle.std.specs.Prelude.{ℕ, ◌+◌, Bool, false, ◌||◌, nat_lt, List, [], ◌∷◌, ◌++◌, Option}
 use Rattle.std.specs.Prelude.{sum_by, unwrap_or}
-use Rattle.units.specs.Words.{greatest_number, most_used, most_counted}
-use Rattle.units.specs.Words.{Moment, Seconds, Micros, UnitCount, BlockCount, Place, GroupId}
-use Rattle.identifiers.specs.Words.{SessionName}
-use Rattle.reserving.specs.Words.{ChargeNumber}
 use Rattle.units.specs.declared.blocks.UsedPart.{UsedPart}
 use Rattle.shelves.specs.Shelves.{Shelf, tariff_in}
 use Rattle.reserving.specs.declared.session.Terms.{Terms}
@@ -26,25 +22,23 @@ use Rattle.reserving.specs.Balance.{buckets_at}
 use Rattle.reserving.specs.Sessions.{holds_at}
 
 -- the units of a report, all its parts together
-abbrev pub reported : List UsedPart → UnitCount
+abbrev pub reported : List UsedPart → ℕ
 reported used_parts = sum_by (λ p. p.units.0) used_parts
 
 -- what a report costs by the terms of a grant: by the book of their number, in their periods; so
 -- many blocks may be covered
-abbrev pub price_by : Shelf → GroupId → Terms → UnitCount → Place → BlockCount → List UsedPart →
-    Rated
+abbrev pub price_by : Shelf → ℕ → Terms → ℕ → ℕ → ℕ → List UsedPart → Rated
 price_by b group x used place covered used_parts =
     rated_with (tariff_in b x.book group) x.periods used place covered used_parts
 
 -- what a report costs: by the terms of its grant, or without one all by the book and the period at
 -- its moment
-abbrev pub price_of : Shelf → Moment → GroupId → Option Terms → UnitCount → Place → BlockCount →
-    List UsedPart → Rated
+abbrev pub price_of : Shelf → ℕ → ℕ → Option Terms → ℕ → ℕ → ℕ → List UsedPart → Rated
 price_of b t group granted used place covered used_parts =
     price_by b group (unwrap_or granted (terms_now b t)) used place covered used_parts
 
 -- the blocks that may cover a report: those that its reservation holds, and the allowance
-abbrev pub coverable : (Moment → Seconds) → Moment → SessionName → GroupId → Ledger → BlockCount
+abbrev pub coverable : (ℕ → ℕ) → ℕ → List ℕ → ℕ → Ledger → ℕ
 coverable v t session group ledger =
     held_sum Blocks (holds_at v t session group ledger) (buckets_at v t ledger)
     + allowance group t (buckets_at v t ledger)
@@ -55,19 +49,18 @@ due_of r = due r.amount.0 r.covered.0
 
 -- the price of a report of a live session: its grant is its reservation, its use goes on after the
 -- session's use so far, and its blocks are counted from the group's counter in the cycle on
-abbrev pub report_price : Shelf → Moment → SessionName → GroupId → List UsedPart → Ledger → Rated
+abbrev pub report_price : Shelf → ℕ → List ℕ → ℕ → List UsedPart → Ledger → Rated
 report_price b t session group used_parts ledger =
     price_of b t group (open_grant session group ledger) (used session group ledger)
     (counter (cycle_at b group) group (cycle_at b group t) ledger)
     (coverable (validity_of b) t session group ledger) used_parts
 
-abbrev pub charge_facts : Moment → List Hold → Ledger
+abbrev pub charge_facts : ℕ → List Hold → Ledger
 charge_facts t [] = []
 charge_facts t (h ∷ hs) = record { at = t; fact = Charge h.bucket h.amount } ∷ charge_facts t hs
 
 -- the ledger with a settlement
-abbrev pub settled : (Moment → Seconds) → Moment → SessionName → GroupId → UnitCount → BlockCount →
-    Due → Ledger → Ledger
+abbrev pub settled : (ℕ → ℕ) → ℕ → List ℕ → ℕ → ℕ → ℕ → Due → Ledger → Ledger
 settled v t session group units blocks due ledger =
     record { at = t; fact = End session group }
     ∷ record {
@@ -85,7 +78,7 @@ settled v t session group units blocks due ledger =
 
 -- the ledger with a reported group's settlement; a group that is named without a report only ends
 -- its reservation
-abbrev pub settled_by : Shelf → Moment → SessionName → GroupId → List UsedPart → Ledger → Ledger
+abbrev pub settled_by : Shelf → ℕ → List ℕ → ℕ → List UsedPart → Ledger → Ledger
 settled_by b t session group [] ledger = record { at = t; fact = End session group } ∷ ledger
 settled_by b t session group (p ∷ ps) ledger =
     settled (validity_of b) t session group (reported (p ∷ ps))
@@ -93,7 +86,7 @@ settled_by b t session group (p ∷ ps) ledger =
     (due_of (report_price b t session group (p ∷ ps) ledger)) ledger
 
 -- what of a report's price neither its holds nor any eligible bucket pays
-abbrev pub missing : Shelf → Moment → SessionName → GroupId → List UsedPart → Ledger → Micros
+abbrev pub missing : Shelf → ℕ → List ℕ → ℕ → List UsedPart → Ledger → ℕ
 missing b t session group used_parts ledger =
     uncollected (holds_at (validity_of b) t session group ledger) group t
     (report_price b t session group used_parts ledger).amount.0
@@ -101,12 +94,12 @@ missing b t session group used_parts ledger =
 
 -- a stored number would pass its limit: the session's use, the group's counter, or the charge row's
 -- number
-abbrev pub passes : UnitCount → UnitCount → Place → BlockCount → ChargeNumber → Bool
+abbrev pub passes : ℕ → ℕ → ℕ → ℕ → ℕ → Bool
 passes before units count blocks charge =
-    nat_lt most_used (before + units)
-    || (nat_lt most_counted (count + blocks) || nat_lt greatest_number charge)
+    nat_lt 1000000000000000000 (before + units)
+    || (nat_lt 4000000000000000000 (count + blocks) || nat_lt 4294967295 charge)
 
-abbrev pub passes_limit : Shelf → Moment → SessionName → GroupId → List UsedPart → Ledger → Bool
+abbrev pub passes_limit : Shelf → ℕ → List ℕ → ℕ → List UsedPart → Ledger → Bool
 passes_limit b t session group [] ledger = false
 passes_limit b t session group (p ∷ ps) ledger =
     passes (used session group ledger) (reported (p ∷ ps))
@@ -114,7 +107,7 @@ passes_limit b t session group (p ∷ ps) ledger =
     (report_price b t session group (p ∷ ps) ledger).blocks (next_charge ledger)
 
 -- the same, where so many charges are numbered before the report's own
-abbrev pub passes_after : ℕ → Shelf → Moment → SessionName → GroupId → List UsedPart → Ledger → Bool
+abbrev pub passes_after : ℕ → Shelf → ℕ → List ℕ → ℕ → List UsedPart → Ledger → Bool
 passes_after charges b t session group [] ledger = false
 passes_after charges b t session group (p ∷ ps) ledger =
     passes (used session group ledger) (reported (p ∷ ps))

@@ -1,5 +1,3 @@
-//! Credits and allowances of an account.
-
 ghost use Rattle.std.specs.Prelude.{◌≡◌, ◌≤◌, ◌<◌, OnOk, OnErr, IfOk, IsErrOf, ◌↔◌};
 ghost use Rattle.reserving.specs.Ledger.{Ledger};
 ghost use Rattle.reserving.specs.Rows.{IsAccount, IsRowsOf};
@@ -104,9 +102,13 @@ impl<'b> Account<'b> {
         let Ok(number) = u32::try_from(self.rows.next_bucket) else {
             return Err(AccountFault::Limit);
         };
-        self.rows
+        let Ok(()) = self
+            .rows
             .purse
-            .add(number, kind, from, until, scope, amount)?;
+            .add(number, kind, from, until, scope, amount)
+        else {
+            return Err(AccountFault::Memory);
+        };
         self.rows.next_bucket += 1;
         self.calm = false;
         Ok(number)

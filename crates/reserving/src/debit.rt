@@ -1,5 +1,3 @@
-//! Events: their price, and the debit of it.
-
 ghost use Rattle.std.specs.Prelude.{◌≡◌, ◌+◌, ◌≤◌, ◌<◌, ℕ, true, false, None, List, [], is_some};
 ghost use Rattle.std.specs.Prelude.{OnErr, IfOk, IfSome, Err};
 ghost use Rattle.buckets.specs.Holding.{uncollected};

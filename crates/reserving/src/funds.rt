@@ -1,5 +1,3 @@
-//! What is available to a rating group at a moment.
-
 ghost use Rattle.std.specs.Prelude.{◌≡◌, ◌≤◌, ◌<◌, ◌^◌, true, if◌then◌else◌};
 ghost use Rattle.buckets.specs.Kinds.{most_of, is_alike};
 ghost use Rattle.buckets.specs.Share.{sum_in};

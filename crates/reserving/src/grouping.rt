@@ -134,7 +134,9 @@ pub(crate) fn add_group(
         used: 0,
         reservation: None,
     };
-    groups.insert(place, row)?;
+    let Ok(()) = groups.insert(place, row) else {
+        return Err(AllocError);
+    };
     Ok(())
 }
 

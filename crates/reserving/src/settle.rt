@@ -1,5 +1,3 @@
-//! Reports of use, settled.
-
 ghost use Rattle.std.specs.Prelude.{◌≡◌, ◌+◌};
 ghost use Rattle.reserving.specs.Pricing.{validity_of};
 

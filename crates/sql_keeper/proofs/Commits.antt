@@ -1,6 +1,6 @@
 -- What is committed of a change.
 use Rattle.std.proofs.Common.{◌≡◌, ◌≤◌, ◌∙◌, ap, refl, subst, ℕ, List, [], ◌∷◌, Option, Some, None}
-use Rattle.std.proofs.Common.{Bool, IsTrue, sym}
+use Rattle.std.proofs.Common.{IsTrue, sym}
 use Rattle.keepers.specs.declared.key.Key.{Key}
 use Rattle.keepers.specs.declared.key.Key.TheVariants.{Request, Reference}
 use Rattle.keepers.specs.declared.key.KeptAnswer.{KeptAnswer}
@@ -27,15 +27,14 @@ use Rattle.sql_rows.specs.Each.{with_each, with_counters, with_sessions}
 use Rattle.sql_rows.specs.Makes.{Turns}
 use Rattle.sql_keeper.specs.Content.{tables_of, Names}
 use Rattle.sql_keeper.specs.Commits.{Becomes}
-use Rattle.sql_keeper.specs.Tests.{IsTested, MayBeMade}
+use Rattle.sql_keeper.specs.Tests.{MayBeMade}
 use Rattle.sql_keeper.specs.Tidy.{IsTidy}
 use Rattle.sql_keeper.specs.Writes.{AreTexts, columns_of, head_of, meta_with, with_change}
 use Rattle.sql_keeper.specs.Writes.{with_all_counted, with_all_paid, with_book_of, with_counted}
 use Rattle.sql_keeper.specs.Writes.{with_held_group, with_kept, with_paid, with_redeemed}
-use Rattle.sql_keeper.specs.Writes.{with_change_put, with_scoped, with_stored, with_texts}
+use Rattle.sql_keeper.specs.Writes.{with_scoped, with_stored, with_texts}
 use Rattle.sql_keeper.proofs.TidyChanges.{tidy_change}
 use Rattle.sql_keeper.proofs.Changed.{changes_read}
-use Rattle.sql_keeper.proofs.NewGroups.{put_is}
 
 -- ---- what is kept once, and the later books
 
@@ -132,26 +131,13 @@ module _ (names : Names) (text : List ℕ) (change : Change) (texts : Option Kep
     stored = turns.stored;
   }
 
-  -- the groups that are new are put without a removal
-  turned : (new : Bool) (old db : Trees) →
-      IsTested names change (rows_in old change.number) new →
-      Turns (with_change_put names new (meta_with text change) change texts) old db →
-      Turns (with_change names (meta_with text change) change texts) old db
-  turned new old db found turns = record {
-    content = turns.content
-        ∙ put_is names new (meta_with text change) change texts (content_of old) named found;
-    catalog = turns.catalog;
-    stored = turns.stored;
-  }
-
-  pub become_at : (new : Bool) (old mid : State) → OnlyReads old mid
+  pub become_at : (old mid : State) → OnlyReads old mid
       → (HasCleanDisk mid → IsTrue mid.is_open
-      → IsTested names change (rows_in old.now.trees change.number) new) → HasCleanDisk mid
+      → MayBeMade names change (rows_in old.now.trees change.number)) → HasCleanDisk mid
       → IsTrue mid.is_open → (db : Trees)
-      → Turns (with_change_put names new (meta_with text change) change texts) mid.now.trees db
+      → Turns (with_change names (meta_with text change) change texts) mid.now.trees db
       → Becomes names text change old.now.trees db
-  become_at new old mid only may clean on db turns =
-      become old.now.trees db (may clean on).made (turned new old.now.trees db (may clean on)
-      (subst (λ (d : Database).
-      Turns (with_change_put names new (meta_with text change) change texts) d.trees db)
-      (only.still clean on).now_is turns))
+  become_at old mid only may clean on db turns =
+      become old.now.trees db (may clean on) (subst (λ (d : Database).
+      Turns (with_change names (meta_with text change) change texts) d.trees db)
+      (only.still clean on).now_is turns)

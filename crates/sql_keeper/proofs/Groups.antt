@@ -205,7 +205,7 @@ over_groups names gs x = record x {
   holds = λ s g n. amount_in n (group_in s g gs) (x.holds s g n);
 }
 
-pub may_hold : (names : Names) (sessions : List Session) (s : List ℕ) (o : Option Reservation) →
+may_hold : (names : Names) (sessions : List Session) (s : List ℕ) (o : Option Reservation) →
     MayStand names sessions s o → AreHolds (holds_in o)
 may_hold names sessions s None h = tt
 may_hold names sessions s (Some r) h = h.holds
@@ -220,7 +220,7 @@ groups_each a names sessions (r ∷ rs) c h =
     ∙ ap (each a (put_group names) rs)
     (group_put a names r c (may_hold names sessions r.session r.reservation h.0))
 
-pub column_over : (names : Names) (s : List ℕ) (g : ℕ) (x : SessionGroup)
+column_over : (names : Names) (s : List ℕ) (g : ℕ) (x : SessionGroup)
     (xs : List SessionGroup) (before : Option Group) → EachIn (λ y. same_group x y ≡ false) xs
     → first_of (option_map (columns_of names) (group_in s g xs))
     (if is_of s g x then Some (columns_of names x) else before)

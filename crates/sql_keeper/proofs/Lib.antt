@@ -26,7 +26,6 @@ pub mod LoadedAlone
 pub mod Made
 pub mod Migrated
 pub mod Moved
-pub mod NewGroups
 pub mod Numbers
 pub mod OneShelf
 pub mod Opens
@@ -35,7 +34,6 @@ pub mod Puts
 pub mod Redeemed
 pub mod Reopening
 pub mod Repeating
-pub mod RuledOpening
 pub mod Shelved
 pub mod Shelving
 pub mod Standing

@@ -1,8 +1,6 @@
 -- The counters of a moment, read by how often they begin again.
-use Rattle.std.proofs.Common.{◌≡◌, ℕ, ◌==◌, Bool, true, false, cond, List, [], ◌∷◌, ◌++◌, Option}
-use Rattle.std.proofs.Common.{Some, None, refl, ap, sym, subst, ◌∙◌}
-use Rattle.std.specs.Prelude.{if◌then◌else◌, ◌||◌, filter}
-use Rattle.std.specs.List.{find, list_any}
+use Rattle.std.proofs.Common.{◌≡◌, ℕ, ◌==◌, List, ◌++◌, Option, Some, None, refl, ap, ◌∙◌}
+use Rattle.std.specs.Prelude.{if◌then◌else◌, filter}
 use Rattle.std.specs.Option.{option_or}
 use Rattle.std.proofs.lemmas.List.Folds.{find-append}
 use Rattle.calendar.specs.Clock.{ZoneRule}
@@ -17,12 +15,10 @@ use Rattle.reserving.specs.declared.session.Counter.{Counter}
 use Rattle.reserving.specs.Pricing.{cycle_with, tariff_of}
 use Rattle.reserving.specs.Sessions.{is_counter, counter_in}
 use Rattle.reserving.proofs.Keys.{first_true, same_number}
-use Rattle.reserving.proofs.Lists.{no_some, not_both, some_of}
 use Rattle.sql_rows.specs.Content.{Rows as Stored}
 use Rattle.sql_rows.specs.Lists.{AreCountersIn}
 use Rattle.sql_keeper.specs.LiveRows.{AreCountersAt}
 use Rattle.sql_keeper.specs.Repeating.{AreEachRepeating, AreRepeating, repeats_in, repeats_with}
-use Rattle.sql_keeper.specs.Repeating.{has_repeating, may_repeat}
 use Rattle.sql_keeper.proofs.LiveRows.{find_kept}
 
 -- those of the groups whose counters begin again so often, among all of the cycle
@@ -38,47 +34,6 @@ repeating_among b repeats t cycle rows all cs cycle_is found is g c =
     (same_number x.group g (first_true (x.group == g) (x.cycle == c) e))) all
     ∙ ap (λ o. if cycles.eq (repeats_in b g) repeats then o else None)
     (found g c ∙ ap (λ n. if c == n then rows.counters g c else None) cycle_is)
-
--- where none passes, one that is found doesn't
-not_any : {A : Type 0} (p q : A → Bool) (xs : List A) (x : A) → list_any p xs ≡ false →
-    find q xs ≡ Some x → p x ≡ false
-not_any p q [] x none e = absurd (no_some x e)
-not_any p q (y ∷ ys) x none e =
-    at (p y) (q y) refl none e (λ rest f. not_any p q ys x rest f)
-  where
-    at : (t u : Bool) → p y ≡ t → (t || list_any p ys) ≡ false →
-        cond u (Some y) (find q ys) ≡ Some x →
-        (list_any p ys ≡ false → find q ys ≡ Some x → p x ≡ false) → p x ≡ false
-    at true u here none e rest = absurd (not_both (sym none))
-    at false true here none e rest = subst (λ z. p z ≡ false) (some_of y x e) here
-    at false false here none e rest = rest none e
-
--- no counter begins again so often where no group of the book does
-none_with : (b : Book) (repeats : Cycle) → cycles.eq often.None repeats ≡ false →
-    has_repeating b repeats ≡ false → (g : ℕ) → cycles.eq (repeats_in b g) repeats ≡ false
-none_with b repeats never none g = at (tariff_of b g) refl
-  where
-    at : (o : Option GroupTariff) → tariff_of b g ≡ o →
-        cycles.eq (repeats_with o) repeats ≡ false
-    at None e = never
-    at (Some x) e =
-        not_any (λ (t : GroupTariff). cycles.eq t.cycle repeats) (λ t. t.group == g) b.tariffs x
-        none e
-
-none_repeats : (b : Book) (repeats : Cycle) → may_repeat b repeats ≡ false → (g : ℕ) →
-    cycles.eq (repeats_in b g) repeats ≡ false
-none_repeats b often.None none g = absurd (not_both (sym none))
-none_repeats b often.Day none g = none_with b often.Day refl none g
-none_repeats b often.Month none g = none_with b often.Month refl none g
-
--- so none is to be read
-pub none_repeating : (b : Book) (repeats : Cycle) (t : ℕ) (rows : Stored) (cs : List Counter) →
-    false ≡ may_repeat b repeats → cs ≡ [] → AreRepeating b repeats t rows cs
-none_repeating b repeats t rows cs none is g c =
-    ap (counter_in g c) is
-    ∙ ap (λ (u : Bool). if u
-    then (if c == cycle_of b.calendar.zone repeats t then rows.counters g c else None) else None)
-    (sym (none_repeats b repeats (sym none) g))
 
 -- the cycle of a group's counter is that of how often it begins again
 cycle_repeats : (zone : ZoneRule) (o : Option GroupTariff) (t : ℕ)

@@ -1,8 +1,9 @@
 -- Whether a change may be made of what is stored, told by what is read of it.
-use Rattle.std.proofs.Common.{◌≡◌, ◌<◌, ◌≤◌, ◌+◌, take, get_or, length, ℕ, Bool, true, false}
+use Rattle.std.proofs.Common.{◌≡◌, ◌⊎◌, ◌<◌, ◌≤◌, ◌+◌, take, get_or, length, ℕ, Bool, true, false}
 use Rattle.std.proofs.Common.{List, [], ◌∷◌, ◌++◌, cond, Option, Some, None, Result, Ok, Err, IfOk}
 use Rattle.std.proofs.Common.{IsTrue, inl, inr, refl, sym, ap, subst, ◌∙◌}
 use Rattle.std.specs.Prelude.{◌||◌, ◌&&◌, if◌then◌else◌, map, not, nat_eq, is_some, option_map}
+use Rattle.std.specs.Prelude.{OnOk}
 use Rattle.std.specs.List.{find, list_all}
 use Rattle.std.proofs.lemmas.Bool.{and_parts, not-true}
 use Rattle.std.proofs.lemmas.List.{take_more, take_all}
@@ -10,28 +11,27 @@ use Rattle.sqlite.specs.State.{State, HasCleanDisk}
 use Rattle.reserving.specs.declared.session.Session.{Session}
 use Rattle.reserving.specs.declared.session.SessionGroup.{SessionGroup}
 use Rattle.reserving.specs.Rows.{EachIn}
-use Rattle.reserving.specs.Sessions.{group_in, is_open, is_session, session_in}
+use Rattle.reserving.specs.Sessions.{group_in, is_open}
 use Rattle.reserving.specs.Left.{is_open_row}
-use Rattle.reserving.proofs.Lists.{EachIn-found, find-passes, not_both, no_some, some_of}
+use Rattle.reserving.proofs.Lists.{find-passes, not_both, no_some, some_of}
 use Rattle.reserving.proofs.KeysFound.{is_none_is}
 use Rattle.reserving.proofs.LeftTests.{each_append}
 use Rattle.keepers.specs.declared.loaded.Change.{Change}
 use Rattle.sql_tables.specs.Statements.{HasIdleBook, Reads}
 use Rattle.sql_rows.specs.declared.head.Head.{Head}
 use Rattle.sql_rows.specs.Content.{Rows as Stored, rows_in}
-use Rattle.sql_rows.specs.Lists.{AreGroups, GroupAt, HasNoGroups}
+use Rattle.sql_rows.specs.Lists.{AreGroups, GroupAt}
 use Rattle.sql_rows.specs.Values.{Group}
 use Rattle.sql_keeper.specs.Content.{Names}
 use Rattle.sql_keeper.specs.LiveGroups.{Gathers}
 use Rattle.sql_keeper.specs.Tests.{is_as_open, is_beside, are_beside, IsSettled, AreSettled}
-use Rattle.sql_keeper.specs.Tests.{AreFound, AreNewGroups, AreWritable, IsChangeFound, IsFound}
-use Rattle.sql_keeper.specs.Tests.{AreNumbered, IsTested, are_among, first_number}
-use Rattle.sql_keeper.specs.declared.settling.NamedSessions.{NamedSessions}
+use Rattle.sql_keeper.specs.Tests.{AreWritable}
+use Rattle.sql_keeper.specs.Tests.{AreNumbered, MayBeMade, first_number}
 use Rattle.sql_keeper.proofs.Changed.{settled_each}
 use Rattle.sql_keeper.proofs.InTurn.{HaveRead, none_read, have_read, have_gathered, have_read_then}
-use Rattle.sql_keeper.proofs.InTurn.{gathers_from, gathers_made}
+use Rattle.sql_keeper.proofs.InTurn.{gathers_from, gathers_made, gives_up}
 use Rattle.sql_keeper.proofs.LiveGroups.{told_before}
-use Rattle.sql_keeper.proofs.Overlays.{name_from, number_from}
+use Rattle.sql_keeper.proofs.Overlays.{number_from}
 
 -- ---- the groups of a session
 
@@ -82,253 +82,161 @@ as_open : (a b : Bool) → (if a then b else not b) ≡ true → a ≡ b
 as_open true b e = sym e
 as_open false b e = sym (not-true b e)
 
--- one that wasn't there
-pub found_new : {E : Type 0} (a : List ℕ) (groups : List SessionGroup) (x : Session)
-    (o : Option Session) (old new : State) →
-    Reads {A = Option Session} {E = E} (λ trees p. p ≡ (rows_in trees a).sessions x.id) old new
-    (Ok o) → (HasCleanDisk new → o ≡ None → HasNoGroups (rows_in old.now.trees a) x.id) →
-    false ≡ is_some o → Gathers {A = NamedSessions} {E = E}
-    (λ trees y. IsFound groups (rows_in trees a) x y) old new
-    (Ok (record { are_settled = true; are_new = true }))
-found_new {E} a groups x o old new reads none gone =
-    gathers_from {A = NamedSessions} {E = E} (λ trees y. IsFound groups (rows_in trees a) x y)
-    old new (Ok (record { are_settled = true; are_new = true }))
-    (have_read {A = Option Session} {E = E} (λ trees p. p ≡ (rows_in trees a).sessions x.id) old
-    new o reads)
-    (λ clean on.
-    let nothing : HasNoGroups (rows_in old.now.trees a) x.id =
-    none clean (is_none_is o (sym gone)) in record {
-      settled = λ t. inr (λ g y there free. absurd (no_some y (sym (nothing.groups g) ∙ there)));
-      new = λ t. nothing;
-    })
-
 -- one read
-pub found_stays : {E : Type 0} (a : List ℕ) (groups : List SessionGroup) (x : Session)
+pub settled_stays : {E : Type 0} (a : List ℕ) (groups : List SessionGroup) (x : Session)
     (o : Option Session) (old new : State) →
     Reads {A = Option Session} {E = E} (λ trees p. p ≡ (rows_in trees a).sessions x.id) old new
-    (Ok o) → true ≡ is_as_open x o → Gathers {A = NamedSessions} {E = E}
-    (λ trees y. IsFound groups (rows_in trees a) x y) old new
-    (Ok (record { are_settled = true; are_new = false }))
-found_stays {E} a groups x o old new reads same =
-    gathers_from {A = NamedSessions} {E = E} (λ trees y. IsFound groups (rows_in trees a) x y)
-    old new (Ok (record { are_settled = true; are_new = false }))
+    (Ok o) → true ≡ is_as_open x o →
+    Gathers {A = Bool} {E = E} (λ trees b. IsTrue b → IsSettled groups (rows_in trees a) x) old new
+    (Ok true)
+settled_stays {E} a groups x o old new reads same =
+    gathers_from {A = Bool} {E = E} (λ trees b. IsTrue b → IsSettled groups (rows_in trees a) x)
+    old new (Ok true)
     (have_read {A = Option Session} {E = E} (λ trees p. p ≡ (rows_in trees a).sessions x.id) old
     new o reads)
-    (λ clean on. record {
-      settled = λ t. inl (as_open (is_open x.state) (is_open_row o) (sym same)
-          ∙ ap is_open_row (reads.found clean));
-      new = λ t. absurd (not_both t);
-    })
+    (λ clean on t. inl (as_open (is_open x.state) (is_open_row o) (sym same)
+    ∙ ap is_open_row (reads.found clean)))
 
 -- and that of its groups
-pub found_groups : {A E : Type 0} (a : List ℕ) (groups : List SessionGroup) (x : Session)
+pub settled_groups : {A E : Type 0} (a : List ℕ) (groups : List SessionGroup) (x : Session)
     (o : Option Session) (v : A) (items : A → List GroupAt) (b : Bool) (old mid new : State) →
     Reads {A = Option Session} {E = E} (λ trees p. p ≡ (rows_in trees a).sessions x.id) old mid
     (Ok o) →
     Reads {A = A} {E = E} (λ trees w. AreGroups (rows_in trees a) x.id (items w)) mid new (Ok v) →
-    b ≡ are_beside groups x.id (items v) → Gathers {A = NamedSessions} {E = E}
-    (λ trees y. IsFound groups (rows_in trees a) x y) old new
-    (Ok (record { are_settled = b; are_new = false }))
-found_groups {A} {E} a groups x o v items b old mid new one two is =
+    b ≡ are_beside groups x.id (items v) →
+    Gathers {A = Bool} {E = E} (λ trees c. IsTrue c → IsSettled groups (rows_in trees a) x) old new
+    (Ok b)
+settled_groups {A} {E} a groups x o v items b old mid new one two is =
     let first = have_read {A = Option Session} {E = E}
     (λ trees p. p ≡ (rows_in trees a).sessions x.id) old mid o one in
-    gathers_from {A = NamedSessions} {E = E} (λ trees y. IsFound groups (rows_in trees a) x y)
-    old new (Ok (record { are_settled = b; are_new = false }))
+    gathers_from {A = Bool} {E = E} (λ trees c. IsTrue c → IsSettled groups (rows_in trees a) x)
+    old new (Ok b)
     (have_read_then old mid new first
     (have_read {A = A} {E = E} (λ trees w. AreGroups (rows_in trees a) x.id (items w)) mid new v
     two))
-    (λ clean on. record {
-      settled = λ t. inr (λ g y there none.
-          free_beside groups x.id (items v) (rows_in old.now.trees a)
-          (told_before (λ trees. AreGroups (rows_in trees a) x.id (items v)) old mid new one.only
-          two.only clean on (two.found clean)) (sym is ∙ t) g y there none);
-      new = λ t. absurd (not_both t);
-    })
+    (λ clean on t. inr (λ g y there none.
+    free_beside groups x.id (items v) (rows_in old.now.trees a)
+    (told_before (λ trees. AreGroups (rows_in trees a) x.id (items v)) old mid new one.only
+    two.only clean on (two.found clean)) (sym is ∙ t) g y there none))
 
 -- ---- all sessions
 
 -- the sessions so far
-pub record HasFound (groups : List SessionGroup) (a : List ℕ) (xs : List Session)
-    (are_new : Bool) (old new : State) : Type 0 where
-  pub settled : HasCleanDisk new → IsTrue new.is_open →
+pub record HasSettled (groups : List SessionGroup) (a : List ℕ) (xs : List Session)
+    (old new : State) : Type 0 where
+  pub found : HasCleanDisk new → IsTrue new.is_open →
       EachIn (IsSettled groups (rows_in old.now.trees a)) xs
-  pub news : HasCleanDisk new → IsTrue new.is_open → IsTrue are_new →
-      EachIn (λ (x : Session). HasNoGroups (rows_in old.now.trees a) x.id) xs
   pub reads : HaveRead old new
 
-pub none_found : (groups : List SessionGroup) (a : List ℕ) (s : State) → HasIdleBook s →
-    HasFound groups a [] true s s
-none_found groups a s idle =
-    record { settled = λ clean on. tt; news = λ clean on t. tt; reads = none_read s idle }
+pub none_settled : (groups : List SessionGroup) (a : List ℕ) (s : State) → HasIdleBook s →
+    HasSettled groups a [] s s
+none_settled groups a s idle = record { found = λ clean on. tt; reads = none_read s idle }
 
-pub next_found : {E : Type 0} (groups : List SessionGroup) (a : List ℕ) (xs : List Session)
-    (i : ℕ) (x : Session) (are next : Bool) (y : NamedSessions) (old mid new : State) →
-    i < length xs → x ≡ get_or xs i x → true ≡ y.are_settled → next ≡ (are && y.are_new) →
-    HasFound groups a (take i xs) are old mid → Gathers {A = NamedSessions} {E = E}
-    (λ trees z. IsFound groups (rows_in trees a) x z) mid new (Ok y) →
-    HasFound groups a (take (i + 1) xs) next old new
-next_found {E} groups a xs i x are next y old mid new less is passes next_is before here =
-    subst (λ l. HasFound groups a l next old new)
-    (ap (λ z. take i xs ++ z ∷ []) is ∙ sym (take_more xs i x less))
+pub next_settled : {E : Type 0} (groups : List SessionGroup) (a : List ℕ) (xs : List Session)
+    (i : ℕ) (x : Session) (b : Bool) (old mid new : State) → i < length xs → x ≡ get_or xs i x →
+    b ≡ true → HasSettled groups a (take i xs) old mid →
+    Gathers {A = Bool} {E = E} (λ trees c. IsTrue c → IsSettled groups (rows_in trees a) x) mid new
+    (Ok b) → HasSettled groups a (take (i + 1) xs) old new
+next_settled {E} groups a xs i x b old mid new less is passes before here =
+    subst (λ l. HasSettled groups a l old new)
+    (ap (λ y. take i xs ++ y ∷ []) is ∙ sym (take_more xs i x less))
     (record {
-      settled = λ clean on.
+      found = λ clean on.
           let after = here.only.still clean on in
           each_append (IsSettled groups (rows_in old.now.trees a)) (take i xs) (x ∷ [])
-          (before.settled (here.only.cleanness clean) after.was_open) (
+          (before.found (here.only.cleanness clean) after.was_open) (
             told_before (λ trees. IsSettled groups (rows_in trees a) x) old mid new
-                before.reads.only here.only clean on
-                ((here.found clean on).settled (sym passes)),
+                before.reads.only here.only clean on (here.found clean on passes),
             tt,
           );
-      news = λ clean on t.
-          let after = here.only.still clean on in
-          let both = and_parts are y.are_new (sym next_is ∙ t) in
-          each_append (λ (z : Session). HasNoGroups (rows_in old.now.trees a) z.id) (take i xs)
-          (x ∷ []) (before.news (here.only.cleanness clean) after.was_open both.0) (
-            told_before (λ trees. HasNoGroups (rows_in trees a) x.id) old mid new
-                before.reads.only here.only clean on ((here.found clean on).new both.1),
-            tt,
-          );
-      reads = have_read_then old mid new before.reads (have_gathered {A = NamedSessions} {E = E}
-          (λ trees z. IsFound groups (rows_in trees a) x z) mid new y here);
+      reads = have_read_then old mid new before.reads (have_gathered {A = Bool} {E = E}
+          (λ trees c. IsTrue c → IsSettled groups (rows_in trees a) x) mid new b here);
     })
-
-abbrev IsUnsettled : NamedSessions → Type 0
-IsUnsettled y = y ≡ record { are_settled = false; are_new = false }
-
-not_so : (y : NamedSessions) → IsUnsettled y → IsTrue y.are_settled → ⊥
-not_so y is t = not_both (sym (ap (λ (z : NamedSessions). z.are_settled) is) ∙ t)
-
-not_new : (y : NamedSessions) → IsUnsettled y → IsTrue y.are_new → ⊥
-not_new y is t = not_both (sym (ap (λ (z : NamedSessions). z.are_new) is) ∙ t)
 
 -- one that isn't settled
-pub one_unsettled : {E : Type 0} (groups : List SessionGroup) (a : List ℕ) (xs ys : List Session)
-    (x : Session) (are : Bool) (y z : NamedSessions) (old mid new : State) → IsUnsettled z →
-    HasFound groups a xs are old mid → Gathers {A = NamedSessions} {E = E}
-    (λ trees w. IsFound groups (rows_in trees a) x w) mid new (Ok y) →
-    Gathers {A = NamedSessions} {E = E} (λ trees w. AreFound ys groups (rows_in trees a) w) old new
-    (Ok z)
-one_unsettled {E} groups a xs ys x are y z old mid new is before here =
-    gathers_from {A = NamedSessions} {E = E} (λ trees w. AreFound ys groups (rows_in trees a) w)
-    old new (Ok z)
-    (have_read_then old mid new before.reads (have_gathered {A = NamedSessions} {E = E}
-    (λ trees w. IsFound groups (rows_in trees a) x w) mid new y here))
-    (λ clean on. record {
-      settled = λ t. absurd (not_so z is t);
-      new = λ t. absurd (not_new z is t);
-    })
+pub not_settled : {E : Type 0} (groups : List SessionGroup) (a : List ℕ) (xs ys : List Session)
+    (x : Session) (b : Bool) (old mid new : State) → HasSettled groups a xs old mid →
+    Gathers {A = Bool} {E = E} (λ trees c. IsTrue c → IsSettled groups (rows_in trees a) x) mid new
+    (Ok b) → Gathers {A = Bool} {E = E}
+    (λ trees c. IsTrue c → AreSettled ys groups (rows_in trees a)) old new (Ok false)
+not_settled {E} groups a xs ys x b old mid new before here =
+    gathers_from {A = Bool} {E = E} (λ trees c. IsTrue c → AreSettled ys groups (rows_in trees a))
+    old new (Ok false)
+    (have_read_then old mid new before.reads (have_gathered {A = Bool} {E = E}
+    (λ trees c. IsTrue c → IsSettled groups (rows_in trees a) x) mid new b here))
+    (λ clean on t. absurd (not_both t))
 
-pub sessions_found : {E : Type 0} (groups : List SessionGroup) (a : List ℕ) (xs : List Session)
-    (i : ℕ) (are : Bool) (old new : State) → length xs ≤ i →
-    HasFound groups a (take i xs) are old new → Gathers {A = NamedSessions} {E = E}
-    (λ trees y. AreFound xs groups (rows_in trees a) y) old new
-    (Ok (record { are_settled = true; are_new = are }))
-sessions_found {E} groups a xs i are old new end h =
-    gathers_from {A = NamedSessions} {E = E} (λ trees y. AreFound xs groups (rows_in trees a) y)
-    old new (Ok (record { are_settled = true; are_new = are })) h.reads
-    (λ clean on. record {
-      settled = λ t. settled_each xs groups (rows_in old.now.trees a)
-          (subst (EachIn (IsSettled groups (rows_in old.now.trees a))) (take_all i xs end)
-          (h.settled clean on));
-      new = λ t. subst (EachIn (λ (x : Session). HasNoGroups (rows_in old.now.trees a) x.id))
-          (take_all i xs end) (h.news clean on t);
-    })
+pub all_settled : {E : Type 0} (groups : List SessionGroup) (a : List ℕ) (xs : List Session)
+    (i : ℕ) (old new : State) → length xs ≤ i → HasSettled groups a (take i xs) old new →
+    Gathers {A = Bool} {E = E} (λ trees c. IsTrue c → AreSettled xs groups (rows_in trees a)) old
+    new (Ok true)
+all_settled {E} groups a xs i old new end h =
+    gathers_from {A = Bool} {E = E} (λ trees c. IsTrue c → AreSettled xs groups (rows_in trees a))
+    old new (Ok true) h.reads
+    (λ clean on t. settled_each xs groups (rows_in old.now.trees a)
+    (subst (EachIn (IsSettled groups (rows_in old.now.trees a))) (take_all i xs end)
+    (h.found clean on)))
 
 -- ---- a change
 
--- groups of new sessions are new
-new_groups : (r : Stored) (sessions : List Session) (groups : List SessionGroup) →
-    EachIn (λ (x : Session). HasNoGroups r x.id) sessions → are_among sessions groups ≡ true →
-    AreNewGroups r groups
-new_groups r sessions [] each among = tt
-new_groups r sessions (g ∷ gs) each among =
-    let both = and_parts (is_some (session_in g.session sessions)) (are_among sessions gs) among in
-    (at (session_in g.session sessions) refl both.0, new_groups r sessions gs each both.1)
-  where
-    at : (o : Option Session) → session_in g.session sessions ≡ o → is_some o ≡ true →
-        HasNoGroups r g.session
-    at None e there = absurd (not_both there)
-    at (Some x) e there =
-        subst (HasNoGroups r)
-        (name_from x.id g.session (find-passes (is_session g.session) sessions x e))
-        (EachIn-found (λ (y : Session). HasNoGroups r y.id) (is_session g.session) sessions x each
-        e)
-
-pub change_unsettled : {E : Type 0} (names : Names) (change : Change) (o : Option Head)
-    (z : NamedSessions) (old new : State) → IsUnsettled z → Reads {A = Option Head} {E = E}
+pub not_made : {E : Type 0} (names : Names) (change : Change) (o : Option Head)
+    (old new : State) → Reads {A = Option Head} {E = E}
     (λ trees p. p ≡ (rows_in trees change.number).head) old new (Ok o) →
-    Gathers {A = NamedSessions} {E = E}
-    (λ trees w. IsChangeFound names change (rows_in trees change.number) w) old new (Ok z)
-change_unsettled {E} names change o z old new is reads =
-    gathers_from {A = NamedSessions} {E = E}
-    (λ trees w. IsChangeFound names change (rows_in trees change.number) w) old new (Ok z)
+    Gathers {A = Bool} {E = E}
+    (λ trees c. IsTrue c → MayBeMade names change (rows_in trees change.number)) old new (Ok false)
+not_made {E} names change o old new reads =
+    gathers_from {A = Bool} {E = E}
+    (λ trees c. IsTrue c → MayBeMade names change (rows_in trees change.number)) old new (Ok false)
     (have_read {A = Option Head} {E = E} (λ trees p. p ≡ (rows_in trees change.number).head) old
-    new o reads)
-    (λ clean on. record {
-      made = λ t. absurd (not_so z is t);
-      new = λ t. absurd (not_new z is t);
-    })
+    new o reads) (λ clean on t. absurd (not_both t))
 
 -- the sessions and groups are those of the change
-pub change_found : {E : Type 0} (names : Names) (change : Change) (o : Option Head)
-    (xs : List Session) (ys : List SessionGroup) (y z : NamedSessions) (old mid new : State) →
-    xs ≡ change.rows.sessions → ys ≡ change.rows.groups →
-    z ≡ record { are_settled = y.are_settled; are_new = are_among xs ys && y.are_new } →
-    Reads {A = Option Head} {E = E}
+pub may_be_made : {E : Type 0} (names : Names) (change : Change) (o : Option Head)
+    (xs : List Session) (ys : List SessionGroup) (r : Result Bool E) (old mid new : State) →
+    xs ≡ change.rows.sessions → ys ≡ change.rows.groups → Reads {A = Option Head} {E = E}
     (λ trees p. p ≡ (rows_in trees change.number).head) old mid (Ok o) →
     AreWritable names change.rows.sessions change.rows.groups →
     AreNumbered (first_number o) change.rows.next_charge change.charges.items →
-    Gathers {A = NamedSessions} {E = E}
-    (λ trees w. AreFound xs ys (rows_in trees change.number) w) mid new (Ok y) →
-    Gathers {A = NamedSessions} {E = E}
-    (λ trees w. IsChangeFound names change (rows_in trees change.number) w) old new (Ok z)
-change_found {E} names change o xs ys y z old mid new same_xs same_ys is one writable numbered two =
-    gathers_from {A = NamedSessions} {E = E}
-    (λ trees w. IsChangeFound names change (rows_in trees change.number) w) old new (Ok z)
+    Gathers {A = Bool} {E = E}
+    (λ trees c. IsTrue c → AreSettled xs ys (rows_in trees change.number)) mid new r →
+    Gathers {A = Bool} {E = E}
+    (λ trees c. IsTrue c → MayBeMade names change (rows_in trees change.number)) old new r
+may_be_made {E} names change o xs ys (Ok b) old mid new same_xs same_ys one writable numbered two =
+    gathers_from {A = Bool} {E = E}
+    (λ trees c. IsTrue c → MayBeMade names change (rows_in trees change.number)) old new (Ok b)
     (have_read_then old mid new
     (have_read {A = Option Head} {E = E} (λ trees p. p ≡ (rows_in trees change.number).head) old
     mid o one)
-    (have_gathered {A = NamedSessions} {E = E}
-    (λ trees w. AreFound xs ys (rows_in trees change.number) w) mid new y two))
-    (λ clean on. record {
-      made = λ t. record {
-        reservations = writable;
-        numbers = subst (λ h. AreNumbered (first_number h) change.rows.next_charge
-            change.charges.items) (one.found (two.only.cleanness clean)) numbered;
-        settled = subst
-            (λ zs. AreSettled zs change.rows.groups (rows_in old.now.trees change.number)) same_xs
-            (subst (λ zs. AreSettled xs zs (rows_in old.now.trees change.number)) same_ys
-            (told_before (λ trees. AreSettled xs ys (rows_in trees change.number)) old mid new
-            one.only two.only clean on
-            ((two.found clean on).settled
-            (sym (ap (λ (w : NamedSessions). w.are_settled) is) ∙ t))));
-      };
-      new = λ t.
-          let both = and_parts (are_among xs ys) y.are_new
-          (sym (ap (λ (w : NamedSessions). w.are_new) is) ∙ t) in
-          subst (AreNewGroups (rows_in old.now.trees change.number)) same_ys
-          (new_groups (rows_in old.now.trees change.number) xs ys
-          (told_before (λ trees. EachIn
-          (λ (x : Session). HasNoGroups (rows_in trees change.number) x.id) xs) old mid new one.only
-          two.only clean on ((two.found clean on).new both.1)) both.0);
+    (have_gathered {A = Bool} {E = E}
+    (λ trees c. IsTrue c → AreSettled xs ys (rows_in trees change.number)) mid new b two))
+    (λ clean on t. record {
+      reservations = writable;
+      numbers = subst (λ h. AreNumbered (first_number h) change.rows.next_charge
+          change.charges.items) (one.found (two.only.cleanness clean)) numbered;
+      settled = subst (λ zs. AreSettled zs change.rows.groups (rows_in old.now.trees change.number))
+          same_xs (subst (λ zs. AreSettled xs zs (rows_in old.now.trees change.number)) same_ys
+          (told_before (λ trees. AreSettled xs ys (rows_in trees change.number)) old mid new
+          one.only two.only clean on (two.found clean on t)));
     })
+may_be_made {E} names change o xs ys (Err e) old mid new same_xs same_ys one writable numbered two =
+    gives_up {A = Bool} {E = E}
+    (λ trees c. IsTrue c → MayBeMade names change (rows_in trees change.number)) old mid new e
+    (have_read {A = Option Head} {E = E} (λ trees p. p ≡ (rows_in trees change.number).head) old
+    mid o one) two.only two.survives
 
 -- of a change that passed
-pub tested : {E : Type 0} (names : Names) (change : Change) (y : NamedSessions) (r : Result Bool E)
-    (old new : State) → IfOk r (λ b. IsTrue y.are_settled × (b ≡ y.are_new)) →
-    Gathers {A = NamedSessions} {E = E}
-    (λ trees w. IsChangeFound names change (rows_in trees change.number) w) old new (Ok y) →
-    Gathers {A = Bool} {E = E}
-    (λ trees b. IsTested names change (rows_in trees change.number) b) old new r
-tested {E} names change y r old new passes h =
-    gathers_made {A = NamedSessions} {B = Bool} {E = E}
-    (λ trees w. IsChangeFound names change (rows_in trees change.number) w)
-    (λ trees b. IsTested names change (rows_in trees change.number) b) old new y r h
-    (λ trees found. so r passes (rows_in trees change.number) found)
+pub tested : {E : Type 0} (names : Names) (change : Change) (b : Bool) (r : Result (Unit {0}) E)
+    (old new : State) → OnOk r (IsTrue b) → Gathers {A = Bool} {E = E}
+    (λ trees c. IsTrue c → MayBeMade names change (rows_in trees change.number)) old new (Ok b) →
+    Gathers {A = Unit {0}} {E = E}
+    (λ trees c. MayBeMade names change (rows_in trees change.number)) old new r
+tested {E} names change b r old new passes h =
+    gathers_made {A = Bool} {B = Unit {0}} {E = E}
+    (λ trees c. IsTrue c → MayBeMade names change (rows_in trees change.number))
+    (λ trees c. MayBeMade names change (rows_in trees change.number)) old new b r h
+    (λ trees may. so r passes (rows_in trees change.number) may)
   where
-    so : (q : Result Bool E) → IfOk q (λ b. IsTrue y.are_settled × (b ≡ y.are_new)) →
-        (s : Stored) → IsChangeFound names change s y → IfOk q (λ b. IsTested names change s b)
-    so (Ok b) t s found =
-        record { made = found.made t.0; new = λ u. found.new (sym t.1 ∙ u) }
-    so (Err e) t s found = tt
+    so : (r : Result (Unit {0}) E) → OnOk r (IsTrue b) → (s : Stored) →
+        (IsTrue b → MayBeMade names change s) → IfOk r (λ _. MayBeMade names change s)
+    so (Ok x) t s may = may t
+    so (Err e) t s may = tt

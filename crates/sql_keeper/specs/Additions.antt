@@ -1,9 +1,6 @@
 -- A voucher that is added, committed whole or not at all.
 -- Source: profile.
-use Rattle.std.specs.Prelude.{◌≡◌, ◌≤◌, Some}
-use Rattle.units.specs.Words.{Moment}
-use Rattle.identifiers.specs.Words.{VoucherCode}
-use Rattle.shelves.specs.Words.{BookText}
+use Rattle.std.specs.Prelude.{◌≡◌, ◌≤◌, ℕ, List, Some}
 use Rattle.sqlite_trees.specs.Tree.{Trees}
 use Rattle.sqlite_trees.specs.Objects.{catalog_tree}
 use Rattle.redemptions.specs.declared.terms.VoucherTerms.{VoucherTerms}
@@ -16,21 +13,22 @@ use Rattle.sql_keeper.specs.Tidy.{IsTidy}
 use Rattle.sql_keeper.specs.Writes.{meta_at, row_of}
 
 -- what is written: the moment, and a voucher that no account has redeemed
-abbrev pub with_addition : BookText → VoucherCode → VoucherTerms → Moment → Content → Content
+abbrev pub with_addition : List ℕ → List ℕ → VoucherTerms → ℕ → Content → Content
 with_addition text code terms t c =
     with_voucher code (row_of (unspent terms)) (with_meta (meta_at text t) c)
 
 -- the tables hold the voucher; they would be found again: the catalog is the same, and so are the
 -- version and the books, no rowid stands twice, and the moment is in the range of moments
-pub record BecomesAdded (text : BookText) (code : VoucherCode) (terms : VoucherTerms) (t : Moment)
-    (old new : Trees) : Type 0 where
-  pub tables : (names : Names)
-      → tables_of names (content_of new)
-      ≡ with_added code terms t (tables_of names (content_of old))
-  -- where nothing stood that isn't told, nothing does
-  pub tidy : (names : Names) → IsTidy names (content_of old) → IsTidy names (content_of new)
-  pub meta : (content_of new).meta ≡ Some (meta_at text t)
-  pub last : t ≤ 4_102_488_000
-  pub books : (content_of new).books ≡ (content_of old).books
-  pub catalog : new catalog_tree ≡ old catalog_tree
-  pub stored : AreStored new
+pub record BecomesAdded (text code : List ℕ) (terms : VoucherTerms) (t : ℕ)
+    (old new : Trees) : Type 0
+  where
+    pub tables : (names : Names)
+        → tables_of names (content_of new)
+        ≡ with_added code terms t (tables_of names (content_of old))
+    -- where nothing stood that isn't told, nothing does
+    pub tidy : (names : Names) → IsTidy names (content_of old) → IsTidy names (content_of new)
+    pub meta : (content_of new).meta ≡ Some (meta_at text t)
+    pub last : t ≤ 4_102_488_000
+    pub books : (content_of new).books ≡ (content_of old).books
+    pub catalog : new catalog_tree ≡ old catalog_tree
+    pub stored : AreStored new

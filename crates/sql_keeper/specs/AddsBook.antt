@@ -2,9 +2,6 @@
 -- Source: profile.
 use Rattle.std.specs.Prelude.{◌≡◌, ◌≤◌, ℕ, suc, ◌++◌, List, [], ◌∷◌, Some, None, length, Result}
 use Rattle.std.specs.Prelude.{◌⊎◌, Ok, Err, IfErr, IsTrue, OnErr, OnOk}
-use Rattle.units.specs.Words.{Moment, GroupId, BookNumber}
-use Rattle.identifiers.specs.Words.{SessionName, AccountName}
-use Rattle.shelves.specs.Words.{BookText}
 use Rattle.sqlite_trees.specs.declared.store.Store.{Ghosts}
 use Rattle.sqlite_trees.specs.Tree.{Trees}
 use Rattle.sqlite_trees.specs.Objects.{catalog_tree}
@@ -33,19 +30,17 @@ use Rattle.sql_keeper.specs.declared.add_fault.AddFault.TheVariants.{Store as Of
 -- ---- what is written
 
 -- a row more: the number of the book, its first moment and its text
-abbrev pub with_dated : BookNumber → Moment → BookText → Content → Content
+abbrev pub with_dated : ℕ → ℕ → List ℕ → Content → Content
 with_dated n from text c = with_row n (record { starts = from; content = text }) c
 
 -- each reservation goes by a book of a number up to this one
-abbrev pub AreBooksKnown : BookNumber → Content → Type 0
-AreBooksKnown n c = (a : AccountName) (s : SessionName) (g : GroupId) (m : BookNumber) →
-    (c.rows a).grant_books s g ≡ Some m → m ≤ n
+abbrev pub AreBooksKnown : ℕ → Content → Type 0
+AreBooksKnown n c = (a s : List ℕ) (g m : ℕ) → (c.rows a).grant_books s g ≡ Some m → m ≤ n
 
 -- the tables hold what they held, by the names of the books with those of the new one, if each
 -- reservation goes by a book that was there; they would be found again: the catalog and what is
 -- kept once are the same, and no rowid stands twice
-pub record BecomesDated (n : BookNumber) (from : Moment) (text : BookText) (old new : Trees)
-    : Type 0 where
+pub record BecomesDated (n from : ℕ) (text : List ℕ) (old new : Trees) : Type 0 where
   pub tables : (names : Names) (more : List (List ℕ)) → 1 ≤ length names
       → n ≡ suc (length names) → AreBooksKnown (length names) (content_of old)
       → tables_of (names ++ more ∷ []) (content_of new) ≡ tables_of names (content_of old)
@@ -59,8 +54,7 @@ pub record BecomesDated (n : BookNumber) (from : Moment) (text : BookText) (old 
 
 -- the text is a book's that makes a shelf with those of the shelf that the tables keep, behind them
 -- and under the next number, from a moment in the range of moments on
-pub record MayFollow (text more : BookText) (n : BookNumber) (from : Moment) (trees : Trees)
-    : Type 0 where
+pub record MayFollow (text more : List ℕ) (n from : ℕ) (trees : Trees) : Type 0 where
   pub shelf : Shelf
   pub is : IsShelfOf text (content_of trees).books shelf
   pub book : Book
@@ -72,35 +66,34 @@ pub record MayFollow (text more : BookText) (n : BookNumber) (from : Moment) (tr
 -- ---- why a book isn't added
 
 -- a fault of the text
-abbrev pub IsTextFault : BookText → AddFault → Type 0
+abbrev pub IsTextFault : List ℕ → AddFault → Type 0
 IsTextFault text (OfBook fault) = IsBookFault text fault
 IsTextFault text (OfShelf fault) = ⊥
 IsTextFault text (OfStore fault) = ⊥
 
 -- when a fault is told of a text, over a shelf and the moment of the last accepted command: first
 -- the text's own, then the shelf's
-abbrev pub IsAddFault : BookText → Moment → Shelf → Moment → AddFault → Type 0
+abbrev pub IsAddFault : List ℕ → ℕ → Shelf → ℕ → AddFault → Type 0
 IsAddFault text from s last (OfBook fault) = IsBookFault text fault
 IsAddFault text from s last (OfShelf fault) = (b : Book) × IsBookOf text b
     × (¬ (fault ≡ Memory) → shelf_fault s from b last ≡ Some fault)
 IsAddFault text from s last (OfStore fault) = (b : Book) × IsBookOf text b
 
 -- the book of the text stands behind those of the shelf
-pub record IsAdded (text : BookText) (from last : Moment) (old new : Shelf) : Type 0 where
+pub record IsAdded (text : List ℕ) (from last : ℕ) (old new : Shelf) : Type 0 where
   pub book : Book
   pub read : IsBookOf text book
   pub free : shelf_fault old from book last ≡ None
   pub shelf : new ≡ with_book old from book
 
 -- the book stands behind those of the shelf, which had no fault of it
-pub record IsBehind (from : Moment) (b : Book) (last : Moment) (old new : Shelf) : Type 0 where
+pub record IsBehind (from : ℕ) (b : Book) (last : ℕ) (old new : Shelf) : Type 0 where
   pub free : shelf_fault old from b last ≡ None
   pub shelf : new ≡ with_book old from b
   pub is : IsShelf new
 
 -- the book stands behind those of two shelves, which had as many; the first had no fault of it
-pub record IsOnBoth (from : Moment) (b : Book) (last : Moment) (before after own new : Shelf)
-    : Type 0 where
+pub record IsOnBoth (from : ℕ) (b : Book) (last : ℕ) (before after own new : Shelf) : Type 0 where
   pub free : shelf_fault before from b last ≡ None
   pub shelf : after ≡ with_book before from b
   pub own_is : new ≡ with_book own from b
@@ -109,8 +102,8 @@ pub record IsOnBoth (from : Moment) (b : Book) (last : Moment) (before after own
 
 -- both shelves are as they were before their last book was added
 pub record AreTakenBack (before after own new : Shelf) : Type 0 where
-  pub shelf : (s : Shelf) (from : Moment) (b : Book) → before ≡ with_book s from b → after ≡ s
-  pub own_is : (s : Shelf) (from : Moment) (b : Book) → own ≡ with_book s from b → new ≡ s
+  pub shelf : (s : Shelf) (from : ℕ) (b : Book) → before ≡ with_book s from b → after ≡ s
+  pub own_is : (s : Shelf) (from : ℕ) (b : Book) → own ≡ with_book s from b → new ≡ s
 
 -- ---- what is done of it
 
@@ -133,56 +126,58 @@ add_told (Ok (Err fault)) = Err (OfShelf fault)
 add_told (Err fault) = Err (OfStore fault)
 
 -- the moment of the last accepted command
-abbrev pub last_at : State → Moment
+abbrev pub last_at : State → ℕ
 last_at s = last_in (content_of s.now.trees).meta
 
 -- the tables with the book, which may follow the keeper's; it has as many as the shelf before
-pub record IsLeftDated (from : Moment) (text : BookText) (b : Book) (before own : Shelf)
-    (old : State) (db : Trees) : Type 0 where
+pub record IsLeftDated (from : ℕ) (text : List ℕ) (b : Book) (before own : Shelf) (old : State)
+    (db : Trees) : Type 0 where
   pub was_open : IsTrue old.is_open
   pub becomes : BecomesDated (suc (count before)) from text old.now.trees db
   pub behind : IsShelf (with_book own from b)
   pub counts : count own ≡ count before
 
 -- a stop leaves what it left before, or the tables with the book
-abbrev pub LeavesDated : Moment → BookText → Book → Shelf → Shelf → State → State → Type 0
+abbrev pub LeavesDated : ℕ → List ℕ → Book → Shelf → Shelf → State → State → Type 0
 LeavesDated from text b before own old new =
     HasCleanDisk new → (db : Trees) → new.may_leave db
     → old.may_leave db ⊎ IsLeftDated from text b before own old db
 
 -- a book is added to two shelves and to the tables, or to none of them
-pub record AddsToAll {A E : Type 0} (from : Moment) (text : BookText) (b : Book) (old new : State)
-    (before after own own' : Shelf) (result : Result (Result A ShelfFault) E) : Type 0 where
-  pub commits : CommitsWhole (BecomesDated (suc (count before)) from text) old new
-      (was_added result)
-  pub leaves : LeavesDated from text b before own old new
-  pub own_shelf : OnOk (was_added result) (IsShelf own')
-  pub free : HasCleanDisk new →
-      OnOk (was_added result) (shelf_fault before from b (last_at old) ≡ None)
-  pub shelf : OnOk (was_added result) (after ≡ with_book before from b)
-  pub own_is : OnOk (was_added result) (own' ≡ with_book own from b)
-  pub counts : OnOk (was_added result) (count own ≡ count before)
-  pub kept : OnErr (was_added result) ((after ≡ before) × (own' ≡ own))
-  pub told : HasCleanDisk new → IfRefused result
-      (λ fault. ¬ (fault ≡ Memory) → shelf_fault before from b (last_at old) ≡ Some fault)
+pub record AddsToAll {A E : Type 0} (from : ℕ) (text : List ℕ) (b : Book) (old new : State)
+    (before after own own' : Shelf) (result : Result (Result A ShelfFault) E) : Type 0
+  where
+    pub commits : CommitsWhole (BecomesDated (suc (count before)) from text) old new
+        (was_added result)
+    pub leaves : LeavesDated from text b before own old new
+    pub own_shelf : OnOk (was_added result) (IsShelf own')
+    pub free : HasCleanDisk new →
+        OnOk (was_added result) (shelf_fault before from b (last_at old) ≡ None)
+    pub shelf : OnOk (was_added result) (after ≡ with_book before from b)
+    pub own_is : OnOk (was_added result) (own' ≡ with_book own from b)
+    pub counts : OnOk (was_added result) (count own ≡ count before)
+    pub kept : OnErr (was_added result) ((after ≡ before) × (own' ≡ own))
+    pub told : HasCleanDisk new → IfRefused result
+        (λ fault. ¬ (fault ≡ Memory) → shelf_fault before from b (last_at old) ≡ Some fault)
 
 -- a book is added to the shelf, to what the keeper knows of it and to the tables, or to none of
 -- them; a stop leaves the rows before it or with the book
-pub record AddsBook {S A : Type 0} (g : Ghosts S) (text : BookText) (from : Moment)
-    (old new : KeeperState S) (before after : Shelf) (result : Result A AddFault) : Type 0 where
-  pub added : clean_in g new →
-      OnOk result (IsAdded text from (tables_in g old).last before after)
-  pub own : OnOk result ((b : Book) × IsBookOf text b
-      × (new.shelf ≡ with_book old.shelf from b))
-  -- the keeper had as many books
-  pub numbered : OnOk result (count old.shelf ≡ count before)
-  pub done : clean_in g new → OnOk result
-      (BecomesDated (suc (count before)) from text (trees_in g old) (trees_in g new))
-  pub shelf : OnErr result (after ≡ before)
-  pub kept : OnErr result (new.shelf ≡ old.shelf)
-  pub tables : clean_in g new → OnErr result (tables_in g new ≡ tables_in g old)
-  pub told : clean_in g new →
-      IfErr result (IsAddFault text from before (tables_in g old).last)
-  pub cleanness : clean_in g new → clean_in g old
-  pub counts : failed_in old ≤ failed_in new
-  pub whole : IsWhole g old new (BecomesDated (suc (count before)) from text (trees_in g old))
+pub record AddsBook {S A : Type 0} (g : Ghosts S) (text : List ℕ) (from : ℕ)
+    (old new : KeeperState S) (before after : Shelf) (result : Result A AddFault) : Type 0
+  where
+    pub added : clean_in g new →
+        OnOk result (IsAdded text from (tables_in g old).last before after)
+    pub own : OnOk result ((b : Book) × IsBookOf text b
+        × (new.shelf ≡ with_book old.shelf from b))
+    -- the keeper had as many books
+    pub numbered : OnOk result (count old.shelf ≡ count before)
+    pub done : clean_in g new → OnOk result
+        (BecomesDated (suc (count before)) from text (trees_in g old) (trees_in g new))
+    pub shelf : OnErr result (after ≡ before)
+    pub kept : OnErr result (new.shelf ≡ old.shelf)
+    pub tables : clean_in g new → OnErr result (tables_in g new ≡ tables_in g old)
+    pub told : clean_in g new →
+        IfErr result (IsAddFault text from before (tables_in g old).last)
+    pub cleanness : clean_in g new → clean_in g old
+    pub counts : failed_in old ≤ failed_in new
+    pub whole : IsWhole g old new (BecomesDated (suc (count before)) from text (trees_in g old))

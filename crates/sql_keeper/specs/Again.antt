@@ -1,10 +1,7 @@
 -- A database that is opened again.
 -- Source: profile.
-use Rattle.std.specs.Prelude.{◌≡◌, ◌⊎◌, Option, Some, None, OnOk, Result}
+use Rattle.std.specs.Prelude.{◌≡◌, ◌⊎◌, ℕ, List, Option, Some, None, OnOk, Result}
 use Rattle.std.specs.Str.{IsUtf8}
-use Rattle.units.specs.Words.{Moment, BookNumber}
-use Rattle.identifiers.specs.Words.{VoucherCode}
-use Rattle.shelves.specs.Words.{BookText}
 use Rattle.shelves.specs.Shelves.{Shelf}
 use Rattle.sqlite_trees.specs.declared.store.Store.{Ghosts}
 use Rattle.sqlite_trees.specs.Tree.{Trees}
@@ -34,29 +31,27 @@ use Rattle.sql_keeper.specs.Sweeps.{BecomesSwept}
 -- a new book is left, and what a commit, an addition or a sweep makes of tables that are left is
 -- left again; so is what a book more makes of them
 pub record AreLeftAgain : Type 0 where
-  pub made : (text : BookText) (new : Trees) → IsUtf8 text → HasOneBook text → IsNewBook text new →
+  pub made : (text : List ℕ) (new : Trees) → IsUtf8 text → HasOneBook text → IsNewBook text new →
       IsLeft text new
-  pub committed : (names : Names) (text : BookText) (change : Change) (old new : Trees)
+  pub committed : (names : Names) (text : List ℕ) (change : Change) (old new : Trees)
       → IsLeft text old → Becomes names text change old new → IsLeft text new
-  pub added : (text : BookText) (code : VoucherCode) (terms : VoucherTerms) (t : Moment)
-      (old new : Trees)
+  pub added : (text code : List ℕ) (terms : VoucherTerms) (t : ℕ) (old new : Trees)
       → IsLeft text old → BecomesAdded text code terms t old new → IsLeft text new
-  pub swept : (names : Names) (text : BookText) (shelf : Shelf) (t : Moment) (old new : Trees)
+  pub swept : (names : Names) (text : List ℕ) (shelf : Shelf) (t : ℕ) (old new : Trees)
       → IsLeft text old → BecomesSwept names text shelf t old new → IsLeft text new
-  pub dated : (text more : BookText) (n : BookNumber) (from : Moment) (old new : Trees) →
-      IsLeft text old
+  pub dated : (text more : List ℕ) (n from : ℕ) (old new : Trees) → IsLeft text old
       → MayFollow text more n from old → BecomesDated n from more old new → IsLeft text new
 
 -- the rows of a database are those of one shelf, so whoever opens it again finds the one that was
 -- answered before
 abbrev pub AreShelvesOne : Type 0
-AreShelvesOne = (trees : Trees) (text more : BookText) (s t : Shelf) → IsKept trees text
+AreShelvesOne = (trees : Trees) (text more : List ℕ) (s t : Shelf) → IsKept trees text
     → IsKept trees more → IsShelfOf text (content_of trees).books s
     → IsShelfOf more (content_of trees).books t → s ≡ t
 
 -- the connection that was opened shows what was left, so no fault is told of it but the store's or
 -- memory's
-abbrev pub IsFoundAgain : {S : Type 0} → Ghosts S → Held S → Held S → BookText → OpenFault → Type 0
+abbrev pub IsFoundAgain : {S : Type 0} → Ghosts S → Held S → Held S → List ℕ → OpenFault → Type 0
 IsFoundAgain g old new text fault = IsLeft text (state g old).now.trees
     → IsDatabase (state g old).now → HasCleanDisk (state g new) → IsNotOpened g old new fault
     → IsStores fault
@@ -101,15 +96,14 @@ pub record AreStoppedWhole {S T : Type 0} (g : Ghosts S) (e : Ghosts T) : Type 0
   pub changed : (old mid : KeeperState S) (new : KeeperState T) (shelf : Shelf) (change : Change)
       → IsStoppedWhole g e old mid new shelf
       (Becomes (names_in old) old.text change (trees_in g old))
-  pub added : (old mid : KeeperState S) (new : KeeperState T) (shelf : Shelf) (code : VoucherCode)
-      (terms : VoucherTerms) (t : Moment)
+  pub added : (old mid : KeeperState S) (new : KeeperState T) (shelf : Shelf) (code : List ℕ)
+      (terms : VoucherTerms) (t : ℕ)
       → IsStoppedWhole g e old mid new shelf (BecomesAdded old.text code terms t (trees_in g old))
-  pub swept : (old mid : KeeperState S) (new : KeeperState T) (shelf prices : Shelf) (t : Moment)
+  pub swept : (old mid : KeeperState S) (new : KeeperState T) (shelf prices : Shelf) (t : ℕ)
       → IsStoppedWhole g e old mid new shelf
       (BecomesSwept (names_in old) old.text prices t (trees_in g old))
-  pub dated : (old mid : KeeperState S) (new : KeeperState T) (shelf : Shelf) (n : BookNumber)
-      (from : Moment)
-      (text : BookText)
+  pub dated : (old mid : KeeperState S) (new : KeeperState T) (shelf : Shelf) (n from : ℕ)
+      (text : List ℕ)
       → IsStoppedWhole g e old mid new shelf (BecomesDated n from text (trees_in g old))
 
 -- ---- of one store

@@ -1,20 +1,19 @@
 -- The book of a text, and why there is none.
 -- Source: profile.
-use Rattle.std.specs.Prelude.{◌≡◌, Ok, Err}
-use Rattle.shelves.specs.Words.{BookText}
+use Rattle.std.specs.Prelude.{◌≡◌, List, Ok, Err, ℕ}
 use Rattle.toml.specs.Data.{Members}
 use Rattle.book_fields.specs.declared.fault.BookFault.{BookFault}
 use Rattle.book_fields.specs.declared.fault.BookFault.TheVariants.{NotToml, Memory}
 use Rattle.tariffs.specs.Books.{Book, IsDocument, book_of}
 
 -- the text is a document, and this is its book
-abbrev pub IsBookOf : BookText → Book → Type 0
+abbrev pub IsBookOf : List ℕ → Book → Type 0
 IsBookOf text b = (t : Members) × IsDocument text t × (book_of t ≡ Ok b)
 
-abbrev pub IsBookText : BookText → Type 0
+abbrev pub IsBookText : List ℕ → Type 0
 IsBookText text = (b : Book) × IsBookOf text b
 
 -- memory was refused, or this is the first fault of the text
-pub record IsBookFault (text : BookText) (fault : BookFault) : Type 0 where
+pub record IsBookFault (text : List ℕ) (fault : BookFault) : Type 0 where
   pub document : (t : Members) → IsDocument text t → ¬ (fault ≡ Memory) → book_of t ≡ Err fault
   pub other : ((t : Members) → IsDocument text t → ⊥) → ¬ (fault ≡ Memory) → fault ≡ NotToml

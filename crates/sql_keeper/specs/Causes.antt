@@ -1,7 +1,6 @@
 -- Why a database isn't opened: its causes, of which no two hold of one database.
 -- Source: profile.
-use Rattle.std.specs.Prelude.{◌≡◌, ◌<◌, ◌⊎◌, Some}
-use Rattle.sql_tables.specs.Words.{TablesVersion}
+use Rattle.std.specs.Prelude.{◌≡◌, ◌<◌, ◌⊎◌, ℕ, Some}
 use Rattle.sqlite_trees.specs.Tree.{Trees}
 use Rattle.sqlite.specs.Effect.{Database}
 use Rattle.sql_tables.specs.Schema.{latest, schema_at}
@@ -18,14 +17,14 @@ use Rattle.sql_keeper.specs.Shelves.{HasShelf}
 -- ---- what is kept once
 
 -- it is there in its rules, and tells this version
-pub record KeepsVersion (v : TablesVersion) (trees : Trees) : Type 0 where
+pub record KeepsVersion (v : ℕ) (trees : Trees) : Type 0 where
   pub row : Meta
   pub is : (content_of trees).meta ≡ Some row
   pub ruled : IsRuledMeta row
   pub version : row.version ≡ v
 
 -- it is there in its rules, and tells another version than this
-pub record IsOtherThan (v : TablesVersion) (trees : Trees) : Type 0 where
+pub record IsOtherThan (v : ℕ) (trees : Trees) : Type 0 where
   pub row : Meta
   pub is : (content_of trees).meta ≡ Some row
   pub ruled : IsRuledMeta row
@@ -37,7 +36,7 @@ IsUnruledMeta trees = (row : Meta) → (content_of trees).meta ≡ Some row → 
 
 -- it isn't there or is out of its rules; or it tells this version, the latest, and the texts that
 -- are kept aren't those of a shelf
-abbrev pub AreUnruled : TablesVersion → Trees → Type 0
+abbrev pub AreUnruled : ℕ → Trees → Type 0
 AreUnruled v trees = (row : Meta) → (content_of trees).meta ≡ Some row → IsRuledMeta row
     → (row.version ≡ v) × (v ≡ latest) × ¬ HasShelf row.book (content_of trees).books
 
@@ -45,11 +44,11 @@ AreUnruled v trees = (row : Meta) → (content_of trees).meta ≡ Some row → I
 
 -- the tables are those of no version
 abbrev pub IsForeign : Database → Type 0
-IsForeign db = (v : TablesVersion) → IsVersion v → ¬ (db.schema ≡ schema_at v)
+IsForeign db = (v : ℕ) → IsVersion v → ¬ (db.schema ≡ schema_at v)
 
 -- the tables are those of a version, no rowid of theirs twice, and another version is kept
 pub record IsOtherVersion (db : Database) : Type 0 where
-  pub version : TablesVersion
+  pub version : ℕ
   pub known : IsVersion version
   pub schema : db.schema ≡ schema_at version
   pub stored : AreStoredAt version db.trees
@@ -58,7 +57,7 @@ pub record IsOtherVersion (db : Database) : Type 0 where
 -- the tables are those of a version before the latest, no rowid of theirs twice, and that version
 -- is kept
 pub record IsOlder (db : Database) : Type 0 where
-  pub version : TablesVersion
+  pub version : ℕ
   pub known : IsVersion version
   pub older : version < latest
   pub schema : db.schema ≡ schema_at version
@@ -68,7 +67,7 @@ pub record IsOlder (db : Database) : Type 0 where
 -- the tables are those of a version, and a rowid of theirs stands twice, or what is kept once isn't
 -- in the rules of who opens it
 pub record IsUnruled (db : Database) : Type 0 where
-  pub version : TablesVersion
+  pub version : ℕ
   pub known : IsVersion version
   pub schema : db.schema ≡ schema_at version
   pub unruled : AreStoredAt version db.trees → AreUnruled version db.trees

@@ -1,10 +1,8 @@
 -- The charges of an account that a page has, by what the tables hold.
 -- Source: profile.
-use Rattle.std.specs.Prelude.{◌≡◌, refl, if◌then◌else◌, ◌+◌, ◌-◌, ◌≤◌, min, Option, Some, None}
+use Rattle.std.specs.Prelude.{◌≡◌, refl, if◌then◌else◌, ℕ, ◌+◌, ◌-◌, ◌≤◌, min, Option, Some, None}
 use Rattle.std.specs.Prelude.{nat_eq, nat_le, Bool, List}
 use Rattle.std.specs.List.{find}
-use Rattle.units.specs.Words.{greatest_number}
-use Rattle.reserving.specs.Words.{ChargeNumber}
 use Rattle.sql_rows.specs.declared.head.Head.{Head}
 use Rattle.sql_rows.specs.Content.{Rows as Stored}
 use Rattle.sql_rows.specs.Lists.{NumbersRise, is_within}
@@ -14,23 +12,22 @@ use Rattle.reserving.specs.declared.charge.ChargeRow.{ChargeRow}
 use Rattle.charge_sources.specs.declared.pages.ChargePage.{ChargePage}
 
 -- the number of an account's last charge; 0 where it has none
-abbrev pub last_number : Option Head → ChargeNumber
+abbrev pub last_number : Option Head → ℕ
 last_number None = 0
 last_number (Some h) = h.next_charge - 1
 
 -- the number up to which a page goes that begins beyond this one: 256 numbers further
-abbrev pub end_of_page : ChargeNumber → ChargeNumber
-end_of_page after = min (after + 256) greatest_number
+abbrev pub end_of_page : ℕ → ℕ
+end_of_page after = min (after + 256) 4294967295
 
 -- the charges that pass the test, with the blocks that were covered
 abbrev pub AreTold : (ChargeRow → Bool) → Stored → List ChargeRow → Type 0
-AreTold test r xs = (n : ChargeNumber) →
-    find (λ x. nat_eq x.number n) xs ≡ those test (told_charge r n)
+AreTold test r xs = (n : ℕ) → find (λ x. nat_eq x.number n) xs ≡ those test (told_charge r n)
 
 -- what is read for a page
-pub record IsPageRead (r : Stored) (after : ChargeNumber) (page : ChargePage) : Type 0 where
+pub record IsPageRead (r : Stored) (after : ℕ) (page : ChargePage) : Type 0 where
   pub last : page.last ≡ end_of_page after
-  pub small : last_number r.head ≤ greatest_number
+  pub small : last_number r.head ≤ 4294967295
   pub is_last : page.is_last ≡ nat_le (last_number r.head) page.last
   pub rows : AreTold (is_within after (min page.last (last_number r.head))) r page.rows.items
   pub order : NumbersRise page.rows.items

@@ -1,8 +1,6 @@
 -- A change, committed whole or not at all.
 -- Source: profile.
-use Rattle.std.specs.Prelude.{◌≡◌, ◌≤◌, Some, IsTrue, OnOk, OnErr, Result}
-use Rattle.identifiers.specs.Words.{AccountName}
-use Rattle.shelves.specs.Words.{BookText}
+use Rattle.std.specs.Prelude.{◌≡◌, ◌≤◌, ℕ, List, Some, IsTrue, OnOk, OnErr, Result}
 use Rattle.sqlite_trees.specs.Tree.{Trees}
 use Rattle.sqlite_trees.specs.Objects.{catalog_tree}
 use Rattle.sqlite.specs.State.{State, HasCleanDisk, Survives}
@@ -18,7 +16,7 @@ use Rattle.sql_keeper.specs.Tidy.{IsTidy}
 use Rattle.sql_keeper.specs.Writes.{head_of, meta_with, with_all_counted}
 
 -- an account, its buckets and its counters as they become
-abbrev pub with_money : AccountName → StoredRows → Content → Content
+abbrev pub with_money : List ℕ → StoredRows → Content → Content
 with_money a w c =
     with_counters a w.counters (with_all_counted a w.buckets (with_account a (head_of w) c))
 
@@ -36,17 +34,18 @@ pub record Transacts {A E : Type 0} (change : Content → Content) (old new : St
 -- the tables hold the change and nothing else; they would be found again: the catalog is the same,
 -- and so are the version and the books, no rowid stands twice, and the moment is in the range of
 -- moments
-pub record Becomes (names : Names) (text : BookText) (change : Change) (old new : Trees)
-    : Type 0 where
-  pub tables : tables_of names (content_of new) ≡
-      changed change (tables_of names (content_of old))
-  -- where nothing stood that isn't told, nothing does
-  pub tidy : IsTidy names (content_of old) → IsTidy names (content_of new)
-  pub meta : (content_of new).meta ≡ Some (meta_with text change)
-  pub last : change.moment ≤ 4_102_488_000
-  pub books : (content_of new).books ≡ (content_of old).books
-  pub catalog : new catalog_tree ≡ old catalog_tree
-  pub stored : AreStored new
+pub record Becomes (names : Names) (text : List ℕ) (change : Change)
+    (old new : Trees) : Type 0
+  where
+    pub tables : tables_of names (content_of new) ≡
+        changed change (tables_of names (content_of old))
+    -- where nothing stood that isn't told, nothing does
+    pub tidy : IsTidy names (content_of old) → IsTidy names (content_of new)
+    pub meta : (content_of new).meta ≡ Some (meta_with text change)
+    pub last : change.moment ≤ 4_102_488_000
+    pub books : (content_of new).books ≡ (content_of old).books
+    pub catalog : new catalog_tree ≡ old catalog_tree
+    pub stored : AreStored new
 
 -- what the tables become is committed whole, or they are as before; a stop leaves one or the other
 pub record CommitsWhole {A E : Type 0} (Become : Trees → Trees → Type 0) (old new : State)
@@ -65,6 +64,6 @@ pub record CommitsStanding {A E : Type 0} (Become : Trees → Trees → Type 0) 
   pub survives : Survives old new (λ db. IsTrue old.is_open × Become old.now.trees db)
 
 -- so a change is
-abbrev pub CommitsChange : {A E : Type 0} → Names → BookText → Change → State → State → Result A E →
-    Type 0
+abbrev pub CommitsChange : {A E : Type 0} → Names → List ℕ → Change → State → State →
+    Result A E → Type 0
 CommitsChange names text change = CommitsWhole (Becomes names text change)

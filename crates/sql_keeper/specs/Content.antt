@@ -3,10 +3,6 @@
 use Rattle.std.specs.Prelude.{ℕ, zero, suc, ◌&&◌, Bool, false, List, [], map, slice_get, Option}
 use Rattle.std.specs.Prelude.{Some, None, Result, Ok, Err, unwrap_or, option_map}
 use Rattle.std.specs.Prelude.{option_and_then, is_some, nat_lt, if◌then◌else◌}
-use Rattle.units.specs.Words.{Moment, BlockCount, BookNumber}
-use Rattle.identifiers.specs.Words.{AccountName}
-use Rattle.buckets.specs.Words.{BucketNumber, BucketAmount}
-use Rattle.reserving.specs.Words.{ChargeNumber}
 use Rattle.calendar.specs.declared.week.Period.{Period}
 use Rattle.rating.specs.declared.grant.Periods.{Periods}
 use Rattle.tariffs.specs.Names.{period_named}
@@ -39,7 +35,7 @@ abbrev pub Names : Type 0
 Names = List (List (List ℕ))
 
 -- those of the book of a number; none where there is no such book
-abbrev pub names_numbered : Names → BookNumber → List (List ℕ)
+abbrev pub names_numbered : Names → ℕ → List (List ℕ)
 names_numbered names zero = []
 names_numbered names (suc i) = unwrap_or (slice_get names i) []
 
@@ -65,19 +61,19 @@ head_in h = record {
 }
 
 -- the number of a reservation's book, which has a row of its own; without one it is the first
-abbrev pub book_in : Option BookNumber → BookNumber
+abbrev pub book_in : Option ℕ → ℕ
 book_in book = unwrap_or book 1
 
 -- the terms of a reservation of the book of a number, whose periods have these names there
-abbrev pub terms_in : Names → BookNumber → PeriodNames → Terms
+abbrev pub terms_in : Names → ℕ → PeriodNames → Terms
 terms_in names n p = record { book = n; periods = periods_in (names_numbered names n) p }
 
 -- a reservation stands as long as its session is open
-abbrev pub reserved_in : Names → Bool → Option BookNumber → Option PeriodNames → Option Terms
+abbrev pub reserved_in : Names → Bool → Option ℕ → Option PeriodNames → Option Terms
 reserved_in names is_open book periods =
     if is_open then option_map (terms_in names (book_in book)) periods else None
 
-abbrev pub group_in : Names → Bool → Option BookNumber → Group → GroupRow
+abbrev pub group_in : Names → Bool → Option ℕ → Group → GroupRow
 group_in names is_open book x =
     record { used = x.used; terms = reserved_in names is_open book x.periods }
 
@@ -86,7 +82,7 @@ is_reserved None = false
 is_reserved (Some x) = is_some x.periods
 
 -- what is held stands as long as its reservation
-abbrev pub held_in : Bool → Option BucketAmount → BucketAmount
+abbrev pub held_in : Bool → Option ℕ → ℕ
 held_in has_reservation amount = if has_reservation then unwrap_or amount 0 else 0
 
 -- what a bucket counts: blocks where it is of one rating group and a row of its own says so, else
@@ -97,7 +93,7 @@ kind_in is_allowance = if is_allowance then Blocks else Money
 abbrev pub bucket_in : Bool → Bucket → Bucket
 bucket_in is_allowance b = record b { kind = kind_in (is_some b.scope && is_allowance) }
 
-abbrev pub told_buckets : Stored → BucketNumber → Option Bucket
+abbrev pub told_buckets : Stored → ℕ → Option Bucket
 told_buckets r n = option_map (bucket_in (r.allowances n)) (r.buckets n)
 
 abbrev pub rows_of : Names → Stored → Rows
@@ -114,21 +110,21 @@ rows_of names r = record {
 
 -- ---- charges: they are numbered from 1 to below the account's next number
 
-abbrev pub is_numbered : ChargeNumber → Option HeadColumns → Bool
+abbrev pub is_numbered : ℕ → Option HeadColumns → Bool
 is_numbered n None = false
 is_numbered n (Some h) = nat_lt 0 n && nat_lt n h.next_charge
 
 -- the blocks of a charge that were covered, which have a row of their own; without one none were
-abbrev pub covered_in : Option BlockCount → BlockCount
+abbrev pub covered_in : Option ℕ → ℕ
 covered_in blocks = unwrap_or blocks 0
 
-abbrev pub charge_in : Option BlockCount → ChargeRow → ChargeRow
+abbrev pub charge_in : Option ℕ → ChargeRow → ChargeRow
 charge_in covered x = record x { covered = record { 0 = covered_in covered } }
 
-abbrev pub told_charge : Stored → ChargeNumber → Option ChargeRow
+abbrev pub told_charge : Stored → ℕ → Option ChargeRow
 told_charge r n = option_map (charge_in (r.covered n)) (r.charges n)
 
-abbrev pub charge_of : ChargeNumber → Stored → Option ChargeRow
+abbrev pub charge_of : ℕ → Stored → Option ChargeRow
 charge_of n r = if is_numbered n r.head then told_charge r n else None
 
 -- ---- kept answers, which stand as texts
@@ -139,7 +135,7 @@ kept_told (Ok c) (Err e) = None
 kept_told (Err e) x = None
 
 -- what texts under an account are; nothing where they are no texts of a command and an answer
-abbrev pub kept_in : AccountName → Kept → Option KeptAnswer
+abbrev pub kept_in : List ℕ → Kept → Option KeptAnswer
 kept_in a k = kept_told (command_of a k.content) (answer_of k.answer)
 
 -- the texts under a key
@@ -147,7 +143,7 @@ abbrev pub texts_of : Key → Stored → Option Kept
 texts_of (Request s n) r = r.answers request_kind s n
 texts_of (Reference x) r = r.answers reference_kind x 0
 
-abbrev pub answer_in : AccountName → Key → Stored → Option KeptAnswer
+abbrev pub answer_in : List ℕ → Key → Stored → Option KeptAnswer
 answer_in a k r = option_and_then (kept_in a) (texts_of k r)
 
 -- ---- vouchers
@@ -162,7 +158,7 @@ voucher_in v = record {
 -- ---- all of it
 
 -- the moment of the last accepted command; the first where nothing was written yet
-abbrev pub last_in : Option Meta → Moment
+abbrev pub last_in : Option Meta → ℕ
 last_in None = 0
 last_in (Some m) = m.last
 

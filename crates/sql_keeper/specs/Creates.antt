@@ -1,8 +1,6 @@
 -- The tables of a book, made whole or not at all.
 -- Source: profile.
-use Rattle.std.specs.Prelude.{◌≡◌, Some, None, true, IsTrue, OnOk, OnErr, Result}
-use Rattle.units.specs.Words.{BookNumber}
-use Rattle.shelves.specs.Words.{BookText}
+use Rattle.std.specs.Prelude.{◌≡◌, ℕ, List, Some, None, true, IsTrue, OnOk, OnErr, Result}
 use Rattle.sqlite_trees.specs.Objects.{catalog_tree}
 use Rattle.sqlite_trees.specs.Tree.{Trees}
 use Rattle.sqlite_catalog.specs.Listing.{Lists}
@@ -16,31 +14,32 @@ use Rattle.sql_keeper.specs.Content.{tables_of, Names}
 use Rattle.sql_keeper.specs.Tidy.{IsTidy}
 
 -- what is kept once of new tables: their version, the text of the book, and the first moment
-abbrev pub first_meta : BookText → Meta
+abbrev pub first_meta : List ℕ → Meta
 first_meta text = record { version = latest; book = text; last = 0 }
 
 -- the tables of this book before any command: the database lists them, no rowid stands twice, and
 -- there is no other book
-pub record IsNewBook (text : BookText) (trees : Trees) : Type 0 where
+pub record IsNewBook (text : List ℕ) (trees : Trees) : Type 0 where
   pub lists : Lists (trees catalog_tree) book_schema
   pub stored : AreStored trees
   pub meta : (content_of trees).meta ≡ Some (first_meta text)
   pub tables : (names : Names) → tables_of names (content_of trees) ≡ no_tables
-  pub books : (n : BookNumber) → (content_of trees).books n ≡ None
+  pub books : (n : ℕ) → (content_of trees).books n ≡ None
   -- nothing stands there that isn't told
   pub tidy : (names : Names) → IsTidy names (content_of trees)
 
 -- inside a transaction
-pub record BuildsBook (text : BookText) (old new : State) : Type 0 where
+pub record BuildsBook (text : List ℕ) (old new : State) : Type 0 where
   pub made : IsNewBook text new.now.trees
   pub book : IsBook new
   pub shows : Shows old new new.now old.committed true
 
 -- outside a transaction: the tables are made, or nothing is changed, and a stop leaves what was
 -- left before or the tables
-pub record CreatesBook {A E : Type 0} (text : BookText) (old new : State) (result : Result A E)
-    : Type 0 where
-  pub done : HasCleanDisk new →
-      OnOk result (IsTrue new.is_open × HasIdleBook new × IsNewBook text new.now.trees)
-  pub kept : HasCleanDisk new → IsTrue new.is_open → OnErr result (IsStill old new)
-  pub survives : Survives old new (IsNewBook text)
+pub record CreatesBook {A E : Type 0} (text : List ℕ) (old new : State)
+    (result : Result A E) : Type 0
+  where
+    pub done : HasCleanDisk new →
+        OnOk result (IsTrue new.is_open × HasIdleBook new × IsNewBook text new.now.trees)
+    pub kept : HasCleanDisk new → IsTrue new.is_open → OnErr result (IsStill old new)
+    pub survives : Survives old new (IsNewBook text)

@@ -1,7 +1,6 @@
 -- The faults of making the database of a book.
 -- Source: profile.
-use Rattle.std.specs.Prelude.{◌≡◌, ℕ, true, false}
-use Rattle.shelves.specs.Words.{BookText}
+use Rattle.std.specs.Prelude.{◌≡◌, ℕ, true, false, List}
 use Rattle.book_fields.specs.Faults.{number_of}
 use Rattle.sqlite_schema.specs.declared.schema.Schema.{Schema}
 use Rattle.sql_tables.specs.Ours.{has_ours}
@@ -18,7 +17,7 @@ fault_number Store = 4
 fault_number Memory = 5
 
 -- when a fault is told of a text and a database: first the book's, then that a table is there
-abbrev pub IsCreateFault : BookText → Schema → CreateFault → Type 0
+abbrev pub IsCreateFault : List ℕ → Schema → CreateFault → Type 0
 IsCreateFault text schema (Book fault) = IsBookFault text fault
 IsCreateFault text schema Present = IsBookText text × (has_ours schema ≡ true)
 IsCreateFault text schema Store = IsBookText text × (has_ours schema ≡ false)

@@ -1,9 +1,7 @@
 -- Rows of buckets with what each counts.
 -- Source: profile.
-use Rattle.std.specs.Prelude.{◌≡◌, Bool, List, Option, Some, None, map, nat_eq}
+use Rattle.std.specs.Prelude.{◌≡◌, ℕ, Bool, List, Option, Some, None, map, nat_eq}
 use Rattle.std.specs.List.{list_any}
-use Rattle.units.specs.Words.{GroupId}
-use Rattle.buckets.specs.Words.{BucketNumber}
 use Rattle.buckets.specs.Row.{Row}
 use Rattle.buckets.specs.declared.bucket.columns.Columns.{Columns}
 use Rattle.sql_rows.specs.Content.{Rows as Stored}
@@ -11,7 +9,7 @@ use Rattle.sql_rows.specs.Texts.{bucket_row}
 use Rattle.sql_keeper.specs.Content.{bucket_in}
 
 -- of a bucket of one rating group: whether the row under its key is there
-abbrev pub IsScoped : Bool → Option GroupId → Bool → Type 0
+abbrev pub IsScoped : Bool → Option ℕ → Bool → Type 0
 IsScoped there None is = Unit {0}
 IsScoped there (Some g) is = is ≡ there
 
@@ -23,5 +21,5 @@ abbrev pub counted_rows : Stored → List Columns → List Row
 counted_rows rows xs = map (counted_row rows) xs
 
 -- as the numbers of all buckets of blocks tell
-abbrev pub counted_by : List BucketNumber → Columns → Row
+abbrev pub counted_by : List ℕ → Columns → Row
 counted_by numbers x = bucket_in (list_any (λ n. nat_eq n x.number) numbers) (bucket_row x)

@@ -1,8 +1,6 @@
 -- What is proved of definitions alone.
 -- Source: profile.
-use Rattle.std.specs.Prelude.{◌≡◌, List, [], Option}
-use Rattle.units.specs.Words.{Moment}
-use Rattle.shelves.specs.Words.{BookText}
+use Rattle.std.specs.Prelude.{◌≡◌, ℕ, List, [], Option}
 use Rattle.shelves.specs.Shelves.{Shelf, IsShelf}
 use Rattle.keepers.specs.declared.loaded.Change.{Change}
 use Rattle.keepers.specs.Tables.{no_tables}
@@ -29,7 +27,7 @@ AreChangesRead =
 -- there
 abbrev pub AreSweepsRead : Type 0
 AreSweepsRead =
-    (names : Names) (text : BookText) (shelf : Shelf) (t : Moment) (c : Content)
+    (names : Names) (text : List ℕ) (shelf : Shelf) (t : ℕ) (c : Content)
     (xs : List SweptAccount)
     → IsShelf shelf → AreAllSwept names shelf t c xs
     → IsSwept shelf t (tables_of names c) (tables_of names (with_sweep names text t xs c))

@@ -1,9 +1,7 @@
 -- The tables of a book as they are found again.
 -- Source: profile.
-use Rattle.std.specs.Prelude.{◌≡◌, ◌≤◌, Some}
+use Rattle.std.specs.Prelude.{◌≡◌, ◌≤◌, ℕ, List, Some}
 use Rattle.std.specs.Str.{IsUtf8}
-use Rattle.units.specs.Words.{Moment}
-use Rattle.shelves.specs.Words.{BookText}
 use Rattle.sqlite_trees.specs.Tree.{Trees}
 use Rattle.sqlite_trees.specs.Objects.{catalog_tree}
 use Rattle.sqlite_catalog.specs.Listing.{Lists}
@@ -16,7 +14,7 @@ use Rattle.sql_keeper.specs.Content.{last_in}
 use Rattle.sql_keeper.specs.Shelves.{HasShelf, IsShelfOf}
 
 -- what is kept once: the version of the tables, the text of the book, and a moment
-pub record IsKept (trees : Trees) (text : BookText) : Type 0 where
+pub record IsKept (trees : Trees) (text : List ℕ) : Type 0 where
   pub row : Meta
   pub is : (content_of trees).meta ≡ Some row
   pub version : row.version ≡ latest
@@ -26,7 +24,7 @@ pub record IsKept (trees : Trees) (text : BookText) : Type 0 where
 -- the tables of a book as they are found again: the database lists ours, no rowid stands twice
 -- there, and it keeps their version with the text, which is one of characters and a book's; the
 -- other books that it keeps may follow it
-pub record IsLeft (text : BookText) (trees : Trees) : Type 0 where
+pub record IsLeft (text : List ℕ) (trees : Trees) : Type 0 where
   pub lists : Lists (trees catalog_tree) book_schema
   pub stored : AreStored trees
   pub kept : IsKept trees text
@@ -34,7 +32,7 @@ pub record IsLeft (text : BookText) (trees : Trees) : Type 0 where
   pub shelf : HasShelf text (content_of trees).books
 
 -- the tables would be found again with this text, with this shelf and with this last moment
-pub record IsHeld (text : BookText) (shelf : Shelf) (last : Moment) (trees : Trees) : Type 0 where
+pub record IsHeld (text : List ℕ) (shelf : Shelf) (last : ℕ) (trees : Trees) : Type 0 where
   pub left : IsLeft text trees
   pub books : IsShelfOf text (content_of trees).books shelf
   pub moment : last ≡ last_in (content_of trees).meta

@@ -22,7 +22,6 @@ pub mod Migrates
 pub mod OlderVersions
 pub mod Opened
 pub mod Repeating
-pub mod RuledOpening
 pub mod Settled
 pub mod Shelves
 pub mod Stops

@@ -1,10 +1,7 @@
 -- What sessions have of rating groups, with what is held there, read from the tables.
 -- Source: profile.
-use Rattle.std.specs.Prelude.{◌≡◌, Bool, true, false, List, None, Result, IfOk, OnOk, IsTrue}
+use Rattle.std.specs.Prelude.{◌≡◌, ℕ, Bool, true, false, List, None, Result, IfOk, OnOk, IsTrue}
 use Rattle.std.specs.Prelude.{option_map, is_some, if◌then◌else◌}
-use Rattle.units.specs.Words.{GroupId}
-use Rattle.identifiers.specs.Words.{SessionName}
-use Rattle.buckets.specs.Words.{BucketNumber}
 use Rattle.sqlite_trees.specs.Tree.{Trees}
 use Rattle.sqlite.specs.State.{State, HasCleanDisk, Survives}
 use Rattle.reserving.specs.declared.session.Session.{Session}
@@ -30,25 +27,25 @@ pub record Gathers {A E : Type 0} (told : Trees → A → Type 0) (old new : Sta
     pub survives : Survives old new (λ _. old.is_open ≡ false)
 
 -- the session is one of the list
-abbrev pub is_among : SessionName → List Session → Bool
+abbrev pub is_among : List ℕ → List Session → Bool
 is_among s sessions = is_some (session_in s sessions)
 
 -- what the sessions of a list have of rating groups, and what their reservations hold: all of it,
 -- each as of a session that is open, and of no other session
 pub record AreLiveGroups (names : Names) (rows : Stored) (sessions : List Session)
     (xs : List SessionGroup) : Type 0 where
-  pub groups : (s : SessionName) (g : GroupId) → option_map group_row (group_in s g xs) ≡
+  pub groups : (s : List ℕ) (g : ℕ) → option_map group_row (group_in s g xs) ≡
       (if is_among s sessions
       then option_map (group_told names true (rows.grant_books s g)) (rows.groups s g) else None)
-  pub holds : (s : SessionName) (g : GroupId) (n : BucketNumber) → held_of n (group_in s g xs) ≡
+  pub holds : (s : List ℕ) (g n : ℕ) → held_of n (group_in s g xs) ≡
       (if is_among s sessions
       then held_in (is_reserved (rows.groups s g)) (rows.holds s g n) else 0)
 
 -- of an account's rows, what is loaded of groups and holds
 pub record AreLoadedGroups (r : Rows) (xs : List SessionGroup) : Type 0 where
-  pub groups : (s : SessionName) (g : GroupId) → option_map group_row (group_in s g xs) ≡
+  pub groups : (s : List ℕ) (g : ℕ) → option_map group_row (group_in s g xs) ≡
       (if is_loaded r s g then r.groups s g else None)
-  pub holds : (s : SessionName) (g : GroupId) (n : BucketNumber) → held_of n (group_in s g xs) ≡
+  pub holds : (s : List ℕ) (g n : ℕ) → held_of n (group_in s g xs) ≡
       (if is_loaded r s g then r.holds s g n else 0)
 
 -- what the open sessions have is what is loaded

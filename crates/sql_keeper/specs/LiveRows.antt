@@ -1,10 +1,7 @@
 -- What may still change of an account, read from the rows of its tables.
 -- Source: profile.
-use Rattle.std.specs.Prelude.{◌≡◌, ◌==◌, not, List, Option, Some, None, Result, Ok, Err}
+use Rattle.std.specs.Prelude.{◌≡◌, ℕ, ◌==◌, not, List, Option, Some, None, Result, Ok, Err}
 use Rattle.std.specs.Prelude.{if◌then◌else◌}
-use Rattle.units.specs.Words.{Moment, GroupId, CycleNumber}
-use Rattle.identifiers.specs.Words.{AccountName}
-use Rattle.buckets.specs.Words.{BucketNumber}
 use Rattle.buckets.specs.Row.{Row}
 use Rattle.shelves.specs.Shelves.{Shelf}
 use Rattle.reserving.specs.declared.session.Session.{Session}
@@ -28,12 +25,12 @@ use Rattle.sql_keeper.specs.declared.live_rows.ReadRows.{ReadRows}
 
 -- the buckets that aren't dead, with what they count: each by its number, and no other
 abbrev pub AreLiveBuckets : Stored → List Row → Type 0
-AreLiveBuckets rows bs = (n : BucketNumber) → bucket_in n bs
+AreLiveBuckets rows bs = (n : ℕ) → bucket_in n bs
     ≡ only (λ b. not (is_dead b)) (told_buckets rows n)
 
 -- the counters of the cycles at the moment: each by its rating group and cycle, and no other
-abbrev pub AreCountersAt : Shelf → Moment → Stored → List Counter → Type 0
-AreCountersAt shelf t rows cs = (g : GroupId) (c : CycleNumber) →
+abbrev pub AreCountersAt : Shelf → ℕ → Stored → List Counter → Type 0
+AreCountersAt shelf t rows cs = (g c : ℕ) →
     counter_in g c cs ≡ (if c == cycle_at shelf g t then rows.counters g c else None)
 
 -- all that may still change whatever the moment: the buckets that aren't dead, the open sessions,
@@ -59,7 +56,7 @@ account_with h x cs = record {
 
 -- what is read of an account: its head, and all of it that may still change at the moment; there is
 -- none where it has no head
-abbrev pub IsReadAccount : Names → Shelf → Moment → Stored → Option ReadRows → Type 0
+abbrev pub IsReadAccount : Names → Shelf → ℕ → Stored → Option ReadRows → Type 0
 IsReadAccount names shelf t rows None = rows.head ≡ None
 IsReadAccount names shelf t rows (Some x) =
     (rows.head ≡ Some x.head)
@@ -68,7 +65,7 @@ IsReadAccount names shelf t rows (Some x) =
 
 -- the account, with all of it that may still change at the moment; there is none where it has no
 -- head
-abbrev pub IsLiveAccount : Names → Shelf → Moment → Stored → Option StoredRows → Type 0
+abbrev pub IsLiveAccount : Names → Shelf → ℕ → Stored → Option StoredRows → Type 0
 IsLiveAccount names shelf t rows None = rows.head ≡ None
 IsLiveAccount names shelf t rows (Some w) =
     (rows.head ≡ Some (head_of w)) × AreLiveRows names rows w.buckets w.sessions w.groups
@@ -77,14 +74,14 @@ IsLiveAccount names shelf t rows (Some w) =
 -- it is what a load asks of the account's rows, once the shelf prices it
 abbrev pub AreLiveRowsLoaded : Type 0
 AreLiveRowsLoaded =
-    (names : Names) (shelf : Shelf) (t : Moment) (rows : Stored) (w : StoredRows)
+    (names : Names) (shelf : Shelf) (t : ℕ) (rows : Stored) (w : StoredRows)
     → IsLiveAccount names shelf t rows (Some w)
     → IsLoadedFrom shelf t (rows_of names rows) (priced shelf w)
 
 -- ---- once they are read
 
 -- the account's number, the account priced by the shelf, and the same rows once more
-abbrev pub IsLoadOf : Shelf → AccountName → Option StoredRows → Option Loaded → Type 0
+abbrev pub IsLoadOf : Shelf → List ℕ → Option StoredRows → Option Loaded → Type 0
 IsLoadOf shelf a None None = Unit {0}
 IsLoadOf shelf a None (Some l) = ⊥
 IsLoadOf shelf a (Some w) None = ⊥

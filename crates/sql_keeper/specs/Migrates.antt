@@ -3,10 +3,6 @@
 use Rattle.std.specs.Prelude.{◌≡◌, ◌<◌, ℕ, List, Some, None, true, false, nat_le, if◌then◌else◌}
 use Rattle.std.specs.Prelude.{IsTrue, Result, Ok, Err, IfErr, IfOk, OnErr, OnOk}
 use Rattle.std.specs.String.{string_bytes}
-use Rattle.units.specs.Words.{GroupId}
-use Rattle.identifiers.specs.Words.{SessionName, AccountName}
-use Rattle.shelves.specs.Words.{BookText}
-use Rattle.sql_tables.specs.Words.{TablesVersion}
 use Rattle.sqlite_trees.specs.declared.store.Store.{Ghosts}
 use Rattle.sqlite_trees.specs.Objects.{catalog_tree}
 use Rattle.sqlite_trees.specs.Tree.{Trees}
@@ -56,7 +52,7 @@ abbrev pub before_3 : Content → Content
 before_3 c = record c { rows = λ a. rows_before_3 (c.rows a) }
 
 -- the tables that a version hasn't are read as empty ones
-abbrev pub content_at : TablesVersion → Trees → Content
+abbrev pub content_at : ℕ → Trees → Content
 content_at v trees =
     let whole = content_of trees in
     let second = if nat_le 3 v then whole else before_3 whole in
@@ -65,35 +61,35 @@ content_at v trees =
 -- ---- what a migration leaves
 
 -- each reservation has the number of its book; before version 2 that is the first
-abbrev pub AreGranted : TablesVersion → Content → Content → Type 0
-AreGranted v old new = (a : AccountName) (s : SessionName) (g : GroupId)
+abbrev pub AreGranted : ℕ → Content → Content → Type 0
+AreGranted v old new = (a s : List ℕ) (g : ℕ)
     → (new.rows a).grant_books s g ≡ (if nat_le 2 v then (old.rows a).grant_books s g
     else (if is_reserved ((old.rows a).groups s g) then Some 1 else None))
 
 -- the tables of a version become those of the latest, and hold what they held: no row of theirs is
 -- lost, the books are the same, and each reservation has its book
-pub record BecomesLatest (v : TablesVersion) (old new : Trees) : Type 0 where
+pub record BecomesLatest (v : ℕ) (old new : Trees) : Type 0 where
   pub tables : (names : Names) →
       tables_of names (content_of new) ≡ tables_of names (content_at v old)
   -- where nothing stood that isn't told, nothing does
   pub tidy : (names : Names) → IsTidy names (content_at v old) → IsTidy names (content_of new)
   pub granted : AreGranted v (content_at v old) (content_of new)
   pub books : (content_of new).books ≡ (content_at v old).books
-  pub left : (text : BookText) (row : Meta) → (content_of old).meta ≡ Some row → row.book ≡ text
+  pub left : (text : List ℕ) (row : Meta) → (content_of old).meta ≡ Some row → row.book ≡ text
       → (content_of new).meta ≡ Some (record { version = latest; book = text; last = row.last })
   pub lists : Lists (new catalog_tree) book_schema
   pub stored : AreStored new
 
 -- a database that is left as one of the latest version by a migration of one of this version
-pub record IsLeftLatest (v : TablesVersion) (old new : Trees) : Type 0 where
+pub record IsLeftLatest (v : ℕ) (old new : Trees) : Type 0 where
   pub becomes : BecomesLatest v old new
-  pub text : BookText
+  pub text : List ℕ
   pub left : IsLeft text new
 
 -- a database of a version in the rules of who migrates it: no rowid stands twice, what is kept once
 -- is there and in its rules, with the texts of a shelf where it tells that version, and each
 -- reservation that gets a row of its book is in its rules
-pub record IsRuledAt (v : TablesVersion) (trees : Trees) : Type 0 where
+pub record IsRuledAt (v : ℕ) (trees : Trees) : Type 0 where
   pub stored : AreStoredAt v trees
   pub row : Meta
   pub is : (content_of trees).meta ≡ Some row
@@ -111,28 +107,28 @@ granted_in r = record r {
   grant_books = λ s g. if is_reserved (r.groups s g) then Some 1 else r.grant_books s g;
 }
 
-abbrev pub with_granted : TablesVersion → Content → Content
+abbrev pub with_granted : ℕ → Content → Content
 with_granted v c =
     if nat_le 2 v then c else record c { rows = λ a. granted_in (c.rows a) }
 
 -- the rules are told only of a reservation that is out of them, before version 2
-abbrev pub AreUnruledReserved : TablesVersion → Trees → ReadFault → Type 0
+abbrev pub AreUnruledReserved : ℕ → Trees → ReadFault → Type 0
 AreUnruledReserved v trees e =
     e ≡ reading.Rules → (v < 2) × ¬ AreRuledReserved (content_of trees)
 
 -- ---- states of the connection
 
 -- the tables of a version are there, no rowid of theirs twice
-pub record IsAt (v : TablesVersion) (s : State) : Type 0 where
+pub record IsAt (v : ℕ) (s : State) : Type 0 where
   pub schema : s.now.schema ≡ schema_at v
   pub stored : AreStoredAt v s.now.trees
 
 -- unless its disk failed it, or an earlier failure shut it
-abbrev pub HasAt : TablesVersion → State → Type 0
+abbrev pub HasAt : ℕ → State → Type 0
 HasAt v s = HasCleanDisk s → IsTrue s.is_open → IsAt v s
 
 -- and no transaction is open
-abbrev pub HasIdleAt : TablesVersion → State → Type 0
+abbrev pub HasIdleAt : ℕ → State → Type 0
 HasIdleAt v s = HasCleanDisk s → IsTrue s.is_open → IsAt v s × (s.now ≡ s.committed)
 
 -- ---- within the transaction, and over it
@@ -143,31 +139,31 @@ IsHeldBy r trees = IsHeld (string_bytes r.text) r.own r.last trees
 
 -- inside a transaction: the tables of a version become those of the latest, and the shelf of what
 -- is kept is read; or a fault says why not
-pub record BringsToLatest (v : TablesVersion) (old new : State)
-    (result : Result ReadBooks OpenFault) : Type 0 where
-  pub brings : Attempts (λ a b. BecomesLatest v a.now.trees b.now.trees × IsBook b
-      × Shows a b b.now a.committed true) old new result
-  pub read : HasCleanDisk new → IfOk result (λ r. IsHeldBy r new.now.trees)
-  pub given : IfOk result (λ r. r.given ≡ r.own)
-  pub first : IfOk result (λ r. IsBookOf (string_bytes r.text) r.own.first)
-  pub version : HasCleanDisk new → IfErr result (λ e. e ≡ Version → IsOtherThan v old.now.trees)
-  pub rules : HasCleanDisk new → IfErr result (λ e. e ≡ Rules → ¬ IsRuledAt v old.now.trees)
-  pub other : IfErr result (λ e. (¬ (e ≡ Foreign)) × (¬ (e ≡ Older)))
+pub record BringsToLatest (v : ℕ) (old new : State) (result : Result ReadBooks OpenFault) : Type 0
+  where
+    pub brings : Attempts (λ a b. BecomesLatest v a.now.trees b.now.trees × IsBook b
+        × Shows a b b.now a.committed true) old new result
+    pub read : HasCleanDisk new → IfOk result (λ r. IsHeldBy r new.now.trees)
+    pub given : IfOk result (λ r. r.given ≡ r.own)
+    pub first : IfOk result (λ r. IsBookOf (string_bytes r.text) r.own.first)
+    pub version : HasCleanDisk new → IfErr result (λ e. e ≡ Version → IsOtherThan v old.now.trees)
+    pub rules : HasCleanDisk new → IfErr result (λ e. e ≡ Rules → ¬ IsRuledAt v old.now.trees)
+    pub other : IfErr result (λ e. (¬ (e ≡ Foreign)) × (¬ (e ≡ Older)))
 
 -- outside a transaction: the tables are those of the latest version, or nothing is changed, and a
 -- stop leaves what it left before or the whole migration
-pub record MigratesTables (v : TablesVersion) (old new : State)
-    (result : Result ReadBooks OpenFault) : Type 0 where
-  pub done : HasCleanDisk new → IfOk result (λ r. IsTrue new.is_open
-      × BecomesLatest v old.now.trees new.now.trees × IsHeldBy r new.now.trees)
-  pub given : IfOk result (λ r. r.given ≡ r.own)
-  pub first : IfOk result (λ r. IsBookOf (string_bytes r.text) r.own.first)
-  pub kept : HasCleanDisk new → IsTrue new.is_open → OnErr result (IsStill old new)
-  pub idle : OnOk result (HasIdleBook new)
-  pub version : HasCleanDisk new → IfErr result (λ e. e ≡ Version → IsOtherThan v old.now.trees)
-  pub rules : HasCleanDisk new → IfErr result (λ e. e ≡ Rules → ¬ IsRuledAt v old.now.trees)
-  pub other : IfErr result (λ e. (¬ (e ≡ Foreign)) × (¬ (e ≡ Older)))
-  pub survives : Survives old new (IsLeftLatest v old.now.trees)
+pub record MigratesTables (v : ℕ) (old new : State) (result : Result ReadBooks OpenFault) : Type 0
+  where
+    pub done : HasCleanDisk new → IfOk result (λ r. IsTrue new.is_open
+        × BecomesLatest v old.now.trees new.now.trees × IsHeldBy r new.now.trees)
+    pub given : IfOk result (λ r. r.given ≡ r.own)
+    pub first : IfOk result (λ r. IsBookOf (string_bytes r.text) r.own.first)
+    pub kept : HasCleanDisk new → IsTrue new.is_open → OnErr result (IsStill old new)
+    pub idle : OnOk result (HasIdleBook new)
+    pub version : HasCleanDisk new → IfErr result (λ e. e ≡ Version → IsOtherThan v old.now.trees)
+    pub rules : HasCleanDisk new → IfErr result (λ e. e ≡ Rules → ¬ IsRuledAt v old.now.trees)
+    pub other : IfErr result (λ e. (¬ (e ≡ Foreign)) × (¬ (e ≡ Older)))
+    pub survives : Survives old new (IsLeftLatest v old.now.trees)
 
 -- ---- how it ends
 
@@ -193,15 +189,15 @@ pub record IsMigrated {S : Type 0} (g : Ghosts S) (old : Held S) (k : KeeperStat
 
 -- a stop leaves what it left before, or the whole migration
 pub record FindsNone (old new : State) (fault : OpenFault) : Type 0 where
-  pub survives : Survives old new (λ db. (v : TablesVersion) × IsVersion v ×
+  pub survives : Survives old new (λ db. (v : ℕ) × IsVersion v ×
       IsLeftLatest v old.now.trees db)
   pub foreign : HasCleanDisk new → fault ≡ Foreign →
-      (v : TablesVersion) → IsVersion v → ¬ (old.now.schema ≡ schema_at v)
+      (v : ℕ) → IsVersion v → ¬ (old.now.schema ≡ schema_at v)
   pub version : HasCleanDisk new → fault ≡ Version →
-      (v : TablesVersion) × IsVersion v × (old.now.schema ≡ schema_at v)
+      (v : ℕ) × IsVersion v × (old.now.schema ≡ schema_at v)
       × IsOtherThan v old.now.trees
   pub rules : HasCleanDisk new → fault ≡ Rules →
-      (v : TablesVersion) × IsVersion v × (old.now.schema ≡ schema_at v)
+      (v : ℕ) × IsVersion v × (old.now.schema ≡ schema_at v)
       × ¬ IsRuledAt v old.now.trees
   pub newer : ¬ (fault ≡ Older)
 
@@ -211,7 +207,7 @@ IsNotMigrated g old new fault = FindsNone (state g old) (state g new) fault
 -- a database of this system: its tables are those of the latest version already and nothing is
 -- written, or they become those
 abbrev pub FindsAny : State → State → Result ReadBooks OpenFault → Type 0
-FindsAny old new (Ok r) = (v : TablesVersion) × IsVersion v
+FindsAny old new (Ok r) = (v : ℕ) × IsVersion v
     × (HasCleanDisk new → old.now.schema ≡ schema_at v)
     × (v ≡ latest → FindsBooks old new (Ok r)) × (v < latest → MigratesTables v old new (Ok r))
 FindsAny old new (Err e) = FindsNone old new e

@@ -1,7 +1,6 @@
 -- Whether a database of an older version tells that version, as an opening asks it.
 -- Source: profile.
-use Rattle.std.specs.Prelude.{◌≡◌, Result, IfErr, OnOk}
-use Rattle.sql_tables.specs.Words.{TablesVersion}
+use Rattle.std.specs.Prelude.{◌≡◌, ℕ, Result, IfErr, OnOk}
 use Rattle.sqlite.specs.State.{State, HasCleanDisk, Survives}
 use Rattle.sql_opening.specs.declared.fault.OpenFault.{OpenFault}
 use Rattle.sql_opening.specs.declared.fault.OpenFault.TheVariants.{Foreign, Version, Rules, Older}
@@ -9,16 +8,17 @@ use Rattle.sql_keeper.specs.Causes.{IsOtherThan, IsUnruledMeta, KeepsVersion}
 
 -- inside a transaction that isn't committed: the version of the tables is kept, or a fault says why
 -- not
-pub record AsksVersion {A : Type 0} (v : TablesVersion) (old new : State)
-    (result : Result A OpenFault) : Type 0 where
-  pub keeps : HasCleanDisk new → OnOk result (KeepsVersion v old.now.trees)
-  pub version : HasCleanDisk new → IfErr result (λ e. e ≡ Version → IsOtherThan v old.now.trees)
-  pub rules : HasCleanDisk new → IfErr result (λ e. e ≡ Rules → IsUnruledMeta old.now.trees)
-  pub other : IfErr result (λ e. (¬ (e ≡ Foreign)) × (¬ (e ≡ Older)))
-  pub survives : Survives old new (λ _. ⊥)
+pub record AsksVersion {A : Type 0} (v : ℕ) (old new : State) (result : Result A OpenFault)
+    : Type 0
+  where
+    pub keeps : HasCleanDisk new → OnOk result (KeepsVersion v old.now.trees)
+    pub version : HasCleanDisk new → IfErr result (λ e. e ≡ Version → IsOtherThan v old.now.trees)
+    pub rules : HasCleanDisk new → IfErr result (λ e. e ≡ Rules → IsUnruledMeta old.now.trees)
+    pub other : IfErr result (λ e. (¬ (e ≡ Foreign)) × (¬ (e ≡ Older)))
+    pub survives : Survives old new (λ _. ⊥)
 
 -- outside it: the fault of a database of a version before the latest; nothing is written
-pub record IsNotLatest (v : TablesVersion) (old new : State) (fault : OpenFault) : Type 0 where
+pub record IsNotLatest (v : ℕ) (old new : State) (fault : OpenFault) : Type 0 where
   pub older : HasCleanDisk new → fault ≡ Older → KeepsVersion v old.now.trees
   pub version : HasCleanDisk new → fault ≡ Version → IsOtherThan v old.now.trees
   pub rules : HasCleanDisk new → fault ≡ Rules → IsUnruledMeta old.now.trees

@@ -1,7 +1,6 @@
 -- A keeper that was just made over a database, and what is left where none was made.
 -- Source: profile.
-use Rattle.std.specs.Prelude.{◌≡◌, ◌≤◌, ◌⊎◌, false, [], IsTrue}
-use Rattle.shelves.specs.Words.{BookText}
+use Rattle.std.specs.Prelude.{◌≡◌, ◌≤◌, ◌⊎◌, ℕ, false, List, [], IsTrue}
 use Rattle.shelves.specs.Shelves.{Shelf}
 use Rattle.sqlite_trees.specs.declared.store.Store.{Ghosts}
 use Rattle.sqlite.specs.Held.{Held, state}
@@ -30,8 +29,8 @@ pub record IsFresh {S : Type 0} (k : KeeperState S) (shelf : Shelf) : Type 0 whe
 -- ---- made
 
 -- the tables were made in a database that had none, and hold nothing but what is kept once
-pub record IsCreated {S : Type 0} (g : Ghosts S) (text : BookText) (old : Held S)
-    (k : KeeperState S) (shelf : Shelf) : Type 0 where
+pub record IsCreated {S : Type 0} (g : Ghosts S) (text : List ℕ) (old : Held S) (k : KeeperState S)
+    (shelf : Shelf) : Type 0 where
   pub fresh : IsFresh k shelf
   pub alone : shelf.later ≡ []
   pub of_text : k.text ≡ text
@@ -45,7 +44,7 @@ pub record IsCreated {S : Type 0} (g : Ghosts S) (text : BookText) (old : Held S
   pub survives : Survives (state g old) (state g k.connection) (IsNewBook text)
 
 -- nothing is changed; a stop leaves what it left before, or the new tables
-pub record IsNotCreated {S : Type 0} (g : Ghosts S) (text : BookText) (old new : Held S)
+pub record IsNotCreated {S : Type 0} (g : Ghosts S) (text : List ℕ) (old new : Held S)
     (fault : CreateFault) : Type 0 where
   pub told : IsCreateFault text old.schema fault
   pub mode : new.in_transaction ≡ old.in_transaction

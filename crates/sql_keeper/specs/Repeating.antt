@@ -1,8 +1,6 @@
 -- The counters of an account at a moment, by how often they begin again.
 -- Source: TS 32.296, counters.
-use Rattle.std.specs.Prelude.{◌≡◌, ◌==◌, Bool, true, List, Option, Some, None, if◌then◌else◌}
-use Rattle.std.specs.List.{list_any}
-use Rattle.units.specs.Words.{Moment, GroupId, CycleNumber}
+use Rattle.std.specs.Prelude.{◌≡◌, ℕ, ◌==◌, List, Option, Some, None, if◌then◌else◌}
 use Rattle.calendar.specs.declared.cycle.Cycle.{Cycle}
 use Rattle.calendar.specs.declared.cycle.Cycle.TheVariants as often
 use Rattle.calendar.specs.contracts.cycle.CyclePartialEq.TheImpl.{ghosts as cycles}
@@ -20,25 +18,16 @@ repeats_with (Some x) = x.cycle
 
 -- how often the counter of a rating group begins again: never for a group that the book doesn't
 -- have
-abbrev pub repeats_in : Book → GroupId → Cycle
+abbrev pub repeats_in : Book → ℕ → Cycle
 repeats_in b g = repeats_with (tariff_of b g)
 
-abbrev pub has_repeating : Book → Cycle → Bool
-has_repeating b repeats = list_any (λ (t : GroupTariff). cycles.eq t.cycle repeats) b.tariffs
-
--- whether a counter may begin again so often, of any rating group
-abbrev pub may_repeat : Book → Cycle → Bool
-may_repeat b often.None = true
-may_repeat b often.Day = has_repeating b often.Day
-may_repeat b often.Month = has_repeating b often.Month
-
 -- the counters of the groups whose counters begin again so often, each of the cycle at the moment
-abbrev pub AreRepeating : Book → Cycle → Moment → Stored → List Counter → Type 0
-AreRepeating b repeats t rows cs = (g : GroupId) (c : CycleNumber) → counter_in g c cs
+abbrev pub AreRepeating : Book → Cycle → ℕ → Stored → List Counter → Type 0
+AreRepeating b repeats t rows cs = (g c : ℕ) → counter_in g c cs
     ≡ (if cycles.eq (repeats_in b g) repeats
     then (if c == cycle_of b.calendar.zone repeats t then rows.counters g c else None) else None)
 
-pub record AreEachRepeating (b : Book) (t : Moment) (rows : Stored)
+pub record AreEachRepeating (b : Book) (t : ℕ) (rows : Stored)
     (never daily monthly : List Counter) : Type 0 where
   pub never_are : AreRepeating b often.None t rows never
   pub daily_are : AreRepeating b often.Day t rows daily

@@ -1,12 +1,9 @@
 -- What is tested of a change before it is written, so that what is written reads as the change.
 -- Source: profile.
 use Rattle.std.specs.Prelude.{◌≡◌, ◌⊎◌, ℕ, ◌+◌, ◌==◌, ◌||◌, Bool, true, not, List, [], ◌∷◌, Option}
-use Rattle.std.specs.Prelude.{Some, None, IsTrue, is_some}
+use Rattle.std.specs.Prelude.{Some, None, is_some}
 use Rattle.std.specs.List.{list_all}
 use Rattle.std.specs.Prelude.{if◌then◌else◌}
-use Rattle.units.specs.Words.{GroupId}
-use Rattle.identifiers.specs.Words.{SessionName}
-use Rattle.reserving.specs.Words.{ChargeNumber}
 use Rattle.calendar.specs.declared.week.Period.{Period}
 use Rattle.tariffs.specs.Names.{period_named}
 use Rattle.buckets.specs.Holding.{AreHolds}
@@ -20,11 +17,10 @@ use Rattle.reserving.specs.Left.{first_of, is_open_row}
 use Rattle.keepers.specs.declared.loaded.Change.{Change}
 use Rattle.sql_rows.specs.declared.head.Head.{Head as HeadColumns}
 use Rattle.sql_rows.specs.Values.{Group}
-use Rattle.sql_rows.specs.Lists.{GroupAt, HasNoGroups}
+use Rattle.sql_rows.specs.Lists.{GroupAt}
 use Rattle.sql_rows.specs.Content.{Rows as Stored}
 use Rattle.sql_keeper.specs.Content.{Names, names_numbered}
 use Rattle.sql_keeper.specs.Writes.{name_at}
-use Rattle.sql_keeper.specs.declared.settling.NamedSessions.{NamedSessions}
 
 -- the name at the period's place is its own
 abbrev pub IsNamed : List (List ℕ) → Period → Type 0
@@ -32,14 +28,14 @@ IsNamed names p = period_named names (name_at names p) ≡ Some p
 
 -- a reservation stands in an open session, its periods have names in its book, and it holds of each
 -- bucket once
-pub record IsWritable (names : Names) (sessions : List Session) (s : SessionName) (r : Reservation)
-    : Type 0 where
+pub record IsWritable (names : Names) (sessions : List Session) (s : List ℕ)
+    (r : Reservation) : Type 0 where
   pub live : is_open_row (session_in s sessions) ≡ true
   pub before : IsNamed (names_numbered names r.terms.book) r.terms.periods.before
   pub after : IsNamed (names_numbered names r.terms.book) r.terms.periods.after
   pub holds : AreHolds r.holds
 
-abbrev pub MayStand : Names → List Session → SessionName → Option Reservation → Type 0
+abbrev pub MayStand : Names → List Session → List ℕ → Option Reservation → Type 0
 MayStand names sessions s None = Unit {0}
 MayStand names sessions s (Some r) = IsWritable names sessions s r
 
@@ -48,19 +44,19 @@ AreWritable names sessions groups =
     EachIn (λ r. MayStand names sessions r.session r.reservation) groups
 
 -- charges numbered one after another, from one number to below another
-abbrev pub AreNumbered : ChargeNumber → ChargeNumber → List ChargeRow → Type 0
+abbrev pub AreNumbered : ℕ → ℕ → List ChargeRow → Type 0
 AreNumbered from next [] = from ≡ next
 AreNumbered from next (c ∷ cs) = (c.number ≡ from) × AreNumbered (from + 1) next cs
 
 -- the number of the next charge of an account, and of its first one where it isn't there yet
-abbrev pub first_number : Option HeadColumns → ChargeNumber
+abbrev pub first_number : Option HeadColumns → ℕ
 first_number None = 1
 first_number (Some h) = if h.next_charge == 0 then 1 else h.next_charge
 
 -- ---- sessions that a change opens or ends
 
 -- whether a session is open by the rows of a change over those that are stored
-abbrev pub is_open_over : List Session → Stored → SessionName → Bool
+abbrev pub is_open_over : List Session → Stored → List ℕ → Bool
 is_open_over sessions r s = is_open_row (first_of (session_in s sessions) (r.sessions s))
 
 -- whether a session is open by its row as it is by the one that is stored
@@ -70,44 +66,22 @@ is_as_open x o = if is_open x.state then is_open_row o else not (is_open_row o)
 -- of a session that is opened or ended no group that isn't named has a reservation
 abbrev pub AreSettled : List Session → List SessionGroup → Stored → Type 0
 AreSettled sessions groups r =
-    (s : SessionName) (g : GroupId) (y : Group) → r.groups s g ≡ Some y →
-    group_in s g groups ≡ None →
+    (s : List ℕ) (g : ℕ) (y : Group) → r.groups s g ≡ Some y → group_in s g groups ≡ None →
     (is_open_over sessions r s ≡ is_open_row (r.sessions s)) ⊎ (y.periods ≡ None)
 
 -- the same of one session that is named
 abbrev pub IsSettled : List SessionGroup → Stored → Session → Type 0
 IsSettled groups r x =
     (is_open x.state ≡ is_open_row (r.sessions x.id))
-    ⊎ ((g : GroupId) (y : Group) → r.groups x.id g ≡ Some y → group_in x.id g groups ≡ None →
+    ⊎ ((g : ℕ) (y : Group) → r.groups x.id g ≡ Some y → group_in x.id g groups ≡ None →
     y.periods ≡ None)
 
 -- a stored group of a session is named, or has no reservation
-abbrev pub is_beside : List SessionGroup → SessionName → GroupAt → Bool
+abbrev pub is_beside : List SessionGroup → List ℕ → GroupAt → Bool
 is_beside groups s x = is_some (group_in s x.group groups) || not (is_some x.row.periods)
 
-abbrev pub are_beside : List SessionGroup → SessionName → List GroupAt → Bool
+abbrev pub are_beside : List SessionGroup → List ℕ → List GroupAt → Bool
 are_beside groups s xs = list_all (is_beside groups s) xs
-
--- what is found of a session that is named: whether it is settled, and whether it is new
-pub record IsFound (groups : List SessionGroup) (r : Stored) (x : Session)
-    (y : NamedSessions) : Type 0 where
-  pub settled : IsTrue y.are_settled → IsSettled groups r x
-  pub new : IsTrue y.are_new → HasNoGroups r x.id
-
--- and of all of them
-pub record AreFound (sessions : List Session) (groups : List SessionGroup) (r : Stored)
-    (y : NamedSessions) : Type 0 where
-  pub settled : IsTrue y.are_settled → AreSettled sessions groups r
-  pub new : IsTrue y.are_new → EachIn (λ (x : Session). HasNoGroups r x.id) sessions
-
--- each group is of one of the sessions
-abbrev pub are_among : List Session → List SessionGroup → Bool
-are_among sessions groups =
-    list_all (λ (x : SessionGroup). is_some (session_in x.session sessions)) groups
-
--- nothing is there of the groups' sessions
-abbrev pub AreNewGroups : Stored → List SessionGroup → Type 0
-AreNewGroups r groups = EachIn (λ (x : SessionGroup). HasNoGroups r x.session) groups
 
 -- ---- all that is tested
 
@@ -116,14 +90,3 @@ pub record MayBeMade (names : Names) (change : Change) (r : Stored) : Type 0 whe
   pub reservations : AreWritable names change.rows.sessions change.rows.groups
   pub numbers : AreNumbered (first_number r.head) change.rows.next_charge change.charges.items
   pub settled : AreSettled change.rows.sessions change.rows.groups r
-
--- what is found of a change: whether it may be made, and whether its groups are new
-pub record IsChangeFound (names : Names) (change : Change) (r : Stored) (y : NamedSessions) : Type 0
-  where
-    pub made : IsTrue y.are_settled → MayBeMade names change r
-    pub new : IsTrue y.are_new → AreNewGroups r change.rows.groups
-
--- it may be made, and whether its groups are new
-pub record IsTested (names : Names) (change : Change) (r : Stored) (are_new : Bool) : Type 0 where
-  pub made : MayBeMade names change r
-  pub new : IsTrue are_new → AreNewGroups r change.rows.groups

@@ -1,13 +1,8 @@
 -- Tables in which nothing stands that isn't told. What a keeper writes over such tables leaves such
 -- tables; those of another writer may hold more, and are read all the same.
 -- Source: profile.
-use Rattle.std.specs.Prelude.{◌≡◌, ◌&&◌, ◌||◌, Bool, true, Option, Some, None}
+use Rattle.std.specs.Prelude.{◌≡◌, ℕ, ◌&&◌, ◌||◌, Bool, true, List, Option, Some, None}
 use Rattle.std.specs.Prelude.{is_some, nat_eq}
-use Rattle.units.specs.Words.{GroupId, BookNumber, CcRequestNumber}
-use Rattle.identifiers.specs.Words.{SessionName, AccountName}
-use Rattle.buckets.specs.Words.{BucketNumber}
-use Rattle.reserving.specs.Words.{ChargeNumber}
-use Rattle.sql_rows.specs.Words.{KeyKind, KeyName}
 use Rattle.tariffs.specs.Names.{period_named}
 use Rattle.reserving.specs.Left.{first_of, is_open_row}
 use Rattle.reserving.specs.Sessions.{group_in, session_in}
@@ -18,44 +13,43 @@ use Rattle.sql_keeper.specs.Content.{Names, book_in, is_numbered, is_reserved, k
 use Rattle.sql_keeper.specs.Content.{names_numbered}
 
 -- the names are those of periods of the book of this number, the first where there is none
-abbrev pub are_named : Names → Option BookNumber → PeriodNames → Bool
+abbrev pub are_named : Names → Option ℕ → PeriodNames → Bool
 are_named names book p =
     is_some (period_named (names_numbered names (book_in book)) p.before)
     && is_some (period_named (names_numbered names (book_in book)) p.after)
 
-abbrev pub are_terms : Names → Option BookNumber → Option PeriodNames → Bool
+abbrev pub are_terms : Names → Option ℕ → Option PeriodNames → Bool
 are_terms names book None = true
 are_terms names book (Some p) = are_named names book p
 
 -- a group's reservation has the names of its book's periods
-abbrev pub has_terms : Names → Option BookNumber → Option Group → Bool
+abbrev pub has_terms : Names → Option ℕ → Option Group → Bool
 has_terms names book None = true
 has_terms names book (Some x) = are_terms names book x.periods
 
 -- a request has a number, an operator's command has 0
-abbrev pub is_key : KeyKind → CcRequestNumber → Bool
+abbrev pub is_key : ℕ → ℕ → Bool
 is_key kind number =
     nat_eq request_kind kind || (nat_eq reference_kind kind && nat_eq 0 number)
 
 -- of an account
-pub record AreTidyRows (names : Names) (a : AccountName) (r : Stored) : Type 0 where
+pub record AreTidyRows (names : Names) (a : List ℕ) (r : Stored) : Type 0 where
   -- a reservation stands in an open session, and its periods have the names of its book
-  pub live : (s : SessionName) (g : GroupId) → is_reserved (r.groups s g) ≡ true →
+  pub live : (s : List ℕ) (g : ℕ) → is_reserved (r.groups s g) ≡ true →
       is_open_row (r.sessions s) ≡ true
-  pub terms : (s : SessionName) (g : GroupId) →
-      has_terms names (r.grant_books s g) (r.groups s g) ≡ true
+  pub terms : (s : List ℕ) (g : ℕ) → has_terms names (r.grant_books s g) (r.groups s g) ≡ true
   -- the number of a book, and what is held, stand beside a reservation
-  pub books : (s : SessionName) (g : GroupId) → is_some (r.grant_books s g) ≡ true →
+  pub books : (s : List ℕ) (g : ℕ) → is_some (r.grant_books s g) ≡ true →
       is_reserved (r.groups s g) ≡ true
-  pub holds : (s : SessionName) (g : GroupId) (n : BucketNumber) → is_some (r.holds s g n) ≡ true →
+  pub holds : (s : List ℕ) (g n : ℕ) → is_some (r.holds s g n) ≡ true →
       is_reserved (r.groups s g) ≡ true
   -- a bucket that counts blocks is there
-  pub kinds : (n : BucketNumber) → r.allowances n ≡ true → is_some (r.buckets n) ≡ true
+  pub kinds : (n : ℕ) → r.allowances n ≡ true → is_some (r.buckets n) ≡ true
   -- charges are numbered, and covered blocks stand beside one
-  pub charges : (n : ChargeNumber) → is_some (r.charges n) ≡ true → is_numbered n r.head ≡ true
-  pub covered : (n : ChargeNumber) → is_some (r.covered n) ≡ true → is_some (r.charges n) ≡ true
+  pub charges : (n : ℕ) → is_some (r.charges n) ≡ true → is_numbered n r.head ≡ true
+  pub covered : (n : ℕ) → is_some (r.covered n) ≡ true → is_some (r.charges n) ≡ true
   -- texts that are kept are those of a command and its answer, under its key
-  pub texts : (kind : KeyKind) (name : KeyName) (number : CcRequestNumber) (k : Kept)
+  pub texts : (kind : ℕ) (name : List ℕ) (number : ℕ) (k : Kept)
       → r.answers kind name number ≡ Some k
       → (is_key kind number ≡ true) × (is_some (kept_in a k) ≡ true)
 
@@ -63,11 +57,11 @@ pub record IsTidy (names : Names) (c : Content) : Type 0 where
   -- what is kept once is there, and stands once
   pub there : is_some c.meta ≡ true
   pub once : c.kept ≡ 1
-  pub rows : (a : AccountName) → AreTidyRows names a (c.rows a)
+  pub rows : (a : List ℕ) → AreTidyRows names a (c.rows a)
 
 -- rows that are written over those that stand end no session with a reservation that isn't among
 -- them
 abbrev pub EndsTidy : StoredRows → Stored → Type 0
-EndsTidy w r = (s : SessionName) (g : GroupId) → group_in s g w.groups ≡ None
+EndsTidy w r = (s : List ℕ) (g : ℕ) → group_in s g w.groups ≡ None
     → is_reserved (r.groups s g) ≡ true → is_open_row (r.sessions s) ≡ true
     → is_open_row (first_of (session_in s w.sessions) (r.sessions s)) ≡ true

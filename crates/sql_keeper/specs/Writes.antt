@@ -1,13 +1,7 @@
 -- What a change writes, one row after another.
 -- Source: profile.
-use Rattle.std.specs.Prelude.{◌≡◌, ◌==◌, ℕ, Bool, true, false, List, [], Option, Some, None}
-use Rattle.std.specs.Prelude.{unwrap_or, if◌then◌else◌}
+use Rattle.std.specs.Prelude.{◌≡◌, ◌==◌, ℕ, List, [], Option, Some, None, unwrap_or, if◌then◌else◌}
 use Rattle.std.specs.Prelude.{option_map, slice_get}
-use Rattle.units.specs.Words.{Moment, BlockCount, GroupId}
-use Rattle.identifiers.specs.Words.{SessionName, AccountName}
-use Rattle.buckets.specs.Words.{BucketNumber}
-use Rattle.shelves.specs.Words.{BookText}
-use Rattle.reserving.specs.Words.{ChargeNumber}
 use Rattle.calendar.specs.declared.week.Period.{Period}
 use Rattle.buckets.specs.Row.{Row}
 use Rattle.buckets.specs.declared.kind.BucketKind.{BucketKind}
@@ -53,7 +47,7 @@ columns_of names r =
     record { used = r.used; periods = option_map (names_held names) r.reservation }
 
 -- the book of a reservation, where there is one
-abbrev pub with_book_of : SessionName → GroupId → Option Reservation → Rows → Rows
+abbrev pub with_book_of : List ℕ → ℕ → Option Reservation → Rows → Rows
 with_book_of s g None = without_grant_book s g
 with_book_of s g (Some x) = with_grant_book s g x.terms.book
 
@@ -67,70 +61,49 @@ head_of w = record {
 
 -- what a session has of a rating group, with the book of its reservation, and in place of what was
 -- held there what its reservation holds
-abbrev pub with_held_group : AccountName → Names → SessionGroup → Content → Content
+abbrev pub with_held_group : List ℕ → Names → SessionGroup → Content → Content
 with_held_group a names r c =
     with_holds a r.session r.group (holds_in r.reservation)
     (with_rows a (without_holds r.session r.group)
     (with_rows a (with_book_of r.session r.group r.reservation)
     (with_rows a (with_group r.session r.group (columns_of names r)) c)))
 
-abbrev pub with_groups : AccountName → Names → List SessionGroup → Content → Content
+abbrev pub with_groups : List ℕ → Names → List SessionGroup → Content → Content
 with_groups a names = with_each (with_held_group a names)
 
--- the same of a group of which nothing was there
-abbrev pub with_new_book : AccountName → SessionName → GroupId → Option Reservation → Content →
-    Content
-with_new_book a s g None c = c
-with_new_book a s g (Some x) c = with_rows a (with_grant_book s g x.terms.book) c
-
-abbrev pub with_new_group : AccountName → Names → SessionGroup → Content → Content
-with_new_group a names r c =
-    with_holds a r.session r.group (holds_in r.reservation)
-    (with_new_book a r.session r.group r.reservation
-    (with_rows a (with_group r.session r.group (columns_of names r)) c))
-
-abbrev pub with_new_groups : AccountName → Names → List SessionGroup → Content → Content
-with_new_groups a names = with_each (with_new_group a names)
-
--- groups of which nothing was there, or any
-abbrev pub with_groups_put : AccountName → Names → Bool → List SessionGroup → Content → Content
-with_groups_put a names true gs c = with_new_groups a names gs c
-with_groups_put a names false gs c = with_groups a names gs c
-
-abbrev pub with_texts : AccountName → Key → Kept → Content → Content
+abbrev pub with_texts : List ℕ → Key → Kept → Content → Content
 with_texts a (Request s n) k c = with_rows a (with_answer request_kind s n k) c
 with_texts a (Reference x) k c = with_rows a (with_answer reference_kind x 0 k) c
 
 -- ---- buckets and charges, with what stands beside them
 
 -- what a bucket counts
-abbrev pub with_kind : BucketKind → BucketNumber → Rows → Rows
+abbrev pub with_kind : BucketKind → ℕ → Rows → Rows
 with_kind Money n = without_allowance n
 with_kind Blocks n = with_allowance n
 
 -- it stands beside a bucket of one rating group alone
-abbrev pub with_scoped : AccountName → Option GroupId → BucketKind → BucketNumber → Content →
-    Content
+abbrev pub with_scoped : List ℕ → Option ℕ → BucketKind → ℕ → Content → Content
 with_scoped a None k n c = c
 with_scoped a (Some g) k n c = with_rows a (with_kind k n) c
 
-abbrev pub with_counted : AccountName → Row → Content → Content
+abbrev pub with_counted : List ℕ → Row → Content → Content
 with_counted a b c = with_scoped a b.scope b.kind b.number
     (with_rows a (with_bucket (plain_bucket b)) c)
 
-abbrev pub with_all_counted : AccountName → List Row → Content → Content
+abbrev pub with_all_counted : List ℕ → List Row → Content → Content
 with_all_counted a = with_each (with_counted a)
 
 -- the covered blocks of a charge, where there are any
-abbrev pub with_blocks : ChargeNumber → BlockCount → Rows → Rows
+abbrev pub with_blocks : ℕ → ℕ → Rows → Rows
 with_blocks n m r =
     if m == 0 then without_covered n r else with_covered (record { number = n; blocks = m }) r
 
-abbrev pub with_paid : AccountName → ChargeRow → Content → Content
+abbrev pub with_paid : List ℕ → ChargeRow → Content → Content
 with_paid a x c = with_rows a (with_blocks x.number x.covered.0)
     (with_rows a (with_charge (plain_charge x)) c)
 
-abbrev pub with_all_paid : AccountName → List ChargeRow → Content → Content
+abbrev pub with_all_paid : List ℕ → List ChargeRow → Content → Content
 with_all_paid a = with_each (with_paid a)
 
 -- ---- vouchers
@@ -152,47 +125,34 @@ with_redeemed (Some r) c = with_voucher r.code (row_of r.voucher) c
 -- ---- all of a change
 
 -- the rows of an account as they become
-abbrev pub with_stored : AccountName → Names → StoredRows → Content → Content
+abbrev pub with_stored : List ℕ → Names → StoredRows → Content → Content
 with_stored a names w c =
     with_groups a names w.groups (with_sessions a w.sessions (with_counters a w.counters
     (with_all_counted a w.buckets (with_account a (head_of w) c))))
 
 -- what is kept of a command, as the texts that stand for it
-abbrev pub with_kept : AccountName → Option KeptAnswer → Option Kept → Content → Content
+abbrev pub with_kept : List ℕ → Option KeptAnswer → Option Kept → Content → Content
 with_kept a None t c = c
 with_kept a (Some k) None c = c
 with_kept a (Some k) (Some t) c = with_texts a (key_of k.content) t c
 
-abbrev pub AreTexts : AccountName → Option KeptAnswer → Option Kept → Type 0
+abbrev pub AreTexts : List ℕ → Option KeptAnswer → Option Kept → Type 0
 AreTexts a None t = Unit {0}
 AreTexts a (Some k) None = ⊥
 AreTexts a (Some k) (Some t) = kept_in a t ≡ Some k
 
 -- what is kept once: the version of the tables, the text of the book, and the moment of the
 -- last accepted command
-abbrev pub meta_at : BookText → Moment → Meta
+abbrev pub meta_at : List ℕ → ℕ → Meta
 meta_at text t = record { version = latest; book = text; last = t }
 
-abbrev pub meta_with : BookText → Change → Meta
+abbrev pub meta_with : List ℕ → Change → Meta
 meta_with text change = meta_at text change.moment
 
--- the rows of an account as they are put, where nothing was there of its groups, or any
-abbrev pub with_named : AccountName → Names → Bool → StoredRows → Content → Content
-with_named a names new w c =
-    with_groups_put a names new w.groups (with_sessions a w.sessions (with_counters a w.counters
-    (with_all_counted a w.buckets (with_account a (head_of w) c))))
-
 -- an account's rows that a change names, and its charges
-abbrev pub with_changed_rows : Names → Bool → Change → Content → Content
-with_changed_rows names new change c =
-    with_all_paid change.number change.charges.items
-    (with_named change.number names new change.rows c)
-
--- all of a change, as it is put
-abbrev pub with_change_put : Names → Bool → Meta → Change → Option Kept → Content → Content
-with_change_put names new m change texts c =
-    with_redeemed change.redeemed (with_kept change.number change.kept texts
-    (with_changed_rows names new change (with_meta m c)))
+abbrev pub with_changed_rows : Names → Change → Content → Content
+with_changed_rows names change c =
+    with_all_paid change.number change.charges.items (with_stored change.number names change.rows c)
 
 -- all of a change
 abbrev pub with_change : Names → Meta → Change → Option Kept → Content → Content

@@ -1,5 +1,3 @@
-//! Why a book isn't added.
-
 use keepers::StoreFault;
 use shelves::ShelfFault;
 use tariffs::BookFault;

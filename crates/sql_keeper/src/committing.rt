@@ -9,7 +9,7 @@ ghost use Rattle.sql_keeper.specs.Content.{shelf_names};
 ghost use Rattle.sql_keeper.specs.Commits.{Becomes, CommitsChange, CommitsStanding, Transacts};
 ghost use Rattle.sql_keeper.specs.Inside.{clean_in, failed_in, names_in, tables_in};
 ghost use Rattle.sql_keeper.specs.Stops.{IsWhole, LeavesIn, honest_in, trees_in};
-ghost use Rattle.sql_keeper.specs.Writes.{meta_with, with_change_put};
+ghost use Rattle.sql_keeper.specs.Writes.{meta_with, with_change};
 ghost use Rattle.sqlite.specs.Held.{state};
 
 use crate::faults::counted;
@@ -30,7 +30,6 @@ use std::alloc::Global;
 fn write_change<S: Alter>(
     conn: &mut Connection<S>,
     books: &TariffShelf,
-    are_new: bool,
     text: &str,
     change: &Change,
     texts: &Option<Kept>,
@@ -38,12 +37,12 @@ fn write_change<S: Alter>(
     requires plain { conn.old.in_transaction ≡ false }
     requires idle { HasIdleBook (state S.Store conn.old) }
     ensures plain { conn.new.in_transaction ≡ false }
-    ensures transacts { Transacts (with_change_put (shelf_names books.now) are_new
+    ensures transacts { Transacts (with_change (shelf_names books.now)
         (meta_with text.now change.now) change.now (option_map kept_of texts.now))
         (state S.Store conn.old) (state S.Store conn.new) result }
 {
     let mut tx = conn.transaction();
-    put_change(&mut tx, books, are_new, text, change, texts)?;
+    put_change(&mut tx, books, text, change, texts)?;
     tx.commit()
 }
 
@@ -66,9 +65,9 @@ fn make_change<S: Alter>(
     // For the prover alone: looking at the value makes known here what its type keeps.
     let _named = change.rows.as_of();
     let _moment = change.moment.seconds();
-    let are_new = test_change(conn, alloc, books, change)?;
+    test_change(conn, alloc, books, change)?;
     let texts = kept_texts(alloc, &change.number, &change.kept)?;
-    write_change(conn, books, are_new, text, change, &texts)?;
+    write_change(conn, books, text, change, &texts)?;
     Ok(())
 }
 

@@ -142,7 +142,9 @@ pub(crate) fn read_counted<S: Alter>(
     let mut buckets = Vec::new(alloc);
     'rows: for row in rows {
         let bucket = read_bucket(conn, account, row)?;
-        buckets.push(bucket)?;
+        let Ok(()) = buckets.push(bucket) else {
+            return Err(ReadFault::Memory);
+        };
     }
     Ok(buckets)
 }

@@ -1,5 +1,3 @@
-//! Why the database of a book isn't made.
-
 ghost use Rattle.std.specs.Prelude.{◌≡◌};
 ghost use Rattle.sql_keeper.specs.Faults.{fault_number};
 

@@ -46,23 +46,22 @@ fn content_said(alloc: Global, account: &AccountNumber, text: &str) -> Result<Co
     }
 }
 
-/// The answer that a kept text says.
-fn answer_said(alloc: Global, text: &str) -> Result<Answer, ReadFault>
-    ensures { IfOk result (λ a. answer_of text.now ≡ Ok a) }
+/// The answer that a kept text says, with that text as it stands.
+fn answer_said(alloc: Global, text: String) -> Result<WrittenAnswer, ReadFault>
+    ensures { IfOk result (λ a. answer_of (string_bytes text) ≡ Ok a) }
 {
-    let bytes = text.as_bytes();
-    match wire::read_answer(alloc, bytes) {
+    match WrittenAnswer::read(alloc, text) {
         Ok(answer) => Ok(answer),
         Err(fault) => Err(fault_of(fault)),
     }
 }
 
 /// What texts that are kept under an account say; texts that say nothing are out of the rules.
-fn kept_said(alloc: Global, account: &AccountNumber, texts: &Kept) -> Result<KeptAnswer, ReadFault>
-    ensures { IfOk result (λ k. kept_in account.now (kept_of texts.now) ≡ Some k) }
+fn kept_said(alloc: Global, account: &AccountNumber, texts: Kept) -> Result<KeptAnswer, ReadFault>
+    ensures { IfOk result (λ k. kept_in account.now (kept_of texts) ≡ Some k) }
 {
     let content = content_said(alloc, account, texts.content.as_str())?;
-    let answer = answer_said(alloc, texts.answer.as_str())?;
+    let answer = answer_said(alloc, texts.answer)?;
     Ok(KeptAnswer { content, answer })
 }
 
@@ -89,10 +88,10 @@ fn texts_under<S: Alter>(
 fn kept_where(
     alloc: Global,
     account: &AccountNumber,
-    texts: &Option<Kept>,
+    texts: Option<Kept>,
 ) -> Result<Option<KeptAnswer>, ReadFault>
     ensures { IfOk result (λ o. o ≡
-        option_and_then (kept_in account.now) (option_map kept_of texts.now)) }
+        option_and_then (kept_in account.now) (option_map kept_of texts)) }
 {
     match texts {
         None => Ok(None),
@@ -112,7 +111,7 @@ fn answer_under<S: Alter>(
         (state S.Store conn.old) (state S.Store conn.new) result }
 {
     let texts = texts_under(conn, account, key)?;
-    kept_where(alloc, account, &texts)
+    kept_where(alloc, account, texts)
 }
 
 fn ask_for_answer<S: Alter>(

@@ -9,8 +9,7 @@ ghost use Rattle.sql_rows.specs.Makes.{Makes, MakesIfOpen};
 ghost use Rattle.sql_rows.specs.Texts.{names_put};
 ghost use Rattle.sql_keeper.specs.Content.{names_numbered, shelf_names};
 ghost use Rattle.sql_keeper.specs.Writes.{columns_of, name_at, names_at, with_book_of};
-ghost use Rattle.sql_keeper.specs.Writes.{with_groups, with_groups_put, with_held_group};
-ghost use Rattle.sql_keeper.specs.Writes.{with_new_book, with_new_group, with_new_groups};
+ghost use Rattle.sql_keeper.specs.Writes.{with_groups, with_held_group};
 ghost use Rattle.sqlite.specs.Held.{state};
 
 use calendar::Period;
@@ -149,86 +148,4 @@ pub(crate) fn put_groups<S: Alter>(
         put_held_group(tx, account, books, row)?;
     }
     Ok(())
-}
-
-/// Puts the number of the book that the reservation of a new group goes by, where it has one.
-fn put_new_number<S: Alter>(
-    tx: &mut Transaction<'_, S>,
-    account: &AccountNumber,
-    row: &SessionGroup,
-) -> Result<usize, Error>
-    requires open { IsInside (state S.Store tx.old.conn.now) }
-    requires book { HasBook (state S.Store tx.old.conn.now) }
-    ensures same_reference { tx.new.conn.ghost_name ≡ tx.old.conn.ghost_name }
-    ensures makes { Attempts (MakesIfOpen
-        (with_new_book account.now row.now.session row.now.group row.now.reservation))
-        (state S.Store tx.old.conn.now) (state S.Store tx.new.conn.now) result }
-{
-    match &row.reservation {
-        None => Ok(0),
-        Some(reservation) => {
-            let book = u32::from(reservation.terms.book);
-            put_grant_book(tx, account, &row.session, row.group, book)
-        }
-    }
-}
-
-/// Puts what a session has of a rating group of which nothing was there, with what its reservation
-/// holds.
-fn put_new_group<S: Alter>(
-    tx: &mut Transaction<'_, S>,
-    account: &AccountNumber,
-    books: &TariffShelf,
-    row: &SessionGroup,
-) -> Result<(), Error>
-    requires book { HasBook (state S.Store tx.old.conn.now) }
-    ensures same_reference { tx.new.conn.ghost_name ≡ tx.old.conn.ghost_name }
-    ensures makes { Attempts (Makes (with_new_group account.now (shelf_names books.now) row.now))
-        (state S.Store tx.old.conn.now) (state S.Store tx.new.conn.now) result }
-{
-    put_columns(tx, account, books, row)?;
-    put_new_number(tx, account, row)?;
-    put_held(tx, account, row)
-}
-
-/// Puts each of these groups, of which nothing was there.
-fn put_new_groups<S: Alter>(
-    tx: &mut Transaction<'_, S>,
-    account: &AccountNumber,
-    books: &TariffShelf,
-    rows: &[SessionGroup],
-) -> Result<(), Error>
-    requires open { IsInside (state S.Store tx.old.conn.now) }
-    requires book { HasBook (state S.Store tx.old.conn.now) }
-    ensures same_reference { tx.new.conn.ghost_name ≡ tx.old.conn.ghost_name }
-    ensures makes { Attempts
-        (MakesIfOpen (with_new_groups account.now (shelf_names books.now) rows.now))
-        (state S.Store tx.old.conn.now) (state S.Store tx.new.conn.now) result }
-{
-    'rows: for row in rows {
-        put_new_group(tx, account, books, row)?;
-    }
-    Ok(())
-}
-
-/// Puts each of what sessions have of rating groups, with what is held there, in the place of what
-/// was there; where nothing was, nothing is removed.
-pub(crate) fn put_groups_of<S: Alter>(
-    tx: &mut Transaction<'_, S>,
-    account: &AccountNumber,
-    books: &TariffShelf,
-    are_new: bool,
-    rows: &[SessionGroup],
-) -> Result<(), Error>
-    requires open { IsInside (state S.Store tx.old.conn.now) }
-    requires book { HasBook (state S.Store tx.old.conn.now) }
-    ensures same_reference { tx.new.conn.ghost_name ≡ tx.old.conn.ghost_name }
-    ensures makes { Attempts
-        (MakesIfOpen (with_groups_put account.now (shelf_names books.now) are_new rows.now))
-        (state S.Store tx.old.conn.now) (state S.Store tx.new.conn.now) result }
-{
-    match are_new {
-        true => put_new_groups(tx, account, books, rows),
-        false => put_groups(tx, account, books, rows),
-    }
 }

@@ -1,5 +1,3 @@
-//! Laws of what a database holds and what a stop leaves.
-
 ghost use Rattle.std.specs.Prelude.{ℕ, List};
 ghost use Rattle.sqlite.specs.Held.{Held};
 ghost use Rattle.sql_opening.specs.declared.fault.OpenFault.{OpenFault};
@@ -10,7 +8,6 @@ ghost use Rattle.sql_keeper.specs.Inside.{KeeperState};
 ghost use Rattle.sql_keeper.specs.Laws.{AreChangesRead, AreNewTablesEmpty, AreSweepsRead};
 ghost use Rattle.sql_keeper.specs.LiveGroups.{AreOpenGroupsLoaded};
 ghost use Rattle.sql_keeper.specs.LiveRows.{AreLiveRowsLoaded};
-ghost use Rattle.sql_keeper.specs.RuledOpening.{AreRowsApart};
 ghost use Rattle.sql_keeper.specs.Stops.{IsAtRest};
 
 use sqlite::Alter;
@@ -60,12 +57,6 @@ pub fn shelves_are_one()
 #[tactic(auto, using(crate::proofs::Causes::causes_apart))]
 pub fn causes_are_apart()
     ensures { AreCausesApart }
-{}
-
-/// A database that has one is refused for no row.
-#[tactic(auto, using(crate::proofs::RuledOpening::rows_apart))]
-pub fn rows_are_apart()
-    ensures { AreRowsApart }
 {}
 
 /// Where the connection shows what was left, no fault is told but the store's or memory's.

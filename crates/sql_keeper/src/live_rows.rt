@@ -5,7 +5,6 @@ ghost use Rattle.calendar.specs.contracts.cycle.CyclePartialEq.TheImpl.{ghosts a
 ghost use Rattle.sql_keeper.specs.Content.{Names, shelf_names};
 ghost use Rattle.sql_keeper.specs.LiveGroups.{Gathers};
 ghost use Rattle.sql_keeper.specs.Repeating.{AreEachRepeating, AreRepeating, repeats_in};
-ghost use Rattle.sql_keeper.specs.Repeating.{has_repeating, may_repeat};
 ghost use Rattle.sql_keeper.specs.LiveRows.{account_with, AreCountersAt, AreLiveBuckets};
 ghost use Rattle.sql_keeper.specs.LiveRows.{AreLiveRows, IsReadAccount, IsLiveAccount};
 ghost use Rattle.reserving.specs.Restored.{in_key_order, FindsSame};
@@ -25,7 +24,7 @@ use sql_rows::{Head, read_account, read_buckets_live, read_counters_in, read_ses
 use sql_tables::ReadFault;
 use sqlite::{Alter, Connection};
 use std::alloc::Global;
-use tariffs::{Tariff, TariffBook};
+use tariffs::TariffBook;
 use units::Moment;
 
 /// What may still change of an account, whatever the moment.
@@ -55,7 +54,10 @@ pub(crate) struct ReadRows {
 fn purse_of(alloc: Global, buckets: Vec<Bucket>) -> Result<Purse, ReadFault>
     ensures { IfOk result (λ purse. purse ≡ buckets.items) }
 {
-    Purse::from_buckets(alloc, buckets).ok_or(ReadFault::Rules)
+    match Purse::from_buckets(alloc, buckets) {
+        Some(purse) => Ok(purse),
+        None => Err(ReadFault::Rules),
+    }
 }
 
 /// The buckets of an account that aren't dead, with what they count.
@@ -113,54 +115,6 @@ fn read_repeating<S: Alter>(
     Ok(counters_repeating(counters, book, repeats))
 }
 
-/// Whether the counter of a tariff's rating group begins again so often.
-fn repeats_so(tariff: &Tariff, repeats: Cycle) -> bool
-    ensures { result ≡ cycles.eq tariff.now.cycle repeats }
-{
-    tariff.cycle() == repeats
-}
-
-/// Whether a book has a rating group whose counter begins again so often.
-fn has_repeating(book: &TariffBook, repeats: Cycle) -> bool
-    ensures { result ≡ has_repeating book.now repeats }
-{
-    let tariffs = book.tariffs();
-    tariffs.iter().any(|tariff| repeats_so(tariff, repeats))
-}
-
-/// Whether a counter may begin again so often: that of a group that the book doesn't have never
-/// does.
-fn may_repeat(book: &TariffBook, repeats: Cycle) -> bool
-    ensures { result ≡ may_repeat book.now repeats }
-{
-    match repeats {
-        Cycle::None => true,
-        Cycle::Day => has_repeating(book, Cycle::Day),
-        Cycle::Month => has_repeating(book, Cycle::Month),
-    }
-}
-
-/// The counters of an account, at a moment, of the groups whose counters begin again so often. None
-/// is read where the book has no such group.
-fn read_if_any<S: Alter>(
-    conn: &mut Connection<S>,
-    alloc: Global,
-    account: &AccountNumber,
-    book: &TariffBook,
-    repeats: Cycle,
-    moment: Moment,
-) -> Result<Vec<Counter>, ReadFault>
-    requires idle { HasIdleBook (state S.Store conn.old) }
-    ensures { Gathers (λ trees xs.
-        AreRepeating book.now repeats moment (rows_in trees account.now) xs.items)
-        (state S.Store conn.old) (state S.Store conn.new) result }
-{
-    if !may_repeat(book, repeats) {
-        return Ok(Vec::new(alloc));
-    }
-    Ok(read_repeating(conn, alloc, account, book, repeats, moment)?)
-}
-
 /// Counters of a moment, by how often they begin again.
 #[derive(Drop)]
 struct RepeatingCounters {
@@ -182,9 +136,9 @@ fn read_each_repeating<S: Alter>(
         x.never.items x.daily.items x.monthly.items)
         (state S.Store conn.old) (state S.Store conn.new) result }
 {
-    let never = read_if_any(conn, alloc, account, book, Cycle::None, moment)?;
-    let daily = read_if_any(conn, alloc, account, book, Cycle::Day, moment)?;
-    let monthly = read_if_any(conn, alloc, account, book, Cycle::Month, moment)?;
+    let never = read_repeating(conn, alloc, account, book, Cycle::None, moment)?;
+    let daily = read_repeating(conn, alloc, account, book, Cycle::Day, moment)?;
+    let monthly = read_repeating(conn, alloc, account, book, Cycle::Month, moment)?;
     Ok(RepeatingCounters {
         never,
         daily,
@@ -298,7 +252,10 @@ fn account_of(
         next_bucket: head.next_bucket,
         next_charge: head.next_charge,
     };
-    StoredAccount::from_rows(alloc, given).ok_or(ReadFault::Rules)
+    match StoredAccount::from_rows(alloc, given) {
+        Some(account) => Ok(account),
+        None => Err(ReadFault::Rules),
+    }
 }
 
 /// The account of what is read, where there is one.

@@ -154,7 +154,10 @@ fn find_books<S: Alter>(
     ensures rules { HasCleanDisk (state S.Store conn.new) → IfErr result (λ fault. fault ≡ Rules →
         ¬ AreRuledBooks (content_of (state S.Store conn.old).now.trees).books) }
 {
-    read_books(conn, alloc).map_err(read_fault)
+    match read_books(conn, alloc) {
+        Ok(books) => Ok(books),
+        Err(fault) => Err(read_fault(fault)),
+    }
 }
 
 /// The version that is kept is this one, and its number in the range of versions.
@@ -196,10 +199,7 @@ pub(crate) fn latest_books<S: Alter>(
 }
 
 /// The shelf of a database of this system.
-pub(crate) fn books_in<S: Alter>(
-    alloc: Global,
-    conn: &mut Connection<S>,
-) -> Result<ReadBooks, OpenFault>
+fn books_in<S: Alter>(alloc: Global, conn: &mut Connection<S>) -> Result<ReadBooks, OpenFault>
     ensures plain { OnOk result (conn.new.in_transaction ≡ false) }
     ensures finds { FindsBooks (state S.Store conn.old) (state S.Store conn.new) result }
 {

@@ -8,12 +8,12 @@ ghost use Rattle.sql_rows.specs.Makes.{Makes, MakesIfOpen};
 ghost use Rattle.sql_rows.specs.Texts.{kept_of};
 ghost use Rattle.sql_keeper.specs.Content.{shelf_names};
 ghost use Rattle.sql_keeper.specs.Commits.{with_money};
-ghost use Rattle.sql_keeper.specs.Writes.{head_of, meta_with, with_change_put, with_kept};
-ghost use Rattle.sql_keeper.specs.Writes.{with_changed_rows, with_named, with_stored, with_texts};
+ghost use Rattle.sql_keeper.specs.Writes.{head_of, meta_with, with_change, with_kept, with_stored};
+ghost use Rattle.sql_keeper.specs.Writes.{with_changed_rows, with_texts};
 ghost use Rattle.sqlite.specs.Held.{state};
 
 use crate::counted_buckets::put_counted;
-use crate::held_groups::{put_groups, put_groups_of};
+use crate::held_groups::put_groups;
 use crate::paid_charges::put_paid;
 use crate::voucher_puts::put_redeemed;
 use commands::Content;
@@ -88,18 +88,16 @@ fn put_named<S: Alter>(
     tx: &mut Transaction<'_, S>,
     account: &AccountNumber,
     books: &TariffShelf,
-    are_new: bool,
     rows: &NamedRows,
 ) -> Result<(), Error>
     requires book { HasBook (state S.Store tx.old.conn.now) }
     ensures same_reference { tx.new.conn.ghost_name ≡ tx.old.conn.ghost_name }
-    ensures makes { Attempts
-        (Makes (with_named account.now (shelf_names books.now) are_new rows.now))
+    ensures makes { Attempts (Makes (with_stored account.now (shelf_names books.now) rows.now))
         (state S.Store tx.old.conn.now) (state S.Store tx.new.conn.now) result }
 {
     put_named_money(tx, account, rows)?;
     put_sessions(tx, account, rows.sessions())?;
-    put_groups_of(tx, account, books, are_new, rows.groups())
+    put_groups(tx, account, books, rows.groups())
 }
 
 /// Puts the rows of an account.
@@ -184,37 +182,34 @@ fn put_kept<S: Alter>(
 fn put_rows<S: Alter>(
     tx: &mut Transaction<'_, S>,
     books: &TariffShelf,
-    are_new: bool,
     change: &Change,
 ) -> Result<(), Error>
     requires book { HasBook (state S.Store tx.old.conn.now) }
     ensures same_reference { tx.new.conn.ghost_name ≡ tx.old.conn.ghost_name }
-    ensures makes { Attempts (Makes (with_changed_rows (shelf_names books.now) are_new change.now))
+    ensures makes { Attempts (Makes (with_changed_rows (shelf_names books.now) change.now))
         (state S.Store tx.old.conn.now) (state S.Store tx.new.conn.now) result }
 {
-    put_named(tx, &change.number, books, are_new, &change.rows)?;
+    put_named(tx, &change.number, books, &change.rows)?;
     put_paid(tx, &change.number, &change.charges)
 }
 
 /// Puts all that a change names: the moment, the account and its rows, the charges, the texts of
-/// what is kept, and the voucher that is redeemed. Where nothing was there of its groups, nothing
-/// of them is removed.
+/// what is kept, and the voucher that is redeemed.
 pub(crate) fn put_change<S: Alter>(
     tx: &mut Transaction<'_, S>,
     books: &TariffShelf,
-    are_new: bool,
     text: &str,
     change: &Change,
     texts: &Option<Kept>,
 ) -> Result<(), Error>
     requires book { HasBook (state S.Store tx.old.conn.now) }
     ensures same_reference { tx.new.conn.ghost_name ≡ tx.old.conn.ghost_name }
-    ensures makes { Attempts (Makes (with_change_put (shelf_names books.now) are_new
+    ensures makes { Attempts (Makes (with_change (shelf_names books.now)
         (meta_with text.now change.now) change.now (option_map kept_of texts.now)))
         (state S.Store tx.old.conn.now) (state S.Store tx.new.conn.now) result }
 {
     put_meta(tx, LATEST, text, change.moment)?;
-    put_rows(tx, books, are_new, change)?;
+    put_rows(tx, books, change)?;
     put_kept(tx, &change.number, &change.kept, texts)?;
     put_redeemed(tx, &change.redeemed)
 }

@@ -29,7 +29,10 @@ pub(crate) fn bucket_of(row: &BucketColumns, is_allowance: bool) -> Result<Bucke
 {
     let mut columns = *row;
     columns.kind = kind_of(row.scope.is_some() && is_allowance);
-    Bucket::from_columns(&columns).ok_or(ReadFault::Rules)
+    match Bucket::from_columns(&columns) {
+        Some(bucket) => Ok(bucket),
+        None => Err(ReadFault::Rules),
+    }
 }
 
 /// Whether the number is one of these.
@@ -50,7 +53,9 @@ pub(crate) fn buckets_of(
     let mut buckets = Vec::new(alloc);
     'rows: for row in rows {
         let bucket = bucket_of(row, is_among(numbers, row.number))?;
-        buckets.push(bucket)?;
+        let Ok(()) = buckets.push(bucket) else {
+            return Err(ReadFault::Memory);
+        };
     }
     Ok(buckets)
 }

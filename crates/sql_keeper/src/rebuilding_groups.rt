@@ -49,7 +49,9 @@ fn number_of(numbers: &[GrantBook], group: u32) -> Option<u32>
 fn small_number(number: Option<u32>) -> Result<u8, ReadFault>
     ensures { IfOk result (λ n. number ≡ Some n) }
 {
-    let number = number.ok_or(ReadFault::Rules)?;
+    let Some(number) = number else {
+        return Err(ReadFault::Rules);
+    };
     match u8::try_from(number) {
         Ok(number) => Ok(number),
         Err(_) => Err(ReadFault::Rules),
@@ -66,7 +68,9 @@ fn terms_of(
     ensures { IfOk result (λ x. AreTermsOf (shelf_names books.now) number (names_of names.now) x) }
 {
     let number = small_number(number)?;
-    let book = books.book(number).ok_or(ReadFault::Rules)?;
+    let Some(book) = books.book(number) else {
+        return Err(ReadFault::Rules);
+    };
     let periods = periods_of(book, names)?;
     Ok(Terms {
         book: number,
@@ -126,7 +130,9 @@ fn holds_along(
                 bucket: number,
                 amount,
             };
-            holds.push(hold)?;
+            let Ok(()) = holds.push(hold) else {
+                return Err(ReadFault::Memory);
+            };
         }
     }
     Ok(holds)
@@ -146,7 +152,10 @@ fn holds_of(
         return Err(ReadFault::Rules);
     }
     let items = holds_along(alloc, buckets, group, held)?;
-    Holds::from_items(items).ok_or(ReadFault::Rules)
+    match Holds::from_items(items) {
+        Some(holds) => Ok(holds),
+        None => Err(ReadFault::Rules),
+    }
 }
 
 /// The reservation of a rating group, where it has names of periods.
@@ -210,7 +219,9 @@ pub(crate) fn groups_of(
     let mut groups = Vec::new(alloc);
     'rows: for row in rows {
         let group = group_of(alloc, books, buckets, session, row, held, numbers)?;
-        groups.push(group)?;
+        let Ok(()) = groups.push(group) else {
+            return Err(ReadFault::Memory);
+        };
     }
     Ok(groups)
 }

@@ -1,13 +1,12 @@
 //! Whether a change may be made of what is stored: what of its account it has to name.
 
-ghost use Rattle.std.specs.Prelude.{◌≡◌, ◌&&◌, IfOk, IsTrue, false, is_some, not, position};
+ghost use Rattle.std.specs.Prelude.{◌≡◌, IsTrue, OnOk, is_some, not, position};
 ghost use Rattle.std.specs.List.{list_all};
 ghost use Rattle.reserving.specs.Left.{is_open_row};
-ghost use Rattle.reserving.specs.Sessions.{group_in, is_of, is_open, is_session, session_in};
+ghost use Rattle.reserving.specs.Sessions.{group_in, is_of, is_open};
 ghost use Rattle.sql_keeper.specs.Content.{shelf_names};
 ghost use Rattle.sql_keeper.specs.LiveGroups.{Gathers};
-ghost use Rattle.sql_keeper.specs.Tests.{AreFound, IsChangeFound, IsFound, IsTested, are_among};
-ghost use Rattle.sql_keeper.specs.Tests.{is_as_open, is_beside};
+ghost use Rattle.sql_keeper.specs.Tests.{AreSettled, IsSettled, MayBeMade, is_as_open, is_beside};
 ghost use Rattle.sql_rows.specs.Content.{rows_in};
 ghost use Rattle.sql_rows.specs.Texts.{group_at};
 ghost use Rattle.sql_tables.specs.Statements.{HasIdleBook};
@@ -51,13 +50,6 @@ fn stays(before: &Option<Session>, session: &Session) -> bool
     }
 }
 
-/// Whether a session's row is there.
-fn is_there(row: &Option<Session>) -> bool
-    ensures { result ≡ is_some row.now }
-{
-    row.is_some()
-}
-
 /// The place of what a change names of a session's group.
 fn place_of(groups: &[SessionGroup], session: &SessionId, group: u32) -> Option<usize>
     ensures { result ≡ position (is_of session.now group) groups.now }
@@ -98,181 +90,90 @@ fn are_beside(groups: &[SessionGroup], session: &SessionId, rows: &[GroupColumns
     rows.iter().all(|row| is_beside(groups, session, row))
 }
 
-/// What is found of sessions that a change names.
-#[derive(Clone, Copy)]
-pub(crate) struct NamedSessions {
-    /// None that is opened or ended leaves a group beside those that are named that has a
-    /// reservation.
-    pub are_settled: bool,
-    /// No row of them was there, nor of their groups.
-    pub are_new: bool,
-}
-
-/// What is found where a change may not be made.
-fn unsettled() -> NamedSessions
-    ensures { result ≡ record { are_settled = false; are_new = false } }
-{
-    NamedSessions {
-        are_settled: false,
-        are_new: false,
-    }
-}
-
-/// Whether it is found that a change may be made.
-fn is_settled(found: NamedSessions) -> bool
-    ensures { result ≡ found.are_settled }
-{
-    found.are_settled
-}
-
-/// Whether these are new, and those that are found.
-fn both_new(are_new: bool, found: NamedSessions) -> bool
-    ensures { result ≡ (are_new && found.are_new) }
-{
-    are_new && found.are_new
-}
-
-/// Looks whether a session is opened or ended by its row, and leaves a group beside those that are
-/// named that has a reservation. One that wasn't there has no groups.
-fn find_session<S: Alter>(
+/// Whether a session is opened or ended by its row, and leaves a group beside those that are named
+/// that has a reservation.
+fn is_settled<S: Alter>(
     conn: &mut Connection<S>,
     alloc: Global,
     account: &AccountNumber,
     groups: &[SessionGroup],
     session: &Session,
-) -> Result<NamedSessions, ReadFault>
+) -> Result<bool, ReadFault>
     requires idle { HasIdleBook (state S.Store conn.old) }
-    ensures { Gathers (λ trees x. IsFound groups.now (rows_in trees account.now) session.now x)
+    ensures { Gathers
+        (λ trees x. IsTrue x → IsSettled groups.now (rows_in trees account.now) session.now)
         (state S.Store conn.old) (state S.Store conn.new) result }
 {
     let before = read_session(conn, alloc, account, &session.id)?;
-    if !is_there(&before) {
-        return Ok(NamedSessions {
-            are_settled: true,
-            are_new: true,
-        });
-    }
     if stays(&before, session) {
-        return Ok(NamedSessions {
-            are_settled: true,
-            are_new: false,
-        });
+        return Ok(true);
     }
     let rows = read_groups(conn, alloc, account, &session.id)?;
-    Ok(NamedSessions {
-        are_settled: are_beside(groups, &session.id, &rows),
-        are_new: false,
-    })
+    Ok(are_beside(groups, &session.id, &rows))
 }
 
-/// The same of each.
-fn find_sessions<S: Alter>(
+/// Whether no session that is opened or ended leaves a group beside those that are named that has
+/// a reservation.
+fn are_settled<S: Alter>(
     conn: &mut Connection<S>,
     alloc: Global,
     account: &AccountNumber,
     groups: &[SessionGroup],
     sessions: &[Session],
-) -> Result<NamedSessions, ReadFault>
+) -> Result<bool, ReadFault>
     requires idle { HasIdleBook (state S.Store conn.old) }
     ensures { Gathers
-        (λ trees x. AreFound sessions.now groups.now (rows_in trees account.now) x)
+        (λ trees x. IsTrue x → AreSettled sessions.now groups.now (rows_in trees account.now))
         (state S.Store conn.old) (state S.Store conn.new) result }
 {
-    let mut are_new = true;
     'sessions: for session in sessions {
-        let found = find_session(conn, alloc, account, groups, session)?;
-        if !is_settled(found) {
-            return Ok(unsettled());
+        let settled = is_settled(conn, alloc, account, groups, session)?;
+        if !settled {
+            return Ok(false);
         }
-        are_new = both_new(are_new, found);
     }
-    Ok(NamedSessions {
-        are_settled: true,
-        are_new,
-    })
+    Ok(true)
 }
 
-/// The place of a session's row.
-fn place_among(sessions: &[Session], id: &SessionId) -> Option<usize>
-    ensures { result ≡ position (is_session id.now) sessions.now }
-{
-    sessions.iter().position(|session| session.id == *id)
-}
-
-/// Whether a session is one of these.
-fn is_among(sessions: &[Session], id: &SessionId) -> bool
-    ensures { result ≡ is_some (session_in id.now sessions.now) }
-{
-    place_among(sessions, id).is_some()
-}
-
-/// Whether each group is of one of the sessions.
-fn are_among(sessions: &[Session], groups: &[SessionGroup]) -> bool
-    ensures { result ≡ are_among sessions.now groups.now }
-{
-    groups.iter().all(|row| is_among(sessions, &row.session))
-}
-
-/// What is found of sessions, and of whether each group is of one of them.
-fn found_with(found: NamedSessions, sessions: &[Session], groups: &[SessionGroup]) -> NamedSessions
-    ensures { result ≡ record {
-      are_settled = found.are_settled;
-      are_new = are_among sessions.now groups.now && found.are_new;
-    } }
-{
-    NamedSessions {
-        are_settled: found.are_settled,
-        are_new: both_new(are_among(sessions, groups), found),
-    }
-}
-
-/// Looks whether a change may be made: what is written reads as the change, and as nothing else;
-/// and whether nothing is there of its groups.
-fn find_change<S: Alter>(
-    conn: &mut Connection<S>,
-    alloc: Global,
-    books: &TariffShelf,
-    change: &Change,
-) -> Result<NamedSessions, ReadFault>
-    requires idle { HasIdleBook (state S.Store conn.old) }
-    ensures { Gathers (λ trees x.
-        IsChangeFound (shelf_names books.now) change.now (rows_in trees change.now.number) x)
-        (state S.Store conn.old) (state S.Store conn.new) result }
-{
-    let head = read_account(conn, &change.number)?;
-    if !may_be_written(books, &head, change) {
-        return Ok(unsettled());
-    }
-    let sessions = change.rows.sessions();
-    let groups = change.rows.groups();
-    let found = find_sessions(conn, alloc, &change.number, groups, sessions)?;
-    Ok(found_with(found, sessions, groups))
-}
-
-/// What is told of a change that may be made, or may not: whether its groups are new.
-fn told(found: NamedSessions) -> Result<bool, ReadFault>
-    ensures { IfOk result (λ new. IsTrue found.are_settled × (new ≡ found.are_new)) }
-{
-    if is_settled(found) {
-        Ok(found.are_new)
-    } else {
-        Err(ReadFault::Rules)
-    }
-}
-
-/// Tests a change; whether nothing is there of its groups. It is out of the rules where it may not
-/// be made.
-pub(crate) fn test_change<S: Alter>(
+/// Whether a change may be made: what is written reads as the change, and as nothing else.
+fn may_be_made<S: Alter>(
     conn: &mut Connection<S>,
     alloc: Global,
     books: &TariffShelf,
     change: &Change,
 ) -> Result<bool, ReadFault>
     requires idle { HasIdleBook (state S.Store conn.old) }
-    ensures { Gathers (λ trees new.
-        IsTested (shelf_names books.now) change.now (rows_in trees change.now.number) new)
+    ensures { Gathers (λ trees x. IsTrue x →
+        MayBeMade (shelf_names books.now) change.now (rows_in trees change.now.number))
         (state S.Store conn.old) (state S.Store conn.new) result }
 {
-    let found = find_change(conn, alloc, books, change)?;
-    told(found)
+    let head = read_account(conn, &change.number)?;
+    if !may_be_written(books, &head, change) {
+        return Ok(false);
+    }
+    let rows = &change.rows;
+    are_settled(conn, alloc, &change.number, rows.groups(), rows.sessions())
+}
+
+/// What is told of a change that may be made, or may not.
+fn told(may: bool) -> Result<(), ReadFault>
+    ensures { OnOk result (IsTrue may) }
+{
+    if may { Ok(()) } else { Err(ReadFault::Rules) }
+}
+
+/// Tests a change. It is out of the rules where it may not be made.
+pub(crate) fn test_change<S: Alter>(
+    conn: &mut Connection<S>,
+    alloc: Global,
+    books: &TariffShelf,
+    change: &Change,
+) -> Result<(), ReadFault>
+    requires idle { HasIdleBook (state S.Store conn.old) }
+    ensures { Gathers (λ trees _.
+        MayBeMade (shelf_names books.now) change.now (rows_in trees change.now.number))
+        (state S.Store conn.old) (state S.Store conn.new) result }
+{
+    let may = may_be_made(conn, alloc, books, change)?;
+    told(may)
 }

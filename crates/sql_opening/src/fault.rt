@@ -1,5 +1,3 @@
-//! Why a database isn't opened.
-
 ghost use Rattle.std.specs.Prelude.{◌≡◌};
 ghost use Rattle.sql_opening.specs.Faults.{number_of};
 

@@ -25,8 +25,6 @@ pub mod PutVoucher
 pub mod Ranges
 pub mod ReadAccount
 pub mod ReadAccounts
-pub mod ReadAllGrantBooks
-pub mod ReadAllHolds
 pub mod ReadAllowance
 pub mod ReadAllowances
 pub mod ReadAnswer
@@ -42,7 +40,6 @@ pub mod ReadHolds
 pub mod ReadLive
 pub mod ReadMeta
 pub mod ReadOpen
-pub mod ReadOpenGroups
 pub mod ReadReserved
 pub mod ReadSession
 pub mod ReadVoucher

@@ -1,9 +1,7 @@
 -- What the text of `read_session` answers.
 use Rattle.std.specs.Prelude.{codes}
-use Rattle.std.proofs.Common.{◌≡◌, inl, inr, ℕ, List, [], ◌∷◌, ◌++◌, map, drop, true, false}
-use Rattle.std.proofs.Common.{Option, Some, None, Result, Ok, Err, IfOk, refl, sym, ap, subst, ◌∙◌}
-use Rattle.std.specs.Prelude.{is_some, option_map}
-use Rattle.std.proofs.lemmas.Bool.{false≢true as not_both}
+use Rattle.std.proofs.Common.{◌≡◌, inl, inr, ℕ, List, [], ◌∷◌, ◌++◌, map, drop, false}
+use Rattle.std.proofs.Common.{Option, refl, sym, ap, subst, ◌∙◌}
 use Rattle.std.specs.List.{list_all}
 use Rattle.std.specs.Ordering.{eq_by_cmp}
 use Rattle.sqlite_value.specs.declared.value.Value.TheVariants.{Null}
@@ -14,29 +12,22 @@ use Rattle.sqlite_sql.specs.declared.ops.BinaryOp.TheVariants.{Compare}
 use Rattle.sqlite_sql.specs.declared.ops.CompareOp.TheVariants.{Eq}
 use Rattle.sqlite_sql.specs.Term.{Term, col, op2, holds as holds_in}
 use Rattle.sqlite_schema.specs.declared.command.Command.TheVariants.{Select}
-use Rattle.sqlite_schema.specs.declared.schema.Constraint.TheVariants.{ForeignKey}
-use Rattle.sqlite_schema.specs.Rules.{Keeps}
-use Rattle.sqlite_trees.specs.Tree.{Trees}
 use Rattle.sqlite_tied.specs.Compute.{everything}
 use Rattle.sqlite.specs.Given.{IsPlain}
 use Rattle.sqlite.specs.Listing.{understood, reads_listing}
 use Rattle.sqlite.specs.State.{State}
 use Rattle.sqlite.proofs.Callers.{command_of}
-use Rattle.sql_tables.specs.Keyed.{key_of, look}
-use Rattle.sql_tables.specs.Schema.{book_schema, grant_books, holds, session_groups, sessions}
+use Rattle.sql_tables.specs.Keyed.{key_of}
+use Rattle.sql_tables.specs.Schema.{sessions, book_schema}
 use Rattle.sql_tables.specs.Selects.{Selects, one_or_none}
 use Rattle.sql_tables.specs.Statements.{Answers}
 use Rattle.sql_tables.proofs.ByKey.{one_told}
-use Rattle.sql_tables.proofs.Found.{is_some_map}
-use Rattle.sql_tables.proofs.Parents.{group_of_book, group_of_hold, session_of_group}
 use Rattle.sql_tables.proofs.Selected.{select_from, told}
 use Rattle.sql_tables.proofs.Ties.{agree_ties_at}
 use Rattle.reserving.specs.declared.session.Session.{Session}
 use Rattle.sql_rows.proofs.PutSession.{session_told}
-use Rattle.sql_rows.specs.Values.{session_key, session_in, session_cells, group_key, group_in}
-use Rattle.sql_rows.specs.Values.{grant_book_in, hold_key, hold_in}
+use Rattle.sql_rows.specs.Values.{session_key, session_in, session_cells}
 use Rattle.sql_rows.specs.Content.{rows_in}
-use Rattle.sql_rows.specs.Lists.{HasNoGroups}
 
 abbrev pub read_session_text : List ℕ
 read_session_text = codes "SELECT session, last_number, touched, state FROM sessions "
@@ -97,49 +88,3 @@ module _ (a s : List ℕ) where
       (told read_session_text names 8 terms project [] text_is read_session_plain (session_key a s)
       (λ r. eq_by_cmp row_cmp (key_of places r) (session_key a s)) columns
       means (λ r. refl) old new rows got))
-
--- ---- where there is none
-
-module _ (a s : List ℕ) (trees : Trees) (keys : Keeps ForeignKey book_schema trees)
-    (none : (rows_in trees a).sessions s ≡ None) where
-  not_there : {A : Type 0} → is_some (look sessions trees (session_key a s)) ≡ true → A
-  not_there there = absurd (not_both (sym (ap is_some none)
-      ∙ is_some_map session_in (look sessions trees (session_key a s)) ∙ there))
-
-  no_group : {A : Type 0} (g : ℕ) →
-      is_some (look session_groups trees (group_key a s g)) ≡ true → A
-  no_group {A} g = at (look session_groups trees (group_key a s g)) refl
-    where
-      at : (o : Option Row) → look session_groups trees (group_key a s g) ≡ o →
-          is_some o ≡ true → A
-      at None e there = absurd (not_both there)
-      at (Some v) e there = not_there (session_of_group trees keys a s g v e)
-
-  -- what has the session's name in its key isn't there
-  no_groups : HasNoGroups (rows_in trees a) s
-  no_groups = record {
-    groups = λ g. group g (look session_groups trees (group_key a s g)) refl;
-    books = λ g. book g (look grant_books trees (group_key a s g)) refl;
-    holds = λ g n. held g n (look holds trees (hold_key a s g n)) refl;
-  }
-    where
-      group : (g : ℕ) (o : Option Row) → look session_groups trees (group_key a s g) ≡ o →
-          option_map group_in o ≡ None
-      group g None e = refl
-      group g (Some v) e = not_there (session_of_group trees keys a s g v e)
-
-      book : (g : ℕ) (o : Option Row) → look grant_books trees (group_key a s g) ≡ o →
-          option_map grant_book_in o ≡ None
-      book g None e = refl
-      book g (Some v) e = no_group g (group_of_book trees keys a s g v e)
-
-      held : (g n : ℕ) (o : Option Row) → look holds trees (hold_key a s g n) ≡ o →
-          option_map hold_in o ≡ None
-      held g n None e = refl
-      held g n (Some v) e = no_group g (group_of_hold trees keys a s g n v e)
-
-pub none_told : {E : Type 0} (a s : List ℕ) (trees : Trees) (r : Result (Option Session) E) →
-    IfOk r (λ o. o ≡ (rows_in trees a).sessions s) → Keeps ForeignKey book_schema trees →
-    IfOk r (λ o. o ≡ None → HasNoGroups (rows_in trees a) s)
-none_told a s trees (Ok o) found keys = λ none. no_groups a s trees keys (sym found ∙ none)
-none_told a s trees (Err e) found keys = tt

@@ -1,13 +1,8 @@
 -- What the tables hold, each row under its key.
 -- Source: profile.
-use Rattle.std.specs.Prelude.{ℕ, ◌&&◌, Bool, true, false, Option, Some, None, option_map}
+use Rattle.std.specs.Prelude.{ℕ, ◌&&◌, Bool, true, false, List, Option, Some, None, option_map}
 use Rattle.std.specs.Prelude.{is_some, length}
 use Rattle.std.specs.Prelude.{◌+◌, if◌then◌else◌, nat_eq}
-use Rattle.units.specs.Words.{BlockCount, GroupId, CycleNumber, BookNumber, CcRequestNumber}
-use Rattle.identifiers.specs.Words.{SessionName, AccountName, VoucherCode}
-use Rattle.buckets.specs.Words.{BucketNumber, BucketAmount}
-use Rattle.reserving.specs.Words.{ChargeNumber}
-use Rattle.sql_rows.specs.Words.{KeyKind, KeyName}
 use Rattle.sqlite_trees.specs.Tree.{Trees}
 use Rattle.buckets.specs.Row.{Row as Bucket}
 use Rattle.reserving.specs.declared.session.Session.{Session}
@@ -29,43 +24,43 @@ use Rattle.sql_rows.specs.Values.{allowance_in, covered_in}
 pub record Rows : Type 0 where
   pub head : Option Head
   -- by number, as their columns tell them: as buckets of money
-  pub buckets : BucketNumber → Option Bucket
+  pub buckets : ℕ → Option Bucket
   -- by rating group and cycle
-  pub counters : GroupId → CycleNumber → Option Counter
+  pub counters : ℕ → ℕ → Option Counter
   -- by name
-  pub sessions : SessionName → Option Session
+  pub sessions : List ℕ → Option Session
   -- by session and rating group
-  pub groups : SessionName → GroupId → Option Group
+  pub groups : List ℕ → ℕ → Option Group
   -- by session, rating group and bucket: micro-units
-  pub holds : SessionName → GroupId → BucketNumber → Option BucketAmount
+  pub holds : List ℕ → ℕ → ℕ → Option ℕ
   -- by kind, name and number
-  pub answers : KeyKind → KeyName → CcRequestNumber → Option Kept
+  pub answers : ℕ → List ℕ → ℕ → Option Kept
   -- by number, as their columns tell them: without covered blocks
-  pub charges : ChargeNumber → Option ChargeRow
+  pub charges : ℕ → Option ChargeRow
   -- the number of the book that a reservation goes by, by session and rating group
-  pub grant_books : SessionName → GroupId → Option BookNumber
+  pub grant_books : List ℕ → ℕ → Option ℕ
   -- whether a bucket counts blocks, by its number
-  pub allowances : BucketNumber → Bool
+  pub allowances : ℕ → Bool
   -- the blocks of a charge that allowances paid, by its number
-  pub covered : ChargeNumber → Option BlockCount
+  pub covered : ℕ → Option ℕ
 
 pub record Content : Type 0 where
   pub meta : Option Meta
   -- how many rows there are of what is kept once
   pub kept : ℕ
   -- by account
-  pub rows : AccountName → Rows
+  pub rows : List ℕ → Rows
   -- by code
-  pub vouchers : VoucherCode → Option Voucher
+  pub vouchers : List ℕ → Option Voucher
   -- the books after the first, by number
-  pub books : BookNumber → Option DatedBook
+  pub books : ℕ → Option DatedBook
   -- how many accounts there are
   pub count : ℕ
 
 -- ---- one row changes
 
 -- an account's rows change, and no other's
-abbrev pub with_rows : AccountName → (Rows → Rows) → Content → Content
+abbrev pub with_rows : List ℕ → (Rows → Rows) → Content → Content
 with_rows a change c =
     record c { rows = λ x. if same_name a x then change (c.rows x) else c.rows x }
 
@@ -79,7 +74,7 @@ abbrev pub with_head : Head → Rows → Rows
 with_head h r = record r { head = Some h }
 
 -- an account is opened, or its head changes
-abbrev pub with_account : AccountName → Head → Content → Content
+abbrev pub with_account : List ℕ → Head → Content → Content
 with_account a h c = record c {
   rows = λ x. if same_name a x then with_head h (c.rows x) else c.rows x;
   count = if is_some (c.rows a).head then c.count else c.count + 1;
@@ -96,24 +91,24 @@ with_counter k r = record r {
 abbrev pub with_session : Session → Rows → Rows
 with_session x r = record r { sessions = λ s. if same_name x.id s then Some x else r.sessions s }
 
-abbrev pub with_group : SessionName → GroupId → Group → Rows → Rows
+abbrev pub with_group : List ℕ → ℕ → Group → Rows → Rows
 with_group s g x r = record r {
   groups = λ t h. if same_name s t && nat_eq g h then Some x else r.groups t h;
 }
 
-abbrev pub with_hold : SessionName → GroupId → BucketNumber → BucketAmount → Rows → Rows
+abbrev pub with_hold : List ℕ → ℕ → ℕ → ℕ → Rows → Rows
 with_hold s g n amount r = record r {
   holds = λ t h m. if same_name s t && (nat_eq g h && nat_eq n m) then Some amount
       else r.holds t h m;
 }
 
 -- a group's holds are gone
-abbrev pub without_holds : SessionName → GroupId → Rows → Rows
+abbrev pub without_holds : List ℕ → ℕ → Rows → Rows
 without_holds s g r = record r {
   holds = λ t h m. if same_name s t && nat_eq g h then None else r.holds t h m;
 }
 
-abbrev pub with_answer : KeyKind → KeyName → CcRequestNumber → Kept → Rows → Rows
+abbrev pub with_answer : ℕ → List ℕ → ℕ → Kept → Rows → Rows
 with_answer kind name number k r = record r {
   answers = λ l t m.
       if nat_eq kind l && (same_name name t && nat_eq number m) then Some k else r.answers l t m;
@@ -123,23 +118,23 @@ abbrev pub with_charge : ChargeRow → Rows → Rows
 with_charge x r = record r { charges = λ n. if nat_eq x.number n then Some x else r.charges n }
 
 -- the book of a reservation
-abbrev pub with_grant_book : SessionName → GroupId → BookNumber → Rows → Rows
+abbrev pub with_grant_book : List ℕ → ℕ → ℕ → Rows → Rows
 with_grant_book s g n r = record r {
   grant_books = λ t h. if same_name s t && nat_eq g h then Some n else r.grant_books t h;
 }
 
-abbrev pub without_grant_book : SessionName → GroupId → Rows → Rows
+abbrev pub without_grant_book : List ℕ → ℕ → Rows → Rows
 without_grant_book s g r = record r {
   grant_books = λ t h. if same_name s t && nat_eq g h then None else r.grant_books t h;
 }
 
 -- the bucket counts blocks
-abbrev pub with_allowance : BucketNumber → Rows → Rows
+abbrev pub with_allowance : ℕ → Rows → Rows
 with_allowance n r =
     record r { allowances = λ m. if nat_eq n m then true else r.allowances m }
 
 -- the bucket counts money
-abbrev pub without_allowance : BucketNumber → Rows → Rows
+abbrev pub without_allowance : ℕ → Rows → Rows
 without_allowance n r =
     record r { allowances = λ m. if nat_eq n m then false else r.allowances m }
 
@@ -148,19 +143,19 @@ with_covered x r =
     record r { covered = λ n. if nat_eq x.number n then Some x.blocks else r.covered n }
 
 -- no block of the charge is covered
-abbrev pub without_covered : ChargeNumber → Rows → Rows
+abbrev pub without_covered : ℕ → Rows → Rows
 without_covered n r = record r { covered = λ m. if nat_eq n m then None else r.covered m }
 
-abbrev pub with_book : BookNumber → DatedBook → Content → Content
+abbrev pub with_book : ℕ → DatedBook → Content → Content
 with_book n x c = record c { books = λ m. if nat_eq n m then Some x else c.books m }
 
-abbrev pub with_voucher : VoucherCode → Voucher → Content → Content
+abbrev pub with_voucher : List ℕ → Voucher → Content → Content
 with_voucher code x c =
     record c { vouchers = λ k. if same_name code k then Some x else c.vouchers k }
 
 -- ---- the tables
 
-abbrev pub rows_in : Trees → AccountName → Rows
+abbrev pub rows_in : Trees → List ℕ → Rows
 rows_in trees a = record {
   head = option_map head_in (look accounts trees (head_key a));
   buckets = λ n. option_map bucket_in (look buckets trees (bucket_key a n));

@@ -5,4 +5,3 @@ pub mod Makes
 pub mod Ruled
 pub mod Texts
 pub mod Values
-pub mod Words

@@ -2,22 +2,17 @@
 -- none.
 -- Source: profile.
 use Rattle.std.specs.Prelude.{◌≡◌, ℕ, ◌&&◌, ◌||◌, nat_eq, nat_lt, nat_le, ◌<◌, Bool, not, List, []}
-use Rattle.std.specs.Prelude.{◌∷◌, ◌++◌, length, Option, Some, None, option_map, is_some, false}
+use Rattle.std.specs.Prelude.{◌∷◌, length, Option, Some, None, option_map, is_some, false}
 use Rattle.std.specs.Prelude.{if◌then◌else◌, IsTrue}
-use Rattle.std.specs.Ordering.{nat_cmp, is_lt, ordering_then}
+use Rattle.std.specs.Ordering.{nat_cmp, is_lt}
 use Rattle.std.specs.Cmp.Lexicographic.{slice_cmp}
 use Rattle.std.specs.List.{find}
-use Rattle.units.specs.Words.{GroupId, CycleNumber, BookNumber}
-use Rattle.identifiers.specs.Words.{SessionName, AccountName}
-use Rattle.buckets.specs.Words.{BucketNumber, BucketAmount}
-use Rattle.reserving.specs.Words.{ChargeNumber}
 use Rattle.sqlite_value.specs.declared.value.Value.TheVariants.{Text}
 use Rattle.sqlite_value.specs.Order.{Row as Values}
 use Rattle.buckets.specs.Row.{Row as Bucket}
 use Rattle.reserving.specs.declared.session.Session.{Session}
 use Rattle.reserving.specs.declared.session.Counter.{Counter}
 use Rattle.reserving.specs.declared.charge.ChargeRow.{ChargeRow}
-use Rattle.reserving.specs.Left.{is_open_row}
 use Rattle.reserving.specs.Rows.{AreApart}
 use Rattle.sql_tables.specs.Keyed.{same_name}
 use Rattle.sql_tables.specs.Selects.{only}
@@ -52,20 +47,18 @@ Ascends before (x ∷ []) = Unit {0}
 Ascends before (x ∷ y ∷ zs) = IsTrue (before x y) × Ascends before (y ∷ zs)
 
 -- names stand in the order of their bytes
-abbrev pub name_before : AccountName → AccountName → Bool
+abbrev pub name_before : List ℕ → List ℕ → Bool
 name_before x y = is_lt (slice_cmp nat_cmp x y)
 
 -- all accounts, each once
-pub record AreAccounts (content : Content) (xs : List AccountName) : Type 0 where
-  pub found : (a : AccountName) →
-      is_some (find (λ x. same_name x a) xs) ≡ is_some (content.rows a).head
+pub record AreAccounts (content : Content) (xs : List (List ℕ)) : Type 0 where
+  pub found : (a : List ℕ) → is_some (find (λ x. same_name x a) xs) ≡ is_some (content.rows a).head
   pub count : length xs ≡ content.count
   pub apart : AreApart (λ x y. same_name y x) xs
 
 -- the buckets that pass the test: each by its number, and no other
 abbrev pub AreBuckets : (Bucket → Bool) → Rows → List Bucket → Type 0
-AreBuckets test rows bs = (n : BucketNumber) →
-    find (λ b. nat_eq b.number n) bs ≡ only test (rows.buckets n)
+AreBuckets test rows bs = (n : ℕ) → find (λ b. nat_eq b.number n) bs ≡ only test (rows.buckets n)
 
 -- one list of two: under a number that one of them hasn't it has what the other has
 abbrev pub AreJoined : {X : Type 0} → (X → ℕ) → List X → List X → List X → Type 0
@@ -77,61 +70,31 @@ AreJoined number xs ys zs = (n : ℕ) →
 
 -- the sessions that pass the test
 abbrev pub AreSessions : (Session → Bool) → Rows → List Session → Type 0
-AreSessions test rows xs = (s : SessionName) →
+AreSessions test rows xs = (s : List ℕ) →
     find (λ x. same_name x.id s) xs ≡ only test (rows.sessions s)
 
 -- what a session has of a rating group
 pub record GroupAt : Type 0 where
-  pub group : GroupId
-  pub row : Group
-
--- of a session: nothing of rating groups, no book of a reservation, and nothing is held
-pub record HasNoGroups (rows : Rows) (s : List ℕ) : Type 0 where
-  pub groups : (g : ℕ) → rows.groups s g ≡ None
-  pub books : (g : ℕ) → rows.grant_books s g ≡ None
-  pub holds : (g n : ℕ) → rows.holds s g n ≡ None
-
-abbrev pub group_at_before : GroupAt → GroupAt → Bool
-group_at_before x y = nat_lt x.group y.group
-
--- what an open session has of a rating group
-pub record OpenGroupAt : Type 0 where
-  pub session : List ℕ
   pub group : ℕ
   pub row : Group
 
--- the columns after the session's, and then the session
-abbrev pub open_group_cells : OpenGroupAt → Values
-open_group_cells x = group_cells x.group x.row ++ Text x.session ∷ []
-
--- by the session, and within one by the rating group
-abbrev pub open_group_before : OpenGroupAt → OpenGroupAt → Bool
-open_group_before x y =
-    is_lt (ordering_then (slice_cmp nat_cmp x.session y.session) (nat_cmp x.group y.group))
-
-abbrev pub is_group_of : List ℕ → ℕ → OpenGroupAt → Bool
-is_group_of s g x = same_name x.session s && nat_eq x.group g
-
--- all that open sessions have of rating groups
-abbrev pub AreOpenGroups : Rows → List OpenGroupAt → Type 0
-AreOpenGroups rows xs = (s : List ℕ) (g : ℕ) →
-    option_map (λ (x : OpenGroupAt). x.row) (find (is_group_of s g) xs)
-    ≡ (if is_open_row (rows.sessions s) then rows.groups s g else None)
+abbrev pub group_at_before : GroupAt → GroupAt → Bool
+group_at_before x y = nat_lt x.group y.group
 
 -- the columns after the session's
 abbrev pub group_at_cells : GroupAt → Values
 group_at_cells x = group_cells x.group x.row
 
 -- all that the session has
-abbrev pub AreGroups : Rows → SessionName → List GroupAt → Type 0
-AreGroups rows s xs = (g : GroupId) →
+abbrev pub AreGroups : Rows → List ℕ → List GroupAt → Type 0
+AreGroups rows s xs = (g : ℕ) →
     option_map (λ (x : GroupAt). x.row) (find (λ x. nat_eq x.group g) xs) ≡ rows.groups s g
 
 -- what is held for a session's rating group of a bucket, in micro-units
 pub record HoldAt : Type 0 where
-  pub group : GroupId
-  pub bucket : BucketNumber
-  pub amount : BucketAmount
+  pub group : ℕ
+  pub bucket : ℕ
+  pub amount : ℕ
 
 -- by the rating group, and within one by the bucket
 abbrev pub hold_before : HoldAt → HoldAt → Bool
@@ -142,75 +105,28 @@ abbrev pub hold_cells : HoldAt → Values
 hold_cells h = nat h.group ∷ nat h.bucket ∷ nat h.amount ∷ []
 
 -- all that is held for the session
-abbrev pub AreHolds : Rows → SessionName → List HoldAt → Type 0
-AreHolds rows s xs = (g : GroupId) (n : BucketNumber) →
+abbrev pub AreHolds : Rows → List ℕ → List HoldAt → Type 0
+AreHolds rows s xs = (g n : ℕ) →
     option_map (λ (x : HoldAt). x.amount) (find (λ x. nat_eq x.group g && nat_eq x.bucket n) xs)
     ≡ rows.holds s g n
 
--- what is held for a session of an account
-pub record SessionHoldAt : Type 0 where
-  pub session : List ℕ
-  pub group : ℕ
-  pub bucket : ℕ
-  pub amount : ℕ
-
--- the columns after the session's, and then the session
-abbrev pub session_hold_cells : SessionHoldAt → Values
-session_hold_cells h =
-    nat h.group ∷ nat h.bucket ∷ nat h.amount ∷ Text h.session ∷ []
-
--- by the session, within one by the rating group, and within that by the bucket
-abbrev pub session_hold_before : SessionHoldAt → SessionHoldAt → Bool
-session_hold_before x y =
-    is_lt (ordering_then (ordering_then (slice_cmp nat_cmp x.session y.session)
-    (nat_cmp x.group y.group)) (nat_cmp x.bucket y.bucket))
-
-abbrev pub is_hold_of : List ℕ → ℕ → ℕ → SessionHoldAt → Bool
-is_hold_of s g n x = same_name x.session s && (nat_eq x.group g && nat_eq x.bucket n)
-
--- all that is held for sessions of the account
-abbrev pub AreAllHolds : Rows → List SessionHoldAt → Type 0
-AreAllHolds rows xs = (s : List ℕ) (g n : ℕ) →
-    option_map (λ (x : SessionHoldAt). x.amount) (find (is_hold_of s g n) xs) ≡ rows.holds s g n
-
--- the number of the book of a reservation of one of the account's sessions
-pub record SessionBookAt : Type 0 where
-  pub session : List ℕ
-  pub group : ℕ
-  pub book : ℕ
-
-abbrev pub session_book_cells : SessionBookAt → Values
-session_book_cells x = nat x.group ∷ nat x.book ∷ Text x.session ∷ []
-
-abbrev pub session_book_before : SessionBookAt → SessionBookAt → Bool
-session_book_before x y =
-    is_lt (ordering_then (slice_cmp nat_cmp x.session y.session) (nat_cmp x.group y.group))
-
-abbrev pub is_book_of : List ℕ → ℕ → SessionBookAt → Bool
-is_book_of s g x = same_name x.session s && nat_eq x.group g
-
--- those of all reservations of the account
-abbrev pub AreAllGrantBooks : Rows → List SessionBookAt → Type 0
-AreAllGrantBooks rows xs = (s : List ℕ) (g : ℕ) →
-    option_map (λ (x : SessionBookAt). x.book) (find (is_book_of s g) xs) ≡ rows.grant_books s g
-
 -- the number of the book of a session's reservation in a rating group
 pub record GrantBookAt : Type 0 where
-  pub group : GroupId
-  pub book : BookNumber
+  pub group : ℕ
+  pub book : ℕ
 
 abbrev pub grant_book_cells : GrantBookAt → Values
 grant_book_cells x = nat x.group ∷ nat x.book ∷ []
 
 -- those of all reservations of the session
-abbrev pub AreGrantBooks : Rows → SessionName → List GrantBookAt → Type 0
-AreGrantBooks rows s xs = (g : GroupId) →
+abbrev pub AreGrantBooks : Rows → List ℕ → List GrantBookAt → Type 0
+AreGrantBooks rows s xs = (g : ℕ) →
     option_map (λ (x : GrantBookAt). x.book) (find (λ x. nat_eq x.group g) xs)
     ≡ rows.grant_books s g
 
 -- a book after the first under its number
 pub record BookAt : Type 0 where
-  pub number : BookNumber
+  pub number : ℕ
   pub row : DatedBook
 
 abbrev pub book_at_cells : BookAt → Values
@@ -218,18 +134,18 @@ book_at_cells x = book_values x.number x.row
 
 -- all books after the first
 abbrev pub AreBooks : Content → List BookAt → Type 0
-AreBooks content xs = (n : BookNumber) →
+AreBooks content xs = (n : ℕ) →
     option_map (λ (x : BookAt). x.row) (find (λ x. nat_eq x.number n) xs) ≡ content.books n
 
 -- the numbers of all buckets that count blocks
-abbrev pub AreAllowances : Rows → List BucketNumber → Type 0
-AreAllowances rows xs = (n : BucketNumber) → is_some (find (λ x. nat_eq x n) xs) ≡ rows.allowances n
+abbrev pub AreAllowances : Rows → List ℕ → Type 0
+AreAllowances rows xs = (n : ℕ) → is_some (find (λ x. nat_eq x n) xs) ≡ rows.allowances n
 
 -- a rating group of a session that has a reservation
 pub record ReservedAt : Type 0 where
-  pub account : AccountName
-  pub session : SessionName
-  pub group : GroupId
+  pub account : List ℕ
+  pub session : List ℕ
+  pub group : ℕ
   pub reserved : Bool
 
 abbrev pub reserved_cells : ReservedAt → Values
@@ -242,24 +158,23 @@ has_reservation (Some x) = is_some x.periods
 
 -- the rating groups of all sessions that have a reservation
 abbrev pub AreReserved : Content → List ReservedAt → Type 0
-AreReserved content xs = (a : AccountName) (s : SessionName) (g : GroupId) →
+AreReserved content xs = (a s : List ℕ) (g : ℕ) →
     is_some (find (λ x. same_name x.account a && (same_name x.session s && nat_eq x.group g)) xs)
     ≡ has_reservation ((content.rows a).groups s g)
 
 -- the covered blocks of the charges beyond a number, and up to another
-abbrev pub AreCovered : ChargeNumber → ChargeNumber → Rows → List CoveredRow → Type 0
-AreCovered after last rows xs = (n : ChargeNumber) →
+abbrev pub AreCovered : ℕ → ℕ → Rows → List CoveredRow → Type 0
+AreCovered after last rows xs = (n : ℕ) →
     option_map (λ (x : CoveredRow). x.blocks) (find (λ x. nat_eq x.number n) xs)
     ≡ (if nat_lt after n && nat_le n last then rows.covered n else None)
 
 -- whether a charge lies beyond a number, and up to another
-abbrev pub is_within : ChargeNumber → ChargeNumber → ChargeRow → Bool
+abbrev pub is_within : ℕ → ℕ → ChargeRow → Bool
 is_within after last x = nat_lt after x.number && nat_le x.number last
 
 -- the charges of the account that pass the test
 abbrev pub AreCharges : (ChargeRow → Bool) → Rows → List ChargeRow → Type 0
-AreCharges test rows xs = (n : ChargeNumber) →
-    find (λ x. nat_eq x.number n) xs ≡ only test (rows.charges n)
+AreCharges test rows xs = (n : ℕ) → find (λ x. nat_eq x.number n) xs ≡ only test (rows.charges n)
 
 abbrev pub NumbersRise : List ChargeRow → Type 0
 NumbersRise xs = Rises (λ x. x.number) xs
@@ -268,7 +183,7 @@ abbrev pub BucketsRise : List Bucket → Type 0
 BucketsRise bs = Rises (λ b. b.number) bs
 
 -- the counters of one cycle
-abbrev pub AreCountersIn : CycleNumber → Rows → List Counter → Type 0
-AreCountersIn cycle rows xs = (g : GroupId) (c : CycleNumber) →
+abbrev pub AreCountersIn : ℕ → Rows → List Counter → Type 0
+AreCountersIn cycle rows xs = (g c : ℕ) →
     find (λ x. nat_eq x.group g && nat_eq x.cycle c) xs
     ≡ (if nat_eq c cycle then rows.counters g c else None)

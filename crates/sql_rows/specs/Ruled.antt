@@ -1,10 +1,8 @@
 -- Rows in the rules of who reads them: the one that is kept once, those of books, and those of
 -- reservations.
 -- Source: profile.
-use Rattle.std.specs.Prelude.{◌≡◌, ◌<◌, ◌≤◌, ◌^◌, IsTrue, Option, Some, None}
+use Rattle.std.specs.Prelude.{◌≡◌, ℕ, ◌<◌, ◌≤◌, ◌^◌, List, IsTrue, Option, Some, None}
 use Rattle.std.specs.Str.{IsUtf8}
-use Rattle.units.specs.Words.{GroupId, BookNumber}
-use Rattle.identifiers.specs.Words.{SessionName, AccountName}
 use Rattle.identifiers.specs.Texts.{is_account_number, is_session_id}
 use Rattle.sql_rows.specs.Content.{Content}
 use Rattle.sql_rows.specs.Lists.{BookAt, ReservedAt, has_reservation}
@@ -30,8 +28,8 @@ pub record IsRuledBook (x : BookAt) : Type 0 where
   pub content : IsUtf8 x.row.content
 
 -- each book that is there is in the rules
-abbrev pub AreRuledBooks : (BookNumber → Option DatedBook) → Type 0
-AreRuledBooks books = (n : BookNumber) (x : DatedBook) → books n ≡ Some x
+abbrev pub AreRuledBooks : (ℕ → Option DatedBook) → Type 0
+AreRuledBooks books = (n : ℕ) (x : DatedBook) → books n ≡ Some x
     → IsRuledBook (record { number = n; row = x })
 
 -- a reservation is told: its account's number and its session's name are such texts, and its rating
@@ -44,6 +42,5 @@ pub record IsRuledReserved (x : ReservedAt) : Type 0 where
 
 -- each reservation is in the rules
 abbrev pub AreRuledReserved : Content → Type 0
-AreRuledReserved c = (a : AccountName) (s : SessionName) (g : GroupId) →
-    IsTrue (has_reservation ((c.rows a).groups s g))
+AreRuledReserved c = (a s : List ℕ) (g : ℕ) → IsTrue (has_reservation ((c.rows a).groups s g))
     → IsTrue (is_account_number a) × IsTrue (is_session_id s) × (g < 2 ^ 32)

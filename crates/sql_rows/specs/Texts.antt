@@ -1,9 +1,8 @@
 -- Rows as they are read, as those of the content.
 -- Source: profile.
-use Rattle.std.specs.Prelude.{◌≡◌, Bool, true, map, Option, is_some, option_map, Result, Vec}
+use Rattle.std.specs.Prelude.{◌≡◌, ℕ, Bool, true, List, map, Option, is_some, option_map, Result, Vec}
 use Rattle.std.specs.Global.{Global}
 use Rattle.std.specs.String.{string_bytes}
-use Rattle.identifiers.specs.Words.{AccountName}
 use Rattle.sqlite_value.specs.Order.{Row as Values, column}
 use Rattle.sqlite_value.specs.declared.value.Value.TheVariants.{Text}
 use Rattle.sqlite.specs.State.{State}
@@ -20,15 +19,11 @@ use Rattle.sql_rows.specs.declared.group_rows.PeriodNames.{PeriodNames as ReadNa
 use Rattle.sql_rows.specs.declared.group_rows.PutNames.{PutNames}
 use Rattle.sql_rows.specs.declared.hold_rows.HeldColumns.{HeldColumns}
 use Rattle.sql_rows.specs.declared.meta_rows.Meta.{Meta as MetaRow}
-use Rattle.sql_rows.specs.declared.open_group_rows.OpenGroup.{OpenGroup}
 use Rattle.sql_rows.specs.declared.reserved_rows.ReservedColumns.{ReservedColumns}
-use Rattle.sql_rows.specs.declared.session_book_rows.SessionBook.{SessionBook}
-use Rattle.sql_rows.specs.declared.session_hold_rows.SessionHold.{SessionHold}
 use Rattle.sql_rows.specs.declared.voucher_rows.VoucherColumns.{VoucherColumns}
 use Rattle.sql_tables.specs.Statements.{Reads}
 use Rattle.sql_rows.specs.Content.{rows_in}
-use Rattle.sql_rows.specs.Lists.{AreBuckets, BookAt, GrantBookAt, GroupAt, HoldAt, OpenGroupAt}
-use Rattle.sql_rows.specs.Lists.{ReservedAt, SessionBookAt, SessionHoldAt}
+use Rattle.sql_rows.specs.Lists.{AreBuckets, BookAt, GrantBookAt, GroupAt, HoldAt, ReservedAt}
 use Rattle.sql_rows.specs.Values.{CoveredRow, Kept, Meta, PeriodNames, Voucher}
 
 abbrev pub kept_of : KeptTexts → Kept
@@ -38,7 +33,7 @@ abbrev pub meta_of : MetaRow → Meta
 meta_of m = record { version = m.version; book = string_bytes m.book; last = m.last }
 
 -- a selection tells the buckets of the account that pass the test
-abbrev pub ReadsBuckets : {E : Type 0} → (Bucket → Bool) → AccountName → State → State →
+abbrev pub ReadsBuckets : {E : Type 0} → (Bucket → Bool) → List ℕ → State → State →
     Result (Vec BucketColumns Global) E → Type 0
 ReadsBuckets test account =
     Reads (λ trees bs. AreBuckets test (rows_in trees account) (map bucket_row bs.items))
@@ -57,28 +52,6 @@ abbrev pub group_at : GroupColumns → GroupAt
 group_at g = record {
   group = g.group;
   row = record { used = g.used; periods = option_map names_of g.periods };
-}
-
-abbrev pub open_group_at : OpenGroup → OpenGroupAt
-open_group_at x = record {
-  session = x.session;
-  group = x.columns.group;
-  row = (group_at x.columns).row;
-}
-
-abbrev pub session_hold_at : SessionHold → SessionHoldAt
-session_hold_at x = record {
-  session = x.session;
-  group = x.columns.group;
-  bucket = x.columns.bucket;
-  amount = x.columns.amount;
-}
-
-abbrev pub session_book_at : SessionBook → SessionBookAt
-session_book_at x = record {
-  session = x.session;
-  group = x.columns.group;
-  book = x.columns.book;
 }
 
 abbrev pub hold_at : HeldColumns → HoldAt

@@ -3,13 +3,6 @@
 use Rattle.std.specs.Prelude.{ℕ, zero, suc, pos, negsuc, Bool, true, false, List, [], ◌∷◌, Option}
 use Rattle.std.specs.Prelude.{Some, None}
 use Rattle.std.specs.Prelude.{is_some, if◌then◌else◌, ◌==◌}
-use Rattle.units.specs.Words.{Moment, DayCount, Micros, UnitCount, BlockCount, GroupId, CycleNumber}
-use Rattle.units.specs.Words.{BookNumber, CcRequestNumber}
-use Rattle.identifiers.specs.Words.{SessionName, AccountName, VoucherCode}
-use Rattle.buckets.specs.Words.{BucketNumber, BucketAmount}
-use Rattle.reserving.specs.Words.{ChargeNumber}
-use Rattle.sql_tables.specs.Words.{TablesVersion}
-use Rattle.sql_rows.specs.Words.{KeyKind, KeyName}
 use Rattle.sqlite_value.specs.declared.value.Value.{Value}
 use Rattle.sqlite_value.specs.declared.value.Value.TheVariants.{Null, Int, Real, Text, Blob}
 use Rattle.sqlite_value.specs.Order.{Row as Values, column}
@@ -76,11 +69,11 @@ state_in v = if nat_in v == 1 then Open else if nat_in v == 2 then Ended else Ne
 
 -- what is kept once
 pub record Meta : Type 0 where
-  pub version : TablesVersion
+  pub version : ℕ
   -- the text of the tariff book
   pub book : List ℕ
   -- the moment of the last accepted command
-  pub last : Moment
+  pub last : ℕ
 
 abbrev pub meta_key : Values
 meta_key = nat 1 ∷ []
@@ -101,14 +94,14 @@ meta_in v = record {
 
 -- ---- `accounts`
 
-abbrev pub head_key : AccountName → Values
+abbrev pub head_key : List ℕ → Values
 head_key a = Text a ∷ []
 
 -- the columns after the key
 abbrev pub head_cells : Head → Values
 head_cells h = nat (flag_number h.barred) ∷ nat h.as_of ∷ nat h.next_bucket ∷ nat h.next_charge ∷ []
 
-abbrev pub head_values : AccountName → Head → Values
+abbrev pub head_values : List ℕ → Head → Values
 head_values a h = Text a ∷ head_cells h
 
 abbrev pub head_in : Values → Head
@@ -121,7 +114,7 @@ head_in v = record {
 
 -- ---- `buckets`
 
-abbrev pub bucket_key : AccountName → BucketNumber → Values
+abbrev pub bucket_key : List ℕ → ℕ → Values
 bucket_key a n = Text a ∷ nat n ∷ []
 
 -- the columns after the account's; whether they count money or blocks stands in
@@ -143,7 +136,7 @@ bucket_cells b = cells_of b.kind (money_cells b)
 abbrev pub plain_bucket : Bucket → Bucket
 plain_bucket b = record b { kind = Money }
 
-abbrev pub bucket_values : AccountName → Bucket → Values
+abbrev pub bucket_values : List ℕ → Bucket → Values
 bucket_values a b = Text a ∷ money_cells b
 
 abbrev pub bucket_in : Values → Bucket
@@ -162,13 +155,13 @@ bucket_in v = record {
 
 -- ---- `counters`
 
-abbrev pub counter_key : AccountName → GroupId → CycleNumber → Values
+abbrev pub counter_key : List ℕ → ℕ → ℕ → Values
 counter_key a g c = Text a ∷ nat g ∷ nat c ∷ []
 
 abbrev pub counter_cells : Counter → Values
 counter_cells r = nat r.group ∷ nat r.cycle ∷ nat r.blocks ∷ []
 
-abbrev pub counter_values : AccountName → Counter → Values
+abbrev pub counter_values : List ℕ → Counter → Values
 counter_values a r = Text a ∷ counter_cells r
 
 abbrev pub counter_in : Values → Counter
@@ -180,13 +173,13 @@ counter_in v = record {
 
 -- ---- `sessions`
 
-abbrev pub session_key : AccountName → SessionName → Values
+abbrev pub session_key : List ℕ → List ℕ → Values
 session_key a s = Text a ∷ Text s ∷ []
 
 abbrev pub session_cells : Session → Values
 session_cells r = Text r.id ∷ nat r.last_number ∷ nat r.touched ∷ nat (state_number r.state) ∷ []
 
-abbrev pub session_values : AccountName → Session → Values
+abbrev pub session_values : List ℕ → Session → Values
 session_values a r = Text a ∷ session_cells r
 
 abbrev pub session_in : Values → Session
@@ -206,19 +199,19 @@ pub record PeriodNames : Type 0 where
 
 -- what a session has of a rating group; what its reservation holds stands in `holds`
 pub record Group : Type 0 where
-  pub used : UnitCount
+  pub used : ℕ
   pub periods : Option PeriodNames
 
-abbrev pub group_key : AccountName → SessionName → GroupId → Values
+abbrev pub group_key : List ℕ → List ℕ → ℕ → Values
 group_key a s g = Text a ∷ Text s ∷ nat g ∷ []
 
 -- the columns after the session's
-abbrev pub group_cells : GroupId → Group → Values
+abbrev pub group_cells : ℕ → Group → Values
 group_cells g r =
     nat g ∷ nat r.used ∷ nat (flag_number (is_some r.periods))
     ∷ or_null (λ p. Text p.before) r.periods ∷ or_null (λ p. Text p.after) r.periods ∷ []
 
-abbrev pub group_values : AccountName → SessionName → GroupId → Group → Values
+abbrev pub group_values : List ℕ → List ℕ → ℕ → Group → Values
 group_values a s g r = Text a ∷ Text s ∷ group_cells g r
 
 abbrev pub group_in : Values → Group
@@ -231,13 +224,13 @@ group_in v = record {
 
 -- ---- `holds`
 
-abbrev pub hold_key : AccountName → SessionName → GroupId → BucketNumber → Values
+abbrev pub hold_key : List ℕ → List ℕ → ℕ → ℕ → Values
 hold_key a s g n = Text a ∷ Text s ∷ nat g ∷ nat n ∷ []
 
-abbrev pub hold_values : AccountName → SessionName → GroupId → BucketNumber → BucketAmount → Values
+abbrev pub hold_values : List ℕ → List ℕ → ℕ → ℕ → ℕ → Values
 hold_values a s g n amount = Text a ∷ Text s ∷ nat g ∷ nat n ∷ nat amount ∷ []
 
-abbrev pub hold_in : Values → BucketAmount
+abbrev pub hold_in : Values → ℕ
 hold_in v = nat_in (column v 4)
 
 -- ---- `answers`
@@ -248,20 +241,20 @@ pub record Kept : Type 0 where
   pub answer : List ℕ
 
 -- the two kinds of names
-abbrev pub request_kind : KeyKind
+abbrev pub request_kind : ℕ
 request_kind = 1
 
-abbrev pub reference_kind : KeyKind
+abbrev pub reference_kind : ℕ
 reference_kind = 2
 
-abbrev pub answer_key : AccountName → KeyKind → KeyName → CcRequestNumber → Values
+abbrev pub answer_key : List ℕ → ℕ → List ℕ → ℕ → Values
 answer_key a kind name number = Text a ∷ nat kind ∷ Text name ∷ nat number ∷ []
 
 -- the columns after the key
 abbrev pub answer_cells : Kept → Values
 answer_cells k = Text k.content ∷ Text k.answer ∷ []
 
-abbrev pub answer_values : AccountName → KeyKind → KeyName → CcRequestNumber → Kept → Values
+abbrev pub answer_values : List ℕ → ℕ → List ℕ → ℕ → Kept → Values
 answer_values a kind name number k = Text a ∷ nat kind ∷ Text name ∷ nat number ∷ answer_cells k
 
 abbrev pub answer_in : Values → Kept
@@ -270,13 +263,13 @@ answer_in v = record { content = text_in (column v 4); answer = text_in (column 
 -- ---- `vouchers`
 
 pub record Voucher : Type 0 where
-  pub amount : Micros
-  pub days : Option DayCount
-  pub scope : Option GroupId
+  pub amount : ℕ
+  pub days : Option ℕ
+  pub scope : Option ℕ
   -- the account that redeemed it
-  pub account : Option AccountName
+  pub account : Option (List ℕ)
 
-abbrev pub voucher_key : VoucherCode → Values
+abbrev pub voucher_key : List ℕ → Values
 voucher_key code = Text code ∷ []
 
 -- the columns after the key
@@ -284,7 +277,7 @@ abbrev pub voucher_cells : Voucher → Values
 voucher_cells r =
     nat r.amount ∷ or_null nat r.days ∷ or_null nat r.scope ∷ or_null Text r.account ∷ []
 
-abbrev pub voucher_values : VoucherCode → Voucher → Values
+abbrev pub voucher_values : List ℕ → Voucher → Values
 voucher_values code r = Text code ∷ voucher_cells r
 
 abbrev pub voucher_in : Values → Voucher
@@ -297,7 +290,7 @@ voucher_in v = record {
 
 -- ---- `charges`
 
-abbrev pub charge_key : AccountName → ChargeNumber → Values
+abbrev pub charge_key : List ℕ → ℕ → Values
 charge_key a n = Text a ∷ nat n ∷ []
 
 -- the columns after the account's; its covered blocks stand in `covered`
@@ -318,7 +311,7 @@ charge_cells r = cells_beside r.covered.0 (priced_cells r)
 abbrev pub plain_charge : ChargeRow → ChargeRow
 plain_charge x = record x { covered = record { 0 = 0 } }
 
-abbrev pub charge_values : AccountName → ChargeRow → Values
+abbrev pub charge_values : List ℕ → ChargeRow → Values
 charge_values a r = Text a ∷ priced_cells r
 
 abbrev pub charge_in : Values → ChargeRow
@@ -338,17 +331,17 @@ charge_in v = record {
 
 -- a tariff book after the first, from its moment on
 pub record DatedBook : Type 0 where
-  pub starts : Moment
+  pub starts : ℕ
   pub content : List ℕ
 
-abbrev pub book_key : BookNumber → Values
+abbrev pub book_key : ℕ → Values
 book_key n = nat n ∷ []
 
 -- the columns after the key
 abbrev pub book_cells : DatedBook → Values
 book_cells x = nat x.starts ∷ Text x.content ∷ []
 
-abbrev pub book_values : BookNumber → DatedBook → Values
+abbrev pub book_values : ℕ → DatedBook → Values
 book_values n x = nat n ∷ book_cells x
 
 abbrev pub book_in : Values → DatedBook
@@ -356,10 +349,10 @@ book_in v = record { starts = nat_in (column v 1); content = text_in (column v 2
 
 -- ---- `grant_books`, under the keys of `session_groups`
 
-abbrev pub grant_book_values : AccountName → SessionName → GroupId → BookNumber → Values
+abbrev pub grant_book_values : List ℕ → List ℕ → ℕ → ℕ → Values
 grant_book_values a s g n = Text a ∷ Text s ∷ nat g ∷ nat n ∷ []
 
-abbrev pub grant_book_in : Values → BookNumber
+abbrev pub grant_book_in : Values → ℕ
 grant_book_in v = nat_in (column v 3)
 
 -- ---- `allowance_buckets`, under the keys of `buckets`
@@ -367,21 +360,21 @@ grant_book_in v = nat_in (column v 3)
 abbrev pub number_cells : ℕ → Values
 number_cells n = nat n ∷ []
 
-abbrev pub allowance_in : Values → BucketNumber
+abbrev pub allowance_in : Values → ℕ
 allowance_in v = nat_in (column v 1)
 
 -- ---- `covered`, under the keys of `charges`
 
 -- the blocks of a charge that allowances paid
 pub record CoveredRow : Type 0 where
-  pub number : ChargeNumber
-  pub blocks : BlockCount
+  pub number : ℕ
+  pub blocks : ℕ
 
 abbrev pub covered_cells : CoveredRow → Values
 covered_cells x = nat x.number ∷ nat x.blocks ∷ []
 
-abbrev pub covered_values : AccountName → CoveredRow → Values
+abbrev pub covered_values : List ℕ → CoveredRow → Values
 covered_values a x = Text a ∷ covered_cells x
 
-abbrev pub covered_in : Values → BlockCount
+abbrev pub covered_in : Values → ℕ
 covered_in v = nat_in (column v 2)

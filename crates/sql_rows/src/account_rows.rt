@@ -1,5 +1,3 @@
-//! Rows of accounts.
-
 ghost use Rattle.std.specs.Prelude.{◌≡◌, map, IfOk};
 ghost use Rattle.sql_rows.specs.Content.{content_of, rows_in, with_account};
 ghost use Rattle.sql_rows.specs.Values.{head_cells, head_key};
@@ -131,7 +129,9 @@ fn accounts_from(alloc: Global, rows: &[Row]) -> Result<Vec<AccountNumber>, Read
     let mut accounts = Vec::new(alloc);
     'rows: for row in rows {
         let account = account_from(alloc, row)?;
-        accounts.push(account)?;
+        let Ok(()) = accounts.push(account) else {
+            return Err(ReadFault::Memory);
+        };
     }
     if !do_ascend(&accounts) {
         return Err(ReadFault::Rules);

@@ -1,5 +1,3 @@
-//! Rows that say which buckets count blocks.
-
 ghost use Rattle.std.specs.Prelude.{◌≡◌, ℕ, Option, map, is_some, IfOk};
 ghost use Rattle.sql_rows.specs.Content.{rows_in, with_allowance, with_rows, without_allowance};
 ghost use Rattle.sql_rows.specs.Lists.{AreAllowances};
@@ -133,7 +131,9 @@ fn numbers_from(alloc: Global, rows: &[Row]) -> Result<Vec<u32>, ReadFault>
     let mut numbers = Vec::new(alloc);
     'rows: for row in rows {
         let number = number_from(row)?;
-        numbers.push(number)?;
+        let Ok(()) = numbers.push(number) else {
+            return Err(ReadFault::Memory);
+        };
     }
     Ok(numbers)
 }

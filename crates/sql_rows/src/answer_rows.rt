@@ -1,5 +1,3 @@
-//! Rows of kept answers.
-
 ghost use Rattle.std.specs.Prelude.{◌≡◌, map, option_map, IfOk};
 ghost use Rattle.sql_rows.specs.Content.{rows_in, with_answer, with_rows};
 ghost use Rattle.sql_rows.specs.Values.{answer_cells};

@@ -1,5 +1,3 @@
-//! Rows of tariff books after the first.
-
 ghost use Rattle.std.specs.Prelude.{◌≡◌, List, map, IfErr, MatchResult};
 ghost use Rattle.std.specs.List.{AllByRecursion};
 ghost use Rattle.sql_rows.specs.Content.{content_of, with_book};

@@ -1,5 +1,3 @@
-//! Rows of buckets.
-
 ghost use Rattle.std.specs.Prelude.{◌≡◌, map, filter, true, IsTrue, IfOk, OnOk};
 ghost use Rattle.sql_rows.specs.Content.{with_bucket, with_rows};
 ghost use Rattle.sql_rows.specs.Values.{bucket_cells, plain_bucket};
@@ -147,7 +145,9 @@ pub(crate) fn buckets_from(alloc: Global, rows: &[Row]) -> Result<Vec<BucketColu
     let mut buckets = Vec::new(alloc);
     'rows: for row in rows {
         let bucket = bucket_from(row)?;
-        buckets.push(bucket)?;
+        let Ok(()) = buckets.push(bucket) else {
+            return Err(ReadFault::Memory);
+        };
     }
     Ok(buckets)
 }

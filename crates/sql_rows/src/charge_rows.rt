@@ -1,5 +1,3 @@
-//! Rows of charges.
-
 ghost use Rattle.std.specs.Prelude.{◌≡◌, map, false, IsTrue, IfOk};
 ghost use Rattle.sql_rows.specs.Content.{rows_in, with_charge, with_rows};
 ghost use Rattle.sql_rows.specs.Values.{charge_cells, plain_charge};
@@ -103,7 +101,9 @@ fn charges_from(alloc: Global, rows: &[Row]) -> Result<Vec<ChargeRow>, ReadFault
     let mut charges = Vec::new(alloc);
     'rows: for row in rows {
         let charge = charge_from(alloc, row)?;
-        charges.push(charge)?;
+        let Ok(()) = charges.push(charge) else {
+            return Err(ReadFault::Memory);
+        };
     }
     if !do_numbers_rise(&charges) {
         return Err(ReadFault::Rules);

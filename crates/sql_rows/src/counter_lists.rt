@@ -1,5 +1,3 @@
-//! Counters of a cycle.
-
 ghost use Rattle.std.specs.Prelude.{◌≡◌, map, IfOk};
 ghost use Rattle.reserving.specs.Sessions.{counter_before};
 ghost use Rattle.sql_rows.specs.Content.{rows_in};
@@ -62,7 +60,9 @@ fn counters_from(alloc: Global, rows: &[Row]) -> Result<Vec<Counter>, ReadFault>
     let mut counters = Vec::new(alloc);
     'rows: for row in rows {
         let counter = counter_from(row)?;
-        counters.push(counter)?;
+        let Ok(()) = counters.push(counter) else {
+            return Err(ReadFault::Memory);
+        };
     }
     if !do_ascend(&counters) {
         return Err(ReadFault::Rules);

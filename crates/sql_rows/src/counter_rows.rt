@@ -1,5 +1,3 @@
-//! Rows of counters.
-
 ghost use Rattle.std.specs.Prelude.{◌≡◌, map, IfOk};
 ghost use Rattle.sql_rows.specs.Content.{rows_in, with_counter, with_rows};
 ghost use Rattle.sql_rows.specs.Each.{with_counters};

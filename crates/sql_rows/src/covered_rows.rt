@@ -1,5 +1,3 @@
-//! Rows of covered blocks.
-
 ghost use Rattle.std.specs.Prelude.{◌≡◌, map, IfOk};
 ghost use Rattle.sql_rows.specs.Content.{rows_in, with_covered, with_rows, without_covered};
 ghost use Rattle.sql_rows.specs.Lists.{AreCovered};
@@ -111,7 +109,9 @@ fn covered_rows_from(alloc: Global, rows: &[Row]) -> Result<Vec<CoveredColumns>,
     let mut covered = Vec::new(alloc);
     'rows: for row in rows {
         let one = covered_from(row)?;
-        covered.push(one)?;
+        let Ok(()) = covered.push(one) else {
+            return Err(ReadFault::Memory);
+        };
     }
     Ok(covered)
 }

@@ -1,5 +1,3 @@
-//! Columns read as moments, flags and names.
-
 ghost use Rattle.std.specs.Prelude.{◌≡◌, ◌≤◌, ℕ, List, IfOk, IsTrue, MatchResult, pos};
 ghost use Rattle.std.specs.Prelude.{if◌then◌else◌};
 ghost use Rattle.identifiers.specs.Texts.{is_account_number, is_session_id};
@@ -21,7 +19,10 @@ pub(crate) fn moment_at(row: &Row, at: usize) -> Result<Moment, ReadFault>
         (λ e. e ≡ ReadFault.Rules → (n : ℕ) → n ≤ 4_102_488_000 → ¬ (column row.now at ≡ nat n)) }
 {
     let seconds = number_at(row, at)?;
-    Moment::new(seconds).ok_or(ReadFault::Rules)
+    match Moment::new(seconds) {
+        Some(moment) => Ok(moment),
+        None => Err(ReadFault::Rules),
+    }
 }
 
 /// The truth value in a column: 0 or 1.

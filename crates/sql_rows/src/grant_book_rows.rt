@@ -1,5 +1,3 @@
-//! Rows of the books of reservations.
-
 ghost use Rattle.std.specs.Prelude.{◌≡◌, map, IfOk};
 ghost use Rattle.sql_rows.specs.Content.{rows_in, with_grant_book, with_rows, without_grant_book};
 ghost use Rattle.sql_rows.specs.Lists.{AreGrantBooks, grant_book_cells};
@@ -109,7 +107,9 @@ fn grant_books_from(alloc: Global, rows: &[Row]) -> Result<Vec<GrantBook>, ReadF
     let mut books = Vec::new(alloc);
     'rows: for row in rows {
         let book = grant_book_from(row)?;
-        books.push(book)?;
+        let Ok(()) = books.push(book) else {
+            return Err(ReadFault::Memory);
+        };
     }
     Ok(books)
 }

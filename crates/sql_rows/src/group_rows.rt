@@ -1,5 +1,3 @@
-//! Rows of what sessions have of rating groups.
-
 ghost use Rattle.std.specs.Prelude.{◌≡◌, map, false, option_map, IfOk};
 ghost use Rattle.sqlite_value.specs.Value.{owned};
 ghost use Rattle.sqlite_value.specs.declared.value.Value.TheVariants.{Text};
@@ -155,7 +153,9 @@ fn groups_from(alloc: Global, rows: &[Row]) -> Result<Vec<GroupColumns>, ReadFau
     let mut groups = Vec::new(alloc);
     'rows: for row in rows {
         let group = group_from(row)?;
-        groups.push(group)?;
+        let Ok(()) = groups.push(group) else {
+            return Err(ReadFault::Memory);
+        };
     }
     if !do_ascend(&groups) {
         return Err(ReadFault::Rules);
@@ -179,7 +179,7 @@ fn group_from(row: &Row) -> Result<GroupColumns, ReadFault>
 }
 
 /// The names of the periods, which are there exactly where the group has a reservation.
-pub(crate) fn periods_from(row: &Row, is_reserved: bool) -> Result<Option<PeriodNames>, ReadFault>
+fn periods_from(row: &Row, is_reserved: bool) -> Result<Option<PeriodNames>, ReadFault>
     ensures { IfOk result (λ o. ArePeriods row.now is_reserved o) }
 {
     if !is_reserved {

@@ -1,5 +1,3 @@
-//! What is kept of an account once.
-
 use units::Moment;
 
 /// What is kept of an account once.

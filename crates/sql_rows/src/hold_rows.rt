@@ -1,5 +1,3 @@
-//! Rows of holds.
-
 ghost use Rattle.std.specs.Prelude.{◌≡◌, map, IfOk};
 ghost use Rattle.sql_rows.specs.Content.{rows_in, with_hold, with_rows, without_holds};
 ghost use Rattle.sql_rows.specs.Each.{with_holds};
@@ -126,7 +124,9 @@ fn helds_from(alloc: Global, rows: &[Row]) -> Result<Vec<HeldColumns>, ReadFault
     let mut helds = Vec::new(alloc);
     'rows: for row in rows {
         let held = held_from(row)?;
-        helds.push(held)?;
+        let Ok(()) = helds.push(held) else {
+            return Err(ReadFault::Memory);
+        };
     }
     if !do_ascend(&helds) {
         return Err(ReadFault::Rules);

@@ -111,7 +111,9 @@ fn joined(left: Vec<BucketColumns>, held: &[BucketColumns]) -> Result<Vec<Bucket
     let mut at = 0;
     'held: for bucket in held {
         let place = place_of(&rows, at, bucket);
-        rows.insert(place, *bucket)?;
+        let Ok(()) = rows.insert(place, *bucket) else {
+            return Err(ReadFault::Memory);
+        };
         at = place + 1;
     }
     Ok(rows)

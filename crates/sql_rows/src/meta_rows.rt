@@ -1,5 +1,3 @@
-//! The row that is kept once.
-
 ghost use Rattle.std.specs.Prelude.{◌≡◌, map, option_map, IfErr, MatchResult, Option};
 ghost use Rattle.sql_rows.specs.Content.{content_of, with_meta};
 ghost use Rattle.sql_rows.specs.Ruled.{IsRefusedMeta, IsRuledMeta};

@@ -1,5 +1,3 @@
-//! Rating groups of sessions that have a reservation.
-
 ghost use Rattle.std.specs.Prelude.{◌≡◌, map, List, IfErr, MatchResult};
 ghost use Rattle.std.specs.List.{AllByRecursion};
 ghost use Rattle.sql_rows.specs.Content.{content_of};

@@ -1,16 +1,13 @@
-//! Rows of sessions.
-
-ghost use Rattle.std.specs.Prelude.{◌≡◌, map, None, IfOk};
+ghost use Rattle.std.specs.Prelude.{◌≡◌, map, IfOk};
 ghost use Rattle.sql_rows.specs.Content.{rows_in, with_rows, with_session};
 ghost use Rattle.sql_rows.specs.Values.{session_cells, state_number};
-ghost use Rattle.sql_rows.specs.Lists.{AreSessions, Ascends, HasNoGroups};
+ghost use Rattle.sql_rows.specs.Lists.{AreSessions, Ascends};
 ghost use Rattle.reserving.specs.Sessions.{is_open, session_before};
 ghost use Rattle.sql_rows.specs.Each.{with_sessions};
 ghost use Rattle.sql_rows.specs.Makes.{Makes, MakesIfOpen};
 ghost use Rattle.sql_tables.specs.Statements.{Attempts, HasBook, HasIdleBook, IsInside, Reads};
 ghost use Rattle.sql_tables.specs.Selects.{one_or_none};
 ghost use Rattle.sqlite.specs.Held.{state};
-ghost use Rattle.sqlite.specs.State.{HasCleanDisk};
 
 use crate::ascending::{InOrder, do_ascend};
 use crate::decoding::{moment_at, session_at, state_at};
@@ -68,8 +65,7 @@ fn state_number(state: SessionState) -> u32
     }
 }
 
-/// The session with the name, or the recorded event. Where there is none, the tables have nothing of
-/// its rating groups either, since these have its name as a key.
+/// The session with the name, or the recorded event.
 ///
 /// # Errors
 /// `Store` where the store failed, `Rules` where a row is out of its rules, `Memory` where a growth
@@ -83,8 +79,6 @@ pub fn read_session<S: Alter>(
     requires idle { HasIdleBook (state S.Store conn.old) }
     ensures reads { Reads (λ trees o. o ≡ (rows_in trees account.now).sessions session.now)
         (state S.Store conn.old) (state S.Store conn.new) result }
-    ensures none { HasCleanDisk (state S.Store conn.new) → IfOk result (λ o. o ≡ None →
-        HasNoGroups (rows_in (state S.Store conn.old).now.trees account.now) session.now) }
 {
     let rows = read(
         conn,
@@ -154,7 +148,9 @@ fn sessions_from(alloc: Global, rows: &[Row]) -> Result<Vec<Session>, ReadFault>
     let mut sessions = Vec::new(alloc);
     'rows: for row in rows {
         let session = session_from(alloc, row)?;
-        sessions.push(session)?;
+        let Ok(()) = sessions.push(session) else {
+            return Err(ReadFault::Memory);
+        };
     }
     if !do_ascend(&sessions) {
         return Err(ReadFault::Rules);

@@ -1,5 +1,3 @@
-//! Rows of vouchers.
-
 ghost use Rattle.std.specs.Prelude.{◌≡◌, map, option_copied, option_map, IfOk};
 ghost use Rattle.sqlite_value.specs.Value.{owned};
 ghost use Rattle.sqlite_value.specs.declared.value.Value.TheVariants.{Text};

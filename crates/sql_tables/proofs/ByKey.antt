@@ -16,7 +16,6 @@ use Rattle.sql_tables.specs.Keyed.{key_of, look, IsStored}
 use Rattle.sql_tables.specs.Schema.{book_schema, key_index}
 use Rattle.sql_tables.specs.Selects.{Selects, only, one_or_none}
 use Rattle.sql_tables.proofs.Keys.{keys_back}
-use Rattle.sql_tables.proofs.Selected.{AreAnswered, selected}
 use Rattle.sql_tables.proofs.Selections.{meets, full_key, selection_tells}
 
 mapped_some : {X : Type 0} (of : Row → X) (o : Option Row) →
@@ -47,9 +46,7 @@ module _ (table : Table) (tabled : Has book_schema.tables table)
       sym (first_in o)
       ∙ selection_tells book_schema table tabled
       (key_index table) listed guarding refl refl trees fits stored
-      (λ v. Some (of v)) cells columns test (one_or_none o)
-      (selected test columns (trees table.tree) (map cells (one_or_none o)) selects)
-      key (λ x. true) (λ x. true)
+      (λ v. Some (of v)) cells columns test (one_or_none o) selects key (λ x. true) (λ x. true)
       (λ r e. full_key table.primary key r full e)
       (λ x r wanted t is. let m = keys_back (key_of table.primary r) key (sym (means r) ∙ t) in
       (m, ap Some (back x r m is), refl))
@@ -57,30 +54,6 @@ module _ (table : Table) (tabled : Has book_schema.tables table)
       ∙ only_all _ ∙ mapped_some of (look table trees key)
 
   -- the row under the key among those that a front of it selects, if it is live
-  pub answered_told : (is live : X → Bool) (front rest extra : Row → Bool)
-      → ((r : Row) → test r ≡ (front r && extra r))
-      → ((r : Row) → meets table.primary key r ≡ (front r && rest r))
-      → ((x : X) (r : Row) → cells x ≡ columns r → rest r ≡ is x)
-      → ((r : Row) → meets table.primary key r ≡ true → live (of (drop 1 r)) ≡ true →
-      extra r ≡ true)
-      → ((x : X) (r : Row) → extra r ≡ true → cells x ≡ columns r → live x ≡ true)
-      → (xs : List X) → AreAnswered test columns (trees table.tree) (map cells xs)
-      → find is xs ≡ only live (option_map of (look table trees key))
-  answered_told is live front rest extra tests splits wanted lives told xs answered =
-      selection_tells book_schema table tabled
-      (key_index table) listed guarding refl refl trees fits stored
-      (λ v. Some (of v)) cells columns test xs answered key is live
-      (λ r e. full_key table.primary key r full e) (λ x r w t same.
-      let both = and_parts (front r) (extra r) (sym (tests r) ∙ t) in
-      let m = splits r ∙ and_from _ _ both.0 (wanted x r same ∙ w) in
-      (m, ap Some (back x r m same), told x r both.1 same))
-      (λ x r m d l.
-      let both = and_parts (front r) (rest r) (sym (splits r) ∙ m) in (
-        tests r ∙ and_from _ _ both.0 (lives r m (ap live (same_Some _ _ d) ∙ l)),
-        λ y e. sym (wanted y r (sym e)) ∙ both.1,
-      ))
-      ∙ ap (only live) (mapped_some of (look table trees key))
-
   pub listed_told : (is live : X → Bool) (front rest extra : Row → Bool)
       → ((r : Row) → test r ≡ (front r && extra r))
       → ((r : Row) → meets table.primary key r ≡ (front r && rest r))
@@ -91,5 +64,16 @@ module _ (table : Table) (tabled : Has book_schema.tables table)
       → (xs : List X) → Selects test columns (trees table.tree) (map cells xs)
       → find is xs ≡ only live (option_map of (look table trees key))
   listed_told is live front rest extra tests splits wanted lives told xs selects =
-      answered_told is live front rest extra tests splits wanted lives told xs
-      (selected test columns (trees table.tree) (map cells xs) selects)
+      selection_tells book_schema table tabled
+      (key_index table) listed guarding refl refl trees fits stored
+      (λ v. Some (of v)) cells columns test xs selects key is live
+      (λ r e. full_key table.primary key r full e) (λ x r w t same.
+      let both = and_parts (front r) (extra r) (sym (tests r) ∙ t) in
+      let m = splits r ∙ and_from _ _ both.0 (wanted x r same ∙ w) in
+      (m, ap Some (back x r m same), told x r both.1 same))
+      (λ x r m d l.
+      let both = and_parts (front r) (rest r) (sym (splits r) ∙ m) in (
+        tests r ∙ and_from _ _ both.0 (lives r m (ap live (same_Some _ _ d) ∙ l)),
+        λ y e. sym (wanted y r (sym e)) ∙ both.1,
+      ))
+      ∙ ap (only live) (mapped_some of (look table trees key))

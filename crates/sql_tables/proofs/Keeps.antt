@@ -10,8 +10,7 @@ use Rattle.sqlite.specs.declared.error.Error.{Error}
 use Rattle.sqlite.specs.Clock.{timed}
 use Rattle.sqlite.specs.Listing.{understood}
 use Rattle.sqlite_catalog.specs.Listing.{IsSound}
-use Rattle.sqlite_schema.specs.declared.schema.Constraint.TheVariants.{ForeignKey}
-use Rattle.sqlite_schema.specs.Rules.{Fits, Keeps}
+use Rattle.sqlite_schema.specs.Rules.{Fits}
 use Rattle.sqlite.specs.State.{State, IsLive, ExecutesInside, KeepsCommit, Shows, IsUnchanged}
 use Rattle.sqlite.specs.State.{Shown, ShowsRows, FailsToQuery, FailsToShow, IsNotRun, HasCleanDisk}
 use Rattle.sqlite.specs.State.{Survives, CommitsShowing, IsTooLate}
@@ -264,13 +263,6 @@ pub fits_of : (old : State) → IsTrue old.is_open → IsBook old → IsLive old
     Fits book_schema old.now.trees
 fits_of old on book live =
     sound_fits old.now.trees (subst (λ s. IsSound s old.now.trees) book.schema (live on).0)
-
-pub keys_from : (sql : List ℕ) (params : Row) (old new : State) (rows : List Row)
-    → (IsTrue old.is_open → IsIdle old) → IsLive old → Shown sql params old new rows
-    → Keeps ForeignKey book_schema old.now.trees
-keys_from sql params old new rows idle live shown =
-    let on = was_shown sql params old new rows shown in
-    (subst (λ s. IsSound s old.now.trees) (idle on).book.schema (live on).0).obeys.rules ForeignKey
 
 pub answers_from : (sql : List ℕ) (params : Row) (old new : State) (rows : List Row)
     → IsPlain (understood book_schema sql) → (IsTrue old.is_open → IsIdle old) → IsLive old

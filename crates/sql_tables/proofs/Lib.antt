@@ -3,13 +3,11 @@ pub mod ByKey
 pub mod Casts
 pub mod Columns
 pub mod Counted
-pub mod Coupled
 pub mod Creates
 pub mod Found
 pub mod Indexed
 pub mod Keeps
 pub mod Keys
-pub mod Parents
 pub mod Removes
 pub mod Selected
 pub mod Selections

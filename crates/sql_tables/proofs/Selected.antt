@@ -53,20 +53,6 @@ pub selected_to : (test : Row → Bool) (columns : Row → Row) (stored out : Li
 selected_to test columns stored out s r h e = permuted _ out (columns r) s.same
     (mapped_to columns (filter test stored) r (has_kept test stored r h e))
 
--- what is answered is of stored rows that pass the test, and each of them is there
-pub record AreAnswered (test : Row → Bool) (columns : Row → Row) (stored out : List Row) : Type 0
-  where
-    pub from : (v : Row) → Has out v →
-        (r : Row) × Has stored r × (test r ≡ true) × (v ≡ columns r)
-    pub to : (r : Row) → Has stored r → test r ≡ true → Has out (columns r)
-
-pub selected : (test : Row → Bool) (columns : Row → Row) (stored out : List Row) →
-    Selects test columns stored out → AreAnswered test columns stored out
-selected test columns stored out s = record {
-  from = selected_from test columns stored out s;
-  to = selected_to test columns stored out s;
-}
-
 -- a selection from one table, with all its rows that pass
 abbrev pub select_from : ℕ → List Term → List Term → List (Term × Key) → Query
 select_from tree filter project order = record {

@@ -26,8 +26,8 @@ use Rattle.sql_tables.proofs.Swaps.{no_clash, differ_ints}
 use Rattle.sql_tables.proofs.Stored.{same_row}
 use Rattle.sql_tables.proofs.Ties.{equal_is, agree_ties}
 use Rattle.sql_tables.specs.Keyed.{look}
-use Rattle.sql_tables.specs.Selects.{only}
-use Rattle.sql_tables.proofs.Selected.{AreAnswered}
+use Rattle.sql_tables.specs.Selects.{Selects, only}
+use Rattle.sql_tables.proofs.Selected.{selected_from, selected_to}
 use Rattle.sql_tables.proofs.Steps.{mapped_to, mapped_from}
 
 -- ---- one row a key
@@ -44,7 +44,7 @@ not_null (Real x) Null p e = absurd (cc)
 not_null (Text t) Null p e = absurd (cc)
 not_null (Blob b) Null p e = absurd (cc)
 
-pub tied_parts : (o p : Ordering) → ordering_then o p ≡ Equal → (o ≡ Equal) × (p ≡ Equal)
+tied_parts : (o p : Ordering) → ordering_then o p ≡ Equal → (o ≡ Equal) × (p ≡ Equal)
 tied_parts Less p h = absurd (cc)
 tied_parts Equal p h = (refl, h)
 tied_parts Greater p h = absurd (cc)
@@ -141,40 +141,10 @@ module _ (schema : Schema) (table : Table) (tabled : Has schema.tables table) (i
     (listed : Has schema.indexes index)
     (guarding : guards index table ≡ true) (order : index.order ≡ plain)
     (columns_are : index.columns ≡ table.primary)
-    (trees : Trees) (fits : Fits schema trees) (stored : IsStored (trees table.tree)) where
-  looked : (key : Values) → look table trees key
-      ≡ look_in row_cmp key (entries_of table.primary (trees table.tree))
-  looked key = get-from_entries row_cmp_total (entries_of table.primary (trees table.tree)) key
-
-  -- a stored row that meets a key without NULL is the row under it
-  pub stands_under : (key : Values)
-      → ((r : Values) → meets table.primary key r ≡ true →
-      AllByRecursion (λ p. is_null (column r p) ≡ false) table.primary)
-      → (r : Values) → Has (trees table.tree) r → meets table.primary key r ≡ true
-      → look table trees key ≡ Some (drop 1 r)
-  stands_under key full r h e =
-      let it = met_has table.primary key (trees table.tree) r h e in
-      let back = met_some table.primary key it.0 (trees table.tree) it.1 in
-      looked key
-      ∙ it.1
-      ∙ ap Some (back.3 ∙ ap (drop 1) (one_row table.primary schema table tabled index listed
-      guarding order columns_are trees fits stored key full back.0 r back.1 h back.2 e))
-
-  -- and the row under a key is one that meets it
-  pub under_stands : (key v : Values) → look table trees key ≡ Some v
-      → (r : Values) × Has (trees table.tree) r × (meets table.primary key r ≡ true)
-      × (v ≡ drop 1 r)
-  under_stands key v e =
-      met_some table.primary key v (trees table.tree) (sym (looked key) ∙ e)
-
-module _ (schema : Schema) (table : Table) (tabled : Has schema.tables table) (index : Index)
-    (listed : Has schema.indexes index)
-    (guarding : guards index table ≡ true) (order : index.order ≡ plain)
-    (columns_are : index.columns ≡ table.primary)
     (trees : Trees) (fits : Fits schema trees) (stored : IsStored (trees table.tree))
     {X : Type 0} (of : Values → Option X) (cells : X → Values) (columns : Values → Values)
     (test : Values → Bool) (xs : List X)
-    (answered : AreAnswered test columns (trees table.tree) (map cells xs)) where
+    (selects : Selects test columns (trees table.tree) (map cells xs)) where
   -- where a row of the list that is wanted meets the key, and each live row under the key is
   -- selected and wanted, the first that is wanted is the row under the key, if it is live
   pub selection_tells : (key : Values) (is live : X → Bool)
@@ -188,17 +158,27 @@ module _ (schema : Schema) (table : Table) (tabled : Has schema.tables table) (i
       → find is xs ≡ only live (option_and_then of (look table trees key))
   selection_tells key is live full from to = go (find is xs) refl
     where
+      looked : look table trees key
+          ≡ look_in row_cmp key (entries_of table.primary (trees table.tree))
+      looked = get-from_entries row_cmp_total (entries_of table.primary (trees table.tree)) key
+
       there : (r : Values) → Has (trees table.tree) r → meets table.primary key r ≡ true →
           look table trees key ≡
           Some (drop 1 r)
-      there = stands_under schema table tabled index listed guarding order columns_are trees fits
-          stored key full
+      there r h e =
+          let it = met_has table.primary key (trees table.tree) r h e in
+          let back = met_some table.primary key it.0 (trees table.tree) it.1 in
+          looked
+          ∙ it.1
+          ∙ ap Some (back.3 ∙ ap (drop 1) (one_row table.primary schema table tabled index listed
+          guarding order columns_are trees fits stored key full back.0 r back.1 h back.2 e))
 
       found : (x : X) → find is xs ≡ Some x →
           Some x ≡ only live (option_and_then of (look table trees key))
       found x e =
           let h = has_found is xs x e in
-          let it = answered.from (cells x) (mapped_to cells xs x h.0) in
+          let it = selected_from test columns (trees table.tree) (map cells xs) selects (cells x)
+          (mapped_to cells xs x h.0) in
           let f = from x it.0 h.1 it.2 it.3 in
           sym (ap (only live) (ap (option_and_then of) (there it.0 it.1 f.0) ∙ f.1) ∙ ap
           (λ t. if t then Some x else None) f.2)
@@ -209,10 +189,11 @@ module _ (schema : Schema) (table : Table) (tabled : Has schema.tables table) (i
       missing (Some x) none e = elim (cases_Bool (live x)) [
         | inl lives ↦
             let cell = bind_some of (look table trees key) x e in
-            let back = under_stands schema table tabled index listed guarding order columns_are
-            trees fits stored key cell.0 cell.1 in
+            let back = met_some table.primary key cell.0 (trees table.tree) (sym looked ∙ cell.1) in
             let t = to x back.0 back.2 (ap of (sym back.3) ∙ cell.2) lives in
-            let it = mapped_from cells xs (columns back.0) (answered.to back.0 back.1 t.0) in
+            let it = mapped_from cells xs (columns back.0)
+            (selected_to test columns (trees table.tree) (map cells xs)
+            selects back.0 back.1 t.0) in
             absurd (none_has is xs it.0 none it.1 (t.1 it.0 it.2))
         | inr dead ↦ rw dead refl
       ]

@@ -5,4 +5,3 @@ pub mod Selects
 pub mod Stages
 pub mod Statements
 pub mod Texts
-pub mod Words

@@ -2,7 +2,6 @@
 -- Source: profile.
 use Rattle.std.specs.Prelude.{suc, true, false, List, [], ◌∷◌, ◌++◌, None, codes, ℕ, pos}
 use Rattle.std.specs.Prelude.{length, take}
-use Rattle.sql_tables.specs.Words.{TablesVersion, TreeNumber, SqlName}
 use Rattle.sqlite_value.specs.declared.keys.Collation.TheVariants.{Binary}
 use Rattle.sqlite_value.specs.declared.value.Value.TheVariants.{Null, Int}
 use Rattle.sqlite_value.specs.Keys.{plain}
@@ -84,7 +83,7 @@ belongs columns parent parent_columns = record {
   is_deferred = false;
 }
 
-abbrev pub table : SqlName → TreeNumber → List Column → List ℕ → List Term → List Reference → Table
+abbrev pub table : List ℕ → ℕ → List Column → List ℕ → List Term → List Reference → Table
 table name tree columns key checks references = record {
   name = name;
   tree = tree;
@@ -197,7 +196,7 @@ charges = table (codes "charges") 18
 -- ---- the indexes of version 1
 
 -- the index that a primary key makes
-abbrev pub index_on : SqlName → TreeNumber → TreeNumber → List ℕ → Index
+abbrev pub index_on : List ℕ → ℕ → ℕ → List ℕ → Index
 index_on name tree table columns =
     record {
       name = name;
@@ -301,7 +300,7 @@ versions = (ATable meta ∷ ATable accounts ∷ ATable buckets ∷ ATable counte
     ∷ (ATable allowance_buckets ∷ ATable covered ∷ []) ∷ []
 
 -- the version that is made today
-abbrev pub latest : TablesVersion
+abbrev pub latest : ℕ
 latest = length versions
 
 abbrev pub in_turn : List (List Piece) → List Piece
@@ -309,7 +308,7 @@ in_turn [] = []
 in_turn (pieces ∷ later) = pieces ++ in_turn later
 
 -- what the versions up to this one added
-abbrev pub pieces_to : TablesVersion → List Piece
+abbrev pub pieces_to : ℕ → List Piece
 pieces_to v = in_turn (take v versions)
 
 -- ---- schemas
@@ -330,7 +329,7 @@ schema_of pieces =
     record { tables = tables_of pieces; indexes = indexes_of pieces; views = [] }
 
 -- the schema of a version
-abbrev pub schema_at : TablesVersion → Schema
+abbrev pub schema_at : ℕ → Schema
 schema_at v = schema_of (pieces_to v)
 
 -- the schema that is made today

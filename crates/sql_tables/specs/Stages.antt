@@ -2,7 +2,6 @@
 -- Source: profile.
 use Rattle.std.specs.Prelude.{◌≡◌, ℕ, true, List, [], drop, take, length, IsTrue}
 use Rattle.std.specs.List.{AllByRecursion}
-use Rattle.sql_tables.specs.Words.{TablesVersion}
 use Rattle.sqlite_trees.specs.Objects.{catalog_tree}
 use Rattle.sqlite_trees.specs.Tree.{Trees}
 use Rattle.sqlite_schema.specs.declared.schema.Table.{Table}
@@ -54,29 +53,29 @@ pub record CommitsAll (new : State) : Type 0 where
 -- ---- versions
 
 -- the connection has the tables of a version, and no others
-abbrev pub HasVersion : TablesVersion → State → Type 0
+abbrev pub HasVersion : ℕ → State → Type 0
 HasVersion v s = HasCleanDisk s → IsTrue s.is_open → s.now.schema ≡ schema_at v
 
 -- the tables of a version have no rowid twice
-abbrev pub AreStoredAt : TablesVersion → Trees → Type 0
+abbrev pub AreStoredAt : ℕ → Trees → Type 0
 AreStoredAt v trees =
     AllByRecursion (λ (t : Table). IsStored (trees t.tree)) (schema_at v).tables
 
 -- inside a transaction: the tables of a version, empty
-pub record BuildsTo (v : TablesVersion) (old new : State) : Type 0 where
+pub record BuildsTo (v : ℕ) (old new : State) : Type 0 where
   pub schema : new.now.schema ≡ schema_at v
   pub empty : AreEmpty (schema_at v).tables new.now.trees
   pub shows : Shows old new new.now old.committed true
 
 -- what is committed are the tables of a version, empty
-pub record CommitsTo (v : TablesVersion) (new : State) : Type 0 where
+pub record CommitsTo (v : ℕ) (new : State) : Type 0 where
   pub schema : new.now.schema ≡ schema_at v
   pub empty : AreEmpty (schema_at v).tables new.now.trees
   pub settled : new.now ≡ new.committed
 
 -- inside a transaction: the database of a version becomes one of the latest; the tables that were
 -- there keep their rows, and the new ones have none
-pub record Migrates (v : TablesVersion) (old new : State) : Type 0 where
+pub record Migrates (v : ℕ) (old new : State) : Type 0 where
   pub schema : new.now.schema ≡ book_schema
   pub sound : IsSound book_schema new.now.trees
   pub rows : KeepsRows (schema_at v).tables old.now.trees new.now.trees

@@ -1,5 +1,3 @@
-//! The tables and indexes, made.
-
 ghost use Rattle.std.specs.Prelude.{◌≡◌, ◌⊎◌, ◌≤◌, ◌<◌, false, IsTrue, IfOk, OnOk, OnErr};
 ghost use Rattle.sql_tables.specs.Stages.{Adds, AreEmpty, BuildsAll, BuildsTo, CommitsAll};
 ghost use Rattle.sql_tables.specs.Stages.{CommitsTo, HasStage, HasVersion, IsBlank, Migrates};

@@ -1,5 +1,3 @@
-//! A selection, and the columns of its rows.
-
 ghost use Rattle.std.specs.Prelude.{◌≡◌, ◌<◌, ◌^◌, ℕ, List, Option, false, IfErr, IfOk, IfSome};
 ghost use Rattle.std.specs.Prelude.{MatchResult, pos, length, option_map};
 ghost use Rattle.sql_tables.specs.Schema.{book_schema};
@@ -11,8 +9,6 @@ ghost use Rattle.sqlite.specs.Held.{state};
 ghost use Rattle.sqlite.specs.Listing.{understood};
 ghost use Rattle.sqlite.specs.State.{HasCleanDisk, IsUnchanged, Survives};
 ghost use Rattle.sqlite.specs.Values.{bound, or_null};
-ghost use Rattle.sqlite_schema.specs.Rules.{Keeps};
-ghost use Rattle.sqlite_schema.specs.declared.schema.Constraint.TheVariants.{ForeignKey};
 ghost use Rattle.sqlite_value.specs.Order.{Row as Values, column};
 ghost use Rattle.sqlite_value.specs.declared.value.Value.TheVariants.{Int, Null, Text};
 ghost use Rattle.std.specs.Str.{IsUtf8};
@@ -20,7 +16,7 @@ ghost use Rattle.std.specs.String.{string_bytes};
 
 use sqlite::types::ValueRef;
 use sqlite::{Alter, Connection, Error, ErrorCode, Row, Transaction};
-use std::alloc::{AllocError, AllocFailed};
+use std::alloc::AllocError;
 
 /// Why rows weren't read.
 #[derive(Clone, Copy, Debug, PartialEq, Eq)]
@@ -45,12 +41,6 @@ impl From<AllocError> for ReadFault {
     }
 }
 
-impl<T: Drop> From<AllocFailed<T>> for ReadFault {
-    fn from(_: AllocFailed<T>) -> Self {
-        ReadFault::Memory
-    }
-}
-
 /// The rows that a selection answers. It changes nothing.
 ///
 /// # Errors
@@ -70,9 +60,6 @@ pub fn read<S: Alter>(
     ensures stops { Survives (state S.Store conn.old) (state S.Store conn.new)
         (λ _. (state S.Store conn.old).is_open ≡ false) }
     ensures fault { IfErr result (λ e. ¬ (e ≡ ReadFault.Rules)) }
-    // A row whose columns are a key of another table has a row there.
-    ensures keys { HasCleanDisk (state S.Store conn.new) → IfOk result (λ _.
-        Keeps ForeignKey book_schema (state S.Store conn.old).now.trees) }
 {
     // For the prover alone: looking at the value makes known here what its type keeps.
     let _ours = conn.schema();
@@ -145,7 +132,10 @@ pub fn number_at(row: &Row, at: usize) -> Result<u64, ReadFault>
     ensures { MatchResult result (λ n. column row.now at ≡ Int (pos n))
         (λ e. e ≡ ReadFault.Rules → (n : ℕ) → ¬ (column row.now at ≡ Int (pos n))) }
 {
-    row.get::<u64>(at).map_err(fault_of)
+    match row.get::<u64>(at) {
+        Ok(number) => Ok(number),
+        Err(error) => Err(fault_of(error)),
+    }
 }
 
 /// The number below 2^32 in a column.
@@ -157,7 +147,10 @@ pub fn small_at(row: &Row, at: usize) -> Result<u32, ReadFault>
     ensures { MatchResult result (λ n. column row.now at ≡ Int (pos n))
         (λ e. e ≡ ReadFault.Rules → (n : ℕ) → n < 2 ^ 32 → ¬ (column row.now at ≡ Int (pos n))) }
 {
-    row.get::<u32>(at).map_err(fault_of)
+    match row.get::<u32>(at) {
+        Ok(number) => Ok(number),
+        Err(error) => Err(fault_of(error)),
+    }
 }
 
 /// The number in a column, none where it is NULL.
@@ -171,7 +164,10 @@ pub fn optional_at(row: &Row, at: usize) -> Result<Option<u32>, ReadFault>
         IfSome o (λ n. n < 2 ^ 32) →
         ¬ (column row.now at ≡ or_null (λ n. Int (pos n)) o)) }
 {
-    row.get::<Option<u32>>(at).map_err(fault_of)
+    match row.get::<Option<u32>>(at) {
+        Ok(number) => Ok(number),
+        Err(error) => Err(fault_of(error)),
+    }
 }
 
 /// Tests that a column is NULL.
@@ -198,7 +194,10 @@ pub fn text_at(row: &Row, at: usize) -> Result<String, ReadFault>
     ensures { MatchResult result (λ s. column row.now at ≡ Text (string_bytes s))
         (λ e. e ≡ ReadFault.Rules → (t : List ℕ) → IsUtf8 t → ¬ (column row.now at ≡ Text t)) }
 {
-    row.get::<String>(at).map_err(fault_of)
+    match row.get::<String>(at) {
+        Ok(text) => Ok(text),
+        Err(error) => Err(fault_of(error)),
+    }
 }
 
 /// The fault of a value that wasn't read.

@@ -3,7 +3,7 @@ use Rattle.std.proofs.Common.{◌≡◌, ℕ, ◌+◌, ◌++◌, Bool, true, fal
 use Rattle.std.proofs.Common.{Some, None, refl, sym, ap, ◌∙◌, subst, append-nil, append_assoc}
 use Rattle.std.proofs.Common.{take-append-drop}
 use Rattle.std.specs.Prelude.{Option, is_some, Result, Ok, Err, IsErr}
-use Rattle.statements.specs.Charges.{SumsSome, Writes, WritesSome}
+use Rattle.statements.specs.Charges.{Writes}
 use Rattle.statements.specs.declared.fault.StatementFault.{StatementFault}
 use Rattle.std.specs.List.{filter, fold}
 use Rattle.std.specs.Io.KnownBytes.{Appends}
@@ -12,7 +12,7 @@ use Rattle.std.proofs.lemmas.Bool.{false≢true}
 use Rattle.tariffs.specs.Books.{Book}
 use Rattle.reserving.specs.ChargeColumns.{ChargeColumns}
 use Rattle.charge_sources.specs.Rows.{is_between, AreCharges}
-use Rattle.charge_sources.specs.Visits.{Visits, GoesOn, IsShown, SeesCharges, SeesBeginning}
+use Rattle.charge_sources.specs.Visits.{Visits, GoesOn, SeesCharges, SeesBeginning}
 use Rattle.byte_streams.specs.declared.StreamFault.{StreamFault}
 use Rattle.statements.specs.Months.{is_of_cycle, cycle_of_month}
 use Rattle.statements.specs.Rows.{TakesRow, text_if, plus_if}
@@ -193,26 +193,6 @@ module _ {W : Type 0} (contents : W → Option (List ℕ)) (book : Book) (cycle 
       (sym (take-append-drop n rows))
       ∙ text_append (take n rows) (drop n rows)
 
-  -- what is written of rows is a beginning of their text
-  pub wrote_begun : (rows : List ChargeColumns) (old new : MonthRows W) →
-      Wrote contents book cycle form rows old new →
-      WritesBeginning (contents old.writer.now) (contents new.writer.now)
-      (charges_text form (filter (is_of_cycle book cycle) rows))
-  wrote_begun rows old new w = at new.fault refl
-    where
-      all : List ℕ
-      all = charges_text form (filter (is_of_cycle book cycle) rows)
-
-      at : (o : Option StreamFault) → new.fault ≡ o →
-          WritesBeginning (contents old.writer.now) (contents new.writer.now) all
-      at None e = record {
-        part = all;
-        rest = [];
-        written = w.text e;
-        whole = sym (append-nil all);
-      }
-      at (Some f) e = w.begun (ap is_some e)
-
   -- the first of the rows are a beginning
   pub wrote_part : (n : ℕ) (rows : List ChargeColumns) (old new : MonthRows W) →
       Wrote contents book cycle form (take n rows) old new →
@@ -221,7 +201,20 @@ module _ {W : Type 0} (contents : W → Option (List ℕ)) (book : Book) (cycle 
   wrote_part n rows old new w =
       let more = charges_text form (filter (is_of_cycle book cycle) (drop n rows)) in
       subst (WritesBeginning (contents old.writer.now) (contents new.writer.now))
-      (sym (text_taken n rows)) (begun_first more (wrote_begun (take n rows) old new w))
+      (sym (text_taken n rows)) (begun_first more (at new.fault refl))
+    where
+      part : List ℕ
+      part = charges_text form (filter (is_of_cycle book cycle) (take n rows))
+
+      at : (o : Option StreamFault) → new.fault ≡ o →
+          WritesBeginning (contents old.writer.now) (contents new.writer.now) part
+      at None e = record {
+        part = part;
+        rest = [];
+        written = w.text e;
+        whole = sym (append-nil part);
+      }
+      at (Some f) e = w.begun (ap is_some e)
 
 -- what the charges of a month that a source shows come to
 module _ {W : Type 0} (contents : W → Option (List ℕ)) (book : Book) (month : ℕ) (form : Form)
@@ -268,41 +261,7 @@ module _ {W : Type 0} (contents : W → Option (List ℕ)) (book : Book) (month 
       wrote_part contents book (cycle_of_month month) form w.0
       (filter (is_between 0 4102444800) rows) old new w.1
 
--- what some charges that a source shows come to
-module _ {W : Type 0} (contents : W → Option (List ℕ)) (book : Book) (month : ℕ) (form : Form)
-    (from until : ℕ) (first : from ≡ 0) (last : until ≡ 4102444800) (old new : MonthRows W)
-    (h : Begins book (cycle_of_month month) form old) where
-  pub wrote_some : (s : IsShown (TakesRow contents) from until old new) →
-      Wrote contents book (cycle_of_month month) form
-      (filter (is_between 0 4102444800) s.rows) old new
-  wrote_some s =
-      wrote contents book (cycle_of_month month) form
-      (filter (is_between 0 4102444800) s.rows) old new h
-      (subst (λ l. Visits (TakesRow contents) l old new)
-      (λ i. filter (is_between (first i) (last i)) s.rows) s.visits)
-
-  pub begun_some : (s : IsShown (TakesRow contents) from until old new) →
-      WritesBeginning (contents old.writer.now) (contents new.writer.now)
-      (charges_text form (of_month book month s.rows))
-  begun_some s =
-      wrote_begun contents book (cycle_of_month month) form
-      (filter (is_between 0 4102444800) s.rows) old new (wrote_some s)
-
 -- a call that ends with a fault has written a beginning
-pub err_some : {T : Type 0} (old new : Option (List ℕ)) (text : List ChargeColumns → List ℕ)
-    (r : Result T StatementFault) → IsErr r → (rows : List ChargeColumns) →
-    WritesBeginning old new (text rows) → WritesSome old new text r
-err_some old new text (Ok x) e rows h = absurd (false≢true e)
-err_some old new text (Err f) e rows h = record { rows = rows; whole = tt; beginning = h }
-
-pub err_summed : (old new : Option (List ℕ)) (form : Form)
-    (month : List ChargeColumns → List ChargeColumns) (r : Result Sums StatementFault) → IsErr r →
-    (rows : List ChargeColumns) → WritesBeginning old new (charges_text form (month rows)) →
-    SumsSome old new form month r
-err_summed old new form month (Ok x) e rows h = absurd (false≢true e)
-err_summed old new form month (Err f) e rows h =
-    record { rows = rows; whole = tt; beginning = h }
-
 pub err_writes : {T : Type 0} (charges : ℕ → Option ChargeColumns) (old new : Option (List ℕ))
     (text : List ChargeColumns → List ℕ) (r : Result T StatementFault) → IsErr r →
     ((rows : List ChargeColumns) → AreCharges charges rows →

@@ -1,19 +1,14 @@
 -- What the charges of a month that are asked of a source come to.
 -- Source: profile.
-use Rattle.std.specs.Prelude.{◌≡◌, ℕ, ◌+◌, ◌≤◌, min, List, Option, Result, IfOk, OnErr, OnOk}
-use Rattle.std.specs.Prelude.{IsErrOf}
+use Rattle.std.specs.Prelude.{◌≡◌, ℕ, ◌+◌, ◌≤◌, min, List, Option, Result, OnErr, OnOk, IsErrOf}
 use Rattle.std.specs.Io.KnownBytes.{Appends}
-use Rattle.byte_streams.specs.Words.{Bytes}
-use Rattle.reserving.specs.Words.{ChargeNumber}
 use Rattle.keepers.specs.Faults.{max_failures}
 use Rattle.keepers.specs.Tables.{Tables}
 use Rattle.reserving.specs.ChargeColumns.{ChargeColumns}
 use Rattle.charge_sources.specs.Rows.{AreCharges}
-use Rattle.statements.specs.Texts.{charges_text, sums_of, WritesBeginning}
+use Rattle.statements.specs.Texts.{WritesBeginning}
 use Rattle.statements.specs.declared.fault.StatementFault.{StatementFault}
 use Rattle.statements.specs.declared.fault.StatementFault.TheVariants.{Store}
-use Rattle.statements.specs.declared.rows.Form.{Form}
-use Rattle.statements.specs.declared.rows.Sums.{Sums}
 
 -- asking a source changes nothing of it, nor what a stop leaves; it answers only where the source
 -- can still be asked, and it fails only with a cause
@@ -28,28 +23,9 @@ pub record Asks {K T : Type 0} (content : K → Tables) (failed : K → ℕ) (ho
   pub cause : IsErrOf result Store → min (failed old + 1) max_failures ≤ failed new
 
 -- the text of an account's charges is written, or a beginning of it at a fault
-pub record Writes {T : Type 0} (charges : ChargeNumber → Option ChargeColumns)
-    (old new : Option Bytes) (text : List ChargeColumns → Bytes) (result : Result T StatementFault)
-    : Type 0 where
+pub record Writes {T : Type 0} (charges : ℕ → Option ChargeColumns) (old new : Option (List ℕ))
+    (text : List ChargeColumns → List ℕ) (result : Result T StatementFault) : Type 0 where
   pub whole : (rows : List ChargeColumns) → AreCharges charges rows →
       OnOk result (Appends old new (text rows))
   pub beginning : (rows : List ChargeColumns) → AreCharges charges rows →
       OnErr result (WritesBeginning old new (text rows))
-
--- ---- whatever the source shows
-
--- the text of some charges is written, or a beginning of it at a fault
-pub record WritesSome {T : Type 0} (old new : Option Bytes) (text : List ChargeColumns → Bytes)
-    (result : Result T StatementFault) : Type 0 where
-  pub rows : List ChargeColumns
-  pub whole : OnOk result (Appends old new (text rows))
-  pub beginning : OnErr result (WritesBeginning old new (text rows))
-
--- those of the month are written in a form, and the sums are theirs
-pub record SumsSome (old new : Option Bytes) (form : Form)
-    (month : List ChargeColumns → List ChargeColumns) (result : Result Sums StatementFault)
-    : Type 0 where
-  pub rows : List ChargeColumns
-  pub whole : IfOk result (λ sums. (sums ≡ sums_of (month rows))
-      × Appends old new (charges_text form (month rows)))
-  pub beginning : OnErr result (WritesBeginning old new (charges_text form (month rows)))

@@ -2,18 +2,17 @@
 -- Source: profile.
 use Rattle.std.specs.Prelude.{ℕ, ◌-◌, ◌++◌, List, [], ◌∷◌, length, replicate}
 use Rattle.std.specs.Fmt.{decimal}
-use Rattle.byte_streams.specs.Words.{Bytes}
 use Rattle.statements.specs.declared.columns.Column.{Column}
 
-abbrev pub blanks : ℕ → Bytes
+abbrev pub blanks : ℕ → List ℕ
 blanks n = replicate n 32
 
 -- a wider number takes its own width
-abbrev pub column_text : Column → Bytes
+abbrev pub column_text : Column → List ℕ
 column_text c = blanks (c.width - length (decimal c.value)) ++ decimal c.value
 
 -- each after a blank, and the line's end
-abbrev pub columns_text : List Column → Bytes
+abbrev pub columns_text : List Column → List ℕ
 columns_text [] = 10 ∷ []
 columns_text (c ∷ rest) = 32 ∷ (column_text c ++ columns_text rest)
 

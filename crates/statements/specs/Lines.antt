@@ -2,32 +2,28 @@
 -- Source: profile.
 use Rattle.std.specs.Prelude.{ℕ, ◌++◌, List, [], ◌∷◌, codes, unwrap_or}
 use Rattle.std.specs.Fmt.{decimal}
-use Rattle.units.specs.Words.{Moment}
-use Rattle.identifiers.specs.Words.{AccountName}
-use Rattle.written_numbers.specs.Words.{MonthNumber}
-use Rattle.byte_streams.specs.Words.{Bytes}
 use Rattle.buckets.specs.Row.{Row}
 use Rattle.reserving.specs.ChargeColumns.{ChargeColumns}
 use Rattle.statements.specs.Columns.{column_text, columns_text, set}
 use Rattle.statements.specs.declared.columns.Column.{Column}
 use Rattle.statements.specs.declared.rows.Sums.{Sums}
 
-abbrev pub title_line : AccountName → MonthNumber → Moment → Bytes
+abbrev pub title_line : List ℕ → ℕ → ℕ → List ℕ
 title_line account month moment =
     codes "ACCOUNT " ++ (account
     ++ (codes " MONTH " ++ (decimal month ++ (codes " MOMENT " ++ (decimal moment ++ codes "\n")))))
 
-abbrev pub heading : Bytes
+abbrev pub heading : List ℕ
 heading = codes
     "    MOMENT      GROUP     BLOCKS               RATED           COLLECTED         UNCOLLECTED\n"
 
-abbrev pub charge_line : ChargeColumns → Bytes
+abbrev pub charge_line : ChargeColumns → List ℕ
 charge_line c =
     column_text (set 10 c.moment)
     ++ columns_text (set 10 c.group ∷ set 10 c.blocks.0 ∷ set 19 c.rated.0 ∷ set 19 c.collected.0
     ∷ set 19 c.uncollected.0 ∷ [])
 
-abbrev pub total_line : Sums → Bytes
+abbrev pub total_line : Sums → List ℕ
 total_line s =
     codes "                TOTAL"
     ++ columns_text (set 10 s.blocks ∷ set 19 s.rated ∷ set 19 s.collected
@@ -35,7 +31,7 @@ total_line s =
 
 -- ---- buckets, each amount in the bucket's unit
 
-abbrev pub amount_names : Bytes
+abbrev pub amount_names : List ℕ
 amount_names =
     codes "         CREDITED        AVAILABLE         RESERVED          CHARGED          EXPIRED\n"
 
@@ -44,24 +40,24 @@ amounts_of b =
     set 16 b.credited ∷ set 16 b.available ∷ set 16 b.reserved ∷ set 16 b.charged
     ∷ set 16 b.expired ∷ []
 
-abbrev pub bucket_heading : Bytes
+abbrev pub bucket_heading : List ℕ
 bucket_heading = codes "    BUCKET" ++ amount_names
 
-abbrev pub bucket_line : Row → Bytes
+abbrev pub bucket_line : Row → List ℕ
 bucket_line b = column_text (set 10 b.number) ++ columns_text (amounts_of b)
 
-abbrev pub allowance_heading : Bytes
+abbrev pub allowance_heading : List ℕ
 allowance_heading = codes " ALLOWANCE      GROUP" ++ amount_names
 
 -- an allowance has a rating group
-abbrev pub allowance_line : Row → Bytes
+abbrev pub allowance_line : Row → List ℕ
 allowance_line b =
     column_text (set 10 b.number) ++ columns_text (set 10 (unwrap_or b.scope 0) ∷ amounts_of b)
 
 -- ---- to date
 
-abbrev pub date_line : ℕ → Bytes
+abbrev pub date_line : ℕ → List ℕ
 date_line n = codes "COLLECTED TO DATE " ++ (decimal n ++ codes "\n")
 
-abbrev pub covered_line : ℕ → Bytes
+abbrev pub covered_line : ℕ → List ℕ
 covered_line n = codes "COVERED TO DATE " ++ (decimal n ++ codes "\n")

@@ -1,20 +1,18 @@
 -- The charges of a civil month.
 -- Source: profile.
-use Rattle.std.specs.Prelude.{◌+◌, ◌-◌, ◌*◌, ◌/◌, ◌%◌, ◌==◌, Bool}
-use Rattle.units.specs.Words.{CycleNumber}
-use Rattle.written_numbers.specs.Words.{MonthNumber}
+use Rattle.std.specs.Prelude.{ℕ, ◌+◌, ◌-◌, ◌*◌, ◌/◌, ◌%◌, ◌==◌, Bool}
 use Rattle.calendar.specs.declared.cycle.Cycle.TheVariants as cycles
 use Rattle.calendar.specs.Timetable.{cycle_of}
 use Rattle.tariffs.specs.Books.{Book}
 use Rattle.reserving.specs.ChargeColumns.{ChargeColumns}
 
 -- months since January 1969, of a month YYYYMM
-abbrev pub cycle_of_month : MonthNumber → CycleNumber
+abbrev pub cycle_of_month : ℕ → ℕ
 cycle_of_month month = 12 * (month / 100 - 1969) + month % 100 - 1
 
 -- the charge's moment lies in the month of this number, in the book's zone
-abbrev pub is_of_cycle : Book → CycleNumber → ChargeColumns → Bool
+abbrev pub is_of_cycle : Book → ℕ → ChargeColumns → Bool
 is_of_cycle book cycle c = cycle_of book.calendar.zone cycles.Month c.moment == cycle
 
-abbrev pub is_of_month : Book → MonthNumber → ChargeColumns → Bool
+abbrev pub is_of_month : Book → ℕ → ChargeColumns → Bool
 is_of_month book month c = is_of_cycle book (cycle_of_month month) c

@@ -1,8 +1,7 @@
 -- What writes the charges of a month, by each row that it is shown.
 -- Source: profile.
-use Rattle.std.specs.Prelude.{◌≡◌, Bool, true, false, [], Option, is_some}
+use Rattle.std.specs.Prelude.{◌≡◌, ℕ, Bool, true, false, List, [], Option, is_some}
 use Rattle.std.specs.Io.KnownBytes.{Appends}
-use Rattle.byte_streams.specs.Words.{Bytes}
 use Rattle.reserving.specs.ChargeColumns.{ChargeColumns}
 use Rattle.statements.specs.Months.{is_of_cycle}
 use Rattle.statements.specs.Texts.{charge_text, plus_charge, WritesBeginning}
@@ -11,7 +10,7 @@ use Rattle.statements.specs.declared.rows.Sums.{Sums}
 use Rattle.statements.specs.declared.rows.MonthRows.{MonthRows}
 
 -- a row of the month is written and added; another is passed over
-abbrev pub text_if : Bool → Form → ChargeColumns → Bytes
+abbrev pub text_if : Bool → Form → ChargeColumns → List ℕ
 text_if true form c = charge_text form c
 text_if false form c = []
 
@@ -20,7 +19,7 @@ plus_if true sums c = plus_charge sums c
 plus_if false sums c = sums
 
 -- it goes on where the row is written, and stops at a fault
-pub record TakesRow {W : Type 0} (contents : W → Option Bytes) (old : MonthRows W)
+pub record TakesRow {W : Type 0} (contents : W → Option (List ℕ)) (old : MonthRows W)
     (c : ChargeColumns) (goes : Bool) (new : MonthRows W) : Type 0 where
   pub writer : new.writer.ghost_name ≡ old.writer.ghost_name
   pub book : new.book.now ≡ old.book.now

@@ -1,13 +1,9 @@
 -- The text of a statement and of an export.
 -- Source: profile.
-use Rattle.std.specs.Prelude.{◌≡◌, ◌+◌, ◌++◌, List, [], ◌∷◌, Bool, Option, sum_by}
+use Rattle.std.specs.Prelude.{◌≡◌, ℕ, ◌+◌, ◌++◌, List, [], ◌∷◌, Bool, Option, sum_by}
 use Rattle.std.specs.Prelude.{if◌then◌else◌}
 use Rattle.std.specs.List.{filter, list_any}
 use Rattle.std.specs.Io.KnownBytes.{Appends}
-use Rattle.units.specs.Words.{Moment, no_end}
-use Rattle.identifiers.specs.Words.{AccountName}
-use Rattle.written_numbers.specs.Words.{MonthNumber}
-use Rattle.byte_streams.specs.Words.{Bytes}
 use Rattle.buckets.specs.declared.kind.BucketKind.{BucketKind}
 use Rattle.buckets.specs.declared.kind.BucketKind.TheVariants.{Money, Blocks}
 use Rattle.buckets.specs.Kinds.{is_alike}
@@ -26,16 +22,16 @@ use Rattle.statements.specs.declared.rows.Form.TheVariants.{Lines, Records}
 use Rattle.statements.specs.declared.rows.Sums.{Sums}
 
 -- the rows of a month: charges have the moments of commands
-abbrev pub of_month : Book → MonthNumber → List ChargeColumns → List ChargeColumns
+abbrev pub of_month : Book → ℕ → List ChargeColumns → List ChargeColumns
 of_month book month rows =
-    filter (is_of_month book month) (filter (is_between 0 no_end) rows)
+    filter (is_of_month book month) (filter (is_between 0 4_102_444_800) rows)
 
-abbrev pub charge_text : Form → ChargeColumns → Bytes
+abbrev pub charge_text : Form → ChargeColumns → List ℕ
 charge_text Lines c = charge_line c
 charge_text Records c = charge_record c
 
 -- the texts of rows, one after another
-abbrev pub charges_text : Form → List ChargeColumns → Bytes
+abbrev pub charges_text : Form → List ChargeColumns → List ℕ
 charges_text form [] = []
 charges_text form (c ∷ rest) = charge_text form c ++ charges_text form rest
 
@@ -57,15 +53,15 @@ sums_of rows = record {
 
 -- ---- buckets
 
-abbrev pub line_of : BucketKind → Row → Bytes
+abbrev pub line_of : BucketKind → Row → List ℕ
 line_of Money b = bucket_line b
 line_of Blocks b = allowance_line b
 
 -- the lines of the buckets of a kind: another has none
-abbrev pub line_among : BucketKind → Row → Bytes
+abbrev pub line_among : BucketKind → Row → List ℕ
 line_among kind b = if is_alike b.kind kind then line_of kind b else []
 
-abbrev pub buckets_text : BucketKind → List Row → Bytes
+abbrev pub buckets_text : BucketKind → List Row → List ℕ
 buckets_text kind [] = []
 buckets_text kind (b ∷ rest) = line_among kind b ++ buckets_text kind rest
 
@@ -73,41 +69,40 @@ abbrev pub has_allowance : List Row → Bool
 has_allowance rows = list_any (λ b. is_alike b.kind Blocks) rows
 
 -- of allowances nothing is told where there is none
-abbrev pub allowances_text : List Row → Bytes
+abbrev pub allowances_text : List Row → List ℕ
 allowances_text rows =
     if has_allowance rows then allowance_heading ++ buckets_text Blocks rows else []
 
-abbrev pub covered_text : List Row → Bytes
+abbrev pub covered_text : List Row → List ℕ
 covered_text rows =
     if has_allowance rows then covered_line (sum_in Blocks (λ b. b.charged) rows) else []
 
 -- ---- the texts
 
 -- what precedes the charges, and what follows them
-abbrev pub head_text : AccountName → MonthNumber → Moment → Bytes
+abbrev pub head_text : List ℕ → ℕ → ℕ → List ℕ
 head_text account month moment = title_line account month moment ++ heading
 
-abbrev pub foot_text : Sums → List Row → Bytes
+abbrev pub foot_text : Sums → List Row → List ℕ
 foot_text sums buckets =
     total_line sums ++ bucket_heading ++ buckets_text Money buckets ++ allowances_text buckets
     ++ date_line (sum_in Money (λ b. b.charged) buckets) ++ covered_text buckets
 
 -- an account's statement of a month: its charges in the month, their sums, its buckets at the
 -- moment, those of money before its allowances, and what was collected and covered to date
-abbrev pub statement_text : Book → AccountName → MonthNumber → Moment → List ChargeColumns →
-    List Row → Bytes
+abbrev pub statement_text : Book → List ℕ → ℕ → ℕ → List ChargeColumns → List Row → List ℕ
 statement_text book account month moment rows buckets =
     head_text account month moment
     ++ charges_text Lines (of_month book month rows)
     ++ foot_text (sums_of (of_month book month rows)) buckets
 
 -- its export: a record for each of these charges
-abbrev pub export_text : Book → MonthNumber → List ChargeColumns → Bytes
+abbrev pub export_text : Book → ℕ → List ChargeColumns → List ℕ
 export_text book month rows = header_record ++ charges_text Records (of_month book month rows)
 
 -- a beginning of a text is written
-pub record WritesBeginning (old new : Option Bytes) (text : Bytes) : Type 0 where
-  pub part : Bytes
-  pub rest : Bytes
+pub record WritesBeginning (old new : Option (List ℕ)) (text : List ℕ) : Type 0 where
+  pub part : List ℕ
+  pub rest : List ℕ
   pub written : Appends old new part
   pub whole : text ≡ part ++ rest

@@ -1,5 +1,3 @@
-//! Numbers set in columns.
-
 ghost use Rattle.std.specs.Prelude.{◌≡◌, ◌++◌, string_bytes, OnOk};
 ghost use Rattle.std.specs.Prelude.{◌-◌};
 ghost use Rattle.statements.specs.Columns.{blanks, column_text, columns_text};

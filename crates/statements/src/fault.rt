@@ -1,5 +1,3 @@
-//! Why a statement wasn't written whole.
-
 ghost use Rattle.std.specs.Prelude.{◌≡◌};
 ghost use Rattle.statements.specs.Faults.{fault_number, of_store, of_stream};
 

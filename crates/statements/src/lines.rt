@@ -1,5 +1,3 @@
-//! Lines of a statement.
-
 ghost use Rattle.std.specs.Prelude.{◌≡◌, ◌++◌, string_bytes, unwrap_or, OnOk, IfOk};
 ghost use Rattle.statements.specs.Columns.{columns_text, set};
 ghost use Rattle.statements.specs.Texts.{head_text};

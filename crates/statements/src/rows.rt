@@ -1,5 +1,3 @@
-//! The charges of a month, one after another.
-
 ghost use Rattle.std.specs.Prelude.{◌≡◌, OnOk, OnErr, IfOk, IfSome, []};
 ghost use Rattle.std.specs.Io.KnownBytes.{Appends};
 ghost use Rattle.statements.specs.Texts.{sums_of, charge_text, plus_charge, WritesBeginning};

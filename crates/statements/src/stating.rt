@@ -1,10 +1,8 @@
-//! A statement and an export of a month.
-
 ghost use Rattle.std.specs.Prelude.{◌≡◌, OnOk, OnErr, IfOk, ℕ};
 ghost use Rattle.std.specs.Io.KnownBytes.{Appends};
 ghost use Rattle.reserving.specs.ChargeColumns.{ChargeColumns};
 ghost use Rattle.charge_sources.specs.Rows.{AreCharges};
-ghost use Rattle.statements.specs.Charges.{Asks, SumsSome, Writes, WritesSome};
+ghost use Rattle.statements.specs.Charges.{Asks, Writes};
 ghost use Rattle.statements.specs.Records.{header_record};
 ghost use Rattle.statements.specs.Months.{cycle_of_month};
 ghost use Rattle.statements.specs.Texts.{of_month, charges_text, sums_of, head_text, foot_text};
@@ -71,8 +69,6 @@ fn write_charges<S: ChargeSource, W: Write>(
     ensures sums { S.clean source.new → (rows : List ChargeColumns) →
         AreCharges ((S.content source.old).charges asked.now.account.now) rows →
         IfOk result (λ sums. sums ≡ sums_of (of_month asked.now.book.now asked.now.month rows)) }
-    ensures some { SumsSome (W.contents writer.old) (W.contents writer.new) form
-        (of_month asked.now.book.now asked.now.month) result }
     ensures asks { Asks S.content S.failed S.honest S.clean S.left source.old source.new
         result }
 {
@@ -168,9 +164,6 @@ pub fn statement<S: ChargeSource, W: Write>(
         (W.contents writer.old) (W.contents writer.new)
         (λ rows. statement_text asked.now.book.now asked.now.account.now asked.now.month moment rows
         buckets.now) result }
-    ensures some { WritesSome (W.contents writer.old) (W.contents writer.new)
-        (λ rows. statement_text asked.now.book.now asked.now.account.now asked.now.month moment rows
-        buckets.now) result }
     ensures asks { Asks S.content S.failed S.honest S.clean S.left source.old source.new
         result }
 {
@@ -195,8 +188,6 @@ pub fn export<S: ChargeSource, W: Write>(
     ensures writes { S.clean source.new →
         Writes ((S.content source.old).charges asked.now.account.now)
         (W.contents writer.old) (W.contents writer.new)
-        (λ rows. export_text asked.now.book.now asked.now.month rows) result }
-    ensures some { WritesSome (W.contents writer.old) (W.contents writer.new)
         (λ rows. export_text asked.now.book.now asked.now.month rows) result }
     ensures asks { Asks S.content S.failed S.honest S.clean S.left source.old source.new
         result }

@@ -1,6 +1,5 @@
 -- A tariff book, and the book of a document.
 use Rattle.std.specs.Prelude.{◌≡◌, ℕ, ◌<◌, ◌≤◌, List, length, Some, Result, Ok, All, IsUtf8, codes}
-use Rattle.units.specs.Words.{Seconds, CurrencyNumber}
 use Rattle.toml.specs.Data.{Members}
 use Rattle.toml.specs.Parse.{parse_document}
 use Rattle.calendar.specs.Timetable.{Timetable, IsTimetable, timetable_of}
@@ -19,8 +18,8 @@ use Rattle.tariffs.specs.GroupFields.{groups_of}
 pub record Book : Type 0 where
   pub zone_text : List ℕ
   pub calendar : Timetable
-  pub currency : CurrencyNumber
-  pub validity : Seconds
+  pub currency : ℕ
+  pub validity : ℕ
   pub periods : List (List ℕ)
   pub tariffs : List GroupTariff
 

@@ -3,7 +3,6 @@
 use Rattle.std.specs.Prelude.{ℕ, ◌/◌, ◌==◌, ◌&&◌, not, List, [], Option, Some, None, Result, Ok}
 use Rattle.std.specs.Prelude.{Err, nat_le, if◌then◌else◌, codes}
 use Rattle.std.specs.List.{list_any}
-use Rattle.units.specs.Words.{UnitCount, greatest_number}
 use Rattle.toml.specs.Data.{Data, Members}
 use Rattle.calendar.specs.declared.cycle.Cycle.{Cycle}
 use Rattle.calendar.specs.declared.cycle.Cycle.TheVariants as cycles
@@ -23,7 +22,7 @@ use Rattle.tariffs.specs.PriceFields.{prices_of}
 -- `id`: that of no group before
 unfoldable pub id_of : List GroupTariff → Members → Result ℕ BookFault
 id_of before t = do
-  id ← number_in (codes "id") 0 greatest_number t
+  id ← number_in (codes "id") 0 4_294_967_295 t
   where_holds (not (list_any (λ other. other.group == id) before)) OutOfRange id
 
 -- the kinds of units by their words
@@ -40,7 +39,7 @@ unit_of t = do
   or_fault OutOfRange (unit_named text)
 
 -- the most units of a grant: CC-Time has 32 bits
-abbrev pub most_units : UnitKind → UnitCount
+abbrev pub most_units : UnitKind → ℕ
 most_units Time = 4_294_967_295
 most_units TotalOctets = 1_000_000_000_000_000
 most_units ServiceSpecific = 1_000_000_000_000_000

@@ -7,7 +7,6 @@ use Rattle.std.specs.List.{list_all, list_any}
 use Rattle.std.specs.Cmp.Lexicographic.{pointwise}
 use Rattle.std.specs.Char.{is_ascii_lowercase}
 use Rattle.std.specs.declared.alloc.Global.{Global}
-use Rattle.units.specs.Words.{PeriodNumber}
 use Rattle.toml.specs.Data.{Data, Members}
 use Rattle.calendar.specs.declared.week.Period.{Period}
 use Rattle.book_fields.specs.declared.fault.BookFault.{BookFault}
@@ -30,7 +29,7 @@ is_name before name =
     && not (list_any (λ other. same_text other name) before)
 
 -- the names from a place of the book's list on: the period that has this one
-abbrev pub period_from : PeriodNumber → List (List ℕ) → List ℕ → Option Period
+abbrev pub period_from : ℕ → List (List ℕ) → List ℕ → Option Period
 period_from place [] text = None
 period_from place (name ∷ names) text =
     if same_text name text then Some (record { 0 = place }) else period_from (place + 1) names text
@@ -41,7 +40,7 @@ period_named names text = period_from 0 names text
 
 -- each name is found at its own place
 abbrev pub AreDistinct : List (List ℕ) → Type 0
-AreDistinct names = (place : PeriodNumber) (name : List ℕ) → slice_get names place ≡ Some name →
+AreDistinct names = (place : ℕ) (name : List ℕ) → slice_get names place ≡ Some name →
     period_named names name ≡ Some (record { 0 = place })
 
 -- the names of a book's periods: 1 to 8, distinct

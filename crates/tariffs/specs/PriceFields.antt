@@ -4,7 +4,6 @@ use Rattle.std.specs.Prelude.{ℕ, ◌+◌, ◌-◌, ◌==◌, Bool, true, false
 use Rattle.std.specs.Prelude.{replicate, slice_get, slice_index_or, slice_set, Option, Some, None}
 use Rattle.std.specs.Prelude.{Result, Ok, nat_lt, unwrap_or, option_and_then, codes}
 use Rattle.std.specs.List.{list_all}
-use Rattle.units.specs.Words.{Place, most_counted}
 use Rattle.toml.specs.Data.{Data, Members}
 use Rattle.calendar.specs.declared.week.Period.{Period}
 use Rattle.book_fields.specs.declared.fault.BookFault.{BookFault}
@@ -23,14 +22,14 @@ last_bound tiers =
     unwrap_or (option_and_then (λ tier. tier.upto) (slice_get tiers (length tiers - 1))) 0
 
 -- `upto`: above the bound of the tier before; in the last tier it is not read
-unfoldable pub bound_of : Bool → Place → Members → Result (Option Place) BookFault
+unfoldable pub bound_of : Bool → ℕ → Members → Result (Option ℕ) BookFault
 bound_of true above t = Ok None
 bound_of false above t = do
-  upto ← number_in (codes "upto") 1 most_counted t
+  upto ← number_in (codes "upto") 1 4_000_000_000_000_000_000 t
   where_holds (nat_lt above upto) TiersNotRising (Some upto)
 
 -- an entry of `tiers`, the last one or not, after a tier with this bound
-unfoldable pub tier_of : Bool → Place → Data → Result Tier BookFault
+unfoldable pub tier_of : Bool → ℕ → Data → Result Tier BookFault
 tier_of last above d = do
   t ← table_at d
   upto ← bound_of last above t

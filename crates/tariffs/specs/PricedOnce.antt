@@ -5,7 +5,6 @@ use Rattle.std.specs.Prelude.{◌≡◌, ℕ, Bool, List, [], ◌∷◌, Option,
 use Rattle.std.specs.Prelude.{slice_index_or, option_and_then, codes}
 use Rattle.std.specs.List.{filter}
 use Rattle.std.specs.Option.{option_eq}
-use Rattle.units.specs.Words.{PeriodNumber}
 use Rattle.toml.specs.Data.{Data, Items, Members, get_member, as_str, as_table}
 use Rattle.book_fields.specs.declared.fault.BookFault.{BookFault}
 use Rattle.book_fields.specs.Faults.{◌>>=◌}
@@ -38,5 +37,5 @@ PricesAreOnce =
     (names : List (List ℕ)) (t : Members) (prices : List (List Tier)) → AreDistinct names →
     prices_of names t ≡ Ok prices →
     (entries : Items) → array_of (codes "price") 8 t ≡ Ok entries →
-    (place : PeriodNumber) (name : List ℕ) → slice_get names place ≡ Some name →
+    (place : ℕ) (name : List ℕ) → slice_get names place ≡ Some name →
     IsPricedOnce name (item_list entries) (slice_index_or prices place [])

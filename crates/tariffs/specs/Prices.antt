@@ -1,19 +1,18 @@
 -- Prices by tiers (TS 32.296, rating).
-use Rattle.std.specs.Prelude.{◌≡◌, ◌≤◌, ◌<◌, Bool, true, false, not, IsTrue, ◌==◌, nat_le, List}
+use Rattle.std.specs.Prelude.{◌≡◌, ℕ, ◌≤◌, ◌<◌, Bool, true, false, not, IsTrue, ◌==◌, nat_le, List}
 use Rattle.std.specs.Prelude.{[], ◌∷◌, length, map, if◌then◌else◌, Option, Some, None, Vec}
 use Rattle.std.specs.List.{AllByRecursion}
 use Rattle.std.specs.declared.alloc.Global.{Global}
-use Rattle.units.specs.Words.{Micros, Place, most_counted}
 use Rattle.tariffs.specs.declared.tiers.Tier.{Tier}
 
 -- a tier prices the places up to its bound, and without a bound every place
-abbrev pub reaches : Option Place → Place → Bool
+abbrev pub reaches : Option ℕ → ℕ → Bool
 reaches None place = true
 reaches (Some bound) place = nat_le place bound
 
 -- the price of the block at a place on the counter: that of the first tier whose bound is at least
 -- the place
-abbrev pub block_price : List Tier → Place → Micros
+abbrev pub block_price : List Tier → ℕ → ℕ
 block_price [] place = 0
 block_price (tier ∷ tiers) place =
     if reaches tier.upto place then tier.price else block_price tiers place
@@ -29,12 +28,12 @@ IsOpen (tier ∷ []) = tier.upto ≡ None
 IsOpen (tier ∷ next ∷ tiers) = IsOpen (next ∷ tiers)
 
 -- every tier but the last has a bound, above that of the tier before and at most 4*10^18
-abbrev pub IsRisingFrom : Place → List Tier → Type 0
+abbrev pub IsRisingFrom : ℕ → List Tier → Type 0
 IsRisingFrom above [] = Unit {0}
 IsRisingFrom above (tier ∷ []) = Unit {0}
 IsRisingFrom above (tier ∷ next ∷ tiers) =
-    (bound : Place) ×
-    ((tier.upto ≡ Some bound) × (above < bound) × (bound ≤ most_counted) ×
+    (bound : ℕ) ×
+    ((tier.upto ≡ Some bound) × (above < bound) × (bound ≤ 4_000_000_000_000_000_000) ×
     IsRisingFrom bound (next ∷ tiers))
 
 -- the tiers of a price: 1 to 8, rising, the last one open, none dearer than 10^9 micro-units a
@@ -46,10 +45,10 @@ pub record AreTiers (tiers : List Tier) : Type 0 where
   pub rising : IsRisingFrom 0 tiers
 
 -- the bound of a tier, the last one or not, after a tier with this bound
-abbrev pub IsBoundAfter : Bool → Place → Option Place → Type 0
+abbrev pub IsBoundAfter : Bool → ℕ → Option ℕ → Type 0
 IsBoundAfter true above upto = upto ≡ None
 IsBoundAfter false above None = ⊥
-IsBoundAfter false above (Some bound) = (above < bound) × (bound ≤ most_counted)
+IsBoundAfter false above (Some bound) = (above < bound) × (bound ≤ 4_000_000_000_000_000_000)
 
 -- the tiers of each period
 abbrev pub tier_lists : List (Vec Tier Global) → List (List Tier)

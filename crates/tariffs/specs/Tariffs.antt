@@ -1,7 +1,6 @@
 -- The tariff of a rating group as contracts see it.
-use Rattle.std.specs.Prelude.{◌≡◌, ◌≢◌, ◌≤◌, ◌/◌, List, [], AllPairs, slice_index_or}
+use Rattle.std.specs.Prelude.{◌≡◌, ◌≢◌, ℕ, ◌≤◌, ◌/◌, List, [], AllPairs, slice_index_or}
 use Rattle.std.specs.List.{AllByRecursion}
-use Rattle.units.specs.Words.{UnitCount, GroupId, PeriodNumber, greatest_number}
 use Rattle.calendar.specs.declared.cycle.Cycle.{Cycle}
 use Rattle.units.specs.declared.blocks.UnitKind.{UnitKind}
 use Rattle.units.specs.declared.blocks.UnitKind.TheVariants.{Time}
@@ -13,18 +12,18 @@ use Rattle.tariffs.specs.Prices.{AreTiers}
 -- at most, the cycle of its counter, what follows the last units, and the tiers of each period, in
 -- the order of the book's periods
 pub record GroupTariff : Type 0 where
-  pub group : GroupId
+  pub group : ℕ
   pub unit : UnitKind
-  pub block : UnitCount
-  pub slice : UnitCount
-  pub max_grant : UnitCount
+  pub block : ℕ
+  pub slice : ℕ
+  pub max_grant : ℕ
   pub cycle : Cycle
   pub final_action : FinalAction
   pub prices : List (List Tier)
 
 -- the ranges of a tariff (profile)
 pub record IsTariff (t : GroupTariff) : Type 0 where
-  pub group : t.group ≤ greatest_number
+  pub group : t.group ≤ 4_294_967_295
   pub some_block : 1 ≤ t.block
   pub block : t.block ≤ 1_000_000_000_000_000
   pub some_slice : 1 ≤ t.slice
@@ -35,7 +34,7 @@ pub record IsTariff (t : GroupTariff) : Type 0 where
   pub tiers : AllByRecursion AreTiers t.prices
 
 -- the tiers of a period; none for a period that the tariff doesn't have
-abbrev pub tiers_at : GroupTariff → PeriodNumber → List Tier
+abbrev pub tiers_at : GroupTariff → ℕ → List Tier
 tiers_at t period = slice_index_or t.prices period []
 
 -- no group has a tariff twice

@@ -1,5 +1,3 @@
-//! What the client does with its last units used.
-
 use identifiers::RedirectAddress;
 
 /// What the client does when its last granted units are used (Final-Unit-Action, RFC 8506 section

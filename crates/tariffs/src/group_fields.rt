@@ -1,5 +1,3 @@
-//! The members of a rating group in a book's text.
-
 ghost use Rattle.std.specs.Prelude.{◌≡◌, ◌<◌, ◌≤◌, ◌/◌, ◌==◌, false, [], length, All, IfOk};
 ghost use Rattle.std.specs.List.{list_any};
 ghost use Rattle.toml.specs.View.{view, table_view, items_view};
@@ -63,7 +61,10 @@ fn unit(table: &Table) -> Result<UnitKind, BookFault>
     ensures { Gives (λ u. u) result (unit_of (table_view table.now)) }
 {
     let text = book_fields::text(table, "unit")?;
-    unit_named(text).ok_or(BookFault::OutOfRange)
+    match unit_named(text) {
+        Some(unit) => Ok(unit),
+        None => Err(BookFault::OutOfRange),
+    }
 }
 
 fn most_units(unit: UnitKind) -> u64
@@ -110,7 +111,10 @@ fn cycle(table: &Table) -> Result<Cycle, BookFault>
     ensures { Gives (λ c. c) result (cycle_of (table_view table.now)) }
 {
     let text = book_fields::text(table, "cycle")?;
-    cycle_named(text).ok_or(BookFault::OutOfRange)
+    match cycle_named(text) {
+        Some(cycle) => Ok(cycle),
+        None => Err(BookFault::OutOfRange),
+    }
 }
 
 #[tactic(auto, unfolding(crate::specs::GroupFields::redirect_of))]

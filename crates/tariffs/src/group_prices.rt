@@ -1,5 +1,3 @@
-//! The prices of a rating group on both sides of a switch.
-
 ghost use Rattle.std.specs.Prelude.{◌≡◌, ◌≤◌};
 ghost use Rattle.tariffs.specs.Prices.{AreTiers};
 ghost use Rattle.tariffs.specs.GroupPrices.{ArePlaces, prices_in, tiers_on};

@@ -1,5 +1,3 @@
-//! Names of tariff periods.
-
 ghost use Rattle.std.specs.Prelude.{◌≡◌, ◌≤◌, ◌<◌, [], length, string_bytes, slice_get};
 ghost use Rattle.std.specs.Prelude.{option_copied, IfOk, IfSome, Some, true, vec_len};
 ghost use Rattle.std.specs.List.{list_all, list_any};
@@ -76,7 +74,10 @@ impl PeriodNames {
         ensures in_range { IfOk result (λ p. p.0 < length self.now) }
     {
         let text = book_fields::text(table, "period")?;
-        self.named(text).ok_or(BookFault::UnknownPeriod)
+        match self.named(text) {
+            Some(period) => Ok(period),
+            None => Err(BookFault::UnknownPeriod),
+        }
     }
 }
 

@@ -1,5 +1,3 @@
-//! The prices of a rating group in a book's text.
-
 ghost use Rattle.std.specs.Prelude.{◌≡◌, ◌<◌, ◌≤◌, ◌+◌, ◌==◌, [], length, replicate, IfOk};
 ghost use Rattle.std.specs.List.{AllByRecursion, list_all};
 ghost use Rattle.toml.specs.View.{view, table_view, items_view};

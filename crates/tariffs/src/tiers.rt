@@ -1,5 +1,3 @@
-//! A tier of a price.
-
 /// The price of a block up to a place on the account's counter of the group and cycle (TS 32.296,
 /// rating).
 #[derive(Clone, Copy, Debug, Drop, PartialEq, Eq)]

@@ -74,7 +74,10 @@ pub(crate) fn zone(alloc: Global, table: &Table) -> Result<Zone, BookFault>
     ensures { Gives (λ z. z) result (zone_of (table_view table.now)) }
 {
     let text = book_fields::text(table, "zone")?;
-    zone_in(alloc, text)?.ok_or(BookFault::OutOfRange)
+    match zone_in(alloc, text)? {
+        Some(zone) => Ok(zone),
+        None => Err(BookFault::OutOfRange),
+    }
 }
 
 /// Reads `zone` as it is written.

@@ -1,5 +1,3 @@
-//! Tests of texts in and out.
-
 mod answers;
 mod contents;
 mod faults;

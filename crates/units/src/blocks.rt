@@ -1,5 +1,3 @@
-//! Units, blocks, and the blocks that units start.
-
 ghost use Rattle.std.specs.Prelude.{◌≡◌, ◌<◌, ◌≤◌};
 ghost use Rattle.units.specs.Blocks.{started, CutsAlike};
 

@@ -1,5 +1,3 @@
-//! Moments.
-
 ghost use Rattle.std.specs.Prelude.{◌≡◌, ℕ, ◌≤◌, ◌<◌, ◌↔◌, IsSome, IfSome};
 
 use std::marker::Model;

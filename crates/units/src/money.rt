@@ -1,5 +1,3 @@
-//! Amounts of money.
-
 ghost use Rattle.std.specs.Prelude.{◌≡◌, ℕ, ◌≤◌, ◌↔◌, ◌<ℤ◌, ◌⊎◌, pos, IsSome, IfSome, IfOk};
 ghost use Rattle.std.specs.Prelude.{IsErrOf};
 ghost use Rattle.units.specs.Amounts.{micros_of, IsExponent};
@@ -76,7 +74,9 @@ impl Money {
         let Ok(digits) = u64::try_from(digits) else {
             return Err(UnitFault::OutOfRange);
         };
-        let micros = digits.checked_mul(factor).ok_or(UnitFault::OutOfRange)?;
+        let Some(micros) = digits.checked_mul(factor) else {
+            return Err(UnitFault::OutOfRange);
+        };
         Money::new(micros).ok_or(UnitFault::OutOfRange)
     }
 

@@ -2,7 +2,6 @@
 -- Source: profile; the fields are those of CSV, RFC 4180.
 use Rattle.std.specs.Prelude.{ℕ, ◌≤◌, ◌&&◌, ◌==◌, List, [], ◌∷◌, length, get_or, codes, Bool}
 use Rattle.std.specs.Prelude.{Option, Some, None, IfSome, IsTrue, Result, Ok, nat_le}
-use Rattle.units.specs.Words.{greatest_number}
 use Rattle.first_fault.specs.Steps.{◌>>=◌, or_fault, where_holds}
 use Rattle.identifiers.specs.Texts.{is_voucher_code, same_name}
 use Rattle.written_numbers.specs.Numbers.{number_of}
@@ -34,7 +33,7 @@ unfoldable pub terms_of : List (List ℕ) → Result VoucherTerms FaultKind
 terms_of fields = do
   amount ← number_in Amount 1 1_000_000_000_000_000 (field fields 1)
   days ← optional_in Days 1 3650 (field fields 2)
-  scope ← optional_in Scope 0 greatest_number (field fields 3)
+  scope ← optional_in Scope 0 4_294_967_295 (field fields 3)
   Ok (record { amount = amount; days = days; scope = scope })
 
 -- four fields: a code of 12 digits and the terms
@@ -56,7 +55,7 @@ pub record AreInRange (terms : VoucherTerms) : Type 0 where
   pub some : 1 ≤ terms.amount
   pub amount : terms.amount ≤ 1_000_000_000_000_000
   pub days : IfSome terms.days (λ n. (1 ≤ n) × (n ≤ 3650))
-  pub scope : IfSome terms.scope (λ g. g ≤ greatest_number)
+  pub scope : IfSome terms.scope (λ g. g ≤ 4_294_967_295)
 
 -- and of a voucher
 pub record IsVoucher (row : VoucherAddition) : Type 0 where

@@ -1,5 +1,3 @@
-//! What is wrong with a file of vouchers.
-
 ghost use Rattle.std.specs.Prelude.{◌≡◌};
 ghost use Rattle.vouchers.specs.Faults.{number_of};
 

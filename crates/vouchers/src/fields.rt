@@ -1,5 +1,3 @@
-//! Fields of a voucher's record.
-
 ghost use Rattle.std.specs.Prelude.{◌≡◌, ◌≤◌, ◌==◌, ◌&&◌, IfOk, IfSome, length};
 ghost use Rattle.csv.specs.Records.{fields_of};
 ghost use Rattle.first_fault.specs.Steps.{Says, GivesUnless, where_holds};

@@ -1,5 +1,3 @@
-//! A file of vouchers, read.
-
 ghost use Rattle.std.specs.Prelude.{◌≡◌, ◌≢◌, if◌then◌else◌, All, IfErr, IfOk, IfSome, IsTrue};
 ghost use Rattle.std.specs.Prelude.{OnOk, Ok, Err, false};
 ghost use Rattle.csv.specs.Reading.{ReadRecord, Ready, error_kind, is_io, reader_trim};

@@ -1,7 +1,7 @@
 -- What is kept of a command is read as that content.
 use Rattle.std.proofs.Common.{nat_eq, sym, subst, ◌≡◌, ℕ, ◌≤◌, ◌<◌, lit≤, List, length, Bool, true}
 use Rattle.std.proofs.Common.{◌&&◌, Option, Some, None, option_map, IfSome, Result, Ok, Err, refl}
-use Rattle.std.proofs.Common.{ap, ◌∙◌, arith, nat_le, false}
+use Rattle.std.proofs.Common.{ap, ◌∙◌, arith, nat_le}
 use Rattle.std.specs.List.{list_all}
 use Rattle.std.specs.Str.{IsUtf8}
 use Rattle.std.specs.Ordering.{nat_cmp, is_eq}
@@ -19,7 +19,7 @@ use Rattle.commands.specs.declared.command.Credit.{Credit}
 use Rattle.commands.specs.declared.command.Content.{Content}
 use Rattle.commands.specs.declared.command.Content.TheVariants as content
 use Rattle.json_fields.specs.declared.fault.WireFault.{WireFault}
-use Rattle.json_fields.specs.declared.fault.WireFault.TheVariants.{Missing, Invalid, Memory}
+use Rattle.json_fields.specs.declared.fault.WireFault.TheVariants.{Missing, Invalid}
 use Rattle.json_fields.specs.Gives.{◌>>=◌, or_fault, where_holds, Gives}
 use Rattle.json_fields.specs.Fields.{member_at, number_at, optional_at, text_at, document_at}
 use Rattle.json_fields.specs.Spelling.{whole, perhaps}
@@ -41,7 +41,7 @@ use Rattle.wire.proofs.AllowancesAgain.{allowance_content_account}
 use Rattle.wire.proofs.RedeemedAgain.{reference_utf8, redemption_content_again, redemption_account}
 use Rattle.wire.specs.Contents.{content_text, content_of, request_content_in, credit_content_in}
 use Rattle.wire.specs.Contents.{given_content_when, operator_content_when, content_when}
-use Rattle.wire.specs.Contents.{account_of, IsContent, is_content_text, is_own_text}
+use Rattle.wire.specs.Contents.{account_of, IsContent}
 use Rattle.wire.specs.Contents.{ContentsReadAgain, ReadsWritten, CreditsAreInOrder}
 
 abbrev credit_members : ℕ → Option Data → List ℕ → Option Data → Option Data → Members
@@ -268,30 +268,3 @@ pub never_written : (account bytes : List ℕ) (c : Content) (returned : Result 
 never_written account bytes c returned given other d is own text =
     absurd (other (subst (λ (x : Content). content_text x ≡ bytes)
     (same_value d c (sym (says_written account bytes d is own text) ∙ given)) text))
-
--- ---- texts and no texts
-
-same_bytes : (text bytes : List ℕ) → text ≡ bytes → pointwise nat_eq text bytes ≡ true
-same_bytes text bytes is = (bytes_decides text bytes).1 is
-
-other_bytes : (text bytes : List ℕ) → (text ≡ bytes → ⊥) → pointwise nat_eq text bytes ≡ false
-other_bytes text bytes other = go (pointwise nat_eq text bytes) refl
-  where
-    go : (b : Bool) → pointwise nat_eq text bytes ≡ b → pointwise nat_eq text bytes ≡ false
-    go false e = e
-    go true e = absurd (other ((bytes_decides text bytes).0 e))
-
-pub text_read : (account bytes : List ℕ) (c : Content) → content_of account bytes ≡ Ok c →
-    content_text c ≡ bytes → is_content_text account bytes ≡ true
-text_read account bytes c said text =
-    ap (is_own_text bytes) said ∙ same_bytes (content_text c) bytes text
-
-pub text_of_other : (account bytes : List ℕ) (c : Content) → content_of account bytes ≡ Ok c →
-    (content_text c ≡ bytes → ⊥) → is_content_text account bytes ≡ false
-text_of_other account bytes c said other =
-    ap (is_own_text bytes) said ∙ other_bytes (content_text c) bytes other
-
-pub text_refused : (account bytes : List ℕ) (e : WireFault) →
-    Gives (λ (c : Content). c) (Err e) (content_of account bytes) → ¬ (e ≡ Memory) →
-    is_content_text account bytes ≡ false
-text_refused account bytes e given more = ap (is_own_text bytes) (given more)

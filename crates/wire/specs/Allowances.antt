@@ -1,8 +1,6 @@
 -- The body of an allowance, and an allowance as it is kept.
 -- Source: profile.
-use Rattle.std.specs.Prelude.{◌≡◌, ℕ, ◌≤◌, List, true, option_map, IfSome, Result, Ok}
-use Rattle.units.specs.Words.{no_end, greatest_number}
-use Rattle.identifiers.specs.Words.{AccountName}
+use Rattle.std.specs.Prelude.{◌≡◌, ℕ, ◌≤◌, List, true, Option, option_map, IfSome, Result, Ok}
 use Rattle.serde_json.specs.Data.{Data, string, object, no_members, member}
 use Rattle.serde_json.specs.Written.{compact_text}
 use Rattle.identifiers.specs.Texts.{is_reference}
@@ -17,12 +15,12 @@ use Rattle.wire.specs.Credits.{reference_at}
 
 -- Blocks, From, Until, Scope and Reference, in this order: 1 to 10^9 blocks, from a moment of a
 -- command on, until one or "no end", of one rating group
-unfoldable pub allowance_at : AccountName → Data → Result Allowance WireFault
+unfoldable pub allowance_at : List ℕ → Data → Result Allowance WireFault
 allowance_at account d = do
   blocks ← number_at avp.Blocks 1 1_000_000_000 d
   from ← optional_at avp.From 0 4_102_444_799 d
-  until ← optional_at avp.Until 1 no_end d
-  scope ← number_at avp.Scope 0 greatest_number d
+  until ← optional_at avp.Until 1 4_102_444_800 d
+  scope ← number_at avp.Scope 0 4_294_967_295 d
   reference ← reference_at d
   Ok (record {
     account = account;
@@ -34,7 +32,7 @@ allowance_at account d = do
   })
 
 -- the allowance that the body of an operator's request is, or the first fault
-unfoldable pub allowance_of : AccountName → List ℕ → Result Allowance WireFault
+unfoldable pub allowance_of : List ℕ → List ℕ → Result Allowance WireFault
 allowance_of account bytes = do
   d ← document_at bytes
   allowance_at account d
@@ -57,6 +55,6 @@ pub record IsAllowance (a : Allowance) : Type 0 where
   pub some : 1 ≤ a.blocks
   pub blocks : a.blocks ≤ 1_000_000_000
   pub from : IfSome a.from (λ m. m ≤ 4_102_444_799)
-  pub until : IfSome a.until (λ m. (1 ≤ m) × (m ≤ no_end))
-  pub scope : a.scope ≤ greatest_number
+  pub until : IfSome a.until (λ m. (1 ≤ m) × (m ≤ 4_102_444_800))
+  pub scope : a.scope ≤ 4_294_967_295
   pub reference : is_reference a.reference ≡ true

@@ -1,8 +1,6 @@
 -- What is kept of a command, as text.
 use Rattle.std.specs.Prelude.{◌≡◌, ℕ, List, Option, Some, None, Result, Ok, Err, nat_eq}
-use Rattle.std.specs.Prelude.{Bool, true, false, MatchResult}
 use Rattle.std.specs.Cmp.Lexicographic.{pointwise}
-use Rattle.identifiers.specs.Words.{AccountName}
 use Rattle.serde_json.specs.Data.{Data}
 use Rattle.serde_json.specs.Find.{get}
 use Rattle.commands.specs.Names.{name_of}
@@ -13,7 +11,7 @@ use Rattle.commands.specs.declared.command.VoucherRedemption.{VoucherRedemption}
 use Rattle.commands.specs.declared.command.Content.{Content}
 use Rattle.commands.specs.declared.command.Content.TheVariants as content
 use Rattle.json_fields.specs.declared.fault.WireFault.{WireFault}
-use Rattle.json_fields.specs.declared.fault.WireFault.TheVariants.{Invalid, Memory}
+use Rattle.json_fields.specs.declared.fault.WireFault.TheVariants.{Invalid}
 use Rattle.json_fields.specs.Gives.{◌>>=◌, where_holds, Gives}
 use Rattle.json_fields.specs.Fields.{document_at}
 use Rattle.json_fields.specs.Order.{AreInByteOrder}
@@ -32,54 +30,54 @@ content_text (content.Allow a) = allowance_text a
 content_text (content.Redeem r) = redemption_text r
 
 -- a request that is kept is one of the account that it is kept under
-unfoldable pub request_content_in : AccountName → Data → Result Content WireFault
+unfoldable pub request_content_in : List ℕ → Data → Result Content WireFault
 request_content_in account d = do
   r ← request_in d
   where_holds (pointwise nat_eq r.account account) (Invalid avp.SubscriptionIdData)
       (content.Request r)
 
-unfoldable pub credit_content_in : AccountName → Data → Result Content WireFault
+unfoldable pub credit_content_in : List ℕ → Data → Result Content WireFault
 credit_content_in account d = do
   c ← credit_at account d
   Ok (content.Credit c)
 
-unfoldable pub allowance_content_in : AccountName → Data → Result Content WireFault
+unfoldable pub allowance_content_in : List ℕ → Data → Result Content WireFault
 allowance_content_in account d = do
   a ← allowance_at account d
   Ok (content.Allow a)
 
 -- so is a redemption
-unfoldable pub redemption_content_in : AccountName → Data → Result Content WireFault
+unfoldable pub redemption_content_in : List ℕ → Data → Result Content WireFault
 redemption_content_in account d = do
   r ← kept_redemption_at d
   where_holds (pointwise nat_eq r.account account) (Invalid avp.SubscriptionIdData)
       (content.Redeem r)
 
 -- what a kept text without a Voucher-Code is, by the member that stands: an allowance has Blocks
-abbrev pub given_content_when : AccountName → Data → Option Data → Result Content WireFault
+abbrev pub given_content_when : List ℕ → Data → Option Data → Result Content WireFault
 given_content_when account d (Some blocks) = allowance_content_in account d
 given_content_when account d None = credit_content_in account d
 
 -- what a kept text of an operator's command is, by the member that stands: a redemption has a
 -- Voucher-Code
-abbrev pub operator_content_when : AccountName → Data → Option Data → Result Content WireFault
+abbrev pub operator_content_when : List ℕ → Data → Option Data → Result Content WireFault
 operator_content_when account d (Some code) = redemption_content_in account d
 operator_content_when account d None =
     given_content_when account d (get (name_of avp.Blocks) d)
 
 -- what a kept text is, by the member that stands: a request has a Session-Id
-abbrev pub content_when : AccountName → Data → Option Data → Result Content WireFault
+abbrev pub content_when : List ℕ → Data → Option Data → Result Content WireFault
 content_when account d (Some session) = request_content_in account d
 content_when account d None = operator_content_when account d (get (name_of avp.VoucherCode) d)
 
 -- the content that a kept text is; the account of a credit or an allowance is known from where it
 -- is kept
-unfoldable pub content_of : AccountName → List ℕ → Result Content WireFault
+unfoldable pub content_of : List ℕ → List ℕ → Result Content WireFault
 content_of account bytes = do
   d ← document_at bytes
   content_when account d (get (name_of avp.SessionId) d)
 
-abbrev pub account_of : Content → AccountName
+abbrev pub account_of : Content → List ℕ
 account_of (content.Request r) = r.account
 account_of (content.Credit c) = c.account
 account_of (content.Allow a) = a.account
@@ -96,24 +94,9 @@ abbrev pub ContentsReadAgain : (Content → List ℕ) → Type 0
 ContentsReadAgain text = (c : Content) → IsContent c → content_of (account_of c) (text c) ≡ Ok c
 
 -- a text that was written for this account is read as its content, unless memory runs out
-abbrev pub ReadsWritten : AccountName → List ℕ → Result Content WireFault → Type 0
+abbrev pub ReadsWritten : List ℕ → List ℕ → Result Content WireFault → Type 0
 ReadsWritten account bytes returned = (c : Content)
     → IsContent c → account_of c ≡ account → content_text c ≡ bytes → Gives (λ x. x) returned (Ok c)
-
--- whether bytes are the text of the content that they say
-abbrev pub is_own_text : List ℕ → Result Content WireFault → Bool
-is_own_text bytes (Ok c) = pointwise nat_eq (content_text c) bytes
-is_own_text bytes (Err e) = false
-
--- whether bytes are the text of a content of this account, as it is written
-abbrev pub is_content_text : List ℕ → List ℕ → Bool
-is_content_text account bytes = is_own_text bytes (content_of account bytes)
-
--- such a text is read, unless memory runs out, and no other is
-abbrev pub ReadsTexts : List ℕ → List ℕ → Result Content WireFault → Type 0
-ReadsTexts account bytes returned =
-    MatchResult returned (λ c. is_content_text account bytes ≡ true)
-    (λ e. ¬ (e ≡ Memory) → is_content_text account bytes ≡ false)
 
 -- what was written has its members in byte order
 abbrev pub CreditsAreInOrder : (Credit → Data) → Type 0

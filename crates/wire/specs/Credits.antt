@@ -1,8 +1,6 @@
 -- The body of a credit, and a credit as it is kept.
-use Rattle.std.specs.Prelude.{◌≡◌, ℕ, ◌≤◌, ◌&&◌, List, true, Some, None, option_map, IfSome}
+use Rattle.std.specs.Prelude.{◌≡◌, ℕ, ◌≤◌, ◌&&◌, List, true, Option, Some, None, option_map, IfSome}
 use Rattle.std.specs.Prelude.{Result, Ok, Err, nat_le, if◌then◌else◌}
-use Rattle.units.specs.Words.{no_end, greatest_number}
-use Rattle.identifiers.specs.Words.{AccountName, ReferenceName}
 use Rattle.serde_json.specs.Data.{Data, string, object, no_members, member}
 use Rattle.serde_json.specs.Written.{compact_text}
 use Rattle.identifiers.specs.Texts.{is_account_number, is_reference}
@@ -15,19 +13,19 @@ use Rattle.json_fields.specs.Gives.{◌>>=◌, or_fault, where_holds}
 use Rattle.json_fields.specs.Fields.{document_at, number_at, optional_at, text_at}
 use Rattle.json_fields.specs.Spelling.{whole, perhaps}
 
-unfoldable pub reference_at : Data → Result ReferenceName WireFault
+unfoldable pub reference_at : Data → Result (List ℕ) WireFault
 reference_at d = do
   s ← text_at avp.Reference d
   where_holds (is_reference s) (Invalid avp.Reference) s
 
 -- Amount, From, Until, Scope and Reference, in this order: 1 to 10^15 micro-units, from a moment of
 -- a command on, until one or "no end"
-unfoldable pub credit_at : AccountName → Data → Result Credit WireFault
+unfoldable pub credit_at : List ℕ → Data → Result Credit WireFault
 credit_at account d = do
   amount ← number_at avp.Amount 1 1_000_000_000_000_000 d
   from ← optional_at avp.From 0 4_102_444_799 d
-  until ← optional_at avp.Until 1 no_end d
-  scope ← optional_at avp.Scope 0 greatest_number d
+  until ← optional_at avp.Until 1 4_102_444_800 d
+  scope ← optional_at avp.Scope 0 4_294_967_295 d
   reference ← reference_at d
   Ok (record {
     account = account;
@@ -39,7 +37,7 @@ credit_at account d = do
   })
 
 -- the credit that the body of an operator's request is, or the first fault
-unfoldable pub credit_of : AccountName → List ℕ → Result Credit WireFault
+unfoldable pub credit_of : List ℕ → List ℕ → Result Credit WireFault
 credit_of account bytes = do
   d ← document_at bytes
   credit_at account d
@@ -62,6 +60,6 @@ pub record IsCredit (c : Credit) : Type 0 where
   pub some : 1 ≤ c.amount
   pub amount : c.amount ≤ 1_000_000_000_000_000
   pub from : IfSome c.from (λ m. m ≤ 4_102_444_799)
-  pub until : IfSome c.until (λ m. (1 ≤ m) × (m ≤ no_end))
-  pub scope : IfSome c.scope (λ g. g ≤ greatest_number)
+  pub until : IfSome c.until (λ m. (1 ≤ m) × (m ≤ 4_102_444_800))
+  pub scope : IfSome c.scope (λ g. g ≤ 4_294_967_295)
   pub reference : is_reference c.reference ≡ true

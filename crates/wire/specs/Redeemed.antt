@@ -1,7 +1,6 @@
 -- The body of a redemption, and a redemption as it is kept.
 -- Source: profile.
 use Rattle.std.specs.Prelude.{◌≡◌, ℕ, List, true, Result, Ok}
-use Rattle.identifiers.specs.Words.{AccountName, VoucherCode}
 use Rattle.serde_json.specs.Data.{Data, string, object, no_members, member}
 use Rattle.serde_json.specs.Written.{compact_text}
 use Rattle.identifiers.specs.Texts.{is_account_number, is_reference, is_voucher_code}
@@ -15,27 +14,27 @@ use Rattle.json_fields.specs.Fields.{document_at, text_at}
 use Rattle.wire.specs.Credits.{reference_at}
 
 -- the account is an E.164 number
-unfoldable pub account_at : Data → Result AccountName WireFault
+unfoldable pub account_at : Data → Result (List ℕ) WireFault
 account_at d = do
   n ← text_at avp.SubscriptionIdData d
   where_holds (is_account_number n) (Invalid avp.SubscriptionIdData) n
 
 -- Subscription-Id-Data and Reference, in this order
-unfoldable pub redemption_at : VoucherCode → Data → Result VoucherRedemption WireFault
+unfoldable pub redemption_at : List ℕ → Data → Result VoucherRedemption WireFault
 redemption_at code d = do
   account ← account_at d
   reference ← reference_at d
   Ok (record { code = code; account = account; reference = reference })
 
 -- the redemption that the body of an operator's request is, or the first fault
-unfoldable pub redemption_of : VoucherCode → List ℕ → Result VoucherRedemption WireFault
+unfoldable pub redemption_of : List ℕ → List ℕ → Result VoucherRedemption WireFault
 redemption_of code bytes = do
   d ← document_at bytes
   redemption_at code d
 
 -- ---- as it is kept
 
-unfoldable pub code_at : Data → Result VoucherCode WireFault
+unfoldable pub code_at : Data → Result (List ℕ) WireFault
 code_at d = do
   c ← text_at avp.VoucherCode d
   where_holds (is_voucher_code c) (Invalid avp.VoucherCode) c

@@ -1,7 +1,6 @@
 -- What the bodies of operators' requests say, member by member, whatever their order.
 -- Source: profile.
-use Rattle.std.specs.Prelude.{◌≡◌, ℕ, Option, Some, Ok, option_and_then}
-use Rattle.identifiers.specs.Words.{AccountName, VoucherCode}
+use Rattle.std.specs.Prelude.{◌≡◌, ℕ, List, Option, Some, Ok, option_and_then}
 use Rattle.serde_json.specs.Data.{Data}
 use Rattle.serde_json.specs.Find.{get, as_number, as_u64}
 use Rattle.commands.specs.declared.avp.Avp.{Avp}
@@ -44,16 +43,15 @@ pub record SaysRedemption (r : VoucherRedemption) (d : Data) : Type 0 where
 -- ---- what is read is said
 
 abbrev pub CreditsAreSaid : Type 0
-CreditsAreSaid = (account : AccountName) (d : Data) (c : Credit) → credit_at account d ≡ Ok c →
+CreditsAreSaid = (account : List ℕ) (d : Data) (c : Credit) → credit_at account d ≡ Ok c →
     SaysCredit c d
 
 abbrev pub AllowancesAreSaid : Type 0
-AllowancesAreSaid = (account : AccountName) (d : Data) (a : Allowance) →
-    allowance_at account d ≡ Ok a →
+AllowancesAreSaid = (account : List ℕ) (d : Data) (a : Allowance) → allowance_at account d ≡ Ok a →
     SaysAllowance a d
 
 abbrev pub RedemptionsAreSaid : Type 0
-RedemptionsAreSaid = (code : VoucherCode) (d : Data) (r : VoucherRedemption) →
+RedemptionsAreSaid = (code : List ℕ) (d : Data) (r : VoucherRedemption) →
     redemption_at code d ≡ Ok r → SaysRedemption r d
 
 -- ---- what is said is read

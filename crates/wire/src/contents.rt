@@ -1,5 +1,3 @@
-//! What is kept of a command, as a text.
-
 ghost use Rattle.std.specs.Prelude.{◌≡◌, IfOk, Ok, string_bytes};
 ghost use Rattle.serde_json.specs.Find.{get};
 ghost use Rattle.serde_json.specs.View.{view};
@@ -12,8 +10,7 @@ ghost use Rattle.wire.specs.Contents.{content_text, content_of, request_content_
 ghost use Rattle.wire.specs.Contents.{credit_content_in, allowance_content_in};
 ghost use Rattle.wire.specs.Contents.{redemption_content_in, given_content_when};
 ghost use Rattle.wire.specs.Contents.{operator_content_when, content_when, account_of};
-ghost use Rattle.wire.specs.Contents.{ContentsReadAgain, ReadsTexts, ReadsWritten};
-ghost use Rattle.wire.specs.Contents.{CreditsAreInOrder};
+ghost use Rattle.wire.specs.Contents.{ContentsReadAgain, ReadsWritten, CreditsAreInOrder};
 ghost use Rattle.wire.specs.Contents.{AllowancesAreInOrder, RedemptionsAreInOrder};
 
 use crate::allowances::{allowance_in, allowance_written};
@@ -203,7 +200,6 @@ pub fn read_content(
     ensures account { IfOk result (λ c. account_of c ≡ account) }
     ensures said { IfOk result (λ c. content_of account bytes.now ≡ Ok c) }
     ensures written { ReadsWritten account bytes.now result }
-    ensures texts { ReadsTexts account bytes.now result }
 {
     let content = content(alloc, account, bytes)?;
     let text = write_content(alloc, &content)?;

@@ -19,7 +19,7 @@ pub use crate::laws::{allowance_is_read, credit_is_read, redemption_is_read};
 pub use crate::redeeming::read_redeem;
 pub use crate::requests::read_request;
 pub use json_fields::WireFault;
-pub use wire_answers::{answer_again, answer_in_order, read_answer, write_answer, write_fault};
+pub use wire_answers::{answer_again, answer_in_order, read_answer, write_answer, write_fault, WrittenAnswer};
 pub use wire_requests::{
     request_again, request_fault_is_told, request_in_order, request_is_read, request_is_said,
     write_request,

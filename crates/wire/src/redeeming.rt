@@ -1,5 +1,3 @@
-//! The body of a redemption.
-
 ghost use Rattle.std.specs.Prelude.{◌≡◌, IfOk, OnOk, string_bytes};
 ghost use Rattle.serde_json.specs.View.{view};
 ghost use Rattle.json_fields.specs.Gives.{Gives};

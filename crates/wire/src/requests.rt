@@ -1,5 +1,3 @@
-//! A request read as a command.
-
 ghost use Rattle.json_fields.specs.Gives.{Gives};
 ghost use Rattle.wire.specs.Requests.{command_of};
 

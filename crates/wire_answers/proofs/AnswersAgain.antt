@@ -8,7 +8,7 @@ use Rattle.std.specs.List.{AllByRecursion, list_all, find}
 use Rattle.std.specs.Str.{IsUtf8}
 use Rattle.std.specs.Ordering.{nat_cmp, is_eq}
 use Rattle.std.specs.declared.cmp.Ordering.TheVariants.{Greater}
-use Rattle.std.specs.Cmp.Lexicographic.{bytes_decides, pointwise, slice_cmp}
+use Rattle.std.specs.Cmp.Lexicographic.{slice_cmp}
 use Rattle.std.proofs.lemmas.Bool.{and_parts}
 use Rattle.json.proofs.Printed.Utf8.{are_ascii, IsUtf8-are_ascii}
 use Rattle.serde_json.specs.Data.{Data, string, array, object, Items, no_items, item, Members}
@@ -99,8 +99,7 @@ use Rattle.wire_answers.specs.ReadingAnswers.{checked_when, unserved_in, served_
 use Rattle.wire_answers.specs.ReadingAnswers.{request_answer_at, refusal_at, swept_when}
 use Rattle.wire_answers.specs.ReadingAnswers.{bucket_when, done_at, refused_when, balance_when}
 use Rattle.wire_answers.specs.ReadingAnswers.{answer_when, answer_of, AnswersReadAgain}
-use Rattle.wire_answers.specs.ReadingAnswers.{ReadsWritten, AnswersAreInOrder, is_answer_text}
-use Rattle.wire_answers.specs.ReadingAnswers.{is_own_text}
+use Rattle.wire_answers.specs.ReadingAnswers.{ReadsWritten, AnswersAreInOrder}
 
 -- ---- members
 
@@ -726,34 +725,6 @@ pub never_written : (bytes : List ℕ) (a : Answer) (returned : Result Answer Wi
 never_written bytes a returned given other b is text =
     absurd (other (subst (λ (x : Answer). answer_text x ≡ bytes)
     (same_value b a (sym (says_written bytes b is text) ∙ given)) text))
-
--- ---- texts and no texts
-
-same_bytes : (text bytes : List ℕ) → text ≡ bytes → pointwise nat_eq text bytes ≡ true
-same_bytes text bytes is = (bytes_decides text bytes).1 is
-
-other_bytes : (text bytes : List ℕ) → (text ≡ bytes → ⊥) → pointwise nat_eq text bytes ≡ false
-other_bytes text bytes other = go (pointwise nat_eq text bytes) refl
-  where
-    go : (b : Bool) → pointwise nat_eq text bytes ≡ b → pointwise nat_eq text bytes ≡ false
-    go false e = e
-    go true e = absurd (other ((bytes_decides text bytes).0 e))
-
-pub text_read : (bytes : List ℕ) (a : Answer) → answer_of bytes ≡ Ok a → answer_text a ≡ bytes →
-    is_answer_text bytes ≡ true
-text_read bytes a said text =
-    ap (is_own_text bytes) said ∙ same_bytes (answer_text a) bytes text
-
-pub text_of_other : (bytes : List ℕ) (a : Answer) → answer_of bytes ≡ Ok a →
-    (answer_text a ≡ bytes → ⊥) → is_answer_text bytes ≡ false
-text_of_other bytes a said other =
-    ap (is_own_text bytes) said ∙ other_bytes (answer_text a) bytes other
-
-pub text_refused : (bytes : List ℕ) (fault told : WireFault) →
-    Gives (λ (a : Answer). a) (Err fault) (answer_of bytes) → (fault ≡ Memory → told ≡ Memory) →
-    ¬ (told ≡ Memory) → is_answer_text bytes ≡ false
-text_refused bytes fault told given keeps more =
-    ap (is_own_text bytes) (given (λ e. more (keeps e)))
 
 -- ---- the order of members
 

@@ -1,8 +1,6 @@
 -- Reading an answer that was written.
-use Rattle.std.specs.Prelude.{◌≡◌, ℕ, ◌==◌, ◌&&◌, List, [], ◌∷◌, Bool, true, false, Option, Some}
-use Rattle.std.specs.Prelude.{None, Result, Ok, Err, MatchResult, nat_le, nat_eq, if◌then◌else◌}
-use Rattle.std.specs.Cmp.Lexicographic.{pointwise}
-use Rattle.units.specs.Words.{Moment, Seconds, greatest_number}
+use Rattle.std.specs.Prelude.{◌≡◌, ℕ, ◌==◌, ◌&&◌, List, [], ◌∷◌, Bool, true, Option, Some, None}
+use Rattle.std.specs.Prelude.{Result, Ok, Err, nat_le, nat_eq, if◌then◌else◌}
 use Rattle.serde_json.specs.Data.{Data, Items}
 use Rattle.serde_json.specs.Find.{get}
 use Rattle.identifiers.specs.Texts.{is_redirect_address}
@@ -34,7 +32,7 @@ use Rattle.commands.specs.declared.answer.RequestAnswer.{RequestAnswer}
 use Rattle.commands.specs.declared.answer.Answer.{Answer}
 use Rattle.commands.specs.declared.answer.Answer.TheVariants as answer
 use Rattle.json_fields.specs.declared.fault.WireFault.{WireFault}
-use Rattle.json_fields.specs.declared.fault.WireFault.TheVariants.{Memory, NotRequest}
+use Rattle.json_fields.specs.declared.fault.WireFault.TheVariants.{NotRequest}
 use Rattle.json_fields.specs.Gives.{◌>>=◌, or_fault, where_holds, read_each, Gives}
 use Rattle.json_fields.specs.Fields.{number_at, optional_in, object_at, array_of, document_at}
 use Rattle.json_fields.specs.Unit.{kind_told, units_at}
@@ -77,17 +75,17 @@ quantity_in g = do
   Ok (record { kind = kind; units = n })
 
 -- when the price of a grant changes, where it does
-abbrev pub switch_at : Data → Result (Option Moment) WireFault
+abbrev pub switch_at : Data → Result (Option ℕ) WireFault
 switch_at g = optional_in tariff_time_change NotRequest 0 4102488000 g
 
-unfoldable pub session_grant_in : Measured → Seconds → Data → Data → Result ServiceOutcome WireFault
+unfoldable pub session_grant_in : Measured → ℕ → Data → Data → Result ServiceOutcome WireFault
 session_grant_in quantity validity d g = do
   switch ← switch_at g
   last ← final_at d
   Ok (service.Granted
       (record { quantity = quantity; switch = switch; validity = validity; last = last }))
 
-abbrev pub granted_when : Data → Data → Measured → Option Seconds → Result ServiceOutcome WireFault
+abbrev pub granted_when : Data → Data → Measured → Option ℕ → Result ServiceOutcome WireFault
 granted_when d g quantity None = Ok (service.Debited quantity)
 granted_when d g quantity (Some validity) = session_grant_in quantity validity d g
 
@@ -111,7 +109,7 @@ service_told n d =
 
 unfoldable pub service_answer_at : Data → Result ServiceAnswer WireFault
 service_answer_at d = do
-  g ← number_at avp.RatingGroup 0 greatest_number d
+  g ← number_at avp.RatingGroup 0 4294967295 d
   n ← number_in result_code 0 9999 d
   o ← service_told n d
   Ok (record { group = g; outcome = o })
@@ -174,7 +172,7 @@ unfoldable pub request_answer_at : Data → Result RequestAnswer WireFault
 request_answer_at d = do
   session ← session_at d
   kind ← kind_at d
-  number ← number_at avp.RequestNumber 0 greatest_number d
+  number ← number_at avp.RequestNumber 0 4294967295 d
   n ← number_in result_code 0 9999 d
   outcome ← outcome_told n d
   Ok (record { session = session; kind = kind; number = number; outcome = outcome })
@@ -201,7 +199,7 @@ bucket_when d None = do
 unfoldable pub done_at : Data → Result Answer WireFault
 done_at d = do
   code ← number_in result_code 2001 2001 d
-  number ← optional_in bucket NotRequest 0 greatest_number d
+  number ← optional_in bucket NotRequest 0 4294967295 d
   bucket_when d number
 
 abbrev pub balance_when : Data → Option Data → Result Answer WireFault
@@ -230,21 +228,6 @@ AnswersReadAgain text = (a : Answer) → IsAnswer a → answer_of (text a) ≡ O
 abbrev pub ReadsWritten : List ℕ → Result Answer WireFault → Type 0
 ReadsWritten bytes returned =
     (a : Answer) → IsAnswer a → answer_text a ≡ bytes → Gives (λ x. x) returned (Ok a)
-
--- whether bytes are the text of the answer that they say
-abbrev pub is_own_text : List ℕ → Result Answer WireFault → Bool
-is_own_text bytes (Ok a) = pointwise nat_eq (answer_text a) bytes
-is_own_text bytes (Err e) = false
-
--- whether bytes are the text of an answer, as it is written
-abbrev pub is_answer_text : List ℕ → Bool
-is_answer_text bytes = is_own_text bytes (answer_of bytes)
-
--- such a text is read, unless memory runs out, and no other is
-abbrev pub ReadsTexts : List ℕ → Result Answer WireFault → Type 0
-ReadsTexts bytes returned =
-    MatchResult returned (λ a. is_answer_text bytes ≡ true)
-    (λ e. ¬ (e ≡ Memory) → is_answer_text bytes ≡ false)
 
 -- what was written has its members in byte order
 abbrev pub AnswersAreInOrder : (Answer → Data) → Type 0

@@ -1,7 +1,5 @@
 -- Reading a balance that was written.
 use Rattle.std.specs.Prelude.{ℕ, List, [], ◌∷◌, Bool, Option, Some, None, Result, Ok}
-use Rattle.units.specs.Words.{Moment, GroupId, greatest_number}
-use Rattle.identifiers.specs.Words.{AccountName}
 use Rattle.serde_json.specs.Data.{Data, Items}
 use Rattle.serde_json.specs.Find.{get, as_array, as_bool}
 use Rattle.identifiers.specs.Texts.{is_account_number}
@@ -24,11 +22,11 @@ use Rattle.wire_answers.specs.Members.{member_in, number_in, text_in}
 abbrev pub amount_in : List ℕ → Data → Result ℕ WireFault
 amount_in name d = number_in name 0 18446744073709551615 d
 
-abbrev pub moment_in : List ℕ → Data → Result Moment WireFault
+abbrev pub moment_in : List ℕ → Data → Result ℕ WireFault
 moment_in name d = number_in name 0 4102488000 d
 
-abbrev pub scope_in : Data → Result (Option GroupId) WireFault
-scope_in d = optional_in (name_of avp.Scope) NotRequest 0 greatest_number d
+abbrev pub scope_in : Data → Result (Option ℕ) WireFault
+scope_in d = optional_in (name_of avp.Scope) NotRequest 0 4294967295 d
 
 -- which unit a Unit names is seen where its text is compared
 abbrev pub unit_when : Option Data → BucketUnit
@@ -53,7 +51,7 @@ amounts_in d = do
 unfoldable pub bucket_with : Amounts → Data → Result BucketBalance WireFault
 bucket_with amounts d = do
   f ← moment_in (name_of avp.From) d
-  n ← number_in names.number 0 greatest_number d
+  n ← number_in names.number 0 4294967295 d
   s ← scope_in d
   u ← moment_in (name_of avp.Until) d
   Ok (record {
@@ -83,7 +81,7 @@ buckets_in d = do
   ds ← or_fault NotRequest (as_array v)
   buckets_from ds
 
-unfoldable pub account_in : Data → Result AccountName WireFault
+unfoldable pub account_in : Data → Result (List ℕ) WireFault
 account_in d = do
   s ← text_in account d
   where_holds (is_account_number s) NotRequest s

@@ -1,7 +1,6 @@
 -- What the types of an answer's parts keep: each value of the program keeps it.
-use Rattle.std.specs.Prelude.{◌≡◌, ◌≤◌, true, IfSome, ⊤}
+use Rattle.std.specs.Prelude.{◌≡◌, ℕ, ◌≤◌, List, Bool, true, IfSome, ⊤}
 use Rattle.std.specs.List.{AllByRecursion}
-use Rattle.units.specs.Words.{greatest_number}
 use Rattle.identifiers.specs.Texts.{is_account_number, is_session_id, is_redirect_address}
 use Rattle.commands.specs.Measured.{Measured}
 use Rattle.commands.specs.Quantities.{is_quantity}
@@ -37,7 +36,7 @@ IsServiceOutcome (service.Debited quantity) = is_quantity quantity.kind quantity
 IsServiceOutcome (service.Failed failure) = ⊤
 
 pub record IsServiceAnswer (s : ServiceAnswer) : Type 0 where
-  pub group : s.group ≤ greatest_number
+  pub group : s.group ≤ 4294967295
   pub validity : IfSome (validity_of s.outcome) (λ n. n ≤ 4294967295)
   pub outcome : IsServiceOutcome s.outcome
 
@@ -54,14 +53,14 @@ IsOutcome (outcome.Failed failure) = ⊤
 
 pub record IsRequestAnswer (a : RequestAnswer) : Type 0 where
   pub session : is_session_id a.session ≡ true
-  pub number : a.number ≤ greatest_number
+  pub number : a.number ≤ 4294967295
   pub outcome : IsOutcome a.outcome
 
 pub record IsBucketBalance (b : BucketBalance) : Type 0 where
-  pub number : b.number ≤ greatest_number
+  pub number : b.number ≤ 4294967295
   pub from : b.from ≤ 4102488000
   pub until : b.until ≤ 4102488000
-  pub scope : IfSome b.scope (λ g. g ≤ greatest_number)
+  pub scope : IfSome b.scope (λ g. g ≤ 4294967295)
   pub credited : b.credited ≤ 18446744073709551615
   pub available : b.available ≤ 18446744073709551615
   pub reserved : b.reserved ≤ 18446744073709551615
@@ -76,7 +75,7 @@ pub record IsAccountBalance (a : AccountBalance) : Type 0 where
 abbrev pub IsAnswer : Answer → Type 0
 IsAnswer (answer.Request a) = IsRequestAnswer a
 IsAnswer answer.Done = ⊤
-IsAnswer (answer.Bucket n) = n ≤ greatest_number
+IsAnswer (answer.Bucket n) = n ≤ 4294967295
 IsAnswer (answer.Swept accounts) = accounts ≤ 18446744073709551615
 IsAnswer (answer.Balance balance) = IsAccountBalance balance
 IsAnswer (answer.Refused refusal) = ⊤

@@ -1,6 +1,5 @@
 -- How an answer is spelled: compact JSON, with the members in the byte order of their names.
 use Rattle.std.specs.Prelude.{ℕ, negsuc, List, [], ◌∷◌, Option, Some, None, option_map}
-use Rattle.units.specs.Words.{Moment, Seconds}
 use Rattle.serde_json.specs.Data.{Data, negative, string, array, object, Items, no_items, item}
 use Rattle.serde_json.specs.Data.{Members, no_members, member}
 use Rattle.serde_json.specs.Written.{compact_text}
@@ -39,7 +38,7 @@ use Rattle.json_fields.specs.Unit.{name_of_unit}
 -- ---- services
 
 -- units, and when the price changes where it does (Granted-Service-Unit, RFC 8506 section 8.17)
-unfoldable pub granted_data : Measured → Option Moment → Data
+unfoldable pub granted_data : Measured → Option ℕ → Data
 granted_data quantity switch = object
     (member (name_of_unit quantity.kind) (whole quantity.units)
     (perhaps tariff_time_change (option_map whole switch) no_members))
@@ -69,7 +68,7 @@ granted_of (service.Granted g) = Some (granted_data g.quantity g.switch)
 granted_of (service.Debited quantity) = Some (granted_data quantity None)
 granted_of (service.Failed failure) = None
 
-abbrev pub validity_of : ServiceOutcome → Option Seconds
+abbrev pub validity_of : ServiceOutcome → Option ℕ
 validity_of service.Settled = None
 validity_of (service.Granted g) = Some g.validity
 validity_of (service.Debited quantity) = None

@@ -1,5 +1,3 @@
-//! An answer, read.
-
 ghost use Rattle.std.specs.Prelude.{◌≡◌, ◌≤◌, ◌⊎◌, IfOk, Ok};
 ghost use Rattle.serde_json.specs.View.{view};
 ghost use Rattle.serde_json.specs.Find.{get};
@@ -11,8 +9,7 @@ ghost use Rattle.wire_answers.specs.ReadingAnswers.{checked_when, unserved_in, s
 ghost use Rattle.wire_answers.specs.ReadingAnswers.{outcome_told, request_answer_at, refusal_at};
 ghost use Rattle.wire_answers.specs.ReadingAnswers.{done_at, answer_when, balance_when};
 ghost use Rattle.wire_answers.specs.ReadingAnswers.{refused_when, answer_of, AnswersReadAgain};
-ghost use Rattle.wire_answers.specs.ReadingAnswers.{ReadsTexts, ReadsWritten};
-ghost use Rattle.wire_answers.specs.ReadingAnswers.{AnswersAreInOrder};
+ghost use Rattle.wire_answers.specs.ReadingAnswers.{ReadsWritten, AnswersAreInOrder};
 
 use crate::members;
 use crate::reading_balances::balance;
@@ -212,7 +209,6 @@ pub fn read_answer(alloc: Global, bytes: &[u8]) -> Result<Answer, WireFault>
     ensures text { IfOk result (λ a. answer_text a ≡ bytes.now) }
     ensures said { IfOk result (λ a. answer_of bytes.now ≡ Ok a) }
     ensures written { ReadsWritten bytes.now result }
-    ensures texts { ReadsTexts bytes.now result }
 {
     let answer = match answer(alloc, bytes) {
         Ok(answer) => answer,

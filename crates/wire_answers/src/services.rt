@@ -1,5 +1,3 @@
-//! The services of an answer, written.
-
 ghost use Rattle.std.specs.Prelude.{◌≡◌, ◌++◌, ◌≤◌, IfSome, OnOk, option_map, true};
 ghost use Rattle.std.specs.List.{AllByRecursion};
 ghost use Rattle.identifiers.specs.Texts.{is_redirect_address};

@@ -6,4 +6,3 @@ pub mod Said
 pub mod SaidServices
 pub mod Told
 pub mod SaidIsRead
-pub mod ReadIsFree

@@ -1,4 +1,4 @@
--- What a request must not have beside what it says: with this, and only so, what is said is read.
+-- What a request must not have beside what it says: with this, what is said is read.
 use Rattle.std.specs.Prelude.{◌≡◌, ◌&&◌, negsuc, pos, int_le, true, None, Ok, is_some, IfSome}
 use Rattle.std.specs.Prelude.{option_and_then}
 use Rattle.std.specs.List.{AllByRecursion}
@@ -39,7 +39,3 @@ IsFree a d = AllByRecursion AsksForUnits (services_told d)
 abbrev pub ReadsAllThatIsSaid : Type 0
 ReadsAllThatIsSaid = (r : Request) (d : Data) → IsRequest r → SaysRequest r d → IsFree r.ask d →
     request_in d ≡ Ok r
-
--- and what is read has nothing in its way
-abbrev pub ReadsOnlyWhatIsFree : Type 0
-ReadsOnlyWhatIsFree = (r : Request) (d : Data) → request_in d ≡ Ok r → IsFree r.ask d

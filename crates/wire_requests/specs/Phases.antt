@@ -2,7 +2,6 @@
 use Rattle.std.specs.Prelude.{ℕ, ◌&&◌, ◌==◌, List, [], Bool, true, not, Option, Some, None, is_some}
 use Rattle.std.specs.Prelude.{is_none, Result, Ok, Err, nat_le}
 use Rattle.std.specs.List.{list_any}
-use Rattle.units.specs.Words.{GroupId, greatest_number}
 use Rattle.serde_json.specs.Data.{Data, Items, no_items, item}
 use Rattle.serde_json.specs.Events.{items_len}
 use Rattle.serde_json.specs.Find.{get, as_object}
@@ -41,13 +40,13 @@ used_at Update d = reported_when (get (name_of avp.UsedUnit) d)
 used_at Termination d = reported_when (get (name_of avp.UsedUnit) d)
 
 -- a service of this rating group is there
-abbrev pub group_is_taken : List Service → GroupId → Bool
+abbrev pub group_is_taken : List Service → ℕ → Bool
 group_is_taken services group = list_any (λ (s : Service). s.group == group) services
 
 -- a service, behind those of other groups
 unfoldable pub service_at : Phase → List Service → Data → Result Service WireFault
 service_at phase done d = do
-  g ← number_at avp.RatingGroup 0 greatest_number d
+  g ← number_at avp.RatingGroup 0 4294967295 d
   free ← where_holds (not (group_is_taken done g)) (Invalid avp.RatingGroup) g
   r ← requested_at phase d
   u ← used_at phase d

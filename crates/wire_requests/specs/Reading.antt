@@ -1,8 +1,6 @@
 -- The fields of a request, read in their order: the first fault is the one told.
 use Rattle.std.specs.Prelude.{ℕ, ◌==◌, List, Option, Some, None, is_none, Result, Ok, Err}
 use Rattle.std.specs.Prelude.{if◌then◌else◌}
-use Rattle.units.specs.Words.{greatest_number}
-use Rattle.identifiers.specs.Words.{SessionName, AccountName}
 use Rattle.serde_json.specs.Data.{Data, Items, no_items, item}
 use Rattle.serde_json.specs.Find.{get, as_object}
 use Rattle.identifiers.specs.Texts.{is_session_id, is_account_number}
@@ -27,7 +25,7 @@ use Rattle.wire_requests.specs.Phases.{services_at}
 use Rattle.wire_requests.specs.Refunds.{refund_at}
 
 -- Session-Id
-unfoldable pub session_at : Data → Result SessionName WireFault
+unfoldable pub session_at : Data → Result (List ℕ) WireFault
 session_at d = do
   s ← text_at avp.SessionId d
   where_holds (is_session_id s) (Invalid avp.SessionId) s
@@ -39,7 +37,7 @@ kind_at d = do
   or_fault (Invalid avp.RequestType) (kind_numbered n)
 
 -- the account is an E.164 number (Subscription-Id, RFC 8506 section 8.46)
-unfoldable pub account_at : Data → Result AccountName WireFault
+unfoldable pub account_at : Data → Result (List ℕ) WireFault
 account_at d = do
   s ← object_at avp.SubscriptionId d
   t ← number_at avp.SubscriptionIdType 0 0 s
@@ -59,7 +57,7 @@ event_of action v = do
   ds ← array_of avp.Services v
   d ← or_fault (Invalid avp.Services) (only_item ds)
   m ← or_fault (Invalid avp.Services) (as_object d)
-  g ← number_at avp.RatingGroup 0 greatest_number d
+  g ← number_at avp.RatingGroup 0 4294967295 d
   r ← required_at d
   u ← where_holds (is_none (get (name_of avp.UsedUnit) d)) (Invalid avp.UsedUnit) g
   Ok (record { action = action; group = g; requested = r })
@@ -92,7 +90,7 @@ unfoldable pub request_in : Data → Result Request WireFault
 request_in d = do
   session ← session_at d
   kind ← kind_at d
-  number ← number_at avp.RequestNumber 0 greatest_number d
+  number ← number_at avp.RequestNumber 0 4294967295 d
   account ← account_at d
   ask ← ask_at kind d
   Ok (record { session = session; number = number; account = account; ask = ask })

@@ -1,7 +1,6 @@
 -- The money of a refund.
 use Rattle.std.specs.Prelude.{ℕ, ◌&&◌, ℤ, pos, negsuc, unsigned_abs, int_le, Option, Some, None}
 use Rattle.std.specs.Prelude.{Result, Ok, nat_le, option_and_then}
-use Rattle.units.specs.Words.{Micros}
 use Rattle.serde_json.specs.Data.{Data}
 use Rattle.serde_json.specs.Find.{get, as_number, as_i64}
 use Rattle.units.specs.Amounts.{micros_of}
@@ -24,11 +23,11 @@ unfoldable pub exponent_at : Data → Result ℤ WireFault
 exponent_at d = exponent_when (get (name_of avp.Exponent) d)
 
 -- the micro-units of digits and an exponent, which are 0 or more
-abbrev pub micros_told : ℕ → ℤ → Micros
+abbrev pub micros_told : ℕ → ℤ → ℕ
 micros_told digits exponent = unsigned_abs (micros_of (pos digits) exponent)
 
 -- Value-Digits before Exponent; more than 10^15 micro-units are a fault of Value-Digits
-unfoldable pub money_at : Data → Result Micros WireFault
+unfoldable pub money_at : Data → Result ℕ WireFault
 money_at d = do
   digits ← number_at avp.ValueDigits 1 18446744073709551615 d
   exponent ← exponent_at d

@@ -1,7 +1,6 @@
 -- What the types of a request's parts keep: each value of the program keeps it.
 use Rattle.std.specs.Prelude.{◌≡◌, ℕ, ◌≤◌, List, true, Ok, IfSome, ⊤}
 use Rattle.std.specs.List.{AllByRecursion}
-use Rattle.units.specs.Words.{greatest_number}
 use Rattle.identifiers.specs.Texts.{is_session_id, is_account_number}
 use Rattle.commands.specs.Quantities.{is_quantity}
 use Rattle.commands.specs.Used.{Used}
@@ -27,12 +26,12 @@ abbrev pub IsUsed : Used → Type 0
 IsUsed u = is_report u.kind u.parts ≡ true
 
 pub record IsService (s : Service) : Type 0 where
-  pub group : s.group ≤ greatest_number
+  pub group : s.group ≤ 4294967295
   pub requested : IfSome s.requested IsRequested
   pub used : IfSome s.used IsUsed
 
 pub record IsEvent (e : Event) : Type 0 where
-  pub group : e.group ≤ greatest_number
+  pub group : e.group ≤ 4294967295
   pub requested : IsRequested e.requested
 
 abbrev pub IsAsk : Ask → Type 0
@@ -44,7 +43,7 @@ IsAsk (ask.Refund r) = is_refund r.micros r.currency ≡ true
 
 pub record IsRequest (r : Request) : Type 0 where
   pub session : is_session_id r.session ≡ true
-  pub number : r.number ≤ greatest_number
+  pub number : r.number ≤ 4294967295
   pub account : is_account_number r.account ≡ true
   pub ask : IsAsk r.ask
 

@@ -1,8 +1,6 @@
 -- What a request says, member by member, whatever their order.
 use Rattle.std.specs.Prelude.{◌≡◌, ℕ, ℤ, pos, List, [], ◌∷◌, Option, Some, None, Ok}
 use Rattle.std.specs.Prelude.{option_and_then, true, ⊤, ◌⊎◌}
-use Rattle.units.specs.Words.{Micros, UnitCount}
-use Rattle.identifiers.specs.Words.{AccountName}
 use Rattle.serde_json.specs.Data.{Data, Items, no_items, item}
 use Rattle.serde_json.specs.Find.{get, as_number, as_u64, as_i64, as_str, as_array}
 use Rattle.units.specs.declared.blocks.UnitKind.{UnitKind}
@@ -39,7 +37,7 @@ pub record SaysNumber (a : Avp) (n : ℕ) (d : Data) : Type 0 where
   pub is : option_and_then as_u64 (as_number value) ≡ Some n
 
 -- the Subscription-Id names this account, of type END_USER_E164
-pub record SaysAccount (account : AccountName) (d : Data) : Type 0 where
+pub record SaysAccount (account : List ℕ) (d : Data) : Type 0 where
   pub value : Data
   pub stands : get (name_of avp.SubscriptionId) d ≡ Some value
   pub e164 : SaysNumber avp.SubscriptionIdType 0 value
@@ -55,7 +53,7 @@ pub record SaysHead (r : Request) (d : Data) : Type 0 where
 -- ---- what is asked for
 
 -- this many units of a kind, and of no other
-pub record SaysUnits (kind : UnitKind) (units : UnitCount) (d : Data) : Type 0 where
+pub record SaysUnits (kind : UnitKind) (units : ℕ) (d : Data) : Type 0 where
   pub value : Data
   pub stands : get (name_of_unit kind) d ≡ Some value
   pub is : option_and_then as_u64 (as_number value) ≡ Some units
@@ -124,7 +122,7 @@ SaysExponent exponent None = exponent ≡ pos 0
 SaysExponent exponent (Some value) = option_and_then as_i64 (as_number value) ≡ Some exponent
 
 -- an amount: its digits times 10 to its exponent, in micro-units
-pub record SaysAmount (micros : Micros) (value : Data) : Type 0 where
+pub record SaysAmount (micros : ℕ) (value : Data) : Type 0 where
   pub digits : ℕ
   pub exponent : ℤ
   pub told : SaysNumber avp.ValueDigits digits value

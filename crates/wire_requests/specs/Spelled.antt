@@ -1,7 +1,6 @@
 -- How a request is spelled where it is kept: compact JSON, with the members in the byte order of
 -- their names.
 use Rattle.std.specs.Prelude.{ℕ, List, [], ◌∷◌, Option, Some, None, option_map}
-use Rattle.identifiers.specs.Words.{AccountName}
 use Rattle.serde_json.specs.Data.{Data, string, array, object, Items, no_items, item, Members}
 use Rattle.serde_json.specs.Data.{no_members, member}
 use Rattle.serde_json.specs.Written.{compact_text}
@@ -73,7 +72,7 @@ ask_named (ask.Event e) =
 ask_named (ask.Refund r) =
     (name_of avp.RequestedAction, whole 1) ∷ (name_of avp.RequestedUnit, refund_data r) ∷ []
 
-unfoldable pub subscription_data : AccountName → Data
+unfoldable pub subscription_data : List ℕ → Data
 subscription_data account = object
     (member (name_of avp.SubscriptionIdData) (string account)
     (member (name_of avp.SubscriptionIdType) (whole 0) no_members))

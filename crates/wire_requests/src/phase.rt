@@ -1,5 +1,3 @@
-//! Where a request is in its session.
-
 /// Where a session's request stands in its session.
 #[derive(Clone, Copy, PartialEq, Eq)]
 pub(crate) enum Phase {

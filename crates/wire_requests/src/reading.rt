@@ -1,5 +1,3 @@
-//! A request, read.
-
 ghost use Rattle.std.specs.Prelude.{◌≡◌, IfOk, IsTrue};
 ghost use Rattle.serde_json.specs.View.{view, items_view};
 ghost use Rattle.json_fields.specs.Gives.{Gives, Says, or_fault};
@@ -7,7 +5,7 @@ ghost use Rattle.wire_requests.specs.Reading.{session_at, kind_at, account_at, o
 ghost use Rattle.wire_requests.specs.Reading.{event_at, action_at, ask_at, request_in, request_of};
 ghost use Rattle.wire_requests.specs.Said.{ReadsWhatIsSaid};
 ghost use Rattle.wire_requests.specs.Told.{FaultsAreTold};
-ghost use Rattle.wire_requests.specs.Free.{ReadsAllThatIsSaid, ReadsOnlyWhatIsFree};
+ghost use Rattle.wire_requests.specs.Free.{ReadsAllThatIsSaid};
 
 use crate::phase::Phase;
 use crate::refund::refund;
@@ -185,11 +183,9 @@ pub fn request_is_said()
 
 /// What is said of a request is read, whatever the order of its members and whatever else it has,
 /// where nothing stands in its way: a Requested-Service-Unit of a service is an object without
-/// CC-Money, and the Exponent of a refund is from -6 to 0 (RFC 8506 sections 8.9 and 8.18). So it
-/// is of each that is read.
+/// CC-Money, and the Exponent of a refund is from -6 to 0.
 pub fn request_is_read()
-    ensures read { ReadsAllThatIsSaid }
-    ensures free { ReadsOnlyWhatIsFree }
+    ensures { ReadsAllThatIsSaid }
 {}
 
 /// A fault of a request is told of a member: missing only where the object that has to hold it has

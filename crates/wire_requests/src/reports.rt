@@ -1,5 +1,3 @@
-//! What a service asks for and reports, read.
-
 ghost use Rattle.std.specs.Prelude.{◌≡◌, ◌≤◌, []};
 ghost use Rattle.serde_json.specs.View.{view, items_view};
 ghost use Rattle.json_fields.specs.Gives.{Gives, Says};

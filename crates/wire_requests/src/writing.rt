@@ -1,5 +1,3 @@
-//! A request, written.
-
 ghost use Rattle.std.specs.Prelude.{◌≡◌, IfOk, OnOk, string_bytes, Ok, true};
 ghost use Rattle.serde_json.specs.Data.{array, no_items, item};
 ghost use Rattle.json_fields.specs.Tokens.{Adds, tokens_of, member_tokens, named_tokens};

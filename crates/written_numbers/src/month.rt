@@ -1,5 +1,3 @@
-//! A civil month.
-
 ghost use Rattle.std.specs.Prelude.{◌≡◌, ◌≤◌, ◌%◌, IsTrue, if◌then◌else◌, Some, None};
 ghost use Rattle.written_numbers.specs.Months.{as_month, is_month, month_of};
 

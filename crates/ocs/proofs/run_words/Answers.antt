@@ -7,7 +7,7 @@ use Rattle.std.specs.Io.KnownBytes.{Appends}
 use Rattle.office.specs.Written.{WritesBeginning}
 use Rattle.ocs.specs.Told.{line_of}
 use Rattle.ocs.proofs.EndLemmas.{line_said, memory_alone, printed_said, not_done, not_once}
-use Rattle.ocs.proofs.EndLemmas.{nothing_started, started_said, told_said, told_unread, unwritten_begins, unwritten_line}
+use Rattle.ocs.proofs.EndLemmas.{told_said, told_unread, unwritten_begins, unwritten_line}
 use Rattle.ocs.proofs.run_words.Goals as goal
 
 pub returns-in-Ok-clause-unread : goal.returns-in-Ok-clause-unread
@@ -66,7 +66,7 @@ returns-in-Err-clause-told g c =
 
 pub returns-in-Ok-clause-answered : goal.returns-in-Ok-clause-answered
 returns-in-Ok-clause-answered g c = λ other says done.
-    printed_said _ (texts_of c.args.words.now) c.in-Ok.said other
+    printed_said (texts_of c.args.words.now) c.in-Ok.said other
     (g.O.Write.contents c.args.output.now)
     (g.O.Write.contents c.run_said.new.output) c.in-Ok.ensures.read says
     (c.run_said.ensures.answered done)
@@ -75,17 +75,3 @@ pub returns-in-Err-clause-answered : goal.returns-in-Err-clause-answered
 returns-in-Err-clause-answered g c = λ said says done.
     absurd (not_done c.in-Err.fault c.tell_unread.result (memory_alone (texts_of c.args.words.now)
     c.in-Err.fault said c.in-Err.ensures.unread says) c.tell_unread.ensures.end done)
-
-pub returns-in-Ok-clause-started : goal.returns-in-Ok-clause-started
-returns-in-Ok-clause-started g c = λ other says failed.
-    started_said _ (texts_of c.args.words.now) c.in-Ok.said other
-    (g.O.Write.contents c.args.output.now)
-    (g.O.Write.contents c.run_said.new.output) c.in-Ok.ensures.read says
-    (c.run_said.ensures.started failed)
-
-pub returns-in-Err-clause-started : goal.returns-in-Err-clause-started
-returns-in-Err-clause-started g c = λ said says failed.
-    nothing_started _ said (g.O.Write.contents c.args.output.now)
-    (g.O.Write.contents c.tell_unread.new.output)
-    (ap (g.O.Write.contents) (c.tell_unread.ensures.memory (memory_alone (texts_of c.args.words.now)
-    c.in-Err.fault said c.in-Err.ensures.unread says)))

@@ -1,9 +1,9 @@
--- A settlement's call, from any ledger whose rows the account is before it.
 use Rattle.std.specs.Prelude.{unwrap_or}
 use Rattle.shelves.specs.Shelves.{tariff_in}
 use Rattle.reserving.specs.declared.session.Terms.{Terms}
 use Rattle.reserving.specs.Ledger.{open_grant}
 use Rattle.reserving.specs.Pricing.{terms_now}
+-- A settlement's call, from any ledger whose rows the account is before it.
 use Rattle.reserving.specs.Pricing.{validity_of}
 use Rattle.std.specs.Prelude.{if◌then◌else◌}
 use Rattle.std.proofs.Common.{◌-◌}

@@ -5,7 +5,7 @@ ghost use Rattle.keepers.specs.Faults.{max_failures};
 ghost use Rattle.keepers.specs.Tables.{no_tables};
 
 use buckets::Bucket;
-use charge_sources::{ChargeSource, ChargeVisitor, show};
+use charge_sources::{ChargeSource, ChargeVisitor};
 use identifiers::{AccountNumber, SessionId, VoucherCode};
 use keepers::{Change, Keeper, KeptAnswer, Key, Loaded, MemoryKeeper, StoreFault};
 use redemptions::{Voucher, VoucherTerms};
@@ -111,19 +111,18 @@ impl Keeper for Broken {
 }
 
 impl ChargeSource for Broken {
-    #[tactic(auto, using(charge_sources::proofs::ShownRows::rows_shown))]
     fn each<V: ChargeVisitor>(
         &mut self,
         account: &AccountNumber,
-        from: Moment,
-        until: Moment,
+        _from: Moment,
+        _until: Moment,
         visitor: &mut V,
     ) -> Result<(), StoreFault> {
-        let rows = self.keeper.charges(account);
-        let first = rows.get(..self.left).unwrap_or(rows);
-        if show(first, from, until, visitor) {
-            return Err(StoreFault::Store);
+        for row in self.keeper.charges(account).iter().take(self.left) {
+            if !visitor.row(row) {
+                return Ok(());
+            }
         }
-        Ok(())
+        Err(StoreFault::Store)
     }
 }

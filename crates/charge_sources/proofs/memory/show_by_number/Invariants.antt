@@ -1,6 +1,5 @@
 use Rattle.std.proofs.Common.{◌≤◌}
 use Rattle.charge_sources.proofs.ByNumber.{IsShownBelow}
-use Rattle.charge_sources.proofs.ShownRows.{Goes}
 use Rattle.charge_sources.proofs.memory.show_by_number.Given as goal
 
 abbrev pub invariant-loop-turn : goal.invariant-loop-turn
@@ -8,5 +7,4 @@ invariant-loop-turn g l = record {
   turns : l._turn ≤ l.least;
   small : l.least ≤ 4294967296;
   shown : IsShownBelow g.V.ChargeVisitor.sees l.from l.until l.rows l.least l.fn.visitor l.visitor;
-  gone : Goes g.V.ChargeVisitor.sees l.from l.until l.fn.visitor l.visitor;
 }

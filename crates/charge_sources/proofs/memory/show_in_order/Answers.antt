@@ -2,17 +2,12 @@ use Rattle.std.proofs.Common.{refl, sym, subst}
 use Rattle.std.specs.List.{filter}
 use Rattle.charge_sources.specs.Rows.{is_between, AreCharges}
 use Rattle.charge_sources.specs.Visits.{Visits}
-use Rattle.charge_sources.proofs.ShownRows.{rows_shown, shown_visits}
+use Rattle.charge_sources.proofs.ShownRows.{shown_visits}
 use Rattle.charge_sources.proofs.Unique.{one_list}
 use Rattle.charge_sources.proofs.memory.show_in_order.Goals as goal
 
-pub returns-then-are_rising-clause-shown : goal.returns-then-are_rising-clause-shown
-returns-then-are_rising-clause-shown g c =
-    rows_shown g.V.ChargeVisitor.sees c.args.from c.args.until c.args.rows.now c.show.result
-    c.args.visitor.now c.show.new.visitor c.show.ensures
-
-pub returns-then-are_rising-clause-sees : goal.returns-then-are_rising-clause-sees
-returns-then-are_rising-clause-sees g c = λ all are.
+pub returns-then-are_rising : goal.returns-then-are_rising
+returns-then-are_rising g c = λ all are.
     let kept : AreCharges _ c.args.rows.now = record {
       rising = sym c.if-are_rising.ensures;
       listed = λ n. refl;

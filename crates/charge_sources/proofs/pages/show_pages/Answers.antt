@@ -1,11 +1,10 @@
-use Rattle.std.proofs.Common.{arith, false, subst, true}
+use Rattle.std.proofs.Common.{arith, subst}
 use Rattle.std.specs.List.{filter}
 use Rattle.keepers.proofs.Placed.{on_err}
 use Rattle.charge_sources.specs.Rows.{is_between}
 use Rattle.charge_sources.specs.Visits.{Shows}
 use Rattle.charge_sources.proofs.Paged.{begun, ended, never, none_shown, page_shown}
 use Rattle.charge_sources.proofs.Paged.{stopped}
-use Rattle.charge_sources.proofs.ShownRows.{goes_ended, goes_further, goes_last, goes_not_yet}
 use Rattle.charge_sources.proofs.pages.show_pages.Goals as goal
 
 pub loop-page-init : goal.loop-page-init
@@ -16,32 +15,7 @@ loop-page-init g c = record {
   shown = none_shown g.K.Keeper.content g.K.Keeper.failed g.K.Keeper.honest
       g.K.Keeper.clean g.K.Keeper.left g.V.ChargeVisitor.sees c.args.account.now c.args.from c.args.until c.args.keeper.now c.args.visitor.now
       (g.met.K.ChargePages.numbered c.args.keeper.now c.args.account.now);
-  gone = goes_not_yet g.V.ChargeVisitor.sees c.args.from c.args.until c.args.visitor.now;
 }
-
-pub returns-in_err-page-clause-shown : goal.returns-in_err-page-clause-shown
-returns-in_err-page-clause-shown g c =
-    goes_ended g.V.ChargeVisitor.sees c.args.from c.args.until c.args.visitor.now
-    c.loop-page.visitor c.loop-page.invariant.gone
-
-pub returns-then-not-show-clause-shown : goal.returns-then-not-show-clause-shown
-returns-then-not-show-clause-shown g c =
-    goes_last g.V.ChargeVisitor.sees c.args.from c.args.until c.in_ok-page.page.rows.items false
-    c.args.visitor.now c.loop-page.visitor c.show.new.visitor c.loop-page.invariant.gone
-    (subst (λ l. Shows g.V.ChargeVisitor.sees (filter (is_between c.args.from c.args.until) l) _
-    c.loop-page.visitor c.show.new.visitor) c.deref.ensures.value c.if-not-show.ensures)
-
-pub returns-then-page-clause-shown : goal.returns-then-page-clause-shown
-returns-then-page-clause-shown g c =
-    goes_last g.V.ChargeVisitor.sees c.args.from c.args.until c.in_ok-page.page.rows.items true
-    c.args.visitor.now c.loop-page.visitor c.show.new.visitor c.loop-page.invariant.gone
-    (subst (λ l. Shows g.V.ChargeVisitor.sees (filter (is_between c.args.from c.args.until) l) _
-    c.loop-page.visitor c.show.new.visitor) c.deref.ensures.value c.if-not-show.ensures)
-
-pub returns-clause-shown : goal.returns-clause-shown
-returns-clause-shown g c =
-    goes_ended g.V.ChargeVisitor.sees c.args.from c.args.until c.args.visitor.now
-    c.loop-page.visitor c.loop-page.invariant.gone
 
 pub returns-in_err-page-clause-beginning : goal.returns-in_err-page-clause-beginning
 returns-in_err-page-clause-beginning g c = λ clean.
@@ -85,11 +59,6 @@ loop-page-preserved g c = record {
       g.K.Keeper.clean g.K.Keeper.left g.V.ChargeVisitor.sees c.args.account.now c.args.from c.args.until c.loop-page.after c.args.keeper.now
       c.loop-page.keeper c.page.new.self c.in_ok-page.page c.args.visitor.now c.loop-page.visitor
       c.show.new.visitor c.loop-page.invariant.shown c.in_ok-page.ensures
-      (subst (λ l. Shows g.V.ChargeVisitor.sees (filter (is_between c.args.from c.args.until) l) _
-      c.loop-page.visitor c.show.new.visitor) c.deref.ensures.value c.if-not-show.ensures);
-  gone = goes_further g.V.ChargeVisitor.sees c.args.from c.args.until
-      c.in_ok-page.page.rows.items c.args.visitor.now c.loop-page.visitor c.show.new.visitor
-      c.loop-page.invariant.gone
       (subst (λ l. Shows g.V.ChargeVisitor.sees (filter (is_between c.args.from c.args.until) l) _
       c.loop-page.visitor c.show.new.visitor) c.deref.ensures.value c.if-not-show.ensures);
 }

@@ -1,6 +1,5 @@
 use Rattle.std.proofs.Common.{◌≤◌}
 use Rattle.charge_sources.proofs.Paged.{HasShown}
-use Rattle.charge_sources.proofs.ShownRows.{Goes}
 use Rattle.charge_sources.proofs.pages.show_pages.Given as goal
 
 abbrev pub invariant-loop-page : goal.invariant-loop-page
@@ -12,5 +11,4 @@ invariant-loop-page g l = record {
       g.K.Keeper.clean g.K.Keeper.left
       g.V.ChargeVisitor.sees l.account
       l.from l.until l.after l.fn.keeper l.keeper l.fn.visitor l.visitor;
-  gone : Goes g.V.ChargeVisitor.sees l.from l.until l.fn.visitor l.visitor;
 }

@@ -1,7 +1,4 @@
-use Rattle.std.proofs.Common.{inr}
 use Rattle.sqlite_wal.specs.Files.{image_at}
-use Rattle.office.specs.Months.{unknown_line}
-use Rattle.office.proofs.Beginnings.{nothing_written, on_err}
 use Rattle.database_office.specs.Over.{IsMonthDone}
 use Rattle.database_office.proofs.OverLemmas.{over_from}
 use Rattle.database_office.proofs.stating.state_over.Goals as goal
@@ -12,11 +9,3 @@ returns-clause-told g c =
     (λ r. IsMonthDone c.args.words (g.O.Write.contents c.args.output.now)
     (g.O.Write.contents c.tell_over.new.output) r.0) c.in_ok-office.ensures.opened
     c.tell_over.ensures.honesty c.tell_over.ensures.done
-
-pub returns-in_err-moment-clause-begun : goal.returns-in_err-moment-clause-begun
-returns-in_err-moment-clause-begun g c =
-    on_err c.from_residual.result (inr (nothing_written _ unknown_line))
-
-pub returns-in_err-office-clause-begun : goal.returns-in_err-office-clause-begun
-returns-in_err-office-clause-begun g c =
-    on_err c.from_residual-in_err-office.result (inr (nothing_written _ unknown_line))

@@ -1,7 +1,6 @@
 use Rattle.std.proofs.Common.{ap, subst, sym}
-use Rattle.office.specs.Months.{IsMonthTold, PrintsMonth}
+use Rattle.office.specs.Months.{IsMonthTold}
 use Rattle.database_office.specs.Stating.{of_office}
-use Rattle.database_office.proofs.OverLemmas.{begins_of}
 use Rattle.database_office.proofs.stating.tell_month.Goals as goal
 
 pub returns-in-Ok-clause-told : goal.returns-in-Ok-clause-told
@@ -25,18 +24,3 @@ returns-clause-told g c = λ clean. record {
       c.serve_statement.result)
       c.query_of-query.ensures (c.serve_statement.ensures.told clean);
 }
-
-pub returns-in-Ok-clause-printed : goal.returns-in-Ok-clause-printed
-returns-in-Ok-clause-printed g c = record {
-  shelf = c.args.shelf.now;
-  printed = subst
-      (λ q. PrintsMonth c.args.shelf.now q (g.O.Write.contents c.args.output.now)
-      (g.O.Write.contents c.serve_statement.new.writer) c.in-Ok.status)
-      c.query_of-query.ensures c.in-Ok.ensures.printed;
-}
-
-pub returns-clause-begun : goal.returns-clause-begun
-returns-clause-begun g c =
-    begins_of c.args.words c.args.shelf.now c.query_of-query.result
-    (g.O.Write.contents c.args.output.now) (g.O.Write.contents c.serve_statement.new.writer)
-    c.query_of-query.ensures c.in-Err.ensures.begun

@@ -6,8 +6,7 @@ use Rattle.office.specs.declared.fault.OfficeFault.{OfficeFault}
 use Rattle.office.specs.declared.status.Status.{Status}
 use Rattle.office.proofs.Beginnings.{nothing_written}
 use Rattle.office.proofs.MonthLemmas.{ended_done, ended_stands, month_told, nothing_told, reads_asked}
-use Rattle.office.proofs.MonthLemmas.{nothing_begun, some_begun, some_printed, tells_ended}
-use Rattle.office.proofs.MonthLemmas.{unknown_begun, unknown_printed, unknown_told}
+use Rattle.office.proofs.MonthLemmas.{tells_ended, unknown_told}
 use Rattle.office.proofs.stating.serve_statement.Goals as goal
 
 pub returns-in-Err-clause-told : goal.returns-in-Err-clause-told
@@ -68,34 +67,3 @@ returns-in-None-clause-stands g c = λ honest.
 pub returns-in-Some-clause-ended : goal.returns-in-Some-clause-ended
 returns-in-Some-clause-ended g c =
     ended_done c.write_month.result c.month_ended.result _ c.month_ended.ensures
-
-pub returns-in-Some-clause-printed : goal.returns-in-Some-clause-printed
-returns-in-Some-clause-printed g c =
-    some_printed c.args.shelf.now c.args.query.now c.in-Some.state.moment
-    c.in-Some.state.buckets.items (g.W.Write.contents c.args.writer.now)
-    (g.W.Write.contents c.write_month.new.writer) c.write_month.result c.month_ended.result
-    c.month_ended.ensures c.write_month.ensures.some
-
-pub returns-in-Some-clause-begun : goal.returns-in-Some-clause-begun
-returns-in-Some-clause-begun g c =
-    some_begun c.args.shelf.now c.args.query.now c.in-Some.state.moment
-    c.in-Some.state.buckets.items (g.W.Write.contents c.args.writer.now)
-    (g.W.Write.contents c.write_month.new.writer) c.write_month.result c.month_ended.result
-    c.month_ended.ensures c.write_month.ensures.some
-
-pub returns-in-None-clause-printed : goal.returns-in-None-clause-printed
-returns-in-None-clause-printed g c =
-    unknown_printed c.args.shelf.now c.args.query.now (g.W.Write.contents c.args.writer.now)
-    (g.W.Write.contents c.tell_unknown.new.writer) c.tell_unknown.result
-    c.tell_unknown.ensures.told
-
-pub returns-in-None-clause-begun : goal.returns-in-None-clause-begun
-returns-in-None-clause-begun g c =
-    unknown_begun c.args.shelf.now c.args.query.now (g.W.Write.contents c.args.writer.now)
-    (g.W.Write.contents c.tell_unknown.new.writer) c.tell_unknown.result
-    c.tell_unknown.ensures.told
-
-pub returns-in-Err-clause-begun : goal.returns-in-Err-clause-begun
-returns-in-Err-clause-begun g c =
-    nothing_begun c.args.shelf.now c.args.query.now (g.W.Write.contents c.args.writer.now)
-    (nothing_written (g.W.Write.contents c.args.writer.now))

@@ -1,4 +1,4 @@
-use Rattle.std.proofs.Common.{◌≡◌, ℕ, List, subst, map, refl, inl, inr}
+use Rattle.std.proofs.Common.{◌≡◌, ℕ, List, subst, map, refl}
 use Rattle.std.specs.Io.KnownBytes.{Appends}
 use Rattle.std.specs.Prelude.{OnErr, OnOk}
 use Rattle.charging.specs.declared.running.DatedCommand.{DatedCommand}
@@ -6,12 +6,12 @@ use Rattle.keepers.specs.declared.fault.StoreFault.TheVariants.{Store as StoreFa
 use Rattle.office.specs.Written.{WritesBeginning}
 use Rattle.request_lines.specs.Input.{told_fault}
 use Rattle.request_lines.specs.Served.{opening_for, texts_of}
-use Rattle.office.proofs.Beginnings.{on_err, whole_or_begun}
+use Rattle.office.proofs.Beginnings.{on_err}
 use Rattle.request_lines.proofs.Answered.{continued-run}
-use Rattle.request_lines.proofs.Ended.{IsWritten, ended-answered, ended-asked, ended-begun, ended-both}
-use Rattle.request_lines.proofs.Ended.{begun_in, ended-cut, ended-read, ended-stopped, ended-store}
-use Rattle.request_lines.proofs.Ended.{ended-stands, ended-told, ended-untold, none_answered, none_begun}
-use Rattle.request_lines.proofs.HeldLines.{held-stream}
+use Rattle.request_lines.proofs.Ended.{IsWritten, ended-answered, ended-begun, ended-both}
+use Rattle.request_lines.proofs.Ended.{ended-cut}
+use Rattle.request_lines.proofs.Ended.{ended-read, ended-stopped, ended-store, ended-untold}
+use Rattle.request_lines.proofs.Ended.{none_answered}
 use Rattle.request_lines.proofs.line_answers.lines.Goals as goal
 
 pub returns-in-Err-clause-answers : goal.returns-in-Err-clause-answers
@@ -23,20 +23,6 @@ pub returns-in_default-clause-answers : goal.returns-in_default-clause-answers
 returns-in_default-clause-answers g c = none_answered c.args.shelf.now c.args.opening
     (g.R.Read.remaining c.args.reader.now) (g.W.Write.contents c.args.writer.now)
     g.K.Keeper.content g.K.Keeper.failed g.K.Keeper.clean c.args.keeper.now _ _ refl
-
-pub returns-in-Err-clause-begun : goal.returns-in-Err-clause-begun
-returns-in-Err-clause-begun g c =
-    none_begun (g.W.Write.contents c.args.writer.now) (g.R.Read.remaining c.args.reader.now)
-
-pub returns-in_default-clause-begun : goal.returns-in_default-clause-begun
-returns-in_default-clause-begun g c =
-    none_begun (g.W.Write.contents c.args.writer.now) (g.R.Read.remaining c.args.reader.now)
-
-pub returns-in-Err-clause-left : goal.returns-in-Err-clause-left
-returns-in-Err-clause-left g c = λ clean honest t left. inl left
-
-pub returns-in_default-clause-left : goal.returns-in_default-clause-left
-returns-in_default-clause-left g c = λ clean honest t left. inl left
 
 pub returns : goal.returns
 returns g c =
@@ -51,32 +37,23 @@ returns g c =
     let written = c.write_output-written.result in
     let result = c.ended_as.result in
     let is = c.ended_as.ensures in
-    let given = c.run_opened-answers.result.answers.items in
-    let whole : OnOk written
-    (Appends w0 w1 (texts_of (map told_fault c.in-Ok.input.lines.items) given)) =
-    subst (λ (t : List ℕ). OnOk written (Appends w0 w1 t))
-    (λ i. texts_of (map told_fault (c.deref-2.ensures.value i)) (c.deref-3.ensures.value i))
-    c.write_output-written.ensures.written in
-    let part : OnErr written
-    (WritesBeginning w0 w1 (texts_of (map told_fault c.in-Ok.input.lines.items) given)) =
-    subst (λ (t : List ℕ). OnErr written (WritesBeginning w0 w1 t))
-    (λ i. texts_of (map told_fault (c.deref-2.ensures.value i)) (c.deref-3.ensures.value i))
-    c.write_output-written.ensures.err in
-    let opened : c.in-Ok-open_first.opening.items
-    ≡ opening_for opening c.in-Ok.input.requests.items =
-    subst (λ (rs : List DatedCommand). c.in-Ok-open_first.opening.items ≡ opening_for opening rs)
-    c.deref.ensures.value c.in-Ok-open_first.ensures in
     let h : g.K.Keeper.clean c.run_opened-answers.new.keeper →
     IsWritten b opening w0 w1 r old new fault written =
     λ clean. record {
       input = c.in-Ok.input;
       opening = c.in-Ok-open_first.opening.items;
-      given = given;
+      given = c.run_opened-answers.result.answers.items;
       read = c.in-Ok.ensures;
-      opened = opened;
+      opened = subst (λ (rs : List DatedCommand).
+          c.in-Ok-open_first.opening.items ≡ opening_for opening rs) c.deref.ensures.value
+          c.in-Ok-open_first.ensures;
       runs = c.run_opened-answers.ensures.runs clean;
-      whole = whole;
-      part = part;
+      whole = subst (λ (t : List ℕ). OnOk written (Appends w0 w1 t))
+          (λ i. texts_of (map told_fault (c.deref-2.ensures.value i)) (c.deref-3.ensures.value i))
+          c.write_output-written.ensures.written;
+      part = subst (λ (t : List ℕ). OnErr written (WritesBeginning w0 w1 t))
+          (λ i. texts_of (map told_fault (c.deref-2.ensures.value i)) (c.deref-3.ensures.value i))
+          c.write_output-written.ensures.err;
     } in
     record {
       answers = record {
@@ -100,20 +77,6 @@ returns g c =
         cause_of_both = λ k. c.run_opened-answers.ensures.cause
             (ended-both fault written result StoreFailed is k);
       };
-      told = ended-told w0 w1 c.in-Ok.input given fault written result r is c.in-Ok.ensures
-          c.run_opened-answers.ensures.whole whole;
-      begun = on_err result (begun_in w0 w1 c.in-Ok.input given r c.in-Ok.ensures
-          (whole_or_begun written w0 w1
-          (texts_of (map told_fault c.in-Ok.input.lines.items) given) whole part));
       unread = λ f k. absurd (ended-read fault written result f is k);
       unwritten = λ f k. absurd (ended-read fault written result f is k);
-      honesty = c.run_opened-answers.ensures.honesty;
-      stands = λ honest clean.
-          ended-stands (g.K.Keeper.clean c.run_opened-answers.new.keeper) fault written result is
-          (c.run_opened-answers.ensures.stands honest clean);
-      asked = λ f k honest clean.
-          ended-asked fault written result f is k (c.run_opened-answers.ensures.stands honest clean);
-      left = λ clean honest t left. inr (held-stream b old t opening c.in-Ok.input
-          c.in-Ok-open_first.opening.items r c.in-Ok.ensures opened
-          (c.run_opened-answers.ensures.held honest clean t left));
     }

@@ -2,8 +2,7 @@ use Rattle.std.proofs.Common.{◌≡◌, List, length, sym, subst, ◌∙◌}
 use Rattle.commands.specs.declared.answer.Answer.{Answer}
 use Rattle.charging.specs.Continued.{ForEachList}
 use Rattle.request_lines.specs.Served.{IsRunOpened}
-use Rattle.request_lines.proofs.Answered.{no_none, where_none, opening-stopped, requests-run}
-use Rattle.request_lines.proofs.HeldLines.{held-opening, held-requests}
+use Rattle.request_lines.proofs.Answered.{where_none, opening-stopped, requests-run}
 use Rattle.request_lines.proofs.line_answers.run_opened.Goals as goal
 
 pub returns-then-is_some-clause-runs : goal.returns-then-is_some-clause-runs
@@ -30,39 +29,3 @@ returns-clause-runs g c = λ clean.
     before c.run.result.answers.items old mid new all
     (c.run-fault.ensures.runs (c.run.ensures.cleanness clean))
     (c.run.ensures.runs clean) c.run.ensures.whole c.run.ensures.stopped
-
-pub returns-then-is_some-clause-whole : goal.returns-then-is_some-clause-whole
-returns-then-is_some-clause-whole g c =
-    no_none _ c.run-fault.result.fault (sym c.is_some.ensures ∙ c.if-is_some.true)
-
-pub returns-then-is_some-clause-stands : goal.returns-then-is_some-clause-stands
-returns-then-is_some-clause-stands g c = λ honest clean.
-    no_none _ c.run-fault.result.fault (sym c.is_some.ensures ∙ c.if-is_some.true)
-
-pub returns-clause-stands : goal.returns-clause-stands
-returns-clause-stands g c = λ honest clean.
-    c.run.ensures.stands honest
-    (where_none (g.K.Keeper.clean c.run-fault.new.keeper) c.run-fault.result.fault
-    (sym c.is_some.ensures ∙ c.if-is_some.false)
-    (c.run-fault.ensures.stands (c.run.ensures.honesty honest) clean))
-
-pub returns-then-is_some-clause-held : goal.returns-then-is_some-clause-held
-returns-then-is_some-clause-held g c = λ honest clean t left.
-    held-opening c.args.shelf.now (g.K.Keeper.content c.args.keeper.now) t c.args.opening.items
-    c.args.requests.items c.run-fault.result.answers.items
-    (c.run-fault.ensures.held honest clean t left)
-
-pub returns-clause-held : goal.returns-clause-held
-returns-clause-held g c = λ honest clean t left.
-    let before = c.run-fault.result.answers.items in
-    let none = sym c.is_some.ensures ∙ c.if-is_some.false in
-    let all : length before ≡ length c.args.opening.items =
-    where_none (length before ≡ length c.args.opening.items) c.run-fault.result.fault none
-    c.run-fault.ensures.whole in
-    let asked : g.K.Keeper.clean c.run-fault.new.keeper =
-    where_none (g.K.Keeper.clean c.run-fault.new.keeper) c.run-fault.result.fault none
-    (c.run-fault.ensures.stands (c.run.ensures.honesty honest) clean) in
-    held-requests c.args.shelf.now (g.K.Keeper.content c.args.keeper.now) t
-    (g.K.Keeper.content c.run-fault.new.keeper) c.args.opening.items c.args.requests.items before
-    c.run.result.answers.items all (c.run-fault.ensures.runs asked)
-    (c.run.ensures.held honest asked t left)

@@ -8,17 +8,17 @@ pub returns-in_err-write_change-clause-commits : goal.returns-in_err-write_chang
 returns-in_err-write_change-clause-commits g c =
     let p = err_from_is_err_and c.from_residual-in_err-write_change.result
     c.from_residual-in_err-write_change.ensures.1 in
-    rw p.1 (not_written _ _ _ _ _ c.in_ok-are_new.ensures.only
-    c.in_ok-are_new.ensures.survives
+    rw p.1 (not_written _ _ _ _ _ c.in_ok-test_change.ensures.only
+    c.in_ok-test_change.ensures.survives
     (become_at _ _ c.args.change.now _ c.as_of-named.ensures.named c.in_ok-texts.ensures
-    (omega (arith, c.seconds-moment.ensures.in_range, c.seconds-moment.ensures.value)) _ _ _
-    c.in_ok-are_new.ensures.only c.in_ok-are_new.ensures.found) _ _
+    (omega (arith, c.seconds-moment.ensures.in_range, c.seconds-moment.ensures.value)) _ _
+    c.in_ok-test_change.ensures.only c.in_ok-test_change.ensures.found) _ _
     c.in_err-write_change.ensures.transacts)
 
 pub returns-clause-commits : goal.returns-clause-commits
 returns-clause-commits g c =
-    written _ _ _ _ _ c.in_ok-are_new.ensures.only c.in_ok-are_new.ensures.survives
+    written _ _ _ _ _ c.in_ok-test_change.ensures.only c.in_ok-test_change.ensures.survives
     (become_at _ _ c.args.change.now _ c.as_of-named.ensures.named c.in_ok-texts.ensures
-    (omega (arith, c.seconds-moment.ensures.in_range, c.seconds-moment.ensures.value)) _ _ _
-    c.in_ok-are_new.ensures.only c.in_ok-are_new.ensures.found) _ _
+    (omega (arith, c.seconds-moment.ensures.in_range, c.seconds-moment.ensures.value)) _ _
+    c.in_ok-test_change.ensures.only c.in_ok-test_change.ensures.found) _ _
     c.in_ok-write_change.ensures.transacts

@@ -2,7 +2,7 @@ use Rattle.std.proofs.Common.{arith}
 use Rattle.sqlite.specs.Held.{state}
 use Rattle.sql_rows.specs.Content.{rows_in}
 use Rattle.sql_keeper.specs.Kinds.{counted_row}
-use Rattle.sql_keeper.proofs.InTurn.{failed_then}
+use Rattle.sql_keeper.proofs.InTurn.{failed_then, gives_up}
 use Rattle.sql_keeper.proofs.Told.{none_made, next_made, all_made}
 use Rattle.sql_keeper.proofs.counted_buckets.read_counted.Goals as goal
 
@@ -21,11 +21,10 @@ returns-in_err-bucket g c =
     c.from_residual.ensures.0 c.rows.invariant.reads c.read_bucket.ensures.only
     c.read_bucket.ensures.survives
 
-pub returns-in_err-push : goal.returns-in_err-push
-returns-in_err-push g c =
-    failed_then _ (state g.S.Store c.args.conn.now) (state g.S.Store c.rows.conn)
-    (state g.S.Store c.read_bucket.new.conn) c.from_residual-in_err-push.result
-    c.from_residual-in_err-push.ensures.0 c.rows.invariant.reads
+pub returns-in_default : goal.returns-in_default
+returns-in_default g c =
+    gives_up _ (state g.S.Store c.args.conn.now) (state g.S.Store c.rows.conn)
+    (state g.S.Store c.read_bucket.new.conn) _ c.rows.invariant.reads
     c.read_bucket.ensures.only c.read_bucket.ensures.survives
 
 pub rows-preserved : goal.rows-preserved
@@ -34,7 +33,7 @@ rows-preserved g c =
     c.rows.row-index c.row-item.result c.rows.buckets.items c.push.new.self.items
     (state g.S.Store c.args.conn.now) (state g.S.Store c.rows.conn)
     (state g.S.Store c.read_bucket.new.conn) c.in_ok-bucket.bucket (omega arith) c.row-item.is
-    c.in_ok-push.ensures.items c.rows.invariant c.in_ok-bucket.ensures
+    c.in-Ok.ensures.items c.rows.invariant c.in_ok-bucket.ensures
 
 pub returns : goal.returns
 returns g c =

@@ -6,5 +6,4 @@ pub rows-preserved : goal.rows-preserved
 rows-preserved c =
     next_counted c.args.numbers.now c.args.rows.now c.rows.row-index c.row-item.result
     c.is_among.result c.rows.buckets.items c.push.new.self.items c.in_ok-bucket.bucket (omega arith)
-    c.row-item.is c.in_ok-push.ensures.items c.rows.invariant c.is_among.ensures
-    c.in_ok-bucket.ensures
+    c.row-item.is c.in-Ok.ensures.items c.rows.invariant c.is_among.ensures c.in_ok-bucket.ensures

@@ -9,5 +9,5 @@ rows-preserved c = row_made
     (IsGroupOf (shelf_names c.args.books.now) c.args.buckets.now c.args.held.now
     c.args.numbers.now c.args.session.now)
     c.args.rows.now c.rows.row-index c.row-item.result c.rows.groups.items c.push.new.self.items
-    c.in_ok-group.group (omega arith) c.row-item.is c.in_ok-push.ensures.items c.rows.invariant
+    c.in_ok-group.group (omega arith) c.row-item.is c.in-Ok.ensures.items c.rows.invariant
     c.in_ok-group.ensures

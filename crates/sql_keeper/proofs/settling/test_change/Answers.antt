@@ -5,6 +5,6 @@ use Rattle.sql_keeper.proofs.settling.test_change.Goals as goal
 
 pub returns : goal.returns
 returns g c =
-    tested (shelf_names c.args.books.now) c.args.change.now c.in_ok-found.found c.told.result
-    (state g.S.Store c.args.conn.now) (state g.S.Store c.find_change.new.conn) c.told.ensures
-    c.in_ok-found.ensures
+    tested (shelf_names c.args.books.now) c.args.change.now c.in_ok-may.may c.told.result
+    (state g.S.Store c.args.conn.now) (state g.S.Store c.may_be_made.new.conn) c.told.ensures
+    c.in_ok-may.ensures

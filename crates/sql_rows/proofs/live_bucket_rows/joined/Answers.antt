@@ -9,7 +9,7 @@ held-init c = none_joined (λ b. b.number) c.args.left.items c.args.held.now
 pub held-preserved : goal.held-preserved
 held-preserved c =
     subst (HasJoined (λ b. b.number) c.args.left.items c.args.held.now (c.held.bucket-index + 1)
-    (c.place_of-place.result + 1)) (sym c.in_ok-insert.ensures.items)
+    (c.place_of-place.result + 1)) (sym c.in-Ok.ensures.items)
     (join_next (λ b. b.number) c.args.left.items c.args.held.now c.held.bucket-index c.held.at
     c.place_of-place.result c.bucket-item.result c.held.rows.items (omega arith) c.bucket-item.is
     c.place_of-place.ensures.0

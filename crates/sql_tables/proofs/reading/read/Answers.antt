@@ -1,20 +1,13 @@
 use Rattle.std.proofs.Common.{rules, ◌≡◌, arith}
 use Rattle.sqlite.specs.Held.{state}
 use Rattle.sqlite.specs.Values.{bound}
-use Rattle.sql_tables.proofs.Keeps.{answers_from, keys_from, reads_only, reads_survive}
+use Rattle.sql_tables.proofs.Keeps.{answers_from, reads_only, reads_survive}
 use Rattle.sql_tables.proofs.reading.read.Goals as goal
 
 pub returns-in-Ok-clause-answers : goal.returns-in-Ok-clause-answers
 returns-in-Ok-clause-answers g c clean =
     answers_from c.args.sql.now (bound c.args.params.now) (state g.S.Store c.args.conn.now)
     (state g.S.Store c.query_all.new.self) _ c.requires.plain
-    (c.requires.idle (omega (arith, c.query_all.ensures.survives.clean))) c.schema-ours.ensures.live
-    (c.in-Ok.ensures.ok clean)
-
-pub returns-in-Ok-clause-keys : goal.returns-in-Ok-clause-keys
-returns-in-Ok-clause-keys g c clean =
-    keys_from c.args.sql.now (bound c.args.params.now) (state g.S.Store c.args.conn.now)
-    (state g.S.Store c.query_all.new.self) _
     (c.requires.idle (omega (arith, c.query_all.ensures.survives.clean))) c.schema-ours.ensures.live
     (c.in-Ok.ensures.ok clean)
 

@@ -1,8 +1,7 @@
-use Rattle.std.proofs.Common.{[]}
 use Rattle.statements.specs.Texts.{charges_text, of_month, sums_of, head_text, foot_text}
 use Rattle.statements.specs.declared.rows.Form.TheVariants.{Lines}
 use Rattle.statements.proofs.Beginnings.{begun_first, begun_second, three_begun, three_written}
-use Rattle.statements.proofs.MonthLemmas.{err_some, err_writes}
+use Rattle.statements.proofs.MonthLemmas.{err_writes}
 use Rattle.statements.proofs.stating.statement.Goals as goal
 
 pub returns-in_err-write_head-clause-writes : goal.returns-in_err-write_head-clause-writes
@@ -50,52 +49,3 @@ returns-clause-writes g c = λ clean. record {
       ((c.in_ok-sums.ensures.writes clean).whole rows are) c.in_ok-write_foot.ensures.written;
   beginning = λ rows are. tt;
 }
-
-pub returns-in_err-write_head-clause-some : goal.returns-in_err-write_head-clause-some
-returns-in_err-write_head-clause-some g c =
-    let month = of_month c.args.asked.now.book.now c.args.asked.now.month [] in
-    err_some _ _ _ c.from_residual.result c.from_residual.ensures.0 []
-    (begun_first (foot_text (sums_of month) c.args.buckets.now)
-    (begun_first (charges_text Lines month) c.in_err-write_head.ensures.err))
-
-pub returns-in_err-sums-clause-some : goal.returns-in_err-sums-clause-some
-returns-in_err-sums-clause-some g c =
-    let some = c.in_err-sums.ensures.some in
-    let month = of_month c.args.asked.now.book.now c.args.asked.now.month some.rows in
-    err_some _ _ _ c.from_residual-in_err-sums.result c.from_residual-in_err-sums.ensures.0
-    some.rows
-    (begun_first (foot_text (sums_of month) c.args.buckets.now)
-    (begun_second (g.W.Write.contents c.args.writer.now)
-    (g.W.Write.contents c.write_head.new.writer)
-    (g.W.Write.contents c.write_charges.new.writer)
-    (head_text c.args.asked.now.account.now c.args.asked.now.month c.args.moment)
-    (charges_text Lines month) c.in_ok-write_head.ensures.written some.beginning))
-
-pub returns-in_err-write_foot-clause-some : goal.returns-in_err-write_foot-clause-some
-returns-in_err-write_foot-clause-some g c =
-    let some = c.in_ok-sums.ensures.some in
-    let month = of_month c.args.asked.now.book.now c.args.asked.now.month some.rows in
-    err_some _ _ _ c.from_residual-in_err-write_foot.result
-    c.from_residual-in_err-write_foot.ensures.0 some.rows
-    (three_begun (g.W.Write.contents c.args.writer.now) (g.W.Write.contents c.write_head.new.writer)
-    (g.W.Write.contents c.write_charges.new.writer) (g.W.Write.contents c.write_foot.new.writer)
-    (head_text c.args.asked.now.account.now c.args.asked.now.month c.args.moment)
-    (charges_text Lines month) (λ s. foot_text s c.args.buckets.now) _ (sums_of month)
-    some.whole.0 c.in_ok-write_head.ensures.written some.whole.1 c.in_err-write_foot.ensures.err)
-
-pub returns-clause-some : goal.returns-clause-some
-returns-clause-some g c =
-    let some = c.in_ok-sums.ensures.some in
-    let month = of_month c.args.asked.now.book.now c.args.asked.now.month some.rows in
-    record {
-      rows = some.rows;
-      whole = three_written (g.W.Write.contents c.args.writer.now)
-          (g.W.Write.contents c.write_head.new.writer)
-          (g.W.Write.contents c.write_charges.new.writer)
-          (g.W.Write.contents c.write_foot.new.writer)
-          (head_text c.args.asked.now.account.now c.args.asked.now.month c.args.moment)
-          (charges_text Lines month) (λ s. foot_text s c.args.buckets.now) _ (sums_of month)
-          some.whole.0 c.in_ok-write_head.ensures.written some.whole.1
-          c.in_ok-write_foot.ensures.written;
-      beginning = tt;
-    }

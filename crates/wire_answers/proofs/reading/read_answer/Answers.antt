@@ -6,7 +6,6 @@ use Rattle.json_fields.specs.declared.fault.WireFault.TheVariants.{NotRequest}
 use Rattle.wire_answers.specs.Spelled.{answer_text}
 use Rattle.wire_answers.specs.ReadingAnswers.{answer_of}
 use Rattle.wire_answers.proofs.AnswersAgain.{reads_written, never_said, never_written}
-use Rattle.wire_answers.proofs.AnswersAgain.{text_of_other, text_read, text_refused}
 use Rattle.wire_answers.proofs.reading.read_answer.Goals as goal
 
 pub returns-in-Err-clause-written : goal.returns-in-Err-clause-written
@@ -28,33 +27,6 @@ returns-else-is_text-clause-written c =
     subst (λ (r : Result Answer WireFault).
     Gives (λ (a : Answer). a) r (answer_of c.args.bytes.now)) c.in-Ok.is c.answer.ensures in
     never_written c.args.bytes.now c.in-Ok.answer (Err NotRequest) given (λ e.
-    let same : c.deref.result.now ≡ c.args.bytes.now = c.deref.ensures
-    ∙ c.in_ok-text.ensures.text
-    ∙ e in
-    let clash : false ≡ true = sym c.if-is_text.false ∙ c.is_text.ensures.1 same in
-    absurd (cc))
-
-pub returns-in-Err-clause-texts : goal.returns-in-Err-clause-texts
-returns-in-Err-clause-texts c =
-    let given : Gives (λ (a : Answer). a) (Err c.in-Err.fault) (answer_of c.args.bytes.now) =
-    subst (λ (r : Result Answer WireFault).
-    Gives (λ (a : Answer). a) r (answer_of c.args.bytes.now)) c.in-Err.is c.answer.ensures in
-    text_refused c.args.bytes.now c.in-Err.fault c.told.result given c.told.ensures.memory
-
-pub returns-then-is_text-clause-texts : goal.returns-then-is_text-clause-texts
-returns-then-is_text-clause-texts c =
-    let given : answer_of c.args.bytes.now ≡ Ok c.in-Ok.answer =
-    subst (λ (r : Result Answer WireFault).
-    Gives (λ (a : Answer). a) r (answer_of c.args.bytes.now)) c.in-Ok.is c.answer.ensures in
-    text_read c.args.bytes.now c.in-Ok.answer given
-    (sym (c.deref.ensures ∙ c.in_ok-text.ensures.text) ∙ c.is_text.ensures.0 c.if-is_text.true)
-
-pub returns-else-is_text-clause-texts : goal.returns-else-is_text-clause-texts
-returns-else-is_text-clause-texts c =
-    let given : answer_of c.args.bytes.now ≡ Ok c.in-Ok.answer =
-    subst (λ (r : Result Answer WireFault).
-    Gives (λ (a : Answer). a) r (answer_of c.args.bytes.now)) c.in-Ok.is c.answer.ensures in
-    λ more. text_of_other c.args.bytes.now c.in-Ok.answer given (λ e.
     let same : c.deref.result.now ≡ c.args.bytes.now = c.deref.ensures
     ∙ c.in_ok-text.ensures.text
     ∙ e in

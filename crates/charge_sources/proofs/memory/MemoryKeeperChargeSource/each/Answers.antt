@@ -4,7 +4,7 @@ use Rattle.charge_sources.proofs.memory.MemoryKeeperChargeSource.each.Goals as g
 pub returns-clause-reads : goal.returns-clause-reads
 returns-clause-reads g c = record {
   found = λ clean all are.
-      c.show_in_order.ensures.sees all (record {
+      c.show_in_order.ensures all (record {
         rising = are.rising;
         listed = λ n. are.listed n ∙ sym (c.charges-rows.ensures n);
       });
