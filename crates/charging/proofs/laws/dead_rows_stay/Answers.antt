@@ -1,5 +1,0 @@
-use Rattle.charging.proofs.DeadRows.{dead_rows_stay}
-use Rattle.charging.proofs.laws.dead_rows_stay.Goals as goal
-
-pub returns : goal.returns
-returns c = dead_rows_stay

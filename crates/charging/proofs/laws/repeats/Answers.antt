@@ -1,5 +1,0 @@
-use Rattle.charging.proofs.Repeated.{answers-once}
-use Rattle.charging.proofs.laws.repeats.Goals as goal
-
-pub returns : goal.returns
-returns c = answers-once

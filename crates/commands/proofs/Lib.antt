@@ -1,4 +1,0 @@
-pub mod Amounts
-pub mod Differing
-pub mod Exact
-pub mod Inverses

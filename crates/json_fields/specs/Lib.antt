@@ -1,6 +1,0 @@
-pub mod Gives
-pub mod Fields
-pub mod Order
-pub mod Spelling
-pub mod Tokens
-pub mod Unit

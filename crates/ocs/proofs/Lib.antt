@@ -1,3 +1,0 @@
-pub mod OnceLemmas
-pub mod EndLemmas
-pub mod Buffers

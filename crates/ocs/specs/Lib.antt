@@ -1,5 +1,0 @@
-pub mod Once
-pub mod Ends
-pub mod Faults
-pub mod Told
-pub mod Replayed

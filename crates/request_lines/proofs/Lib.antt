@@ -1,7 +1,0 @@
-pub mod Parts
-pub mod SoFar
-pub mod Streams
-pub mod Texts
-pub mod Answered
-pub mod Ended
-pub mod HeldLines

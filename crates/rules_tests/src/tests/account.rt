@@ -1,7 +1,0 @@
-//! Tests of `rating`, `buckets` and `reserving`.
-
-mod prices;
-mod purses;
-mod restoring;
-mod rows;
-mod scenarios;

@@ -1,9 +1,0 @@
-//! Tests of `tariffs`, `shelves` and `one_price`.
-
-mod documents;
-mod faults;
-mod limits;
-mod lookups;
-mod one_prices;
-pub(crate) mod shelf;
-mod switches;

@@ -1,7 +1,0 @@
-use Rattle.std.proofs.Common.{rules, ◌≡◌, refl, sym, ◌∙◌, arith}
-use Rattle.sql_tables.proofs.Columns.{row_is}
-use Rattle.sql_rows.proofs.answer_rows.kept_from.Goals as goal
-
-pub returns : goal.returns
-returns c = row_is c.args.row.now _ (omega (arith, c.has_columns.ensures))
-    (c.in_ok-content.ensures, (c.in_ok-answer.ensures, tt))

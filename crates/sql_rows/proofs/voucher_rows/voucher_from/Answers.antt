@@ -1,9 +1,0 @@
-use Rattle.std.proofs.Common.{rules, ◌≡◌, refl, sym, ◌∙◌, arith}
-use Rattle.sql_tables.proofs.Columns.{row_is}
-use Rattle.sql_rows.proofs.voucher_rows.voucher_from.Goals as goal
-
-pub returns : goal.returns
-returns c = row_is c.args.row.now _ (omega (arith, c.has_columns.ensures)) (
-  c.in_ok-amount.ensures,
-  (c.in_ok-days.ensures, (c.in_ok-scope.ensures, (c.in_ok-account.ensures, tt))),
-)

@@ -1,6 +1,0 @@
-pub mod Columns
-pub mod Mapped
-pub mod Ruled
-pub mod Rules
-pub mod Tables
-pub mod Walks

@@ -1,8 +1,0 @@
-pub mod Faults
-pub mod Columns
-pub mod Lines
-pub mod Months
-pub mod Records
-pub mod Texts
-pub mod Rows
-pub mod Charges

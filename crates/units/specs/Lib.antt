@@ -1,3 +1,0 @@
-pub mod Blocks
-pub mod Amounts
-pub mod Words

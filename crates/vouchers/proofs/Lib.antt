@@ -1,5 +1,0 @@
-pub mod FieldLemmas
-pub mod RecordLemmas
-pub mod FileLemmas
-pub mod Examples
-pub mod ToldLemmas

@@ -1,4 +1,0 @@
-pub mod Faults
-pub mod Rows
-pub mod Files
-pub mod Told

@@ -1,4 +1,0 @@
-pub mod ContentsAgain
-pub mod AllowancesAgain
-pub mod RedeemedAgain
-pub mod SaidBodies

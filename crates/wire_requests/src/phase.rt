@@ -1,9 +1,0 @@
-//! Where a request is in its session.
-
-/// Where a session's request stands in its session.
-#[derive(Clone, Copy, PartialEq, Eq)]
-pub(crate) enum Phase {
-    Initial,
-    Update,
-    Termination,
-}
