@@ -1,7 +1,7 @@
 -- Reading the entries of an array one after the other, as a loop does.
 use Rattle.std.proofs.Common.{◌≡◌, ℕ, ◌+◌, ◌≤◌, ◌<◌, List, [], ◌∷◌, ◌++◌, length, get_or, drop, map}
-use Rattle.std.proofs.Common.{Result, Ok, Err, refl, sym, ap, suc}
-use Rattle.toml.specs.Data.{Data, Items}
+use Rattle.std.proofs.Common.{Result, Ok, Err, refl, ap, suc}
+use Rattle.toml.specs.Data.{Data}
 use Rattle.toml.specs.declared.value.Value.{Value}
 use Rattle.toml.specs.View.{view, items_view}
 use Rattle.first_fault.proofs.Loop as loop

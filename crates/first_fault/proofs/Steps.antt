@@ -1,6 +1,6 @@
 -- What steps that succeed tell of their parts.
-use Rattle.std.proofs.Common.{◌≡◌, ℕ, ◌+◌, List, [], ◌∷◌, ◌++◌, length, Bool, true, false, Result}
-use Rattle.std.proofs.Common.{Ok, Err, refl, sym, ap, ◌∙◌, subst, arith, length-append}
+use Rattle.std.proofs.Common.{◌≡◌, ◌+◌, List, [], ◌∷◌, ◌++◌, length, Bool, true, false, Result}
+use Rattle.std.proofs.Common.{Ok, Err, refl, ap, subst, arith, length-append}
 use Rattle.first_fault.specs.Steps.{◌>>=◌, where_holds, each, collected}
 
 abbrev pub inside : {F A : Type 0} → A → Result A F → A

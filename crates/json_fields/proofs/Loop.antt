@@ -1,6 +1,6 @@
 -- Reading items one after the other, as a loop does.
 use Rattle.std.proofs.Common.{◌≡◌, ℕ, ◌+◌, ◌≤◌, ◌<◌, List, [], ◌∷◌, ◌++◌, length, drop, get_or, map}
-use Rattle.std.proofs.Common.{Result, Ok, Err, refl, sym, ap, suc}
+use Rattle.std.proofs.Common.{Result, Ok, refl, ap, suc}
 use Rattle.serde_json.specs.Data.{Data, Items, no_items, item}
 use Rattle.serde_json.specs.Events.{items_len}
 use Rattle.serde_json.specs.declared.value.Value.{Value}

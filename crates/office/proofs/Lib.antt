@@ -4,3 +4,4 @@ pub mod MonthLemmas
 pub mod NumberedSums
 pub mod ImportLemmas
 pub mod HeldImports
+pub mod WriteFaults

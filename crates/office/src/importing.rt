@@ -1,8 +1,9 @@
 //! Vouchers that are added, each by a command of its own.
 
-ghost use Rattle.std.specs.Prelude.{◌≡◌, Err, IfOk, OnErr, OnOk, length};
+ghost use Rattle.std.specs.Prelude.{◌≡◌, ◌≢◌, Err, IfErr, IfOk, OnErr, OnOk, length};
 ghost use Rattle.std.specs.Io.KnownBytes.{Appends};
 ghost use Rattle.byte_streams.specs.declared.StreamFault.{StreamFault};
+ghost use Rattle.byte_streams.specs.declared.StreamFault.TheVariants.{Read as ReadFailed};
 ghost use Rattle.keepers.specs.Faults.{HasCause};
 ghost use Rattle.keepers.specs.declared.fault.StoreFault.{StoreFault};
 ghost use Rattle.office.specs.Counts.{counts_line, total};
@@ -117,6 +118,7 @@ pub fn serve_import<K: Keeper, W: Write>(
     ensures stands { K.honest keeper.new → K.clean keeper.old → OnOk result (K.clean keeper.new) }
     ensures asked { (fault : StreamFault) → result ≡ Err (Write fault) → K.honest keeper.new →
         K.clean keeper.old → K.clean keeper.new }
+    ensures fault { (fault : StreamFault) → result ≡ Err (Write fault) → fault ≢ ReadFailed }
     ensures left { Leaves K.honest K.left keeper.old keeper.new
         (HoldsBeginning shelf.now (additions moment rows.items) (K.content keeper.old)) }
     ensures stops { StopsAtStore K.failed K.clean keeper.old keeper.new writer.old writer.new
@@ -132,6 +134,7 @@ fn write_counts<W: Write>(alloc: Global, writer: &mut W, counts: Counts) -> Resu
         (Appends (W.contents writer.old) (W.contents writer.new) (counts_line counts)) }
     ensures err { OnErr result
         (WritesBeginning (W.contents writer.old) (W.contents writer.new) (counts_line counts)) }
+    ensures fault { IfErr result (λ fault. fault ≢ ReadFailed) }
 {
     let text = counts_text(alloc, counts)?;
     write_line(writer, text)

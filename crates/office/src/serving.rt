@@ -1,8 +1,9 @@
 //! An operator's command over a keeper.
 
-ghost use Rattle.std.specs.Prelude.{◌≡◌, Err, IfOk, OnOk};
+ghost use Rattle.std.specs.Prelude.{◌≡◌, ◌≢◌, Err, IfOk, OnOk};
 ghost use Rattle.std.specs.Io.KnownBytes.{Appends};
 ghost use Rattle.byte_streams.specs.declared.StreamFault.{StreamFault};
+ghost use Rattle.byte_streams.specs.declared.StreamFault.TheVariants.{Read as ReadFailed};
 ghost use Rattle.keepers.specs.declared.fault.StoreFault.{StoreFault};
 ghost use Rattle.charging.specs.Parts.{Leaves};
 ghost use Rattle.charging.specs.Served.{Writes};
@@ -58,6 +59,7 @@ pub fn serve_office<K: Keeper, W: Write>(
     ensures stands { K.honest keeper.new → OnOk result (K.clean keeper.new) }
     ensures asked { (fault : StreamFault) → result ≡ Err (Write fault) → K.honest keeper.new →
         K.clean keeper.new }
+    ensures fault { (fault : StreamFault) → result ≡ Err (Write fault) → fault ≢ ReadFailed }
     ensures left { Leaves K.honest K.left keeper.old keeper.new (λ t. K.clean keeper.old
         × Writes shelf.now (command_of command) moment (K.content keeper.old) t) }
     ensures stops { StopsAtStore K.failed K.clean keeper.old keeper.new writer.old writer.new

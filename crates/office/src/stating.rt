@@ -1,7 +1,9 @@
 //! An account's month, as a statement or as CSV.
 
-ghost use Rattle.std.specs.Prelude.{◌≡◌, IfOk, OnOk, OnErr, IsErrOf};
+ghost use Rattle.std.specs.Prelude.{◌≡◌, ◌≢◌, Err, IfErr, IfOk, OnOk, OnErr, IsErrOf};
 ghost use Rattle.std.specs.Io.KnownBytes.{Appends};
+ghost use Rattle.byte_streams.specs.declared.StreamFault.{StreamFault};
+ghost use Rattle.byte_streams.specs.declared.StreamFault.TheVariants.{Read as ReadFailed};
 ghost use Rattle.keepers.specs.Tables.{Tables};
 ghost use Rattle.keepers.specs.declared.fault.StoreFault.TheVariants.{Store as StoreFailed};
 ghost use Rattle.statements.specs.Charges.{Asks, Writes, WritesSome};
@@ -9,7 +11,7 @@ ghost use Rattle.office.specs.Months.{BeginsMonth, IsMonthTold, OnlyReads, Print
 ghost use Rattle.office.specs.Months.{month_ended, month_fault, rows_text, unknown_line};
 ghost use Rattle.office.specs.Printed.{IsEnded};
 ghost use Rattle.office.specs.Written.{WritesBeginning};
-ghost use Rattle.office.specs.declared.fault.OfficeFault.TheVariants.{Store};
+ghost use Rattle.office.specs.declared.fault.OfficeFault.TheVariants.{Store, Write};
 ghost use Rattle.office.specs.declared.status.Status.TheVariants.{Failed};
 
 use crate::fault::OfficeFault;
@@ -67,6 +69,7 @@ pub fn serve_statement<K: ChargeSource, W: Write>(
     ensures reads { OnlyReads K.content K.failed K.clean keeper.old keeper.new result }
     ensures honesty { K.honest keeper.new → K.honest keeper.old }
     ensures stands { K.honest keeper.new → OnOk result (K.clean keeper.new) }
+    ensures fault { (fault : StreamFault) → result ≡ Err (Write fault) → fault ≢ ReadFailed }
     ensures left { K.honest keeper.new → (t : Tables) → K.left keeper.new t → K.left keeper.old t }
 {
     let state = match account_state(keeper, shelf, &query.account, moment) {
@@ -145,6 +148,7 @@ fn tell_unknown<W: Write>(alloc: Global, writer: &mut W) -> Result<Status, Offic
     ensures ended { IfOk result (IsEnded
         (Appends (W.contents writer.old) (W.contents writer.new) unknown_line)) }
     ensures unstored { IsErrOf result (Store StoreFailed) → ⊥ }
+    ensures fault { (fault : StreamFault) → result ≡ Err (Write fault) → fault ≢ ReadFailed }
 {
     match write_unknown(alloc, writer) {
         Ok(()) => Ok(Status::Failed),
@@ -158,6 +162,7 @@ fn write_unknown<W: Write>(alloc: Global, writer: &mut W) -> Result<(), StreamFa
         (Appends (W.contents writer.old) (W.contents writer.new) unknown_line) }
     ensures err { OnErr result
         (WritesBeginning (W.contents writer.old) (W.contents writer.new) unknown_line) }
+    ensures fault { IfErr result (λ fault. fault ≢ ReadFailed) }
 {
     let unknown = Answer::Refused(Refusal::AccountUnknown);
     write_answer_line(alloc, writer, &unknown)

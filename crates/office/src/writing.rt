@@ -1,7 +1,8 @@
 //! Lines of answers.
 
-ghost use Rattle.std.specs.Prelude.{◌≡◌, ◌++◌, ◌∷◌, [], string_bytes, OnOk, OnErr};
+ghost use Rattle.std.specs.Prelude.{◌≡◌, ◌≢◌, ◌++◌, ◌∷◌, [], string_bytes, IfErr, OnOk, OnErr};
 ghost use Rattle.std.specs.Io.KnownBytes.{Appends};
+ghost use Rattle.byte_streams.specs.declared.StreamFault.TheVariants.{Read as ReadFailed};
 ghost use Rattle.office.specs.Told.{answer_line};
 ghost use Rattle.office.specs.Written.{WritesBeginning};
 
@@ -22,6 +23,7 @@ pub fn write_line<W: Write>(writer: &mut W, text: String) -> Result<(), StreamFa
     ensures err { OnErr result
         (WritesBeginning (W.contents writer.old) (W.contents writer.new)
         (string_bytes text ++ 10 ∷ [])) }
+    ensures fault { IfErr result (λ fault. fault ≢ ReadFailed) }
 {
     let mut line = text;
     line.push('\n')?;
@@ -39,6 +41,7 @@ pub(crate) fn write_answer_line<W: Write>(
         (Appends (W.contents writer.old) (W.contents writer.new) (answer_line answer.now)) }
     ensures err { OnErr result
         (WritesBeginning (W.contents writer.old) (W.contents writer.new) (answer_line answer.now)) }
+    ensures fault { IfErr result (λ fault. fault ≢ ReadFailed) }
 {
     let text = write_answer(alloc, answer)?;
     write_line(writer, text)

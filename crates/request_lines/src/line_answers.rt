@@ -1,8 +1,9 @@
 //! Lines that are read, run and told.
 
-ghost use Rattle.std.specs.Prelude.{◌≡◌, ◌≤◌, ◌+◌, ◌++◌, Err, IfNone, IfSome, OnErr, OnOk, Some};
-ghost use Rattle.std.specs.Prelude.{length, min};
+ghost use Rattle.std.specs.Prelude.{◌≡◌, ◌≢◌, ◌≤◌, ◌+◌, ◌++◌, Err, IfNone, IfSome, OnErr, OnOk};
+ghost use Rattle.std.specs.Prelude.{Some, length, min};
 ghost use Rattle.byte_streams.specs.declared.StreamFault.{StreamFault};
+ghost use Rattle.byte_streams.specs.declared.StreamFault.TheVariants.{Read as ReadFailed};
 ghost use Rattle.charging.specs.Continued.{ForEachList};
 ghost use Rattle.charging.specs.Parts.{Leaves};
 ghost use Rattle.keepers.specs.Faults.{max_failures};
@@ -56,6 +57,7 @@ pub fn lines<K: Keeper, R: Read, W: Write>(
     ensures unread { (fault : StreamFault) → result ≡ Err (Read fault) → keeper.new ≡ keeper.old }
     ensures unwritten { (fault : StreamFault) → result ≡ Err (Read fault) →
         writer.new ≡ writer.old }
+    ensures fault { (fault : StreamFault) → result ≡ Err (Write fault) → fault ≢ ReadFailed }
     ensures honesty { K.honest keeper.new → K.honest keeper.old }
     ensures stands { K.honest keeper.new → K.clean keeper.old → OnOk result (K.clean keeper.new) }
     ensures asked { (fault : StreamFault) → result ≡ Err (Write fault) → K.honest keeper.new →

@@ -1,7 +1,9 @@
 //! What lines are told, written.
 
-ghost use Rattle.std.specs.Prelude.{◌≡◌, map, option_map, string_bytes, OnOk, OnErr, IfOk};
+ghost use Rattle.std.specs.Prelude.{◌≡◌, ◌≢◌, map, option_map, string_bytes, IfErr, IfOk, OnErr};
+ghost use Rattle.std.specs.Prelude.{OnOk};
 ghost use Rattle.std.specs.Io.KnownBytes.{Appends};
+ghost use Rattle.byte_streams.specs.declared.StreamFault.TheVariants.{Read as ReadFailed};
 ghost use Rattle.request_lines.specs.Served.{texts_of};
 ghost use Rattle.request_lines.specs.Input.{told_fault};
 ghost use Rattle.request_lines.specs.Output.{line_text};
@@ -27,6 +29,7 @@ pub(crate) fn write_output<W: Write>(
         (texts_of (map told_fault lines.now) answers.now)) }
     ensures err { OnErr result (WritesBeginning (W.contents writer.old) (W.contents writer.new)
         (texts_of (map told_fault lines.now) answers.now)) }
+    ensures fault { IfErr result (λ fault. fault ≢ ReadFailed) }
 {
     let mut next = 0;
     for line in lines {

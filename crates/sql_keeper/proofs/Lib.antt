@@ -3,6 +3,7 @@ pub mod AddedBooks
 pub mod Again
 pub mod Asked
 pub mod Beside
+pub mod BookPlaces
 pub mod BookTexts
 pub mod Brought
 pub mod Causes
@@ -19,6 +20,7 @@ pub mod Granted
 pub mod GroupRows
 pub mod Groups
 pub mod HeldAlong
+pub mod HoldRuns
 pub mod InTurn
 pub mod LiveGroups
 pub mod LiveRows
@@ -30,12 +32,15 @@ pub mod NewGroups
 pub mod Numbers
 pub mod OneShelf
 pub mod Opens
+pub mod OwnTexts
 pub mod Overlays
 pub mod Puts
 pub mod Redeemed
 pub mod Reopening
 pub mod Repeating
 pub mod RuledOpening
+pub mod RuledRows
+pub mod SeenRows
 pub mod Shelved
 pub mod Shelving
 pub mod Standing

@@ -19,6 +19,7 @@ made_then f g a b c one two = record {
     content = two.turns.content ∙ ap g one.turns.content;
     catalog = two.turns.catalog ∙ one.turns.catalog;
     stored = two.turns.stored;
+    plain = λ p. two.turns.plain (one.turns.plain p);
   };
   book = two.book;
   shows = record {
@@ -72,6 +73,18 @@ module _ {A B E : Type 0} (f g : Content → Content) (a b c : State) (u : A) (r
     survives = survives_then a b c (λ _. ⊥) (λ _. ⊥) (λ _. ⊥) (λ clean db no. no)
         (λ clean db no. no) one.survives two.survives;
   }
+
+-- one statement, and another that failed
+pub makes_failed : {A B C E F G : Type 0} (f h : Content → Content) (does : State → State → Type 0)
+    (a b c : State) (u : A) (e : F) (d : G) → Attempts {A = A} {E = E} (Makes f) a b (Ok u)
+    → Attempts {A = B} {E = F} does b c (Err e) → Attempts {A = C} {E = G} (Makes h) a c (Err d)
+makes_failed f h does a b c u e d one two = record {
+  done = λ clean. tt;
+  kept = λ clean. kept_then f a b c (one.done (omega (arith, two.survives.clean, clean)))
+      (two.kept clean);
+  survives = survives_then a b c (λ _. ⊥) (λ _. ⊥) (λ _. ⊥) (λ clean db no. no)
+      (λ clean db no. no) one.survives two.survives;
+}
 
 -- the charges of the same list
 pub puts_paid : {A E : Type 0} (a : List ℕ) (xs ys : List ChargeRow) → ys ≡ xs

@@ -258,6 +258,7 @@ impl<S: Alter> SqlKeeper<S> {
         let books = read_twice(self.alloc, text)?;
         let (own, last) = (&mut self.shelf, self.last);
         let added = add_to_all(&mut self.connection, shelf, own, from, last, text, books);
+        self.seen = None;
         told(counted(&mut self.failures, added))
     }
 }

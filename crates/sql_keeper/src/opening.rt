@@ -65,6 +65,7 @@ pub(crate) fn keeper_of<S: Alter>(
         text: read.text,
         last: read.last,
         failures: 0,
+        seen: None,
         alloc,
     };
     (keeper, read.given)

@@ -1,6 +1,6 @@
 -- The zone of a book is that of its text.
 use Rattle.std.proofs.Common.{◌≡◌, ◌∙◌, ℕ, Bool, true, false, List, Option, Some, None, Result, Ok}
-use Rattle.std.proofs.Common.{Err, sym, ap}
+use Rattle.std.proofs.Common.{sym, ap}
 use Rattle.std.specs.Prelude.{codes, if◌then◌else◌}
 use Rattle.toml.specs.Data.{Members}
 use Rattle.calendar.specs.Clock.{ZoneRule}

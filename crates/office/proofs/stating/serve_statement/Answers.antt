@@ -8,6 +8,7 @@ use Rattle.office.proofs.Beginnings.{nothing_written}
 use Rattle.office.proofs.MonthLemmas.{ended_done, ended_stands, month_told, nothing_told, reads_asked}
 use Rattle.office.proofs.MonthLemmas.{nothing_begun, some_begun, some_printed, tells_ended}
 use Rattle.office.proofs.MonthLemmas.{unknown_begun, unknown_printed, unknown_told}
+use Rattle.office.proofs.WriteFaults.{IsNoReading, month_unread, no_reading}
 use Rattle.office.proofs.stating.serve_statement.Goals as goal
 
 pub returns-in-Err-clause-told : goal.returns-in-Err-clause-told
@@ -99,3 +100,9 @@ pub returns-in-Err-clause-begun : goal.returns-in-Err-clause-begun
 returns-in-Err-clause-begun g c =
     nothing_begun c.args.shelf.now c.args.query.now (g.W.Write.contents c.args.writer.now)
     (nothing_written (g.W.Write.contents c.args.writer.now))
+
+pub returns-in-Some-clause-fault : goal.returns-in-Some-clause-fault
+returns-in-Some-clause-fault g c = λ fault told.
+    no_reading c.month_ended.result fault
+    (subst (λ (r : Result Status OfficeFault). IsNoReading r) (sym c.month_ended.ensures)
+    (month_unread c.write_month.result)) told
