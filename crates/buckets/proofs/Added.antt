@@ -2,7 +2,8 @@
 use Rattle.std.proofs.Common.{Bool, true, false, [], ◌∷◌}
 use Rattle.std.specs.Prelude.{if◌then◌else◌, nat_lt}
 use Rattle.std.specs.List.Sorted.{IsPermutation}
-use Rattle.std.proofs.lemmas.List.Sorted.{IsPermutation-refl, IsPermutation-cons, IsPermutation-trans}
+use Rattle.std.proofs.lemmas.List.Sorted.{IsPermutation-refl, IsPermutation-cons}
+use Rattle.std.proofs.lemmas.List.Sorted.{IsPermutation-trans}
 use Rattle.std.proofs.lemmas.List.Sorted.{IsPermutation-to_front, IsPermutation-append_left}
 use Rattle.buckets.specs.Spend.{inserted}
 use Rattle.buckets.specs.Laws.{IsAddedAlone, IsAddedInOrder}

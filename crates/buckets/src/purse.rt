@@ -200,7 +200,7 @@ impl Purse {
         ensures value { result.0 ≡ held_sum BucketKind.Blocks holds.now self.now }
         ensures most { result.0 ≤ 4_294_967_296_000_000_000 }
     {
-        Blocks(along::held_sum_of(&self.buckets, BucketKind::Blocks, &holds.items) as u64)
+        Blocks(along::held_sum_of(&self.buckets, BucketKind::Blocks, holds.as_slice()) as u64)
     }
 
     /// Holds the amount in the eligible buckets, in their order (TS 32.299, session charging with
@@ -277,7 +277,7 @@ impl Purse {
         let mut items = room.items;
         along::write_parts(&mut items, &self.buckets, group, at, due);
         along::hold_along(&mut self.buckets, group, at, due);
-        Holds { items }
+        Holds::of_list(items)
     }
 
     /// Charges an amount to the holds that are lent, and what they don't reach to the eligible
@@ -358,10 +358,10 @@ impl Purse {
         ensures err { OnErr result (self.new ≡ self.old) }
         ensures err_holds { OnErr result (holds.new ≡ holds.old) }
     {
-        let rest = along::rest_of(self.alloc, &self.buckets, &holds.items, due)?;
-        let left = along::charge_holds_along(&mut self.buckets, &holds.items, due);
+        let rest = along::rest_of(self.alloc, &self.buckets, holds.as_slice(), due)?;
+        let left = along::charge_holds_along(&mut self.buckets, holds.as_slice(), due);
         let unpaid = along::charge_along(&mut self.buckets, group, at, left);
-        holds.items = rest;
+        *holds = Holds::of_list(rest);
         Ok(unpaid)
     }
 
@@ -382,9 +382,9 @@ impl Purse {
         ensures collected { result.collected.0 + result.uncollected.0 ≡ amount.0 }
     {
         let due = due_of(amount, blocks);
-        let unheld = along::charge_holds_along(&mut self.buckets, &holds.items, due);
+        let unheld = along::charge_holds_along(&mut self.buckets, holds.as_slice(), due);
         let unpaid = along::charge_along(&mut self.buckets, group, at, unheld);
-        along::release_rest(&mut self.buckets, &holds.items, at, due);
+        along::release_rest(&mut self.buckets, holds.as_slice(), at, due);
         charged_of(amount, unpaid)
     }
 
@@ -407,7 +407,7 @@ impl Purse {
         requires { IsWithin holds self.old }
         ensures { self.new ≡ released_rows holds at self.old }
     {
-        along::release_all(&mut self.buckets, &holds.items, at);
+        along::release_all(&mut self.buckets, holds.as_slice(), at);
     }
 
     /// Moves what is available to expired in the buckets that have ended.

@@ -10,7 +10,8 @@ use Rattle.jiff_core.proofs.SignedLemmas.{signed_arith}
 use Rattle.jiff_core.proofs.CalendarLemmas.{day_count-epoch, days_from_civil-day_count}
 use Rattle.jiff_core.proofs.CalendarLemmas.{days_in_month_bounds, day_count-next_month}
 use Rattle.jiff_core.proofs.CalendarLemmas.{day_count-next_year, day_count-later_year}
-use Rattle.jiff_core.proofs.CalendarLemmas.{day_count-last_of_year, days_in_year_bounds, day_count-day}
+use Rattle.jiff_core.proofs.CalendarLemmas.{day_count-last_of_year, days_in_year_bounds}
+use Rattle.jiff_core.proofs.CalendarLemmas.{day_count-day}
 use Rattle.jiff_tz.specs.PosixRule.{weekday_of_month, sunday_number, last_weekday, nth_weekday}
 use Rattle.calendar.specs.declared.summer.YearlyChange.{YearlyChange}
 use Rattle.calendar.specs.Summer.{day_in}

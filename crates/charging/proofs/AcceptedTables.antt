@@ -8,10 +8,10 @@ use Rattle.identifiers.specs.Texts.{same_name}
 use Rattle.commands.specs.declared.command.Command.{Command}
 use Rattle.commands.specs.declared.command.Command.TheVariants.{AddVoucher}
 use Rattle.commands.specs.declared.command.VoucherAddition.{VoucherAddition}
-use Rattle.redemptions.specs.declared.voucher.Voucher.{Voucher}
-use Rattle.redemptions.specs.Standing.{unspent}
-use Rattle.redemptions.specs.Adding.{addition, after_addition}
-use Rattle.redemptions.specs.Redeeming.{DayEnds}
+use Rattle.voucher_rules.specs.declared.voucher.Voucher.{Voucher}
+use Rattle.voucher_rules.specs.Standing.{unspent}
+use Rattle.voucher_rules.specs.Adding.{addition, after_addition}
+use Rattle.voucher_rules.specs.Redeeming.{DayEnds}
 use Rattle.shelves.specs.Shelves.{Shelf}
 use Rattle.reserving.specs.Charges.{charge_rows}
 use Rattle.reserving.specs.Left.{first_of}

@@ -9,8 +9,8 @@ use Rattle.commands.specs.declared.request.Ask.{Ask}
 use Rattle.commands.specs.declared.request.Ask.TheVariants.{Initial, Update, Termination, Event}
 use Rattle.commands.specs.declared.request.Ask.TheVariants.{Refund}
 use Rattle.commands.specs.declared.service.Service.{Service}
-use Rattle.redemptions.specs.declared.voucher.Voucher.{Voucher}
-use Rattle.redemptions.specs.Redeeming.{after_redemption}
+use Rattle.voucher_rules.specs.declared.voucher.Voucher.{Voucher}
+use Rattle.voucher_rules.specs.Redeeming.{after_redemption}
 use Rattle.shelves.specs.Shelves.{Shelf, count}
 use Rattle.shelves.specs.Laws.{GoesOnFrom}
 use Rattle.shelves.proofs.Adding.{addable, nothing_before}

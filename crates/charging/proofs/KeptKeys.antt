@@ -23,7 +23,7 @@ use Rattle.commands.specs.declared.request.Event.{Event}
 use Rattle.commands.specs.declared.request.EventAction.{EventAction}
 use Rattle.commands.specs.declared.request.EventAction.TheVariants as action
 use Rattle.commands.specs.declared.request.Request.{Request}
-use Rattle.redemptions.specs.declared.voucher.Voucher.{Voucher}
+use Rattle.voucher_rules.specs.declared.voucher.Voucher.{Voucher}
 use Rattle.shelves.specs.Shelves.{Shelf, book_at}
 use Rattle.reserving.specs.Ledger.{Ledger}
 use Rattle.reserving.proofs.Lists.{no_some}

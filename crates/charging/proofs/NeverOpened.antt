@@ -17,13 +17,13 @@ use Rattle.commands.specs.declared.command.Content.TheVariants as content
 use Rattle.commands.specs.declared.command.Credit.{Credit}
 use Rattle.commands.specs.declared.request.Request.{Request}
 use Rattle.commands.specs.declared.command.VoucherRedemption.{VoucherRedemption}
-use Rattle.redemptions.specs.declared.adding.Addition.{Addition}
-use Rattle.redemptions.specs.declared.adding.Addition.TheVariants.{New, Present, Conflicting}
-use Rattle.redemptions.specs.declared.redeeming.Redemption.{Redemption}
-use Rattle.redemptions.specs.declared.redeeming.RedeemRefusal.{RedeemRefusal}
-use Rattle.redemptions.specs.declared.voucher.Voucher.{Voucher}
-use Rattle.redemptions.specs.Adding.{addition}
-use Rattle.redemptions.specs.Redeeming.{redemption}
+use Rattle.voucher_rules.specs.declared.adding.Addition.{Addition}
+use Rattle.voucher_rules.specs.declared.adding.Addition.TheVariants.{New, Present, Conflicting}
+use Rattle.voucher_rules.specs.declared.redeeming.Redemption.{Redemption}
+use Rattle.voucher_rules.specs.declared.redeeming.RedeemRefusal.{RedeemRefusal}
+use Rattle.voucher_rules.specs.declared.voucher.Voucher.{Voucher}
+use Rattle.voucher_rules.specs.Adding.{addition}
+use Rattle.voucher_rules.specs.Redeeming.{redemption}
 use Rattle.shelves.specs.Shelves.{Shelf}
 use Rattle.buckets.specs.declared.kind.BucketKind.TheVariants.{Money}
 use Rattle.reserving.specs.Ledger.{next_bucket}

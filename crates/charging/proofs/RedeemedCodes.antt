@@ -10,15 +10,15 @@ use Rattle.commands.specs.declared.command.Content.{Content}
 use Rattle.commands.specs.declared.command.Content.TheVariants as content
 use Rattle.commands.specs.declared.command.VoucherRedemption.{VoucherRedemption}
 use Rattle.commands.specs.declared.answer.Answer.{Answer}
-use Rattle.redemptions.specs.declared.redeeming.RedeemRefusal.TheVariants.{VoucherSpent}
-use Rattle.redemptions.specs.declared.redeeming.Redemption.{Redemption}
-use Rattle.redemptions.specs.declared.redeeming.RedeemRefusal.{RedeemRefusal}
-use Rattle.redemptions.specs.declared.voucher.Voucher.{Voucher}
-use Rattle.redemptions.specs.Standing.{is_spent}
-use Rattle.redemptions.specs.Redeeming.{DayEnds, bucket_end, redemption, redemption_until}
-use Rattle.redemptions.specs.Redeeming.{after_redemption}
-use Rattle.redemptions.specs.Histories.{VoucherCommand, Vouchers, with_command, with_commands}
-use Rattle.redemptions.proofs.StandingLemmas.{spent_for_good}
+use Rattle.voucher_rules.specs.declared.redeeming.RedeemRefusal.TheVariants.{VoucherSpent}
+use Rattle.voucher_rules.specs.declared.redeeming.Redemption.{Redemption}
+use Rattle.voucher_rules.specs.declared.redeeming.RedeemRefusal.{RedeemRefusal}
+use Rattle.voucher_rules.specs.declared.voucher.Voucher.{Voucher}
+use Rattle.voucher_rules.specs.Standing.{is_spent}
+use Rattle.voucher_rules.specs.Redeeming.{DayEnds, bucket_end, redemption, redemption_until}
+use Rattle.voucher_rules.specs.Redeeming.{after_redemption}
+use Rattle.voucher_rules.specs.Histories.{VoucherCommand, Vouchers, with_command, with_commands}
+use Rattle.voucher_rules.proofs.StandingLemmas.{spent_for_good}
 use Rattle.shelves.specs.Shelves.{Shelf}
 use Rattle.keepers.specs.declared.key.KeptAnswer.{KeptAnswer}
 use Rattle.keepers.specs.Keys.{key_of}

@@ -1,6 +1,7 @@
 -- What each step of a ledger at a moment keeps, where the step's session is live or new, each
 -- command at that moment keeps.
-use Rattle.std.proofs.Common.{◌≡◌, ℕ, Bool, true, false, List, [], ◌∷◌, refl, sym, Option, Some, None}
+use Rattle.std.proofs.Common.{◌≡◌, ℕ, Bool, true, false, List, [], ◌∷◌, refl, sym, Option, Some}
+use Rattle.std.proofs.Common.{None}
 use Rattle.std.specs.Prelude.{if◌then◌else◌, not, is_some, nat_lt, option_map, Result, Ok, Err}
 use Rattle.commands.specs.declared.answer.Answer.{Answer}
 use Rattle.commands.specs.declared.answer.Failure.{Failure}
@@ -25,13 +26,13 @@ use Rattle.commands.specs.declared.request.Request.{Request}
 use Rattle.commands.specs.declared.service.Service.{Service}
 use Rattle.commands.specs.declared.service.Requested.{Requested}
 use Rattle.commands.specs.Refunds.{Refunded}
-use Rattle.redemptions.specs.declared.adding.Addition.{Addition}
-use Rattle.redemptions.specs.declared.adding.Addition.TheVariants.{New, Present, Conflicting}
-use Rattle.redemptions.specs.declared.redeeming.Redemption.{Redemption}
-use Rattle.redemptions.specs.declared.redeeming.RedeemRefusal.{RedeemRefusal}
-use Rattle.redemptions.specs.declared.voucher.Voucher.{Voucher}
-use Rattle.redemptions.specs.Adding.{addition}
-use Rattle.redemptions.specs.Redeeming.{redemption}
+use Rattle.voucher_rules.specs.declared.adding.Addition.{Addition}
+use Rattle.voucher_rules.specs.declared.adding.Addition.TheVariants.{New, Present, Conflicting}
+use Rattle.voucher_rules.specs.declared.redeeming.Redemption.{Redemption}
+use Rattle.voucher_rules.specs.declared.redeeming.RedeemRefusal.{RedeemRefusal}
+use Rattle.voucher_rules.specs.declared.voucher.Voucher.{Voucher}
+use Rattle.voucher_rules.specs.Adding.{addition}
+use Rattle.voucher_rules.specs.Redeeming.{redemption}
 use Rattle.shelves.specs.Shelves.{Shelf, book_at}
 use Rattle.tariffs.specs.Tariffs.{GroupTariff}
 use Rattle.rating.specs.declared.grant.Grant.{Grant as RatedGrant}

@@ -12,14 +12,14 @@ use Rattle.commands.specs.declared.command.Command.TheVariants as command
 use Rattle.commands.specs.declared.command.Content.TheVariants as content
 use Rattle.commands.specs.declared.command.VoucherAddition.{VoucherAddition}
 use Rattle.commands.specs.declared.command.VoucherRedemption.{VoucherRedemption}
-use Rattle.redemptions.specs.declared.terms.VoucherTerms.{VoucherTerms}
-use Rattle.redemptions.specs.declared.voucher.Voucher.{Voucher}
-use Rattle.redemptions.specs.declared.adding.Addition.{Addition}
-use Rattle.redemptions.specs.declared.adding.Addition.TheVariants.{New, Present, Conflicting}
-use Rattle.redemptions.specs.declared.redeeming.Redemption.{Redemption}
-use Rattle.redemptions.specs.declared.redeeming.RedeemRefusal.{RedeemRefusal}
-use Rattle.redemptions.specs.Adding.{same_terms, addition}
-use Rattle.redemptions.specs.Redeeming.{redemption, after_redemption}
+use Rattle.voucher_rules.specs.declared.terms.VoucherTerms.{VoucherTerms}
+use Rattle.voucher_rules.specs.declared.voucher.Voucher.{Voucher}
+use Rattle.voucher_rules.specs.declared.adding.Addition.{Addition}
+use Rattle.voucher_rules.specs.declared.adding.Addition.TheVariants.{New, Present, Conflicting}
+use Rattle.voucher_rules.specs.declared.redeeming.Redemption.{Redemption}
+use Rattle.voucher_rules.specs.declared.redeeming.RedeemRefusal.{RedeemRefusal}
+use Rattle.voucher_rules.specs.Adding.{same_terms, addition}
+use Rattle.voucher_rules.specs.Redeeming.{redemption, after_redemption}
 use Rattle.shelves.specs.Shelves.{Shelf}
 use Rattle.buckets.specs.declared.kind.BucketKind.TheVariants.{Money}
 use Rattle.reserving.specs.Ledger.{Ledger, next_bucket}

@@ -9,15 +9,15 @@ use Rattle.commands.specs.declared.answer.Answer.TheVariants as answer
 use Rattle.commands.specs.declared.command.Command.{Command}
 use Rattle.commands.specs.declared.command.Command.TheVariants as command
 use Rattle.commands.specs.declared.command.VoucherAddition.{VoucherAddition}
-use Rattle.redemptions.specs.declared.terms.VoucherTerms.{VoucherTerms}
-use Rattle.redemptions.specs.declared.voucher.Voucher.{Voucher}
-use Rattle.redemptions.specs.declared.adding.Addition.TheVariants.{Present, Conflicting}
-use Rattle.redemptions.specs.declared.redeeming.RedeemRefusal.TheVariants.{VoucherSpent}
+use Rattle.voucher_rules.specs.declared.terms.VoucherTerms.{VoucherTerms}
+use Rattle.voucher_rules.specs.declared.voucher.Voucher.{Voucher}
+use Rattle.voucher_rules.specs.declared.adding.Addition.TheVariants.{Present, Conflicting}
+use Rattle.voucher_rules.specs.declared.redeeming.RedeemRefusal.TheVariants.{VoucherSpent}
 use Rattle.std.specs.Prelude.{Err}
-use Rattle.redemptions.specs.Standing.{is_spent, terms_under}
-use Rattle.redemptions.specs.Adding.{same_terms, addition, after_addition}
-use Rattle.redemptions.specs.Redeeming.{DayEnds, bucket_end, redemption_until, after_redemption}
-use Rattle.redemptions.proofs.Exact.{terms_exact}
+use Rattle.voucher_rules.specs.Standing.{is_spent, terms_under}
+use Rattle.voucher_rules.specs.Adding.{same_terms, addition, after_addition}
+use Rattle.voucher_rules.specs.Redeeming.{DayEnds, bucket_end, redemption_until, after_redemption}
+use Rattle.voucher_rules.proofs.Exact.{terms_exact}
 use Rattle.shelves.specs.Shelves.{Shelf}
 use Rattle.reserving.proofs.Lists.{some_of}
 use Rattle.charging.specs.Histories.{History, no_history}

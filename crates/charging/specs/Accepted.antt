@@ -10,9 +10,9 @@ use Rattle.identifiers.specs.Texts.{same_name}
 use Rattle.commands.specs.declared.command.Command.{Command}
 use Rattle.commands.specs.declared.command.Command.TheVariants as command
 use Rattle.commands.specs.declared.answer.Answer.{Answer}
-use Rattle.redemptions.specs.declared.voucher.Voucher.{Voucher}
-use Rattle.redemptions.specs.Adding.{addition, after_addition}
-use Rattle.redemptions.specs.Redeeming.{DayEnds, redemption, after_redemption}
+use Rattle.voucher_rules.specs.declared.voucher.Voucher.{Voucher}
+use Rattle.voucher_rules.specs.Adding.{addition, after_addition}
+use Rattle.voucher_rules.specs.Redeeming.{DayEnds, redemption, after_redemption}
 use Rattle.shelves.specs.Shelves.{Shelf}
 use Rattle.reserving.specs.Charges.{charge_rows}
 use Rattle.keepers.specs.declared.key.Key.{Key}

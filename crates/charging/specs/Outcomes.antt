@@ -25,14 +25,14 @@ use Rattle.commands.specs.declared.command.Credit.{Credit}
 use Rattle.commands.specs.declared.command.VoucherRedemption.{VoucherRedemption}
 use Rattle.commands.specs.declared.request.Request.{Request}
 use Rattle.calendar.specs.Timetable.{day_end}
-use Rattle.redemptions.specs.declared.adding.Addition.{Addition}
-use Rattle.redemptions.specs.declared.adding.Addition.TheVariants.{New, Present, Conflicting}
-use Rattle.redemptions.specs.declared.redeeming.Redemption.{Redemption}
-use Rattle.redemptions.specs.declared.redeeming.RedeemRefusal.{RedeemRefusal}
-use Rattle.redemptions.specs.declared.redeeming.RedeemRefusal.TheVariants as refusal
-use Rattle.redemptions.specs.declared.voucher.Voucher.{Voucher}
-use Rattle.redemptions.specs.Adding.{addition}
-use Rattle.redemptions.specs.Redeeming.{DayEnds, redemption}
+use Rattle.voucher_rules.specs.declared.adding.Addition.{Addition}
+use Rattle.voucher_rules.specs.declared.adding.Addition.TheVariants.{New, Present, Conflicting}
+use Rattle.voucher_rules.specs.declared.redeeming.Redemption.{Redemption}
+use Rattle.voucher_rules.specs.declared.redeeming.RedeemRefusal.{RedeemRefusal}
+use Rattle.voucher_rules.specs.declared.redeeming.RedeemRefusal.TheVariants as refusal
+use Rattle.voucher_rules.specs.declared.voucher.Voucher.{Voucher}
+use Rattle.voucher_rules.specs.Adding.{addition}
+use Rattle.voucher_rules.specs.Redeeming.{DayEnds, redemption}
 use Rattle.shelves.specs.Shelves.{Shelf, book_at}
 use Rattle.buckets.specs.declared.kind.BucketKind.TheVariants.{Money, Blocks}
 use Rattle.reserving.specs.Ledger.{Ledger, next_bucket}

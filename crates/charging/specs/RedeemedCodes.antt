@@ -7,8 +7,8 @@ use Rattle.identifiers.specs.Words.{VoucherCode}
 use Rattle.identifiers.specs.Texts.{same_name}
 use Rattle.commands.specs.declared.command.Command.{Command}
 use Rattle.commands.specs.declared.command.Command.TheVariants as command
-use Rattle.redemptions.specs.Standing.{is_spent}
-use Rattle.redemptions.specs.Histories.{VoucherCommand, Adds, Redeems, with_commands}
+use Rattle.voucher_rules.specs.Standing.{is_spent}
+use Rattle.voucher_rules.specs.Histories.{VoucherCommand, Adds, Redeems, with_commands}
 use Rattle.shelves.specs.Shelves.{Shelf}
 use Rattle.charging.specs.Accepted.{Accepted}
 use Rattle.charging.specs.declared.running.DatedCommand.{DatedCommand}

@@ -7,7 +7,7 @@ use Rattle.identifiers.specs.Words.{AccountName, VoucherCode}
 use Rattle.commands.specs.declared.answer.Answer.{Answer}
 use Rattle.commands.specs.declared.answer.Answer.TheVariants.{Swept}
 use Rattle.commands.specs.declared.command.Command.{Command}
-use Rattle.redemptions.specs.declared.voucher.Voucher.{Voucher}
+use Rattle.voucher_rules.specs.declared.voucher.Voucher.{Voucher}
 use Rattle.shelves.specs.Shelves.{Shelf}
 use Rattle.keepers.specs.declared.fault.StoreFault.{StoreFault}
 use Rattle.keepers.specs.Tables.{Tables}

@@ -8,7 +8,7 @@ ghost use Rattle.shelves.specs.Shelves.{Shelf};
 ghost use Rattle.keepers.specs.Keys.{key_of};
 ghost use Rattle.keepers.specs.Change.{IsLoad};
 ghost use Rattle.keepers.specs.Keeping.{Reads};
-ghost use Rattle.redemptions.specs.Redeeming.{redemption};
+ghost use Rattle.voucher_rules.specs.Redeeming.{redemption};
 ghost use Rattle.charging.specs.Outcomes.{book_days, refused_as, repeated};
 ghost use Rattle.charging.specs.Parts.{Leaves, PartKeeps};
 ghost use Rattle.charging.specs.Stepping.{ServesAt, WritesAt, LeavesRefused};
@@ -18,10 +18,10 @@ use crate::operators::make_bucket;
 use commands::{Answer, Content, Refusal, VoucherAddition, VoucherRedemption, is_kept_redemption};
 use identifiers::VoucherCode;
 use keepers::{Keeper, KeptAnswer, Key, Loaded, Redeemed, StoreFault};
-use redemptions::{Addition, CivilDays, RedeemRefusal, Redemption, Voucher, add, redeem};
 use shelves::TariffShelf;
 use std::alloc::{AllocError, Global};
 use units::Moment;
+use voucher_rules::{Addition, CivilDays, RedeemRefusal, Redemption, Voucher, add, redeem};
 
 /// The civil days by the calendar of the book at a moment.
 #[derive(Drop)]

@@ -6,9 +6,9 @@ ghost use Rattle.commands.specs.Kept.{is_kept};
 use crate::allowance::Allowance;
 use crate::request::Request;
 use identifiers::{AccountNumber, Reference, VoucherCode};
-use redemptions::VoucherTerms;
 use std::marker::Model;
 use units::{Moment, Money};
+use voucher_rules::VoucherTerms;
 
 /// From when a credit or an allowance can be used: a moment of a command, 0 to 4,102,444,799.
 ///

@@ -4,18 +4,19 @@ use Rattle.std.proofs.Common.{inl, inr, take, drop, codes, Option, Some, None, R
 use Rattle.std.proofs.Common.{IfSome}
 use Rattle.std.specs.Prelude.{◌||◌, if◌then◌else◌, nat_le, nat_lt, length, IfErr, ⊤}
 use Rattle.httparse.specs.Grammar.{RequestHead}
-use Rattle.http_heads.specs.Methods.{is_post, is_put}
-use Rattle.http_heads.specs.Statuses.{length_required, payload_too_large}
-use Rattle.http_heads.specs.Parts.{Part, whole, too_long, cut, first_part}
-use Rattle.http_heads.specs.Fields.{said_number, taken_length, length_by, length_unless, values_of}
-use Rattle.http_heads.specs.Requests.{length_of, fields_of, ask_of, after_length, Next, asks}
-use Rattle.http_heads.specs.Requests.{refused, ended, IsNextOf, Tells, TellsNext}
-use Rattle.http_heads.specs.declared.requests.Taken.{Taken}
-use Rattle.http_heads.specs.declared.requests.Taken.TheVariants as taken
-use Rattle.http_answers.specs.declared.asking.Asked.TheVariants as told
-use Rattle.http_answers.specs.declared.refusal.HttpRefusal.{HttpRefusal}
-use Rattle.http_answers.specs.Asking.{refuses, IsAsked}
-use Rattle.http_answers.specs.Refusals.{number_of, refusal_of}
+use Rattle.http_messages.specs.Methods.{is_post, is_put}
+use Rattle.http_messages.specs.Statuses.{length_required, payload_too_large}
+use Rattle.http_messages.specs.Parts.{Part, whole, too_long, cut, first_part}
+use Rattle.http_messages.specs.Fields.{said_number, taken_length, length_by, length_unless}
+use Rattle.http_messages.specs.Fields.{values_of}
+use Rattle.http_messages.specs.Requests.{length_of, fields_of, ask_of, after_length, Next, asks}
+use Rattle.http_messages.specs.Requests.{refused, ended, IsNextOf, Tells, TellsNext}
+use Rattle.http_messages.specs.declared.requests.Taken.{Taken}
+use Rattle.http_messages.specs.declared.requests.Taken.TheVariants as taken
+use Rattle.http_messages.specs.declared.asking.Asked.TheVariants as told
+use Rattle.http_messages.specs.declared.refusal.HttpRefusal.{HttpRefusal}
+use Rattle.http_messages.specs.Asking.{refuses, IsAsked}
+use Rattle.http_messages.specs.Refusals.{number_of, refusal_of}
 use Rattle.http_api.specs.declared.hearing.Heard.{Heard}
 use Rattle.http_api.specs.Hearing.{IsOfHead, Hears, HearsNext}
 

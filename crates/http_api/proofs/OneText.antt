@@ -8,11 +8,11 @@ use Rattle.std.proofs.lemmas.Bool.{ltb-true, ltb-false}
 use Rattle.std.proofs.Math.Seq.{take-append_seam, drop-append_seam}
 use Rattle.shelves.specs.Shelves.{Shelf}
 use Rattle.charging.specs.Accepted.{Accepted}
-use Rattle.http_heads.proofs.OneNext.{next_is_one}
-use Rattle.http_heads.proofs.Refusals.{refused_says}
-use Rattle.http_heads.specs.Parts.{first_part}
-use Rattle.http_heads.specs.Requests.{Next, asks, refused, ended, IsNext}
-use Rattle.http_answers.specs.Asking.{Asking, refuses, reads, states, asked_of}
+use Rattle.http_messages.proofs.OneNext.{next_is_one}
+use Rattle.http_messages.proofs.Refusals.{refused_says}
+use Rattle.http_messages.specs.Parts.{first_part}
+use Rattle.http_messages.specs.Requests.{Next, asks, refused, ended, IsNext}
+use Rattle.http_messages.specs.Asking.{Asking, refuses, reads, states, asked_of}
 use Rattle.http_api.specs.Replies.{Reply, reply_at, statement_at, IsDue, IsReply}
 use Rattle.http_api.specs.Connections.{Connection, new_connection, left_after, after_reply, IsOver}
 use Rattle.http_api.specs.Connections.{IsAnswered, Takes, IsTurn, Turns}

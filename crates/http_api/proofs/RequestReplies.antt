@@ -4,13 +4,13 @@ use Rattle.std.proofs.Common.{◌∙◌, inl, inr, arith, Option, Some, None, Re
 use Rattle.std.proofs.KnownBytes.{Appends-nil}
 use Rattle.std.specs.Prelude.{IsErrAnd, OnErr}
 pub use Rattle.std.proofs.lemmas.Result.{on_ok_weaker as ok_gives, on_err_weaker as err_gives}
-use Rattle.byte_streams.specs.declared.StreamFault.{StreamFault}
-use Rattle.byte_streams.specs.declared.StreamFault.TheVariants as stream
+use Rattle.texts.specs.declared.streams.StreamFault.{StreamFault}
+use Rattle.texts.specs.declared.streams.StreamFault.TheVariants as stream
 use Rattle.commands.specs.declared.answer.Answer.{Answer}
 use Rattle.commands.specs.declared.command.Command.{Command}
 use Rattle.json_fields.specs.declared.fault.WireFault.{WireFault}
 use Rattle.json_fields.specs.declared.fault.WireFault.TheVariants.{Memory}
-use Rattle.wire_answers.specs.Spelled.{answer_text, fault_text}
+use Rattle.wire.specs.Spelled.{answer_text, fault_text}
 use Rattle.shelves.specs.Shelves.{Shelf}
 use Rattle.keepers.specs.declared.fault.StoreFault.{StoreFault}
 use Rattle.keepers.specs.Tables.{Tables}
@@ -18,13 +18,13 @@ pub use Rattle.keepers.proofs.Placed.{on_err as at_err}
 use Rattle.charging.specs.Accepted.{Accepted}
 use Rattle.charging.specs.Continued.{ForEachList}
 use Rattle.charging.specs.Served.{AreTables, Serves, moment_of}
-use Rattle.http_heads.specs.Statuses as status
-use Rattle.http_answers.specs.Asking.{Asking, refuses, reads, states, IsAsked}
-use Rattle.http_answers.specs.declared.asking.StatementAsked.{StatementAsked}
-use Rattle.http_answers.specs.declared.asking.Asked.TheVariants as told
-use Rattle.http_answers.specs.Refusals.{number_of}
-use Rattle.http_answers.specs.Texts.{response, no_members, unable, Begins, TellsFault}
-use Rattle.http_answers.specs.declared.refusal.HttpRefusal.{HttpRefusal}
+use Rattle.http_messages.specs.Statuses as status
+use Rattle.http_messages.specs.Asking.{Asking, refuses, reads, states, IsAsked}
+use Rattle.http_messages.specs.declared.asking.StatementAsked.{StatementAsked}
+use Rattle.http_messages.specs.declared.asking.Asked.TheVariants as told
+use Rattle.http_messages.specs.Refusals.{number_of}
+use Rattle.http_messages.specs.Texts.{response, no_members, unable, Begins, TellsFault}
+use Rattle.http_messages.specs.declared.refusal.HttpRefusal.{HttpRefusal}
 use Rattle.http_api.specs.Clocks.{GivesInTurn}
 use Rattle.http_api.specs.Faults.{serve_fault}
 use Rattle.http_api.specs.Replies.{refusal, unserved, reply_at, IsDue, MayAsk, IsReply, Replies}

@@ -2,9 +2,9 @@
 use Rattle.std.proofs.Common.{◌≡◌, ◌∙◌, List, refl, sym, subst, Option, Result}
 use Rattle.std.specs.Prelude.{ℕ, OnOk, OnErr}
 use Rattle.std.specs.Io.KnownBytes.{Appends}
-use Rattle.byte_streams.specs.declared.StreamFault.{StreamFault}
+use Rattle.texts.specs.declared.streams.StreamFault.{StreamFault}
 use Rattle.keepers.specs.Tables.{Tables}
-use Rattle.http_answers.specs.Texts.{Begins}
+use Rattle.http_messages.specs.Texts.{Begins}
 use Rattle.http_api.specs.Replies.{ShowsReply, Shows}
 use Rattle.http_api.proofs.RequestReplies.{ok_gives, err_gives}
 

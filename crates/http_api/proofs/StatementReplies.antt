@@ -2,17 +2,17 @@
 use Rattle.std.proofs.Common.{◌≡◌, ◌∙◌, ℕ, Bool, true, false, List, [], ◌∷◌, refl, sym, ap, subst}
 use Rattle.std.proofs.Common.{inl, inr, arith, Option, Some, None, Result, Err, ◌≤◌}
 use Rattle.std.specs.Prelude.{if◌then◌else◌, OnErr}
-use Rattle.byte_streams.specs.declared.StreamFault.{StreamFault}
-use Rattle.byte_streams.specs.declared.StreamFault.TheVariants as stream
+use Rattle.texts.specs.declared.streams.StreamFault.{StreamFault}
+use Rattle.texts.specs.declared.streams.StreamFault.TheVariants as stream
 use Rattle.commands.specs.declared.answer.Answer.TheVariants.{Refused}
 use Rattle.commands.specs.declared.answer.Refusal.TheVariants.{AccountUnknown}
-use Rattle.wire_answers.specs.Spelled.{answer_text}
+use Rattle.wire.specs.Spelled.{answer_text}
 use Rattle.shelves.specs.Shelves.{Shelf}
 use Rattle.reserving.specs.ChargeColumns.{ChargeColumns}
 use Rattle.reserving.specs.Charges.{charge_rows}
 use Rattle.keepers.specs.Tables.{Tables}
-use Rattle.charge_sources.specs.Rows.{AreCharges}
-use Rattle.charge_sources.proofs.Numbered.{charges_rise}
+use Rattle.keepers.specs.Rows.{AreCharges}
+use Rattle.keepers.proofs.Numbered.{charges_rise}
 use Rattle.charging.specs.Accepted.{Accepted, IsInTime}
 use Rattle.charging.specs.Continued.{ForEachList, IsContinued}
 use Rattle.charging.specs.Histories.{History}
@@ -20,11 +20,11 @@ use Rattle.charging.specs.Served.{AreTables, history, moment_of}
 use Rattle.charging.specs.States.{IsState, IsStateAt, TellsState}
 use Rattle.charging.specs.declared.balances.AccountState.{AccountState}
 use Rattle.statements.specs.Texts.{statement_text}
-use Rattle.http_heads.specs.Statuses as status
-use Rattle.http_answers.specs.Asking.{states}
-use Rattle.http_answers.specs.declared.asking.StatementAsked.{StatementAsked}
-use Rattle.http_answers.specs.declared.text.Media.TheVariants.{Text}
-use Rattle.http_answers.specs.Texts.{response, response_of, unable, TellsText}
+use Rattle.http_messages.specs.Statuses as status
+use Rattle.http_messages.specs.Asking.{states}
+use Rattle.http_messages.specs.declared.asking.StatementAsked.{StatementAsked}
+use Rattle.http_messages.specs.declared.text.Media.TheVariants.{Text}
+use Rattle.http_messages.specs.Texts.{response, response_of, unable, TellsText}
 use Rattle.charging.specs.Balances.{by_number}
 use Rattle.reserving.specs.Balance.{buckets_at}
 use Rattle.reserving.specs.Pricing.{validity_of}

@@ -6,15 +6,15 @@ use Rattle.commands.specs.declared.command.Command.{Command}
 use Rattle.json_fields.specs.declared.fault.WireFault.{WireFault}
 use Rattle.shelves.specs.Shelves.{Shelf}
 use Rattle.charging.specs.Accepted.{Accepted}
-use Rattle.http_heads.specs.Statuses.{IsAnswerStatus, method_not_allowed}
-use Rattle.http_heads.specs.Requests.{Ask}
-use Rattle.http_answers.specs.Asking.{Asking, refuses, reads, states, stated, statement_in}
-use Rattle.http_answers.specs.Asking.{asking_by, asked_by, asked_of}
-use Rattle.http_answers.specs.Routes.{route_of, serves}
-use Rattle.http_answers.specs.declared.asking.StatementAsked.{StatementAsked}
-use Rattle.http_answers.specs.declared.routes.Route.{Route}
-use Rattle.http_answers.specs.declared.routes.Route.TheVariants.{Ccr, Account, Statement, Credits}
-use Rattle.http_answers.specs.declared.routes.Route.TheVariants.{Allowances, Redeem, Sweep}
+use Rattle.http_messages.specs.Statuses.{IsAnswerStatus, method_not_allowed}
+use Rattle.http_messages.specs.Requests.{Ask}
+use Rattle.http_messages.specs.Asking.{Asking, refuses, reads, states, stated, statement_in}
+use Rattle.http_messages.specs.Asking.{asking_by, asked_by, asked_of}
+use Rattle.http_messages.specs.Routes.{route_of, serves}
+use Rattle.http_messages.specs.declared.asking.StatementAsked.{StatementAsked}
+use Rattle.http_messages.specs.declared.routes.Route.{Route}
+use Rattle.http_messages.specs.declared.routes.Route.TheVariants.{Ccr, Account, Statement, Credits}
+use Rattle.http_messages.specs.declared.routes.Route.TheVariants.{Allowances, Redeem, Sweep}
 use Rattle.http_api.specs.Replies.{Reply, reply_at, statement_at, IsReply}
 
 -- ---- what a request asks

@@ -11,12 +11,12 @@ use Rattle.shelves.specs.Shelves.{Shelf}
 use Rattle.keepers.specs.Tables.{Tables}
 use Rattle.charging.specs.Accepted.{Accepted}
 use Rattle.charging.specs.Continued.{ForEachList}
-use Rattle.http_heads.specs.Parts.{first_part}
-use Rattle.http_heads.proofs.Refusals.{refused_says}
-use Rattle.http_heads.specs.Requests.{Next, asks, refused, ended, IsNext}
-use Rattle.http_answers.specs.Asking.{Asking, refuses, asked_of, IsAsked}
-use Rattle.http_answers.specs.Texts.{Begins}
-use Rattle.http_answers.proofs.Begun.{begun_second}
+use Rattle.http_messages.specs.Parts.{first_part}
+use Rattle.http_messages.proofs.Refusals.{refused_says}
+use Rattle.http_messages.specs.Requests.{Next, asks, refused, ended, IsNext}
+use Rattle.http_messages.specs.Asking.{Asking, refuses, asked_of, IsAsked}
+use Rattle.http_messages.specs.Texts.{Begins}
+use Rattle.http_messages.proofs.Begun.{begun_second}
 use Rattle.http_api.specs.declared.fault.ServeFault.TheVariants as fault
 use Rattle.http_api.specs.declared.hearing.Heard.{Heard}
 use Rattle.http_api.specs.Clocks.{GivesInTurn}

@@ -7,16 +7,16 @@ use Rattle.std.specs.Prelude.{List, [], ◌++◌, take, Option, ◌⊎◌, Resul
 use Rattle.std.specs.Prelude.{IsErrOf}
 use Rattle.std.specs.Io.KnownBytes.{Appends}
 use Rattle.units.specs.Words.{Moment}
-use Rattle.byte_streams.specs.Words.{Bytes}
+use Rattle.texts.specs.StreamWords.{Bytes}
 use Rattle.shelves.specs.Shelves.{Shelf}
 use Rattle.keepers.specs.Tables.{Tables}
 use Rattle.charging.specs.Accepted.{Accepted, IsInTime}
 use Rattle.charging.specs.Continued.{ForEachList, Continues, LeavesOn}
 use Rattle.charging.specs.Served.{AreTables}
-use Rattle.http_heads.specs.Statuses.{IsAnswerStatus}
-use Rattle.http_heads.specs.Requests.{Ask, Next, asks, refused, ended, IsNext}
-use Rattle.http_answers.specs.Asking.{Asking, refuses, asked_of}
-use Rattle.http_answers.specs.Texts.{Begins}
+use Rattle.http_messages.specs.Statuses.{IsAnswerStatus}
+use Rattle.http_messages.specs.Requests.{Ask, Next, asks, refused, ended, IsNext}
+use Rattle.http_messages.specs.Asking.{Asking, refuses, asked_of}
+use Rattle.http_messages.specs.Texts.{Begins}
 use Rattle.http_api.specs.Clocks.{GivesInTurn}
 use Rattle.http_api.specs.Replies.{Reply, reply_text, IsReply}
 use Rattle.http_api.specs.Told.{Owes}

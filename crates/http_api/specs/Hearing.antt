@@ -1,9 +1,9 @@
 -- A request as it is heard: what it asks, and whether the connection ends after it.
 use Rattle.std.specs.Prelude.{◌≡◌, true, Option, Some, None, ⊤}
-use Rattle.byte_streams.specs.Words.{Bytes}
-use Rattle.http_heads.specs.Requests.{Next, asks, refused, ended, IsNext}
-use Rattle.http_answers.specs.Asking.{refuses, asked_of, IsAsked}
-use Rattle.http_answers.specs.Refusals.{number_of, refusal_of}
+use Rattle.texts.specs.StreamWords.{Bytes}
+use Rattle.http_messages.specs.Requests.{Next, asks, refused, ended, IsNext}
+use Rattle.http_messages.specs.Asking.{refuses, asked_of, IsAsked}
+use Rattle.http_messages.specs.Refusals.{number_of, refusal_of}
 use Rattle.http_api.specs.declared.hearing.Heard.{Heard}
 
 -- a refusal is one of a head or a length

@@ -2,11 +2,11 @@
 -- is one function of the bytes that are read and of the clock's moments.
 use Rattle.std.specs.Prelude.{◌≡◌, ◌<◌, ℕ, zero, suc, Bool, true, List, [], Option}
 use Rattle.units.specs.Words.{Moment}
-use Rattle.byte_streams.specs.Words.{Bytes}
+use Rattle.texts.specs.StreamWords.{Bytes}
 use Rattle.shelves.specs.Shelves.{Shelf}
 use Rattle.charging.specs.Accepted.{Accepted}
-use Rattle.http_heads.specs.Requests.{Next, asks, refused, ended, IsNext}
-use Rattle.http_answers.specs.Asking.{Asking, refuses, asked_of}
+use Rattle.http_messages.specs.Requests.{Next, asks, refused, ended, IsNext}
+use Rattle.http_messages.specs.Asking.{Asking, refuses, asked_of}
 use Rattle.http_api.specs.Replies.{Reply, IsDue}
 use Rattle.http_api.specs.Connections.{Connection, new_connection, after_reply, IsOver, Turns}
 

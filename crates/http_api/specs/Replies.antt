@@ -4,14 +4,14 @@ use Rattle.std.specs.Prelude.{◌≡◌, ◌≤◌, ℕ, Bool, true, false, if�
 use Rattle.std.specs.Prelude.{Option, Some, None, Result, Ok, Err, IsErrOf, OnOk, OnErr, ◌⊎◌}
 use Rattle.std.specs.Io.KnownBytes.{Appends}
 use Rattle.units.specs.Words.{Moment}
-use Rattle.byte_streams.specs.Words.{Bytes}
-use Rattle.http_heads.specs.Words.{StatusCode}
-use Rattle.byte_streams.specs.declared.StreamFault.{StreamFault}
-use Rattle.byte_streams.specs.declared.StreamFault.TheVariants.{Memory, Read}
+use Rattle.texts.specs.StreamWords.{Bytes}
+use Rattle.http_messages.specs.Words.{StatusCode}
+use Rattle.texts.specs.declared.streams.StreamFault.{StreamFault}
+use Rattle.texts.specs.declared.streams.StreamFault.TheVariants.{Memory, Read}
 use Rattle.commands.specs.declared.answer.Answer.TheVariants.{Refused}
 use Rattle.commands.specs.declared.answer.Refusal.TheVariants.{AccountUnknown}
 use Rattle.commands.specs.declared.command.Command.{Command}
-use Rattle.wire_answers.specs.Spelled.{answer_text, fault_text}
+use Rattle.wire.specs.Spelled.{answer_text, fault_text}
 use Rattle.shelves.specs.Shelves.{Shelf}
 use Rattle.reserving.specs.Balance.{buckets_at}
 use Rattle.reserving.specs.Charges.{charge_rows}
@@ -23,12 +23,12 @@ use Rattle.charging.specs.Balances.{by_number}
 use Rattle.charging.specs.Continued.{ForEachList, Continues, LeavesOn}
 use Rattle.charging.specs.Histories.{History}
 use Rattle.charging.specs.Served.{AreTables, history, moment_of, answer_to, with_command}
-use Rattle.http_heads.specs.Statuses as status
-use Rattle.http_answers.specs.Asking.{Asking, refuses, reads, states}
-use Rattle.http_answers.specs.declared.asking.StatementAsked.{StatementAsked}
-use Rattle.http_answers.specs.declared.text.Media.{Media}
-use Rattle.http_answers.specs.declared.text.Media.TheVariants.{Json, Text}
-use Rattle.http_answers.specs.Texts.{response_of, no_members, unable, Begins}
+use Rattle.http_messages.specs.Statuses as status
+use Rattle.http_messages.specs.Asking.{Asking, refuses, reads, states}
+use Rattle.http_messages.specs.declared.asking.StatementAsked.{StatementAsked}
+use Rattle.http_messages.specs.declared.text.Media.{Media}
+use Rattle.http_messages.specs.declared.text.Media.TheVariants.{Json, Text}
+use Rattle.http_messages.specs.Texts.{response_of, no_members, unable, Begins}
 use Rattle.http_api.specs.Clocks.{GivesInTurn}
 
 -- an answer's status and body, what the body is, and the accepted commands after it

@@ -3,21 +3,21 @@
 -- Source: profile.
 use Rattle.std.specs.Prelude.{◌≡◌, ◌⊎◌, Bool, true, false, List, Option, Some, Ok as OkOf}
 use Rattle.units.specs.Words.{Moment}
-use Rattle.byte_streams.specs.Words.{Bytes}
+use Rattle.texts.specs.StreamWords.{Bytes}
 use Rattle.reserving.specs.Words.{ChargeNumber}
 use Rattle.commands.specs.declared.answer.Answer.{Answer}
 use Rattle.commands.specs.declared.command.Command.{Command}
-use Rattle.wire_answers.specs.Spelled.{answer_text}
+use Rattle.wire.specs.Spelled.{answer_text}
 use Rattle.shelves.specs.Shelves.{Shelf}
 use Rattle.keepers.specs.Tables.{Tables}
 use Rattle.charging.specs.Continued.{ForEachList}
 use Rattle.charging.specs.Served.{AreTables, moment_of, answer_to, with_command}
 use Rattle.reserving.specs.ChargeColumns.{ChargeColumns}
-use Rattle.charge_sources.specs.Rows.{AreCharges}
-use Rattle.http_heads.specs.Statuses.{ok, service_unavailable}
-use Rattle.http_answers.specs.declared.text.Media.TheVariants.{Text}
-use Rattle.http_answers.specs.Asking.{Asking, reads}
-use Rattle.http_answers.specs.Texts.{response, response_of, unable}
+use Rattle.keepers.specs.Rows.{AreCharges}
+use Rattle.http_messages.specs.Statuses.{ok, service_unavailable}
+use Rattle.http_messages.specs.declared.text.Media.TheVariants.{Text}
+use Rattle.http_messages.specs.Asking.{Asking, reads}
+use Rattle.http_messages.specs.Texts.{response, response_of, unable}
 use Rattle.http_api.specs.Unaccepted.{is_read_command, is_unaccepted}
 
 -- an answer is told, to a read or to another command; or that there is no memory, where no accepted

@@ -2,22 +2,22 @@
 
 ghost use Rattle.std.specs.Prelude.{Ok, IsErrOf, OnOk, OnErr};
 ghost use Rattle.std.specs.Io.KnownBytes.{Appends};
-ghost use Rattle.http_answers.specs.Asking.{Asking, reads, IsAsked};
-ghost use Rattle.http_answers.specs.Texts.{Begins};
+ghost use Rattle.http_messages.specs.Asking.{Asking, reads, IsAsked};
+ghost use Rattle.http_messages.specs.Texts.{Begins};
 ghost use Rattle.http_api.specs.Replies.{GoesOn, Replies, Shows};
 ghost use Rattle.http_api.specs.Told.{Owes};
 
 use crate::clock::Clock;
 use crate::stating::serve_statement;
 use crate::telling::{is_read_command, tell_answer};
-use byte_streams::StreamFault;
-use charge_sources::ChargeSource;
 use charging::step;
 use commands::Command;
-use http_answers::{Asked, tell_fault, tell_refusal, tell_unable};
+use http_messages::{Asked, tell_fault, tell_refusal, tell_unable};
+use keepers::ChargeSource;
 use shelves::TariffShelf;
 use std::alloc::Global;
 use std::io::Write;
+use texts::StreamFault;
 
 /// Answers a request, and commits its command where it is accepted. The clock is asked once where
 /// it is a command or asks for a statement.

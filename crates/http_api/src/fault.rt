@@ -1,6 +1,6 @@
 //! Why a connection wasn't served to its end.
 
-use byte_streams::StreamFault;
+use texts::StreamFault;
 use thiserror::Error;
 
 /// Why a connection wasn't served to its end.

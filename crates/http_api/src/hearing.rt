@@ -1,16 +1,17 @@
 //! A request taken off a stream, with what it asks.
 
 ghost use Rattle.std.specs.Prelude.{◌≡◌, ◌≤◌, ◌*◌, ℕ, List, Option, length, IfOk, IsErrOf, IfSome};
-ghost use Rattle.http_heads.specs.Requests.{Next, Tells, seen};
-ghost use Rattle.http_answers.specs.Routes.{table};
-ghost use Rattle.http_answers.specs.Asking.{asked_of, IsAsked};
+ghost use Rattle.http_messages.specs.Requests.{Next, Tells, seen};
+ghost use Rattle.http_messages.specs.Routes.{table};
+ghost use Rattle.http_messages.specs.Asking.{asked_of, IsAsked};
 ghost use Rattle.http_api.specs.Hearing.{IsOfHead, Hears, HearsNext};
 
-use byte_streams::StreamFault;
-use http_answers::{Asked, HttpRefusal, Route, Router, ask};
-use http_heads::{HeaderSpan, Request, Taken, next_request};
+use http_messages::{
+    Asked, HeaderSpan, HttpRefusal, Request, Route, Router, Taken, ask, next_request,
+};
 use std::alloc::Global;
 use std::io::BufRead;
+use texts::StreamFault;
 
 /// A request: what it asks, and whether the connection ends after it.
 #[derive(Drop)]

@@ -2,11 +2,11 @@
 
 ghost use Rattle.std.specs.Prelude.{◌≡◌, ◌≤◌, ◌++◌, [], true, false, length, Err, OnOk, OnErr};
 ghost use Rattle.std.specs.Io.KnownBytes.{Appends, append_known};
-ghost use Rattle.http_answers.specs.Texts.{Begins};
+ghost use Rattle.http_messages.specs.Texts.{Begins};
 
-use byte_streams::StreamFault;
-use http_answers::write_text;
+use http_messages::write_text;
 use std::io::Write;
+use texts::StreamFault;
 
 /// The most bytes that wait to be written together (profile).
 pub const MAX_WAITING: usize = 8192;

@@ -2,7 +2,7 @@
 
 ghost use Rattle.http_api.specs.OneText.{DueTurnsAreTurns, TextIsOne, TurnsAreOne};
 
-use http_heads::next_is_one;
+use http_messages::next_is_one;
 
 /// What is written of a connection, and what it leaves accepted, is one function of the bytes that
 /// are read, of the commands accepted before and of the clock's moments, as long as neither memory

@@ -1,16 +1,15 @@
 //! The requests of a connection, one after another.
 
 ghost use Rattle.std.specs.Prelude.{◌≡◌, ◌≤◌, ◌<◌, ◌+◌, ◌*◌, length};
-ghost use Rattle.http_answers.specs.Routes.{table};
+ghost use Rattle.http_messages.specs.Routes.{table};
 ghost use Rattle.http_api.specs.Connections.{left_after, ServesConnection};
 
 use crate::answering::answer_request;
 use crate::clock::Clock;
 use crate::fault::ServeFault;
 use crate::hearing::{Heard, hear};
-use charge_sources::ChargeSource;
-use http_answers::{Route, Router, known_router};
-use http_heads::{EMPTY_HEADER_SPAN, HeaderSpan, MAX_FIELDS};
+use http_messages::{EMPTY_HEADER_SPAN, HeaderSpan, MAX_FIELDS, Route, Router, known_router};
+use keepers::ChargeSource;
 use shelves::TariffShelf;
 use std::alloc::Global;
 use std::io::{BufRead, BufReader, Read, Write};

@@ -7,7 +7,7 @@ use crate::clock::Clock;
 use crate::fault::ServeFault;
 use crate::patient_socket::{JoinedAnswers, PatientReader, PatientWriter};
 use crate::serving::{Served, serve};
-use charge_sources::ChargeSource;
+use keepers::ChargeSource;
 use shelves::TariffShelf;
 use std::cell::{Cell, RefCell};
 use std::io;

@@ -5,27 +5,27 @@ ghost use Rattle.std.specs.Io.KnownBytes.{Appends};
 ghost use Rattle.commands.specs.declared.answer.Answer.TheVariants.{Refused};
 ghost use Rattle.commands.specs.declared.answer.Refusal.TheVariants.{AccountUnknown as Unknown};
 ghost use Rattle.reserving.specs.ChargeColumns.{ChargeColumns};
-ghost use Rattle.charge_sources.specs.Rows.{AreCharges};
+ghost use Rattle.keepers.specs.Rows.{AreCharges};
 ghost use Rattle.keepers.specs.Tables.{Tables};
 ghost use Rattle.statements.specs.Charges.{Asks};
 ghost use Rattle.statements.specs.Texts.{statement_text};
-ghost use Rattle.http_answers.specs.Asking.{states};
-ghost use Rattle.http_answers.specs.Texts.{Begins};
+ghost use Rattle.http_messages.specs.Asking.{states};
+ghost use Rattle.http_messages.specs.Texts.{Begins};
 ghost use Rattle.http_api.specs.Replies.{Replies, Shows};
 ghost use Rattle.http_api.specs.Told.{TellsAnswer, TellsCharges};
 
 use crate::clock::Clock;
 use crate::telling::tell_answer;
-use byte_streams::StreamFault;
-use charge_sources::ChargeSource;
 use charging::{AccountState, account_state};
 use commands::{Answer, Refusal};
 use http::StatusCode;
-use http_answers::{StatementAsked, tell_text, tell_unable};
+use http_messages::{StatementAsked, tell_text, tell_unable};
+use keepers::ChargeSource;
 use shelves::TariffShelf;
 use statements::{AccountMonth, StatementFault, statement};
 use std::alloc::Global;
 use std::io::Write;
+use texts::StreamFault;
 
 /// Serves a statement at the clock's moment. It is a read: it changes nothing.
 ///

@@ -2,20 +2,20 @@
 
 ghost use Rattle.std.specs.Prelude.{◌≡◌, IfOk, IsErrOf, OnOk, OnErr, false, string_bytes};
 ghost use Rattle.std.specs.Io.KnownBytes.{Appends};
-ghost use Rattle.wire_answers.specs.Spelled.{answer_text};
-ghost use Rattle.http_heads.specs.Statuses.{ok};
-ghost use Rattle.http_answers.specs.Texts.{response, Begins};
+ghost use Rattle.wire.specs.Spelled.{answer_text};
+ghost use Rattle.http_messages.specs.Statuses.{ok};
+ghost use Rattle.http_messages.specs.Texts.{response, Begins};
 ghost use Rattle.http_api.specs.Told.{TellsAnswer};
 ghost use Rattle.http_api.specs.Unaccepted.{is_read_command, is_refusing, is_refused, is_refusal};
 ghost use Rattle.http_api.specs.Unaccepted.{is_unaccepted};
 
-use byte_streams::StreamFault;
 use commands::{Answer, Command, Failure, Outcome};
 use decisions::is_read;
 use http::StatusCode;
-use http_answers::{response, tell_unable, write_text};
+use http_messages::{response, tell_unable, write_text};
 use std::alloc::{AllocError, Global};
 use std::io::Write;
+use texts::StreamFault;
 use wire::write_answer;
 
 /// Whether a command is a read: it is answered anew each time, and never accepted.

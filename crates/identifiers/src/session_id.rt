@@ -8,25 +8,27 @@ use std::alloc::{AllocError, Global};
 use std::cmp::Ordering;
 use std::hash::{Hash, Hasher};
 use std::marker::Model;
+use std::rc::RcStr;
 
 /// The name of a session: 1 to 128 bytes from 0x21 to 0x7E (Session-Id, RFC 6733 section 8.8;
 /// length and bytes: profile).
 ///
-/// Contracts see the list of its bytes.
+/// Contracts see the list of its bytes. Copies share the text: many rows have one name.
 #[derive(Clone, Debug, Drop)]
 pub struct SessionId {
-    text: String,
+    text: RcStr,
 }
 
 impl Model for SessionId {
-    ghost use Rattle.std.specs.Prelude.{List, ℕ, string_bytes, IsTrue};
+    ghost use Rattle.std.specs.Prelude.{List, ℕ, IsTrue};
+    ghost use Rattle.std.specs.Rc.{rc_str_bytes};
     ghost use Rattle.identifiers.specs.Texts.{is_session_id};
 
     ghost Value = { List ℕ };
 
-    ghost view = { λ s. string_bytes s.text };
+    ghost view = { λ s. rc_str_bytes s.text };
 
-    ghost invariant = { λ s. IsTrue (is_session_id (string_bytes s.text)) };
+    ghost invariant = { λ s. IsTrue (is_session_id (rc_str_bytes s.text)) };
 }
 
 impl SessionId {
@@ -35,7 +37,7 @@ impl SessionId {
         ensures { IfOk result (λ o. o ≡ if is_session_id text.now then Some text.now else None) }
     {
         if 1 <= text.len() && text.len() <= 128 && all_visible(text) {
-            let text = String::from_str(alloc, text)?;
+            let text = RcStr::from_str(alloc, text)?;
             Ok(Some(SessionId { text }))
         } else {
             Ok(None)

@@ -1,8 +1,7 @@
 -- Values that are written and read again: no float, rising names, not too deep.
-use Rattle.std.proofs.Common.{◌≡◌, ℕ, suc, ◌≤◌, ◌<◌, ◌^◌, max, List, [], ◌∷◌, Bool, true, false}
-use Rattle.std.proofs.Common.{Option, Some, None, option_map, IfSome, Result, Ok, Err, negsuc, refl}
-use Rattle.std.proofs.Common.{sym, ap, ◌∙◌, arith, lit≤, lit<, leb-true, lt-ltb}
-use Rattle.std.specs.Prelude.{⊤, codes}
+use Rattle.std.proofs.Common.{◌≡◌, ℕ, suc, ◌≤◌, ◌<◌, List, [], ◌∷◌, Bool, true}
+use Rattle.std.proofs.Common.{Option, Some, None, option_map, IfSome, Ok, negsuc, refl}
+use Rattle.std.proofs.Common.{arith, lit<, lt-ltb}
 use Rattle.std.specs.List.{list_all}
 use Rattle.std.specs.Ordering.{nat_cmp}
 use Rattle.std.specs.declared.cmp.Ordering.TheVariants.{Greater}
@@ -16,7 +15,6 @@ use Rattle.serde_json.specs.Data.{members_depth}
 use Rattle.serde_json.specs.Written.{compact_text}
 use Rattle.commands.specs.declared.avp.Avp.TheVariants as avp
 use Rattle.commands.specs.Names.{name_of}
-use Rattle.json_fields.specs.declared.fault.WireFault.{WireFault}
 use Rattle.json_fields.specs.Spelling.{whole, perhaps, value_data, money_data}
 use Rattle.json_fields.specs.Fields.{document_at}
 use Rattle.json_fields.proofs.Documents.{json_found}

@@ -1,24 +1,23 @@
 -- What the readers of members give where the member is known.
-use Rattle.std.proofs.Common.{◌≡◌, ℕ, ◌≤◌, List, [], ◌∷◌, length, Bool, true, false, ◌&&◌, Option}
-use Rattle.std.proofs.Common.{Some, None, option_map, IfSome, Result, Ok, Err, refl, sym, ap, ◌∙◌}
+use Rattle.std.proofs.Common.{◌≡◌, ℕ, ◌≤◌, List, true, false, ◌&&◌, Option}
+use Rattle.std.proofs.Common.{Some, None, option_map, IfSome, Ok, refl}
 use Rattle.std.proofs.Common.{arith, le-leb, nat_le}
 use Rattle.std.specs.Ordering.{nat_cmp, match_ordering, is_eq}
 use Rattle.std.specs.declared.cmp.Ordering.{Ordering}
 use Rattle.std.specs.declared.cmp.Ordering.TheVariants.{Less, Equal, Greater}
 use Rattle.std.specs.Cmp.Lexicographic.{slice_cmp}
-use Rattle.serde_json.specs.Data.{Data, string, object, Members, no_members, member}
+use Rattle.serde_json.specs.Data.{Data, string, object, Members}
 use Rattle.serde_json.specs.Find.{get, get_member}
 use Rattle.units.specs.declared.blocks.UnitKind.{UnitKind}
-use Rattle.units.specs.declared.blocks.UnitKind.TheVariants.{Time, TotalOctets, ServiceSpecific}
 use Rattle.commands.specs.declared.avp.Avp.{Avp}
 use Rattle.commands.specs.Names.{name_of}
 use Rattle.commands.specs.Quantities.{most_units}
 use Rattle.json_fields.specs.declared.fault.WireFault.{WireFault}
-use Rattle.json_fields.specs.Gives.{◌>>=◌, or_fault, where_holds}
+use Rattle.json_fields.specs.Gives.{where_holds}
 use Rattle.json_fields.specs.Spelling.{whole, perhaps}
 use Rattle.json_fields.specs.Fields.{member_at, number_at, optional_in, optional_at, text_at}
 use Rattle.json_fields.specs.Fields.{object_at}
-use Rattle.json_fields.specs.Unit.{name_of_unit, has_unit, lacks_others, kind_told, units_at}
+use Rattle.json_fields.specs.Unit.{name_of_unit, lacks_others, units_at}
 
 skip : {X : Type 0} (o : Ordering) (a b : X) → is_eq o ≡ false → match_ordering o a b a ≡ a
 skip Less a b e = refl

@@ -1,9 +1,9 @@
 -- What a successful reading of an array's items tells of them.
-use Rattle.std.proofs.Common.{◌≡◌, ℕ, ◌+◌, List, [], ◌∷◌, ◌++◌, length, Result, Ok, ap, ◌∙◌}
+use Rattle.std.proofs.Common.{◌≡◌, ◌+◌, List, [], ◌∷◌, ◌++◌, length, Result, Ok, ap, ◌∙◌}
 use Rattle.serde_json.specs.Data.{Data, Items}
 use Rattle.serde_json.specs.Events.{items_len}
-use Rattle.first_fault.proofs.Steps as steps
-pub use Rattle.first_fault.proofs.Steps.{inside, same_value, bind_ok, where_ok}
+use Rattle.texts.proofs.Steps as steps
+pub use Rattle.texts.proofs.Steps.{inside, same_value, bind_ok, where_ok}
 use Rattle.json_fields.specs.declared.fault.WireFault.{WireFault}
 use Rattle.json_fields.specs.Gives.{read_each, item_list}
 use Rattle.json_fields.proofs.Loop.{item_list_length}

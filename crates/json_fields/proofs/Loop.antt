@@ -1,11 +1,11 @@
 -- Reading items one after the other, as a loop does.
 use Rattle.std.proofs.Common.{◌≡◌, ℕ, ◌+◌, ◌≤◌, ◌<◌, List, [], ◌∷◌, ◌++◌, length, drop, get_or, map}
-use Rattle.std.proofs.Common.{Result, Ok, Err, refl, sym, ap, suc}
+use Rattle.std.proofs.Common.{Result, Ok, refl, ap, suc}
 use Rattle.serde_json.specs.Data.{Data, Items, no_items, item}
 use Rattle.serde_json.specs.Events.{items_len}
 use Rattle.serde_json.specs.declared.value.Value.{Value}
 use Rattle.serde_json.specs.View.{view, items_view}
-use Rattle.first_fault.proofs.Loop as loop
+use Rattle.texts.proofs.Loop as loop
 use Rattle.json_fields.specs.declared.fault.WireFault.{WireFault}
 use Rattle.json_fields.specs.Gives.{Fails, read_each, item_list}
 

@@ -1,6 +1,6 @@
 -- The members of an object, as they are read: a member that isn't there is missing, one of the
 -- wrong kind or value is invalid.
-use Rattle.std.specs.Prelude.{ℕ, ◌&&◌, List, Bool, Option, Some, None, Result, Ok, Err, nat_le}
+use Rattle.std.specs.Prelude.{ℕ, ◌&&◌, List, Option, Some, None, Result, Ok, nat_le}
 use Rattle.std.specs.Prelude.{if◌then◌else◌, option_and_then}
 use Rattle.std.specs.Str.{is_utf8}
 use Rattle.serde_json.specs.Data.{Data, Items}

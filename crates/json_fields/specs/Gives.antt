@@ -1,12 +1,12 @@
 -- A function that reads gives what reading means; one that takes memory may run out of it.
-use Rattle.std.specs.Prelude.{◌≡◌, List, [], ◌∷◌, Result, Ok, Err}
+use Rattle.std.specs.Prelude.{◌≡◌, List, [], ◌∷◌, Result, Err}
 use Rattle.std.specs.Borrow.{Bor}
 use Rattle.serde_json.specs.Data.{Data, Items, no_items, item}
 use Rattle.serde_json.specs.declared.value.Value.{Value}
 use Rattle.serde_json.specs.View.{view}
-use Rattle.first_fault.specs.Steps as steps
-use Rattle.first_fault.specs.Steps.{GivesUnless}
-pub use Rattle.first_fault.specs.Steps.{◌>>=◌, or_fault, where_holds, Says}
+use Rattle.texts.specs.Steps as steps
+use Rattle.texts.specs.Steps.{GivesUnless}
+pub use Rattle.texts.specs.Steps.{◌>>=◌, or_fault, where_holds, Says}
 use Rattle.json_fields.specs.declared.fault.WireFault.{WireFault}
 use Rattle.json_fields.specs.declared.fault.WireFault.TheVariants.{Memory}
 

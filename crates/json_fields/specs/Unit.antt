@@ -1,6 +1,6 @@
 -- The unit members of an object: CC-Time, CC-Total-Octets and CC-Service-Specific-Units.
 use Rattle.std.specs.Prelude.{ℕ, ◌&&◌, List, codes, Bool, is_some, is_none, Option, Some, None}
-use Rattle.std.specs.Prelude.{Result, Ok, Err, nat_le, if◌then◌else◌}
+use Rattle.std.specs.Prelude.{Result, if◌then◌else◌}
 use Rattle.serde_json.specs.Data.{Data}
 use Rattle.serde_json.specs.Find.{get}
 use Rattle.units.specs.declared.blocks.UnitKind.{UnitKind}

@@ -1,8 +1,8 @@
 -- Whether a row is among others, by the one that stands at a place.
 use Rattle.std.proofs.Common.{◌≡◌, ℕ, zero, suc, ◌<◌, Bool, true, false, List, [], ◌∷◌, length}
-use Rattle.std.proofs.Common.{get_or, refl, sym, ap, ◌∙◌, arith}
-use Rattle.std.specs.Prelude.{◌==◌}
-use Rattle.std.specs.List.{list_any}
+use Rattle.std.proofs.Common.{get_or, refl, sym, ap, ◌∙◌, arith, cond, Some}
+use Rattle.std.specs.Prelude.{◌==◌, is_some}
+use Rattle.std.specs.List.{find, list_any}
 use Rattle.std.proofs.lemmas.Bool.{or_from}
 use Rattle.buckets.specs.Row.{Row}
 use Rattle.reserving.specs.declared.session.Session.{Session}
@@ -49,6 +49,17 @@ new_at {A} same eq turn sound row (x ∷ xs) (suc i) d h a key e =
     (other same eq sound row (get_or xs i d) key x
     (turn (get_or xs i d) x ∙ at_place (λ y. same x y ≡ false) xs i d (omega (arith, h)) a.0))
     (new_at same eq turn sound row xs i d (omega (arith, h)) a.1 key e)
+
+-- a row that passes at a place is found
+pub stands : {A : Type 0} (p : A → Bool) (xs : List A) (i : ℕ) (d : A) → i < length xs →
+    p (get_or xs i d) ≡ true → is_some (find p xs) ≡ true
+stands p [] i d h e = absurd (no_less i h)
+stands p (x ∷ xs) zero d h e = ap (λ t. is_some (cond t (Some x) (find p xs))) e
+stands {A} p (x ∷ xs) (suc i) d h e = at (p x) (stands p xs i d (omega (arith, h)) e)
+  where
+    at : (t : Bool) → is_some (find p xs) ≡ true → is_some (cond t (Some x) (find p xs)) ≡ true
+    at true r = refl
+    at false r = r
 
 -- ---- keys, read either way
 

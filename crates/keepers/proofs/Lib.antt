@@ -27,3 +27,9 @@ pub mod HeldWithin
 pub mod SweptRows
 pub mod PartsSwept
 pub mod PastCounters
+pub mod Unique
+pub mod ShownRows
+pub mod ByNumber
+pub mod Parted
+pub mod Paged
+pub mod Numbered

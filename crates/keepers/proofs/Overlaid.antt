@@ -5,6 +5,7 @@ use Rattle.std.specs.Prelude.{if◌then◌else◌, ◌==◌, ◌&&◌, ◌||◌,
 use Rattle.std.specs.List.{find, list_any}
 use Rattle.std.specs.List.Sorted.{IsPermutation}
 use Rattle.std.proofs.lemmas.Bool.{not_from_false, not-true}
+use Rattle.std.proofs.lemmas.List.Sorted.{IsPermutation-refl}
 use Rattle.buckets.specs.Row.{Row}
 use Rattle.reserving.specs.declared.session.Session.{Session}
 use Rattle.reserving.specs.declared.session.SessionGroup.{SessionGroup}
@@ -16,6 +17,7 @@ use Rattle.reserving.specs.Sessions.{counter_in}
 use Rattle.reserving.specs.Rows.{EachIn, AreApart}
 use Rattle.reserving.specs.Stored.{StoredRows}
 use Rattle.reserving.specs.Left.{is_dead, IsDead, only, first_of, bucket_in}
+use Rattle.reserving.specs.Restored.{in_key_order, AreReordered, FindsSame}
 use Rattle.reserving.proofs.Lists.{not_both, no_some, some_of, find-passes, EachIn-found}
 use Rattle.reserving.proofs.Holds.{same_from}
 use Rattle.reserving.proofs.Keys.{first_true, second_true, same_number, number_same}
@@ -487,6 +489,18 @@ account_given w purse v all of = record {
     groups = of.others.groups;
     counters = of.others.counters;
   };
+}
+
+-- the order in which sessions and groups come changes nothing
+pub account_reordered : (w v : StoredRows) (sessions : List Session) (groups : List SessionGroup) →
+    v ≡ in_key_order w → ((other : StoredRows) → AreReordered other w → FindsSame other v) →
+    IsPermutation sessions w.sessions → IsPermutation groups w.groups →
+    IsAccountOf (record w { groups = groups; sessions = sessions }) v
+account_reordered w v sessions groups e finds s g = record {
+  head = ap head_of e;
+  buckets = λ apart n. ap (λ (x : StoredRows). bucket_in n x.buckets) e;
+  others = finds (record w { groups = groups; sessions = sessions })
+      (record { sessions = s; groups = g; counters = IsPermutation-refl w.counters });
 }
 
 pub account_over : (named live : StoredRows) (back : List SessionGroup) (buckets purse : List Row)

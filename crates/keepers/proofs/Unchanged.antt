@@ -85,6 +85,20 @@ session_away w names s e none =
     none_found (is_session s) (λ x. is_named names x.id) w.sessions none
     (λ x f. ap (is_named names) (same_from x.id s (find-passes (is_session s) w.sessions x f)) ∙ e)
 
+-- a session that is there is known only where one of them is
+pub unknown_there : (names : Names) (s : List ℕ) (rows : List Session) →
+    list_any (λ (r : Session). is_named names r.id) rows ≡ false →
+    is_some (session_in s rows) ≡ true → is_named names s ≡ false
+unknown_there names s rows none there = at (is_named names s) refl
+  where
+    at : (t : Bool) → is_named names s ≡ t → is_named names s ≡ false
+    at false e = e
+    at true e =
+        let away : is_some (session_in s rows) ≡ false =
+        none_found (is_session s) (λ x. is_named names x.id) rows none
+        (λ x f. ap (is_named names) (same_from x.id s (find-passes (is_session s) rows x f)) ∙ e)
+        in absurd (not_both (sym away ∙ there))
+
 pub sessions_stay : (w : StoredRows) (names : Names) (rows : List Session) →
     AreLeftSessions names rows → list_any (λ (r : Session). is_named names r.id) w.sessions ≡
     false → rows ≡ filter (leaves_session w) rows

@@ -19,9 +19,9 @@ use Rattle.reserving.specs.Sessions.{is_open, session_in, group_in, counter_in}
 use Rattle.reserving.specs.Rows.{AccountRows, AreApart, IsRowsOf}
 use Rattle.reserving.specs.Stored.{StoredRows, IsStored, stored, priced, advanced_stored}
 use Rattle.reserving.specs.Left.{is_dead, is_open_row, only, first_of, bucket_in}
-use Rattle.redemptions.specs.declared.terms.VoucherTerms.{VoucherTerms}
-use Rattle.redemptions.specs.declared.voucher.Voucher.{Voucher}
-use Rattle.redemptions.specs.Standing.{unspent}
+use Rattle.voucher_rules.specs.declared.terms.VoucherTerms.{VoucherTerms}
+use Rattle.voucher_rules.specs.declared.voucher.Voucher.{Voucher}
+use Rattle.voucher_rules.specs.Standing.{unspent}
 use Rattle.keepers.specs.declared.key.Key.{Key}
 use Rattle.keepers.specs.declared.key.KeptAnswer.{KeptAnswer}
 use Rattle.keepers.specs.Keys.{same_key, key_of}

@@ -15,3 +15,7 @@ pub mod Overlaying
 pub mod Memory
 pub mod Failing
 pub mod Steps
+pub mod Rows
+pub mod Visits
+pub mod Numbers
+pub mod Pages

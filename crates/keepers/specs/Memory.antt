@@ -12,7 +12,7 @@ use Rattle.identifiers.specs.Texts.{same_name}
 use Rattle.shelves.specs.Shelves.{Shelf}
 use Rattle.reserving.specs.declared.charge.ChargeRow.{ChargeRow}
 use Rattle.reserving.specs.declared.session.Session.{Session}
-use Rattle.redemptions.specs.declared.voucher.Voucher.{Voucher}
+use Rattle.voucher_rules.specs.declared.voucher.Voucher.{Voucher}
 use Rattle.keepers.specs.declared.key.Key.{Key}
 use Rattle.keepers.specs.declared.key.KeptAnswer.{KeptAnswer}
 use Rattle.keepers.specs.Keys.{same_key}

@@ -17,7 +17,7 @@ use Rattle.reserving.specs.declared.session.Counter.{Counter}
 use Rattle.reserving.specs.Sessions.{session_in, group_in, counter_in, holds_in}
 use Rattle.reserving.specs.Left.{bucket_in}
 use Rattle.reserving.specs.Stored.{StoredRows}
-use Rattle.redemptions.specs.declared.voucher.Voucher.{Voucher}
+use Rattle.voucher_rules.specs.declared.voucher.Voucher.{Voucher}
 use Rattle.keepers.specs.declared.key.Key.{Key}
 use Rattle.keepers.specs.declared.key.KeptAnswer.{KeptAnswer}
 

@@ -3,8 +3,8 @@
 ghost use Rattle.std.specs.Prelude.{◌≡◌, IfOk};
 
 use commands::{Allowance, Answer, Ask, Content, Credit, KeptCredit, Request, VoucherRedemption};
-use redemptions::Voucher;
 use std::alloc::AllocError;
+use voucher_rules::Voucher;
 
 /// The same answer once more.
 pub fn copy_answer(answer: &Answer) -> Result<Answer, AllocError>

@@ -8,10 +8,10 @@ use crate::key::{KeptAnswer, Key};
 use crate::loaded::{Change, Loaded};
 use buckets::Bucket;
 use identifiers::{AccountNumber, SessionId, VoucherCode};
-use redemptions::{Voucher, VoucherTerms};
 use reserving::Account;
 use shelves::TariffShelf;
 use units::Moment;
+use voucher_rules::{Voucher, VoucherTerms};
 
 /// A keeper whose store fails once, for tests: the call after so many others answers store fault 2
 /// and is counted; each other call is that of the keeper inside. It meets the laws over any keeper.

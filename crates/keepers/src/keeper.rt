@@ -12,10 +12,10 @@ use crate::key::{KeptAnswer, Key};
 use crate::loaded::{Change, Loaded};
 use buckets::Bucket;
 use identifiers::{AccountNumber, SessionId, VoucherCode};
-use redemptions::{Voucher, VoucherTerms};
 use reserving::Account;
 use shelves::TariffShelf;
 use units::Moment;
+use voucher_rules::{Voucher, VoucherTerms};
 
 /// What keeps the rows of accounts, their charges, the kept answers and the vouchers.
 ///

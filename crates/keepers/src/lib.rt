@@ -1,5 +1,5 @@
-//! Keepers: what stores the rows of accounts, their charges and the answers that are kept, and what
-//! it promises.
+//! Keepers: what stores the rows of accounts, their charges and the answers that are kept, what it
+//! promises, and what gives an account's charges one at a time.
 #![tactic(auto)]
 
 mod accounts;
@@ -7,14 +7,19 @@ mod copies;
 mod differing;
 mod entries;
 mod failing;
+mod failing_charges;
 mod fault;
 mod keeper;
 mod key;
 mod laws;
 mod loaded;
 mod memory;
+mod memory_charges;
 mod named_rows;
 mod overlaying;
+mod pages;
+mod showing;
+mod source;
 mod store;
 mod voucher_map;
 mod whole;
@@ -30,4 +35,7 @@ pub use crate::laws::{only_what_differs, taken_and_left};
 pub use crate::loaded::{Change, Loaded, Redeemed};
 pub use crate::memory::MemoryKeeper;
 pub use crate::named_rows::NamedRows;
+pub use crate::pages::{ChargePage, ChargePages, show_pages};
+pub use crate::showing::show;
+pub use crate::source::{ChargeSource, ChargeVisitor};
 pub use crate::whole::WholeAccount;

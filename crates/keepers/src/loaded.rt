@@ -7,10 +7,10 @@ ghost use Rattle.keepers.specs.Differing.{named_rows};
 use crate::key::KeptAnswer;
 use crate::named_rows::NamedRows;
 use identifiers::{AccountNumber, VoucherCode};
-use redemptions::Voucher;
 use reserving::{Account, ChargeRow, StoredAccount};
 use std::alloc::{AllocError, Global};
 use units::Moment;
+use voucher_rules::Voucher;
 
 /// What a keeper loads of an account: the rows that may still change. It is spent by a commit or
 /// given up: it can't be let go.

@@ -16,12 +16,12 @@ use crate::voucher_map::{make_voucher_room, put_redeemed, put_voucher, voucher_i
 use crate::whole::WholeAccount;
 use buckets::Bucket;
 use identifiers::{AccountNumber, SessionId, VoucherCode};
-use redemptions::{Voucher, VoucherTerms};
 use reserving::{Account, ChargeRow, LoadFault};
 use shelves::TariffShelf;
 use std::alloc::{AllocError, Global};
 use std::collections::HashMap;
 use units::Moment;
+use voucher_rules::{Voucher, VoucherTerms};
 
 /// A keeper in memory. Its store never fails.
 #[derive(Drop)]

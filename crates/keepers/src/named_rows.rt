@@ -130,13 +130,13 @@ fn copy_of_bucket(row: &Bucket) -> Result<Bucket, AllocError>
     row.clone()
 }
 
-fn copy_of_session(row: &Session) -> Result<Session, AllocError>
+pub(crate) fn copy_of_session(row: &Session) -> Result<Session, AllocError>
     ensures { IfOk result (λ copy. copy ≡ row.now) }
 {
     row.clone()
 }
 
-fn copy_of_group(row: &SessionGroup) -> Result<SessionGroup, AllocError>
+pub(crate) fn copy_of_group(row: &SessionGroup) -> Result<SessionGroup, AllocError>
     ensures { IfOk result (λ copy. copy ≡ row.now) }
 {
     row.clone()

@@ -1,14 +1,14 @@
 //! The rows of a change over an account's live rows: what is live after it.
 
-ghost use Rattle.std.specs.Prelude.{◌≡◌, ◌++◌, ◌&&◌, ◌||◌, ◌==◌, filter, is_some, IfOk};
+ghost use Rattle.std.specs.Prelude.{◌≡◌, ◌++◌, ◌&&◌, ◌||◌, ◌==◌, List, filter, is_some, IfOk, OnOk};
 ghost use Rattle.std.specs.List.{list_any};
 ghost use Rattle.std.specs.List.Sorted.{IsPermutation};
 ghost use Rattle.reserving.specs.Restored.{given};
 ghost use Rattle.keepers.specs.Overlaying.{stays_bucket, stays_counter, stays_session};
 ghost use Rattle.keepers.specs.Overlaying.{stays_group, rows_over, IsAccountOf};
 
-use crate::named_rows::NamedRows;
-use crate::store::{groups_of, has_bucket, has_group, has_session, sessions_of};
+use crate::named_rows::{NamedRows, copy_of_group};
+use crate::store::{has_bucket, has_group, has_session, has_session_near, sessions_of};
 use buckets::{Bucket, Purse};
 use reserving::{Counter, GivenRows, Session, SessionGroup, SessionState, StoredAccount};
 use std::alloc::{AllocError, Global};
@@ -32,11 +32,17 @@ fn purse_of(alloc: Global, buckets: Vec<Bucket>) -> Result<Purse, AllocError>
 }
 
 /// The account of these rows, which are refused as if there were no room for them where they are
-/// none of an account.
+/// none of an account. The order in which sessions and groups come changes nothing.
 fn account_of(alloc: Global, rows: GivenRows) -> Result<StoredAccount, AllocError>
-    ensures { IfOk result (IsAccountOf (given rows)) }
+    ensures account { IfOk result (IsAccountOf (given rows)) }
+    ensures reordered { IfOk result (λ v. (sessions : List Session) (groups : List SessionGroup) →
+        IsPermutation sessions rows.sessions.items → IsPermutation groups rows.groups.items →
+        IsAccountOf (record (given rows) { groups = groups; sessions = sessions }) v) }
 {
-    StoredAccount::from_rows(alloc, rows).ok_or(AllocError)
+    let Some(account) = StoredAccount::from_rows(alloc, rows) else {
+        return Err(AllocError);
+    };
+    Ok(account)
 }
 
 /// A new account of the rows of a change.
@@ -86,8 +92,11 @@ pub(crate) fn rows_over(
         sessions,
         groups,
     } = named;
-    let sessions = sessions_over(alloc, sessions, live.sessions())?;
-    let groups = groups_over(alloc, groups, &sessions, back, live.groups())?;
+    let counts = (sessions.len(), groups.len());
+    let mut sessions = sessions_over(alloc, sessions, live.sessions())?;
+    let mut groups = groups_over(alloc, groups, &sessions, back, live.groups())?;
+    place_sessions(&mut sessions, counts.0)?;
+    place_groups(&mut groups, counts.1)?;
     let rows = GivenRows {
         as_of,
         barred,
@@ -149,7 +158,21 @@ fn sessions_over(
     Ok(rows)
 }
 
-/// Those of the groups that aren't named, and have a reservation or are of one of these sessions.
+/// Whether a group's row stays beside those that are named: it isn't named, and has a reservation or
+/// is of one of these sessions. The session's row is looked for from this place on.
+fn stays_group(
+    named: &[SessionGroup],
+    sessions: &[Session],
+    place: &mut usize,
+    row: &SessionGroup,
+) -> bool
+    ensures { result ≡ stays_group named.now sessions.now row.now }
+{
+    !has_group(named, &row.session, row.group)
+        && (row.reservation.is_some() || has_session_near(sessions, place, &row.session))
+}
+
+/// Those of the groups that stay.
 fn staying(
     alloc: Global,
     named: &[SessionGroup],
@@ -159,11 +182,13 @@ fn staying(
     ensures { IfOk result (λ rows. rows.items ≡
         filter (stays_group named.now sessions.now) groups.now) }
 {
-    let mut rows = groups_of(alloc, groups)?;
-    rows.retain(|row| {
-        !has_group(named, &row.session, row.group)
-            && (row.reservation.is_some() || has_session(sessions, &row.session))
-    });
+    let mut rows = Vec::with_capacity(alloc, groups.len())?;
+    let mut place = 0;
+    for row in groups {
+        if stays_group(named, sessions, &mut place, row) {
+            rows.push(copy_of_group(row)?)?;
+        }
+    }
     Ok(rows)
 }
 
@@ -185,4 +210,78 @@ fn groups_over(
     rows.append(&mut others)?;
     rows.append(&mut named)?;
     Ok(rows)
+}
+
+/// The most rows that are put in their places one by one: each moves those behind it.
+const FEW: usize = 16;
+
+/// Moves the last row to a place among the others.
+fn move_last<T: Drop>(rows: &mut Vec<T>, place: usize) -> Result<(), AllocError>
+    ensures { OnOk result (IsPermutation rows.old.items rows.new.items) }
+{
+    let Some(row) = rows.pop() else {
+        return Ok(());
+    };
+    let place = place.min(rows.len());
+    rows.insert(place, row)?;
+    Ok(())
+}
+
+/// Where the last session would stand among the first ones, which are in order.
+fn session_place(rows: &[Session], first: usize) -> usize {
+    let Some(row) = rows.last() else {
+        return 0;
+    };
+    let first = first.min(rows.len());
+    match rows[..first].binary_search_by(|other| other.id.cmp(&row.id)) {
+        Ok(place) => place,
+        Err(place) => place,
+    }
+}
+
+/// Moves a few sessions that stand behind others in order each to its place.
+fn place_sessions(rows: &mut Vec<Session>, count: usize) -> Result<(), AllocError>
+    ensures { OnOk result (IsPermutation rows.old.items rows.new.items) }
+{
+    if FEW < count {
+        return Ok(());
+    }
+    let first = rows.len().saturating_sub(count);
+    for turn in 0..count {
+        let place = session_place(rows, first.saturating_add(turn));
+        move_last(rows, place)?;
+    }
+    Ok(())
+}
+
+/// Where the last group would stand among the first ones, which are in order.
+fn group_place(rows: &[SessionGroup], first: usize) -> usize {
+    let Some(row) = rows.last() else {
+        return 0;
+    };
+    let first = first.min(rows.len());
+    match rows[..first].binary_search_by(|other| {
+        other
+            .session
+            .cmp(&row.session)
+            .then(other.group.cmp(&row.group))
+    }) {
+        Ok(place) => place,
+        Err(place) => place,
+    }
+}
+
+/// Moves a few groups that stand behind others in order each to its place.
+fn place_groups(rows: &mut Vec<SessionGroup>, count: usize) -> Result<(), AllocError>
+    ensures { OnOk result (IsPermutation rows.old.items rows.new.items) }
+{
+    if FEW < count {
+        return Ok(());
+    }
+    let first = rows.len().saturating_sub(count);
+    for turn in 0..count {
+        let place = group_place(rows, first.saturating_add(turn));
+        move_last(rows, place)?;
+    }
+    Ok(())
 }

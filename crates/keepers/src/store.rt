@@ -2,7 +2,7 @@
 
 ghost use Rattle.std.specs.List.{list_any};
 ghost use Rattle.std.specs.List.Sorted.{IsNonDecreasingBy, IsPermutation};
-ghost use Rattle.std.specs.Prelude.{◌≡◌, ℕ, List, true, IsOk, ◌≤◌, ◌++◌, ◌&&◌, ◌||◌, ◌==◌};
+ghost use Rattle.std.specs.Prelude.{◌≡◌, ℕ, List, true, false, IsOk, ◌≤◌, ◌++◌, ◌&&◌, ◌||◌, ◌==◌};
 ghost use Rattle.std.specs.Prelude.{if◌then◌else◌, [], filter, is_some, IfOk, OnOk, OnErr};
 ghost use Rattle.std.specs.Prelude.{position};
 ghost use Rattle.reserving.specs.Sessions.{session_in, group_in, counter_in, is_session, is_of};
@@ -23,7 +23,7 @@ ghost use Rattle.keepers.specs.Replacing.{IsLeaving, KnowsMore, AreNoted, IsAppe
 ghost use Rattle.keepers.specs.Replacing.{IsFiltered};
 ghost use Rattle.keepers.specs.Overlaying.{IsRestDead, back_from};
 
-use crate::named_rows::NamedRows;
+use crate::named_rows::{NamedRows, copy_of_group, copy_of_session};
 use crate::overlaying::{rows_alone, rows_over};
 use crate::whole::WholeAccount;
 use buckets::Bucket;
@@ -213,6 +213,38 @@ pub(crate) fn has_session(rows: &[Session], session: &SessionId) -> bool
     session_place(rows, session).is_some()
 }
 
+/// Whether the row of a session stands at a place.
+fn stands_at(rows: &[Session], place: usize, session: &SessionId) -> bool
+    ensures { result ≡ true → is_some (session_in session.now rows.now) ≡ true }
+{
+    if place < rows.len() {
+        let row = &rows[place];
+        return row.id == *session;
+    }
+    false
+}
+
+/// Whether there is a row of this session, for a walk that asks for sessions in their order: the row
+/// mostly stands at the place of the last one or at the next one, and is searched for only where it
+/// doesn't. The place is then that of the row.
+pub(crate) fn has_session_near(rows: &[Session], place: &mut usize, session: &SessionId) -> bool
+    ensures { result ≡ is_some (session_in session.now rows.now) }
+{
+    if stands_at(rows, *place, session) {
+        return true;
+    }
+    let next = place.wrapping_add(1);
+    if stands_at(rows, next, session) {
+        *place = next;
+        return true;
+    }
+    let Some(found) = session_place(rows, session) else {
+        return false;
+    };
+    *place = found;
+    true
+}
+
 pub(crate) fn has_bucket(rows: &[Bucket], number: u32) -> bool
     ensures { result ≡ is_some (bucket_in number rows.now) }
 {
@@ -350,8 +382,8 @@ fn leaving_rows(
     Ok(LeftStore {
         buckets: leaving_buckets(live, after)?,
         counters: leaving_counters(alloc, live, after)?,
-        sessions: leaving_sessions(alloc, live, after)?,
-        groups: leaving_groups(alloc, live, after)?,
+        sessions: leaving_sessions(alloc, live.sessions(), after)?,
+        groups: leaving_groups(alloc, live.groups(), after)?,
     })
 }
 
@@ -399,7 +431,11 @@ fn keep(left: &mut LeftStore, known: &Known, after: &StoredAccount)
 {
     keep_buckets(&mut left.buckets, &known.numbers, after);
     keep_counters(&mut left.counters, &known.cycles, after);
-    keep_sessions(&mut left.sessions, &known.names, after);
+    if any_named(&known.names, after.sessions()) {
+        filter_sessions(&mut left.sessions, after);
+        filter_groups(&mut left.groups, after);
+        return;
+    }
     keep_groups(&mut left.groups, &known.names, after);
 }
 
@@ -424,32 +460,53 @@ fn leaving_counters(
     Ok(rows)
 }
 
+/// Whether a session's row leaves the live ones: it isn't open, and has no row after the change.
+fn leaves_session(after: &StoredAccount, row: &Session) -> bool
+    ensures { result ≡ leaves_session after.now row.now }
+{
+    row.state != SessionState::Open && !has_session(after.sessions(), &row.id)
+}
+
 fn leaving_sessions(
     alloc: Global,
-    live: &StoredAccount,
+    live: &[Session],
     after: &StoredAccount,
 ) -> Result<Vec<Session>, AllocError>
-    ensures { IfOk result (λ rows. rows.items ≡
-        filter (leaves_session after.now) live.now.sessions) }
+    ensures { IfOk result (λ rows. rows.items ≡ filter (leaves_session after.now) live.now) }
 {
-    let mut rows = sessions_of(alloc, live.sessions())?;
-    rows.retain(|row| row.state != SessionState::Open && !has_session(after.sessions(), &row.id));
+    let mut rows = Vec::new(alloc);
+    for row in live {
+        if leaves_session(after, row) {
+            rows.push(copy_of_session(row)?)?;
+        }
+    }
     Ok(rows)
+}
+
+/// Whether a group's row leaves the live ones: it holds nothing, and neither it nor its session has
+/// a row after the change. The session's row is looked for from this place on.
+fn leaves_group(after: &StoredAccount, place: &mut usize, row: &SessionGroup) -> bool
+    ensures { result ≡ leaves_group after.now row.now }
+{
+    row.reservation.is_none()
+        && (!has_session_near(after.sessions(), place, &row.session)
+            && !has_group(after.groups(), &row.session, row.group))
 }
 
 fn leaving_groups(
     alloc: Global,
-    live: &StoredAccount,
+    live: &[SessionGroup],
     after: &StoredAccount,
 ) -> Result<Vec<SessionGroup>, AllocError>
-    ensures { IfOk result (λ rows. rows.items ≡ filter (leaves_group after.now) live.now.groups) }
+    ensures { IfOk result (λ rows. rows.items ≡ filter (leaves_group after.now) live.now) }
 {
-    let mut rows = groups_of(alloc, live.groups())?;
-    rows.retain(|row| {
-        row.reservation.is_none()
-            && (!has_session(after.sessions(), &row.session)
-                && !has_group(after.groups(), &row.session, row.group))
-    });
+    let mut rows = Vec::new(alloc);
+    let mut place = 0;
+    for row in live {
+        if leaves_group(after, &mut place, row) {
+            rows.push(copy_of_group(row)?)?;
+        }
+    }
     Ok(rows)
 }
 
@@ -519,32 +576,36 @@ fn keep_counters(rows: &mut Vec<Counter>, cycles: &HashMap<u32, bool>, after: &S
     rows.retain(|row| !has_counter(after.counters(), row.group, row.cycle));
 }
 
-fn keep_sessions(rows: &mut Vec<Session>, names: &HashMap<SessionId, bool>, after: &StoredAccount)
-    requires { AreLeftSessions names.now rows.old.items }
+fn filter_sessions(rows: &mut Vec<Session>, after: &StoredAccount)
     ensures { rows.new.items ≡ filter (leaves_session after.now) rows.old.items }
 {
-    if !any_named(names, after.sessions()) {
-        return;
-    }
-    rows.retain(|row| row.state != SessionState::Open && !has_session(after.sessions(), &row.id));
+    rows.retain(|row| leaves_session(after, row));
 }
 
-fn keep_groups(
-    rows: &mut Vec<SessionGroup>,
-    names: &HashMap<SessionId, bool>,
-    after: &StoredAccount,
-)
-    requires { AreLeftGroups names.now rows.old.items }
+fn filter_groups(rows: &mut Vec<SessionGroup>, after: &StoredAccount)
     ensures { rows.new.items ≡ filter (leaves_group after.now) rows.old.items }
 {
-    if !any_of_named(names, after) {
-        return;
-    }
     rows.retain(|row| {
         row.reservation.is_none()
             && (!has_session(after.sessions(), &row.session)
                 && !has_group(after.groups(), &row.session, row.group))
     });
+}
+
+/// The same, where none of the sessions is known.
+fn keep_groups(
+    rows: &mut Vec<SessionGroup>,
+    names: &HashMap<SessionId, bool>,
+    after: &StoredAccount,
+)
+    requires left { AreLeftGroups names.now rows.old.items }
+    requires unnamed { list_any (λ r. is_named names.now r.id) after.now.sessions ≡ false }
+    ensures { rows.new.items ≡ filter (leaves_group after.now) rows.old.items }
+{
+    if !any_group_named(names, after.sessions(), after.groups()) {
+        return;
+    }
+    filter_groups(rows, after);
 }
 
 fn any_numbered(numbers: &HashMap<u32, bool>, rows: &[Bucket]) -> bool
@@ -565,17 +626,39 @@ fn any_named(names: &HashMap<SessionId, bool>, rows: &[Session]) -> bool
     rows.iter().any(|row| names.contains_key(&row.id))
 }
 
-fn any_group_named(names: &HashMap<SessionId, bool>, rows: &[SessionGroup]) -> bool
-    ensures { result ≡ list_any (λ r. is_named names.now r.session) rows.now }
+/// Whether a session is known. None of these sessions is; its row is looked for among them from this
+/// place on.
+fn is_known(
+    names: &HashMap<SessionId, bool>,
+    sessions: &[Session],
+    place: &mut usize,
+    session: &SessionId,
+) -> bool
+    requires { list_any (λ r. is_named names.now r.id) sessions.now ≡ false }
+    ensures { result ≡ is_named names.now session.now }
 {
-    rows.iter().any(|row| names.contains_key(&row.session))
+    if has_session_near(sessions, place, session) {
+        return false;
+    }
+    names.contains_key(session)
 }
 
-fn any_of_named(names: &HashMap<SessionId, bool>, rows: &StoredAccount) -> bool
-    ensures { result ≡ (list_any (λ r. is_named names.now r.id) rows.now.sessions || list_any
-        (λ r. is_named names.now r.session) rows.now.groups) }
+/// Whether the session of a group is known. None of these sessions is.
+fn any_group_named(
+    names: &HashMap<SessionId, bool>,
+    sessions: &[Session],
+    rows: &[SessionGroup],
+) -> bool
+    requires { list_any (λ r. is_named names.now r.id) sessions.now ≡ false }
+    ensures { result ≡ list_any (λ r. is_named names.now r.session) rows.now }
 {
-    any_named(names, rows.sessions()) || any_group_named(names, rows.groups())
+    let mut place = 0;
+    for row in rows {
+        if is_known(names, sessions, &mut place, &row.session) {
+            return true;
+        }
+    }
+    false
 }
 
 // ---- what those that were left name
@@ -655,10 +738,7 @@ pub(crate) fn sessions_of(alloc: Global, rows: &[Session]) -> Result<Vec<Session
     rows.to_vec(alloc)
 }
 
-pub(crate) fn groups_of(
-    alloc: Global,
-    rows: &[SessionGroup],
-) -> Result<Vec<SessionGroup>, AllocError>
+fn groups_of(alloc: Global, rows: &[SessionGroup]) -> Result<Vec<SessionGroup>, AllocError>
     ensures { IfOk result (λ copy. copy.items ≡ rows.now) }
 {
     rows.to_vec(alloc)

@@ -9,9 +9,9 @@ ghost use Rattle.keepers.specs.Change.{redeemed_over};
 use crate::copies::copy_voucher;
 use crate::loaded::Redeemed;
 use identifiers::VoucherCode;
-use redemptions::Voucher;
 use std::alloc::AllocError;
 use std::collections::HashMap;
+use voucher_rules::Voucher;
 
 /// A copy of what stands under a code.
 pub(crate) fn voucher_in(

@@ -5,8 +5,8 @@ use Rattle.std.proofs.Common.{Err}
 use Rattle.std.specs.Prelude.{IfErr, IfSome, OnErr, min}
 use Rattle.std.specs.Io.KnownBytes.{Appends, Keeps}
 use Rattle.std.proofs.KnownBytes.{Keeps-refl}
-use Rattle.byte_streams.specs.declared.StreamFault.{StreamFault}
-use Rattle.byte_streams.specs.declared.StreamFault.TheVariants as stream
+use Rattle.texts.specs.declared.streams.StreamFault.{StreamFault}
+use Rattle.texts.specs.declared.streams.StreamFault.TheVariants as stream
 use Rattle.clap.specs.Values.{kind_of}
 use Rattle.clap.specs.Words.{IsAmong, Kinds, Text, fault_of}
 use Rattle.clap.specs.declared.error.kind.ErrorKind.{ErrorKind}
@@ -15,13 +15,14 @@ use Rattle.keepers.specs.declared.fault.StoreFault.TheVariants as store
 use Rattle.vouchers.specs.declared.fault.VoucherFault.{VoucherFault}
 use Rattle.commands.specs.declared.answer.Answer.{Answer}
 use Rattle.commands.specs.declared.answer.Answer.TheVariants as answer
-use Rattle.office.specs.Months.{unknown_line}
-use Rattle.office.specs.Printed.{IsEnded, PrintsAnswer}
-use Rattle.office.specs.Told.{status_of}
-use Rattle.office.specs.Written.{WritesBeginning}
-use Rattle.office.proofs.Beginnings.{all_written, beginning_before, nothing_written, some_written}
-use Rattle.office.specs.declared.status.Status.{Status}
-use Rattle.office.specs.declared.status.Status.TheVariants.{Done, Failed, Unread}
+use Rattle.operations.specs.Months.{unknown_line}
+use Rattle.operations.specs.Printed.{IsEnded, PrintsAnswer}
+use Rattle.operations.specs.Told.{status_of}
+use Rattle.operations.specs.Written.{WritesBeginning}
+use Rattle.operations.proofs.Beginnings.{all_written, beginning_before, nothing_written}
+use Rattle.operations.proofs.Beginnings.{some_written}
+use Rattle.operations.specs.declared.status.Status.{Status}
+use Rattle.operations.specs.declared.status.Status.TheVariants.{Done, Failed, Unread}
 use Rattle.operator.specs.Program.{program_app}
 use Rattle.operator.specs.Read.{IsInvalid, IsSaid, IsUnread}
 use Rattle.operator.specs.declared.fault.WordsFault.{WordsFault}
@@ -29,13 +30,14 @@ use Rattle.operator.specs.declared.fault.WordsFault.TheVariants as fault
 use Rattle.operator.specs.declared.parsed.OnceWords.{OnceWords}
 use Rattle.operator.specs.declared.parsed.ProgramWords.{ProgramWords}
 use Rattle.operator.specs.declared.parsed.ProgramWords.TheVariants as words
-use Rattle.database_office.specs.declared.fault.DatabaseFault.{DatabaseFault}
+use Rattle.service.specs.declared.fault.DatabaseFault.{DatabaseFault}
 use Rattle.ocs.specs.Ends.{HasPrinted, IfOnce, IsEnd, IsEndBy, IsEndOf, IsMemory, IsRefused}
 use Rattle.ocs.specs.Ends.{HasBegun, Says}
 use Rattle.ocs.specs.Faults.{IsFaultIn, IsFaultOf, IsFaultTold, IsMemoryFault, IsReachedByLines}
 use Rattle.ocs.specs.Faults.{IsWriteFault, OnlyDone}
 use Rattle.ocs.specs.Told.{AreUnread, IsSilent, IsTextTold, IsTold}
-use Rattle.ocs.specs.Told.{IsToldAtEnd, IsToldBy, IsToldOf, LeavesOutput, ServesConnections, TellsAs}
+use Rattle.ocs.specs.Told.{IsToldAtEnd, IsToldBy, IsToldOf, LeavesOutput, ServesConnections}
+use Rattle.ocs.specs.Told.{TellsAs}
 use Rattle.ocs.specs.Told.{TellsFault, fault_line, line_of}
 use Rattle.request_lines.specs.declared.fault.LinesFault.{LinesFault}
 use Rattle.request_lines.specs.declared.fault.LinesFault.TheVariants.{Read, Store, Both, Write}

@@ -11,7 +11,7 @@ use Rattle.charging.proofs.AcceptedTables.{tables_none}
 use Rattle.charging.specs.Outcomes.{book_days, outcome}
 use Rattle.charging.specs.Continued.{ForEachList}
 use Rattle.charging.specs.Served.{AreTables}
-use Rattle.office.specs.Written.{WritesBeginning}
+use Rattle.operations.specs.Written.{WritesBeginning}
 use Rattle.request_lines.specs.Served.{IsAnswered, IsBegun, text_of}
 use Rattle.request_lines.proofs.Answered.{begins}
 use Rattle.ocs.specs.Once.{once_text}

@@ -2,16 +2,16 @@
 -- Source: profile.
 use Rattle.std.specs.Prelude.{◌≡◌, ◌⊎◌, Bool, true, false, List, Option, IfSome}
 use Rattle.std.specs.Io.KnownBytes.{Appends}
-use Rattle.byte_streams.specs.Words.{Bytes}
+use Rattle.texts.specs.StreamWords.{Bytes}
 use Rattle.clap.specs.Values.{kind_of}
 use Rattle.clap.specs.Words.{IsAmong, Text, fault_of}
 use Rattle.clap.specs.declared.error.kind.ErrorKind.{ErrorKind}
 use Rattle.clap.specs.declared.error.kind.ErrorKind.TheVariants.{DisplayHelp, DisplayVersion}
-use Rattle.office.specs.Months.{unknown_line}
-use Rattle.office.specs.Printed.{PrintsAnswer, PrintsCounts}
-use Rattle.office.specs.declared.status.Status.{Status}
-use Rattle.office.specs.declared.status.Status.TheVariants.{Done, Failed, Unread}
-use Rattle.database_office.specs.Stating.{BeginsMonthOf, PrintsMonthOf}
+use Rattle.operations.specs.Months.{unknown_line}
+use Rattle.operations.specs.Printed.{PrintsAnswer, PrintsCounts}
+use Rattle.operations.specs.declared.status.Status.{Status}
+use Rattle.operations.specs.declared.status.Status.TheVariants.{Done, Failed, Unread}
+use Rattle.service.specs.Stating.{BeginsMonthOf, PrintsMonthOf}
 use Rattle.operator.specs.Program.{program_app}
 use Rattle.operator.specs.Read.{IsInvalid, IsSaid}
 use Rattle.operator.specs.declared.fault.WordsFault.{WordsFault}

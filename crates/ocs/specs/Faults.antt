@@ -2,7 +2,7 @@
 -- Source: profile.
 use Rattle.std.specs.Prelude.{◌≡◌, ◌⊎◌, List, Option}
 use Rattle.units.specs.Words.{Moment}
-use Rattle.byte_streams.specs.declared.StreamFault.TheVariants as stream
+use Rattle.texts.specs.declared.streams.StreamFault.TheVariants as stream
 use Rattle.clap.specs.Words.{Text}
 use Rattle.keepers.specs.declared.fault.StoreFault.TheVariants as store
 use Rattle.operator.specs.Read.{IsSaid}
@@ -10,11 +10,11 @@ use Rattle.operator.specs.declared.parsed.ProgramWords.{ProgramWords}
 use Rattle.operator.specs.declared.parsed.ProgramWords.TheVariants as words
 use Rattle.request_lines.specs.declared.fault.LinesFault.{LinesFault}
 use Rattle.request_lines.specs.declared.fault.LinesFault.TheVariants.{Read, Store, Both, Write}
-use Rattle.database_office.specs.Adding.{IsAdditionFault}
-use Rattle.database_office.specs.Making.{IsInitFault}
-use Rattle.database_office.specs.Opening.{IsCommandFault, IsUnopened}
-use Rattle.database_office.specs.declared.fault.DatabaseFault.{DatabaseFault}
-use Rattle.office_server.specs.Told.{IsServeFault}
+use Rattle.service.specs.Adding.{IsAdditionFault}
+use Rattle.service.specs.Making.{IsInitFault}
+use Rattle.service.specs.Opening.{IsCommandFault, IsUnopened}
+use Rattle.service.specs.declared.fault.DatabaseFault.{DatabaseFault}
+use Rattle.service.specs.ServingTold.{IsServeFault}
 use Rattle.ocs.specs.Ends.{Says}
 use Rattle.ocs.specs.declared.fault.ProgramFault.{ProgramFault}
 use Rattle.ocs.specs.declared.fault.ProgramFault.TheVariants as program

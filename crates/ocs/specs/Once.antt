@@ -3,10 +3,10 @@
 use Rattle.std.specs.Prelude.{[], Option, Some, IfSome}
 use Rattle.std.specs.Io.KnownBytes.{Appends}
 use Rattle.units.specs.Words.{Micros}
-use Rattle.byte_streams.specs.Words.{Bytes}
+use Rattle.texts.specs.StreamWords.{Bytes}
 use Rattle.tariffs.specs.Books.{Book}
 use Rattle.shelves.specs.Shelves.{one_book}
-use Rattle.office.specs.Written.{WritesBeginning}
+use Rattle.operations.specs.Written.{WritesBeginning}
 use Rattle.request_lines.specs.Served.{text_of}
 
 -- the text of a stream, before any command, by a book alone on its shelf: the first request's

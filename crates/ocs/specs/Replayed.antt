@@ -1,7 +1,7 @@
 -- What a replay leaves of the tables that it found.
 -- Source: profile.
 use Rattle.std.specs.Prelude.{Option, None}
-use Rattle.byte_streams.specs.Words.{Bytes}
+use Rattle.texts.specs.StreamWords.{Bytes}
 use Rattle.shelves.specs.Shelves.{Shelf}
 use Rattle.keepers.specs.Tables.{Tables}
 use Rattle.charging.specs.Continued.{ForEachList}

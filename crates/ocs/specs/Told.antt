@@ -3,24 +3,24 @@
 use Rattle.std.specs.Prelude.{◌≡◌, ◌≤◌, ◌⊎◌, ◌++◌, ◌∷◌, ℕ, List, [], Option, Some, None, codes}
 use Rattle.std.specs.Fmt.{decimal}
 use Rattle.std.specs.Io.KnownBytes.{Keeps}
-use Rattle.byte_streams.specs.Words.{Bytes}
-use Rattle.byte_streams.specs.declared.StreamFault.{StreamFault}
-use Rattle.byte_streams.specs.declared.StreamFault.TheVariants as stream
+use Rattle.texts.specs.StreamWords.{Bytes}
+use Rattle.texts.specs.declared.streams.StreamFault.{StreamFault}
+use Rattle.texts.specs.declared.streams.StreamFault.TheVariants as stream
 use Rattle.clap.specs.Words.{Text}
-use Rattle.office.specs.Told.{stream_line}
-use Rattle.office.specs.Written.{WritesBeginning}
-use Rattle.office.specs.declared.status.Status.{Status}
-use Rattle.office.specs.declared.status.Status.TheVariants.{Done, Failed, Unread}
+use Rattle.operations.specs.Told.{stream_line}
+use Rattle.operations.specs.Written.{WritesBeginning}
+use Rattle.operations.specs.declared.status.Status.{Status}
+use Rattle.operations.specs.declared.status.Status.TheVariants.{Done, Failed, Unread}
 use Rattle.operator.specs.Read.{IsInvalid, IsSaid}
 use Rattle.operator.specs.declared.fault.WordsFault.{WordsFault}
 use Rattle.operator.specs.declared.fault.WordsFault.TheVariants as fault
 use Rattle.operator.specs.declared.parsed.ProgramWords.{ProgramWords}
 use Rattle.operator.specs.declared.parsed.ProgramWords.TheVariants as words
 use Rattle.operator.specs.declared.parsed.ServeWords.{ServeWords}
-use Rattle.database_office.specs.Opening.{IsUnanswered, IsUnasked}
-use Rattle.database_office.specs.Told.{fault_line as database_line}
-use Rattle.database_office.specs.declared.fault.DatabaseFault.{DatabaseFault}
-use Rattle.office_server.specs.Told.{IsUnlistened, TellsFaults, listening_line}
+use Rattle.service.specs.Opening.{IsUnanswered, IsUnasked}
+use Rattle.service.specs.Told.{fault_line as database_line}
+use Rattle.service.specs.declared.fault.DatabaseFault.{DatabaseFault}
+use Rattle.service.specs.ServingTold.{IsUnlistened, TellsFaults, listening_line}
 use Rattle.request_lines.specs.Told.{lines_line}
 use Rattle.vouchers.specs.Faults.{number_of}
 use Rattle.vouchers.specs.declared.fault.VoucherFault.{VoucherFault}

@@ -4,9 +4,9 @@ ghost use Rattle.std.specs.Prelude.{◌≡◌, ◌≢◌, ◌≤◌, ◌++◌, �
 ghost use Rattle.std.specs.Prelude.{OnOk, OnErr};
 ghost use Rattle.std.specs.Io.KnownBytes.{Appends};
 ghost use Rattle.keepers.specs.declared.fault.StoreFault.TheVariants.{Store as StoreFailed};
-ghost use Rattle.office.specs.Printed.{IsEnded};
-ghost use Rattle.office.specs.Written.{WritesBeginning};
-ghost use Rattle.one_price.specs.OnceBook.{once_book};
+ghost use Rattle.operations.specs.Printed.{IsEnded};
+ghost use Rattle.operations.specs.Written.{WritesBeginning};
+ghost use Rattle.tariffs.specs.OnceBook.{once_book};
 ghost use Rattle.operator.specs.Read.{IsInRange, IsOnceInRange};
 ghost use Rattle.shelves.specs.Shelves.{one_book};
 ghost use Rattle.ocs.specs.Ends.{HasBegun, HasPrinted, IfOnce, IsRefused};
@@ -20,14 +20,14 @@ use crate::replaying::answer_replay;
 use crate::serving::answer_serve;
 use crate::storing::{answer_import, answer_office, answer_statement};
 use keepers::MemoryKeeper;
-use office::Status;
-use one_price::once_book;
+use operations::Status;
 use operator::{OnceWords, ProgramWords};
 use request_lines::{LinesFault, lines};
 use shelves::TariffShelf;
 use std::alloc::{AllocError, Global};
 use std::fs::Files;
 use std::io::{Read, Write};
+use tariffs::once_book;
 
 /// Does what the words say; the lines of a file are read of `files`. The status is `Failed` where
 /// an operator's command or a statement is refused.

@@ -1,8 +1,8 @@
 //! Why the program ends with status 1.
 
-use byte_streams::StreamFault;
-use database_office::DatabaseFault;
 use request_lines::LinesFault;
+use service::DatabaseFault;
+use texts::StreamFault;
 use thiserror::Error;
 use vouchers::VoucherFault;
 

@@ -11,9 +11,9 @@ mod telling;
 
 ghost use Rattle.std.specs.Prelude.{◌≡◌, IfSome};
 ghost use Rattle.std.specs.Io.KnownBytes.{Appends};
-ghost use Rattle.office.specs.Written.{WritesBeginning};
-ghost use Rattle.office.specs.declared.status.Status.TheVariants.{Done, Failed, Unread};
-ghost use Rattle.one_price.specs.OnceBook.{once_book};
+ghost use Rattle.operations.specs.Written.{WritesBeginning};
+ghost use Rattle.operations.specs.declared.status.Status.TheVariants.{Done, Failed, Unread};
+ghost use Rattle.tariffs.specs.OnceBook.{once_book};
 ghost use Rattle.operator.specs.Read.{IsInRange, IsSaid, texts_of};
 ghost use Rattle.operator.specs.declared.parsed.OnceWords.{OnceWords};
 ghost use Rattle.operator.specs.declared.parsed.ProgramWords.{ProgramWords};
@@ -24,7 +24,7 @@ ghost use Rattle.ocs.specs.Told.{IsTold, IsToldBy, line_of};
 
 use crate::doing::do_said;
 use crate::telling::{tell_fault, tell_start, tell_unread};
-use office::Status;
+use operations::Status;
 use operator::{ProgramWords, program_words};
 use std::fs::Files;
 use std::io::{BufReader, Read, Write};

@@ -2,23 +2,23 @@
 
 ghost use Rattle.std.specs.Prelude.{◌≡◌, codes, IfErr, IfOk, OnErr, OnOk};
 ghost use Rattle.std.specs.Io.KnownBytes.{Appends};
-ghost use Rattle.office.specs.Printed.{IsEnded};
-ghost use Rattle.office.specs.Written.{WritesBeginning};
-ghost use Rattle.database_office.specs.Adding.{IsAdditionFault};
-ghost use Rattle.database_office.specs.Making.{IsInitFault};
-ghost use Rattle.database_office.specs.Opening.{IsUnopened};
+ghost use Rattle.operations.specs.Printed.{IsEnded};
+ghost use Rattle.operations.specs.Written.{WritesBeginning};
+ghost use Rattle.service.specs.Adding.{IsAdditionFault};
+ghost use Rattle.service.specs.Making.{IsInitFault};
+ghost use Rattle.service.specs.Opening.{IsUnopened};
 ghost use Rattle.ocs.specs.Faults.{IsWriteFault, OnlyDone};
 ghost use Rattle.ocs.specs.Told.{IfStream};
 
 use crate::fault::ProgramFault;
-use byte_streams::write_whole;
-use database_office::{add_book, make_database, migrate_database};
-use office::Status;
+use operations::Status;
 use operator::{BookWords, InitWords, MigrateWords};
+use service::{add_book, make_database, migrate_database};
 use std::io::Write;
+use texts::write_whole;
 
 /// Prints the line of what is done.
-#[tactic(auto, using(office::proofs::Beginnings::nothing_written, office::proofs::Beginnings::some_written))]
+#[tactic(auto, using(operations::proofs::Beginnings::nothing_written, operations::proofs::Beginnings::some_written))]
 fn print_done<O: Write>(output: &mut O, line: &str) -> Result<Status, ProgramFault>
     ensures ended { IfOk result (IsEnded ⊥) }
     ensures reached { IfErr result IsWriteFault }
@@ -34,7 +34,7 @@ fn print_done<O: Write>(output: &mut O, line: &str) -> Result<Status, ProgramFau
 }
 
 /// Makes the database of a tariff book, and says that it is made.
-#[tactic(auto, using(office::proofs::Beginnings::nothing_written, crate::proofs::EndLemmas::write_done))]
+#[tactic(auto, using(operations::proofs::Beginnings::nothing_written, crate::proofs::EndLemmas::write_done))]
 pub(crate) fn answer_init<O: Write>(
     rt: &HostRuntime,
     init: &InitWords,
@@ -56,7 +56,7 @@ pub(crate) fn answer_init<O: Write>(
 }
 
 /// Brings a database to the latest version, and says which that is.
-#[tactic(auto, using(office::proofs::Beginnings::nothing_written, crate::proofs::EndLemmas::write_done))]
+#[tactic(auto, using(operations::proofs::Beginnings::nothing_written, crate::proofs::EndLemmas::write_done))]
 pub(crate) fn answer_migrate<O: Write>(
     rt: &HostRuntime,
     migrate: &MigrateWords,
@@ -78,7 +78,7 @@ pub(crate) fn answer_migrate<O: Write>(
 }
 
 /// Adds a tariff book to a database, and says that it is added.
-#[tactic(auto, using(office::proofs::Beginnings::nothing_written, crate::proofs::EndLemmas::write_done))]
+#[tactic(auto, using(operations::proofs::Beginnings::nothing_written, crate::proofs::EndLemmas::write_done))]
 pub(crate) fn answer_book<O: Write>(
     rt: &HostRuntime,
     book: &BookWords,

@@ -1,27 +1,25 @@
 //! Lines of a file that are answered over what a database holds.
 
 ghost use Rattle.std.specs.Prelude.{◌≡◌, IfErr, IfOk, IfSome, None, OnErr, OnOk};
-ghost use Rattle.office.specs.Printed.{IsEnded};
+ghost use Rattle.operations.specs.Printed.{IsEnded};
 ghost use Rattle.request_lines.specs.Served.{AnswersLines, BeginsLines, TellsLines};
 ghost use Rattle.sqlite.specs.Files.{file_state};
 ghost use Rattle.sqlite.specs.State.{HasCleanDisk};
 ghost use Rattle.sqlite_wal.specs.Files.{image_at};
 ghost use Rattle.sql_keeper.specs.Inside.{clean_in, tables_in};
 ghost use Rattle.sql_keeper.specs.Stops.{honest_in};
-ghost use Rattle.database_office.specs.Over.{Comes};
+ghost use Rattle.service.specs.Over.{Comes};
 ghost use Rattle.ocs.specs.Ends.{BeginsLinesOf, PrintsLines};
 ghost use Rattle.ocs.specs.Faults.{IsReachedByLines, IsReplayFault};
 ghost use Rattle.ocs.specs.Replayed.{IsReplayDone};
 ghost use Rattle.ocs.specs.Told.{AreUnread, IfLines};
 
 use crate::fault::ProgramFault;
-use byte_streams::StreamFault;
-use database_files::DatabaseFiles;
-use database_office::{Office, open_file, open_office};
 use keepers::Keeper;
-use office::Status;
+use operations::Status;
 use operator::ReplayWords;
 use request_lines::{LinesFault, lines};
+use service::{DatabaseFiles, Office, open_file, open_office};
 use shelves::TariffShelf;
 use sql_keeper::SqlKeeper;
 use sqlite::Alter;
@@ -29,6 +27,7 @@ use sqlite_disk::{Start, Wary};
 use std::alloc::Global;
 use std::fs::Files;
 use std::io::{BufReader, Read, Write};
+use texts::StreamFault;
 
 /// Answers the lines of a file. It is opened before the database is.
 pub(crate) fn answer_replay<F: Files, O: Write>(

@@ -2,16 +2,16 @@
 
 ghost use Rattle.std.specs.Prelude.{◌≡◌, IfErr, IfOk, OnErr, OnOk};
 ghost use Rattle.std.specs.Io.KnownBytes.{Appends};
-ghost use Rattle.office.specs.Printed.{IsEnded};
-ghost use Rattle.office.specs.Written.{WritesBeginning};
-ghost use Rattle.office_server.specs.Told.{IsServeFault, IsUnlistened, listening_line};
+ghost use Rattle.operations.specs.Printed.{IsEnded};
+ghost use Rattle.operations.specs.Written.{WritesBeginning};
+ghost use Rattle.service.specs.ServingTold.{IsServeFault, IsUnlistened, listening_line};
 ghost use Rattle.ocs.specs.Faults.{OnlyDatabase};
 ghost use Rattle.ocs.specs.Told.{ConnectionsTold, IfDatabase};
 
 use crate::fault::ProgramFault;
-use office::Status;
-use office_server::serve_database;
+use operations::Status;
 use operator::ServeWords;
+use service::serve_database;
 use std::io::Write;
 
 /// Serves the connections of the words. Each one's fault is a line on the errors.

@@ -2,18 +2,18 @@
 
 ghost use Rattle.std.specs.Prelude.{◌≡◌, IfErr, IfOk, OnErr, OnOk};
 ghost use Rattle.std.specs.Io.KnownBytes.{Appends};
-ghost use Rattle.database_office.specs.Opening.{IsCommandFault, IsUnanswered, IsUnasked};
-ghost use Rattle.database_office.specs.Stating.{BeginsMonthOf, PrintsMonthOf};
-ghost use Rattle.office.specs.Months.{unknown_line};
-ghost use Rattle.office.specs.Printed.{IsEnded, PrintsAnswer, PrintsCounts};
-ghost use Rattle.office.specs.declared.status.Status.TheVariants.{Failed};
+ghost use Rattle.service.specs.Opening.{IsCommandFault, IsUnanswered, IsUnasked};
+ghost use Rattle.service.specs.Stating.{BeginsMonthOf, PrintsMonthOf};
+ghost use Rattle.operations.specs.Months.{unknown_line};
+ghost use Rattle.operations.specs.Printed.{IsEnded, PrintsAnswer, PrintsCounts};
+ghost use Rattle.operations.specs.declared.status.Status.TheVariants.{Failed};
 ghost use Rattle.ocs.specs.Faults.{IsImportFault, OnlyDatabase};
 ghost use Rattle.ocs.specs.Told.{IfDatabase};
 
 use crate::fault::ProgramFault;
-use database_office::{ImportFault, command_office, import_office, state_office};
-use office::Status;
+use operations::Status;
 use operator::{ImportWords, OfficeWords, StatementWords};
+use service::{ImportFault, command_office, import_office, state_office};
 use std::io::Write;
 
 /// Carries out an operator's command.

@@ -2,21 +2,21 @@
 
 ghost use Rattle.std.specs.Prelude.{◌≡◌, ◌++◌, ◌∷◌, [], string_bytes, IfOk};
 ghost use Rattle.clap.specs.Words.{kind_of};
-ghost use Rattle.office.specs.Written.{WritesBeginning};
-ghost use Rattle.office.specs.declared.status.Status.TheVariants.{Failed, Unread};
+ghost use Rattle.operations.specs.Written.{WritesBeginning};
+ghost use Rattle.operations.specs.declared.status.Status.TheVariants.{Failed, Unread};
 ghost use Rattle.ocs.specs.Ends.{IsEndOf, IsEndOfKind, IsMemory, is_text};
-ghost use Rattle.office.specs.Told.{stream_line};
+ghost use Rattle.operations.specs.Told.{stream_line};
 ghost use Rattle.ocs.specs.Told.{IsTextTold, IsToldOf, TellsAs, voucher_line};
 ghost use Rattle.ocs.specs.declared.fault.ProgramFault.TheVariants.{Vouchers};
 
 use crate::fault::ProgramFault;
-use byte_streams::{StreamFault, write_whole};
 use clap::Error;
 use clap::error::ErrorKind;
-use office::{Status, stream_line};
+use operations::{Status, stream_line};
 use operator::WordsFault;
 use std::alloc::{AllocError, Global};
 use std::io::{self, Write};
+use texts::{StreamFault, write_whole};
 use vouchers::VoucherFault;
 
 /// What is told of words of which one isn't what its place takes.

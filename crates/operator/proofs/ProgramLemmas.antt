@@ -9,7 +9,7 @@ use Rattle.clap.specs.Words.{IsAmong, Kinds, Row, Text, fault_of, is_simple, is_
 use Rattle.clap.specs.Words.{subcommand_of}
 use Rattle.clap.specs.declared.error.Error.{Error}
 use Rattle.clap.proofs.OnLiterals.{clap_on_literals}
-use Rattle.first_fault.specs.Steps.{GivesUnless}
+use Rattle.texts.specs.Steps.{GivesUnless}
 use Rattle.operator.specs.Program.{program_app}
 use Rattle.operator.specs.Read.{IsInvalid, IsRefusal, IsRefused, IsSaid, IsUnread}
 use Rattle.operator.specs.Said.{said_by}

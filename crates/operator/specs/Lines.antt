@@ -4,7 +4,7 @@ use Rattle.std.specs.Prelude.{◌≡◌, ℕ, ◌<◌, ◌==◌, List, length, O
 use Rattle.std.specs.Prelude.{if◌then◌else◌, option_and_then}
 use Rattle.std.specs.List.{before_first, after_first, position_or_len}
 use Rattle.units.specs.Words.{Moment, no_end}
-use Rattle.written_numbers.specs.Numbers.{number_of}
+use Rattle.texts.specs.Numbers.{number_of}
 use Rattle.operator.specs.declared.dated.DatedLine.{DatedLine}
 
 -- a moment of a command

@@ -4,15 +4,15 @@
 use Rattle.std.specs.Prelude.{ℕ, ◌&&◌, nat_le, Bool, List, [], Option, Some, None, Result, Ok, Err}
 use Rattle.std.specs.Prelude.{codes, unwrap_or}
 use Rattle.units.specs.Words.{Moment, GroupId, no_end, greatest_number}
-use Rattle.written_numbers.specs.Words.{MonthNumber}
+use Rattle.texts.specs.NumberWords.{MonthNumber}
 use Rattle.commands.specs.declared.allowance.Allowance.{Allowance}
 use Rattle.commands.specs.declared.command.Credit.{Credit}
 use Rattle.clap.specs.Words.{Row, Text, first_of}
-use Rattle.first_fault.specs.Steps.{◌>>=◌, or_fault, where_holds}
+use Rattle.texts.specs.Steps.{◌>>=◌, or_fault, where_holds}
 use Rattle.identifiers.specs.Texts.{is_account_number, is_reference, same_name}
 use Rattle.operator.specs.Commands.{command_named}
-use Rattle.written_numbers.specs.Months.{month_of}
-use Rattle.written_numbers.specs.Numbers.{number_of}
+use Rattle.texts.specs.Months.{month_of}
+use Rattle.texts.specs.Numbers.{number_of}
 use Rattle.operator.specs.Paths.{is_file_path}
 use Rattle.operator.specs.declared.command_name.CommandName.{CommandName}
 use Rattle.operator.specs.declared.command_name.CommandName.TheVariants as name

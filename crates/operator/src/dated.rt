@@ -3,8 +3,8 @@
 ghost use Rattle.std.specs.Prelude.{◌≡◌, IfSome, IfNone, ◌≢◌};
 ghost use Rattle.operator.specs.Lines.{moment_of, IsDated};
 
+use texts::number;
 use units::Moment;
-use written_numbers::number;
 
 /// A line of dated requests: when its command came, and the command's text.
 #[derive(Clone, Copy, Debug)]

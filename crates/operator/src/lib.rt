@@ -20,4 +20,4 @@ pub use crate::parsed::{
 };
 pub use crate::path::FilePath;
 pub use crate::reading::program_words;
-pub use written_numbers::{Month, number};
+pub use texts::{Month, number};

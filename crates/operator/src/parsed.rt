@@ -6,8 +6,8 @@ ghost use Rattle.operator.specs.Office.{command_of};
 use crate::path::FilePath;
 use commands::{Allowance, Command, Credit};
 use identifiers::AccountNumber;
+use texts::Month;
 use units::{Moment, Money};
-use written_numbers::Month;
 
 /// What the words of `once` say: an account's opening credit, and the one price of its tariff book.
 #[derive(Clone, Copy, Debug)]

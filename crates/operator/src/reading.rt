@@ -3,7 +3,7 @@
 ghost use Rattle.std.specs.Prelude.{◌≡◌, [], IfErr, IfOk, option_map};
 ghost use Rattle.clap.specs.Words.{FailsBy, fault_of, found_of, rows_of, subcommand_of};
 ghost use Rattle.clap.specs.Words.{subcommand_rows_of};
-ghost use Rattle.first_fault.specs.Steps.{GivesUnless};
+ghost use Rattle.texts.specs.Steps.{GivesUnless};
 ghost use Rattle.operator.specs.Program.{program_app};
 ghost use Rattle.operator.specs.Read.{IsInRange, IsRefusal, IsRefused, IsSaid, IsUnread, texts_of};
 ghost use Rattle.operator.specs.Said.{command_said, said_by};

@@ -2,7 +2,7 @@
 
 ghost use Rattle.std.specs.Prelude.{◌≡◌, ◌≤◌, IfOk};
 ghost use Rattle.clap.specs.Words.{found_of, rows_of};
-ghost use Rattle.first_fault.specs.Steps.{GivesUnless, Says};
+ghost use Rattle.texts.specs.Steps.{GivesUnless, Says};
 ghost use Rattle.operator.specs.Read.{IsBookInRange, IsImportInRange, IsOfficeCommandInRange};
 ghost use Rattle.operator.specs.Read.{IsOfficeInRange, IsOnceInRange, IsServeInRange};
 ghost use Rattle.operator.specs.Read.{IsStatementInRange};

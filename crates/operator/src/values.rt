@@ -2,7 +2,7 @@
 
 ghost use Rattle.std.specs.Prelude.{◌≡◌, ◌≤◌, IfOk, IfSome, codes, option_map};
 ghost use Rattle.clap.specs.Words.{found_of, first_of, rows_of};
-ghost use Rattle.first_fault.specs.Steps.{GivesUnless, Says};
+ghost use Rattle.texts.specs.Steps.{GivesUnless, Says};
 ghost use Rattle.operator.specs.Said.{account_of, at_of, database_of, from_of, group_of, has_flag};
 ghost use Rattle.operator.specs.Said.{month_at, number_at, number_in, optional_in, path_at};
 ghost use Rattle.operator.specs.Said.{reference_of, scope_of, until_of, word};
@@ -14,8 +14,8 @@ use clap::ArgMatches;
 use commands::{AllowanceBlocks, CreditEnd};
 use identifiers::{AccountNumber, Reference};
 use std::alloc::Global;
+use texts::{Month, number};
 use units::{Blocks, Moment, Money};
-use written_numbers::{Month, number};
 
 /// The first word of an operand or an option, where it is there.
 fn found<'a>(matches: &ArgMatches<'a>, id: &str) -> Option<&'a str>

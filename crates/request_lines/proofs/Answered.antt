@@ -8,7 +8,7 @@ use Rattle.std.proofs.lemmas.Option.{none-some}
 use Rattle.std.proofs.Math.Seq.{take-length, take-append-add, drop-append_seam}
 use Rattle.std.specs.Prelude.{true, false, is_some}
 use Rattle.std.specs.Io.KnownBytes.{Appends}
-use Rattle.byte_streams.specs.Lines.{lines_of}
+use Rattle.texts.specs.Lines.{lines_of}
 use Rattle.commands.specs.declared.answer.Answer.{Answer}
 use Rattle.shelves.specs.Shelves.{Shelf}
 use Rattle.keepers.specs.Tables.{Tables}
@@ -25,8 +25,8 @@ use Rattle.request_lines.specs.Served.{texts_of}
 use Rattle.request_lines.specs.Served.{text_of, text_to, IsAnswered}
 use Rattle.request_lines.specs.Served.{IsShort, IsBegun, IsRunOpened, IsUntold}
 use Rattle.request_lines.specs.Input.{told_fault, IsInput}
-use Rattle.office.specs.Written.{WritesBeginning}
-use Rattle.office.proofs.Beginnings.{nothing_written, beginning_before}
+use Rattle.operations.specs.Written.{WritesBeginning}
+use Rattle.operations.proofs.Beginnings.{nothing_written, beginning_before}
 use Rattle.request_lines.proofs.Texts.{texts_taken}
 
 -- ---- commands one after another

@@ -2,18 +2,18 @@
 use Rattle.std.proofs.Common.{◌≡◌, ℕ, List, map, refl, sym, ap, subst, ◌∙◌, Option, Some, None}
 use Rattle.std.proofs.Common.{IfSome, Result, Ok, Err, le_refl, length, []}
 use Rattle.std.proofs.lemmas.Option.{none-some}
-use Rattle.std.specs.Prelude.{IfNone, OnOk, OnErr}
+use Rattle.std.specs.Prelude.{IfErr, IfNone, OnOk, OnErr}
 use Rattle.std.specs.Io.KnownBytes.{Appends}
-use Rattle.byte_streams.specs.Lines.{lines_of}
-use Rattle.byte_streams.specs.declared.StreamFault.{StreamFault}
+use Rattle.texts.specs.Lines.{lines_of}
+use Rattle.texts.specs.declared.streams.StreamFault.{StreamFault}
 use Rattle.commands.specs.declared.answer.Answer.{Answer}
 use Rattle.shelves.specs.Shelves.{Shelf}
 use Rattle.keepers.specs.Tables.{Tables}
 use Rattle.keepers.specs.declared.fault.StoreFault.{StoreFault}
 use Rattle.charging.specs.Continued.{ForEachList}
 use Rattle.charging.specs.declared.running.DatedCommand.{DatedCommand}
-use Rattle.office.specs.Written.{WritesBeginning}
-use Rattle.office.proofs.Beginnings.{nothing_written, on_err, whole_or_begun}
+use Rattle.operations.specs.Written.{WritesBeginning}
+use Rattle.operations.proofs.Beginnings.{nothing_written, on_err, whole_or_begun}
 use Rattle.request_lines.specs.declared.fault.LinesFault.{LinesFault}
 use Rattle.request_lines.specs.declared.fault.LinesFault.TheVariants.{Read, Store, Both, Write}
 use Rattle.request_lines.specs.declared.input.Input.{Input}
@@ -199,6 +199,22 @@ module _ {A : Type 0} (b : Shelf) (amount : Option ℕ) (w0 w1 r : Option (List 
       IfSome r (λ stream. ForEachList b old (IsUntold b amount stream w0 w1 new))
   ended-untold fault written result f e k h =
       untold fault written (subst IsWrite (sym k ∙ e) tt) h
+
+-- what is so of what writing failed by is so of the fault
+write_told : {A : Type 0} (P : StreamFault → Type 0) (fault : Option StoreFault)
+    (written : Result A StreamFault) (f : StreamFault) → ended_as fault written ≡ Err (Write f) →
+    IfErr written P → P f
+write_told P None (Ok x) f k h = absurd (cc)
+write_told P None (Err g) f k h =
+    let same : g ≡ f = cc in
+    subst P same h
+write_told P (Some n) (Ok x) f k h = absurd (cc)
+write_told P (Some n) (Err g) f k h = absurd (cc)
+
+pub ended-write : {A : Type 0} (P : StreamFault → Type 0) (fault : Option StoreFault)
+    (written : Result A StreamFault) (result : Result A LinesFault) (f : StreamFault) →
+    result ≡ ended_as fault written → result ≡ Err (Write f) → IfErr written P → P f
+ended-write P fault written result f e k h = write_told P fault written f (sym e ∙ k) h
 
 -- ---- whether the keeper can be asked after it
 

@@ -3,7 +3,7 @@ use Rattle.std.proofs.Common.{◌≡◌, ◌+◌, ◌≤◌, ℕ, zero, suc, Lis
 use Rattle.std.proofs.Common.{refl, sym, ap, subst, ◌∙◌, arith, Option, Some, None, IfSome, map}
 use Rattle.std.proofs.lemmas.List.{length-append, take-append-le}
 use Rattle.std.proofs.Math.Seq.{take-length, take-append-add}
-use Rattle.byte_streams.specs.Lines.{lines_of}
+use Rattle.texts.specs.Lines.{lines_of}
 use Rattle.commands.specs.declared.answer.Answer.{Answer}
 use Rattle.shelves.specs.Shelves.{Shelf}
 use Rattle.keepers.specs.Tables.{Tables}
@@ -12,7 +12,7 @@ use Rattle.charging.specs.Runs.{AreHeld, IsHeld, IsRun, Runs, after_commands}
 use Rattle.charging.specs.Served.{AreTables}
 use Rattle.charging.specs.declared.running.DatedCommand.{DatedCommand}
 use Rattle.charging.proofs.RunLemmas.{commands_after}
-use Rattle.office.specs.Imports.{HoldsBeginning, IsBeginningHeld}
+use Rattle.operations.specs.Imports.{HoldsBeginning, IsBeginningHeld}
 use Rattle.request_lines.specs.declared.input.Input.{Input}
 use Rattle.request_lines.specs.Input.{IsInput}
 use Rattle.request_lines.specs.Lines.{line_request}

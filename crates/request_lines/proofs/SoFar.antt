@@ -4,8 +4,8 @@ use Rattle.std.proofs.Common.{append_assoc, Result, Ok, Err, refl}
 use Rattle.std.proofs.KnownBytes.{Appends-nil, Appends-trans}
 use Rattle.std.specs.Prelude.{OnOk}
 use Rattle.std.specs.Io.KnownBytes.{Appends}
-use Rattle.office.specs.Written.{WritesBeginning}
-use Rattle.office.proofs.Beginnings.{beginning_after, beginning_before}
+use Rattle.operations.specs.Written.{WritesBeginning}
+use Rattle.operations.proofs.Beginnings.{beginning_after, beginning_before}
 
 -- so much of a text is written, and this is left of it
 pub record IsWrittenSoFar (all left : List ℕ) (old new : Option (List ℕ)) : Type 0 where

@@ -5,7 +5,7 @@ use Rattle.std.proofs.Common.{Ok, Err}
 use Rattle.std.proofs.lemmas.List.{map-append}
 use Rattle.std.specs.Prelude.{if◌then◌else◌, ◌==◌, Vec, OnOk}
 use Rattle.std.specs.Global.{Global}
-use Rattle.byte_streams.specs.Lines.{line_of, after_line, IsLineOf, prepend, lines_of}
+use Rattle.texts.specs.Lines.{line_of, after_line, IsLineOf, prepend, lines_of}
 use Rattle.json_fields.specs.declared.fault.WireFault.{WireFault}
 use Rattle.json_fields.specs.declared.fault.WireFault.TheVariants.{Memory}
 use Rattle.json_fields.specs.Gives.{Fails}

@@ -10,7 +10,7 @@ use Rattle.std.specs.Borrow.{Bor}
 use Rattle.std.proofs.lemmas.Option.{slice_get_past, slice_get_read, same_Some}
 use Rattle.commands.specs.declared.answer.Answer.{Answer}
 use Rattle.json_fields.specs.declared.fault.WireFault.{WireFault}
-use Rattle.wire_answers.specs.Spelled.{answer_text, fault_text}
+use Rattle.wire.specs.Spelled.{answer_text, fault_text}
 use Rattle.request_lines.specs.Served.{texts_of}
 use Rattle.request_lines.specs.declared.input.Line.{Line}
 use Rattle.request_lines.specs.Input.{told_fault}

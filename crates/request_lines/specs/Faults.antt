@@ -1,8 +1,8 @@
 -- Wants of memory among the faults of lines, and what answering lines ends with.
 -- Source: profile.
 use Rattle.std.specs.Prelude.{Option, Some, None, Result, Ok, Err}
-use Rattle.byte_streams.specs.declared.StreamFault.{StreamFault}
-use Rattle.byte_streams.specs.declared.StreamFault.TheVariants as stream
+use Rattle.texts.specs.declared.streams.StreamFault.{StreamFault}
+use Rattle.texts.specs.declared.streams.StreamFault.TheVariants as stream
 use Rattle.keepers.specs.declared.fault.StoreFault.{StoreFault}
 use Rattle.request_lines.specs.declared.fault.LinesFault.{LinesFault}
 use Rattle.request_lines.specs.declared.fault.LinesFault.TheVariants.{Read, Store, Both, Write}

@@ -6,7 +6,7 @@ use Rattle.std.specs.Prelude.{if◌then◌else◌}
 use Rattle.std.specs.List.{before_first, after_first, position_or_len}
 use Rattle.std.specs.Str.{is_utf8}
 use Rattle.units.specs.Words.{Moment}
-use Rattle.byte_streams.specs.Words.{Bytes}
+use Rattle.texts.specs.StreamWords.{Bytes}
 use Rattle.json_fields.specs.declared.fault.WireFault.{WireFault}
 use Rattle.json_fields.specs.declared.fault.WireFault.TheVariants.{NotRequest}
 use Rattle.json_fields.specs.Gives.{◌>>=◌, or_fault}

@@ -1,10 +1,10 @@
 -- What a line is told.
 -- Source: profile.
 use Rattle.std.specs.Prelude.{Option, Some, None}
-use Rattle.byte_streams.specs.Words.{Bytes}
+use Rattle.texts.specs.StreamWords.{Bytes}
 use Rattle.commands.specs.declared.answer.Answer.{Answer}
 use Rattle.json_fields.specs.declared.fault.WireFault.{WireFault}
-use Rattle.wire_answers.specs.Spelled.{answer_text, fault_text}
+use Rattle.wire.specs.Spelled.{answer_text, fault_text}
 
 -- its fault, or else the answer, where there is one
 abbrev pub line_text : Option WireFault → Option Answer → Option Bytes

@@ -7,14 +7,14 @@ use Rattle.std.specs.Prelude.{OnOk, OnErr}
 use Rattle.std.specs.Io.KnownBytes.{Appends}
 use Rattle.units.specs.Words.{Micros}
 use Rattle.identifiers.specs.Words.{AccountName}
-use Rattle.byte_streams.specs.Words.{Bytes}
-use Rattle.byte_streams.specs.Lines.{lines_of}
-use Rattle.byte_streams.specs.declared.StreamFault.{StreamFault}
+use Rattle.texts.specs.StreamWords.{Bytes}
+use Rattle.texts.specs.Lines.{lines_of}
+use Rattle.texts.specs.declared.streams.StreamFault.{StreamFault}
 use Rattle.commands.specs.declared.answer.Answer.{Answer}
 use Rattle.commands.specs.declared.command.Command.{Command}
 use Rattle.commands.specs.declared.command.Command.TheVariants.{Ccr, OpenAccount, Credit}
 use Rattle.json_fields.specs.declared.fault.WireFault.{WireFault}
-use Rattle.wire_answers.specs.Spelled.{answer_text, fault_text}
+use Rattle.wire.specs.Spelled.{answer_text, fault_text}
 use Rattle.shelves.specs.Shelves.{Shelf}
 use Rattle.keepers.specs.Faults.{max_failures}
 use Rattle.keepers.specs.Tables.{Tables}
@@ -28,7 +28,7 @@ use Rattle.charging.specs.Runs.{answers_to, after_commands}
 use Rattle.request_lines.specs.Lines.{line_request}
 use Rattle.request_lines.specs.declared.fault.LinesFault.{LinesFault}
 use Rattle.request_lines.specs.declared.fault.LinesFault.TheVariants.{Both, Store, Write}
-use Rattle.office.specs.Written.{WritesBeginning}
+use Rattle.operations.specs.Written.{WritesBeginning}
 
 -- ---- commands
 

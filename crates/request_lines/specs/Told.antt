@@ -1,7 +1,7 @@
 -- What is told of a fault of lines on standard error.
 -- Source: profile.
-use Rattle.byte_streams.specs.Words.{Bytes}
-use Rattle.office.specs.Told.{store_line, stream_line}
+use Rattle.texts.specs.StreamWords.{Bytes}
+use Rattle.operations.specs.Told.{store_line, stream_line}
 use Rattle.request_lines.specs.declared.fault.LinesFault.{LinesFault}
 use Rattle.request_lines.specs.declared.fault.LinesFault.TheVariants.{Read, Store, Both, Write}
 

@@ -3,10 +3,10 @@
 ghost use Rattle.std.specs.Prelude.{◌≡◌};
 ghost use Rattle.request_lines.specs.Told.{lines_line};
 
-use byte_streams::StreamFault;
 use keepers::StoreFault;
-use office::{store_line, stream_line};
+use operations::{store_line, stream_line};
 use std::alloc::AllocError;
+use texts::StreamFault;
 use thiserror::Error;
 
 /// Why lines weren't answered to their end: how far it came, and what failed there.

@@ -2,7 +2,7 @@
 
 ghost use Rattle.std.specs.Prelude.{◌≡◌, ◌≢◌, ◌++◌, ◌∷◌, [], map, List, Result, Some, None, OnOk};
 ghost use Rattle.std.specs.Prelude.{OnErr, IfOk, IfSome};
-ghost use Rattle.byte_streams.specs.Lines.{lines_of};
+ghost use Rattle.texts.specs.Lines.{lines_of};
 ghost use Rattle.charging.specs.declared.running.DatedCommand.{DatedCommand};
 ghost use Rattle.json_fields.specs.declared.fault.WireFault.{WireFault};
 ghost use Rattle.json_fields.specs.declared.fault.WireFault.TheVariants.{Memory};
@@ -10,11 +10,11 @@ ghost use Rattle.request_lines.specs.Lines.{line_request};
 ghost use Rattle.request_lines.specs.Input.{IsInput, told_fault, wire_fault};
 
 use crate::reading::read_line;
-use byte_streams::{StreamFault, next_line};
 use charging::DatedCommand;
 use commands::Avp;
 use std::alloc::{AllocError, Global};
 use std::io::Read;
+use texts::{StreamFault, next_line};
 use wire::WireFault;
 
 /// Why a line isn't a request.

@@ -1,14 +1,15 @@
 //! Lines that are read, run and told.
 
-ghost use Rattle.std.specs.Prelude.{◌≡◌, ◌≤◌, ◌+◌, ◌++◌, Err, IfNone, IfSome, OnErr, OnOk, Some};
-ghost use Rattle.std.specs.Prelude.{length, min};
-ghost use Rattle.byte_streams.specs.declared.StreamFault.{StreamFault};
+ghost use Rattle.std.specs.Prelude.{◌≡◌, ◌≢◌, ◌≤◌, ◌+◌, ◌++◌, Err, IfNone, IfSome, OnErr, OnOk};
+ghost use Rattle.std.specs.Prelude.{Some, length, min};
+ghost use Rattle.texts.specs.declared.streams.StreamFault.{StreamFault};
+ghost use Rattle.texts.specs.declared.streams.StreamFault.TheVariants.{Read as ReadFailed};
 ghost use Rattle.charging.specs.Continued.{ForEachList};
 ghost use Rattle.charging.specs.Parts.{Leaves};
 ghost use Rattle.keepers.specs.Faults.{max_failures};
 ghost use Rattle.keepers.specs.declared.fault.StoreFault.TheVariants.{Store as StoreFailed};
 ghost use Rattle.keepers.specs.Tables.{Tables};
-ghost use Rattle.office.specs.Imports.{HoldsBeginning};
+ghost use Rattle.operations.specs.Imports.{HoldsBeginning};
 ghost use Rattle.request_lines.specs.declared.fault.LinesFault.TheVariants.{Read, Write};
 ghost use Rattle.request_lines.specs.Faults.{ended_as};
 ghost use Rattle.request_lines.specs.Served.{AnswersLines, BeginsLines, IsRunOpened, TellsLines};
@@ -18,12 +19,12 @@ use crate::fault::LinesFault;
 use crate::input::{Input, read_input};
 use crate::opening::open_first;
 use crate::output::write_output;
-use byte_streams::StreamFault;
 use charging::{DatedCommand, Run, run};
 use keepers::{Keeper, StoreFault};
 use shelves::TariffShelf;
 use std::alloc::Global;
 use std::io::{Read, Write};
+use texts::StreamFault;
 use units::Money;
 
 /// Answers lines `MOMENT JSON` of requests for credit control, a line each. All lines are read
@@ -56,6 +57,7 @@ pub fn lines<K: Keeper, R: Read, W: Write>(
     ensures unread { (fault : StreamFault) → result ≡ Err (Read fault) → keeper.new ≡ keeper.old }
     ensures unwritten { (fault : StreamFault) → result ≡ Err (Read fault) →
         writer.new ≡ writer.old }
+    ensures fault { (fault : StreamFault) → result ≡ Err (Write fault) → fault ≢ ReadFailed }
     ensures honesty { K.honest keeper.new → K.honest keeper.old }
     ensures stands { K.honest keeper.new → K.clean keeper.old → OnOk result (K.clean keeper.new) }
     ensures asked { (fault : StreamFault) → result ≡ Err (Write fault) → K.honest keeper.new →

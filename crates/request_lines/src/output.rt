@@ -1,18 +1,20 @@
 //! What lines are told, written.
 
-ghost use Rattle.std.specs.Prelude.{◌≡◌, map, option_map, string_bytes, OnOk, OnErr, IfOk};
+ghost use Rattle.std.specs.Prelude.{◌≡◌, ◌≢◌, map, option_map, string_bytes, IfErr, IfOk, OnErr};
+ghost use Rattle.std.specs.Prelude.{OnOk};
 ghost use Rattle.std.specs.Io.KnownBytes.{Appends};
+ghost use Rattle.texts.specs.declared.streams.StreamFault.TheVariants.{Read as ReadFailed};
 ghost use Rattle.request_lines.specs.Served.{texts_of};
 ghost use Rattle.request_lines.specs.Input.{told_fault};
 ghost use Rattle.request_lines.specs.Output.{line_text};
-ghost use Rattle.office.specs.Written.{WritesBeginning};
+ghost use Rattle.operations.specs.Written.{WritesBeginning};
 
 use crate::input::Line;
-use byte_streams::StreamFault;
 use commands::Answer;
-use office::write_line;
+use operations::write_line;
 use std::alloc::{AllocError, Global};
 use std::io::Write;
+use texts::StreamFault;
 use wire::{write_answer, write_fault};
 
 /// Writes what each line is told: its fault, or the next answer. It ends at the first request that
@@ -27,6 +29,7 @@ pub(crate) fn write_output<W: Write>(
         (texts_of (map told_fault lines.now) answers.now)) }
     ensures err { OnErr result (WritesBeginning (W.contents writer.old) (W.contents writer.new)
         (texts_of (map told_fault lines.now) answers.now)) }
+    ensures fault { IfErr result (λ fault. fault ≢ ReadFailed) }
 {
     let mut next = 0;
     for line in lines {

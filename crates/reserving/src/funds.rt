@@ -13,11 +13,12 @@ ghost use Rattle.std.specs.Prelude.{◌*◌, ◌+◌};
 ghost use Rattle.reserving.specs.Rows.{AreAscending, IsAccount, IsRowsOf};
 ghost use Rattle.reserving.specs.Left.{LeftRows, IsWith};
 ghost use Rattle.reserving.specs.Changes.{advanced};
-ghost use Rattle.reserving.specs.Lapsed.{held_for, lapsed_for, lapsed_funds};
+ghost use Rattle.std.specs.List.{list_any};
+ghost use Rattle.reserving.specs.Lapsed.{held_for, is_eligible_in, lapsed_for, lapsed_funds};
 ghost use Rattle.reserving.specs.Pricing.{validity_of};
 
 use crate::account::Account;
-use crate::advance::is_live;
+use crate::advance::is_live_near;
 use crate::session::{Session, SessionGroup};
 use buckets::{Bucket, BucketKind, Holds};
 use shelves::TariffShelf;
@@ -64,6 +65,10 @@ impl<'b> Account<'b> {
         ensures account { IsAccount self.now }
     {
         let buckets = self.rows.purse.buckets();
+        let free = free_funds(buckets, kind, group, moment);
+        if self.calm && self.rows.as_of == moment {
+            return free;
+        }
         let given_up = lapsed_funds(
             buckets,
             &self.rows.groups,
@@ -73,7 +78,7 @@ impl<'b> Account<'b> {
             self.shelf,
             moment,
         );
-        free_funds(buckets, kind, group, moment) + given_up
+        free + given_up
     }
 }
 
@@ -119,19 +124,31 @@ fn lapsed_funds(
 {
     // For the prover alone: looking at the value makes known here what its type keeps.
     let _count = buckets.len();
+    if !any_eligible(buckets, kind, group, at) {
+        return 0;
+    }
     let mut total = 0;
+    let mut place = 0;
     for row in groups {
-        total += lapsed_of(buckets, row, sessions, kind, group, shelf, at);
+        total += lapsed_of(buckets, row, sessions, &mut place, kind, group, shelf, at);
     }
     total
 }
 
+/// Whether a bucket of the kind is eligible.
+fn any_eligible(buckets: &[Bucket], kind: BucketKind, group: u32, at: Moment) -> bool
+    ensures { result ≡ list_any (is_eligible_in kind group at) buckets.now }
+{
+    buckets.iter().any(|bucket| bucket.counts(kind) && bucket.is_eligible(group, at))
+}
+
 /// What a group's reservation holds of the eligible buckets, where its session has ended by the
-/// moment.
+/// moment. The session's row is looked for from this place on.
 fn lapsed_of(
     buckets: &[Bucket],
     row: &SessionGroup,
     sessions: &[Session],
+    place: &mut usize,
     kind: BucketKind,
     group: u32,
     shelf: &TariffShelf,
@@ -148,7 +165,7 @@ fn lapsed_of(
     let Some(reservation) = &row.reservation else {
         return 0;
     };
-    if is_live(sessions, &row.session, shelf, at) {
+    if is_live_near(sessions, place, &row.session, shelf, at) {
         return 0;
     }
     held_for(buckets, &reservation.holds, kind, group, at)

@@ -318,8 +318,8 @@ impl<'b> Account<'b> {
         grouping::held_blocks_of(&self.rows.groups, &self.rows.purse, session, group)
     }
 
-    /// What a report costs: by the terms of its grant, without one by the book and the period at the
-    /// moment. A group that this book doesn't have costs nothing.
+    /// What a report costs: by the terms of its grant, without one by the book and the period at
+    /// the moment. A group that this book doesn't have costs nothing.
     fn price(
         &self,
         session: &SessionId,

@@ -1,22 +1,28 @@
 -- A voucher that is added: what is written of it, and what is committed.
-use Rattle.std.proofs.Common.{◌≡◌, ◌≤◌, ◌∙◌, ℕ, List, IsTrue, ap, subst, sym}
+use Rattle.std.proofs.Common.{◌≡◌, ◌≤◌, ◌∙◌, ℕ, List, IsTrue, ap, subst, sym, true}
 use Rattle.std.specs.Prelude.{Ok, Err}
 use Rattle.identifiers.specs.Texts.{same_name}
-use Rattle.redemptions.specs.declared.terms.VoucherTerms.{VoucherTerms}
-use Rattle.redemptions.specs.Standing.{unspent}
+use Rattle.voucher_rules.specs.declared.terms.VoucherTerms.{VoucherTerms}
+use Rattle.voucher_rules.specs.Standing.{unspent}
 use Rattle.sqlite.specs.State.{State, Survives}
 use Rattle.sqlite.proofs.StateLemmas.{survives_weaker}
 use Rattle.sqlite_trees.specs.Tree.{Trees}
 use Rattle.keepers.specs.Change.{with_voucher as with_added}
 use Rattle.sql_rows.specs.Content.{Content, content_of}
 use Rattle.sql_rows.specs.Makes.{Turns}
+use Rattle.sql_rules.specs.Ruled.{IsInRules}
+use Rattle.sql_keeper.specs.RuledRows.{is_ruled_addition}
+use Rattle.sql_keeper.proofs.RuledRows.{addition_kept}
 use Rattle.sql_keeper.specs.Additions.{BecomesAdded, with_addition}
 use Rattle.sql_keeper.specs.Commits.{CommitsWhole, Transacts}
 use Rattle.sql_keeper.specs.Content.{tables_of, voucher_in, Names}
 use Rattle.sql_keeper.specs.Tidy.{IsTidy}
 use Rattle.sql_keeper.specs.Writes.{row_of}
+use Rattle.sql_tables.specs.Statements.{HasIdleBook}
+use Rattle.sql_keeper.proofs.InTurn.{none_read}
 use Rattle.sql_keeper.proofs.Redeemed.{told_over}
 use Rattle.sql_keeper.proofs.TidyChanges.{tidy_addition}
+use Rattle.sql_keeper.proofs.Whole.{refused}
 
 -- ---- a voucher that is added
 
@@ -31,13 +37,17 @@ addition_read names text code terms t c =
     }
 
 pub become_added : (text code : List ℕ) (terms : VoucherTerms) (t : ℕ) → t ≤ 4_102_488_000
-    → (old new : Trees) → Turns (with_addition text code terms t) old new
+    → is_ruled_addition code terms t ≡ true → (old new : Trees)
+    → Turns (with_addition text code terms t) old new
     → BecomesAdded text code terms t old new
-become_added text code terms t last old new turns = record {
+become_added text code terms t last ruled old new turns = record {
   tables = λ names. ap (tables_of names) turns.content
       ∙ addition_read names text code terms t (content_of old);
   tidy = λ names tidy. subst (IsTidy names) (sym turns.content)
       (tidy_addition names text code terms t (content_of old) tidy);
+  rules = λ shelf there in'. subst (IsInRules shelf) (sym turns.content)
+      (addition_kept shelf text code terms t (content_of old) ruled there in');
+  plain = turns.plain;
   meta = ap (λ (c : Content). c.meta) turns.content;
   last = last;
   books = ap (λ (c : Content). c.books) turns.content;
@@ -74,3 +84,9 @@ module _ (change : Content → Content) (Become : Trees → Trees → Type 0) (o
     idle = t.idle;
     survives = survives_at_once t.survives;
   }
+
+-- what is refused before anything is asked
+pub refused_at_once : {A E : Type 0} (Become : Trees → Trees → Type 0) (s : State) (e : E)
+    → HasIdleBook s → CommitsWhole {A = A} {E = E} Become s s (Err e)
+refused_at_once Become s e idle =
+    let none = none_read s idle in refused Become s s e none.only none.survives

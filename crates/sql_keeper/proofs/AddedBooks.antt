@@ -1,5 +1,5 @@
 -- A book that is added to two shelves and to the tables, or to none of them.
-use Rattle.std.proofs.Common.{◌≡◌, ◌≤◌, ◌+◌, ◌∙◌, ◌++◌, ℕ, suc, List, [], ◌∷◌, Option, Some, None}
+use Rattle.std.proofs.Common.{◌≡◌, ◌≤◌, ◌<◌, ◌+◌, ◌∙◌, ◌++◌, ℕ, suc, List, [], ◌∷◌, Option, Some, None}
 use Rattle.std.proofs.Common.{refl, sym, ap, subst, arith, length, length-append, IsTrue, false}
 use Rattle.std.proofs.Common.{◌⊎◌, inl, inr}
 use Rattle.std.specs.Prelude.{Result, Ok, Err, IfErr, IfSome, OnErr, OnOk}
@@ -8,6 +8,7 @@ use Rattle.sqlite_trees.specs.declared.store.Store.{Ghosts}
 use Rattle.sqlite.specs.Held.{state}
 use Rattle.sqlite.specs.State.{State, HasCleanDisk, Survives}
 use Rattle.sqlite.proofs.StateLemmas.{survives_weaker}
+use Rattle.units.specs.Words.{no_end}
 use Rattle.tariffs.specs.Books.{Book}
 use Rattle.shelves.specs.Shelves.{IsShelf, Shelf, count, with_book}
 use Rattle.shelves.specs.Succession.{shelf_fault}
@@ -25,13 +26,13 @@ use Rattle.sql_keeper.specs.Asks.{IsHanded}
 use Rattle.sql_keeper.specs.Books.{IsBookOf}
 use Rattle.sql_keeper.specs.Commits.{CommitsWhole}
 use Rattle.sql_keeper.specs.Inside.{IsClean, IsKeeper, KeeperState, tables_in}
-use Rattle.sql_keeper.specs.Left.{IsHeld, IsLeft}
+use Rattle.sql_keeper.specs.Left.{IsHeld, IsLeftRuled}
 use Rattle.sql_keeper.specs.Stops.{trees_in}
 use Rattle.sql_keeper.specs.declared.add_fault.AddFault.{AddFault}
 use Rattle.sql_keeper.specs.declared.add_fault.AddFault.TheVariants.{Book as OfBook}
 use Rattle.sql_keeper.specs.declared.add_fault.AddFault.TheVariants.{Shelf as OfShelf}
 use Rattle.sql_keeper.specs.declared.add_fault.AddFault.TheVariants.{Store as OfStore}
-use Rattle.sql_keeper.proofs.Again.{held_dated}
+use Rattle.sql_keeper.proofs.Held.{held_dated}
 use Rattle.sql_keeper.proofs.Asked.{cause_at_most, held_as, open_of}
 use Rattle.sql_keeper.proofs.Committed.{becomes_keeper, same_tables, stays_in, was_clean}
 use Rattle.sql_keeper.proofs.Whole.{commits_after, handed_on, leaves_after, refused}
@@ -95,6 +96,7 @@ module _ (from : ℕ) (text : List ℕ) (b : Book) (old mid : State) (before own
     shelf = tt;
     own_is = tt;
     counts = tt;
+    soon = tt;
     kept = (shelf, own_is);
     told = λ clean. tt;
   }
@@ -114,6 +116,7 @@ module _ (from : ℕ) (text : List ℕ) (b : Book) (old mid : State) (before own
     shelf = tt;
     own_is = tt;
     counts = tt;
+    soon = tt;
     kept = kept;
     told = λ clean other. ap (λ t. shelf_fault before from b t) (sym (is clean)) ∙ told other;
   }
@@ -143,6 +146,7 @@ module _ (from : ℕ) (text : List ℕ) (b : Book) (old mid : State) (before own
                 (one_more before after from b both.shelf) it.1;
             behind = subst IsShelf both.own_is both.is;
             counts = both.counts;
+            soon = both.soon;
           })
         ]
 
@@ -163,6 +167,7 @@ module _ (from : ℕ) (text : List ℕ) (b : Book) (old mid : State) (before own
           shelf = shelf ∙ both.shelf;
           own_is = own_is ∙ both.own_is;
           counts = both.counts;
+          soon = both.soon;
           kept = tt;
           told = λ clean. tt;
         }
@@ -181,6 +186,7 @@ module _ (from : ℕ) (text : List ℕ) (b : Book) (old mid : State) (before own
       shelf = tt;
       own_is = tt;
       counts = tt;
+      soon = tt;
       kept = (taken.shelf before from b both.shelf, taken.own_is own from b both.own_is);
       told = λ clean. tt;
     }
@@ -199,6 +205,7 @@ same_added from text b old new before after own own' (Ok x) a = record {
   shelf = a.shelf;
   own_is = a.own_is;
   counts = a.counts;
+  soon = a.soon;
   kept = a.kept;
   told = a.told;
 }
@@ -210,6 +217,7 @@ same_added from text b old new before after own own' (Err f) a = record {
   shelf = a.shelf;
   own_is = a.own_is;
   counts = a.counts;
+  soon = a.soon;
   kept = a.kept;
   told = a.told;
 }
@@ -233,6 +241,7 @@ handed_all {A} {E} from text b old new before after own own' (Err e) (Err f) h a
   shelf = a.shelf;
   own_is = a.own_is;
   counts = a.counts;
+  soon = a.soon;
   kept = a.kept;
   told = a.told;
 }
@@ -259,6 +268,7 @@ no_text g text from k shelf f told = record {
   cleanness = λ clean. clean;
   counts = omega arith;
   whole = record { left = λ clean db may. inl may };
+  follows = record { left = λ clean db may. inl may };
 }
 
 module _ {S : Type 0} (g : Ghosts S) (old new : KeeperState S) (text : List ℕ) (from : ℕ)
@@ -367,31 +377,44 @@ module _ {S : Type 0} (g : Ghosts S) (old new : KeeperState S) (text : List ℕ)
             | inr it ↦ inr it.becomes
           ];
         };
+        follows = record {
+          left = λ clean db may. elim (a.leaves clean db may) [
+            | inl was ↦ inl was
+            | inr it ↦ inr (record {
+              becomes = it.becomes;
+              book = b;
+              read = read;
+              behind = subst IsShelf (ap (λ s. with_book s from b) (sym owned)) it.behind;
+              counts = ap count owned ∙ it.counts;
+              soon = it.soon;
+            })
+          ];
+        };
       }
 
   -- the book that is added is found again behind those of the keeper's shelf
-  held_more : from ≤ 4_102_488_000 → IsShelf (with_book own from b)
+  held_more : from < no_end → IsShelf (with_book own from b)
       → count own ≡ count before → (db : Trees)
       → IsHeld old.text old.shelf old.last (trees_in g old)
       → Become [] (trees_in g old) db
       → IsHeld old.text (with_book old.shelf from b) old.last db
-  held_more range behind' counts db held become =
-      held_dated old.text text from old.shelf old.last b (trees_in g old) db held read range
+  held_more soon behind' counts db held become =
+      held_dated old.text text from old.shelf old.last b (trees_in g old) db held read soon
       (subst IsShelf (ap (λ s. with_book s from b) (sym owned)) behind')
       (subst (λ n. BecomesDated n from text (trees_in g old) db)
       (ap suc (sym (ap count owned ∙ counts))) become)
 
-  made_more : {A : Type 0} (q : Result A StoreFault) → from ≤ 4_102_488_000
+  made_more : {A : Type 0} (q : Result A StoreFault) → OnOk q (from < no_end)
       → new.text ≡ old.text → new.last ≡ old.last → OnOk q (own' ≡ with_book own from b)
       → OnOk q (count own ≡ count before) → OnOk q (IsShelf own')
       → OnOk q (IsHeld old.text old.shelf old.last (trees_in g old)
       → Become [] (trees_in g old) (trees_in g new)
       → IsHeld new.text new.shelf new.last (trees_in g new))
-  made_more (Ok x) range text' last is counts shelf = λ held become.
+  made_more (Ok x) soon text' last is counts shelf = λ held become.
       held_as old.text new.text (with_book old.shelf from b) new.shelf old.last new.last
       (trees_in g new) (trees_in g new) text' (more_shelf is) last refl
-      (held_more range (subst IsShelf is shelf) counts (trees_in g new) held become)
-  made_more (Err e) range text' last is counts shelf = tt
+      (held_more soon (subst IsShelf is shelf) counts (trees_in g new) held become)
+  made_more (Err e) soon text' last is counts shelf = tt
 
   kept_more : {A : Type 0} (q : Result A StoreFault) → new.last ≡ old.last
       → OnErr q ((after ≡ before) × (own' ≡ own))
@@ -400,24 +423,23 @@ module _ {S : Type 0} (g : Ghosts S) (old new : KeeperState S) (text : List ℕ)
   kept_more (Err e) last kept = (same_shelf kept.1, last)
 
   -- what a stop leaves is found again
-  left_more : from ≤ 4_102_488_000
-      → LeavesDated from text b before own (state g old.connection) (state g new.connection)
+  left_more : LeavesDated from text b before own (state g old.connection) (state g new.connection)
       → HasCleanDisk (state g old.connection) → HasCleanDisk (state g new.connection)
       → (db : Trees) → (state g new.connection).may_leave db
-      → (state g old.connection).may_leave db ⊎ IsLeft old.text db
-  left_more range leaves was clean db may = elim (leaves clean db may) [
+      → (state g old.connection).may_leave db ⊎ IsLeftRuled old.text db
+  left_more leaves was clean db may = elim (leaves clean db may) [
     | inl before' ↦ inl before'
-    | inr it ↦ inr (held_more range it.behind it.counts db (keeper.held was it.was_open)
+    | inr it ↦ inr (held_more it.soon it.behind it.counts db (keeper.held was it.was_open)
         it.becomes).left
   ]
 
   pub added_keeper : {A E : Type 0} (added : Result (Result A ShelfFault) E)
       → AddsToAll from text b (state g old.connection) (state g new.connection) before after own
       own' added
-      → from ≤ 4_102_488_000 → new.text ≡ old.text → new.last ≡ old.last
+      → new.text ≡ old.text → new.last ≡ old.last
       → new.connection.in_transaction ≡ false → new.failures ≤ max_failures → IsKeeper g new
-  added_keeper added all range text' last plain bounded =
+  added_keeper added all text' last plain bounded =
       becomes_keeper g old new Become [] keeper (was_added added) all.commits
-      (λ was clean. left_more range all.leaves was clean)
-      (made_more (was_added added) range text' last all.own_is all.counts all.own_shelf)
+      (λ was clean. left_more all.leaves was clean)
+      (made_more (was_added added) all.soon text' last all.own_is all.counts all.own_shelf)
       (kept_more (was_added added) last all.kept) text' plain bounded

@@ -17,20 +17,19 @@ use Rattle.sql_tables.specs.Stages.{AreStoredAt}
 use Rattle.sql_tables.specs.Statements.{AreStored}
 use Rattle.sql_rows.specs.Values.{DatedBook as DatedText, Meta}
 use Rattle.sql_rows.specs.Content.{content_of}
-use Rattle.sql_opening.specs.declared.fault.OpenFault.{OpenFault}
-use Rattle.sql_opening.specs.declared.fault.OpenFault.TheVariants.{Foreign, Version, Rules, Store}
-use Rattle.sql_opening.specs.declared.fault.OpenFault.TheVariants.{Memory, Older}
+use Rattle.sql_tables.specs.declared.fault.OpenFault.{OpenFault}
+use Rattle.sql_tables.specs.declared.fault.OpenFault.TheVariants.{Foreign, Version, Rules, Store}
+use Rattle.sql_tables.specs.declared.fault.OpenFault.TheVariants.{Memory, Older}
 use Rattle.keepers.specs.declared.loaded.Change.{Change}
-use Rattle.redemptions.specs.declared.terms.VoucherTerms.{VoucherTerms}
+use Rattle.voucher_rules.specs.declared.terms.VoucherTerms.{VoucherTerms}
 use Rattle.sql_keeper.specs.AddsBook.{BecomesDated}
 use Rattle.sql_keeper.specs.Additions.{BecomesAdded}
-use Rattle.sql_keeper.specs.Again.{AreLeftAgain, IsFoundAgain}
+use Rattle.sql_keeper.specs.Again.{AreLeftAgain}
 use Rattle.sql_keeper.specs.Books.{IsBookOf}
 use Rattle.sql_keeper.specs.Causes.{HasFault}
 use Rattle.sql_keeper.specs.Commits.{Becomes}
-use Rattle.sql_keeper.specs.Content.{Names, last_in}
+use Rattle.sql_keeper.specs.Content.{Names}
 use Rattle.sql_keeper.specs.Creates.{first_meta}
-use Rattle.sql_keeper.specs.Left.{IsHeld}
 use Rattle.sql_keeper.specs.Opened.{IsLeft}
 use Rattle.sql_keeper.specs.Shelves.{AreLater, HasShelf, IsShelfOf}
 use Rattle.sql_keeper.specs.Sweeps.{BecomesSwept}
@@ -105,57 +104,8 @@ left_again = record {
       );
 }
 
--- ---- what a keeper knows of them is found again
-
-pub held_committed : (names : Names) (text : List ℕ) (shelf : Shelf) (last : ℕ) (change : Change)
-    (old new : Trees) → IsHeld text shelf last old → Becomes names text change old new
-    → IsHeld text shelf change.moment new
-held_committed names text shelf last change old new held b = record {
-  left = left_again.committed names text change old new held.left b;
-  books = subst (λ rows. IsShelfOf text rows shelf) (sym b.books) held.books;
-  moment = sym (ap last_in b.meta);
-}
-
-pub held_added : (text : List ℕ) (shelf : Shelf) (last : ℕ) (code : List ℕ) (terms : VoucherTerms)
-    (t : ℕ) (old new : Trees) → IsHeld text shelf last old → BecomesAdded text code terms t old new
-    → IsHeld text shelf t new
-held_added text shelf last code terms t old new held b = record {
-  left = left_again.added text code terms t old new held.left b;
-  books = subst (λ rows. IsShelfOf text rows shelf) (sym b.books) held.books;
-  moment = sym (ap last_in b.meta);
-}
-
-pub held_swept : (names : Names) (text : List ℕ) (shelf own : Shelf) (last t : ℕ)
-    (old new : Trees) → IsHeld text own last old → BecomesSwept names text shelf t old new
-    → IsHeld text own t new
-held_swept names text shelf own last t old new held b = record {
-  left = left_again.swept names text shelf t old new held.left b;
-  books = subst (λ rows. IsShelfOf text rows own) (sym b.books) held.books;
-  moment = sym (ap last_in b.meta);
-}
-
-pub held_dated : (text more : List ℕ) (from : ℕ) (shelf : Shelf) (last : ℕ) (b : Book)
-    (old new : Trees) → IsHeld text shelf last old → IsBookOf more b → from ≤ 4_102_488_000
-    → IsShelf (with_book shelf from b) → BecomesDated (suc (count shelf)) from more old new
-    → IsHeld text (with_book shelf from b) last new
-held_dated text more from shelf last b old new held read range behind become = record {
-  left = left_again.dated text more (suc (count shelf)) from old new held.left (record {
-    shelf = shelf;
-    is = held.books;
-    book = b;
-    read = read;
-    number = refl;
-    range = range;
-    behind = behind;
-  }) become;
-  books = subst (λ rows. IsShelfOf text rows (with_book shelf from b)) (sym become.books)
-      (dated_shelf text more (content_of old).books (suc (count shelf)) from shelf b held.books
-      read refl range behind);
-  moment = held.moment ∙ sym (ap last_in become.meta);
-}
-
 -- what is left has none of these faults
-no_fault : (text : List ℕ) (db : Database) (fault : OpenFault) → IsLeft text db.trees
+pub no_fault : (text : List ℕ) (db : Database) (fault : OpenFault) → IsLeft text db.trees
     → db.schema ≡ book_schema → ¬ HasFault fault db
 no_fault text db Foreign left same h = h latest latest_known same
 no_fault text db Version left same h =
@@ -181,11 +131,3 @@ no_fault text db Older left same h =
     let low : h.version < 3 = h.older in
     let top : h.version ≡ 3 = v in
     omega (arith, low, top)
-
-pub found_again : {S : Type 0} (g : Ghosts S) (old new : Held S) (text : List ℕ) (fault : OpenFault)
-    → IsFoundAgain g old new text fault
-found_again g old new text fault left sound clean refused = elim (refused.cause clean) [
-  | inl is ↦ is
-  | inr h ↦ absurd (no_fault text (state g old).now fault left
-      (lists_once _ _ _ sound.lists left.lists) h)
-]

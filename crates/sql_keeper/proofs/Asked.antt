@@ -15,7 +15,7 @@ use Rattle.keepers.specs.declared.fault.StoreFault.{StoreFault}
 use Rattle.keepers.specs.Faults.{HasCause, max_failures}
 use Rattle.sql_keeper.specs.Asks.{IsHanded}
 use Rattle.sql_keeper.specs.Inside.{KeeperState, IsClean, StaysOpen, IsKeeper}
-use Rattle.sql_keeper.specs.Left.{IsHeld, IsLeft}
+use Rattle.sql_keeper.specs.Left.{IsHeld, IsLeftRuled}
 
 pub none_more : (old new : ℕ) → old ≡ 0 → new ≡ 0 → MoreFaults old new → ⊥
 none_more old new e f m =
@@ -94,7 +94,7 @@ keeper_after g old new keeper only survives text shelf last bounded = record {
       (state g old.connection).now.trees (state g new.connection).now.trees text shelf last
       (ap (λ (d : Database). d.trees) still.now_is)
       (keeper.held (only.cleanness clean) still.was_open);
-  found = λ clean db may. subst (λ t. IsLeft t db) (sym text)
+  found = λ clean db may. subst (λ t. IsLeftRuled t db) (sym text)
       (keeper.found (only.cleanness clean) db
       (elim (survives.crash clean db may) [
         | inl before ↦ before

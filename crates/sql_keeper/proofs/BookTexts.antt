@@ -2,9 +2,9 @@
 use Rattle.std.proofs.Common.{◌≡◌, ◌∙◌, sym, subst, ℕ, List}
 use Rattle.std.specs.Prelude.{Ok, Err, Result, IfErr, IfOk}
 use Rattle.toml.specs.Data.{Members}
-use Rattle.book_fields.specs.declared.fault.BookFault.{BookFault}
-use Rattle.book_fields.specs.declared.fault.BookFault.TheVariants.{NotToml, Memory}
-use Rattle.book_fields.specs.Faults.{Gives}
+use Rattle.tariffs.specs.declared.fault.BookFault.{BookFault}
+use Rattle.tariffs.specs.declared.fault.BookFault.TheVariants.{NotToml, Memory}
+use Rattle.tariffs.specs.Faults.{Gives}
 use Rattle.tariffs.specs.Books.{Book, IsDocument, book_of}
 use Rattle.sql_keeper.specs.Books.{IsBookFault, IsBookOf}
 

@@ -3,7 +3,7 @@ use Rattle.std.proofs.Common.{◌≡◌, ◌<◌, ◌≤◌, ◌⊎◌, inl, inr
 use Rattle.std.proofs.Common.{Some}
 use Rattle.std.proofs.Common.{arith, length}
 use Rattle.std.proofs.lemmas.Option.{same_Some}
-use Rattle.std.specs.Prelude.{◌^◌, Ok, Err, Result, IfErr, OnOk, Vec, map}
+use Rattle.std.specs.Prelude.{◌^◌, Ok, Err, Result, IfErr, IfOk, OnOk, Vec, map}
 use Rattle.std.specs.Global.{Global}
 use Rattle.std.specs.Str.{IsUtf8}
 use Rattle.std.specs.String.{string_bytes}
@@ -27,23 +27,27 @@ use Rattle.sql_rows.specs.Makes.{Makes}
 use Rattle.sql_rows.specs.Ruled.{AreRuledBooks, AreRuledReserved}
 use Rattle.sql_rows.specs.Texts.{book_at, meta_of}
 use Rattle.sql_rows.specs.Values.{Meta}
+use Rattle.sql_rules.specs.Ruled.{IsInRules}
+use Rattle.sql_rules.specs.Tables.{AreRuled}
 use Rattle.sql_rows.specs.declared.book_rows.BookColumns.{BookColumns}
 use Rattle.sql_rows.specs.declared.meta_rows.Meta.{Meta as MetaRow}
-use Rattle.sql_opening.specs.Opens.{IsNoVersion, IsVersion}
-use Rattle.sql_opening.specs.declared.fault.OpenFault.{OpenFault}
-use Rattle.sql_opening.specs.declared.fault.OpenFault.TheVariants.{Foreign, Version, Rules, Older}
-use Rattle.sql_opening.specs.declared.fault.OpenFault.TheVariants.{Store, Memory}
+use Rattle.sql_tables.specs.Opens.{IsNoVersion, IsVersion}
+use Rattle.sql_tables.specs.declared.fault.OpenFault.{OpenFault}
+use Rattle.sql_tables.specs.declared.fault.OpenFault.TheVariants.{Foreign, Version, Rules, Older}
+use Rattle.sql_tables.specs.declared.fault.OpenFault.TheVariants.{Store, Memory}
 use Rattle.sql_keeper.specs.Books.{IsBookOf}
 use Rattle.sql_keeper.specs.Migrates.{AreUnruledReserved, BringsToLatest, HasAt, IsRuledAt}
-use Rattle.sql_keeper.specs.Migrates.{content_at}
+use Rattle.sql_keeper.specs.Migrates.{HasRuledRows, ReadsShelf, content_at}
 use Rattle.sql_keeper.specs.OlderVersions.{AsksVersion}
 use Rattle.sql_keeper.specs.Causes.{IsOtherThan, IsUnruledMeta}
-use Rattle.sql_keeper.specs.Opened.{IsLeft}
+use Rattle.sql_keeper.specs.Left.{IsLeftRuled}
 use Rattle.sql_keeper.proofs.Causes.{ruled_row}
 use Rattle.sql_keeper.specs.Shelves.{HasShelf, IsNoShelf, IsShelfOf, IsShelfRead, row_numbered}
 use Rattle.sql_keeper.specs.declared.books.ReadBooks.{ReadBooks}
 use Rattle.sql_keeper.proofs.Migrated.{becomes_latest, kept_content, left_latest, meta_at}
 use Rattle.sql_keeper.proofs.Migrated.{moment_latest, shelf_latest, with_latest}
+use Rattle.sql_keeper.proofs.MigratedRules.{latest_plain, latest_ruled, ruled_since}
+use Rattle.sql_keeper.proofs.OneShelf.{same_shelf}
 use Rattle.sql_keeper.proofs.Shelved.{shelf_ruled}
 
 -- ---- the tables are made, and nothing else is written
@@ -351,7 +355,21 @@ module _ (v : ℕ) (known : IsVersion v) (less : v < latest) (old mid : State) (
 
   module _ (new : State) (b : ReadBooks) (shelf : IsShelfRead text (map book_at items) b.own)
       (given : b.given ≡ b.own) (told : string_bytes b.text ≡ text) (since : b.last ≡ m.last)
-      (last : m.last ≤ 4_102_488_000) (utf8 : IsUtf8 (string_bytes m.book)) where
+      (last : m.last ≤ 4_102_488_000) (utf8 : IsUtf8 (string_bytes m.book))
+      (ruled : HasRuledRows v old) where
+    -- each row is in the rules of the latest version, once its tables are made
+    rows_made : HasCleanDisk mid → AreRuled b.own latest mid.now.trees
+    rows_made before =
+        let made = read.meta.has.made before in
+        ruled_since b.own old.now.trees mid.now.trees v known less (made.rows, made.empty)
+        (ruled (omega (arith, read.meta.has.survives.clean, before)) made.shows.was_open
+        (meta_of m) b.own (read.meta.is before) (shelf_at b.own shelf before))
+
+    meta_made : HasCleanDisk mid → (content_of mid.now.trees).meta ≡ Some (meta_of m)
+    meta_made before =
+        ap (λ (c : Content). c.meta) (made_content v old mid read.meta.has known less before)
+        ∙ meta_at v old.now.trees ∙ read.meta.is before
+
     -- all is put
     pub brought : {A E : Type 0} (u : A)
         → Attempts {A = A} {E = E} (Makes (with_latest v (meta_of m))) mid new (Ok u)
@@ -385,13 +403,21 @@ module _ (v : ℕ) (known : IsVersion v) (less : v < latest) (old mid : State) (
           let kept = made_content v old mid read.meta.has known less before in
           let at = shelf_at b.own shelf before in
           let same : string_bytes m.book ≡ string_bytes b.text = sym text_is ∙ sym told in
+          let books = shelf_latest v known less old.now.trees mid.now.trees new.now.trees
+          (meta_of m) kept (read.meta.is before) made.sound.lists turns b.own at in
+          let rules = latest_ruled b.own v mid.now.trees new.now.trees (meta_of m)
+          (rows_made before) (meta_made before) turns (sound_fits mid.now.trees made.sound) in
           record {
-            left = subst (λ t. IsLeft t new.now.trees) same
-                (left_latest v known less old.now.trees mid.now.trees new.now.trees (meta_of m) kept
-                (read.meta.is before) made.sound.lists turns b.own last utf8 at);
-            books = subst (λ t. IsShelfOf t (content_of new.now.trees).books b.own) same
-                (shelf_latest v known less old.now.trees mid.now.trees new.now.trees (meta_of m)
-                kept (read.meta.is before) made.sound.lists turns b.own at);
+            left = subst (λ t. IsLeftRuled t new.now.trees) same (record {
+              left = left_latest v known less old.now.trees mid.now.trees new.now.trees (meta_of m)
+                  kept (read.meta.is before) made.sound.lists turns b.own last utf8 at;
+              rules = λ s is. subst (λ x. IsInRules x (content_of new.now.trees))
+                  (same_shelf (string_bytes m.book) (content_of new.now.trees).books b.own s books
+                  is) rules;
+              plain = latest_plain b.own v mid.now.trees new.now.trees (meta_of m)
+                  (rows_made before) (meta_made before) turns;
+            });
+            books = subst (λ t. IsShelfOf t (content_of new.now.trees).books b.own) same books;
             moment = since ∙ sym (moment_latest v known less old.now.trees mid.now.trees
                 new.now.trees (meta_of m) kept (read.meta.is before) made.sound.lists turns);
           };
@@ -479,3 +505,47 @@ module _ (v : ℕ) (known : IsVersion v) (less : v < latest) (old mid : State) w
   asks_meta m read (Err e) version told number last =
       asks_err v old mid e (other_version v known less old mid m read e told number last)
       (λ clean is. absurd (let no : Version ≡ Rules = sym told.0 ∙ is in cc))
+
+-- ---- the shelf alone is read
+
+reads_err : (v : ℕ) (old new : State) (e : OpenFault) → BringsToLatest v old new (Err e)
+    → ReadsShelf v old new (Err e)
+reads_err v old new e b = record {
+  shelf = λ clean. tt;
+  kept = b.brings.kept;
+  version = b.version;
+  rules = b.rules;
+  other = b.other;
+  survives = b.brings.survives;
+}
+
+-- the error that is handed on
+pub shelf_err : (v : ℕ) (old new : State) (r : Result ReadBooks OpenFault) (f e : OpenFault)
+    → r ≡ Err f → f ≡ e → BringsToLatest v old new (Err e) → ReadsShelf v old new r
+shelf_err v old new r f e is same b =
+    subst (λ x. ReadsShelf v old new x) (sym (is ∙ ap Err same)) (reads_err v old new e b)
+
+module _ (v : ℕ) (known : IsVersion v) (less : v < latest) (old mid : State) (m : MetaRow)
+    (items : List BookColumns) (read : HasRows v old mid m items) (version : m.version ≡ v)
+    (text : List ℕ) (text_is : text ≡ string_bytes m.book) where
+  pub shelf_read : (r : Result ReadBooks OpenFault)
+      → IfOk r (λ b. IsShelfRead text (map book_at items) b.own)
+      → IfErr r (λ e. e ≡ Rules → IsNoShelf text (map book_at items))
+      → IfErr r (λ e. ¬ (e ≡ Rules) → e ≡ Memory) → ReadsShelf v old mid r
+  shelf_read (Ok b) shelf rules either = record {
+    shelf = λ clean. record {
+      row = meta_of m;
+      is = read.meta.is clean;
+      shelf = shelf_at v known less old mid m items read version text text_is b.own shelf clean;
+    };
+    kept = λ clean.
+        let m = read.meta.has.made clean in
+        record { was_open = λ on. m.shows.was_open; committed = λ on. m.shows.committed_is };
+    version = λ clean. tt;
+    rules = λ clean. tt;
+    other = tt;
+    survives = read.meta.has.survives;
+  }
+  shelf_read (Err e) shelf rules either =
+      reads_err v old mid e
+      (no_shelf v known less old mid m items read version text text_is e rules either)

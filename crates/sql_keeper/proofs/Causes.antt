@@ -11,10 +11,10 @@ use Rattle.sql_rows.specs.Ruled.{IsRuledMeta}
 use Rattle.sql_rows.specs.Texts.{meta_of}
 use Rattle.sql_rows.specs.Values.{Meta}
 use Rattle.sql_rows.specs.declared.meta_rows.Meta.{Meta as MetaRow}
-use Rattle.sql_opening.specs.Opens.{IsVersion}
-use Rattle.sql_opening.specs.declared.fault.OpenFault.{OpenFault}
-use Rattle.sql_opening.specs.declared.fault.OpenFault.TheVariants.{Foreign, Version, Rules, Store}
-use Rattle.sql_opening.specs.declared.fault.OpenFault.TheVariants.{Memory, Older}
+use Rattle.sql_tables.specs.Opens.{IsVersion}
+use Rattle.sql_tables.specs.declared.fault.OpenFault.{OpenFault}
+use Rattle.sql_tables.specs.declared.fault.OpenFault.TheVariants.{Foreign, Version, Rules, Store}
+use Rattle.sql_tables.specs.declared.fault.OpenFault.TheVariants.{Memory, Older}
 use Rattle.sql_keeper.specs.Causes.{AreCausesApart, HasFault, IsForeign, IsOlder, IsOtherVersion}
 use Rattle.sql_keeper.specs.Causes.{IsStores, IsUnruled}
 

@@ -10,10 +10,10 @@ use Rattle.std.proofs.lemmas.Bool.Decides.{nat_tests}
 use Rattle.reserving.specs.declared.charge.ChargeRow.{ChargeRow}
 use Rattle.reserving.specs.Left.{only}
 use Rattle.keepers.specs.Tables.{charge_in}
-use Rattle.charge_sources.specs.Rows.{are_rising, AreCharges as AreAll}
-use Rattle.charge_sources.specs.Pages.{IsPage, is_within as lies_within}
-use Rattle.charge_sources.specs.declared.pages.ChargePage.{ChargePage}
-use Rattle.charge_sources.proofs.Parted.{page_is}
+use Rattle.keepers.specs.Rows.{are_rising, AreCharges as AreAll}
+use Rattle.keepers.specs.Pages.{IsPage, is_within as lies_within}
+use Rattle.keepers.specs.declared.pages.ChargePage.{ChargePage}
+use Rattle.keepers.proofs.Parted.{page_is}
 use Rattle.sql_tables.specs.Selects.{only as those}
 use Rattle.sql_rows.specs.declared.head.Head.{Head}
 use Rattle.sql_rows.specs.Content.{Rows as Stored}

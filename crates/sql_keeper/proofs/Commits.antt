@@ -1,6 +1,6 @@
 -- What is committed of a change.
 use Rattle.std.proofs.Common.{◌≡◌, ◌≤◌, ◌∙◌, ap, refl, subst, ℕ, List, [], ◌∷◌, Option, Some, None}
-use Rattle.std.proofs.Common.{Bool, IsTrue, sym}
+use Rattle.std.proofs.Common.{Bool, IsTrue, sym, true}
 use Rattle.keepers.specs.declared.key.Key.{Key}
 use Rattle.keepers.specs.declared.key.Key.TheVariants.{Request, Reference}
 use Rattle.keepers.specs.declared.key.KeptAnswer.{KeptAnswer}
@@ -25,9 +25,11 @@ use Rattle.sql_rows.specs.Content.{with_bucket, without_holds}
 use Rattle.sql_rows.specs.Values.{plain_bucket}
 use Rattle.sql_rows.specs.Each.{with_each, with_counters, with_sessions}
 use Rattle.sql_rows.specs.Makes.{Turns}
+use Rattle.sql_rules.specs.Ruled.{IsInRules}
 use Rattle.sql_keeper.specs.Content.{tables_of, Names}
 use Rattle.sql_keeper.specs.Commits.{Becomes}
-use Rattle.sql_keeper.specs.Tests.{IsTested, MayBeMade}
+use Rattle.sql_keeper.specs.RuledRows.{are_ruled_texts, is_ruled_change}
+use Rattle.sql_keeper.specs.Tests.{AreWritable, IsTested, MayBeMade}
 use Rattle.sql_keeper.specs.Tidy.{IsTidy}
 use Rattle.sql_keeper.specs.Writes.{AreTexts, columns_of, head_of, meta_with, with_change}
 use Rattle.sql_keeper.specs.Writes.{with_all_counted, with_all_paid, with_book_of, with_counted}
@@ -36,6 +38,7 @@ use Rattle.sql_keeper.specs.Writes.{with_change_put, with_scoped, with_stored, w
 use Rattle.sql_keeper.proofs.TidyChanges.{tidy_change}
 use Rattle.sql_keeper.proofs.Changed.{changes_read}
 use Rattle.sql_keeper.proofs.NewGroups.{put_is}
+use Rattle.sql_keeper.proofs.RuledRows.{change_kept}
 
 -- ---- what is kept once, and the later books
 
@@ -113,6 +116,7 @@ change_meta names m change texts c =
 
 module _ (names : Names) (text : List ℕ) (change : Change) (texts : Option Kept)
     (named : IsNamed change.rows) (told : AreTexts change.number change.kept texts)
+    (texts_ruled : are_ruled_texts change.number texts ≡ true)
     (last : change.moment ≤ 4_102_488_000) where
   become : (old new : Trees) → MayBeMade names change (rows_in old change.number)
       → Turns (with_change names (meta_with text change) change texts) old new
@@ -123,6 +127,15 @@ module _ (names : Names) (text : List ℕ) (change : Change) (texts : Option Kep
         refl;
     tidy = λ t. subst (IsTidy names) (sym turns.content)
         (tidy_change names (meta_with text change) change texts (content_of old) named may told t);
+    rules = λ shelf is there in'. subst (IsInRules shelf) (sym turns.content)
+        (subst (λ n.
+        IsInRules shelf (with_change n (meta_with text change) change texts (content_of old)))
+        (sym is)
+        (change_kept shelf (meta_with text change) change texts (content_of old) refl
+        (subst (λ n. is_ruled_change n change ≡ true) is may.ruled) texts_ruled
+        (subst (λ n. AreWritable n change.rows.sessions change.rows.groups) is may.reservations)
+        there in'));
+    plain = turns.plain;
     meta = ap (λ (c : Content). c.meta) turns.content ∙ ap (λ (b : Beside). b.meta)
         (change_meta names (meta_with text change) change texts (content_of old));
     last = last;
@@ -142,6 +155,7 @@ module _ (names : Names) (text : List ℕ) (change : Change) (texts : Option Kep
         ∙ put_is names new (meta_with text change) change texts (content_of old) named found;
     catalog = turns.catalog;
     stored = turns.stored;
+    plain = turns.plain;
   }
 
   pub become_at : (new : Bool) (old mid : State) → OnlyReads old mid

@@ -13,14 +13,14 @@ use Rattle.keepers.specs.declared.fault.StoreFault.{StoreFault}
 use Rattle.keepers.specs.declared.loaded.Change.{Change}
 use Rattle.keepers.specs.Change.{IsSwept, changed}
 use Rattle.keepers.specs.Change.{with_voucher as with_added}
-use Rattle.redemptions.specs.declared.terms.VoucherTerms.{VoucherTerms}
+use Rattle.voucher_rules.specs.declared.terms.VoucherTerms.{VoucherTerms}
 use Rattle.keepers.specs.Faults.{max_failures}
 use Rattle.shelves.specs.Shelves.{Shelf}
 use Rattle.sql_keeper.specs.Additions.{BecomesAdded}
 use Rattle.sql_keeper.specs.Commits.{CommitsChange, CommitsWhole}
 use Rattle.sql_keeper.specs.Content.{shelf_names, tables_of}
 use Rattle.sql_keeper.specs.Inside.{KeeperState, IsClean, StaysOpen, IsKeeper, names_in, tables_in}
-use Rattle.sql_keeper.specs.Left.{IsHeld, IsLeft}
+use Rattle.sql_keeper.specs.Left.{IsHeld, IsLeftRuled}
 use Rattle.sql_keeper.specs.Stops.{IsWhole, trees_in}
 use Rattle.sql_keeper.specs.Sweeps.{BecomesSwept}
 use Rattle.sql_keeper.proofs.Asked.{held_as, none_more, open_of}
@@ -113,7 +113,7 @@ module _ {S A : Type 0} (g : Ghosts S) (old new : KeeperState S)
   pub becomes_keeper : (r : Result A StoreFault) → CommitsIn r
       → (HasCleanDisk (state g old.connection) → HasCleanDisk (state g new.connection)
       → (db : Trees) → (state g new.connection).may_leave db
-      → (state g old.connection).may_leave db ⊎ IsLeft old.text db)
+      → (state g old.connection).may_leave db ⊎ IsLeftRuled old.text db)
       → OnOk r (IsHeld old.text old.shelf old.last (trees_in g old)
       → Become text (trees_in g old) (trees_in g new)
       → IsHeld new.text new.shelf new.last (trees_in g new))
@@ -125,7 +125,7 @@ module _ {S A : Type 0} (g : Ghosts S) (old new : KeeperState S)
     idle = commits.idle;
     stays = stays_in r commits;
     held = held_now r commits made kept;
-    found = λ clean db may. subst (λ t. IsLeft t db) (sym same)
+    found = λ clean db may. subst (λ t. IsLeftRuled t db) (sym same)
         (elim (leaves (clean_before clean) clean db may) [
           | inl before ↦ keeper.found (clean_before clean) db before
           | inr left ↦ left

@@ -4,13 +4,16 @@ use Rattle.std.proofs.Common.{◌∷◌, Option, Some, None, refl, sym, ap, subs
 use Rattle.std.specs.Prelude.{option_map, slice_get, unwrap_or}
 use Rattle.sqlite_trees.specs.Tree.{Trees}
 use Rattle.reserving.specs.Left.{is_open_row}
+use Rattle.shelves.specs.Shelves.{with_book}
 use Rattle.sql_rows.specs.Content.{Content, content_of}
 use Rattle.sql_rows.specs.Makes.{Turns}
 use Rattle.sql_rows.specs.Values.{Group, PeriodNames}
+use Rattle.sql_rules.specs.Ruled.{IsInRules}
 use Rattle.sql_keeper.specs.AddsBook.{AreBooksKnown, BecomesDated, with_dated}
 use Rattle.sql_keeper.specs.Content.{Names, book_in, group_in, names_numbered, periods_in, rows_of}
 use Rattle.sql_keeper.specs.Content.{tables_of}
 use Rattle.sql_keeper.specs.Tidy.{IsTidy}
+use Rattle.sql_keeper.proofs.RuledRows.{dated_kept}
 use Rattle.sql_keeper.proofs.TidyChanges.{tidy_dated}
 
 -- what stands in a list stands where it stood once there is one more
@@ -71,6 +74,9 @@ become_dated n from text old new turns = record {
       ∙ dated_tables names more n from text (content_of old) some known;
   tidy = λ names more t. subst (IsTidy (names ++ more ∷ [])) (sym turns.content)
       (tidy_dated names more n from text (content_of old) t);
+  rules = λ shelf b rule in'. subst (IsInRules (with_book shelf from b)) (sym turns.content)
+      (dated_kept shelf from b n text (content_of old) rule in');
+  plain = turns.plain;
   books = ap (λ (c : Content). c.books) turns.content;
   meta = ap (λ (c : Content). c.meta) turns.content;
   catalog = turns.catalog;

@@ -1,7 +1,7 @@
 -- The dead buckets of an account, as rows that rise tell them.
 use Rattle.std.proofs.Common.{◌≡◌, ◌<◌, ◌≤◌, ℕ, zero, suc, ◌==◌, List, [], ◌∷◌, length, Bool, true}
 use Rattle.std.proofs.Common.{false, not, ◌||◌, ◌&&◌}
-use Rattle.std.proofs.Common.{Option, Some, None, refl, ap, ◌∙◌}
+use Rattle.std.proofs.Common.{Option, Some, None, refl, ap}
 use Rattle.std.proofs.Common.{arith, nat_lt, ltb-true, ltb-false, eqb-true}
 use Rattle.std.proofs.lemmas.Bool.{eqb-false}
 use Rattle.std.specs.Prelude.{if◌then◌else◌, slice_index_or}

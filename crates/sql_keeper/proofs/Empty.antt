@@ -1,9 +1,11 @@
 -- New tables hold nothing.
 use Rattle.std.proofs.Common.{◌≡◌, ℕ, List, [], None, refl, ap, sym, ◌∙◌, subst, Ok, arith, false}
+use Rattle.std.proofs.Common.{Bool, Some, true}
 use Rattle.std.specs.Prelude.{is_some, length, option_map}
 use Rattle.std.specs.FinMap.{get, get-empty}
 use Rattle.sqlite_value.specs.Order.{Row, row_cmp}
 use Rattle.sqlite_schema.specs.declared.schema.Table.{Table}
+use Rattle.shelves.specs.Shelves.{Shelf}
 use Rattle.keepers.specs.declared.key.Key.{Key}
 use Rattle.keepers.specs.declared.key.Key.TheVariants.{Request, Reference}
 use Rattle.sqlite.specs.State.{State}
@@ -20,6 +22,10 @@ use Rattle.sql_rows.specs.Values as values
 use Rattle.sql_rows.specs.Values.{Meta}
 use Rattle.sql_rows.specs.Content.{Rows as Stored, Content, content_of, with_meta}
 use Rattle.sql_rows.specs.Makes.{Makes, Turns}
+use Rattle.sql_rows.specs.Plain.{AreAll, ArePlain, is_plain_group, is_plain_head}
+use Rattle.sql_rows.specs.Plain.{is_plain_session}
+use Rattle.sql_rules.specs.Columns.{is_moment}
+use Rattle.sql_rules.specs.Ruled.{AreInRules, IsInRules}
 use Rattle.sql_keeper.specs.Content.{Names, answer_in, tables_of}
 use Rattle.sql_keeper.specs.Creates.{first_meta, BuildsBook, IsNewBook}
 use Rattle.sql_keeper.specs.Laws.{AreNewTablesEmpty}
@@ -159,6 +165,49 @@ tidy_nothing names a = record {
 tidy_new : (names : Names) (m : Meta) → IsTidy names (with_meta m no_content)
 tidy_new names m = record { there = refl; once = refl; rows = tidy_nothing names }
 
+-- ---- what stands there is in its rules
+
+ruled_nothing : (shelf : Shelf) (a : List ℕ) → AreInRules shelf a nothing
+ruled_nothing shelf a = record {
+  head = λ h e. absurd (cc e);
+  buckets = λ n b e. absurd (cc e);
+  counters = λ g k x e. absurd (cc e);
+  sessions = λ s x e. absurd (cc e);
+  groups = λ s g x e. absurd (cc e);
+  holds = λ s g n amount e. absurd (cc e);
+  answers = λ kind name number k e. absurd (cc e);
+  charges = λ n x e. absurd (cc e);
+  grant_books = λ s g n e. absurd (cc e);
+  allowances = λ n e. absurd (cc e);
+  covered = λ n blocks e. absurd (cc e);
+}
+
+ruled_new : (shelf : Shelf) (text : List ℕ)
+    → IsInRules shelf (with_meta (first_meta text) no_content)
+ruled_new shelf text = record {
+  once = omega arith;
+  meta = λ m e. first m (cc e);
+  rows = ruled_nothing shelf;
+  vouchers = λ code x e. absurd (cc e);
+  books = λ n x e. absurd (cc e);
+}
+  where
+    first : (m : Meta) → first_meta text ≡ m → is_moment m.last ≡ true
+    first m is = subst (λ (x : Meta). is_moment x.last ≡ true) is refl
+
+-- a table without rows has what each test asks
+all_of_none : (test : Row → Bool) (t : Table) (trees : Trees) → trees t.tree ≡ [] →
+    AreAll test t trees
+all_of_none test t trees none key cells e = absurd (let clash : None ≡ Some cells =
+    sym (none_stored t trees none key) ∙ e in cc)
+
+plain_empty : (trees : Trees) → AreEmpty book_schema.tables trees → ArePlain trees
+plain_empty trees e = record {
+  heads = all_of_none is_plain_head table.accounts trees e.1.0;
+  of_sessions = all_of_none is_plain_session table.sessions trees e.1.1.1.1.0;
+  of_groups = all_of_none is_plain_group table.session_groups trees e.1.1.1.1.1.0;
+}
+
 -- the row of meta in tables without rows
 new_book : (text : List ℕ) (old new : Trees) → AreEmpty book_schema.tables old
     → Lists (old catalog_tree) book_schema → Turns (with_meta (first_meta text)) old new
@@ -177,6 +226,10 @@ new_book text old new e lists turns = record {
   tidy = λ names. subst (IsTidy names)
       (sym (turns.content ∙ ap (with_meta (first_meta text)) (empty_content old e)))
       (tidy_new names (first_meta text));
+  rules = λ shelf. subst (IsInRules shelf)
+      (sym (turns.content ∙ ap (with_meta (first_meta text)) (empty_content old e)))
+      (ruled_new shelf text);
+  plain = turns.plain (plain_empty old e);
 }
 
 pub builds_book : {A B D E : Type 0} (text : List ℕ) (first : ℕ) → first ≡ 0 →

@@ -20,6 +20,7 @@ use Rattle.sql_rows.specs.Makes.{Makes, MakesIfOpen}
 use Rattle.sql_tables.specs.declared.reading.ReadFault.{ReadFault}
 use Rattle.sql_rows.specs.Content.{Content, Rows, content_of, with_grant_book, with_meta}
 use Rattle.sql_rows.specs.Content.{with_rows}
+use Rattle.sql_rows.specs.Plain.{ArePlain}
 use Rattle.sql_rows.specs.Lists.{AreReserved, ReservedAt, has_reservation}
 use Rattle.sql_rows.specs.Texts.{reserved_at}
 use Rattle.sql_rows.specs.Values.{Group, Meta}
@@ -101,6 +102,7 @@ grants_none v s u low inside book = record {
         content = granted_already v (content_of s.now.trees) low;
         catalog = refl;
         stored = (book clean on).stored;
+        plain = λ p. p;
       };
       book = book clean on;
       shows = record {
@@ -149,6 +151,8 @@ module _ (xs : List ReservedColumns) (old mid new : State) where
             catalog = m.turns.catalog
                 ∙ ap (λ (d : Database). d.trees catalog_tree) same.0.now_is;
             stored = m.turns.stored;
+            plain = λ p. m.turns.plain
+                (subst (λ (d : Database). ArePlain d.trees) (sym same.0.now_is) p);
           };
           book = m.book;
           shows = record {

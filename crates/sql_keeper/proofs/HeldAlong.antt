@@ -1,7 +1,7 @@
 -- What is held for a rating group, taken along the buckets.
-use Rattle.std.proofs.Common.{◌≡◌, ℕ, Bool, true, false, cond, List, [], ◌∷◌, Some, None, map, refl}
+use Rattle.std.proofs.Common.{◌≡◌, ℕ, Bool, true, false, cond, List, [], ◌∷◌, Some, None, refl}
 use Rattle.std.proofs.Common.{sym, ap, subst, ◌∙◌, arith, true≢false}
-use Rattle.std.specs.Prelude.{if◌then◌else◌, ◌==◌, ◌&&◌, ◌||◌, nat_eq, nat_lt, not, option_map}
+use Rattle.std.specs.Prelude.{if◌then◌else◌, ◌==◌, ◌&&◌, ◌||◌, nat_lt, not, option_map}
 use Rattle.std.specs.Prelude.{unwrap_or}
 use Rattle.std.specs.List.{find, list_any}
 use Rattle.std.proofs.lemmas.Bool.{and_parts}
@@ -13,8 +13,6 @@ use Rattle.buckets.specs.Spend.{Each, AreDistinct}
 use Rattle.buckets.proofs.Parts.{sum_at, sum_at-parts, held_in-sum_at}
 use Rattle.keepers.specs.Tables.{held_at}
 use Rattle.sql_rows.specs.declared.hold_rows.HeldColumns.{HeldColumns}
-use Rattle.sql_rows.specs.Lists.{HoldAt}
-use Rattle.sql_rows.specs.Texts.{hold_at}
 use Rattle.sql_keeper.specs.GroupRows.{amount_of, is_held_of, are_held_of, holds_along}
 use Rattle.sql_keeper.proofs.Overlays.{number_from}
 
@@ -102,24 +100,3 @@ held_along buckets g n held distinct all =
         (sum_at-parts (λ b. amount_of g held b.number) buckets distinct) e
     go false e =
         absent (λ b. amount_of g held b.number) n buckets e ∙ sym (none_held buckets g n held e all)
-
--- ---- as the rows that are read
-
-pub amounts_are : (g n : ℕ) (held : List HeldColumns)
-    → option_map (λ (x : HoldAt). x.amount)
-    (find (λ x. nat_eq x.group g && nat_eq x.bucket n) (map hold_at held))
-    ≡ option_map (λ (x : HeldColumns). x.amount) (find (λ x. x.group == g && x.bucket == n) held)
-amounts_are g n [] = refl
-amounts_are g n (x ∷ xs) = go (amounts_are g n xs) (x.group == g && x.bucket == n)
-  where
-    go : option_map (λ (y : HoldAt). y.amount)
-        (find (λ y. nat_eq y.group g && nat_eq y.bucket n) (map hold_at xs))
-        ≡ option_map (λ (y : HeldColumns). y.amount) (find (λ y. y.group == g && y.bucket == n) xs)
-        → (t : Bool)
-        → option_map (λ (y : HoldAt). y.amount)
-        (cond t (Some (hold_at x))
-        (find (λ y. nat_eq y.group g && nat_eq y.bucket n) (map hold_at xs)))
-        ≡ option_map (λ (y : HeldColumns). y.amount)
-        (cond t (Some x) (find (λ y. y.group == g && y.bucket == n) xs))
-    go later true = refl
-    go later false = later

@@ -2,7 +2,7 @@
 use Rattle.std.proofs.Common.{◌≡◌, ℕ, Bool, true, false, List, [], ◌∷◌, Option, Some, None}
 use Rattle.std.proofs.Common.{Result, Ok, Err, IfOk, OnOk, IsErrOf, cond, refl, sym, ap, ◌∙◌, subst}
 use Rattle.std.proofs.Common.{true≢false}
-use Rattle.std.specs.Prelude.{if◌then◌else◌, filter, option_map, is_some}
+use Rattle.std.specs.Prelude.{if◌then◌else◌, filter, option_map}
 use Rattle.std.specs.List.{find}
 use Rattle.shelves.specs.Shelves.{Shelf}
 use Rattle.reserving.specs.declared.session.Session.{Session}
@@ -23,7 +23,6 @@ use Rattle.sql_keeper.specs.Content.{head_in, rows_of, Names}
 use Rattle.sql_keeper.specs.LiveRows.{AreLiveBuckets, AreLiveRowsLoaded, IsAccountOf, IsLiveAccount}
 use Rattle.sql_keeper.specs.LiveRows.{IsLoadOf, IsReadAccount, account_with}
 use Rattle.sql_keeper.specs.LiveGroups.{AreLiveGroups}
-use Rattle.sql_keeper.specs.Content.{group_in as group_told, is_reserved, held_in}
 use Rattle.sql_keeper.specs.Writes.{head_of}
 use Rattle.sql_keeper.specs.declared.live_rows.ReadRows.{ReadRows}
 use Rattle.sql_keeper.proofs.DeadRows.{those_are}
@@ -57,15 +56,11 @@ pub live_read : (names : Names) (shelf : Shelf) (t : ℕ) (told : Stored) (x : R
     → FindsSame (account_with x.head x.rows x.counters.items) w
     → IsLiveAccount names shelf t told (Some w)
 live_read names shelf t told x w (head, live, counters) is found =
-    let groups : AreLiveGroups names told w.sessions w.groups = record {
+    let groups : AreLiveGroups names told w.groups = record {
       groups = λ s g.
-          ap (option_map group_row) (found.groups s g) ∙ live.groups.groups s g
-          ∙ ap (λ o. if is_some o then option_map (group_told names true (told.grant_books s g))
-          (told.groups s g) else None) (sym (found.sessions s));
+          ap (option_map group_row) (found.groups s g) ∙ live.groups.groups s g;
       holds = λ s g n.
-          ap (held_of n) (found.groups s g) ∙ live.groups.holds s g n
-          ∙ ap (λ o. if is_some o then held_in (is_reserved (told.groups s g)) (told.holds s g n)
-          else 0) (sym (found.sessions s));
+          ap (held_of n) (found.groups s g) ∙ live.groups.holds s g n;
     } in (
       head ∙ ap Some (sym (ap head_of is)),
       record {
@@ -79,7 +74,7 @@ live_read names shelf t told x w (head, live, counters) is found =
 
 pub live_loaded : AreLiveRowsLoaded
 live_loaded names shelf t rows w (head, live, counters) =
-    let groups = open_loaded names rows w.sessions w.groups live.sessions live.groups in
+    let groups = open_loaded names rows w.groups live.groups in
     record {
       priced_by = refl;
       head = ap (option_map head_in) head;

@@ -23,7 +23,7 @@ use Rattle.sql_rows.specs.Content.{Content, Rows as Stored, content_of, with_met
 use Rattle.sql_rows.specs.Makes.{Turns}
 use Rattle.sql_rows.specs.Values as values
 use Rattle.sql_rows.specs.Values.{Group, Meta, PeriodNames}
-use Rattle.sql_opening.specs.Opens.{IsVersion}
+use Rattle.sql_tables.specs.Opens.{IsVersion}
 use Rattle.sql_keeper.specs.Content.{Names, group_in, is_reserved, last_in, rows_of}
 use Rattle.sql_keeper.specs.Content.{answer_in, tables_of}
 use Rattle.sql_keeper.specs.Migrates.{AreGranted, BecomesLatest, before_2, before_3, content_at}
@@ -42,7 +42,7 @@ looked_still : (t : Table) (old new : Trees) → new t.tree ≡ old t.tree → (
 looked_still t old new same key = ap (λ rows. get (table_of t.primary rows) key) same
 
 -- the tables of a version after the tables that it hasn't were made, empty
-abbrev AreKept : ℕ → Trees → Trees → Type 0
+abbrev pub AreKept : ℕ → Trees → Trees → Type 0
 AreKept v old new = KeepsRows (schema_at v).tables old new
     × AreEmpty (tables_between (length (pieces_to v)) (length (pieces_to latest))) new
 

@@ -1,6 +1,7 @@
 -- A migration over its transaction: committed whole, or nothing is changed, and what a stop leaves.
 use Rattle.std.proofs.Common.{◌≡◌, ◌<◌, ◌≤◌, ◌⊎◌, inl, inr, ◌∙◌, ap, refl, sym, subst, ℕ}
-use Rattle.std.proofs.Common.{arith, IsTrue, Bool, true, false, nat_lt, ltb-true, ltb-false}
+use Rattle.std.proofs.lemmas.Option.{same_Some}
+use Rattle.std.proofs.Common.{Some, arith, IsTrue, Bool, true, false, nat_lt, ltb-true, ltb-false}
 use Rattle.std.specs.Prelude.{Ok, Err, Result}
 use Rattle.std.specs.Str.{IsUtf8}
 use Rattle.std.specs.String.{string_bytes}
@@ -17,22 +18,29 @@ use Rattle.sqlite.proofs.StateLemmas.{survives_then, survives_weaker}
 use Rattle.sql_tables.specs.Schema.{latest, schema_at}
 use Rattle.sql_tables.specs.Statements.{AreStored, HasIdleBook, IsStill}
 use Rattle.sql_rows.specs.Content.{content_of}
-use Rattle.sql_opening.specs.Opens.{IsFound, IsNoVersion, IsTold, IsVersion}
-use Rattle.sql_opening.specs.declared.fault.OpenFault.{OpenFault}
-use Rattle.sql_opening.specs.declared.fault.OpenFault.TheVariants.{Foreign, Version, Rules, Older}
-use Rattle.sql_opening.specs.declared.fault.OpenFault.TheVariants.{Store, Memory}
-use Rattle.sql_keeper.specs.Finds.{FindsBooks, IsReadOf, ReadsBooks}
+use Rattle.sql_rows.specs.Values.{Meta}
+use Rattle.sql_rules.specs.Tables.{AreRuled, Tells}
+use Rattle.sql_tables.specs.Opens.{IsFound, IsNoVersion, IsTold, IsVersion}
+use Rattle.sql_tables.specs.declared.fault.OpenFault.{OpenFault}
+use Rattle.sql_tables.specs.declared.fault.OpenFault.TheVariants.{Foreign, Version, Rules, Older}
+use Rattle.sql_tables.specs.declared.fault.OpenFault.TheVariants.{Store, Memory}
+use Rattle.sql_keeper.specs.Finds.{FindsBooks, IsReadRuled, ReadsBooks}
 use Rattle.sql_keeper.specs.Inside.{IsClean, IsKeeper, KeeperState}
 use Rattle.sql_keeper.specs.Migrates.{BecomesLatest, BringsToLatest, FindsAny, FindsNone, HasAt}
 use Rattle.sql_keeper.specs.Migrates.{HasIdleAt, IsLeftLatest, IsMigrated, IsRuledAt}
-use Rattle.sql_keeper.specs.Migrates.{IsHeldBy, MigratesTables}
+use Rattle.sql_keeper.specs.Migrates.{FindsShelf, HasRuledRows, IsHeldBy, IsShelfAt, MigratesRuled}
+use Rattle.sql_keeper.specs.Migrates.{MigratesTables, ReadsShelf}
 use Rattle.sql_keeper.specs.Causes.{IsOtherThan, IsUnruledMeta, KeepsVersion}
-use Rattle.sql_keeper.specs.Opened.{IsLeft, IsOpened}
+use Rattle.sql_keeper.specs.Left.{IsLeftRuled}
+use Rattle.sql_keeper.specs.Opened.{IsOpened}
+use Rattle.sql_keeper.specs.RuledOpening.{FindsRuled}
 use Rattle.sql_keeper.specs.OlderVersions.{AsksVersion, IsNotLatest}
 use Rattle.sql_keeper.specs.Shelves.{IsShelfOf}
 use Rattle.sql_keeper.specs.declared.books.ReadBooks.{ReadBooks}
 use Rattle.sql_keeper.proofs.Opens.{finds_books, fresh, opened}
+use Rattle.sql_keeper.proofs.Made.{ruled_read}
 use Rattle.sql_keeper.proofs.Opens.{reads_survived}
+use Rattle.sql_keeper.proofs.RuledOpening.{rows_told, ruled_schema}
 
 -- ---- a transaction is begun
 
@@ -60,6 +68,9 @@ module _ {S : Type 0} (g : Ghosts S) (old begun : Held S)
   pub begun_at : (v : ℕ) → HasIdleAt v (state g old) → HasAt v (state g begun)
   begun_at v idle = subst (λ h. HasAt v (state g h)) (sym is) (λ clean on.
       let it = (idle clean on).0 in record { schema = it.schema; stored = it.stored })
+
+  pub begun_ruled : (v : ℕ) → HasRuledRows v (state g old) → HasRuledRows v (state g begun)
+  begun_ruled v ruled = subst (λ h. HasRuledRows v (state g h)) (sym is) (λ clean on. ruled clean on)
 
   module _ (v : ℕ) (idle : HasIdleAt v (state g old)) (mid new : State) where
     -- what was written within it is undone
@@ -113,6 +124,37 @@ module _ {S : Type 0} (g : Ghosts S) (old begun : Held S)
       survives = survives_weaker (state g old) new (λ _. ⊥)
           (IsLeftLatest v (state g old).now.trees) (λ clean db no. absurd no)
           (survives_to b.brings.survives ends);
+    }
+
+    -- its shelf is read within it
+    pub shelf_found : (r : ReadBooks) → ReadsShelf v (state g begun) mid (Ok r)
+        → (HasCleanDisk new → IsRolledBack mid new) → Survives mid new (λ _. ⊥)
+        → FindsShelf v (state g old) new (Ok r)
+    shelf_found r s rolled ends = record {
+      shelf = λ clean. subst (λ (d : Database). IsShelfAt v d.trees r) same_now
+          (s.shelf (mid_clean ends clean));
+      still = λ clean. undone (was_clean s.survives ends clean) (s.kept (mid_clean ends clean))
+          (rolled clean);
+      version = λ clean. tt;
+      rules = λ clean. tt;
+      other = tt;
+      survives = survives_to s.survives ends;
+    }
+
+    -- it isn't
+    pub shelf_not_found : (e : OpenFault) → ReadsShelf v (state g begun) mid (Err e)
+        → (HasCleanDisk new → IsRolledBack mid new) → Survives mid new (λ _. ⊥)
+        → FindsShelf v (state g old) new (Err e)
+    shelf_not_found e s rolled ends = record {
+      shelf = λ clean. tt;
+      still = λ clean. undone (was_clean s.survives ends clean) (s.kept (mid_clean ends clean))
+          (rolled clean);
+      version = λ clean is. subst (λ (d : Database). IsOtherThan v d.trees) same_now
+          (s.version (mid_clean ends clean) is);
+      rules = λ clean is ruled. s.rules (mid_clean ends clean) is
+          (subst (λ (d : Database). IsRuledAt v d.trees) (sym same_now) ruled);
+      other = s.other;
+      survives = survives_to s.survives ends;
     }
 
     -- the version of the tables is kept
@@ -314,14 +356,14 @@ module _ (v : ℕ) (old mid new : State) (found : HasCleanDisk mid → IsFound v
             let was : HasCleanDisk mid = omega (arith, two.clean, clean) in
             subst (λ (d : Database). IsLeftLatest v d.trees db) (same_at was) left) one two
 
-    pub any_migrated : (r : Result ReadBooks OpenFault) → MigratesTables v mid new r
+    pub any_migrated : (r : Result ReadBooks OpenFault) → MigratesRuled v mid new r
         → FindsAny old new r
     any_migrated (Ok r) m = (
       v,
       known,
       (λ clean. schema_was (omega (arith, m.survives.clean, clean))),
       (λ is. absurd (let low : v < 3 = less in let top : v ≡ 3 = is in omega (arith, low, top))),
-      (λ low. migrates_since r m),
+      (λ low. migrates_since r m.moved),
     )
     any_migrated (Err e) m =
         none_from e (λ clean. omega (arith, m.survives.clean, clean)) m.version m.rules m.other
@@ -334,34 +376,82 @@ module _ (v : ℕ) (old mid new : State) (found : HasCleanDisk mid → IsFound v
         one m.survives)
 
 -- one of the latest version is read
-pub any_latest : (v : ℕ) (old mid new : State) → v ≡ latest
-    → (HasCleanDisk mid → IsFound v old mid) → Survives old mid (λ _. ⊥) → IsVersion v
-    → (r : Result ReadBooks OpenFault) → ReadsBooks mid new r → FindsAny old new r
-any_latest v old mid new same found one known (Ok b) reads = (
-  v,
-  known,
-  (λ clean. schema_was v old mid new found one known (reads.only.cleanness clean)),
-  (λ is. finds_books v old mid new found one reads.only reads.survives same (Ok b) reads),
-  (λ low. absurd (let less : v < 3 = low in let top : v ≡ 3 = same in omega (arith, less, top))),
-)
-any_latest v old mid new same found one known (Err e) reads =
-    none_from v old mid new found one known e reads.only.cleanness
-    (λ clean is.
-    let it = reads.version clean is in
-    record {
-      row = it.row;
-      is = it.is;
-      ruled = it.ruled;
-      other = λ e. it.other (e ∙ same);
-    })
-    (λ clean is ruled.
-    let r = subst (λ n. IsRuledAt n mid.now.trees) same ruled in
-    let told = reads.rules clean is r.row r.is r.ruled in
-    told.2 (r.shelf told.0))
-    reads.ours
-    (survives_weaker old new (λ _. ⊥)
-    (λ db. (n : ℕ) × IsVersion n × IsLeftLatest n old.now.trees db) (λ clean db no. absurd no)
-    (reads_survived v old mid new found one reads.only reads.survives))
+module _ (v : ℕ) (old mid new : State) (same : v ≡ latest)
+    (found : HasCleanDisk mid → IsFound v old mid) (one : Survives old mid (λ _. ⊥))
+    (known : IsVersion v) where
+  -- its shelf isn't
+  pub any_unread : (e : OpenFault) → ReadsBooks mid new (Err e) → FindsAny old new (Err e)
+  any_unread e reads =
+      none_from v old mid new found one known e reads.only.cleanness
+      (λ clean is.
+      let it = reads.version clean is in
+      record {
+        row = it.row;
+        is = it.is;
+        ruled = it.ruled;
+        other = λ e. it.other (e ∙ same);
+      })
+      (λ clean is ruled.
+      let r = subst (λ n. IsRuledAt n mid.now.trees) same ruled in
+      let told = reads.rules clean is r.row r.is r.ruled in
+      told.2 (r.shelf told.0))
+      reads.ours
+      (survives_weaker old new (λ _. ⊥)
+      (λ db. (n : ℕ) × IsVersion n × IsLeftLatest n old.now.trees db) (λ clean db no. absurd no)
+      (reads_survived v old mid new found one reads.only reads.survives))
+
+  module _ (last : State) (r : ReadBooks) (reads : ReadsBooks mid new (Ok r)) where
+    pub latest_found : FindsBooks old new (Ok r)
+    latest_found = finds_books v old mid new found one reads.only reads.survives same (Ok r) reads
+
+    -- its rows are
+    pub any_latest : {A : Type 0} (u : A) → Tells (AreRuled r.own latest) new last (Ok u)
+        → FindsAny old last (Ok r)
+    any_latest u tells = (
+      v,
+      known,
+      (λ clean. schema_was v old mid new found one known (reads.only.cleanness
+          (omega (arith, tells.survives.clean, clean)))),
+      (λ is. rows_told old new last r u latest_found tells),
+      (λ low. absurd (let less : v < 3 = low in let top : v ≡ 3 = same in
+          omega (arith, less, top))),
+    )
+
+    -- one is out of its rules, or they aren't read
+    pub any_unruled : {A : Type 0} (e : OpenFault)
+        → Tells {A = A} (AreRuled r.own latest) new last (Err e) → FindsAny old last (Err e)
+    any_unruled e tells = record {
+      survives = survives_weaker old last (λ _. ⊥)
+          (λ db. (n : ℕ) × IsVersion n × IsLeftLatest n old.now.trees db)
+          (λ clean db no. absurd no)
+          (survives_then old new last (λ _. ⊥) (λ _. ⊥) (λ _. ⊥) (λ clean db no. no)
+          (λ clean db no. no) latest_found.survives tells.survives);
+      foreign = λ clean is. absurd (tells.told.ours is);
+      version = λ clean is. absurd (tells.told.version is);
+      rules = λ clean is.
+          let before : HasCleanDisk new = omega (arith, tells.survives.clean, clean) in
+          let it = latest_found.found before in
+          let now : new.now ≡ old.now = it.1.now_is in (
+            v,
+            known,
+            schema_was v old mid new found one known (reads.only.cleanness before),
+            λ ruled.
+                let so = subst (λ n. IsRuledAt n old.now.trees) same ruled in
+                let at = subst (λ (d : Database). IsRuledAt latest d.trees) (sym now) so in
+                let kept : Some at.row ≡ Some it.0.kept.row = sym at.is ∙ it.0.kept.is in
+                let row : at.row ≡ it.0.kept.row = same_Some at.row it.0.kept.row kept in
+                let text : at.row.book ≡ string_bytes r.text =
+                ap (λ (m : Meta). m.book) row ∙ it.0.kept.book in
+                tells.means clean is (at.rows r.own
+                (subst (λ t. IsShelfOf t (content_of new.now.trees).books r.own) (sym text)
+                it.0.books)),
+          );
+      newer = tells.told.latest;
+    }
+
+    -- the schema that the rows are read over
+    pub latest_schema : HasCleanDisk new → new.now.schema ≡ schema_at latest
+    latest_schema = ruled_schema old new r latest_found
 
 -- the error that is handed on
 pub any_err : (old new : State) (r : Result ReadBooks OpenFault) (f e : OpenFault) → r ≡ Err f
@@ -407,12 +497,17 @@ any_open old new r f clean = elim (either_version f.0 f.1) [
 ]
 
 pub any_read : (old new : State) (r : ReadBooks) → FindsAny old new (Ok r) → HasCleanDisk new
-    → IsReadOf r new.now.trees
+    → IsReadRuled r new.now.trees
 any_read old new r f clean = elim (either_version f.0 f.1) [
-  | inl is ↦ ((f.3 is).found clean).0
+  | inl is ↦
+      let it = (f.3 is).found clean in ruled_read r new.now.trees it.0 it.3
   | inr less ↦
       let held = ((f.4 less).done clean).2 in
-      record { kept = held.left.kept; books = held.books; last = held.moment }
+      record {
+        read = record { kept = held.left.left.kept; books = held.books; last = held.moment };
+        rules = λ fits. held.left.rules r.own held.books;
+        plain = held.left.plain;
+      }
 ]
 
 module _ {S : Type 0} (g : Ghosts S) (k : KeeperState S) (conn old : Held S) (shelf : Shelf)
@@ -423,14 +518,14 @@ module _ {S : Type 0} (g : Ghosts S) (k : KeeperState S) (conn old : Held S) (sh
     (v : ℕ) (known : IsVersion v)
     (had : HasCleanDisk (state g conn) → (state g old).now.schema ≡ schema_at v) where
   -- one of the latest version is left as it is
-  keeps_latest : v ≡ latest → FindsBooks (state g old) (state g conn) (Ok r)
+  keeps_latest : v ≡ latest → FindsRuled (state g old) (state g conn) (Ok r)
       → IsMigrated g old k shelf
   keeps_latest same f =
       let o : IsOpened g old k shelf =
       opened g k conn shelf r.given r.own (string_bytes r.text) (string_bytes r.text) connection is
       f.given owned told none f.read refl live utf8 old
-      (λ clean. let it = f.found clean in (it.0.kept, it.0.books, it.1, it.2)) f.survives f.idle
-      kept in
+      (λ clean. let it = f.found clean in (it.0.kept, it.0.books, it.1, it.2)) f.survives
+      (λ clean. (f.found clean).3) kept in
       record {
         fresh = o.fresh;
         books = o.books;
@@ -461,9 +556,9 @@ module _ {S : Type 0} (g : Ghosts S) (k : KeeperState S) (conn old : Held S) (sh
             (λ clean. subst (λ t. IsShelfOf t (content_of (state g conn).now.trees).books shelf)
             (sym told) (subst (IsShelfOf (string_bytes r.text)
             (content_of (state g conn).now.trees).books) own_is (m.done clean).2.books));
-        left = subst (λ h. HasCleanDisk (state g h) → IsLeft k.text (state g h).now.trees)
+        left = subst (λ h. HasCleanDisk (state g h) → IsLeftRuled k.text (state g h).now.trees)
             (sym connection)
-            (λ clean. subst (λ t. IsLeft t (state g conn).now.trees) (sym told)
+            (λ clean. subst (λ t. IsLeftRuled t (state g conn).now.trees) (sym told)
             (m.done clean).2.left);
         clean = subst (λ h. HasCleanDisk (state g h) → IsClean (state g h)) (sym connection)
             (λ clean. record { disk = clean; open_still = inr (m.done clean).0 });

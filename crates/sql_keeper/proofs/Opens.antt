@@ -22,16 +22,17 @@ use Rattle.sql_tables.proofs.Keeps.{only_reads_then}
 use Rattle.sql_tables.proofs.Telling.{survive_then}
 use Rattle.sql_tables.specs.Texts.{stage}
 use Rattle.sql_rows.specs.Content.{content_of}
+use Rattle.sql_rules.specs.Tables.{AreRuled}
 use Rattle.sql_rows.specs.Ruled.{AreRuledBooks}
 use Rattle.sql_rows.specs.Lists.{AreBooks}
 use Rattle.sql_rows.specs.Texts.{book_at, meta_of}
 use Rattle.sql_rows.specs.declared.book_rows.BookColumns.{BookColumns}
 use Rattle.sql_rows.specs.Values.{Meta}
 use Rattle.sql_rows.specs.declared.meta_rows.Meta.{Meta as MetaRow}
-use Rattle.sql_opening.specs.Opens.{IsFound, IsNoVersion, IsTold}
-use Rattle.sql_opening.specs.declared.fault.OpenFault.{OpenFault}
-use Rattle.sql_opening.specs.declared.fault.OpenFault.TheVariants.{Foreign, Version, Rules, Older}
-use Rattle.sql_opening.specs.declared.fault.OpenFault.TheVariants.{Memory as Memory'}
+use Rattle.sql_tables.specs.Opens.{IsFound, IsNoVersion, IsTold}
+use Rattle.sql_tables.specs.declared.fault.OpenFault.{OpenFault}
+use Rattle.sql_tables.specs.declared.fault.OpenFault.TheVariants.{Foreign, Version, Rules, Older}
+use Rattle.sql_tables.specs.declared.fault.OpenFault.TheVariants.{Memory as Memory'}
 use Rattle.sqlite_schema.specs.declared.schema.Schema.{Schema}
 use Rattle.sql_tables.specs.Ours.{has_ours}
 use Rattle.sql_keeper.specs.Books.{IsBookOf, IsBookText}
@@ -42,6 +43,7 @@ use Rattle.sql_keeper.specs.Creates.{CreatesBook, IsNewBook, first_meta}
 use Rattle.sql_keeper.specs.Faults.{IsCreateFault}
 use Rattle.sql_keeper.specs.Finds.{FindsBooks, IsReadOf, ReadsBooks}
 use Rattle.sql_keeper.specs.Inside.{KeeperState, IsClean, IsKeeper, names_in}
+use Rattle.sql_keeper.specs.Left.{IsLeftRuled}
 use Rattle.sql_keeper.specs.Opened.{IsCreated, IsFresh, IsKept, IsLeft, IsNotCreated, IsOpened}
 use Rattle.sql_keeper.specs.OlderVersions.{IsNotLatest}
 use Rattle.sql_keeper.specs.Shelves.{HasShelf, IsAlone, IsNoShelf, IsShelfOf, IsShelfRead}
@@ -109,6 +111,30 @@ module _ {S : Type 0} (g : Ghosts S) (k : KeeperState S) (conn : Held S) (shelf 
       subst (Lists ((state g conn).now.trees catalog_tree)) (idle clean on).book.schema
       (live on).0.lists
 
+  -- the new tables as an open finds them again
+  left_made : {A E : Type 0} {old : State} {u : A} → IsAlone text own
+      → CreatesBook {A = A} {E = E} text old (state g conn) (Ok u)
+      → HasCleanDisk (state g conn) → IsLeft text (state g conn).now.trees
+  left_made alone c clean =
+      let made = c.done clean in
+      record {
+        lists = listed clean made.0 made.1;
+        stored = made.2.stored;
+        kept = record {
+          row = first_meta text;
+          is = made.2.meta;
+          version = refl;
+          book = refl;
+          last = omega arith;
+        };
+        utf8 = subst IsUtf8 kept utf8;
+        shelf = (
+          own,
+          alone_shelf text (content_of (state g conn).now.trees).books own alone.is
+              alone.alone alone.first made.2.books,
+        );
+      }
+
   pub created : {A E : Type 0} (old : Held S) (u : A) → IsAlone text own
       → old.schema ≡ stage 0 → old.in_transaction ≡ false
       → CreatesBook {A = A} {E = E} text (state g old) (state g conn) (Ok u)
@@ -127,24 +153,12 @@ module _ {S : Type 0} (g : Ghosts S) (k : KeeperState S) (conn : Held S) (shelf 
         tables_of (names_in k) (content_of (state g h).now.trees) ≡ no_tables)
         (sym connection) (λ clean. (c.done clean).2.tables (names_in k));
     left = subst (λ h. HasCleanDisk (state g h) → IsLeft text (state g h).now.trees)
-        (sym connection) (λ clean.
-        let made = c.done clean in
-        record {
-          lists = listed clean made.0 made.1;
-          stored = made.2.stored;
-          kept = record {
-            row = first_meta text;
-            is = made.2.meta;
-            version = refl;
-            book = refl;
-            last = omega arith;
-          };
-          utf8 = subst IsUtf8 kept utf8;
-          shelf = (
-            own,
-            alone_shelf text (content_of (state g conn).now.trees).books own alone.is
-                alone.alone alone.first made.2.books,
-          );
+        (sym connection) (left_made alone c);
+    ruled = subst (λ h. HasCleanDisk (state g h) → IsLeftRuled text (state g h).now.trees)
+        (sym connection) (λ clean. record {
+          left = left_made alone c clean;
+          rules = λ s is. (c.done clean).2.rules s;
+          plain = (c.done clean).2.plain;
         });
     survives = subst (λ h. Survives (state g old) (state g h) (IsNewBook text))
         (sym connection) c.survives;
@@ -153,9 +167,10 @@ module _ {S : Type 0} (g : Ghosts S) (k : KeeperState S) (conn : Held S) (shelf 
   pub opened : (old : Held S) → (HasCleanDisk (state g conn) → IsKept (state g conn).now.trees bytes
       × IsShelfOf bytes (content_of (state g conn).now.trees).books own
       × IsStill (state g old) (state g conn) × IsTrue (state g conn).is_open)
-      → Survives (state g old) (state g conn) (λ _. ⊥) → HasIdleBook (state g conn)
+      → Survives (state g old) (state g conn) (λ _. ⊥)
+      → (HasCleanDisk (state g conn) → AreRuled own latest (state g conn).now.trees)
       → IsKeeper g k → IsOpened g old k shelf
-  opened old found survives idle keeper = record {
+  opened old found survives ruled keeper = record {
     fresh = fresh;
     keeper = keeper;
     books = subst (λ h. HasCleanDisk (state g h) →
@@ -163,20 +178,10 @@ module _ {S : Type 0} (g : Ghosts S) (k : KeeperState S) (conn : Held S) (shelf 
         (λ clean. subst (λ t. IsShelfOf t (content_of (state g conn).now.trees).books shelf)
         (sym told) (subst (IsShelfOf bytes (content_of (state g conn).now.trees).books) own_is
         (found clean).1));
-    left = subst (λ h. HasCleanDisk (state g h) → IsLeft k.text (state g h).now.trees)
-        (sym connection) (λ clean.
-        let it = found clean in
-        record {
-          lists = listed clean it.3 idle;
-          stored = (idle clean it.3).book.stored;
-          kept = subst (IsKept (state g conn).now.trees) (sym told) it.0;
-          utf8 = subst IsUtf8 (sym told) utf8;
-          shelf = (
-            own,
-            subst (λ t. IsShelfOf t (content_of (state g conn).now.trees).books own)
-                (sym told) it.1,
-          );
-        });
+    left = λ clean. (keeper.held clean (is_open clean)).left;
+    ruled = subst (λ h. HasCleanDisk (state g h) → AreRuled shelf latest (state g h).now.trees)
+        (sym connection)
+        (λ clean. subst (λ s. AreRuled s latest (state g conn).now.trees) own_is (ruled clean));
     clean = subst (λ h. HasCleanDisk (state g h) → IsClean (state g h)) (sym connection)
         (λ clean. record { disk = clean; open_still = inr (found clean).3 });
     still =
@@ -184,6 +189,10 @@ module _ {S : Type 0} (g : Ghosts S) (k : KeeperState S) (conn : Held S) (shelf 
         (λ clean. (found clean).2);
     survives = subst (λ h. Survives (state g old) (state g h) (λ _. ⊥)) (sym connection) survives;
   }
+    where
+      is_open : HasCleanDisk (state g k.connection) → IsTrue (state g k.connection).is_open
+      is_open = subst (λ h. HasCleanDisk (state g h) → IsTrue (state g h).is_open)
+          (sym connection) (λ clean. (found clean).3)
 
 pub not_created : {S A E : Type 0} (g : Ghosts S) (text : List ℕ) (old new : Held S)
     (fault : CreateFault) (e : E)

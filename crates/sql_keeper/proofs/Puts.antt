@@ -6,10 +6,24 @@ use Rattle.std.proofs.lemmas.Result.{on_ok_weaker}
 use Rattle.sqlite.specs.State.{State, KeepsCommit}
 use Rattle.sqlite.proofs.StateLemmas.{survives_then}
 use Rattle.sql_tables.specs.Statements.{Attempts}
+use Rattle.buckets.specs.Row.{Row as Bucket}
+use Rattle.reserving.specs.Stored.{StoredRows}
 use Rattle.reserving.specs.declared.charge.ChargeRow.{ChargeRow}
-use Rattle.sql_rows.specs.Content.{Content, Rows, with_rows, with_covered, without_covered}
+use Rattle.reserving.specs.declared.session.Counter.{Counter}
+use Rattle.reserving.specs.declared.session.Session.{Session}
+use Rattle.reserving.specs.declared.session.SessionGroup.{SessionGroup}
+use Rattle.voucher_rules.specs.Standing.{unspent}
+use Rattle.voucher_rules.specs.declared.terms.VoucherTerms.{VoucherTerms}
+use Rattle.sql_rows.specs.declared.head.Head.{Head}
+use Rattle.sql_rows.specs.Content.{Content, Rows, with_account, with_meta, with_rows, with_covered}
+use Rattle.sql_rows.specs.Content.{with_voucher, without_covered}
+use Rattle.sql_rows.specs.Each.{with_counters, with_sessions}
 use Rattle.sql_rows.specs.Makes.{Makes, MakesIfOpen}
-use Rattle.sql_keeper.specs.Writes.{with_all_paid, with_blocks}
+use Rattle.sql_rows.specs.Values.{Voucher as VoucherRow}
+use Rattle.sql_keeper.specs.Additions.{with_addition}
+use Rattle.sql_keeper.specs.Commits.{with_money}
+use Rattle.sql_keeper.specs.Writes.{head_of, meta_at, row_of, with_all_counted, with_all_paid}
+use Rattle.sql_keeper.specs.Writes.{with_blocks}
 use Rattle.sql_keeper.proofs.Overlays.{number_from}
 
 pub made_then : (f g : Content → Content) (a b c : State) → Makes f a b → Makes g b c →
@@ -19,6 +33,7 @@ made_then f g a b c one two = record {
     content = two.turns.content ∙ ap g one.turns.content;
     catalog = two.turns.catalog ∙ one.turns.catalog;
     stored = two.turns.stored;
+    plain = λ p. two.turns.plain (one.turns.plain p);
   };
   book = two.book;
   shows = record {
@@ -72,6 +87,59 @@ module _ {A B E : Type 0} (f g : Content → Content) (a b c : State) (u : A) (r
     survives = survives_then a b c (λ _. ⊥) (λ _. ⊥) (λ _. ⊥) (λ clean db no. no)
         (λ clean db no. no) one.survives two.survives;
   }
+
+-- one statement, and another that failed
+pub makes_failed : {A B C E F G : Type 0} (f h : Content → Content) (does : State → State → Type 0)
+    (a b c : State) (u : A) (e : F) (d : G) → Attempts {A = A} {E = E} (Makes f) a b (Ok u)
+    → Attempts {A = B} {E = F} does b c (Err e) → Attempts {A = C} {E = G} (Makes h) a c (Err d)
+makes_failed f h does a b c u e d one two = record {
+  done = λ clean. tt;
+  kept = λ clean. kept_then f a b c (one.done (omega (arith, two.survives.clean, clean)))
+      (two.kept clean);
+  survives = survives_then a b c (λ _. ⊥) (λ _. ⊥) (λ _. ⊥) (λ clean db no. no)
+      (λ clean db no. no) one.survives two.survives;
+}
+
+module _ {A B C E : Type 0} (a : List ℕ) (p q r s : State) (x : A) (y : B) (z : Result C E) where
+  -- an account, its buckets and its counters
+  pub puts_money : (w : StoredRows) (h : Head) (bs : List Bucket) (cs : List Counter)
+      → h ≡ head_of w → bs ≡ w.buckets → cs ≡ w.counters
+      → Attempts {A = A} {E = E} (Makes (with_account a h)) p q (Ok x)
+      → Attempts {A = B} {E = E} (MakesIfOpen (with_all_counted a bs)) q r (Ok y)
+      → Attempts {A = C} {E = E} (MakesIfOpen (with_counters a cs)) r s z
+      → Attempts {A = C} {E = E} (Makes (with_money a w)) p s z
+  puts_money w h bs cs head buckets counters one two three =
+      subst (λ (f : Content → Content). Attempts {A = C} {E = E} (Makes f) p s z)
+      (λ i c. with_counters a (counters i) (with_all_counted a (buckets i)
+      (with_account a (head i) c)))
+      (makes_all_then (λ c. with_all_counted a bs (with_account a h c)) (with_counters a cs) p r s
+      y z
+      (makes_all_then (with_account a h) (with_all_counted a bs) p q r x (Ok y) one two) three)
+
+  -- and its sessions and groups
+  pub puts_groups : (money : Content → Content) (groups : List SessionGroup → Content → Content)
+      (xs ys : List Session) (gs hs : List SessionGroup) → xs ≡ ys → gs ≡ hs
+      → Attempts {A = A} {E = E} (Makes money) p q (Ok x)
+      → Attempts {A = B} {E = E} (MakesIfOpen (with_sessions a xs)) q r (Ok y)
+      → Attempts {A = C} {E = E} (MakesIfOpen (groups gs)) r s z
+      → Attempts {A = C} {E = E} (Makes (λ c. groups hs (with_sessions a ys (money c)))) p s z
+  puts_groups money groups xs ys gs hs same_xs same_gs one two three =
+      subst (λ (f : Content → Content). Attempts {A = C} {E = E} (Makes f) p s z)
+      (λ i c. groups (same_gs i) (with_sessions a (same_xs i) (money c)))
+      (makes_all_then (λ c. with_sessions a xs (money c)) (groups gs) p r s y z
+      (makes_all_then money (with_sessions a xs) p q r x (Ok y) one two) three)
+
+-- the moment, and a voucher that no account has redeemed
+pub puts_addition : {A B E : Type 0} (text code k : List ℕ) (terms : VoucherTerms) (t : ℕ)
+    (v : VoucherRow) (a b c : State) (x : A) (r : Result B E) → k ≡ code
+    → v ≡ row_of (unspent terms)
+    → Attempts {A = A} {E = E} (Makes (with_meta (meta_at text t))) a b (Ok x)
+    → Attempts {A = B} {E = E} (Makes (with_voucher k v)) b c r
+    → Attempts {A = B} {E = E} (Makes (with_addition text code terms t)) a c r
+puts_addition {A} {B} {E} text code k terms t v a b c x r same row one two =
+    subst (λ (f : Content → Content). Attempts {A = B} {E = E} (Makes f) a c r)
+    (λ i d. with_voucher (same i) (row i) (with_meta (meta_at text t) d))
+    (makes_then (with_meta (meta_at text t)) (with_voucher k v) a b c x r one two)
 
 -- the charges of the same list
 pub puts_paid : {A E : Type 0} (a : List ℕ) (xs ys : List ChargeRow) → ys ≡ xs

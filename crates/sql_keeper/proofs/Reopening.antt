@@ -10,7 +10,7 @@ use Rattle.shelves.specs.Shelves.{Shelf}
 use Rattle.keepers.specs.Change.{changed}
 use Rattle.keepers.specs.declared.fault.StoreFault.{StoreFault}
 use Rattle.keepers.specs.declared.loaded.Change.{Change}
-use Rattle.sql_opening.specs.declared.fault.OpenFault.{OpenFault}
+use Rattle.sql_tables.specs.declared.fault.OpenFault.{OpenFault}
 use Rattle.sql_rows.specs.Content.{content_of}
 use Rattle.sql_keeper.specs.Again.{IsChangedWhole, IsFoundAfter, IsLeftFresh, IsShownBy}
 use Rattle.sql_keeper.specs.Again.{ShowsStopped}
@@ -18,11 +18,11 @@ use Rattle.sql_keeper.specs.Causes.{IsStores}
 use Rattle.sql_keeper.specs.Commits.{Becomes}
 use Rattle.sql_keeper.specs.Content.{shelf_names, tables_of}
 use Rattle.sql_keeper.specs.Inside.{IsClean, IsKeeper, KeeperState, names_in, tables_in}
-use Rattle.sql_keeper.specs.Left.{IsHeld, IsLeft}
+use Rattle.sql_keeper.specs.Left.{IsHeld, IsLeftRuled}
 use Rattle.sql_keeper.specs.Opened.{IsNotOpened, IsOpened}
 use Rattle.sql_keeper.specs.Shelves.{IsShelfOf}
 use Rattle.sql_keeper.specs.Stops.{IsWhole, trees_in}
-use Rattle.sql_keeper.proofs.Again.{held_committed}
+use Rattle.sql_keeper.proofs.Held.{held_committed}
 use Rattle.sql_keeper.proofs.Asked.{open_of}
 use Rattle.sql_keeper.proofs.OneShelf.{same_shelf}
 use Rattle.sql_keeper.specs.Settled.{AreSettled}
@@ -110,10 +110,10 @@ module _ {S : Type 0} (g : Ghosts S) (law : AreSettled g) (change : Change)
   either : (trees_in g new ≡ trees_in g old) ⊎ Written (trees_in g new)
   either = stopped_whole g g law old mid new shelf Written keeper rest honest whole found
 
-  kept_left : IsLeft old.text (trees_in g new)
+  kept_left : IsLeftRuled old.text (trees_in g new)
   kept_left = elim either [
-    | inl same ↦ subst (IsLeft old.text) (sym same) held.left
-    | inr w ↦ (held_committed (names_in old) old.text old.shelf old.last change (trees_in g old)
+    | inl same ↦ subst (IsLeftRuled old.text) (sym same) held.left
+    | inr w ↦ (held_committed old.text old.shelf old.last change (trees_in g old)
         (trees_in g new) held w).left
   ]
 
@@ -124,7 +124,7 @@ module _ {S : Type 0} (g : Ghosts S) (law : AreSettled g) (change : Change)
   ]
 
   text_stays : new.text ≡ old.text
-  text_stays = one_kept (trees_in g new) old.text new.text kept_left.kept found.left.kept
+  text_stays = one_kept (trees_in g new) old.text new.text kept_left.left.kept found.left.left.kept
 
   shelf_stays : new.shelf ≡ old.shelf
   shelf_stays = found.own ∙ same_shelf old.text (content_of (trees_in g old)).books shelf old.shelf

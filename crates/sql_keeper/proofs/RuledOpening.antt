@@ -7,9 +7,7 @@ use Rattle.std.specs.Str.{IsUtf8}
 use Rattle.std.specs.String.{string_bytes}
 use Rattle.shelves.specs.Shelves.{Shelf}
 use Rattle.sqlite_trees.specs.Tree.{Trees}
-use Rattle.sqlite_trees.specs.declared.store.Store.{Ghosts}
 use Rattle.sqlite.specs.Effect.{Database}
-use Rattle.sqlite.specs.Held.{Held, state}
 use Rattle.sqlite.specs.State.{State, HasCleanDisk, IsUnchanged, Survives}
 use Rattle.sqlite.proofs.StateLemmas.{survives_then}
 use Rattle.sql_tables.specs.Schema.{book_schema, latest, schema_at}
@@ -17,18 +15,15 @@ use Rattle.sql_tables.specs.Stages.{AreStoredAt}
 use Rattle.sql_tables.specs.Statements.{AreStored, HasIdleBook, IsStill}
 use Rattle.sql_rows.specs.Content.{content_of}
 use Rattle.sql_rows.specs.Values.{Meta}
-use Rattle.sql_opening.specs.declared.fault.OpenFault.{OpenFault}
-use Rattle.sql_opening.specs.declared.fault.OpenFault.TheVariants.{Foreign, Version, Rules, Store}
-use Rattle.sql_opening.specs.declared.fault.OpenFault.TheVariants.{Memory, Older}
+use Rattle.sql_tables.specs.declared.fault.OpenFault.{OpenFault}
+use Rattle.sql_tables.specs.declared.fault.OpenFault.TheVariants.{Foreign, Version, Rules, Store}
+use Rattle.sql_tables.specs.declared.fault.OpenFault.TheVariants.{Memory, Older}
 use Rattle.sql_rules.specs.Tables.{AreRuled, IsOfRows, Tells}
 use Rattle.sql_keeper.specs.Causes.{HasFault, IsStores, KeepsVersion}
 use Rattle.sql_keeper.specs.Finds.{FindsBooks, IsReadOf}
-use Rattle.sql_keeper.specs.Inside.{KeeperState}
-use Rattle.sql_keeper.specs.Opened.{IsKept, IsOpened}
-use Rattle.sql_keeper.specs.RuledOpening.{AreRowsApart, FindsRuled, HasUnruledRow, IsOpenedRuled}
-use Rattle.sql_keeper.specs.RuledOpening.{IsRowFault}
+use Rattle.sql_keeper.specs.Left.{IsKept}
+use Rattle.sql_keeper.specs.RuledOpening.{AreRowsApart, FindsRuled, HasUnruledRow, IsRowFault}
 use Rattle.sql_keeper.specs.Shelves.{IsShelfOf}
-use Rattle.sql_keeper.specs.Stops.{trees_in}
 use Rattle.sql_keeper.specs.declared.books.ReadBooks.{ReadBooks}
 use Rattle.sql_keeper.proofs.Causes.{latest_known, same_version}
 
@@ -162,31 +157,10 @@ rows_untold old mid new r e finds tells =
     row_caused e old.now tells.told
     (λ is. unruled old mid new r finds (before clean) (tells.means clean is)))
 
--- they were, and no keeper is made
-pub rows_unheld : {A : Type 0} (old mid new : State) (r : ReadBooks) (u : A)
-    → FindsBooks old mid (Ok r) → Tells (AreRuled r.own latest) mid new (Ok u)
-    → FindsRuled old new (Err Store)
-rows_unheld old mid new r u finds tells =
-    rows_refused old mid new r finds (λ clean. omega (arith, tells.survives.clean, clean))
-    tells.survives Store (λ clean. inl (inl refl))
-
 -- the schema that the rows are read over
 pub ruled_schema : (old mid : State) (r : ReadBooks) → FindsBooks old mid (Ok r)
     → HasCleanDisk mid → mid.now.schema ≡ schema_at latest
 ruled_schema old mid r finds clean = (finds.idle clean (finds.found clean).2).book.schema
-
--- ---- a keeper
-
-pub opened_ruled : {S : Type 0} (g : Ghosts S) (k : KeeperState S) (conn old : Held S)
-    (shelf own : Shelf) → k.connection ≡ conn → shelf ≡ own → IsOpened g old k shelf
-    → (HasCleanDisk (state g conn) → AreRuled own latest (state g conn).now.trees)
-    → IsOpenedRuled g old k shelf
-opened_ruled g k conn old shelf own is same opened ruled = record {
-  opened = opened;
-  ruled = subst (λ h. HasCleanDisk (state g h) → AreRuled shelf latest (state g h).now.trees)
-      (sym is)
-      (λ clean. subst (λ s. AreRuled s latest (state g conn).now.trees) (sym same) (ruled clean));
-}
 
 -- ---- of a database that has a fault no row is told
 
@@ -208,3 +182,36 @@ rows_apart db Older h k =
     let low : h.version < 3 = h.older in
     let is : h.version ≡ 3 = same in
     omega (arith, low, is)
+
+-- ---- a test that leaves no transaction
+
+pub untested : {A B : Type 0} (are : Trees → Type 0) (old new : State) (u : A)
+    → Tells are old new (Ok u) → Tells {A = B} are old new (Err Store)
+untested are old new u tells = record {
+  found = λ clean. tt;
+  means = λ clean is. absurd (let no : Store ≡ Rules = is in cc);
+  told = record {
+    ours = λ is. let no : Store ≡ Foreign = is in cc;
+    version = λ is. let no : Store ≡ Version = is in cc;
+    latest = λ is. let no : Store ≡ Older = is in cc;
+  };
+  survives = tells.survives;
+}
+
+pub retold : {A B : Type 0} (are : Trees → Type 0) (old new : State) (u : A) (w : B)
+    → Tells are old new (Ok u) → Tells are old new (Ok w)
+retold are old new u w tells = record {
+  found = tells.found;
+  means = λ clean. tt;
+  told = tt;
+  survives = tells.survives;
+}
+
+pub retold_err : {A B : Type 0} (are : Trees → Type 0) (old new : State) (e : OpenFault)
+    → Tells {A = A} are old new (Err e) → Tells {A = B} are old new (Err e)
+retold_err are old new e tells = record {
+  found = λ clean. tt;
+  means = tells.means;
+  told = tells.told;
+  survives = tells.survives;
+}

@@ -8,8 +8,8 @@ use Rattle.std.specs.List.{find, list_all}
 use Rattle.std.specs.Str.{IsUtf8}
 use Rattle.std.proofs.lemmas.Bool.{and_parts, and_from}
 use Rattle.std.proofs.lemmas.Bool.Decides.{nat_tests}
-use Rattle.book_fields.specs.declared.fault.BookFault.{BookFault}
-use Rattle.book_fields.specs.declared.fault.BookFault.TheVariants.{Memory}
+use Rattle.tariffs.specs.declared.fault.BookFault.{BookFault}
+use Rattle.tariffs.specs.declared.fault.BookFault.TheVariants.{Memory}
 use Rattle.tariffs.specs.Books.{Book, IsDocument, book_of}
 use Rattle.shelves.specs.Shelves.{AreInSequence, Follows, IsShelf, Shelf, count, last_book}
 use Rattle.shelves.specs.Shelves.{last_book_of, last_from, last_from_of, one_book, with_book}

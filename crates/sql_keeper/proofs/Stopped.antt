@@ -20,7 +20,7 @@ use Rattle.sql_keeper.specs.Left.{IsKept}
 use Rattle.sql_keeper.specs.Opened.{IsOpened}
 use Rattle.sql_keeper.specs.Shelves.{IsShelfOf}
 use Rattle.sql_keeper.specs.Stops.{MayLeave, trees_in}
-use Rattle.sql_keeper.proofs.Again.{found_again}
+use Rattle.sql_keeper.proofs.Held.{found_again}
 use Rattle.sql_keeper.proofs.Asked.{open_of}
 use Rattle.sql_keeper.proofs.OneShelf.{same_shelf}
 use Rattle.sql_keeper.specs.Settled.{AreSettled, at_rest}
@@ -46,7 +46,7 @@ module _ {S T : Type 0} (g : Ghosts S) (e : Ghosts T) (law : AreSettled g) (old 
 
     text_is : new.text ≡ old.text
     text_is = one_kept (trees_in e new) old.text new.text
-        (keeper.found clean (trees_in e new) may_now).kept (o.left after).kept
+        (keeper.found clean (trees_in e new) may_now).left.kept (o.left after).left.kept
 
     books_are : IsShelfOf old.text (content_of (trees_in e new)).books shelf
     books_are = subst (λ t. IsShelfOf t (content_of (trees_in e new)).books shelf) text_is

@@ -2,7 +2,7 @@
 -- them.
 use Rattle.std.proofs.Common.{◌≡◌, ◌<◌, ◌≤◌, ◌+◌, ◌∙◌, ap, refl, sym, subst, ℕ, suc, List, [], ◌∷◌}
 use Rattle.std.proofs.Common.{◌++◌, length, map, take, get_or, Option, Some, None, Result, Ok, Err}
-use Rattle.std.proofs.Common.{IfOk, IsTrue, arith}
+use Rattle.std.proofs.Common.{IfOk, IsTrue, arith, true}
 use Rattle.std.proofs.lemmas.List.{take_more, take_all}
 use Rattle.std.proofs.lemmas.Result.{IfOk-weaker}
 use Rattle.sqlite_trees.specs.Tree.{Trees}
@@ -18,6 +18,12 @@ use Rattle.sql_tables.proofs.Telling.{survive_then}
 use Rattle.sql_rows.specs.Content.{Content, content_of}
 use Rattle.sql_rows.specs.Lists.{AreAccounts}
 use Rattle.sql_rows.specs.Makes.{Turns}
+use Rattle.reserving.specs.Rows.{EachIn}
+use Rattle.reserving.proofs.Lists.{EachIn-weaker}
+use Rattle.sql_rules.specs.Ruled.{IsInRules}
+use Rattle.sql_keeper.specs.RuledRows.{is_ruled_sweep}
+use Rattle.sql_keeper.specs.Tests.{AreWritable}
+use Rattle.sql_keeper.proofs.RuledRows.{sweep_kept}
 use Rattle.sql_keeper.specs.Commits.{Transacts}
 use Rattle.sql_keeper.specs.Content.{tables_of, Names}
 use Rattle.sql_keeper.specs.LiveGroups.{Gathers}
@@ -151,15 +157,25 @@ module _ (names : Names) (shelf : Shelf) (t : ℕ) where
 
 become : (names : Names) (text : List ℕ) (shelf : Shelf) (t : ℕ) (xs : List SweptAccount)
     → IsShelf shelf → t ≤ 4_102_488_000 → (old new : Trees)
-    → AreAllSwept names shelf t (content_of old) xs → Turns (with_sweep names text t xs) old new
-    → BecomesSwept names text shelf t old new
-become names text shelf t xs ranges last old new all turns = record {
+    → AreAllSwept names shelf t (content_of old) xs → is_ruled_sweep names t xs ≡ true
+    → Turns (with_sweep names text t xs) old new → BecomesSwept names text shelf t old new
+become names text shelf t xs ranges last old new all ruled turns = record {
   tables =
       subst (λ (c : Content). IsSwept shelf t (tables_of names (content_of old))
       (tables_of names c))
       (sym turns.content) (sweeps_read names text shelf t (content_of old) xs ranges all);
   tidy = λ tidy. subst (IsTidy names) (sym turns.content)
       (tidy_sweep names text shelf t (content_of old) xs ranges all tidy);
+  rules = λ own is there in'. subst (IsInRules own) (sym turns.content)
+      (subst (λ n. IsInRules own (with_sweep n text t xs (content_of old))) (sym is)
+      (sweep_kept own text t xs (content_of old)
+      (subst (λ n. is_ruled_sweep n t xs ≡ true) is ruled)
+      (subst (λ n. EachIn (λ (x : SweptAccount).
+      AreWritable n x.rows.sessions x.rows.groups) xs) is
+      (EachIn-weaker (IsSweptOf names shelf t (content_of old)) (λ (x : SweptAccount).
+      AreWritable names x.rows.sessions x.rows.groups) xs (λ x h. h.may) all.each))
+      there in'));
+  plain = turns.plain;
   meta = ap (λ (c : Content). c.meta) turns.content
       ∙ swept_meta names text shelf t (content_of old) xs ranges all;
   last = last;
@@ -171,7 +187,8 @@ become names text shelf t xs ranges last old new all turns = record {
 
 module _ {V E : Type 0} (items : V → List SweptAccount) (names : Names) (text : List ℕ)
     (shelf : Shelf) (t : ℕ) (v : V) (xs : List SweptAccount) (is : xs ≡ items v)
-    (ranges : IsShelf shelf) (last : t ≤ 4_102_488_000) (old mid : State)
+    (ranges : IsShelf shelf) (last : t ≤ 4_102_488_000)
+    (ruled : is_ruled_sweep names t xs ≡ true) (old mid : State)
     (reads : Gathers {A = V} {E = E}
     (λ trees v. AreAllSwept names shelf t (content_of trees) (items v)) old mid (Ok v)) where
   all_of : HasCleanDisk mid → IsTrue mid.is_open →
@@ -183,7 +200,7 @@ module _ {V E : Type 0} (items : V → List SweptAccount) (names : Names) (text 
       → Turns (with_sweep names text t xs) mid.now.trees db
       → BecomesSwept names text shelf t old.now.trees db
   become_swept clean on db turns =
-      become names text shelf t xs ranges last old.now.trees db (all_of clean on)
+      become names text shelf t xs ranges last old.now.trees db (all_of clean on) ruled
       (subst (λ (d : Database).
       Turns (with_sweep names text t xs) d.trees db) (reads.only.still clean on).now_is turns)
 

@@ -21,11 +21,15 @@ use Rattle.sql_rows.specs.declared.head.Head.{Head}
 use Rattle.sql_rows.specs.Content.{Rows as Stored, rows_in}
 use Rattle.sql_rows.specs.Lists.{AreGroups, GroupAt, HasNoGroups}
 use Rattle.sql_rows.specs.Values.{Group}
+use Rattle.sql_keeper.specs.RuledRows.{is_ruled_change}
 use Rattle.sql_keeper.specs.Content.{Names}
 use Rattle.sql_keeper.specs.LiveGroups.{Gathers}
-use Rattle.sql_keeper.specs.Tests.{is_as_open, is_beside, are_beside, IsSettled, AreSettled}
+use Rattle.sql_keeper.specs.Seen.{IsStanding, IsUnknown, is_unknown, stands_open}
+use Rattle.sql_keeper.specs.Tests.{is_as, is_beside, are_beside, IsSettled, AreSettled}
 use Rattle.sql_keeper.specs.Tests.{AreFound, AreNewGroups, AreWritable, IsChangeFound, IsFound}
 use Rattle.sql_keeper.specs.Tests.{AreNumbered, IsTested, are_among, first_number}
+use Rattle.sql_keeper.specs.declared.seen.Standing.{Standing}
+use Rattle.sql_keeper.specs.declared.seen.Standing.TheVariants.{Unknown, Open, Over}
 use Rattle.sql_keeper.specs.declared.settling.NamedSessions.{NamedSessions}
 use Rattle.sql_keeper.proofs.Changed.{settled_each}
 use Rattle.sql_keeper.proofs.InTurn.{HaveRead, none_read, have_read, have_gathered, have_read_then}
@@ -84,64 +88,75 @@ as_open false b e = sym (not-true b e)
 
 -- one that wasn't there
 pub found_new : {E : Type 0} (a : List ℕ) (groups : List SessionGroup) (x : Session)
-    (o : Option Session) (old new : State) →
-    Reads {A = Option Session} {E = E} (λ trees p. p ≡ (rows_in trees a).sessions x.id) old new
-    (Ok o) → (HasCleanDisk new → o ≡ None → HasNoGroups (rows_in old.now.trees a) x.id) →
-    false ≡ is_some o → Gathers {A = NamedSessions} {E = E}
-    (λ trees y. IsFound groups (rows_in trees a) x y) old new
+    (y : Standing) (old new : State) → Gathers {A = Standing} {E = E}
+    (λ trees z. IsStanding (rows_in trees a) x.id z) old new (Ok y) → true ≡ is_unknown y →
+    Gathers {A = NamedSessions} {E = E} (λ trees z. IsFound groups (rows_in trees a) x z) old new
     (Ok (record { are_settled = true; are_new = true }))
-found_new {E} a groups x o old new reads none gone =
-    gathers_from {A = NamedSessions} {E = E} (λ trees y. IsFound groups (rows_in trees a) x y)
+found_new {E} a groups x y old new stands gone =
+    gathers_from {A = NamedSessions} {E = E} (λ trees z. IsFound groups (rows_in trees a) x z)
     old new (Ok (record { are_settled = true; are_new = true }))
-    (have_read {A = Option Session} {E = E} (λ trees p. p ≡ (rows_in trees a).sessions x.id) old
-    new o reads)
+    (have_gathered {A = Standing} {E = E} (λ trees z. IsStanding (rows_in trees a) x.id z) old new
+    y stands)
     (λ clean on.
     let nothing : HasNoGroups (rows_in old.now.trees a) x.id =
-    none clean (is_none_is o (sym gone)) in record {
-      settled = λ t. inr (λ g y there free. absurd (no_some y (sym (nothing.groups g) ∙ there)));
+    (of_none (rows_in old.now.trees a) x.id y (stands.found clean on) gone).groups in record {
+      settled = λ t. inr (λ g z there free. absurd (no_some z (sym (nothing.groups g) ∙ there)));
       new = λ t. nothing;
     })
+  where
+    of_none : (r : Stored) (s : List ℕ) (z : Standing) → IsStanding r s z → true ≡ is_unknown z →
+        IsUnknown r s
+    of_none r s Unknown h e = h
+    of_none r s Open h e = absurd (not_both (sym e))
+    of_none r s Over h e = absurd (not_both (sym e))
 
--- one read
+-- whether it is open by how it stands
+pub open_as : (r : Stored) (s : List ℕ) (y : Standing) → IsStanding r s y →
+    stands_open y ≡ is_open_row (r.sessions s)
+open_as r s Unknown h = ap is_open_row (sym h.row)
+open_as r s Open h = sym h
+open_as r s Over h = sym h
+
+-- one that stays as it was
 pub found_stays : {E : Type 0} (a : List ℕ) (groups : List SessionGroup) (x : Session)
-    (o : Option Session) (old new : State) →
-    Reads {A = Option Session} {E = E} (λ trees p. p ≡ (rows_in trees a).sessions x.id) old new
-    (Ok o) → true ≡ is_as_open x o → Gathers {A = NamedSessions} {E = E}
-    (λ trees y. IsFound groups (rows_in trees a) x y) old new
+    (y : Standing) (old new : State) → Gathers {A = Standing} {E = E}
+    (λ trees z. IsStanding (rows_in trees a) x.id z) old new (Ok y) →
+    true ≡ is_as x (stands_open y) → Gathers {A = NamedSessions} {E = E}
+    (λ trees z. IsFound groups (rows_in trees a) x z) old new
     (Ok (record { are_settled = true; are_new = false }))
-found_stays {E} a groups x o old new reads same =
-    gathers_from {A = NamedSessions} {E = E} (λ trees y. IsFound groups (rows_in trees a) x y)
+found_stays {E} a groups x y old new stands same =
+    gathers_from {A = NamedSessions} {E = E} (λ trees z. IsFound groups (rows_in trees a) x z)
     old new (Ok (record { are_settled = true; are_new = false }))
-    (have_read {A = Option Session} {E = E} (λ trees p. p ≡ (rows_in trees a).sessions x.id) old
-    new o reads)
+    (have_gathered {A = Standing} {E = E} (λ trees z. IsStanding (rows_in trees a) x.id z) old new
+    y stands)
     (λ clean on. record {
-      settled = λ t. inl (as_open (is_open x.state) (is_open_row o) (sym same)
-          ∙ ap is_open_row (reads.found clean));
+      settled = λ t. inl (as_open (is_open x.state) (stands_open y) (sym same)
+          ∙ open_as (rows_in old.now.trees a) x.id y (stands.found clean on));
       new = λ t. absurd (not_both t);
     })
 
--- and that of its groups
+-- and one by its groups
 pub found_groups : {A E : Type 0} (a : List ℕ) (groups : List SessionGroup) (x : Session)
-    (o : Option Session) (v : A) (items : A → List GroupAt) (b : Bool) (old mid new : State) →
-    Reads {A = Option Session} {E = E} (λ trees p. p ≡ (rows_in trees a).sessions x.id) old mid
-    (Ok o) →
+    (y : Standing) (v : A) (items : A → List GroupAt) (b : Bool) (old mid new : State) →
+    Gathers {A = Standing} {E = E} (λ trees z. IsStanding (rows_in trees a) x.id z) old mid
+    (Ok y) →
     Reads {A = A} {E = E} (λ trees w. AreGroups (rows_in trees a) x.id (items w)) mid new (Ok v) →
     b ≡ are_beside groups x.id (items v) → Gathers {A = NamedSessions} {E = E}
-    (λ trees y. IsFound groups (rows_in trees a) x y) old new
+    (λ trees z. IsFound groups (rows_in trees a) x z) old new
     (Ok (record { are_settled = b; are_new = false }))
-found_groups {A} {E} a groups x o v items b old mid new one two is =
-    let first = have_read {A = Option Session} {E = E}
-    (λ trees p. p ≡ (rows_in trees a).sessions x.id) old mid o one in
-    gathers_from {A = NamedSessions} {E = E} (λ trees y. IsFound groups (rows_in trees a) x y)
+found_groups {A} {E} a groups x y v items b old mid new one two is =
+    let first = have_gathered {A = Standing} {E = E}
+    (λ trees z. IsStanding (rows_in trees a) x.id z) old mid y one in
+    gathers_from {A = NamedSessions} {E = E} (λ trees z. IsFound groups (rows_in trees a) x z)
     old new (Ok (record { are_settled = b; are_new = false }))
     (have_read_then old mid new first
     (have_read {A = A} {E = E} (λ trees w. AreGroups (rows_in trees a) x.id (items w)) mid new v
     two))
     (λ clean on. record {
-      settled = λ t. inr (λ g y there none.
+      settled = λ t. inr (λ g z there none.
           free_beside groups x.id (items v) (rows_in old.now.trees a)
           (told_before (λ trees. AreGroups (rows_in trees a) x.id (items v)) old mid new one.only
-          two.only clean on (two.found clean)) (sym is ∙ t) g y there none);
+          two.only clean on (two.found clean)) (sym is ∙ t) g z there none);
       new = λ t. absurd (not_both t);
     })
 
@@ -256,15 +271,15 @@ new_groups r sessions (g ∷ gs) each among =
         e)
 
 pub change_unsettled : {E : Type 0} (names : Names) (change : Change) (o : Option Head)
-    (z : NamedSessions) (old new : State) → IsUnsettled z → Reads {A = Option Head} {E = E}
+    (z : NamedSessions) (old new : State) → IsUnsettled z → Gathers {A = Option Head} {E = E}
     (λ trees p. p ≡ (rows_in trees change.number).head) old new (Ok o) →
     Gathers {A = NamedSessions} {E = E}
     (λ trees w. IsChangeFound names change (rows_in trees change.number) w) old new (Ok z)
 change_unsettled {E} names change o z old new is reads =
     gathers_from {A = NamedSessions} {E = E}
     (λ trees w. IsChangeFound names change (rows_in trees change.number) w) old new (Ok z)
-    (have_read {A = Option Head} {E = E} (λ trees p. p ≡ (rows_in trees change.number).head) old
-    new o reads)
+    (have_gathered {A = Option Head} {E = E} (λ trees p. p ≡ (rows_in trees change.number).head)
+    old new o reads)
     (λ clean on. record {
       made = λ t. absurd (not_so z is t);
       new = λ t. absurd (not_new z is t);
@@ -275,27 +290,31 @@ pub change_found : {E : Type 0} (names : Names) (change : Change) (o : Option He
     (xs : List Session) (ys : List SessionGroup) (y z : NamedSessions) (old mid new : State) →
     xs ≡ change.rows.sessions → ys ≡ change.rows.groups →
     z ≡ record { are_settled = y.are_settled; are_new = are_among xs ys && y.are_new } →
-    Reads {A = Option Head} {E = E}
+    Gathers {A = Option Head} {E = E}
     (λ trees p. p ≡ (rows_in trees change.number).head) old mid (Ok o) →
     AreWritable names change.rows.sessions change.rows.groups →
     AreNumbered (first_number o) change.rows.next_charge change.charges.items →
+    IsTrue (is_ruled_change names change) →
     Gathers {A = NamedSessions} {E = E}
     (λ trees w. AreFound xs ys (rows_in trees change.number) w) mid new (Ok y) →
     Gathers {A = NamedSessions} {E = E}
     (λ trees w. IsChangeFound names change (rows_in trees change.number) w) old new (Ok z)
-change_found {E} names change o xs ys y z old mid new same_xs same_ys is one writable numbered two =
+change_found {E} names change o xs ys y z old mid new same_xs same_ys is one writable numbered ruled
+    two =
     gathers_from {A = NamedSessions} {E = E}
     (λ trees w. IsChangeFound names change (rows_in trees change.number) w) old new (Ok z)
     (have_read_then old mid new
-    (have_read {A = Option Head} {E = E} (λ trees p. p ≡ (rows_in trees change.number).head) old
-    mid o one)
+    (have_gathered {A = Option Head} {E = E} (λ trees p. p ≡ (rows_in trees change.number).head)
+    old mid o one)
     (have_gathered {A = NamedSessions} {E = E}
     (λ trees w. AreFound xs ys (rows_in trees change.number) w) mid new y two))
     (λ clean on. record {
       made = λ t. record {
         reservations = writable;
+        ruled = ruled;
         numbers = subst (λ h. AreNumbered (first_number h) change.rows.next_charge
-            change.charges.items) (one.found (two.only.cleanness clean)) numbered;
+            change.charges.items)
+            (one.found (two.only.cleanness clean) (two.only.still clean on).was_open) numbered;
         settled = subst
             (λ zs. AreSettled zs change.rows.groups (rows_in old.now.trees change.number)) same_xs
             (subst (λ zs. AreSettled xs zs (rows_in old.now.trees change.number)) same_ys

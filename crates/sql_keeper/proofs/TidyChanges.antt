@@ -4,7 +4,7 @@ use Rattle.std.proofs.Common.{◌∷◌, Option, Some, None, refl, sym, ap}
 use Rattle.std.specs.Prelude.{is_some, slice_get, unwrap_or}
 use Rattle.std.proofs.lemmas.Bool.{and_parts}
 use Rattle.tariffs.specs.Names.{period_named}
-use Rattle.redemptions.specs.declared.terms.VoucherTerms.{VoucherTerms}
+use Rattle.voucher_rules.specs.declared.terms.VoucherTerms.{VoucherTerms}
 use Rattle.reserving.specs.declared.session.Session.{Session}
 use Rattle.reserving.specs.Left.{first_of, is_open_row}
 use Rattle.reserving.specs.Sessions.{session_in}

@@ -8,16 +8,14 @@ use Rattle.reserving.specs.declared.session.Session.{Session}
 use Rattle.reserving.specs.declared.session.SessionGroup.{SessionGroup}
 use Rattle.reserving.specs.Changes.{lapse_group}
 use Rattle.reserving.specs.Left.{first_of, is_open_row}
-use Rattle.reserving.specs.Sessions.{group_in, is_of, is_open, session_in}
+use Rattle.reserving.specs.Sessions.{group_in, is_of, session_in}
 use Rattle.reserving.specs.Stored.{StoredRows, advanced_stored}
 use Rattle.reserving.proofs.Lists.{find-map, no_some}
 use Rattle.keepers.specs.Tables.{group_row}
-use Rattle.sql_tables.specs.Selects.{only as only_of}
 use Rattle.sql_rows.specs.Values.{Group}
 use Rattle.sql_rows.specs.Content.{Content, Rows as Stored}
 use Rattle.sql_keeper.specs.Content as content
 use Rattle.sql_keeper.specs.Content.{Names, is_numbered, is_reserved}
-use Rattle.sql_keeper.specs.LiveGroups.{is_among}
 use Rattle.sql_keeper.specs.LiveRows.{AreLiveRows}
 use Rattle.sql_keeper.specs.Sweeps.{AreAllSwept, AreSweptRows, IsSweptOf, rows_at, with_sweep}
 use Rattle.sql_keeper.specs.Tests.{IsWritable, MayStand}
@@ -79,17 +77,7 @@ module _ (names : Names) (shelf : Shelf) (t : ℕ) (a : List ℕ) (r : Stored)
       at None k = not_both (sym k)
       at (Some x) k = k
 
-  -- an open session is among those that were read
-  among : (s : List ℕ) → is_open_row (r.sessions s) ≡ true →
-      is_among s swept.before.sessions ≡ true
-  among s on = ap is_some (rows.sessions s) ∙ at (r.sessions s) on
-    where
-      at : (o : Option Session) → is_open_row o ≡ true →
-          is_some (only_of (λ (x : Session). is_open x.state) o) ≡ true
-      at None k = k
-      at (Some x) k = ap (λ b. is_some (if b then Some x else None)) k
-
-  -- so what it has of a group was, too
+  -- what an open session has of a group was read
   none_reserved : (s : List ℕ) (g : ℕ) → group_in s g swept.before.groups ≡ None
       → is_open_row (r.sessions s) ≡ true → is_reserved (r.groups s g) ≡ true
       → is_open_row (first_of (session_in s w.sessions) (r.sessions s)) ≡ true
@@ -97,7 +85,7 @@ module _ (names : Names) (shelf : Shelf) (t : ℕ) (a : List ℕ) (r : Stored)
       ∙ rows.groups.groups s g
       ∙ ap (λ b. if b
       then option_map (content.group_in names true (r.grant_books s g)) (r.groups s g)
-      else None) (among s on))
+      else None) on)
     where
       at : (o : Option Group)
           → None ≡ option_map (content.group_in names true (r.grant_books s g)) o

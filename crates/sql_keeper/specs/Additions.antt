@@ -1,16 +1,19 @@
 -- A voucher that is added, committed whole or not at all.
 -- Source: profile.
-use Rattle.std.specs.Prelude.{◌≡◌, ◌≤◌, Some}
+use Rattle.std.specs.Prelude.{◌≡◌, ◌≤◌, IsTrue, Some, is_some}
 use Rattle.units.specs.Words.{Moment}
 use Rattle.identifiers.specs.Words.{VoucherCode}
 use Rattle.shelves.specs.Words.{BookText}
+use Rattle.shelves.specs.Shelves.{Shelf}
 use Rattle.sqlite_trees.specs.Tree.{Trees}
 use Rattle.sqlite_trees.specs.Objects.{catalog_tree}
-use Rattle.redemptions.specs.declared.terms.VoucherTerms.{VoucherTerms}
-use Rattle.redemptions.specs.Standing.{unspent}
+use Rattle.voucher_rules.specs.declared.terms.VoucherTerms.{VoucherTerms}
+use Rattle.voucher_rules.specs.Standing.{unspent}
 use Rattle.keepers.specs.Change.{with_voucher as with_added}
 use Rattle.sql_tables.specs.Statements.{AreStored}
 use Rattle.sql_rows.specs.Content.{Content, content_of, with_meta, with_voucher}
+use Rattle.sql_rows.specs.Plain.{ArePlain}
+use Rattle.sql_rules.specs.Ruled.{IsInRules}
 use Rattle.sql_keeper.specs.Content.{tables_of, Names}
 use Rattle.sql_keeper.specs.Tidy.{IsTidy}
 use Rattle.sql_keeper.specs.Writes.{meta_at, row_of}
@@ -29,6 +32,10 @@ pub record BecomesAdded (text : BookText) (code : VoucherCode) (terms : VoucherT
       ≡ with_added code terms t (tables_of names (content_of old))
   -- where nothing stood that isn't told, nothing does
   pub tidy : (names : Names) → IsTidy names (content_of old) → IsTidy names (content_of new)
+  -- where all was in its rules, all is
+  pub rules : (shelf : Shelf) → IsTrue (is_some (content_of old).meta)
+      → IsInRules shelf (content_of old) → IsInRules shelf (content_of new)
+  pub plain : ArePlain old → ArePlain new
   pub meta : (content_of new).meta ≡ Some (meta_at text t)
   pub last : t ≤ 4_102_488_000
   pub books : (content_of new).books ≡ (content_of old).books

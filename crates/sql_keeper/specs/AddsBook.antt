@@ -1,8 +1,8 @@
 -- A book that is added behind those of a shelf, committed whole or not at all.
 -- Source: profile.
-use Rattle.std.specs.Prelude.{◌≡◌, ◌≤◌, ℕ, suc, ◌++◌, List, [], ◌∷◌, Some, None, length, Result}
+use Rattle.std.specs.Prelude.{◌≡◌, ◌≤◌, ◌<◌, ℕ, suc, ◌++◌, List, [], ◌∷◌, Some, None, length, Result}
 use Rattle.std.specs.Prelude.{◌⊎◌, Ok, Err, IfErr, IsTrue, OnErr, OnOk}
-use Rattle.units.specs.Words.{Moment, GroupId, BookNumber}
+use Rattle.units.specs.Words.{Moment, GroupId, BookNumber, no_end}
 use Rattle.identifiers.specs.Words.{SessionName, AccountName}
 use Rattle.shelves.specs.Words.{BookText}
 use Rattle.sqlite_trees.specs.declared.store.Store.{Ghosts}
@@ -18,6 +18,8 @@ use Rattle.keepers.specs.declared.fault.StoreFault.{StoreFault}
 use Rattle.keepers.specs.declared.fault.StoreFault.TheVariants.{Memory as NoMemory}
 use Rattle.sql_tables.specs.Statements.{AreStored}
 use Rattle.sql_rows.specs.Content.{Content, content_of, with_book as with_row}
+use Rattle.sql_rows.specs.Plain.{ArePlain}
+use Rattle.sql_rules.specs.Ruled.{IsInRules, is_book}
 use Rattle.sql_keeper.specs.Books.{IsBookFault, IsBookOf}
 use Rattle.sql_keeper.specs.Commits.{CommitsWhole}
 use Rattle.sql_keeper.specs.Content.{Names, last_in, tables_of}
@@ -52,6 +54,12 @@ pub record BecomesDated (n : BookNumber) (from : Moment) (text : BookText) (old 
   -- where nothing stood that isn't told, nothing does
   pub tidy : (names : Names) (more : List (List ℕ)) → IsTidy names (content_of old) →
       IsTidy (names ++ more ∷ []) (content_of new)
+  -- where all was in its rules, all is, by the books with one of the new text: if the row of it is
+  pub rules : (shelf : Shelf) (b : Book)
+      → IsTrue (is_book n (record { starts = from; content = text }))
+      → IsInRules shelf (content_of old)
+      → IsInRules (with_book shelf from b) (content_of new)
+  pub plain : ArePlain old → ArePlain new
   pub books : (content_of new).books ≡ (with_dated n from text (content_of old)).books
   pub meta : (content_of new).meta ≡ (content_of old).meta
   pub catalog : new catalog_tree ≡ old catalog_tree
@@ -68,6 +76,17 @@ pub record MayFollow (text more : BookText) (n : BookNumber) (from : Moment) (tr
   pub number : n ≡ suc (count shelf)
   pub range : from ≤ 4_102_488_000
   pub behind : IsShelf (with_book shelf from book)
+
+-- the tables with the book, which may follow the keeper's books and begins before the end of all
+-- moments; the shelf had as many
+pub record BecomesBehind (own before : Shelf) (from : Moment) (text : BookText) (old new : Trees)
+    : Type 0 where
+  pub becomes : BecomesDated (suc (count before)) from text old new
+  pub book : Book
+  pub read : IsBookOf text book
+  pub behind : IsShelf (with_book own from book)
+  pub counts : count own ≡ count before
+  pub soon : from < no_end
 
 -- ---- why a book isn't added
 
@@ -98,7 +117,8 @@ pub record IsBehind (from : Moment) (b : Book) (last : Moment) (old new : Shelf)
   pub shelf : new ≡ with_book old from b
   pub is : IsShelf new
 
--- the book stands behind those of two shelves, which had as many; the first had no fault of it
+-- the book stands behind those of two shelves, which had as many; the first had no fault of it, and
+-- it begins before the end of all moments
 pub record IsOnBoth (from : Moment) (b : Book) (last : Moment) (before after own new : Shelf)
     : Type 0 where
   pub free : shelf_fault before from b last ≡ None
@@ -106,6 +126,7 @@ pub record IsOnBoth (from : Moment) (b : Book) (last : Moment) (before after own
   pub own_is : new ≡ with_book own from b
   pub is : IsShelf new
   pub counts : count own ≡ count before
+  pub soon : from < no_end
 
 -- both shelves are as they were before their last book was added
 pub record AreTakenBack (before after own new : Shelf) : Type 0 where
@@ -136,13 +157,15 @@ add_told (Err fault) = Err (OfStore fault)
 abbrev pub last_at : State → Moment
 last_at s = last_in (content_of s.now.trees).meta
 
--- the tables with the book, which may follow the keeper's; it has as many as the shelf before
+-- the tables with the book, which may follow the keeper's and begins before the end of all moments;
+-- the keeper has as many as the shelf before
 pub record IsLeftDated (from : Moment) (text : BookText) (b : Book) (before own : Shelf)
     (old : State) (db : Trees) : Type 0 where
   pub was_open : IsTrue old.is_open
   pub becomes : BecomesDated (suc (count before)) from text old.now.trees db
   pub behind : IsShelf (with_book own from b)
   pub counts : count own ≡ count before
+  pub soon : from < no_end
 
 -- a stop leaves what it left before, or the tables with the book
 abbrev pub LeavesDated : Moment → BookText → Book → Shelf → Shelf → State → State → Type 0
@@ -162,6 +185,7 @@ pub record AddsToAll {A E : Type 0} (from : Moment) (text : BookText) (b : Book)
   pub shelf : OnOk (was_added result) (after ≡ with_book before from b)
   pub own_is : OnOk (was_added result) (own' ≡ with_book own from b)
   pub counts : OnOk (was_added result) (count own ≡ count before)
+  pub soon : OnOk (was_added result) (from < no_end)
   pub kept : OnErr (was_added result) ((after ≡ before) × (own' ≡ own))
   pub told : HasCleanDisk new → IfRefused result
       (λ fault. ¬ (fault ≡ Memory) → shelf_fault before from b (last_at old) ≡ Some fault)
@@ -186,3 +210,4 @@ pub record AddsBook {S A : Type 0} (g : Ghosts S) (text : BookText) (from : Mome
   pub cleanness : clean_in g new → clean_in g old
   pub counts : failed_in old ≤ failed_in new
   pub whole : IsWhole g old new (BecomesDated (suc (count before)) from text (trees_in g old))
+  pub follows : IsWhole g old new (BecomesBehind old.shelf before from text (trees_in g old))

@@ -1,8 +1,8 @@
 -- A database that is opened again.
 -- Source: profile.
-use Rattle.std.specs.Prelude.{◌≡◌, ◌⊎◌, Option, Some, None, OnOk, Result}
+use Rattle.std.specs.Prelude.{◌≡◌, ◌<◌, ◌⊎◌, Option, Some, None, OnOk, Result}
 use Rattle.std.specs.Str.{IsUtf8}
-use Rattle.units.specs.Words.{Moment, BookNumber}
+use Rattle.units.specs.Words.{Moment, BookNumber, no_end}
 use Rattle.identifiers.specs.Words.{VoucherCode}
 use Rattle.shelves.specs.Words.{BookText}
 use Rattle.shelves.specs.Shelves.{Shelf}
@@ -14,19 +14,19 @@ use Rattle.sqlite.specs.Held.{Held, state}
 use Rattle.sqlite.specs.State.{HasCleanDisk}
 use Rattle.sqlite.specs.Steps.{IsFresh}
 use Rattle.sql_rows.specs.Content.{content_of}
-use Rattle.sql_opening.specs.declared.fault.OpenFault.{OpenFault}
+use Rattle.sql_tables.specs.declared.fault.OpenFault.{OpenFault}
 use Rattle.keepers.specs.Change.{changed}
 use Rattle.keepers.specs.declared.fault.StoreFault.{StoreFault}
 use Rattle.keepers.specs.declared.loaded.Change.{Change}
-use Rattle.redemptions.specs.declared.terms.VoucherTerms.{VoucherTerms}
-use Rattle.sql_keeper.specs.Content.{Names}
+use Rattle.voucher_rules.specs.declared.terms.VoucherTerms.{VoucherTerms}
+use Rattle.sql_keeper.specs.Content.{Names, shelf_names}
 use Rattle.sql_keeper.specs.AddsBook.{BecomesDated, MayFollow}
 use Rattle.sql_keeper.specs.Additions.{BecomesAdded}
 use Rattle.sql_keeper.specs.Causes.{IsStores}
 use Rattle.sql_keeper.specs.Commits.{Becomes}
 use Rattle.sql_keeper.specs.Creates.{IsNewBook}
 use Rattle.sql_keeper.specs.Inside.{KeeperState, IsClean, IsKeeper, names_in, tables_in}
-use Rattle.sql_keeper.specs.Opened.{IsKept, IsLeft, IsNotOpened, IsOpened}
+use Rattle.sql_keeper.specs.Opened.{IsKept, IsLeft, IsLeftRuled, IsNotOpened, IsOpened}
 use Rattle.sql_keeper.specs.Shelves.{HasOneBook, IsShelfOf}
 use Rattle.sql_keeper.specs.Stops.{IsWhole, MayLeave, trees_in}
 use Rattle.sql_keeper.specs.Sweeps.{BecomesSwept}
@@ -47,6 +47,25 @@ pub record AreLeftAgain : Type 0 where
       IsLeft text old
       → MayFollow text more n from old → BecomesDated n from more old new → IsLeft text new
 
+-- the rows of a new book are in their rules; those that a commit, an addition or a sweep makes of
+-- rows in their rules are so again, by the names of the same books; so are those that a book more
+-- makes of them, which begins before the end of all moments
+pub record AreLeftRuledAgain : Type 0 where
+  pub made : (text : BookText) (new : Trees) → IsUtf8 text → HasOneBook text → IsNewBook text new →
+      IsLeftRuled text new
+  pub committed : (text : BookText) (shelf : Shelf) (change : Change) (old new : Trees)
+      → IsLeftRuled text old → IsShelfOf text (content_of old).books shelf
+      → Becomes (shelf_names shelf) text change old new → IsLeftRuled text new
+  pub added : (text : BookText) (code : VoucherCode) (terms : VoucherTerms) (t : Moment)
+      (old new : Trees)
+      → IsLeftRuled text old → BecomesAdded text code terms t old new → IsLeftRuled text new
+  pub swept : (text : BookText) (shelf prices : Shelf) (t : Moment) (old new : Trees)
+      → IsLeftRuled text old → IsShelfOf text (content_of old).books shelf
+      → BecomesSwept (shelf_names shelf) text prices t old new → IsLeftRuled text new
+  pub dated : (text more : BookText) (n : BookNumber) (from : Moment) (old new : Trees)
+      → IsLeftRuled text old → MayFollow text more n from old → from < no_end
+      → BecomesDated n from more old new → IsLeftRuled text new
+
 -- the rows of a database are those of one shelf, so whoever opens it again finds the one that was
 -- answered before
 abbrev pub AreShelvesOne : Type 0
@@ -54,10 +73,10 @@ AreShelvesOne = (trees : Trees) (text more : BookText) (s t : Shelf) → IsKept 
     → IsKept trees more → IsShelfOf text (content_of trees).books s
     → IsShelfOf more (content_of trees).books t → s ≡ t
 
--- the connection that was opened shows what was left, so no fault is told of it but the store's or
--- memory's
+-- the connection that was opened shows what was left, and each row in its rules, so no fault is told
+-- of it but the store's or memory's
 abbrev pub IsFoundAgain : {S : Type 0} → Ghosts S → Held S → Held S → BookText → OpenFault → Type 0
-IsFoundAgain g old new text fault = IsLeft text (state g old).now.trees
+IsFoundAgain g old new text fault = IsLeftRuled text (state g old).now.trees
     → IsDatabase (state g old).now → HasCleanDisk (state g new) → IsNotOpened g old new fault
     → IsStores fault
 
@@ -69,7 +88,7 @@ pub record IsFoundAfter {S T : Type 0} (g : Ghosts S) (e : Ghosts T) (old : Keep
     (new : KeeperState T) (shelf : Shelf) : Type 0 where
   pub honest : HasCleanDisk (state g old.connection)
   pub may : MayLeave g old (trees_in e new)
-  pub left : IsLeft new.text (trees_in e new)
+  pub left : IsLeftRuled new.text (trees_in e new)
   pub text : new.text ≡ old.text
   pub own : new.shelf ≡ shelf
   pub books : IsShelfOf old.text (content_of (trees_in e new)).books shelf

@@ -3,8 +3,8 @@
 use Rattle.std.specs.Prelude.{◌≡◌, Ok, Err}
 use Rattle.shelves.specs.Words.{BookText}
 use Rattle.toml.specs.Data.{Members}
-use Rattle.book_fields.specs.declared.fault.BookFault.{BookFault}
-use Rattle.book_fields.specs.declared.fault.BookFault.TheVariants.{NotToml, Memory}
+use Rattle.tariffs.specs.declared.fault.BookFault.{BookFault}
+use Rattle.tariffs.specs.declared.fault.BookFault.TheVariants.{NotToml, Memory}
 use Rattle.tariffs.specs.Books.{Book, IsDocument, book_of}
 
 -- the text is a document, and this is its book

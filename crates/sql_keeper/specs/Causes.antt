@@ -9,10 +9,10 @@ use Rattle.sql_tables.specs.Stages.{AreStoredAt}
 use Rattle.sql_rows.specs.Content.{content_of}
 use Rattle.sql_rows.specs.Ruled.{IsRuledMeta}
 use Rattle.sql_rows.specs.Values.{Meta}
-use Rattle.sql_opening.specs.Opens.{IsVersion}
-use Rattle.sql_opening.specs.declared.fault.OpenFault.{OpenFault}
-use Rattle.sql_opening.specs.declared.fault.OpenFault.TheVariants.{Foreign, Version, Rules, Store}
-use Rattle.sql_opening.specs.declared.fault.OpenFault.TheVariants.{Memory, Older}
+use Rattle.sql_tables.specs.Opens.{IsVersion}
+use Rattle.sql_tables.specs.declared.fault.OpenFault.{OpenFault}
+use Rattle.sql_tables.specs.declared.fault.OpenFault.TheVariants.{Foreign, Version, Rules, Store}
+use Rattle.sql_tables.specs.declared.fault.OpenFault.TheVariants.{Memory, Older}
 use Rattle.sql_keeper.specs.Shelves.{HasShelf}
 
 -- ---- what is kept once

@@ -11,7 +11,7 @@ use Rattle.sql_rows.specs.Lists.{NumbersRise, is_within}
 use Rattle.sql_tables.specs.Selects.{only as those}
 use Rattle.sql_keeper.specs.Content.{is_numbered, told_charge}
 use Rattle.reserving.specs.declared.charge.ChargeRow.{ChargeRow}
-use Rattle.charge_sources.specs.declared.pages.ChargePage.{ChargePage}
+use Rattle.keepers.specs.declared.pages.ChargePage.{ChargePage}
 
 -- the number of an account's last charge; 0 where it has none
 abbrev pub last_number : Option Head → ChargeNumber

@@ -1,8 +1,9 @@
 -- A change, committed whole or not at all.
 -- Source: profile.
-use Rattle.std.specs.Prelude.{◌≡◌, ◌≤◌, Some, IsTrue, OnOk, OnErr, Result}
+use Rattle.std.specs.Prelude.{◌≡◌, ◌≤◌, Some, IsTrue, OnOk, OnErr, Result, is_some}
 use Rattle.identifiers.specs.Words.{AccountName}
 use Rattle.shelves.specs.Words.{BookText}
+use Rattle.shelves.specs.Shelves.{Shelf}
 use Rattle.sqlite_trees.specs.Tree.{Trees}
 use Rattle.sqlite_trees.specs.Objects.{catalog_tree}
 use Rattle.sqlite.specs.State.{State, HasCleanDisk, Survives}
@@ -13,7 +14,9 @@ use Rattle.sql_tables.specs.Statements.{AreStored, HasIdleBook, IsStill}
 use Rattle.sql_rows.specs.Content.{Content, content_of, with_account}
 use Rattle.sql_rows.specs.Each.{with_counters}
 use Rattle.sql_rows.specs.Makes.{Commits, Turns}
-use Rattle.sql_keeper.specs.Content.{tables_of, Names}
+use Rattle.sql_rows.specs.Plain.{ArePlain}
+use Rattle.sql_rules.specs.Ruled.{IsInRules}
+use Rattle.sql_keeper.specs.Content.{shelf_names, tables_of, Names}
 use Rattle.sql_keeper.specs.Tidy.{IsTidy}
 use Rattle.sql_keeper.specs.Writes.{head_of, meta_with, with_all_counted}
 
@@ -42,6 +45,11 @@ pub record Becomes (names : Names) (text : BookText) (change : Change) (old new 
       changed change (tables_of names (content_of old))
   -- where nothing stood that isn't told, nothing does
   pub tidy : IsTidy names (content_of old) → IsTidy names (content_of new)
+  -- where all was in its rules, by the books of these names, all is
+  pub rules : (shelf : Shelf) → names ≡ shelf_names shelf
+      → IsTrue (is_some (content_of old).meta) → IsInRules shelf (content_of old)
+      → IsInRules shelf (content_of new)
+  pub plain : ArePlain old → ArePlain new
   pub meta : (content_of new).meta ≡ Some (meta_with text change)
   pub last : change.moment ≤ 4_102_488_000
   pub books : (content_of new).books ≡ (content_of old).books

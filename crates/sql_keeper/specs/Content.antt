@@ -21,8 +21,8 @@ use Rattle.commands.specs.declared.command.Content.{Content as Command}
 use Rattle.commands.specs.declared.answer.Answer.{Answer}
 use Rattle.json_fields.specs.declared.fault.WireFault.{WireFault}
 use Rattle.wire.specs.Contents.{content_of as command_of}
-use Rattle.wire_answers.specs.ReadingAnswers.{answer_of}
-use Rattle.redemptions.specs.declared.voucher.Voucher.{Voucher}
+use Rattle.wire.specs.ReadingAnswers.{answer_of}
+use Rattle.voucher_rules.specs.declared.voucher.Voucher.{Voucher}
 use Rattle.keepers.specs.declared.key.Key.{Key}
 use Rattle.keepers.specs.declared.key.Key.TheVariants.{Request, Reference}
 use Rattle.keepers.specs.declared.key.KeptAnswer.{KeptAnswer}

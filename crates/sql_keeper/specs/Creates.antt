@@ -3,6 +3,7 @@
 use Rattle.std.specs.Prelude.{◌≡◌, Some, None, true, IsTrue, OnOk, OnErr, Result}
 use Rattle.units.specs.Words.{BookNumber}
 use Rattle.shelves.specs.Words.{BookText}
+use Rattle.shelves.specs.Shelves.{Shelf}
 use Rattle.sqlite_trees.specs.Objects.{catalog_tree}
 use Rattle.sqlite_trees.specs.Tree.{Trees}
 use Rattle.sqlite_catalog.specs.Listing.{Lists}
@@ -12,6 +13,8 @@ use Rattle.sql_tables.specs.Schema.{book_schema, latest}
 use Rattle.sql_tables.specs.Statements.{AreStored, HasIdleBook, IsBook, IsStill}
 use Rattle.sql_rows.specs.Values.{Meta}
 use Rattle.sql_rows.specs.Content.{content_of}
+use Rattle.sql_rows.specs.Plain.{ArePlain}
+use Rattle.sql_rules.specs.Ruled.{IsInRules}
 use Rattle.sql_keeper.specs.Content.{tables_of, Names}
 use Rattle.sql_keeper.specs.Tidy.{IsTidy}
 
@@ -29,6 +32,9 @@ pub record IsNewBook (text : BookText) (trees : Trees) : Type 0 where
   pub books : (n : BookNumber) → (content_of trees).books n ≡ None
   -- nothing stands there that isn't told
   pub tidy : (names : Names) → IsTidy names (content_of trees)
+  -- what stands there is in its rules, by any books
+  pub rules : (shelf : Shelf) → IsInRules shelf (content_of trees)
+  pub plain : ArePlain trees
 
 -- inside a transaction
 pub record BuildsBook (text : BookText) (old new : State) : Type 0 where

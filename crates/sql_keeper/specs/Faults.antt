@@ -2,7 +2,7 @@
 -- Source: profile.
 use Rattle.std.specs.Prelude.{◌≡◌, ℕ, true, false}
 use Rattle.shelves.specs.Words.{BookText}
-use Rattle.book_fields.specs.Faults.{number_of}
+use Rattle.tariffs.specs.Faults.{number_of}
 use Rattle.sqlite_schema.specs.declared.schema.Schema.{Schema}
 use Rattle.sql_tables.specs.Ours.{has_ours}
 use Rattle.sql_keeper.specs.Books.{IsBookFault, IsBookText}

@@ -4,15 +4,18 @@ use Rattle.std.specs.Prelude.{◌≡◌, ◌⊎◌, IfErr, IfOk, OnOk, IsTrue, R
 use Rattle.std.specs.String.{string_bytes}
 use Rattle.sqlite_trees.specs.Tree.{Trees}
 use Rattle.sqlite.specs.State.{State, HasCleanDisk, Survives}
-use Rattle.sql_tables.specs.Schema.{latest}
+use Rattle.sqlite_schema.specs.Rules.{Fits}
+use Rattle.sql_tables.specs.Schema.{book_schema, latest}
 use Rattle.sql_tables.specs.Statements.{HasIdleBook, IsStill, OnlyReads}
 use Rattle.sql_rows.specs.Content.{content_of}
-use Rattle.sql_opening.specs.declared.fault.OpenFault.{OpenFault}
-use Rattle.sql_opening.specs.declared.fault.OpenFault.TheVariants.{Foreign, Version, Rules, Older}
+use Rattle.sql_rows.specs.Plain.{ArePlain}
+use Rattle.sql_rules.specs.Ruled.{IsInRules}
+use Rattle.sql_tables.specs.declared.fault.OpenFault.{OpenFault}
+use Rattle.sql_tables.specs.declared.fault.OpenFault.TheVariants.{Foreign, Version, Rules, Older}
 use Rattle.sql_keeper.specs.Books.{IsBookOf}
 use Rattle.sql_keeper.specs.Causes.{AreUnruled, HasFault, IsOtherThan, IsStores}
 use Rattle.sql_keeper.specs.Content.{last_in}
-use Rattle.sql_keeper.specs.Opened.{IsKept}
+use Rattle.sql_keeper.specs.Left.{IsKept}
 use Rattle.sql_keeper.specs.Shelves.{IsShelfOf}
 use Rattle.sql_keeper.specs.declared.books.ReadBooks.{ReadBooks}
 
@@ -21,6 +24,12 @@ pub record IsReadOf (r : ReadBooks) (trees : Trees) : Type 0 where
   pub kept : IsKept trees (string_bytes r.text)
   pub books : IsShelfOf (string_bytes r.text) (content_of trees).books r.own
   pub last : r.last ≡ last_in (content_of trees).meta
+
+-- and each row is in its rules, as the statements write it
+pub record IsReadRuled (r : ReadBooks) (trees : Trees) : Type 0 where
+  pub read : IsReadOf r trees
+  pub rules : Fits book_schema trees → IsInRules r.own (content_of trees)
+  pub plain : ArePlain trees
 
 -- several reads of tables of the latest version: what is kept once there, and the shelf of the
 -- texts that are kept; nothing was written

@@ -1,8 +1,12 @@
--- What a session has of a rating group, made of its row and of what is held for the session.
+-- What sessions have of rating groups, made of their rows and of what is held for them.
 -- Source: profile.
 use Rattle.std.specs.Prelude.{◌≡◌, ℕ, ◌==◌, ◌&&◌, ◌||◌, Bool, true, not, List, Option, Some, None}
-use Rattle.std.specs.Prelude.{option_map, unwrap_or, nat_lt, if◌then◌else◌}
+use Rattle.std.specs.Prelude.{option_map, unwrap_or, nat_lt, map, filter}
+use Rattle.std.specs.Prelude.{[], ◌∷◌, false}
 use Rattle.std.specs.List.{find, list_all, list_any, AllZip}
+use Rattle.std.specs.Ordering.{nat_cmp, is_lt, ordering_then}
+use Rattle.std.specs.declared.cmp.Ordering.{Ordering}
+use Rattle.std.specs.Cmp.Lexicographic.{slice_cmp}
 use Rattle.units.specs.Words.{GroupId, BookNumber}
 use Rattle.identifiers.specs.Words.{SessionName}
 use Rattle.buckets.specs.Words.{BucketNumber, BucketAmount}
@@ -11,21 +15,42 @@ use Rattle.buckets.specs.Row.{Row}
 use Rattle.buckets.specs.Share.{parts}
 use Rattle.rating.specs.declared.grant.Periods.{Periods}
 use Rattle.tariffs.specs.Names.{period_named}
+use Rattle.reserving.specs.Rows.{EachIn}
 use Rattle.reserving.specs.declared.session.SessionGroup.{SessionGroup}
 use Rattle.reserving.specs.declared.session.Reservation.{Reservation}
 use Rattle.reserving.specs.declared.session.Terms.{Terms}
-use Rattle.reserving.specs.Sessions.{group_in}
-use Rattle.keepers.specs.Tables.{group_row, held_of}
 use Rattle.sql_tables.specs.Keyed.{same_name}
-use Rattle.sql_rows.specs.declared.grant_book_rows.GrantBook.{GrantBook}
 use Rattle.sql_rows.specs.declared.hold_rows.HeldColumns.{HeldColumns}
-use Rattle.sql_rows.specs.Content.{Rows as Stored}
-use Rattle.sql_rows.specs.Lists.{GroupAt}
+use Rattle.sql_rows.specs.declared.session_book_rows.SessionBook.{SessionBook}
+use Rattle.sql_rows.specs.declared.session_hold_rows.SessionHold.{SessionHold}
+use Rattle.sql_rows.specs.Lists.{Ascends, OpenGroupAt, session_book_before, session_hold_before}
+use Rattle.sql_rows.specs.Texts.{session_book_at, session_hold_at}
 use Rattle.sql_rows.specs.Values.{PeriodNames}
-use Rattle.sql_keeper.specs.Content.{group_in as group_told, is_reserved, held_in, Names}
-use Rattle.sql_keeper.specs.Content.{names_numbered}
+use Rattle.sql_keeper.specs.Content.{Names, names_numbered}
 
 -- ---- what is held for a session
+
+-- of what is held for sessions
+abbrev pub held_for : SessionName → List SessionHold → List HeldColumns
+held_for s held =
+    map (λ (x : SessionHold). x.columns)
+    (filter (λ (x : SessionHold). same_name x.session s) held)
+
+-- in the order of sessions, of each one's rating groups, and of each one's buckets
+abbrev pub DoHoldsRise : List SessionHold → Type 0
+DoHoldsRise held = Ascends session_hold_before (map session_hold_at held)
+
+-- what is held for a session before this one
+abbrev pub precedes : SessionName → SessionHold → Bool
+precedes s x = is_lt (slice_cmp nat_cmp x.session s)
+
+-- behind what is held for another session nothing is held for this one
+abbrev pub IsRun : SessionName → List SessionHold → Type 0
+IsRun s [] = Unit {0}
+IsRun s (x ∷ xs) =
+    (same_name x.session s ≡ false →
+    EachIn (λ (y : SessionHold). same_name y.session s ≡ false) xs)
+    × IsRun s xs
 
 -- of a bucket for a rating group, in micro-units; 0 where nothing is
 abbrev pub amount_of : GroupId → List HeldColumns → BucketNumber → BucketAmount
@@ -52,9 +77,22 @@ pub record ArePeriodsOf (names : List (List ℕ)) (p : PeriodNames) (periods : P
   pub before : period_named names p.before ≡ Some periods.before
   pub after : period_named names p.after ≡ Some periods.after
 
--- the number of the book that a reservation goes by
-abbrev pub book_of : GroupId → List GrantBook → Option BookNumber
-book_of g books = option_map (λ (x : GrantBook). x.book) (find (λ x. x.group == g) books)
+-- in the order of sessions, and of each one's rating groups
+abbrev pub DoBooksRise : List SessionBook → Type 0
+DoBooksRise books = Ascends session_book_before (map session_book_at books)
+
+abbrev pub compare_books : SessionBook → SessionBook → Ordering
+compare_books x y =
+    ordering_then (slice_cmp nat_cmp x.session y.session)
+    (nat_cmp x.columns.group y.columns.group)
+
+-- the row of a session and a rating group
+abbrev pub is_book : SessionName → GroupId → SessionBook → Bool
+is_book s g x = same_name x.session s && x.columns.group == g
+
+-- the number of the book that a session's reservation in a rating group goes by
+abbrev pub book_of : SessionName → GroupId → List SessionBook → Option BookNumber
+book_of s g books = option_map (λ (x : SessionBook). x.columns.book) (find (is_book s g) books)
 
 -- the terms of a reservation of this book with these names, which its periods have there
 pub record AreTermsOf (names : Names) (number : Option BookNumber) (p : PeriodNames) (x : Terms)
@@ -68,33 +106,25 @@ pub record AreHoldsOf (buckets : List Row) (held : List HeldColumns) (g : GroupI
   pub order : holds ≡ holds_along buckets g held
   pub all : are_held_of buckets g held ≡ true
 
--- a reservation is there where it has names of periods
-abbrev pub IsReservationOf : Names → List Row → List HeldColumns → List GrantBook → GroupId →
+-- a reservation is there where it has names of periods; it goes by the book of the number
+abbrev pub IsReservationOf : Names → List Row → List HeldColumns → Option BookNumber → GroupId →
     Option PeriodNames → Option Reservation → Type 0
-IsReservationOf names buckets held books g None None = Unit {0}
-IsReservationOf names buckets held books g None (Some r) = ⊥
-IsReservationOf names buckets held books g (Some p) None = ⊥
-IsReservationOf names buckets held books g (Some p) (Some r) =
-    AreTermsOf names (book_of g books) p r.terms × AreHoldsOf buckets held g r.holds
+IsReservationOf names buckets held number g None None = Unit {0}
+IsReservationOf names buckets held number g None (Some r) = ⊥
+IsReservationOf names buckets held number g (Some p) None = ⊥
+IsReservationOf names buckets held number g (Some p) (Some r) =
+    AreTermsOf names number p r.terms × AreHoldsOf buckets held g r.holds
 
 -- what a session has of a rating group is that of the row
-pub record IsGroupOf (names : Names) (buckets : List Row) (held : List HeldColumns)
-    (books : List GrantBook) (s : SessionName) (c : GroupAt) (x : SessionGroup) : Type 0 where
-  pub session : x.session ≡ s
+pub record IsGroupOf (names : Names) (buckets : List Row) (held : List SessionHold)
+    (books : List SessionBook) (c : OpenGroupAt) (x : SessionGroup) : Type 0 where
+  pub session : x.session ≡ c.session
   pub group : x.group ≡ c.group
   pub used : x.used ≡ c.row.used
-  pub reservation : IsReservationOf names buckets held books c.group c.row.periods x.reservation
+  pub reservation : IsReservationOf names buckets (held_for c.session held)
+      (book_of c.session c.group books) c.group c.row.periods x.reservation
 
 -- so is each of a list
-abbrev pub AreGroupsOf : Names → List Row → List HeldColumns → List GrantBook → SessionName →
-    List GroupAt → List SessionGroup → Type 0
-AreGroupsOf names buckets held books s cs xs = AllZip (IsGroupOf names buckets held books s) cs xs
-
--- all that one session has, as of an open one, and nothing of another
-pub record AreSessionGroups (names : Names) (rows : Stored) (s : SessionName)
-    (xs : List SessionGroup) : Type 0 where
-  pub groups : (t : SessionName) (g : GroupId) → option_map group_row (group_in t g xs) ≡
-      (if same_name s t
-      then option_map (group_told names true (rows.grant_books t g)) (rows.groups t g) else None)
-  pub holds : (t : SessionName) (g : GroupId) (n : BucketNumber) → held_of n (group_in t g xs) ≡
-      (if same_name s t then held_in (is_reserved (rows.groups t g)) (rows.holds t g n) else 0)
+abbrev pub AreGroupsOf : Names → List Row → List SessionHold → List SessionBook →
+    List OpenGroupAt → List SessionGroup → Type 0
+AreGroupsOf names buckets held books cs xs = AllZip (IsGroupOf names buckets held books) cs xs

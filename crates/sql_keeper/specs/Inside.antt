@@ -13,7 +13,7 @@ use Rattle.sql_rows.specs.Content.{content_of}
 use Rattle.keepers.specs.Faults.{max_failures}
 use Rattle.keepers.specs.Tables.{Tables}
 use Rattle.sql_keeper.specs.Content.{tables_of, shelf_names, Names}
-use Rattle.sql_keeper.specs.Left.{IsHeld, IsLeft}
+use Rattle.sql_keeper.specs.Left.{IsHeld, IsLeftRuled}
 
 pub record KeeperState (S : Type 0) : Type 0 where
   pub connection : Held S
@@ -52,7 +52,7 @@ StaysOpen s = HasCleanDisk s → s.faults ≡ 0 → IsTrue s.is_open
 
 -- what a keeper keeps between calls: no transaction is open, and the tables are there; an open
 -- would find them again with its text, its shelf and its last moment, and an open after a stop,
--- also after a failure that shut the connection, with its text
+-- also after a failure that shut the connection, with its text; no row is why it would be refused
 pub record IsKeeper {S : Type 0} (g : Ghosts S) (k : KeeperState S) : Type 0 where
   pub bounded : k.failures ≤ max_failures
   pub plain : k.connection.in_transaction ≡ false
@@ -61,7 +61,7 @@ pub record IsKeeper {S : Type 0} (g : Ghosts S) (k : KeeperState S) : Type 0 whe
   pub held : HasCleanDisk (state g k.connection) → IsTrue (state g k.connection).is_open
       → IsHeld k.text k.shelf k.last (state g k.connection).now.trees
   pub found : HasCleanDisk (state g k.connection) → (db : Trees)
-      → (state g k.connection).may_leave db → IsLeft k.text db
+      → (state g k.connection).may_leave db → IsLeftRuled k.text db
 
 -- ---- what the laws of keepers speak of
 

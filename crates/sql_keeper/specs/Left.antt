@@ -12,6 +12,8 @@ use Rattle.sql_tables.specs.Schema.{book_schema, latest}
 use Rattle.sql_tables.specs.Statements.{AreStored}
 use Rattle.sql_rows.specs.Values.{Meta}
 use Rattle.sql_rows.specs.Content.{content_of}
+use Rattle.sql_rows.specs.Plain.{ArePlain}
+use Rattle.sql_rules.specs.Ruled.{IsInRules}
 use Rattle.sql_keeper.specs.Content.{last_in}
 use Rattle.sql_keeper.specs.Shelves.{HasShelf, IsShelfOf}
 
@@ -33,8 +35,16 @@ pub record IsLeft (text : BookText) (trees : Trees) : Type 0 where
   pub utf8 : IsUtf8 text
   pub shelf : HasShelf text (content_of trees).books
 
+-- and as the commands of this system leave them: each row is in its rules, by the books of the
+-- text, and as the statements write it
+pub record IsLeftRuled (text : BookText) (trees : Trees) : Type 0 where
+  pub left : IsLeft text trees
+  pub rules : (shelf : Shelf) → IsShelfOf text (content_of trees).books shelf
+      → IsInRules shelf (content_of trees)
+  pub plain : ArePlain trees
+
 -- the tables would be found again with this text, with this shelf and with this last moment
 pub record IsHeld (text : BookText) (shelf : Shelf) (last : Moment) (trees : Trees) : Type 0 where
-  pub left : IsLeft text trees
+  pub left : IsLeftRuled text trees
   pub books : IsShelfOf text (content_of trees).books shelf
   pub moment : last ≡ last_in (content_of trees).meta

@@ -23,6 +23,8 @@ pub mod OlderVersions
 pub mod Opened
 pub mod Repeating
 pub mod RuledOpening
+pub mod RuledRows
+pub mod Seen
 pub mod Settled
 pub mod Shelves
 pub mod Stops

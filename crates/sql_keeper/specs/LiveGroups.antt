@@ -1,7 +1,7 @@
 -- What sessions have of rating groups, with what is held there, read from the tables.
 -- Source: profile.
-use Rattle.std.specs.Prelude.{◌≡◌, Bool, true, false, List, None, Result, IfOk, OnOk, IsTrue}
-use Rattle.std.specs.Prelude.{option_map, is_some, if◌then◌else◌}
+use Rattle.std.specs.Prelude.{◌≡◌, true, false, List, None, Result, IfOk, OnOk, IsTrue}
+use Rattle.std.specs.Prelude.{option_map, if◌then◌else◌}
 use Rattle.units.specs.Words.{GroupId}
 use Rattle.identifiers.specs.Words.{SessionName}
 use Rattle.buckets.specs.Words.{BucketNumber}
@@ -9,7 +9,8 @@ use Rattle.sqlite_trees.specs.Tree.{Trees}
 use Rattle.sqlite.specs.State.{State, HasCleanDisk, Survives}
 use Rattle.reserving.specs.declared.session.Session.{Session}
 use Rattle.reserving.specs.declared.session.SessionGroup.{SessionGroup}
-use Rattle.reserving.specs.Sessions.{session_in, group_in, is_open}
+use Rattle.reserving.specs.Left.{is_open_row}
+use Rattle.reserving.specs.Sessions.{group_in, is_open}
 use Rattle.keepers.specs.Change.{is_loaded}
 use Rattle.keepers.specs.Tables.{Rows, group_row, held_of}
 use Rattle.sql_tables.specs.Statements.{OnlyReads}
@@ -29,20 +30,21 @@ pub record Gathers {A E : Type 0} (told : Trees → A → Type 0) (old new : Sta
     -- a stop leaves what it left before
     pub survives : Survives old new (λ _. old.is_open ≡ false)
 
--- the session is one of the list
-abbrev pub is_among : SessionName → List Session → Bool
-is_among s sessions = is_some (session_in s sessions)
-
--- what the sessions of a list have of rating groups, and what their reservations hold: all of it,
--- each as of a session that is open, and of no other session
-pub record AreLiveGroups (names : Names) (rows : Stored) (sessions : List Session)
-    (xs : List SessionGroup) : Type 0 where
+-- what the open sessions have of rating groups, and what their reservations hold: all of it, and of
+-- no other session
+pub record AreLiveGroups (names : Names) (rows : Stored) (xs : List SessionGroup) : Type 0 where
   pub groups : (s : SessionName) (g : GroupId) → option_map group_row (group_in s g xs) ≡
-      (if is_among s sessions
+      (if is_open_row (rows.sessions s)
       then option_map (group_told names true (rows.grant_books s g)) (rows.groups s g) else None)
   pub holds : (s : SessionName) (g : GroupId) (n : BucketNumber) → held_of n (group_in s g xs) ≡
-      (if is_among s sessions
+      (if is_open_row (rows.sessions s)
       then held_in (is_reserved (rows.groups s g)) (rows.holds s g n) else 0)
+
+-- the open sessions, and what they have of rating groups
+pub record AreOpenSessions (names : Names) (rows : Stored) (ss : List Session)
+    (xs : List SessionGroup) : Type 0 where
+  pub sessions : AreSessions (λ x. is_open x.state) rows ss
+  pub groups : AreLiveGroups names rows xs
 
 -- of an account's rows, what is loaded of groups and holds
 pub record AreLoadedGroups (r : Rows) (xs : List SessionGroup) : Type 0 where
@@ -54,6 +56,5 @@ pub record AreLoadedGroups (r : Rows) (xs : List SessionGroup) : Type 0 where
 -- what the open sessions have is what is loaded
 abbrev pub AreOpenGroupsLoaded : Type 0
 AreOpenGroupsLoaded =
-    (names : Names) (rows : Stored) (sessions : List Session) (xs : List SessionGroup)
-    → AreSessions (λ x. is_open x.state) rows sessions → AreLiveGroups names rows sessions xs
+    (names : Names) (rows : Stored) (xs : List SessionGroup) → AreLiveGroups names rows xs
     → AreLoadedGroups (rows_of names rows) xs

@@ -42,7 +42,7 @@ pub record AreLiveRows (names : Names) (rows : Stored) (bs : List Row) (ss : Lis
     (xs : List SessionGroup) : Type 0 where
   pub buckets : AreLiveBuckets rows bs
   pub sessions : AreSessions (λ x. is_open x.state) rows ss
-  pub groups : AreLiveGroups names rows ss xs
+  pub groups : AreLiveGroups names rows xs
 
 -- the rows of an account with this head
 abbrev pub account_with : HeadColumns → LiveRows → List Counter → StoredRows

@@ -12,7 +12,7 @@ use Rattle.sqlite_trees.specs.Objects.{catalog_tree}
 use Rattle.sqlite_trees.specs.Tree.{Trees}
 use Rattle.sqlite_catalog.specs.Listing.{Lists}
 use Rattle.sqlite.specs.Held.{Held, state}
-use Rattle.sqlite.specs.State.{State, HasCleanDisk, Shows, Survives}
+use Rattle.sqlite.specs.State.{KeepsCommit, State, HasCleanDisk, Shows, Survives}
 use Rattle.shelves.specs.Shelves.{Shelf}
 use Rattle.sql_tables.specs.Schema.{book_schema, latest, schema_at}
 use Rattle.sql_tables.specs.Stages.{AreStoredAt}
@@ -24,17 +24,18 @@ use Rattle.sql_rows.specs.Each.{with_each}
 use Rattle.sql_rows.specs.declared.reserved_rows.ReservedColumns.{ReservedColumns}
 use Rattle.sql_rows.specs.Ruled.{AreRuledReserved, IsRuledMeta}
 use Rattle.sql_rows.specs.Values.{Meta}
-use Rattle.sql_opening.specs.Opens.{IsVersion}
-use Rattle.sql_opening.specs.declared.fault.OpenFault.{OpenFault}
-use Rattle.sql_opening.specs.declared.fault.OpenFault.TheVariants.{Foreign, Version, Rules, Older}
-use Rattle.sql_opening.specs.declared.fault.OpenFault.TheVariants.{Store}
+use Rattle.sql_rules.specs.Tables.{AreRuled}
+use Rattle.sql_tables.specs.Opens.{IsVersion}
+use Rattle.sql_tables.specs.declared.fault.OpenFault.{OpenFault}
+use Rattle.sql_tables.specs.declared.fault.OpenFault.TheVariants.{Foreign, Version, Rules, Older}
+use Rattle.sql_tables.specs.declared.fault.OpenFault.TheVariants.{Store}
 use Rattle.sql_keeper.specs.Books.{IsBookOf}
 use Rattle.sql_keeper.specs.Causes.{IsOtherThan}
 use Rattle.sql_keeper.specs.Content.{Names, is_reserved, tables_of}
-use Rattle.sql_keeper.specs.Finds.{FindsBooks}
 use Rattle.sql_keeper.specs.Inside.{KeeperState, IsClean}
 use Rattle.sql_keeper.specs.Left.{IsHeld}
-use Rattle.sql_keeper.specs.Opened.{IsFresh, IsLeft}
+use Rattle.sql_keeper.specs.Opened.{IsFresh, IsLeftRuled}
+use Rattle.sql_keeper.specs.RuledOpening.{FindsRuled}
 use Rattle.sql_keeper.specs.Shelves.{HasShelf, IsShelfOf}
 use Rattle.sql_keeper.specs.Tidy.{IsTidy}
 use Rattle.sql_keeper.specs.Stops.{trees_in}
@@ -88,11 +89,11 @@ pub record BecomesLatest (v : TablesVersion) (old new : Trees) : Type 0 where
 pub record IsLeftLatest (v : TablesVersion) (old new : Trees) : Type 0 where
   pub becomes : BecomesLatest v old new
   pub text : BookText
-  pub left : IsLeft text new
+  pub left : IsLeftRuled text new
 
 -- a database of a version in the rules of who migrates it: no rowid stands twice, what is kept once
--- is there and in its rules, with the texts of a shelf where it tells that version, and each
--- reservation that gets a row of its book is in its rules
+-- is there and in its rules, with the texts of a shelf where it tells that version, each
+-- reservation that gets a row of its book is in its rules, and so is each row, by that shelf
 pub record IsRuledAt (v : TablesVersion) (trees : Trees) : Type 0 where
   pub stored : AreStoredAt v trees
   pub row : Meta
@@ -100,6 +101,7 @@ pub record IsRuledAt (v : TablesVersion) (trees : Trees) : Type 0 where
   pub ruled : IsRuledMeta row
   pub shelf : row.version ≡ v → HasShelf row.book (content_at v trees).books
   pub reserved : v < 2 → AreRuledReserved (content_at v trees)
+  pub rows : (s : Shelf) → IsShelfOf row.book (content_at v trees).books s → AreRuled s v trees
 
 -- the first book's number for each of these reservations
 abbrev pub with_first_books : List ReservedColumns → Content → Content
@@ -135,6 +137,43 @@ HasAt v s = HasCleanDisk s → IsTrue s.is_open → IsAt v s
 abbrev pub HasIdleAt : TablesVersion → State → Type 0
 HasIdleAt v s = HasCleanDisk s → IsTrue s.is_open → IsAt v s × (s.now ≡ s.committed)
 
+-- each row of a version is in its rules, by the shelf of the texts that are kept
+abbrev pub AreRowsRuled : TablesVersion → Trees → Type 0
+AreRowsRuled v trees = (row : Meta) (s : Shelf) → (content_of trees).meta ≡ Some row
+    → IsShelfOf row.book (content_at v trees).books s → AreRuled s v trees
+
+abbrev pub HasRuledRows : TablesVersion → State → Type 0
+HasRuledRows v s = HasCleanDisk s → IsTrue s.is_open → AreRowsRuled v s.now.trees
+
+-- ---- the shelf alone
+
+-- it is that of the texts that are kept
+pub record IsShelfAt (v : TablesVersion) (trees : Trees) (r : ReadBooks) : Type 0 where
+  pub row : Meta
+  pub is : (content_of trees).meta ≡ Some row
+  pub shelf : IsShelfOf row.book (content_at v trees).books r.own
+
+-- inside a transaction that isn't committed: the shelf of what is kept is read, or a fault says why
+-- not
+pub record ReadsShelf (v : TablesVersion) (old new : State) (result : Result ReadBooks OpenFault)
+    : Type 0 where
+  pub shelf : HasCleanDisk new → IfOk result (IsShelfAt v old.now.trees)
+  pub kept : HasCleanDisk new → KeepsCommit old new
+  pub version : HasCleanDisk new → IfErr result (λ e. e ≡ Version → IsOtherThan v old.now.trees)
+  pub rules : HasCleanDisk new → IfErr result (λ e. e ≡ Rules → ¬ IsRuledAt v old.now.trees)
+  pub other : IfErr result (λ e. (¬ (e ≡ Foreign)) × (¬ (e ≡ Older)))
+  pub survives : Survives old new (λ _. ⊥)
+
+-- outside it: nothing is changed
+pub record FindsShelf (v : TablesVersion) (old new : State) (result : Result ReadBooks OpenFault)
+    : Type 0 where
+  pub shelf : HasCleanDisk new → IfOk result (IsShelfAt v old.now.trees)
+  pub still : HasCleanDisk new → IsTrue new.is_open → IsStill old new
+  pub version : HasCleanDisk new → IfErr result (λ e. e ≡ Version → IsOtherThan v old.now.trees)
+  pub rules : HasCleanDisk new → IfErr result (λ e. e ≡ Rules → ¬ IsRuledAt v old.now.trees)
+  pub other : IfErr result (λ e. (¬ (e ≡ Foreign)) × (¬ (e ≡ Older)))
+  pub survives : Survives old new (λ _. ⊥)
+
 -- ---- within the transaction, and over it
 
 -- the tables would be found again with what was read
@@ -169,6 +208,15 @@ pub record MigratesTables (v : TablesVersion) (old new : State)
   pub other : IfErr result (λ e. (¬ (e ≡ Foreign)) × (¬ (e ≡ Older)))
   pub survives : Survives old new (IsLeftLatest v old.now.trees)
 
+-- the same where each row was tested before; a fault is of the shelf, of a row or of the migration
+pub record MigratesRuled (v : TablesVersion) (old new : State)
+    (result : Result ReadBooks OpenFault) : Type 0 where
+  pub moved : IfOk result (λ r. MigratesTables v old new (Ok r))
+  pub version : HasCleanDisk new → IfErr result (λ e. e ≡ Version → IsOtherThan v old.now.trees)
+  pub rules : HasCleanDisk new → IfErr result (λ e. e ≡ Rules → ¬ IsRuledAt v old.now.trees)
+  pub other : IfErr result (λ e. (¬ (e ≡ Foreign)) × (¬ (e ≡ Older)))
+  pub survives : Survives old new (IsLeftLatest v old.now.trees)
+
 -- ---- how it ends
 
 -- the version that the database had is one that there is, and so the keeper holds what it held; one
@@ -179,7 +227,7 @@ pub record IsMigrated {S : Type 0} (g : Ghosts S) (old : Held S) (k : KeeperStat
     pub fresh : IsFresh k shelf
     pub books : HasCleanDisk (state g k.connection) →
         IsShelfOf k.text (content_of (trees_in g k)).books shelf
-    pub left : HasCleanDisk (state g k.connection) → IsLeft k.text (trees_in g k)
+    pub left : HasCleanDisk (state g k.connection) → IsLeftRuled k.text (trees_in g k)
     pub clean : HasCleanDisk (state g k.connection) → IsClean (state g k.connection)
     pub version : ℕ
     pub known : IsVersion version
@@ -213,5 +261,5 @@ IsNotMigrated g old new fault = FindsNone (state g old) (state g new) fault
 abbrev pub FindsAny : State → State → Result ReadBooks OpenFault → Type 0
 FindsAny old new (Ok r) = (v : TablesVersion) × IsVersion v
     × (HasCleanDisk new → old.now.schema ≡ schema_at v)
-    × (v ≡ latest → FindsBooks old new (Ok r)) × (v < latest → MigratesTables v old new (Ok r))
+    × (v ≡ latest → FindsRuled old new (Ok r)) × (v < latest → MigratesTables v old new (Ok r))
 FindsAny old new (Err e) = FindsNone old new e

@@ -3,8 +3,8 @@
 use Rattle.std.specs.Prelude.{◌≡◌, Result, IfErr, OnOk}
 use Rattle.sql_tables.specs.Words.{TablesVersion}
 use Rattle.sqlite.specs.State.{State, HasCleanDisk, Survives}
-use Rattle.sql_opening.specs.declared.fault.OpenFault.{OpenFault}
-use Rattle.sql_opening.specs.declared.fault.OpenFault.TheVariants.{Foreign, Version, Rules, Older}
+use Rattle.sql_tables.specs.declared.fault.OpenFault.{OpenFault}
+use Rattle.sql_tables.specs.declared.fault.OpenFault.TheVariants.{Foreign, Version, Rules, Older}
 use Rattle.sql_keeper.specs.Causes.{IsOtherThan, IsUnruledMeta, KeepsVersion}
 
 -- inside a transaction that isn't committed: the version of the tables is kept, or a fault says why

@@ -7,17 +7,19 @@ use Rattle.sqlite_trees.specs.declared.store.Store.{Ghosts}
 use Rattle.sqlite.specs.Held.{Held, state}
 use Rattle.sqlite.specs.State.{HasCleanDisk, Survives}
 use Rattle.sql_tables.specs.Statements.{IsStill}
+use Rattle.sql_tables.specs.Schema.{latest}
 use Rattle.sql_tables.specs.Texts.{stage}
 use Rattle.sql_rows.specs.Content.{content_of}
-use Rattle.sql_opening.specs.declared.fault.OpenFault.{OpenFault}
+use Rattle.sql_tables.specs.declared.fault.OpenFault.{OpenFault}
+use Rattle.sql_rules.specs.Tables.{AreRuled}
 use Rattle.keepers.specs.Tables.{no_tables}
 use Rattle.sql_keeper.specs.Books.{IsBookOf}
-use Rattle.sql_keeper.specs.Causes.{HasFault, IsStores}
 use Rattle.sql_keeper.specs.Creates.{IsNewBook}
 use Rattle.sql_keeper.specs.Faults.{IsCreateFault}
 use Rattle.sql_keeper.specs.declared.create_fault.CreateFault.{CreateFault}
 use Rattle.sql_keeper.specs.Inside.{KeeperState, IsClean, IsKeeper, tables_in}
-pub use Rattle.sql_keeper.specs.Left.{IsKept, IsLeft}
+pub use Rattle.sql_keeper.specs.Left.{IsKept, IsLeft, IsLeftRuled}
+use Rattle.sql_keeper.specs.RuledOpening.{IsRowFault}
 use Rattle.sql_keeper.specs.Shelves.{IsShelfOf}
 use Rattle.sql_keeper.specs.Stops.{trees_in}
 
@@ -42,6 +44,8 @@ pub record IsCreated {S : Type 0} (g : Ghosts S) (text : BookText) (old : Held S
   pub tables : HasCleanDisk (state g k.connection) → tables_in g k ≡ no_tables
   -- as an open finds them again
   pub left : HasCleanDisk (state g k.connection) → IsLeft text (trees_in g k)
+  -- and as the commands of this system leave them
+  pub ruled : HasCleanDisk (state g k.connection) → IsLeftRuled text (trees_in g k)
   pub survives : Survives (state g old) (state g k.connection) (IsNewBook text)
 
 -- nothing is changed; a stop leaves what it left before, or the new tables
@@ -55,7 +59,7 @@ pub record IsNotCreated {S : Type 0} (g : Ghosts S) (text : BookText) (old new :
 
 -- ---- opened
 
--- the keeper holds what was there, and nothing was written
+-- the keeper holds what was there, each row is in its rules, and nothing was written
 pub record IsOpened {S : Type 0} (g : Ghosts S) (old : Held S) (k : KeeperState S)
     (shelf : Shelf) : Type 0
   where
@@ -63,13 +67,14 @@ pub record IsOpened {S : Type 0} (g : Ghosts S) (old : Held S) (k : KeeperState 
     pub keeper : IsKeeper g k
     pub books : HasCleanDisk (state g k.connection) →
         IsShelfOf k.text (content_of (trees_in g k)).books shelf
-    pub left : HasCleanDisk (state g k.connection) → IsLeft k.text (trees_in g k)
+    pub left : HasCleanDisk (state g k.connection) → IsLeftRuled k.text (trees_in g k)
+    pub ruled : HasCleanDisk (state g k.connection) → AreRuled shelf latest (trees_in g k)
     pub clean : HasCleanDisk (state g k.connection) → IsClean (state g k.connection)
     pub still : HasCleanDisk (state g k.connection) → IsStill (state g old) (state g k.connection)
     pub survives : Survives (state g old) (state g k.connection) (λ _. ⊥)
 
--- nothing was written; the fault is the store's or memory's, or the database has it
+-- nothing was written; the fault is the store's or memory's, or the database has it, or a row
 pub record IsNotOpened {S : Type 0} (g : Ghosts S) (old new : Held S)
     (fault : OpenFault) : Type 0 where
   pub survives : Survives (state g old) (state g new) (λ _. ⊥)
-  pub cause : HasCleanDisk (state g new) → IsStores fault ⊎ HasFault fault (state g old).now
+  pub cause : HasCleanDisk (state g new) → IsRowFault fault (state g old).now

@@ -3,24 +3,19 @@
 use Rattle.std.specs.Prelude.{◌≡◌, ◌⊎◌, IfErr, IfOk, OnOk, IsTrue, Result}
 use Rattle.std.specs.String.{string_bytes}
 use Rattle.shelves.specs.Shelves.{Shelf}
-use Rattle.sqlite_trees.specs.declared.store.Store.{Ghosts}
 use Rattle.sqlite.specs.Effect.{Database}
-use Rattle.sqlite.specs.Held.{Held, state}
 use Rattle.sqlite.specs.State.{State, HasCleanDisk, Survives}
 use Rattle.sql_tables.specs.Schema.{latest, schema_at}
 use Rattle.sql_tables.specs.Stages.{AreStoredAt}
 use Rattle.sql_tables.specs.Statements.{HasIdleBook, IsStill}
 use Rattle.sql_rows.specs.Content.{content_of}
-use Rattle.sql_opening.specs.declared.fault.OpenFault.{OpenFault}
-use Rattle.sql_opening.specs.declared.fault.OpenFault.TheVariants.{Rules}
+use Rattle.sql_tables.specs.declared.fault.OpenFault.{OpenFault}
+use Rattle.sql_tables.specs.declared.fault.OpenFault.TheVariants.{Rules}
 use Rattle.sql_rules.specs.Tables.{AreRuled}
 use Rattle.sql_keeper.specs.Books.{IsBookOf}
 use Rattle.sql_keeper.specs.Causes.{HasFault, IsStores, KeepsVersion}
 use Rattle.sql_keeper.specs.Finds.{IsReadOf}
-use Rattle.sql_keeper.specs.Inside.{KeeperState}
-use Rattle.sql_keeper.specs.Opened.{IsOpened}
 use Rattle.sql_keeper.specs.Shelves.{IsShelfOf}
-use Rattle.sql_keeper.specs.Stops.{trees_in}
 use Rattle.sql_keeper.specs.declared.books.ReadBooks.{ReadBooks}
 
 -- ---- why it isn't opened
@@ -55,16 +50,3 @@ pub record FindsRuled (old new : State) (result : Result ReadBooks OpenFault) : 
   pub idle : OnOk result (HasIdleBook new)
   pub cause : HasCleanDisk new → IfErr result (λ fault. IsRowFault fault old.now)
   pub survives : Survives old new (λ _. ⊥)
-
--- the keeper holds what was there, each row is in its rules, and nothing was written
-pub record IsOpenedRuled {S : Type 0} (g : Ghosts S) (old : Held S) (k : KeeperState S)
-    (shelf : Shelf) : Type 0
-  where
-    pub opened : IsOpened g old k shelf
-    pub ruled : HasCleanDisk (state g k.connection) → AreRuled shelf latest (trees_in g k)
-
--- nothing was written; the fault is the store's or memory's, or the database has it, or a row
-pub record IsNotOpenedRuled {S : Type 0} (g : Ghosts S) (old new : Held S)
-    (fault : OpenFault) : Type 0 where
-  pub survives : Survives (state g old) (state g new) (λ _. ⊥)
-  pub cause : HasCleanDisk (state g new) → IsRowFault fault (state g old).now

@@ -1,6 +1,7 @@
 -- A sweep: each account's rows at a later moment, written one account after another.
 -- Source: profile.
 use Rattle.std.specs.Prelude.{◌≡◌, ◌≤◌, List, Option, Some, None, map, nat_le, if◌then◌else◌}
+use Rattle.std.specs.Prelude.{IsTrue, is_some}
 use Rattle.units.specs.Words.{Moment}
 use Rattle.identifiers.specs.Words.{AccountName}
 use Rattle.shelves.specs.Words.{BookText}
@@ -14,7 +15,9 @@ use Rattle.keepers.specs.Change.{IsSwept}
 use Rattle.sql_rows.specs.Content.{Rows as Stored, Content, content_of, with_meta}
 use Rattle.sql_rows.specs.Each.{with_each}
 use Rattle.sql_rows.specs.Lists.{AreAccounts}
-use Rattle.sql_keeper.specs.Content.{tables_of, Names}
+use Rattle.sql_rows.specs.Plain.{ArePlain}
+use Rattle.sql_rules.specs.Ruled.{IsInRules}
+use Rattle.sql_keeper.specs.Content.{shelf_names, tables_of, Names}
 use Rattle.sql_keeper.specs.LiveRows.{IsLiveAccount}
 use Rattle.sql_keeper.specs.Tests.{AreWritable}
 use Rattle.sql_keeper.specs.Tidy.{IsTidy}
@@ -92,6 +95,10 @@ pub record BecomesSwept (names : Names) (text : BookText) (shelf : Shelf) (t : M
   pub tables : IsSwept shelf t (tables_of names (content_of old)) (tables_of names (content_of new))
   -- where nothing stood that isn't told, nothing does
   pub tidy : IsTidy names (content_of old) → IsTidy names (content_of new)
+  -- where all was in its rules, by the books of these names, all is
+  pub rules : (own : Shelf) → names ≡ shelf_names own → IsTrue (is_some (content_of old).meta)
+      → IsInRules own (content_of old) → IsInRules own (content_of new)
+  pub plain : ArePlain old → ArePlain new
   pub meta : (content_of new).meta ≡ Some (meta_at text t)
   pub last : t ≤ 4_102_488_000
   pub books : (content_of new).books ≡ (content_of old).books

@@ -23,6 +23,7 @@ use Rattle.sql_rows.specs.Values.{Group}
 use Rattle.sql_rows.specs.Lists.{GroupAt, HasNoGroups}
 use Rattle.sql_rows.specs.Content.{Rows as Stored}
 use Rattle.sql_keeper.specs.Content.{Names, names_numbered}
+use Rattle.sql_keeper.specs.RuledRows.{is_ruled_change}
 use Rattle.sql_keeper.specs.Writes.{name_at}
 use Rattle.sql_keeper.specs.declared.settling.NamedSessions.{NamedSessions}
 
@@ -63,9 +64,9 @@ first_number (Some h) = if h.next_charge == 0 then 1 else h.next_charge
 abbrev pub is_open_over : List Session → Stored → SessionName → Bool
 is_open_over sessions r s = is_open_row (first_of (session_in s sessions) (r.sessions s))
 
--- whether a session is open by its row as it is by the one that is stored
-abbrev pub is_as_open : Session → Option Session → Bool
-is_as_open x o = if is_open x.state then is_open_row o else not (is_open_row o)
+-- whether a session is open by its row as it was before
+abbrev pub is_as : Session → Bool → Bool
+is_as x before = if is_open x.state then before else not before
 
 -- of a session that is opened or ended no group that isn't named has a reservation
 abbrev pub AreSettled : List Session → List SessionGroup → Stored → Type 0
@@ -116,6 +117,7 @@ pub record MayBeMade (names : Names) (change : Change) (r : Stored) : Type 0 whe
   pub reservations : AreWritable names change.rows.sessions change.rows.groups
   pub numbers : AreNumbered (first_number r.head) change.rows.next_charge change.charges.items
   pub settled : AreSettled change.rows.sessions change.rows.groups r
+  pub ruled : IsTrue (is_ruled_change names change)
 
 -- what is found of a change: whether it may be made, and whether its groups are new
 pub record IsChangeFound (names : Names) (change : Change) (r : Stored) (y : NamedSessions) : Type 0

@@ -24,7 +24,7 @@ use Rattle.keepers.specs.declared.loaded.Change.{Change}
 use Rattle.keepers.specs.declared.loaded.Redeemed.{Redeemed}
 use Rattle.keepers.specs.Keys.{key_of}
 use Rattle.keepers.specs.declared.key.Key.TheVariants.{Request, Reference}
-use Rattle.redemptions.specs.declared.voucher.Voucher.{Voucher}
+use Rattle.voucher_rules.specs.declared.voucher.Voucher.{Voucher}
 use Rattle.sql_tables.specs.Schema.{latest}
 use Rattle.sql_rows.specs.declared.head.Head.{Head as HeadColumns}
 use Rattle.sql_rows.specs.Values.{Meta, Group, PeriodNames, Kept, Voucher as VoucherRow}

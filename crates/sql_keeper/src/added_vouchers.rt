@@ -14,14 +14,15 @@ ghost use Rattle.sqlite.specs.Held.{state};
 use crate::faults::counted;
 use crate::keeper::SqlKeeper;
 use crate::last_moment::last_after;
+use crate::ruling::is_ruled_addition;
 use crate::still_open::still_open;
 use identifiers::VoucherCode;
 use keepers::StoreFault;
-use redemptions::VoucherTerms;
 use sql_rows::{put_meta, put_voucher};
 use sql_tables::{LATEST, ReadFault};
 use sqlite::{Alter, Connection, Error, Transaction};
 use units::Moment;
+use voucher_rules::VoucherTerms;
 
 /// Puts the moment, and a voucher that no account has redeemed.
 fn put_addition<S: Alter>(
@@ -77,6 +78,9 @@ fn make_addition<S: Alter>(
 {
     // For the prover alone: looking at the value makes known here what its type keeps.
     let _moment = moment.seconds();
+    if !is_ruled_addition(code, terms, moment) {
+        return Err(ReadFault::Rules);
+    }
     write_addition(conn, text, code, terms, moment)?;
     Ok(())
 }
@@ -105,7 +109,7 @@ impl<S: Alter> SqlKeeper<S> {
     /// nothing has changed, and whatever a stop leaves is the tables before or with the voucher.
     ///
     /// # Errors
-    /// Want of memory; a fault of the store, which is counted.
+    /// Want of memory; a fault of the store, which is counted, as is a moment that no command has.
     pub fn add_voucher(
         &mut self,
         code: VoucherCode,
@@ -122,6 +126,7 @@ impl<S: Alter> SqlKeeper<S> {
     {
         let text = self.text.as_str();
         let made = ask_to_add(&mut self.connection, text, &code, terms, moment);
+        self.seen = None;
         self.last = last_after(&made, self.last, moment);
         counted(&mut self.failures, made)
     }

@@ -1,8 +1,9 @@
 //! A book that is added behind those of the shelf, in one transaction: all of it or nothing, also
 //! over a stop.
 
-ghost use Rattle.std.specs.Prelude.{◌≡◌, ◌≤◌, ℕ, length, false, Some, IfErr, IfOk, IsTrue, OnErr};
-ghost use Rattle.std.specs.Prelude.{OnOk};
+ghost use Rattle.std.specs.Prelude.{◌≡◌, ◌≤◌, ◌<◌, ℕ, length, false, Some, IfErr, IfOk, IsTrue};
+ghost use Rattle.std.specs.Prelude.{OnErr, OnOk, ◌↔◌};
+ghost use Rattle.units.specs.Words.{no_end};
 ghost use Rattle.tariffs.specs.Books.{Book};
 ghost use Rattle.shelves.specs.Shelves.{Shelf, count, with_book};
 ghost use Rattle.shelves.specs.Succession.{shelf_fault};
@@ -123,8 +124,16 @@ fn take_both_back(shelf: &mut TariffShelf, own: &mut TariffShelf)
     own.take_back();
 }
 
+/// Whether a book may begin at a moment: at one before the end of all moments.
+fn may_begin(from: Moment) -> bool
+    ensures { IsTrue result ↔ (from < no_end) }
+{
+    from.seconds() < 4_102_444_800
+}
+
 /// Adds a book to the shelf that was handed over and to the keeper's, which has as many; to both or
-/// to none. Whether it was added: not where the shelf isn't the keeper's.
+/// to none. Whether it was added: not where the shelf isn't the keeper's, nor from the end of all
+/// moments on.
 ///
 /// # Errors
 /// Why the book may not follow those of the shelf.
@@ -146,6 +155,9 @@ fn shelve(
 {
     let TwoBooks { given, own: second } = books;
     if own.count() != shelf.count() {
+        return Ok(false);
+    }
+    if !may_begin(from) {
         return Ok(false);
     }
     add_behind(shelf, from, given, last)?;
@@ -244,7 +256,7 @@ impl<S: Alter> SqlKeeper<S> {
     /// # Errors
     /// `Book`, why the text is no book; `Shelf`, why the book may not follow those of the shelf;
     /// `Store`, want of memory or a fault of the store, which is counted, as is a shelf that isn't
-    /// this keeper's. Where the store can't be asked any more, `Store` comes before `Shelf`.
+    /// this keeper's, or a moment from the end of all moments on. Where the store can't be asked any more, `Store` comes before `Shelf`.
     pub fn add_book(
         &mut self,
         shelf: &mut TariffShelf,
@@ -253,11 +265,10 @@ impl<S: Alter> SqlKeeper<S> {
     ) -> Result<(), AddFault>
         ensures { AddsBook S.Store text.now from self.old self.new shelf.old shelf.new result }
     {
-        // For the prover alone: looking at the value makes known here what its type keeps.
-        let _moment = from.seconds();
         let books = read_twice(self.alloc, text)?;
         let (own, last) = (&mut self.shelf, self.last);
         let added = add_to_all(&mut self.connection, shelf, own, from, last, text, books);
+        self.seen = None;
         told(counted(&mut self.failures, added))
     }
 }

@@ -4,6 +4,7 @@ ghost use Rattle.std.specs.Prelude.{◌≡◌, is_some};
 ghost use Rattle.keepers.specs.Keeping.{Reads as Finds};
 ghost use Rattle.sql_keeper.specs.Asks.{Asks};
 ghost use Rattle.sql_keeper.specs.Inside.{tables_in, failed_in, clean_in};
+ghost use Rattle.sql_keeper.specs.Seen.{IsKnown};
 ghost use Rattle.sql_keeper.specs.Stops.{IsWhole, LeavesIn, honest_in};
 ghost use Rattle.sql_rows.specs.Content.{rows_in};
 ghost use Rattle.sql_tables.specs.Statements.{HasIdleBook, Reads};
@@ -11,6 +12,7 @@ ghost use Rattle.sqlite.specs.Held.{state};
 
 use crate::faults::counted;
 use crate::keeper::SqlKeeper;
+use crate::seen::seen_with;
 use crate::still_open::still_open;
 use identifiers::{AccountNumber, SessionId};
 use keepers::StoreFault;
@@ -57,8 +59,7 @@ fn is_known<S: Alter>(
     session: &SessionId,
 ) -> Result<bool, ReadFault>
     requires idle { HasIdleBook (state S.Store conn.old) }
-    ensures { Reads (λ trees known.
-        known ≡ is_some ((rows_in trees account.now).sessions session.now))
+    ensures { Reads (λ trees known. IsKnown (rows_in trees account.now) session.now known)
         (state S.Store conn.old) (state S.Store conn.new) result }
 {
     let row = read_session(conn, alloc, account, session)?;
@@ -72,8 +73,7 @@ fn ask_for_session<S: Alter>(
     session: &SessionId,
 ) -> Result<bool, ReadFault>
     requires idle { HasIdleBook (state S.Store conn.old) }
-    ensures { Asks (λ trees known.
-        known ≡ is_some ((rows_in trees account.now).sessions session.now))
+    ensures { Asks (λ trees known. IsKnown (rows_in trees account.now) session.now known)
         (state S.Store conn.old) (state S.Store conn.new) result }
 {
     still_open(conn)?;
@@ -127,6 +127,8 @@ impl<S: Alter> SqlKeeper<S> {
         ensures whole { IsWhole S.Store self.old self.new (λ _. ⊥) }
     {
         let read = ask_for_session(&mut self.connection, self.alloc, account, session);
+        let seen = self.seen.take();
+        self.seen = seen_with(seen, account, session, &read);
         counted(&mut self.failures, read)
     }
 }

@@ -7,14 +7,14 @@ ghost use Rattle.std.specs.String.{string_bytes};
 ghost use Rattle.tariffs.specs.Books.{Book};
 ghost use Rattle.shelves.specs.Shelves.{one_book};
 ghost use Rattle.sql_rows.specs.Texts.{book_at};
-ghost use Rattle.sql_opening.specs.declared.fault.OpenFault.TheVariants.{Rules};
+ghost use Rattle.sql_tables.specs.declared.fault.OpenFault.TheVariants.{Rules};
 ghost use Rattle.sql_keeper.specs.Books.{IsBookFault, IsBookOf};
 ghost use Rattle.sql_keeper.specs.Shelves.{AreShelved, IsAlone, IsNoShelf, IsNoneBehind};
 ghost use Rattle.sql_keeper.specs.Shelves.{IsRefusedRow, IsShelfRead, IsShelved};
 
 use shelves::{ShelfFault, TariffShelf};
-use sql_opening::OpenFault;
 use sql_rows::BookColumns;
+use sql_tables::OpenFault;
 use std::alloc::Global;
 use tariffs::{BookFault, TariffBook};
 use units::Moment;

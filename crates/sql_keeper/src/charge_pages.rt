@@ -1,7 +1,7 @@
 //! The charges of an account, read a page at a time.
 
 ghost use Rattle.std.specs.Prelude.{◌≡◌, min, IfOk};
-ghost use Rattle.charge_sources.specs.Pages.{IsPage};
+ghost use Rattle.keepers.specs.Pages.{IsPage};
 ghost use Rattle.sql_keeper.specs.Asks.{Asks};
 ghost use Rattle.sql_keeper.specs.ChargePages.{AreTold, end_of_page, last_number};
 ghost use Rattle.sql_keeper.specs.Content.{charge_of};
@@ -15,9 +15,8 @@ use crate::faults::counted;
 use crate::keeper::SqlKeeper;
 use crate::paid_charges::cover_all;
 use crate::still_open::still_open;
-use charge_sources::{ChargePage, ChargePages, ChargeSource, ChargeVisitor, show_pages};
 use identifiers::AccountNumber;
-use keepers::StoreFault;
+use keepers::{ChargePage, ChargePages, ChargeSource, ChargeVisitor, StoreFault, show_pages};
 use reserving::ChargeRow;
 use sql_rows::{Head, read_account, read_charges_within, read_covered_within};
 use sql_tables::ReadFault;

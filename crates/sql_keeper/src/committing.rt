@@ -8,6 +8,7 @@ ghost use Rattle.sql_tables.specs.Statements.{HasIdleBook};
 ghost use Rattle.sql_keeper.specs.Content.{shelf_names};
 ghost use Rattle.sql_keeper.specs.Commits.{Becomes, CommitsChange, CommitsStanding, Transacts};
 ghost use Rattle.sql_keeper.specs.Inside.{clean_in, failed_in, names_in, tables_in};
+ghost use Rattle.sql_keeper.specs.Seen.{AreSeen};
 ghost use Rattle.sql_keeper.specs.Stops.{IsWhole, LeavesIn, honest_in, trees_in};
 ghost use Rattle.sql_keeper.specs.Writes.{meta_with, with_change_put};
 ghost use Rattle.sqlite.specs.Held.{state};
@@ -16,9 +17,10 @@ use crate::faults::counted;
 use crate::keeper::SqlKeeper;
 use crate::last_moment::last_after;
 use crate::putting::put_change;
+use crate::seen::SeenAccount;
 use crate::settling::test_change;
 use crate::still_open::still_open;
-use crate::texts::kept_texts;
+use crate::stored_texts::kept_texts;
 use keepers::{Change, StoreFault};
 use shelves::TariffShelf;
 use sql_rows::Kept;
@@ -54,11 +56,13 @@ fn make_change<S: Alter>(
     conn: &mut Connection<S>,
     alloc: Global,
     books: &TariffShelf,
+    seen: &Option<SeenAccount>,
     text: &str,
     change: &Change,
 ) -> Result<(), ReadFault>
     requires plain { conn.old.in_transaction ≡ false }
     requires idle { HasIdleBook (state S.Store conn.old) }
+    requires seen { AreSeen seen.now (state S.Store conn.old) }
     ensures plain { conn.new.in_transaction ≡ false }
     ensures commits { CommitsChange (shelf_names books.now) text.now change.now
         (state S.Store conn.old) (state S.Store conn.new) result }
@@ -66,7 +70,7 @@ fn make_change<S: Alter>(
     // For the prover alone: looking at the value makes known here what its type keeps.
     let _named = change.rows.as_of();
     let _moment = change.moment.seconds();
-    let are_new = test_change(conn, alloc, books, change)?;
+    let are_new = test_change(conn, alloc, books, seen, change)?;
     let texts = kept_texts(alloc, &change.number, &change.kept)?;
     write_change(conn, books, are_new, text, change, &texts)?;
     Ok(())
@@ -77,17 +81,19 @@ fn ask_to_change<S: Alter>(
     conn: &mut Connection<S>,
     alloc: Global,
     books: &TariffShelf,
+    seen: &Option<SeenAccount>,
     text: &str,
     change: &Change,
 ) -> Result<(), ReadFault>
     requires plain { conn.old.in_transaction ≡ false }
     requires idle { HasIdleBook (state S.Store conn.old) }
+    requires seen { AreSeen seen.now (state S.Store conn.old) }
     ensures plain { conn.new.in_transaction ≡ false }
     ensures commits { CommitsStanding (Becomes (shelf_names books.now) text.now change.now)
         (state S.Store conn.old) (state S.Store conn.new) result }
 {
     still_open(conn)?;
-    make_change(conn, alloc, books, text, change)
+    make_change(conn, alloc, books, seen, text, change)
 }
 
 impl<S: Alter> SqlKeeper<S> {
@@ -109,7 +115,15 @@ impl<S: Alter> SqlKeeper<S> {
             (Becomes (names_in self.old) self.old.text change (trees_in S.Store self.old)) }
     {
         let text = self.text.as_str();
-        let made = ask_to_change(&mut self.connection, self.alloc, &self.shelf, text, &change);
+        let made = ask_to_change(
+            &mut self.connection,
+            self.alloc,
+            &self.shelf,
+            &self.seen,
+            text,
+            &change,
+        );
+        self.seen = None;
         self.last = last_after(&made, self.last, change.moment);
         counted(&mut self.failures, made)
     }

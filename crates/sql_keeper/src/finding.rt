@@ -2,7 +2,7 @@
 
 ghost use Rattle.std.specs.Prelude.{◌≡◌, Ok, Some, IfOk, option_map, option_and_then};
 ghost use Rattle.wire.specs.Contents.{content_of as command_of};
-ghost use Rattle.wire_answers.specs.ReadingAnswers.{answer_of};
+ghost use Rattle.wire.specs.ReadingAnswers.{answer_of};
 ghost use Rattle.keepers.specs.Keeping.{Reads as Finds};
 ghost use Rattle.sql_keeper.specs.Asks.{Asks};
 ghost use Rattle.sql_keeper.specs.Content.{answer_in, kept_in, texts_of};

@@ -16,12 +16,12 @@ use crate::keeper::SqlKeeper;
 use crate::still_open::still_open;
 use identifiers::VoucherCode;
 use keepers::StoreFault;
-use redemptions::{Voucher, VoucherTerms};
 use sql_rows::{VoucherColumns, read_voucher};
 use sql_tables::ReadFault;
 use sqlite::{Alter, Connection};
 use std::alloc::Global;
 use units::Money;
+use voucher_rules::{Voucher, VoucherTerms};
 
 /// The terms of a row. They are out of the rules where no voucher can have them.
 fn terms_of(amount: u64, days: Option<u32>, scope: Option<u32>) -> Result<VoucherTerms, ReadFault>

@@ -3,6 +3,7 @@
 ghost use Rattle.std.specs.Prelude.{◌≡◌};
 ghost use Rattle.sql_keeper.specs.Inside.{IsKeeper, failed_in};
 
+use crate::seen::SeenAccount;
 use shelves::TariffShelf;
 use sqlite::{Alter, Connection};
 use std::alloc::Global;
@@ -11,7 +12,8 @@ use units::Moment;
 
 /// A keeper over a database. Between calls no transaction is open, so what it holds is what was
 /// committed last. It knows the text of its first book, its books and the moment of the last
-/// accepted command as the database keeps them, so that an open finds the same again.
+/// accepted command as the database keeps them, so that an open finds the same again. What it read
+/// last of an account it knows until it writes, so that a commit needn't read it once more.
 ///
 /// Its store is clean while the disk returns what was written; where the disk failed a call, it is
 /// clean as long as the connection is open still. Nothing but a failure of the disk shuts it.
@@ -21,12 +23,14 @@ pub struct SqlKeeper<S: Alter> {
     pub(crate) text: String,
     pub(crate) last: Moment,
     pub(crate) failures: u64,
+    pub(crate) seen: Option<SeenAccount>,
     pub(crate) alloc: Global,
 }
 
 impl<S: Alter> Model for SqlKeeper<S> {
     ghost use Rattle.std.specs.String.{string_bytes};
-    ghost use Rattle.sql_keeper.specs.Inside.{KeeperState, keeper_code, IsKeeper};
+    ghost use Rattle.sql_keeper.specs.Inside.{KeeperState, keeper_code};
+    ghost use Rattle.sql_keeper.specs.Seen.{IsSeeing};
 
     ghost Value = { KeeperState S };
 
@@ -40,13 +44,13 @@ impl<S: Alter> Model for SqlKeeper<S> {
       failures = k.failures;
     } };
 
-    ghost invariant = { λ k. IsKeeper S.Store (record {
+    ghost invariant = { λ k. IsSeeing S.Store (record {
       connection = k.connection;
       shelf = k.shelf;
       text = string_bytes k.text;
       last = k.last;
       failures = k.failures;
-    }) };
+    }) k.seen };
 }
 
 // It is written out, so that a caller doesn't prove again how each part is dropped.
@@ -58,6 +62,7 @@ impl<S: Alter + Drop> Drop for SqlKeeper<S> {
             text: _,
             last: _,
             failures: _,
+            seen: _,
             alloc: _,
         } = self;
     }
@@ -84,6 +89,7 @@ impl<S: Alter> SqlKeeper<S> {
             text: _,
             last: _,
             failures: _,
+            seen: _,
             alloc: _,
         } = self;
         connection

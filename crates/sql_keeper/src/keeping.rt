@@ -4,11 +4,11 @@ use crate::keeper::SqlKeeper;
 use buckets::Bucket;
 use identifiers::{AccountNumber, SessionId, VoucherCode};
 use keepers::{Change, Keeper, KeptAnswer, Key, Loaded, StoreFault};
-use redemptions::{Voucher, VoucherTerms};
 use reserving::Account;
 use shelves::TariffShelf;
 use sqlite::Alter;
 use units::Moment;
+use voucher_rules::{Voucher, VoucherTerms};
 
 impl<S: Alter> Keeper for SqlKeeper<S> {
     ghost use Rattle.sql_keeper.specs.Inside.{tables_in, failed_in, clean_in};

@@ -2,9 +2,9 @@
 
 ghost use Rattle.std.specs.Prelude.{ℕ, List};
 ghost use Rattle.sqlite.specs.Held.{Held};
-ghost use Rattle.sql_opening.specs.declared.fault.OpenFault.{OpenFault};
-ghost use Rattle.sql_keeper.specs.Again.{AreLeftAgain, AreOpenedAgain, AreShelvesOne};
-ghost use Rattle.sql_keeper.specs.Again.{AreStoppedWhole, IsFoundAgain};
+ghost use Rattle.sql_tables.specs.declared.fault.OpenFault.{OpenFault};
+ghost use Rattle.sql_keeper.specs.Again.{AreLeftAgain, AreLeftRuledAgain, AreOpenedAgain};
+ghost use Rattle.sql_keeper.specs.Again.{AreShelvesOne, AreStoppedWhole, IsFoundAgain};
 ghost use Rattle.sql_keeper.specs.Causes.{AreCausesApart};
 ghost use Rattle.sql_keeper.specs.Inside.{KeeperState};
 ghost use Rattle.sql_keeper.specs.Laws.{AreChangesRead, AreNewTablesEmpty, AreSweepsRead};
@@ -68,7 +68,15 @@ pub fn rows_are_apart()
     ensures { AreRowsApart }
 {}
 
-/// Where the connection shows what was left, no fault is told but the store's or memory's.
+/// The rows that a new book has, and those that a commit, an addition, a sweep or a book more makes
+/// of rows in their rules, are in their rules.
+#[tactic(auto, using(crate::proofs::Held::left_ruled_again))]
+pub fn ruled_tables_are_left_again()
+    ensures { AreLeftRuledAgain }
+{}
+
+/// Where the connection shows what was left, each row in its rules, no fault is told but the store's
+/// or memory's.
 pub fn left_tables_are_found<S: Alter>()
     ensures { (old new : Held S) (text : List ℕ) (fault : OpenFault) →
         IsFoundAgain S.Store old new text fault }

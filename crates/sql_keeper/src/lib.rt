@@ -25,20 +25,24 @@ mod live_groups;
 mod live_rows;
 mod loading;
 mod migrating;
+mod older_shelves;
 mod older_versions;
 mod opening;
+mod own_rows;
 mod paid_charges;
 mod putting;
 mod rebuilding;
 mod rebuilding_groups;
 mod ruled_opening;
+mod ruling;
+mod seen;
 mod settling;
 mod still_open;
 mod stopping;
+mod stored_texts;
 mod sweeping;
 mod swept_rows;
 mod testing;
-mod texts;
 mod voucher_puts;
 
 pub use crate::add_fault::AddFault;
@@ -48,10 +52,10 @@ pub use crate::keeper::SqlKeeper;
 pub use crate::laws::{
     a_stop_is_opened_again, a_stop_leaves_the_last_commit, a_stopped_command_is_whole,
     causes_are_apart, changes_are_read, left_tables_are_found, live_rows_are_loaded,
-    new_tables_are_empty, open_groups_are_loaded, rows_are_apart, shelves_are_one, sweeps_are_read,
-    tables_are_left_again,
+    new_tables_are_empty, open_groups_are_loaded, rows_are_apart, ruled_tables_are_left_again,
+    shelves_are_one, sweeps_are_read, tables_are_left_again,
 };
 pub use crate::stopping::{Reopened, commit_and_stop, stop_and_open};
+pub use crate::stored_texts::kept_texts;
 pub use crate::testing::may_be_written;
-pub use crate::texts::kept_texts;
-pub use sql_opening::OpenFault;
+pub use sql_tables::OpenFault;

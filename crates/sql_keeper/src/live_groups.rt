@@ -1,78 +1,84 @@
 //! What open sessions have of rating groups, with what is held there, read from the tables.
 
+ghost use Rattle.std.specs.Prelude.{◌≡◌, ◌==◌, length};
 ghost use Rattle.sql_keeper.specs.Content.{shelf_names};
-ghost use Rattle.sql_keeper.specs.GroupRows.{AreSessionGroups};
-ghost use Rattle.sql_keeper.specs.LiveGroups.{AreLiveGroups, Gathers};
+ghost use Rattle.sql_keeper.specs.LiveGroups.{AreLiveGroups, AreOpenSessions, Gathers};
 ghost use Rattle.sql_rows.specs.Content.{rows_in};
 ghost use Rattle.sql_tables.specs.Statements.{HasIdleBook};
 ghost use Rattle.sqlite.specs.Held.{state};
 
 use crate::rebuilding_groups::groups_of;
 use buckets::Purse;
-use identifiers::{AccountNumber, SessionId};
+use identifiers::AccountNumber;
 use reserving::{Session, SessionGroup};
 use shelves::TariffShelf;
-use sql_rows::{read_grant_books, read_groups, read_holds};
+use sql_rows::{read_grant_books_all, read_groups_open, read_holds_all, read_sessions_open};
 use sql_tables::ReadFault;
 use sqlite::{Alter, Connection};
 use std::alloc::Global;
 
-/// What a session has of rating groups, with what its reservations hold in the order of the purse.
-fn read_session_groups<S: Alter>(
+/// The open sessions of an account, with what they have of rating groups.
+#[derive(Drop)]
+pub(crate) struct OpenSessions {
+    /// The sessions.
+    pub sessions: Vec<Session>,
+    /// What they have of rating groups.
+    pub groups: Vec<SessionGroup>,
+}
+
+/// What the open sessions of an account have of rating groups, with what their reservations hold in
+/// the order of the purse: three selections, however many sessions are open.
+fn read_live_groups<S: Alter>(
     conn: &mut Connection<S>,
     alloc: Global,
     account: &AccountNumber,
     books: &TariffShelf,
     purse: &Purse,
-    session: &SessionId,
 ) -> Result<Vec<SessionGroup>, ReadFault>
     requires idle { HasIdleBook (state S.Store conn.old) }
     ensures { Gathers
-        (λ trees xs.
-        AreSessionGroups (shelf_names books.now) (rows_in trees account.now) session.now xs.items)
+        (λ trees xs. AreLiveGroups (shelf_names books.now) (rows_in trees account.now) xs.items)
         (state S.Store conn.old) (state S.Store conn.new) result }
 {
-    let rows = read_groups(conn, alloc, account, session)?;
-    let held = read_holds(conn, alloc, account, session)?;
-    let numbers = read_grant_books(conn, alloc, account, session)?;
-    groups_of(
-        alloc,
-        books,
-        purse.buckets(),
-        session,
-        &rows,
-        &held,
-        &numbers,
-    )
+    let rows = read_groups_open(conn, alloc, account)?;
+    let held = read_holds_all(conn, alloc, account)?;
+    let numbers = read_grant_books_all(conn, alloc, account)?;
+    groups_of(alloc, books, purse.buckets(), &rows, &held, &numbers)
 }
 
-/// What these sessions have of rating groups, with what their reservations hold in the order of the
-/// purse.
+/// Whether there are no sessions.
+fn is_none(sessions: &[Session]) -> bool
+    ensures { result ≡ (length sessions.now == 0) }
+{
+    sessions.is_empty()
+}
+
+/// The open sessions of an account, with what they have of rating groups, and what their
+/// reservations hold in the order of the purse. Where no session is open, nothing more is asked.
 ///
 /// # Errors
 /// `Rules` where a reservation has no book on the shelf, or its period isn't one of that book's, or
 /// it holds nothing of a bucket, or holds of one that isn't in the purse; else a fault of the
 /// store, or want of memory.
-pub(crate) fn read_live_groups<S: Alter>(
+pub(crate) fn read_open_sessions<S: Alter>(
     conn: &mut Connection<S>,
     alloc: Global,
     account: &AccountNumber,
     books: &TariffShelf,
     purse: &Purse,
-    sessions: &[Session],
-) -> Result<Vec<SessionGroup>, ReadFault>
+) -> Result<OpenSessions, ReadFault>
     requires idle { HasIdleBook (state S.Store conn.old) }
-    ensures { Gathers
-        (λ trees xs.
-        AreLiveGroups (shelf_names books.now) (rows_in trees account.now) sessions.now xs.items)
+    ensures { Gathers (λ trees x. AreOpenSessions (shelf_names books.now)
+        (rows_in trees account.now) x.sessions.items x.groups.items)
         (state S.Store conn.old) (state S.Store conn.new) result }
 {
-    let mut groups = Vec::new(alloc);
-    'sessions: for session in sessions {
-        let mut more = read_session_groups(conn, alloc, account, books, purse, &session.id)?;
-        let Ok(()) = groups.append(&mut more) else {
-            return Err(ReadFault::Memory);
-        };
+    let sessions = read_sessions_open(conn, alloc, account)?;
+    if is_none(&sessions) {
+        return Ok(OpenSessions {
+            sessions,
+            groups: Vec::new(alloc),
+        });
     }
-    Ok(groups)
+    let groups = read_live_groups(conn, alloc, account, books, purse)?;
+    Ok(OpenSessions { sessions, groups })
 }

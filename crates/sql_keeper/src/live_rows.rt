@@ -15,13 +15,13 @@ ghost use Rattle.sqlite.specs.Held.{state};
 ghost use Rattle.shelves.specs.Shelves.{Shelf};
 
 use crate::counted_buckets::read_counted;
-use crate::live_groups::read_live_groups;
+use crate::live_groups::{OpenSessions, read_open_sessions};
 use buckets::{Bucket, Purse};
 use calendar::Cycle;
 use identifiers::AccountNumber;
 use reserving::{Counter, GivenRows, Session, SessionGroup, StoredAccount};
 use shelves::TariffShelf;
-use sql_rows::{Head, read_account, read_buckets_live, read_counters_in, read_sessions_open};
+use sql_rows::{Head, read_account, read_buckets_live, read_counters_in};
 use sql_tables::ReadFault;
 use sqlite::{Alter, Connection};
 use std::alloc::Global;
@@ -242,8 +242,9 @@ fn read_live_rows<S: Alter>(
         (state S.Store conn.old) (state S.Store conn.new) result }
 {
     let purse = read_purse(conn, alloc, account)?;
-    let sessions = read_sessions_open(conn, alloc, account)?;
-    let groups = read_live_groups(conn, alloc, account, names, &purse, &sessions)?;
+    let OpenSessions { sessions, groups } = read_open_sessions(
+        conn, alloc, account, names, &purse,
+    )?;
     Ok(LiveRows {
         purse,
         sessions,

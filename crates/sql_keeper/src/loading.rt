@@ -17,6 +17,7 @@ ghost use Rattle.sqlite.specs.Held.{state};
 use crate::faults::counted;
 use crate::keeper::SqlKeeper;
 use crate::live_rows::read_live_account;
+use crate::seen::seen_in;
 use crate::still_open::still_open;
 use identifiers::AccountNumber;
 use keepers::{Loaded, StoreFault};
@@ -140,6 +141,7 @@ impl<S: Alter> SqlKeeper<S> {
             account,
             moment,
         );
+        self.seen = seen_in(&read);
         counted(&mut self.failures, read)
     }
 

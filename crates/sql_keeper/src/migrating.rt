@@ -4,8 +4,8 @@
 ghost use Rattle.std.specs.Prelude.{◌≡◌, ◌<◌, ◌≤◌, ◌^◌, ◌⊎◌, false, map, nat_lt, Some, IfErr};
 ghost use Rattle.std.specs.Prelude.{IfOk, OnOk};
 ghost use Rattle.std.specs.String.{string_bytes};
-ghost use Rattle.sql_opening.specs.Opens.{IsNoVersion, IsVersion};
-ghost use Rattle.sql_opening.specs.declared.fault.OpenFault.TheVariants.{Foreign, Rules, Version};
+ghost use Rattle.sql_tables.specs.Opens.{IsNoVersion, IsVersion};
+ghost use Rattle.sql_tables.specs.declared.fault.OpenFault.TheVariants.{Foreign, Rules, Version};
 ghost use Rattle.sql_rows.specs.Content.{content_of, with_meta};
 ghost use Rattle.sql_rows.specs.Lists.{AreBooks};
 ghost use Rattle.sql_rows.specs.Makes.{Makes, MakesIfOpen};
@@ -17,21 +17,23 @@ ghost use Rattle.sql_tables.specs.Statements.{Attempts, HasBook, HasRules, IsIns
 ghost use Rattle.sql_tables.specs.Statements.{ReadsWithin};
 ghost use Rattle.sql_keeper.specs.Causes.{IsUnruledMeta};
 ghost use Rattle.sql_keeper.specs.Migrates.{AreUnruledReserved, BringsToLatest, FindsAny, HasAt};
-ghost use Rattle.sql_keeper.specs.Migrates.{HasIdleAt, IsMigrated, IsNotMigrated};
-ghost use Rattle.sql_keeper.specs.Migrates.{MigratesTables, with_first_books, with_granted};
+ghost use Rattle.sql_keeper.specs.Migrates.{HasIdleAt, HasRuledRows, IsMigrated, IsNotMigrated};
+ghost use Rattle.sql_keeper.specs.Migrates.{MigratesRuled, MigratesTables, with_first_books};
+ghost use Rattle.sql_keeper.specs.Migrates.{with_granted};
 ghost use Rattle.sqlite.specs.Held.{state};
 ghost use Rattle.sqlite.specs.State.{HasCleanDisk};
 
 use crate::books::{ReadBooks, read_shelves};
 use crate::keeper::SqlKeeper;
+use crate::older_shelves::{ask_open, older_shelf};
 use crate::opening::{is_version, keeper_of, latest_books, open_fault, read_fault};
+use crate::ruled_opening::test_rows;
 use shelves::TariffShelf;
-use sql_opening::{OpenFault, find_tables};
 use sql_rows::{
     BookColumns, Meta, ReservedColumns, put_grant_book, put_meta, read_books_within,
     read_meta_within, read_reserved_within,
 };
-use sql_tables::{LATEST, ReadFault, create_since};
+use sql_tables::{LATEST, OpenFault, ReadFault, create_since, find_tables};
 use sqlite::{Alter, Connection, Error, Transaction};
 use std::alloc::Global;
 
@@ -146,7 +148,7 @@ pub(crate) fn is_of_version(meta: &Meta, version: u32) -> Result<(), OpenFault>
 }
 
 /// The books after the first.
-fn books_within<S: Alter>(
+pub(crate) fn books_within<S: Alter>(
     tx: &mut Transaction<'_, S>,
     alloc: Global,
 ) -> Result<Vec<BookColumns>, OpenFault>
@@ -203,6 +205,7 @@ fn bring_to_latest<S: Alter>(
 ) -> Result<ReadBooks, OpenFault>
     requires known { IsVersion version × (version < latest) }
     requires at { HasAt version (state S.Store tx.old.conn.now) }
+    requires ruled { HasRuledRows version (state S.Store tx.old.conn.now) }
     ensures same_reference { tx.new.conn.ghost_name ≡ tx.old.conn.ghost_name }
     ensures brings { BringsToLatest version
         (state S.Store tx.old.conn.now) (state S.Store tx.new.conn.now) result }
@@ -227,6 +230,7 @@ fn migrate_tables<S: Alter>(
     requires known { IsVersion version × (version < latest) }
     requires plain { conn.old.in_transaction ≡ false }
     requires at { HasIdleAt version (state S.Store conn.old) }
+    requires ruled { HasRuledRows version (state S.Store conn.old) }
     ensures plain { conn.new.in_transaction ≡ false }
     ensures migrates { MigratesTables version
         (state S.Store conn.old) (state S.Store conn.new) result }
@@ -239,6 +243,26 @@ fn migrate_tables<S: Alter>(
     }
 }
 
+/// Tests each row of a database of an older version, by the shelf of its texts, and brings it to
+/// the latest in one transaction.
+fn migrate_ruled<S: Alter>(
+    conn: &mut Connection<S>,
+    alloc: Global,
+    version: u32,
+) -> Result<ReadBooks, OpenFault>
+    requires known { IsVersion version × (version < latest) }
+    requires plain { conn.old.in_transaction ≡ false }
+    requires at { HasIdleAt version (state S.Store conn.old) }
+    ensures plain { OnOk result (conn.new.in_transaction ≡ false) }
+    ensures migrates { MigratesRuled version
+        (state S.Store conn.old) (state S.Store conn.new) result }
+{
+    let read = older_shelf(conn, alloc, version)?;
+    ask_open(conn)?;
+    test_rows(alloc, conn, version, &read.own)?;
+    migrate_tables(conn, alloc, version)
+}
+
 /// The shelf of a database of this system, which is of the latest version then.
 fn books_of_any<S: Alter>(alloc: Global, conn: &mut Connection<S>) -> Result<ReadBooks, OpenFault>
     ensures plain { OnOk result (conn.new.in_transaction ≡ false) }
@@ -246,16 +270,19 @@ fn books_of_any<S: Alter>(alloc: Global, conn: &mut Connection<S>) -> Result<Rea
 {
     let version = find_tables(conn, alloc)?;
     if version != LATEST {
-        return migrate_tables(conn, alloc, version);
+        return migrate_ruled(conn, alloc, version);
     }
-    latest_books(alloc, conn)
+    let read = latest_books(alloc, conn)?;
+    test_rows(alloc, conn, LATEST, &read.own)?;
+    Ok(read)
 }
 
 impl<S: Alter> SqlKeeper<S> {
     /// Brings the database of an older version to the latest, and answers its keeper and the shelf
-    /// of its books apart, as `open` does. The tables that it hasn't are made, each reservation
-    /// gets the number of its book, and the version is set, all in one transaction: a stop leaves
-    /// the database as it was, or the whole migration. One of the latest version is left as it is.
+    /// of its books apart, as `open` does. Each row of each table is read before, and none is out
+    /// of its rules. The tables that it hasn't are made, each reservation gets the number of its
+    /// book, and the version is set, all in one transaction: a stop leaves the database as it was,
+    /// or the whole migration. One of the latest version is left as it is.
     ///
     /// # Errors
     /// The connection is given back, and nothing is committed but where the commit itself failed.

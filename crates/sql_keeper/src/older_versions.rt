@@ -2,14 +2,14 @@
 //! keeps the version of its tables. Nothing is written.
 
 ghost use Rattle.std.specs.Prelude.{◌≡◌, ◌<◌, false};
-ghost use Rattle.sql_opening.specs.Opens.{IsVersion};
+ghost use Rattle.sql_tables.specs.Opens.{IsVersion};
 ghost use Rattle.sql_tables.specs.Schema.{latest};
 ghost use Rattle.sql_keeper.specs.Migrates.{HasAt, HasIdleAt};
 ghost use Rattle.sql_keeper.specs.OlderVersions.{AsksVersion, IsNotLatest};
 ghost use Rattle.sqlite.specs.Held.{state};
 
 use crate::migrating::{is_of_version, kept_within, make_later};
-use sql_opening::OpenFault;
+use sql_tables::OpenFault;
 use sqlite::{Alter, Connection, Transaction};
 
 /// Whether the version of the tables is kept. Statements are those of the latest version, so the

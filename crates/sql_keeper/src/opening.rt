@@ -3,9 +3,9 @@
 ghost use Rattle.std.specs.Prelude.{◌≡◌, ◌≤◌, ◌<◌, ◌^◌, ◌⊎◌, false, map, IsTrue, Some, IfErr};
 ghost use Rattle.std.specs.Prelude.{IfOk, OnOk};
 ghost use Rattle.std.specs.String.{string_bytes};
-ghost use Rattle.sql_opening.specs.Opens.{IsNoVersion};
-ghost use Rattle.sql_opening.specs.declared.fault.OpenFault.TheVariants.{Foreign, Rules};
-ghost use Rattle.sql_opening.specs.declared.fault.OpenFault.TheVariants.{Version};
+ghost use Rattle.sql_tables.specs.Opens.{IsNoVersion};
+ghost use Rattle.sql_tables.specs.declared.fault.OpenFault.TheVariants.{Foreign, Rules};
+ghost use Rattle.sql_tables.specs.declared.fault.OpenFault.TheVariants.{Version};
 ghost use Rattle.sql_rows.specs.Content.{content_of};
 ghost use Rattle.sql_rows.specs.Lists.{AreBooks};
 ghost use Rattle.sql_rows.specs.Ruled.{AreRuledBooks};
@@ -17,7 +17,7 @@ ghost use Rattle.sql_keeper.specs.Books.{IsBookText};
 ghost use Rattle.sql_keeper.specs.Causes.{IsUnruledMeta};
 ghost use Rattle.sql_keeper.specs.Creates.{CreatesBook};
 ghost use Rattle.sql_keeper.specs.Faults.{IsCreateFault};
-ghost use Rattle.sql_keeper.specs.Finds.{FindsBooks, IsReadOf, ReadsBooks};
+ghost use Rattle.sql_keeper.specs.Finds.{FindsBooks, IsReadRuled, ReadsBooks};
 ghost use Rattle.sql_keeper.specs.Inside.{IsKeeper};
 ghost use Rattle.sql_keeper.specs.Opened.{IsCreated, IsNotCreated, IsNotOpened, IsOpened};
 ghost use Rattle.sqlite.specs.Held.{state};
@@ -28,10 +28,10 @@ use crate::create_fault::CreateFault;
 use crate::creating::create_book;
 use crate::keeper::SqlKeeper;
 use crate::older_versions::older_fault;
+use crate::ruled_opening::ruled_books_in;
 use shelves::TariffShelf;
-use sql_opening::{OpenFault, find_tables};
 use sql_rows::{BookColumns, Meta, read_books, read_meta};
-use sql_tables::{LATEST, ReadFault, has_ours, is_blank};
+use sql_tables::{LATEST, OpenFault, ReadFault, find_tables, has_ours, is_blank};
 use sqlite::{Alter, Connection, Error, ErrorCode};
 use std::alloc::Global;
 use units::Moment;
@@ -47,7 +47,7 @@ pub(crate) fn keeper_of<S: Alter>(
     requires open { HasCleanDisk (state S.Store connection) →
         IsTrue (state S.Store connection).is_open }
     requires read { HasCleanDisk (state S.Store connection) →
-        IsReadOf read (state S.Store connection).now.trees }
+        IsReadRuled read (state S.Store connection).now.trees }
     ensures connection { result.0.connection ≡ connection }
     ensures shelf { result.1 ≡ read.given }
     ensures own { result.0.shelf ≡ read.own }
@@ -65,6 +65,7 @@ pub(crate) fn keeper_of<S: Alter>(
         text: read.text,
         last: read.last,
         failures: 0,
+        seen: None,
         alloc,
     };
     (keeper, read.given)
@@ -240,7 +241,8 @@ impl<S: Alter> SqlKeeper<S> {
     }
 
     /// Opens the database of books, and answers its keeper, and the shelf of these books apart. It
-    /// writes nothing.
+    /// reads each row of each table once before it answers: none is out of its rules. It writes
+    /// nothing.
     ///
     /// # Errors
     /// The connection is given back. Each of the first four says what the database is, and a
@@ -248,7 +250,8 @@ impl<S: Alter> SqlKeeper<S> {
     /// this system. Of the others they are, and `Rules` says that a rowid stands twice, or that
     /// what is kept once isn't there or is out of its rules; `Version`, that another version is
     /// kept than that of the tables; `Older`, that it is that of the tables, and before the latest;
-    /// `Rules` too, that it is the latest, and the texts that are kept aren't those of a shelf.
+    /// `Rules` too, that it is the latest, and the texts that are kept aren't those of a shelf; or
+    /// that a database without any other of these faults has a row out of the rules of its table.
     /// `Store`, also where a transaction is open; `Memory`.
     pub fn open(
         alloc: Global,
@@ -257,7 +260,7 @@ impl<S: Alter> SqlKeeper<S> {
         ensures opened { IfOk result (λ made. IsOpened S.Store connection made.0 made.1) }
         ensures refused { IfErr result (λ left. IsNotOpened S.Store connection left.1 left.0) }
     {
-        match books_in(alloc, &mut connection) {
+        match ruled_books_in(alloc, &mut connection) {
             Ok(read) => Ok(keeper_of(alloc, connection, read)),
             Err(fault) => Err((fault, connection)),
         }

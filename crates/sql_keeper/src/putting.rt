@@ -26,7 +26,7 @@ use sql_tables::LATEST;
 use sqlite::{Alter, Error, Transaction};
 
 /// What is kept of an account once.
-fn head_of(rows: &StoredAccount) -> Head
+pub(crate) fn head_of(rows: &StoredAccount) -> Head
     ensures { result ≡ head_of rows.now }
 {
     Head {

@@ -1,21 +1,22 @@
-//! What a session has of rating groups, made of its rows and of what is held for it.
+//! What sessions have of rating groups, made of their rows and of what is held for them.
 
 ghost use Rattle.std.specs.Prelude.{◌≡◌, ◌==◌, ◌&&◌, Some, IfOk, map, option_map};
 ghost use Rattle.std.specs.List.{list_any};
 ghost use Rattle.sql_keeper.specs.Content.{shelf_names};
 ghost use Rattle.sql_keeper.specs.GroupRows.{AreGroupsOf, AreHoldsOf, ArePeriodsOf, AreTermsOf};
 ghost use Rattle.sql_keeper.specs.GroupRows.{IsGroupOf, IsReservationOf, amount_of, are_held_of};
-ghost use Rattle.sql_keeper.specs.GroupRows.{book_of, holds_along, is_held_of};
-ghost use Rattle.sql_rows.specs.Texts.{group_at, names_of};
+ghost use Rattle.sql_keeper.specs.GroupRows.{DoBooksRise, DoHoldsRise, book_of, held_for};
+ghost use Rattle.sql_keeper.specs.GroupRows.{holds_along, is_held_of};
+ghost use Rattle.sql_rows.specs.Texts.{names_of, open_group_at};
 ghost use Rattle.tariffs.specs.Names.{period_named};
 
+use crate::own_rows::{held_for, number_of};
 use buckets::{Bucket, Hold, Holds, Purse};
 use calendar::Period;
-use identifiers::SessionId;
 use rating::Periods;
 use reserving::{Reservation, SessionGroup, Terms};
 use shelves::TariffShelf;
-use sql_rows::{GrantBook, GroupColumns, HeldColumns, PeriodNames};
+use sql_rows::{HeldColumns, OpenGroup, PeriodNames, SessionBook, SessionHold};
 use sql_tables::ReadFault;
 use std::alloc::Global;
 use tariffs::TariffBook;
@@ -33,16 +34,6 @@ fn periods_of(book: &TariffBook, names: &PeriodNames) -> Result<Periods, ReadFau
     let before = period_of(book, names.before.as_str())?;
     let after = period_of(book, names.after.as_str())?;
     Ok(Periods { before, after })
-}
-
-/// The number of the book that the reservation of a rating group goes by, where a row says it.
-fn number_of(numbers: &[GrantBook], group: u32) -> Option<u32>
-    ensures { result ≡ book_of group numbers.now }
-{
-    match numbers.iter().find(|row| row.group == group) {
-        Some(row) => Some(row.book),
-        None => None,
-    }
 }
 
 /// The number as one that a shelf may have.
@@ -154,19 +145,25 @@ fn reservation_of(
     alloc: Global,
     books: &TariffShelf,
     buckets: &[Bucket],
-    row: &GroupColumns,
-    held: &[HeldColumns],
-    numbers: &[GrantBook],
+    row: &OpenGroup,
+    held: &[SessionHold],
+    numbers: &[SessionBook],
 ) -> Result<Option<Reservation>, ReadFault>
-    ensures { IfOk result (λ o. IsReservationOf (shelf_names books.now) buckets.now held.now
-        numbers.now row.now.group (option_map names_of row.now.periods) o) }
+    requires holds { DoHoldsRise held.now }
+    requires books { DoBooksRise numbers.now }
+    ensures { IfOk result (λ o. IsReservationOf (shelf_names books.now) buckets.now
+        (held_for row.now.session held.now)
+        (book_of row.now.session row.now.columns.group numbers.now) row.now.columns.group
+        (option_map names_of row.now.columns.periods) o) }
 {
-    match &row.periods {
+    let group = row.columns.group;
+    match &row.columns.periods {
         None => Ok(None),
         Some(names) => {
-            let number = number_of(numbers, row.group);
+            let number = number_of(numbers, &row.session, group);
             let terms = terms_of(books, number, names)?;
-            let holds = holds_of(alloc, buckets, row.group, held)?;
+            let own = held_for(alloc, &row.session, held)?;
+            let holds = holds_of(alloc, buckets, group, &own)?;
             Ok(Some(Reservation { terms, holds }))
         }
     }
@@ -176,40 +173,43 @@ fn group_of(
     alloc: Global,
     books: &TariffShelf,
     buckets: &[Bucket],
-    session: &SessionId,
-    row: &GroupColumns,
-    held: &[HeldColumns],
-    numbers: &[GrantBook],
+    row: &OpenGroup,
+    held: &[SessionHold],
+    numbers: &[SessionBook],
 ) -> Result<SessionGroup, ReadFault>
+    requires holds { DoHoldsRise held.now }
+    requires books { DoBooksRise numbers.now }
     ensures { IfOk result (λ x. IsGroupOf (shelf_names books.now) buckets.now held.now numbers.now
-        session.now (group_at row.now) x) }
+        (open_group_at row.now) x) }
 {
     let reservation = reservation_of(alloc, books, buckets, row, held, numbers)?;
-    let session = session.clone()?;
+    let session = row.session.clone()?;
     Ok(SessionGroup {
         session,
-        group: row.group,
-        used: row.used,
+        group: row.columns.group,
+        used: row.columns.used,
         reservation,
     })
 }
 
-/// What a session has of rating groups, of each row in turn.
+/// What sessions have of rating groups, of each row in turn. What is held for a session that has no
+/// row here, and the book of its reservation, are passed over.
 pub(crate) fn groups_of(
     alloc: Global,
     books: &TariffShelf,
     buckets: &[Bucket],
-    session: &SessionId,
-    rows: &[GroupColumns],
-    held: &[HeldColumns],
-    numbers: &[GrantBook],
+    rows: &[OpenGroup],
+    held: &[SessionHold],
+    numbers: &[SessionBook],
 ) -> Result<Vec<SessionGroup>, ReadFault>
+    requires holds { DoHoldsRise held.now }
+    requires books { DoBooksRise numbers.now }
     ensures { IfOk result (λ xs. AreGroupsOf (shelf_names books.now) buckets.now held.now
-        numbers.now session.now (map group_at rows.now) xs.items) }
+        numbers.now (map open_group_at rows.now) xs.items) }
 {
     let mut groups = Vec::new(alloc);
     'rows: for row in rows {
-        let group = group_of(alloc, books, buckets, session, row, held, numbers)?;
+        let group = group_of(alloc, books, buckets, row, held, numbers)?;
         groups.push(group)?;
     }
     Ok(groups)

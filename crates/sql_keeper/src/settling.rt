@@ -2,60 +2,118 @@
 
 ghost use Rattle.std.specs.Prelude.{◌≡◌, ◌&&◌, IfOk, IsTrue, false, is_some, not, position};
 ghost use Rattle.std.specs.List.{list_all};
-ghost use Rattle.reserving.specs.Left.{is_open_row};
 ghost use Rattle.reserving.specs.Sessions.{group_in, is_of, is_open, is_session, session_in};
 ghost use Rattle.sql_keeper.specs.Content.{shelf_names};
 ghost use Rattle.sql_keeper.specs.LiveGroups.{Gathers};
+ghost use Rattle.sql_keeper.specs.Seen.{AreSeen, IsStanding, standing_of, stands_open};
 ghost use Rattle.sql_keeper.specs.Tests.{AreFound, IsChangeFound, IsFound, IsTested, are_among};
-ghost use Rattle.sql_keeper.specs.Tests.{is_as_open, is_beside};
+ghost use Rattle.sql_keeper.specs.Tests.{is_as, is_beside};
 ghost use Rattle.sql_rows.specs.Content.{rows_in};
 ghost use Rattle.sql_rows.specs.Texts.{group_at};
 ghost use Rattle.sql_tables.specs.Statements.{HasIdleBook};
 ghost use Rattle.sqlite.specs.Held.{state};
 
+use crate::seen::{
+    SeenAccount, Standing, head_seen, is_open, is_unknown, standing_seen, stands_open,
+};
 use crate::testing::may_be_written;
 use identifiers::{AccountNumber, SessionId};
 use keepers::Change;
-use reserving::{Session, SessionGroup, SessionState};
+use reserving::{Session, SessionGroup};
 use shelves::TariffShelf;
-use sql_rows::{GroupColumns, read_account, read_groups, read_session};
+use sql_rows::{GroupColumns, Head, read_account, read_groups, read_session};
 use sql_tables::ReadFault;
 use sqlite::{Alter, Connection};
 use std::alloc::Global;
 
-/// Whether a session's state is that of an open one.
-fn is_open(state: SessionState) -> bool
-    ensures { result ≡ is_open state }
-{
-    state == SessionState::Open
-}
-
-/// Whether a session is open by its row.
-fn is_open_row(row: &Option<Session>) -> bool
-    ensures { result ≡ is_open_row row.now }
-{
-    match row {
-        None => false,
-        Some(row) => is_open(row.state),
-    }
-}
-
 /// Whether a session is neither opened nor ended by its row over the one that is stored.
-fn stays(before: &Option<Session>, session: &Session) -> bool
-    ensures { result ≡ is_as_open session.now before.now }
+fn stays(before: Standing, session: &Session) -> bool
+    ensures { result ≡ is_as session.now (stands_open before) }
 {
     if is_open(session.state) {
-        is_open_row(before)
+        stands_open(before)
     } else {
-        !is_open_row(before)
+        !stands_open(before)
     }
 }
 
-/// Whether a session's row is there.
-fn is_there(row: &Option<Session>) -> bool
-    ensures { result ≡ is_some row.now }
+/// How a session stands by its row.
+fn standing_of(row: &Option<Session>) -> Standing
+    ensures { result ≡ standing_of row.now }
 {
-    row.is_some()
+    match row {
+        None => Standing::Unknown,
+        Some(row) => {
+            if is_open(row.state) {
+                Standing::Open
+            } else {
+                Standing::Over
+            }
+        }
+    }
+}
+
+/// How a session stands in the tables, as it is read.
+fn read_standing<S: Alter>(
+    conn: &mut Connection<S>,
+    alloc: Global,
+    account: &AccountNumber,
+    session: &SessionId,
+) -> Result<Standing, ReadFault>
+    requires idle { HasIdleBook (state S.Store conn.old) }
+    ensures { Gathers (λ trees x. IsStanding (rows_in trees account.now) session.now x)
+        (state S.Store conn.old) (state S.Store conn.new) result }
+{
+    let row = read_session(conn, alloc, account, session)?;
+    Ok(standing_of(&row))
+}
+
+/// How a session stands in the tables: as it was seen, or as it is read.
+fn find_standing<S: Alter>(
+    conn: &mut Connection<S>,
+    alloc: Global,
+    account: &AccountNumber,
+    seen: &Option<SeenAccount>,
+    session: &SessionId,
+) -> Result<Standing, ReadFault>
+    requires idle { HasIdleBook (state S.Store conn.old) }
+    requires seen { AreSeen seen.now (state S.Store conn.old) }
+    ensures { Gathers (λ trees x. IsStanding (rows_in trees account.now) session.now x)
+        (state S.Store conn.old) (state S.Store conn.new) result }
+{
+    match standing_seen(seen, account, session) {
+        Some(standing) => Ok(standing),
+        None => read_standing(conn, alloc, account, session),
+    }
+}
+
+/// What is kept of an account once, as it is read.
+fn read_head<S: Alter>(
+    conn: &mut Connection<S>,
+    account: &AccountNumber,
+) -> Result<Option<Head>, ReadFault>
+    requires idle { HasIdleBook (state S.Store conn.old) }
+    ensures { Gathers (λ trees o. o ≡ (rows_in trees account.now).head)
+        (state S.Store conn.old) (state S.Store conn.new) result }
+{
+    Ok(read_account(conn, account)?)
+}
+
+/// What is kept of an account once: as it was seen, or as it is read.
+fn find_head<S: Alter>(
+    conn: &mut Connection<S>,
+    seen: &Option<SeenAccount>,
+    account: &AccountNumber,
+) -> Result<Option<Head>, ReadFault>
+    requires idle { HasIdleBook (state S.Store conn.old) }
+    requires seen { AreSeen seen.now (state S.Store conn.old) }
+    ensures { Gathers (λ trees o. o ≡ (rows_in trees account.now).head)
+        (state S.Store conn.old) (state S.Store conn.new) result }
+{
+    match head_seen(seen, account) {
+        Some(head) => Ok(Some(head)),
+        None => read_head(conn, account),
+    }
 }
 
 /// The place of what a change names of a session's group.
@@ -138,21 +196,23 @@ fn find_session<S: Alter>(
     conn: &mut Connection<S>,
     alloc: Global,
     account: &AccountNumber,
+    seen: &Option<SeenAccount>,
     groups: &[SessionGroup],
     session: &Session,
 ) -> Result<NamedSessions, ReadFault>
     requires idle { HasIdleBook (state S.Store conn.old) }
+    requires seen { AreSeen seen.now (state S.Store conn.old) }
     ensures { Gathers (λ trees x. IsFound groups.now (rows_in trees account.now) session.now x)
         (state S.Store conn.old) (state S.Store conn.new) result }
 {
-    let before = read_session(conn, alloc, account, &session.id)?;
-    if !is_there(&before) {
+    let before = find_standing(conn, alloc, account, seen, &session.id)?;
+    if is_unknown(before) {
         return Ok(NamedSessions {
             are_settled: true,
             are_new: true,
         });
     }
-    if stays(&before, session) {
+    if stays(before, session) {
         return Ok(NamedSessions {
             are_settled: true,
             are_new: false,
@@ -170,17 +230,19 @@ fn find_sessions<S: Alter>(
     conn: &mut Connection<S>,
     alloc: Global,
     account: &AccountNumber,
+    seen: &Option<SeenAccount>,
     groups: &[SessionGroup],
     sessions: &[Session],
 ) -> Result<NamedSessions, ReadFault>
     requires idle { HasIdleBook (state S.Store conn.old) }
+    requires seen { AreSeen seen.now (state S.Store conn.old) }
     ensures { Gathers
         (λ trees x. AreFound sessions.now groups.now (rows_in trees account.now) x)
         (state S.Store conn.old) (state S.Store conn.new) result }
 {
     let mut are_new = true;
     'sessions: for session in sessions {
-        let found = find_session(conn, alloc, account, groups, session)?;
+        let found = find_session(conn, alloc, account, seen, groups, session)?;
         if !is_settled(found) {
             return Ok(unsettled());
         }
@@ -232,20 +294,22 @@ fn find_change<S: Alter>(
     conn: &mut Connection<S>,
     alloc: Global,
     books: &TariffShelf,
+    seen: &Option<SeenAccount>,
     change: &Change,
 ) -> Result<NamedSessions, ReadFault>
     requires idle { HasIdleBook (state S.Store conn.old) }
+    requires seen { AreSeen seen.now (state S.Store conn.old) }
     ensures { Gathers (λ trees x.
         IsChangeFound (shelf_names books.now) change.now (rows_in trees change.now.number) x)
         (state S.Store conn.old) (state S.Store conn.new) result }
 {
-    let head = read_account(conn, &change.number)?;
+    let head = find_head(conn, seen, &change.number)?;
     if !may_be_written(books, &head, change) {
         return Ok(unsettled());
     }
     let sessions = change.rows.sessions();
     let groups = change.rows.groups();
-    let found = find_sessions(conn, alloc, &change.number, groups, sessions)?;
+    let found = find_sessions(conn, alloc, &change.number, seen, groups, sessions)?;
     Ok(found_with(found, sessions, groups))
 }
 
@@ -266,13 +330,15 @@ pub(crate) fn test_change<S: Alter>(
     conn: &mut Connection<S>,
     alloc: Global,
     books: &TariffShelf,
+    seen: &Option<SeenAccount>,
     change: &Change,
 ) -> Result<bool, ReadFault>
     requires idle { HasIdleBook (state S.Store conn.old) }
+    requires seen { AreSeen seen.now (state S.Store conn.old) }
     ensures { Gathers (λ trees new.
         IsTested (shelf_names books.now) change.now (rows_in trees change.now.number) new)
         (state S.Store conn.old) (state S.Store conn.new) result }
 {
-    let found = find_change(conn, alloc, books, change)?;
+    let found = find_change(conn, alloc, books, seen, change)?;
     told(found)
 }

@@ -14,7 +14,7 @@ use crate::keeper::SqlKeeper;
 use crate::opening::open_fault;
 use keepers::{Change, StoreFault};
 use shelves::TariffShelf;
-use sql_opening::OpenFault;
+use sql_tables::OpenFault;
 use sqlite::{Alter, Connection};
 use sqlite_trees::error::StoreError;
 use sqlite_trees::store::Reopen;

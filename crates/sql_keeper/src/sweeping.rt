@@ -18,6 +18,7 @@ use crate::faults::counted;
 use crate::keeper::SqlKeeper;
 use crate::last_moment::last_after;
 use crate::putting::put_stored;
+use crate::ruling::is_ruled_sweep;
 use crate::still_open::still_open;
 use crate::swept_rows::{SweptAccount, read_sweep};
 use keepers::StoreFault;
@@ -106,6 +107,9 @@ fn make_sweep<S: Alter>(
     let _ranges = shelf.first();
     let _moment = moment.seconds();
     let accounts = read_sweep(conn, alloc, names, shelf, moment)?;
+    if !is_ruled_sweep(names, moment, &accounts) {
+        return Err(ReadFault::Rules);
+    }
     write_sweep(conn, names, text, moment, &accounts)?;
     Ok(accounts.len() as u64)
 }
@@ -159,6 +163,7 @@ impl<S: Alter> SqlKeeper<S> {
         let text = self.text.as_str();
         let (alloc, names) = (self.alloc, &self.shelf);
         let made = ask_to_sweep(&mut self.connection, alloc, names, text, shelf, moment);
+        self.seen = None;
         self.last = last_after(&made, self.last, moment);
         counted(&mut self.failures, made)
     }

@@ -4,9 +4,11 @@ ghost use Rattle.std.specs.Prelude.{◌≡◌, IsTrue, option_map};
 ghost use Rattle.reserving.specs.Sessions.{session_in};
 ghost use Rattle.reserving.specs.Left.{is_open_row};
 ghost use Rattle.sql_keeper.specs.Content.{names_numbered, shelf_names};
+ghost use Rattle.sql_keeper.specs.RuledRows.{is_ruled_change};
 ghost use Rattle.sql_keeper.specs.Tests.{AreNumbered, AreWritable, IsNamed, IsWritable, MayStand};
 ghost use Rattle.sql_keeper.specs.Tests.{first_number};
 
+use crate::ruling::is_ruled_change;
 use calendar::Period;
 use identifiers::SessionId;
 use keepers::Change;
@@ -113,14 +115,17 @@ pub(crate) fn are_writable(
 
 /// Whether a change may be written over an account with this head, so that what is written reads as
 /// the change: each reservation stands in an open session that is named with it, with periods that
-/// have names in its book, and the charges are numbered on.
+/// have names in its book, the charges are numbered on, and each row is in the rules of its table.
 pub fn may_be_written(books: &TariffShelf, head: &Option<Head>, change: &Change) -> bool
     ensures reservations { IsTrue result →
         AreWritable (shelf_names books.now) change.now.rows.sessions change.now.rows.groups }
     ensures numbers { IsTrue result →
         AreNumbered (first_number head.now) change.now.rows.next_charge change.now.charges.items }
+    ensures rules { IsTrue result →
+        IsTrue (is_ruled_change (shelf_names books.now) change.now) }
 {
     let rows = &change.rows;
     are_writable(books, rows.sessions(), rows.groups())
         && are_numbered(&change.charges, first_number(head), rows.next_charge())
+        && is_ruled_change(books, change)
 }

@@ -9,8 +9,8 @@ ghost use Rattle.sqlite.specs.Held.{state};
 
 use identifiers::VoucherCode;
 use keepers::Redeemed;
-use redemptions::Voucher;
 use sqlite::{Alter, Error, Transaction};
+use voucher_rules::Voucher;
 
 /// Puts a voucher under its code, as it stands.
 pub(crate) fn put_voucher<S: Alter>(

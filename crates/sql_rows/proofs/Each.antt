@@ -9,12 +9,14 @@ use Rattle.sql_tables.specs.Statements.{Attempts, IsBook}
 use Rattle.sql_rows.specs.Content.{Content, content_of}
 use Rattle.sql_rows.specs.Each.{with_each}
 use Rattle.sql_rows.specs.Makes.{Makes, MakesIfOpen}
+use Rattle.sql_rows.specs.Plain.{ArePlain}
 
 module _ {X : Type 0} (change : X → Content → Content) (all : List X) where
   pub record IsPut (rest : List X) (old now : State) : Type 0 where
     pub book : IsBook now
     pub shows : Shows old now now.now old.committed true
     pub catalog : now.now.trees catalog_tree ≡ old.now.trees catalog_tree
+    pub plain : ArePlain old.now.trees → ArePlain now.now.trees
     pub content : with_each change rest (content_of now.now.trees)
         ≡ with_each change all (content_of old.now.trees)
 
@@ -46,6 +48,7 @@ module _ {X : Type 0} (change : X → Content → Content) (all : List X) where
             mode = m.shows.mode;
           };
           catalog = m.turns.catalog ∙ s.catalog;
+          plain = λ p. m.turns.plain (s.plain p);
           content = ap (with_each change rest) m.turns.content ∙ s.content;
         };
   }

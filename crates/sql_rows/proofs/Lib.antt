@@ -7,6 +7,7 @@ pub mod Joined
 pub mod MetaRules
 pub mod NamedTexts
 pub mod Periods
+pub mod Plains
 pub mod PutAccount
 pub mod PutAllowance
 pub mod PutAnswer

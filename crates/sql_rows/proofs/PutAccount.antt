@@ -35,6 +35,7 @@ use Rattle.sql_rows.specs.declared.head.Head.{Head}
 use Rattle.sql_rows.specs.Values.{nat, head_cells, head_values, head_key, head_in, flag_number}
 use Rattle.sql_rows.specs.Content.{with_account, with_head, rows_in, content_of}
 use Rattle.sql_rows.specs.Makes.{Makes}
+use Rattle.sql_rows.proofs.Plains.{plain_account}
 use Rattle.sql_rows.proofs.Stays.{only_changed, rows_turn}
 use Rattle.sql_rows.proofs.Writes.{writes, makes_turned}
 
@@ -123,7 +124,9 @@ module _ (a : List ℕ) (h : Head) where
       → Attempts (Makes (with_account a h)) old new r
   makes_account = writes put_account_text values (Puts accounts values) (with_account a h) puts
       (λ old new p. makes_turned (with_account a h) old new
-      (turns old.now.trees new.now.trees p.changes p.counts) p.changes.catalog p.book p.shows)
+      (turns old.now.trees new.now.trees p.changes p.counts) p.changes.catalog
+      (plain_account a h old.now.trees new.now.trees p.changes)
+      p.book p.shows)
 
   -- the parameters, as they are bound
   pub bound_account : (v1 v2 v3 v4 v5 : Value)

@@ -34,6 +34,7 @@ use Rattle.sql_tables.proofs.Upserts.{pick}
 use Rattle.sql_rows.specs.Values.{nat, bucket_key, allowance_in}
 use Rattle.sql_rows.specs.Content.{with_rows, with_allowance, rows_in, content_of}
 use Rattle.sql_rows.specs.Makes.{Makes}
+use Rattle.sql_rows.proofs.Plains.{plain_beside}
 use Rattle.sql_rows.proofs.Stays.{only_changed, rows_turn, at_each}
 use Rattle.sql_rows.proofs.Writes.{writes, puts_make}
 
@@ -115,7 +116,8 @@ module _ (a : List ℕ) (n : ℕ) where
       → Attempts (Makes (with_rows a (with_allowance n))) old new r
   makes_allowance =
       writes put_allowance_text values (Puts allowance_buckets values) (with_rows a (with_allowance n)) puts
-      (puts_make allowance_buckets values (with_rows a (with_allowance n)) turns)
+      (puts_make allowance_buckets values (with_rows a (with_allowance n)) turns
+      (plain_beside allowance_buckets values (omega arith) (omega arith) (omega arith)))
 
   -- the parameters, as they are bound
   pub bound_allowance : (v1 v2 : Value)

@@ -36,6 +36,7 @@ use Rattle.sql_tables.proofs.Upserts.{pick}
 use Rattle.sql_rows.specs.Values.{nat, Kept, answer_values, answer_key, answer_in}
 use Rattle.sql_rows.specs.Content.{Rows, Content, with_rows, with_answer, rows_in, content_of}
 use Rattle.sql_rows.specs.Makes.{Makes}
+use Rattle.sql_rows.proofs.Plains.{plain_beside}
 use Rattle.sql_rows.proofs.Stays.{only_changed, rows_turn, at_each}
 use Rattle.sql_rows.proofs.Writes.{writes, puts_make}
 
@@ -114,7 +115,8 @@ module _ (a : List ℕ) (kind : ℕ) (name : List ℕ) (number : ℕ) (k : Kept)
       → Attempts (Makes (with_rows a (with_answer kind name number k))) old new r
   makes_answer = writes put_answer_text values (Puts answers values)
       (with_rows a (with_answer kind name number k)) puts
-      (puts_make answers values (with_rows a (with_answer kind name number k)) turns)
+      (puts_make answers values (with_rows a (with_answer kind name number k)) turns
+      (plain_beside answers values (omega arith) (omega arith) (omega arith)))
 
   -- the parameters, as they are bound
   pub bound_answer : (v1 v2 v3 v4 v5 v6 : Value)

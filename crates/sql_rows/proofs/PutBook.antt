@@ -34,6 +34,7 @@ use Rattle.sql_tables.proofs.Upserts.{pick}
 use Rattle.sql_rows.specs.Values.{nat, DatedBook, book_values, book_key, book_in}
 use Rattle.sql_rows.specs.Content.{with_book, content_of}
 use Rattle.sql_rows.specs.Makes.{Makes}
+use Rattle.sql_rows.proofs.Plains.{plain_beside}
 use Rattle.sql_rows.proofs.Stays.{only_changed}
 use Rattle.sql_rows.proofs.Writes.{writes, puts_make}
 
@@ -105,7 +106,8 @@ module _ (n : ℕ) (x : DatedBook) where
       → Attempts (Makes (with_book n x)) old new r
   makes_book =
       writes put_book_text values (Puts books values) (with_book n x) puts
-      (puts_make books values (with_book n x) turns)
+      (puts_make books values (with_book n x) turns
+      (plain_beside books values (omega arith) (omega arith) (omega arith)))
 
   -- the parameters, as they are bound
   pub bound_book : (v1 v2 v3 : Value)

@@ -38,6 +38,7 @@ use Rattle.sql_tables.proofs.Upserts.{pick}
 use Rattle.sql_rows.specs.Values.{nat, money_cells, bucket_values, bucket_key, bucket_in}
 use Rattle.sql_rows.specs.Content.{Rows, Content, with_rows, with_bucket, rows_in, content_of}
 use Rattle.sql_rows.specs.Makes.{Makes}
+use Rattle.sql_rows.proofs.Plains.{plain_beside}
 use Rattle.sql_rows.proofs.Stays.{only_changed, rows_turn, at_each}
 use Rattle.sql_rows.proofs.Writes.{writes, puts_make}
 
@@ -127,7 +128,8 @@ module _ (a : List ℕ) (b : Bucket) (counts : b.kind ≡ Money) where
       → Attempts (Makes (with_rows a (with_bucket b))) old new r
   makes_bucket =
       writes put_bucket_text values (Puts buckets values) (with_rows a (with_bucket b)) puts
-      (puts_make buckets values (with_rows a (with_bucket b)) turns)
+      (puts_make buckets values (with_rows a (with_bucket b)) turns
+      (plain_beside buckets values (omega arith) (omega arith) (omega arith)))
 
   -- the parameters, as they are bound
   pub bound_bucket : (v1 v2 v3 v4 v5 v6 v7 v8 v9 v10 : Value)

@@ -37,6 +37,7 @@ use Rattle.sql_tables.proofs.Upserts.{pick}
 use Rattle.sql_rows.specs.Values.{nat, priced_cells, charge_values, charge_key, charge_in}
 use Rattle.sql_rows.specs.Content.{Rows, Content, with_rows, with_charge, rows_in, content_of}
 use Rattle.sql_rows.specs.Makes.{Makes}
+use Rattle.sql_rows.proofs.Plains.{plain_beside}
 use Rattle.sql_rows.proofs.Stays.{only_changed, rows_turn, at_each}
 use Rattle.sql_rows.proofs.Writes.{writes, puts_make}
 
@@ -123,7 +124,8 @@ module _ (a : List ℕ) (row : ChargeRow) (none : row.covered.0 ≡ 0) where
       → Attempts (Makes (with_rows a (with_charge row))) old new r
   makes_charge =
       writes put_charge_text values (Puts charges values) (with_rows a (with_charge row)) puts
-      (puts_make charges values (with_rows a (with_charge row)) turns)
+      (puts_make charges values (with_rows a (with_charge row)) turns
+      (plain_beside charges values (omega arith) (omega arith) (omega arith)))
 
   -- the parameters, as they are bound
   pub bound_charge : (v1 v2 v3 v4 v5 v6 v7 v8 v9 : Value)

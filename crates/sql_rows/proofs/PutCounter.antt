@@ -37,6 +37,7 @@ use Rattle.sql_tables.proofs.Upserts.{pick}
 use Rattle.sql_rows.specs.Values.{nat, counter_values, counter_key, counter_in}
 use Rattle.sql_rows.specs.Content.{Rows, Content, with_rows, with_counter, rows_in, content_of}
 use Rattle.sql_rows.specs.Makes.{Makes}
+use Rattle.sql_rows.proofs.Plains.{plain_beside}
 use Rattle.sql_rows.proofs.Stays.{only_changed, rows_turn, at_each}
 use Rattle.sql_rows.proofs.Writes.{writes, puts_make}
 
@@ -111,7 +112,8 @@ module _ (a : List ℕ) (k : Counter) where
       → Attempts (Makes (with_rows a (with_counter k))) old new r
   makes_counter =
       writes put_counter_text values (Puts counters values) (with_rows a (with_counter k)) puts
-      (puts_make counters values (with_rows a (with_counter k)) turns)
+      (puts_make counters values (with_rows a (with_counter k)) turns
+      (plain_beside counters values (omega arith) (omega arith) (omega arith)))
 
   -- the parameters, as they are bound
   pub bound_counter : (v1 v2 v3 v4 : Value)

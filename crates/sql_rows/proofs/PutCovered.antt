@@ -34,6 +34,7 @@ use Rattle.sql_tables.proofs.Upserts.{pick}
 use Rattle.sql_rows.specs.Values.{nat, CoveredRow, covered_values, covered_in, charge_key}
 use Rattle.sql_rows.specs.Content.{with_rows, with_covered, rows_in, content_of}
 use Rattle.sql_rows.specs.Makes.{Makes}
+use Rattle.sql_rows.proofs.Plains.{plain_beside}
 use Rattle.sql_rows.proofs.Stays.{only_changed, rows_turn, at_each}
 use Rattle.sql_rows.proofs.Writes.{writes, puts_make}
 
@@ -109,7 +110,8 @@ module _ (a : List ℕ) (x : CoveredRow) where
       → Attempts (Makes (with_rows a (with_covered x))) old new r
   makes_covered =
       writes put_covered_text values (Puts covered values) (with_rows a (with_covered x)) puts
-      (puts_make covered values (with_rows a (with_covered x)) turns)
+      (puts_make covered values (with_rows a (with_covered x)) turns
+      (plain_beside covered values (omega arith) (omega arith) (omega arith)))
 
   -- the parameters, as they are bound
   pub bound_covered : (v1 v2 v3 : Value)

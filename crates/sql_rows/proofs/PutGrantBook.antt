@@ -34,6 +34,7 @@ use Rattle.sql_tables.proofs.Upserts.{pick}
 use Rattle.sql_rows.specs.Values.{nat, grant_book_values, grant_book_in, group_key}
 use Rattle.sql_rows.specs.Content.{with_rows, with_grant_book, rows_in, content_of}
 use Rattle.sql_rows.specs.Makes.{Makes}
+use Rattle.sql_rows.proofs.Plains.{plain_beside}
 use Rattle.sql_rows.proofs.Stays.{only_changed, rows_turn, at_each}
 use Rattle.sql_rows.proofs.Writes.{writes, puts_make}
 
@@ -111,7 +112,8 @@ module _ (a s : List ℕ) (g n : ℕ) where
       → Attempts (Makes (with_rows a (with_grant_book s g n))) old new r
   makes_grant_book =
       writes put_grant_book_text values (Puts grant_books values) (with_rows a (with_grant_book s g n)) puts
-      (puts_make grant_books values (with_rows a (with_grant_book s g n)) turns)
+      (puts_make grant_books values (with_rows a (with_grant_book s g n)) turns
+      (plain_beside grant_books values (omega arith) (omega arith) (omega arith)))
 
   -- the parameters, as they are bound
   pub bound_grant_book : (v1 v2 v3 v4 : Value)

@@ -37,6 +37,7 @@ use Rattle.sql_rows.specs.Values.{nat, Group, PeriodNames, group_cells, group_va
 use Rattle.sql_rows.specs.Values.{group_in, flag_number}
 use Rattle.sql_rows.specs.Content.{Rows, Content, with_rows, with_group, rows_in, content_of}
 use Rattle.sql_rows.specs.Makes.{Makes}
+use Rattle.sql_rows.proofs.Plains.{plain_group}
 use Rattle.sql_rows.proofs.Stays.{only_changed, rows_turn, at_each}
 use Rattle.sql_rows.proofs.Writes.{writes, puts_make}
 
@@ -122,7 +123,8 @@ module _ (a s : List ℕ) (g : ℕ) (row : Group) where
       → Attempts (Makes (with_rows a (with_group s g row))) old new r
   makes_group = writes put_group_text values (Puts session_groups values)
       (with_rows a (with_group s g row)) puts
-      (puts_make session_groups values (with_rows a (with_group s g row)) turns)
+      (puts_make session_groups values (with_rows a (with_group s g row)) turns
+      (plain_group a s g row))
 
   -- the parameters, as they are bound
   pub bound_group : (v1 v2 v3 v4 v5 v6 v7 : Value)

@@ -36,6 +36,7 @@ use Rattle.sql_tables.proofs.Upserts.{pick}
 use Rattle.sql_rows.specs.Values.{nat, hold_values, hold_key, hold_in}
 use Rattle.sql_rows.specs.Content.{Rows, Content, with_rows, with_hold, rows_in, content_of}
 use Rattle.sql_rows.specs.Makes.{Makes}
+use Rattle.sql_rows.proofs.Plains.{plain_beside}
 use Rattle.sql_rows.proofs.Stays.{only_changed, rows_turn, at_each}
 use Rattle.sql_rows.proofs.Writes.{writes, puts_make}
 
@@ -115,7 +116,8 @@ module _ (a s : List ℕ) (g n amount : ℕ) where
       → Attempts (Makes (with_rows a (with_hold s g n amount))) old new r
   makes_hold =
       writes put_hold_text values (Puts holds values) (with_rows a (with_hold s g n amount)) puts
-      (puts_make holds values (with_rows a (with_hold s g n amount)) turns)
+      (puts_make holds values (with_rows a (with_hold s g n amount)) turns
+      (plain_beside holds values (omega arith) (omega arith) (omega arith)))
 
   -- the parameters, as they are bound
   pub bound_hold : (v1 v2 v3 v4 v5 : Value)

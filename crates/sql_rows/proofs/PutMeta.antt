@@ -36,6 +36,7 @@ use Rattle.sql_tables.proofs.Upserts.{pick}
 use Rattle.sql_rows.specs.Values.{nat, Meta, meta_values, meta_key, meta_in}
 use Rattle.sql_rows.specs.Content.{Rows, Content, with_meta, rows_in, content_of}
 use Rattle.sql_rows.specs.Makes.{Makes}
+use Rattle.sql_rows.proofs.Plains.{plain_beside}
 use Rattle.sql_rows.proofs.Stays.{only_changed}
 use Rattle.sql_rows.proofs.Writes.{writes, makes_turned}
 
@@ -109,7 +110,10 @@ module _ (m : Meta) where
       → Attempts (Makes (with_meta m)) old new r
   makes_meta = writes put_meta_text values (Puts meta values) (with_meta m) puts
       (λ old new p. makes_turned (with_meta m) old new
-      (turns old.now.trees new.now.trees p.changes p.counts) p.changes.catalog p.book p.shows)
+      (turns old.now.trees new.now.trees p.changes p.counts) p.changes.catalog
+      (plain_beside meta values (omega arith) (omega arith) (omega arith) old.now.trees
+      new.now.trees p.changes)
+      p.book p.shows)
 
   -- the parameters, as they are bound
   pub bound_meta : (v1 v2 v3 v4 : Value)

@@ -40,6 +40,7 @@ use Rattle.sql_rows.specs.Values.{nat, session_cells, session_values, session_ke
 use Rattle.sql_rows.specs.Values.{state_number}
 use Rattle.sql_rows.specs.Content.{Rows, Content, with_rows, with_session, rows_in, content_of}
 use Rattle.sql_rows.specs.Makes.{Makes}
+use Rattle.sql_rows.proofs.Plains.{plain_session}
 use Rattle.sql_rows.proofs.Stays.{only_changed, rows_turn, at_each}
 use Rattle.sql_rows.proofs.Writes.{writes, puts_make}
 
@@ -124,7 +125,8 @@ module _ (a : List ℕ) (row : Session) where
       → Attempts (Makes (with_rows a (with_session row))) old new r
   makes_session =
       writes put_session_text values (Puts sessions values) (with_rows a (with_session row)) puts
-      (puts_make sessions values (with_rows a (with_session row)) turns)
+      (puts_make sessions values (with_rows a (with_session row)) turns
+      (plain_session a row))
 
   -- the parameters, as they are bound
   pub bound_session : (v1 v2 v3 v4 v5 : Value)

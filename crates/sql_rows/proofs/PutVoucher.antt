@@ -34,6 +34,7 @@ use Rattle.sql_rows.specs.Values.{nat, Voucher, voucher_cells, voucher_values, v
 use Rattle.sql_rows.specs.Values.{voucher_in, optional_in, optional_text_in}
 use Rattle.sql_rows.specs.Content.{with_voucher, content_of}
 use Rattle.sql_rows.specs.Makes.{Makes}
+use Rattle.sql_rows.proofs.Plains.{plain_beside}
 use Rattle.sql_rows.proofs.Stays.{only_changed}
 use Rattle.sql_rows.proofs.PutAccount.{terms, project, places}
 use Rattle.sql_rows.proofs.Writes.{writes, puts_make}
@@ -112,7 +113,8 @@ module _ (code : List ℕ) (row : Voucher) where
       → Attempts (λ old new. ExecutesInside 0 put_voucher_text params old new r) old new r
       → Attempts (Makes (with_voucher code row)) old new r
   makes_voucher = writes put_voucher_text values (Puts vouchers values) (with_voucher code row) puts
-      (puts_make vouchers values (with_voucher code row) turns)
+      (puts_make vouchers values (with_voucher code row) turns
+      (plain_beside vouchers values (omega arith) (omega arith) (omega arith)))
 
   -- the parameters, as they are bound
   pub bound_voucher : (v1 v2 v3 v4 v5 : Value)

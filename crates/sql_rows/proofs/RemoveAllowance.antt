@@ -33,6 +33,7 @@ use Rattle.sql_tables.proofs.Ties.{agree_ties_at}
 use Rattle.sql_rows.specs.Values.{nat, bucket_key, allowance_in}
 use Rattle.sql_rows.specs.Content.{with_rows, without_allowance, rows_in, content_of}
 use Rattle.sql_rows.specs.Makes.{Makes}
+use Rattle.sql_rows.proofs.Plains.{plain_without}
 use Rattle.sql_rows.proofs.Stays.{only_changed, rows_turn, at_each}
 use Rattle.sql_rows.proofs.Writes.{writes, makes_turned}
 
@@ -126,7 +127,10 @@ module _ (a : List ℕ) (n : ℕ) where
   makes_none = writes remove_allowance_text wanted (Removes allowance_buckets wanted)
       (with_rows a (without_allowance n)) removes
       (λ old new p. makes_turned (with_rows a (without_allowance n)) old new
-      (turns old.now.trees new.now.trees p.changes) p.changes.catalog p.book p.shows)
+      (turns old.now.trees new.now.trees p.changes) p.changes.catalog
+      (plain_without allowance_buckets wanted (omega arith) (omega arith) (omega arith) old.now.trees
+      new.now.trees p.changes)
+      p.book p.shows)
 
   -- the parameters, as they are bound
   pub bound_key : (v1 v2 : Value) → v1 ≡ Text a → v2 ≡ nat n

@@ -33,6 +33,7 @@ use Rattle.sql_tables.proofs.Ties.{agree_ties_at}
 use Rattle.sql_rows.specs.Values.{nat, group_key, grant_book_in}
 use Rattle.sql_rows.specs.Content.{with_rows, without_grant_book, rows_in, content_of}
 use Rattle.sql_rows.specs.Makes.{Makes}
+use Rattle.sql_rows.proofs.Plains.{plain_without}
 use Rattle.sql_rows.proofs.Stays.{only_changed, rows_turn, at_each}
 use Rattle.sql_rows.proofs.Writes.{writes, makes_turned}
 
@@ -121,7 +122,10 @@ module _ (a s : List ℕ) (g : ℕ) where
   makes_none = writes remove_grant_book_text wanted (Removes grant_books wanted)
       (with_rows a (without_grant_book s g)) removes
       (λ old new p. makes_turned (with_rows a (without_grant_book s g)) old new
-      (turns old.now.trees new.now.trees p.changes) p.changes.catalog p.book p.shows)
+      (turns old.now.trees new.now.trees p.changes) p.changes.catalog
+      (plain_without grant_books wanted (omega arith) (omega arith) (omega arith) old.now.trees
+      new.now.trees p.changes)
+      p.book p.shows)
 
   -- the parameters, as they are bound
   pub bound_key : (v1 v2 v3 : Value) → v1 ≡ Text a → v2 ≡ Text s → v3 ≡ nat g

@@ -10,6 +10,7 @@ use Rattle.sql_tables.specs.Statements.{Attempts, Changes, HasBook, IsBook, Puts
 use Rattle.sql_tables.proofs.Keeps.{done_as}
 use Rattle.sql_rows.specs.Content.{Content, content_of}
 use Rattle.sql_rows.specs.Makes.{Makes}
+use Rattle.sql_rows.specs.Plain.{ArePlain}
 
 -- the parameters are the values that the text was read with
 pub writes : (text : List ℕ) (values : Row) (does : State → State → Type 0)
@@ -31,17 +32,20 @@ writes text values does change runs makes params same old new r has =
 -- the content is turned, the rest is left
 pub makes_turned : (change : Content → Content) (old new : State)
     → content_of new.now.trees ≡ change (content_of old.now.trees)
-    → new.now.trees catalog_tree ≡ old.now.trees catalog_tree → IsBook new
+    → new.now.trees catalog_tree ≡ old.now.trees catalog_tree
+    → (ArePlain old.now.trees → ArePlain new.now.trees) → IsBook new
     → Shows old new new.now old.committed true → Makes change old new
-makes_turned change old new content catalog book shows = record {
-  turns = record { content = content; catalog = catalog; stored = book.stored };
+makes_turned change old new content catalog plain book shows = record {
+  turns = record { content = content; catalog = catalog; stored = book.stored; plain = plain };
   book = book;
   shows = shows;
 }
 
 pub puts_make : (table : Table) (values : Row) (change : Content → Content)
     → ((old new : Trees) → Changes table values old new → content_of new ≡ change (content_of old))
+    → ((old new : Trees) → Changes table values old new → ArePlain old → ArePlain new)
     → (old new : State) → Puts table values old new → Makes change old new
-puts_make table values change turns old new p =
+puts_make table values change turns plain old new p =
     makes_turned change old new
-    (turns old.now.trees new.now.trees p.changes) p.changes.catalog p.book p.shows
+    (turns old.now.trees new.now.trees p.changes) p.changes.catalog
+    (plain old.now.trees new.now.trees p.changes) p.book p.shows

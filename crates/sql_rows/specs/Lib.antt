@@ -2,6 +2,7 @@ pub mod Content
 pub mod Each
 pub mod Lists
 pub mod Makes
+pub mod Plain
 pub mod Ruled
 pub mod Texts
 pub mod Values

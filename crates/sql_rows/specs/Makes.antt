@@ -6,13 +6,15 @@ use Rattle.sqlite_trees.specs.Tree.{Trees}
 use Rattle.sqlite.specs.State.{State, Shows}
 use Rattle.sql_tables.specs.Statements.{AreStored, IsBook, IsIdle}
 use Rattle.sql_rows.specs.Content.{Content, content_of}
+use Rattle.sql_rows.specs.Plain.{ArePlain}
 
--- the trees after have the content that the change makes of that before, and the same catalog, and
--- no rowid stands twice there
+-- the trees after have the content that the change makes of that before, and the same catalog; no
+-- rowid stands twice there, and rows are as the statements write them if they were
 pub record Turns (change : Content → Content) (old new : Trees) : Type 0 where
   pub content : content_of new ≡ change (content_of old)
   pub catalog : new catalog_tree ≡ old catalog_tree
   pub stored : AreStored new
+  pub plain : ArePlain old → ArePlain new
 
 -- inside a transaction
 pub record Makes (change : Content → Content) (old new : State) : Type 0 where

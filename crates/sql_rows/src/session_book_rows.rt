@@ -2,7 +2,8 @@
 
 ghost use Rattle.std.specs.Prelude.{◌≡◌, map, IfOk};
 ghost use Rattle.sql_rows.specs.Content.{rows_in};
-ghost use Rattle.sql_rows.specs.Lists.{AreAllGrantBooks, Ascends, session_book_before, session_book_cells};
+ghost use Rattle.sql_rows.specs.Lists.{AreAllGrantBooks, Ascends, session_book_before};
+ghost use Rattle.sql_rows.specs.Lists.{session_book_cells};
 ghost use Rattle.sql_rows.specs.Texts.{session_book_at};
 ghost use Rattle.sql_tables.specs.Statements.{HasIdleBook, Reads};
 ghost use Rattle.sqlite.specs.Held.{state};

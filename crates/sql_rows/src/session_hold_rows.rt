@@ -2,7 +2,8 @@
 
 ghost use Rattle.std.specs.Prelude.{◌≡◌, map, IfOk};
 ghost use Rattle.sql_rows.specs.Content.{rows_in};
-ghost use Rattle.sql_rows.specs.Lists.{AreAllHolds, Ascends, session_hold_before, session_hold_cells};
+ghost use Rattle.sql_rows.specs.Lists.{AreAllHolds, Ascends, session_hold_before};
+ghost use Rattle.sql_rows.specs.Lists.{session_hold_cells};
 ghost use Rattle.sql_rows.specs.Texts.{session_hold_at};
 ghost use Rattle.sql_tables.specs.Statements.{HasIdleBook, Reads};
 ghost use Rattle.sqlite.specs.Held.{state};

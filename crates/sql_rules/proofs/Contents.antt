@@ -1,6 +1,6 @@
 -- The content of tables whose rows are in their rules.
 use Rattle.std.proofs.Common.{◌≡◌, ◌≤◌, ◌<◌, ℕ, pos, negsuc, List, [], ◌∷◌, length, Bool, true}
-use Rattle.std.proofs.Common.{false}
+use Rattle.std.proofs.Common.{eqb-true, false}
 use Rattle.std.proofs.Common.{◌&&◌, Some, None, Option, refl, sym, ap, subst, ◌∙◌, arith, nat_eq}
 use Rattle.std.proofs.Common.{inl, inr, drop, IsTrue}
 use Rattle.std.proofs.Common.{nat_le, nat_lt, is_eq}
@@ -26,7 +26,7 @@ use Rattle.sql_tables.specs.Schema.{buckets}
 use Rattle.sql_tables.specs.Schema.{charges, counters, covered, grant_books, holds, key_index}
 use Rattle.sql_tables.specs.Schema.{latest}
 use Rattle.sql_tables.specs.Schema.{meta, session_groups, sessions, vouchers}
-use Rattle.sql_tables.proofs.Keys.{keys_split, number_last}
+use Rattle.sql_tables.proofs.Keys.{int_tie, keys_split, number_last}
 use Rattle.sql_tables.proofs.Selections.{full_key, meets, one_row}
 use Rattle.sql_rows.specs.Content.{content_of, rows_in}
 use Rattle.sql_rows.specs.Values.{nat, nat_in, text_in, meta_key, head_key, bucket_key, counter_key}
@@ -35,7 +35,7 @@ use Rattle.sql_rows.specs.Values.{charge_key, book_key, meta_in, head_in, bucket
 use Rattle.sql_rows.specs.Values.{session_in, group_in, hold_in, answer_in, voucher_in, charge_in}
 use Rattle.sql_rows.specs.Values.{book_in, grant_book_in, allowance_in, covered_in}
 use Rattle.sql_rules.specs.Columns.{is_moment, is_numbering, is_some_money, is_within}
-use Rattle.sql_rules.specs.Rules.{are_kept_texts, is_ruled_account, is_ruled_allowance}
+use Rattle.sql_rules.specs.Rules.{is_ruled_account, is_ruled_allowance}
 use Rattle.sql_rules.specs.Rules.{is_ruled_answer, is_ruled_book, is_ruled_bucket, is_ruled_charge}
 use Rattle.sql_rules.specs.Rules.{is_ruled_counter, is_ruled_covered, is_ruled_grant_book}
 use Rattle.sql_rules.specs.Rules.{is_ruled_group, is_ruled_hold, is_ruled_meta, is_ruled_session}
@@ -48,6 +48,7 @@ use Rattle.sql_rules.proofs.Decoded.{counter_told, covered_told, grant_book_told
 use Rattle.sql_rules.proofs.Decoded.{head_told, hold_told, meta_told, number_key, session_told}
 use Rattle.sql_rules.proofs.Decoded.{text_key, voucher_told}
 use Rattle.sql_rules.proofs.Lookups.{found_in}
+use Rattle.sql_rules.proofs.Written.{answer_of, group_of}
 
 -- ---- parts of keys
 
@@ -114,6 +115,51 @@ module _ (shelf : Shelf) (trees : Trees) (fits : Fits book_schema trees)
       (all_has (λ x. IsTrue (is_ruled_meta x)) (trees meta.tree) s so.rows k)).0))
       so.stored.0
 
+  -- what a key says of the columns of the row under it
+  group_is : (a s : List ℕ) (g : ℕ) (r : Row) → Has (trees session_groups.tree) r
+      → meets (1 ∷ 2 ∷ 3 ∷ []) (group_key a s g) r ≡ true → nat_in (column r 3) ≡ g
+  group_is a s g r has met =
+      let e = subst (λ key. eq_by_cmp row_cmp (group_key a s g) key ≡ true)
+      (group_of shelf trees fits r has) met in
+      eqb-true (nat_in (column r 3)) g
+      (sym (number_last (nat_in (column r 3)) g)
+      ∙ later_key (Text s) (Text (text_in (column r 2))) (nat g ∷ [])
+      (nat (nat_in (column r 3)) ∷ [])
+      (later_key (Text a) (Text (text_in (column r 1))) (Text s ∷ nat g ∷ [])
+      (Text (text_in (column r 2)) ∷ nat (nat_in (column r 3)) ∷ []) e))
+
+  answer_is : (a : List ℕ) (kind : ℕ) (name : List ℕ) (number : ℕ) (r : Row)
+      → Has (trees answers.tree) r
+      → meets (1 ∷ 2 ∷ 3 ∷ 4 ∷ []) (answer_key a kind name number) r ≡ true
+      → is_answer (text_in (column r 1)) (nat_in (column r 2)) (text_in (column r 3))
+      (nat_in (column r 4)) (answer_in (drop 1 r)) ≡ true
+      → is_answer a kind name number (answer_in (drop 1 r)) ≡ true
+  answer_is a kind name number r has met in' =
+      let b = text_in (column r 1) in
+      let k = nat_in (column r 2) in
+      let t = text_in (column r 3) in
+      let n = nat_in (column r 4) in
+      let e = subst (λ key. eq_by_cmp row_cmp (answer_key a kind name number) key ≡ true)
+      (answer_of shelf trees fits r has) met in
+      let first = first_key (Text a) (Text b) (nat kind ∷ Text name ∷ nat number ∷ [])
+      (nat k ∷ Text t ∷ nat n ∷ []) e in
+      let after = later_key (Text a) (Text b) (nat kind ∷ Text name ∷ nat number ∷ [])
+      (nat k ∷ Text t ∷ nat n ∷ []) e in
+      let second = first_key (nat kind) (nat k) (Text name ∷ nat number ∷ [])
+      (Text t ∷ nat n ∷ []) after in
+      let later = later_key (nat kind) (nat k) (Text name ∷ nat number ∷ [])
+      (Text t ∷ nat n ∷ []) after in
+      let third = first_key (Text name) (Text t) (nat number ∷ []) (nat n ∷ []) later in
+      let last = later_key (Text name) (Text t) (nat number ∷ []) (nat n ∷ []) later in
+      subst (λ x. is_answer x kind name number (answer_in (drop 1 r)) ≡ true)
+      (text_key a (Text b) first)
+      (subst (λ x. is_answer b x name number (answer_in (drop 1 r)) ≡ true)
+      (eqb-true k kind (sym (int_tie k kind) ∙ second))
+      (subst (λ x. is_answer b k x number (answer_in (drop 1 r)) ≡ true)
+      (text_key name (Text t) third)
+      (subst (λ x. is_answer b k t x (answer_in (drop 1 r)) ≡ true)
+      (eqb-true n number (sym (number_last n number) ∙ last)) in')))
+
   account_rows : (a : List ℕ) → AreInRules shelf a (rows_in trees a)
   account_rows a = record {
     head = λ h e.
@@ -139,7 +185,9 @@ module _ (shelf : Shelf) (trees : Trees) (fits : Fits book_schema trees)
     groups = λ s g x e.
         let it = found_in session_groups trees (is_ruled_group shelf) (ruled 5 (omega arith)).rows
         group_in (group_key a s g) x e in
-        subst (λ y. is_group shelf y ≡ true) it.3 (group_told shelf it.0 it.2);
+        subst (λ y. is_group shelf g y ≡ true) it.3
+        (subst (λ n. is_group shelf n (group_in (drop 1 it.0)) ≡ true)
+        (group_is a s g it.0 it.4 it.1) (group_told shelf it.0 it.2));
     holds = λ s g n amount e.
         let it = found_in holds trees is_ruled_hold (ruled 6 (omega arith)).rows hold_in
         (hold_key a s g n) amount e in
@@ -147,12 +195,8 @@ module _ (shelf : Shelf) (trees : Trees) (fits : Fits book_schema trees)
     answers = λ kind name number k e.
         let it = found_in answers trees is_ruled_answer (ruled 7 (omega arith)).rows answer_in
         (answer_key a kind name number) k e in
-        subst (λ y. is_answer a y ≡ true) it.3
-        (subst (λ t. is_answer t (answer_in (drop 1 it.0)) ≡ true)
-        (text_key a (column it.0 1) (first_key (Text a) (column it.0 1)
-        (nat kind ∷ Text name ∷ nat number ∷ [])
-        (column it.0 2 ∷ column it.0 3 ∷ column it.0 4 ∷ []) it.1))
-        (answer_told it.0 it.2));
+        subst (λ y. is_answer a kind name number y ≡ true) it.3
+        (answer_is a kind name number it.0 it.4 it.1 (answer_told it.0 it.2));
     charges = λ n x e.
         let it = found_in charges trees is_ruled_charge (ruled 9 (omega arith)).rows charge_in
         (charge_key a n) x e in

@@ -19,13 +19,13 @@ use Rattle.sql_rows.specs.Values.{counter_in, session_in, group_in, hold_in, ans
 use Rattle.sql_rows.specs.Values.{charge_in, book_in, grant_book_in, covered_in, PeriodNames}
 use Rattle.sql_rules.specs.Columns.{is_within, is_optional_within, is_moment, is_some_money}
 use Rattle.sql_rules.specs.Columns.{is_money, is_next, is_numbering, is_small}
-use Rattle.sql_rules.specs.Rules.{are_kept_texts, are_periods, is_ruled_answer, is_ruled_book}
+use Rattle.sql_rules.specs.Rules.{are_periods, is_ruled_answer, is_ruled_book}
 use Rattle.sql_rules.specs.Rules.{is_ruled_grant_book, is_ruled_meta}
 use Rattle.sql_rules.specs.Rules.{is_ruled_account, is_ruled_bucket, is_ruled_counter}
 use Rattle.sql_rules.specs.Rules.{is_ruled_session, is_ruled_group, is_ruled_hold}
 use Rattle.sql_rules.specs.Rules.{is_ruled_charge, is_ruled_covered, is_ruled_voucher}
 use Rattle.sql_rules.specs.Ruled.{is_none_or_within, is_head, is_bucket, is_counter, is_session}
-use Rattle.sql_rules.specs.Ruled.{are_named, is_book, is_group, is_charge, is_voucher}
+use Rattle.sql_rules.specs.Ruled.{are_named, is_answer, is_book, is_group, is_charge, is_voucher}
 
 -- ---- tests of tests
 
@@ -48,7 +48,7 @@ optional low high (Real x) h = refl
 optional low high (Text t) h = refl
 optional low high (Blob b) h = refl
 
-fourth : (a b c d e f : Bool) → (d ≡ true → f ≡ true) → (a && b && c && d && e) ≡ true
+pub fourth : (a b c d e f : Bool) → (d ≡ true → f ≡ true) → (a && b && c && d && e) ≡ true
     → (a && b && c && f && e) ≡ true
 fourth true true true true e true to h = h
 fourth true true true true e false to h = absurd (let no : false ≡ true = to refl in cc)
@@ -126,12 +126,12 @@ named shelf n before after h =
     subst (λ m. are_periods shelf m before after ≡ true) one h)
 
 pub group_told : (shelf : Shelf) (row : Row) → is_ruled_group shelf row ≡ true →
-    is_group shelf (group_in (drop 1 row)) ≡ true
+    is_group shelf (nat_in (column row 3)) (group_in (drop 1 row)) ≡ true
 group_told shelf [] h = refl
 group_told shelf (v ∷ cells) h =
     let rest = and_parts _ (are_periods shelf (nat_in (column cells 4)) (column cells 5)
     (column cells 6)) h in
-    and_from _ _ (and_parts _ _ rest.0).1
+    and_from _ _ rest.0
     (named shelf (nat_in (column cells 4)) (column cells 5) (column cells 6) rest.1)
 
 pub grant_book_told : (shelf : Shelf) (row : Row) → is_ruled_grant_book shelf row ≡ true →
@@ -150,13 +150,13 @@ account_told row h =
     first_five true b c d e h = refl
     first_five false b c d e h = absurd (cc h)
 
-pub answer_told : (row : Row) → is_ruled_answer row ≡ true → are_kept_texts (text_in (column row 1))
-    (answer_in (drop 1 row)).content (answer_in (drop 1 row)).answer ≡ true
+pub answer_told : (row : Row) → is_ruled_answer row ≡ true
+    → is_answer (text_in (column row 1)) (nat_in (column row 2)) (text_in (column row 3))
+    (nat_in (column row 4)) (answer_in (drop 1 row)) ≡ true
 answer_told [] h = absurd (cc h)
-answer_told (v ∷ cells) h = (and_parts _ (are_kept_texts (text_in (column cells 0))
-    (text_in (column cells 4)) (text_in (column cells 5))) h).1
+answer_told (v ∷ cells) h = h
 
-third_fourth : (a b c d e f : Bool) → (c ≡ true → e ≡ true) → (d ≡ true → f ≡ true)
+pub third_fourth : (a b c d e f : Bool) → (c ≡ true → e ≡ true) → (d ≡ true → f ≡ true)
     → (a && b && c && d) ≡ true → (a && b && e && f) ≡ true
 third_fourth true true true true e f to too h = and_from e f (to refl) (too refl)
 third_fourth true true true false e f to too h = absurd (cc h)

@@ -1,7 +1,9 @@
 pub mod Anywhere
 pub mod Contents
 pub mod Decoded
+pub mod Encoded
 pub mod Ends
+pub mod KeptRules
 pub mod Lookups
 pub mod MappedPuts
 pub mod MappedRows
@@ -9,3 +11,5 @@ pub mod Passing
 pub mod Standing
 pub mod Steps
 pub mod Texts
+pub mod Typed
+pub mod Written

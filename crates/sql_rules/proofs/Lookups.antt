@@ -13,7 +13,7 @@ use Rattle.sqlite_rules.proofs.ListLemmas.{all_has}
 use Rattle.sql_tables.specs.Keyed.{entries_of, look}
 use Rattle.sql_tables.proofs.Selections.{meets, met_some}
 
-mapped : {X : Type 0} (of : Row → X) (o : Option Row) (x : X) → option_map of o ≡ Some x
+pub mapped : {X : Type 0} (of : Row → X) (o : Option Row) (x : X) → option_map of o ≡ Some x
     → (v : Row) × (o ≡ Some v) × (of v ≡ x)
 mapped of None x e = absurd (cc e)
 mapped of (Some v) x e = (v, refl, cc e)
@@ -23,6 +23,7 @@ pub found_in : {X : Type 0} (table : Table) (trees : Trees) (rule : Row → Bool
     → AllByRecursion (λ r. IsTrue (rule r)) (trees table.tree) → (of : Row → X) (key : Row) (x : X)
     → option_map of (look table trees key) ≡ Some x
     → (r : Row) × (meets table.primary key r ≡ true) × (rule r ≡ true) × (of (drop 1 r) ≡ x)
+    × Has (trees table.tree) r
 found_in table trees rule all of key x e =
     let it = mapped of (look table trees key) x e in
     let back = met_some table.primary key it.0 (trees table.tree)
@@ -32,4 +33,5 @@ found_in table trees rule all of key x e =
       back.2,
       all_has (λ r. IsTrue (rule r)) (trees table.tree) back.0 all back.1,
       ap of (sym back.3) ∙ it.2,
+      back.1,
     )

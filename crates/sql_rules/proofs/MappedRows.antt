@@ -72,6 +72,22 @@ module _ (table : Table) (tabled : Has book_schema.tables table)
       subst (λ v. rule (Null ∷ v) ≡ true) (sym it.3)
       (free it.0 ∙ all_has (λ r. IsTrue (rule r)) (trees table.tree) it.0 all it.1)
 
+  -- each row stands under its key
+  pub under_key : (r : Row) → Has (trees table.tree) r
+      → AllByRecursion (λ p. is_null (column r p) ≡ false) table.primary
+      → look table trees (key_of table.primary r) ≡ Some (drop 1 r)
+  under_key r has full =
+      let key = key_of table.primary r in
+      let tie : meets table.primary key r ≡ true = ap is_eq (tied_itself row_cmp_total key) in
+      let it = met_has table.primary key (trees table.tree) r has tie in
+      let back = met_some table.primary key it.0 (trees table.tree) it.1 in
+      let full' : AllByRecursion (λ v. is_null v ≡ false) key =
+      all-map (λ v. is_null v ≡ false) (column r) table.primary full in
+      let same : back.0 ≡ r = one_row table.primary book_schema table tabled (key_index table)
+      listed guarding refl refl trees fits stored key
+      (λ x e. full_key table.primary key x full' e) back.0 r back.1 has back.2 tie in
+      looked key ∙ it.1 ∙ ap Some (back.3 ∙ ap (drop 1) same)
+
   row_mapped : IsMapped rule table trees → (r : Row) → Has (trees table.tree) r
       → AllByRecursion (λ p. is_null (column r p) ≡ false) table.primary → rule r ≡ true
   row_mapped so r has full =
@@ -115,7 +131,7 @@ pub record IsKeyed (table : Table) : Type 0 where
   pub low : front ≤ length table.columns
   pub alone : table.key ≡ None
 
-keyed : (at : ℕ) → at < 14 → IsKeyed (table_at at)
+pub keyed : (at : ℕ) → at < 14 → IsKeyed (table_at at)
 keyed zero low = record {
   tabled = inl refl;
   listed = inl refl;
@@ -303,7 +319,7 @@ free_rule shelf
     r = refl
 
 module _ (shelf : Shelf) (trees : Trees) (fits : Fits book_schema trees) where
-  full_rows : (table : Table) → IsKeyed table → (r : Row) → Has (trees table.tree) r
+  pub full_rows : (table : Table) → IsKeyed table → (r : Row) → Has (trees table.tree) r
       → AllByRecursion (λ p. is_null (column r p) ≡ false) table.primary
   full_rows table is r has =
       let rows = all_has (λ (t : Table).

@@ -4,8 +4,8 @@ use Rattle.std.proofs.Common.{Bool, true, false, not, IsTrue, refl, sym, ap, sub
 use Rattle.std.specs.List.{AllByRecursion}
 use Rattle.sqlite_value.specs.Order.{Row}
 use Rattle.sqlite_trees.proofs.ListLemmas.{all-append}
-use Rattle.sql_opening.specs.Rises.{AreRising, Climbs, IsAbove}
-use Rattle.sql_opening.proofs.Ascents.{all_end, climbs_on, still_falls, up_to}
+use Rattle.sql_tables.specs.Rises.{AreRising, Climbs, IsAbove}
+use Rattle.sql_tables.proofs.Ascents.{all_end, climbs_on, still_falls, up_to}
 use Rattle.sql_rules.specs.Walks.{Pass, Walks}
 
 all_front : {A : Type 0} (P : A → Type 0) (xs ys : List A) → AllByRecursion P (xs ++ ys) →

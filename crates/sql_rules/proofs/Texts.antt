@@ -4,7 +4,7 @@ use Rattle.std.proofs.Common.{slice_index_or, subst, sym, arith}
 use Rattle.sqlite_tied.specs.Compute.{everything}
 use Rattle.sqlite.specs.Listing.{understood}
 use Rattle.sql_tables.specs.Schema.{schema_at}
-use Rattle.sql_opening.specs.Opens.{IsVersion}
+use Rattle.sql_tables.specs.Opens.{IsVersion}
 use Rattle.sql_rules.specs.Tables.{IsTable, texts}
 
 meta_at_1 : IsTable 1 (slice_index_or texts 0 []) 0

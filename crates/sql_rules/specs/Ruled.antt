@@ -13,7 +13,7 @@ use Rattle.sql_rows.specs.Content.{Content, Rows}
 use Rattle.sql_rows.specs.Values.{DatedBook, Group, Kept, Meta, PeriodNames, Voucher}
 use Rattle.sql_rules.specs.Columns.{is_within, is_small, is_numbering, is_next, is_moment, is_money}
 use Rattle.sql_rules.specs.Columns.{is_some_money}
-use Rattle.sql_rules.specs.Rules.{are_kept_texts, is_period_name}
+use Rattle.sql_rules.specs.Rules.{are_kept_texts, is_answer_key, is_period_name}
 
 -- none, or a number from the one to the other
 abbrev pub is_none_or_within : ℕ → ℕ → Option ℕ → Bool
@@ -40,11 +40,13 @@ abbrev pub are_named : Shelf → Option PeriodNames → Bool
 are_named shelf None = true
 are_named shelf (Some p) = is_period_name shelf p.before && is_period_name shelf p.after
 
-abbrev pub is_group : Shelf → Group → Bool
-is_group shelf x = nat_le x.used 1_000_000_000_000_000_000 && are_named shelf x.periods
+abbrev pub is_group : Shelf → ℕ → Group → Bool
+is_group shelf g x =
+    is_small g && nat_le x.used 1_000_000_000_000_000_000 && are_named shelf x.periods
 
-abbrev pub is_answer : List ℕ → Kept → Bool
-is_answer a k = are_kept_texts a k.content k.answer
+abbrev pub is_answer : List ℕ → ℕ → List ℕ → ℕ → Kept → Bool
+is_answer a kind name number k =
+    is_answer_key kind name number && are_kept_texts a k.content k.answer
 
 abbrev pub is_voucher : List ℕ → Voucher → Bool
 is_voucher code x =
@@ -65,11 +67,11 @@ pub record AreInRules (shelf : Shelf) (a : List ℕ) (r : Rows) : Type 0 where
   pub counters : (g k : ℕ) (x : Counter) → r.counters g k ≡ Some x → IsTrue (is_counter x)
   pub sessions : (s : List ℕ) (x : Session) → r.sessions s ≡ Some x → IsTrue (is_session x)
   pub groups : (s : List ℕ) (g : ℕ) (x : Group) → r.groups s g ≡ Some x
-      → IsTrue (is_group shelf x)
+      → IsTrue (is_group shelf g x)
   pub holds : (s : List ℕ) (g n amount : ℕ) → r.holds s g n ≡ Some amount
       → IsTrue (is_some_money amount)
   pub answers : (kind : ℕ) (name : List ℕ) (number : ℕ) (k : Kept)
-      → r.answers kind name number ≡ Some k → IsTrue (is_answer a k)
+      → r.answers kind name number ≡ Some k → IsTrue (is_answer a kind name number k)
   pub charges : (n : ℕ) (x : ChargeRow) → r.charges n ≡ Some x → IsTrue (is_charge x)
   pub grant_books : (s : List ℕ) (g n : ℕ) → r.grant_books s g ≡ Some n
       → IsTrue (is_within 1 (count shelf) n)

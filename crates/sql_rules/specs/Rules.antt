@@ -14,7 +14,7 @@ use Rattle.sqlite_sql.specs.Ops.{is_null}
 use Rattle.sqlite_value.specs.declared.value.Value.{Value}
 use Rattle.sqlite_value.specs.Order.{Row, column}
 use Rattle.wire.specs.Contents.{is_content_text}
-use Rattle.wire_answers.specs.ReadingAnswers.{is_answer_text}
+use Rattle.wire.specs.ReadingAnswers.{is_answer_text}
 use Rattle.sql_rows.specs.Values.{text_in}
 use Rattle.sql_rules.specs.Columns.{number_at, text_at, is_within, is_optional_within, is_small}
 use Rattle.sql_rules.specs.Columns.{is_numbering, is_next, is_moment, is_money, is_some_money}

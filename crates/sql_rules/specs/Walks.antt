@@ -2,7 +2,7 @@
 use Rattle.std.specs.Prelude.{◌≡◌, ℤ, Bool, true, false, List, [], Option, Some, None, IsTrue}
 use Rattle.std.specs.List.{AllByRecursion}
 use Rattle.sqlite_value.specs.Order.{Row}
-use Rattle.sql_opening.specs.Rises.{AreRising, Climbs}
+use Rattle.sql_tables.specs.Rises.{AreRising, Climbs}
 
 -- the first value of each row is an integer above that of the row before, and each row passes the
 -- test

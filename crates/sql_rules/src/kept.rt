@@ -3,7 +3,7 @@
 ghost use Rattle.std.specs.Prelude.{◌≡◌, false, IfOk, MatchResult, None, Some, ⊤, if◌then◌else◌};
 ghost use Rattle.identifiers.specs.Texts.{is_account_number};
 ghost use Rattle.wire.specs.Contents.{is_content_text};
-ghost use Rattle.wire_answers.specs.ReadingAnswers.{is_answer_text};
+ghost use Rattle.wire.specs.ReadingAnswers.{is_answer_text};
 ghost use Rattle.sql_rules.specs.Rules.{are_kept_texts};
 
 use identifiers::AccountNumber;

@@ -1,6 +1,6 @@
 //! What rows in their rules say of the content of the tables.
 
-ghost use Rattle.std.specs.Prelude.{◌≡◌, ◌∷◌, Bool, IsTrue};
+ghost use Rattle.std.specs.Prelude.{◌≡◌, ◌∷◌, Bool, IsTrue, is_some};
 ghost use Rattle.sqlite_value.specs.Order.{Row};
 ghost use Rattle.sqlite_value.specs.declared.value.Value.TheVariants.{Null};
 ghost use Rattle.sqlite_schema.specs.Rules.{Fits};
@@ -10,6 +10,7 @@ ghost use Rattle.shelves.specs.Shelves.{Shelf};
 ghost use Rattle.sql_tables.specs.Schema.{book_schema, latest};
 ghost use Rattle.sql_tables.specs.Statements.{AreStored, Changes, Ends};
 ghost use Rattle.sql_rows.specs.Content.{content_of};
+ghost use Rattle.sql_rows.specs.Plain.{ArePlain};
 ghost use Rattle.sql_rules.specs.Mapped.{AreMapped, IsMapped};
 ghost use Rattle.sql_rules.specs.Ruled.{IsInRules};
 ghost use Rattle.sql_rules.specs.Tables.{AreRuled};
@@ -18,6 +19,14 @@ ghost use Rattle.sql_rules.specs.Tables.{AreRuled};
 pub fn ruled_rows_are_told_ruled()
     ensures { (shelf : Shelf) (trees : Trees) → Fits book_schema trees
         → AreRuled shelf latest trees → IsInRules shelf (content_of trees) }
+{}
+
+/// Where the content is in its rules, the rows are in theirs, if they are as the statements write
+/// them.
+pub fn content_in_rules_is_of_ruled_rows()
+    ensures { (shelf : Shelf) (trees : Trees) → Fits book_schema trees → AreStored trees
+        → ArePlain trees → IsTrue (is_some (content_of trees).meta)
+        → IsInRules shelf (content_of trees) → AreRuled shelf latest trees }
 {}
 
 /// The rows of the latest version's tables are in their rules exactly where what stands under each

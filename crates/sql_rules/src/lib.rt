@@ -11,6 +11,7 @@ mod ruling;
 mod walking;
 
 pub use crate::laws::{
-    puts_keep_the_rules, ruled_rows_are_ruled_under_their_keys, ruled_rows_are_told_ruled,
+    content_in_rules_is_of_ruled_rows, puts_keep_the_rules, ruled_rows_are_ruled_under_their_keys,
+    ruled_rows_are_told_ruled,
 };
 pub use crate::ruling::rules_of;

@@ -4,12 +4,12 @@ ghost use Rattle.std.specs.Prelude.{◌≡◌, length};
 ghost use Rattle.sqlite.specs.Held.{state};
 ghost use Rattle.sqlite.specs.State.{HasCleanDisk};
 ghost use Rattle.sql_tables.specs.Schema.{schema_at};
-ghost use Rattle.sql_opening.specs.Opens.{IsVersion};
+ghost use Rattle.sql_tables.specs.Opens.{IsVersion};
 ghost use Rattle.sql_rules.specs.Tables.{AreRuled, Tells};
 
 use crate::walking::table_passes;
 use shelves::TariffShelf;
-use sql_opening::OpenFault;
+use sql_tables::OpenFault;
 use sqlite::{Alter, Connection};
 use std::alloc::Global;
 

@@ -22,3 +22,8 @@ pub mod Tabled
 pub mod Telling
 pub mod Ties
 pub mod Upserts
+pub mod Ascents
+pub mod Plains
+pub mod Standing
+pub mod OpeningSteps
+pub mod OpeningTexts

@@ -6,3 +6,7 @@ pub mod Stages
 pub mod Statements
 pub mod Texts
 pub mod Words
+pub mod Faults
+pub mod Opens
+pub mod Plain
+pub mod Rises

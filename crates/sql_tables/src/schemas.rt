@@ -1,7 +1,8 @@
 //! Which tables a database has.
 
 ghost use Rattle.std.specs.Prelude.{◌≡◌, ◌↔◌, IsTrue};
-ghost use Rattle.sql_tables.specs.Ours.{has_ours, is_of_later, is_of_money, is_of_sessions, is_ours};
+ghost use Rattle.sql_tables.specs.Ours.{has_ours, is_of_later, is_of_money, is_of_sessions};
+ghost use Rattle.sql_tables.specs.Ours.{is_ours};
 ghost use Rattle.sql_tables.specs.Texts.{stage};
 
 use sqlite_schema::names::same_name;

@@ -11,9 +11,9 @@ use Rattle.std.proofs.KnownBytes.{Appends-nil, Appends-trans}
 use Rattle.std.proofs.lemmas.Bool.{false≢true}
 use Rattle.tariffs.specs.Books.{Book}
 use Rattle.reserving.specs.ChargeColumns.{ChargeColumns}
-use Rattle.charge_sources.specs.Rows.{is_between, AreCharges}
-use Rattle.charge_sources.specs.Visits.{Visits, GoesOn, IsShown, SeesCharges, SeesBeginning}
-use Rattle.byte_streams.specs.declared.StreamFault.{StreamFault}
+use Rattle.keepers.specs.Rows.{is_between, AreCharges}
+use Rattle.keepers.specs.Visits.{Visits, GoesOn, IsShown, SeesCharges, SeesBeginning}
+use Rattle.texts.specs.declared.streams.StreamFault.{StreamFault}
 use Rattle.statements.specs.Months.{is_of_cycle, cycle_of_month}
 use Rattle.statements.specs.Rows.{TakesRow, text_if, plus_if}
 use Rattle.statements.specs.Texts.{charges_text, plus_charge, sums_of, of_month, WritesBeginning}

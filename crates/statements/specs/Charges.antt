@@ -3,12 +3,12 @@
 use Rattle.std.specs.Prelude.{◌≡◌, ℕ, ◌+◌, ◌≤◌, min, List, Option, Result, IfOk, OnErr, OnOk}
 use Rattle.std.specs.Prelude.{IsErrOf}
 use Rattle.std.specs.Io.KnownBytes.{Appends}
-use Rattle.byte_streams.specs.Words.{Bytes}
+use Rattle.texts.specs.StreamWords.{Bytes}
 use Rattle.reserving.specs.Words.{ChargeNumber}
 use Rattle.keepers.specs.Faults.{max_failures}
 use Rattle.keepers.specs.Tables.{Tables}
 use Rattle.reserving.specs.ChargeColumns.{ChargeColumns}
-use Rattle.charge_sources.specs.Rows.{AreCharges}
+use Rattle.keepers.specs.Rows.{AreCharges}
 use Rattle.statements.specs.Texts.{charges_text, sums_of, WritesBeginning}
 use Rattle.statements.specs.declared.fault.StatementFault.{StatementFault}
 use Rattle.statements.specs.declared.fault.StatementFault.TheVariants.{Store}

@@ -2,7 +2,7 @@
 -- Source: profile.
 use Rattle.std.specs.Prelude.{ℕ, ◌-◌, ◌++◌, List, [], ◌∷◌, length, replicate}
 use Rattle.std.specs.Fmt.{decimal}
-use Rattle.byte_streams.specs.Words.{Bytes}
+use Rattle.texts.specs.StreamWords.{Bytes}
 use Rattle.statements.specs.declared.columns.Column.{Column}
 
 abbrev pub blanks : ℕ → Bytes

@@ -1,8 +1,8 @@
 -- Why a statement isn't written whole.
 -- Source: profile.
 use Rattle.std.specs.Prelude.{ℕ}
-use Rattle.byte_streams.specs.declared.StreamFault.{StreamFault}
-use Rattle.byte_streams.specs.declared.StreamFault.TheVariants as stream
+use Rattle.texts.specs.declared.streams.StreamFault.{StreamFault}
+use Rattle.texts.specs.declared.streams.StreamFault.TheVariants as stream
 use Rattle.keepers.specs.declared.fault.StoreFault.{StoreFault}
 use Rattle.keepers.specs.declared.fault.StoreFault.TheVariants as store
 use Rattle.statements.specs.declared.fault.StatementFault.{StatementFault}

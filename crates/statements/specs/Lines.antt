@@ -4,8 +4,8 @@ use Rattle.std.specs.Prelude.{ℕ, ◌++◌, List, [], ◌∷◌, codes, unwrap_
 use Rattle.std.specs.Fmt.{decimal}
 use Rattle.units.specs.Words.{Moment}
 use Rattle.identifiers.specs.Words.{AccountName}
-use Rattle.written_numbers.specs.Words.{MonthNumber}
-use Rattle.byte_streams.specs.Words.{Bytes}
+use Rattle.texts.specs.NumberWords.{MonthNumber}
+use Rattle.texts.specs.StreamWords.{Bytes}
 use Rattle.buckets.specs.Row.{Row}
 use Rattle.reserving.specs.ChargeColumns.{ChargeColumns}
 use Rattle.statements.specs.Columns.{column_text, columns_text, set}

@@ -2,7 +2,7 @@
 -- Source: profile.
 use Rattle.std.specs.Prelude.{◌+◌, ◌-◌, ◌*◌, ◌/◌, ◌%◌, ◌==◌, Bool}
 use Rattle.units.specs.Words.{CycleNumber}
-use Rattle.written_numbers.specs.Words.{MonthNumber}
+use Rattle.texts.specs.NumberWords.{MonthNumber}
 use Rattle.calendar.specs.declared.cycle.Cycle.TheVariants as cycles
 use Rattle.calendar.specs.Timetable.{cycle_of}
 use Rattle.tariffs.specs.Books.{Book}

@@ -2,7 +2,7 @@
 -- Source: profile.
 use Rattle.std.specs.Prelude.{◌≡◌, Bool, true, false, [], Option, is_some}
 use Rattle.std.specs.Io.KnownBytes.{Appends}
-use Rattle.byte_streams.specs.Words.{Bytes}
+use Rattle.texts.specs.StreamWords.{Bytes}
 use Rattle.reserving.specs.ChargeColumns.{ChargeColumns}
 use Rattle.statements.specs.Months.{is_of_cycle}
 use Rattle.statements.specs.Texts.{charge_text, plus_charge, WritesBeginning}

@@ -6,8 +6,8 @@ use Rattle.std.specs.List.{filter, list_any}
 use Rattle.std.specs.Io.KnownBytes.{Appends}
 use Rattle.units.specs.Words.{Moment, no_end}
 use Rattle.identifiers.specs.Words.{AccountName}
-use Rattle.written_numbers.specs.Words.{MonthNumber}
-use Rattle.byte_streams.specs.Words.{Bytes}
+use Rattle.texts.specs.NumberWords.{MonthNumber}
+use Rattle.texts.specs.StreamWords.{Bytes}
 use Rattle.buckets.specs.declared.kind.BucketKind.{BucketKind}
 use Rattle.buckets.specs.declared.kind.BucketKind.TheVariants.{Money, Blocks}
 use Rattle.buckets.specs.Kinds.{is_alike}
@@ -15,7 +15,7 @@ use Rattle.buckets.specs.Row.{Row}
 use Rattle.buckets.specs.Share.{sum_in}
 use Rattle.tariffs.specs.Books.{Book}
 use Rattle.reserving.specs.ChargeColumns.{ChargeColumns}
-use Rattle.charge_sources.specs.Rows.{is_between}
+use Rattle.keepers.specs.Rows.{is_between}
 use Rattle.statements.specs.Months.{is_of_month}
 use Rattle.statements.specs.Records.{header_record, charge_record}
 use Rattle.statements.specs.Lines.{title_line, heading, charge_line, total_line, bucket_heading}

@@ -3,8 +3,8 @@
 ghost use Rattle.std.specs.Prelude.{◌≡◌};
 ghost use Rattle.statements.specs.Faults.{fault_number, of_store, of_stream};
 
-use byte_streams::StreamFault;
 use keepers::StoreFault;
+use texts::StreamFault;
 use thiserror::Error;
 
 /// Why a statement or an export wasn't written whole.

@@ -12,8 +12,8 @@ use buckets::Bucket;
 use identifiers::AccountNumber;
 use reserving::ChargeRow;
 use std::alloc::{AllocError, Global};
+use texts::Month;
 use units::Moment;
-use written_numbers::Month;
 
 /// The line before the charges: what stands in their columns.
 const HEADING: &str =

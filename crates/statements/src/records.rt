@@ -5,10 +5,10 @@ ghost use Rattle.std.specs.Fmt.{decimal};
 ghost use Rattle.csv.specs.Writing.{default_writer, row_text};
 ghost use Rattle.statements.specs.Records.{charge_record, header_record};
 
-use byte_streams::StreamFault;
 use csv::{Error, WriterBuilder};
 use reserving::ChargeRow;
 use std::alloc::{AllocError, Global};
+use texts::StreamFault;
 
 /// The text of a record.
 fn record_text(alloc: Global, fields: &[&[u8]]) -> Result<Vec<u8>, Error>

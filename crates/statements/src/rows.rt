@@ -6,13 +6,13 @@ ghost use Rattle.statements.specs.Texts.{sums_of, charge_text, plus_charge, Writ
 
 use crate::lines::charge_line;
 use crate::records::charge_record;
-use byte_streams::{StreamFault, write_whole};
 use calendar::Cycle;
-use charge_sources::ChargeVisitor;
+use keepers::ChargeVisitor;
 use reserving::ChargeRow;
 use std::alloc::Global;
 use std::io::Write;
 use tariffs::TariffBook;
+use texts::{StreamFault, write_whole};
 
 /// How a charge is written.
 #[derive(Clone, Copy, Debug, PartialEq, Eq)]

@@ -3,7 +3,7 @@
 ghost use Rattle.std.specs.Prelude.{◌≡◌, OnOk, OnErr, IfOk, ℕ};
 ghost use Rattle.std.specs.Io.KnownBytes.{Appends};
 ghost use Rattle.reserving.specs.ChargeColumns.{ChargeColumns};
-ghost use Rattle.charge_sources.specs.Rows.{AreCharges};
+ghost use Rattle.keepers.specs.Rows.{AreCharges};
 ghost use Rattle.statements.specs.Charges.{Asks, SumsSome, Writes, WritesSome};
 ghost use Rattle.statements.specs.Records.{header_record};
 ghost use Rattle.statements.specs.Months.{cycle_of_month};
@@ -17,14 +17,13 @@ use crate::lines::head_text;
 use crate::records::header_record;
 use crate::rows::{Form, MonthRows, Sums};
 use buckets::Bucket;
-use byte_streams::{StreamFault, write_whole};
-use charge_sources::ChargeSource;
 use identifiers::AccountNumber;
+use keepers::ChargeSource;
 use std::alloc::Global;
 use std::io::Write;
 use tariffs::TariffBook;
+use texts::{Month, StreamFault, write_whole};
 use units::Moment;
-use written_numbers::Month;
 
 /// An account's month by a book, in whose zone it is civil: what a statement or an export is of.
 #[derive(Drop)]

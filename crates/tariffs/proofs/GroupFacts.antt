@@ -1,6 +1,6 @@
 -- Groups of a book: none stands twice.
-use Rattle.std.proofs.Common.{◌≡◌, ◌≢◌, ℕ, zero, suc, ◌<◌, ◌==◌, ◌||◌, Bool, true, false, List, []}
-use Rattle.std.proofs.Common.{◌∷◌, ◌++◌, length, get_or, refl, arith, inl, inr, sym}
+use Rattle.std.proofs.Common.{◌≡◌, ◌≢◌, ℕ, zero, suc, ◌<◌, ◌==◌, false, List, []}
+use Rattle.std.proofs.Common.{◌∷◌, ◌++◌, length, get_or, arith, inl, inr, sym}
 use Rattle.std.specs.List.{list_any}
 use Rattle.std.proofs.lemmas.Bool.{cases_lt, or_parts}
 use Rattle.std.proofs.lemmas.Bool.Decides.{nat_tests}

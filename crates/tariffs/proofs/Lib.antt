@@ -1,3 +1,4 @@
+pub mod Entries
 pub mod TierFacts
 pub mod PriceFacts
 pub mod NameFacts
@@ -5,3 +6,6 @@ pub mod WeekFacts
 pub mod GroupFacts
 pub mod PricedOnce
 pub mod ZoneFacts
+pub mod Given
+pub mod OnceMembers
+pub mod OnceText

@@ -14,14 +14,14 @@ use Rattle.std.proofs.lemmas.List.{length-replicate}
 use Rattle.std.proofs.lemmas.List.Elements.{filter-append}
 use Rattle.toml.specs.Data.{Data, Items, no_items, item, Members, get_member, as_str, as_table}
 use Rattle.calendar.specs.declared.week.Period.{Period}
-use Rattle.first_fault.specs.Steps as steps
-use Rattle.first_fault.proofs.Steps.{same_value, bind_ok, where_ok, counted}
-use Rattle.book_fields.specs.declared.fault.BookFault.{BookFault}
-use Rattle.book_fields.specs.declared.fault.BookFault.TheVariants.{Missing, WrongKind, OutOfRange}
-use Rattle.book_fields.specs.declared.fault.BookFault.TheVariants.{UnknownPeriod}
-use Rattle.book_fields.specs.Faults.{◌>>=◌, or_fault, where_holds}
-use Rattle.book_fields.specs.Fields.{member_of, text_of, array_of, filled_array_of, item_count}
-use Rattle.book_fields.specs.Fields.{item_list, table_at, each}
+use Rattle.texts.specs.Steps as steps
+use Rattle.texts.proofs.Steps.{same_value, bind_ok, where_ok, counted}
+use Rattle.tariffs.specs.declared.fault.BookFault.{BookFault}
+use Rattle.tariffs.specs.declared.fault.BookFault.TheVariants.{Missing, WrongKind, OutOfRange}
+use Rattle.tariffs.specs.declared.fault.BookFault.TheVariants.{UnknownPeriod}
+use Rattle.tariffs.specs.Faults.{◌>>=◌, or_fault, where_holds}
+use Rattle.tariffs.specs.Fields.{member_of, text_of, array_of, filled_array_of, item_count}
+use Rattle.tariffs.specs.Fields.{item_list, table_at, each}
 use Rattle.tariffs.specs.declared.tiers.Tier.{Tier}
 use Rattle.tariffs.specs.Prices.{has_tiers}
 use Rattle.tariffs.specs.Names.{same_text, period_of, period_named, AreDistinct}

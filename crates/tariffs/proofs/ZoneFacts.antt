@@ -1,16 +1,16 @@
 -- The zone of a book is that of its text.
 use Rattle.std.proofs.Common.{◌≡◌, ◌∙◌, ℕ, Bool, true, false, List, Option, Some, None, Result, Ok}
-use Rattle.std.proofs.Common.{Err, sym, ap}
+use Rattle.std.proofs.Common.{sym, ap}
 use Rattle.std.specs.Prelude.{codes, if◌then◌else◌}
 use Rattle.toml.specs.Data.{Members}
 use Rattle.calendar.specs.Clock.{ZoneRule}
 use Rattle.calendar.specs.Timetable.{Timetable, timetable_of}
 use Rattle.calendar.specs.Week.{is_week}
 use Rattle.calendar.specs.declared.week.Entry.{Entry}
-use Rattle.book_fields.specs.declared.fault.BookFault.{BookFault}
-use Rattle.book_fields.specs.declared.fault.BookFault.TheVariants.{OutOfRange}
-use Rattle.book_fields.specs.Faults.{◌>>=◌, or_fault}
-use Rattle.book_fields.specs.Fields.{text_of}
+use Rattle.tariffs.specs.declared.fault.BookFault.{BookFault}
+use Rattle.tariffs.specs.declared.fault.BookFault.TheVariants.{OutOfRange}
+use Rattle.tariffs.specs.Faults.{◌>>=◌, or_fault}
+use Rattle.tariffs.specs.Fields.{text_of}
 use Rattle.tariffs.specs.WeekFields.{zone_in, zone_of}
 
 zone_found : (o : Option ZoneRule) (z : ZoneRule) → or_fault OutOfRange o ≡ Ok z → o ≡ Some z

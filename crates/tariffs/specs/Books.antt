@@ -4,10 +4,10 @@ use Rattle.units.specs.Words.{Seconds, CurrencyNumber}
 use Rattle.toml.specs.Data.{Members}
 use Rattle.toml.specs.Parse.{parse_document}
 use Rattle.calendar.specs.Timetable.{Timetable, IsTimetable, timetable_of}
-use Rattle.book_fields.specs.declared.fault.BookFault.{BookFault}
-use Rattle.book_fields.specs.declared.fault.BookFault.TheVariants.{WeekNotCovered}
-use Rattle.book_fields.specs.Faults.{◌>>=◌, or_fault}
-use Rattle.book_fields.specs.Fields.{text_of, number_in}
+use Rattle.tariffs.specs.declared.fault.BookFault.{BookFault}
+use Rattle.tariffs.specs.declared.fault.BookFault.TheVariants.{WeekNotCovered}
+use Rattle.tariffs.specs.Faults.{◌>>=◌, or_fault}
+use Rattle.tariffs.specs.Fields.{text_of, number_in}
 use Rattle.tariffs.specs.Names.{ArePeriods, names_of}
 use Rattle.tariffs.specs.WeekFields.{zone_in, zone_of, entries_of}
 use Rattle.tariffs.specs.Tariffs.{GroupTariff, IsTariff, AreOfOtherGroups}

@@ -10,10 +10,10 @@ use Rattle.calendar.specs.declared.cycle.Cycle.TheVariants as cycles
 use Rattle.identifiers.specs.Texts.{is_redirect_address}
 use Rattle.units.specs.declared.blocks.UnitKind.{UnitKind}
 use Rattle.units.specs.declared.blocks.UnitKind.TheVariants.{Time, TotalOctets, ServiceSpecific}
-use Rattle.book_fields.specs.declared.fault.BookFault.{BookFault}
-use Rattle.book_fields.specs.declared.fault.BookFault.TheVariants.{OutOfRange}
-use Rattle.book_fields.specs.Faults.{◌>>=◌, or_fault, where_holds}
-use Rattle.book_fields.specs.Fields.{text_of, number_in, filled_array_of, table_at, collected}
+use Rattle.tariffs.specs.declared.fault.BookFault.{BookFault}
+use Rattle.tariffs.specs.declared.fault.BookFault.TheVariants.{OutOfRange}
+use Rattle.tariffs.specs.Faults.{◌>>=◌, or_fault, where_holds}
+use Rattle.tariffs.specs.Fields.{text_of, number_in, filled_array_of, table_at, collected}
 use Rattle.tariffs.specs.declared.final_action.FinalAction.{FinalAction}
 use Rattle.tariffs.specs.declared.final_action.FinalAction.TheVariants.{Terminate, Redirect}
 use Rattle.tariffs.specs.Names.{same_text}

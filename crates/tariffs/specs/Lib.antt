@@ -1,3 +1,5 @@
+pub mod Faults
+pub mod Fields
 pub mod Prices
 pub mod Tariffs
 pub mod Names
@@ -11,3 +13,4 @@ pub mod BookInside
 pub mod GroupPrices
 pub mod PricesInside
 pub mod BookPrices
+pub mod OnceBook

@@ -10,10 +10,10 @@ use Rattle.std.specs.declared.alloc.Global.{Global}
 use Rattle.units.specs.Words.{PeriodNumber}
 use Rattle.toml.specs.Data.{Data, Members}
 use Rattle.calendar.specs.declared.week.Period.{Period}
-use Rattle.book_fields.specs.declared.fault.BookFault.{BookFault}
-use Rattle.book_fields.specs.declared.fault.BookFault.TheVariants.{OutOfRange, UnknownPeriod}
-use Rattle.book_fields.specs.Faults.{◌>>=◌, or_fault, where_holds}
-use Rattle.book_fields.specs.Fields.{text_of, filled_array_of, text_at, collected}
+use Rattle.tariffs.specs.declared.fault.BookFault.{BookFault}
+use Rattle.tariffs.specs.declared.fault.BookFault.TheVariants.{OutOfRange, UnknownPeriod}
+use Rattle.tariffs.specs.Faults.{◌>>=◌, or_fault, where_holds}
+use Rattle.tariffs.specs.Fields.{text_of, filled_array_of, text_at, collected}
 
 -- two texts have the same bytes
 abbrev pub same_text : List ℕ → List ℕ → Bool

@@ -7,12 +7,12 @@ use Rattle.std.specs.List.{list_all}
 use Rattle.units.specs.Words.{Place, most_counted}
 use Rattle.toml.specs.Data.{Data, Members}
 use Rattle.calendar.specs.declared.week.Period.{Period}
-use Rattle.book_fields.specs.declared.fault.BookFault.{BookFault}
-use Rattle.book_fields.specs.declared.fault.BookFault.TheVariants.{Missing, OutOfRange}
-use Rattle.book_fields.specs.declared.fault.BookFault.TheVariants.{TiersNotRising}
-use Rattle.book_fields.specs.Faults.{◌>>=◌, where_holds}
-use Rattle.book_fields.specs.Fields.{number_in, array_of, filled_array_of, item_count, table_at}
-use Rattle.book_fields.specs.Fields.{each, collected}
+use Rattle.tariffs.specs.declared.fault.BookFault.{BookFault}
+use Rattle.tariffs.specs.declared.fault.BookFault.TheVariants.{Missing, OutOfRange}
+use Rattle.tariffs.specs.declared.fault.BookFault.TheVariants.{TiersNotRising}
+use Rattle.tariffs.specs.Faults.{◌>>=◌, where_holds}
+use Rattle.tariffs.specs.Fields.{number_in, array_of, filled_array_of, item_count, table_at}
+use Rattle.tariffs.specs.Fields.{each, collected}
 use Rattle.tariffs.specs.declared.tiers.Tier.{Tier}
 use Rattle.tariffs.specs.Prices.{has_tiers}
 use Rattle.tariffs.specs.Names.{period_of}

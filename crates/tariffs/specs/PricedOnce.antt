@@ -7,9 +7,9 @@ use Rattle.std.specs.List.{filter}
 use Rattle.std.specs.Option.{option_eq}
 use Rattle.units.specs.Words.{PeriodNumber}
 use Rattle.toml.specs.Data.{Data, Items, Members, get_member, as_str, as_table}
-use Rattle.book_fields.specs.declared.fault.BookFault.{BookFault}
-use Rattle.book_fields.specs.Faults.{◌>>=◌}
-use Rattle.book_fields.specs.Fields.{array_of, table_at, item_list}
+use Rattle.tariffs.specs.declared.fault.BookFault.{BookFault}
+use Rattle.tariffs.specs.Faults.{◌>>=◌}
+use Rattle.tariffs.specs.Fields.{array_of, table_at, item_list}
 use Rattle.tariffs.specs.declared.tiers.Tier.{Tier}
 use Rattle.tariffs.specs.Names.{AreDistinct, same_text}
 use Rattle.tariffs.specs.PriceFields.{tiers_of, prices_of}

@@ -3,18 +3,18 @@
 ghost use Rattle.std.specs.Prelude.{◌≡◌, ◌<◌, ◌≤◌, ◌/◌, ◌==◌, false, [], length, All, IfOk};
 ghost use Rattle.std.specs.List.{list_any};
 ghost use Rattle.toml.specs.View.{view, table_view, items_view};
-ghost use Rattle.book_fields.specs.Faults.{Gives};
-ghost use Rattle.book_fields.specs.Fields.{collected};
+ghost use Rattle.tariffs.specs.Faults.{Gives};
+ghost use Rattle.tariffs.specs.Fields.{collected};
 ghost use Rattle.tariffs.specs.Tariffs.{IsTariff, AreOfOtherGroups};
 ghost use Rattle.tariffs.specs.GroupFields.{id_of, unit_named, unit_of, most_units, max_grant_of};
 ghost use Rattle.tariffs.specs.GroupFields.{cycle_named, cycle_of, redirect_of, final_action_of};
 ghost use Rattle.tariffs.specs.GroupFields.{group_of, groups_of};
 
+use crate::fault::BookFault;
 use crate::final_action::FinalAction;
 use crate::names::PeriodNames;
-use crate::price_fields;
 use crate::tariff::Tariff;
-use book_fields::BookFault;
+use crate::{book_fields, price_fields};
 use calendar::Cycle;
 use identifiers::RedirectAddress;
 use std::alloc::Global;

@@ -5,12 +5,13 @@ ghost use Rattle.std.specs.Prelude.{option_copied, IfOk, IfSome, Some, true, vec
 ghost use Rattle.std.specs.List.{list_all, list_any};
 ghost use Rattle.std.specs.Char.{is_ascii_lowercase};
 ghost use Rattle.toml.specs.View.{view, table_view, items_view};
-ghost use Rattle.book_fields.specs.Faults.{Gives};
-ghost use Rattle.book_fields.specs.Fields.{collected};
+ghost use Rattle.tariffs.specs.Faults.{Gives};
+ghost use Rattle.tariffs.specs.Fields.{collected};
 ghost use Rattle.tariffs.specs.Names.{texts, same_text, is_name, name_of, names_of, period_named};
 ghost use Rattle.tariffs.specs.Names.{period_of, ArePeriods, AreDistinct};
 
-use book_fields::BookFault;
+use crate::book_fields;
+use crate::fault::BookFault;
 use calendar::Period;
 use std::alloc::Global;
 use std::marker::Model;

@@ -3,17 +3,18 @@
 ghost use Rattle.std.specs.Prelude.{◌≡◌, ◌<◌, ◌≤◌, ◌+◌, ◌==◌, [], length, replicate, IfOk};
 ghost use Rattle.std.specs.List.{AllByRecursion, list_all};
 ghost use Rattle.toml.specs.View.{view, table_view, items_view};
-ghost use Rattle.book_fields.specs.Faults.{Gives};
-ghost use Rattle.book_fields.specs.Fields.{each, collected};
+ghost use Rattle.tariffs.specs.Faults.{Gives};
+ghost use Rattle.tariffs.specs.Fields.{each, collected};
 ghost use Rattle.tariffs.specs.Prices.{AreTiers, IsBoundAfter, IsPriceOrNone, has_tiers};
 ghost use Rattle.tariffs.specs.Prices.{tier_lists};
 ghost use Rattle.tariffs.specs.PricedOnce.{PricesAreOnce};
 ghost use Rattle.tariffs.specs.PriceFields.{last_bound, bound_of, tier_of, next_tier, tiers_of};
 ghost use Rattle.tariffs.specs.PriceFields.{price_of, with_price, prices_of};
 
+use crate::book_fields;
+use crate::fault::BookFault;
 use crate::names::PeriodNames;
 use crate::tiers::Tier;
-use book_fields::BookFault;
 use calendar::Period;
 use std::alloc::{AllocError, Global};
 use toml::{Table, Value};
@@ -73,7 +74,7 @@ fn rising_tiers(alloc: Global, values: &[Value]) -> Result<Vec<Tier>, BookFault>
 }
 
 /// Reads `tiers`.
-#[tactic(auto, using(book_fields::proofs::Entries::item_count_view), unfolding(crate::specs::PriceFields::tiers_of))]
+#[tactic(auto, using(crate::proofs::Entries::item_count_view), unfolding(crate::specs::PriceFields::tiers_of))]
 fn tiers(alloc: Global, table: &Table) -> Result<Vec<Tier>, BookFault>
     ensures value { Gives (λ v. v.items) result (tiers_of (table_view table.now)) }
     ensures tiers { IfOk result (λ v. AreTiers v.items) }
@@ -144,7 +145,7 @@ fn is_complete(prices: &[Vec<Tier>]) -> bool
 }
 
 /// Reads `price`: the tiers of each period.
-#[tactic(auto, using(book_fields::proofs::Entries::item_count_view, crate::proofs::PriceFacts::all_priced), unfolding(crate::specs::PriceFields::prices_of))]
+#[tactic(auto, using(crate::proofs::Entries::item_count_view, crate::proofs::PriceFacts::all_priced), unfolding(crate::specs::PriceFields::prices_of))]
 pub(crate) fn prices(
     alloc: Global,
     names: &PeriodNames,

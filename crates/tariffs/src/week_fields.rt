@@ -4,14 +4,15 @@ ghost use Rattle.std.specs.Prelude.{◌≡◌, ◌<◌, ◌≤◌, [], IfOk, IfS
 ghost use Rattle.std.specs.Prelude.{string_bytes, codes};
 ghost use Rattle.jiff.specs.Words.{IsWithin};
 ghost use Rattle.toml.specs.View.{view, table_view, items_view};
-ghost use Rattle.book_fields.specs.Faults.{Gives};
-ghost use Rattle.book_fields.specs.Fields.{text_of, each, collected};
+ghost use Rattle.tariffs.specs.Faults.{Gives};
+ghost use Rattle.tariffs.specs.Fields.{text_of, each, collected};
 ghost use Rattle.tariffs.specs.WeekFields.{minutes_of, signed_minutes, zone_minutes, zone_in};
 ghost use Rattle.tariffs.specs.WeekFields.{zone_of, day_of, with_day, days_of, minute_of, entry_of};
 ghost use Rattle.tariffs.specs.WeekFields.{entries_of};
 
+use crate::book_fields;
+use crate::fault::BookFault;
 use crate::names::PeriodNames;
-use book_fields::BookFault;
 use calendar::{Entry, Zone};
 use std::alloc::{AllocError, Global};
 use toml::{Table, Value};

@@ -1,5 +1,5 @@
 -- Amounts of money, as a request writes them (Unit-Value, RFC 8506 section 8.8).
-use Rattle.std.specs.Prelude.{ℕ, ◌^◌, ℤ, pos, negsuc, ◌+ℤ◌, ◌*ℤ◌, ◌≤ℤ◌, unsigned_abs}
+use Rattle.std.specs.Prelude.{◌^◌, ℤ, pos, negsuc, ◌+ℤ◌, ◌*ℤ◌, ◌≤ℤ◌, unsigned_abs}
 
 -- an exponent lies between -6 and 0
 pub record IsExponent (exponent : ℤ) : Type 0 where

@@ -10,8 +10,8 @@ use Rattle.std.proofs.lemmas.Str.Ascii.{IsAscii-from_all}
 use Rattle.std.proofs.lemmas.Bool.{and_parts, and_right, false_from_ne_true, leb-true}
 use Rattle.csv.specs.Records.{field_at}
 use Rattle.identifiers.specs.Texts.{is_digit, is_voucher_code}
-use Rattle.written_numbers.specs.Numbers.{number_of}
-use Rattle.redemptions.specs.Terms.{are_days, are_terms}
+use Rattle.texts.specs.Numbers.{number_of}
+use Rattle.voucher_rules.specs.Terms.{are_days, are_terms}
 use Rattle.vouchers.specs.Rows.{field}
 
 -- the field at a place, as a look-up tells it

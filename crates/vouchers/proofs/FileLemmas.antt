@@ -11,7 +11,7 @@ use Rattle.csv.specs.declared.reader.Reader.{Reader}
 use Rattle.csv.specs.declared.parser.State.{State}
 use Rattle.csv.specs.declared.parser.State.TheVariants as st
 use Rattle.csv.proofs.ReadFacts.{rows-more, rows-end}
-use Rattle.first_fault.specs.Steps.{◌>>=◌}
+use Rattle.texts.specs.Steps.{◌>>=◌}
 use Rattle.vouchers.specs.declared.fault.FaultKind.{FaultKind}
 use Rattle.vouchers.specs.declared.fault.FaultKind.TheVariants.{Header, Memory}
 use Rattle.vouchers.specs.declared.fault.VoucherFault.{VoucherFault}

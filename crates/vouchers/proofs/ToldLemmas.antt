@@ -3,7 +3,7 @@ use Rattle.std.proofs.Common.{◌≡◌, ◌+◌, ℕ, List, [], ◌∷◌, ◌+
 use Rattle.std.proofs.Common.{Result, Ok, Err, refl, sym, ap, ap₂, ◌∙◌, arith, true≢false, inl, inr}
 use Rattle.std.proofs.Common.{if◌then◌else◌}
 use Rattle.std.specs.Result.{is_ok}
-use Rattle.first_fault.specs.Steps.{◌>>=◌}
+use Rattle.texts.specs.Steps.{◌>>=◌}
 use Rattle.vouchers.specs.declared.fault.FaultKind.{FaultKind}
 use Rattle.vouchers.specs.declared.fault.FaultKind.TheVariants.{Header}
 use Rattle.vouchers.specs.declared.fault.VoucherFault.{VoucherFault}

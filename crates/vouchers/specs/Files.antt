@@ -6,7 +6,7 @@ use Rattle.std.specs.Prelude.{◌≡◌, ℕ, ◌+◌, ◌≤◌, ◌&&◌, Bool
 use Rattle.std.specs.Prelude.{Result, Ok, Err, if◌then◌else◌}
 use Rattle.csv.specs.Reading.{ReadRecord, records, default_config, strip_bom}
 use Rattle.csv.specs.declared.reader.Reader.{Reader}
-use Rattle.first_fault.specs.Steps.{◌>>=◌}
+use Rattle.texts.specs.Steps.{◌>>=◌}
 use Rattle.vouchers.specs.declared.fault.FaultKind.{FaultKind}
 use Rattle.vouchers.specs.declared.fault.FaultKind.TheVariants.{Header}
 use Rattle.vouchers.specs.declared.fault.VoucherFault.{VoucherFault}

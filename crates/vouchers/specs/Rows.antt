@@ -3,10 +3,10 @@
 use Rattle.std.specs.Prelude.{ℕ, ◌≤◌, ◌&&◌, ◌==◌, List, [], ◌∷◌, length, get_or, codes, Bool}
 use Rattle.std.specs.Prelude.{Option, Some, None, IfSome, IsTrue, Result, Ok, nat_le}
 use Rattle.units.specs.Words.{greatest_number}
-use Rattle.first_fault.specs.Steps.{◌>>=◌, or_fault, where_holds}
+use Rattle.texts.specs.Steps.{◌>>=◌, or_fault, where_holds}
 use Rattle.identifiers.specs.Texts.{is_voucher_code, same_name}
-use Rattle.written_numbers.specs.Numbers.{number_of}
-use Rattle.redemptions.specs.declared.terms.VoucherTerms.{VoucherTerms}
+use Rattle.texts.specs.Numbers.{number_of}
+use Rattle.voucher_rules.specs.declared.terms.VoucherTerms.{VoucherTerms}
 use Rattle.vouchers.specs.declared.fault.FaultKind.{FaultKind}
 use Rattle.vouchers.specs.declared.fault.FaultKind.TheVariants.{FieldCount, Code, Amount, Days}
 use Rattle.vouchers.specs.declared.fault.FaultKind.TheVariants.{Scope}

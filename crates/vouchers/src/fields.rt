@@ -2,9 +2,9 @@
 
 ghost use Rattle.std.specs.Prelude.{◌≡◌, ◌≤◌, ◌==◌, ◌&&◌, IfOk, IfSome, length};
 ghost use Rattle.csv.specs.Records.{fields_of};
-ghost use Rattle.first_fault.specs.Steps.{Says, GivesUnless, where_holds};
+ghost use Rattle.texts.specs.Steps.{Says, GivesUnless, where_holds};
 ghost use Rattle.identifiers.specs.Texts.{is_voucher_code};
-ghost use Rattle.written_numbers.specs.Numbers.{number_of};
+ghost use Rattle.texts.specs.Numbers.{number_of};
 ghost use Rattle.vouchers.specs.Rows.{AreInRange, IsVoucher, field, is_header, number_in};
 ghost use Rattle.vouchers.specs.Rows.{optional_in, terms_of, voucher_of};
 ghost use Rattle.vouchers.specs.declared.fault.FaultKind.TheVariants.{Amount, Code, Days, Scope};
@@ -14,10 +14,10 @@ use crate::fault::FaultKind;
 use commands::VoucherAddition;
 use csv::ByteRecord;
 use identifiers::VoucherCode;
-use redemptions::VoucherTerms;
 use std::alloc::Global;
 use std::str;
 use units::Money;
+use voucher_rules::VoucherTerms;
 
 /// The field at a place, empty past the last.
 #[tactic(auto, using(crate::proofs::FieldLemmas::field_found, crate::proofs::FieldLemmas::field_missing))]
@@ -47,7 +47,7 @@ fn number(field: &[u8]) -> Option<u64>
     ensures { result ≡ number_of field.now }
 {
     let text = str::from_utf8(field).ok()?;
-    written_numbers::number(text)
+    texts::number(text)
 }
 
 /// The number that a field says, from `low` to `high`.

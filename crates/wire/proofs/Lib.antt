@@ -1,3 +1,5 @@
+pub mod BalancesAgain
+pub mod AnswersAgain
 pub mod ContentsAgain
 pub mod AllowancesAgain
 pub mod RedeemedAgain

@@ -1,3 +1,9 @@
+pub mod Members
+pub mod SpelledBalances
+pub mod Spelled
+pub mod Rules
+pub mod ReadingBalances
+pub mod ReadingAnswers
 pub mod Requests
 pub mod Credits
 pub mod Allowances

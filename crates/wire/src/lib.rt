@@ -3,11 +3,18 @@
 #![tactic(auto)]
 
 mod allowances;
+mod balances;
 mod contents;
 mod credits;
 mod laws;
+mod members;
+mod reading;
+mod reading_balances;
+mod reading_services;
 mod redeeming;
 mod requests;
+mod services;
+mod writing;
 
 pub use crate::allowances::read_allow;
 pub use crate::contents::{
@@ -16,10 +23,11 @@ pub use crate::contents::{
 };
 pub use crate::credits::read_credit;
 pub use crate::laws::{allowance_is_read, credit_is_read, redemption_is_read};
+pub use crate::reading::{answer_again, answer_in_order, read_answer};
 pub use crate::redeeming::read_redeem;
 pub use crate::requests::read_request;
+pub use crate::writing::{write_answer, write_fault};
 pub use json_fields::WireFault;
-pub use wire_answers::{answer_again, answer_in_order, read_answer, write_answer, write_fault};
 pub use wire_requests::{
     request_again, request_fault_is_told, request_in_order, request_is_read, request_is_said,
     write_request,

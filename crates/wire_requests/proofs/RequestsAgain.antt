@@ -44,7 +44,7 @@ use Rattle.commands.specs.declared.request.Ask.TheVariants as ask
 use Rattle.commands.specs.declared.request.Request.{Request}
 use Rattle.commands.specs.Codes.{kind_number, kind_of_ask, action_number}
 use Rattle.commands.proofs.Amounts.{most_small}
-use Rattle.first_fault.specs.Steps.{each}
+use Rattle.texts.specs.Steps.{each}
 use Rattle.json_fields.specs.declared.fault.WireFault.TheVariants.{Invalid}
 use Rattle.json_fields.specs.Gives.{read_each}
 use Rattle.json_fields.specs.Fields.{member_at, array_of}

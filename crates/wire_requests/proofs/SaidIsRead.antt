@@ -1,7 +1,9 @@
 -- What is said of a request is read.
-use Rattle.std.proofs.Common.{◌≡◌, ℕ, zero, suc, ◌≤◌, lit≤, List, [], ◌∷◌, ◌++◌, length, true, false}
+use Rattle.std.proofs.Common.{◌≡◌, ℕ, zero, suc, ◌≤◌, lit≤, List, [], ◌∷◌, ◌++◌, length, true}
+use Rattle.std.proofs.Common.{false}
 use Rattle.std.proofs.Common.{◌&&◌, Option, Some, None, IfSome, is_some, is_none, Ok, refl}
-use Rattle.std.proofs.Common.{sym, ap, subst, ◌∙◌, arith, append_assoc, append-nil, leb-true, le-leb}
+use Rattle.std.proofs.Common.{sym, ap, subst, ◌∙◌, arith, append_assoc, append-nil, leb-true}
+use Rattle.std.proofs.Common.{le-leb}
 use Rattle.std.proofs.Common.{nat_le, inl, inr}
 use Rattle.std.specs.Prelude.{ℤ, pos, negsuc, int_le, option_and_then}
 use Rattle.std.specs.List.{AllByRecursion, list_all}
@@ -10,7 +12,7 @@ use Rattle.serde_json.specs.Data.{Data, null, boolean, number, string, array, ob
 use Rattle.serde_json.specs.Data.{no_items, item, Members}
 use Rattle.serde_json.specs.Events.{items_len}
 use Rattle.serde_json.specs.Find.{get, as_array, as_object}
-use Rattle.first_fault.specs.Steps.{each}
+use Rattle.texts.specs.Steps.{each}
 use Rattle.units.specs.declared.blocks.UnitKind.{UnitKind}
 use Rattle.units.specs.declared.blocks.UnitKind.TheVariants as unit
 use Rattle.units.specs.declared.blocks.TariffChangeUsage.{TariffChangeUsage}

@@ -9,7 +9,7 @@ use Rattle.std.proofs.lemmas.Bool.{or_right}
 use Rattle.serde_json.specs.Data.{Data, Items, no_items, item}
 use Rattle.serde_json.specs.Events.{items_len}
 use Rattle.serde_json.specs.Find.{get, as_number, as_u64, as_i64, as_str, as_array, as_object}
-use Rattle.first_fault.specs.Steps.{each}
+use Rattle.texts.specs.Steps.{each}
 use Rattle.identifiers.specs.Texts.{is_session_id, is_account_number}
 use Rattle.units.specs.declared.blocks.UnitKind.{UnitKind}
 use Rattle.units.specs.declared.blocks.UsedPart.{UsedPart}

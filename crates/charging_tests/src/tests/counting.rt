@@ -5,10 +5,10 @@ ghost use Rattle.std.specs.Prelude.{◌≡◌};
 use buckets::Bucket;
 use identifiers::{AccountNumber, SessionId, VoucherCode};
 use keepers::{Change, Keeper, KeptAnswer, Key, Loaded, NamedRows, StoreFault};
-use redemptions::{Voucher, VoucherTerms};
 use reserving::Account;
 use shelves::TariffShelf;
 use units::Moment;
+use voucher_rules::{Voucher, VoucherTerms};
 
 /// How many rows of each kind a change names, beside the moment and what is kept of the account
 /// once.

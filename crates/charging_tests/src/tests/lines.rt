@@ -7,10 +7,10 @@
 use charging::DatedCommand;
 use commands::{Command, Credit, VoucherAddition, VoucherRedemption};
 use identifiers::{AccountNumber, Reference, VoucherCode};
-use redemptions::VoucherTerms;
 use std::alloc::Global;
 use std::process::Abort;
 use units::{Moment, Money};
+use voucher_rules::VoucherTerms;
 use wire::{read_allow, read_credit, read_request};
 
 /// The first word of these, and the others.

@@ -1,9 +1,9 @@
 //! Rows as words: a line each, its kind and then its columns.
 
 use buckets::{Bucket, Columns};
-use redemptions::Voucher;
 use reserving::{Account, ChargeRow, Counter, Reservation, Session, SessionGroup, SessionState};
 use std::process::Abort;
+use voucher_rules::Voucher;
 
 /// Adds words to a line.
 pub(crate) fn push(rt: &impl Abort, text: &mut String, words: &str) {

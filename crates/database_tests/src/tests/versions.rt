@@ -1,7 +1,6 @@
 //! The versions of the tables: each is found, and an older one becomes the latest.
 
-use sql_opening::find_tables;
-use sql_tables::{create_in_memory_at, create_since};
+use sql_tables::{create_in_memory_at, create_since, find_tables};
 use sqlite::{Connection, Error, MemStore};
 use std::alloc::Global;
 use std::process::Abort;

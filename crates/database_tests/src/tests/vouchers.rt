@@ -4,7 +4,6 @@ use crate::tests::new_keepers::{change_of, new_keeper};
 use crate::tests::row_writers::{push, push_voucher};
 use crate::tests::values::{account, code, moment, money};
 use keepers::Redeemed;
-use redemptions::{Voucher, VoucherTerms};
 use reserving::Account;
 use shelves::TariffShelf;
 use sql_keeper::SqlKeeper;
@@ -12,6 +11,7 @@ use sqlite::MemStore;
 use std::alloc::Global;
 use std::process::Abort;
 use units::Moment;
+use voucher_rules::{Voucher, VoucherTerms};
 
 /// Monday, 2026-01-05, 10:00.
 const ADDED: u64 = 1_767_607_200;

@@ -1,13 +1,14 @@
 use Rattle.std.proofs.Common.{ap}
-use Rattle.one_price.specs.OnceBook.{once_book}
+use Rattle.tariffs.specs.OnceBook.{once_book}
 use Rattle.operator.specs.Read.{texts_of}
 use Rattle.operator.specs.declared.parsed.ProgramWords.TheVariants.{Once}
 use Rattle.ocs.specs.Once.{once_text}
 use Rattle.std.specs.Io.KnownBytes.{Appends}
-use Rattle.office.specs.Written.{WritesBeginning}
+use Rattle.operations.specs.Written.{WritesBeginning}
 use Rattle.ocs.specs.Told.{line_of}
 use Rattle.ocs.proofs.EndLemmas.{line_said, memory_alone, printed_said, not_done, not_once}
-use Rattle.ocs.proofs.EndLemmas.{nothing_started, started_said, told_said, told_unread, unwritten_begins, unwritten_line}
+use Rattle.ocs.proofs.EndLemmas.{nothing_started, started_said, told_said, told_unread}
+use Rattle.ocs.proofs.EndLemmas.{unwritten_begins, unwritten_line}
 use Rattle.ocs.proofs.run_words.Goals as goal
 
 pub returns-in-Ok-clause-unread : goal.returns-in-Ok-clause-unread

@@ -1,5 +1,5 @@
--- Rows and those left, at no moment: the counters that were left are taken as the account's own, and
--- then none is left of any cycle.
+-- Rows and those left, at no moment: the counters that were left are taken as the account's own,
+-- and then none is left of any cycle.
 use Rattle.std.proofs.Common.{◌≡◌, ℕ, ◌≤◌, ◌<◌, ◌++◌, true, List, [], refl, arith}
 use Rattle.shelves.proofs.Begun.{validity_some}
 use Rattle.reserving.specs.declared.session.SessionState.TheVariants.{Open, NeverOpened}

@@ -1,7 +1,9 @@
 -- The funds at a later moment: what is available, and what ended sessions held.
 use Rattle.std.proofs.Common.{◌≡◌, ℕ, ◌+◌, ◌*◌, ◌<◌, ◌≤◌, ◌^◌, Bool, true, false, List, [], ◌∷◌}
 use Rattle.std.proofs.Common.{length, drop, get_or, map, refl, sym, ap, ◌∙◌, arith, None}
-use Rattle.std.specs.Prelude.{if◌then◌else◌, not}
+use Rattle.std.specs.Prelude.{if◌then◌else◌, not, ◌&&◌}
+use Rattle.std.specs.List.{list_any}
+use Rattle.std.proofs.lemmas.Bool.{or_parts}
 use Rattle.std.proofs.lemmas.List.{drop_more}
 use Rattle.buckets.specs.declared.holds.Hold.{Hold}
 use Rattle.buckets.specs.Row.{Row, IsBalanced, is_eligible, eligible_amount, with_end, with_release}
@@ -16,7 +18,7 @@ use Rattle.reserving.specs.declared.session.Session.{Session}
 use Rattle.reserving.specs.declared.session.SessionGroup.{SessionGroup}
 use Rattle.reserving.specs.Sessions.{holds_in, held_by, is_live_in}
 use Rattle.reserving.specs.Changes.{lapsed_in, amount_later}
-use Rattle.reserving.specs.Lapsed.{held_for, lapsed_for, lapsed_funds}
+use Rattle.reserving.specs.Lapsed.{held_for, is_eligible_in, lapsed_for, lapsed_funds}
 use Rattle.reserving.proofs.Advancing.{held_by-split}
 use Rattle.reserving.proofs.rows.LaterFunds.{funds_later-is}
 
@@ -86,6 +88,44 @@ pub lapsed_for-none : (keeps : List ℕ → Bool) (kind : BucketKind) (group t :
 lapsed_for-none keeps kind group t r rows e =
     sym (ap (λ o. if keeps r.session then 0 else held_for kind group t (holds_in o) rows) e
     ∙ unheld kind (keeps r.session) group t rows)
+
+-- ---- nothing is given up where no bucket is eligible
+
+none_of : (a e : Bool) (n : ℕ) → (a && e) ≡ false → (if a then (if e then n else 0) else 0) ≡ 0
+none_of true true n h = cc
+none_of true false n h = refl
+none_of false e n h = refl
+
+held_of_none : (kind : BucketKind) (group t : ℕ) (holds : List Hold) (rows : List Row) →
+    list_any (is_eligible_in kind group t) rows ≡ false →
+    held_for kind group t holds rows ≡ 0
+held_of_none kind group t holds [] h = refl
+held_of_none kind group t holds (b ∷ bs) h =
+    let parts = or_parts (is_eligible_in kind group t b)
+    (list_any (is_eligible_in kind group t) bs) h in
+    omega (
+      arith,
+      sum_in-cons kind (λ x. if is_eligible group t x then held_in holds x else 0) b bs,
+      none_of (is_alike b.kind kind) (is_eligible group t b) (held_in holds b) parts.0,
+      held_of_none kind group t holds bs parts.1,
+    )
+
+kept_or_none : (k : Bool) (n : ℕ) → n ≡ 0 → (if k then 0 else n) ≡ 0
+kept_or_none true n h = refl
+kept_or_none false n h = h
+
+pub lapsed_funds-none : (keeps : List ℕ → Bool) (kind : BucketKind) (group t : ℕ)
+    (groups : List SessionGroup)
+    (rows : List Row) → list_any (is_eligible_in kind group t) rows ≡ false →
+    lapsed_funds keeps kind group t groups rows ≡ 0
+lapsed_funds-none keeps kind group t [] rows h = refl
+lapsed_funds-none keeps kind group t (r ∷ rs) rows h =
+    omega (
+      arith,
+      kept_or_none (keeps r.session) (held_for kind group t (holds_in r.reservation) rows)
+          (held_of_none kind group t (holds_in r.reservation) rows h),
+      lapsed_funds-none keeps kind group t rs rows h,
+    )
 
 -- ---- one reservation after another is one bucket after another
 

@@ -1,4 +1,4 @@
-//! Tests of `tariffs`, `shelves` and `one_price`.
+//! Tests of `tariffs` and `shelves`.
 
 mod documents;
 mod faults;

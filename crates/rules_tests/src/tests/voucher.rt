@@ -1,4 +1,4 @@
-//! Tests of `redemptions`, with the days of `calendar`.
+//! Tests of `voucher_rules`, with the days of `calendar`.
 
 mod ends;
 mod office;

@@ -5,13 +5,15 @@ ghost use Rattle.keepers.specs.Faults.{max_failures};
 ghost use Rattle.keepers.specs.Tables.{no_tables};
 
 use buckets::Bucket;
-use charge_sources::{ChargeSource, ChargeVisitor, show};
 use identifiers::{AccountNumber, SessionId, VoucherCode};
-use keepers::{Change, Keeper, KeptAnswer, Key, Loaded, MemoryKeeper, StoreFault};
-use redemptions::{Voucher, VoucherTerms};
+use keepers::{
+    Change, ChargeSource, ChargeVisitor, Keeper, KeptAnswer, Key, Loaded, MemoryKeeper, StoreFault,
+    show,
+};
 use reserving::Account;
 use shelves::TariffShelf;
 use units::Moment;
+use voucher_rules::{Voucher, VoucherTerms};
 
 #[derive(Drop)]
 pub(crate) struct Broken {
@@ -111,7 +113,7 @@ impl Keeper for Broken {
 }
 
 impl ChargeSource for Broken {
-    #[tactic(auto, using(charge_sources::proofs::ShownRows::rows_shown))]
+    #[tactic(auto, using(keepers::proofs::ShownRows::rows_shown))]
     fn each<V: ChargeVisitor>(
         &mut self,
         account: &AccountNumber,

@@ -1,8 +1,8 @@
 //! Lines of a reader, and texts that are written whole.
 
-use byte_streams::{next_line, write_whole};
 use std::alloc::Global;
 use std::process::Abort;
+use texts::{next_line, write_whole};
 
 /// Writes the next line, or a dot where none is left, and a bar.
 fn copy_line(rt: &impl Abort, alloc: Global, reader: &mut &[u8], written: &mut Vec<u8>) {

@@ -3,8 +3,8 @@
 use crate::tests::accounts::{TEN, clock};
 use crate::tests::requests::OPEN;
 use crate::tests::trials::with_line;
-use charge_sources::ChargeSource;
 use http_api::{Clock, ServeFault, Served, serve};
+use keepers::ChargeSource;
 use shelves::TariffShelf;
 use std::alloc::Global;
 use std::io::Read;

@@ -1,13 +1,13 @@
 //! Lines of requests where the store, the reader or the writer fails.
 
-use byte_streams::StreamFault;
 use keepers::{Failing, MemoryKeeper, StoreFault};
-use one_price::once_book;
 use request_lines::{LinesFault, lines};
 use shelves::TariffShelf;
 use std::alloc::Global;
 use std::io::{self, ErrorKind, Read, Write};
 use std::process::Abort;
+use tariffs::once_book;
+use texts::StreamFault;
 use units::Money;
 
 /// The text on fewer lines: one that begins with two spaces goes on with the one before it.

@@ -11,9 +11,9 @@ use shelves::TariffShelf;
 use statements::{AccountMonth, StatementFault, export, statement};
 use std::alloc::Global;
 use std::process::Abort;
+use texts::Month;
 use units::Moment;
 use worked_book::Slow;
-use written_numbers::Month;
 
 /// The statement of the account that paid half.
 pub(crate) const STATEMENT: &str = "\

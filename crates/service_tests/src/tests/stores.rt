@@ -6,11 +6,11 @@ use crate::tests::months::STATEMENT;
 use crate::tests::requests::{EXISTS, FIRST_BUCKET, OPEN, OPENED, UNABLE, request};
 use identifiers::VoucherCode;
 use keepers::{Failing, Keeper, MemoryKeeper};
-use redemptions::VoucherTerms;
 use shelves::TariffShelf;
 use std::alloc::Global;
 use std::process::Abort;
 use units::Money;
+use voucher_rules::VoucherTerms;
 
 /// What is asked for twice.
 #[derive(Clone, Copy)]

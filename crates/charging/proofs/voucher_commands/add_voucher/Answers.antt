@@ -1,7 +1,7 @@
 use Rattle.std.proofs.Common.{◌≡◌, ◌∙◌, ap, refl, sym}
 use Rattle.commands.specs.declared.answer.Answer.TheVariants as answer
 use Rattle.commands.specs.declared.command.Command.TheVariants as command
-use Rattle.redemptions.specs.Adding.{addition}
+use Rattle.voucher_rules.specs.Adding.{addition}
 use Rattle.shelves.specs.Shelves.{Shelf}
 use Rattle.keepers.specs.Change.{with_voucher}
 use Rattle.keepers.specs.Tables.{Tables}

@@ -2,7 +2,7 @@ use Rattle.std.proofs.Common.{◌≡◌, ap, refl, Ok, Some, None}
 use Rattle.commands.specs.declared.answer.Answer.TheVariants as answer
 use Rattle.commands.specs.declared.command.Command.TheVariants as command
 use Rattle.commands.specs.declared.command.Content.TheVariants as content
-use Rattle.redemptions.specs.Redeeming.{redemption}
+use Rattle.voucher_rules.specs.Redeeming.{redemption}
 use Rattle.shelves.specs.Shelves.{Shelf}
 use Rattle.keepers.specs.Change.{IsLoad}
 use Rattle.keepers.specs.Keys.{key_of}

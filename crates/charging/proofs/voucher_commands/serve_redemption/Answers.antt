@@ -3,7 +3,7 @@ use Rattle.commands.specs.declared.answer.Answer.TheVariants as answer
 use Rattle.commands.specs.declared.answer.Refusal.{Refusal}
 use Rattle.commands.specs.declared.command.Command.TheVariants as command
 use Rattle.commands.specs.declared.command.Content.TheVariants as content
-use Rattle.redemptions.specs.Redeeming.{redemption}
+use Rattle.voucher_rules.specs.Redeeming.{redemption}
 use Rattle.keepers.specs.Change.{IsLoad}
 use Rattle.keepers.specs.Keys.{key_of}
 use Rattle.keepers.specs.Tables.{Tables}

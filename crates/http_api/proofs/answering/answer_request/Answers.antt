@@ -1,8 +1,8 @@
 use Rattle.std.proofs.Common.{refl, subst, Ok}
 use Rattle.std.specs.Io.KnownBytes.{Appends}
-use Rattle.http_answers.specs.Asking.{Asking, IsAsked, reads, states}
-use Rattle.http_answers.specs.Refusals.{number_of}
-use Rattle.http_answers.specs.Texts.{Begins, TellsFault, no_members, response}
+use Rattle.http_messages.specs.Asking.{Asking, IsAsked, reads, states}
+use Rattle.http_messages.specs.Refusals.{number_of}
+use Rattle.http_messages.specs.Texts.{Begins, TellsFault, no_members, response}
 use Rattle.http_api.specs.Replies.{Replies}
 use Rattle.http_api.proofs.RequestReplies.{ok_gives, err_gives, refused_reply, unread_reply}
 use Rattle.http_api.proofs.RequestReplies.{command_reply, statement_reply, owed_command}

@@ -1,8 +1,8 @@
 use Rattle.std.proofs.Common.{refl, subst, Ok}
 use Rattle.std.specs.Io.KnownBytes.{Appends}
-use Rattle.http_answers.specs.Asking.{reads}
-use Rattle.http_answers.specs.Texts.{Begins, response, unable}
-use Rattle.http_heads.specs.Statuses.{service_unavailable}
+use Rattle.http_messages.specs.Asking.{reads}
+use Rattle.http_messages.specs.Texts.{Begins, response, unable}
+use Rattle.http_messages.specs.Statuses.{service_unavailable}
 use Rattle.http_api.specs.Replies.{Replies}
 use Rattle.http_api.specs.Told.{TellsAnswer}
 use Rattle.http_api.proofs.Continuing.{continued_step, leaves_step}

@@ -1,4 +1,4 @@
-use Rattle.http_answers.proofs.Begun.{at_err, err_gives, begun_first, begun_second}
+use Rattle.http_messages.proofs.Begun.{at_err, err_gives, begun_first, begun_second}
 use Rattle.http_api.proofs.joining.write_after.Goals as goal
 
 pub returns-in_err-write_waiting-clause-err : goal.returns-in_err-write_waiting-clause-err

@@ -1,9 +1,9 @@
 use Rattle.std.proofs.Common.{◌≡◌, ◌==◌, ℕ, List, refl, le_refl, arith, Result, Ok, Err, IfOk}
 use Rattle.std.proofs.Common.{IfSome, inl}
 use Rattle.std.specs.Prelude.{IsErrAnd}
-use Rattle.byte_streams.specs.declared.StreamFault.TheVariants as broken
+use Rattle.texts.specs.declared.streams.StreamFault.TheVariants as broken
 use Rattle.charging.specs.Continued.{Continues, LeavesOn}
-use Rattle.http_answers.specs.Asking.{Asking, IsAsked}
+use Rattle.http_messages.specs.Asking.{Asking, IsAsked}
 use Rattle.keepers.specs.Tables.{Tables}
 use Rattle.http_api.specs.Replies.{Replies}
 use Rattle.http_api.proofs.RequestReplies.{at_err, fault_told}

@@ -4,9 +4,9 @@ use Rattle.std.specs.Io.KnownBytes.{Appends}
 use Rattle.commands.specs.declared.answer.Answer.TheVariants.{Refused}
 use Rattle.commands.specs.declared.answer.Refusal.TheVariants.{AccountUnknown}
 use Rattle.keepers.specs.Tables.{Tables}
-use Rattle.http_heads.specs.Statuses.{service_unavailable}
-use Rattle.http_answers.specs.Asking.{states}
-use Rattle.http_answers.specs.Texts.{Begins, response, unable}
+use Rattle.http_messages.specs.Statuses.{service_unavailable}
+use Rattle.http_messages.specs.Asking.{states}
+use Rattle.http_messages.specs.Texts.{Begins, response, unable}
 use Rattle.http_api.specs.Replies.{Replies}
 use Rattle.http_api.specs.Told.{TellsAnswer, TellsCharges}
 use Rattle.http_api.proofs.RequestReplies.{ok_gives, err_gives}

@@ -1,6 +1,6 @@
 use Rattle.std.proofs.Common.{◌∙◌}
 use Rattle.std.specs.Io.KnownBytes.{Appends}
-use Rattle.http_answers.specs.Texts.{Begins}
+use Rattle.http_messages.specs.Texts.{Begins}
 use Rattle.http_api.proofs.RequestReplies.{ok_gives, err_gives}
 use Rattle.http_api.proofs.StatementReplies.{tells_body, tells_nothing}
 use Rattle.http_api.proofs.stating.tell_statement.Goals as goal

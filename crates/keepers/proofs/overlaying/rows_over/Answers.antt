@@ -11,7 +11,7 @@ use Rattle.keepers.proofs.overlaying.rows_over.Goals as goal
 pub returns : goal.returns
 returns c =
     let named : StoredRows = named_of c.named.inside in
-    if_ok c.account_of.result c.account_of.ensures (λ v of.
+    if_ok c.account_of.result c.account_of.ensures.reordered (λ v of.
     subst (λ (w : StoredRows). IsAccountOf (rows_over w c.args.back.now c.args.live.now) v)
     c.named.view_is
     (account_over named c.args.live.now c.args.back.now c.in_ok-buckets_over.field-0.items
@@ -26,4 +26,5 @@ returns c =
     (c.in_ok-groups.ensures
     ∙ (λ i. groups_over named.groups (c.deref.ensures.value i) c.args.back.now
     (c.groups.ensures i)))
-    of))
+    (of c.in_ok-sessions.sessions.items c.in_ok-groups.groups.items c.in_ok-place_sessions.ensures
+    c.in_ok-place_groups.ensures)))

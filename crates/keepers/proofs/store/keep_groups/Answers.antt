@@ -1,16 +1,20 @@
-use Rattle.std.proofs.Common.{rules, sym, ◌∙◌}
-use Rattle.std.proofs.lemmas.Fn.{filter_same}
-use Rattle.std.proofs.lemmas.Bool.{or_parts}
-use Rattle.keepers.specs.Parts.{leaves_group}
+use Rattle.std.proofs.Common.{◌≡◌, sym, ap, ◌∙◌, subst, List, false}
+use Rattle.std.specs.List.{list_any}
+use Rattle.reserving.specs.declared.session.Session.{Session}
+use Rattle.reserving.specs.declared.session.SessionGroup.{SessionGroup}
+use Rattle.keepers.specs.Named.{is_named}
 use Rattle.keepers.proofs.Unchanged.{groups_stay}
 use Rattle.keepers.proofs.store.keep_groups.Goals as goal
 
-pub returns-then-not-any_of_named : goal.returns-then-not-any_of_named
-returns-then-not-any_of_named c =
-    let none = sym c.any_of_named.ensures ∙ c.if-not-any_of_named.true in
-    groups_stay c.args.after.now c.args.names.now c.args.rows.now.items c.requires
-    (or_parts _ _ none).0 (or_parts _ _ none).1
+pub any_group_named-requires : goal.any_group_named-requires
+any_group_named-requires c =
+    subst (λ (rows : List Session). list_any (λ r. is_named c.args.names.now r.id) rows ≡ false)
+    (sym c.sessions.ensures) c.requires.unnamed
 
-pub returns : goal.returns
-returns c = filter_same _ (leaves_group c.args.after.now) _
-    (λ x b f' k. search rules) _ _ c.retain.ensures.filtered
+pub returns-then-not-any_group_named : goal.returns-then-not-any_group_named
+returns-then-not-any_group_named c =
+    let none = sym (c.any_group_named.ensures
+    ∙ ap (list_any (λ (x : SessionGroup). is_named c.args.names.now x.session)) c.groups.ensures)
+    ∙ c.if-not-any_group_named.true in
+    groups_stay c.args.after.now c.args.names.now c.args.rows.now.items c.requires.left
+    c.requires.unnamed none

@@ -1,5 +1,5 @@
 use Rattle.std.proofs.Common.{inl, inr, refl}
-use Rattle.office.proofs.Beginnings.{on_err}
+use Rattle.operations.proofs.Beginnings.{on_err}
 use Rattle.ocs.proofs.replaying.answer_replay.Goals as goal
 
 pub returns-in-Ok-clause-printed : goal.returns-in-Ok-clause-printed

@@ -1,5 +1,5 @@
 use Rattle.std.proofs.Common.{◌∷◌, []}
-use Rattle.office.proofs.Beginnings.{whole_or_part}
+use Rattle.operations.proofs.Beginnings.{whole_or_part}
 use Rattle.ocs.proofs.telling.end_line.Goals as goal
 
 pub returns : goal.returns

@@ -1,5 +1,5 @@
 use Rattle.std.proofs.Common.{inl, inr, refl}
-use Rattle.byte_streams.specs.declared.StreamFault.TheVariants as stream
+use Rattle.texts.specs.declared.streams.StreamFault.TheVariants as stream
 use Rattle.ocs.proofs.EndLemmas.{told_stream, writer_failed}
 use Rattle.ocs.proofs.telling.tell_error.Goals as goal
 

@@ -1,6 +1,6 @@
 use Rattle.std.proofs.Common.{◌++◌, ◌∷◌, [], subst}
-use Rattle.office.specs.Written.{WritesBeginning}
-use Rattle.office.proofs.Beginnings.{beginning_after}
+use Rattle.operations.specs.Written.{WritesBeginning}
+use Rattle.operations.proofs.Beginnings.{beginning_after}
 use Rattle.ocs.proofs.EndLemmas.{part_told}
 use Rattle.ocs.proofs.telling.tell_line.Goals as goal
 

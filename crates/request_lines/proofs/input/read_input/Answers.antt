@@ -1,5 +1,5 @@
 use Rattle.std.proofs.Common.{ℕ, List, [], ◌∷◌, ◌++◌, Result, map, subst, ap, IfSome}
-use Rattle.byte_streams.specs.Lines.{IsLineOf}
+use Rattle.texts.specs.Lines.{IsLineOf}
 use Rattle.json_fields.specs.declared.fault.WireFault.{WireFault}
 use Rattle.charging.specs.declared.running.DatedCommand.{DatedCommand}
 use Rattle.request_lines.specs.Input.{told_fault, IsInput}

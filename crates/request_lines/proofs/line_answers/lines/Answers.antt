@@ -1,16 +1,20 @@
 use Rattle.std.proofs.Common.{◌≡◌, ℕ, List, subst, map, refl, inl, inr}
 use Rattle.std.specs.Io.KnownBytes.{Appends}
-use Rattle.std.specs.Prelude.{OnErr, OnOk}
+use Rattle.std.specs.Prelude.{◌≢◌, OnErr, OnOk}
+use Rattle.texts.specs.declared.streams.StreamFault.{StreamFault}
+use Rattle.texts.specs.declared.streams.StreamFault.TheVariants.{Read as ReadFailed}
 use Rattle.charging.specs.declared.running.DatedCommand.{DatedCommand}
 use Rattle.keepers.specs.declared.fault.StoreFault.TheVariants.{Store as StoreFailed}
-use Rattle.office.specs.Written.{WritesBeginning}
+use Rattle.operations.specs.Written.{WritesBeginning}
 use Rattle.request_lines.specs.Input.{told_fault}
 use Rattle.request_lines.specs.Served.{opening_for, texts_of}
-use Rattle.office.proofs.Beginnings.{on_err, whole_or_begun}
+use Rattle.operations.proofs.Beginnings.{on_err, whole_or_begun}
 use Rattle.request_lines.proofs.Answered.{continued-run}
-use Rattle.request_lines.proofs.Ended.{IsWritten, ended-answered, ended-asked, ended-begun, ended-both}
+use Rattle.request_lines.proofs.Ended.{IsWritten, ended-answered, ended-asked, ended-begun}
+use Rattle.request_lines.proofs.Ended.{ended-both}
 use Rattle.request_lines.proofs.Ended.{begun_in, ended-cut, ended-read, ended-stopped, ended-store}
-use Rattle.request_lines.proofs.Ended.{ended-stands, ended-told, ended-untold, none_answered, none_begun}
+use Rattle.request_lines.proofs.Ended.{ended-stands, ended-told, ended-untold, ended-write}
+use Rattle.request_lines.proofs.Ended.{none_answered, none_begun}
 use Rattle.request_lines.proofs.HeldLines.{held-stream}
 use Rattle.request_lines.proofs.line_answers.lines.Goals as goal
 
@@ -107,6 +111,8 @@ returns g c =
           (texts_of (map told_fault c.in-Ok.input.lines.items) given) whole part));
       unread = λ f k. absurd (ended-read fault written result f is k);
       unwritten = λ f k. absurd (ended-read fault written result f is k);
+      fault = λ f k. ended-write (λ (e : StreamFault). e ≢ ReadFailed) fault written result f is k
+          c.write_output-written.ensures.fault;
       honesty = c.run_opened-answers.ensures.honesty;
       stands = λ honest clean.
           ended-stands (g.K.Keeper.clean c.run_opened-answers.new.keeper) fault written result is

@@ -2,7 +2,7 @@ use Rattle.std.proofs.Common.{◌≡◌, ◌+◌, ◌++◌, ◌∷◌, [], map, 
 use Rattle.std.specs.Prelude.{if◌then◌else◌, option_map}
 use Rattle.request_lines.specs.Input.{told_fault}
 use Rattle.request_lines.specs.Served.{texts_of}
-use Rattle.office.proofs.Beginnings.{on_err}
+use Rattle.operations.proofs.Beginnings.{on_err}
 use Rattle.request_lines.proofs.SoFar.{so_far-more, so_far-failed}
 use Rattle.request_lines.proofs.Texts.{texts_first, texts_next}
 use Rattle.request_lines.proofs.output.write_output.Goals as goal

@@ -3,10 +3,9 @@
 use crate::tests::tables::{Teller, Words, try_table};
 use crate::tests::tariff::lookups::{head_of, told_of_group, told_of_period};
 use crate::tests::values::moment;
-use one_price::once_book;
 use std::alloc::Global;
 use std::process::Abort;
-use tariffs::TariffBook;
+use tariffs::{TariffBook, once_book};
 
 fn book_of_price(rt: &impl Abort, alloc: Global, price: u64, block: u64) -> TariffBook {
     assert!(rt; price <= 1_000_000_000 && 1 <= block && block <= 1_000_000_000_000_000);

@@ -5,10 +5,10 @@ use crate::tests::tables::{Teller, Words};
 use crate::tests::values::{calendar, moment, money};
 use calendar::{Calendar, Entry, Period};
 use identifiers::AccountNumber;
-use redemptions::{Addition, CivilDays, Redemption, Voucher, VoucherTerms, add, redeem};
 use std::alloc::{AllocError, Global};
 use std::process::Abort;
 use units::Moment;
+use voucher_rules::{Addition, CivilDays, Redemption, Voucher, VoucherTerms, add, redeem};
 
 /// The civil days of a zone.
 #[derive(Drop)]

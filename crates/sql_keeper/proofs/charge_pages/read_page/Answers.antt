@@ -1,7 +1,7 @@
 use Rattle.std.proofs.Common.{Ok, arith, refl}
 use Rattle.std.specs.Prelude.{nat_le}
 use Rattle.sqlite.specs.Held.{state}
-use Rattle.charge_sources.specs.declared.pages.ChargePage.{ChargePage}
+use Rattle.keepers.specs.declared.pages.ChargePage.{ChargePage}
 use Rattle.sql_rows.specs.Content.{rows_in}
 use Rattle.sql_keeper.proofs.ChargePages.{page_told}
 use Rattle.sql_keeper.proofs.Told.{made_of, one_tells, several_tell, tell_both}

@@ -1,6 +1,12 @@
 use Rattle.sqlite.specs.Held.{state}
+use Rattle.sql_keeper.proofs.SeenRows.{seen_after}
 use Rattle.sql_keeper.proofs.StillOpen.{committed_standing, standing_shut}
 use Rattle.sql_keeper.proofs.committing.ask_to_change.Goals as goal
+
+pub make_change-requires-clause-seen : goal.make_change-requires-clause-seen
+make_change-requires-clause-seen g c =
+    seen_after c.args.seen.now (state g.S.Store c.args.conn.now)
+    (state g.S.Store c.still_open.new.conn) c.requires.seen c.in_ok-still_open.ensures.only
 
 pub make_change-requires-clause-plain : goal.make_change-requires-clause-plain
 make_change-requires-clause-plain g c = c.in_ok-still_open.ensures.only.mode c.requires.plain

@@ -10,7 +10,8 @@ returns-in_err-write_change-clause-commits g c =
     c.from_residual-in_err-write_change.ensures.1 in
     rw p.1 (not_written _ _ _ _ _ c.in_ok-are_new.ensures.only
     c.in_ok-are_new.ensures.survives
-    (become_at _ _ c.args.change.now _ c.as_of-named.ensures.named c.in_ok-texts.ensures
+    (become_at _ _ c.args.change.now _ c.as_of-named.ensures.named c.in_ok-texts.ensures.told
+    c.in_ok-texts.ensures.rules
     (omega (arith, c.seconds-moment.ensures.in_range, c.seconds-moment.ensures.value)) _ _ _
     c.in_ok-are_new.ensures.only c.in_ok-are_new.ensures.found) _ _
     c.in_err-write_change.ensures.transacts)
@@ -18,7 +19,8 @@ returns-in_err-write_change-clause-commits g c =
 pub returns-clause-commits : goal.returns-clause-commits
 returns-clause-commits g c =
     written _ _ _ _ _ c.in_ok-are_new.ensures.only c.in_ok-are_new.ensures.survives
-    (become_at _ _ c.args.change.now _ c.as_of-named.ensures.named c.in_ok-texts.ensures
+    (become_at _ _ c.args.change.now _ c.as_of-named.ensures.named c.in_ok-texts.ensures.told
+    c.in_ok-texts.ensures.rules
     (omega (arith, c.seconds-moment.ensures.in_range, c.seconds-moment.ensures.value)) _ _ _
     c.in_ok-are_new.ensures.only c.in_ok-are_new.ensures.found) _ _
     c.in_ok-write_change.ensures.transacts

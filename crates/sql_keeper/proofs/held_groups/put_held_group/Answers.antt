@@ -1,10 +1,11 @@
 use Rattle.std.proofs.Common.{Ok}
+use Rattle.std.proofs.lemmas.Result.{err_from_is_err_and}
 use Rattle.reserving.specs.Sessions.{holds_in}
 use Rattle.sql_rows.specs.Content.{with_group, with_rows, without_holds}
 use Rattle.sql_rows.specs.Each.{with_holds}
 use Rattle.sql_keeper.specs.Content.{shelf_names}
 use Rattle.sql_keeper.specs.Writes.{columns_of, with_book_of}
-use Rattle.sql_keeper.proofs.Puts.{makes_then, makes_all_then}
+use Rattle.sql_keeper.proofs.Puts.{makes_then, makes_all_then, makes_failed}
 use Rattle.sql_keeper.proofs.held_groups.put_held_group.Goals as goal
 
 pub returns-clause-makes : goal.returns-clause-makes
@@ -23,3 +24,19 @@ returns-clause-makes g c =
     (makes_then columns book _ _ _ c.in_ok-put_columns.field-0 (Ok c.in_ok-put_number.field-0)
     c.in_ok-put_columns.ensures.makes c.in_ok-put_number.ensures.makes)
     c.in_ok-remove_holds.ensures.makes) c.put_held.ensures.makes
+
+pub returns-in_err-put_number-clause-makes : goal.returns-in_err-put_number-clause-makes
+returns-in_err-put_number-clause-makes g c =
+    let p = err_from_is_err_and c.from_residual-in_err-put_number.result
+    c.from_residual-in_err-put_number.ensures.1 in
+    rw p.1 (makes_failed _ _ _ _ _ _ c.in_ok-put_columns.field-0 _ _ c.in_ok-put_columns.ensures.makes
+    c.in_err-put_number.ensures.makes)
+
+pub returns-in_err-remove_holds-clause-makes : goal.returns-in_err-remove_holds-clause-makes
+returns-in_err-remove_holds-clause-makes g c =
+    let p = err_from_is_err_and c.from_residual-in_err-remove_holds.result
+    c.from_residual-in_err-remove_holds.ensures.1 in
+    rw p.1 (makes_failed _ _ _ _ _ _ c.in_ok-put_number.field-0 _ _
+    (makes_then _ _ _ _ _ c.in_ok-put_columns.field-0 (Ok c.in_ok-put_number.field-0)
+    c.in_ok-put_columns.ensures.makes c.in_ok-put_number.ensures.makes)
+    c.in_err-remove_holds.ensures.makes)

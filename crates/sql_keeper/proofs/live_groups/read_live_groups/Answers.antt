@@ -1,42 +1,47 @@
-use Rattle.std.proofs.Common.{arith}
+use Rattle.std.proofs.Common.{map, sym, subst, List}
 use Rattle.sqlite.specs.Held.{state}
-use Rattle.sql_keeper.proofs.InTurn.{failed_then, gives_up}
-use Rattle.sql_keeper.proofs.LiveGroups.{none_yet, next_gathered, all_gathered}
+use Rattle.buckets.specs.Row.{Row}
+use Rattle.buckets.specs.Spend.{AreDistinct}
+use Rattle.sql_rows.specs.declared.open_group_rows.OpenGroup.{OpenGroup}
+use Rattle.sql_rows.specs.declared.session_book_rows.SessionBook.{SessionBook}
+use Rattle.sql_rows.specs.declared.session_hold_rows.SessionHold.{SessionHold}
+use Rattle.sql_rows.specs.Content.{rows_in}
+use Rattle.sql_rows.specs.Lists.{AreAllGrantBooks, AreAllHolds, AreOpenGroups}
+use Rattle.sql_rows.specs.Texts.{open_group_at, session_book_at, session_hold_at}
+use Rattle.sql_keeper.proofs.InTurn.{have_read}
+use Rattle.sql_keeper.proofs.LiveGroups.{gathered}
 use Rattle.sql_keeper.proofs.live_groups.read_live_groups.Goals as goal
 use Rattle.sql_keeper.specs.Content.{shelf_names}
+use Rattle.sql_keeper.specs.GroupRows.{DoBooksRise, DoHoldsRise}
 
-pub sessions-init : goal.sessions-init
-sessions-init g c =
-    none_yet (shelf_names c.args.books.now) c.args.account.now c.new-groups.result.items
-    (state g.S.Store c.args.conn.now) c.new-groups.ensures.items c.requires.idle
+pub groups_of-requires-clause-holds : goal.groups_of-requires-clause-holds
+groups_of-requires-clause-holds g c =
+    subst DoHoldsRise (sym c.deref-2.ensures.value) c.in_ok-held.ensures.order
 
-pub read_session_groups-requires : goal.read_session_groups-requires
-read_session_groups-requires g c = record { idle = c.sessions.invariant.reads.only.idle }
-
-pub returns-in_err-more : goal.returns-in_err-more
-returns-in_err-more g c =
-    failed_then _ (state g.S.Store c.args.conn.now) (state g.S.Store c.sessions.conn)
-    (state g.S.Store c.read_session_groups.new.conn) c.from_residual.result
-    c.from_residual.ensures.0 c.sessions.invariant.reads c.read_session_groups.ensures.only
-    c.read_session_groups.ensures.survives
-
-pub returns-in_default : goal.returns-in_default
-returns-in_default g c =
-    gives_up _ (state g.S.Store c.args.conn.now) (state g.S.Store c.sessions.conn)
-    (state g.S.Store c.read_session_groups.new.conn) _ c.sessions.invariant.reads
-    c.read_session_groups.ensures.only c.read_session_groups.ensures.survives
-
-pub sessions-preserved : goal.sessions-preserved
-sessions-preserved g c = next_gathered (λ xs. xs.items) (shelf_names c.args.books.now)
-    c.args.account.now c.args.sessions.now c.sessions.session-index c.session-item.result
-    c.sessions.groups.items
-    c.append.new.self.items (state g.S.Store c.args.conn.now) (state g.S.Store c.sessions.conn)
-    (state g.S.Store c.read_session_groups.new.conn) c.in_ok-more.more
-    (omega arith) c.session-item.is c.in-Ok.ensures.items c.sessions.invariant c.in_ok-more.ensures
+pub groups_of-requires-clause-books : goal.groups_of-requires-clause-books
+groups_of-requires-clause-books g c =
+    subst DoBooksRise (sym c.deref-3.ensures.value) c.in_ok-numbers.ensures.order
 
 pub returns : goal.returns
 returns g c =
-    all_gathered (λ xs. xs.items) (shelf_names c.args.books.now) c.args.account.now
-    c.args.sessions.now
-    c.sessions.session-index c.sessions.groups (state g.S.Store c.args.conn.now)
-    (state g.S.Store c.sessions.conn) (omega arith) c.sessions.invariant
+    gathered (λ xs. xs.items) (shelf_names c.args.books.now) c.args.account.now
+    c.buckets.result.now c.deref.result.now c.deref-2.result.now c.deref-3.result.now
+    (state g.S.Store c.args.conn.now) (state g.S.Store c.read_groups_open.new.conn)
+    (state g.S.Store c.read_holds_all.new.conn) (state g.S.Store c.read_grant_books_all.new.conn)
+    c.groups_of.result
+    (subst (λ (bs : List Row). AreDistinct bs)
+    (sym c.buckets.ensures.value) c.buckets.ensures.sound.distinct)
+    (have_read _ _ _ _ c.in_ok-rows.ensures.reads) (have_read _ _ _ _ c.in_ok-held.ensures.reads)
+    (have_read _ _ _ _ c.in_ok-numbers.ensures.reads)
+    (λ clean. subst (λ (l : List OpenGroup). AreOpenGroups
+    (rows_in (state g.S.Store c.args.conn.now).now.trees c.args.account.now)
+    (map open_group_at l)) (sym c.deref.ensures.value) (c.in_ok-rows.ensures.reads.found clean))
+    (λ clean. subst (λ (l : List SessionHold). AreAllHolds
+    (rows_in (state g.S.Store c.read_groups_open.new.conn).now.trees c.args.account.now)
+    (map session_hold_at l))
+    (sym c.deref-2.ensures.value) (c.in_ok-held.ensures.reads.found clean))
+    (λ clean. subst (λ (l : List SessionBook). AreAllGrantBooks
+    (rows_in (state g.S.Store c.read_holds_all.new.conn).now.trees c.args.account.now)
+    (map session_book_at l))
+    (sym c.deref-3.ensures.value) (c.in_ok-numbers.ensures.reads.found clean))
+    c.groups_of.ensures

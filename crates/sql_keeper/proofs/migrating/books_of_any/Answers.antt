@@ -1,6 +1,8 @@
 use Rattle.std.proofs.lemmas.Result.{err_from_is_err_and}
-use Rattle.sql_keeper.proofs.Moved.{any_err, any_latest, any_migrated, any_none, below_latest}
-use Rattle.sql_keeper.proofs.Moved.{found_at}
+use Rattle.sqlite.specs.Held.{state}
+use Rattle.sql_keeper.proofs.Causes.{latest_known}
+use Rattle.sql_keeper.proofs.Moved.{any_err, any_latest, any_migrated, any_none, any_unread}
+use Rattle.sql_keeper.proofs.Moved.{any_unruled, below_latest, found_at, latest_schema}
 use Rattle.sql_keeper.proofs.Opens.{idle_book}
 use Rattle.sql_keeper.proofs.migrating.books_of_any.Goals as goal
 
@@ -11,14 +13,14 @@ returns-in_err-version-clause-finds g c =
     (any_none _ _ _ c.in_err-version.ensures.told c.in_err-version.ensures.means
     c.in_err-version.ensures.survives)
 
-pub migrate_tables-requires-clause-known : goal.migrate_tables-requires-clause-known
-migrate_tables-requires-clause-known g c = (
+pub migrate_ruled-requires-clause-known : goal.migrate_ruled-requires-clause-known
+migrate_ruled-requires-clause-known g c = (
   c.in_ok-version.ensures.version,
   below_latest c.in_ok-version.version c.in_ok-version.ensures.version c.if-version-ne-LATEST.true,
 )
 
-pub migrate_tables-requires-clause-at : goal.migrate_tables-requires-clause-at
-migrate_tables-requires-clause-at g c =
+pub migrate_ruled-requires-clause-at : goal.migrate_ruled-requires-clause-at
+migrate_ruled-requires-clause-at g c =
     found_at c.in_ok-version.version _ _ c.in_ok-version.ensures.found
 
 pub returns-then-version-ne-LATEST-clause-finds : goal.returns-then-version-ne-LATEST-clause-finds
@@ -27,16 +29,42 @@ returns-then-version-ne-LATEST-clause-finds g c =
     c.in_ok-version.ensures.survives c.in_ok-version.ensures.version
     (below_latest c.in_ok-version.version c.in_ok-version.ensures.version
     c.if-version-ne-LATEST.true)
-    c.migrate_tables.result c.migrate_tables.ensures.migrates
+    c.migrate_ruled.result c.migrate_ruled.ensures.migrates
 
 pub latest_books-requires : goal.latest_books-requires
 latest_books-requires g c = record {
   idle = idle_book _ _ _ c.if-version-ne-LATEST.false c.in_ok-version.ensures.found;
 }
 
+pub returns-in_err-read-clause-finds : goal.returns-in_err-read-clause-finds
+returns-in_err-read-clause-finds g c =
+    let p = err_from_is_err_and c.from_residual-in_err-read.result
+    c.from_residual-in_err-read.ensures.1 in
+    any_err _ _ _ p.0 _ p.1 p.2
+    (any_unread c.in_ok-version.version _ _ _ c.if-version-ne-LATEST.false
+    c.in_ok-version.ensures.found c.in_ok-version.ensures.survives c.in_ok-version.ensures.version
+    _ c.in_err-read.ensures.reads)
+
+pub test_rows-requires-clause-known : goal.test_rows-requires-clause-known
+test_rows-requires-clause-known g c = latest_known
+
+pub test_rows-requires-clause-ours : goal.test_rows-requires-clause-ours
+test_rows-requires-clause-ours g c =
+    latest_schema c.in_ok-version.version _ _ _ c.if-version-ne-LATEST.false
+    c.in_ok-version.ensures.found c.in_ok-version.ensures.survives c.in_ok-version.ensures.version
+    (state g.S.Store c.args.conn.now) c.in_ok-read.read c.in_ok-read.ensures.reads
+
+pub returns-in_err-test_rows-clause-finds : goal.returns-in_err-test_rows-clause-finds
+returns-in_err-test_rows-clause-finds g c =
+    let p = err_from_is_err_and c.from_residual-in_err-test_rows.result
+    c.from_residual-in_err-test_rows.ensures.1 in
+    any_err _ _ _ p.0 _ p.1 p.2
+    (any_unruled c.in_ok-version.version _ _ _ c.if-version-ne-LATEST.false
+    c.in_ok-version.ensures.found c.in_ok-version.ensures.survives c.in_ok-version.ensures.version
+    _ c.in_ok-read.read c.in_ok-read.ensures.reads _ c.in_err-test_rows.ensures.tells)
+
 pub returns-clause-finds : goal.returns-clause-finds
 returns-clause-finds g c =
     any_latest c.in_ok-version.version _ _ _ c.if-version-ne-LATEST.false
-    c.in_ok-version.ensures.found
-    c.in_ok-version.ensures.survives c.in_ok-version.ensures.version c.latest_books.result
-    c.latest_books.ensures.reads
+    c.in_ok-version.ensures.found c.in_ok-version.ensures.survives c.in_ok-version.ensures.version
+    _ c.in_ok-read.read c.in_ok-read.ensures.reads _ c.in_ok-test_rows.ensures.tells

@@ -123,7 +123,7 @@ returns-in-Ok-clause-brings g c =
     c.in_ok-is_of_version.ensures.version c.as_str.result.now c.as_str.ensures.value _
     c.in_ok-read.read c.in_ok-read.ensures.read c.in_ok-read.ensures.given
     c.in_ok-read.ensures.text c.in_ok-read.ensures.last c.is_of_version.ensures.last
-    (IsUtf8-string_bytes c.in_ok-meta.meta.book) _ c.in-Ok.ensures.makes
+    (IsUtf8-string_bytes c.in_ok-meta.meta.book) c.requires.ruled _ c.in-Ok.ensures.makes
 
 pub returns-clause-brings : goal.returns-clause-brings
 returns-clause-brings g c =

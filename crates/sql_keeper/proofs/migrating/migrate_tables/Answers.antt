@@ -1,8 +1,13 @@
 use Rattle.std.proofs.Common.{◌≡◌, ◌∙◌, sym, subst, Ok, Err}
 use Rattle.sqlite.specs.Held.{state}
 use Rattle.sql_keeper.specs.Migrates.{MigratesTables}
-use Rattle.sql_keeper.proofs.Moved.{migrated, not_committed}
+use Rattle.sql_keeper.proofs.Moved.{begun_ruled, migrated, not_committed}
 use Rattle.sql_keeper.proofs.migrating.migrate_tables.Goals as goal
+
+pub bring_to_latest-requires-clause-ruled : goal.bring_to_latest-requires-clause-ruled
+bring_to_latest-requires-clause-ruled g c =
+    begun_ruled g.S.Store c.args.conn.now c.transaction-tx.result.conn.now
+    c.transaction-tx.ensures.begun c.args.version c.requires.ruled
 
 pub returns-in-Ok-clause-migrates : goal.returns-in-Ok-clause-migrates
 returns-in-Ok-clause-migrates g c =

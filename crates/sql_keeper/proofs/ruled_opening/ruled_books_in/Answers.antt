@@ -3,15 +3,14 @@ use Rattle.std.proofs.lemmas.Result.{err_from_is_err_and}
 use Rattle.sqlite.specs.Held.{state}
 use Rattle.sql_keeper.specs.RuledOpening.{FindsRuled}
 use Rattle.sql_keeper.proofs.Causes.{latest_known}
-use Rattle.sql_keeper.proofs.RuledOpening.{rows_told, rows_unasked, rows_unheld, rows_untold}
-use Rattle.sql_keeper.proofs.RuledOpening.{ruled_schema}
+use Rattle.sql_keeper.proofs.RuledOpening.{rows_told, rows_unasked, rows_untold, ruled_schema}
 use Rattle.sql_keeper.proofs.ruled_opening.ruled_books_in.Goals as goal
 
-pub rules_of-requires-clause-known : goal.rules_of-requires-clause-known
-rules_of-requires-clause-known g c = latest_known
+pub test_rows-requires-clause-known : goal.test_rows-requires-clause-known
+test_rows-requires-clause-known g c = latest_known
 
-pub rules_of-requires-clause-ours : goal.rules_of-requires-clause-ours
-rules_of-requires-clause-ours g c =
+pub test_rows-requires-clause-ours : goal.test_rows-requires-clause-ours
+test_rows-requires-clause-ours g c =
     ruled_schema (state g.S.Store c.args.conn.now) (state g.S.Store c.books_in.new.conn)
     c.in_ok-read.read c.in_ok-read.ensures.finds
 
@@ -21,18 +20,15 @@ returns-in_err-read-clause-finds g c =
     subst (FindsRuled (state g.S.Store c.args.conn.now) (state g.S.Store c.books_in.new.conn))
     (sym (p.1 ∙ ap Err p.2)) (rows_unasked _ _ _ c.in_err-read.ensures.finds)
 
-pub returns-in_err-rules_of-clause-finds : goal.returns-in_err-rules_of-clause-finds
-returns-in_err-rules_of-clause-finds g c =
-    let p = err_from_is_err_and c.from_residual-in_err-rules_of.result
-    c.from_residual-in_err-rules_of.ensures.1 in
-    subst (FindsRuled (state g.S.Store c.args.conn.now) (state g.S.Store c.rules_of.new.conn))
+pub returns-in_err-test_rows-clause-finds : goal.returns-in_err-test_rows-clause-finds
+returns-in_err-test_rows-clause-finds g c =
+    let p = err_from_is_err_and c.from_residual-in_err-test_rows.result
+    c.from_residual-in_err-test_rows.ensures.1 in
+    subst (FindsRuled (state g.S.Store c.args.conn.now) (state g.S.Store c.test_rows.new.conn))
     (sym (p.1 ∙ ap Err p.2))
-    (rows_untold _ _ _ c.in_ok-read.read _ c.in_ok-read.ensures.finds c.in_err-rules_of.ensures)
+    (rows_untold _ _ _ c.in_ok-read.read _ c.in_ok-read.ensures.finds
+    c.in_err-test_rows.ensures.tells)
 
-pub returns-then-is_autocommit-clause-finds : goal.returns-then-is_autocommit-clause-finds
-returns-then-is_autocommit-clause-finds g c =
-    rows_told _ _ _ c.in_ok-read.read _ c.in_ok-read.ensures.finds c.in_ok-rules_of.ensures
-
-pub returns-else-is_autocommit-clause-finds : goal.returns-else-is_autocommit-clause-finds
-returns-else-is_autocommit-clause-finds g c =
-    rows_unheld _ _ _ c.in_ok-read.read _ c.in_ok-read.ensures.finds c.in_ok-rules_of.ensures
+pub returns-clause-finds : goal.returns-clause-finds
+returns-clause-finds g c =
+    rows_told _ _ _ c.in_ok-read.read _ c.in_ok-read.ensures.finds c.in_ok-test_rows.ensures.tells

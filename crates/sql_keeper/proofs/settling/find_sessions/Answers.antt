@@ -1,6 +1,7 @@
 use Rattle.std.proofs.Common.{arith}
 use Rattle.sqlite.specs.Held.{state}
 use Rattle.sql_keeper.proofs.InTurn.{failed_then}
+use Rattle.sql_keeper.proofs.SeenRows.{seen_after}
 use Rattle.sql_keeper.proofs.Tested.{next_found, none_found, one_unsettled, sessions_found}
 use Rattle.sql_keeper.proofs.settling.find_sessions.Goals as goal
 
@@ -8,8 +9,13 @@ pub sessions-init : goal.sessions-init
 sessions-init g c = none_found c.args.groups.now c.args.account.now
     (state g.S.Store c.args.conn.now) c.requires.idle
 
-pub find_session-requires : goal.find_session-requires
-find_session-requires g c = record { idle = c.sessions.invariant.reads.only.idle }
+pub find_session-requires-clause-idle : goal.find_session-requires-clause-idle
+find_session-requires-clause-idle g c = c.sessions.invariant.reads.only.idle
+
+pub find_session-requires-clause-seen : goal.find_session-requires-clause-seen
+find_session-requires-clause-seen g c =
+    seen_after c.args.seen.now (state g.S.Store c.args.conn.now) (state g.S.Store c.sessions.conn)
+    c.requires.seen c.sessions.invariant.reads.only
 
 pub returns-in_err-found : goal.returns-in_err-found
 returns-in_err-found g c =

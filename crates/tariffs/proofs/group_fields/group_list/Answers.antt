@@ -1,7 +1,7 @@
 use Rattle.std.proofs.Common.{◌≡◌, length, arith}
 use Rattle.std.proofs.lemmas.List.Elements.{All-push}
 use Rattle.std.proofs.lemmas.Result.{err_from_is_err_and}
-use Rattle.book_fields.proofs.Entries.{collected_goes_on, collected_ends, collected_done}
+use Rattle.tariffs.proofs.Entries.{collected_goes_on, collected_ends, collected_done}
 use Rattle.tariffs.specs.Tariffs.{IsTariff}
 use Rattle.tariffs.specs.GroupFields.{group_of}
 use Rattle.tariffs.proofs.GroupFacts.{other_groups_push}

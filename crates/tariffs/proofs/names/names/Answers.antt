@@ -1,7 +1,7 @@
 use Rattle.std.proofs.Common.{◌≡◌, ◌++◌, ◌∷◌, [], string_bytes, arith}
 use Rattle.std.proofs.lemmas.Result.{err_from_is_err_and}
 use Rattle.std.proofs.lemmas.List.{map_push}
-use Rattle.book_fields.proofs.Entries.{collected_goes_on, collected_ends, collected_done}
+use Rattle.tariffs.proofs.Entries.{collected_goes_on, collected_ends, collected_done}
 use Rattle.tariffs.specs.Names.{name_of, texts}
 use Rattle.tariffs.proofs.NameFacts.{distinct_push}
 use Rattle.tariffs.proofs.names.names.Goals as goal

@@ -1,6 +1,6 @@
 use Rattle.std.proofs.Common.{◌≡◌, drop, [], vec_len}
 use Rattle.toml.specs.View.{items_view}
-use Rattle.book_fields.specs.Fields.{collected}
+use Rattle.tariffs.specs.Fields.{collected}
 use Rattle.tariffs.specs.Names.{name_of, texts, AreDistinct}
 use Rattle.tariffs.proofs.names.names.Given as goal
 

@@ -1,7 +1,7 @@
 use Rattle.std.proofs.Common.{◌≡◌, [], length, replicate, length-set, refl, Vec, Global}
 use Rattle.std.proofs.lemmas.List.{map-set}
 use Rattle.std.proofs.lemmas.Result.{err_from_is_err_and}
-use Rattle.book_fields.proofs.Entries.{each_goes_on, each_ends, each_done}
+use Rattle.tariffs.proofs.Entries.{each_goes_on, each_ends, each_done}
 use Rattle.tariffs.specs.declared.tiers.Tier.{Tier}
 use Rattle.tariffs.specs.Prices.{tier_lists}
 use Rattle.tariffs.specs.PriceFields.{with_price}

@@ -2,7 +2,7 @@ use Rattle.std.proofs.Common.{◌≡◌, drop, [], length}
 use Rattle.std.specs.Prelude.{replicate}
 use Rattle.std.specs.List.{AllByRecursion}
 use Rattle.toml.specs.View.{items_view}
-use Rattle.book_fields.specs.Fields.{each}
+use Rattle.tariffs.specs.Fields.{each}
 use Rattle.tariffs.specs.Prices.{tier_lists, IsPriceOrNone}
 use Rattle.tariffs.specs.PriceFields.{with_price}
 use Rattle.tariffs.proofs.price_fields.price_list.Given as goal

@@ -1,6 +1,6 @@
 use Rattle.std.proofs.Common.{◌≡◌, ◌<◌, length, arith}
 use Rattle.std.proofs.lemmas.Result.{err_from_is_err_and}
-use Rattle.book_fields.proofs.Entries.{collected_goes_on, collected_ends, collected_done}
+use Rattle.tariffs.proofs.Entries.{collected_goes_on, collected_ends, collected_done}
 use Rattle.tariffs.specs.PriceFields.{last_bound, next_tier}
 use Rattle.tariffs.proofs.TierFacts.{first_goes_on}
 use Rattle.tariffs.proofs.price_fields.rising_tiers.Goals as goal

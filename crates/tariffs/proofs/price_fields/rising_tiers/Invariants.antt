@@ -1,6 +1,6 @@
 use Rattle.std.proofs.Common.{◌≡◌, drop, [], length}
 use Rattle.toml.specs.View.{items_view}
-use Rattle.book_fields.specs.Fields.{collected}
+use Rattle.tariffs.specs.Fields.{collected}
 use Rattle.tariffs.specs.PriceFields.{next_tier}
 use Rattle.tariffs.proofs.TierFacts.{AreFirst}
 use Rattle.tariffs.proofs.price_fields.rising_tiers.Given as goal

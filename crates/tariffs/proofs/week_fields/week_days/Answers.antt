@@ -1,6 +1,6 @@
 use Rattle.std.proofs.Common.{refl, true, slice_set}
 use Rattle.std.proofs.lemmas.Result.{err_from_is_err_and}
-use Rattle.book_fields.proofs.Entries.{each_goes_on, each_ends, each_done}
+use Rattle.tariffs.proofs.Entries.{each_goes_on, each_ends, each_done}
 use Rattle.tariffs.specs.WeekFields.{with_day}
 use Rattle.tariffs.proofs.week_fields.week_days.Goals as goal
 

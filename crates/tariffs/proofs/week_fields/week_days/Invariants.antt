@@ -1,7 +1,7 @@
 use Rattle.std.proofs.Common.{◌≡◌, drop, false}
 use Rattle.std.specs.Prelude.{replicate}
 use Rattle.toml.specs.View.{items_view}
-use Rattle.book_fields.specs.Fields.{each}
+use Rattle.tariffs.specs.Fields.{each}
 use Rattle.tariffs.specs.WeekFields.{with_day}
 use Rattle.tariffs.proofs.week_fields.week_days.Given as goal
 

@@ -1,7 +1,7 @@
 use Rattle.std.proofs.Common.{◌≡◌, ◌≤◌, ◌<◌, drop, [], length}
 use Rattle.std.specs.Prelude.{All}
 use Rattle.toml.specs.View.{items_view}
-use Rattle.book_fields.specs.Fields.{collected}
+use Rattle.tariffs.specs.Fields.{collected}
 use Rattle.tariffs.specs.WeekFields.{entry_of}
 use Rattle.tariffs.proofs.week_fields.week_entries.Given as goal
 

@@ -1,6 +1,8 @@
-use Rattle.std.proofs.Common.{◌+◌, map, ap, ◌∙◌, subst, arith}
+use Rattle.std.proofs.Common.{rules, ◌≡◌, ◌+◌, map, sym, ap, ◌∙◌, subst, arith}
 use Rattle.buckets.proofs.Counted.{sum_in-most}
-use Rattle.reserving.specs.Rows.{IsAccount}
+use Rattle.reserving.specs.Rows.{AccountRows, IsAccount}
+use Rattle.reserving.specs.Calm.{IsCalm}
+use Rattle.reserving.proofs.rows.Calm.{calm_same}
 use Rattle.reserving.specs.Placed.{IsPriced}
 use Rattle.reserving.proofs.Advanced.{IsAccount-advanced}
 use Rattle.buckets.specs.Row.{with_end, with_release, eligible_amount}
@@ -13,7 +15,7 @@ use Rattle.reserving.proofs.account.Account.sum_later.Goals as goal
 
 pub returns-clause-rows : goal.returns-clause-rows
 returns-clause-rows c =
-    (λ i. c.free_funds.ensures.value i + c.lapsed_funds-given_up.ensures.value i)
+    (λ i. c.free_funds-free.ensures.value i + c.lapsed_funds-given_up.ensures.value i)
     ∙ lapsed_funds-is c.args.kind c.args.group (validity_of c.self.inside.shelf.now) c.args.moment
     c.deref-2.result.now c.deref.result.now c.buckets-buckets.result.now
     ∙ (λ i. sum_in c.args.kind (eligible_amount c.args.group c.args.moment)
@@ -24,6 +26,37 @@ returns-clause-rows c =
     (c.buckets-buckets.ensures.value i)))
     ∙ ap (λ a. sum_in c.args.kind (eligible_amount c.args.group c.args.moment)
     (advanced c.args.moment a).buckets) c.self.view_is
+
+-- nothing is left to end at the moment
+pub returns-then-eq-clause-rows : goal.returns-then-eq-clause-rows
+returns-then-eq-clause-rows c =
+    let a : AccountRows = c.args.self.now in
+    let now : c.self.inside.rows.as_of ≡ c.args.moment = search rules in
+    let same : a.as_of ≡ c.args.moment =
+    sym (ap (λ (x : AccountRows). x.as_of) c.self.view_is) ∙ now in
+    let calm : advanced c.args.moment a ≡ a =
+    sym (ap (λ t. advanced t a) same)
+    ∙ calm_same a (subst IsCalm c.self.view_is (c.self.invariant.calm c.if-self.true)) in
+    c.free_funds-free.ensures.value
+    ∙ ap (sum_in c.args.kind (eligible_amount c.args.group c.args.moment))
+    (c.buckets-buckets.ensures.value
+    ∙ ap (λ (x : AccountRows). x.buckets) c.self.view_is
+    ∙ sym (ap (λ (x : AccountRows). x.buckets) calm))
+
+pub returns-then-eq-clause-account : goal.returns-then-eq-clause-account
+returns-then-eq-clause-account c = (subst IsPriced c.self.view_is c.self.invariant.priced).account
+
+pub returns-then-eq-clause-most : goal.returns-then-eq-clause-most
+returns-then-eq-clause-most c =
+    let later : IsAccount (advanced c.args.moment c.args.self.now) =
+    IsAccount-advanced c.args.self.now c.args.moment
+    ((subst IsPriced c.self.view_is c.self.invariant.priced).account) in
+    omega (
+      arith,
+      returns-then-eq-clause-rows c,
+      sum_in-most c.args.kind c.args.group c.args.moment
+          (advanced c.args.moment c.args.self.now).buckets later.sound,
+    )
 
 pub returns-clause-account : goal.returns-clause-account
 returns-clause-account c = (subst IsPriced c.self.view_is c.self.invariant.priced).account

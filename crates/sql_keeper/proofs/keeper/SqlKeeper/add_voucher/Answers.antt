@@ -1,38 +1,41 @@
 use Rattle.std.proofs.Common.{refl}
 use Rattle.sql_keeper.specs.Additions.{BecomesAdded}
 use Rattle.sql_keeper.specs.Content.{shelf_names}
-use Rattle.sql_keeper.proofs.Again.{held_added}
+use Rattle.sql_keeper.proofs.Held.{held_added}
 use Rattle.sql_keeper.proofs.Committed.{added_law}
 use Rattle.sql_keeper.proofs.Standing.{keeps, standing_keeper, standing_whole}
 use Rattle.sql_keeper.proofs.Whole.{handed_on}
 use Rattle.sql_keeper.proofs.keeper.SqlKeeper.add_voucher.Goals as goal
 
 pub invariant_of-self : goal.invariant_of-self
-invariant_of-self g c =
-    standing_keeper g.S.Store _ _ c.self.invariant refl
-    (λ text. BecomesAdded text c.args.code c.args.terms c.args.moment) _
-    c.ask_to_add-made.result c.counted.result c.counted.ensures.handed
-    c.ask_to_add-made.ensures.commits _ c.as_str-text.ensures.value
-    (λ db. held_added _ _ _ c.args.code c.args.terms c.args.moment _ db)
-    c.last_after-self-inside.ensures.made c.last_after-self-inside.ensures.kept refl
-    c.ask_to_add-made.ensures.plain
-    c.counted.ensures.bounded
+invariant_of-self g c = record {
+  keeper = standing_keeper g.S.Store _ _ c.self.invariant.keeper refl
+      (λ text. BecomesAdded text c.args.code c.args.terms c.args.moment) _
+      c.ask_to_add-made.result c.counted.result c.counted.ensures.handed
+      c.ask_to_add-made.ensures.commits _ c.as_str-text.ensures.value
+      (λ db. held_added _ _ _ c.args.code c.args.terms c.args.moment _ db)
+      c.last_after-self-inside.ensures.made c.last_after-self-inside.ensures.kept refl
+      c.ask_to_add-made.ensures.plain
+      c.counted.ensures.bounded;
+  seen = λ clean on. tt;
+}
 
 pub returns-clause-done : goal.returns-clause-done
 returns-clause-done g c =
     rw (← c.self.view_is) (added_law g.S.Store _ c.ask_to_add-made.new.conn _ _ _ _
-    c.self.invariant _
+    c.self.invariant.keeper _
     (handed_on _ _ _ _ _ c.counted.ensures.handed c.ask_to_add-made.ensures.commits.commits))
 
 pub returns-clause-kept : goal.returns-clause-kept
-returns-clause-kept g c = rw (← c.self.view_is) (keeps g.S.Store _ _ c.self.invariant refl
+returns-clause-kept g c = rw (← c.self.view_is) (keeps g.S.Store _ _ c.self.invariant.keeper refl
     (λ text. BecomesAdded text c.args.code c.args.terms c.args.moment) _
     c.ask_to_add-made.result c.counted.result c.counted.ensures.handed
     c.ask_to_add-made.ensures.commits _ c.counted.ensures.cause
     (λ db b. b.tables (shelf_names c.self.inside.shelf)))
 
 pub returns-clause-whole : goal.returns-clause-whole
-returns-clause-whole g c = rw (← c.self.view_is) (standing_whole g.S.Store _ _ c.self.invariant refl
+returns-clause-whole g c = rw (← c.self.view_is) (standing_whole g.S.Store _ _
+    c.self.invariant.keeper refl
     (λ text. BecomesAdded text c.args.code c.args.terms c.args.moment) _
     c.ask_to_add-made.result c.counted.result c.counted.ensures.handed
     c.ask_to_add-made.ensures.commits c.as_str-text.ensures.value)

@@ -1,7 +1,17 @@
+use Rattle.std.proofs.Common.{◌∙◌}
 use Rattle.std.specs.String.{string_bytes}
 use Rattle.std.proofs.lemmas.Str.{IsUtf8-string_bytes}
+use Rattle.sqlite.specs.Held.{state}
+use Rattle.sql_keeper.proofs.Made.{created_read}
 use Rattle.sql_keeper.proofs.Opens.{created, not_created}
 use Rattle.sql_keeper.proofs.keeper.SqlKeeper.create.Goals as goal
+
+pub keeper_of-requires-clause-read : goal.keeper_of-requires-clause-read
+keeper_of-requires-clause-read g c =
+    created_read c.args.text.now (state g.S.Store c.args.connection)
+    (state g.S.Store c.make_tables.new.conn) c.in-Ok-make_tables.field-0 c.in-Ok.read
+    c.in-Ok-make_tables.ensures.creates c.in-Ok.ensures.alone c.in-Ok.ensures.text
+    (c.in-Ok.ensures.last ∙ c.first.ensures)
 
 pub returns-in-Ok-make_tables-clause-created : goal.returns-in-Ok-make_tables-clause-created
 returns-in-Ok-make_tables-clause-created g c =

@@ -1,19 +1,30 @@
-use Rattle.std.proofs.Common.{refl}
+use Rattle.std.proofs.Common.{refl, subst, sym}
+use Rattle.sqlite.specs.Held.{state}
+use Rattle.sql_rows.specs.Content.{rows_in}
+use Rattle.sql_keeper.specs.Seen.{IsKnown, Sees}
 use Rattle.sql_keeper.proofs.Asked.{keeper_after}
+use Rattle.sql_keeper.proofs.SeenRows.{seen_asked}
 use Rattle.sql_keeper.proofs.Standing.{asked, asked_whole}
 use Rattle.sql_keeper.proofs.keeper.SqlKeeper.knows_session.Goals as goal
 
 pub invariant_of-self : goal.invariant_of-self
-invariant_of-self g c =
-    keeper_after g.S.Store _ _ c.self.invariant c.ask_for_session-read.ensures.only
-    c.ask_for_session-read.ensures.survives refl refl refl c.counted.ensures.bounded
+invariant_of-self g c = record {
+  keeper = keeper_after g.S.Store _ _ c.self.invariant.keeper c.ask_for_session-read.ensures.only
+      c.ask_for_session-read.ensures.survives refl refl refl c.counted.ensures.bounded;
+  seen = seen_asked (λ trees known. IsKnown (rows_in trees c.args.account.now)
+      c.args.session.now known) c.self.inside.seen c.seen_with.result
+      (state g.S.Store c.self.inside.connection) (state g.S.Store c.ask_for_session-read.new.conn)
+      c.ask_for_session-read.result c.self.invariant.seen c.ask_for_session-read.ensures
+      (λ trees before told. c.seen_with.ensures trees
+      (subst (λ o. Sees o trees) (sym c.take-seen.ensures.value) before) told);
+}
 
 pub returns-clause-reads : goal.returns-clause-reads
-returns-clause-reads g c = rw (← c.self.view_is) (asked g.S.Store _ _ c.self.invariant refl _ _
-    c.ask_for_session-read.result c.counted.result c.ask_for_session-read.ensures
+returns-clause-reads g c = rw (← c.self.view_is) (asked g.S.Store _ _ c.self.invariant.keeper
+    refl _ _ c.ask_for_session-read.result c.counted.result c.ask_for_session-read.ensures
     c.counted.ensures.handed c.counted.ensures.cause
-    (λ clean on x t. t))
+    (λ clean on x t. t.row))
 
 pub returns-clause-whole : goal.returns-clause-whole
-returns-clause-whole g c = rw (← c.self.view_is) (asked_whole g.S.Store _ _ c.self.invariant refl _
-    c.ask_for_session-read.result c.ask_for_session-read.ensures)
+returns-clause-whole g c = rw (← c.self.view_is) (asked_whole g.S.Store _ _
+    c.self.invariant.keeper refl _ c.ask_for_session-read.result c.ask_for_session-read.ensures)

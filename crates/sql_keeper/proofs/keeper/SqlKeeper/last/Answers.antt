@@ -1,19 +1,25 @@
 use Rattle.std.proofs.Common.{refl, ◌∙◌}
+use Rattle.sqlite.specs.Held.{state}
 use Rattle.sql_keeper.proofs.Asked.{keeper_after}
+use Rattle.sql_keeper.proofs.SeenRows.{seen_after}
 use Rattle.sql_keeper.proofs.Standing.{asked, asked_whole}
 use Rattle.sql_keeper.proofs.keeper.SqlKeeper.last.Goals as goal
 
 pub invariant_of-self : goal.invariant_of-self
-invariant_of-self g c =
-    keeper_after g.S.Store _ _ c.self.invariant c.ask_for_last-read.ensures.only
-    c.ask_for_last-read.ensures.survives refl refl refl c.counted.ensures.bounded
+invariant_of-self g c = record {
+  keeper = keeper_after g.S.Store _ _ c.self.invariant.keeper c.ask_for_last-read.ensures.only
+      c.ask_for_last-read.ensures.survives refl refl refl c.counted.ensures.bounded;
+  seen = seen_after c.self.inside.seen (state g.S.Store c.self.inside.connection)
+      (state g.S.Store c.ask_for_last-read.new.conn) c.self.invariant.seen
+      c.ask_for_last-read.ensures.only;
+}
 
 pub returns-clause-reads : goal.returns-clause-reads
-returns-clause-reads g c = rw (← c.self.view_is) (asked g.S.Store _ _ c.self.invariant refl _ _
-    c.ask_for_last-read.result c.counted.result c.ask_for_last-read.ensures
+returns-clause-reads g c = rw (← c.self.view_is) (asked g.S.Store _ _ c.self.invariant.keeper
+    refl _ _ c.ask_for_last-read.result c.counted.result c.ask_for_last-read.ensures
     c.counted.ensures.handed c.counted.ensures.cause
-    (λ clean on x t. t ∙ (c.self.invariant.held clean on).moment))
+    (λ clean on x t. t ∙ (c.self.invariant.keeper.held clean on).moment))
 
 pub returns-clause-whole : goal.returns-clause-whole
-returns-clause-whole g c = rw (← c.self.view_is) (asked_whole g.S.Store _ _ c.self.invariant refl _
-    c.ask_for_last-read.result c.ask_for_last-read.ensures)
+returns-clause-whole g c = rw (← c.self.view_is) (asked_whole g.S.Store _ _
+    c.self.invariant.keeper refl _ c.ask_for_last-read.result c.ask_for_last-read.ensures)

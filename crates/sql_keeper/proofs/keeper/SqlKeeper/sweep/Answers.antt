@@ -1,7 +1,7 @@
 use Rattle.std.proofs.Common.{refl}
 use Rattle.sql_keeper.specs.Content.{shelf_names}
 use Rattle.sql_keeper.specs.Sweeps.{BecomesSwept}
-use Rattle.sql_keeper.proofs.Again.{held_swept}
+use Rattle.sql_keeper.proofs.Held.{held_swept}
 use Rattle.sql_keeper.proofs.Asked.{handed}
 use Rattle.sql_keeper.proofs.Committed.{swept_law}
 use Rattle.sql_keeper.proofs.Standing.{keeps, standing_keeper, standing_whole}
@@ -9,15 +9,17 @@ use Rattle.sql_keeper.proofs.Whole.{handed_on}
 use Rattle.sql_keeper.proofs.keeper.SqlKeeper.sweep.Goals as goal
 
 pub invariant_of-self : goal.invariant_of-self
-invariant_of-self g c =
-    standing_keeper g.S.Store _ _ c.self.invariant refl
-    (λ text. BecomesSwept (shelf_names c.self.inside.shelf) text c.args.shelf.now c.args.moment) _
-    c.ask_to_sweep-made.result c.counted.result c.counted.ensures.handed
-    c.ask_to_sweep-made.ensures.commits _ c.as_str-text.ensures.value
-    (λ db. held_swept (shelf_names c.self.inside.shelf) _ c.args.shelf.now _ _ c.args.moment _ db)
-    c.last_after-self-inside.ensures.made c.last_after-self-inside.ensures.kept refl
-    c.ask_to_sweep-made.ensures.plain
-    c.counted.ensures.bounded
+invariant_of-self g c = record {
+  keeper = standing_keeper g.S.Store _ _ c.self.invariant.keeper refl
+      (λ text. BecomesSwept (shelf_names c.self.inside.shelf) text c.args.shelf.now c.args.moment) _
+      c.ask_to_sweep-made.result c.counted.result c.counted.ensures.handed
+      c.ask_to_sweep-made.ensures.commits _ c.as_str-text.ensures.value
+      (λ db. held_swept _ c.args.shelf.now c.self.inside.shelf _ c.args.moment _ db)
+      c.last_after-self-inside.ensures.made c.last_after-self-inside.ensures.kept refl
+      c.ask_to_sweep-made.ensures.plain
+      c.counted.ensures.bounded;
+  seen = λ clean on. tt;
+}
 
 pub returns-clause-count : goal.returns-clause-count
 returns-clause-count g c = rw (← c.self.view_is) (λ clean.
@@ -27,17 +29,18 @@ returns-clause-count g c = rw (← c.self.view_is) (λ clean.
 pub returns-clause-done : goal.returns-clause-done
 returns-clause-done g c =
     rw (← c.self.view_is) (swept_law g.S.Store _ c.ask_to_sweep-made.new.conn _ _ _
-    c.self.invariant _
+    c.self.invariant.keeper _
     (handed_on _ _ _ _ _ c.counted.ensures.handed c.ask_to_sweep-made.ensures.commits.commits))
 
 pub returns-clause-kept : goal.returns-clause-kept
-returns-clause-kept g c = rw (← c.self.view_is) (keeps g.S.Store _ _ c.self.invariant refl
+returns-clause-kept g c = rw (← c.self.view_is) (keeps g.S.Store _ _ c.self.invariant.keeper refl
     (λ text. BecomesSwept (shelf_names c.self.inside.shelf) text c.args.shelf.now c.args.moment) _
     c.ask_to_sweep-made.result c.counted.result c.counted.ensures.handed
     c.ask_to_sweep-made.ensures.commits _ c.counted.ensures.cause (λ db b. b.tables))
 
 pub returns-clause-whole : goal.returns-clause-whole
-returns-clause-whole g c = rw (← c.self.view_is) (standing_whole g.S.Store _ _ c.self.invariant refl
+returns-clause-whole g c = rw (← c.self.view_is) (standing_whole g.S.Store _ _
+    c.self.invariant.keeper refl
     (λ text. BecomesSwept (shelf_names c.self.inside.shelf) text c.args.shelf.now c.args.moment) _
     c.ask_to_sweep-made.result c.counted.result c.counted.ensures.handed
     c.ask_to_sweep-made.ensures.commits c.as_str-text.ensures.value)

@@ -1,8 +1,0 @@
-use Rattle.std.proofs.Common.{◌≡◌}
-use Rattle.std.specs.Io.KnownBytes.{Keeps}
-use Rattle.byte_streams.proofs.take_piece.Given as goal
-
--- nothing is taken
-abbrev pub invariant-loop-attempt : goal.invariant-loop-attempt
-invariant-loop-attempt g l = Keeps (g.R.Read.remaining l.fn.reader) (g.R.Read.remaining l.reader)
-    × (l.part.items ≡ l.fn.part.items)

@@ -1,3 +1,0 @@
-pub mod Lines
-pub mod Parts
-pub mod Words

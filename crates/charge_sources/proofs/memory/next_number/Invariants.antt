@@ -1,7 +1,0 @@
-use Rattle.std.proofs.Common.{◌≡◌, None, drop}
-use Rattle.charge_sources.specs.Numbers.{next_number}
-use Rattle.charge_sources.proofs.memory.next_number.Given as goal
-
-abbrev pub invariant-loop-row : goal.invariant-loop-row
-invariant-loop-row l =
-    next_number l.least l.found (drop l.row-index l.rows) ≡ next_number l.least None l.fn.rows

@@ -1,4 +1,0 @@
-pub mod Rows
-pub mod Visits
-pub mod Numbers
-pub mod Pages

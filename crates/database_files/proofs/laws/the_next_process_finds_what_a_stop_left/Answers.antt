@@ -1,7 +1,0 @@
-use Rattle.sqlite_store.specs.Laws.{settled_at}
-use Rattle.database_files.proofs.NextRun.{found_by_next}
-use Rattle.database_files.proofs.laws.the_next_process_finds_what_a_stop_left.Goals as goal
-
-pub returns : goal.returns
-returns g c = found_by_next g.D.Disk g.E.Disk
-    (λ it db. settled_at it (g.met.D.Disk.seen_may_stay) db)

@@ -1,4 +1,0 @@
-pub mod CommandLemmas
-pub mod ImportingLemmas
-pub mod MakingLemmas
-pub mod OverLemmas

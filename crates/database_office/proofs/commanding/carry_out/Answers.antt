@@ -1,9 +1,0 @@
-use Rattle.std.proofs.Common.{Err, ap, ◌∙◌}
-use Rattle.office.specs.declared.fault.OfficeFault.TheVariants.{Write}
-use Rattle.database_office.proofs.CommandLemmas.{same_fault}
-use Rattle.database_office.proofs.commanding.carry_out.Goals as goal
-
--- src/commanding.rt:54:1
-pub returns-clause-untold : goal.returns-clause-untold
-returns-clause-untold g c fault e =
-    c.serve_office.ensures.untold fault (c.in-Err.is ∙ ap Err (same_fault _ _ e))

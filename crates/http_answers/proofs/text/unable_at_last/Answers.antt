@@ -1,8 +1,0 @@
-use Rattle.std.proofs.Common.{refl}
-use Rattle.std.specs.Fmt.{digits}
-use Rattle.http_answers.specs.Texts.{phrase}
-use Rattle.http_answers.proofs.text.unable_at_last.Goals as goal
-
-pub returns : goal.returns
-unfolding digits phrase
-returns c = refl

@@ -1,9 +1,0 @@
-pub mod Counts
-pub mod Founds
-pub mod Digits
-pub mod Nexts
-pub mod Pieces
-pub mod Refusals
-pub mod Tokens
-pub mod Shortest
-pub mod OneNext

@@ -1,5 +1,0 @@
-use Rattle.http_heads.proofs.OneNext.{next_is_one}
-use Rattle.http_heads.proofs.laws.next_is_one.Goals as goal
-
-pub returns : goal.returns
-returns c = next_is_one

@@ -1,8 +1,0 @@
-pub mod Parts
-pub mod Methods
-pub mod Statuses
-pub mod Fields
-pub mod Found
-pub mod Requests
-pub mod Shortest
-pub mod Words

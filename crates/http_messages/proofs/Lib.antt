@@ -1,0 +1,17 @@
+pub mod Counts
+pub mod Founds
+pub mod Digits
+pub mod Nexts
+pub mod Pieces
+pub mod Refusals
+pub mod Tokens
+pub mod Shortest
+pub mod OneNext
+pub mod Inserts
+pub mod Fitting
+pub mod StatedLemmas
+pub mod Begun
+pub mod Phrases
+pub mod Written
+pub mod NotRequest
+pub mod Paths

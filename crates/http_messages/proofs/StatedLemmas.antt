@@ -1,0 +1,16 @@
+-- A statement that is asked for, or the fault of its path, as it is told.
+use Rattle.std.proofs.Common.{◌≡◌, Result, Ok, Err, refl, sym, subst}
+use Rattle.json_fields.specs.declared.fault.WireFault.{WireFault}
+use Rattle.json_fields.specs.Gives.{Fails}
+use Rattle.http_messages.specs.declared.asking.Asked.TheVariants as told
+use Rattle.http_messages.specs.declared.asking.StatementAsked.{StatementAsked}
+use Rattle.http_messages.specs.Asking.{stated, IsAsked}
+
+pub stated_is : (q : StatementAsked) (reading : Result StatementAsked WireFault) → reading ≡ Ok q →
+    IsAsked (stated reading) (told.States q)
+stated_is q reading h = subst (λ r. IsAsked (stated r) (told.States q)) (sym h) refl
+
+pub unstated_is : (fault : WireFault) (reading : Result StatementAsked WireFault) →
+    Fails fault reading → IsAsked (stated reading) (told.Unread fault)
+unstated_is fault (Ok q) h = h
+unstated_is fault (Err e) h = λ other. let same = h other in cc same

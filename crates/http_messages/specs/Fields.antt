@@ -1,0 +1,72 @@
+-- What the fields of a head say of the body and of the connection.
+use Rattle.std.specs.Prelude.{ℕ, Bool, ◌&&◌, ◌||◌, ◌==◌, List, [], ◌∷◌, length, map, codes, nat_le}
+use Rattle.std.specs.Prelude.{nat_lt, if◌then◌else◌, Option, Some, None, Result, Ok, Err, count_by}
+use Rattle.std.specs.List.{list_all}
+use Rattle.std.specs.Char.{to_ascii_lowercase, is_ascii_digit}
+use Rattle.std.specs.Str.{bytes_eq}
+use Rattle.std.specs.Str.Parse.{digits_value}
+use Rattle.texts.specs.StreamWords.{Bytes}
+use Rattle.http_messages.specs.Methods.{is_post, is_put}
+use Rattle.http_messages.specs.Statuses.{bad_request, length_required, payload_too_large}
+use Rattle.http_messages.specs.Statuses.{not_implemented}
+
+-- the fields of a head, each with its name and its value
+abbrev pub Fields : Type 0
+Fields = List (List ℕ × List ℕ)
+
+-- names of fields without regard to ASCII case (RFC 9110 section 5.1)
+abbrev pub same_name : Bytes → Bytes → Bool
+same_name a b = bytes_eq (map to_ascii_lowercase a) (map to_ascii_lowercase b)
+
+-- the values of the fields of a name
+abbrev pub values_of : Bytes → Fields → List Bytes
+values_of name [] = []
+values_of name (field ∷ fields) =
+    if same_name field.0 name then field.1 ∷ values_of name fields else values_of name fields
+
+-- ---- the length of a body (RFC 9112 section 6)
+
+-- 1 to 18 digits say a number
+abbrev pub said_number : Bytes → Option ℕ
+said_number value =
+    if nat_le 1 (length value) && (nat_le (length value) 18 && list_all is_ascii_digit value)
+    then Some (digits_value 10 value) else None
+
+-- a length of at most 65,536 bytes is taken
+abbrev pub taken_length : Option ℕ → Result ℕ ℕ
+taken_length None = Err bad_request
+taken_length (Some n) = if nat_le n 65536 then Ok n else Err payload_too_large
+
+abbrev pub said_length : Bytes → Result ℕ ℕ
+said_length value = taken_length (said_number value)
+
+-- a request without a length has no body, and a POST or a PUT must have one
+abbrev pub length_without : Bytes → Result ℕ ℕ
+length_without method = if is_post method || is_put method then Err length_required else Ok 0
+
+-- by the values of Content-Length: not more than one
+abbrev pub length_by : Bytes → List Bytes → Result ℕ ℕ
+length_by method [] = length_without method
+length_by method (value ∷ []) = said_length value
+length_by method (value ∷ other ∷ more) = Err bad_request
+
+-- by the values of Transfer-Encoding: none is taken
+abbrev pub length_unless : List Bytes → Result ℕ ℕ → Result ℕ ℕ
+length_unless [] length = length
+length_unless (coding ∷ codings) length = Err not_implemented
+
+-- the length of the body, or the status of a refusal
+abbrev pub body_length : Bytes → Fields → Result ℕ ℕ
+body_length method fields =
+    length_unless (values_of (codes "Transfer-Encoding") fields)
+    (length_by method (values_of (codes "Content-Length") fields))
+
+-- ---- the connection (RFC 9112 section 9.6)
+
+-- Connection: close
+abbrev pub says_close : Bytes × Bytes → Bool
+says_close field = same_name field.0 (codes "Connection") && same_name field.1 (codes "close")
+
+-- the connection ends after a request of HTTP/1.0, and where a field says so
+abbrev pub closes : ℕ → Fields → Bool
+closes minor fields = minor == 0 || nat_lt 0 (count_by says_close fields)

@@ -1,0 +1,13 @@
+pub mod Parts
+pub mod Methods
+pub mod Statuses
+pub mod Fields
+pub mod Found
+pub mod Requests
+pub mod Shortest
+pub mod Words
+pub mod Refusals
+pub mod Routes
+pub mod Paths
+pub mod Asking
+pub mod Texts

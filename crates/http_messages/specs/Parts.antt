@@ -1,0 +1,52 @@
+-- What a stream of requests begins with: a head part is all bytes up to and with the first empty
+-- line, at most 8,192 (RFC 9112 section 2.1; the bound: profile).
+use Rattle.std.specs.Prelude.{◌≡◌, ◌≤◌, ℕ, Bool, List, [], ◌∷◌, ◌++◌, length, if◌then◌else◌, nat_lt}
+use Rattle.std.specs.Prelude.{nat_eq, Option, Some}
+use Rattle.std.specs.List.{ends_with}
+use Rattle.texts.specs.StreamWords.{Bytes}
+use Rattle.http_messages.specs.declared.head_part.HeadPart.{HeadPart}
+use Rattle.http_messages.specs.declared.head_part.HeadPart.TheVariants as head_part
+
+-- a head part and the bytes after it, or none: too many bytes without an empty line, or the
+-- stream's end before one
+pub data Part : Type 0 where
+  whole : List ℕ → List ℕ → Part
+  too_long cut : Part
+
+-- the bytes end with an empty line: CR LF CR LF
+abbrev pub ends_head : Bytes → Bool
+ends_head bytes = ends_with nat_eq bytes (13 ∷ 10 ∷ 13 ∷ 10 ∷ [])
+
+-- the head part that these bytes begin and the rest goes on with
+abbrev pub part_after : Bytes → Bytes → Part
+part_after taken [] = if nat_lt (length taken) 8192 then cut else too_long
+part_after taken (b ∷ bytes) =
+    if nat_lt (length taken) 8192
+    then (if ends_head (taken ++ b ∷ []) then whole (taken ++ b ∷ []) bytes
+    else part_after (taken ++ b ∷ []) bytes)
+    else too_long
+
+-- what a stream begins with
+abbrev pub first_part : Bytes → Part
+first_part stream = part_after [] stream
+
+-- ---- as it is told
+
+-- this part is told, and what follows a head part is left
+abbrev pub IsHeadPart : Part → HeadPart → Option Bytes → Type 0
+IsHeadPart (whole part rest) (head_part.Whole bytes) left = (bytes.items ≡ part)
+    × (left ≡ Some rest)
+IsHeadPart (whole part rest) head_part.TooLong left = ⊥
+IsHeadPart (whole part rest) head_part.Ended left = ⊥
+IsHeadPart too_long (head_part.Whole bytes) left = ⊥
+IsHeadPart too_long head_part.TooLong left = Unit {0}
+IsHeadPart too_long head_part.Ended left = ⊥
+IsHeadPart cut (head_part.Whole bytes) left = ⊥
+IsHeadPart cut head_part.TooLong left = ⊥
+IsHeadPart cut head_part.Ended left = Unit {0}
+
+-- a head part has at most 8,192 bytes
+abbrev pub IsShort : HeadPart → Type 0
+IsShort (head_part.Whole bytes) = length bytes.items ≤ 8192
+IsShort head_part.TooLong = Unit {0}
+IsShort head_part.Ended = Unit {0}

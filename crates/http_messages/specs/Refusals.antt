@@ -1,0 +1,30 @@
+-- The statuses of requests that are refused.
+-- Source: RFC 9110 section 15.5; 431: RFC 6585 section 5.
+use Rattle.std.specs.Prelude.{ℕ, ◌==◌, if◌then◌else◌}
+use Rattle.http_messages.specs.Words.{StatusCode}
+use Rattle.http_messages.specs.Statuses as status
+use Rattle.http_messages.specs.declared.refusal.HttpRefusal.{HttpRefusal}
+use Rattle.http_messages.specs.declared.refusal.HttpRefusal.TheVariants.{BadRequest, NotFound}
+use Rattle.http_messages.specs.declared.refusal.HttpRefusal.TheVariants.{MethodNotAllowed}
+use Rattle.http_messages.specs.declared.refusal.HttpRefusal.TheVariants.{LengthRequired}
+use Rattle.http_messages.specs.declared.refusal.HttpRefusal.TheVariants.{PayloadTooLarge}
+use Rattle.http_messages.specs.declared.refusal.HttpRefusal.TheVariants.{FieldsTooLarge}
+use Rattle.http_messages.specs.declared.refusal.HttpRefusal.TheVariants.{NotImplemented}
+
+-- the status of a refusal
+abbrev pub number_of : HttpRefusal → ℕ
+number_of BadRequest = status.bad_request
+number_of NotFound = status.not_found
+number_of MethodNotAllowed = status.method_not_allowed
+number_of LengthRequired = status.length_required
+number_of PayloadTooLarge = status.payload_too_large
+number_of FieldsTooLarge = status.fields_too_large
+number_of NotImplemented = status.not_implemented
+
+-- the refusal of a head or of a length that has this status
+abbrev pub refusal_of : StatusCode → HttpRefusal
+refusal_of code =
+    if code == status.length_required then LengthRequired
+    else (if code == status.payload_too_large then PayloadTooLarge
+    else (if code == status.fields_too_large then FieldsTooLarge
+    else (if code == status.not_implemented then NotImplemented else BadRequest)))

@@ -1,0 +1,34 @@
+-- A head part by what it is of its stream: the shortest beginning that ends with an empty line.
+use Rattle.std.specs.Prelude.{◌≡◌, ◌<◌, ◌≤◌, ◌++◌, ℕ, length, take, false, true}
+use Rattle.texts.specs.StreamWords.{Bytes}
+use Rattle.http_messages.specs.Parts.{Part, whole, too_long, cut, first_part, ends_head}
+use Rattle.http_messages.specs.Requests.{Next, IsNext}
+
+-- no beginning of at most so many bytes ends with an empty line
+abbrev pub HasNoEnd : ℕ → Bytes → Type 0
+HasNoEnd most stream = (n : ℕ) → n ≤ most → ends_head (take n stream) ≡ false
+
+-- these bytes and the rest are the stream, they are at most 8,192 and end with an empty line, and
+-- no shorter beginning ends with one
+pub record IsShortest (stream part rest : Bytes) : Type 0 where
+  pub split : stream ≡ part ++ rest
+  pub few : length part ≤ 8192
+  pub ends : ends_head part ≡ true
+  pub shorter : (n : ℕ) → n < length part → ends_head (take n stream) ≡ false
+
+-- what a stream begins with, in words: its shortest such beginning; none within its first 8,192
+-- bytes; none in a stream of fewer
+abbrev pub IsFirstPart : Bytes → Part → Type 0
+IsFirstPart stream (whole part rest) = IsShortest stream part rest
+IsFirstPart stream too_long = (8192 ≤ length stream) × HasNoEnd 8192 stream
+IsFirstPart stream cut = (length stream < 8192) × HasNoEnd (length stream) stream
+
+-- of each stream this is so, and of nothing else
+pub record AreShortest : Type 0 where
+  pub is : (stream : Bytes) → IsFirstPart stream (first_part stream)
+  pub alone : (stream : Bytes) (part : Part) → IsFirstPart stream part →
+      first_part stream ≡ part
+
+-- a stream has one next
+abbrev pub NextIsOne : Type 0
+NextIsOne = (stream : Bytes) (a b : Next) → IsNext stream a → IsNext stream b → a ≡ b

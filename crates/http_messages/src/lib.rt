@@ -1,0 +1,26 @@
+//! Messages of HTTP/1.1 (RFC 9112): requests taken off a stream, one after another, what one asks
+//! by the table of routes, and the bytes of its answer.
+#![tactic(auto)]
+
+mod asking;
+mod fields;
+mod head;
+mod head_part;
+mod refusal;
+mod request_laws;
+mod requests;
+mod route_laws;
+mod routes;
+mod text;
+
+pub use crate::asking::{Asked, StatementAsked, ask};
+pub use crate::head::Head;
+pub use crate::head_part::{HeadPart, MAX_HEAD_PART, next_head_part};
+pub use crate::refusal::{HttpRefusal, tell_refusal};
+pub use crate::request_laws::{first_parts_are_shortest, next_is_one};
+pub use crate::requests::{MAX_FIELDS, Request, Taken, next_request};
+pub use crate::route_laws::routes_are_paths;
+pub use crate::routes::{Route, known_router};
+pub use crate::text::{Media, response, tell_fault, tell_text, tell_unable, write_text};
+pub use httparse::spans::{EMPTY_HEADER_SPAN, HeaderSpan};
+pub use matchit::Router;

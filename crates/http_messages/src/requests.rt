@@ -1,0 +1,127 @@
+//! A request with its body, taken off a stream.
+
+ghost use Rattle.std.specs.Prelude.{◌≡◌, ◌≤◌, ◌*◌, length, IfOk, IsErrOf, IfSome};
+ghost use Rattle.httparse.specs.Grammar.{RequestHead};
+ghost use Rattle.http_messages.specs.Parts.{Part, whole, first_part, IsHeadPart, IsShort};
+ghost use Rattle.http_messages.specs.Requests.{TellsNext, IsHeadOf, Tells, after_head, SaysStatus};
+
+use crate::head::{Head, read_head};
+use crate::head_part::{HeadPart, next_head_part};
+use http::{Method, StatusCode};
+use httparse::spans::HeaderSpan;
+use std::alloc::Global;
+use std::io::BufRead;
+use texts::{StreamFault, next_bytes};
+
+/// How many fields a head part has room for: each takes at least 3 bytes.
+pub const MAX_FIELDS: usize = 2731;
+
+/// A request of HTTP that was read whole: what its head part says of it, and its body.
+#[derive(Debug, Drop)]
+pub struct Request {
+    /// The method.
+    pub method: Method,
+    /// The target, as it stands.
+    pub target: String,
+    /// Whether the connection ends after it.
+    pub closes: bool,
+    /// The body; empty where there is none.
+    pub body: Vec<u8>,
+}
+
+/// What comes next in a stream.
+#[derive(Debug, Drop)]
+pub enum Taken {
+    /// The next request, with its body.
+    Request(Request),
+    /// A refusal, after which nothing more is read.
+    Refused(StatusCode),
+    /// The stream ends before a request does.
+    Ended,
+}
+
+/// Takes the next request off a stream: its head part, and the body that the head tells of. `room`
+/// is for the places of the head's fields.
+///
+/// # Errors
+/// `Memory` where a growth was refused, `Read` where the reader failed.
+pub fn next_request<R: BufRead>(
+    alloc: Global,
+    reader: &mut R,
+    room: &mut [HeaderSpan],
+) -> Result<Taken, StreamFault>
+    requires room { 8192 ≤ 3 * length room.old }
+    ensures next { IfOk result (λ taken. IfSome (R.remaining reader.old)
+        (λ stream. TellsNext (first_part stream) taken (R.remaining reader.new))) }
+    ensures status { IfOk result SaysStatus }
+    ensures fault { IsErrOf result StreamFault.Write → ⊥ }
+{
+    let part = next_head_part(alloc, reader)?;
+    after_part(alloc, reader, part, room)
+}
+
+/// The request that begins with what a stream begins with.
+fn after_part<R: BufRead>(
+    alloc: Global,
+    reader: &mut R,
+    part: HeadPart,
+    room: &mut [HeaderSpan],
+) -> Result<Taken, StreamFault>
+    requires short { IsShort part }
+    requires room { 8192 ≤ 3 * length room.old }
+    ensures next { IfOk result (λ taken. (begun : Part) → IsHeadPart begun part
+        (R.remaining reader.old) → TellsNext begun taken (R.remaining reader.new)) }
+    ensures status { IfOk result SaysStatus }
+    ensures fault { IsErrOf result StreamFault.Write → ⊥ }
+{
+    match part {
+        HeadPart::Whole(part) => after_bytes(alloc, reader, part.as_slice(), room),
+        HeadPart::TooLong => Ok(Taken::Refused(StatusCode::REQUEST_HEADER_FIELDS_TOO_LARGE)),
+        HeadPart::Ended => Ok(Taken::Ended),
+    }
+}
+
+/// The request that begins with a head part.
+fn after_bytes<R: BufRead>(
+    alloc: Global,
+    reader: &mut R,
+    part: &[u8],
+    room: &mut [HeaderSpan],
+) -> Result<Taken, StreamFault>
+    requires short { length part.now ≤ 8192 }
+    requires room { 8192 ≤ 3 * length room.old }
+    ensures next { IfOk result (λ taken. IfSome (R.remaining reader.old)
+        (λ rest. TellsNext (whole part.now rest) taken (R.remaining reader.new))) }
+    ensures status { IfOk result SaysStatus }
+    ensures fault { IsErrOf result StreamFault.Write → ⊥ }
+{
+    let head = read_head(alloc, part, room)?;
+    match head {
+        None => Ok(Taken::Refused(StatusCode::BAD_REQUEST)),
+        Some(head) => with_body(alloc, reader, head),
+    }
+}
+
+/// The request of a head, with its body.
+fn with_body<R: BufRead>(alloc: Global, reader: &mut R, head: Head) -> Result<Taken, StreamFault>
+    ensures tells { IfOk result (λ taken. IfSome (R.remaining reader.old)
+        (λ rest. (said : RequestHead) → IsHeadOf said head →
+        Tells (after_head said rest) taken (R.remaining reader.new))) }
+    ensures status { IfOk result (λ taken. (said : RequestHead) → IsHeadOf said head →
+        SaysStatus taken) }
+    ensures fault { IsErrOf result StreamFault.Write → ⊥ }
+{
+    let length = match head.length {
+        Ok(length) => length,
+        Err(status) => return Ok(Taken::Refused(status)),
+    };
+    match next_bytes(alloc, reader, length)? {
+        None => Ok(Taken::Ended),
+        Some(body) => Ok(Taken::Request(Request {
+            method: head.method,
+            target: head.target,
+            closes: head.closes,
+            body,
+        })),
+    }
+}

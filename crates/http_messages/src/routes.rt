@@ -1,0 +1,144 @@
+//! The table of routes.
+
+ghost use Rattle.std.specs.Prelude.{◌≡◌, IfOk, OnOk, OnErr};
+ghost use Rattle.matchit.specs.declared.InsertError.TheVariants.{OutOfMemory};
+ghost use Rattle.http_messages.specs.Methods.{is_get, is_post, is_put};
+ghost use Rattle.http_messages.specs.Routes.{added, table, row_of, has_query, route_of, serves};
+ghost use Rattle.http_messages.specs.Routes.{Fits};
+
+use http::Method;
+use matchit::{InsertError, Router};
+use std::alloc::Global;
+use texts::StreamFault;
+
+/// What a path names.
+#[derive(Clone, Copy, Debug, PartialEq, Eq)]
+pub enum Route {
+    /// `/ccr`: a request for credit control.
+    Ccr,
+    /// `/accounts/{a}`: an account.
+    Account,
+    /// `/accounts/{a}/statement/{yyyymm}`: an account's statement of a month.
+    Statement,
+    /// `/accounts/{a}/credits`: the credits of an account.
+    Credits,
+    /// `/accounts/{a}/allowances`: the allowances of an account.
+    Allowances,
+    /// `/vouchers/{code}/redeem`: the redemption of a voucher.
+    Redeem,
+    /// `/sweep`: a sweep.
+    Sweep,
+}
+
+/// Whether a method is GET.
+pub(crate) fn is_get(method: &Method) -> bool
+    ensures { result ≡ is_get method.now }
+{
+    *method == Method::GET
+}
+
+/// Whether a method is POST.
+fn is_post(method: &Method) -> bool
+    ensures { result ≡ is_post method.now }
+{
+    *method == Method::POST
+}
+
+/// Whether a method is PUT.
+fn is_put(method: &Method) -> bool
+    ensures { result ≡ is_put method.now }
+{
+    *method == Method::PUT
+}
+
+impl Route {
+    /// Whether the path has this method.
+    pub(crate) fn serves(self, method: &Method) -> bool
+        ensures { result ≡ serves self method.now }
+    {
+        match self {
+            Route::Ccr => is_post(method),
+            Route::Account => is_get(method) || is_put(method),
+            Route::Statement => is_get(method),
+            Route::Credits => is_post(method),
+            Route::Allowances => is_post(method),
+            Route::Redeem => is_post(method),
+            Route::Sweep => is_post(method),
+        }
+    }
+}
+
+/// The fault of an error of a growth that was refused.
+fn refused(error: InsertError) -> StreamFault
+    requires { error ≡ OutOfMemory }
+    ensures { result ≡ StreamFault.Memory }
+{
+    let _ = error;
+    StreamFault::Memory
+}
+
+/// One more route, of those that fit. The one fault is `Memory`, where a growth was refused.
+fn add(router: &mut Router<Route>, text: &str, value: Route) -> Result<(), StreamFault>
+    requires { Fits text.now router.old }
+    ensures added { OnOk result (router.new ≡ added text.now value router.old) }
+    ensures fault { OnErr result (result ≡ Err StreamFault.Memory) }
+{
+    match router.insert(text, value) {
+        Ok(()) => Ok(()),
+        Err(error) => Err(refused(error)),
+    }
+}
+
+/// The table of routes, made once a connection.
+///
+/// # Errors
+/// `Memory` where a growth was refused.
+#[tactic(auto, unfolding(crate::specs::Routes::table))]
+pub fn known_router(alloc: Global) -> Result<Router<Route>, StreamFault>
+    ensures table { IfOk result (λ r. r ≡ table) }
+    ensures fault { OnErr result (result ≡ Err StreamFault.Memory) }
+{
+    let mut router = Router::new(alloc);
+    add(&mut router, "/ccr", Route::Ccr)?;
+    add(&mut router, "/accounts/{a}", Route::Account)?;
+    add(
+        &mut router,
+        "/accounts/{a}/statement/{yyyymm}",
+        Route::Statement,
+    )?;
+    add(&mut router, "/accounts/{a}/credits", Route::Credits)?;
+    add(&mut router, "/accounts/{a}/allowances", Route::Allowances)?;
+    add(&mut router, "/vouchers/{code}/redeem", Route::Redeem)?;
+    add(&mut router, "/sweep", Route::Sweep)?;
+    Ok(router)
+}
+
+/// The row of a path.
+fn row_of(router: &Router<Route>, path: &str) -> Option<Route>
+    requires { router.now ≡ table }
+    ensures { result ≡ row_of path.now }
+{
+    match router.at(path) {
+        Ok(found) => Some(*found.value),
+        Err(_) => None,
+    }
+}
+
+/// Whether a target has a query.
+fn has_query(target: &str) -> bool
+    ensures { result ≡ has_query target.now }
+{
+    target.as_bytes().iter().any(|b| *b == b'?')
+}
+
+/// What a target names: a path without a query that has a row in the table.
+pub(crate) fn route_of(router: &Router<Route>, target: &str) -> Option<Route>
+    requires { router.now ≡ table }
+    ensures { result ≡ route_of target.now }
+{
+    if has_query(target) {
+        None
+    } else {
+        row_of(router, target)
+    }
+}

@@ -1,0 +1,270 @@
+//! The bytes of an answer of HTTP.
+
+ghost use Rattle.std.specs.Prelude.{◌≡◌, ◌++◌, ℕ, IfOk, OnOk, OnErr, IfSome, None};
+ghost use Rattle.std.specs.Prelude.{true, false, string_bytes};
+ghost use Rattle.json_fields.specs.declared.fault.WireFault.TheVariants.{Memory, NotRequest};
+ghost use Rattle.std.specs.Io.KnownBytes.{Appends};
+ghost use Rattle.http_messages.specs.Statuses.{bad_request, service_unavailable};
+ghost use Rattle.wire.specs.Spelled.{fault_text};
+ghost use Rattle.http_messages.specs.declared.text.Media.TheVariants.{Text};
+ghost use Rattle.http_messages.specs.Texts.{phrase, closing_line, response};
+ghost use Rattle.http_messages.specs.Texts.{text_head, unable, Begins, TellsText, TellsFault};
+
+use http::StatusCode;
+use std::alloc::{AllocError, Global};
+use std::io::Write;
+use texts::{StreamFault, write_whole};
+use wire::{WireFault, write_fault};
+
+/// What the body of an answer is.
+#[derive(Clone, Copy, Debug, PartialEq, Eq)]
+pub enum Media {
+    /// `application/json`.
+    Json,
+    /// `text/plain`.
+    Text,
+}
+
+/// The answer where there is no memory, no store or no clock.
+const UNABLE: &[u8] =
+    b"HTTP/1.1 503 Service Unavailable\r\nContent-Type: application/json\r\nContent-Length: 20\r\n\r\n{\"Result-Code\":5012}";
+
+/// The answer where there is no memory, no store or no clock, before the connection ends.
+const UNABLE_AT_LAST: &[u8] =
+    b"HTTP/1.1 503 Service Unavailable\r\nContent-Type: application/json\r\nContent-Length: 20\r\nConnection: close\r\n\r\n{\"Result-Code\":5012}";
+
+/// The answer to a request that is no JSON object.
+const NOT_REQUEST: &[u8] =
+    b"HTTP/1.1 400 Bad Request\r\nContent-Type: application/json\r\nContent-Length: 20\r\n\r\n{\"Result-Code\":5012}";
+
+/// The answer to a request that is no JSON object, before the connection ends.
+const NOT_REQUEST_AT_LAST: &[u8] =
+    b"HTTP/1.1 400 Bad Request\r\nContent-Type: application/json\r\nContent-Length: 20\r\nConnection: close\r\n\r\n{\"Result-Code\":5012}";
+
+/// The most bytes of an answer's head.
+const MOST_OF_HEAD: usize = 136;
+
+/// The phrase of a status; empty where it has none.
+fn phrase(status: StatusCode) -> &'static str
+    ensures { result.now ≡ phrase status }
+{
+    status.canonical_reason().unwrap_or("")
+}
+
+/// The line that says that the connection ends.
+fn closing_line(closes: bool) -> &'static str
+    ensures { result.now ≡ closing_line closes }
+{
+    if closes { "Connection: close\r\n" } else { "" }
+}
+
+/// The bytes of an answer.
+///
+/// # Errors
+/// The growth of its text was refused.
+pub fn response(
+    alloc: Global,
+    status: StatusCode,
+    closes: bool,
+    body: &str,
+) -> Result<String, AllocError>
+    ensures { IfOk result (λ s. string_bytes s ≡ response status closes body.now) }
+{
+    let code = status.as_u16();
+    let phrase = phrase(status);
+    let closing = closing_line(closes);
+    let length = body.len();
+    let mut text = String::with_capacity(alloc, MOST_OF_HEAD + length)?;
+    write!(
+        text,
+        "HTTP/1.1 {code} {phrase}\r\nContent-Type: application/json\r\nContent-Length: {length}\r\n{closing}\r\n{body}"
+    )?;
+    Ok(text)
+}
+
+/// The bytes of an answer where there is no memory, no store or no clock.
+fn unable() -> &'static [u8]
+    ensures { result.now ≡ response service_unavailable false unable }
+{
+    UNABLE
+}
+
+/// The answer where there is no memory, no store or no clock, before the connection ends.
+fn unable_at_last() -> &'static [u8]
+    ensures { result.now ≡ response service_unavailable true unable }
+{
+    UNABLE_AT_LAST
+}
+
+/// Writes all of a text.
+///
+/// # Errors
+/// `Write` where the writer failed. Then a beginning of it is written.
+pub fn write_text<W: Write>(writer: &mut W, text: &[u8]) -> Result<(), StreamFault>
+    ensures ok { OnOk result (Appends (W.contents writer.old) (W.contents writer.new) text.now) }
+    ensures err { OnErr result (Begins (W.contents writer.old) (W.contents writer.new) text.now) }
+    ensures fault { OnErr result (result ≡ Err StreamFault.Write) }
+{
+    write_whole(writer, text)
+}
+
+/// The head of an answer whose body is a text of so many bytes.
+fn text_head(
+    alloc: Global,
+    status: StatusCode,
+    closes: bool,
+    length: usize,
+) -> Result<String, AllocError>
+    ensures { IfOk result (λ s. string_bytes s ≡ text_head status closes length) }
+{
+    let code = status.as_u16();
+    let phrase = phrase(status);
+    let closing = closing_line(closes);
+    let mut text = String::with_capacity(alloc, MOST_OF_HEAD)?;
+    write!(
+        text,
+        "HTTP/1.1 {code} {phrase}\r\nContent-Type: text/plain\r\nContent-Length: {length}\r\n{closing}\r\n"
+    )?;
+    Ok(text)
+}
+
+/// Writes an answer whose body is a text, its head and then its body; where the growth of its head
+/// is refused, that there is no memory.
+///
+/// # Errors
+/// `Write` where the writer failed. Then a beginning of it is written.
+pub fn tell_text<W: Write>(
+    alloc: Global,
+    writer: &mut W,
+    status: StatusCode,
+    closes: bool,
+    body: &[u8],
+) -> Result<(), StreamFault>
+    ensures ok { OnOk result (TellsText closes status body.now
+        (Appends (W.contents writer.old) (W.contents writer.new))) }
+    ensures err { OnErr result (TellsText closes status body.now
+        (Begins (W.contents writer.old) (W.contents writer.new))) }
+    ensures fault { OnErr result (result ≡ Err StreamFault.Write) }
+{
+    match text_head(alloc, status, closes, body.len()) {
+        Ok(head) => write_both(writer, head.as_bytes(), body),
+        Err(_) => tell_unable(writer, closes),
+    }
+}
+
+/// Writes a text and then another.
+fn write_both<W: Write>(writer: &mut W, first: &[u8], second: &[u8]) -> Result<(), StreamFault>
+    ensures ok { OnOk result
+        (Appends (W.contents writer.old) (W.contents writer.new) (first.now ++ second.now)) }
+    ensures err { OnErr result
+        (Begins (W.contents writer.old) (W.contents writer.new) (first.now ++ second.now)) }
+    ensures fault { OnErr result (result ≡ Err StreamFault.Write) }
+{
+    write_text(writer, first)?;
+    write_text(writer, second)
+}
+
+/// Writes that there is no memory, no store or no clock; this takes no memory.
+///
+/// # Errors
+/// `Write` where the writer failed. Then a beginning of it is written.
+pub fn tell_unable<W: Write>(writer: &mut W, closes: bool) -> Result<(), StreamFault>
+    ensures ok { OnOk result (Appends (W.contents writer.old) (W.contents writer.new)
+        (response service_unavailable closes unable)) }
+    ensures err { OnErr result (Begins (W.contents writer.old) (W.contents writer.new)
+        (response service_unavailable closes unable)) }
+    ensures fault { OnErr result (result ≡ Err StreamFault.Write) }
+{
+    if closes {
+        write_text(writer, unable_at_last())
+    } else {
+        write_text(writer, unable())
+    }
+}
+
+/// The answer to a request that isn't read; None where memory ran out.
+fn fault_response(alloc: Global, fault: WireFault, closes: bool) -> Option<String>
+    ensures text { IfSome result
+        (λ s. string_bytes s ≡ response bad_request closes (fault_text fault)) }
+    ensures memory { fault ≡ Memory → result ≡ None }
+{
+    match fault {
+        WireFault::Memory => None,
+        _ => {
+            let body = write_fault(alloc, fault).ok()?;
+            response(alloc, StatusCode::BAD_REQUEST, closes, body.as_str()).ok()
+        }
+    }
+}
+
+/// The bytes of the answer to a request that is no JSON object.
+fn not_request() -> &'static [u8]
+    ensures { result.now ≡ response bad_request false (fault_text NotRequest) }
+{
+    NOT_REQUEST
+}
+
+/// The answer to a request that is no JSON object, before the connection ends.
+fn not_request_at_last() -> &'static [u8]
+    ensures { result.now ≡ response bad_request true (fault_text NotRequest) }
+{
+    NOT_REQUEST_AT_LAST
+}
+
+/// Writes that a request is no JSON object; this takes no memory.
+fn tell_not_request<W: Write>(writer: &mut W, closes: bool) -> Result<(), StreamFault>
+    ensures ok { OnOk result (Appends (W.contents writer.old) (W.contents writer.new)
+        (response bad_request closes (fault_text NotRequest))) }
+    ensures err { OnErr result (Begins (W.contents writer.old) (W.contents writer.new)
+        (response bad_request closes (fault_text NotRequest))) }
+    ensures fault { OnErr result (result ≡ Err StreamFault.Write) }
+{
+    if closes {
+        write_text(writer, not_request_at_last())
+    } else {
+        write_text(writer, not_request())
+    }
+}
+
+/// Writes the answer to a request that isn't read; where the growth of its text is refused, or
+/// memory ran out before, that there is no memory. What is no JSON object is told without any.
+///
+/// # Errors
+/// `Write` where the writer failed. Then a beginning of it is written.
+pub fn tell_fault<W: Write>(
+    alloc: Global,
+    writer: &mut W,
+    fault: WireFault,
+    closes: bool,
+) -> Result<(), StreamFault>
+    ensures ok { OnOk result
+        (TellsFault closes fault (Appends (W.contents writer.old) (W.contents writer.new))) }
+    ensures err { OnErr result
+        (TellsFault closes fault (Begins (W.contents writer.old) (W.contents writer.new))) }
+    ensures fault { OnErr result (result ≡ Err StreamFault.Write) }
+{
+    match fault {
+        WireFault::NotRequest => tell_not_request(writer, closes),
+        _ => tell_member_fault(alloc, writer, fault, closes),
+    }
+}
+
+/// Writes the answer to a request with a fault of a member, or that there is no memory.
+fn tell_member_fault<W: Write>(
+    alloc: Global,
+    writer: &mut W,
+    fault: WireFault,
+    closes: bool,
+) -> Result<(), StreamFault>
+    requires { fault ≡ NotRequest → ⊥ }
+    ensures ok { OnOk result
+        (TellsFault closes fault (Appends (W.contents writer.old) (W.contents writer.new))) }
+    ensures err { OnErr result
+        (TellsFault closes fault (Begins (W.contents writer.old) (W.contents writer.new))) }
+    ensures fault { OnErr result (result ≡ Err StreamFault.Write) }
+{
+    match fault_response(alloc, fault, closes) {
+        Some(text) => write_text(writer, text.as_bytes()),
+        None => tell_unable(writer, closes),
+    }
+}

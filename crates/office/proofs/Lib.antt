@@ -1,6 +1,0 @@
-pub mod CarriedLemmas
-pub mod Beginnings
-pub mod MonthLemmas
-pub mod NumberedSums
-pub mod ImportLemmas
-pub mod HeldImports

@@ -1,0 +1,73 @@
+use Rattle.std.proofs.Common.{◌+◌, ◌++◌, ◌∷◌, [], List, sym, ap, ◌∙◌, arith}
+use Rattle.std.proofs.lemmas.List.{append_assoc, length-append}
+use Rattle.commands.specs.declared.command.VoucherAddition.{VoucherAddition}
+use Rattle.charging.specs.Runs.{after_commands}
+use Rattle.operations.specs.Counts.{total}
+use Rattle.operations.specs.Imports.{additions}
+use Rattle.operations.proofs.HeldImports.{left-all, left-more}
+use Rattle.operations.proofs.ImportLemmas.{begun_at, one-counted, one-more}
+use Rattle.operations.proofs.importing.import.Goals as goal
+
+pub returns-in_err-addition-clause-imported : goal.returns-in_err-addition-clause-imported
+returns-in_err-addition-clause-imported g c = λ clean.
+    let all = ap (λ (more : List VoucherAddition). c.loop-row.yielded ++ more)
+    (sym c.in-Some.ensures.steps.0) ∙ c.loop-row.invariant.all in
+    begun_at c.args.shelf.now c.args.moment c.loop-row.yielded c.next.new.self.rest.items
+    c.args.rows.items c.in-Some.row (g.K.Keeper.content c.args.keeper.now)
+    (g.K.Keeper.content c.loop-row.keeper) (g.K.Keeper.content c.add_voucher.new.keeper)
+    c.loop-row.counts c.from_residual.result c.from_residual.ensures.0 all
+    (c.loop-row.invariant.runs (c.in_err-addition.ensures.kept.cleanness clean))
+    (c.in_err-addition.ensures.added clean)
+
+pub returns-in_err-addition-clause-left : goal.returns-in_err-addition-clause-left
+returns-in_err-addition-clause-left g c =
+    let all = append_assoc c.loop-row.yielded (c.in-Some.row ∷ []) c.next.new.self.rest.items
+    ∙ ap (λ (more : List VoucherAddition). c.loop-row.yielded ++ more)
+    (sym c.in-Some.ensures.steps.0) ∙ c.loop-row.invariant.all in
+    left-all g.K.Keeper.honest g.K.Keeper.left c.args.shelf.now c.args.moment
+    (c.loop-row.yielded ++ c.in-Some.row ∷ []) c.next.new.self.rest.items c.args.rows.items
+    (g.K.Keeper.content c.args.keeper.now) c.args.keeper.now c.add_voucher.new.keeper all
+    (left-more g.K.Keeper.content g.K.Keeper.honest g.K.Keeper.clean g.K.Keeper.left
+    c.args.shelf.now c.args.moment c.loop-row.yielded c.args.keeper.now c.loop-row.keeper
+    c.add_voucher.new.keeper c.loop-row.counts c.loop-row.invariant.runs
+    c.loop-row.invariant.left c.in_err-addition.ensures.kept.honesty c.in-Some.row
+    c.in_err-addition.ensures.left)
+
+pub loop-row-preserved : goal.loop-row-preserved
+loop-row-preserved g c = record {
+  runs = λ clean list time is.
+      let so = c.loop-row.invariant.runs (c.in_ok-addition.ensures.kept.cleanness clean) list time
+      is in
+      one-more c.args.shelf.now c.args.moment list c.loop-row.yielded c.in-Some.row
+      (g.K.Keeper.content c.args.keeper.now) (g.K.Keeper.content c.loop-row.keeper)
+      (g.K.Keeper.content c.add_voucher.new.keeper) c.loop-row.counts c.count_one-counts.result
+      c.in_ok-addition.addition so
+      (c.in_ok-addition.ensures.added clean
+      (after_commands c.args.shelf.now list (additions c.args.moment c.loop-row.yielded))
+      so.time so.tables) c.count_one-counts.ensures;
+  all = append_assoc c.loop-row.yielded (c.in-Some.row ∷ []) c.next.new.self.rest.items
+      ∙ ap (λ (more : List VoucherAddition). c.loop-row.yielded ++ more)
+      (sym c.in-Some.ensures.steps.0) ∙ c.loop-row.invariant.all;
+  count = ap total c.count_one-counts.ensures
+      ∙ one-counted c.in_ok-addition.addition c.loop-row.counts
+      ∙ ap (λ n. n + 1) c.loop-row.invariant.count
+      ∙ sym (length-append c.loop-row.yielded (c.in-Some.row ∷ []));
+  cleanness = λ clean.
+      c.loop-row.invariant.cleanness (c.in_ok-addition.ensures.kept.cleanness clean);
+  honesty = λ honest.
+      c.loop-row.invariant.honesty (c.in_ok-addition.ensures.kept.honesty honest);
+  stands = λ honest clean. c.in_ok-addition.ensures.kept.stands honest
+      (c.loop-row.invariant.stands (c.in_ok-addition.ensures.kept.honesty honest) clean);
+  left = left-more g.K.Keeper.content g.K.Keeper.honest g.K.Keeper.clean g.K.Keeper.left
+      c.args.shelf.now c.args.moment c.loop-row.yielded c.args.keeper.now c.loop-row.keeper
+      c.add_voucher.new.keeper c.loop-row.counts c.loop-row.invariant.runs
+      c.loop-row.invariant.left c.in_ok-addition.ensures.kept.honesty c.in-Some.row
+      c.in_ok-addition.ensures.left;
+  failures = omega (arith, c.loop-row.invariant.failures, c.in_ok-addition.ensures.kept.cause.kept);
+}
+
+pub returns-clause-left : goal.returns-clause-left
+returns-clause-left g c =
+    left-all g.K.Keeper.honest g.K.Keeper.left c.args.shelf.now c.args.moment c.loop-row.yielded
+    c.loop-row.row-iterator.rest.items c.args.rows.items (g.K.Keeper.content c.args.keeper.now)
+    c.args.keeper.now c.loop-row.keeper c.loop-row.invariant.all c.loop-row.invariant.left

@@ -1,0 +1,117 @@
+-- What is told of an account's month: a statement or an export of it, or that there is no account.
+-- Source: profile.
+use Rattle.std.specs.Prelude.{◌≡◌, ◌⊎◌, ◌+◌, ◌≤◌, ℕ, List, Option, Result, if◌then◌else◌, IfOk}
+use Rattle.std.specs.Prelude.{Ok, Err, IsErrOf, OnErr, min}
+use Rattle.std.specs.Io.KnownBytes.{Appends}
+use Rattle.units.specs.Words.{Moment}
+use Rattle.texts.specs.StreamWords.{Bytes}
+use Rattle.texts.specs.declared.streams.StreamFault.TheVariants as stream
+use Rattle.buckets.specs.Row.{Row}
+use Rattle.commands.specs.declared.answer.Answer.TheVariants.{Refused}
+use Rattle.commands.specs.declared.answer.Refusal.TheVariants.{AccountUnknown}
+use Rattle.shelves.specs.Shelves.{Shelf}
+use Rattle.reserving.specs.Balance.{buckets_at}
+use Rattle.reserving.specs.ChargeColumns.{ChargeColumns}
+use Rattle.reserving.specs.Charges.{charge_rows}
+use Rattle.reserving.specs.Ledger.{Ledger}
+use Rattle.reserving.specs.Pricing.{validity_of}
+use Rattle.keepers.specs.Faults.{max_failures}
+use Rattle.keepers.specs.Tables.{Tables}
+use Rattle.keepers.specs.declared.fault.StoreFault.TheVariants as store
+use Rattle.charging.specs.Accepted.{Accepted, IsInTime}
+use Rattle.charging.specs.Balances.{by_number}
+use Rattle.charging.specs.Histories.{History}
+use Rattle.charging.specs.Served.{AreTables, history, moment_of}
+use Rattle.statements.specs.Texts.{export_text, statement_text}
+use Rattle.statements.specs.declared.fault.StatementFault.{StatementFault}
+use Rattle.statements.specs.declared.fault.StatementFault.TheVariants as statement
+use Rattle.operations.specs.Told.{answer_line}
+use Rattle.operations.specs.Written.{WritesBeginning}
+use Rattle.operations.specs.declared.fault.OfficeFault.{OfficeFault}
+use Rattle.operations.specs.declared.fault.OfficeFault.TheVariants.{Store, Write}
+use Rattle.operations.specs.declared.stating.MonthQuery.{MonthQuery}
+use Rattle.operations.specs.declared.status.Status.{Status}
+use Rattle.operations.specs.declared.status.Status.TheVariants.{Done, Failed, Unread}
+
+-- ---- texts
+
+-- the text of these charges and buckets, as of a moment; the month is civil in the zone of the
+-- first book, which all books of a shelf have
+abbrev pub rows_text : Shelf → MonthQuery → Moment → List ChargeColumns → List Row → Bytes
+rows_text b q t charges buckets =
+    if q.csv then export_text b.first q.month charges
+    else statement_text b.first q.account q.month t charges buckets
+
+-- of an account's ledger: all of its charges, and its buckets at the moment, by number
+abbrev pub ledger_text : Shelf → MonthQuery → Moment → Ledger → Bytes
+ledger_text b q t ledger =
+    rows_text b q t (charge_rows ledger) (by_number (buckets_at (validity_of b) t ledger))
+
+-- the line of an account that isn't there
+abbrev pub unknown_line : Bytes
+unknown_line = answer_line (Refused AccountUnknown)
+
+-- what is told of an account by its history, and how that ends: one that wasn't opened is refused
+abbrev pub month_text : Shelf → MonthQuery → Moment → History → Bytes
+month_text b q t h = if h.opened then ledger_text b q t h.ledger else unknown_line
+
+abbrev pub month_status : History → Status
+month_status h = if h.opened then Done else Failed
+
+-- ---- what is written
+
+-- the text is written, and it ends so; at a fault a beginning of the text is
+pub record Tells (ends : Status) (old new : Option Bytes) (text : Bytes)
+    (result : Result Status OfficeFault) : Type 0 where
+  pub whole : IfOk result (λ status. (status ≡ ends) × Appends old new text)
+  pub beginning : OnErr result (WritesBeginning old new text)
+
+-- so the month is told as of the moment of a command, for every list of accepted commands whose
+-- tables a keeper holds
+abbrev pub IsMonthTold : Shelf → MonthQuery → Moment → Tables → Option Bytes → Option Bytes →
+    Result Status OfficeFault → Type 0
+IsMonthTold b q t tables old new result =
+    (list : List Accepted) → IsInTime list → AreTables b list tables →
+    Tells (month_status (history b q.account list)) old new
+    (month_text b q (moment_of list t) (history b q.account list)) result
+
+-- ---- what is written, whatever a keeper holds
+
+-- the text of an account's month with some charges and buckets, as of some moment
+pub record WritesMonth (b : Shelf) (q : MonthQuery) (Writes : Bytes → Type 0) : Type 0 where
+  pub moment : Moment
+  pub charges : List ChargeColumns
+  pub buckets : List Row
+  pub written : Writes (rows_text b q moment charges buckets)
+
+-- it is written where all is done; where it is refused, that the account isn't there
+abbrev pub PrintsMonth : Shelf → MonthQuery → Option Bytes → Option Bytes → Status → Type 0
+PrintsMonth b q old new Done = WritesMonth b q (Appends old new)
+PrintsMonth b q old new Failed = Appends old new unknown_line
+PrintsMonth b q old new Unread = ⊥
+
+-- or a beginning of one of them
+abbrev pub BeginsMonth : Shelf → MonthQuery → Option Bytes → Option Bytes → Type 0
+BeginsMonth b q old new =
+    WritesMonth b q (WritesBeginning old new) ⊎ WritesBeginning old new unknown_line
+
+-- ---- what is read
+
+-- a fault of a statement among those of an office
+abbrev pub month_fault : StatementFault → OfficeFault
+month_fault statement.Memory = Write stream.Memory
+month_fault statement.Store = Store store.Store
+month_fault statement.Write = Write stream.Write
+
+-- what writing a month ends with
+abbrev pub month_ended : {A : Type 0} → Result A StatementFault → Result Status OfficeFault
+month_ended (Ok written) = Ok Done
+month_ended (Err fault) = Err (month_fault fault)
+
+-- the tables are as before, and store fault 2 comes only with a cause
+pub record OnlyReads {K : Type 0} (content : K → Tables) (failed : K → ℕ) (clean : K → Type 0)
+    (old new : K) (result : Result Status OfficeFault) : Type 0 where
+  pub same : clean new → content new ≡ content old
+  pub cleanness : clean new → clean old
+  pub kept : failed old ≤ failed new
+  pub cause : IsErrOf result (Store store.Store) → min (failed old + 1) max_failures ≤ failed new

@@ -1,0 +1,53 @@
+//! Why an operator's command wasn't done or answered.
+
+ghost use Rattle.std.specs.Prelude.{◌≡◌};
+ghost use Rattle.operations.specs.Told.{fault_line, store_line, stream_line};
+
+use keepers::StoreFault;
+use texts::StreamFault;
+use thiserror::Error;
+
+/// Why an operator's command wasn't done, or its answer not told.
+#[derive(Clone, Copy, Debug, Drop, Error, PartialEq, Eq)]
+pub enum OfficeFault {
+    /// The keeper didn't do what it was asked: nothing has changed, but of vouchers a beginning was
+    /// added.
+    #[error("store fault {}", .0.number())]
+    Store(StoreFault),
+    /// The command was carried out, and its answer isn't written to its end.
+    #[error("the answer was not written: {0}")]
+    Write(StreamFault),
+}
+
+impl OfficeFault {
+    /// The line that tells it on standard error, without its line feed.
+    pub fn line(self) -> &'static str
+        ensures { result.now ≡ fault_line self }
+    {
+        match self {
+            OfficeFault::Store(fault) => store_line(fault),
+            OfficeFault::Write(fault) => stream_line(fault),
+        }
+    }
+}
+
+/// The line that tells a fault of a store, without its line feed.
+pub fn store_line(fault: StoreFault) -> &'static str
+    ensures { result.now ≡ store_line fault }
+{
+    match fault {
+        StoreFault::Memory => "ocs: store fault 1",
+        StoreFault::Store => "ocs: store fault 2",
+    }
+}
+
+/// The line that tells a fault of a stream, without its line feed.
+pub fn stream_line(fault: StreamFault) -> &'static str
+    ensures { result.now ≡ stream_line fault }
+{
+    match fault {
+        StreamFault::Memory => "ocs: memory fault",
+        StreamFault::Read => "ocs: file fault",
+        StreamFault::Write => "ocs: file fault",
+    }
+}

@@ -1,0 +1,142 @@
+//! Vouchers that are added, each by a command of its own.
+
+ghost use Rattle.std.specs.Prelude.{◌≡◌, ◌≢◌, Err, IfErr, IfOk, OnErr, OnOk, length};
+ghost use Rattle.std.specs.Io.KnownBytes.{Appends};
+ghost use Rattle.texts.specs.declared.streams.StreamFault.{StreamFault};
+ghost use Rattle.texts.specs.declared.streams.StreamFault.TheVariants.{Read as ReadFailed};
+ghost use Rattle.keepers.specs.Faults.{HasCause};
+ghost use Rattle.keepers.specs.declared.fault.StoreFault.{StoreFault};
+ghost use Rattle.operations.specs.Counts.{counts_line, total};
+ghost use Rattle.charging.specs.Parts.{Leaves, PartKeeps};
+ghost use Rattle.charging.specs.Served.{Writes};
+ghost use Rattle.commands.specs.declared.command.Command.TheVariants.{AddVoucher};
+ghost use Rattle.operations.specs.Imports.{Adds, BeginsImport, HoldsBeginning, Imports};
+ghost use Rattle.operations.specs.Imports.{TellsImport};
+ghost use Rattle.operations.specs.Imports.{addition_at};
+ghost use Rattle.operations.specs.Imports.{additions};
+ghost use Rattle.operations.specs.Printed.{PrintsCounts};
+ghost use Rattle.operations.specs.Stored.{StopsAtStore};
+ghost use Rattle.operations.specs.Written.{WritesBeginning};
+ghost use Rattle.operations.specs.declared.fault.OfficeFault.TheVariants.{Store, Write};
+
+use crate::counts::{Counts, count_one, counts_text, no_counts};
+use crate::fault::OfficeFault;
+use crate::writing::write_line;
+use charging::step;
+use commands::{Command, VoucherAddition};
+use keepers::{Keeper, StoreFault};
+use shelves::TariffShelf;
+use std::alloc::Global;
+use std::io::Write;
+use texts::StreamFault;
+use units::Moment;
+use voucher_rules::{Addition, add};
+
+/// Adds vouchers in their order, each by a command at the later of this moment and that of the last
+/// accepted command, and counts what became of them (profile).
+///
+/// # Errors
+/// Store fault 1 where a growth was refused, 2 where the store failed. Then a beginning of the
+/// vouchers was added.
+pub fn import<K: Keeper>(
+    alloc: Global,
+    keeper: &mut K,
+    shelf: &TariffShelf,
+    rows: Vec<VoucherAddition>,
+    moment: Moment,
+) -> Result<Counts, StoreFault>
+    ensures imported { K.clean keeper.new →
+        Imports shelf.now (additions moment rows.items) (K.content keeper.old)
+        (K.content keeper.new) result }
+    ensures all { IfOk result (λ counts. total counts ≡ length rows.items) }
+    ensures cleanness { K.clean keeper.new → K.clean keeper.old }
+    ensures honesty { K.honest keeper.new → K.honest keeper.old }
+    ensures stands { K.honest keeper.new → K.clean keeper.old → OnOk result (K.clean keeper.new) }
+    ensures left { Leaves K.honest K.left keeper.old keeper.new
+        (HoldsBeginning shelf.now (additions moment rows.items) (K.content keeper.old)) }
+    ensures cause { HasCause (K.failed keeper.old) (K.failed keeper.new) result }
+{
+    // For the prover alone: looking at the value makes known here what its type keeps.
+    let _size = rows.len();
+    let mut counts = no_counts();
+    for row in rows {
+        let addition = add_voucher(alloc, keeper, shelf, row, moment)?;
+        counts = count_one(counts, addition);
+    }
+    Ok(counts)
+}
+
+/// Adds a voucher by a command, and tells what it is over what stood under its code.
+fn add_voucher<K: Keeper>(
+    alloc: Global,
+    keeper: &mut K,
+    shelf: &TariffShelf,
+    row: VoucherAddition,
+    moment: Moment,
+) -> Result<Addition, StoreFault>
+    ensures added { K.clean keeper.new →
+        Adds shelf.now (addition_at moment row) (K.content keeper.old) (K.content keeper.new)
+        result }
+    ensures kept { PartKeeps K.content K.failed K.honest K.clean keeper.old keeper.new result }
+    ensures left { Leaves K.honest K.left keeper.old keeper.new (λ t. K.clean keeper.old
+        × Writes shelf.now (AddVoucher row) moment (K.content keeper.old) t) }
+{
+    let found = keeper.find_voucher(&row.code)?;
+    let addition = add(&found, row.terms);
+    step(alloc, keeper, shelf, Command::AddVoucher(row), moment)?;
+    Ok(addition)
+}
+
+/// Adds vouchers as `import` does, and writes what became of them as a line:
+/// `new 3 present 0 conflicting 0` (profile).
+///
+/// # Errors
+/// `Store` where the keeper failed: then a beginning of the vouchers was added, and nothing is
+/// written. `Write` where memory ran out for the line or the writer failed: then all were added,
+/// and a beginning of the line is written.
+#[tactic(auto, using(crate::proofs::ImportLemmas::told_from, crate::proofs::ImportLemmas::untold_from, crate::proofs::ImportLemmas::begun_from))]
+pub fn serve_import<K: Keeper, W: Write>(
+    alloc: Global,
+    keeper: &mut K,
+    shelf: &TariffShelf,
+    rows: Vec<VoucherAddition>,
+    moment: Moment,
+    writer: &mut W,
+) -> Result<(), OfficeFault>
+    ensures done { K.clean keeper.new → OnOk result
+        (TellsImport shelf.now (additions moment rows.items) (K.content keeper.old)
+        (K.content keeper.new)
+        (λ counts. Appends (W.contents writer.old) (W.contents writer.new) (counts_line counts))) }
+    ensures printed { OnOk result (PrintsCounts (W.contents writer.old) (W.contents writer.new)) }
+    ensures untold { (fault : StreamFault) → result ≡ Err (Write fault) → K.clean keeper.new →
+        TellsImport shelf.now (additions moment rows.items) (K.content keeper.old)
+        (K.content keeper.new) (λ counts.
+        WritesBeginning (W.contents writer.old) (W.contents writer.new) (counts_line counts)) }
+    ensures unserved { (fault : StoreFault) → result ≡ Err (Store fault) → K.clean keeper.new →
+        BeginsImport shelf.now (additions moment rows.items) (K.content keeper.old)
+        (K.content keeper.new) }
+    ensures honesty { K.honest keeper.new → K.honest keeper.old }
+    ensures stands { K.honest keeper.new → K.clean keeper.old → OnOk result (K.clean keeper.new) }
+    ensures asked { (fault : StreamFault) → result ≡ Err (Write fault) → K.honest keeper.new →
+        K.clean keeper.old → K.clean keeper.new }
+    ensures fault { (fault : StreamFault) → result ≡ Err (Write fault) → fault ≢ ReadFailed }
+    ensures left { Leaves K.honest K.left keeper.old keeper.new
+        (HoldsBeginning shelf.now (additions moment rows.items) (K.content keeper.old)) }
+    ensures stops { StopsAtStore K.failed K.clean keeper.old keeper.new writer.old writer.new
+        result }
+{
+    let counts = import(alloc, keeper, shelf, rows, moment).map_err(OfficeFault::Store)?;
+    write_counts(alloc, writer, counts).map_err(OfficeFault::Write)
+}
+
+/// Writes counts as a line.
+fn write_counts<W: Write>(alloc: Global, writer: &mut W, counts: Counts) -> Result<(), StreamFault>
+    ensures written { OnOk result
+        (Appends (W.contents writer.old) (W.contents writer.new) (counts_line counts)) }
+    ensures err { OnErr result
+        (WritesBeginning (W.contents writer.old) (W.contents writer.new) (counts_line counts)) }
+    ensures fault { IfErr result (λ fault. fault ≢ ReadFailed) }
+{
+    let text = counts_text(alloc, counts)?;
+    write_line(writer, text)
+}

@@ -1,0 +1,21 @@
+//! What an operator's command does over a keeper, and what it tells: its answer as a line, what
+//! became of vouchers, an account's month, or one line of its fault.
+#![tactic(auto)]
+
+mod counts;
+mod fault;
+mod importing;
+mod laws;
+mod serving;
+mod stating;
+mod status;
+mod writing;
+
+pub use crate::counts::Counts;
+pub use crate::fault::{OfficeFault, store_line, stream_line};
+pub use crate::importing::{import, serve_import};
+pub use crate::laws::{statement_collects, statement_covers};
+pub use crate::serving::serve_office;
+pub use crate::stating::{MonthQuery, serve_statement};
+pub use crate::status::Status;
+pub use crate::writing::write_line;

@@ -1,8 +1,0 @@
--- The test of equal terms is true exactly of equal terms.
-use Rattle.std.proofs.Common.{◌≡◌, rules}
-use Rattle.std.specs.Bool.{Decides}
-use Rattle.redemptions.specs.Terms.{Terms}
-use Rattle.redemptions.specs.Adding.{same_terms}
-
-pub terms_exact : (a b : Terms) → Decides (same_terms a b) (a ≡ b)
-terms_exact a b = search rules

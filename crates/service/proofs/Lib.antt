@@ -1,0 +1,7 @@
+pub mod NextRun
+pub mod CommandLemmas
+pub mod ImportingLemmas
+pub mod MakingLemmas
+pub mod OverLemmas
+pub mod FaultLines
+pub mod CleanOffices

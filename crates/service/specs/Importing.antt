@@ -1,0 +1,67 @@
+-- What becomes of a file of vouchers, for every list of accepted commands whose tables a keeper
+-- holds, and which faults are told.
+-- Source: profile.
+use Rattle.std.specs.Prelude.{◌≡◌, List, Option, Ok, Err, IsTrue, false}
+use Rattle.units.specs.Words.{Moment}
+use Rattle.texts.specs.StreamWords.{Bytes}
+use Rattle.commands.specs.declared.command.VoucherAddition.{VoucherAddition}
+use Rattle.shelves.specs.Shelves.{Shelf}
+use Rattle.keepers.specs.Tables.{Tables}
+use Rattle.operations.specs.Counts.{counts_line}
+use Rattle.operations.specs.Imports.{BeginsImport, TellsImport, additions}
+use Rattle.operations.specs.Written.{WritesBeginning}
+use Rattle.operations.specs.declared.counts.Counts.{Counts}
+use Rattle.operations.specs.declared.fault.OfficeFault.TheVariants.{Store, Write}
+use Rattle.vouchers.specs.Faults.{is_in_file}
+use Rattle.vouchers.specs.Files.{MayStopAt, vouchers_in}
+use Rattle.service.specs.Opening.{IsCommandFault, IsOfficeFault, IsUnanswered}
+use Rattle.service.specs.declared.fault.DatabaseFault.{DatabaseFault}
+use Rattle.service.specs.declared.fault.DatabaseFault.TheVariants.{Office}
+use Rattle.service.specs.declared.importing.ImportFault.{ImportFault}
+use Rattle.service.specs.declared.importing.ImportFault.TheVariants.{Vouchers, Database}
+
+-- the text's vouchers were added, in their order, and this is so of the counts
+pub record IsFileImported (b : Shelf) (text : Bytes) (t : Moment) (old new : Tables)
+    (tells : Counts → Type 0) : Type 0 where
+  pub rows : List VoucherAddition
+  pub says : vouchers_in text ≡ Ok rows
+  pub imported : TellsImport b (additions t rows) old new tells
+
+-- a beginning of them was
+pub record IsFileBegun (b : Shelf) (text : Bytes) (t : Moment) (old new : Tables) : Type 0 where
+  pub rows : List VoucherAddition
+  pub says : vouchers_in text ≡ Ok rows
+  pub begun : BeginsImport b (additions t rows) old new
+
+-- over a keeper, a fault of the database is the store's or the writer's
+abbrev pub IsOverKeeper : Shelf → Bytes → Moment → Tables → Tables → Option Bytes → Option Bytes →
+    DatabaseFault → Type 0
+IsOverKeeper b text t old new before after (Office (Store fault)) = IsFileBegun b text t old new
+IsOverKeeper b text t old new before after (Office (Write fault)) =
+    IsFileImported b text t old new (λ counts. WritesBeginning before after (counts_line counts))
+IsOverKeeper b text t old new before after _ = ⊥
+
+-- one of the text is its first, or reading it stopped, which it may do at that record: then no
+-- table has changed
+abbrev pub IsImportFault : Shelf → Bytes → Moment → Tables → Tables → Option Bytes → Option Bytes →
+    ImportFault → Type 0
+IsImportFault b text t old new before after (Vouchers fault) =
+    (IsTrue (is_in_file fault.kind) → vouchers_in text ≡ Err fault)
+    × (is_in_file fault.kind ≡ false → MayStopAt fault.record_number text) × (new ≡ old)
+IsImportFault b text t old new before after (Database fault) =
+    IsOverKeeper b text t old new before after fault
+
+-- one of the file, or of the office's
+abbrev pub IsFileFault : ImportFault → Type 0
+IsFileFault (Vouchers fault) = Unit {0}
+IsFileFault (Database fault) = IsOfficeFault fault
+
+-- one of the file, or of a command over a database
+abbrev pub IsImportEnd : Option Moment → ImportFault → Type 0
+IsImportEnd at (Vouchers fault) = Unit {0}
+IsImportEnd at (Database fault) = IsCommandFault at fault
+
+-- nothing was told
+abbrev pub IsUntold : ImportFault → Type 0
+IsUntold (Vouchers fault) = Unit {0}
+IsUntold (Database fault) = IsUnanswered fault

@@ -1,0 +1,10 @@
+pub mod NextRun
+pub mod Told
+pub mod Making
+pub mod Opening
+pub mod Adding
+pub mod Importing
+pub mod Stating
+pub mod Over
+pub mod Clocks
+pub mod ServingTold

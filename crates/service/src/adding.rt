@@ -1,0 +1,56 @@
+//! A tariff book that is added to a database.
+
+ghost use Rattle.std.specs.Prelude.{IfErr};
+ghost use Rattle.sql_keeper.specs.AddsBook.{AddsBook};
+ghost use Rattle.service.specs.Adding.{IsAddingFault, IsAdditionFault, IsOfAdding};
+
+use crate::fault::{DatabaseFault, adding_fault};
+use crate::files::read_file;
+use crate::making::book_text;
+use crate::opening::{Office, open_office};
+use operator::BookWords;
+use shelves::TariffShelf;
+use sql_keeper::SqlKeeper;
+use sqlite::Alter;
+use sqlite_disk::Wary;
+use units::Moment;
+
+/// Adds the tariff book of a file to the database of the words, from their moment on.
+///
+/// # Errors
+/// In this order: `File` or `Memory` where the book's file can't be read; `File`, `Open` or
+/// `Memory`, as `open_office`; then as `add_text`, `Book` also where the file is no text: the
+/// database is as it was.
+pub fn add_book(rt: &HostRuntime, words: &BookWords) -> Result<(), DatabaseFault>
+    ensures fault { IfErr result IsAdditionFault }
+{
+    let bytes = read_file(rt, words.file.as_str())?;
+    let Office {
+        mut keeper,
+        mut shelf,
+    } = open_office(rt, &words.database, Wary)?;
+    let text = book_text(rt.alloc(), &bytes)?;
+    add_text(&mut keeper, &mut shelf, words.from, text)
+}
+
+/// Adds the book of a text behind those of an office, from a moment on: to its shelf and to its
+/// tables, or to neither. A stop leaves the tables as they were, or with the book.
+///
+/// # Errors
+/// `Book`, why the text is none; `Shelf`, why the book may not follow; `Office` where the store
+/// failed, or memory was refused.
+pub fn add_text<S: Alter>(
+    keeper: &mut SqlKeeper<S>,
+    shelf: &mut TariffShelf,
+    from: Moment,
+    text: &str,
+) -> Result<(), DatabaseFault>
+    ensures added { IsOfAdding (AddsBook S.Store text.now from keeper.old keeper.new
+        shelf.old shelf.new) result }
+    ensures fault { IfErr result IsAddingFault }
+{
+    match keeper.add_book(shelf, from, text) {
+        Ok(()) => Ok(()),
+        Err(fault) => Err(adding_fault(fault)),
+    }
+}

@@ -1,0 +1,35 @@
+//! The moment of a command: that of the words, or the machine's.
+
+ghost use Rattle.std.specs.Prelude.{◌≡◌, ◌<◌, Ok, Err, None, OnErr, IfOk, IfSome};
+ghost use Rattle.service.specs.Over.{IsMomentOf};
+ghost use Rattle.service.specs.declared.fault.DatabaseFault.TheVariants.{Clock};
+
+use crate::fault::DatabaseFault;
+use std::time::{SystemTime, UNIX_EPOCH};
+use units::Moment;
+
+/// The machine's moment; None where its clock doesn't answer, or tells none of a command.
+pub fn machine_moment(rt: &HostRuntime) -> Option<Moment>
+    ensures { IfSome result (λ t. t < 4_102_444_800) }
+{
+    let now = SystemTime::now(rt).ok()?;
+    let since = now.duration_since(UNIX_EPOCH).ok()?;
+    Moment::of_command(since.as_secs())
+}
+
+/// The moment of a command: that of the words, or the machine's where they say none.
+///
+/// # Errors
+/// `Clock` where the machine is asked and has none.
+pub fn command_moment(rt: &HostRuntime, at: Option<Moment>) -> Result<Moment, DatabaseFault>
+    ensures said { IfSome at (λ t. result ≡ Ok t) }
+    ensures asked { at ≡ None → IfOk result (λ t. t < 4_102_444_800) }
+    ensures moment { IfOk result (IsMomentOf at) }
+    ensures told { OnErr result (result ≡ Err Clock) }
+    ensures unasked { OnErr result (at ≡ None) }
+{
+    match at {
+        Some(at) => Ok(at),
+        None => machine_moment(rt).ok_or(DatabaseFault::Clock),
+    }
+}

@@ -1,0 +1,139 @@
+//! An operator's command over a database.
+
+ghost use Rattle.std.specs.Prelude.{◌≡◌, ◌≤◌, Err, IfErr, IfOk, OnOk};
+ghost use Rattle.std.specs.Io.KnownBytes.{Appends};
+ghost use Rattle.texts.specs.declared.streams.StreamFault.{StreamFault};
+ghost use Rattle.keepers.specs.declared.fault.StoreFault.{StoreFault};
+ghost use Rattle.operations.specs.Carried.{IsCarriedOut};
+ghost use Rattle.operations.specs.Printed.{PrintsAnswer};
+ghost use Rattle.operations.specs.Told.{answer_line, status_of};
+ghost use Rattle.operations.specs.Written.{WritesBeginning};
+ghost use Rattle.operations.specs.declared.fault.OfficeFault.TheVariants.{Store, Write};
+ghost use Rattle.operator.specs.Office.{command_of};
+ghost use Rattle.sqlite.specs.Files.{file_state};
+ghost use Rattle.sqlite.specs.State.{HasCleanDisk};
+ghost use Rattle.sqlite_wal.specs.Files.{image_at};
+ghost use Rattle.service.specs.Opening.{IsCommandFault, IsOfficeFault, IsUnanswered};
+ghost use Rattle.sql_keeper.specs.Inside.{tables_in};
+ghost use Rattle.sql_keeper.specs.Stops.{honest_in};
+ghost use Rattle.service.specs.Over.{Comes, IsCommandDone, IsMomentOf};
+ghost use Rattle.service.specs.declared.fault.DatabaseFault.TheVariants.{Office as OfOffice};
+
+use crate::clock::command_moment;
+use crate::database_files::DatabaseFiles;
+use crate::fault::DatabaseFault;
+use crate::opening::{Office, open_office};
+use keepers::Keeper;
+use operations::{Status, serve_office};
+use operator::OfficeWords;
+use shelves::TariffShelf;
+use sql_keeper::SqlKeeper;
+use sqlite::Alter;
+use sqlite_disk::{Start, Wary};
+use std::alloc::Global;
+use std::io::Write;
+use units::Moment;
+
+/// Carries out an operator's command over the database of the words, and writes its answer as a
+/// line. The status is `Failed` at a refusal, which changes nothing. Nothing is supposed of a write
+/// that was torn.
+///
+/// # Errors
+/// In this order: `Clock`; `File`, `Open` or `Memory`, as `open_office`; `Office` where the command
+/// wasn't carried out, or its answer not written.
+pub fn command_office<O: Write>(
+    rt: &HostRuntime,
+    words: OfficeWords,
+    output: &mut O,
+) -> Result<Status, DatabaseFault>
+    ensures printed { IfOk result (λ status.
+        PrintsAnswer status (O.contents output.old) (O.contents output.new)) }
+    ensures unwritten { IfErr result (λ fault. IsUnanswered fault → output.new ≡ output.old) }
+    ensures fault { IfErr result (IsCommandFault words.at) }
+{
+    match command_over(rt, words, output, Wary) {
+        Ok((status, _keeper)) => Ok(status),
+        Err(fault) => Err(fault),
+    }
+}
+
+/// Carries out an operator's command as `command_office`, whatever the files held (`start`), and
+/// answers its keeper too.
+///
+/// # Errors
+/// As `command_office`.
+pub fn command_over<S: Start, O: Write>(
+    rt: &HostRuntime,
+    words: OfficeWords,
+    output: &mut O,
+    start: S,
+) -> Result<(Status, SqlKeeper<DatabaseFiles<S>>), DatabaseFault>
+    ensures carried { IfOk result (λ r. HasCleanDisk (file_state r.1.connection) →
+        Comes (image_at S.Start) r.1
+        (IsCommandDone words (O.contents output.old) (O.contents output.new) r.0)) }
+    ensures printed { IfOk result (λ r.
+        PrintsAnswer r.0 (O.contents output.old) (O.contents output.new)) }
+    ensures unwritten { IfErr result (λ fault. IsUnanswered fault → output.new ≡ output.old) }
+    ensures fault { IfErr result (IsCommandFault words.at) }
+{
+    let moment = command_moment(rt, words.at)?;
+    let office = open_office(rt, &words.database, start)?;
+    carry_over(rt.alloc(), office, words, moment, output)
+}
+
+/// Carries out the command of words over an office, and answers its keeper too.
+fn carry_over<S: Alter + Drop, O: Write>(
+    alloc: Global,
+    office: Office<S>,
+    words: OfficeWords,
+    moment: Moment,
+    output: &mut O,
+) -> Result<(Status, SqlKeeper<S>), DatabaseFault>
+    requires { IsMomentOf words.at moment }
+    ensures done { IfOk result (λ r. honest_in S.Store r.1 →
+        IsCommandDone words (O.contents output.old) (O.contents output.new) r.0 office.shelf
+        (tables_in S.Store office.keeper) (tables_in S.Store r.1)) }
+    ensures honesty { IfOk result (λ r. honest_in S.Store r.1 → honest_in S.Store office.keeper) }
+    ensures printed { IfOk result (λ r.
+        PrintsAnswer r.0 (O.contents output.old) (O.contents output.new)) }
+    ensures unwritten { IfErr result (λ fault. IsUnanswered fault → output.new ≡ output.old) }
+    ensures fault { IfErr result IsOfficeFault }
+{
+    let Office { mut keeper, shelf } = office;
+    let status = carry_out(alloc, &mut keeper, &shelf, words, moment, output)?;
+    Ok((status, keeper))
+}
+
+/// Carries out the command of words over a keeper, as `serve_office`.
+fn carry_out<K: Keeper, O: Write>(
+    alloc: Global,
+    keeper: &mut K,
+    shelf: &TariffShelf,
+    words: OfficeWords,
+    moment: Moment,
+    output: &mut O,
+) -> Result<Status, DatabaseFault>
+    ensures done { K.clean keeper.new → IfOk result (λ status.
+        IsCarriedOut shelf.now (command_of words.command) moment (K.content keeper.old)
+        (K.content keeper.new) (λ answer. (status ≡ status_of answer)
+        × Appends (O.contents output.old) (O.contents output.new) (answer_line answer))) }
+    ensures printed { IfOk result (λ status.
+        PrintsAnswer status (O.contents output.old) (O.contents output.new)) }
+    ensures untold { (fault : StreamFault) → result ≡ Err (OfOffice (Write fault)) →
+        K.clean keeper.new → IsCarriedOut shelf.now (command_of words.command) moment
+        (K.content keeper.old) (K.content keeper.new) (λ answer.
+        WritesBeginning (O.contents output.old) (O.contents output.new) (answer_line answer)) }
+    ensures unserved { (fault : StoreFault) → result ≡ Err (OfOffice (Store fault)) →
+        K.clean keeper.new → K.content keeper.new ≡ K.content keeper.old }
+    ensures unwritten { IfErr result (λ fault. IsUnanswered fault → output.new ≡ output.old) }
+    ensures fault { IfErr result IsOfficeFault }
+    ensures honesty { K.honest keeper.new → K.honest keeper.old }
+    ensures stands { K.honest keeper.new → OnOk result (K.clean keeper.new) }
+    ensures cleanness { K.clean keeper.new → K.clean keeper.old }
+    ensures failures { K.failed keeper.old ≤ K.failed keeper.new }
+{
+    match serve_office(alloc, keeper, shelf, words.command, moment, output) {
+        Ok(status) => Ok(status),
+        Err(fault) => Err(DatabaseFault::Office(fault)),
+    }
+}

@@ -1,0 +1,153 @@
+//! Why a command over a database isn't carried out.
+
+ghost use Rattle.std.specs.Prelude.{◌≡◌};
+ghost use Rattle.service.specs.Adding.{IsAddingFault};
+ghost use Rattle.service.specs.Opening.{IsUnopened};
+ghost use Rattle.service.specs.Told.{adding_fault, book_line, fault_line, making_fault};
+ghost use Rattle.service.specs.Told.{open_line, shelf_line};
+
+use operations::OfficeFault;
+use shelves::ShelfFault;
+use sql_keeper::{AddFault, CreateFault};
+use sql_tables::OpenFault;
+use sqlite::{Error, ErrorCode};
+use std::io;
+use tariffs::BookFault;
+use thiserror::Error;
+
+/// Why a command over a database isn't carried out, in the order in which it is looked for.
+#[derive(Clone, Copy, Debug, Drop, Error, PartialEq, Eq)]
+pub enum DatabaseFault {
+    /// A file that the words name can't be read, a standard stream failed, or the database can't be
+    /// opened as one.
+    #[error("a file failed")]
+    File,
+    /// The machine's clock doesn't answer, or its moment is none of a command.
+    #[error("the clock did not answer")]
+    Clock,
+    /// The text isn't that of a tariff book.
+    #[error("book fault {}", .0.number())]
+    Book(BookFault),
+    /// The database isn't made or opened for this system.
+    #[error("open fault {}", .0.number())]
+    Open(OpenFault),
+    /// The book may not follow those of the database.
+    #[error("shelf fault {}", .0.number())]
+    Shelf(ShelfFault),
+    /// The port can't be listened to.
+    #[error("the port can't be listened to")]
+    Net,
+    /// Memory was refused.
+    #[error("out of memory")]
+    Memory,
+    /// The command wasn't carried out, or its answer not written.
+    #[error("{0}")]
+    Office(OfficeFault),
+}
+
+impl DatabaseFault {
+    /// The line that tells it on standard error, without its line feed.
+    pub fn line(self) -> &'static str
+        ensures { result.now ≡ fault_line self }
+    {
+        match self {
+            DatabaseFault::File => "ocs: file fault",
+            DatabaseFault::Clock => "ocs: clock fault",
+            DatabaseFault::Book(fault) => book_line(fault),
+            DatabaseFault::Open(fault) => open_line(fault),
+            DatabaseFault::Shelf(fault) => shelf_line(fault),
+            DatabaseFault::Net => "ocs: net fault",
+            DatabaseFault::Memory => "ocs: memory fault",
+            DatabaseFault::Office(fault) => fault.line(),
+        }
+    }
+}
+
+/// The line that tells a fault of a tariff book.
+fn book_line(fault: BookFault) -> &'static str
+    ensures { result.now ≡ book_line fault }
+{
+    match fault {
+        BookFault::NotToml => "ocs: book fault 1",
+        BookFault::Missing => "ocs: book fault 2",
+        BookFault::WrongKind => "ocs: book fault 3",
+        BookFault::OutOfRange => "ocs: book fault 4",
+        BookFault::UnknownPeriod => "ocs: book fault 5",
+        BookFault::WeekNotCovered => "ocs: book fault 6",
+        BookFault::TiersNotRising => "ocs: book fault 7",
+        BookFault::TooMany => "ocs: book fault 8",
+        BookFault::Memory => "ocs: book fault 9",
+    }
+}
+
+/// The line that tells a fault of opening.
+fn open_line(fault: OpenFault) -> &'static str
+    ensures { result.now ≡ open_line fault }
+{
+    match fault {
+        OpenFault::Foreign => "ocs: open fault 1",
+        OpenFault::Version => "ocs: open fault 2",
+        OpenFault::Rules => "ocs: open fault 3",
+        OpenFault::Store => "ocs: open fault 4",
+        OpenFault::Memory => "ocs: open fault 5",
+        OpenFault::Older => "ocs: open fault 6",
+    }
+}
+
+/// The line that tells a fault of a shelf.
+fn shelf_line(fault: ShelfFault) -> &'static str
+    ensures { result.now ≡ shelf_line fault }
+{
+    match fault {
+        ShelfFault::Memory => "ocs: shelf fault 1",
+        ShelfFault::Full => "ocs: shelf fault 2",
+        ShelfFault::TooEarly => "ocs: shelf fault 3",
+        ShelfFault::OtherZone => "ocs: shelf fault 4",
+        ShelfFault::GroupMissing => "ocs: shelf fault 5",
+        ShelfFault::GroupDiffers => "ocs: shelf fault 6",
+    }
+}
+
+/// The fault of a call of the system that failed on a file.
+pub(crate) fn file_fault(kind: io::ErrorKind) -> DatabaseFault
+    ensures { IsUnopened result }
+{
+    match kind {
+        io::ErrorKind::OutOfMemory => DatabaseFault::Memory,
+        _ => DatabaseFault::File,
+    }
+}
+
+/// The fault of a database that isn't opened.
+pub(crate) fn opening_fault(error: Error) -> DatabaseFault
+    ensures { IsUnopened result }
+{
+    match error {
+        Error::SqliteFailure(ErrorCode::OutOfMemory) => DatabaseFault::Memory,
+        _ => DatabaseFault::File,
+    }
+}
+
+/// The fault of a database that isn't made.
+pub(crate) fn making_fault(fault: CreateFault) -> DatabaseFault
+    ensures { result ≡ making_fault fault }
+{
+    match fault {
+        CreateFault::Book(fault) => DatabaseFault::Book(fault),
+        CreateFault::Present => DatabaseFault::Open(OpenFault::Foreign),
+        CreateFault::Store => DatabaseFault::Open(OpenFault::Store),
+        CreateFault::Memory => DatabaseFault::Open(OpenFault::Memory),
+    }
+}
+
+/// The fault of a book that isn't added.
+pub(crate) fn adding_fault(fault: AddFault) -> DatabaseFault
+    ensures value { result ≡ adding_fault fault }
+    ensures told { IsAddingFault result }
+{
+    match fault {
+        AddFault::Book(fault) => DatabaseFault::Book(fault),
+        AddFault::Shelf(fault) => DatabaseFault::Shelf(fault),
+        AddFault::Store(fault) => DatabaseFault::Office(OfficeFault::Store(fault)),
+    }
+}

@@ -1,0 +1,167 @@
+//! A file of vouchers over a database.
+
+ghost use Rattle.std.specs.Prelude.{◌≡◌, ◌≤◌, IfErr, IfOk, IfSome, OnOk};
+ghost use Rattle.std.specs.Io.KnownBytes.{Appends};
+ghost use Rattle.operations.specs.Counts.{counts_line};
+ghost use Rattle.operations.specs.Printed.{PrintsCounts};
+ghost use Rattle.service.specs.Importing.{IsFileFault, IsFileImported, IsImportEnd};
+ghost use Rattle.service.specs.Importing.{IsImportFault, IsUntold};
+ghost use Rattle.sql_keeper.specs.Inside.{clean_in, tables_in};
+ghost use Rattle.sql_keeper.specs.Stops.{honest_in};
+ghost use Rattle.service.specs.Over.{Comes, IsImportDone, IsMomentOf};
+ghost use Rattle.sqlite.specs.Files.{file_state};
+ghost use Rattle.sqlite.specs.State.{HasCleanDisk};
+ghost use Rattle.sqlite_wal.specs.Files.{image_at};
+
+use crate::clock::command_moment;
+use crate::database_files::DatabaseFiles;
+use crate::fault::DatabaseFault;
+use crate::files::open_file;
+use crate::opening::{Office, open_office};
+use keepers::Keeper;
+use operations::serve_import;
+use operator::ImportWords;
+use shelves::TariffShelf;
+use sql_keeper::SqlKeeper;
+use sqlite::Alter;
+use sqlite_disk::{Start, Wary};
+use std::alloc::Global;
+use std::io::{Read, Write};
+use thiserror::Error;
+use units::Moment;
+use vouchers::{VoucherFault, read_vouchers};
+
+/// Why the vouchers of a file weren't all added and told.
+#[derive(Clone, Copy, Debug, Drop, Error, PartialEq, Eq)]
+pub enum ImportFault {
+    /// The file has a fault, or wasn't read to its end: nothing has changed.
+    #[error("voucher fault {} at record {}", .0.kind.number(), .0.record_number)]
+    Vouchers(VoucherFault),
+    /// A command over the database wasn't carried out, or what became of the vouchers not written.
+    #[error("{0}")]
+    Database(DatabaseFault),
+}
+
+impl From<DatabaseFault> for ImportFault {
+    ghost use Rattle.std.specs.Prelude.{◌≡◌};
+    ghost use Rattle.service.specs.declared.importing.ImportFault.TheVariants.{Database};
+
+    ghost from_gives = { λ fault e. e ≡ Database fault };
+
+    fn from(fault: DatabaseFault) -> ImportFault {
+        ImportFault::Database(fault)
+    }
+}
+
+/// Adds the vouchers of the file of the words to their database, and writes what became of them as
+/// a line. The file is opened before the database, and read after it.
+///
+/// # Errors
+/// In this order: `Database` where the file can't be opened (`File` or `Memory`), `Clock`, and
+/// `File`, `Open` or `Memory`, as `open_office`; then as `import_file`.
+pub fn import_office<O: Write>(
+    rt: &HostRuntime,
+    words: ImportWords,
+    output: &mut O,
+) -> Result<(), ImportFault>
+    ensures printed { OnOk result (PrintsCounts (O.contents output.old) (O.contents output.new)) }
+    ensures unwritten { IfErr result (λ fault. IsUntold fault → output.new ≡ output.old) }
+    ensures fault { IfErr result (IsImportEnd words.at) }
+{
+    let reader = open_file(rt, words.file.as_str())?;
+    match import_over(rt, &words, reader, output, Wary) {
+        Ok(_keeper) => Ok(()),
+        Err(fault) => Err(fault),
+    }
+}
+
+/// Adds the vouchers of a reader to the database of the words as `import_office` does those of
+/// their file, whatever the database's files held (`start`), and answers its keeper.
+///
+/// # Errors
+/// In this order: `Database` where the clock has no moment (`Clock`), and `File`, `Open` or
+/// `Memory`, as `open_office`; then as `import_file`.
+pub fn import_over<S: Start, R: Read + Drop, O: Write>(
+    rt: &HostRuntime,
+    words: &ImportWords,
+    reader: R,
+    output: &mut O,
+    start: S,
+) -> Result<SqlKeeper<DatabaseFiles<S>>, ImportFault>
+    ensures imported { IfOk result (λ keeper. HasCleanDisk (file_state keeper.connection) →
+        IfSome (R.remaining reader) (λ text. Comes (image_at S.Start) keeper
+        (IsImportDone words.now text (O.contents output.old) (O.contents output.new)))) }
+    ensures printed { OnOk result (PrintsCounts (O.contents output.old) (O.contents output.new)) }
+    ensures unwritten { IfErr result (λ fault. IsUntold fault → output.new ≡ output.old) }
+    ensures fault { IfErr result (IsImportEnd words.now.at) }
+{
+    let moment = command_moment(rt, words.at)?;
+    let office = open_office(rt, &words.database, start)?;
+    add_over(rt.alloc(), office, words, reader, moment, output)
+}
+
+/// Adds the vouchers of a reader over an office, and answers its keeper.
+fn add_over<S: Alter + Drop, R: Read + Drop, O: Write>(
+    alloc: Global,
+    office: Office<S>,
+    words: &ImportWords,
+    reader: R,
+    moment: Moment,
+    output: &mut O,
+) -> Result<SqlKeeper<S>, ImportFault>
+    requires { IsMomentOf words.now.at moment }
+    ensures done { IfOk result (λ keeper. clean_in S.Store office.keeper →
+        honest_in S.Store keeper → IfSome (R.remaining reader) (λ text.
+        IsImportDone words.now text (O.contents output.old) (O.contents output.new) office.shelf
+        (tables_in S.Store office.keeper) (tables_in S.Store keeper))) }
+    ensures honesty { IfOk result (λ keeper. honest_in S.Store keeper →
+        honest_in S.Store office.keeper) }
+    ensures printed { OnOk result (PrintsCounts (O.contents output.old) (O.contents output.new)) }
+    ensures unwritten { IfErr result (λ fault. IsUntold fault → output.new ≡ output.old) }
+    ensures told { IfErr result IsFileFault }
+{
+    let Office { mut keeper, shelf } = office;
+    import_file(alloc, &mut keeper, &shelf, reader, moment, output)?;
+    Ok(keeper)
+}
+
+/// Adds the vouchers of a file over a keeper, in their order, and writes what became of them as
+/// `serve_import` does.
+///
+/// # Errors
+/// `Vouchers`, the first fault of the file, or why it wasn't read to its end: then nothing has
+/// changed. `Database` where the store failed, then a beginning of the vouchers was added; or where
+/// the output failed, then all were.
+pub fn import_file<K: Keeper, R: Read + Drop, O: Write>(
+    alloc: Global,
+    keeper: &mut K,
+    shelf: &TariffShelf,
+    reader: R,
+    moment: Moment,
+    output: &mut O,
+) -> Result<(), ImportFault>
+    ensures done { K.clean keeper.new → OnOk result (IfSome (R.remaining reader) (λ text.
+        IsFileImported shelf.now text moment (K.content keeper.old) (K.content keeper.new)
+        (λ counts. Appends (O.contents output.old) (O.contents output.new)
+        (counts_line counts)))) }
+    ensures printed { OnOk result (PrintsCounts (O.contents output.old) (O.contents output.new)) }
+    ensures fault { K.clean keeper.new → IfErr result (λ fault.
+        IfSome (R.remaining reader) (λ text.
+        IsImportFault shelf.now text moment (K.content keeper.old) (K.content keeper.new)
+        (O.contents output.old) (O.contents output.new) fault)) }
+    ensures unwritten { IfErr result (λ fault. IsUntold fault → output.new ≡ output.old) }
+    ensures told { IfErr result IsFileFault }
+    ensures honesty { K.honest keeper.new → K.honest keeper.old }
+    ensures stands { K.honest keeper.new → K.clean keeper.old → OnOk result (K.clean keeper.new) }
+    ensures cleanness { K.clean keeper.new → K.clean keeper.old }
+    ensures failures { K.failed keeper.old ≤ K.failed keeper.new }
+{
+    let rows = match read_vouchers(alloc, reader) {
+        Ok(rows) => rows,
+        Err(fault) => return Err(ImportFault::Vouchers(fault)),
+    };
+    match serve_import(alloc, keeper, shelf, rows, moment, output) {
+        Ok(()) => Ok(()),
+        Err(fault) => Err(ImportFault::Database(DatabaseFault::Office(fault))),
+    }
+}

@@ -1,0 +1,38 @@
+//! What the program's words do over the database of a file: it is made, brought to the latest
+//! version or opened by its path, a tariff book is added, an operator's command is carried out over
+//! it, a file of vouchers is added, an account's month is told, and connections of HTTP/1.1 on a
+//! port of 127.0.0.1 are served.
+#![tactic(auto)]
+
+mod adding;
+mod clock;
+mod commanding;
+mod database_files;
+mod fault;
+mod files;
+mod importing;
+mod laws;
+mod listening;
+mod making;
+mod migrating;
+mod office_clock;
+mod opening;
+mod serving;
+mod stating;
+mod telling;
+
+pub use crate::adding::{add_book, add_text};
+pub use crate::clock::{command_moment, machine_moment};
+pub use crate::commanding::{command_office, command_over};
+pub use crate::database_files::{DatabaseFiles, open_database};
+pub use crate::fault::DatabaseFault;
+pub use crate::files::open_file;
+pub use crate::importing::{ImportFault, import_file, import_office, import_over};
+pub use crate::laws::the_next_process_finds_what_a_stop_left;
+pub use crate::listening::{serve_database, serve_over};
+pub use crate::making::{book_text, make_database, make_over, make_tables};
+pub use crate::migrating::{migrate_database, migrate_over, migrate_tables};
+pub use crate::office_clock::OfficeClock;
+pub use crate::opening::{Office, open_office, open_tables};
+pub use crate::serving::serve_connections;
+pub use crate::stating::{state_office, state_over};

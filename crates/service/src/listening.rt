@@ -1,0 +1,164 @@
+//! A port of 127.0.0.1, over the database of the words.
+
+ghost use Rattle.std.specs.Prelude.{◌≡◌, ◌≤◌, IfErr, IfOk, OnErr, OnOk, string_bytes};
+ghost use Rattle.std.specs.Io.KnownBytes.{Appends};
+ghost use Rattle.sqlite.specs.Files.{file_state};
+ghost use Rattle.sqlite_wal.specs.Files.{image_at};
+ghost use Rattle.charging.specs.Continued.{Continues};
+ghost use Rattle.sql_keeper.specs.Inside.{IsClean, clean_in, tables_in};
+ghost use Rattle.service.specs.Over.{Comes};
+ghost use Rattle.operations.specs.Written.{WritesBeginning};
+ghost use Rattle.service.specs.ServingTold.{IsServeFault, IsTellFault, IsUnlistened, TellsFaults};
+ghost use Rattle.service.specs.ServingTold.{listening_line};
+
+use crate::database_files::DatabaseFiles;
+use crate::fault::DatabaseFault;
+use crate::office_clock::OfficeClock;
+use crate::opening::{Office, open_office};
+use crate::serving::serve_connections;
+use operator::ServeWords;
+use sql_keeper::SqlKeeper;
+use sqlite::Alter;
+use sqlite_disk::{Start, Wary};
+use std::alloc::{AllocError, Global};
+use std::io::Write;
+use std::net::{Ipv4Addr, TcpListener};
+use texts::{StreamFault, write_whole};
+
+/// Serves the connections of the words over their database, one after another, and answers how many
+/// of them ended in a fault. Once the port of 127.0.0.1 is listened to, `output` is told so in a
+/// line; each connection's fault is a line on `errors`, and the next one is served. Nothing is
+/// supposed of a write of the database that was torn.
+///
+/// # Errors
+/// In this order, each before the first connection: as `open_office`; `Net` where the port can't be
+/// listened to; `Memory` or `File` where that it is isn't told on `output`.
+pub fn serve_database<O: Write, E: Write>(
+    rt: &HostRuntime,
+    words: &ServeWords,
+    output: &mut O,
+    errors: &mut E,
+) -> Result<u32, DatabaseFault>
+    ensures listening { OnOk result (Appends (O.contents output.old) (O.contents output.new)
+        (listening_line words.now.port)) }
+    ensures begun { OnErr result (WritesBeginning (O.contents output.old) (O.contents output.new)
+        (listening_line words.now.port)) }
+    ensures unwritten { IfErr result (λ fault. IsUnlistened fault → output.new ≡ output.old) }
+    ensures told { IfOk result
+        (λ failed. TellsFaults failed (E.contents errors.old) (E.contents errors.new)) }
+    ensures bounded { IfOk result (λ failed. failed ≤ words.now.connections) }
+    ensures untold { OnErr result (errors.new ≡ errors.old) }
+    ensures fault { IfErr result IsServeFault }
+{
+    match serve_over(rt, words, output, errors, Wary) {
+        Ok((failed, _keeper)) => Ok(failed),
+        Err(fault) => Err(fault),
+    }
+}
+
+/// Serves the connections of the words as `serve_database`, whatever the database's files held
+/// (`start`), and answers its keeper too.
+///
+/// # Errors
+/// As `serve_database`.
+pub fn serve_over<S: Start, O: Write, E: Write>(
+    rt: &HostRuntime,
+    words: &ServeWords,
+    output: &mut O,
+    errors: &mut E,
+    start: S,
+) -> Result<(u32, SqlKeeper<DatabaseFiles<S>>), DatabaseFault>
+    ensures continued { IfOk result (λ r. IsClean (file_state r.1.connection) →
+        Comes (image_at S.Start) r.1 Continues) }
+    ensures listening { OnOk result (Appends (O.contents output.old) (O.contents output.new)
+        (listening_line words.now.port)) }
+    ensures begun { OnErr result (WritesBeginning (O.contents output.old) (O.contents output.new)
+        (listening_line words.now.port)) }
+    ensures unwritten { IfErr result (λ fault. IsUnlistened fault → output.new ≡ output.old) }
+    ensures told { IfOk result
+        (λ r. TellsFaults r.0 (E.contents errors.old) (E.contents errors.new)) }
+    ensures bounded { IfOk result (λ r. r.0 ≤ words.now.connections) }
+    ensures untold { OnErr result (errors.new ≡ errors.old) }
+    ensures fault { IfErr result IsServeFault }
+{
+    let office = open_office(rt, &words.database, start)?;
+    serve_office(rt, office, words, output, errors)
+}
+
+/// Serves the connections of the words over an office, and answers its keeper too.
+fn serve_office<S: Alter + Drop, O: Write, E: Write>(
+    rt: &HostRuntime,
+    office: Office<S>,
+    words: &ServeWords,
+    output: &mut O,
+    errors: &mut E,
+) -> Result<(u32, SqlKeeper<S>), DatabaseFault>
+    ensures continued { IfOk result (λ r. clean_in S.Store r.1 →
+        Continues office.shelf (tables_in S.Store office.keeper) (tables_in S.Store r.1)) }
+    ensures cleanness { IfOk result (λ r. clean_in S.Store r.1 →
+        clean_in S.Store office.keeper) }
+    ensures listening { OnOk result (Appends (O.contents output.old) (O.contents output.new)
+        (listening_line words.now.port)) }
+    ensures begun { OnErr result (WritesBeginning (O.contents output.old) (O.contents output.new)
+        (listening_line words.now.port)) }
+    ensures unwritten { IfErr result (λ fault. IsUnlistened fault → output.new ≡ output.old) }
+    ensures told { IfOk result
+        (λ r. TellsFaults r.0 (E.contents errors.old) (E.contents errors.new)) }
+    ensures bounded { IfOk result (λ r. r.0 ≤ words.now.connections) }
+    ensures untold { OnErr result (errors.new ≡ errors.old) }
+    ensures fault { IfErr result IsServeFault }
+{
+    let Office { mut keeper, shelf } = office;
+    let Ok(listener) = TcpListener::bind(rt, (Ipv4Addr::LOCALHOST, words.port)) else {
+        return Err(DatabaseFault::Net);
+    };
+    tell_listening(rt.alloc(), words.port, output)?;
+    let mut clock = OfficeClock::new(rt, words.at);
+    let failed = serve_connections(
+        rt,
+        &listener,
+        words.connections,
+        &mut keeper,
+        &shelf,
+        &mut clock,
+        errors,
+    );
+    Ok((failed, keeper))
+}
+
+/// The line that tells that a port is listened to, with its line feed.
+fn listening_line(alloc: Global, port: u16) -> Result<String, AllocError>
+    ensures { IfOk result (λ line. string_bytes line ≡ listening_line port) }
+{
+    format!(in alloc; "listening 127.0.0.1:{port}\n")
+}
+
+/// Tells that a port is listened to.
+fn tell_listening<O: Write>(alloc: Global, port: u16, output: &mut O) -> Result<(), DatabaseFault>
+    ensures ok { OnOk result (Appends (O.contents output.old) (O.contents output.new)
+        (listening_line port)) }
+    ensures err { OnErr result (WritesBeginning (O.contents output.old) (O.contents output.new)
+        (listening_line port)) }
+    ensures fault { IfErr result IsTellFault }
+{
+    match write_listening(alloc, port, output) {
+        Ok(()) => Ok(()),
+        Err(StreamFault::Memory) => Err(DatabaseFault::Memory),
+        Err(_) => Err(DatabaseFault::File),
+    }
+}
+
+/// Writes that a port is listened to.
+fn write_listening<O: Write>(alloc: Global, port: u16, output: &mut O) -> Result<(), StreamFault>
+    ensures ok { OnOk result (Appends (O.contents output.old) (O.contents output.new)
+        (listening_line port)) }
+    ensures err { OnErr result (WritesBeginning (O.contents output.old) (O.contents output.new)
+        (listening_line port)) }
+{
+    let line = listening_line(alloc, port)?;
+    write_whole(output, line.as_bytes())?;
+    match output.flush() {
+        Ok(()) => Ok(()),
+        Err(_) => Err(StreamFault::Write),
+    }
+}

@@ -1,0 +1,89 @@
+//! Connections of a listener, one after another.
+
+ghost use Rattle.std.specs.Prelude.{◌≡◌, ◌≤◌};
+ghost use Rattle.charging.specs.Continued.{Continues, LeavesOn};
+ghost use Rattle.service.specs.ServingTold.{TellsFaults};
+
+use crate::telling::tell_fault;
+use http_api::{Clock, ServeFault, Served, serve_socket};
+use keepers::ChargeSource;
+use shelves::TariffShelf;
+use std::io::Write;
+use std::net::TcpListener;
+
+/// Serves so many connections of a listener, one after another, each as `serve_socket` does, and
+/// answers how many of them ended in a fault. A connection's fault is one line on `errors`, as far
+/// as that can be written, and the next connection is served; one that the listener couldn't hand
+/// over counts as one whose socket failed.
+pub fn serve_connections<K: ChargeSource, C: Clock, E: Write>(
+    rt: &HostRuntime,
+    listener: &TcpListener,
+    connections: u32,
+    keeper: &mut K,
+    shelf: &TariffShelf,
+    clock: &mut C,
+    errors: &mut E,
+) -> u32
+    ensures told { TellsFaults result (E.contents errors.old) (E.contents errors.new) }
+    ensures bounded { result ≤ connections }
+    ensures continued { K.clean keeper.new →
+        Continues shelf.now (K.content keeper.old) (K.content keeper.new) }
+    ensures cleanness { K.clean keeper.new → K.clean keeper.old }
+    ensures honesty { K.honest keeper.new → K.honest keeper.old }
+    ensures left { LeavesOn K.content K.honest K.clean K.left shelf.now keeper.old keeper.new }
+    ensures failures { K.failed keeper.old ≤ K.failed keeper.new }
+{
+    let mut failed = 0;
+    for _served in 0..connections {
+        failed += serve_next(rt, listener, keeper, shelf, clock, errors);
+    }
+    failed
+}
+
+/// Serves the next connection of a listener, and tells its fault: how many there were, none or one.
+fn serve_next<K: ChargeSource, C: Clock, E: Write>(
+    rt: &HostRuntime,
+    listener: &TcpListener,
+    keeper: &mut K,
+    shelf: &TariffShelf,
+    clock: &mut C,
+    errors: &mut E,
+) -> u32
+    ensures told { TellsFaults result (E.contents errors.old) (E.contents errors.new) }
+    ensures bounded { result ≤ 1 }
+    ensures continued { K.clean keeper.new →
+        Continues shelf.now (K.content keeper.old) (K.content keeper.new) }
+    ensures cleanness { K.clean keeper.new → K.clean keeper.old }
+    ensures honesty { K.honest keeper.new → K.honest keeper.old }
+    ensures left { LeavesOn K.content K.honest K.clean K.left shelf.now keeper.old keeper.new }
+    ensures failures { K.failed keeper.old ≤ K.failed keeper.new }
+{
+    match serve_accepted(rt, listener, keeper, shelf, clock) {
+        Ok(_) => 0,
+        Err(fault) => {
+            tell_fault(errors, fault);
+            1
+        }
+    }
+}
+
+/// Serves the next connection of a listener.
+fn serve_accepted<K: ChargeSource, C: Clock>(
+    rt: &HostRuntime,
+    listener: &TcpListener,
+    keeper: &mut K,
+    shelf: &TariffShelf,
+    clock: &mut C,
+) -> Result<Served, ServeFault>
+    ensures continued { K.clean keeper.new →
+        Continues shelf.now (K.content keeper.old) (K.content keeper.new) }
+    ensures cleanness { K.clean keeper.new → K.clean keeper.old }
+    ensures honesty { K.honest keeper.new → K.honest keeper.old }
+    ensures left { LeavesOn K.content K.honest K.clean K.left shelf.now keeper.old keeper.new }
+    ensures failures { K.failed keeper.old ≤ K.failed keeper.new }
+{
+    match listener.accept() {
+        Ok((stream, _)) => serve_socket(rt, &stream, keeper, shelf, clock),
+        Err(_) => Err(ServeFault::Read),
+    }
+}

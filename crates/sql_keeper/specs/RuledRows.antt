@@ -1,0 +1,85 @@
+-- Rows of a change that are in the rules of their tables.
+-- Source: profile.
+use Rattle.std.specs.Prelude.{◌&&◌, Bool, true, List, Option, Some, None, length, nat_le}
+use Rattle.std.specs.List.{list_all}
+use Rattle.units.specs.Words.{Moment}
+use Rattle.identifiers.specs.Words.{AccountName, VoucherCode}
+use Rattle.identifiers.specs.Texts.{is_account_number, is_reference, is_session_id}
+use Rattle.buckets.specs.declared.holds.Hold.{Hold}
+use Rattle.reserving.specs.Stored.{StoredRows}
+use Rattle.reserving.specs.declared.session.Reservation.{Reservation}
+use Rattle.reserving.specs.declared.session.SessionGroup.{SessionGroup}
+use Rattle.keepers.specs.Keys.{key_of}
+use Rattle.keepers.specs.declared.key.KeptAnswer.{KeptAnswer}
+use Rattle.keepers.specs.declared.key.Key.{Key}
+use Rattle.keepers.specs.declared.key.Key.TheVariants.{Request, Reference}
+use Rattle.keepers.specs.declared.loaded.Change.{Change}
+use Rattle.keepers.specs.declared.loaded.Redeemed.{Redeemed}
+use Rattle.voucher_rules.specs.Standing.{unspent}
+use Rattle.voucher_rules.specs.declared.terms.VoucherTerms.{VoucherTerms}
+use Rattle.sql_rows.specs.Values.{Kept}
+use Rattle.sql_rules.specs.Columns.{is_moment, is_small, is_some_money, is_within}
+use Rattle.sql_rules.specs.Rules.{are_kept_texts}
+use Rattle.sql_rules.specs.Ruled.{is_bucket, is_charge, is_counter, is_head, is_session, is_voucher}
+use Rattle.sql_keeper.specs.Content.{Names}
+use Rattle.sql_keeper.specs.Writes.{head_of, row_of}
+use Rattle.sql_keeper.specs.declared.swept_rows.SweptAccount.{SweptAccount}
+
+abbrev pub is_ruled_hold : Hold → Bool
+is_ruled_hold x = is_some_money x.amount
+
+-- a reservation goes by one of the books, and holds something of each of its buckets
+abbrev pub is_ruled_reservation : Names → Option Reservation → Bool
+is_ruled_reservation names None = true
+is_ruled_reservation names (Some x) =
+    is_within 1 (length names) x.terms.book && list_all is_ruled_hold x.holds
+
+abbrev pub is_ruled_group : Names → SessionGroup → Bool
+is_ruled_group names x =
+    is_small x.group && nat_le x.used 1_000_000_000_000_000_000
+    && is_ruled_reservation names x.reservation
+
+-- the rows of an account
+abbrev pub are_ruled_rows : Names → AccountName → StoredRows → Bool
+are_ruled_rows names a w =
+    is_account_number a && is_head (head_of w) && list_all is_bucket w.buckets
+    && list_all is_counter w.counters && list_all is_session w.sessions
+    && list_all (is_ruled_group names) w.groups
+
+-- a voucher as it is left
+abbrev pub is_ruled_redeemed : Option Redeemed → Bool
+is_ruled_redeemed None = true
+is_ruled_redeemed (Some r) = is_voucher r.code (row_of r.voucher)
+
+-- a key of what is kept
+abbrev pub is_ruled_key : Key → Bool
+is_ruled_key (Request s n) = is_session_id s && is_small n
+is_ruled_key (Reference x) = is_reference x
+
+abbrev pub is_ruled_kept : Option KeptAnswer → Bool
+is_ruled_kept None = true
+is_ruled_kept (Some k) = is_ruled_key (key_of k.content)
+
+-- the texts that are kept, if any are, are those of a command of the account and of its answer
+abbrev pub are_ruled_texts : AccountName → Option Kept → Bool
+are_ruled_texts a None = true
+are_ruled_texts a (Some t) = are_kept_texts a t.content t.answer
+
+-- all of a change but its texts
+abbrev pub is_ruled_change : Names → Change → Bool
+is_ruled_change names change =
+    is_moment change.moment && are_ruled_rows names change.number change.rows
+    && list_all is_charge change.charges.items && is_ruled_redeemed change.redeemed
+    && is_ruled_kept change.kept
+
+-- a voucher that is added, at a moment
+abbrev pub is_ruled_addition : VoucherCode → VoucherTerms → Moment → Bool
+is_ruled_addition code terms t = is_moment t && is_voucher code (row_of (unspent terms))
+
+-- an account as a sweep leaves it
+abbrev pub is_ruled_swept : Names → SweptAccount → Bool
+is_ruled_swept names x = are_ruled_rows names x.number x.rows
+
+-- all accounts, at a moment
+abbrev pub is_ruled_sweep : Names → Moment → List SweptAccount → Bool
+is_ruled_sweep names t xs = is_moment t && list_all (is_ruled_swept names) xs

@@ -1,0 +1,100 @@
+-- What a keeper has seen of an account since its tables were last written.
+-- Source: profile.
+use Rattle.std.specs.Prelude.{◌≡◌, true, false, Bool, Option, Some, None, IsTrue, is_some}
+use Rattle.std.specs.Prelude.{if◌then◌else◌}
+use Rattle.identifiers.specs.Words.{AccountName, SessionName}
+use Rattle.sqlite_trees.specs.Tree.{Trees}
+use Rattle.sqlite_trees.specs.declared.store.Store.{Ghosts}
+use Rattle.sqlite.specs.Held.{state}
+use Rattle.sqlite.specs.State.{State, HasCleanDisk}
+use Rattle.reserving.specs.Left.{is_open_row}
+use Rattle.reserving.specs.declared.session.Session.{Session}
+use Rattle.reserving.specs.Sessions.{is_open, session_in}
+use Rattle.reserving.specs.Stored.{StoredRows}
+use Rattle.sql_tables.specs.Keyed.{same_name}
+use Rattle.sql_rows.specs.Content.{Rows as Stored, rows_in}
+use Rattle.sql_rows.specs.Lists.{HasNoGroups}
+use Rattle.sql_keeper.specs.Inside.{IsKeeper, KeeperState}
+use Rattle.sql_keeper.specs.Writes.{head_of}
+use Rattle.sql_keeper.specs.declared.seen.SeenAccount.{SeenAccount}
+use Rattle.sql_keeper.specs.declared.seen.Standing.{Standing}
+use Rattle.sql_keeper.specs.declared.seen.Standing.TheVariants.{Unknown, Open, Over}
+
+-- ---- how a session stands
+
+-- it has no row, and nothing of rating groups
+pub record IsUnknown (r : Stored) (s : SessionName) : Type 0 where
+  pub row : r.sessions s ≡ None
+  pub groups : HasNoGroups r s
+
+abbrev pub IsStanding : Stored → SessionName → Standing → Type 0
+IsStanding r s Unknown = IsUnknown r s
+IsStanding r s Open = is_open_row (r.sessions s) ≡ true
+IsStanding r s Over = is_open_row (r.sessions s) ≡ false
+
+-- whether it is open so
+abbrev pub stands_open : Standing → Bool
+stands_open Unknown = false
+stands_open Open = true
+stands_open Over = false
+
+abbrev pub is_unknown : Standing → Bool
+is_unknown Unknown = true
+is_unknown Open = false
+is_unknown Over = false
+
+-- by its row
+abbrev pub standing_of : Option Session → Standing
+standing_of None = Unknown
+standing_of (Some x) = if is_open x.state then Open else Over
+
+-- whether it has a row; where it has none, it has nothing of rating groups
+pub record IsKnown (r : Stored) (s : SessionName) (known : Bool) : Type 0 where
+  pub row : known ≡ is_some (r.sessions s)
+  pub groups : known ≡ false → HasNoGroups r s
+
+-- ---- what is seen
+
+-- of the rows of an account
+pub record IsSeenOf (a : AccountName) (w : StoredRows) (x : SeenAccount) : Type 0 where
+  pub account : x.account ≡ a
+  pub head : x.head ≡ head_of w
+  pub live : (s : SessionName) → x.live ≡ Some s → is_open_row (session_in s w.sessions) ≡ true
+  pub unknown : x.unknown ≡ None
+
+-- the same with a session that has no row, or without one
+pub record IsSeenWith (s : SessionName) (x y : SeenAccount) : Type 0 where
+  pub account : y.account ≡ x.account
+  pub head : y.head ≡ x.head
+  pub live : y.live ≡ x.live
+  pub unknown : (z : SessionName) → y.unknown ≡ Some z → z ≡ s
+
+-- whether a name is this one
+abbrev pub is_name : SessionName → Option SessionName → Bool
+is_name s None = false
+is_name s (Some z) = same_name z s
+
+-- how a session stands by what is seen of its account
+abbrev pub standing_in : SeenAccount → SessionName → Option Standing
+standing_in x s =
+    if is_name s x.unknown then Some Unknown else (if is_name s x.live then Some Open else None)
+
+-- it is what the account's rows are
+pub record IsSeen (r : Stored) (x : SeenAccount) : Type 0 where
+  pub head : r.head ≡ Some x.head
+  pub live : (s : SessionName) → x.live ≡ Some s → is_open_row (r.sessions s) ≡ true
+  pub unknown : (s : SessionName) → x.unknown ≡ Some s → IsUnknown r s
+
+abbrev pub Sees : Option SeenAccount → Trees → Type 0
+Sees None trees = Unit {0}
+Sees (Some x) trees = IsSeen (rows_in trees x.account) x
+
+-- while the disk returned what was written and the connection is open
+abbrev pub AreSeen : Option SeenAccount → State → Type 0
+AreSeen o s = HasCleanDisk s → IsTrue s.is_open → Sees o s.now.trees
+
+-- what a keeper keeps between calls, with what it has seen
+pub record IsSeeing {S : Type 0} (g : Ghosts S) (k : KeeperState S) (o : Option SeenAccount)
+    : Type 0 where
+  pub keeper : IsKeeper g k
+  pub seen : AreSeen o (state g k.connection)

@@ -1,0 +1,298 @@
+//! Whether the rows of a change are in the rules of their tables, so that an open finds them there.
+
+ghost use Rattle.std.specs.Prelude.{◌≡◌, length};
+ghost use Rattle.std.specs.List.{list_all};
+ghost use Rattle.identifiers.specs.Texts.{is_account_number, is_reference, is_session_id};
+ghost use Rattle.sql_keeper.specs.Content.{shelf_names};
+ghost use Rattle.voucher_rules.specs.Standing.{unspent};
+ghost use Rattle.sql_keeper.specs.RuledRows.{are_ruled_rows, is_ruled_addition, is_ruled_change};
+ghost use Rattle.sql_keeper.specs.RuledRows.{is_ruled_group, is_ruled_sweep, is_ruled_swept};
+ghost use Rattle.keepers.specs.Keys.{key_of};
+ghost use Rattle.sql_keeper.specs.RuledRows.{is_ruled_hold, is_ruled_kept, is_ruled_key};
+ghost use Rattle.sql_keeper.specs.RuledRows.{is_ruled_redeemed, is_ruled_reservation};
+ghost use Rattle.sql_keeper.specs.Writes.{head_of, row_of};
+ghost use Rattle.sql_rules.specs.Columns.{is_moment, is_small, is_within};
+ghost use Rattle.sql_rules.specs.Ruled.{is_bucket, is_charge, is_counter, is_head};
+ghost use Rattle.sql_rules.specs.Ruled.{is_none_or_within, is_session, is_voucher};
+
+use crate::swept_rows::SweptAccount;
+use buckets::{Bucket, Hold};
+use commands::Content;
+use identifiers::{AccountNumber, Reference, SessionId, VoucherCode};
+use keepers::{Change, KeptAnswer, NamedRows, Redeemed};
+use reserving::{ChargeRow, Counter, Reservation, Session, SessionGroup, StoredAccount};
+use shelves::TariffShelf;
+use units::Moment;
+use voucher_rules::VoucherTerms;
+
+// ---- values
+
+fn is_moment(moment: Moment) -> bool
+    ensures { result ≡ is_moment moment }
+{
+    moment.seconds() < 4_102_444_800
+}
+
+fn is_small(number: u32) -> bool
+    ensures { result ≡ is_small number }
+{
+    u64::from(number) <= 4_294_967_295
+}
+
+fn is_within(number: u64, low: u64, high: u64) -> bool
+    ensures { result ≡ is_within low high number }
+{
+    low <= number && number <= high
+}
+
+fn is_none_or_within(number: Option<u32>, low: u64, high: u64) -> bool
+    ensures { result ≡ is_none_or_within low high number }
+{
+    match number {
+        None => true,
+        Some(number) => is_within(u64::from(number), low, high),
+    }
+}
+
+fn is_number(account: &AccountNumber) -> bool
+    ensures { result ≡ is_account_number account.now }
+{
+    // For the prover alone: looking at the value makes known here what its type keeps.
+    let _text = account.as_str();
+    true
+}
+
+fn is_name(session: &SessionId) -> bool
+    ensures { result ≡ is_session_id session.now }
+{
+    // For the prover alone: looking at the value makes known here what its type keeps.
+    let _text = session.as_str();
+    true
+}
+
+fn is_reference(reference: &Reference) -> bool
+    ensures { result ≡ is_reference reference.now }
+{
+    // For the prover alone: looking at the value makes known here what its type keeps.
+    let _text = reference.as_str();
+    true
+}
+
+// ---- the rows of an account
+
+fn is_head(rows: &NamedRows) -> bool
+    ensures { result ≡ is_head (head_of rows.now) }
+{
+    is_moment(rows.as_of())
+        && is_within(rows.next_bucket(), 1, 4_294_967_296)
+        && is_within(rows.next_charge(), 1, 4_294_967_296)
+}
+
+fn is_bucket(bucket: &Bucket) -> bool
+    ensures { result ≡ is_bucket bucket.now }
+{
+    is_within(u64::from(bucket.number()), 1, 4_294_967_295)
+        && is_moment(bucket.from())
+        && is_within(bucket.until().seconds(), 1, 4_102_444_800)
+        && is_none_or_within(bucket.scope(), 0, 4_294_967_295)
+        && bucket.credited() <= 1_000_000_000_000_000
+}
+
+fn is_counter(counter: &Counter) -> bool
+    ensures { result ≡ is_counter counter.now }
+{
+    is_small(counter.group)
+        && is_small(counter.cycle)
+        && counter.blocks <= 4_000_000_000_000_000_000
+}
+
+fn is_session(session: &Session) -> bool
+    ensures { result ≡ is_session session.now }
+{
+    is_name(&session.id) && is_small(session.last_number) && is_moment(session.touched)
+}
+
+fn is_hold(hold: &Hold) -> bool
+    ensures { result ≡ is_ruled_hold hold.now }
+{
+    is_within(hold.amount, 1, 1_000_000_000_000_000)
+}
+
+fn are_holds(holds: &[Hold]) -> bool
+    ensures { result ≡ list_all is_ruled_hold holds.now }
+{
+    holds.iter().all(|hold| is_hold(hold))
+}
+
+/// Whether a book of this number is on the shelf.
+fn is_on_shelf(books: &TariffShelf, number: u8) -> bool
+    ensures { result ≡ is_within 1 (length (shelf_names books.now)) number }
+{
+    is_within(u64::from(number), 1, u64::from(books.count()))
+}
+
+fn is_reservation(books: &TariffShelf, reservation: &Option<Reservation>) -> bool
+    ensures { result ≡ is_ruled_reservation (shelf_names books.now) reservation.now }
+{
+    match reservation {
+        None => true,
+        Some(reservation) => {
+            is_on_shelf(books, reservation.terms.book) && are_holds(reservation.holds.as_slice())
+        }
+    }
+}
+
+fn is_group(books: &TariffShelf, group: &SessionGroup) -> bool
+    ensures { result ≡ is_ruled_group (shelf_names books.now) group.now }
+{
+    is_small(group.group)
+        && group.used <= 1_000_000_000_000_000_000
+        && is_reservation(books, &group.reservation)
+}
+
+fn are_buckets(buckets: &[Bucket]) -> bool
+    ensures { result ≡ list_all is_bucket buckets.now }
+{
+    buckets.iter().all(|bucket| is_bucket(bucket))
+}
+
+fn are_counters(counters: &[Counter]) -> bool
+    ensures { result ≡ list_all is_counter counters.now }
+{
+    counters.iter().all(|counter| is_counter(counter))
+}
+
+fn are_sessions(sessions: &[Session]) -> bool
+    ensures { result ≡ list_all is_session sessions.now }
+{
+    sessions.iter().all(|session| is_session(session))
+}
+
+fn are_groups(books: &TariffShelf, groups: &[SessionGroup]) -> bool
+    ensures { result ≡ list_all (is_ruled_group (shelf_names books.now)) groups.now }
+{
+    groups.iter().all(|group| is_group(books, group))
+}
+
+/// Whether the rows of an account are in the rules of their tables.
+fn are_rows(books: &TariffShelf, account: &AccountNumber, rows: &NamedRows) -> bool
+    ensures { result ≡ are_ruled_rows (shelf_names books.now) account.now rows.now }
+{
+    is_number(account)
+        && is_head(rows)
+        && are_buckets(rows.buckets())
+        && are_counters(rows.counters())
+        && are_sessions(rows.sessions())
+        && are_groups(books, rows.groups())
+}
+
+// ---- beside them
+
+fn is_charge(charge: &ChargeRow) -> bool
+    ensures { result ≡ is_charge charge.now }
+{
+    is_within(u64::from(charge.number), 1, 4_294_967_295)
+        && is_moment(charge.moment)
+        && is_name(&charge.session)
+        && is_small(charge.group)
+}
+
+fn are_charges(charges: &[ChargeRow]) -> bool
+    ensures { result ≡ list_all is_charge charges.now }
+{
+    charges.iter().all(|charge| is_charge(charge))
+}
+
+fn are_terms(code: &VoucherCode, terms: VoucherTerms) -> bool
+    ensures { result ≡ is_voucher code.now (row_of (unspent terms)) }
+{
+    // For the prover alone: looking at the value makes known here what its type keeps.
+    let _text = code.as_str();
+    is_within(terms.amount().micros(), 1, 1_000_000_000_000_000)
+        && is_none_or_within(terms.days(), 1, 3650)
+        && is_none_or_within(terms.scope(), 0, 4_294_967_295)
+}
+
+fn is_redeemed(redeemed: &Option<Redeemed>) -> bool
+    ensures { result ≡ is_ruled_redeemed redeemed.now }
+{
+    match redeemed {
+        None => true,
+        Some(redeemed) => are_terms(&redeemed.code, redeemed.voucher.terms),
+    }
+}
+
+/// Whether texts are kept under a key in its rules.
+fn is_key(content: &Content) -> bool
+    ensures { result ≡ is_ruled_key (key_of content.now) }
+{
+    match content {
+        Content::Request(request) => is_name(&request.session) && is_small(request.number),
+        Content::Credit(kept) => is_reference(&kept.credit().reference),
+        Content::Allow(allowance) => is_reference(&allowance.reference),
+        Content::Redeem(redemption) => is_reference(&redemption.reference),
+    }
+}
+
+fn is_kept(kept: &Option<KeptAnswer>) -> bool
+    ensures { result ≡ is_ruled_kept kept.now }
+{
+    match kept {
+        None => true,
+        Some(kept) => is_key(&kept.content),
+    }
+}
+
+/// Whether the rows that a change writes, but for its texts, are in the rules of their tables, where
+/// the tariff books are those of the shelf.
+pub(crate) fn is_ruled_change(books: &TariffShelf, change: &Change) -> bool
+    ensures { result ≡ is_ruled_change (shelf_names books.now) change.now }
+{
+    is_moment(change.moment)
+        && are_rows(books, &change.number, &change.rows)
+        && are_charges(&change.charges)
+        && is_redeemed(&change.redeemed)
+        && is_kept(&change.kept)
+}
+
+/// Whether a voucher that is added at a moment is in the rules of its table, and the moment too.
+pub(crate) fn is_ruled_addition(code: &VoucherCode, terms: VoucherTerms, moment: Moment) -> bool
+    ensures { result ≡ is_ruled_addition code.now terms moment }
+{
+    is_moment(moment) && are_terms(code, terms)
+}
+
+// ---- a sweep
+
+fn is_stored_head(rows: &StoredAccount) -> bool
+    ensures { result ≡ is_head (head_of rows.now) }
+{
+    is_moment(rows.as_of())
+        && is_within(rows.next_bucket(), 1, 4_294_967_296)
+        && is_within(rows.next_charge(), 1, 4_294_967_296)
+}
+
+fn is_swept(books: &TariffShelf, account: &SweptAccount) -> bool
+    ensures { result ≡ is_ruled_swept (shelf_names books.now) account.now }
+{
+    is_number(&account.number)
+        && is_stored_head(&account.rows)
+        && are_buckets(account.rows.purse().buckets())
+        && are_counters(account.rows.counters())
+        && are_sessions(account.rows.sessions())
+        && are_groups(books, account.rows.groups())
+}
+
+fn are_swept(books: &TariffShelf, accounts: &[SweptAccount]) -> bool
+    ensures { result ≡ list_all (is_ruled_swept (shelf_names books.now)) accounts.now }
+{
+    accounts.iter().all(|account| is_swept(books, account))
+}
+
+/// Whether the rows of all accounts as a sweep leaves them are in the rules of their tables, and
+/// the moment too.
+pub(crate) fn is_ruled_sweep(books: &TariffShelf, moment: Moment, accounts: &[SweptAccount]) -> bool
+    ensures { result ≡ is_ruled_sweep (shelf_names books.now) moment accounts.now }
+{
+    is_moment(moment) && are_swept(books, accounts)
+}

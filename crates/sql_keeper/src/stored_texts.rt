@@ -1,0 +1,66 @@
+//! The texts that stand for what is kept of a command.
+
+ghost use Rattle.std.specs.Prelude.{◌≡◌, IfOk, Some, option_map, true};
+ghost use Rattle.sql_rows.specs.Texts.{kept_of};
+ghost use Rattle.sql_rules.specs.Rules.{are_kept_texts};
+ghost use Rattle.wire.specs.Contents.{account_of};
+ghost use Rattle.sql_keeper.specs.Content.{kept_in};
+ghost use Rattle.sql_keeper.specs.RuledRows.{are_ruled_texts};
+ghost use Rattle.sql_keeper.specs.Writes.{AreTexts};
+
+use commands::Content;
+use identifiers::AccountNumber;
+use keepers::KeptAnswer;
+use sql_rows::Kept;
+use sql_tables::ReadFault;
+use std::alloc::Global;
+use wire::{write_answer, write_content};
+
+/// The account of a command that is kept.
+fn account_of(content: &Content) -> &AccountNumber
+    ensures { result.now ≡ account_of content.now }
+{
+    match content {
+        Content::Request(request) => &request.account,
+        Content::Credit(kept) => &kept.credit().account,
+        Content::Allow(allowance) => &allowance.account,
+        Content::Redeem(redemption) => &redemption.account,
+    }
+}
+
+/// The texts that stand for what is kept of a command of this account. What is of another account
+/// wouldn't be read again as what it is: it is out of the rules.
+#[tactic(auto, using(crate::proofs::OwnTexts::own_texts))]
+fn texts_of(alloc: Global, account: &AccountNumber, kept: &KeptAnswer) -> Result<Kept, ReadFault>
+    ensures told { IfOk result (λ t. kept_in account.now (kept_of t) ≡ Some kept.now) }
+    ensures rules { IfOk result (λ t. are_kept_texts account.now (kept_of t).content
+        (kept_of t).answer ≡ true) }
+{
+    // For the prover alone: looking at the value makes known here what its type keeps.
+    let _number = account.as_str();
+    if account_of(&kept.content) != account {
+        return Err(ReadFault::Rules);
+    }
+    let content = write_content(alloc, &kept.content)?;
+    let answer = write_answer(alloc, &kept.answer)?;
+    Ok(Kept { content, answer })
+}
+
+/// The texts that stand for what is kept of a command of this account, where something is kept.
+///
+/// # Errors
+/// `Rules` where the command is of another account; out of memory.
+pub fn kept_texts(
+    alloc: Global,
+    account: &AccountNumber,
+    kept: &Option<KeptAnswer>,
+) -> Result<Option<Kept>, ReadFault>
+    ensures told { IfOk result (λ t. AreTexts account.now kept.now (option_map kept_of t)) }
+    ensures rules { IfOk result (λ t.
+        are_ruled_texts account.now (option_map kept_of t) ≡ true) }
+{
+    match kept {
+        None => Ok(None),
+        Some(kept) => Ok(Some(texts_of(alloc, account, kept)?)),
+    }
+}

@@ -1,0 +1,377 @@
+-- What is put into content that is in its rules, or removed, leaves it so.
+use Rattle.std.proofs.Common.{◌≡◌, ◌≤◌, ◌<◌, ◌+◌, ℕ, List, Bool, true, false, ◌&&◌, Some, None}
+use Rattle.std.proofs.Common.{Option, refl, subst, arith, eqb-true, nat_eq}
+use Rattle.std.specs.Prelude.{if◌then◌else◌, is_some}
+use Rattle.std.proofs.lemmas.Bool.{and_parts}
+use Rattle.identifiers.specs.Texts.{is_account_number, same_name}
+use Rattle.shelves.specs.Shelves.{Shelf, count}
+use Rattle.buckets.specs.Row.{Row as Bucket}
+use Rattle.reserving.specs.declared.session.Session.{Session}
+use Rattle.reserving.specs.declared.session.Counter.{Counter}
+use Rattle.reserving.specs.declared.charge.ChargeRow.{ChargeRow}
+use Rattle.reserving.proofs.Holds.{same_from}
+use Rattle.sql_rows.specs.declared.head.Head.{Head}
+use Rattle.sql_rows.specs.Content.{Content, Rows, with_account, with_allowance, with_answer}
+use Rattle.sql_rows.specs.Content.{with_book}
+use Rattle.sql_rows.specs.Content.{with_bucket, with_charge, with_counter, with_covered}
+use Rattle.sql_rows.specs.Content.{with_grant_book, with_group, with_head, with_hold, with_meta}
+use Rattle.sql_rows.specs.Content.{with_rows, with_session, with_voucher, without_allowance}
+use Rattle.sql_rows.specs.Content.{without_covered, without_grant_book, without_holds}
+use Rattle.sql_rows.specs.Values.{CoveredRow, DatedBook, Group, Kept, Meta, Voucher}
+use Rattle.sql_rules.specs.Columns.{is_moment, is_numbering, is_some_money, is_within}
+use Rattle.sql_rules.specs.Ruled.{AreInRules, IsInRules, is_answer, is_book, is_bucket, is_charge}
+use Rattle.sql_rules.specs.Ruled.{is_counter, is_group, is_head, is_session, is_voucher}
+
+-- ---- one row among those that stand
+
+module _ {X : Type 0} (P : X → Type 0) where
+  chosen : (t : Bool) (x : X) (o : Option X) → (t ≡ true → P x) → ((y : X) → o ≡ Some y → P y)
+      → (y : X) → (if t then Some x else o) ≡ Some y → P y
+  chosen true x o new old y e = let is : x ≡ y = cc e in subst P is (new refl)
+  chosen false x o new old y e = old y e
+
+  left_out : (t : Bool) (o : Option X) → ((y : X) → o ≡ Some y → P y)
+      → (y : X) → (if t then None else o) ≡ Some y → P y
+  left_out true o old y e = absurd (cc e)
+  left_out false o old y e = old y e
+
+marked : (P : ℕ → Type 0) (n m : ℕ) (old : Bool) → P n → (old ≡ true → P m)
+    → (if nat_eq n m then true else old) ≡ true → P m
+marked P n m old new before = at (nat_eq n m) refl
+  where
+    at : (t : Bool) → nat_eq n m ≡ t → (if t then true else old) ≡ true → P m
+    at true e h = subst P (eqb-true n m e) new
+    at false e h = before h
+
+unmarked : (P : ℕ → Type 0) (m : ℕ) (t old : Bool) → (old ≡ true → P m)
+    → (if t then false else old) ≡ true → P m
+unmarked P m true old before h = absurd (cc h)
+unmarked P m false old before h = before h
+
+-- ---- the rows of an account
+
+module _ (shelf : Shelf) (a : List ℕ) (r : Rows) (in' : AreInRules shelf a r) where
+  pub head_kept : (h : Head) → is_account_number a ≡ true → is_head h ≡ true
+      → AreInRules shelf a (with_head h r)
+  head_kept h name rule = record {
+    head = λ g e. let is : h ≡ g = cc e in (name, subst (λ x. is_head x ≡ true) is rule);
+    buckets = in'.buckets;
+    counters = in'.counters;
+    sessions = in'.sessions;
+    groups = in'.groups;
+    holds = in'.holds;
+    answers = in'.answers;
+    charges = in'.charges;
+    grant_books = in'.grant_books;
+    allowances = in'.allowances;
+    covered = in'.covered;
+  }
+
+  pub bucket_kept : (b : Bucket) → is_bucket b ≡ true → AreInRules shelf a (with_bucket b r)
+  bucket_kept b rule = record {
+    head = in'.head;
+    buckets = λ n. chosen (λ x. is_bucket x ≡ true) (nat_eq b.number n) b (r.buckets n) (λ e. rule)
+        (in'.buckets n);
+    counters = in'.counters;
+    sessions = in'.sessions;
+    groups = in'.groups;
+    holds = in'.holds;
+    answers = in'.answers;
+    charges = in'.charges;
+    grant_books = in'.grant_books;
+    allowances = in'.allowances;
+    covered = in'.covered;
+  }
+
+  pub counter_kept : (k : Counter) → is_counter k ≡ true → AreInRules shelf a (with_counter k r)
+  counter_kept k rule = record {
+    head = in'.head;
+    buckets = in'.buckets;
+    counters = λ g c. chosen (λ x. is_counter x ≡ true) (nat_eq k.group g && nat_eq k.cycle c) k
+        (r.counters g c) (λ e. rule) (in'.counters g c);
+    sessions = in'.sessions;
+    groups = in'.groups;
+    holds = in'.holds;
+    answers = in'.answers;
+    charges = in'.charges;
+    grant_books = in'.grant_books;
+    allowances = in'.allowances;
+    covered = in'.covered;
+  }
+
+  pub session_kept : (x : Session) → is_session x ≡ true → AreInRules shelf a (with_session x r)
+  session_kept x rule = record {
+    head = in'.head;
+    buckets = in'.buckets;
+    counters = in'.counters;
+    sessions = λ s. chosen (λ y. is_session y ≡ true) (same_name x.id s) x (r.sessions s)
+        (λ e. rule) (in'.sessions s);
+    groups = in'.groups;
+    holds = in'.holds;
+    answers = in'.answers;
+    charges = in'.charges;
+    grant_books = in'.grant_books;
+    allowances = in'.allowances;
+    covered = in'.covered;
+  }
+
+  pub group_kept : (s : List ℕ) (g : ℕ) (x : Group) → is_group shelf g x ≡ true
+      → AreInRules shelf a (with_group s g x r)
+  group_kept s g x rule = record {
+    head = in'.head;
+    buckets = in'.buckets;
+    counters = in'.counters;
+    sessions = in'.sessions;
+    groups = λ t h. chosen (λ y. is_group shelf h y ≡ true) (same_name s t && nat_eq g h) x
+        (r.groups t h)
+        (λ e. subst (λ n. is_group shelf n x ≡ true)
+        (eqb-true g h (and_parts (same_name s t) (nat_eq g h) e).1) rule)
+        (in'.groups t h);
+    holds = in'.holds;
+    answers = in'.answers;
+    charges = in'.charges;
+    grant_books = in'.grant_books;
+    allowances = in'.allowances;
+    covered = in'.covered;
+  }
+
+  pub hold_kept : (s : List ℕ) (g n amount : ℕ) → is_some_money amount ≡ true
+      → AreInRules shelf a (with_hold s g n amount r)
+  hold_kept s g n amount rule = record {
+    head = in'.head;
+    buckets = in'.buckets;
+    counters = in'.counters;
+    sessions = in'.sessions;
+    groups = in'.groups;
+    holds = λ t h m. chosen (λ y. is_some_money y ≡ true)
+        (same_name s t && (nat_eq g h && nat_eq n m)) amount (r.holds t h m) (λ e. rule)
+        (in'.holds t h m);
+    answers = in'.answers;
+    charges = in'.charges;
+    grant_books = in'.grant_books;
+    allowances = in'.allowances;
+    covered = in'.covered;
+  }
+
+  pub holds_gone : (s : List ℕ) (g : ℕ) → AreInRules shelf a (without_holds s g r)
+  holds_gone s g = record {
+    head = in'.head;
+    buckets = in'.buckets;
+    counters = in'.counters;
+    sessions = in'.sessions;
+    groups = in'.groups;
+    holds = λ t h m. left_out (λ y. is_some_money y ≡ true) (same_name s t && nat_eq g h)
+        (r.holds t h m) (in'.holds t h m);
+    answers = in'.answers;
+    charges = in'.charges;
+    grant_books = in'.grant_books;
+    allowances = in'.allowances;
+    covered = in'.covered;
+  }
+
+  pub answer_kept : (kind : ℕ) (name : List ℕ) (number : ℕ) (k : Kept)
+      → is_answer a kind name number k ≡ true
+      → AreInRules shelf a (with_answer kind name number k r)
+  answer_kept kind name number k rule = record {
+    head = in'.head;
+    buckets = in'.buckets;
+    counters = in'.counters;
+    sessions = in'.sessions;
+    groups = in'.groups;
+    holds = in'.holds;
+    answers = λ l t m. chosen (λ y. is_answer a l t m y ≡ true)
+        (nat_eq kind l && (same_name name t && nat_eq number m)) k (r.answers l t m)
+        (λ e.
+        let first = and_parts (nat_eq kind l) (same_name name t && nat_eq number m) e in
+        let rest = and_parts (same_name name t) (nat_eq number m) first.1 in
+        subst (λ x. is_answer a x t m k ≡ true) (eqb-true kind l first.0)
+        (subst (λ x. is_answer a kind x m k ≡ true) (same_from name t rest.0)
+        (subst (λ x. is_answer a kind name x k ≡ true) (eqb-true number m rest.1) rule)))
+        (in'.answers l t m);
+    charges = in'.charges;
+    grant_books = in'.grant_books;
+    allowances = in'.allowances;
+    covered = in'.covered;
+  }
+
+  pub charge_kept : (x : ChargeRow) → is_charge x ≡ true → AreInRules shelf a (with_charge x r)
+  charge_kept x rule = record {
+    head = in'.head;
+    buckets = in'.buckets;
+    counters = in'.counters;
+    sessions = in'.sessions;
+    groups = in'.groups;
+    holds = in'.holds;
+    answers = in'.answers;
+    charges = λ n. chosen (λ y. is_charge y ≡ true) (nat_eq x.number n) x (r.charges n) (λ e. rule)
+        (in'.charges n);
+    grant_books = in'.grant_books;
+    allowances = in'.allowances;
+    covered = in'.covered;
+  }
+
+  pub grant_book_kept : (s : List ℕ) (g n : ℕ) → is_within 1 (count shelf) n ≡ true
+      → AreInRules shelf a (with_grant_book s g n r)
+  grant_book_kept s g n rule = record {
+    head = in'.head;
+    buckets = in'.buckets;
+    counters = in'.counters;
+    sessions = in'.sessions;
+    groups = in'.groups;
+    holds = in'.holds;
+    answers = in'.answers;
+    charges = in'.charges;
+    grant_books = λ t h. chosen (λ y. is_within 1 (count shelf) y ≡ true)
+        (same_name s t && nat_eq g h) n (r.grant_books t h) (λ e. rule) (in'.grant_books t h);
+    allowances = in'.allowances;
+    covered = in'.covered;
+  }
+
+  pub grant_book_gone : (s : List ℕ) (g : ℕ) → AreInRules shelf a (without_grant_book s g r)
+  grant_book_gone s g = record {
+    head = in'.head;
+    buckets = in'.buckets;
+    counters = in'.counters;
+    sessions = in'.sessions;
+    groups = in'.groups;
+    holds = in'.holds;
+    answers = in'.answers;
+    charges = in'.charges;
+    grant_books = λ t h. left_out (λ y. is_within 1 (count shelf) y ≡ true)
+        (same_name s t && nat_eq g h) (r.grant_books t h) (in'.grant_books t h);
+    allowances = in'.allowances;
+    covered = in'.covered;
+  }
+
+  pub allowance_kept : (n : ℕ) → is_numbering n ≡ true → AreInRules shelf a (with_allowance n r)
+  allowance_kept n rule = record {
+    head = in'.head;
+    buckets = in'.buckets;
+    counters = in'.counters;
+    sessions = in'.sessions;
+    groups = in'.groups;
+    holds = in'.holds;
+    answers = in'.answers;
+    charges = in'.charges;
+    grant_books = in'.grant_books;
+    allowances = λ m. marked (λ x. is_numbering x ≡ true) n m (r.allowances m) rule
+        (in'.allowances m);
+    covered = in'.covered;
+  }
+
+  pub allowance_gone : (n : ℕ) → AreInRules shelf a (without_allowance n r)
+  allowance_gone n = record {
+    head = in'.head;
+    buckets = in'.buckets;
+    counters = in'.counters;
+    sessions = in'.sessions;
+    groups = in'.groups;
+    holds = in'.holds;
+    answers = in'.answers;
+    charges = in'.charges;
+    grant_books = in'.grant_books;
+    allowances = λ m. unmarked (λ x. is_numbering x ≡ true) m (nat_eq n m) (r.allowances m)
+        (in'.allowances m);
+    covered = in'.covered;
+  }
+
+  pub covered_kept : (x : CoveredRow) → 0 < x.blocks → AreInRules shelf a (with_covered x r)
+  covered_kept x some = record {
+    head = in'.head;
+    buckets = in'.buckets;
+    counters = in'.counters;
+    sessions = in'.sessions;
+    groups = in'.groups;
+    holds = in'.holds;
+    answers = in'.answers;
+    charges = in'.charges;
+    grant_books = in'.grant_books;
+    allowances = in'.allowances;
+    covered = λ n. chosen (λ y. 0 < y) (nat_eq x.number n) x.blocks (r.covered n) (λ e. some)
+        (in'.covered n);
+  }
+
+  pub covered_gone : (n : ℕ) → AreInRules shelf a (without_covered n r)
+  covered_gone n = record {
+    head = in'.head;
+    buckets = in'.buckets;
+    counters = in'.counters;
+    sessions = in'.sessions;
+    groups = in'.groups;
+    holds = in'.holds;
+    answers = in'.answers;
+    charges = in'.charges;
+    grant_books = in'.grant_books;
+    allowances = in'.allowances;
+    covered = λ m. left_out (λ y. 0 < y) (nat_eq n m) (r.covered m) (in'.covered m);
+  }
+
+-- ---- the content
+
+module _ (shelf : Shelf) (c : Content) (in' : IsInRules shelf c) where
+  -- of one account
+  rows_at : (a : List ℕ) (f : Rows → Rows) → AreInRules shelf a (f (c.rows a)) → (x : List ℕ)
+      → AreInRules shelf x (if same_name a x then f (c.rows x) else c.rows x)
+  rows_at a f own x = at (same_name a x) refl
+    where
+      at : (t : Bool) → same_name a x ≡ t →
+          AreInRules shelf x (if t then f (c.rows x) else c.rows x)
+      at true e = subst (λ y. AreInRules shelf y (f (c.rows y))) (same_from a x e) own
+      at false e = in'.rows x
+
+  pub rows_kept : (a : List ℕ) (f : Rows → Rows) → AreInRules shelf a (f (c.rows a))
+      → IsInRules shelf (with_rows a f c)
+  rows_kept a f own = record {
+    once = in'.once;
+    meta = in'.meta;
+    rows = rows_at a f own;
+    vouchers = in'.vouchers;
+    books = in'.books;
+  }
+
+  pub account_kept : (a : List ℕ) (h : Head) → is_account_number a ≡ true → is_head h ≡ true
+      → IsInRules shelf (with_account a h c)
+  account_kept a h name rule = record {
+    once = in'.once;
+    meta = in'.meta;
+    rows = rows_at a (with_head h) (head_kept shelf a (c.rows a) (in'.rows a) h name rule);
+    vouchers = in'.vouchers;
+    books = in'.books;
+  }
+
+  once_still : (t : Bool) → (t ≡ false → c.kept ≡ 0) → (if t then c.kept else c.kept + 1) ≤ 1
+  once_still true none = in'.once
+  once_still false none = let is : c.kept ≡ 0 = none refl in omega (arith, is)
+
+  -- where there is none under the id, there is none
+  pub meta_kept : (m : Meta) → is_moment m.last ≡ true → (is_some c.meta ≡ false → c.kept ≡ 0)
+      → IsInRules shelf (with_meta m c)
+  meta_kept m rule none = record {
+    once = once_still (is_some c.meta) none;
+    meta = λ x e. let is : m ≡ x = cc e in
+        subst (λ (y : Meta). is_moment y.last ≡ true) is rule;
+    rows = in'.rows;
+    vouchers = in'.vouchers;
+    books = in'.books;
+  }
+
+  pub voucher_kept : (code : List ℕ) (x : Voucher) → is_voucher code x ≡ true
+      → IsInRules shelf (with_voucher code x c)
+  voucher_kept code x rule = record {
+    once = in'.once;
+    meta = in'.meta;
+    rows = in'.rows;
+    vouchers = λ k. chosen (λ y. is_voucher k y ≡ true) (same_name code k) x (c.vouchers k)
+        (λ e. subst (λ t. is_voucher t x ≡ true) (same_from code k e) rule) (in'.vouchers k);
+    books = in'.books;
+  }
+
+  pub book_kept : (n : ℕ) (x : DatedBook) → is_book n x ≡ true → IsInRules shelf (with_book n x c)
+  book_kept n x rule = record {
+    once = in'.once;
+    meta = in'.meta;
+    rows = in'.rows;
+    vouchers = in'.vouchers;
+    books = λ m. chosen (λ y. is_book m y ≡ true) (nat_eq n m) x (c.books m)
+        (λ e. subst (λ t. is_book t x ≡ true) (eqb-true n m e) rule) (in'.books m);
+  }

@@ -1,0 +1,381 @@
+-- Rows of tables whose content is in its rules, as the statements write them, are in their rules.
+use Rattle.std.proofs.Common.{◌≡◌, ◌≤◌, ◌<◌, ℕ, zero, suc, List, [], ◌∷◌, drop, length, Bool, true}
+use Rattle.std.proofs.Common.{false, not, Some, None, Option, refl, sym, ap, ap₂, subst, ◌∙◌, arith}
+use Rattle.std.proofs.Common.{inl, inr, get_or, nat_eq, IsTrue}
+use Rattle.std.specs.Prelude.{option_map, is_some}
+use Rattle.std.specs.FinMap.{get-from_entries}
+use Rattle.std.specs.Ordering.{eq_by_cmp}
+use Rattle.std.specs.List.{AllByRecursion}
+use Rattle.std.proofs.lemmas.Bool.{and_from}
+use Rattle.std.proofs.lemmas.Bool.Decides.{nat_tests}
+use Rattle.shelves.specs.Shelves.{Shelf}
+use Rattle.sqlite_sql.specs.Term.{Term, eval}
+use Rattle.sqlite_sql.specs.Ops.{is_false, is_null}
+use Rattle.sqlite_value.specs.declared.value.Value.{Value}
+use Rattle.sqlite_value.specs.declared.value.Value.TheVariants.{Text}
+use Rattle.sqlite_value.specs.Order.{Row, column, row_cmp}
+use Rattle.sqlite_value.proofs.OrderLemmas.{row_cmp_total}
+use Rattle.sqlite_trees.specs.Tree.{Trees}
+use Rattle.sqlite_schema.specs.declared.schema.Column.{Column}
+use Rattle.sqlite_schema.specs.declared.schema.Kind.TheVariants as kind
+use Rattle.sqlite_schema.specs.declared.schema.Table.{Table}
+use Rattle.sqlite_schema.specs.Rules.{Fits, is_of, passes_checks, suits}
+use Rattle.sqlite_rules.specs.Lists.{Has}
+use Rattle.sqlite_rules.proofs.ListLemmas.{all_has}
+use Rattle.sql_tables.specs.Keyed.{IsStored, entries_of, key_of, look}
+use Rattle.sql_tables.specs.Schema.{accounts, allowance_buckets, answers, at_least_zero}
+use Rattle.sql_tables.specs.Schema.{book_schema}
+use Rattle.sql_tables.specs.Schema.{books, buckets, charges, counters, covered, grant_books, holds}
+use Rattle.sql_tables.specs.Schema.{latest, meta, number, session_groups, sessions, vouchers}
+use Rattle.sql_tables.specs.Statements.{AreStored}
+use Rattle.sql_tables.proofs.Keys.{number_last}
+use Rattle.sql_tables.proofs.Selections.{met_some}
+use Rattle.sql_rows.specs.Content.{content_of, rows_in}
+use Rattle.sql_rows.specs.Plain.{ArePlain}
+use Rattle.sql_rows.specs.Values.{Meta, nat, nat_in, text_in, meta_key, head_key, bucket_key}
+use Rattle.sql_rows.specs.Values.{counter_key, session_key, group_key, hold_key, answer_key}
+use Rattle.sql_rows.specs.Values.{voucher_key, charge_key, book_key, meta_in, head_in, bucket_in}
+use Rattle.sql_rows.specs.Values.{counter_in, session_in, group_in, hold_in, answer_in, voucher_in}
+use Rattle.sql_rows.specs.Values.{charge_in, book_in, grant_book_in, allowance_in, covered_in}
+use Rattle.sql_rows.proofs.MetaRules.{right_at}
+use Rattle.sql_rules.specs.Columns.{is_moment}
+use Rattle.sql_rules.specs.Rules.{is_ruled_meta, rule_at}
+use Rattle.sql_rules.specs.Ruled.{IsInRules}
+use Rattle.sql_rules.specs.Tables.{AreRuled, table_at}
+use Rattle.sql_rules.proofs.Encoded.{account_back, answer_back, book_back, bucket_back}
+use Rattle.sql_rules.proofs.Encoded.{charge_back, counter_back, covered_back, grant_book_back}
+use Rattle.sql_rules.proofs.Encoded.{group_back, hold_back, session_back, voucher_back}
+use Rattle.sql_rules.proofs.Lookups.{mapped}
+use Rattle.sql_rules.proofs.MappedRows.{IsKeyed, full_rows, keyed, under_key}
+use Rattle.sql_rules.proofs.Typed.{check_at, number_column, text_column, typed_column}
+
+-- ---- a row alone
+
+abbrev right : Row → Term → Bool
+right row t = not (is_false (eval t ([] ∷ row ∷ [])))
+
+checked : (table : Table) (row : Row) (i : ℕ) → i < length table.checks
+    → passes_checks table row ≡ true → right row (get_or table.checks i (at_least_zero 1)) ≡ true
+checked table row i low h = check_at (right row) table.checks i (at_least_zero 1) low h
+
+abbrev none_named : Column
+none_named = number []
+
+all_from : (P : Row → Type 0) (rows : List Row) → ((r : Row) → Has rows r → P r) →
+    AllByRecursion P rows
+all_from P [] each = tt
+all_from P (r ∷ rows) each = (each r (inl refl), all_from P rows (λ s h. each s (inr h)))
+
+only_one : (rows : List Row) → length rows ≤ 1 → (r s : Row) → Has rows r → Has rows s → r ≡ s
+only_one [] low r s h k = absurd h
+only_one (x ∷ []) low r s h k = first h ∙ sym (first k)
+  where
+    first : {t : Row} → Has (x ∷ []) t → t ≡ x
+    first (inl e) = e
+    first (inr none) = absurd none
+only_one (x ∷ y ∷ more) low r s h k = absurd (omega (arith, low))
+
+typed_or : (v : Value) → (is_null v ≡ false → is_of kind.Integer v ≡ true) →
+    is_of kind.Integer v ≡ true
+typed_or v to = at (is_null v) refl
+  where
+    at : (b : Bool) → is_null v ≡ b → is_of kind.Integer v ≡ true
+    at true e = rw e refl
+    at false e = to e
+
+some_of : {A : Type 0} (o : Option A) → is_some o ≡ true → (x : A) × (o ≡ Some x)
+some_of None e = absurd (cc e)
+some_of (Some x) e = (x, refl)
+
+fourth_at : (r : Row) → nat_in (column (drop 1 r) 3) ≡ nat_in (column r 4)
+fourth_at [] = refl
+fourth_at (v ∷ cells) = refl
+
+number_one : (k : ℕ) → nat_eq k 1 ≡ true → nat_eq 1 k ≡ true
+number_one k e = grind (arith, nat_tests, e)
+
+-- ---- the rows of the tables
+
+module _ (shelf : Shelf) (trees : Trees) (fits : Fits book_schema trees) where
+  abbrev pub Stands : ℕ → Row → Type 0
+  Stands at r = Has (trees (table_at at).tree) r
+
+  full : (at : ℕ) (low : at < 14) (r : Row) → Stands at r
+      → AllByRecursion (λ p. is_null (column r p) ≡ false) (table_at at).primary
+  full at low r has = full_rows shelf trees fits (table_at at) (keyed at low) r has
+
+  -- the text, and the number, in a column of the key
+  text_there : (at : ℕ) (low : at < 14) (r : Row) → Stands at r → (k : ℕ)
+      → k < length (table_at at).columns → is_null (column r (suc k)) ≡ false
+      → ((v : Value) → suits (get_or (table_at at).columns k none_named) v ≡ true
+      → is_of kind.Text v ≡ true)
+      → column r (suc k) ≡ Text (text_in (column r (suc k)))
+  text_there at low r has k inside there kinds =
+      text_column trees fits (table_at at) (keyed at low) r has (keyed at low).alone k none_named
+      inside there kinds
+
+  number_there : (at : ℕ) (low : at < 14) (r : Row) → Stands at r → (k : ℕ)
+      → k < length (table_at at).columns → is_null (column r (suc k)) ≡ false
+      → ((v : Value) → suits (get_or (table_at at).columns k none_named) v ≡ true
+      → is_of kind.Integer v ≡ true)
+      → (passes_checks (table_at at) r ≡ true → right_at r (suc k) ≡ true)
+      → column r (suc k) ≡ nat (nat_in (column r (suc k)))
+  number_there at low r has k inside there kinds checks =
+      number_column trees fits (table_at at) (keyed at low) r has (keyed at low).alone k
+      none_named inside there kinds checks
+
+  -- ---- the keys of the tables
+
+  pub id_of : (r : Row) → Stands 0 r
+      → key_of (table_at 0).primary r ≡ book_key (nat_in (column r 1))
+  id_of r has =
+      let low : 0 < 14 = omega arith in
+      let there = full 0 low r has in
+      let v1 = number_there 0 low r has 0 (omega arith) there.0 (λ v h. h)
+      (checked (table_at 0) r 0 (omega arith)) in
+      λ i. v1 i ∷ []
+
+  pub account_of : (r : Row) → Stands 1 r
+      → key_of (table_at 1).primary r ≡ head_key (text_in (column r 1))
+  account_of r has =
+      let low : 1 < 14 = omega arith in
+      let there = full 1 low r has in
+      let v1 = text_there 1 low r has 0 (omega arith) there.0 (λ v h. h) in
+      λ i. v1 i ∷ []
+
+  pub bucket_of : (r : Row) → Stands 2 r
+      → key_of (table_at 2).primary r ≡ bucket_key (text_in (column r 1)) (nat_in (column r 2))
+  bucket_of r has =
+      let low : 2 < 14 = omega arith in
+      let there = full 2 low r has in
+      let v1 = text_there 2 low r has 0 (omega arith) there.0 (λ v h. h) in
+      let v2 = number_there 2 low r has 1 (omega arith) there.1.0 (λ v h. h)
+      (checked (table_at 2) r 0 (omega arith)) in
+      λ i. v1 i ∷ v2 i ∷ []
+
+  pub counter_of : (r : Row) → Stands 3 r
+      → key_of (table_at 3).primary r
+      ≡ counter_key (text_in (column r 1)) (nat_in (column r 2)) (nat_in (column r 3))
+  counter_of r has =
+      let low : 3 < 14 = omega arith in
+      let there = full 3 low r has in
+      let v1 = text_there 3 low r has 0 (omega arith) there.0 (λ v h. h) in
+      let v2 = number_there 3 low r has 1 (omega arith) there.1.0 (λ v h. h)
+      (checked (table_at 3) r 0 (omega arith)) in
+      let v3 = number_there 3 low r has 2 (omega arith) there.1.1.0 (λ v h. h)
+      (checked (table_at 3) r 1 (omega arith)) in
+      λ i. v1 i ∷ v2 i ∷ v3 i ∷ []
+
+  pub session_of : (r : Row) → Stands 4 r
+      → key_of (table_at 4).primary r ≡ session_key (text_in (column r 1)) (text_in (column r 2))
+  session_of r has =
+      let low : 4 < 14 = omega arith in
+      let there = full 4 low r has in
+      let v1 = text_there 4 low r has 0 (omega arith) there.0 (λ v h. h) in
+      let v2 = text_there 4 low r has 1 (omega arith) there.1.0 (λ v h. h) in
+      λ i. v1 i ∷ v2 i ∷ []
+
+  pub group_of : (r : Row) → Stands 5 r
+      → key_of (table_at 5).primary r
+      ≡ group_key (text_in (column r 1)) (text_in (column r 2)) (nat_in (column r 3))
+  group_of r has =
+      let low : 5 < 14 = omega arith in
+      let there = full 5 low r has in
+      let v1 = text_there 5 low r has 0 (omega arith) there.0 (λ v h. h) in
+      let v2 = text_there 5 low r has 1 (omega arith) there.1.0 (λ v h. h) in
+      let v3 = number_there 5 low r has 2 (omega arith) there.1.1.0 (λ v h. h)
+      (checked (table_at 5) r 0 (omega arith)) in
+      λ i. v1 i ∷ v2 i ∷ v3 i ∷ []
+
+  pub hold_of : (r : Row) → Stands 6 r
+      → key_of (table_at 6).primary r
+      ≡ hold_key (text_in (column r 1)) (text_in (column r 2)) (nat_in (column r 3)) (nat_in (column r 4))
+  hold_of r has =
+      let low : 6 < 14 = omega arith in
+      let there = full 6 low r has in
+      let v1 = text_there 6 low r has 0 (omega arith) there.0 (λ v h. h) in
+      let v2 = text_there 6 low r has 1 (omega arith) there.1.0 (λ v h. h) in
+      let v3 = number_there 6 low r has 2 (omega arith) there.1.1.0 (λ v h. h)
+      (checked (table_at 6) r 0 (omega arith)) in
+      let v4 = number_there 6 low r has 3 (omega arith) there.1.1.1.0 (λ v h. h)
+      (checked (table_at 6) r 1 (omega arith)) in
+      λ i. v1 i ∷ v2 i ∷ v3 i ∷ v4 i ∷ []
+
+  pub answer_of : (r : Row) → Stands 7 r
+      → key_of (table_at 7).primary r
+      ≡ answer_key (text_in (column r 1)) (nat_in (column r 2)) (text_in (column r 3)) (nat_in (column r 4))
+  answer_of r has =
+      let low : 7 < 14 = omega arith in
+      let there = full 7 low r has in
+      let v1 = text_there 7 low r has 0 (omega arith) there.0 (λ v h. h) in
+      let v2 = number_there 7 low r has 1 (omega arith) there.1.0 (λ v h. h)
+      (checked (table_at 7) r 0 (omega arith)) in
+      let v3 = text_there 7 low r has 2 (omega arith) there.1.1.0 (λ v h. h) in
+      let v4 = number_there 7 low r has 3 (omega arith) there.1.1.1.0 (λ v h. h)
+      (checked (table_at 7) r 1 (omega arith)) in
+      λ i. v1 i ∷ v2 i ∷ v3 i ∷ v4 i ∷ []
+
+  pub voucher_of : (r : Row) → Stands 8 r
+      → key_of (table_at 8).primary r ≡ voucher_key (text_in (column r 1))
+  voucher_of r has =
+      let low : 8 < 14 = omega arith in
+      let there = full 8 low r has in
+      let v1 = text_there 8 low r has 0 (omega arith) there.0 (λ v h. h) in
+      λ i. v1 i ∷ []
+
+  pub charge_of : (r : Row) → Stands 9 r
+      → key_of (table_at 9).primary r ≡ charge_key (text_in (column r 1)) (nat_in (column r 2))
+  charge_of r has =
+      let low : 9 < 14 = omega arith in
+      let there = full 9 low r has in
+      let v1 = text_there 9 low r has 0 (omega arith) there.0 (λ v h. h) in
+      let v2 = number_there 9 low r has 1 (omega arith) there.1.0 (λ v h. h)
+      (checked (table_at 9) r 0 (omega arith)) in
+      λ i. v1 i ∷ v2 i ∷ []
+
+  pub book_of : (r : Row) → Stands 10 r
+      → key_of (table_at 10).primary r ≡ book_key (nat_in (column r 1))
+  book_of r has =
+      let low : 10 < 14 = omega arith in
+      let there = full 10 low r has in
+      let v1 = number_there 10 low r has 0 (omega arith) there.0 (λ v h. h)
+      (checked (table_at 10) r 0 (omega arith)) in
+      λ i. v1 i ∷ []
+
+  pub grant_of : (r : Row) → Stands 11 r
+      → key_of (table_at 11).primary r
+      ≡ group_key (text_in (column r 1)) (text_in (column r 2)) (nat_in (column r 3))
+  grant_of r has =
+      let low : 11 < 14 = omega arith in
+      let there = full 11 low r has in
+      let v1 = text_there 11 low r has 0 (omega arith) there.0 (λ v h. h) in
+      let v2 = text_there 11 low r has 1 (omega arith) there.1.0 (λ v h. h) in
+      let v3 = number_there 11 low r has 2 (omega arith) there.1.1.0 (λ v h. h)
+      (checked (table_at 11) r 0 (omega arith)) in
+      λ i. v1 i ∷ v2 i ∷ v3 i ∷ []
+
+  pub allowance_of : (r : Row) → Stands 12 r
+      → key_of (table_at 12).primary r ≡ bucket_key (text_in (column r 1)) (nat_in (column r 2))
+  allowance_of r has =
+      let low : 12 < 14 = omega arith in
+      let there = full 12 low r has in
+      let v1 = text_there 12 low r has 0 (omega arith) there.0 (λ v h. h) in
+      let v2 = number_there 12 low r has 1 (omega arith) there.1.0 (λ v h. h)
+      (checked (table_at 12) r 0 (omega arith)) in
+      λ i. v1 i ∷ v2 i ∷ []
+
+  pub covered_of : (r : Row) → Stands 13 r
+      → key_of (table_at 13).primary r ≡ charge_key (text_in (column r 1)) (nat_in (column r 2))
+  covered_of r has =
+      let low : 13 < 14 = omega arith in
+      let there = full 13 low r has in
+      let v1 = text_there 13 low r has 0 (omega arith) there.0 (λ v h. h) in
+      let v2 = number_there 13 low r has 1 (omega arith) there.1.0 (λ v h. h)
+      (checked (table_at 13) r 0 (omega arith)) in
+      λ i. v1 i ∷ v2 i ∷ []
+
+  module _ (stored : AreStored trees) where
+    stands : (at : ℕ) → at < 14 → (r : Row) → Stands at r
+        → look (table_at at) trees (key_of (table_at at).primary r) ≡ Some (drop 1 r)
+    stands at low r has =
+        let is = keyed at low in
+        under_key (table_at at) is.tabled is.listed is.guarding trees fits
+        (all_has (λ (t : Table). IsStored (trees t.tree)) book_schema.tables (table_at at) stored
+        is.tabled) (λ x. true) (λ x. refl) r has (full at low r has)
+
+    -- what the content has of a row
+    told : {X : Type 0} (at : ℕ) (low : at < 14) (of : Row → X) (r : Row) (key : Row)
+        → Stands at r → key_of (table_at at).primary r ≡ key
+        → option_map of (look (table_at at) trees key) ≡ Some (of (drop 1 r))
+    told at low of r key has is =
+        ap (option_map of) (ap (look (table_at at) trees) (sym is) ∙ stands at low r has)
+
+    module _ (in' : IsInRules shelf (content_of trees)) (plain : ArePlain trees)
+        (there : is_some (content_of trees).meta ≡ true) where
+      meta_row : (r : Row) → Stands 0 r → is_ruled_meta r ≡ true
+      meta_row r has =
+          let some = some_of (content_of trees).meta there in
+          let it = mapped meta_in (look meta trees meta_key) some.0 some.1 in
+          let back = met_some (1 ∷ []) meta_key it.0 (trees 0)
+          (sym (get-from_entries row_cmp_total (entries_of (1 ∷ []) (trees 0)) meta_key) ∙ it.1) in
+          let same = only_one (trees 0) in'.once r back.0 has back.1 in
+          let id : nat_eq (nat_in (column back.0 1)) 1 ≡ true =
+          sym (number_last (nat_in (column back.0 1)) 1)
+          ∙ subst (λ k. eq_by_cmp row_cmp meta_key k ≡ true) (id_of back.0 back.1) back.2 in
+          let moment : is_moment (nat_in (column back.0 4)) ≡ true =
+          subst (λ n. is_moment n ≡ true) (fourth_at back.0)
+          (subst (λ v. is_moment (meta_in v).last ≡ true) back.3
+          (subst (λ (m : Meta). is_moment m.last ≡ true) (sym it.2) (in'.meta some.0 some.1))) in
+          subst (λ x. is_ruled_meta x ≡ true) (sym same) (and_from _ _ (number_one _ id) moment)
+
+      row_ruled : (at : ℕ) → at < 14 → (r : Row) → Stands at r → rule_at shelf at r ≡ true
+      row_ruled zero low r has = meta_row r has
+      row_ruled (suc zero) low r has =
+          account_back r
+          ((in'.rows (text_in (column r 1))).head (head_in (drop 1 r))
+          (told 1 low head_in r _ has (account_of r has))).0
+          ((in'.rows (text_in (column r 1))).head (head_in (drop 1 r))
+          (told 1 low head_in r _ has (account_of r has))).1
+          (plain.heads (key_of (1 ∷ []) r) (drop 1 r) (stands 1 low r has))
+      row_ruled (suc (suc zero)) low r has =
+          bucket_back r ((in'.rows (text_in (column r 1))).buckets (nat_in (column r 2))
+          (bucket_in (drop 1 r)) (told 2 low bucket_in r _ has (bucket_of r has)))
+      row_ruled (suc (suc (suc zero))) low r has =
+          counter_back r ((in'.rows (text_in (column r 1))).counters (nat_in (column r 2))
+          (nat_in (column r 3)) (counter_in (drop 1 r))
+          (told 3 low counter_in r _ has (counter_of r has)))
+      row_ruled (suc (suc (suc (suc zero)))) low r has =
+          session_back r
+          ((in'.rows (text_in (column r 1))).sessions (text_in (column r 2))
+          (session_in (drop 1 r)) (told 4 low session_in r _ has (session_of r has)))
+          (plain.of_sessions (key_of (1 ∷ 2 ∷ []) r) (drop 1 r) (stands 4 low r has))
+      row_ruled (suc (suc (suc (suc (suc zero))))) low r has =
+          group_back shelf r
+          ((in'.rows (text_in (column r 1))).groups (text_in (column r 2)) (nat_in (column r 3))
+          (group_in (drop 1 r)) (told 5 low group_in r _ has (group_of r has)))
+          (plain.of_groups (key_of (1 ∷ 2 ∷ 3 ∷ []) r) (drop 1 r) (stands 5 low r has))
+      row_ruled (suc (suc (suc (suc (suc (suc zero)))))) low r has =
+          hold_back r ((in'.rows (text_in (column r 1))).holds (text_in (column r 2))
+          (nat_in (column r 3)) (nat_in (column r 4)) (hold_in (drop 1 r))
+          (told 6 low hold_in r _ has (hold_of r has)))
+      row_ruled (suc (suc (suc (suc (suc (suc (suc zero))))))) low r has =
+          answer_back r ((in'.rows (text_in (column r 1))).answers (nat_in (column r 2))
+          (text_in (column r 3)) (nat_in (column r 4)) (answer_in (drop 1 r))
+          (told 7 low answer_in r _ has (answer_of r has)))
+      row_ruled (suc (suc (suc (suc (suc (suc (suc (suc zero)))))))) low r has =
+          voucher_back r
+          (typed_or (column r 3) (λ some. typed_column trees fits vouchers (keyed 8 low) r has refl 2
+          none_named (omega arith) some))
+          (in'.vouchers (text_in (column r 1)) (voucher_in (drop 1 r))
+          (told 8 low voucher_in r _ has (voucher_of r has)))
+      row_ruled (suc (suc (suc (suc (suc (suc (suc (suc (suc zero))))))))) low r has =
+          charge_back r ((in'.rows (text_in (column r 1))).charges (nat_in (column r 2))
+          (charge_in (drop 1 r)) (told 9 low charge_in r _ has (charge_of r has)))
+      row_ruled (suc (suc (suc (suc (suc (suc (suc (suc (suc (suc zero)))))))))) low r has =
+          book_back r (in'.books (nat_in (column r 1)) (book_in (drop 1 r))
+          (told 10 low book_in r _ has (book_of r has)))
+      row_ruled (suc (suc (suc (suc (suc (suc (suc (suc (suc (suc (suc zero))))))))))) low r has =
+          grant_book_back shelf r ((in'.rows (text_in (column r 1))).grant_books
+          (text_in (column r 2)) (nat_in (column r 3)) (grant_book_in (drop 1 r))
+          (told 11 low grant_book_in r _ has (grant_of r has)))
+      row_ruled (suc (suc (suc (suc (suc (suc (suc (suc (suc (suc (suc (suc zero)))))))))))) low r
+          has =
+          (in'.rows (text_in (column r 1))).allowances (nat_in (column r 2))
+          (ap is_some (told 12 low allowance_in r _ has (allowance_of r has)))
+      row_ruled
+          (suc (suc (suc (suc (suc (suc (suc (suc (suc (suc (suc (suc (suc zero))))))))))))) low r
+          has =
+          covered_back r ((in'.rows (text_in (column r 1))).covered (nat_in (column r 2))
+          (covered_in (drop 1 r)) (told 13 low covered_in r _ has (covered_of r has)))
+      row_ruled
+          (suc (suc (suc (suc (suc (suc (suc (suc (suc (suc (suc (suc (suc (suc n)))))))))))))) low r
+          has =
+          absurd (omega (arith, low))
+
+      pub rows_ruled : AreRuled shelf latest trees
+      rows_ruled at low = record {
+        stored = all_has (λ (t : Table). IsStored (trees t.tree)) book_schema.tables (table_at at)
+            stored (keyed at low).tabled;
+        rows = all_from (λ r. IsTrue (rule_at shelf at r)) (trees (table_at at).tree)
+            (row_ruled at low);
+      }

@@ -1,0 +1,67 @@
+use Rattle.std.proofs.Common.{ℕ, List, [], ◌++◌, ◌∷◌, refl, rules, arith}
+use Rattle.sqlite_value.specs.Order.{Row}
+use Rattle.sqlite.specs.Given.{HasGiven}
+use Rattle.sqlite.specs.Listing.{understood}
+use Rattle.sqlite.specs.State.{State, HasCleanDisk, Survives, CommitsShowing}
+use Rattle.sqlite.specs.Held.{state}
+use Rattle.sqlite.proofs.StateLemmas.{survives_weaker, survives_then}
+use Rattle.sqlite.proofs.Callers.{IsPlain, begun_plain, never_commits, unchanged_then}
+use Rattle.sql_tables.proofs.Ascents.{up_to}
+use Rattle.sql_tables.proofs.rising.are_rising.Goals as goal
+
+commits_nothing : (sql : List ℕ) (params : Row) (old new : State)
+    → (HasCleanDisk old → IsPlain (understood old.now.schema sql))
+    → Survives old new (CommitsShowing sql params old) → Survives old new (λ _. ⊥)
+commits_nothing sql params old new plain s =
+    survives_weaker old new _ _
+    (λ clean db. never_commits sql params old db (plain (omega (arith, s.clean, clean)))) s
+
+pub returns-in_err-rows-clause-crash : goal.returns-in_err-rows-clause-crash
+returns-in_err-rows-clause-crash g c =
+    let old = state g.S.Store c.args.conn.now in
+    let new = state g.S.Store c.query.follows.lender-at-none in
+    let held = c.query.follows.holds-at-none in
+    let kept : Survives old new (CommitsShowing c.args.sql.now [] old) = search rules in
+    commits_nothing c.args.sql.now [] old new c.requires kept
+
+pub rows-init : goal.rows-init
+rows-init g c =
+    let made = c.in_ok-rows.ensures in (
+      refl,
+      commits_nothing _ _ _ _ c.requires made.survives,
+      λ clean. let begun = begun_plain g.S.Store _ _ c.args.conn.now _
+          (c.requires (omega (arith, made.survives.clean, clean))) (made.begun clean) in
+          ([], begun.0, begun.1, refl),
+    )
+
+pub returns-in_default-clause-rise : goal.returns-in_default-clause-rise
+returns-in_default-clause-rise g c clean =
+    let moved = c.next.follows.holds-at-none in
+    let now = c.next.follows.lender-at-none.conn.now in
+    let late : HasCleanDisk (state g.S.Store now) = search rules in
+    let was = c.rows.invariant.2 (omega (arith, moved.survives.clean)) in
+    let shown =
+    (rw (c.in_ok-row.was, c.in_default.is) at (moved.ok late)) c.args.sql.now [] was.0 was.1 in
+    let up = up_to c.rows.climb.rises c.rows.climb.last was.0 was.3 in
+    (c.rows.rows.conn.now, was.0, was.2, search (rules, shown), up.0, up.1)
+
+pub rows-preserved : goal.rows-preserved
+rows-preserved g c =
+    let old = state g.S.Store c.args.conn.now in
+    let mid = state g.S.Store c.rows.rows.conn.now in
+    let moved = c.next.follows.holds-at-none in
+    let now = c.next.follows.lender-at-none.conn.now in (
+      search rules,
+      survives_then old mid (state g.S.Store now) _ _ (λ _. ⊥) (λ _ db none. none)
+          (λ _ db none. none) c.rows.invariant.1 moved.survives,
+      λ clean.
+          let was = c.rows.invariant.2 (omega (arith, moved.survives.clean)) in
+          let on : HasGiven g.S.Store c.args.sql.now [] now (was.0 ++ c.in-Some.row.now ∷ []) =
+          (rw (c.in_ok-row.was, c.in-Some.is) at (moved.ok clean)) c.args.sql.now []
+          was.0 was.1 in (
+            was.0 ++ c.in-Some.row.now ∷ [],
+            on,
+            unchanged_then old mid (state g.S.Store now) was.2 (search (rules, moved.same)),
+            c.with-climb.ensures was.0 was.3,
+          ),
+    )

@@ -1,0 +1,125 @@
+//! Whether a database is one of this system.
+
+ghost use Rattle.std.specs.Prelude.{◌≡◌, ◌<◌, [], false, true, slice_index_or, IfErr, IfOk, IsTrue};
+ghost use Rattle.std.specs.Prelude.{OnOk};
+ghost use Rattle.sqlite.specs.Held.{state};
+ghost use Rattle.sqlite.specs.State.{HasCleanDisk, Survives};
+ghost use Rattle.sql_tables.specs.Schema.{schema_at};
+ghost use Rattle.sql_tables.specs.Opens.{FindsAll, IsFound, IsNoVersion, IsTold, IsVersion};
+ghost use Rattle.sql_tables.specs.Opens.{rowids_texts};
+
+use crate::creating::create_in_memory_at;
+use crate::fault::OpenFault;
+use crate::rising::{fault_of, rowids_differ};
+use crate::same::same_schema;
+use sqlite::{Alter, Connection};
+use std::alloc::Global;
+
+/// Whether the tables of the database are those of this version, and no others.
+fn has_version<S: Alter>(
+    conn: &Connection<S>,
+    alloc: Global,
+    version: u32,
+) -> Result<bool, OpenFault>
+    requires known { IsVersion version }
+    ensures has { IfOk result (λ same. IsTrue same → conn.now.schema ≡ schema_at version) }
+    ensures all { IfOk result (λ same. conn.now.schema ≡ schema_at version → IsTrue same) }
+    ensures told { IfErr result IsNoVersion }
+    ensures means { IfErr result (IsTold (state S.Store conn.now).now) }
+{
+    let ours = match create_in_memory_at(alloc, version) {
+        Ok(ours) => ours,
+        Err(error) => return Err(fault_of(error)),
+    };
+    Ok(same_schema(ours.schema(), conn.schema()))
+}
+
+/// The version whose tables the database has, and no others.
+fn version_of<S: Alter>(conn: &Connection<S>, alloc: Global) -> Result<u32, OpenFault>
+    ensures version { IfOk result IsVersion }
+    ensures has { IfOk result (λ v. conn.now.schema ≡ schema_at v) }
+    ensures told { IfErr result IsNoVersion }
+    ensures means { IfErr result (IsTold (state S.Store conn.now).now) }
+{
+    let third = has_version(conn, alloc, 3)?;
+    if third {
+        return Ok(3);
+    }
+    let second = has_version(conn, alloc, 2)?;
+    if second {
+        return Ok(2);
+    }
+    let first = has_version(conn, alloc, 1)?;
+    if first {
+        return Ok(1);
+    }
+    Err(OpenFault::Foreign)
+}
+
+/// The text that selects the rowids of a table in order, by the table's place among those of all
+/// versions.
+fn rowids_text(at: usize) -> &'static str
+    requires { at < 14 }
+    ensures { result.now ≡ slice_index_or rowids_texts at [] }
+{
+    match at {
+        0 => "SELECT rowid FROM meta ORDER BY rowid",
+        1 => "SELECT rowid FROM accounts ORDER BY rowid",
+        2 => "SELECT rowid FROM buckets ORDER BY rowid",
+        3 => "SELECT rowid FROM counters ORDER BY rowid",
+        4 => "SELECT rowid FROM sessions ORDER BY rowid",
+        5 => "SELECT rowid FROM session_groups ORDER BY rowid",
+        6 => "SELECT rowid FROM holds ORDER BY rowid",
+        7 => "SELECT rowid FROM answers ORDER BY rowid",
+        8 => "SELECT rowid FROM vouchers ORDER BY rowid",
+        9 => "SELECT rowid FROM charges ORDER BY rowid",
+        10 => "SELECT rowid FROM books ORDER BY rowid",
+        11 => "SELECT rowid FROM grant_books ORDER BY rowid",
+        12 => "SELECT rowid FROM allowance_buckets ORDER BY rowid",
+        _ => "SELECT rowid FROM covered ORDER BY rowid",
+    }
+}
+
+/// Tests that no rowid stands twice in a table of a version.
+fn tables_differ<S: Alter>(conn: &mut Connection<S>, version: u32) -> Result<(), OpenFault>
+    requires known { IsVersion version }
+    requires has { conn.old.schema ≡ schema_at version }
+    ensures { FindsAll version (state S.Store conn.old) (state S.Store conn.new) result }
+{
+    let count = conn.schema().tables.len();
+    rowids_differ(conn, version, rowids_text(0))?;
+    'tables: for at in 1..count {
+        rowids_differ(conn, version, rowids_text(at))?;
+    }
+    Ok(())
+}
+
+/// Which version's tables the database has: it tests that it has exactly those and their indexes,
+/// and that no rowid of theirs stands twice. Then each statement that is written for the version
+/// does what it says. Each row is looked at once. Nothing is changed, whatever is answered.
+///
+/// # Errors
+/// `Foreign` only where the tables are exactly those of no version, `Rules` only where they are
+/// those of one and a rowid stands twice or is no integer; `Store` where the store failed or a
+/// transaction is open; `Memory` where memory was refused.
+pub fn find_tables<S: Alter>(conn: &mut Connection<S>, alloc: Global) -> Result<u32, OpenFault>
+    ensures found { HasCleanDisk (state S.Store conn.new) →
+        IfOk result (λ v. IsFound v (state S.Store conn.old) (state S.Store conn.new)) }
+    ensures version { IfOk result IsVersion }
+    ensures idle { OnOk result (conn.new.in_transaction ≡ false) }
+    ensures told { IfErr result IsNoVersion }
+    ensures means { HasCleanDisk (state S.Store conn.new) →
+        IfErr result (IsTold (state S.Store conn.old).now) }
+    ensures survives { Survives (state S.Store conn.old) (state S.Store conn.new) (λ _. ⊥) }
+{
+    if !conn.is_autocommit() {
+        return Err(OpenFault::Store);
+    }
+    let version = version_of(conn, alloc)?;
+    tables_differ(conn, version)?;
+    if conn.is_autocommit() {
+        Ok(version)
+    } else {
+        Err(OpenFault::Store)
+    }
+}

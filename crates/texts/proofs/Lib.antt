@@ -1,0 +1,4 @@
+pub mod Loop
+pub mod Steps
+pub mod LineLemmas
+pub mod PieceLemmas

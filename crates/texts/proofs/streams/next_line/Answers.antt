@@ -1,0 +1,10 @@
+use Rattle.std.proofs.Common.{sym, ◌∙◌}
+use Rattle.texts.proofs.LineLemmas.{goes_on}
+use Rattle.texts.proofs.streams.next_line.Goals as goal
+
+pub loop-taken-preserved : goal.loop-taken-preserved
+loop-taken-preserved g c =
+    goes_on (g.R.Read.remaining c.args.reader.now) (g.R.Read.remaining c.loop-taken.reader)
+    (g.R.Read.remaining c.next_byte.new.reader) c.loop-taken.line.items c.push.new.self.items
+    c.in-Some.byte (sym c.ends_line.ensures ∙ c.if-ends_line.false) c.in_ok-push.ensures.items
+    (rw c.in-Some.is at c.in_ok-byte.ensures.taken) c.loop-taken.invariant

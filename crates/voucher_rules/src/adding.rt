@@ -1,0 +1,48 @@
+//! A voucher that is added.
+
+ghost use Rattle.std.specs.Prelude.{◌≡◌, ◌↔◌, IfSome, IsTrue};
+ghost use Rattle.voucher_rules.specs.Adding.{addition, same_terms};
+
+use crate::terms::VoucherTerms;
+use crate::voucher::Voucher;
+
+/// What adding a voucher comes to, over what stands under its code.
+#[derive(Debug, Drop, PartialEq, Eq)]
+pub enum Addition {
+    /// Nothing stood there: this voucher does, from now on.
+    New(Voucher),
+    /// A voucher of the same terms stands there, spent or not: nothing changes.
+    Present,
+    /// A voucher of other terms stands there (`O5`): nothing changes.
+    Conflicting,
+}
+
+/// Whether two vouchers say the same.
+#[tactic(auto, using(crate::proofs::Exact::terms_exact))]
+fn same_terms(one: VoucherTerms, other: VoucherTerms) -> bool
+    ensures value { result ≡ same_terms one other }
+    ensures exact { IsTrue result ↔ (one ≡ other) }
+{
+    one == other
+}
+
+/// Adds a voucher of these terms, over what stands under its code: a voucher, or nothing.
+pub fn add(found: &Option<Voucher>, terms: VoucherTerms) -> Addition
+    ensures value { result ≡ addition found.now terms }
+    ensures present { IfSome found.now
+        (λ voucher. (result ≡ Addition.Present) ↔ (voucher.terms ≡ terms)) }
+{
+    match found {
+        None => Addition::New(Voucher {
+            terms,
+            redeemer: None,
+        }),
+        Some(voucher) => {
+            if same_terms(voucher.terms, terms) {
+                Addition::Present
+            } else {
+                Addition::Conflicting
+            }
+        }
+    }
+}

@@ -1,0 +1,24 @@
+use Rattle.std.proofs.Common.{append_assoc}
+use Rattle.wire.specs.Spelled.{granted_data}
+use Rattle.json_fields.proofs.Tokens.{perhaps_front}
+use Rattle.wire.proofs.services.put_granted.Goals as goal
+
+pub returns-clause-adds : goal.returns-clause-adds
+unfolding granted_data
+returns-clause-adds c = (
+  rw (
+    c.in_ok-end_object.ensures.ok,
+    c.in_ok-put_moment.ensures.adds.0,
+    c.in_ok-put_number.ensures.0,
+    c.unit_name.ensures,
+    c.kind.ensures,
+    c.units.ensures.value,
+    c.in_ok-begin_object.ensures.ok,
+  ) (simp (perhaps_front, append_assoc)),
+  rw (
+    c.in_ok-end_object.ensures.room.0,
+    c.in_ok-put_moment.ensures.adds.1,
+    c.in_ok-put_number.ensures.1,
+    c.in_ok-begin_object.ensures.room.0,
+  ),
+)

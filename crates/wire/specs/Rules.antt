@@ -1,0 +1,82 @@
+-- What the types of an answer's parts keep: each value of the program keeps it.
+use Rattle.std.specs.Prelude.{◌≡◌, ◌≤◌, true, IfSome, ⊤}
+use Rattle.std.specs.List.{AllByRecursion}
+use Rattle.units.specs.Words.{greatest_number}
+use Rattle.identifiers.specs.Texts.{is_account_number, is_session_id, is_redirect_address}
+use Rattle.commands.specs.Measured.{Measured}
+use Rattle.commands.specs.Quantities.{is_quantity}
+use Rattle.commands.specs.declared.answer.FinalUnit.{FinalUnit}
+use Rattle.commands.specs.declared.answer.FinalUnit.TheVariants.{Terminate, Redirect}
+use Rattle.commands.specs.declared.answer.Granted.{Granted}
+use Rattle.commands.specs.declared.answer.ServiceOutcome.{ServiceOutcome}
+use Rattle.commands.specs.declared.answer.ServiceOutcome.TheVariants as service
+use Rattle.commands.specs.declared.answer.ServiceAnswer.{ServiceAnswer}
+use Rattle.commands.specs.declared.answer.Cost.{Cost}
+use Rattle.commands.specs.declared.answer.Outcome.{Outcome}
+use Rattle.commands.specs.declared.answer.Outcome.TheVariants as outcome
+use Rattle.commands.specs.declared.answer.RequestAnswer.{RequestAnswer}
+use Rattle.commands.specs.declared.answer.Answer.{Answer}
+use Rattle.commands.specs.declared.answer.Answer.TheVariants as answer
+use Rattle.commands.specs.declared.balance.AccountBalance.{AccountBalance}
+use Rattle.commands.specs.declared.balance.BucketBalance.{BucketBalance}
+use Rattle.wire.specs.Spelled.{validity_of}
+
+abbrev pub IsFinal : FinalUnit → Type 0
+IsFinal Terminate = ⊤
+IsFinal (Redirect address) = is_redirect_address address ≡ true
+
+pub record IsGrant (g : Granted) : Type 0 where
+  pub quantity : is_quantity g.quantity.kind g.quantity.units ≡ true
+  pub switch : IfSome g.switch (λ m. m ≤ 4102488000)
+  pub last : IfSome g.last IsFinal
+
+abbrev pub IsServiceOutcome : ServiceOutcome → Type 0
+IsServiceOutcome service.Settled = ⊤
+IsServiceOutcome (service.Granted g) = IsGrant g
+IsServiceOutcome (service.Debited quantity) = is_quantity quantity.kind quantity.units ≡ true
+IsServiceOutcome (service.Failed failure) = ⊤
+
+pub record IsServiceAnswer (s : ServiceAnswer) : Type 0 where
+  pub group : s.group ≤ greatest_number
+  pub validity : IfSome (validity_of s.outcome) (λ n. n ≤ 4294967295)
+  pub outcome : IsServiceOutcome s.outcome
+
+pub record IsCost (c : Cost) : Type 0 where
+  pub micros : c.micros ≤ 18446744073709551615
+  pub currency : c.currency ≤ 65535
+
+abbrev pub IsOutcome : Outcome → Type 0
+IsOutcome (outcome.Services ss) = AllByRecursion IsServiceAnswer ss
+IsOutcome outcome.Refunded = ⊤
+IsOutcome (outcome.Checked balance) = ⊤
+IsOutcome (outcome.Priced cost) = IsCost cost
+IsOutcome (outcome.Failed failure) = ⊤
+
+pub record IsRequestAnswer (a : RequestAnswer) : Type 0 where
+  pub session : is_session_id a.session ≡ true
+  pub number : a.number ≤ greatest_number
+  pub outcome : IsOutcome a.outcome
+
+pub record IsBucketBalance (b : BucketBalance) : Type 0 where
+  pub number : b.number ≤ greatest_number
+  pub from : b.from ≤ 4102488000
+  pub until : b.until ≤ 4102488000
+  pub scope : IfSome b.scope (λ g. g ≤ greatest_number)
+  pub credited : b.credited ≤ 18446744073709551615
+  pub available : b.available ≤ 18446744073709551615
+  pub reserved : b.reserved ≤ 18446744073709551615
+  pub charged : b.charged ≤ 18446744073709551615
+  pub expired : b.expired ≤ 18446744073709551615
+
+pub record IsAccountBalance (a : AccountBalance) : Type 0 where
+  pub account : is_account_number a.account ≡ true
+  pub buckets : AllByRecursion IsBucketBalance a.buckets
+  pub moment : a.moment ≤ 4102488000
+
+abbrev pub IsAnswer : Answer → Type 0
+IsAnswer (answer.Request a) = IsRequestAnswer a
+IsAnswer answer.Done = ⊤
+IsAnswer (answer.Bucket n) = n ≤ greatest_number
+IsAnswer (answer.Swept accounts) = accounts ≤ 18446744073709551615
+IsAnswer (answer.Balance balance) = IsAccountBalance balance
+IsAnswer (answer.Refused refusal) = ⊤

@@ -1,2 +1,0 @@
-pub mod BalancesAgain
-pub mod AnswersAgain

@@ -1,3 +1,0 @@
-pub mod Numbers
-pub mod Months
-pub mod Words
