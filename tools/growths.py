@@ -18,10 +18,11 @@ import subprocess
 import tempfile
 import threading
 
+import ports
+
 TOP = pathlib.Path(__file__).resolve().parent.parent
 IN_MEMORY = "/dev/shm" if os.access("/dev/shm", os.W_OK) else None
 SECONDS = 60
-PORTS = itertools.cycle(range(20000, 32000))
 
 Ended = collections.namedtuple("Ended", "status out err")
 
@@ -80,7 +81,7 @@ class Server:
     """The program as it serves two connections of a folder's database."""
 
     def __init__(self, program, work, options, refused=(0, 0)):
-        self.port = free_port()
+        self.port = ports.free_ports()
         words = ["serve", "db", "--port", str(self.port), "--connections", "2", *options]
         self.running, self.growths = program.start(work, words, refused)
         self.stop = threading.Timer(SECONDS, self.running.kill)
@@ -109,14 +110,6 @@ class Server:
         ended = ending(self.running, self.line)
         self.stop.cancel()
         return ended._replace(out=ended.out.removeprefix(listening))
-
-
-def free_port():
-    """A port of 127.0.0.1 that nothing listens to, none of those that are given to connections."""
-    for port in PORTS:
-        with contextlib.suppress(OSError), socket.socket() as held:
-            held.bind(("127.0.0.1", port))
-            return port
 
 
 def answer_in(read):

@@ -49,12 +49,10 @@ UNDUE = (
 
 @dataclass(frozen=True)
 class Office:
-    """The program and a port, one for each process; the database that batches begin with, and the
-    statements that were due on the way to it; what is changed: requests of files of lines, books,
-    files of vouchers."""
+    """The program; the database that batches begin with, and the statements that were due on the way
+    to it; what is changed: requests of files of lines, books, files of vouchers."""
 
     built: str
-    port: int
     base: pathlib.Path
     due: set
     bodies: list
@@ -182,4 +180,4 @@ def prepare(built, base):
         replayed(built, base, line)
         due.add(run(built, base, *STATEMENT).out)
     (base / "lines").write_bytes(b"".join(lines))
-    return Office(built, 0, base, due, [each for each in bodies if each], books, vouchers)
+    return Office(built, base, due, [each for each in bodies if each], books, vouchers)

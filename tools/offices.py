@@ -10,7 +10,6 @@ import json
 import os
 import pathlib
 import shutil
-import socket
 import subprocess
 import sys
 import tempfile
@@ -20,7 +19,6 @@ TOP = pathlib.Path(__file__).resolve().parent.parent
 DEPLOY = TOP / "deploy"
 BOOK = TOP / "examples/book.toml"
 SECONDS = 120
-given = [20000 + os.getpid() % 8000]
 
 
 @functools.cache
@@ -46,22 +44,6 @@ def need(*commands):
     if missing:
         print(f"{pathlib.Path(sys.argv[0]).name}: not found: {' '.join(missing)}", file=sys.stderr)
         sys.exit(2)
-
-
-def free_ports(count):
-    """The first of so many ports in a row that nobody listens on, past those that were given."""
-    for first in range(given[-1], 32000):
-        with contextlib.ExitStack() as opened:
-            try:
-                for port in range(first, first + count):
-                    listener = opened.enter_context(socket.socket())
-                    listener.setsockopt(socket.SOL_SOCKET, socket.SO_REUSEADDR, 1)
-                    listener.bind(("127.0.0.1", port))
-            except OSError:
-                continue
-            given.append(first + count)
-            return first
-    raise OSError("no free ports")
 
 
 def listens(port):
