@@ -138,6 +138,3 @@ fn run_said<F: Files, I: Read, O: Write, E: Write>(
         Err(fault) => tell_fault(rt.alloc(), errors, fault),
     }
 }
-
-#[cfg(test)]
-mod tests;
