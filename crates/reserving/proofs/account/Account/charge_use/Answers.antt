@@ -13,6 +13,7 @@ use Rattle.reserving.specs.Placed.{IsPriced}
 use Rattle.reserving.proofs.kept.Placed.{IsPriced-debited}
 use Rattle.reserving.specs.Calm.{IsCalm}
 use Rattle.reserving.proofs.rows.CalmEvents.{calm_debited}
+use Rattle.reserving.proofs.Lists.{no_some}
 use Rattle.reserving.proofs.account.Account.charge_use.Goals as goal
 
 pub settle-charged-requires : goal.settle-charged-requires
@@ -46,6 +47,7 @@ invariant_of-self c =
           (calm_debited now c.args.session.now c.args.group c.args.rated.units.0
           c.args.rated.blocks.0 (due c.args.rated.amount.0 c.args.rated.covered.0)
           (subst IsCalm c.self.view_is (c.self.invariant.calm e)));
+      quiet = λ t e. absurd (no_some t e);
     }
 
 pub returns-clause-uncollected : goal.returns-clause-uncollected

@@ -14,6 +14,7 @@ use Rattle.reserving.specs.Calm.{IsCalm}
 use Rattle.reserving.specs.Sessions.{is_live_in}
 use Rattle.reserving.proofs.rows.Calm.{calm_reserved}
 use Rattle.reserving.specs.Reservation.{held_due}
+use Rattle.reserving.proofs.Lists.{no_some}
 use Rattle.reserving.proofs.account.Account.hold_quota.Goals as goal
 
 pub invariant_of-self : goal.invariant_of-self
@@ -46,6 +47,7 @@ invariant_of-self c =
           (subst (λ (x : AccountRows). is_live_in (validity_of x.shelf) x.as_of x.sessions
           c.args.session.now ≡ true) (sym c.self.view_is) c.requires.live)
           (c.self.invariant.calm e));
+      quiet = λ t e. absurd (no_some t e);
     }
 
 pub returns : goal.returns

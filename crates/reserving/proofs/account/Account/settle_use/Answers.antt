@@ -11,6 +11,7 @@ use Rattle.reserving.specs.Placed.{IsPriced}
 use Rattle.reserving.proofs.kept.Placed.{IsPriced-settled}
 use Rattle.reserving.specs.Calm.{IsCalm}
 use Rattle.reserving.proofs.rows.Calm.{calm_settled}
+use Rattle.reserving.proofs.Lists.{no_some}
 use Rattle.reserving.proofs.account.Account.settle_use.Goals as goal
 
 pub settle-charged-requires : goal.settle-charged-requires
@@ -47,6 +48,7 @@ invariant_of-self c =
           (calm_settled now c.args.session.now c.args.group c.args.rated.units.0
           c.args.rated.blocks.0 (due c.args.rated.amount.0 c.args.rated.covered.0)
           (subst IsCalm c.self.view_is (c.self.invariant.calm e)));
+      quiet = λ t e. absurd (no_some t e);
     }
 
 pub returns-clause-uncollected : goal.returns-clause-uncollected

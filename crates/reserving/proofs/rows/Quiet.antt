@@ -1,0 +1,98 @@
+-- Rows of which nothing ends at a moment, as a load finds.
+use Rattle.std.proofs.Common.{◌≡◌, ℕ, ◌==◌, ◌&&◌, Bool, true, false, List, [], ◌∷◌, refl, sym, ap}
+use Rattle.std.proofs.Common.{◌∙◌, subst, Option, Some, None, eqb-true, nat_lt}
+use Rattle.std.specs.Prelude.{◌||◌, ◌+◌, ◌*◌, not, is_some, if◌then◌else◌, IfSome}
+use Rattle.std.specs.List.{list_all}
+use Rattle.std.proofs.lemmas.Bool.{and_parts}
+use Rattle.buckets.specs.Row.{Row}
+use Rattle.buckets.specs.Spend.{Each}
+use Rattle.reserving.specs.declared.session.Session.{Session}
+use Rattle.reserving.specs.declared.session.SessionGroup.{SessionGroup}
+use Rattle.reserving.specs.declared.session.SessionState.TheVariants.{Ended}
+use Rattle.reserving.specs.Sessions.{is_open, is_session, session_in, is_live_in, is_live_row}
+use Rattle.reserving.specs.Left.{is_open_row}
+use Rattle.reserving.specs.Rows.{AccountRows, EachIn}
+use Rattle.reserving.specs.Changes.{lapse, advanced}
+use Rattle.reserving.specs.Pricing.{validity_of}
+use Rattle.reserving.specs.Calm.{IsCalm, is_session_quiet, are_sessions_quiet, is_group_quiet}
+use Rattle.reserving.specs.Calm.{are_groups_quiet, are_buckets_quiet}
+use Rattle.reserving.proofs.Lists.{not_both, no_some, EachIn-found}
+use Rattle.reserving.proofs.KeysFound.{is_none_is}
+use Rattle.reserving.proofs.Restored.{all_told, rows_told}
+use Rattle.reserving.proofs.rows.Calm.{calm_same}
+
+session_told : (v : ℕ → ℕ) (t : ℕ) (r : Session) → is_session_quiet v t r ≡ true → lapse v t r ≡ r
+session_told v t r = at (is_open r.state) (nat_lt t (r.touched + 2 * v r.touched))
+  where
+    at : (o l : Bool) → (not o || l) ≡ true →
+        (if o && not l then record r { state = Ended } else r) ≡ r
+    at true true e = refl
+    at true false e = absurd (not_both e)
+    at false l e = refl
+
+row_live : (v : ℕ → ℕ) (t : ℕ) (r : Session) → is_session_quiet v t r ≡ true →
+    is_open r.state ≡ true → is_live_row v t (Some r) ≡ true
+row_live v t r = at (is_open r.state) (nat_lt t (r.touched + 2 * v r.touched))
+  where
+    at : (o l : Bool) → (not o || l) ≡ true → o ≡ true → (o && l) ≡ true
+    at true true e k = refl
+    at true false e k = absurd (not_both e)
+    at false l e k = absurd (not_both k)
+
+group_told : (v : ℕ → ℕ) (t : ℕ) (sessions : List Session) (r : SessionGroup) →
+    EachIn (λ x. is_session_quiet v t x ≡ true) sessions → is_group_quiet sessions r ≡ true →
+    is_live_in v t sessions r.session ≡ false → r.reservation ≡ None
+group_told v t sessions r quiet e k =
+    is_none_is r.reservation
+    (by (is_some r.reservation) (session_in r.session sessions) refl e k)
+  where
+    by : (s : Bool) (o : Option Session) → session_in r.session sessions ≡ o →
+        (not s || is_open_row o) ≡ true → is_live_row v t o ≡ false → s ≡ false
+    by false o there f l = refl
+    by true None there f l = absurd (not_both f)
+    by true (Some x) there f l = absurd (not_both (sym l
+        ∙ row_live v t x (EachIn-found (λ y. is_session_quiet v t y ≡ true) (is_session r.session)
+        sessions x quiet there) f))
+
+bucket_told : (t : ℕ) (b : Row) → (nat_lt t b.until || b.available == 0) ≡ true →
+    nat_lt t b.until ≡ false → b.available ≡ 0
+bucket_told t b = at (nat_lt t b.until)
+  where
+    at : (l : Bool) → (l || b.available == 0) ≡ true → l ≡ false → b.available ≡ 0
+    at true e k = absurd (not_both (sym k))
+    at false e k = eqb-true b.available 0 e
+
+pub calm_told : (a : AccountRows) (t : ℕ) →
+    (are_sessions_quiet (validity_of a.shelf) t a.sessions
+    && are_groups_quiet a.sessions a.groups && are_buckets_quiet t a.buckets) ≡ true →
+    IsCalm (record a { as_of = t })
+calm_told a t e =
+    let outer = and_parts (are_sessions_quiet (validity_of a.shelf) t a.sessions
+    && are_groups_quiet a.sessions a.groups) (are_buckets_quiet t a.buckets) e in
+    let inner = and_parts (are_sessions_quiet (validity_of a.shelf) t a.sessions)
+    (are_groups_quiet a.sessions a.groups) outer.0 in
+    let quiet : EachIn (λ x. is_session_quiet (validity_of a.shelf) t x ≡ true) a.sessions =
+    all_told (is_session_quiet (validity_of a.shelf) t)
+    (λ x. is_session_quiet (validity_of a.shelf) t x ≡ true) (λ x h. h) a.sessions inner.0 in
+    record {
+      sessions = all_told (is_session_quiet (validity_of a.shelf) t)
+          (λ r. lapse (validity_of a.shelf) t r ≡ r)
+          (λ r h. session_told (validity_of a.shelf) t r h) a.sessions inner.0;
+      groups = all_told (is_group_quiet a.sessions)
+          (λ r. is_live_in (validity_of a.shelf) t a.sessions r.session ≡ false →
+          r.reservation ≡ None)
+          (λ r h. group_told (validity_of a.shelf) t a.sessions r quiet h) a.groups inner.1;
+      buckets = rows_told (λ b. nat_lt t b.until || b.available == 0)
+          (λ b. nat_lt t b.until ≡ false → b.available ≡ 0) (λ b h. bucket_told t b h) a.buckets
+          outer.1;
+    }
+
+-- time that goes on to such a moment changes nothing else
+pub quiet_advanced : (a : AccountRows) (t : ℕ) → IsCalm (record a { as_of = t }) →
+    advanced t a ≡ record a { as_of = t }
+quiet_advanced a t h = calm_same (record a { as_of = t }) h
+
+-- a moment that is marked, where one is
+pub marked : (o : Option ℕ) (m : ℕ) (q : Bool) → IfSome o (λ t. (t ≡ m) × (q ≡ true)) → (t : ℕ) →
+    o ≡ Some t → (t ≡ m) × (q ≡ true)
+marked o m q h t e = subst (λ p. IfSome p (λ u. (u ≡ m) × (q ≡ true))) e h
