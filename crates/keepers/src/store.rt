@@ -56,12 +56,23 @@ pub(crate) struct Known {
 
 /// The rows of an account: those that were live after its last command, and those that were left.
 /// What the latter name is kept beside them, so that a commit doesn't search them.
-#[derive(Drop)]
 pub(crate) struct Store {
     live: StoredAccount,
     left: LeftStore,
     known: Known,
     alloc: Global,
+}
+
+// It is written out, so that a caller doesn't prove again how each part is dropped.
+impl Drop for Store {
+    fn drop(self) {
+        let Store {
+            live: _,
+            left: _,
+            known: _,
+            alloc: _,
+        } = self;
+    }
 }
 
 impl Model for Store {
