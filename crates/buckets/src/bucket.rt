@@ -20,7 +20,7 @@ use units::Moment;
 /// The credited amount is the sum of four columns, which the type keeps: what is available, what is
 /// reserved for live sessions, what was charged, and what expired at the bucket's end. All are in
 /// the unit of its kind.
-#[derive(Clone, Debug, Drop)]
+#[derive(Clone, Drop)]
 pub struct Bucket {
     number: u32,
     kind: BucketKind,

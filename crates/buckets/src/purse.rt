@@ -23,7 +23,7 @@ use thiserror::Error;
 use units::{Amount, Blocks, Moment, Money};
 
 /// Why a call on a purse did nothing.
-#[derive(Clone, Copy, Debug, Drop, Error, PartialEq, Eq)]
+#[derive(Clone, Copy, Debug, Drop, Error)]
 pub enum PurseFault {
     /// A growth was refused.
     #[error("out of memory")]
@@ -44,7 +44,7 @@ impl From<AllocError> for PurseFault {
 }
 
 /// What became of a rated amount: the two sum to it.
-#[derive(Clone, Copy, Debug, PartialEq, Eq)]
+#[derive(Clone, Copy)]
 pub struct Charged {
     /// What holds and eligible buckets paid.
     pub collected: Amount,

@@ -23,7 +23,7 @@ use units::Moment;
 const BEFORE_1970: u64 = 31_622_400;
 
 /// A change of a zone's offset (a transition, RFC 9636 section 3.2).
-#[derive(Clone, Copy, Debug, PartialEq, Eq)]
+#[derive(Clone, Copy)]
 pub struct Change {
     /// Its moment, in seconds since 1968-12-31 00:00 UTC.
     pub at: u64,
@@ -50,7 +50,7 @@ impl Model for Zone {
 }
 
 /// The time around a moment in which the lead stays.
-#[derive(Clone, Copy, Debug, PartialEq, Eq)]
+#[derive(Clone, Copy)]
 pub(crate) struct Stretch {
     /// The lead of the clock.
     pub(crate) lead: u64,

@@ -4,7 +4,7 @@ use Rattle.buckets.specs.Row.{Row}
 use Rattle.reserving.specs.Ledger.{Ledger}
 use Rattle.reserving.specs.Balance.{buckets_at}
 use Rattle.reserving.specs.Pricing.{validity_of}
-use Rattle.reserving.specs.Rows.{AreApart}
+use Rattle.ledger_rows.specs.Lists.{AreApart}
 use Rattle.keepers.specs.Keyed.{same_bucket}
 use Rattle.keepers.proofs.Found.{distinct_apart}
 use Rattle.charging.specs.Served.{history}

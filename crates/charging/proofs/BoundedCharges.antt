@@ -27,9 +27,9 @@ use Rattle.buckets.specs.declared.holds.Hold.{Hold}
 use Rattle.buckets.specs.Row.{Row}
 use Rattle.buckets.specs.Share.{parts}
 use Rattle.buckets.specs.Holding.{paid, holds_of}
-use Rattle.reserving.specs.declared.charge.ChargeRow.{ChargeRow}
-use Rattle.reserving.specs.declared.session.Counter.{Counter}
-use Rattle.reserving.specs.declared.session.Terms.{Terms}
+use Rattle.ledger_rows.specs.declared.charge.ChargeRow.{ChargeRow}
+use Rattle.ledger_rows.specs.declared.session.Counter.{Counter}
+use Rattle.ledger_rows.specs.declared.session.Terms.{Terms}
 use Rattle.reserving.specs.Ledger.{Fact, Dated, Ledger, counter, used, open_grant, next_charge}
 use Rattle.reserving.specs.Ledger.{uses_in}
 use Rattle.reserving.specs.Ledger.Fact.{Credit, Grant, Hold as HoldFact, End, Use, Charge, Touch}
@@ -43,7 +43,7 @@ use Rattle.reserving.specs.Debiting.{rest_price}
 use Rattle.reserving.specs.Balance.{buckets_at}
 use Rattle.reserving.specs.Sessions.{counter_in, holds_at, is_counter}
 use Rattle.reserving.specs.Changes.{count_in}
-use Rattle.reserving.specs.Rows.{EachIn}
+use Rattle.ledger_rows.specs.Lists.{EachIn}
 use Rattle.reserving.specs.Stored.{priced}
 use Rattle.reserving.proofs.Keys.{number_same}
 use Rattle.reserving.proofs.Lists.{EachIn-found}

@@ -13,7 +13,7 @@ use Rattle.std.proofs.lemmas.List.Elements.{All-from_recursion, recursion_from_A
 use Rattle.std.proofs.lemmas.List.Folds.{find-append}
 use Rattle.buckets.specs.Row.{Row}
 use Rattle.buckets.specs.Spend.{AreDistinct, DiffersFromAll}
-use Rattle.reserving.specs.Rows.{EachIn, AreApart}
+use Rattle.ledger_rows.specs.Lists.{EachIn, AreApart}
 use Rattle.reserving.specs.Left.{bucket_in, merged, first_of}
 use Rattle.reserving.proofs.Lists.{no_some, some_of, not_both}
 use Rattle.reserving.proofs.Keys.{same_number, number_same}

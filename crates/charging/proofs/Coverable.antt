@@ -20,7 +20,7 @@ use Rattle.buckets.specs.Share.{sum_in}
 use Rattle.buckets.specs.Spend.{IsInOrder, allowance}
 use Rattle.buckets.specs.Holding.{held_sum, paid, uncollected}
 use Rattle.buckets.proofs.Paid.{sum_in-paid}
-use Rattle.reserving.specs.declared.session.Terms.{Terms}
+use Rattle.ledger_rows.specs.declared.session.Terms.{Terms}
 use Rattle.reserving.specs.Ledger.{Ledger, used, counter, open_grant}
 use Rattle.reserving.specs.Pricing.{cycle_at, terms_now, rated_with, rated_parts, prices_by}
 use Rattle.reserving.specs.Pricing.{validity_of}

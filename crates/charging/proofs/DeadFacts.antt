@@ -26,7 +26,7 @@ use Rattle.reserving.specs.Balance.{credited_by, credits, bucket_at, buckets_at}
 use Rattle.reserving.specs.Sessions.{holds_at}
 use Rattle.reserving.specs.Pricing.{cycle_at, terms_at, validity_of}
 use Rattle.reserving.specs.Left.{bucket_in}
-use Rattle.reserving.specs.Rows.{EachIn}
+use Rattle.ledger_rows.specs.Lists.{EachIn}
 use Rattle.reserving.specs.Requests.{credited}
 use Rattle.reserving.specs.Settlement.{charge_facts, settled_by, report_price, due_of}
 use Rattle.reserving.specs.Reservation.{hold_facts}

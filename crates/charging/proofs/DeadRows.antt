@@ -7,15 +7,16 @@ use Rattle.std.proofs.lemmas.Bool.Decides.{nat_tests}
 use Rattle.buckets.specs.Row.{Row}
 use Rattle.buckets.specs.Spend.{Each, AreDistinct, IsBelow}
 use Rattle.shelves.specs.Shelves.{Shelf}
-use Rattle.reserving.specs.declared.session.Session.{Session}
-use Rattle.reserving.specs.declared.session.SessionState.TheVariants.{Open, Ended, NeverOpened}
+use Rattle.ledger_rows.specs.declared.session.Session.{Session}
+use Rattle.ledger_rows.specs.declared.session.SessionState.TheVariants.{Open, Ended, NeverOpened}
 use Rattle.reserving.specs.Ledger.{Fact, Ledger, Recording, is_same, counts_before, hold_of, held}
 use Rattle.reserving.specs.Ledger.{charged, only, is_live, last_touch, last_recording, open_grant}
 use Rattle.reserving.specs.Ledger.{next_bucket}
 use Rattle.reserving.specs.Ledger.Fact.{Credit, Grant, Hold as HoldFact, End, Use, Charge, Touch}
 use Rattle.reserving.specs.Ledger.Fact.{Close, Recorded, Barred}
 use Rattle.reserving.specs.Balance.{credits, balance_of, bucket_at, buckets_at}
-use Rattle.reserving.specs.Sessions.{is_open, state_at, session_row, session_at, holds_at}
+use Rattle.ledger_rows.specs.Open.{is_open}
+use Rattle.reserving.specs.Sessions.{state_at, session_row, session_at, holds_at}
 use Rattle.reserving.specs.Sessions.{reservation_of, reservation_at, group_at}
 use Rattle.reserving.specs.Left.{IsDead, bucket_in}
 use Rattle.reserving.specs.SoundLedger.{IsSoundLedger}

@@ -10,7 +10,7 @@ use Rattle.shelves.specs.Shelves.{Shelf, IsShelf, number_at, tariff_in}
 use Rattle.shelves.specs.declared.dated.DatedBook.{DatedBook}
 use Rattle.shelves.proofs.Begun.{book_within, last_begun_holds}
 use Rattle.tariffs.specs.Books.{Book, IsBook}
-use Rattle.reserving.specs.declared.session.Terms.{Terms}
+use Rattle.ledger_rows.specs.declared.session.Terms.{Terms}
 use Rattle.tariffs.specs.Tariffs.{GroupTariff, IsTariff}
 use Rattle.rating.specs.declared.grant.Grant.{Grant as RatedGrant}
 use Rattle.units.specs.declared.blocks.UsedPart.{UsedPart}

@@ -15,8 +15,8 @@ use Rattle.commands.specs.declared.command.Credit.{Credit}
 use Rattle.voucher_rules.specs.declared.voucher.Voucher.{Voucher}
 use Rattle.shelves.specs.Shelves.{Shelf}
 use Rattle.buckets.specs.declared.kind.BucketKind.TheVariants.{Money}
-use Rattle.reserving.specs.declared.charge.ChargeRow.{ChargeRow}
-use Rattle.reserving.specs.declared.session.SessionGroup.{SessionGroup}
+use Rattle.ledger_rows.specs.declared.charge.ChargeRow.{ChargeRow}
+use Rattle.ledger_rows.specs.declared.session.SessionGroup.{SessionGroup}
 use Rattle.reserving.specs.Ledger.{Ledger, next_bucket}
 use Rattle.reserving.specs.Ledger.Fact.{Barred}
 use Rattle.reserving.specs.Charges.{charge_rows}

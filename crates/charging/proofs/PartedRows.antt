@@ -10,7 +10,7 @@ use Rattle.reserving.specs.Ledger.{Ledger, has_group}
 use Rattle.reserving.specs.Pricing.{validity_of}
 use Rattle.reserving.specs.Sessions.{session_in, group_in, is_session, is_of, is_counter}
 use Rattle.reserving.specs.Sessions.{session_row, state_at, group_at}
-use Rattle.reserving.specs.Rows.{AreApart}
+use Rattle.ledger_rows.specs.Lists.{AreApart}
 use Rattle.reserving.specs.Left.{placed, merged}
 use Rattle.reserving.specs.Left.{bucket_in, first_of}
 use Rattle.reserving.proofs.LeftParted.{one_session, one_group, one_counter, find_both}

@@ -20,9 +20,9 @@ use Rattle.buckets.specs.Row.{Row}
 use Rattle.buckets.specs.Share.{parts}
 use Rattle.buckets.specs.Spend.{funds, allowance}
 use Rattle.buckets.specs.Holding.{holds_of, paid}
-use Rattle.reserving.specs.declared.session.Reservation.{Reservation}
-use Rattle.reserving.specs.declared.session.SessionGroup.{SessionGroup}
-use Rattle.reserving.specs.declared.session.Terms.{Terms}
+use Rattle.ledger_rows.specs.declared.session.Reservation.{Reservation}
+use Rattle.ledger_rows.specs.declared.session.SessionGroup.{SessionGroup}
+use Rattle.ledger_rows.specs.declared.session.Terms.{Terms}
 use Rattle.reserving.specs.Ledger.{Fact, Ledger, is_same, inner, or_else, newest, grant_in}
 use Rattle.reserving.specs.Ledger.{open_grant, used, counter, has_group, is_live}
 use Rattle.reserving.specs.Ledger.Fact.{Touch, Close, Recorded, Barred, End, Use, Grant}
@@ -35,7 +35,7 @@ use Rattle.reserving.specs.Balance.{buckets_at}
 use Rattle.reserving.specs.Settlement.{charge_facts, report_price, due_of, settled_by}
 use Rattle.reserving.specs.Reservation.{hold_facts, reserved, grant_for, held_due}
 use Rattle.reserving.specs.Debiting.{rest_price, debited}
-use Rattle.reserving.specs.Rows.{EachIn}
+use Rattle.ledger_rows.specs.Lists.{EachIn}
 use Rattle.reserving.specs.Stored.{StoredRows, IsStored}
 use Rattle.reserving.specs.Placed.{AreOfBook, prices_on, is_placed, ArePlaced}
 use Rattle.reserving.proofs.Lists.{no_some, some_of, EachIn-weaker}

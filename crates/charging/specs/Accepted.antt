@@ -5,7 +5,7 @@ use Rattle.std.specs.Prelude.{◌≡◌, ℕ, ◌+◌, ◌≤◌, Bool, true, fa
 use Rattle.std.specs.Prelude.{Option, Some, None}
 use Rattle.units.specs.Words.{Moment}
 use Rattle.identifiers.specs.Words.{AccountName, VoucherCode}
-use Rattle.reserving.specs.Words.{ChargeNumber}
+use Rattle.ledger_rows.specs.Words.{ChargeNumber}
 use Rattle.identifiers.specs.Texts.{same_name}
 use Rattle.commands.specs.declared.command.Command.{Command}
 use Rattle.commands.specs.declared.command.Command.TheVariants as command

@@ -6,12 +6,13 @@ use Rattle.identifiers.specs.Words.{SessionName, AccountName}
 use Rattle.buckets.specs.Words.{BucketNumber}
 use Rattle.buckets.specs.Row.{Row}
 use Rattle.shelves.specs.Shelves.{Shelf}
-use Rattle.reserving.specs.declared.session.Session.{Session}
+use Rattle.ledger_rows.specs.declared.session.Session.{Session}
 use Rattle.reserving.specs.Ledger.{Ledger}
 use Rattle.reserving.specs.Balance.{buckets_at}
 use Rattle.reserving.specs.Left.{IsDead, bucket_in}
 use Rattle.reserving.specs.Pricing.{validity_of}
-use Rattle.reserving.specs.Sessions.{is_open, session_at, group_at}
+use Rattle.ledger_rows.specs.Open.{is_open}
+use Rattle.reserving.specs.Sessions.{session_at, group_at}
 use Rattle.charging.specs.Accepted.{Accepted, last_moment}
 use Rattle.charging.specs.declared.running.DatedCommand.{DatedCommand}
 use Rattle.charging.specs.Served.{history}

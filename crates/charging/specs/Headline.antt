@@ -5,12 +5,12 @@ use Rattle.std.specs.Prelude.{◌≡◌, List, Option, Some, take, length}
 use Rattle.units.specs.Words.{Moment}
 use Rattle.identifiers.specs.Words.{AccountName}
 use Rattle.buckets.specs.Words.{BucketNumber}
-use Rattle.reserving.specs.Words.{ChargeNumber}
+use Rattle.ledger_rows.specs.Words.{ChargeNumber}
 use Rattle.commands.specs.declared.answer.Answer.{Answer}
 use Rattle.buckets.specs.Row.{IsBalanced}
 use Rattle.buckets.specs.Spend.{Each}
 use Rattle.shelves.specs.Shelves.{Shelf}
-use Rattle.reserving.specs.declared.charge.ChargeRow.{ChargeRow}
+use Rattle.ledger_rows.specs.declared.charge.ChargeRow.{ChargeRow}
 use Rattle.reserving.specs.Ledger.{Ledger}
 use Rattle.reserving.specs.Balance.{buckets_at}
 use Rattle.reserving.specs.Charges.{charge_rows}

@@ -4,7 +4,7 @@ use Rattle.std.specs.Prelude.{◌≡◌, ◌==◌, ◌&&◌, Option, Some, None,
 use Rattle.std.specs.Prelude.{if◌then◌else◌}
 use Rattle.units.specs.Words.{UnitCount, Place, GroupId}
 use Rattle.identifiers.specs.Words.{SessionName}
-use Rattle.reserving.specs.declared.session.Terms.{Terms}
+use Rattle.ledger_rows.specs.declared.session.Terms.{Terms}
 use Rattle.reserving.specs.Ledger.{Fact, Dated, Ledger, is_same, newest, inner, open_grant}
 use Rattle.reserving.specs.Ledger.Fact.{Grant, End}
 use Rattle.charging.specs.Quotas.{grant_open}

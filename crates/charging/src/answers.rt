@@ -4,7 +4,7 @@ use commands::Answer;
 use keepers::StoreFault;
 
 /// The answers to a list of commands, in its order, and the store fault at which it stopped.
-#[derive(Debug, Drop)]
+#[derive(Drop)]
 pub struct Run {
     /// The answers, as far as the run went.
     pub answers: Vec<Answer>,

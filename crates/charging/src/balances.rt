@@ -21,7 +21,7 @@ use std::alloc::{AllocError, Global};
 use units::Moment;
 
 /// What became of an account's money and of its allowances, as of a moment.
-#[derive(Debug, Drop)]
+#[derive(Drop)]
 pub struct AccountState {
     /// The moment.
     pub moment: Moment,

@@ -18,7 +18,7 @@ use std::alloc::Global;
 use units::Moment;
 
 /// A command with the moment at which it was handed in.
-#[derive(Clone, Debug, Drop)]
+#[derive(Drop)]
 pub struct DatedCommand {
     /// The moment, in seconds since 1970.
     pub moment: Moment,

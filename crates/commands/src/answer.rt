@@ -38,7 +38,7 @@ pub struct Granted {
 }
 
 /// Why a service isn't granted units.
-#[derive(Clone, Copy, Debug, PartialEq, Eq)]
+#[derive(Clone, Copy, Debug)]
 pub enum ServiceFailure {
     /// 4010, DIAMETER_END_USER_SERVICE_DENIED: the account is barred.
     EndUserServiceDenied,
@@ -137,7 +137,7 @@ impl ServiceAnswers {
 }
 
 /// Whether an account can pay (Check-Balance-Result, RFC 8506 section 8.6).
-#[derive(Clone, Copy, Debug, PartialEq, Eq)]
+#[derive(Clone, Copy, Debug)]
 pub enum Balance {
     /// ENOUGH_CREDIT
     EnoughCredit,
@@ -173,7 +173,7 @@ impl Balance {
 }
 
 /// What units would cost (Cost-Information, RFC 8506 section 8.7).
-#[derive(Clone, Copy, Debug, PartialEq, Eq)]
+#[derive(Clone, Copy, Debug)]
 pub struct Cost {
     /// Micro-units of the currency.
     pub micros: u64,
@@ -182,7 +182,7 @@ pub struct Cost {
 }
 
 /// Why a request isn't answered 2001.
-#[derive(Clone, Copy, Debug, PartialEq, Eq)]
+#[derive(Clone, Copy, Debug)]
 pub enum Failure {
     /// 4010, 4012 or 5031: nothing is granted or charged. The request is accepted, unless it is a
     /// read.
@@ -241,7 +241,7 @@ pub struct RequestAnswer {
 }
 
 /// Why an operator's command is refused (profile).
-#[derive(Clone, Copy, Debug, PartialEq, Eq)]
+#[derive(Clone, Copy, Debug)]
 pub enum Refusal {
     /// `O1`: the account exists already.
     AccountExists,

@@ -8,7 +8,7 @@ use units::Moment;
 
 /// What the columns of a bucket count (TS 32.296, account balance management function: monetary and
 /// non-monetary units).
-#[derive(Clone, Copy, Debug, PartialEq, Eq)]
+#[derive(Clone, Copy, Debug)]
 pub enum BucketUnit {
     /// Micro-units of money.
     MicroUnits,

@@ -199,7 +199,7 @@ impl Eq for KeptCredit {
 }
 
 /// A voucher that an operator adds (profile).
-#[derive(Clone, Debug, Drop)]
+#[derive(Drop)]
 pub struct VoucherAddition {
     /// The code under which it stands.
     pub code: VoucherCode,
@@ -220,7 +220,7 @@ pub struct VoucherRedemption {
 }
 
 /// A command of the charging system.
-#[derive(Clone, Debug, Drop)]
+#[derive(Drop)]
 pub enum Command {
     /// A request for credit control.
     Ccr(Request),
@@ -246,7 +246,7 @@ pub enum Command {
 }
 
 /// What is kept of an accepted command beside its answer, so that a repeat of it is known.
-#[derive(Clone, Debug, Drop, PartialEq, Eq)]
+#[derive(Debug, Drop, PartialEq, Eq)]
 pub enum Content {
     /// Of a request, under its session and number.
     Request(Request),

@@ -12,7 +12,7 @@ use std::marker::Model;
 use units::Money;
 
 /// CC-Request-Type (RFC 8506 section 8.3).
-#[derive(Clone, Copy, Debug, PartialEq, Eq)]
+#[derive(Clone, Copy, Debug)]
 pub enum RequestKind {
     /// INITIAL_REQUEST
     Initial,

@@ -8,7 +8,7 @@ use Rattle.commands.specs.declared.answer.Answer.TheVariants.{Refused}
 use Rattle.commands.specs.declared.answer.Refusal.TheVariants.{AccountUnknown}
 use Rattle.wire.specs.Spelled.{answer_text}
 use Rattle.shelves.specs.Shelves.{Shelf}
-use Rattle.reserving.specs.ChargeColumns.{ChargeColumns}
+use Rattle.ledger_rows.specs.ChargeColumns.{ChargeColumns}
 use Rattle.reserving.specs.Charges.{charge_rows}
 use Rattle.keepers.specs.Tables.{Tables}
 use Rattle.keepers.specs.Rows.{AreCharges}

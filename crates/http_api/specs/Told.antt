@@ -4,7 +4,7 @@
 use Rattle.std.specs.Prelude.{◌≡◌, ◌⊎◌, Bool, true, false, List, Option, Some, Ok as OkOf}
 use Rattle.units.specs.Words.{Moment}
 use Rattle.texts.specs.StreamWords.{Bytes}
-use Rattle.reserving.specs.Words.{ChargeNumber}
+use Rattle.ledger_rows.specs.Words.{ChargeNumber}
 use Rattle.commands.specs.declared.answer.Answer.{Answer}
 use Rattle.commands.specs.declared.command.Command.{Command}
 use Rattle.wire.specs.Spelled.{answer_text}
@@ -12,7 +12,7 @@ use Rattle.shelves.specs.Shelves.{Shelf}
 use Rattle.keepers.specs.Tables.{Tables}
 use Rattle.charging.specs.Continued.{ForEachList}
 use Rattle.charging.specs.Served.{AreTables, moment_of, answer_to, with_command}
-use Rattle.reserving.specs.ChargeColumns.{ChargeColumns}
+use Rattle.ledger_rows.specs.ChargeColumns.{ChargeColumns}
 use Rattle.keepers.specs.Rows.{AreCharges}
 use Rattle.http_messages.specs.Statuses.{ok, service_unavailable}
 use Rattle.http_messages.specs.declared.text.Media.TheVariants.{Text}

@@ -4,7 +4,7 @@ use texts::StreamFault;
 use thiserror::Error;
 
 /// Why a connection wasn't served to its end.
-#[derive(Clone, Copy, Debug, Drop, Error, PartialEq, Eq)]
+#[derive(Clone, Copy, Debug, Drop, Error)]
 pub enum ServeFault {
     /// Serve fault 1: a growth was refused for a head, a body, or the text of an answer that an
     /// accepted command may get.

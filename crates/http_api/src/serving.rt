@@ -18,7 +18,7 @@ use std::io::{BufRead, BufReader, Read, Write};
 pub const MAX_REQUESTS: u32 = 1000;
 
 /// What was served.
-#[derive(Clone, Copy, Debug, PartialEq, Eq)]
+#[derive(Clone, Copy)]
 pub struct Served {
     /// How many requests were answered, refusals among them.
     pub requests: u32,

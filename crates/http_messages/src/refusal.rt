@@ -11,7 +11,7 @@ use std::io::Write;
 use texts::StreamFault;
 
 /// Why a request is refused, by its status (RFC 9110 section 15.5; 431: RFC 6585 section 5).
-#[derive(Clone, Copy, Debug, PartialEq, Eq)]
+#[derive(Clone, Copy)]
 pub enum HttpRefusal {
     /// 400: it has no head, more than one length, or a length that is no number.
     BadRequest,

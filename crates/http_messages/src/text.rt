@@ -17,7 +17,7 @@ use texts::{StreamFault, write_whole};
 use wire::{WireFault, write_fault};
 
 /// What the body of an answer is.
-#[derive(Clone, Copy, Debug, PartialEq, Eq)]
+#[derive(Clone, Copy)]
 pub enum Media {
     /// `application/json`.
     Json,

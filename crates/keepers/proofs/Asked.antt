@@ -4,13 +4,14 @@ use Rattle.std.proofs.Common.{None}
 use Rattle.std.specs.Prelude.{is_some, not}
 use Rattle.std.proofs.lemmas.Bool.{cond-false}
 use Rattle.shelves.specs.Shelves.{Shelf, IsShelf}
-use Rattle.reserving.specs.declared.session.SessionGroup.{SessionGroup}
+use Rattle.ledger_rows.specs.declared.session.SessionGroup.{SessionGroup}
 use Rattle.reserving.specs.Ledger.{Ledger, last_recording, has_group}
 use Rattle.reserving.specs.Sessions.{is_of, session_in, group_in}
 use Rattle.reserving.specs.Sessions.{state_at}
 use Rattle.reserving.specs.Rows.{IsAccount}
 use Rattle.reserving.specs.Stored.{priced}
-use Rattle.reserving.specs.Left.{is_open_row, only, left_of}
+use Rattle.ledger_rows.specs.Open.{is_open_row}
+use Rattle.reserving.specs.Left.{only, left_of}
 use Rattle.reserving.proofs.StoredRows.{IsAccount-priced}
 use Rattle.reserving.proofs.LeftTests.{find_filter}
 use Rattle.reserving.proofs.LeftParted.{one_group}

@@ -2,9 +2,9 @@
 -- that names all.
 use Rattle.std.proofs.Common.{◌≡◌, ℕ, List, refl, sym, ap, ◌∙◌, Option, Some, None}
 use Rattle.std.specs.Prelude.{option_map}
-use Rattle.reserving.specs.declared.session.SessionGroup.{SessionGroup}
+use Rattle.ledger_rows.specs.declared.session.SessionGroup.{SessionGroup}
 use Rattle.reserving.specs.Sessions.{is_of, group_in}
-use Rattle.reserving.specs.Rows.{AreApart}
+use Rattle.ledger_rows.specs.Lists.{AreApart}
 use Rattle.reserving.specs.Left.{differing, first_of}
 use Rattle.reserving.proofs.LeftParted.{one_group}
 use Rattle.keepers.specs.Keyed.{same_group}

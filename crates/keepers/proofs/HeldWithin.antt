@@ -5,9 +5,9 @@ use Rattle.std.specs.Prelude.{if◌then◌else◌, not, filter}
 use Rattle.std.specs.List.{find}
 use Rattle.buckets.specs.Row.{Row}
 use Rattle.buckets.specs.Holding.{held_in}
-use Rattle.reserving.specs.declared.session.SessionGroup.{SessionGroup}
+use Rattle.ledger_rows.specs.declared.session.SessionGroup.{SessionGroup}
 use Rattle.reserving.specs.Sessions.{is_of, group_in, holds_in, held_by}
-use Rattle.reserving.specs.Rows.{EachIn, AreApart}
+use Rattle.ledger_rows.specs.Lists.{EachIn, AreApart}
 use Rattle.reserving.proofs.Keys.{is_key-sym}
 use Rattle.reserving.proofs.LeftParted.{one_group}
 

@@ -2,7 +2,7 @@
 use Rattle.std.proofs.Common.{◌≡◌, true, false, sym, subst}
 use Rattle.reserving.specs.Stored.{StoredRows, IsStored}
 use Rattle.reserving.proofs.LeftTests.{each_filter}
-use Rattle.reserving.specs.Sessions.{is_open}
+use Rattle.ledger_rows.specs.Open.{is_open}
 use Rattle.reserving.specs.Left.{is_dead}
 use Rattle.reserving.proofs.Lists.{EachIn-weaker}
 use Rattle.std.specs.Prelude.{is_some}

@@ -4,8 +4,9 @@ use Rattle.std.proofs.Common.{Some, None, ℕ}
 use Rattle.std.specs.Prelude.{is_some}
 use Rattle.std.specs.HashMap.{get}
 use Rattle.identifiers.specs.Texts.{same_name}
-use Rattle.reserving.specs.declared.session.Session.{Session}
-use Rattle.reserving.specs.Sessions.{is_open, is_session, session_in}
+use Rattle.ledger_rows.specs.declared.session.Session.{Session}
+use Rattle.ledger_rows.specs.Open.{is_open}
+use Rattle.reserving.specs.Sessions.{is_session, session_in}
 use Rattle.reserving.specs.Left.{first_of}
 use Rattle.reserving.proofs.Lists.{not_both, find-passes, EachIn-found}
 use Rattle.reserving.proofs.Holds.{same_from}

@@ -5,17 +5,19 @@ use Rattle.std.proofs.Common.{Option, Some, None}
 use Rattle.std.specs.Prelude.{if◌then◌else◌, ◌==◌, not, is_some, option_map}
 use Rattle.buckets.specs.Row.{Row}
 use Rattle.shelves.specs.Shelves.{Shelf}
-use Rattle.reserving.specs.declared.session.Session.{Session}
-use Rattle.reserving.specs.declared.session.SessionGroup.{SessionGroup}
-use Rattle.reserving.specs.declared.session.Counter.{Counter}
+use Rattle.ledger_rows.specs.declared.session.Session.{Session}
+use Rattle.ledger_rows.specs.declared.session.SessionGroup.{SessionGroup}
+use Rattle.ledger_rows.specs.declared.session.Counter.{Counter}
 use Rattle.reserving.specs.Ledger.{Ledger, is_same}
 use Rattle.reserving.specs.Pricing.{cycle_at, validity_of}
 use Rattle.reserving.specs.Balance.{buckets_at}
-use Rattle.reserving.specs.Sessions.{is_session, is_of, is_counter, is_open, session_in, group_in}
+use Rattle.ledger_rows.specs.Open.{is_open}
+use Rattle.reserving.specs.Sessions.{is_session, is_of, is_counter, session_in, group_in}
 use Rattle.reserving.specs.Sessions.{counter_in}
 use Rattle.reserving.specs.Rows.{AccountRows, IsAccount, IsRowsOf}
 use Rattle.reserving.specs.Stored.{stored, priced}
-use Rattle.reserving.specs.Left.{LeftRows, is_dead, is_open_row, only, first_of, bucket_in}
+use Rattle.ledger_rows.specs.Open.{is_open_row}
+use Rattle.reserving.specs.Left.{LeftRows, is_dead, only, first_of, bucket_in}
 use Rattle.reserving.specs.Left.{merged, joined, left_of, IsWith}
 use Rattle.reserving.proofs.Lists.{no_some, find-passes}
 use Rattle.reserving.proofs.Holds.{same_from}

@@ -9,13 +9,15 @@ use Rattle.buckets.specs.Row.{Row, IsBalanced, with_release, with_end}
 use Rattle.buckets.specs.Spend.{Each}
 use Rattle.buckets.proofs.SharesAlong.{with_end_keeps, with_release_number}
 use Rattle.shelves.specs.Shelves.{Shelf}
-use Rattle.reserving.specs.declared.session.Session.{Session}
-use Rattle.reserving.specs.declared.session.SessionGroup.{SessionGroup}
+use Rattle.ledger_rows.specs.declared.session.Session.{Session}
+use Rattle.ledger_rows.specs.declared.session.SessionGroup.{SessionGroup}
 use Rattle.reserving.specs.Ledger.{is_same}
-use Rattle.reserving.specs.Sessions.{is_session, is_of, is_open, session_in, group_in}
+use Rattle.ledger_rows.specs.Open.{is_open}
+use Rattle.reserving.specs.Sessions.{is_session, is_of, session_in, group_in}
 use Rattle.reserving.specs.Sessions.{counter_in, is_live_in}
 use Rattle.reserving.specs.Changes.{lapse, lapse_group, lapsed_in}
-use Rattle.reserving.specs.Rows.{AccountRows, EachIn, AreApart}
+use Rattle.ledger_rows.specs.Lists.{EachIn, AreApart}
+use Rattle.reserving.specs.Rows.{AccountRows}
 use Rattle.reserving.specs.Stored.{StoredRows, IsStored, priced}
 use Rattle.reserving.specs.Left.{is_dead, bucket_in, none_left, first_of}
 use Rattle.reserving.proofs.Lists.{no_some, not_both, AreApart-map, EachIn-weaker}

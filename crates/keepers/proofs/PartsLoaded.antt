@@ -3,16 +3,19 @@ use Rattle.std.proofs.Common.{◌≡◌, ℕ, Bool, true, false, List, ◌++◌,
 use Rattle.std.proofs.Common.{Some, None}
 use Rattle.std.specs.Prelude.{if◌then◌else◌, ◌==◌, ◌||◌, not, is_some, option_map, filter}
 use Rattle.shelves.specs.Shelves.{Shelf}
-use Rattle.reserving.specs.declared.session.Session.{Session}
-use Rattle.reserving.specs.declared.session.SessionGroup.{SessionGroup}
-use Rattle.reserving.specs.declared.session.Counter.{Counter}
+use Rattle.ledger_rows.specs.declared.session.Session.{Session}
+use Rattle.ledger_rows.specs.declared.session.SessionGroup.{SessionGroup}
+use Rattle.ledger_rows.specs.declared.session.Counter.{Counter}
 use Rattle.reserving.specs.Ledger.{is_same}
 use Rattle.reserving.specs.Pricing.{cycle_at}
-use Rattle.reserving.specs.Sessions.{is_session, is_of, is_counter, is_open, session_in, group_in}
-use Rattle.reserving.specs.Sessions.{counter_in, counter_before}
+use Rattle.ledger_rows.specs.Open.{is_open}
+use Rattle.reserving.specs.Sessions.{is_session, is_of, is_counter, session_in, group_in}
+use Rattle.ledger_rows.specs.Order.{counter_before}
+use Rattle.reserving.specs.Sessions.{counter_in}
 use Rattle.reserving.specs.Rows.{AccountRows}
 use Rattle.reserving.specs.Stored.{IsStored}
-use Rattle.reserving.specs.Left.{is_dead, is_open_row, only, first_of, bucket_in}
+use Rattle.ledger_rows.specs.Open.{is_open_row}
+use Rattle.reserving.specs.Left.{is_dead, only, first_of, bucket_in}
 use Rattle.reserving.specs.Live.{is_live_group, live_part}
 use Rattle.reserving.proofs.Lists.{find-passes, EachIn-found}
 use Rattle.reserving.proofs.Holds.{same_from}

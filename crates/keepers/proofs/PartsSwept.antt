@@ -3,10 +3,11 @@
 use Rattle.std.proofs.Common.{◌≡◌, ℕ, false, List, ◌++◌, refl, sym, ap, ◌∙◌, Option, Some, None}
 use Rattle.std.specs.Prelude.{◌==◌, is_some, option_map}
 use Rattle.shelves.specs.Shelves.{Shelf}
-use Rattle.reserving.specs.declared.session.SessionGroup.{SessionGroup}
-use Rattle.reserving.specs.declared.session.Reservation.{Reservation}
+use Rattle.ledger_rows.specs.declared.session.SessionGroup.{SessionGroup}
+use Rattle.ledger_rows.specs.declared.session.Reservation.{Reservation}
 use Rattle.reserving.specs.Ledger.{is_same}
-use Rattle.reserving.specs.Sessions.{is_session, is_of, is_counter, is_open, session_in, group_in}
+use Rattle.ledger_rows.specs.Open.{is_open}
+use Rattle.reserving.specs.Sessions.{is_session, is_of, is_counter, session_in, group_in}
 use Rattle.reserving.specs.Sessions.{counter_in}
 use Rattle.reserving.specs.Stored.{StoredRows, IsStored, advanced_stored}
 use Rattle.reserving.specs.Left.{is_dead, first_of, bucket_in}

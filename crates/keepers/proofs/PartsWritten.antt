@@ -5,13 +5,14 @@ use Rattle.std.specs.Prelude.{if◌then◌else◌, ◌==◌, ◌&&◌, not, filt
 use Rattle.std.specs.List.{find}
 use Rattle.std.proofs.lemmas.Bool.{not_from_false}
 use Rattle.buckets.specs.Row.{Row}
-use Rattle.reserving.specs.declared.session.Session.{Session}
-use Rattle.reserving.specs.declared.session.SessionGroup.{SessionGroup}
-use Rattle.reserving.specs.declared.session.Counter.{Counter}
+use Rattle.ledger_rows.specs.declared.session.Session.{Session}
+use Rattle.ledger_rows.specs.declared.session.SessionGroup.{SessionGroup}
+use Rattle.ledger_rows.specs.declared.session.Counter.{Counter}
 use Rattle.reserving.specs.Ledger.{is_same}
-use Rattle.reserving.specs.Sessions.{is_session, is_of, is_counter, is_open, session_in, group_in}
+use Rattle.ledger_rows.specs.Open.{is_open}
+use Rattle.reserving.specs.Sessions.{is_session, is_of, is_counter, session_in, group_in}
 use Rattle.reserving.specs.Sessions.{counter_in}
-use Rattle.reserving.specs.Rows.{AreApart}
+use Rattle.ledger_rows.specs.Lists.{AreApart}
 use Rattle.reserving.specs.Stored.{StoredRows, IsStored}
 use Rattle.reserving.specs.Left.{is_dead, IsDead, only, first_of, bucket_in, none_left}
 use Rattle.reserving.proofs.Lists.{find-passes}

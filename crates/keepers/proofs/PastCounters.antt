@@ -7,11 +7,11 @@ use Rattle.calendar.specs.declared.cycle.Cycle.{Cycle}
 use Rattle.calendar.specs.declared.cycle.Cycle.TheVariants as Each
 use Rattle.shelves.specs.Shelves.{Shelf, book_at}
 use Rattle.tariffs.specs.Tariffs.{GroupTariff}
-use Rattle.reserving.specs.declared.session.Counter.{Counter}
+use Rattle.ledger_rows.specs.declared.session.Counter.{Counter}
 use Rattle.reserving.specs.Pricing.{tariff_at, cycle_with, cycle_at}
 use Rattle.reserving.specs.Keyed.{arranged}
-use Rattle.reserving.specs.Sessions.{counter_before}
-use Rattle.reserving.specs.Rows.{EachIn, AreApart}
+use Rattle.ledger_rows.specs.Order.{counter_before}
+use Rattle.ledger_rows.specs.Lists.{EachIn, AreApart}
 use Rattle.reserving.specs.Stored.{StoredRows}
 use Rattle.reserving.specs.Live.{live_part}
 use Rattle.reserving.proofs.Lists.{not_both, EachIn-weaker}

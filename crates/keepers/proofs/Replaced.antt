@@ -5,12 +5,12 @@ use Rattle.std.proofs.Common.{◌++◌, length, take, get_or, sym, ap, subst, �
 use Rattle.std.specs.Prelude.{not, filter, is_some}
 use Rattle.std.proofs.lemmas.Bool.{not-true}
 use Rattle.buckets.specs.Row.{Row}
-use Rattle.reserving.specs.declared.session.Session.{Session}
-use Rattle.reserving.specs.declared.session.SessionGroup.{SessionGroup}
-use Rattle.reserving.specs.declared.session.Counter.{Counter}
-use Rattle.reserving.specs.Rows.{EachIn}
+use Rattle.ledger_rows.specs.declared.session.Session.{Session}
+use Rattle.ledger_rows.specs.declared.session.SessionGroup.{SessionGroup}
+use Rattle.ledger_rows.specs.declared.session.Counter.{Counter}
+use Rattle.ledger_rows.specs.Lists.{EachIn}
 use Rattle.reserving.specs.Stored.{StoredRows}
-use Rattle.reserving.specs.Sessions.{is_open}
+use Rattle.ledger_rows.specs.Open.{is_open}
 use Rattle.reserving.specs.Left.{is_dead}
 use Rattle.reserving.proofs.Keys.{first_true}
 use Rattle.reserving.proofs.Lists.{EachIn-weaker}

@@ -7,15 +7,17 @@ use Rattle.shelves.specs.Shelves.{Shelf, IsShelf}
 use Rattle.buckets.specs.Row.{Row, with_end, with_release}
 use Rattle.buckets.specs.Spend.{Each}
 use Rattle.buckets.specs.Holding.{held_in}
-use Rattle.reserving.specs.declared.session.Session.{Session}
-use Rattle.reserving.specs.declared.session.SessionState.TheVariants.{Ended}
-use Rattle.reserving.specs.declared.session.SessionGroup.{SessionGroup}
+use Rattle.ledger_rows.specs.declared.session.Session.{Session}
+use Rattle.ledger_rows.specs.declared.session.SessionState.TheVariants.{Ended}
+use Rattle.ledger_rows.specs.declared.session.SessionGroup.{SessionGroup}
 use Rattle.reserving.specs.Ledger.{Ledger, is_same}
 use Rattle.reserving.specs.Pricing.{validity_of}
-use Rattle.reserving.specs.Sessions.{is_session, is_of, is_open, session_in, group_in, counter_in}
+use Rattle.ledger_rows.specs.Open.{is_open}
+use Rattle.reserving.specs.Sessions.{is_session, is_of, session_in, group_in, counter_in}
 use Rattle.reserving.specs.Sessions.{is_live_in, is_live_row, holds_in, held_by}
 use Rattle.reserving.specs.Changes.{advanced, lapse, lapse_group, lapsed_in}
-use Rattle.reserving.specs.Rows.{EachIn, IsAccount}
+use Rattle.ledger_rows.specs.Lists.{EachIn}
+use Rattle.reserving.specs.Rows.{IsAccount}
 use Rattle.reserving.specs.Stored.{StoredRows, IsStored, priced, advanced_stored}
 use Rattle.reserving.specs.Left.{bucket_in, first_of, IsDead}
 use Rattle.reserving.proofs.Lists.{find-map, find-passes, no_some, some_of}
@@ -326,7 +328,7 @@ module _ (shelf : Shelf) (t : ℕ) (before w : StoredRows) (r : Rows)
       first_of (counter_in g c before.counters) (r.counters g c) ≡ counter_in g c w.counters
   counter_found g c = at (counter_in g c before.counters) refl
     where
-      at : (o : Option Rattle.reserving.specs.declared.session.Counter.Counter) →
+      at : (o : Option Rattle.ledger_rows.specs.declared.session.Counter.Counter) →
           counter_in g c before.counters ≡ o →
           first_of o (r.counters g c) ≡ counter_in g c w.counters
       at None e = are.counters g c

@@ -4,17 +4,19 @@ use Rattle.std.proofs.Common.{Option, Some, None}
 use Rattle.std.specs.Prelude.{if◌then◌else◌, ◌==◌, ◌||◌, not, is_some, option_map, filter}
 use Rattle.shelves.specs.Shelves.{Shelf}
 use Rattle.buckets.proofs.Filtered.{sound_filter}
-use Rattle.reserving.specs.declared.session.Session.{Session}
-use Rattle.reserving.specs.declared.session.SessionGroup.{SessionGroup}
-use Rattle.reserving.specs.declared.session.Reservation.{Reservation}
+use Rattle.ledger_rows.specs.declared.session.Session.{Session}
+use Rattle.ledger_rows.specs.declared.session.SessionGroup.{SessionGroup}
+use Rattle.ledger_rows.specs.declared.session.Reservation.{Reservation}
 use Rattle.reserving.specs.Ledger.{Ledger, last_recording}
 use Rattle.reserving.specs.Ledger.{has_group}
 use Rattle.reserving.specs.Pricing.{cycle_at, validity_of}
-use Rattle.reserving.specs.Sessions.{is_open, session_in, group_in}
+use Rattle.ledger_rows.specs.Open.{is_open}
+use Rattle.reserving.specs.Sessions.{session_in, group_in}
 use Rattle.reserving.specs.Sessions.{reservation_at}
 use Rattle.reserving.specs.Rows.{AccountRows, AreInOrderOf, IsAccount, IsRowsOf}
 use Rattle.reserving.specs.Stored.{stored, priced}
-use Rattle.reserving.specs.Left.{is_dead, is_open_row, only, left_of, IsPartOf, IsWith}
+use Rattle.ledger_rows.specs.Open.{is_open_row}
+use Rattle.reserving.specs.Left.{is_dead, only, left_of, IsPartOf, IsWith}
 use Rattle.reserving.specs.Left.{IsLoadedWith}
 use Rattle.reserving.proofs.Lists.{some_of}
 use Rattle.reserving.proofs.StoredRows.{IsAccount-priced}

@@ -5,13 +5,14 @@ use Rattle.std.specs.Prelude.{◌==◌, ◌||◌, not, filter, is_some}
 use Rattle.std.specs.List.{find, list_any}
 use Rattle.std.proofs.lemmas.Bool.{not_from_false}
 use Rattle.buckets.specs.Row.{Row}
-use Rattle.reserving.specs.declared.session.Session.{Session}
-use Rattle.reserving.specs.declared.session.SessionGroup.{SessionGroup}
-use Rattle.reserving.specs.declared.session.Counter.{Counter}
+use Rattle.ledger_rows.specs.declared.session.Session.{Session}
+use Rattle.ledger_rows.specs.declared.session.SessionGroup.{SessionGroup}
+use Rattle.ledger_rows.specs.declared.session.Counter.{Counter}
 use Rattle.reserving.specs.Ledger.{is_same}
-use Rattle.reserving.specs.Rows.{EachIn}
+use Rattle.ledger_rows.specs.Lists.{EachIn}
 use Rattle.reserving.specs.Stored.{StoredRows}
-use Rattle.reserving.specs.Sessions.{is_session, is_of, is_counter, is_open, session_in, group_in}
+use Rattle.ledger_rows.specs.Open.{is_open}
+use Rattle.reserving.specs.Sessions.{is_session, is_of, is_counter, session_in, group_in}
 use Rattle.reserving.specs.Sessions.{counter_in}
 use Rattle.reserving.specs.Left.{is_dead, bucket_in}
 use Rattle.reserving.proofs.Lists.{not_both, some_of, no_some, find-passes, EachIn-weaker}

@@ -1,9 +1,9 @@
 -- Whether a row has the key of another.
 use Rattle.std.specs.Prelude.{◌==◌, Bool}
 use Rattle.buckets.specs.Row.{Row}
-use Rattle.reserving.specs.declared.session.Session.{Session}
-use Rattle.reserving.specs.declared.session.SessionGroup.{SessionGroup}
-use Rattle.reserving.specs.declared.session.Counter.{Counter}
+use Rattle.ledger_rows.specs.declared.session.Session.{Session}
+use Rattle.ledger_rows.specs.declared.session.SessionGroup.{SessionGroup}
+use Rattle.ledger_rows.specs.declared.session.Counter.{Counter}
 use Rattle.reserving.specs.Sessions.{is_session, is_of, is_counter}
 
 abbrev pub same_bucket : Row → Row → Bool

@@ -12,11 +12,11 @@ use Rattle.calendar.specs.declared.cycle.Cycle.TheVariants as Each
 use Rattle.calendar.specs.Timetable.{cycle_of}
 use Rattle.shelves.specs.Shelves.{Shelf, book_at}
 use Rattle.identifiers.specs.Texts.{same_name}
-use Rattle.reserving.specs.declared.session.Session.{Session}
-use Rattle.reserving.specs.declared.session.SessionGroup.{SessionGroup}
-use Rattle.reserving.specs.declared.session.Counter.{Counter}
-use Rattle.reserving.specs.Rows.{EachIn}
-use Rattle.reserving.specs.Sessions.{is_open}
+use Rattle.ledger_rows.specs.declared.session.Session.{Session}
+use Rattle.ledger_rows.specs.declared.session.SessionGroup.{SessionGroup}
+use Rattle.ledger_rows.specs.declared.session.Counter.{Counter}
+use Rattle.ledger_rows.specs.Lists.{EachIn}
+use Rattle.ledger_rows.specs.Open.{is_open}
 use Rattle.reserving.specs.Left.{is_dead}
 
 -- a set of numbers, and one of names

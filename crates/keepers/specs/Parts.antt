@@ -6,12 +6,13 @@ use Rattle.std.specs.Prelude.{Some, is_some, option_map, filter}
 use Rattle.units.specs.Words.{Moment, most_used, most_counted}
 use Rattle.buckets.specs.Row.{Row, IsBalanced}
 use Rattle.shelves.specs.Shelves.{Shelf}
-use Rattle.reserving.specs.declared.session.Session.{Session}
-use Rattle.reserving.specs.declared.session.SessionGroup.{SessionGroup}
-use Rattle.reserving.specs.declared.session.Counter.{Counter}
-use Rattle.reserving.specs.Sessions.{is_open, session_in, group_in}
+use Rattle.ledger_rows.specs.declared.session.Session.{Session}
+use Rattle.ledger_rows.specs.declared.session.SessionGroup.{SessionGroup}
+use Rattle.ledger_rows.specs.declared.session.Counter.{Counter}
+use Rattle.ledger_rows.specs.Open.{is_open}
+use Rattle.reserving.specs.Sessions.{session_in, group_in}
 use Rattle.reserving.specs.Sessions.{counter_in}
-use Rattle.reserving.specs.Rows.{EachIn, AreApart}
+use Rattle.ledger_rows.specs.Lists.{EachIn, AreApart}
 use Rattle.reserving.specs.Stored.{StoredRows, advanced_stored}
 use Rattle.reserving.specs.Left.{LeftRows, is_dead, bucket_in}
 use Rattle.keepers.specs.Tables.{Rows, head_of, group_row, held_of}

@@ -11,7 +11,7 @@ use std::hash::{Hash, Hasher};
 
 /// The key of a kept answer within its account: an accepted command with the same key is its
 /// repeat, or at fault.
-#[derive(Clone, Debug, Drop)]
+#[derive(Clone, Drop)]
 pub enum Key {
     /// Of a request: its session and its number in it (RFC 8506 section 8.2).
     Request { session: SessionId, number: u32 },
@@ -20,7 +20,7 @@ pub enum Key {
 }
 
 /// What is kept of an accepted command, so that its repeat is answered as it was.
-#[derive(Debug, Drop)]
+#[derive(Drop)]
 pub struct KeptAnswer {
     /// The command. It tells the key.
     pub content: Content,

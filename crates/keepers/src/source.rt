@@ -2,7 +2,7 @@
 
 ghost use Rattle.std.specs.Prelude.{◌≡◌, Bool, OnErr};
 ghost use Rattle.keepers.specs.Keeping.{Reads};
-ghost use Rattle.reserving.specs.ChargeColumns.{ChargeColumns};
+ghost use Rattle.ledger_rows.specs.ChargeColumns.{ChargeColumns};
 ghost use Rattle.keepers.specs.Visits.{SeesCharges, SeesBeginning, IsShown};
 
 use crate::fault::StoreFault;

@@ -12,7 +12,7 @@ ghost use Rattle.keepers.specs.Change.{IsLoadedFrom, over, AreRowsAt, AreBrought
 ghost use Rattle.reserving.specs.Ledger.{Ledger};
 ghost use Rattle.keepers.specs.Tables.{no_rows};
 ghost use Rattle.keepers.specs.Whole.{AreWhole};
-ghost use Rattle.reserving.specs.Rows.{EachIn};
+ghost use Rattle.ledger_rows.specs.Lists.{EachIn};
 ghost use Rattle.keepers.specs.Parts.{rows_of, with_live, advanced_parts, leaves_bucket};
 ghost use Rattle.keepers.specs.Parts.{leaves_counter, leaves_session, leaves_group};
 ghost use Rattle.keepers.specs.Named.{is_numbered, is_named, is_left_now, may_go_on};

@@ -11,7 +11,7 @@ use Rattle.commands.specs.declared.answer.Answer.TheVariants.{Refused}
 use Rattle.commands.specs.declared.answer.Refusal.TheVariants.{AccountUnknown}
 use Rattle.shelves.specs.Shelves.{Shelf}
 use Rattle.reserving.specs.Balance.{buckets_at}
-use Rattle.reserving.specs.ChargeColumns.{ChargeColumns}
+use Rattle.ledger_rows.specs.ChargeColumns.{ChargeColumns}
 use Rattle.reserving.specs.Charges.{charge_rows}
 use Rattle.reserving.specs.Ledger.{Ledger}
 use Rattle.reserving.specs.Pricing.{validity_of}

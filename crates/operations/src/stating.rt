@@ -30,7 +30,7 @@ use texts::StreamFault;
 use units::Moment;
 
 /// What is asked of an account: its charges of a month.
-#[derive(Debug, Drop)]
+#[derive(Drop)]
 pub struct MonthQuery {
     /// The account whose charges are asked for.
     pub account: AccountNumber,

@@ -6,7 +6,7 @@ ghost use Rattle.operations.specs.Told.{status_number, status_of};
 use commands::Answer;
 
 /// How the program ends.
-#[derive(Clone, Copy, Debug, PartialEq, Eq)]
+#[derive(Clone, Copy)]
 pub enum Status {
     /// What the words say was done.
     Done,

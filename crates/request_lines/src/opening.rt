@@ -1,6 +1,6 @@
 //! What opens the account of the first request.
 
-ghost use Rattle.std.specs.Prelude.{◌≡◌, codes, IfOk};
+ghost use Rattle.std.specs.Prelude.{◌≡◌, ◌++◌, ◌∷◌, [], None, codes, IfOk, OnOk};
 ghost use Rattle.request_lines.specs.Served.{opening_for, opened_with};
 
 use charging::DatedCommand;
@@ -34,26 +34,52 @@ fn open_account(
 ) -> Result<Vec<DatedCommand>, AllocError>
     ensures { IfOk result (λ opening. opening.items ≡ opened_with amount account.now) }
 {
-    let moment = Moment::first();
-    let open = Command::OpenAccount(account.clone()?);
-    let credit = Command::Credit(Credit {
-        account: account.clone()?,
+    let mut opening = Vec::new(alloc);
+    push_first(&mut opening, Command::OpenAccount(account.clone()?))?;
+    push_first(
+        &mut opening,
+        Command::Credit(opening_credit(alloc, amount, account)?),
+    )?;
+    Ok(opening)
+}
+
+/// Adds a command of the first moment.
+fn push_first(opening: &mut Vec<DatedCommand>, command: Command) -> Result<(), AllocError>
+    ensures { OnOk result (opening.new.items ≡
+        opening.old.items ++ record { moment = 0; command = command } ∷ []) }
+{
+    opening.push(DatedCommand {
+        moment: Moment::first(),
+        command,
+    })?;
+    Ok(())
+}
+
+/// The credit of this amount that an account is opened with.
+fn opening_credit(
+    alloc: Global,
+    amount: Money,
+    account: &AccountNumber,
+) -> Result<Credit, AllocError>
+    ensures { IfOk result (λ credit. credit ≡ record {
+      account = account.now;
+      amount = amount;
+      from = None;
+      until = None;
+      scope = None;
+      reference = codes "once";
+    }) }
+{
+    let account = account.clone()?;
+    let reference = opening_reference(alloc)?;
+    Ok(Credit {
+        account,
         amount,
         from: None,
         until: None,
         scope: None,
-        reference: opening_reference(alloc)?,
-    });
-    let mut opening = Vec::new(alloc);
-    opening.push(DatedCommand {
-        moment,
-        command: open,
-    })?;
-    opening.push(DatedCommand {
-        moment,
-        command: credit,
-    })?;
-    Ok(opening)
+        reference,
+    })
 }
 
 /// The reference of the credit that an account is opened with.

@@ -10,7 +10,7 @@ use Rattle.buckets.specs.declared.holds.Hold.{Hold}
 use Rattle.buckets.specs.Row.{Row}
 use Rattle.buckets.specs.Share.{parts}
 use Rattle.buckets.specs.Holding.{paid, uncollected, holds_of}
-use Rattle.reserving.specs.declared.charge.ChargeRow.{ChargeRow}
+use Rattle.ledger_rows.specs.declared.charge.ChargeRow.{ChargeRow}
 use Rattle.reserving.specs.declared.settle.Settled.{Settled}
 use Rattle.reserving.specs.Ledger.{Ledger, uses_in, counter, next_charge}
 use Rattle.reserving.specs.Ledger.Fact.{Grant, End, Use}
@@ -28,7 +28,8 @@ use Rattle.reserving.specs.Settlement.{missing, passes}
 use Rattle.reserving.specs.Reservation.{hold_facts, reserved}
 use Rattle.reserving.specs.Debiting.{rest_price, charged_use, debited}
 use Rattle.reserving.specs.Results.{IsSettlementOf, IsDebitOf}
-use Rattle.reserving.specs.Rows.{AccountRows, EachIn}
+use Rattle.ledger_rows.specs.Lists.{EachIn}
+use Rattle.reserving.specs.Rows.{AccountRows}
 use Rattle.reserving.proofs.SettledFacts.{total-front, each_charge, each_hold}
 
 -- ---- facts that are no use

@@ -5,18 +5,19 @@ use Rattle.std.specs.Prelude.{if◌then◌else◌, is_some, unwrap_or, option_ma
 use Rattle.std.specs.List.{find, list_any, insert}
 use Rattle.std.proofs.lemmas.Iterator.Adapters.{position_from-zero}
 use Rattle.buckets.specs.declared.holds.Hold.{Hold}
-use Rattle.reserving.specs.declared.session.Session.{Session}
-use Rattle.reserving.specs.declared.session.SessionGroup.{SessionGroup}
-use Rattle.reserving.specs.declared.session.Reservation.{Reservation}
-use Rattle.reserving.specs.declared.session.Counter.{Counter}
+use Rattle.ledger_rows.specs.declared.session.Session.{Session}
+use Rattle.ledger_rows.specs.declared.session.SessionGroup.{SessionGroup}
+use Rattle.ledger_rows.specs.declared.session.Reservation.{Reservation}
+use Rattle.ledger_rows.specs.declared.session.Counter.{Counter}
 use Rattle.reserving.specs.Keyed.{put, IsGap}
 use Rattle.reserving.specs.Sessions.{is_of, group_in, is_counter, counter_in, holds_in}
-use Rattle.reserving.specs.Sessions.{is_session, session_in, session_before}
+use Rattle.ledger_rows.specs.Order.{session_before}
+use Rattle.reserving.specs.Sessions.{is_session, session_in}
 use Rattle.reserving.specs.Changes.{new_group, used_in, reserved_in, terms_in, count_in}
 use Rattle.reserving.specs.Changes.{ended_group}
 use Rattle.reserving.specs.Prepared.{with_group, with_counter}
-use Rattle.reserving.specs.Rows.{EachIn, AreApart}
-use Rattle.reserving.specs.Sessions.{group_before, counter_before}
+use Rattle.ledger_rows.specs.Lists.{EachIn, AreApart}
+use Rattle.ledger_rows.specs.Order.{group_before, counter_before}
 use Rattle.reserving.proofs.Lists.{IsPlace, IsPlaceFrom, position_is, position_none, find-passes}
 use Rattle.reserving.proofs.Lists.{some_of, no_some, any_found, put_first, put_later, none_each}
 pub use Rattle.reserving.proofs.Lists.{put-same}

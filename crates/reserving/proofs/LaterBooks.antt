@@ -11,7 +11,7 @@ use Rattle.reserving.specs.Ledger.Fact.{Recorded, Barred}
 use Rattle.reserving.specs.Balance.{buckets_at, balance_of, credits}
 use Rattle.buckets.specs.Share.{parts}
 use Rattle.buckets.specs.Row.{Row}
-use Rattle.reserving.specs.declared.session.SessionState.TheVariants.{Open, Ended, NeverOpened}
+use Rattle.ledger_rows.specs.declared.session.SessionState.TheVariants.{Open, Ended, NeverOpened}
 use Rattle.reserving.specs.Sessions.{session_at, session_row, group_at, reservation_of}
 use Rattle.shelves.specs.Shelves.{Shelf}
 use Rattle.shelves.specs.Laws.{GoesOnFrom}

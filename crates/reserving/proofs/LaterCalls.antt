@@ -17,7 +17,7 @@ use Rattle.buckets.specs.Holding.{paid, uncollected, holds_of, held_sum}
 use Rattle.shelves.specs.Shelves.{Shelf, book_at, number_at, tariff_in, count}
 use Rattle.shelves.specs.Laws.{GoesOnFrom}
 use Rattle.shelves.proofs.Begun.{begun_few}
-use Rattle.reserving.specs.declared.session.Terms.{Terms}
+use Rattle.ledger_rows.specs.declared.session.Terms.{Terms}
 use Rattle.reserving.specs.Ledger.{Fact, Ledger, is_same, grant_in, newest, or_else, inner}
 use Rattle.reserving.specs.Ledger.{open_grant, used, counter, held, only}
 use Rattle.reserving.specs.Ledger.Fact.{Credit, Grant, Hold, End, Use, Charge, Touch, Close}

@@ -12,8 +12,8 @@ use Rattle.rating.specs.declared.grant.Periods.{Periods}
 use Rattle.buckets.specs.declared.kind.BucketKind.TheVariants.{Money}
 use Rattle.buckets.specs.declared.kind.Due.{Due}
 use Rattle.shelves.specs.Shelves.{book_at}
-use Rattle.reserving.specs.declared.session.SessionGroup.{SessionGroup}
-use Rattle.reserving.specs.declared.session.Reservation.{Reservation}
+use Rattle.ledger_rows.specs.declared.session.SessionGroup.{SessionGroup}
+use Rattle.ledger_rows.specs.declared.session.Reservation.{Reservation}
 use Rattle.reserving.specs.Ledger.{Ledger, is_live}
 use Rattle.reserving.specs.Balance.{buckets_at}
 use Rattle.reserving.specs.Pricing.{cycle_at, periods_at, validity_of}
@@ -24,7 +24,8 @@ use Rattle.reserving.specs.Settlement.{reported, price_of, passes, passes_limit,
 use Rattle.reserving.specs.Debiting.{untagged, event_price, rest_price, debit_passes}
 use Rattle.reserving.specs.Changes.{advanced, used_in, count_in, price_in, event_price_in}
 use Rattle.reserving.specs.Changes.{rest_price_in}
-use Rattle.reserving.specs.Rows.{AccountRows, EachIn}
+use Rattle.ledger_rows.specs.Lists.{EachIn}
+use Rattle.reserving.specs.Rows.{AccountRows}
 use Rattle.reserving.specs.Left.{LeftRows, merged, joined, IsDead, IsLeft, AreOfOtherCycles, IsWith}
 use Rattle.reserving.proofs.Advancing.{IsRowsOf-advanced, is_live_in-is}
 use Rattle.reserving.proofs.PassedLimits.{passes_after-none}

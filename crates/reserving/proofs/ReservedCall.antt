@@ -12,7 +12,7 @@ use Rattle.buckets.specs.declared.holds.Hold.{Hold}
 use Rattle.buckets.specs.Row.{Row, with_release, with_end}
 use Rattle.buckets.specs.Spend.{funds, held_rows}
 use Rattle.buckets.specs.Holding.{holds_of}
-use Rattle.reserving.specs.declared.session.SessionGroup.{SessionGroup}
+use Rattle.ledger_rows.specs.declared.session.SessionGroup.{SessionGroup}
 use Rattle.reserving.specs.Ledger.{Ledger, used, counter, is_live}
 use Rattle.tariffs.specs.Books.{Book}
 use Rattle.shelves.specs.Shelves.{Shelf, book_at}
@@ -25,7 +25,7 @@ use Rattle.rating.specs.Granted.{IsGreatest, dearer, grant_of}
 use Rattle.reserving.specs.Pricing.{tariff_of, tariff_at, cycle_at, switch_at, validity_at}
 use Rattle.reserving.specs.Pricing.{periods_at}
 use Rattle.reserving.specs.Pricing.{terms_at}
-use Rattle.reserving.specs.declared.session.Terms.{Terms}
+use Rattle.ledger_rows.specs.declared.session.Terms.{Terms}
 use Rattle.reserving.specs.Pricing.{prices_by, wanted_units, wanted_with, grant_with, validity_of}
 use Rattle.reserving.specs.Quotas.{IsQuota, IsGreatestFor}
 use Rattle.reserving.specs.Keyed.{put}
@@ -38,7 +38,7 @@ use Rattle.reserving.specs.Prepared.{with_group, with_group_row, reservation_in}
 use Rattle.reserving.specs.Rows.{AccountRows, IsAccount, IsRowsOf}
 use Rattle.reserving.specs.Results.{IsGrantOf, IsWithin}
 use Rattle.reserving.specs.Placed.{AreOfBook}
-use Rattle.reserving.specs.Sessions.{group_before}
+use Rattle.ledger_rows.specs.Order.{group_before}
 use Rattle.reserving.proofs.Lists.{find-map, some_of, no_some}
 use Rattle.reserving.proofs.Advancing.{is_live_in-is, IsRowsOf-advanced}
 use Rattle.reserving.proofs.Advanced.{IsAccount-advanced}

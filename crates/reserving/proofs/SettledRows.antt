@@ -20,10 +20,10 @@ use Rattle.buckets.specs.Holding.{held_in, paid, settled_row}
 use Rattle.buckets.specs.Holding.{settled_rows, released_rows}
 use Rattle.buckets.proofs.Parts.{sum_at_none}
 use Rattle.buckets.proofs.SharesAlong.{with_release_number}
-use Rattle.reserving.specs.declared.session.SessionGroup.{SessionGroup}
-use Rattle.reserving.specs.declared.session.Reservation.{Reservation}
-use Rattle.reserving.specs.declared.session.Counter.{Counter}
-use Rattle.reserving.specs.declared.session.Terms.{Terms}
+use Rattle.ledger_rows.specs.declared.session.SessionGroup.{SessionGroup}
+use Rattle.ledger_rows.specs.declared.session.Reservation.{Reservation}
+use Rattle.ledger_rows.specs.declared.session.Counter.{Counter}
+use Rattle.ledger_rows.specs.declared.session.Terms.{Terms}
 use Rattle.reserving.specs.Ledger.{Fact, Dated, Ledger, or_else, open_grant, held, only, used}
 use Rattle.reserving.specs.Ledger.{counter, has_group, has_counter, inner, is_live, is_same}
 use Rattle.reserving.specs.Ledger.{units_in, names_group, grant_in, counts_group, blocks_in}
@@ -43,7 +43,7 @@ use Rattle.reserving.specs.Changes.{with_use, with_count, ended_group, ended_row
 use Rattle.reserving.specs.Changes.{settled_by_rows}
 use Rattle.reserving.specs.SoundLedger.{IsUnknown, IsSoundLedger}
 use Rattle.reserving.specs.Rows.{AccountRows, IsAccount, IsRowsOf}
-use Rattle.reserving.specs.Sessions.{group_before, counter_before}
+use Rattle.ledger_rows.specs.Order.{group_before, counter_before}
 use Rattle.reserving.proofs.Lists.{find-put, find-put_other, find-map}
 use Rattle.reserving.proofs.Keys.{is_key, own_key, key_session, key_group, key_of, other_row}
 use Rattle.reserving.proofs.Keys.{is_cycle, own_cycle, cycle_group, cycle_cycle, other_counter}

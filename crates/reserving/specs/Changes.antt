@@ -16,25 +16,26 @@ use Rattle.buckets.specs.declared.kind.Due.{Due}
 use Rattle.buckets.specs.Share.{sum_in}
 use Rattle.buckets.specs.Spend.{Each, inserted, held_rows, funds, allowance}
 use Rattle.buckets.specs.Holding.{settled_rows, released_rows, holds_of, held_sum}
-use Rattle.reserving.specs.declared.session.Session.{Session}
-use Rattle.reserving.specs.declared.session.SessionState.{SessionState}
-use Rattle.reserving.specs.declared.session.SessionState.TheVariants.{Open, Ended}
-use Rattle.reserving.specs.declared.session.SessionGroup.{SessionGroup}
-use Rattle.reserving.specs.declared.session.Reservation.{Reservation}
-use Rattle.reserving.specs.declared.session.Counter.{Counter}
+use Rattle.ledger_rows.specs.declared.session.Session.{Session}
+use Rattle.ledger_rows.specs.declared.session.SessionState.{SessionState}
+use Rattle.ledger_rows.specs.declared.session.SessionState.TheVariants.{Open, Ended}
+use Rattle.ledger_rows.specs.declared.session.SessionGroup.{SessionGroup}
+use Rattle.ledger_rows.specs.declared.session.Reservation.{Reservation}
+use Rattle.ledger_rows.specs.declared.session.Counter.{Counter}
 use Rattle.reserving.specs.Ledger.{is_same}
-use Rattle.reserving.specs.declared.session.Terms.{Terms}
+use Rattle.ledger_rows.specs.declared.session.Terms.{Terms}
 use Rattle.rating.specs.declared.grant.Grant.{Grant}
 use Rattle.rating.specs.declared.report.Rated.{Rated}
 use Rattle.reserving.specs.Pricing.{tariff_at, cycle_at, periods_at, terms_at, validity_of}
 use Rattle.reserving.specs.Pricing.{grant_with}
 use Rattle.reserving.specs.Keyed.{put}
-use Rattle.reserving.specs.Sessions.{is_session, is_of, group_in, is_counter, counter_in, is_open}
+use Rattle.ledger_rows.specs.Open.{is_open}
+use Rattle.reserving.specs.Sessions.{is_session, is_of, group_in, is_counter, counter_in}
 use Rattle.reserving.specs.Sessions.{is_live_in, held_by, holds_in}
 use Rattle.reserving.specs.Settlement.{reported, price_of, due_of, passes}
 use Rattle.reserving.specs.Debiting.{untagged}
 use Rattle.reserving.specs.Rows.{AccountRows}
-use Rattle.reserving.specs.Sessions.{group_before, session_before, counter_before}
+use Rattle.ledger_rows.specs.Order.{group_before, session_before, counter_before}
 
 -- ---- time goes on: sessions whose supervision time is over end, what they held is given up, and
 -- what is left of buckets that ended is expired

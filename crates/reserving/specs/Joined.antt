@@ -8,7 +8,7 @@ use Rattle.buckets.specs.Words.{BucketAmount}
 use Rattle.buckets.specs.declared.kind.BucketKind.{BucketKind}
 use Rattle.buckets.specs.Kinds.{most_of, IsScopeOf}
 use Rattle.buckets.specs.Spend.{funds, allowance}
-use Rattle.reserving.specs.declared.session.SessionState.TheVariants.{Open, NeverOpened}
+use Rattle.ledger_rows.specs.declared.session.SessionState.TheVariants.{Open, NeverOpened}
 use Rattle.reserving.specs.Ledger.{Ledger, is_live, is_barred}
 use Rattle.reserving.specs.Pricing.{validity_of}
 use Rattle.reserving.specs.Balance.{buckets_at}

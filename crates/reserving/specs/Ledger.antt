@@ -7,8 +7,8 @@ use Rattle.units.specs.Words.{Moment, Seconds, Micros, UnitCount, BlockCount, Pl
 use Rattle.units.specs.Words.{CycleNumber, CcRequestNumber}
 use Rattle.identifiers.specs.Words.{SessionName}
 use Rattle.buckets.specs.Words.{BucketNumber, BucketAmount}
-use Rattle.reserving.specs.Words.{ChargeNumber}
-use Rattle.reserving.specs.declared.session.Terms.{Terms}
+use Rattle.ledger_rows.specs.Words.{ChargeNumber}
+use Rattle.ledger_rows.specs.declared.session.Terms.{Terms}
 use Rattle.buckets.specs.declared.kind.BucketKind.{BucketKind}
 
 -- Credit: a bucket of a kind is made. Grant, Hold and End: a session gets units of a rating group,

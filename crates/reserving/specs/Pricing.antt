@@ -11,7 +11,7 @@ use Rattle.calendar.specs.Timetable.{Timetable, period_at, switch_within, validi
 use Rattle.calendar.specs.declared.week.Period.{Period}
 use Rattle.tariffs.specs.Books.{Book}
 use Rattle.shelves.specs.Shelves.{Shelf, book_at, number_at}
-use Rattle.reserving.specs.declared.session.Terms.{Terms}
+use Rattle.ledger_rows.specs.declared.session.Terms.{Terms}
 use Rattle.tariffs.specs.Tariffs.{GroupTariff}
 use Rattle.tariffs.specs.GroupPrices.{GroupPrices, prices_in}
 use Rattle.tariffs.specs.declared.group_prices.Side.TheVariants.{Before, After}

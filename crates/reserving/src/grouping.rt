@@ -4,14 +4,14 @@ ghost use Rattle.std.specs.Prelude.{◌≡◌, ℕ, ◌+◌, ◌≤◌, ◌^◌,
 ghost use Rattle.std.specs.Prelude.{position, map, option_map, length, vec_len, vec_capacity};
 ghost use Rattle.buckets.specs.Holding.{IsWithin, held_sum};
 ghost use Rattle.reserving.specs.Sessions.{is_of, group_in, is_counter, counter_in, holds_in};
-ghost use Rattle.reserving.specs.Sessions.{group_before, counter_before};
-ghost use Rattle.reserving.specs.Rows.{AreApart, AreAscending};
+ghost use Rattle.ledger_rows.specs.Order.{group_before, counter_before};
+ghost use Rattle.ledger_rows.specs.Lists.{AreApart, AreAscending};
 ghost use Rattle.reserving.specs.Changes.{used_in, reserved_in, terms_in, count_in, with_use};
 ghost use Rattle.reserving.specs.Changes.{with_event, with_count, with_reservation, ended_group};
 ghost use Rattle.reserving.specs.Prepared.{with_group, with_counter};
 
 use crate::searching::{seek_counter, seek_group};
-use crate::session::{Counter, Reservation, SessionGroup, Terms};
+use ledger_rows::{Counter, Reservation, SessionGroup, Terms};
 use buckets::{BucketKind, Holds, Purse};
 use identifiers::SessionId;
 use std::alloc::{AllocError, Global};

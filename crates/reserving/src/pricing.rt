@@ -15,7 +15,7 @@ ghost use Rattle.reserving.specs.Pricing.{prices_by, terms_now};
 ghost use Rattle.reserving.specs.Settlement.{reported};
 ghost use Rattle.reserving.specs.Windows.{AreWindowsOfBooks};
 
-use crate::session::Terms;
+use ledger_rows::Terms;
 use rating::{Part, Periods, Rated, rate_report};
 use shelves::TariffShelf;
 use tariffs::{Prices, Side, Tariff, TariffBook};

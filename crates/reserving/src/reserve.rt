@@ -22,14 +22,14 @@ use crate::account::Account;
 use crate::fault::AccountFault;
 use crate::grouping;
 use crate::pricing::{wanted_of, window_at};
-use crate::session::Terms;
+use ledger_rows::Terms;
 use buckets::HoldRoom;
 use identifiers::SessionId;
 use rating::{Grant, Periods, greatest_grant};
 use units::{Amount, Blocks, Moment, Units};
 
 /// What is granted of a wanted amount (Granted-Service-Unit, RFC 8506 section 8.17).
-#[derive(Clone, Copy, Debug, PartialEq, Eq)]
+#[derive(Clone, Copy, Debug)]
 pub enum Granted {
     /// The funds cover no unit: nothing is reserved.
     Nothing,

@@ -8,7 +8,7 @@ use crate::fault::AccountFault;
 use crate::grouping;
 use crate::live::cycle_of;
 use crate::pricing::{Tally, price, prices_by, reported_units, tally_of, terms_now};
-use crate::session::Terms;
+use ledger_rows::Terms;
 use buckets::{BucketKind, Charged};
 use identifiers::SessionId;
 use rating::Rated;
@@ -16,7 +16,7 @@ use units::{Amount, Blocks, Moment, Units, UsedPart};
 
 /// What became of a report of used units or of a debit. The type keeps that what is collected and
 /// what isn't sum to the rated amount.
-#[derive(Clone, Copy, Debug, PartialEq, Eq)]
+#[derive(Clone, Copy)]
 pub struct Settled {
     /// The blocks that the report started.
     pub blocks: Blocks,

@@ -32,7 +32,7 @@ use units::Moment;
 use vouchers::{VoucherFault, read_vouchers};
 
 /// Why the vouchers of a file weren't all added and told.
-#[derive(Clone, Copy, Debug, Drop, Error, PartialEq, Eq)]
+#[derive(Clone, Copy, Debug, Drop, Error)]
 pub enum ImportFault {
     /// The file has a fault, or wasn't read to its end: nothing has changed.
     #[error("voucher fault {} at record {}", .0.kind.number(), .0.record_number)]

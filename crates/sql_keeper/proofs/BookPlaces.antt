@@ -5,7 +5,7 @@ use Rattle.std.specs.Ordering.{nat_cmp, is_lt, is_eq}
 use Rattle.std.specs.Cmp.{IsTotalOrder, then_total, on_total, nat_cmp_total, both_tied}
 use Rattle.std.specs.Cmp.{unsigned_ties}
 use Rattle.std.specs.Cmp.Lexicographic.{slice_cmp, on_texts, texts_ties}
-use Rattle.reserving.specs.Rows.{AreAscending}
+use Rattle.ledger_rows.specs.Lists.{AreAscending}
 use Rattle.reserving.proofs.KeysFound.{placed, unplaced}
 use Rattle.reserving.proofs.Lists.{EachIn-weaker}
 use Rattle.reserving.proofs.order.Ascending.{less_is}

@@ -10,15 +10,17 @@ use Rattle.calendar.specs.declared.week.Period.{Period}
 use Rattle.buckets.specs.Row.{IsBalanced}
 use Rattle.buckets.specs.Kinds.{IsScopeOf}
 use Rattle.rating.specs.declared.grant.Periods.{Periods}
-use Rattle.reserving.specs.declared.charge.ChargeRow.{ChargeRow}
-use Rattle.reserving.specs.declared.session.Session.{Session}
-use Rattle.reserving.specs.declared.session.SessionGroup.{SessionGroup}
-use Rattle.reserving.specs.declared.session.Reservation.{Reservation}
-use Rattle.reserving.specs.declared.session.Terms.{Terms}
-use Rattle.reserving.specs.Sessions.{session_in, is_session, is_of, is_open, group_in, holds_in}
-use Rattle.reserving.specs.Rows.{AreApart, EachIn}
+use Rattle.ledger_rows.specs.declared.charge.ChargeRow.{ChargeRow}
+use Rattle.ledger_rows.specs.declared.session.Session.{Session}
+use Rattle.ledger_rows.specs.declared.session.SessionGroup.{SessionGroup}
+use Rattle.ledger_rows.specs.declared.session.Reservation.{Reservation}
+use Rattle.ledger_rows.specs.declared.session.Terms.{Terms}
+use Rattle.ledger_rows.specs.Open.{is_open}
+use Rattle.reserving.specs.Sessions.{session_in, is_session, is_of, group_in, holds_in}
+use Rattle.ledger_rows.specs.Lists.{AreApart, EachIn}
 use Rattle.reserving.specs.Stored.{StoredRows, IsStored}
-use Rattle.reserving.specs.Left.{is_open_row, first_of}
+use Rattle.ledger_rows.specs.Open.{is_open_row}
+use Rattle.reserving.specs.Left.{first_of}
 use Rattle.reserving.proofs.Lists.{find-passes, EachIn-found, EachIn-weaker}
 use Rattle.keepers.specs.Keyed.{same_bucket, same_counter, same_session, same_group}
 use Rattle.keepers.proofs.Found.{distinct_apart}

@@ -11,7 +11,7 @@ use Rattle.keepers.specs.Naming.{IsNamed}
 use Rattle.buckets.specs.Row.{Row as Bucket}
 use Rattle.buckets.specs.declared.kind.BucketKind.{BucketKind}
 use Rattle.buckets.specs.declared.holds.Hold.{Hold}
-use Rattle.reserving.specs.declared.session.SessionGroup.{SessionGroup}
+use Rattle.ledger_rows.specs.declared.session.SessionGroup.{SessionGroup}
 use Rattle.reserving.specs.Sessions.{holds_in}
 use Rattle.reserving.specs.Stored.{StoredRows}
 use Rattle.sqlite.specs.Effect.{Database}

@@ -3,7 +3,7 @@ use Rattle.std.proofs.Common.{◌≡◌, ◌≤◌, ◌<◌, ◌∙◌, ◌++◌
 use Rattle.std.proofs.Common.{◌∷◌, Option, Some, None, refl, sym, ap, subst, arith, length}
 use Rattle.std.specs.Prelude.{option_map, slice_get, unwrap_or}
 use Rattle.sqlite_trees.specs.Tree.{Trees}
-use Rattle.reserving.specs.Left.{is_open_row}
+use Rattle.ledger_rows.specs.Open.{is_open_row}
 use Rattle.shelves.specs.Shelves.{with_book}
 use Rattle.sql_rows.specs.Content.{Content, content_of}
 use Rattle.sql_rows.specs.Makes.{Turns}

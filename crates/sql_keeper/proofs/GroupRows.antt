@@ -11,11 +11,11 @@ use Rattle.std.proofs.lemmas.Slice.Zip.{all_zipped_more}
 use Rattle.rating.specs.declared.grant.Periods.{Periods}
 use Rattle.buckets.specs.Row.{Row}
 use Rattle.buckets.specs.Spend.{AreDistinct}
-use Rattle.reserving.specs.declared.session.SessionGroup.{SessionGroup}
-use Rattle.reserving.specs.declared.session.Reservation.{Reservation}
-use Rattle.reserving.specs.declared.session.Terms.{Terms}
+use Rattle.ledger_rows.specs.declared.session.SessionGroup.{SessionGroup}
+use Rattle.ledger_rows.specs.declared.session.Reservation.{Reservation}
+use Rattle.ledger_rows.specs.declared.session.Terms.{Terms}
 use Rattle.reserving.specs.Sessions.{is_of, group_in, holds_in}
-use Rattle.reserving.specs.Left.{is_open_row}
+use Rattle.ledger_rows.specs.Open.{is_open_row}
 use Rattle.keepers.specs.Tables.{GroupRow, group_row, held_at, held_of}
 use Rattle.sql_tables.specs.Keyed.{same_name}
 use Rattle.sql_rows.specs.declared.hold_rows.HeldColumns.{HeldColumns}

@@ -8,10 +8,10 @@ use Rattle.sqlite.specs.Effect.{Database}
 use Rattle.sqlite.specs.State.{State, HasCleanDisk}
 use Rattle.buckets.specs.Row.{Row}
 use Rattle.buckets.specs.Spend.{AreDistinct}
-use Rattle.reserving.specs.declared.session.Session.{Session}
-use Rattle.reserving.specs.declared.session.SessionGroup.{SessionGroup}
-use Rattle.reserving.specs.Left.{is_open_row}
-use Rattle.reserving.specs.Sessions.{is_open}
+use Rattle.ledger_rows.specs.declared.session.Session.{Session}
+use Rattle.ledger_rows.specs.declared.session.SessionGroup.{SessionGroup}
+use Rattle.ledger_rows.specs.Open.{is_open_row}
+use Rattle.ledger_rows.specs.Open.{is_open}
 use Rattle.keepers.specs.Change.{has_reservation}
 use Rattle.sql_tables.specs.Selects.{only}
 use Rattle.sql_tables.specs.Statements.{OnlyReads}

@@ -12,7 +12,7 @@ use Rattle.sqlite_schema.specs.declared.schema.Table.{Table}
 use Rattle.sqlite_catalog.specs.Change.{KeepsRows}
 use Rattle.sqlite_catalog.specs.Listing.{Lists}
 use Rattle.shelves.specs.Shelves.{Shelf}
-use Rattle.reserving.specs.Left.{is_open_row}
+use Rattle.ledger_rows.specs.Open.{is_open_row}
 use Rattle.keepers.specs.declared.key.Key.{Key}
 use Rattle.keepers.specs.declared.key.Key.TheVariants.{Reference, Request}
 use Rattle.sql_tables.specs.Keyed.{look, table_of}

@@ -4,12 +4,12 @@ use Rattle.std.proofs.Common.{◌∙◌, Option, Some, None}
 use Rattle.std.specs.Prelude.{if◌then◌else◌, ◌&&◌, nat_eq, option_map}
 use Rattle.identifiers.specs.Texts.{same_name}
 use Rattle.buckets.specs.Holding.{AreHolds}
-use Rattle.reserving.specs.declared.session.Session.{Session}
-use Rattle.reserving.specs.declared.session.SessionGroup.{SessionGroup}
-use Rattle.reserving.specs.declared.session.Reservation.{Reservation}
+use Rattle.ledger_rows.specs.declared.session.Session.{Session}
+use Rattle.ledger_rows.specs.declared.session.SessionGroup.{SessionGroup}
+use Rattle.ledger_rows.specs.declared.session.Reservation.{Reservation}
 use Rattle.reserving.specs.Sessions.{is_of, group_in, holds_in}
 use Rattle.reserving.specs.Stored.{StoredRows}
-use Rattle.reserving.specs.Rows.{EachIn, AreApart}
+use Rattle.ledger_rows.specs.Lists.{EachIn, AreApart}
 use Rattle.reserving.specs.Left.{first_of}
 use Rattle.reserving.proofs.KeysFound.{found_session}
 use Rattle.reserving.proofs.LeftParted.{one_group}

@@ -4,11 +4,11 @@ use Rattle.std.proofs.Common.{◌∙◌, true≢false, Option, Some}
 use Rattle.std.specs.Prelude.{if◌then◌else◌, ◌+◌, nat_eq, is_some}
 use Rattle.std.specs.List.{find}
 use Rattle.identifiers.specs.Texts.{same_name}
-use Rattle.reserving.specs.declared.charge.ChargeRow.{ChargeRow}
-use Rattle.reserving.specs.declared.session.Session.{Session}
-use Rattle.reserving.specs.declared.session.Counter.{Counter}
+use Rattle.ledger_rows.specs.declared.charge.ChargeRow.{ChargeRow}
+use Rattle.ledger_rows.specs.declared.session.Session.{Session}
+use Rattle.ledger_rows.specs.declared.session.Counter.{Counter}
 use Rattle.reserving.specs.Sessions.{is_session, session_in, is_counter, counter_in}
-use Rattle.reserving.specs.Rows.{EachIn, AreApart}
+use Rattle.ledger_rows.specs.Lists.{EachIn, AreApart}
 use Rattle.reserving.specs.Left.{first_of}
 pub use Rattle.reserving.proofs.Holds.{same_from as name_from}
 pub use Rattle.reserving.proofs.Keys.{same_number as number_from, number_same as number_itself}

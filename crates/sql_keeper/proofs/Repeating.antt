@@ -13,7 +13,7 @@ use Rattle.calendar.specs.declared.cycle.Cycle.TheVariants as often
 use Rattle.tariffs.specs.Books.{Book}
 use Rattle.tariffs.specs.Tariffs.{GroupTariff}
 use Rattle.shelves.specs.Shelves.{Shelf, book_at}
-use Rattle.reserving.specs.declared.session.Counter.{Counter}
+use Rattle.ledger_rows.specs.declared.session.Counter.{Counter}
 use Rattle.reserving.specs.Pricing.{cycle_with, tariff_of}
 use Rattle.reserving.specs.Sessions.{is_counter, counter_in}
 use Rattle.reserving.proofs.Keys.{first_true, same_number}

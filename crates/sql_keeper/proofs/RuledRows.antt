@@ -21,13 +21,13 @@ use Rattle.buckets.specs.Row.{Row as Bucket}
 use Rattle.buckets.specs.declared.holds.Hold.{Hold}
 use Rattle.buckets.specs.declared.kind.BucketKind.{BucketKind}
 use Rattle.buckets.specs.declared.kind.BucketKind.TheVariants.{Blocks, Money}
-use Rattle.reserving.specs.Rows.{EachIn}
+use Rattle.ledger_rows.specs.Lists.{EachIn}
 use Rattle.reserving.specs.Sessions.{holds_in}
 use Rattle.reserving.specs.Stored.{StoredRows}
-use Rattle.reserving.specs.declared.charge.ChargeRow.{ChargeRow}
-use Rattle.reserving.specs.declared.session.Reservation.{Reservation}
-use Rattle.reserving.specs.declared.session.Session.{Session}
-use Rattle.reserving.specs.declared.session.SessionGroup.{SessionGroup}
+use Rattle.ledger_rows.specs.declared.charge.ChargeRow.{ChargeRow}
+use Rattle.ledger_rows.specs.declared.session.Reservation.{Reservation}
+use Rattle.ledger_rows.specs.declared.session.Session.{Session}
+use Rattle.ledger_rows.specs.declared.session.SessionGroup.{SessionGroup}
 use Rattle.keepers.specs.Keys.{key_of}
 use Rattle.keepers.specs.declared.key.Key.{Key}
 use Rattle.keepers.specs.declared.key.Key.TheVariants.{Reference, Request}

@@ -6,9 +6,11 @@ use Rattle.sqlite_trees.specs.Tree.{Trees}
 use Rattle.sqlite.specs.Effect.{Database}
 use Rattle.sqlite.specs.State.{State, HasCleanDisk}
 use Rattle.shelves.specs.Shelves.{Shelf}
-use Rattle.reserving.specs.declared.session.Session.{Session}
-use Rattle.reserving.specs.Left.{is_open_row, only}
-use Rattle.reserving.specs.Sessions.{is_open, session_in}
+use Rattle.ledger_rows.specs.declared.session.Session.{Session}
+use Rattle.ledger_rows.specs.Open.{is_open_row}
+use Rattle.reserving.specs.Left.{only}
+use Rattle.ledger_rows.specs.Open.{is_open}
+use Rattle.reserving.specs.Sessions.{session_in}
 use Rattle.reserving.specs.Stored.{StoredRows, stored}
 use Rattle.reserving.specs.Ledger.{is_same}
 use Rattle.reserving.proofs.Holds.{same_itself}

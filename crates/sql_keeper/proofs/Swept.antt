@@ -8,7 +8,7 @@ use Rattle.identifiers.specs.Texts.{same_name}
 use Rattle.shelves.specs.Shelves.{Shelf, IsShelf}
 use Rattle.reserving.specs.Ledger.{Ledger}
 use Rattle.reserving.specs.Sessions.{session_in, group_in}
-use Rattle.reserving.specs.Rows.{EachIn, AreApart}
+use Rattle.ledger_rows.specs.Lists.{EachIn, AreApart}
 use Rattle.reserving.specs.Stored.{StoredRows, IsStored, priced, advanced_stored}
 use Rattle.reserving.proofs.Lists.{no_some, some_of, EachIn-weaker}
 use Rattle.reserving.proofs.LeftTests.{none_more}

@@ -7,11 +7,12 @@ use Rattle.std.specs.List.{find, list_all}
 use Rattle.std.proofs.lemmas.Bool.{and_parts, not-true}
 use Rattle.std.proofs.lemmas.List.{take_more, take_all}
 use Rattle.sqlite.specs.State.{State, HasCleanDisk}
-use Rattle.reserving.specs.declared.session.Session.{Session}
-use Rattle.reserving.specs.declared.session.SessionGroup.{SessionGroup}
-use Rattle.reserving.specs.Rows.{EachIn}
-use Rattle.reserving.specs.Sessions.{group_in, is_open, is_session, session_in}
-use Rattle.reserving.specs.Left.{is_open_row}
+use Rattle.ledger_rows.specs.declared.session.Session.{Session}
+use Rattle.ledger_rows.specs.declared.session.SessionGroup.{SessionGroup}
+use Rattle.ledger_rows.specs.Lists.{EachIn}
+use Rattle.ledger_rows.specs.Open.{is_open}
+use Rattle.reserving.specs.Sessions.{group_in, is_session, session_in}
+use Rattle.ledger_rows.specs.Open.{is_open_row}
 use Rattle.reserving.proofs.Lists.{EachIn-found, find-passes, not_both, no_some, some_of}
 use Rattle.reserving.proofs.KeysFound.{is_none_is}
 use Rattle.reserving.proofs.LeftTests.{each_append}

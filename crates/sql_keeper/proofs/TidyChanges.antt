@@ -5,8 +5,9 @@ use Rattle.std.specs.Prelude.{is_some, slice_get, unwrap_or}
 use Rattle.std.proofs.lemmas.Bool.{and_parts}
 use Rattle.tariffs.specs.Names.{period_named}
 use Rattle.voucher_rules.specs.declared.terms.VoucherTerms.{VoucherTerms}
-use Rattle.reserving.specs.declared.session.Session.{Session}
-use Rattle.reserving.specs.Left.{first_of, is_open_row}
+use Rattle.ledger_rows.specs.declared.session.Session.{Session}
+use Rattle.ledger_rows.specs.Open.{is_open_row}
+use Rattle.reserving.specs.Left.{first_of}
 use Rattle.reserving.specs.Sessions.{session_in}
 use Rattle.keepers.specs.declared.loaded.Change.{Change}
 use Rattle.keepers.specs.Naming.{IsNamed}

@@ -3,11 +3,12 @@ use Rattle.std.proofs.Common.{◌≡◌, ◌∙◌, ℕ, Bool, true, false, List
 use Rattle.std.proofs.Common.{refl, sym, ap, subst}
 use Rattle.std.specs.Prelude.{if◌then◌else◌, is_some, nat_le, option_map}
 use Rattle.shelves.specs.Shelves.{Shelf, IsShelf}
-use Rattle.reserving.specs.declared.session.Reservation.{Reservation}
-use Rattle.reserving.specs.declared.session.Session.{Session}
-use Rattle.reserving.specs.declared.session.SessionGroup.{SessionGroup}
+use Rattle.ledger_rows.specs.declared.session.Reservation.{Reservation}
+use Rattle.ledger_rows.specs.declared.session.Session.{Session}
+use Rattle.ledger_rows.specs.declared.session.SessionGroup.{SessionGroup}
 use Rattle.reserving.specs.Changes.{lapse_group}
-use Rattle.reserving.specs.Left.{first_of, is_open_row}
+use Rattle.ledger_rows.specs.Open.{is_open_row}
+use Rattle.reserving.specs.Left.{first_of}
 use Rattle.reserving.specs.Sessions.{group_in, is_of, session_in}
 use Rattle.reserving.specs.Stored.{StoredRows, advanced_stored}
 use Rattle.reserving.proofs.Lists.{find-map, no_some}

@@ -4,7 +4,7 @@ use Rattle.std.specs.Prelude.{◌≡◌, List, Option}
 use Rattle.std.specs.List.Sorted.{IsNonDecreasingBy}
 use Rattle.buckets.specs.Words.{BucketNumber}
 use Rattle.buckets.specs.Row.{Row}
-use Rattle.reserving.specs.Rows.{AreApart}
+use Rattle.ledger_rows.specs.Lists.{AreApart}
 use Rattle.reserving.specs.Left.{is_dead, only, bucket_in}
 use Rattle.keepers.specs.Keyed.{same_bucket}
 

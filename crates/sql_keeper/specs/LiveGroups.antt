@@ -7,10 +7,11 @@ use Rattle.identifiers.specs.Words.{SessionName}
 use Rattle.buckets.specs.Words.{BucketNumber}
 use Rattle.sqlite_trees.specs.Tree.{Trees}
 use Rattle.sqlite.specs.State.{State, HasCleanDisk, Survives}
-use Rattle.reserving.specs.declared.session.Session.{Session}
-use Rattle.reserving.specs.declared.session.SessionGroup.{SessionGroup}
-use Rattle.reserving.specs.Left.{is_open_row}
-use Rattle.reserving.specs.Sessions.{group_in, is_open}
+use Rattle.ledger_rows.specs.declared.session.Session.{Session}
+use Rattle.ledger_rows.specs.declared.session.SessionGroup.{SessionGroup}
+use Rattle.ledger_rows.specs.Open.{is_open_row}
+use Rattle.ledger_rows.specs.Open.{is_open}
+use Rattle.reserving.specs.Sessions.{group_in}
 use Rattle.keepers.specs.Change.{is_loaded}
 use Rattle.keepers.specs.Tables.{Rows, group_row, held_of}
 use Rattle.sql_tables.specs.Statements.{OnlyReads}

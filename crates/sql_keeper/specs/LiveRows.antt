@@ -7,12 +7,13 @@ use Rattle.identifiers.specs.Words.{AccountName}
 use Rattle.buckets.specs.Words.{BucketNumber}
 use Rattle.buckets.specs.Row.{Row}
 use Rattle.shelves.specs.Shelves.{Shelf}
-use Rattle.reserving.specs.declared.session.Session.{Session}
-use Rattle.reserving.specs.declared.session.SessionGroup.{SessionGroup}
-use Rattle.reserving.specs.declared.session.Counter.{Counter}
+use Rattle.ledger_rows.specs.declared.session.Session.{Session}
+use Rattle.ledger_rows.specs.declared.session.SessionGroup.{SessionGroup}
+use Rattle.ledger_rows.specs.declared.session.Counter.{Counter}
 use Rattle.reserving.specs.Left.{is_dead, only, bucket_in}
 use Rattle.reserving.specs.Pricing.{cycle_at}
-use Rattle.reserving.specs.Sessions.{is_open, counter_in}
+use Rattle.ledger_rows.specs.Open.{is_open}
+use Rattle.reserving.specs.Sessions.{counter_in}
 use Rattle.reserving.specs.Stored.{StoredRows, priced}
 use Rattle.keepers.specs.Change.{IsLoadedFrom}
 use Rattle.keepers.specs.declared.loaded.Loaded.{Loaded}

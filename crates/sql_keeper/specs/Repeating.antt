@@ -9,7 +9,7 @@ use Rattle.calendar.specs.contracts.cycle.CyclePartialEq.TheImpl.{ghosts as cycl
 use Rattle.calendar.specs.Timetable.{cycle_of}
 use Rattle.tariffs.specs.Books.{Book}
 use Rattle.tariffs.specs.Tariffs.{GroupTariff}
-use Rattle.reserving.specs.declared.session.Counter.{Counter}
+use Rattle.ledger_rows.specs.declared.session.Counter.{Counter}
 use Rattle.reserving.specs.Pricing.{tariff_of}
 use Rattle.reserving.specs.Sessions.{counter_in}
 use Rattle.sql_rows.specs.Content.{Rows as Stored}

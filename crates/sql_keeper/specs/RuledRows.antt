@@ -7,8 +7,8 @@ use Rattle.identifiers.specs.Words.{AccountName, VoucherCode}
 use Rattle.identifiers.specs.Texts.{is_account_number, is_reference, is_session_id}
 use Rattle.buckets.specs.declared.holds.Hold.{Hold}
 use Rattle.reserving.specs.Stored.{StoredRows}
-use Rattle.reserving.specs.declared.session.Reservation.{Reservation}
-use Rattle.reserving.specs.declared.session.SessionGroup.{SessionGroup}
+use Rattle.ledger_rows.specs.declared.session.Reservation.{Reservation}
+use Rattle.ledger_rows.specs.declared.session.SessionGroup.{SessionGroup}
 use Rattle.keepers.specs.Keys.{key_of}
 use Rattle.keepers.specs.declared.key.KeptAnswer.{KeptAnswer}
 use Rattle.keepers.specs.declared.key.Key.{Key}

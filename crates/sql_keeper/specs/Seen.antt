@@ -7,9 +7,10 @@ use Rattle.sqlite_trees.specs.Tree.{Trees}
 use Rattle.sqlite_trees.specs.declared.store.Store.{Ghosts}
 use Rattle.sqlite.specs.Held.{state}
 use Rattle.sqlite.specs.State.{State, HasCleanDisk}
-use Rattle.reserving.specs.Left.{is_open_row}
-use Rattle.reserving.specs.declared.session.Session.{Session}
-use Rattle.reserving.specs.Sessions.{is_open, session_in}
+use Rattle.ledger_rows.specs.Open.{is_open_row}
+use Rattle.ledger_rows.specs.declared.session.Session.{Session}
+use Rattle.ledger_rows.specs.Open.{is_open}
+use Rattle.reserving.specs.Sessions.{session_in}
 use Rattle.reserving.specs.Stored.{StoredRows}
 use Rattle.sql_tables.specs.Keyed.{same_name}
 use Rattle.sql_rows.specs.Content.{Rows as Stored, rows_in}

@@ -9,7 +9,7 @@ use Rattle.sqlite_trees.specs.Tree.{Trees}
 use Rattle.sqlite_trees.specs.Objects.{catalog_tree}
 use Rattle.sql_tables.specs.Statements.{AreStored}
 use Rattle.shelves.specs.Shelves.{Shelf}
-use Rattle.reserving.specs.Rows.{EachIn}
+use Rattle.ledger_rows.specs.Lists.{EachIn}
 use Rattle.reserving.specs.Stored.{StoredRows, IsStored, advanced_stored}
 use Rattle.keepers.specs.Change.{IsSwept}
 use Rattle.sql_rows.specs.Content.{Rows as Stored, Content, content_of, with_meta}

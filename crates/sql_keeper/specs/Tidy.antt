@@ -6,10 +6,11 @@ use Rattle.std.specs.Prelude.{is_some, nat_eq}
 use Rattle.units.specs.Words.{GroupId, BookNumber, CcRequestNumber}
 use Rattle.identifiers.specs.Words.{SessionName, AccountName}
 use Rattle.buckets.specs.Words.{BucketNumber}
-use Rattle.reserving.specs.Words.{ChargeNumber}
+use Rattle.ledger_rows.specs.Words.{ChargeNumber}
 use Rattle.sql_rows.specs.Words.{KeyKind, KeyName}
 use Rattle.tariffs.specs.Names.{period_named}
-use Rattle.reserving.specs.Left.{first_of, is_open_row}
+use Rattle.ledger_rows.specs.Open.{is_open_row}
+use Rattle.reserving.specs.Left.{first_of}
 use Rattle.reserving.specs.Sessions.{group_in, session_in}
 use Rattle.reserving.specs.Stored.{StoredRows}
 use Rattle.sql_rows.specs.Values.{Group, Kept, PeriodNames, reference_kind, request_kind}

@@ -2,8 +2,9 @@
 //! isn't preceded by the same selections once more.
 
 ghost use Rattle.std.specs.Prelude.{◌≡◌, ℕ, List, Ok, Some, true, false, IfOk, IfSome, IsTrue};
-ghost use Rattle.reserving.specs.Left.{is_open_row};
-ghost use Rattle.reserving.specs.Sessions.{is_open, session_in};
+ghost use Rattle.ledger_rows.specs.Open.{is_open_row};
+ghost use Rattle.ledger_rows.specs.Open.{is_open};
+ghost use Rattle.reserving.specs.Sessions.{session_in};
 ghost use Rattle.keepers.specs.Change.{IsLoad};
 ghost use Rattle.shelves.specs.Shelves.{Shelf};
 ghost use Rattle.sqlite_trees.specs.Tree.{Trees};

@@ -2,7 +2,8 @@
 
 ghost use Rattle.std.specs.Prelude.{◌≡◌, ◌&&◌, IfOk, IsTrue, false, is_some, not, position};
 ghost use Rattle.std.specs.List.{list_all};
-ghost use Rattle.reserving.specs.Sessions.{group_in, is_of, is_open, is_session, session_in};
+ghost use Rattle.ledger_rows.specs.Open.{is_open};
+ghost use Rattle.reserving.specs.Sessions.{group_in, is_of, is_session, session_in};
 ghost use Rattle.sql_keeper.specs.Content.{shelf_names};
 ghost use Rattle.sql_keeper.specs.LiveGroups.{Gathers};
 ghost use Rattle.sql_keeper.specs.Seen.{AreSeen, IsStanding, standing_of, stands_open};

@@ -2,7 +2,7 @@
 
 ghost use Rattle.std.specs.Prelude.{◌≡◌, IsTrue, option_map};
 ghost use Rattle.reserving.specs.Sessions.{session_in};
-ghost use Rattle.reserving.specs.Left.{is_open_row};
+ghost use Rattle.ledger_rows.specs.Open.{is_open_row};
 ghost use Rattle.sql_keeper.specs.Content.{names_numbered, shelf_names};
 ghost use Rattle.sql_keeper.specs.RuledRows.{is_ruled_change};
 ghost use Rattle.sql_keeper.specs.Tests.{AreNumbered, AreWritable, IsNamed, IsWritable, MayStand};

@@ -7,9 +7,9 @@ use Rattle.sqlite_value.specs.declared.value.Value.TheVariants.{Null}
 use Rattle.sqlite_value.specs.Order.{Row, row_cmp}
 use Rattle.sqlite_trees.specs.Tree.{Trees}
 use Rattle.sqlite_schema.specs.declared.schema.Table.{Table}
-use Rattle.reserving.specs.declared.session.Session.{Session}
-use Rattle.reserving.specs.declared.session.SessionState.{SessionState}
-use Rattle.reserving.specs.declared.session.SessionState.TheVariants.{Open, Ended, NeverOpened}
+use Rattle.ledger_rows.specs.declared.session.Session.{Session}
+use Rattle.ledger_rows.specs.declared.session.SessionState.{SessionState}
+use Rattle.ledger_rows.specs.declared.session.SessionState.TheVariants.{Open, Ended, NeverOpened}
 use Rattle.sql_tables.specs.Keyed.{key_of, look, table_of}
 use Rattle.sql_tables.specs.Schema.{accounts, session_groups, sessions}
 use Rattle.sql_tables.specs.Statements.{Changes, Ends}

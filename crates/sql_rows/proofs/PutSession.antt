@@ -22,9 +22,9 @@ use Rattle.sqlite.specs.declared.error.Error.{Error}
 use Rattle.sqlite.specs.Listing.{understood}
 use Rattle.sqlite.specs.State.{State, ExecutesInside}
 use Rattle.sqlite.proofs.Callers.{IsPlain, command_of}
-use Rattle.reserving.specs.declared.session.Session.{Session}
-use Rattle.reserving.specs.declared.session.SessionState.{SessionState}
-use Rattle.reserving.specs.declared.session.SessionState.TheVariants.{Open, Ended, NeverOpened}
+use Rattle.ledger_rows.specs.declared.session.Session.{Session}
+use Rattle.ledger_rows.specs.declared.session.SessionState.{SessionState}
+use Rattle.ledger_rows.specs.declared.session.SessionState.TheVariants.{Open, Ended, NeverOpened}
 use Rattle.sql_tables.specs.Keyed.{key_of, look, same_name}
 use Rattle.sql_tables.specs.Schema.{sessions, accounts, book_schema, key_index}
 use Rattle.sql_tables.specs.Statements.{Attempts, Changes, HasBook, IsBook, Puts}

@@ -26,7 +26,7 @@ use Rattle.sql_tables.proofs.ByKey.{one_told}
 use Rattle.sql_tables.proofs.Selected.{select_from, told}
 use Rattle.sql_tables.proofs.Steps.{and_true}
 use Rattle.sql_tables.proofs.Ties.{agree_ties_at, equal_present, tie_parts}
-use Rattle.reserving.specs.declared.session.Counter.{Counter}
+use Rattle.ledger_rows.specs.declared.session.Counter.{Counter}
 use Rattle.sql_rows.specs.Values.{nat, counter_key, counter_in, counter_cells}
 use Rattle.sql_rows.specs.Content.{rows_in}
 

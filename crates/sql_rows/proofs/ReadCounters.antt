@@ -30,7 +30,7 @@ use Rattle.sql_tables.proofs.Keys.{keys_split, int_tie}
 use Rattle.sql_tables.proofs.Selected.{select_from, selected_from, told}
 use Rattle.sql_tables.proofs.Selections.{meets}
 use Rattle.sql_tables.proofs.Steps.{and_last, and_true, mapped_to}
-use Rattle.reserving.specs.declared.session.Counter.{Counter}
+use Rattle.ledger_rows.specs.declared.session.Counter.{Counter}
 use Rattle.sql_rows.specs.Values.{nat, counter_key, counter_in, counter_cells}
 use Rattle.sql_rows.specs.Content.{rows_in}
 use Rattle.sql_rows.specs.Lists.{AreCountersIn}

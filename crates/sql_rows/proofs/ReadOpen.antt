@@ -26,8 +26,8 @@ use Rattle.sql_tables.proofs.Keys.{keys_split, text_tie}
 use Rattle.sql_tables.proofs.Selected.{select_from, told}
 use Rattle.sql_tables.proofs.Selections.{meets}
 use Rattle.sql_tables.proofs.Steps.{and_last, and_true}
-use Rattle.reserving.specs.declared.session.Session.{Session}
-use Rattle.reserving.specs.Sessions.{is_open}
+use Rattle.ledger_rows.specs.declared.session.Session.{Session}
+use Rattle.ledger_rows.specs.Open.{is_open}
 use Rattle.sql_rows.specs.Values.{nat, session_key, session_in, session_cells}
 use Rattle.sql_rows.specs.Content.{rows_in}
 use Rattle.sql_rows.specs.Lists.{AreSessions}

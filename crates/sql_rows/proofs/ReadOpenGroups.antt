@@ -27,8 +27,8 @@ use Rattle.sqlite.specs.State.{State}
 use Rattle.sqlite.proofs.Callers.{command_of}
 use Rattle.sqlite_rules.specs.Lists.{Has}
 use Rattle.sqlite_rules.proofs.ListLemmas.{all_has, some_from, some_has}
-use Rattle.reserving.specs.Left.{is_open_row}
-use Rattle.reserving.specs.Sessions.{is_open}
+use Rattle.ledger_rows.specs.Open.{is_open_row}
+use Rattle.ledger_rows.specs.Open.{is_open}
 use Rattle.sql_tables.specs.Keyed.{IsStored, look}
 use Rattle.sql_tables.specs.Schema.{book_schema, key_index, session_groups, sessions}
 use Rattle.sql_tables.specs.Selects.{only}

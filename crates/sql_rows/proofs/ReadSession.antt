@@ -31,7 +31,7 @@ use Rattle.sql_tables.proofs.Found.{is_some_map}
 use Rattle.sql_tables.proofs.Parents.{group_of_book, group_of_hold, session_of_group}
 use Rattle.sql_tables.proofs.Selected.{select_from, told}
 use Rattle.sql_tables.proofs.Ties.{agree_ties_at}
-use Rattle.reserving.specs.declared.session.Session.{Session}
+use Rattle.ledger_rows.specs.declared.session.Session.{Session}
 use Rattle.sql_rows.proofs.PutSession.{session_told}
 use Rattle.sql_rows.specs.Values.{session_key, session_in, session_cells, group_key, group_in}
 use Rattle.sql_rows.specs.Values.{grant_book_in, hold_key, hold_in}

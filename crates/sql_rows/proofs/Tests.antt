@@ -12,9 +12,9 @@ use Rattle.sqlite_sql.specs.Ops.{binary, is_true, from_truth}
 use Rattle.sqlite_sql.specs.declared.ops.BinaryOp.TheVariants.{Compare}
 use Rattle.sqlite_sql.specs.declared.ops.CompareOp.TheVariants.{Ge}
 use Rattle.sqlite_schema.specs.Rules.{equal}
-use Rattle.reserving.specs.declared.session.SessionState.{SessionState}
-use Rattle.reserving.specs.declared.session.SessionState.TheVariants.{Open, Ended, NeverOpened}
-use Rattle.reserving.specs.Sessions.{is_open}
+use Rattle.ledger_rows.specs.declared.session.SessionState.{SessionState}
+use Rattle.ledger_rows.specs.declared.session.SessionState.TheVariants.{Open, Ended, NeverOpened}
+use Rattle.ledger_rows.specs.Open.{is_open}
 use Rattle.sql_tables.proofs.Keys.{int_tie}
 use Rattle.sql_tables.proofs.Steps.{truth_told}
 use Rattle.sql_tables.proofs.Ties.{equal_present}

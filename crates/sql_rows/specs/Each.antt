@@ -5,9 +5,9 @@ use Rattle.units.specs.Words.{GroupId}
 use Rattle.identifiers.specs.Words.{SessionName, AccountName}
 use Rattle.buckets.specs.Row.{Row as Bucket}
 use Rattle.buckets.specs.declared.holds.Hold.{Hold}
-use Rattle.reserving.specs.declared.session.Session.{Session}
-use Rattle.reserving.specs.declared.session.Counter.{Counter}
-use Rattle.reserving.specs.declared.charge.ChargeRow.{ChargeRow}
+use Rattle.ledger_rows.specs.declared.session.Session.{Session}
+use Rattle.ledger_rows.specs.declared.session.Counter.{Counter}
+use Rattle.ledger_rows.specs.declared.charge.ChargeRow.{ChargeRow}
 use Rattle.sql_rows.specs.Content.{Content, with_rows, with_bucket, with_session, with_charge}
 use Rattle.sql_rows.specs.Content.{with_counter, with_hold}
 use Rattle.sql_rows.specs.Values.{plain_bucket, plain_charge}

@@ -10,15 +10,15 @@ use Rattle.std.specs.List.{find}
 use Rattle.units.specs.Words.{GroupId, CycleNumber, BookNumber}
 use Rattle.identifiers.specs.Words.{SessionName, AccountName}
 use Rattle.buckets.specs.Words.{BucketNumber, BucketAmount}
-use Rattle.reserving.specs.Words.{ChargeNumber}
+use Rattle.ledger_rows.specs.Words.{ChargeNumber}
 use Rattle.sqlite_value.specs.declared.value.Value.TheVariants.{Text}
 use Rattle.sqlite_value.specs.Order.{Row as Values}
 use Rattle.buckets.specs.Row.{Row as Bucket}
-use Rattle.reserving.specs.declared.session.Session.{Session}
-use Rattle.reserving.specs.declared.session.Counter.{Counter}
-use Rattle.reserving.specs.declared.charge.ChargeRow.{ChargeRow}
-use Rattle.reserving.specs.Left.{is_open_row}
-use Rattle.reserving.specs.Rows.{AreApart}
+use Rattle.ledger_rows.specs.declared.session.Session.{Session}
+use Rattle.ledger_rows.specs.declared.session.Counter.{Counter}
+use Rattle.ledger_rows.specs.declared.charge.ChargeRow.{ChargeRow}
+use Rattle.ledger_rows.specs.Open.{is_open_row}
+use Rattle.ledger_rows.specs.Lists.{AreApart}
 use Rattle.sql_tables.specs.Keyed.{same_name}
 use Rattle.sql_tables.specs.Selects.{only}
 use Rattle.sql_rows.specs.Values.{CoveredRow, DatedBook, Group, book_values, flag_number}

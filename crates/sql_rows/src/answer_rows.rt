@@ -14,7 +14,7 @@ use sql_tables::{ReadFault, has_columns, one_of, read, text, text_at, whole, wri
 use sqlite::{Alter, Connection, Error, Row, Transaction};
 
 /// The texts that are kept of an accepted command.
-#[derive(Debug, Drop)]
+#[derive(Drop)]
 pub struct Kept {
     /// The command.
     pub content: String,

@@ -21,7 +21,7 @@ use std::alloc::Global;
 use units::Moment;
 
 /// A tariff book after the first, as it stands: no rule of its text is tested yet.
-#[derive(Debug, Drop)]
+#[derive(Drop)]
 pub struct BookColumns {
     /// Its number on the shelf.
     pub number: u32,

@@ -1,7 +1,7 @@
 //! Counters of a cycle.
 
 ghost use Rattle.std.specs.Prelude.{◌≡◌, map, IfOk};
-ghost use Rattle.reserving.specs.Sessions.{counter_before};
+ghost use Rattle.ledger_rows.specs.Order.{counter_before};
 ghost use Rattle.sql_rows.specs.Content.{rows_in};
 ghost use Rattle.sql_rows.specs.Values.{counter_cells};
 ghost use Rattle.sql_rows.specs.Lists.{AreCountersIn, Ascends};
@@ -11,7 +11,7 @@ ghost use Rattle.sqlite.specs.Held.{state};
 use crate::ascending::{InOrder, do_ascend};
 use crate::counter_rows::counter_from;
 use identifiers::AccountNumber;
-use reserving::Counter;
+use ledger_rows::Counter;
 use sql_tables::{ReadFault, read, text, whole};
 use sqlite::{Alter, Connection, Row};
 use std::alloc::Global;

@@ -10,7 +10,7 @@ ghost use Rattle.sql_tables.specs.Selects.{one_or_none};
 ghost use Rattle.sqlite.specs.Held.{state};
 
 use identifiers::AccountNumber;
-use reserving::Counter;
+use ledger_rows::Counter;
 use sql_tables::{
     ReadFault, checked, has_columns, number_at, one_of, read, small_at, text, whole, write,
 };

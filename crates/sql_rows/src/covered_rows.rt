@@ -16,7 +16,7 @@ use std::alloc::Global;
 use units::Blocks;
 
 /// The blocks of a charge that allowances paid.
-#[derive(Clone, Copy, Debug, PartialEq, Eq)]
+#[derive(Clone, Copy)]
 pub struct CoveredColumns {
     /// The charge's number within the account.
     pub number: u32,

@@ -9,7 +9,7 @@ ghost use Rattle.sqlite_value.specs.declared.value.Value.TheVariants.{Int, Text}
 ghost use Rattle.sql_rows.specs.Values.{flag_number, nat, state_number};
 
 use identifiers::{AccountNumber, SessionId};
-use reserving::SessionState;
+use ledger_rows::SessionState;
 use sql_tables::{ReadFault, null_at, number_at, small_at, text_at};
 use sqlite::Row;
 use std::alloc::Global;

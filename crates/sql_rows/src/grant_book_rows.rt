@@ -14,7 +14,7 @@ use sqlite::{Alter, Connection, Error, Row, Transaction};
 use std::alloc::Global;
 
 /// The book that a reservation goes by.
-#[derive(Clone, Copy, Debug, PartialEq, Eq)]
+#[derive(Clone, Copy)]
 pub struct GrantBook {
     /// Rating-Group (RFC 8506 section 8.29).
     pub group: u32,

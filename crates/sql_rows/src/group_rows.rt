@@ -23,7 +23,7 @@ use sqlite::{Alter, Connection, Error, Row, Transaction};
 use std::alloc::Global;
 
 /// The names of the tariff periods at a grant and at its switch.
-#[derive(Debug, Drop)]
+#[derive(Drop)]
 pub struct PeriodNames {
     /// The name of the tariff period at the grant.
     pub before: String,
@@ -32,7 +32,7 @@ pub struct PeriodNames {
 }
 
 /// What a session has of a rating group.
-#[derive(Debug, Drop)]
+#[derive(Drop)]
 pub struct GroupColumns {
     /// Rating-Group (RFC 8506 section 8.29).
     pub group: u32,
@@ -51,7 +51,7 @@ impl InOrder for GroupColumns {
 }
 
 /// The names of the tariff periods at a grant and at its switch, as they are put.
-#[derive(Clone, Copy, Debug)]
+#[derive(Clone, Copy)]
 pub struct PutNames<'a> {
     /// The name of the tariff period at the grant.
     pub before: &'a str,

@@ -17,7 +17,7 @@ use sqlite::{Alter, Connection, Error, Row, Transaction};
 use std::alloc::Global;
 
 /// What is held of a bucket for a rating group.
-#[derive(Clone, Copy, Debug, PartialEq, Eq)]
+#[derive(Clone, Copy)]
 pub struct HeldColumns {
     /// Rating-Group (RFC 8506 section 8.29).
     pub group: u32,

@@ -20,7 +20,7 @@ use sqlite::{Alter, Connection, Error, Row, Transaction};
 use units::Moment;
 
 /// What is kept once.
-#[derive(Debug, Drop)]
+#[derive(Drop)]
 pub struct Meta {
     /// The version of the tables.
     pub version: u32,

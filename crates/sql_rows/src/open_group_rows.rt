@@ -16,7 +16,7 @@ use sqlite::{Alter, Connection, Row};
 use std::alloc::Global;
 
 /// What an open session has of a rating group.
-#[derive(Debug, Drop)]
+#[derive(Drop)]
 pub struct OpenGroup {
     /// Session-Id (RFC 6733 section 8.8).
     pub session: SessionId,

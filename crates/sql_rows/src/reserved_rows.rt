@@ -17,7 +17,7 @@ use sqlite::{Alter, Row, Transaction};
 use std::alloc::Global;
 
 /// A rating group of a session that has a reservation.
-#[derive(Debug, Drop)]
+#[derive(Drop)]
 pub struct ReservedColumns {
     /// The session's account.
     pub account: AccountNumber,

@@ -17,7 +17,7 @@ use sqlite::{Alter, Connection, Row};
 use std::alloc::Global;
 
 /// The book of a session's reservation.
-#[derive(Debug, Drop)]
+#[derive(Drop)]
 pub struct SessionBook {
     /// Session-Id (RFC 6733 section 8.8).
     pub session: SessionId,

@@ -17,7 +17,7 @@ use sqlite::{Alter, Connection, Row};
 use std::alloc::Global;
 
 /// What is held for a session.
-#[derive(Debug, Drop)]
+#[derive(Drop)]
 pub struct SessionHold {
     /// Session-Id (RFC 6733 section 8.8).
     pub session: SessionId,

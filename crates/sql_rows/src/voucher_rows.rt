@@ -24,7 +24,7 @@ use std::alloc::Global;
 use units::Money;
 
 /// A voucher, as it stands.
-#[derive(Debug, Drop)]
+#[derive(Drop)]
 pub struct VoucherColumns {
     /// Micro-units.
     pub amount: u64,

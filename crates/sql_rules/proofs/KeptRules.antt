@@ -6,10 +6,10 @@ use Rattle.std.proofs.lemmas.Bool.{and_parts}
 use Rattle.identifiers.specs.Texts.{is_account_number, same_name}
 use Rattle.shelves.specs.Shelves.{Shelf, count}
 use Rattle.buckets.specs.Row.{Row as Bucket}
-use Rattle.reserving.specs.declared.session.Session.{Session}
-use Rattle.reserving.specs.declared.session.Counter.{Counter}
-use Rattle.reserving.specs.declared.charge.ChargeRow.{ChargeRow}
-use Rattle.reserving.proofs.Holds.{same_from}
+use Rattle.ledger_rows.specs.declared.session.Session.{Session}
+use Rattle.ledger_rows.specs.declared.session.Counter.{Counter}
+use Rattle.ledger_rows.specs.declared.charge.ChargeRow.{ChargeRow}
+use Rattle.identifiers.proofs.Equality.{equal_names}
 use Rattle.sql_rows.specs.declared.head.Head.{Head}
 use Rattle.sql_rows.specs.Content.{Content, Rows, with_account, with_allowance, with_answer}
 use Rattle.sql_rows.specs.Content.{with_book}
@@ -185,7 +185,7 @@ module _ (shelf : Shelf) (a : List ℕ) (r : Rows) (in' : AreInRules shelf a r) 
         let first = and_parts (nat_eq kind l) (same_name name t && nat_eq number m) e in
         let rest = and_parts (same_name name t) (nat_eq number m) first.1 in
         subst (λ x. is_answer a x t m k ≡ true) (eqb-true kind l first.0)
-        (subst (λ x. is_answer a kind x m k ≡ true) (same_from name t rest.0)
+        (subst (λ x. is_answer a kind x m k ≡ true) (equal_names name t rest.0)
         (subst (λ x. is_answer a kind name x k ≡ true) (eqb-true number m rest.1) rule)))
         (in'.answers l t m);
     charges = in'.charges;
@@ -316,7 +316,7 @@ module _ (shelf : Shelf) (c : Content) (in' : IsInRules shelf c) where
     where
       at : (t : Bool) → same_name a x ≡ t →
           AreInRules shelf x (if t then f (c.rows x) else c.rows x)
-      at true e = subst (λ y. AreInRules shelf y (f (c.rows y))) (same_from a x e) own
+      at true e = subst (λ y. AreInRules shelf y (f (c.rows y))) (equal_names a x e) own
       at false e = in'.rows x
 
   pub rows_kept : (a : List ℕ) (f : Rows → Rows) → AreInRules shelf a (f (c.rows a))
@@ -362,7 +362,7 @@ module _ (shelf : Shelf) (c : Content) (in' : IsInRules shelf c) where
     meta = in'.meta;
     rows = in'.rows;
     vouchers = λ k. chosen (λ y. is_voucher k y ≡ true) (same_name code k) x (c.vouchers k)
-        (λ e. subst (λ t. is_voucher t x ≡ true) (same_from code k e) rule) (in'.vouchers k);
+        (λ e. subst (λ t. is_voucher t x ≡ true) (equal_names code k e) rule) (in'.vouchers k);
     books = in'.books;
   }
 

@@ -5,9 +5,9 @@ use Rattle.std.specs.Prelude.{nat_le}
 use Rattle.identifiers.specs.Texts.{is_account_number, is_session_id, is_voucher_code}
 use Rattle.shelves.specs.Shelves.{Shelf, count}
 use Rattle.buckets.specs.Row.{Row as Bucket}
-use Rattle.reserving.specs.declared.session.Session.{Session}
-use Rattle.reserving.specs.declared.session.Counter.{Counter}
-use Rattle.reserving.specs.declared.charge.ChargeRow.{ChargeRow}
+use Rattle.ledger_rows.specs.declared.session.Session.{Session}
+use Rattle.ledger_rows.specs.declared.session.Counter.{Counter}
+use Rattle.ledger_rows.specs.declared.charge.ChargeRow.{ChargeRow}
 use Rattle.sql_rows.specs.declared.head.Head.{Head}
 use Rattle.sql_rows.specs.Content.{Content, Rows}
 use Rattle.sql_rows.specs.Values.{DatedBook, Group, Kept, Meta, PeriodNames, Voucher}

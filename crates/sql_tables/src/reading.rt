@@ -23,7 +23,7 @@ use sqlite::{Alter, Connection, Error, ErrorCode, Row, Transaction};
 use std::alloc::{AllocError, AllocFailed};
 
 /// Why rows weren't read.
-#[derive(Clone, Copy, Debug, PartialEq, Eq)]
+#[derive(Clone, Copy, Debug)]
 pub enum ReadFault {
     /// A growth was refused.
     Memory,

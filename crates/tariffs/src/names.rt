@@ -18,7 +18,7 @@ use std::marker::Model;
 use toml::{Table, Value};
 
 /// The names of a book's tariff periods, in the book's order: 1 to 8, distinct.
-#[derive(Debug, Drop)]
+#[derive(Drop)]
 pub(crate) struct PeriodNames {
     names: Vec<String>,
 }

@@ -11,7 +11,7 @@ use std::marker::Model;
 use units::UnitKind;
 
 /// The tariff of a rating group (Rating-Group, RFC 8506 section 8.29).
-#[derive(Debug, Drop)]
+#[derive(Drop)]
 pub struct Tariff {
     pub(crate) group: u32,
     pub(crate) unit: UnitKind,

@@ -8,7 +8,7 @@ use std::marker::Model;
 use thiserror::Error;
 
 /// Why digits and an exponent are no amount of money.
-#[derive(Clone, Copy, Debug, Drop, Error, PartialEq, Eq)]
+#[derive(Clone, Copy, Debug, Drop, Error)]
 pub enum UnitFault {
     /// The value is below 0 or above 10^15 micro-units.
     #[error("the value is out of range")]
@@ -19,7 +19,7 @@ pub enum UnitFault {
 }
 
 /// A sum of money in micro-units of the book's currency, however large.
-#[derive(Clone, Copy, Debug, PartialEq, Eq, PartialOrd, Ord)]
+#[derive(Clone, Copy, PartialEq, Eq, PartialOrd, Ord)]
 pub struct Amount(pub u128);
 
 /// An amount of money: 0 to 10^15 micro-units of the book's currency (CC-Money, RFC 8506 section

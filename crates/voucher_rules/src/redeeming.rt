@@ -11,7 +11,7 @@ use thiserror::Error;
 use units::{Moment, Money};
 
 /// Why a voucher isn't redeemed, in the order in which it is looked for (profile).
-#[derive(Clone, Copy, Debug, Drop, Error, PartialEq, Eq)]
+#[derive(Clone, Copy, Debug, Drop, Error)]
 pub enum RedeemRefusal {
     /// `O3`: there is no such voucher.
     #[error("there is no such voucher")]
@@ -25,7 +25,7 @@ pub enum RedeemRefusal {
 }
 
 /// What a redemption comes to: the terms of the credit, and what stands under the code afterwards.
-#[derive(Debug, Drop, PartialEq, Eq)]
+#[derive(Drop)]
 pub struct Redemption {
     /// The amount that the account is credited.
     pub amount: Money,

@@ -4,7 +4,7 @@ use crate::terms::VoucherTerms;
 use identifiers::AccountNumber;
 
 /// What stands under the code of a voucher that was added.
-#[derive(Clone, Debug, Drop, PartialEq, Eq)]
+#[derive(Clone, Drop)]
 pub struct Voucher {
     /// What it says.
     pub terms: VoucherTerms,

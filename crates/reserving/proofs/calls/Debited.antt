@@ -12,8 +12,8 @@ use Rattle.buckets.specs.Holding.{settled_rows, uncollected}
 use Rattle.rating.specs.declared.report.Rated.{Rated}
 use Rattle.buckets.specs.Kinds.{due}
 use Rattle.buckets.specs.declared.kind.Due.{Due}
-use Rattle.reserving.specs.declared.session.SessionGroup.{SessionGroup}
-use Rattle.reserving.specs.declared.session.Counter.{Counter}
+use Rattle.ledger_rows.specs.declared.session.SessionGroup.{SessionGroup}
+use Rattle.ledger_rows.specs.declared.session.Counter.{Counter}
 use Rattle.reserving.specs.declared.settle.Settled.{Settled}
 use Rattle.reserving.specs.Ledger.{Ledger}
 use Rattle.reserving.specs.Pricing.{cycle_at, validity_of}
@@ -29,7 +29,7 @@ use Rattle.reserving.specs.Changes.{debited_account, rest_price_in}
 use Rattle.reserving.specs.Prepared.{with_group, with_rows}
 use Rattle.reserving.specs.Rows.{AccountRows, IsAccount, IsRowsOf}
 use Rattle.reserving.specs.Results.{IsDebitOf}
-use Rattle.reserving.specs.Sessions.{group_before}
+use Rattle.ledger_rows.specs.Order.{group_before}
 use Rattle.reserving.proofs.Advancing.{IsRowsOf-advanced}
 use Rattle.reserving.proofs.Advanced.{IsAccount-advanced}
 use Rattle.reserving.proofs.SettledRows.{used_in_is, count_in_is}

@@ -3,13 +3,13 @@ use Rattle.std.proofs.Common.{◌≡◌, ℕ, ◌+◌, map, true, false, List, r
 use Rattle.std.proofs.Common.{None}
 use Rattle.std.specs.Prelude.{if◌then◌else◌, option_map, unwrap_or}
 use Rattle.buckets.specs.declared.kind.Due.{Due}
-use Rattle.reserving.specs.declared.session.SessionGroup.{SessionGroup}
+use Rattle.ledger_rows.specs.declared.session.SessionGroup.{SessionGroup}
 use Rattle.reserving.specs.Sessions.{is_of, group_in}
 use Rattle.reserving.specs.Changes.{ended_group, new_group, with_use, used_in, ended_rows}
 use Rattle.reserving.specs.Changes.{settled_account}
 use Rattle.reserving.specs.Prepared.{reservation_in}
 use Rattle.reserving.specs.Rows.{AccountRows}
-use Rattle.reserving.specs.Sessions.{group_before}
+use Rattle.ledger_rows.specs.Order.{group_before}
 use Rattle.reserving.proofs.Lists.{find-map, find-passes, find-put}
 use Rattle.reserving.proofs.Holds.{same_itself, number_itself}
 

@@ -6,9 +6,9 @@ use Rattle.buckets.specs.declared.holds.Hold.{Hold}
 use Rattle.buckets.specs.Row.{Row, with_release, with_end}
 use Rattle.buckets.specs.Holding.{held_in, settled_rows, released_rows}
 use Rattle.buckets.specs.declared.kind.Due.{Due}
-use Rattle.reserving.specs.declared.session.SessionGroup.{SessionGroup}
-use Rattle.reserving.specs.declared.session.Reservation.{Reservation}
-use Rattle.reserving.specs.declared.session.Counter.{Counter}
+use Rattle.ledger_rows.specs.declared.session.SessionGroup.{SessionGroup}
+use Rattle.ledger_rows.specs.declared.session.Reservation.{Reservation}
+use Rattle.ledger_rows.specs.declared.session.Counter.{Counter}
 use Rattle.reserving.specs.Pricing.{cycle_at, validity_of}
 use Rattle.reserving.specs.Keyed.{put}
 use Rattle.reserving.specs.Sessions.{is_of, group_in, is_counter, counter_in, holds_in, held_by}
@@ -18,7 +18,7 @@ use Rattle.reserving.specs.Changes.{used_in, reserved_in, terms_in, count_in, wi
 use Rattle.reserving.specs.Changes.{with_count, ended_group, ended_rows, settled_account}
 use Rattle.reserving.specs.Prepared.{with_group, counter_or_new, with_counter, with_rows}
 use Rattle.reserving.specs.Rows.{AccountRows}
-use Rattle.reserving.specs.Sessions.{group_before, counter_before}
+use Rattle.ledger_rows.specs.Order.{group_before, counter_before}
 use Rattle.reserving.proofs.Lists.{find-map, find-put, put-put, map-put, any_none}
 use Rattle.reserving.proofs.Keys.{key_session, key_group, cycle_group, cycle_cycle}
 use Rattle.reserving.proofs.order.KeyRows.{group_before_alike, counter_before_alike, held_reordered}

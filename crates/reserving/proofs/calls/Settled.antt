@@ -1,7 +1,7 @@
 -- A settlement's call, from any ledger whose rows the account is before it.
 use Rattle.std.specs.Prelude.{unwrap_or}
 use Rattle.shelves.specs.Shelves.{tariff_in}
-use Rattle.reserving.specs.declared.session.Terms.{Terms}
+use Rattle.ledger_rows.specs.declared.session.Terms.{Terms}
 use Rattle.reserving.specs.Ledger.{open_grant}
 use Rattle.reserving.specs.Pricing.{terms_now}
 use Rattle.reserving.specs.Pricing.{validity_of}
@@ -28,13 +28,14 @@ use Rattle.std.proofs.lemmas.Bool.Decides.{nat_tests}
 use Rattle.units.specs.declared.blocks.UsedPart.{UsedPart}
 use Rattle.buckets.specs.Row.{Row, with_release, with_end}
 use Rattle.buckets.specs.Holding.{uncollected}
-use Rattle.reserving.specs.declared.session.SessionGroup.{SessionGroup}
+use Rattle.ledger_rows.specs.declared.session.SessionGroup.{SessionGroup}
 use Rattle.reserving.specs.declared.settle.Settled.{Settled}
 use Rattle.reserving.specs.Ledger.{Ledger, used, is_live}
 use Rattle.reserving.specs.Pricing.{cycle_at}
 use Rattle.reserving.specs.Balance.{buckets_at}
 use Rattle.reserving.specs.Sessions.{group_in, counter_in, holds_in, is_live_in, holds_at}
-use Rattle.reserving.specs.Sessions.{is_counter, counter_before}
+use Rattle.ledger_rows.specs.Order.{counter_before}
+use Rattle.reserving.specs.Sessions.{is_counter}
 use Rattle.tariffs.specs.Tariffs.{GroupTariff}
 use Rattle.rating.specs.declared.grant.Periods.{Periods}
 use Rattle.rating.specs.declared.report.Rated.{Rated}

@@ -3,16 +3,16 @@ use Rattle.std.proofs.Common.{◌≡◌, ℕ, ◌+◌, Bool, true, false, List, 
 use Rattle.std.proofs.Common.{Some, None}
 use Rattle.std.specs.Prelude.{if◌then◌else◌, ◌==◌, option_map, unwrap_or}
 use Rattle.buckets.specs.declared.kind.Due.{Due}
-use Rattle.reserving.specs.declared.session.SessionGroup.{SessionGroup}
+use Rattle.ledger_rows.specs.declared.session.SessionGroup.{SessionGroup}
 use Rattle.reserving.specs.Keyed.{put}
 use Rattle.reserving.specs.Ledger.{is_same}
 use Rattle.reserving.specs.Sessions.{is_of, group_in}
-use Rattle.reserving.specs.declared.session.Reservation.{Reservation}
+use Rattle.ledger_rows.specs.declared.session.Reservation.{Reservation}
 use Rattle.reserving.specs.Rows.{AccountRows}
 use Rattle.reserving.specs.Changes.{advanced, lapse_group, ended_group, new_group, with_use}
 use Rattle.reserving.specs.Changes.{used_in, settled_account, ended_rows, reserved_account}
 use Rattle.reserving.specs.Prepared.{with_group, with_group_row, with_rows, reservation_in}
-use Rattle.reserving.specs.Sessions.{group_before}
+use Rattle.ledger_rows.specs.Order.{group_before}
 use Rattle.reserving.proofs.Lists.{find-map, find-put, find-put_other}
 use Rattle.reserving.proofs.Keys.{is_key, key_session, key_group, other_row, is_key-sym}
 use Rattle.reserving.proofs.Keys.{second_true, not_true}

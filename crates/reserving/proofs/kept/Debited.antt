@@ -4,14 +4,14 @@ use Rattle.buckets.specs.Row.{Row}
 use Rattle.buckets.specs.Spend.{Each}
 use Rattle.buckets.specs.Holding.{held_in, IsWithin, settled_row}
 use Rattle.buckets.specs.declared.kind.Due.{Due}
-use Rattle.reserving.specs.declared.session.SessionGroup.{SessionGroup}
-use Rattle.reserving.specs.declared.session.Counter.{Counter}
+use Rattle.ledger_rows.specs.declared.session.SessionGroup.{SessionGroup}
+use Rattle.ledger_rows.specs.declared.session.Counter.{Counter}
 use Rattle.reserving.specs.Pricing.{cycle_at}
 use Rattle.reserving.specs.Sessions.{is_of, is_counter, held_by}
 use Rattle.reserving.specs.Changes.{group_or_new, used_in, reserved_in, count_in, with_event}
 use Rattle.reserving.specs.Changes.{debited_account}
 use Rattle.reserving.specs.Rows.{AccountRows, IsAccount}
-use Rattle.reserving.specs.Sessions.{group_before, counter_before}
+use Rattle.ledger_rows.specs.Order.{group_before, counter_before}
 use Rattle.reserving.proofs.InOrder.{order_map, order_or_new}
 use Rattle.reserving.proofs.Lists.{EachIn-put}
 use Rattle.reserving.proofs.Keys.{own_key, own_cycle}

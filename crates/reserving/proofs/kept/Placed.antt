@@ -11,14 +11,14 @@ use Rattle.tariffs.specs.Tariffs.{GroupTariff}
 use Rattle.tariffs.specs.GroupPrices.{prices_in}
 use Rattle.tariffs.specs.BookPrices.{prices_at}
 use Rattle.rating.specs.declared.grant.Periods.{Periods}
-use Rattle.reserving.specs.declared.session.Terms.{Terms}
+use Rattle.ledger_rows.specs.declared.session.Terms.{Terms}
 use Rattle.shelves.specs.Shelves.{book_at, book_numbered, tariff_in}
 use Rattle.shelves.proofs.Begun.{last_begun_holds}
 use Rattle.std.specs.Prelude.{option_and_then}
-use Rattle.reserving.specs.declared.session.SessionState.{SessionState}
-use Rattle.reserving.specs.declared.session.SessionGroup.{SessionGroup}
-use Rattle.reserving.specs.declared.session.Reservation.{Reservation}
-use Rattle.reserving.specs.declared.session.Counter.{Counter}
+use Rattle.ledger_rows.specs.declared.session.SessionState.{SessionState}
+use Rattle.ledger_rows.specs.declared.session.SessionGroup.{SessionGroup}
+use Rattle.ledger_rows.specs.declared.session.Reservation.{Reservation}
+use Rattle.ledger_rows.specs.declared.session.Counter.{Counter}
 use Rattle.reserving.specs.Pricing.{tariff_of, tariff_at, cycle_at, periods_at, terms_at, prices_by}
 use Rattle.reserving.specs.Pricing.{validity_of}
 use Rattle.reserving.specs.Sessions.{session_in, is_of, group_in, is_counter, is_live_in}
@@ -34,11 +34,12 @@ use Rattle.reserving.specs.Changes.{credited_account, used_in, count_in, terms_i
 use Rattle.reserving.specs.Changes.{with_use, with_event}
 use Rattle.reserving.specs.Prepared.{with_group_row, with_rows, reservation_in, with_group}
 use Rattle.reserving.specs.Prepared.{counter_or_new}
-use Rattle.reserving.specs.Rows.{AccountRows, EachIn, AreApart}
+use Rattle.ledger_rows.specs.Lists.{EachIn, AreApart}
+use Rattle.reserving.specs.Rows.{AccountRows}
 use Rattle.reserving.specs.Placed.{AreOfBook, AreOfShelf, is_placed, prices_on, ArePlaced, IsPriced}
 use Rattle.reserving.specs.Stored.{StoredRows, IsStoredInOrder, priced}
 use Rattle.reserving.specs.Live.{is_live_group, live_part}
-use Rattle.reserving.specs.Sessions.{group_before}
+use Rattle.ledger_rows.specs.Order.{group_before}
 use Rattle.reserving.proofs.Lists.{EachIn-map, EachIn-put}
 use Rattle.reserving.proofs.LeftTests.{each_filter}
 use Rattle.reserving.proofs.Keys.{key_group, own_key, own_cycle}

@@ -13,8 +13,8 @@ use Rattle.buckets.proofs.SharesAlong.{with_release_number}
 use Rattle.buckets.proofs.Kept.{IsSound-charge, IsSound-charge_of_hold, IsSound-release}
 use Rattle.buckets.proofs.Settling.{left_within, settled_rows-along, IsSound-release_rest}
 use Rattle.buckets.specs.declared.kind.Due.{Due}
-use Rattle.reserving.specs.declared.session.SessionGroup.{SessionGroup}
-use Rattle.reserving.specs.declared.session.Counter.{Counter}
+use Rattle.ledger_rows.specs.declared.session.SessionGroup.{SessionGroup}
+use Rattle.ledger_rows.specs.declared.session.Counter.{Counter}
 use Rattle.reserving.specs.Pricing.{cycle_at}
 use Rattle.reserving.specs.Keyed.{put}
 use Rattle.reserving.specs.Sessions.{is_of, group_in, is_counter, counter_in, holds_in, held_by}
@@ -22,8 +22,9 @@ use Rattle.reserving.specs.Changes.{new_group, group_or_new, used_in, reserved_i
 use Rattle.reserving.specs.Changes.{with_use, ended_group, ended_rows, settled_account}
 use Rattle.reserving.specs.Prepared.{with_group, with_counter, counter_or_new, with_rows}
 use Rattle.reserving.specs.Prepared.{with_group_row}
-use Rattle.reserving.specs.Rows.{EachIn, AreApart, AccountRows, IsAccount}
-use Rattle.reserving.specs.Sessions.{group_before, counter_before}
+use Rattle.ledger_rows.specs.Lists.{EachIn, AreApart}
+use Rattle.reserving.specs.Rows.{AccountRows, IsAccount}
+use Rattle.ledger_rows.specs.Order.{group_before, counter_before}
 use Rattle.reserving.proofs.Lists.{EachIn-put, EachIn-map, AreApart-map, AreApart-put, find-passes}
 use Rattle.reserving.proofs.Lists.{none_passing, each_none}
 use Rattle.reserving.proofs.Keys.{is_key, is_key-sym, own_key, key_session, key_group, is_cycle}

@@ -12,7 +12,7 @@ use Rattle.shelves.specs.Shelves.{Shelf}
 use Rattle.rating.specs.declared.report.Rated.{Rated}
 use Rattle.buckets.specs.Kinds.{due}
 use Rattle.buckets.specs.declared.kind.Due.{Due}
-use Rattle.reserving.specs.declared.session.SessionGroup.{SessionGroup}
+use Rattle.ledger_rows.specs.declared.session.SessionGroup.{SessionGroup}
 use Rattle.reserving.specs.declared.settle.Settled.{Settled}
 use Rattle.reserving.specs.Ledger.{Ledger}
 use Rattle.reserving.specs.Balance.{buckets_at}
@@ -25,11 +25,12 @@ use Rattle.reserving.specs.Changes.{advanced, group_or_new, used_in, count_in, w
 use Rattle.reserving.specs.Changes.{with_count}
 use Rattle.reserving.specs.Changes.{rest_price_in, debited_account}
 use Rattle.reserving.specs.Prepared.{with_rows}
-use Rattle.reserving.specs.Rows.{AccountRows, EachIn, IsAccount}
+use Rattle.ledger_rows.specs.Lists.{EachIn}
+use Rattle.reserving.specs.Rows.{AccountRows, IsAccount}
 use Rattle.reserving.specs.Results.{IsDebitOf}
 use Rattle.reserving.specs.Left.{LeftRows, merged, joined, IsDead, IsLeft, AreOfOtherCycles}
 use Rattle.reserving.specs.Left.{IsBeside, IsWith}
-use Rattle.reserving.specs.Sessions.{group_before}
+use Rattle.ledger_rows.specs.Order.{group_before}
 use Rattle.reserving.proofs.kept.Debited.{IsAccount-debited}
 use Rattle.reserving.proofs.calls.Debited.{IsDebitMade, covered_is, debit_is, debited_is}
 use Rattle.reserving.proofs.calls.Debited.{debited_later, buckets_later}

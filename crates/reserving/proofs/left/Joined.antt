@@ -2,7 +2,7 @@
 -- and then none is left of any cycle.
 use Rattle.std.proofs.Common.{◌≡◌, ℕ, ◌≤◌, ◌<◌, ◌++◌, true, List, [], refl, arith}
 use Rattle.shelves.proofs.Begun.{validity_some}
-use Rattle.reserving.specs.declared.session.SessionState.TheVariants.{Open, NeverOpened}
+use Rattle.ledger_rows.specs.declared.session.SessionState.TheVariants.{Open, NeverOpened}
 use Rattle.reserving.specs.Ledger.{Ledger}
 use Rattle.reserving.specs.Pricing.{validity_of}
 use Rattle.reserving.specs.Requests.{recorded, touched, closed, with_bar, credited}

@@ -5,13 +5,14 @@ use Rattle.buckets.specs.declared.holds.Hold.{Hold}
 use Rattle.buckets.specs.Holding.{uncollected}
 use Rattle.rating.specs.declared.report.Rated.{Rated}
 use Rattle.buckets.specs.Kinds.{due}
-use Rattle.reserving.specs.declared.session.SessionGroup.{SessionGroup}
+use Rattle.ledger_rows.specs.declared.session.SessionGroup.{SessionGroup}
 use Rattle.reserving.specs.declared.settle.Settled.{Settled}
 use Rattle.reserving.specs.Ledger.{Ledger}
 use Rattle.reserving.specs.Sessions.{is_of, is_live_in, holds_in}
 use Rattle.reserving.specs.Changes.{advanced, reserved_in, price_in}
 use Rattle.reserving.specs.Prepared.{with_rows}
-use Rattle.reserving.specs.Rows.{AccountRows, EachIn}
+use Rattle.ledger_rows.specs.Lists.{EachIn}
+use Rattle.reserving.specs.Rows.{AccountRows}
 use Rattle.reserving.specs.Results.{IsSettlementOf}
 use Rattle.reserving.specs.Left.{LeftRows, merged, joined, IsWith}
 use Rattle.reserving.proofs.calls.RowParts.{or_new_later}

@@ -11,18 +11,19 @@ use Rattle.buckets.specs.Spend.{Each}
 use Rattle.buckets.specs.Holding.{held_in, settled_row, paid_of_hold, paid_of_rest}
 use Rattle.buckets.proofs.SharesAlong.{with_release_until}
 use Rattle.buckets.specs.declared.kind.Due.{Due}
-use Rattle.reserving.specs.declared.session.Session.{Session}
-use Rattle.reserving.specs.declared.session.SessionGroup.{SessionGroup}
-use Rattle.reserving.specs.declared.session.SessionState.TheVariants.{Open, Ended}
+use Rattle.ledger_rows.specs.declared.session.Session.{Session}
+use Rattle.ledger_rows.specs.declared.session.SessionGroup.{SessionGroup}
+use Rattle.ledger_rows.specs.declared.session.SessionState.TheVariants.{Open, Ended}
 use Rattle.reserving.specs.Sessions.{is_session, session_in, is_of, group_in, holds_in, is_live_in}
 use Rattle.reserving.specs.Sessions.{is_live_row}
 use Rattle.reserving.specs.Changes.{lapse, lapse_group, lapsed_in, advanced, new_group}
 use Rattle.reserving.specs.Changes.{group_or_new, ended_group, ended_rows, settled_account}
 use Rattle.reserving.specs.Changes.{reserved_account, touched_session, touched_account}
 use Rattle.reserving.specs.Prepared.{with_group, with_rows, with_group_row}
-use Rattle.reserving.specs.Rows.{AccountRows, EachIn}
+use Rattle.ledger_rows.specs.Lists.{EachIn}
+use Rattle.reserving.specs.Rows.{AccountRows}
 use Rattle.reserving.specs.Calm.{IsCalm}
-use Rattle.reserving.specs.Sessions.{group_before}
+use Rattle.ledger_rows.specs.Order.{group_before}
 use Rattle.reserving.proofs.Lists.{find-map, EachIn-map, EachIn-put, not_both}
 use Rattle.reserving.proofs.Lists.{EachIn-found, EachIn-weaker}
 use Rattle.reserving.proofs.ledger.Columns.{with_columns}

@@ -10,8 +10,8 @@ use Rattle.buckets.specs.Holding.{held_in, paid, paid_of_hold, paid_of_rest, set
 use Rattle.buckets.specs.Holding.{settled_rows}
 use Rattle.buckets.proofs.Parts.{sum_at, sum_at-parts, sum_at_none}
 use Rattle.buckets.specs.declared.kind.Due.{Due}
-use Rattle.reserving.specs.declared.session.SessionGroup.{SessionGroup}
-use Rattle.reserving.specs.declared.session.Terms.{Terms}
+use Rattle.ledger_rows.specs.declared.session.SessionGroup.{SessionGroup}
+use Rattle.ledger_rows.specs.declared.session.Terms.{Terms}
 use Rattle.reserving.specs.Ledger.{Ledger, charged, open_grant, held, only, used, counter}
 use Rattle.reserving.specs.Ledger.{has_group, has_counter, inner, is_live, is_same, grant_in}
 use Rattle.reserving.specs.Ledger.{counts_group, blocks_in, next_bucket}
@@ -25,7 +25,7 @@ use Rattle.reserving.specs.Debiting.{charged_use}
 use Rattle.reserving.specs.Changes.{new_group, group_or_new, used_in, with_event, debited_account}
 use Rattle.reserving.specs.SoundLedger.{IsUnknown, IsSoundLedger}
 use Rattle.reserving.specs.Rows.{AccountRows, IsAccount, IsRowsOf}
-use Rattle.reserving.specs.Sessions.{group_before}
+use Rattle.ledger_rows.specs.Order.{group_before}
 use Rattle.reserving.proofs.Lists.{find-put, find-put_other}
 use Rattle.reserving.proofs.Keys.{is_key, own_key, key_session, key_group, other_row}
 use Rattle.reserving.proofs.SettledFacts.{is_barred-front, total-front, newest-front, any-front}

@@ -14,8 +14,8 @@ use Rattle.buckets.specs.Share.{sum_in}
 use Rattle.buckets.proofs.Dues.{sum_in-cons}
 use Rattle.buckets.specs.Spend.{Each, IsSound}
 use Rattle.buckets.specs.Holding.{held_in, held_sum}
-use Rattle.reserving.specs.declared.session.Session.{Session}
-use Rattle.reserving.specs.declared.session.SessionGroup.{SessionGroup}
+use Rattle.ledger_rows.specs.declared.session.Session.{Session}
+use Rattle.ledger_rows.specs.declared.session.SessionGroup.{SessionGroup}
 use Rattle.reserving.specs.Sessions.{holds_in, held_by, is_live_in}
 use Rattle.reserving.specs.Changes.{lapsed_in, amount_later}
 use Rattle.reserving.specs.Lapsed.{held_for, is_eligible_in, lapsed_for, lapsed_funds}

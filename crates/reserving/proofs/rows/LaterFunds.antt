@@ -7,8 +7,8 @@ use Rattle.buckets.specs.declared.kind.BucketKind.{BucketKind}
 use Rattle.buckets.specs.Share.{sum_in}
 use Rattle.buckets.proofs.Dues.{sum_in-cons}
 use Rattle.buckets.specs.Kinds.{is_alike}
-use Rattle.reserving.specs.declared.session.Session.{Session}
-use Rattle.reserving.specs.declared.session.SessionGroup.{SessionGroup}
+use Rattle.ledger_rows.specs.declared.session.Session.{Session}
+use Rattle.ledger_rows.specs.declared.session.SessionGroup.{SessionGroup}
 use Rattle.reserving.specs.Sessions.{is_live_in, held_by}
 use Rattle.reserving.specs.Changes.{lapsed_in, amount_later, funds_later}
 use Rattle.reserving.proofs.Advancing.{held_by-split}

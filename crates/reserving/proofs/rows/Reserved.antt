@@ -12,9 +12,9 @@ use Rattle.buckets.proofs.Parts.{sum_at, sum_at-parts, held_in-sum_at, sum_at_no
 use Rattle.buckets.proofs.SharesAlong.{by_shares-along}
 use Rattle.buckets.proofs.Kept.{IsSound-hold, eligible_within}
 use Rattle.buckets.specs.declared.kind.Due.{Due}
-use Rattle.reserving.specs.declared.session.SessionGroup.{SessionGroup}
-use Rattle.reserving.specs.declared.session.Reservation.{Reservation}
-use Rattle.reserving.specs.declared.session.Counter.{Counter}
+use Rattle.ledger_rows.specs.declared.session.SessionGroup.{SessionGroup}
+use Rattle.ledger_rows.specs.declared.session.Reservation.{Reservation}
+use Rattle.ledger_rows.specs.declared.session.Counter.{Counter}
 use Rattle.reserving.specs.Ledger.{Ledger, or_else, charged, held, only, used, counter, has_group}
 use Rattle.reserving.specs.Ledger.{has_counter, open_grant, inner, is_live, is_within, is_same}
 use Rattle.reserving.specs.Ledger.{is_closed, units_in, names_group, grant_in, counts_group}
@@ -22,7 +22,7 @@ use Rattle.reserving.specs.Ledger.{blocks_in, uses_in, credits_in, newest, last_
 use Rattle.reserving.specs.Ledger.{last_recording, next_bucket}
 use Rattle.reserving.specs.Ledger.Fact.{Grant}
 use Rattle.shelves.specs.Shelves.{Shelf}
-use Rattle.reserving.specs.declared.session.Terms.{Terms}
+use Rattle.ledger_rows.specs.declared.session.Terms.{Terms}
 use Rattle.reserving.specs.Pricing.{terms_at, cycle_at, validity_of}
 use Rattle.reserving.specs.Keyed.{put}
 use Rattle.reserving.specs.Balance.{credits, balance_of, bucket_at, buckets_at}
@@ -33,7 +33,7 @@ use Rattle.reserving.specs.Changes.{used_in, reserved_in, with_reservation, rese
 use Rattle.reserving.specs.Prepared.{reservation_in}
 use Rattle.reserving.specs.SoundLedger.{IsUnknown, IsSoundLedger}
 use Rattle.reserving.specs.Rows.{AccountRows, IsAccount, IsRowsOf}
-use Rattle.reserving.specs.Sessions.{group_before}
+use Rattle.ledger_rows.specs.Order.{group_before}
 use Rattle.reserving.proofs.InOrder.{order_map, order_held}
 use Rattle.reserving.proofs.Lists.{find-put, find-put_other, EachIn-put, no_some}
 use Rattle.reserving.proofs.Keys.{is_key, own_key, key_session, key_group, other_row, not_true}

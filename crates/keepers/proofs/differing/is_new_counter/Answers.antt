@@ -1,6 +1,6 @@
 use Rattle.std.proofs.Common.{◌≡◌, ◌<◌, List, length, get_or, sym, ap, subst, ◌∙◌}
 use Rattle.std.specs.Prelude.{not}
-use Rattle.reserving.specs.declared.session.Counter.{Counter}
+use Rattle.ledger_rows.specs.declared.session.Counter.{Counter}
 use Rattle.keepers.specs.Differing.{equal_counter}
 use Rattle.keepers.specs.Keyed.{same_counter}
 use Rattle.keepers.proofs.Equal.{counter_from}

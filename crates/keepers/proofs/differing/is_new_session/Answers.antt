@@ -1,6 +1,6 @@
 use Rattle.std.proofs.Common.{◌≡◌, ◌<◌, List, length, get_or, sym, ap, subst, ◌∙◌}
 use Rattle.std.specs.Prelude.{not}
-use Rattle.reserving.specs.declared.session.Session.{Session}
+use Rattle.ledger_rows.specs.declared.session.Session.{Session}
 use Rattle.keepers.specs.Differing.{equal_session}
 use Rattle.keepers.specs.Keyed.{same_session}
 use Rattle.keepers.proofs.Equal.{session_from}

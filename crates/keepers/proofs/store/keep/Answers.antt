@@ -1,6 +1,6 @@
 use Rattle.std.proofs.Common.{◌≡◌, sym, ap, ◌∙◌, false}
 use Rattle.std.specs.List.{list_any}
-use Rattle.reserving.specs.declared.session.Session.{Session}
+use Rattle.ledger_rows.specs.declared.session.Session.{Session}
 use Rattle.keepers.specs.Named.{is_named}
 use Rattle.keepers.proofs.Unchanged.{sessions_stay}
 use Rattle.keepers.proofs.store.keep.Goals as goal

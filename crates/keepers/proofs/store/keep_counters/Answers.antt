@@ -1,6 +1,6 @@
 use Rattle.std.proofs.Common.{rules, sym, ap, ◌∙◌}
 use Rattle.std.proofs.lemmas.Fn.{filter_same}
-use Rattle.reserving.specs.declared.session.Counter.{Counter}
+use Rattle.ledger_rows.specs.declared.session.Counter.{Counter}
 use Rattle.keepers.specs.Named.{is_numbered}
 use Rattle.keepers.specs.Parts.{leaves_counter}
 use Rattle.std.specs.List.{list_any}

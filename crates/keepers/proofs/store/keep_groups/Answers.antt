@@ -1,7 +1,7 @@
 use Rattle.std.proofs.Common.{◌≡◌, sym, ap, ◌∙◌, subst, List, false}
 use Rattle.std.specs.List.{list_any}
-use Rattle.reserving.specs.declared.session.Session.{Session}
-use Rattle.reserving.specs.declared.session.SessionGroup.{SessionGroup}
+use Rattle.ledger_rows.specs.declared.session.Session.{Session}
+use Rattle.ledger_rows.specs.declared.session.SessionGroup.{SessionGroup}
 use Rattle.keepers.specs.Named.{is_named}
 use Rattle.keepers.proofs.Unchanged.{groups_stay}
 use Rattle.keepers.proofs.store.keep_groups.Goals as goal

@@ -1,5 +1,5 @@
 use Rattle.std.proofs.Common.{◌≡◌, true}
-use Rattle.reserving.specs.declared.session.Counter.{Counter}
+use Rattle.ledger_rows.specs.declared.session.Counter.{Counter}
 use Rattle.keepers.specs.Named.{is_numbered}
 use Rattle.keepers.proofs.Replaced.{each_next, each_stays}
 use Rattle.keepers.proofs.store.note_counters.Goals as goal

@@ -1,5 +1,5 @@
 use Rattle.std.proofs.Common.{◌≡◌, ◌∙◌, ap, subst, true, rules}
-use Rattle.reserving.specs.declared.session.Session.{Session}
+use Rattle.ledger_rows.specs.declared.session.Session.{Session}
 use Rattle.keepers.specs.Named.{is_named}
 use Rattle.keepers.proofs.Replaced.{each_next, each_stays}
 use Rattle.keepers.proofs.store.note_sessions.Goals as goal

@@ -1,5 +1,5 @@
 use Rattle.std.proofs.Common.{sym, ap, ◌∙◌}
-use Rattle.reserving.specs.declared.session.Session.{Session}
+use Rattle.ledger_rows.specs.declared.session.Session.{Session}
 use Rattle.reserving.specs.Sessions.{is_session}
 use Rattle.keepers.proofs.Cursor.{stands}
 use Rattle.keepers.proofs.store.stands_at.Goals as goal

@@ -1,6 +1,7 @@
 use Rattle.std.proofs.Common.{Some, sym, ap, ◌∙◌}
-use Rattle.reserving.specs.declared.session.Session.{Session}
-use Rattle.reserving.specs.Sessions.{is_session, session_before}
+use Rattle.ledger_rows.specs.declared.session.Session.{Session}
+use Rattle.ledger_rows.specs.Order.{session_before}
+use Rattle.reserving.specs.Sessions.{is_session}
 use Rattle.reserving.proofs.KeysFound.{placed, unplaced}
 use Rattle.reserving.proofs.searching.session_row_near.Goals as goal
 

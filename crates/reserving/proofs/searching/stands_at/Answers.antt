@@ -1,6 +1,6 @@
 use Rattle.std.proofs.Common.{rules, sym, ap, ◌∙◌}
-use Rattle.reserving.specs.declared.session.Session.{Session}
-use Rattle.reserving.specs.declared.session.SessionState.TheVariants.{Open}
+use Rattle.ledger_rows.specs.declared.session.Session.{Session}
+use Rattle.ledger_rows.specs.declared.session.SessionState.TheVariants.{Open}
 use Rattle.reserving.specs.Sessions.{is_session}
 use Rattle.reserving.proofs.order.KeyRows.{sessions_total, session_ties}
 use Rattle.reserving.proofs.order.Searched.{found_at}

@@ -1,7 +1,7 @@
 use Rattle.std.proofs.Common.{rules}
 use Rattle.std.proofs.lemmas.Fn.{filter_same}
 use Rattle.calendar.specs.contracts.cycle.CyclePartialEq.TheImpl.{ghosts as cycles}
-use Rattle.reserving.specs.declared.session.Counter.{Counter}
+use Rattle.ledger_rows.specs.declared.session.Counter.{Counter}
 use Rattle.sql_keeper.specs.Repeating.{repeats_in}
 use Rattle.sql_keeper.proofs.live_rows.counters_repeating.Goals as goal
 

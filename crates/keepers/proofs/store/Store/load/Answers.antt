@@ -1,6 +1,6 @@
 use Rattle.std.proofs.Common.{◌≡◌, ◌≤◌, ◌++◌, ◌∙◌, [], sym, ap, subst}
 use Rattle.std.specs.Prelude.{if◌then◌else◌}
-use Rattle.reserving.specs.Rows.{EachIn, AreApart}
+use Rattle.ledger_rows.specs.Lists.{EachIn, AreApart}
 use Rattle.reserving.specs.Live.{live_part}
 use Rattle.keepers.specs.Change.{IsLoadedFrom}
 use Rattle.keepers.specs.Parts.{Parts, rows_of}

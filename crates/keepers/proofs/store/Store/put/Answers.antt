@@ -1,6 +1,6 @@
 use Rattle.std.proofs.Common.{◌≡◌, ◌∙◌, ap, subst, List}
 use Rattle.std.specs.Prelude.{Result, Ok, Err, OnOk}
-use Rattle.reserving.specs.declared.session.SessionGroup.{SessionGroup}
+use Rattle.ledger_rows.specs.declared.session.SessionGroup.{SessionGroup}
 use Rattle.keepers.specs.Change.{over}
 use Rattle.keepers.specs.Inside.{parts_of}
 use Rattle.keepers.specs.Overlaying.{back_from, rows_over, IsAccountOf, IsRestDead}
