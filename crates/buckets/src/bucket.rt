@@ -20,7 +20,7 @@ use units::Moment;
 /// The credited amount is the sum of four columns, which the type keeps: what is available, what is
 /// reserved for live sessions, what was charged, and what expired at the bucket's end. All are in
 /// the unit of its kind.
-#[derive(Clone, Debug, Drop)]
+#[derive(Clone)]
 pub struct Bucket {
     number: u32,
     kind: BucketKind,
@@ -32,6 +32,24 @@ pub struct Bucket {
     reserved: u64,
     charged: u64,
     expired: u64,
+}
+
+// It is written out, so that a caller doesn't prove again how each part is dropped.
+impl Drop for Bucket {
+    fn drop(self) {
+        let Bucket {
+            number: _,
+            kind: _,
+            from: _,
+            until: _,
+            scope: _,
+            credited: _,
+            available: _,
+            reserved: _,
+            charged: _,
+            expired: _,
+        } = self;
+    }
 }
 
 impl Model for Bucket {

@@ -1,15 +1,14 @@
 //! The buckets of an account in their order of use.
 
-ghost use Rattle.std.specs.Prelude.{◌≡◌, ℕ, ◌+◌, ◌-◌, ◌≤◌, ◌<◌, ◌^◌, ◌↔◌, ◌==◌, ◌&&◌, not, []};
-ghost use Rattle.std.specs.Prelude.{OnOk, OnErr, IfOk, IsErrOf, map, length, filter};
-ghost use Rattle.std.specs.Prelude.{Some, None};
+ghost use Rattle.std.specs.Prelude.{◌≡◌, ◌+◌, ◌-◌, ◌≤◌, ◌<◌, ◌^◌, ◌==◌, ◌&&◌, not, []};
+ghost use Rattle.std.specs.Prelude.{OnOk, OnErr, IfOk, map, length, filter};
+ghost use Rattle.std.specs.Prelude.{Some};
 ghost use Rattle.buckets.specs.Kinds.{due, most_of, IsScopeOf};
 ghost use Rattle.buckets.specs.Row.{Row, with_end, new_row};
-ghost use Rattle.buckets.specs.Spend.{funds, allowance, held_rows, IsBelow, inserted, IsSound};
-ghost use Rattle.buckets.specs.Holding.{holds_of, IsWithin, charged_rows, released_rows};
-ghost use Rattle.buckets.specs.Holding.{uncollected, covered_blocks, unpaid, rest_of_holds};
+ghost use Rattle.buckets.specs.Spend.{funds, allowance, IsBelow, IsSound};
+ghost use Rattle.buckets.specs.Holding.{IsWithin, charged_rows, released_rows};
+ghost use Rattle.buckets.specs.Holding.{uncollected, unpaid, rest_of_holds};
 ghost use Rattle.buckets.specs.Holding.{held_sum};
-ghost use Rattle.buckets.specs.Holding.{settled_rows};
 
 mod tested;
 
@@ -23,7 +22,7 @@ use thiserror::Error;
 use units::{Amount, Blocks, Moment, Money};
 
 /// Why a call on a purse did nothing.
-#[derive(Clone, Copy, Debug, Drop, Error, PartialEq, Eq)]
+#[derive(Clone, Copy, Debug, Drop, Error)]
 pub enum PurseFault {
     /// A growth was refused.
     #[error("out of memory")]
@@ -44,7 +43,7 @@ impl From<AllocError> for PurseFault {
 }
 
 /// What became of a rated amount: the two sum to it.
-#[derive(Clone, Copy, Debug, PartialEq, Eq)]
+#[derive(Clone, Copy)]
 pub struct Charged {
     /// What holds and eligible buckets paid.
     pub collected: Amount,
@@ -55,10 +54,20 @@ pub struct Charged {
 
 /// The buckets of an account, by end and then by number: the order in which they are used (TS
 /// 32.296, account balance management function).
-#[derive(Clone, Drop)]
+#[derive(Clone)]
 pub struct Purse {
     buckets: Vec<Bucket>,
     alloc: Global,
+}
+
+// It is written out, so that a caller doesn't prove again how each part is dropped.
+impl Drop for Purse {
+    fn drop(self) {
+        let Purse {
+            buckets: _,
+            alloc: _,
+        } = self;
+    }
 }
 
 impl Model for Purse {
@@ -74,6 +83,9 @@ impl Model for Purse {
 }
 
 impl Purse {
+    ghost use Rattle.buckets.specs.Calls.{Adds, HoldsDue, IsHeld, ChargesMoney, ChargesBlocks};
+    ghost use Rattle.buckets.specs.Calls.{SettlesDue};
+
     /// A purse without buckets. It takes no memory.
     pub fn new(alloc: Global) -> Self
         ensures { result ≡ [] }
@@ -106,10 +118,8 @@ impl Purse {
         amount: Money,
     ) -> Result<(), AllocError>
         requires { IsBelow number self.old }
-        ensures ok { OnOk result
-            (self.new ≡ inserted (new_row BucketKind.Money number from until scope amount)
-            self.old) }
-        ensures err { OnErr result (self.new ≡ self.old) }
+        ensures { Adds (new_row BucketKind.Money number from until scope amount) self.old self.new
+            result }
     {
         self.add(
             number,
@@ -136,10 +146,8 @@ impl Purse {
     ) -> Result<(), AllocError>
         requires below { IsBelow number self.old }
         requires most { blocks.0 ≤ 1_000_000_000 }
-        ensures ok { OnOk result
-            (self.new ≡ inserted (new_row BucketKind.Blocks number from until (Some group) blocks.0)
-            self.old) }
-        ensures err { OnErr result (self.new ≡ self.old) }
+        ensures { Adds (new_row BucketKind.Blocks number from until (Some group) blocks.0) self.old
+            self.new result }
     {
         self.add(
             number,
@@ -167,9 +175,7 @@ impl Purse {
         requires below { IsBelow number self.old }
         requires most { amount ≤ most_of kind }
         requires scope { IsScopeOf kind scope }
-        ensures ok { OnOk result
-            (self.new ≡ inserted (new_row kind number from until scope amount) self.old) }
-        ensures err { OnErr result (self.new ≡ self.old) }
+        ensures { Adds (new_row kind number from until scope amount) self.old self.new result }
     {
         let place = along::place_of(&self.buckets, until);
         let bucket = Bucket::new(number, kind, from, until, scope, amount);
@@ -210,12 +216,8 @@ impl Purse {
     /// `NotCovered` exactly where the amount exceeds the funds, else `Memory`: a growth was
     /// refused. Then the purse is unchanged.
     pub fn hold(&mut self, group: u32, at: Moment, amount: Amount) -> Result<Holds, PurseFault>
-        ensures rows { OnOk result (self.new ≡ held_rows group at (due amount.0 0) self.old) }
-        ensures holds { IfOk result (λ h. h ≡ holds_of group at (due amount.0 0) self.old) }
-        ensures within { IfOk result (λ h. IsWithin h self.new) }
-        ensures not_covered { IsErrOf result PurseFault.NotCovered
-            ↔ (funds group at self.old < amount.0) }
-        ensures err { OnErr result (self.new ≡ self.old) }
+        ensures { HoldsDue group at (due amount.0 0) (funds group at self.old < amount.0) self.old
+            self.new result }
     {
         if self.funds(group, at) < amount {
             return Err(PurseFault::NotCovered);
@@ -236,12 +238,8 @@ impl Purse {
         at: Moment,
         blocks: Blocks,
     ) -> Result<Holds, PurseFault>
-        ensures rows { OnOk result (self.new ≡ held_rows group at (due 0 blocks.0) self.old) }
-        ensures holds { IfOk result (λ h. h ≡ holds_of group at (due 0 blocks.0) self.old) }
-        ensures within { IfOk result (λ h. IsWithin h self.new) }
-        ensures not_covered { IsErrOf result PurseFault.NotCovered
-            ↔ (allowance group at self.old < blocks.0) }
-        ensures err { OnErr result (self.new ≡ self.old) }
+        ensures { HoldsDue group at (due 0 blocks.0) (allowance group at self.old < blocks.0)
+            self.old self.new result }
     {
         if self.allowance(group, at).0 < blocks.0 {
             return Err(PurseFault::NotCovered);
@@ -269,9 +267,7 @@ impl Purse {
         requires room { length self.old ≤ room }
         requires covered { amount.0 ≤ funds group at self.old }
         requires allowed { blocks.0 ≤ allowance group at self.old }
-        ensures rows { self.new ≡ held_rows group at (due amount.0 blocks.0) self.old }
-        ensures holds { result ≡ holds_of group at (due amount.0 blocks.0) self.old }
-        ensures within { IsWithin result self.new }
+        ensures { IsHeld group at (due amount.0 blocks.0) self.old self.new result }
     {
         let due = due_of(amount, blocks);
         let mut items = room.items;
@@ -293,18 +289,7 @@ impl Purse {
         amount: Amount,
     ) -> Result<Charged, PurseFault>
         requires { IsWithin holds.old self.old }
-        ensures sound { IsSound self.old }
-        ensures rows { OnOk result
-            (self.new ≡ charged_rows holds.old group at (due amount.0 0) self.old) }
-        ensures holds { OnOk result
-            (holds.new ≡ rest_of_holds holds.old (due amount.0 0) self.old) }
-        ensures within { OnOk result (IsWithin holds.new self.new) }
-        ensures uncollected { IfOk result
-            (λ c. c.uncollected.0 ≡ uncollected holds.old group at amount.0 self.old) }
-        ensures collected { IfOk result (λ c. c.collected.0 + c.uncollected.0 ≡ amount.0) }
-        ensures memory { OnErr result (result ≡ Err PurseFault.Memory) }
-        ensures err { OnErr result (self.new ≡ self.old) }
-        ensures err_holds { OnErr result (holds.new ≡ holds.old) }
+        ensures { ChargesMoney group at amount.0 holds.old holds.new self.old self.new result }
     {
         let unpaid = self.charge_due(holds, group, at, due_of(amount, Blocks(0)))?;
         Ok(charged_of(amount, unpaid))
@@ -324,17 +309,7 @@ impl Purse {
         blocks: Blocks,
     ) -> Result<Blocks, PurseFault>
         requires { IsWithin holds.old self.old }
-        ensures sound { IsSound self.old }
-        ensures rows { OnOk result
-            (self.new ≡ charged_rows holds.old group at (due 0 blocks.0) self.old) }
-        ensures holds { OnOk result
-            (holds.new ≡ rest_of_holds holds.old (due 0 blocks.0) self.old) }
-        ensures within { OnOk result (IsWithin holds.new self.new) }
-        ensures covered { IfOk result
-            (λ c. c.0 ≡ covered_blocks holds.old group at blocks.0 self.old) }
-        ensures memory { OnErr result (result ≡ Err PurseFault.Memory) }
-        ensures err { OnErr result (self.new ≡ self.old) }
-        ensures err_holds { OnErr result (holds.new ≡ holds.old) }
+        ensures { ChargesBlocks group at blocks.0 holds.old holds.new self.old self.new result }
     {
         let unpaid = self.charge_due(holds, group, at, due_of(Amount(0), blocks))?;
         Ok(Blocks((blocks.0 as u128 - unpaid.blocks) as u64))
@@ -376,10 +351,7 @@ impl Purse {
         blocks: Blocks,
     ) -> Charged
         requires { IsWithin holds self.old }
-        ensures sound { IsSound self.old }
-        ensures rows { self.new ≡ settled_rows holds group at (due amount.0 blocks.0) self.old }
-        ensures uncollected { result.uncollected.0 ≡ uncollected holds group at amount.0 self.old }
-        ensures collected { result.collected.0 + result.uncollected.0 ≡ amount.0 }
+        ensures { SettlesDue holds group at amount.0 blocks.0 self.old self.new result }
     {
         let due = due_of(amount, blocks);
         let unheld = along::charge_holds_along(&mut self.buckets, holds.as_slice(), due);

@@ -1,14 +1,13 @@
 //! The calendar of a tariff book: its week in its zone.
 
-ghost use Rattle.std.specs.Prelude.{◌≡◌, ◌≢◌, ◌↔◌, ◌≤◌, ◌<◌, ◌^◌, ◌+◌, ◌*◌, ◌-◌, ℕ, Some, IsSome};
-ghost use Rattle.std.specs.Prelude.{IfSome, IfNone, pos, ◌+ℤ◌, ◌*ℤ◌};
-ghost use Rattle.jiff.specs.Types.{Date};
-ghost use Rattle.jiff.specs.Words.{epoch_day};
+ghost use Rattle.std.specs.Prelude.{◌≡◌, ◌↔◌, ◌≤◌, ◌<◌, ◌^◌, ◌+◌, ◌*◌, ◌-◌, ℕ, Some, IsSome};
+ghost use Rattle.std.specs.Prelude.{IfSome, IfNone};
 ghost use Rattle.calendar.specs.Clock.{day};
 ghost use Rattle.calendar.specs.Week.{IsWeek};
 ghost use Rattle.calendar.specs.Timetable.{timetable_of, IsTimetable, period_at, IsEntryAt};
-ghost use Rattle.calendar.specs.Timetable.{IsChange, switch_within, cut_after, validity_from};
-ghost use Rattle.calendar.specs.Timetable.{cycle_of, day_end};
+ghost use Rattle.calendar.specs.Timetable.{IsChange, IsSwitch, IsWindow, switch_within};
+ghost use Rattle.calendar.specs.Timetable.{cut_after, validity_from};
+ghost use Rattle.calendar.specs.Timetable.{IsCycleOf, cycle_of, day_end};
 
 use crate::cycle::Cycle;
 use crate::week::{Entry, Period};
@@ -19,10 +18,19 @@ use std::marker::Model;
 use units::{Moment, Steps};
 
 /// The week of a tariff book in its zone: the period of each of its 10,080 minutes.
-#[derive(Drop)]
 pub struct Calendar {
     zone: Zone,
     entries: Vec<Entry>,
+}
+
+// It is written out, so that a caller doesn't prove again how each part is dropped.
+impl Drop for Calendar {
+    fn drop(self) {
+        let Calendar {
+            zone: _,
+            entries: _,
+        } = self;
+    }
 }
 
 impl Model for Calendar {
@@ -71,11 +79,7 @@ impl Calendar {
     pub fn next_switch(&self, moment: Moment, seconds: u32) -> Option<Moment>
         requires seconds { seconds ≤ 43_200 }
         requires in_range { moment + seconds ≤ 4_102_488_000 }
-        ensures value { result ≡ switch_within self.now moment seconds }
-        ensures found { IfSome result (IsChange self.now moment (moment + seconds)) }
-        ensures least { IfSome result
-            (λ s. (r : ℕ) → IsChange self.now moment (moment + seconds) r → s ≤ r) }
-        ensures none { IfNone result ((r : ℕ) → IsChange self.now moment (moment + seconds) r → ⊥) }
+        ensures { IsSwitch self.now moment seconds result }
     {
         self.next_switch_steps(moment, seconds, &mut Steps::new())
     }
@@ -91,11 +95,7 @@ impl Calendar {
         requires seconds { seconds ≤ 43_200 }
         requires in_range { moment + seconds ≤ 4_102_488_000 }
         requires steps { steps.old ≤ 1_000_000_000 }
-        ensures value { result ≡ switch_within self.now moment seconds }
-        ensures found { IfSome result (IsChange self.now moment (moment + seconds)) }
-        ensures least { IfSome result
-            (λ s. (r : ℕ) → IsChange self.now moment (moment + seconds) r → s ≤ r) }
-        ensures none { IfNone result ((r : ℕ) → IsChange self.now moment (moment + seconds) r → ⊥) }
+        ensures switch { IsSwitch self.now moment seconds result }
         ensures steps { steps.new ≤ steps.old + 260 }
     {
         match self.change_after(moment.seconds(), seconds, steps) {
@@ -134,9 +134,7 @@ impl Calendar {
     /// The tariff switch within a validity from a moment on, and the validity that is granted with
     /// it, as `next_switch` and `validity_from` tell them, by one walk over the week.
     pub fn window_from(&self, moment: Moment, validity: u32) -> Window
-        ensures switch { result.switch ≡ switch_within self.now moment validity }
-        ensures found { IfSome result.switch (IsChange self.now moment (moment + validity)) }
-        ensures validity { result.validity ≡ validity_from self.now moment validity }
+        ensures { IsWindow self.now moment validity result }
     {
         let start = moment.seconds();
         match self.change_after(start, validity, &mut Steps::new()) {
@@ -177,9 +175,7 @@ impl Calendar {
     /// The number of a counter's cycle at a moment, in the book's zone: 0 for none; days since
     /// 1969-12-31; months since January 1969.
     pub fn cycle_of(&self, cycle: Cycle, moment: Moment) -> u32
-        ensures value { result ≡ cycle_of self.now.zone cycle moment }
-        ensures month { (d : Date) → epoch_day d +ℤ pos 1 ≡ pos (day self.now.zone moment) →
-            cycle ≡ Cycle.Month → pos (result + 1 + 12 * 1969) ≡ pos 12 *ℤ d.year +ℤ pos d.month }
+        ensures { IsCycleOf self.now.zone cycle moment result }
     {
         match cycle {
             Cycle::None => 0,

@@ -14,7 +14,7 @@ use jiff_core::civil::Date;
 use std::alloc::{AllocError, Global};
 
 /// When a clock is changed each year: `Mm.w.d/time` (POSIX, Base Definitions 8.3, TZ).
-#[derive(Clone, Copy, Debug, PartialEq, Eq)]
+#[derive(Clone, Copy)]
 pub struct YearlyChange {
     /// The month, 1 to 12.
     pub month: u8,
@@ -28,7 +28,7 @@ pub struct YearlyChange {
 }
 
 /// A clock that is put ahead each year for some months (POSIX, Base Definitions 8.3, TZ).
-#[derive(Clone, Copy, Debug, PartialEq, Eq)]
+#[derive(Clone, Copy)]
 pub struct SummerTime {
     /// The lead of standard time: 86,400 seconds and those by which its clock is ahead of UTC.
     pub standard: u64,

@@ -23,7 +23,7 @@ use units::Moment;
 const BEFORE_1970: u64 = 31_622_400;
 
 /// A change of a zone's offset (a transition, RFC 9636 section 3.2).
-#[derive(Clone, Copy, Debug, PartialEq, Eq)]
+#[derive(Clone, Copy)]
 pub struct Change {
     /// Its moment, in seconds since 1968-12-31 00:00 UTC.
     pub at: u64,
@@ -33,10 +33,19 @@ pub struct Change {
 
 /// The zone of a tariff book: the lead of its clock, 10 to 38 hours, since a clock is at most 14
 /// hours from UTC either way, and when that changes.
-#[derive(Drop)]
 pub struct Zone {
     before: u64,
     changes: Vec<Change>,
+}
+
+// It is written out, so that a caller doesn't prove again how each part is dropped.
+impl Drop for Zone {
+    fn drop(self) {
+        let Zone {
+            before: _,
+            changes: _,
+        } = self;
+    }
 }
 
 impl Model for Zone {
@@ -50,7 +59,7 @@ impl Model for Zone {
 }
 
 /// The time around a moment in which the lead stays.
-#[derive(Clone, Copy, Debug, PartialEq, Eq)]
+#[derive(Clone, Copy)]
 pub(crate) struct Stretch {
     /// The lead of the clock.
     pub(crate) lead: u64,

@@ -368,6 +368,17 @@ served-by b list c t old mid new a (Ok given) before done same f =
     subst (IsServed b list c t old new) (sym done.0) (f done.1)
 served-by b list c t old mid new a (Err fault) before done same f = same ∙ before
 
+-- an answer that is the same as the one that is served
+pub served-as : (b : Shelf) (list : List Accepted) (c : Command) (t : ℕ) (old new : Tables)
+    (given a : Answer) → given ≡ a → IsServed b list c t old new a → IsServed b list c t old new given
+served-as b list c t old new given a is served = subst (IsServed b list c t old new) (sym is) served
+
+-- what a call gives, told of what it is the same as
+pub given-as : {A E : Type 0} (r : Result A E) (x y : A) → IfOk r (λ given. given ≡ x) → x ≡ y →
+    IfOk r (λ given. given ≡ y)
+given-as (Ok given) x y is same = is ∙ same
+given-as (Err e) x y is same = tt
+
 -- what a call says where it answers
 pub on_ok : {X E P Q : Type 0} (r : Result X E) → OnOk r P → (P → Q) → OnOk r Q
 on_ok (Ok x) p f = f p

@@ -8,7 +8,6 @@ use Rattle.identifiers.specs.Words.{AccountName, VoucherCode}
 use Rattle.reserving.specs.Words.{ChargeNumber}
 use Rattle.identifiers.specs.Texts.{same_name}
 use Rattle.commands.specs.declared.command.Command.{Command}
-use Rattle.commands.specs.declared.command.Command.TheVariants as command
 use Rattle.commands.specs.declared.answer.Answer.{Answer}
 use Rattle.voucher_rules.specs.declared.voucher.Voucher.{Voucher}
 use Rattle.voucher_rules.specs.Adding.{addition, after_addition}
@@ -18,6 +17,8 @@ use Rattle.reserving.specs.Charges.{charge_rows}
 use Rattle.keepers.specs.declared.key.Key.{Key}
 use Rattle.keepers.specs.Tables.{Head, Rows, Tables, no_rows, charge_in}
 use Rattle.keepers.specs.Change.{AreRowsAt}
+pub use Rattle.charging.specs.About.{Concerned, one, each, none}
+use Rattle.charging.specs.About.{CodeUse, about, adds_code, redeems_code, no_code}
 use Rattle.charging.specs.Histories.{History, no_history, kept_under}
 
 -- a command with its moment
@@ -32,23 +33,8 @@ pub record Outcome : Type 0 where
   pub accepted : Bool
   pub after : History
 
--- which accounts a command concerns: one of this number, each, or none
-pub data Concerned : Type 0 where
-  one : AccountName → Concerned
-  each : Concerned
-  none : Concerned
-
 abbrev pub concerned_by : Command → Concerned
-concerned_by (command.Ccr r) = one r.account
-concerned_by (command.OpenAccount n) = one n
-concerned_by (command.Credit c) = one c.account
-concerned_by (command.Allow a) = one a.account
-concerned_by (command.Bar n) = one n
-concerned_by (command.Unbar n) = one n
-concerned_by (command.AddVoucher v) = none
-concerned_by (command.Redeem r) = one r.account
-concerned_by command.Sweep = each
-concerned_by (command.Balance n) = one n
+concerned_by c = (about c).account
 
 -- a command names an account where it concerns that one alone
 abbrev pub names : AccountName → Concerned → Bool
@@ -63,16 +49,7 @@ reaches a each = true
 reaches a none = false
 
 abbrev pub is_opening : Command → Bool
-is_opening (command.OpenAccount n) = true
-is_opening (command.Ccr r) = false
-is_opening (command.Credit c) = false
-is_opening (command.Allow a) = false
-is_opening (command.Bar n) = false
-is_opening (command.Unbar n) = false
-is_opening (command.AddVoucher v) = false
-is_opening (command.Redeem r) = false
-is_opening command.Sweep = false
-is_opening (command.Balance n) = false
+is_opening c = (about c).opens
 
 -- the moment of the last accepted command
 abbrev pub last_moment : List Accepted → Moment
@@ -97,32 +74,24 @@ IsInTime (d ∷ before) = (last_moment before ≤ d.moment) × IsInTime before
 
 -- ---- vouchers
 
+abbrev pub is_under : VoucherCode → CodeUse → Bool
+is_under code (adds_code added terms) = same_name added code
+is_under code (redeems_code redeemed account) = same_name redeemed code
+is_under code no_code = false
+
 -- a command names this code
 abbrev pub names_code : VoucherCode → Command → Bool
-names_code code (command.Ccr r) = false
-names_code code (command.OpenAccount n) = false
-names_code code (command.Credit c) = false
-names_code code (command.Allow a) = false
-names_code code (command.Bar n) = false
-names_code code (command.Unbar n) = false
-names_code code (command.AddVoucher v) = same_name v.code code
-names_code code (command.Redeem r) = same_name r.code code
-names_code code command.Sweep = false
-names_code code (command.Balance n) = false
+names_code code c = is_under code (about c).code
+
+abbrev pub voucher_used : DayEnds → CodeUse → Moment → Option Voucher → Option Voucher
+voucher_used ends (adds_code code terms) t found = after_addition (addition found terms) found
+voucher_used ends (redeems_code code account) t found =
+    after_redemption (redemption ends found account t) found
+voucher_used ends no_code t found = found
 
 -- what stands under the code that it names, once it is accepted
 abbrev pub voucher_after : DayEnds → Command → Moment → Option Voucher → Option Voucher
-voucher_after ends (command.Ccr r) t found = found
-voucher_after ends (command.OpenAccount n) t found = found
-voucher_after ends (command.Credit c) t found = found
-voucher_after ends (command.Allow a) t found = found
-voucher_after ends (command.Bar n) t found = found
-voucher_after ends (command.Unbar n) t found = found
-voucher_after ends (command.AddVoucher v) t found = after_addition (addition found v.terms) found
-voucher_after ends (command.Redeem r) t found =
-    after_redemption (redemption ends found r.account t) found
-voucher_after ends command.Sweep t found = found
-voucher_after ends (command.Balance n) t found = found
+voucher_after ends c t found = voucher_used ends (about c).code t found
 
 -- what stands under a code after accepted commands
 abbrev pub voucher_under : DayEnds → VoucherCode → List Accepted → Option Voucher
@@ -132,18 +101,14 @@ voucher_under ends code (d ∷ before) =
     then voucher_after ends d.command d.moment (voucher_under ends code before)
     else voucher_under ends code before
 
+abbrev pub standing_under : DayEnds → CodeUse → List Accepted → Option Voucher
+standing_under ends (adds_code code terms) list = voucher_under ends code list
+standing_under ends (redeems_code code account) list = voucher_under ends code list
+standing_under ends no_code list = None
+
 -- what stands under the code that a command names; nothing where it names none
 abbrev pub standing_for : DayEnds → Command → List Accepted → Option Voucher
-standing_for ends (command.Ccr r) list = None
-standing_for ends (command.OpenAccount n) list = None
-standing_for ends (command.Credit c) list = None
-standing_for ends (command.Allow a) list = None
-standing_for ends (command.Bar n) list = None
-standing_for ends (command.Unbar n) list = None
-standing_for ends (command.AddVoucher v) list = voucher_under ends v.code list
-standing_for ends (command.Redeem r) list = voucher_under ends r.code list
-standing_for ends command.Sweep list = None
-standing_for ends (command.Balance n) list = None
+standing_for ends c list = standing_under ends (about c).code list
 
 -- ---- one account alone
 

@@ -1,7 +1,7 @@
 -- What holds of every list of accepted commands that a keeper's tables may be of, and that the list
 -- goes on.
 -- Source: profile.
-use Rattle.std.specs.Prelude.{List}
+use Rattle.std.specs.Prelude.{◌≤◌, ℕ, List}
 use Rattle.shelves.specs.Shelves.{Shelf}
 use Rattle.keepers.specs.Tables.{Tables}
 use Rattle.charging.specs.declared.running.DatedCommand.{DatedCommand}
@@ -32,3 +32,12 @@ abbrev pub LeavesOn : {K : Type 0} → (K → Tables) → (K → Type 0) → (K 
     (K → Tables → Type 0) → Shelf → K → K → Type 0
 LeavesOn content honest clean leaves b old new =
     Leaves honest leaves old new (λ t. clean old × Continues b (content old) t)
+
+-- requests leave a keeper so, also where its store fails
+pub record GoesOn {K : Type 0} (content : K → Tables) (failed : K → ℕ) (honest clean : K → Type 0)
+    (leaves : K → Tables → Type 0) (b : Shelf) (old new : K) : Type 0 where
+  pub continued : clean new → Continues b (content old) (content new)
+  pub cleanness : clean new → clean old
+  pub honesty : honest new → honest old
+  pub left : LeavesOn content honest clean leaves b old new
+  pub failures : failed old ≤ failed new

@@ -10,7 +10,6 @@ use Rattle.reserving.specs.Words.{ChargeNumber}
 use Rattle.identifiers.specs.Texts.{same_name}
 use Rattle.commands.specs.declared.answer.Answer.{Answer}
 use Rattle.commands.specs.declared.command.Command.{Command}
-use Rattle.commands.specs.declared.command.Command.TheVariants as command
 use Rattle.shelves.specs.Shelves.{Shelf}
 use Rattle.reserving.specs.Stored.{StoredRows, IsStored, advanced_stored}
 use Rattle.keepers.specs.declared.key.Key.{Key}
@@ -19,39 +18,33 @@ use Rattle.charging.specs.Accepted.{Accepted, concerned_by, names, last_moment}
 use Rattle.charging.specs.declared.running.DatedCommand.{DatedCommand}
 use Rattle.charging.specs.Served.{AreTables, moment_of}
 use Rattle.charging.specs.Runs.{after_command, answers_to, after_commands}
+use Rattle.charging.specs.About.{CodeUse, about, adds_code, redeems_code, no_code}
 
 -- ---- the commands that are an account's own
 
+abbrev pub is_redeemed_for : AccountName → VoucherCode → CodeUse → Bool
+is_redeemed_for a code (adds_code added terms) = false
+is_redeemed_for a code (redeems_code redeemed account) =
+    same_name account a && same_name redeemed code
+is_redeemed_for a code no_code = false
+
 -- a command redeems this code for the account
 abbrev pub is_redemption_of : AccountName → VoucherCode → Command → Bool
-is_redemption_of a code (command.Ccr r) = false
-is_redemption_of a code (command.OpenAccount n) = false
-is_redemption_of a code (command.Credit c) = false
-is_redemption_of a code (command.Allow x) = false
-is_redemption_of a code (command.Bar n) = false
-is_redemption_of a code (command.Unbar n) = false
-is_redemption_of a code (command.AddVoucher v) = false
-is_redemption_of a code (command.Redeem r) = same_name r.account a && same_name r.code code
-is_redemption_of a code command.Sweep = false
-is_redemption_of a code (command.Balance n) = false
+is_redemption_of a code c = is_redeemed_for a code (about c).code
 
 -- one of the commands names the code in a redemption for the account
 abbrev pub redeems : AccountName → VoucherCode → List DatedCommand → Bool
 redeems a code [] = false
 redeems a code (d ∷ ds) = is_redemption_of a code d.command || redeems a code ds
 
+abbrev pub is_added_for : AccountName → List DatedCommand → CodeUse → Bool
+is_added_for a ds (adds_code code terms) = redeems a code ds
+is_added_for a ds (redeems_code code account) = false
+is_added_for a ds no_code = false
+
 -- a command adds the voucher of such a code
 abbrev pub adds_for : AccountName → List DatedCommand → Command → Bool
-adds_for a ds (command.Ccr r) = false
-adds_for a ds (command.OpenAccount n) = false
-adds_for a ds (command.Credit c) = false
-adds_for a ds (command.Allow x) = false
-adds_for a ds (command.Bar n) = false
-adds_for a ds (command.Unbar n) = false
-adds_for a ds (command.AddVoucher v) = redeems a v.code ds
-adds_for a ds (command.Redeem r) = false
-adds_for a ds command.Sweep = false
-adds_for a ds (command.Balance n) = false
+adds_for a ds c = is_added_for a ds (about c).code
 
 -- of a run's commands those are an account's own that name it, and the additions of the codes that
 -- redemptions for it name

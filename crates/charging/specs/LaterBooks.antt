@@ -107,3 +107,17 @@ pub record IsAccountedRun (list : List Accepted) (x : AnsweredRun) : Type 0 wher
 -- so the two runs are one
 abbrev pub AreOneRun : List Accepted → AnsweredRun → AnsweredRun → Type 0
 AreOneRun list x y = AreInTurn list x y → IsAccountedRun list (joined_run x y)
+
+-- ---- the law
+
+-- an addition lets the shelf go on
+abbrev pub AdditionsGoOn : Type 0
+AdditionsGoOn = (last : Moment) (s u : Shelf) → IsAddition last s u → GoesOnAfter last s u
+
+-- it changes nothing before it
+abbrev pub AdditionsChangeNothing : Type 0
+AdditionsChangeNothing = (s u : Shelf) (list : List Accepted) → ChangeNothingBefore s u list
+
+-- a run before it and one after it are one
+abbrev pub RunsAreOne : Type 0
+RunsAreOne = (list : List Accepted) (x y : AnsweredRun) → AreOneRun list x y

@@ -1,9 +1,11 @@
 pub mod Histories
+pub mod About
 pub mod Accepted
 pub mod Balances
 pub mod Outcomes
 pub mod Served
 pub mod Stepping
+pub mod Stepped
 pub mod Parts
 pub mod States
 pub mod Runs
@@ -26,3 +28,4 @@ pub mod PartedRows
 pub mod OpenGrants
 pub mod SharesTold
 pub mod BoundedCharges
+pub mod Laws

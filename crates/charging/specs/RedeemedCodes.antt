@@ -6,7 +6,6 @@ use Rattle.units.specs.Words.{Moment}
 use Rattle.identifiers.specs.Words.{VoucherCode}
 use Rattle.identifiers.specs.Texts.{same_name}
 use Rattle.commands.specs.declared.command.Command.{Command}
-use Rattle.commands.specs.declared.command.Command.TheVariants as command
 use Rattle.voucher_rules.specs.Standing.{is_spent}
 use Rattle.voucher_rules.specs.Histories.{VoucherCommand, Adds, Redeems, with_commands}
 use Rattle.shelves.specs.Shelves.{Shelf}
@@ -15,19 +14,16 @@ use Rattle.charging.specs.declared.running.DatedCommand.{DatedCommand}
 use Rattle.charging.specs.Outcomes.{book_days}
 use Rattle.charging.specs.Served.{voucher}
 use Rattle.charging.specs.Runs.{after_commands}
+use Rattle.charging.specs.About.{CodeUse, about, adds_code, redeems_code, no_code}
+
+abbrev pub voucher_asked : CodeUse → Moment → List VoucherCommand
+voucher_asked (adds_code code terms) t = Adds code terms ∷ []
+voucher_asked (redeems_code code account) t = Redeems code account t ∷ []
+voucher_asked no_code t = []
 
 -- what a command asks of vouchers
 abbrev pub voucher_command : Command → Moment → List VoucherCommand
-voucher_command (command.Ccr r) t = []
-voucher_command (command.OpenAccount n) t = []
-voucher_command (command.Credit c) t = []
-voucher_command (command.Allow a) t = []
-voucher_command (command.Bar n) t = []
-voucher_command (command.Unbar n) t = []
-voucher_command (command.AddVoucher v) t = Adds v.code v.terms ∷ []
-voucher_command (command.Redeem r) t = Redeems r.code r.account t ∷ []
-voucher_command command.Sweep t = []
-voucher_command (command.Balance n) t = []
+voucher_command c t = voucher_asked (about c).code t
 
 -- what accepted commands ask of them, the first of them first
 abbrev pub voucher_commands : List Accepted → List VoucherCommand
@@ -40,18 +36,14 @@ abbrev pub IsLeftByThese : Type 0
 IsLeftByThese = (b : Shelf) (list : List Accepted) (code : VoucherCode) →
     voucher b code list ≡ with_commands (book_days b) (voucher_commands list) (λ k. None) code
 
+abbrev pub is_redeemed : VoucherCode → CodeUse → Bool
+is_redeemed code (adds_code added terms) = false
+is_redeemed code (redeems_code redeemed account) = same_name redeemed code
+is_redeemed code no_code = false
+
 -- a command redeems this code, for whichever account
 abbrev pub is_redemption : VoucherCode → Command → Bool
-is_redemption code (command.Ccr r) = false
-is_redemption code (command.OpenAccount n) = false
-is_redemption code (command.Credit c) = false
-is_redemption code (command.Allow a) = false
-is_redemption code (command.Bar n) = false
-is_redemption code (command.Unbar n) = false
-is_redemption code (command.AddVoucher v) = false
-is_redemption code (command.Redeem r) = same_name r.code code
-is_redemption code command.Sweep = false
-is_redemption code (command.Balance n) = false
+is_redemption code c = is_redeemed code (about c).code
 
 -- how often accepted commands redeem it
 abbrev pub redemption_count : VoucherCode → List Accepted → ℕ

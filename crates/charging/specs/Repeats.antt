@@ -1,32 +1,22 @@
 -- Repeats: a command that comes again with equal content gets its first answer and changes nothing,
 -- whatever stood between (RFC 8506 section 8.2: CC-Request-Number; references of operators'
 -- commands and codes of vouchers: profile).
-use Rattle.std.specs.Prelude.{◌≡◌, Bool, true, false, not, List, ◌∷◌}
+use Rattle.std.specs.Prelude.{◌≡◌, Bool, true, false, List, ◌∷◌}
 use Rattle.units.specs.Words.{Moment}
 use Rattle.commands.specs.declared.command.Command.{Command}
-use Rattle.commands.specs.declared.command.Command.TheVariants as command
 use Rattle.shelves.specs.Shelves.{Shelf}
-use Rattle.decisions.specs.Decisions.{is_read}
 use Rattle.commands.specs.declared.answer.Answer.{Answer}
 use Rattle.keepers.specs.Tables.{Tables}
 use Rattle.charging.specs.Accepted.{Accepted, IsInTime}
 use Rattle.charging.specs.declared.running.DatedCommand.{DatedCommand}
 use Rattle.charging.specs.Served.{AreTables, answer_to, accepts}
 use Rattle.charging.specs.Runs.{after_commands}
+use Rattle.charging.specs.About.{about}
 
 -- commands that can be repeated: requests that aren't reads, credits, allowances and redemptions by
 -- their keys, and additions of vouchers by their codes
 abbrev pub has_key : Command → Bool
-has_key (command.Ccr r) = not (is_read r.ask)
-has_key (command.Credit c) = true
-has_key (command.Allow a) = true
-has_key (command.OpenAccount n) = false
-has_key (command.Bar n) = false
-has_key (command.Unbar n) = false
-has_key (command.AddVoucher v) = true
-has_key (command.Redeem r) = true
-has_key command.Sweep = false
-has_key (command.Balance n) = false
+has_key c = (about c).keyed
 
 -- the command comes again after these
 pub record IsRepeated (b : Shelf) (before after : List Accepted) (c : Command) (t u : Moment)

@@ -1,11 +1,10 @@
 -- What the sessions of an account report, as its accepted commands tell (RFC 8506 sections 8.16 and
 -- 8.18).
-use Rattle.std.specs.Prelude.{List, [], ◌∷◌, if◌then◌else◌}
+use Rattle.std.specs.Prelude.{List, [], ◌∷◌, if◌then◌else◌, Option, Some, None}
 use Rattle.units.specs.Words.{Moment, GroupId}
 use Rattle.identifiers.specs.Words.{SessionName, AccountName}
 use Rattle.units.specs.declared.blocks.UsedPart.{UsedPart}
 use Rattle.commands.specs.declared.command.Command.{Command}
-use Rattle.commands.specs.declared.command.Command.TheVariants as command
 use Rattle.commands.specs.declared.request.Ask.{Ask}
 use Rattle.commands.specs.declared.request.Ask.TheVariants.{Initial, Update, Termination, Event}
 use Rattle.commands.specs.declared.request.Ask.TheVariants.{Refund}
@@ -16,6 +15,8 @@ use Rattle.decisions.specs.Reports.{parts_of}
 use Rattle.charging.specs.Accepted.{Accepted, concerned_by, names}
 use Rattle.charging.specs.Outcomes.{outcome}
 use Rattle.charging.specs.Served.{history, standing}
+use Rattle.charging.specs.About.{about}
+use Rattle.commands.specs.declared.request.Request.{Request}
 
 -- a session's report of a rating group: its parts tell which units were used before, on both sides
 -- of and after a tariff switch
@@ -47,17 +48,12 @@ with_ask b t s (Termination services) reports = with_services b t s services rep
 with_ask b t s (Event event) reports = reports
 with_ask b t s (Refund refund) reports = reports
 
+abbrev pub with_request : Shelf → Moment → Option Request → List Report → List Report
+with_request b t (Some r) reports = with_ask b t r.session r.ask reports
+with_request b t None reports = reports
+
 abbrev pub with_reports : Shelf → Moment → Command → List Report → List Report
-with_reports b t (command.Ccr r) reports = with_ask b t r.session r.ask reports
-with_reports b t (command.OpenAccount n) reports = reports
-with_reports b t (command.Credit c) reports = reports
-with_reports b t (command.Allow a) reports = reports
-with_reports b t (command.Bar n) reports = reports
-with_reports b t (command.Unbar n) reports = reports
-with_reports b t (command.AddVoucher v) reports = reports
-with_reports b t (command.Redeem r) reports = reports
-with_reports b t command.Sweep reports = reports
-with_reports b t (command.Balance n) reports = reports
+with_reports b t c reports = with_request b t (about c).request reports
 
 -- the reports of an account's sessions, the newest first
 abbrev pub reports_of : Shelf → AccountName → List Accepted → List Report

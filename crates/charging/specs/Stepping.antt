@@ -13,6 +13,7 @@ use Rattle.commands.specs.declared.answer.Refusal.{Refusal}
 use Rattle.commands.specs.declared.allowance.Allowance.{Allowance}
 use Rattle.commands.specs.declared.command.Command.{Command}
 use Rattle.commands.specs.declared.command.Command.TheVariants.{Bar, Unbar}
+use Rattle.commands.specs.declared.command.Content.{Content}
 use Rattle.commands.specs.declared.command.Content.TheVariants as content
 use Rattle.commands.specs.declared.command.Credit.{Credit}
 use Rattle.commands.specs.declared.request.Request.{Request}
@@ -76,6 +77,11 @@ LeavesRefused old new result = IfOk result (λ given. is_unaccepted given ≡ tr
 abbrev pub WritesAt : Shelf → Command → Moment → Tables → Tables → Type 0
 WritesAt b c t old new = (list : List Accepted) → IsInTime list → AreTables b list old →
     last_moment list ≤ t → AreTables b (with_command b list c t) new
+
+-- what is kept of a command with this content, where it has a key
+abbrev pub kept_as : Option Content → Answer → Option KeptAnswer
+kept_as None given = None
+kept_as (Some c) given = Some (record { content = c; answer = given })
 
 -- what a commit of an account makes, with the charges of a command, what is kept of it and the
 -- voucher that it redeemed

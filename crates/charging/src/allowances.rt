@@ -17,12 +17,14 @@ ghost use Rattle.charging.specs.Parts.{Leaves, PartKeeps};
 ghost use Rattle.charging.specs.Stepping.{ServesAt, WritesAt, Allows, Makes, LeavesRefused};
 
 use crate::committing::{commit, moment_on};
+use crate::refusing::refuse;
 use commands::{Allowance, AllowanceBlocks, Answer, Content, Refusal, is_kept_allowance};
 use keepers::{Keeper, KeptAnswer, Key, Loaded, StoreFault};
 use reserving::{Account, AccountFault};
 use shelves::TariffShelf;
 use std::alloc::{AllocError, Global};
 use units::Moment;
+use wire::WrittenAnswer;
 
 /// Gives an account an allowance, under a reference.
 pub(crate) fn serve_allowance<K: Keeper>(
@@ -31,7 +33,7 @@ pub(crate) fn serve_allowance<K: Keeper>(
     shelf: &TariffShelf,
     allowance: Allowance,
     moment: Moment,
-) -> Result<Answer, StoreFault>
+) -> Result<WrittenAnswer, StoreFault>
     ensures served { K.clean keeper.new →
         ServesAt shelf.now (command.Allow allowance) moment (K.content keeper.old)
         (K.content keeper.new) result }
@@ -44,22 +46,28 @@ pub(crate) fn serve_allowance<K: Keeper>(
     let kept = find_allowance(keeper, &allowance)?;
     if let Some(kept) = kept {
         let conflict = Answer::Refused(Refusal::ContentDiffers);
-        return Ok(repeated_allowance(kept, &allowance, conflict));
+        return Ok(repeated_allowance(alloc, kept, &allowance, conflict)?);
     }
     let Some(loaded) = keeper.load(shelf, &allowance.account, moment)? else {
-        return Ok(Answer::Refused(Refusal::AccountUnknown));
+        return Ok(refuse(alloc, Refusal::AccountUnknown)?);
     };
     allow_account(alloc, keeper, loaded, allowance, moment)
 }
 
 /// The answer to an allowance whose reference is kept: its first answer where it is the same one.
-fn repeated_allowance(kept: KeptAnswer, allowance: &Allowance, conflict: Answer) -> Answer
-    ensures { result ≡ repeated kept (content.Allow allowance.now) conflict }
+fn repeated_allowance(
+    alloc: Global,
+    kept: KeptAnswer,
+    allowance: &Allowance,
+    conflict: Answer,
+) -> Result<WrittenAnswer, AllocError>
+    ensures { IfOk result (λ given. given ≡
+        repeated kept (content.Allow allowance.now) conflict) }
 {
     if is_kept_allowance(&kept.content, allowance) {
-        kept.answer
+        Ok(kept.answer)
     } else {
-        conflict
+        WrittenAnswer::new(alloc, conflict)
     }
 }
 
@@ -155,16 +163,6 @@ fn add_allowance(
     }
 }
 
-/// What is kept of an allowance that made this bucket.
-fn kept_allowance(allowance: Allowance, number: u32) -> KeptAnswer
-    ensures { result ≡ record { content = content.Allow allowance; answer = answer.Bucket number } }
-{
-    KeptAnswer {
-        content: Content::Allow(allowance),
-        answer: Answer::Bucket(number),
-    }
-}
-
 /// Gives an allowance to an account that has nothing kept under the allowance's reference.
 fn allow_account<K: Keeper>(
     alloc: Global,
@@ -172,7 +170,7 @@ fn allow_account<K: Keeper>(
     mut loaded: Loaded,
     allowance: Allowance,
     moment: Moment,
-) -> Result<Answer, StoreFault>
+) -> Result<WrittenAnswer, StoreFault>
     ensures served { K.clean keeper.new → (b : Shelf) →
         IsLoad b moment allowance.account ((K.content keeper.old).rows allowance.account)
         (Some loaded.entry) → (K.content keeper.old).answers allowance.account
@@ -192,21 +190,20 @@ fn allow_account<K: Keeper>(
     let moment = moment_on(&loaded.account, moment);
     match add_allowance(&mut loaded.account, &allowance, moment) {
         Ok(Ok(number)) => {
-            let kept = kept_allowance(allowance, number);
             let given = Answer::Bucket(number);
             commit(
                 alloc,
                 keeper,
                 loaded,
                 Vec::new(alloc),
-                Some(kept),
+                Some(Content::Allow(allowance)),
                 None,
                 given,
             )
         }
         Ok(Err(refusal)) => {
             keeper.abandon(loaded);
-            Ok(Answer::Refused(refusal))
+            Ok(refuse(alloc, refusal)?)
         }
         Err(AllocError) => {
             keeper.abandon(loaded);

@@ -1,13 +1,13 @@
 //! The answers of a run.
 
-use commands::Answer;
 use keepers::StoreFault;
+use wire::WrittenAnswer;
 
 /// The answers to a list of commands, in its order, and the store fault at which it stopped.
-#[derive(Debug, Drop)]
+#[derive(Drop)]
 pub struct Run {
     /// The answers, as far as the run went.
-    pub answers: Vec<Answer>,
+    pub answers: Vec<WrittenAnswer>,
     /// Why it stopped, where it did.
     pub fault: Option<StoreFault>,
 }

@@ -11,6 +11,7 @@ ghost use Rattle.charging.specs.Parts.{Leaves, PartKeeps};
 ghost use Rattle.charging.specs.Stepping.{ServesAt, WritesAt, LeavesRefused};
 
 use crate::committing::moment_on;
+use crate::refusing::refuse;
 use buckets::{Bucket, BucketKind};
 use commands::{AccountBalance, Answer, BucketBalance, BucketBalances, BucketUnit, Refusal};
 use identifiers::AccountNumber;
@@ -19,9 +20,10 @@ use reserving::Account;
 use shelves::TariffShelf;
 use std::alloc::{AllocError, Global};
 use units::Moment;
+use wire::WrittenAnswer;
 
 /// What became of an account's money and of its allowances, as of a moment.
-#[derive(Debug, Drop)]
+#[derive(Drop)]
 pub struct AccountState {
     /// The moment.
     pub moment: Moment,
@@ -112,7 +114,7 @@ pub(crate) fn tell_balance<K: Keeper>(
     shelf: &TariffShelf,
     number: AccountNumber,
     moment: Moment,
-) -> Result<Answer, StoreFault>
+) -> Result<WrittenAnswer, StoreFault>
     ensures served { K.clean keeper.new →
         ServesAt shelf.now (command.Balance number) moment (K.content keeper.old)
         (K.content keeper.new) result }
@@ -123,10 +125,10 @@ pub(crate) fn tell_balance<K: Keeper>(
         (WritesAt shelf.now (command.Balance number) moment (K.content keeper.old)) }
 {
     let Some(state) = state_at(keeper, shelf, &number, moment)? else {
-        return Ok(Answer::Refused(Refusal::AccountUnknown));
+        return Ok(refuse(alloc, Refusal::AccountUnknown)?);
     };
     let balance = balance_of(alloc, number, &state)?;
-    Ok(Answer::Balance(balance))
+    Ok(WrittenAnswer::new(alloc, Answer::Balance(balance))?)
 }
 
 /// The balance that an account's state tells.

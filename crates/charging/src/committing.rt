@@ -3,13 +3,14 @@
 ghost use Rattle.std.specs.Prelude.{◌≡◌, ◌≤◌, max, IfOk, OnOk};
 ghost use Rattle.reserving.specs.Rows.{IsAccount};
 ghost use Rattle.charging.specs.Parts.{Leaves, PartKeeps};
-ghost use Rattle.charging.specs.Stepping.{Commits, change_of};
+ghost use Rattle.charging.specs.Stepping.{Commits, change_of, kept_as};
 
-use commands::Answer;
+use commands::{Answer, Content};
 use keepers::{Keeper, KeptAnswer, Loaded, Redeemed, StoreFault};
 use reserving::{Account, ChargeRow};
-use std::alloc::Global;
+use std::alloc::{AllocError, Global};
 use units::Moment;
+use wire::WrittenAnswer;
 
 /// The moment of a command on an account: it isn't before that of the account's last change.
 pub(crate) fn moment_on(account: &Account, moment: Moment) -> Moment
@@ -20,27 +21,55 @@ pub(crate) fn moment_on(account: &Account, moment: Moment) -> Moment
     moment.max(account.as_of())
 }
 
-/// Commits an account as it stands, with the charges that a command made, what is kept of it and
-/// the voucher that it redeemed, and gives the command's answer.
+/// What is kept of a command with this content, where it has a key.
+fn kept_as(
+    content: Option<Content>,
+    given: &WrittenAnswer,
+) -> Result<Option<KeptAnswer>, AllocError>
+    ensures { IfOk result (λ kept. kept ≡ kept_as content given.now) }
+{
+    match content {
+        None => Ok(None),
+        Some(content) => Ok(Some(KeptAnswer {
+            content,
+            answer: given.copy()?,
+        })),
+    }
+}
+
+/// Commits an account as it stands, with the charges that a command made, its content where it is
+/// kept and the voucher that it redeemed, and gives the command's answer. The answer's text is made
+/// before: where its growth is refused nothing has changed.
 pub(crate) fn commit<K: Keeper>(
     alloc: Global,
     keeper: &mut K,
     loaded: Loaded,
     charges: Vec<ChargeRow>,
-    kept: Option<KeptAnswer>,
+    content: Option<Content>,
     redeemed: Option<Redeemed>,
     answer: Answer,
-) -> Result<Answer, StoreFault>
+) -> Result<WrittenAnswer, StoreFault>
     ensures done { K.clean keeper.new → IfOk result (λ given. (given ≡ answer)
-        × Commits (change_of loaded.entry charges kept redeemed) (K.content keeper.old)
-        (K.content keeper.new)) }
+        × Commits (change_of loaded.entry charges (kept_as content answer) redeemed)
+        (K.content keeper.old) (K.content keeper.new)) }
     ensures account { IsAccount loaded.entry.account }
     ensures kept { PartKeeps K.content K.failed K.honest K.clean keeper.old keeper.new result }
     ensures left { Leaves K.honest K.left keeper.old keeper.new
-        (Commits (change_of loaded.entry charges kept redeemed) (K.content keeper.old)) }
+        (Commits (change_of loaded.entry charges (kept_as content answer) redeemed)
+        (K.content keeper.old)) }
 {
+    // For the prover alone: the call makes known here what each account keeps.
+    let _moment = loaded.account.as_of();
+    let Ok(given) = WrittenAnswer::new(alloc, answer) else {
+        keeper.abandon(loaded);
+        return Err(StoreFault::Memory);
+    };
+    let Ok(kept) = kept_as(content, &given) else {
+        keeper.abandon(loaded);
+        return Err(StoreFault::Memory);
+    };
     commit_change(alloc, keeper, loaded, charges, kept, redeemed)?;
-    Ok(answer)
+    Ok(given)
 }
 
 /// Commits an account as it stands: the rows alone that differ from those loaded.

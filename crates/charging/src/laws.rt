@@ -1,12 +1,9 @@
 //! Laws of the definitions by which commands are answered: functions that do nothing.
 
-ghost use Rattle.std.specs.Prelude.{◌≡◌, ℕ, List, []};
-ghost use Rattle.shelves.specs.Shelves.{Shelf, IsShelf};
-ghost use Rattle.buckets.specs.declared.kind.BucketKind.{BucketKind};
-ghost use Rattle.reserving.specs.Pricing.{validity_of};
-ghost use Rattle.reserving.specs.SoundLedger.{IsSoundLedger};
+ghost use Rattle.std.specs.Prelude.{[]};
+ghost use Rattle.shelves.specs.Shelves.{Shelf};
 ghost use Rattle.keepers.specs.Tables.{no_tables};
-ghost use Rattle.charging.specs.Accepted.{Accepted, IsInTime};
+ghost use Rattle.charging.specs.Accepted.{IsInTime};
 ghost use Rattle.charging.specs.Runs.{IsRunOfBoth};
 ghost use Rattle.charging.specs.DeadRows.{DeadRowsStay};
 ghost use Rattle.charging.specs.Opening.{SessionsOpenByGrants};
@@ -16,17 +13,13 @@ ghost use Rattle.charging.specs.PartedRows.{RowsAreParted, NewSessionsAreNotLeft
 ghost use Rattle.charging.specs.OpenGrants.{GrantsAreOne};
 ghost use Rattle.charging.specs.BoundedCharges.{ChargesAreBounded};
 ghost use Rattle.charging.specs.SharesTold.{ChargesAreShares, HoldsAreShares};
-ghost use Rattle.charging.specs.RedeemedCodes.{IsLeftByThese, AreRedeemedOnce};
+ghost use Rattle.charging.specs.RedeemedCodes.{IsLeftByThese};
 ghost use Rattle.charging.specs.RedeemedCodes.{IsRedeemedAtMostOnce};
 ghost use Rattle.charging.specs.Served.{history, AreTables};
-ghost use Rattle.charging.specs.SessionReports.{reports_of};
-ghost use Rattle.charging.specs.Paid.{ArePaid};
 ghost use Rattle.charging.specs.Allowed.{ReportsAreCovered, EventsAreCovered};
-ghost use Rattle.charging.specs.Collected.{taken_to_date, charged_to_date};
-ghost use Rattle.charging.specs.Quotas.{AreQuotasPaid};
 ghost use Rattle.charging.specs.Repeats.{AnswersOnce};
-ghost use Rattle.charging.specs.declared.running.DatedCommand.{DatedCommand};
-ghost use Rattle.charging.specs.Isolation.{HasOwnCodes, IsIsolated};
+ghost use Rattle.charging.specs.Laws.{AccountsAreIsolated, CodesAreRedeemedOnce, LedgersAreSound};
+ghost use Rattle.charging.specs.Laws.{QuotasArePaid, ReportsArePaid, TakenIsCharged};
 
 /// Before any command the tables are empty: those of `MemoryKeeper::new`, with which a first call
 /// can begin.
@@ -46,8 +39,7 @@ pub fn runs_chain()
 /// record was neither closed nor has anything held or granted, and nothing is charged or held of a
 /// bucket that isn't made yet (profile).
 pub fn soundness()
-    ensures { (b : Shelf) (a : List ℕ) (list : List Accepted) →
-        IsSoundLedger (history b a list).ledger }
+    ensures { LedgersAreSound }
 {}
 
 /// Each reservation that accepted commands leave has its prices on the shelf by which they were
@@ -102,8 +94,7 @@ pub fn sessions_open_by_grants()
 /// account balance management function). The reports are those of the accepted updates and
 /// terminations, in their order, each priced by the parts that it names.
 pub fn payment()
-    ensures { (b : Shelf) (a : List ℕ) (list : List Accepted) →
-        ArePaid b (reports_of b a list) (history b a list).ledger }
+    ensures { ReportsArePaid }
 {}
 
 /// Allowances before money: a report's price, and an event's, is due only where all blocks are
@@ -118,17 +109,14 @@ pub fn allowances_before_money()
 /// group's counter is collected whole, whatever stood between: the blocks and the money that were
 /// held for it pay for it (TS 32.299, session charging with unit reservation).
 pub fn quota()
-    ensures { (b : Shelf) → IsShelf b → (a : List ℕ) (list : List Accepted) →
-        AreQuotasPaid b (history b a list).ledger }
+    ensures { QuotasArePaid }
 {}
 
 /// To date: what was collected by all charges of an account is what its buckets of money together
 /// show as charged, and the blocks that they covered are what its allowances show, at any moment
 /// (TS 32.296, account balance management function).
 pub fn collection()
-    ensures { (kind : BucketKind) (b : Shelf) (a : List ℕ) (list : List Accepted) (t : ℕ) →
-        taken_to_date kind (history b a list).ledger ≡
-        charged_to_date kind (validity_of b) t (history b a list).ledger }
+    ensures { TakenIsCharged }
 {}
 
 /// The charges of an account are within bounds: each starts no more blocks than a counter counts,
@@ -158,8 +146,7 @@ pub fn repeats()
 /// redemptions leave of it (profile).
 pub fn codes_redeemed_once()
     ensures left { IsLeftByThese }
-    ensures more { (shelf : Shelf) (code : List ℕ) (list : List Accepted)
-        (commands : List DatedCommand) → AreRedeemedOnce shelf code list commands }
+    ensures more { CodesAreRedeemedOnce }
     ensures once { IsRedeemedAtMostOnce }
 {}
 
@@ -169,6 +156,5 @@ pub fn codes_redeemed_once()
 /// code of one. Others and sweeps reach it through the moments of its commands, and where moments
 /// never fall not at all (profile).
 pub fn isolation()
-    ensures { (shelf : Shelf) → IsShelf shelf → (account : List ℕ) (commands : List DatedCommand) →
-        HasOwnCodes account commands → IsIsolated shelf account commands }
+    ensures { AccountsAreIsolated }
 {}

@@ -9,6 +9,7 @@ mod balances;
 mod committing;
 mod laws;
 mod operators;
+mod refusing;
 mod repetition;
 mod requests;
 mod running;

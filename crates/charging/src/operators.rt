@@ -18,6 +18,7 @@ ghost use Rattle.charging.specs.Stepping.{ServesAt, WritesAt, Credits, Makes, ba
 ghost use Rattle.charging.specs.Stepping.{LeavesRefused};
 
 use crate::committing::{commit, moment_on};
+use crate::refusing::refuse;
 use commands::{Answer, Content, Credit, KeptCredit, Refusal, is_kept_credit};
 use identifiers::AccountNumber;
 use keepers::{Keeper, KeptAnswer, Key, Loaded, StoreFault};
@@ -25,6 +26,7 @@ use reserving::{Account, AccountFault};
 use shelves::TariffShelf;
 use std::alloc::{AllocError, Global};
 use units::{Moment, Money};
+use wire::{AnswerRoom, WrittenAnswer};
 
 /// Opens an account.
 pub(crate) fn open_account<K: Keeper>(
@@ -33,7 +35,7 @@ pub(crate) fn open_account<K: Keeper>(
     shelf: &TariffShelf,
     number: AccountNumber,
     moment: Moment,
-) -> Result<Answer, StoreFault>
+) -> Result<WrittenAnswer, StoreFault>
     ensures served { K.clean keeper.new →
         ServesAt shelf.now (command.OpenAccount number) moment (K.content keeper.old)
         (K.content keeper.new) result }
@@ -44,7 +46,7 @@ pub(crate) fn open_account<K: Keeper>(
         (WritesAt shelf.now (command.OpenAccount number) moment (K.content keeper.old)) }
 {
     if keeper.has_account(&number)? {
-        return Ok(Answer::Refused(Refusal::AccountExists));
+        return Ok(refuse(alloc, Refusal::AccountExists)?);
     }
     let before = Account::new(alloc, shelf).into_stored();
     let mut account = Account::new(alloc, shelf);
@@ -73,7 +75,7 @@ pub(crate) fn set_barred<K: Keeper>(
     number: AccountNumber,
     barred: bool,
     moment: Moment,
-) -> Result<Answer, StoreFault>
+) -> Result<WrittenAnswer, StoreFault>
     ensures served { K.clean keeper.new →
         ServesAt shelf.now (bar_command number barred) moment (K.content keeper.old)
         (K.content keeper.new) result }
@@ -84,7 +86,7 @@ pub(crate) fn set_barred<K: Keeper>(
         (WritesAt shelf.now (bar_command number barred) moment (K.content keeper.old)) }
 {
     let Some(mut loaded) = keeper.load(shelf, &number, moment)? else {
-        return Ok(Answer::Refused(Refusal::AccountUnknown));
+        return Ok(refuse(alloc, Refusal::AccountUnknown)?);
     };
     let moment = moment_on(&loaded.account, moment);
     loaded.account.set_barred(barred, moment);
@@ -101,10 +103,11 @@ pub(crate) fn set_barred<K: Keeper>(
 
 /// Brings each account to the moment.
 pub(crate) fn sweep<K: Keeper>(
+    alloc: Global,
     keeper: &mut K,
     shelf: &TariffShelf,
     moment: Moment,
-) -> Result<Answer, StoreFault>
+) -> Result<WrittenAnswer, StoreFault>
     ensures served { K.clean keeper.new →
         ServesAt shelf.now command.Sweep moment (K.content keeper.old)
         (K.content keeper.new) result }
@@ -114,8 +117,9 @@ pub(crate) fn sweep<K: Keeper>(
     ensures left { Leaves K.honest K.left keeper.old keeper.new
         (WritesAt shelf.now command.Sweep moment (K.content keeper.old)) }
 {
+    let room = AnswerRoom::new(alloc)?;
     let count = keeper.sweep(shelf, moment)?;
-    Ok(Answer::Swept(count))
+    Ok(room.swept(count))
 }
 
 /// Credits an account, under a reference.
@@ -125,7 +129,7 @@ pub(crate) fn serve_credit<K: Keeper>(
     shelf: &TariffShelf,
     credit: Credit,
     moment: Moment,
-) -> Result<Answer, StoreFault>
+) -> Result<WrittenAnswer, StoreFault>
     ensures served { K.clean keeper.new →
         ServesAt shelf.now (command.Credit credit) moment (K.content keeper.old)
         (K.content keeper.new) result }
@@ -138,22 +142,28 @@ pub(crate) fn serve_credit<K: Keeper>(
     let kept = find_credit(keeper, &credit)?;
     if let Some(kept) = kept {
         let conflict = Answer::Refused(Refusal::ContentDiffers);
-        return Ok(repeated_credit(kept, &credit, conflict));
+        return Ok(repeated_credit(alloc, kept, &credit, conflict)?);
     }
     let Some(loaded) = keeper.load(shelf, &credit.account, moment)? else {
-        return Ok(Answer::Refused(Refusal::AccountUnknown));
+        return Ok(refuse(alloc, Refusal::AccountUnknown)?);
     };
     credit_account(alloc, keeper, loaded, credit, moment)
 }
 
 /// The answer to a credit whose reference is kept: its first answer where it is the same credit.
-fn repeated_credit(kept: KeptAnswer, credit: &Credit, conflict: Answer) -> Answer
-    ensures { result ≡ repeated kept (content.Credit credit.now) conflict }
+fn repeated_credit(
+    alloc: Global,
+    kept: KeptAnswer,
+    credit: &Credit,
+    conflict: Answer,
+) -> Result<WrittenAnswer, AllocError>
+    ensures { IfOk result (λ given. given ≡
+        repeated kept (content.Credit credit.now) conflict) }
 {
     if is_kept_credit(&kept.content, credit) {
-        kept.answer
+        Ok(kept.answer)
     } else {
-        conflict
+        WrittenAnswer::new(alloc, conflict)
     }
 }
 
@@ -223,15 +233,12 @@ fn add_bucket(
     make_bucket(account, from, until, credit.scope, credit.amount, moment)
 }
 
-/// What is kept of a credit that made this bucket.
-fn kept_credit(credit: Credit, number: u32) -> KeptAnswer
+/// What is kept of a credit.
+fn kept_credit(credit: Credit) -> Content
     requires { IsTrue (is_kept credit) }
-    ensures { result ≡ record { content = content.Credit credit; answer = answer.Bucket number } }
+    ensures { result ≡ content.Credit credit }
 {
-    KeptAnswer {
-        content: Content::Credit(KeptCredit::new(credit)),
-        answer: Answer::Bucket(number),
-    }
+    Content::Credit(KeptCredit::new(credit))
 }
 
 /// Credits an account that has nothing kept under the credit's reference.
@@ -241,7 +248,7 @@ fn credit_account<K: Keeper>(
     mut loaded: Loaded,
     credit: Credit,
     moment: Moment,
-) -> Result<Answer, StoreFault>
+) -> Result<WrittenAnswer, StoreFault>
     ensures served { K.clean keeper.new → (b : Shelf) →
         IsLoad b moment credit.account ((K.content keeper.old).rows credit.account)
         (Some loaded.entry) → (K.content keeper.old).answers credit.account
@@ -261,7 +268,7 @@ fn credit_account<K: Keeper>(
     let moment = moment_on(&loaded.account, moment);
     match add_bucket(&mut loaded.account, &credit, moment) {
         Ok(Some(number)) => {
-            let kept = kept_credit(credit, number);
+            let kept = kept_credit(credit);
             let given = Answer::Bucket(number);
             commit(
                 alloc,
@@ -275,7 +282,7 @@ fn credit_account<K: Keeper>(
         }
         Ok(None) => {
             keeper.abandon(loaded);
-            Ok(Answer::Refused(Refusal::OutOfRange))
+            Ok(refuse(alloc, Refusal::OutOfRange)?)
         }
         Err(AllocError) => {
             keeper.abandon(loaded);

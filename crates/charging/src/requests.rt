@@ -18,10 +18,11 @@ use crate::committing::{commit, moment_on};
 use crate::repetition::repeated;
 use commands::{Answer, Avp, Content, Failure, Outcome, Request, RequestAnswer};
 use decisions::{Decided, begins_session, decide, is_read, read};
-use keepers::{Keeper, KeptAnswer, Key, Loaded, StoreFault, copy_answer};
+use keepers::{Keeper, KeptAnswer, Key, Loaded, StoreFault};
 use shelves::TariffShelf;
 use std::alloc::{AllocError, Global};
 use units::Moment;
+use wire::WrittenAnswer;
 
 /// Answers a request: that of an unknown account, a repeat, or one that is decided.
 pub(crate) fn serve_request<K: Keeper>(
@@ -30,7 +31,7 @@ pub(crate) fn serve_request<K: Keeper>(
     shelf: &TariffShelf,
     request: Request,
     moment: Moment,
-) -> Result<Answer, StoreFault>
+) -> Result<WrittenAnswer, StoreFault>
     ensures served { K.clean keeper.new →
         ServesAt shelf.now (Ccr request) moment (K.content keeper.old)
         (K.content keeper.new) result }
@@ -42,17 +43,17 @@ pub(crate) fn serve_request<K: Keeper>(
 {
     let kept = find_kept(keeper, &request)?;
     if let Some(kept) = kept {
-        return Ok(repeat(kept, request)?);
+        return Ok(repeat(alloc, kept, request)?);
     }
-    let read = answer_read(keeper, shelf, &request, moment)?;
+    let read = answer_read(alloc, keeper, shelf, &request, moment)?;
     if let Some(answer) = read {
         return Ok(answer);
     }
     if is_known(keeper, &request)? {
-        return Ok(failed(&request, Failure::InvalidAvpValue(Avp::SessionId))?);
+        return Ok(tell_failed(alloc, &request, Failure::InvalidAvpValue(Avp::SessionId))?);
     }
     let Some(loaded) = keeper.load(shelf, &request.account, moment)? else {
-        return Ok(failed(&request, Failure::UserUnknown)?);
+        return Ok(tell_failed(alloc, &request, Failure::UserUnknown)?);
     };
     decide_on(alloc, keeper, loaded, request, moment)
 }
@@ -97,22 +98,35 @@ fn failed(request: &Request, failure: Failure) -> Result<Answer, AllocError>
     }))
 }
 
+/// The same with its text.
+fn tell_failed(
+    alloc: Global,
+    request: &Request,
+    failure: Failure,
+) -> Result<WrittenAnswer, AllocError>
+    ensures { IfOk result (λ given. given ≡ failed request.now failure) }
+{
+    let answer = failed(request, failure)?;
+    WrittenAnswer::new(alloc, answer)
+}
+
 /// The answer to a request whose key is kept: its first answer where it is the same request.
-fn repeat(kept: KeptAnswer, request: Request) -> Result<Answer, AllocError>
+fn repeat(alloc: Global, kept: KeptAnswer, request: Request) -> Result<WrittenAnswer, AllocError>
     ensures { IfOk result (λ given. given ≡
         repeated kept (content.Request request) (failed request (InvalidAvpValue RequestNumber))) }
 {
     let conflict = failed(&request, Failure::InvalidAvpValue(Avp::RequestNumber))?;
-    Ok(repeated(kept, &Content::Request(request), conflict))
+    repeated(alloc, kept, &Content::Request(request), conflict)
 }
 
 /// The answer to a check or an enquiry, by the account as it stands; None: the request is neither.
 fn answer_read<K: Keeper>(
+    alloc: Global,
     keeper: &mut K,
     shelf: &TariffShelf,
     request: &Request,
     moment: Moment,
-) -> Result<Option<Answer>, StoreFault>
+) -> Result<Option<WrittenAnswer>, StoreFault>
     ensures served { K.clean keeper.new →
         IfOk result (λ o. IfSome o (λ given.
         Answers shelf.now (Ccr request.now) moment (K.content keeper.old)
@@ -125,11 +139,11 @@ fn answer_read<K: Keeper>(
         return Ok(None);
     }
     let Some(account) = keeper.view(shelf, &request.account, moment)? else {
-        return Ok(Some(failed(request, Failure::UserUnknown)?));
+        return Ok(Some(tell_failed(alloc, request, Failure::UserUnknown)?));
     };
     let now = moment_on(&account, moment);
     match read(&account, request, now)? {
-        Some(answer) => Ok(Some(Answer::Request(answer))),
+        Some(answer) => Ok(Some(WrittenAnswer::new(alloc, Answer::Request(answer))?)),
         None => Ok(None),
     }
 }
@@ -141,7 +155,7 @@ fn decide_on<K: Keeper>(
     mut loaded: Loaded,
     request: Request,
     moment: Moment,
-) -> Result<Answer, StoreFault>
+) -> Result<WrittenAnswer, StoreFault>
     ensures served { K.clean keeper.new → (b : Shelf) →
         IsLoad b moment request.account ((K.content keeper.old).rows request.account)
         (Some loaded.entry) →
@@ -164,7 +178,7 @@ fn decide_on<K: Keeper>(
         Ok(decided) if decided.accepted => keep(alloc, keeper, loaded, decided, request),
         Ok(decided) => {
             keeper.abandon(loaded);
-            Ok(Answer::Request(decided.answer))
+            Ok(WrittenAnswer::new(alloc, Answer::Request(decided.answer))?)
         }
         Err(AllocError) => {
             keeper.abandon(loaded);
@@ -180,7 +194,7 @@ fn keep<K: Keeper>(
     loaded: Loaded,
     decided: Decided,
     request: Request,
-) -> Result<Answer, StoreFault>
+) -> Result<WrittenAnswer, StoreFault>
     ensures done { K.clean keeper.new →
         IfOk result (λ given. (given ≡ answer.Request decided.answer)
         × Commits (change_of loaded.entry decided.charges (Some (record {
@@ -194,22 +208,13 @@ fn keep<K: Keeper>(
           answer = answer.Request decided.answer;
         })) None) (K.content keeper.old)) }
 {
-    let answer = Answer::Request(decided.answer);
-    let Ok(copy) = copy_answer(&answer) else {
-        keeper.abandon(loaded);
-        return Err(StoreFault::Memory);
-    };
-    let kept = KeptAnswer {
-        content: Content::Request(request),
-        answer,
-    };
     commit(
         alloc,
         keeper,
         loaded,
         decided.charges,
-        Some(kept),
+        Some(Content::Request(request)),
         None,
-        copy,
+        Answer::Request(decided.answer),
     )
 }

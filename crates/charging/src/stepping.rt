@@ -1,50 +1,40 @@
 //! One command, answered and committed.
 
-ghost use Rattle.keepers.specs.Faults.{HasCause};
-ghost use Rattle.std.specs.Prelude.{◌≡◌, IfOk, OnErr, OnOk, max};
+ghost use Rattle.std.specs.Prelude.{◌≡◌, OnOk, max};
 ghost use Rattle.charging.specs.Parts.{Leaves, PartKeeps};
-ghost use Rattle.charging.specs.Repeats.{IsAnsweredAgain};
 ghost use Rattle.charging.specs.Served.{Serves, Writes};
 ghost use Rattle.charging.specs.Stepping.{ServesAt, WritesAt, LeavesRefused};
+ghost use Rattle.charging.specs.Stepped.{StepsOver};
 
 use crate::allowances::serve_allowance;
 use crate::balances::tell_balance;
 use crate::operators::{open_account, serve_credit, set_barred, sweep};
 use crate::requests::serve_request;
 use crate::voucher_commands::{add_voucher, serve_redemption};
-use commands::{Answer, Command};
+use commands::Command;
 use keepers::{Keeper, StoreFault};
 use shelves::TariffShelf;
 use std::alloc::Global;
 use units::Moment;
+use wire::WrittenAnswer;
 
 /// Answers a command, and commits it where it is accepted, at the later of this moment and that of
 /// the last accepted command. A repeat gets its first answer and changes nothing; neither does a
-/// read or a refused command, whatever the keeper holds.
+/// read or a refused command, whatever the keeper holds. The answer's text is made before anything
+/// is committed.
 ///
 /// # Errors
-/// Store fault 1 where a growth was refused, 2 where the store failed. Then nothing has changed.
+/// Store fault 1 where a growth was refused, also for the answer's text, 2 where the store failed.
+/// Then nothing has changed.
 pub fn step<K: Keeper>(
     alloc: Global,
     keeper: &mut K,
     shelf: &TariffShelf,
     command: Command,
     moment: Moment,
-) -> Result<Answer, StoreFault>
-    ensures served { K.clean keeper.new →
-        Serves shelf.now command moment (K.content keeper.old) (K.content keeper.new) result }
-    ensures refused { K.clean keeper.new → LeavesRefused (K.content keeper.old)
-        (K.content keeper.new) result }
-    ensures err { K.clean keeper.new → OnErr result (K.content keeper.new ≡ K.content keeper.old) }
-    ensures cleanness { K.clean keeper.new → K.clean keeper.old }
-    ensures honesty { K.honest keeper.new → K.honest keeper.old }
-    ensures stands { K.honest keeper.new → OnOk result (K.clean keeper.new) }
-    ensures left { Leaves K.honest K.left keeper.old keeper.new (λ t. K.clean keeper.old
-        × Writes shelf.now command moment (K.content keeper.old) t) }
-    ensures cause { HasCause (K.failed keeper.old) (K.failed keeper.new) result }
-    ensures again { K.clean keeper.new →
-        IfOk result (IsAnsweredAgain shelf.now command (K.content keeper.old)
-        (K.content keeper.new)) }
+) -> Result<WrittenAnswer, StoreFault>
+    ensures { StepsOver K.content K.failed K.honest K.clean K.left shelf.now command moment
+        keeper.old keeper.new result }
 {
     serve(alloc, keeper, shelf, command, moment)
 }
@@ -56,7 +46,7 @@ fn serve<K: Keeper>(
     shelf: &TariffShelf,
     command: Command,
     moment: Moment,
-) -> Result<Answer, StoreFault>
+) -> Result<WrittenAnswer, StoreFault>
     ensures served { K.clean keeper.new →
         Serves shelf.now command moment (K.content keeper.old) (K.content keeper.new) result }
     ensures refused { K.clean keeper.new → LeavesRefused (K.content keeper.old)
@@ -85,7 +75,7 @@ fn serve_at<K: Keeper>(
     shelf: &TariffShelf,
     command: Command,
     moment: Moment,
-) -> Result<Answer, StoreFault>
+) -> Result<WrittenAnswer, StoreFault>
     ensures served { K.clean keeper.new →
         ServesAt shelf.now command moment (K.content keeper.old) (K.content keeper.new) result }
     ensures refused { K.clean keeper.new → LeavesRefused (K.content keeper.old)
@@ -101,9 +91,9 @@ fn serve_at<K: Keeper>(
         Command::Allow(allowance) => serve_allowance(alloc, keeper, shelf, allowance, moment),
         Command::Bar(number) => set_barred(alloc, keeper, shelf, number, true, moment),
         Command::Unbar(number) => set_barred(alloc, keeper, shelf, number, false, moment),
-        Command::AddVoucher(addition) => add_voucher(keeper, addition, moment),
+        Command::AddVoucher(addition) => add_voucher(alloc, keeper, addition, moment),
         Command::Redeem(asked) => serve_redemption(alloc, keeper, shelf, asked, moment),
-        Command::Sweep => sweep(keeper, shelf, moment),
+        Command::Sweep => sweep(alloc, keeper, shelf, moment),
         Command::Balance(number) => tell_balance(alloc, keeper, shelf, number, moment),
     }
 }

@@ -15,6 +15,7 @@ ghost use Rattle.charging.specs.Stepping.{ServesAt, WritesAt, LeavesRefused};
 
 use crate::committing::{commit, moment_on};
 use crate::operators::make_bucket;
+use crate::refusing::refuse;
 use commands::{Answer, Content, Refusal, VoucherAddition, VoucherRedemption, is_kept_redemption};
 use identifiers::VoucherCode;
 use keepers::{Keeper, KeptAnswer, Key, Loaded, Redeemed, StoreFault};
@@ -22,6 +23,7 @@ use shelves::TariffShelf;
 use std::alloc::{AllocError, Global};
 use units::Moment;
 use voucher_rules::{Addition, CivilDays, RedeemRefusal, Redemption, Voucher, add, redeem};
+use wire::WrittenAnswer;
 
 /// The civil days by the calendar of the book at a moment.
 #[derive(Drop)]
@@ -41,10 +43,11 @@ impl CivilDays for BookDays<'_> {
 
 /// Adds a voucher. It concerns no account.
 pub(crate) fn add_voucher<K: Keeper>(
+    alloc: Global,
     keeper: &mut K,
     addition: VoucherAddition,
     moment: Moment,
-) -> Result<Answer, StoreFault>
+) -> Result<WrittenAnswer, StoreFault>
     ensures served { K.clean keeper.new → (b : Shelf) →
         ServesAt b (command.AddVoucher addition) moment (K.content keeper.old)
         (K.content keeper.new) result }
@@ -56,13 +59,14 @@ pub(crate) fn add_voucher<K: Keeper>(
         WritesAt b (command.AddVoucher addition) moment (K.content keeper.old) t) }
 {
     let found = keeper.find_voucher(&addition.code)?;
+    let done = WrittenAnswer::new(alloc, Answer::Done)?;
     match add(&found, addition.terms) {
         Addition::New(_) => {
             keeper.add_voucher(addition.code, addition.terms, moment)?;
-            Ok(Answer::Done)
+            Ok(done)
         }
-        Addition::Present => Ok(Answer::Done),
-        Addition::Conflicting => Ok(Answer::Refused(Refusal::ContentDiffers)),
+        Addition::Present => Ok(done),
+        Addition::Conflicting => Ok(refuse(alloc, Refusal::ContentDiffers)?),
     }
 }
 
@@ -73,7 +77,7 @@ pub(crate) fn serve_redemption<K: Keeper>(
     shelf: &TariffShelf,
     asked: VoucherRedemption,
     moment: Moment,
-) -> Result<Answer, StoreFault>
+) -> Result<WrittenAnswer, StoreFault>
     ensures served { K.clean keeper.new →
         ServesAt shelf.now (command.Redeem asked) moment (K.content keeper.old)
         (K.content keeper.new) result }
@@ -86,31 +90,37 @@ pub(crate) fn serve_redemption<K: Keeper>(
     let kept = find_redemption(keeper, &asked)?;
     if let Some(kept) = kept {
         let conflict = Answer::Refused(Refusal::ContentDiffers);
-        return Ok(repeated_redemption(kept, &asked, conflict));
+        return Ok(repeated_redemption(alloc, kept, &asked, conflict)?);
     }
     let found = keeper.find_voucher(&asked.code)?;
     let redeemed = redeem_by(shelf, found, &asked, moment)?;
     let code = asked.code.clone()?;
     let Some(loaded) = keeper.load(shelf, &asked.account, moment)? else {
-        return Ok(Answer::Refused(Refusal::AccountUnknown));
+        return Ok(refuse(alloc, Refusal::AccountUnknown)?);
     };
     match redeemed {
         Ok(redeemed) => credit_redeemed(alloc, keeper, loaded, asked, code, redeemed, moment),
         Err(refusal) => {
             keeper.abandon(loaded);
-            Ok(Answer::Refused(told_refusal(refusal)))
+            Ok(refuse(alloc, told_refusal(refusal))?)
         }
     }
 }
 
 /// The answer to a redemption whose reference is kept: its first answer where it is the same one.
-fn repeated_redemption(kept: KeptAnswer, asked: &VoucherRedemption, conflict: Answer) -> Answer
-    ensures { result ≡ repeated kept (content.Redeem asked.now) conflict }
+fn repeated_redemption(
+    alloc: Global,
+    kept: KeptAnswer,
+    asked: &VoucherRedemption,
+    conflict: Answer,
+) -> Result<WrittenAnswer, AllocError>
+    ensures { IfOk result (λ given. given ≡
+        repeated kept (content.Redeem asked.now) conflict) }
 {
     if is_kept_redemption(&kept.content, asked) {
-        kept.answer
+        Ok(kept.answer)
     } else {
-        conflict
+        WrittenAnswer::new(alloc, conflict)
     }
 }
 
@@ -154,16 +164,6 @@ fn told_refusal(refusal: RedeemRefusal) -> Refusal
     }
 }
 
-/// What is kept of a redemption that made this bucket.
-fn kept_redemption(asked: VoucherRedemption, number: u32) -> KeptAnswer
-    ensures { result ≡ record { content = content.Redeem asked; answer = answer.Bucket number } }
-{
-    KeptAnswer {
-        content: Content::Redeem(asked),
-        answer: Answer::Bucket(number),
-    }
-}
-
 /// Credits an account with what it redeemed, and keeps the voucher as spent, under this code.
 fn credit_redeemed<K: Keeper>(
     alloc: Global,
@@ -173,7 +173,7 @@ fn credit_redeemed<K: Keeper>(
     code: VoucherCode,
     redeemed: Redemption,
     moment: Moment,
-) -> Result<Answer, StoreFault>
+) -> Result<WrittenAnswer, StoreFault>
     ensures served { K.clean keeper.new → (b : Shelf) →
         IsLoad b moment asked.account ((K.content keeper.old).rows asked.account)
         (Some loaded.entry) → (K.content keeper.old).answers asked.account
@@ -204,7 +204,6 @@ fn credit_redeemed<K: Keeper>(
     } = redeemed;
     match make_bucket(&mut loaded.account, from, until, scope, amount, moment) {
         Ok(Some(number)) => {
-            let kept = kept_redemption(asked, number);
             let spent = Redeemed { code, voucher };
             let given = Answer::Bucket(number);
             commit(
@@ -212,14 +211,14 @@ fn credit_redeemed<K: Keeper>(
                 keeper,
                 loaded,
                 Vec::new(alloc),
-                Some(kept),
+                Some(Content::Redeem(asked)),
                 Some(spent),
                 given,
             )
         }
         Ok(None) => {
             keeper.abandon(loaded);
-            Ok(Answer::Refused(Refusal::OutOfRange))
+            Ok(refuse(alloc, Refusal::OutOfRange)?)
         }
         Err(AllocError) => {
             keeper.abandon(loaded);

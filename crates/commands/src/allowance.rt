@@ -52,7 +52,7 @@ impl AllowanceBlocks {
 
 /// An allowance by an operator: a new bucket of blocks for the account (TS 32.296, account balance
 /// management function).
-#[derive(Clone, Debug, Drop, PartialEq, Eq)]
+#[derive(Clone, Debug, PartialEq, Eq)]
 pub struct Allowance {
     /// The account that gets the bucket.
     pub account: AccountNumber,
@@ -67,6 +67,20 @@ pub struct Allowance {
     /// The operator's name for it: an allowance with the same reference is a repeat. Credits and
     /// redemptions have their references among the same names.
     pub reference: Reference,
+}
+
+// It is written out, so that a caller doesn't prove again how each part is dropped.
+impl Drop for Allowance {
+    fn drop(self) {
+        let Allowance {
+            account: _,
+            blocks: _,
+            from: _,
+            until: _,
+            scope: _,
+            reference: _,
+        } = self;
+    }
 }
 
 impl Allowance {

@@ -16,7 +16,7 @@ use std::marker::Model;
 use units::Moment;
 
 /// What happens when the granted units are used up (Final-Unit-Indication, RFC 8506 section 8.34).
-#[derive(Clone, Debug, Drop)]
+#[derive(Clone, Debug)]
 pub enum FinalUnit {
     /// TERMINATE: the service ends.
     Terminate,
@@ -24,8 +24,18 @@ pub enum FinalUnit {
     Redirect(RedirectAddress),
 }
 
+// It is written out, so that a caller doesn't prove again how each part is dropped.
+impl Drop for FinalUnit {
+    fn drop(self) {
+        match self {
+            FinalUnit::Terminate => {}
+            FinalUnit::Redirect(_) => {}
+        }
+    }
+}
+
 /// Units granted to a service of a session (Granted-Service-Unit, RFC 8506 section 8.17).
-#[derive(Clone, Debug, Drop)]
+#[derive(Clone, Debug)]
 pub struct Granted {
     /// How much is granted: CC-Time, CC-Total-Octets or CC-Service-Specific-Units.
     pub quantity: Quantity,
@@ -37,8 +47,20 @@ pub struct Granted {
     pub last: Option<FinalUnit>,
 }
 
+// It is written out, so that a caller doesn't prove again how each part is dropped.
+impl Drop for Granted {
+    fn drop(self) {
+        let Granted {
+            quantity: _,
+            switch: _,
+            validity: _,
+            last: _,
+        } = self;
+    }
+}
+
 /// Why a service isn't granted units.
-#[derive(Clone, Copy, Debug, PartialEq, Eq)]
+#[derive(Clone, Copy, Debug)]
 pub enum ServiceFailure {
     /// 4010, DIAMETER_END_USER_SERVICE_DENIED: the account is barred.
     EndUserServiceDenied,
@@ -82,7 +104,7 @@ impl ServiceFailure {
 }
 
 /// What a service is answered; the first three are 2001, DIAMETER_SUCCESS.
-#[derive(Clone, Debug, Drop)]
+#[derive(Clone, Debug)]
 pub enum ServiceOutcome {
     /// Nothing was asked for.
     Settled,
@@ -94,8 +116,20 @@ pub enum ServiceOutcome {
     Failed(ServiceFailure),
 }
 
+// It is written out, so that a caller doesn't prove again how each part is dropped.
+impl Drop for ServiceOutcome {
+    fn drop(self) {
+        match self {
+            ServiceOutcome::Settled => {}
+            ServiceOutcome::Granted(_) => {}
+            ServiceOutcome::Debited(_) => {}
+            ServiceOutcome::Failed(_) => {}
+        }
+    }
+}
+
 /// The answer to a service of a request.
-#[derive(Clone, Debug, Drop)]
+#[derive(Clone, Debug)]
 pub struct ServiceAnswer {
     /// Rating-Group (RFC 8506 section 8.29).
     pub group: u32,
@@ -103,12 +137,29 @@ pub struct ServiceAnswer {
     pub outcome: ServiceOutcome,
 }
 
+// It is written out, so that a caller doesn't prove again how each part is dropped.
+impl Drop for ServiceAnswer {
+    fn drop(self) {
+        let ServiceAnswer {
+            group: _,
+            outcome: _,
+        } = self;
+    }
+}
+
 /// The answers to the services of a request, in its order.
 ///
 /// Contracts see the list.
-#[derive(Clone, Debug, Drop)]
+#[derive(Clone, Debug)]
 pub struct ServiceAnswers {
     list: Vec<ServiceAnswer>,
+}
+
+// It is written out, so that a caller doesn't prove again how each part is dropped.
+impl Drop for ServiceAnswers {
+    fn drop(self) {
+        let ServiceAnswers { list: _ } = self;
+    }
 }
 
 impl Model for ServiceAnswers {
@@ -137,7 +188,7 @@ impl ServiceAnswers {
 }
 
 /// Whether an account can pay (Check-Balance-Result, RFC 8506 section 8.6).
-#[derive(Clone, Copy, Debug, PartialEq, Eq)]
+#[derive(Clone, Copy, Debug)]
 pub enum Balance {
     /// ENOUGH_CREDIT
     EnoughCredit,
@@ -173,7 +224,7 @@ impl Balance {
 }
 
 /// What units would cost (Cost-Information, RFC 8506 section 8.7).
-#[derive(Clone, Copy, Debug, PartialEq, Eq)]
+#[derive(Clone, Copy, Debug)]
 pub struct Cost {
     /// Micro-units of the currency.
     pub micros: u64,
@@ -182,7 +233,7 @@ pub struct Cost {
 }
 
 /// Why a request isn't answered 2001.
-#[derive(Clone, Copy, Debug, PartialEq, Eq)]
+#[derive(Clone, Copy, Debug)]
 pub enum Failure {
     /// 4010, 4012 or 5031: nothing is granted or charged. The request is accepted, unless it is a
     /// read.
@@ -213,7 +264,7 @@ impl Failure {
 }
 
 /// What a request is answered; all but the last are 2001, DIAMETER_SUCCESS.
-#[derive(Clone, Debug, Drop)]
+#[derive(Clone, Debug)]
 pub enum Outcome {
     /// A session's request or a debit, with an answer for each service.
     Services(ServiceAnswers),
@@ -227,8 +278,21 @@ pub enum Outcome {
     Failed(Failure),
 }
 
+// It is written out, so that a caller doesn't prove again how each part is dropped.
+impl Drop for Outcome {
+    fn drop(self) {
+        match self {
+            Outcome::Services(_) => {}
+            Outcome::Refunded => {}
+            Outcome::Checked(_) => {}
+            Outcome::Priced(_) => {}
+            Outcome::Failed(_) => {}
+        }
+    }
+}
+
 /// The answer to a request (CCA, RFC 8506 section 3.2).
-#[derive(Clone, Debug, Drop)]
+#[derive(Clone, Debug)]
 pub struct RequestAnswer {
     /// Session-Id of the request (RFC 6733 section 8.8).
     pub session: SessionId,
@@ -240,8 +304,20 @@ pub struct RequestAnswer {
     pub outcome: Outcome,
 }
 
+// It is written out, so that a caller doesn't prove again how each part is dropped.
+impl Drop for RequestAnswer {
+    fn drop(self) {
+        let RequestAnswer {
+            session: _,
+            kind: _,
+            number: _,
+            outcome: _,
+        } = self;
+    }
+}
+
 /// Why an operator's command is refused (profile).
-#[derive(Clone, Copy, Debug, PartialEq, Eq)]
+#[derive(Clone, Copy, Debug)]
 pub enum Refusal {
     /// `O1`: the account exists already.
     AccountExists,
@@ -300,7 +376,7 @@ impl Refusal {
 }
 
 /// The answer to a command.
-#[derive(Clone, Debug, Drop)]
+#[derive(Clone, Debug)]
 pub enum Answer {
     /// To a request.
     Request(RequestAnswer),
@@ -314,4 +390,18 @@ pub enum Answer {
     Balance(AccountBalance),
     /// To an operator's command that is refused.
     Refused(Refusal),
+}
+
+// It is written out, so that a caller doesn't prove again how each part is dropped.
+impl Drop for Answer {
+    fn drop(self) {
+        match self {
+            Answer::Request(_) => {}
+            Answer::Done => {}
+            Answer::Bucket(_) => {}
+            Answer::Swept(_) => {}
+            Answer::Balance(_) => {}
+            Answer::Refused(_) => {}
+        }
+    }
 }

@@ -7,7 +7,7 @@ ghost use Rattle.commands.specs.Names.{name_of, avp_named};
 
 /// A member of a request or an operator's body, or a part of a path, that can be at fault: an AVP
 /// of RFC 8506 by its name, or a member of the profile.
-#[derive(Clone, Copy, Debug, PartialEq, Eq)]
+#[derive(Clone, Copy, Debug)]
 pub enum Avp {
     /// Session-Id (RFC 6733 section 8.8): the name of a session.
     SessionId,

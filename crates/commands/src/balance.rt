@@ -8,7 +8,7 @@ use units::Moment;
 
 /// What the columns of a bucket count (TS 32.296, account balance management function: monetary and
 /// non-monetary units).
-#[derive(Clone, Copy, Debug, PartialEq, Eq)]
+#[derive(Clone, Copy, Debug)]
 pub enum BucketUnit {
     /// Micro-units of money.
     MicroUnits,
@@ -45,9 +45,16 @@ pub struct BucketBalance {
 /// The buckets of an account.
 ///
 /// Contracts see the list.
-#[derive(Clone, Debug, Drop)]
+#[derive(Clone, Debug)]
 pub struct BucketBalances {
     list: Vec<BucketBalance>,
+}
+
+// It is written out, so that a caller doesn't prove again how each part is dropped.
+impl Drop for BucketBalances {
+    fn drop(self) {
+        let BucketBalances { list: _ } = self;
+    }
 }
 
 impl Model for BucketBalances {
@@ -76,7 +83,7 @@ impl BucketBalances {
 }
 
 /// What became of an account's money and of its allowances, as of a moment.
-#[derive(Clone, Debug, Drop)]
+#[derive(Clone, Debug)]
 pub struct AccountBalance {
     /// The account's number (Subscription-Id-Data, RFC 8506 section 8.48).
     pub account: AccountNumber,
@@ -86,4 +93,16 @@ pub struct AccountBalance {
     pub buckets: BucketBalances,
     /// The moment.
     pub moment: Moment,
+}
+
+// It is written out, so that a caller doesn't prove again how each part is dropped.
+impl Drop for AccountBalance {
+    fn drop(self) {
+        let AccountBalance {
+            account: _,
+            barred: _,
+            buckets: _,
+            moment: _,
+        } = self;
+    }
 }

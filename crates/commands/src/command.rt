@@ -96,7 +96,7 @@ impl CreditEnd {
 }
 
 /// A credit by an operator: a new bucket for the account.
-#[derive(Clone, Debug, Drop, PartialEq, Eq)]
+#[derive(Clone, Debug, PartialEq, Eq)]
 pub struct Credit {
     /// The account that gets the bucket.
     pub account: AccountNumber,
@@ -110,6 +110,20 @@ pub struct Credit {
     pub scope: Option<u32>,
     /// The operator's name for it: a credit with the same reference is a repeat.
     pub reference: Reference,
+}
+
+// It is written out, so that a caller doesn't prove again how each part is dropped.
+impl Drop for Credit {
+    fn drop(self) {
+        let Credit {
+            account: _,
+            amount: _,
+            from: _,
+            until: _,
+            scope: _,
+            reference: _,
+        } = self;
+    }
 }
 
 impl Credit {
@@ -144,9 +158,16 @@ impl Credit {
 /// A credit that was accepted: it is of 1 micro-unit or more.
 ///
 /// Contracts see the credit.
-#[derive(Clone, Debug, Drop)]
+#[derive(Clone, Debug)]
 pub struct KeptCredit {
     credit: Credit,
+}
+
+// It is written out, so that a caller doesn't prove again how each part is dropped.
+impl Drop for KeptCredit {
+    fn drop(self) {
+        let KeptCredit { credit: _ } = self;
+    }
 }
 
 impl Model for KeptCredit {
@@ -199,7 +220,7 @@ impl Eq for KeptCredit {
 }
 
 /// A voucher that an operator adds (profile).
-#[derive(Clone, Debug, Drop)]
+#[derive(Drop)]
 pub struct VoucherAddition {
     /// The code under which it stands.
     pub code: VoucherCode,
@@ -209,7 +230,7 @@ pub struct VoucherAddition {
 
 /// A voucher that an account redeems: a new bucket for the account, by the voucher's terms
 /// (profile).
-#[derive(Clone, Debug, Drop, PartialEq, Eq)]
+#[derive(Clone, Debug, PartialEq, Eq)]
 pub struct VoucherRedemption {
     /// The code of the voucher.
     pub code: VoucherCode,
@@ -219,8 +240,19 @@ pub struct VoucherRedemption {
     pub reference: Reference,
 }
 
+// It is written out, so that a caller doesn't prove again how each part is dropped.
+impl Drop for VoucherRedemption {
+    fn drop(self) {
+        let VoucherRedemption {
+            code: _,
+            account: _,
+            reference: _,
+        } = self;
+    }
+}
+
 /// A command of the charging system.
-#[derive(Clone, Debug, Drop)]
+#[derive(Drop)]
 pub enum Command {
     /// A request for credit control.
     Ccr(Request),
@@ -246,7 +278,7 @@ pub enum Command {
 }
 
 /// What is kept of an accepted command beside its answer, so that a repeat of it is known.
-#[derive(Clone, Debug, Drop, PartialEq, Eq)]
+#[derive(Debug, PartialEq, Eq)]
 pub enum Content {
     /// Of a request, under its session and number.
     Request(Request),
@@ -256,6 +288,18 @@ pub enum Content {
     Allow(Allowance),
     /// Of a redemption, under its reference.
     Redeem(VoucherRedemption),
+}
+
+// It is written out, so that a caller doesn't prove again how each part is dropped.
+impl Drop for Content {
+    fn drop(self) {
+        match self {
+            Content::Request(_) => {}
+            Content::Credit(_) => {}
+            Content::Allow(_) => {}
+            Content::Redeem(_) => {}
+        }
+    }
 }
 
 /// Whether two credits are the same: a credit that comes again with the same content is a repeat

@@ -12,7 +12,7 @@ use std::marker::Model;
 use units::Money;
 
 /// CC-Request-Type (RFC 8506 section 8.3).
-#[derive(Clone, Copy, Debug, PartialEq, Eq)]
+#[derive(Clone, Copy, Debug)]
 pub enum RequestKind {
     /// INITIAL_REQUEST
     Initial,
@@ -162,7 +162,7 @@ impl Refund {
 }
 
 /// What a request asks for, by its type.
-#[derive(Clone, Debug, Drop, PartialEq, Eq)]
+#[derive(Clone, Debug, PartialEq, Eq)]
 pub enum Ask {
     /// A session begins and asks for units.
     Initial(InitialServices),
@@ -176,8 +176,21 @@ pub enum Ask {
     Refund(Refund),
 }
 
+// It is written out, so that a caller doesn't prove again how each part is dropped.
+impl Drop for Ask {
+    fn drop(self) {
+        match self {
+            Ask::Initial(_) => {}
+            Ask::Update(_) => {}
+            Ask::Termination(_) => {}
+            Ask::Event(_) => {}
+            Ask::Refund(_) => {}
+        }
+    }
+}
+
 /// A request for credit control (CCR, RFC 8506 section 3.1). A repeat of it has an equal value.
-#[derive(Clone, Debug, Drop, PartialEq, Eq)]
+#[derive(Clone, Debug, PartialEq, Eq)]
 pub struct Request {
     /// Session-Id (RFC 6733 section 8.8).
     pub session: SessionId,
@@ -187,6 +200,18 @@ pub struct Request {
     pub account: AccountNumber,
     /// What the request asks for.
     pub ask: Ask,
+}
+
+// It is written out, so that a caller doesn't prove again how each part is dropped.
+impl Drop for Request {
+    fn drop(self) {
+        let Request {
+            session: _,
+            number: _,
+            account: _,
+            ask: _,
+        } = self;
+    }
 }
 
 impl Request {

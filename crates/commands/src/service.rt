@@ -18,7 +18,7 @@ pub enum Requested {
 
 /// A service of a request, by its rating group (Multiple-Services-Credit-Control, RFC 8506 section
 /// 8.16).
-#[derive(Clone, Debug, Drop, PartialEq, Eq)]
+#[derive(Clone, Debug, PartialEq, Eq)]
 pub struct Service {
     /// Rating-Group (RFC 8506 section 8.29).
     pub group: u32,
@@ -28,13 +28,31 @@ pub struct Service {
     pub used: Option<UsedParts>,
 }
 
+// It is written out, so that a caller doesn't prove again how each part is dropped.
+impl Drop for Service {
+    fn drop(self) {
+        let Service {
+            group: _,
+            requested: _,
+            used: _,
+        } = self;
+    }
+}
+
 /// The services of an initial request, in its order: 1 to 16, each asks for units and none reports
 /// any. No rating group stands twice.
 ///
 /// Contracts see the list of services.
-#[derive(Clone, Debug, Drop)]
+#[derive(Clone, Debug)]
 pub struct InitialServices {
     list: Vec<Service>,
+}
+
+// It is written out, so that a caller doesn't prove again how each part is dropped.
+impl Drop for InitialServices {
+    fn drop(self) {
+        let InitialServices { list: _ } = self;
+    }
 }
 
 impl Model for InitialServices {
@@ -71,9 +89,16 @@ impl InitialServices {
 /// rating group stands twice.
 ///
 /// Contracts see the list of services.
-#[derive(Clone, Debug, Drop)]
+#[derive(Clone, Debug)]
 pub struct UpdateServices {
     list: Vec<Service>,
+}
+
+// It is written out, so that a caller doesn't prove again how each part is dropped.
+impl Drop for UpdateServices {
+    fn drop(self) {
+        let UpdateServices { list: _ } = self;
+    }
 }
 
 impl Model for UpdateServices {
@@ -110,9 +135,16 @@ impl UpdateServices {
 /// some. No rating group stands twice.
 ///
 /// Contracts see the list of services.
-#[derive(Clone, Debug, Drop)]
+#[derive(Clone, Debug)]
 pub struct TerminationServices {
     list: Vec<Service>,
+}
+
+// It is written out, so that a caller doesn't prove again how each part is dropped.
+impl Drop for TerminationServices {
+    fn drop(self) {
+        let TerminationServices { list: _ } = self;
+    }
 }
 
 impl Model for TerminationServices {

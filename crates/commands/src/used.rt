@@ -43,10 +43,17 @@ pub fn usage_numbered(number: u64) -> Option<TariffChangeUsage>
 /// report: 1 to 4 parts, all in units of one kind, no tag twice and at most one part without a tag.
 ///
 /// Contracts see a record of the kind and the list of parts.
-#[derive(Clone, Debug, Drop)]
+#[derive(Clone, Debug)]
 pub struct UsedParts {
     kind: UnitKind,
     list: Vec<UsedPart>,
+}
+
+// It is written out, so that a caller doesn't prove again how each part is dropped.
+impl Drop for UsedParts {
+    fn drop(self) {
+        let UsedParts { kind: _, list: _ } = self;
+    }
 }
 
 impl Model for UsedParts {

@@ -1,4 +1,3 @@
-pub mod Unaccepted
 pub mod RequestReplies
 pub mod ShownReplies
 pub mod StatementReplies

@@ -28,11 +28,8 @@ use Rattle.http_messages.specs.declared.refusal.HttpRefusal.{HttpRefusal}
 use Rattle.http_api.specs.Clocks.{GivesInTurn}
 use Rattle.http_api.specs.Faults.{serve_fault}
 use Rattle.http_api.specs.Replies.{refusal, unserved, reply_at, IsDue, MayAsk, IsReply, Replies}
-use Rattle.http_api.specs.Told.{TellsAnswer, Owes}
-use Rattle.http_api.specs.Unaccepted.{is_read_command, is_unaccepted}
 use Rattle.http_api.specs.declared.fault.ServeFault.{ServeFault}
 use Rattle.http_api.specs.declared.fault.ServeFault.TheVariants as serve
-use Rattle.http_api.proofs.Unaccepted.{unaccepted_same}
 
 -- nothing is a beginning of a text
 pub begins_none : (w : Option (List ℕ)) (text : List ℕ) → Begins w w text
@@ -72,14 +69,6 @@ pub not_read : {A : Type 0} (r : Result A StreamFault) → OnErr r (r ≡ Err st
     r ≡ Err stream.Read → ⊥
 not_read (Ok x) only e = absurd (cc)
 not_read (Err fault) only e = let both = sym e ∙ only in absurd (cc)
-
--- one that is no other is of the writer
-pub write_alone : {A : Type 0} (r : Result A StreamFault) → ¬ (r ≡ Err stream.Memory) →
-    ¬ (r ≡ Err stream.Read) → OnErr r (r ≡ Err stream.Write)
-write_alone (Ok x) memory read = tt
-write_alone (Err stream.Memory) memory read = absurd (memory refl)
-write_alone (Err stream.Read) memory read = absurd (read refl)
-write_alone (Err stream.Write) memory read = refl
 
 may_not : (read : Result Command WireFault) → MayAsk (reads read) []
 may_not (Err fault) = refl
@@ -215,7 +204,7 @@ module _ {C : Type 0} (gives : C → Option ℕ → C → Type 0) (b : Shelf) (c
       (λ list time are. subst (AreTables b list) (sym (serves list time are)) are) w
 
   -- a command that is served, and its answer told
-  served_reply : (c : Command) (t : ℕ) (c0 c1 : C) (old new : Tables) (answer : Answer) →
+  pub served_reply : (c : Command) (t : ℕ) (c0 c1 : C) (old new : Tables) (answer : Answer) →
       gives c0 (Some t) c1 → Serves b c t old new (Ok answer) →
       Writes (response status.ok closes (answer_text answer)) →
       Replies gives b (reads (Ok c)) closes c0 c1 Writes old new
@@ -234,54 +223,3 @@ module _ {C : Type 0} (gives : C → Option ℕ → C → Type 0) (b : Shelf) (c
           time = served.time;
         };
   }
-
-  -- a command that is served, with no memory for the text of an answer that no accepted one gets
-  untold_reply : (c : Command) (t : ℕ) (c0 c1 : C) (old new : Tables) (answer : Answer) →
-      gives c0 (Some t) c1 → Serves b c t old new (Ok answer) →
-      is_unaccepted (is_read_command c) answer ≡ true →
-      Writes (response status.service_unavailable closes unable) →
-      Replies gives b (reads (Ok c)) closes c0 c1 Writes old new
-  untold_reply c t c0 c1 old new answer given serves is w =
-      unserved_reply (reads (Ok c)) (Some t ∷ []) c0 c1 old new
-      (λ list. once_unserved b list c (Some t)) (c1, given, refl)
-      (λ list time are. subst (AreTables b list) (sym (unaccepted_same b list c
-      (moment_of list t) old new answer (serves list time are) is)) are) w
-
-  -- a command that is served
-  pub answered_reply : (c : Command) (read : Bool) (t : ℕ) (c0 c1 : C) (old new : Tables)
-      (answer : Answer) → read ≡ is_read_command c → gives c0 (Some t) c1 →
-      Serves b c t old new (Ok answer) → TellsAnswer read answer closes Writes →
-      Replies gives b (reads (Ok c)) closes c0 c1 Writes old new
-  answered_reply c read t c0 c1 old new answer is given serves (inl w) =
-      served_reply c t c0 c1 old new answer given serves w
-  answered_reply c read t c0 c1 old new answer is given serves (inr w) =
-      untold_reply c t c0 c1 old new answer given serves
-      (subst (λ r. is_unaccepted r answer ≡ true) is w.0) w.1
-
--- ---- no memory for the text of an answer
-
-module _ {C : Type 0} (gives : C → Option ℕ → C → Type 0) (b : Shelf) where
-  -- it is owed where an accepted command may get it
-  pub owed_answer : (c : Command) (read : Bool) (t : ℕ) (c0 c1 : C) (old new : Tables)
-      (answer : Answer) → read ≡ is_read_command c → gives c0 (Some t) c1 →
-      Serves b c t old new (Ok answer) → is_unaccepted read answer ≡ false →
-      Owes gives b (reads (Ok c)) c0 c1 old new
-  owed_answer c read t c0 c1 old new answer is given serves free = record {
-    command = c;
-    asks = refl;
-    moment = t;
-    given = given;
-    owed = λ list time are.
-        subst (λ a. is_unaccepted (is_read_command c) a ≡ false) (serves list time are).answer
-        (subst (λ r. is_unaccepted r answer ≡ false) is free);
-    tables = λ list time are. (serves list time are).tables;
-  }
-
-  -- whatever the command is read from
-  pub owed_command : (c : Command) (c0 c1 : C) (old new : Tables) →
-      Owes gives b (reads (Ok c)) c0 c1 old new → (asking : Asking) →
-      IsAsked asking (told.Does c) → Owes gives b asking c0 c1 old new
-  owed_command c c0 c1 old new owes (refuses s) asked = absurd asked
-  owed_command c c0 c1 old new owes (reads read) asked =
-      subst (λ r. Owes gives b (reads r) c0 c1 old new) (sym asked) owes
-  owed_command c c0 c1 old new owes (states q) asked = absurd asked

@@ -31,7 +31,7 @@ use Rattle.reserving.specs.Pricing.{validity_of}
 use Rattle.http_api.specs.Replies.{unserved, MayAsk, GoesOn, statement_media, statement_reply}
 use Rattle.http_api.specs.Replies.{reply_text, IsReplied, Replies}
 use Rattle.http_api.specs.Told.{IsTold, TellsAnswer, TellsCharges}
-use Rattle.http_api.proofs.RequestReplies.{not_memory, not_read, unserved_reply}
+use Rattle.http_api.proofs.RequestReplies.{unserved_reply}
 
 -- the charges of the tables are those of the ledger
 are_charges : (b : Shelf) (a : List ℕ) (list : List Accepted) (tables : Tables) →
@@ -47,18 +47,17 @@ continued_same b old new same = λ list time are.
     record { commands = []; tables = subst (AreTables b list) (sym same) are; time = time }
 
 -- where the tables stay, and the writer alone fails
-pub goes_on_same : {A K : Type 0} (b : Shelf) (empty full : Option (List ℕ)) (content : K → Tables)
-    (failed : K → ℕ) (honest clean : K → Type 0) (leaves : K → Tables → Type 0) (old new : K)
+pub goes_on_same : {A K : Type 0} (b : Shelf) (content : K → Tables) (failed : K → ℕ)
+    (honest clean : K → Type 0) (leaves : K → Tables → Type 0) (old new : K)
     (result : Result A StreamFault) →
     OnErr result (result ≡ Err stream.Write) → (clean new → content new ≡ content old) →
     (clean new → clean old) → (honest new → honest old) →
     (honest new → (t : Tables) → leaves new t → leaves old t) → failed old ≤ failed new →
-    GoesOn b empty full content failed honest clean leaves old new result
-goes_on_same b empty full content failed honest clean leaves old new result only same cleanness
-    honesty left failures =
+    GoesOn b content failed honest clean leaves old new result
+goes_on_same b content failed honest clean leaves old new result only same cleanness honesty left
+    failures =
     record {
-      unwritten = λ e. not_memory result only e;
-      read = not_read result only;
+      fault = only;
       continued = λ whole. continued_same b (content old) (content new) (same whole);
       cleanness = cleanness;
       honesty = honesty;
@@ -114,12 +113,12 @@ module _ {C : Type 0} (gives : C → Option ℕ → C → Type 0) (b : Shelf) (c
 
   pub unknown_reply : (t : ℕ) (c0 c1 : C) (old new : Tables) (found : Option AccountState) →
       gives c0 (Some t) c1 → TellsState b q.account t old found → found ≡ None → new ≡ old →
-      TellsAnswer true (Refused AccountUnknown) closes Writes →
+      TellsAnswer (Refused AccountUnknown) closes Writes →
       Replies gives b (states q) closes c0 c1 Writes old new
   unknown_reply t c0 c1 old new found given tells is same (inl w) =
       unknown_told t c0 c1 old new found given tells is same w
   unknown_reply t c0 c1 old new found given tells is same (inr w) =
-      unstated_reply (Some t) c0 c1 old new given same w.1
+      unstated_reply (Some t) c0 c1 old new given same w
 
   -- the text of one whose state was found
   stated_text : (t : ℕ) (list : List Accepted) (h : History) (s : AccountState) → h.opened ≡ true →

@@ -24,9 +24,8 @@ use Rattle.http_api.specs.Hearing.{Hears, HearsNext}
 use Rattle.http_api.specs.Replies.{reply_text, IsReplied, Replies}
 use Rattle.http_api.specs.Connections.{Connection, new_connection, left_after, after_reply}
 use Rattle.http_api.specs.Connections.{IsAnswered, Takes, IsTurn, Turns, IsTaken, IsOver, IsServed}
-use Rattle.http_api.specs.Connections.{IsBegun, OwesNext, IsOutOfMemory, IsUnread}
+use Rattle.http_api.specs.Connections.{IsBegun, IsUnread}
 use Rattle.http_api.specs.Connections.{IsTakenWith, IsCutOff, ServesConnection}
-use Rattle.http_api.specs.Told.{Owes}
 use Rattle.http_api.proofs.Continuing.{continued_none}
 use Rattle.http_api.proofs.Statuses.{SaysStatus, asked_says, reply_says}
 
@@ -427,7 +426,7 @@ module _ {C : Type 0} (gives : C → Option ℕ → C → Type 0) (b : Shelf) wh
     taken = λ list time are. (so.at list time are).taken;
   }
 
-  -- since the reader fails
+  -- since the reader fails, or memory is refused
   pub so_far-unread : (count left : ℕ) (r0 r1 : Option (List ℕ)) (c0 c1 : C)
       (w0 w1 : Option (List ℕ)) (old new : Tables) → count < 1000 → 0 < left →
       IfSome r0 (λ stream. IsSoFar stream count left r1 c0 c1 w0 w1 old new) →
@@ -446,71 +445,6 @@ module _ {C : Type 0} (gives : C → Option ℕ → C → Type 0) (b : Shelf) wh
         record { taken = at.taken; goes_on = subst (λ n. 0 < n) (sym at.left_is) some };
   }
 
-  -- memory is refused before the next request is taken
-  pub so_far-short : (count left : ℕ) (r0 r1 : Option (List ℕ)) (c0 c1 : C)
-      (w0 w1 : Option (List ℕ)) (old new : Tables) →
-      IfSome r0 (λ stream. IsSoFar stream count left r1 c0 c1 w0 w1 old new) →
-      IfSome r0 (λ stream. IsOutOfMemory gives b stream c0 c1 w0 w1 old new)
-  so_far-short count left None r1 c0 c1 w0 w1 old new so = tt
-  so_far-short count left (Some stream) r1 c0 c1 w0 w1 old new so = record {
-    count = count;
-    moments = so.moments;
-    between = c1;
-    given = so.given;
-    text = so.text;
-    written = so.written;
-    content = new;
-    left = so.rest;
-    answered = λ list time are.
-        let at : IsAt b stream count left so.rest so.moments so.text new list =
-        so.at list time are in
-        record { taken = at.taken; left_is = at.rest_is };
-    next = inl (refl, refl);
-  }
-
-  owes_next : (next : Next) (rest : List ℕ) (heard : Heard) (left : Option (List ℕ)) (c1 c2 : C)
-      (mid new : Tables) → IsNext rest next → HearsNext next (Some heard) left →
-      ((asking : Asking) → IsAsked asking heard.asked → Owes gives b asking c1 c2 mid new) →
-      OwesNext gives b rest c1 c2 mid new
-  owes_next (asks ask after) rest heard left c1 c2 mid new is_next h owes =
-      record { ask = ask; left = after; is_next = is_next; owes = owes (asked_of ask) h.0 }
-  owes_next (refused code) rest heard left c1 c2 mid new is_next h owes =
-      let refusal : Owes gives b (refuses code) c1 c2 mid new = owes (refuses code) h.0 in
-      let reads_it = refusal.asks in
-      absurd (cc)
-  owes_next ended rest heard left c1 c2 mid new is_next h owes = absurd h
-
-  -- or for the text of its answer
-  pub so_far-owed : (count left : ℕ) (r0 r1 r2 : Option (List ℕ)) (c0 c1 c2 : C)
-      (w0 w1 w2 : Option (List ℕ)) (old mid new : Tables) (o : Option Heard) (heard : Heard) →
-      o ≡ Some heard → w2 ≡ w1 →
-      IfSome r0 (λ stream. IsSoFar stream count left r1 c0 c1 w0 w1 old mid) →
-      IfSome r1 (λ s. Hears s o r2) →
-      ((asking : Asking) → IsAsked asking heard.asked → Owes gives b asking c1 c2 mid new) →
-      IfSome r0 (λ stream. IsOutOfMemory gives b stream c0 c2 w0 w2 old new)
-  so_far-owed count left None r1 r2 c0 c1 c2 w0 w1 w2 old mid new o heard is same so hears owes = tt
-  so_far-owed count left (Some stream) r1 r2 c0 c1 c2 w0 w1 w2 old mid new o heard is same so hears
-      owes =
-      let here : Hears so.rest (Some heard) r2 =
-      subst (λ (r : Option (List ℕ)). IfSome r (λ s. Hears s (Some heard) r2)) so.rest_is
-      (subst (λ (x : Option Heard). IfSome r1 (λ s. Hears s x r2)) is hears) in
-      record {
-        count = count;
-        moments = so.moments;
-        between = c1;
-        given = so.given;
-        text = so.text;
-        written = subst (λ w. Appends w0 w so.text) (sym same) so.written;
-        content = mid;
-        left = so.rest;
-        answered = λ list time are.
-            let at : IsAt b stream count left so.rest so.moments so.text mid list =
-            so.at list time are in
-            record { taken = at.taken; left_is = at.rest_is };
-        next = inr (owes_next here.next so.rest heard r2 c1 c2 mid new here.is_next here.hears
-            owes);
-      }
-
   -- nothing is read, since memory is refused
   pub none_served : {K : Type 0} (r : Option (List ℕ)) (c : C) (w : Option (List ℕ))
       (content : K → Tables) (failed : K → ℕ) (honest clean : K → Type 0)
@@ -520,8 +454,8 @@ module _ {C : Type 0} (gives : C → Option ℕ → C → Type 0) (b : Shelf) wh
     served = λ is_clean. tt;
     begun = λ is_clean. so_far-begun 0 1000 r r c c w w (content k) (content k) (omega arith)
         (so_far-none r c w (content k));
-    memory = λ is_clean e. so_far-short 0 1000 r r c c w w (content k) (content k)
-        (so_far-none r c w (content k));
+    memory = λ is_clean e. so_far-unread 0 1000 r r c c w w (content k) (content k) (omega arith)
+        (omega arith) (so_far-none r c w (content k));
     read = λ is_clean e. absurd (cc);
     write = λ is_clean e. absurd (cc);
     bounded = tt;

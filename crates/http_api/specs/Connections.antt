@@ -19,7 +19,6 @@ use Rattle.http_messages.specs.Asking.{Asking, refuses, asked_of}
 use Rattle.http_messages.specs.Texts.{Begins}
 use Rattle.http_api.specs.Clocks.{GivesInTurn}
 use Rattle.http_api.specs.Replies.{Reply, reply_text, IsReply}
-use Rattle.http_api.specs.Told.{Owes}
 use Rattle.http_api.specs.declared.fault.ServeFault.{ServeFault}
 use Rattle.http_api.specs.declared.fault.ServeFault.TheVariants.{Memory, Read, Write}
 use Rattle.http_api.specs.declared.serving.Served.{Served}
@@ -124,44 +123,14 @@ pub record IsBegun {C : Type 0} (gives : C → Option Moment → C → Type 0) (
   pub written : Begins empty full text
   pub taken : ForEachList b old (IsTaken b stream count moments text new)
 
--- so many of its requests were answered, and this is left of it
-pub record IsTakenTo (b : Shelf) (stream left : Bytes) (count : ℕ) (moments : List (Option Moment))
-    (text : Bytes) (content : Tables) (list : List Accepted) : Type 0 where
-  pub taken : IsTaken b stream count moments text content list
-  pub left_is : taken.last.rest ≡ left
-
--- its next request is a command, and the text of the answer is owed
-pub record OwesNext {C : Type 0} (gives : C → Option Moment → C → Type 0) (b : Shelf)
-    (stream : Bytes) (before after : C) (old new : Tables) : Type 0 where
-  pub ask : Ask
-  pub left : Bytes
-  pub is_next : IsNext stream (asks ask left)
-  pub owes : Owes gives b (asked_of ask) before after old new
-
--- where memory is refused so many requests of a stream were answered whole; nothing is done for the
--- next one, or the text of its answer is owed
-pub record IsOutOfMemory {C : Type 0} (gives : C → Option Moment → C → Type 0) (b : Shelf)
-    (stream : Bytes) (before after : C) (empty full : Option Bytes) (old new : Tables)
-    : Type 0 where
-  pub count : ℕ
-  pub moments : List (Option Moment)
-  pub between : C
-  pub given : GivesInTurn gives before moments between
-  pub text : Bytes
-  pub written : Appends empty full text
-  pub content : Tables
-  pub left : Bytes
-  pub answered : ForEachList b old (IsTakenTo b stream left count moments text content)
-  pub next : ((after ≡ between) × (new ≡ content)) ⊎ OwesNext gives b left between after content new
-
 -- so many of its requests were answered, and the connection takes more
 pub record IsTakenOn (b : Shelf) (stream : Bytes) (count : ℕ) (moments : List (Option Moment))
     (text : Bytes) (content : Tables) (list : List Accepted) : Type 0 where
   pub taken : IsTaken b stream count moments text content list
   pub goes_on : 0 < taken.last.left
 
--- where the reader fails so many requests of a stream were answered whole, and nothing is done for
--- the next one
+-- where the reader fails, or memory is refused, so many requests of a stream were answered whole,
+-- and nothing is done for the next one
 pub record IsUnread {C : Type 0} (gives : C → Option Moment → C → Type 0) (b : Shelf)
     (stream : Bytes) (before after : C) (empty full : Option Bytes) (old new : Tables)
     : Type 0 where
@@ -224,7 +193,7 @@ pub record ServesConnection {C K : Type 0} (gives : C → Option Moment → C �
   pub begun : clean new → OnErr result (IfSome bytes (λ stream.
       IsBegun gives b stream before after empty full (content old) (content new)))
   pub memory : clean new → IsErrOf result Memory → IfSome bytes (λ stream.
-      IsOutOfMemory gives b stream before after empty full (content old) (content new))
+      IsUnread gives b stream before after empty full (content old) (content new))
   pub read : clean new → IsErrOf result Read → IfSome bytes (λ stream.
       IsUnread gives b stream before after empty full (content old) (content new))
   pub write : clean new → IsErrOf result Write → IfSome bytes (λ stream.

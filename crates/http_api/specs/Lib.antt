@@ -1,8 +1,8 @@
 pub mod Clocks
 pub mod Faults
-pub mod Unaccepted
 pub mod Replies
 pub mod Told
 pub mod Connections
+pub mod Sockets
 pub mod Hearing
 pub mod OneText

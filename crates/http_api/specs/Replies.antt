@@ -1,13 +1,13 @@
 -- What a request is answered after a list of accepted commands, and the list after it.
 -- Source: profile; the statuses: RFC 9110 section 15.
 use Rattle.std.specs.Prelude.{◌≡◌, ◌≤◌, ℕ, Bool, true, false, if◌then◌else◌, List, [], ◌∷◌, length}
-use Rattle.std.specs.Prelude.{Option, Some, None, Result, Ok, Err, IsErrOf, OnOk, OnErr, ◌⊎◌}
+use Rattle.std.specs.Prelude.{Option, Some, None, Result, Ok, Err, OnOk, OnErr, ◌⊎◌}
 use Rattle.std.specs.Io.KnownBytes.{Appends}
 use Rattle.units.specs.Words.{Moment}
 use Rattle.texts.specs.StreamWords.{Bytes}
 use Rattle.http_messages.specs.Words.{StatusCode}
 use Rattle.texts.specs.declared.streams.StreamFault.{StreamFault}
-use Rattle.texts.specs.declared.streams.StreamFault.TheVariants.{Memory, Read}
+use Rattle.texts.specs.declared.streams.StreamFault.TheVariants.{Write}
 use Rattle.commands.specs.declared.answer.Answer.TheVariants.{Refused}
 use Rattle.commands.specs.declared.answer.Refusal.TheVariants.{AccountUnknown}
 use Rattle.commands.specs.declared.command.Command.{Command}
@@ -153,13 +153,12 @@ Shows Told empty full content honest clean old new result =
     honest new → (held : Tables) → (clean old → held ≡ content old) →
     ShowsReply Told empty full held (λ t. clean new → t ≡ content new) result
 
--- what answering a request leaves, whatever it asks: nothing is written where memory is refused, no
--- reader fails, and the accepted commands go on
-pub record GoesOn {A K : Type 0} (b : Shelf) (empty full : Option Bytes) (content : K → Tables)
-    (failed : K → ℕ) (honest clean : K → Type 0) (leaves : K → Tables → Type 0) (old new : K)
+-- what answering a request leaves, whatever it asks: the writer alone fails, and the accepted
+-- commands go on
+pub record GoesOn {A K : Type 0} (b : Shelf) (content : K → Tables) (failed : K → ℕ)
+    (honest clean : K → Type 0) (leaves : K → Tables → Type 0) (old new : K)
     (result : Result A StreamFault) : Type 0 where
-  pub unwritten : IsErrOf result Memory → full ≡ empty
-  pub read : IsErrOf result Read → ⊥
+  pub fault : OnErr result (result ≡ Err Write)
   pub continued : clean new → Continues b (content old) (content new)
   pub cleanness : clean new → clean old
   pub honesty : honest new → honest old

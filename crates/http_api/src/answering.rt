@@ -1,15 +1,14 @@
 //! A request, answered over a keeper.
 
-ghost use Rattle.std.specs.Prelude.{Ok, IsErrOf, OnOk, OnErr};
+ghost use Rattle.std.specs.Prelude.{Ok, OnOk, OnErr};
 ghost use Rattle.std.specs.Io.KnownBytes.{Appends};
 ghost use Rattle.http_messages.specs.Asking.{Asking, reads, IsAsked};
 ghost use Rattle.http_messages.specs.Texts.{Begins};
 ghost use Rattle.http_api.specs.Replies.{GoesOn, Replies, Shows};
-ghost use Rattle.http_api.specs.Told.{Owes};
 
 use crate::clock::Clock;
 use crate::stating::serve_statement;
-use crate::telling::{is_read_command, tell_answer};
+use crate::telling::tell_answer;
 use charging::step;
 use commands::Command;
 use http_messages::{Asked, tell_fault, tell_refusal, tell_unable};
@@ -23,7 +22,6 @@ use texts::StreamFault;
 /// it is a command or asks for a statement.
 ///
 /// # Errors
-/// `Memory` where memory is refused for the text of an answer that an accepted command may get,
 /// `Write` where the writer failed: what is accepted stays so, and a beginning of the answer is
 /// written.
 #[tactic(auto, using(crate::proofs::StatementReplies::goes_on_same))]
@@ -44,16 +42,12 @@ pub(crate) fn answer_request<W: Write, K: ChargeSource, C: Clock>(
         Replies C.gives shelf.now asking closes clock.old clock.new
         (Begins (W.contents writer.old) (W.contents writer.new))
         (K.content keeper.old) (K.content keeper.new)) }
-    ensures memory { K.clean keeper.new → IsErrOf result StreamFault.Memory → (asking : Asking) →
-        IsAsked asking asked →
-        Owes C.gives shelf.now asking clock.old clock.new
-        (K.content keeper.old) (K.content keeper.new) }
     ensures shown { Shows (λ Writes x y. (asking : Asking) → IsAsked asking asked →
         Replies C.gives shelf.now asking closes clock.old clock.new Writes x y)
         (W.contents writer.old) (W.contents writer.new)
         K.content K.honest K.clean keeper.old keeper.new result }
-    ensures goes_on { GoesOn shelf.now (W.contents writer.old) (W.contents writer.new)
-        K.content K.failed K.honest K.clean K.left keeper.old keeper.new result }
+    ensures goes_on { GoesOn shelf.now K.content K.failed K.honest K.clean K.left
+        keeper.old keeper.new result }
 {
     match asked {
         Asked::Refused(refusal) => tell_refusal(writer, refusal, closes),
@@ -84,21 +78,17 @@ fn serve_command<W: Write, K: ChargeSource, C: Clock>(
         (Replies C.gives shelf.now (reads (Ok command)) closes clock.old clock.new
         (Begins (W.contents writer.old) (W.contents writer.new))
         (K.content keeper.old) (K.content keeper.new)) }
-    ensures memory { K.clean keeper.new → IsErrOf result StreamFault.Memory →
-        Owes C.gives shelf.now (reads (Ok command)) clock.old clock.new
-        (K.content keeper.old) (K.content keeper.new) }
     ensures shown { Shows (Replies C.gives shelf.now (reads (Ok command)) closes clock.old clock.new)
         (W.contents writer.old) (W.contents writer.new)
         K.content K.honest K.clean keeper.old keeper.new result }
-    ensures goes_on { GoesOn shelf.now (W.contents writer.old) (W.contents writer.new)
-        K.content K.failed K.honest K.clean K.left keeper.old keeper.new result }
+    ensures goes_on { GoesOn shelf.now K.content K.failed K.honest K.clean K.left
+        keeper.old keeper.new result }
 {
     let Some(moment) = clock.now() else {
         return tell_unable(writer, closes);
     };
-    let read = is_read_command(&command);
     match step(alloc, keeper, shelf, command, moment) {
-        Ok(answer) => tell_answer(alloc, writer, &answer, read, closes),
+        Ok(answer) => tell_answer(writer, &answer, closes),
         Err(_) => tell_unable(writer, closes),
     }
 }

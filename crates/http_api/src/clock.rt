@@ -16,7 +16,7 @@ pub trait Clock {
 }
 
 /// A clock that stands still.
-#[derive(Clone, Copy, Debug, PartialEq, Eq)]
+#[derive(Clone, Copy)]
 pub struct FixedClock {
     /// The moment that the clock gives, at each call.
     pub moment: Moment,

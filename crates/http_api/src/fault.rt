@@ -4,10 +4,9 @@ use texts::StreamFault;
 use thiserror::Error;
 
 /// Why a connection wasn't served to its end.
-#[derive(Clone, Copy, Debug, Drop, Error, PartialEq, Eq)]
+#[derive(Clone, Copy, Debug, Drop, Error)]
 pub enum ServeFault {
-    /// Serve fault 1: a growth was refused for a head, a body, or the text of an answer that an
-    /// accepted command may get.
+    /// Serve fault 1: a growth was refused for a head or a body.
     #[error("out of memory")]
     Memory,
     /// Serve fault 2: the reader failed.

@@ -18,7 +18,7 @@ use std::io::{BufRead, BufReader, Read, Write};
 pub const MAX_REQUESTS: u32 = 1000;
 
 /// What was served.
-#[derive(Clone, Copy, Debug, PartialEq, Eq)]
+#[derive(Clone, Copy)]
 pub struct Served {
     /// How many requests were answered, refusals among them.
     pub requests: u32,
@@ -32,9 +32,9 @@ pub struct Served {
 /// dated commands.
 ///
 /// # Errors
-/// `Memory` where a growth was refused for a head, a body or the text of an answer that an accepted
-/// command may get; `Read` where the reader failed: then all answers are written; `Write` where the
-/// writer did: then all but the last are, and a beginning of that. What was accepted stays so.
+/// `Memory` where a growth was refused for a head or a body, `Read` where the reader failed: then
+/// all answers are written, and nothing is done for the next request. `Write` where the writer
+/// failed: then all but the last are, and a beginning of that. What was accepted stays so.
 pub fn serve<R: Read, W: Write, K: ChargeSource, C: Clock>(
     alloc: Global,
     reader: &mut R,

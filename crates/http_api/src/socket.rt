@@ -1,7 +1,6 @@
 //! The requests of a socket.
 
-ghost use Rattle.std.specs.Prelude.{◌≡◌, ◌≤◌, IfOk};
-ghost use Rattle.charging.specs.Continued.{Continues, LeavesOn};
+ghost use Rattle.http_api.specs.Sockets.{ServesSocket};
 
 use crate::clock::Clock;
 use crate::fault::ServeFault;
@@ -36,13 +35,8 @@ pub fn serve_socket<K: ChargeSource, C: Clock>(
     shelf: &TariffShelf,
     clock: &mut C,
 ) -> Result<Served, ServeFault>
-    ensures bounded { IfOk result (λ done. done.requests ≤ 1000) }
-    ensures continued { K.clean keeper.new →
-        Continues shelf.now (K.content keeper.old) (K.content keeper.new) }
-    ensures cleanness { K.clean keeper.new → K.clean keeper.old }
-    ensures honesty { K.honest keeper.new → K.honest keeper.old }
-    ensures left { LeavesOn K.content K.honest K.clean K.left shelf.now keeper.old keeper.new }
-    ensures failures { K.failed keeper.old ≤ K.failed keeper.new }
+    ensures { ServesSocket K.content K.failed K.honest K.clean K.left shelf.now keeper.old keeper.new
+        result }
 {
     if limit(stream).is_err() {
         return Err(ServeFault::Read);
@@ -67,13 +61,8 @@ fn serve_joined<K: ChargeSource, C: Clock>(
     shelf: &TariffShelf,
     clock: &mut C,
 ) -> Result<Served, ServeFault>
-    ensures bounded { IfOk result (λ done. done.requests ≤ 1000) }
-    ensures continued { K.clean keeper.new →
-        Continues shelf.now (K.content keeper.old) (K.content keeper.new) }
-    ensures cleanness { K.clean keeper.new → K.clean keeper.old }
-    ensures honesty { K.honest keeper.new → K.honest keeper.old }
-    ensures left { LeavesOn K.content K.honest K.clean K.left shelf.now keeper.old keeper.new }
-    ensures failures { K.failed keeper.old ≤ K.failed keeper.new }
+    ensures { ServesSocket K.content K.failed K.honest K.clean K.left shelf.now keeper.old keeper.new
+        result }
 {
     let begun = Cell::new(None);
     let mut reader = PatientReader {

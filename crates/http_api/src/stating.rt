@@ -1,6 +1,6 @@
 //! A statement that is asked for.
 
-ghost use Rattle.std.specs.Prelude.{◌≡◌, ◌≤◌, true, List, OnOk, OnErr, IfOk};
+ghost use Rattle.std.specs.Prelude.{◌≡◌, ◌≤◌, List, OnOk, OnErr, IfOk};
 ghost use Rattle.std.specs.Io.KnownBytes.{Appends};
 ghost use Rattle.commands.specs.declared.answer.Answer.TheVariants.{Refused};
 ghost use Rattle.commands.specs.declared.answer.Refusal.TheVariants.{AccountUnknown as Unknown};
@@ -26,6 +26,7 @@ use statements::{AccountMonth, StatementFault, statement};
 use std::alloc::Global;
 use std::io::Write;
 use texts::StreamFault;
+use wire::WrittenAnswer;
 
 /// Serves a statement at the clock's moment. It is a read: it changes nothing.
 ///
@@ -132,14 +133,18 @@ fn statement_of<K: ChargeSource>(
     Ok(text)
 }
 
-/// Writes that the account isn't there.
+/// Writes that the account isn't there; where the growth of that text is refused, that there is no
+/// memory.
 fn tell_unknown<W: Write>(alloc: Global, writer: &mut W, closes: bool) -> Result<(), StreamFault>
-    ensures ok { OnOk result (TellsAnswer true (Refused Unknown) closes
+    ensures ok { OnOk result (TellsAnswer (Refused Unknown) closes
         (Appends (W.contents writer.old) (W.contents writer.new))) }
-    ensures err { OnErr result (TellsAnswer true (Refused Unknown) closes
+    ensures err { OnErr result (TellsAnswer (Refused Unknown) closes
         (Begins (W.contents writer.old) (W.contents writer.new))) }
     ensures fault { OnErr result (result ≡ Err StreamFault.Write) }
 {
     let unknown = Answer::Refused(Refusal::AccountUnknown);
-    tell_answer(alloc, writer, &unknown, true, closes)
+    match WrittenAnswer::new(alloc, unknown) {
+        Ok(answer) => tell_answer(writer, &answer, closes),
+        Err(_) => tell_unable(writer, closes),
+    }
 }

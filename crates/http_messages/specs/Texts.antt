@@ -1,9 +1,11 @@
 -- The bytes of an answer (RFC 9112 sections 4 and 6).
 use Rattle.std.specs.Prelude.{◌≡◌, ◌⊎◌, ℕ, Bool, Option, take, [], ◌++◌, codes, length}
-use Rattle.std.specs.Prelude.{if◌then◌else◌, unwrap_or}
+use Rattle.std.specs.Prelude.{if◌then◌else◌, unwrap_or, Result, Err, OnOk, OnErr}
 use Rattle.std.specs.Fmt.{decimal}
 use Rattle.std.specs.Io.KnownBytes.{Appends}
 use Rattle.texts.specs.StreamWords.{Bytes}
+use Rattle.texts.specs.declared.streams.StreamFault.{StreamFault}
+use Rattle.texts.specs.declared.streams.StreamFault.TheVariants.{Write}
 use Rattle.http_messages.specs.Words.{StatusCode}
 use Rattle.json_fields.specs.declared.fault.WireFault.{WireFault}
 use Rattle.json_fields.specs.declared.fault.WireFault.TheVariants.{Memory, NotRequest}
@@ -66,3 +68,19 @@ TellsFault closes fault Writes =
 -- a beginning of a text is written
 abbrev pub Begins : Option Bytes → Option Bytes → Bytes → Type 0
 Begins old new text = (n : ℕ) × Appends old new (take n text)
+
+-- ---- what is written
+
+-- a text is written, or a beginning of it where the writer failed
+pub record WritesText {A : Type 0} (text : Bytes) (old new : Option Bytes)
+    (result : Result A StreamFault) : Type 0 where
+  pub ok : OnOk result (Appends old new text)
+  pub err : OnErr result (Begins old new text)
+  pub fault : OnErr result (result ≡ Err Write)
+
+-- so it is of what this tells
+pub record WritesTold {A : Type 0} (tells : (Bytes → Type 0) → Type 0) (old new : Option Bytes)
+    (result : Result A StreamFault) : Type 0 where
+  pub ok : OnOk result (tells (Appends old new))
+  pub err : OnErr result (tells (Begins old new))
+  pub fault : OnErr result (result ≡ Err Write)

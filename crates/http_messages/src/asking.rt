@@ -26,7 +26,7 @@ use texts::Month;
 use wire::{WireFault, read_allow, read_credit, read_redeem, read_request};
 
 /// A statement that is asked for.
-#[derive(Debug, Drop)]
+#[derive(Drop)]
 pub struct StatementAsked {
     /// Whose charges it tells.
     pub account: AccountNumber,

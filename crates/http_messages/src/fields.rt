@@ -20,7 +20,7 @@ const MOST_DIGITS: usize = 18;
 const MAX_BODY: u64 = 65_536;
 
 /// The fields of a name: none, one with its value, or more.
-#[derive(Clone, Copy, Debug)]
+#[derive(Clone, Copy)]
 pub(crate) enum Found {
     None,
     One(Span),

@@ -14,7 +14,7 @@ use httparse::spans::{HeaderSpan, RequestSpans, parse_request};
 use std::alloc::{AllocError, Global};
 
 /// What a head says.
-#[derive(Debug, Drop)]
+#[derive(Drop)]
 pub struct Head {
     /// The method.
     pub method: Method,

@@ -11,7 +11,7 @@ use texts::{StreamFault, take_piece};
 pub const MAX_HEAD_PART: usize = 8192;
 
 /// What a stream begins with.
-#[derive(Debug, Drop)]
+#[derive(Drop)]
 pub enum HeadPart {
     /// A head part: all bytes up to and with the first empty line.
     Whole(Vec<u8>),

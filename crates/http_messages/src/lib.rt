@@ -21,6 +21,6 @@ pub use crate::request_laws::{first_parts_are_shortest, next_is_one};
 pub use crate::requests::{MAX_FIELDS, Request, Taken, next_request};
 pub use crate::route_laws::routes_are_paths;
 pub use crate::routes::{Route, known_router};
-pub use crate::text::{Media, response, tell_fault, tell_text, tell_unable, write_text};
+pub use crate::text::{Media, response, tell_fault, tell_json, tell_text, tell_unable, write_text};
 pub use httparse::spans::{EMPTY_HEADER_SPAN, HeaderSpan};
 pub use matchit::Router;

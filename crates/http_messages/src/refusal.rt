@@ -1,9 +1,8 @@
 //! Requests that are refused, and the bytes that tell so: constants, so that no memory is asked for.
 
-ghost use Rattle.std.specs.Prelude.{◌≡◌, OnOk, OnErr, true, false};
-ghost use Rattle.std.specs.Io.KnownBytes.{Appends};
+ghost use Rattle.std.specs.Prelude.{◌≡◌, true, false};
 ghost use Rattle.http_messages.specs.Refusals.{number_of, refusal_of};
-ghost use Rattle.http_messages.specs.Texts.{response, no_members, Begins};
+ghost use Rattle.http_messages.specs.Texts.{response, no_members, WritesText};
 
 use crate::text::write_text;
 use http::StatusCode;
@@ -11,7 +10,7 @@ use std::io::Write;
 use texts::StreamFault;
 
 /// Why a request is refused, by its status (RFC 9110 section 15.5; 431: RFC 6585 section 5).
-#[derive(Clone, Copy, Debug, PartialEq, Eq)]
+#[derive(Clone, Copy)]
 pub enum HttpRefusal {
     /// 400: it has no head, more than one length, or a length that is no number.
     BadRequest,
@@ -126,11 +125,8 @@ pub fn tell_refusal<W: Write>(
     refusal: HttpRefusal,
     closes: bool,
 ) -> Result<(), StreamFault>
-    ensures ok { OnOk result (Appends (W.contents writer.old) (W.contents writer.new)
-        (response (number_of refusal) closes no_members)) }
-    ensures err { OnErr result (Begins (W.contents writer.old) (W.contents writer.new)
-        (response (number_of refusal) closes no_members)) }
-    ensures fault { OnErr result (result ≡ Err StreamFault.Write) }
+    ensures { WritesText (response (number_of refusal) closes no_members) (W.contents writer.old)
+        (W.contents writer.new) result }
 {
     if closes {
         write_text(writer, refusal.text_at_last())

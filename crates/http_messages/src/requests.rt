@@ -30,7 +30,7 @@ pub struct Request {
 }
 
 /// What comes next in a stream.
-#[derive(Debug, Drop)]
+#[derive(Drop)]
 pub enum Taken {
     /// The next request, with its body.
     Request(Request),

@@ -1,6 +1,6 @@
 //! The table of routes.
 
-ghost use Rattle.std.specs.Prelude.{◌≡◌, IfOk, OnOk, OnErr};
+ghost use Rattle.std.specs.Prelude.{◌≡◌, [], IfOk, OnOk, OnErr};
 ghost use Rattle.matchit.specs.declared.InsertError.TheVariants.{OutOfMemory};
 ghost use Rattle.http_messages.specs.Methods.{is_get, is_post, is_put};
 ghost use Rattle.http_messages.specs.Routes.{added, table, row_of, has_query, route_of, serves};
@@ -12,7 +12,7 @@ use std::alloc::Global;
 use texts::StreamFault;
 
 /// What a path names.
-#[derive(Clone, Copy, Debug, PartialEq, Eq)]
+#[derive(Clone, Copy)]
 pub enum Route {
     /// `/ccr`: a request for credit control.
     Ccr,
@@ -89,27 +89,34 @@ fn add(router: &mut Router<Route>, text: &str, value: Route) -> Result<(), Strea
     }
 }
 
+/// Puts the rows of the table into a router that has none. The one fault is `Memory`, where a growth
+/// was refused.
+#[tactic(auto, unfolding(crate::specs::Routes::table))]
+fn add_routes(router: &mut Router<Route>) -> Result<(), StreamFault>
+    requires { router.old ≡ [] }
+    ensures table { OnOk result (router.new ≡ table) }
+    ensures fault { OnErr result (result ≡ Err StreamFault.Memory) }
+{
+    add(router, "/ccr", Route::Ccr)?;
+    add(router, "/accounts/{a}", Route::Account)?;
+    add(router, "/accounts/{a}/statement/{yyyymm}", Route::Statement)?;
+    add(router, "/accounts/{a}/credits", Route::Credits)?;
+    add(router, "/accounts/{a}/allowances", Route::Allowances)?;
+    add(router, "/vouchers/{code}/redeem", Route::Redeem)?;
+    add(router, "/sweep", Route::Sweep)?;
+    Ok(())
+}
+
 /// The table of routes, made once a connection.
 ///
 /// # Errors
 /// `Memory` where a growth was refused.
-#[tactic(auto, unfolding(crate::specs::Routes::table))]
 pub fn known_router(alloc: Global) -> Result<Router<Route>, StreamFault>
     ensures table { IfOk result (λ r. r ≡ table) }
     ensures fault { OnErr result (result ≡ Err StreamFault.Memory) }
 {
     let mut router = Router::new(alloc);
-    add(&mut router, "/ccr", Route::Ccr)?;
-    add(&mut router, "/accounts/{a}", Route::Account)?;
-    add(
-        &mut router,
-        "/accounts/{a}/statement/{yyyymm}",
-        Route::Statement,
-    )?;
-    add(&mut router, "/accounts/{a}/credits", Route::Credits)?;
-    add(&mut router, "/accounts/{a}/allowances", Route::Allowances)?;
-    add(&mut router, "/vouchers/{code}/redeem", Route::Redeem)?;
-    add(&mut router, "/sweep", Route::Sweep)?;
+    add_routes(&mut router)?;
     Ok(router)
 }
 

@@ -1,14 +1,16 @@
 //! The bytes of an answer of HTTP.
 
-ghost use Rattle.std.specs.Prelude.{◌≡◌, ◌++◌, ℕ, IfOk, OnOk, OnErr, IfSome, None};
-ghost use Rattle.std.specs.Prelude.{true, false, string_bytes};
+ghost use Rattle.std.specs.Prelude.{◌≡◌, ◌++◌, ℕ, IfOk, OnOk, OnErr, IfSome, None, true, false};
+ghost use Rattle.std.specs.Prelude.{string_bytes, codes, Err};
+ghost use Rattle.std.specs.Fmt.{decimal};
 ghost use Rattle.json_fields.specs.declared.fault.WireFault.TheVariants.{Memory, NotRequest};
 ghost use Rattle.std.specs.Io.KnownBytes.{Appends};
-ghost use Rattle.http_messages.specs.Statuses.{bad_request, service_unavailable};
+ghost use Rattle.http_messages.specs.Statuses.{bad_request, ok, service_unavailable};
 ghost use Rattle.wire.specs.Spelled.{fault_text};
 ghost use Rattle.http_messages.specs.declared.text.Media.TheVariants.{Text};
-ghost use Rattle.http_messages.specs.Texts.{phrase, closing_line, response};
+ghost use Rattle.http_messages.specs.Texts.{phrase, closing_line, response, type_and_length};
 ghost use Rattle.http_messages.specs.Texts.{text_head, unable, Begins, TellsText, TellsFault};
+ghost use Rattle.http_messages.specs.Texts.{WritesText, WritesTold};
 
 use http::StatusCode;
 use std::alloc::{AllocError, Global};
@@ -17,7 +19,7 @@ use texts::{StreamFault, write_whole};
 use wire::{WireFault, write_fault};
 
 /// What the body of an answer is.
-#[derive(Clone, Copy, Debug, PartialEq, Eq)]
+#[derive(Clone, Copy)]
 pub enum Media {
     /// `application/json`.
     Json,
@@ -40,6 +42,10 @@ const NOT_REQUEST: &[u8] =
 /// The answer to a request that is no JSON object, before the connection ends.
 const NOT_REQUEST_AT_LAST: &[u8] =
     b"HTTP/1.1 400 Bad Request\r\nContent-Type: application/json\r\nContent-Length: 20\r\nConnection: close\r\n\r\n{\"Result-Code\":5012}";
+
+/// The head of an answer 200 whose body is JSON, up to its length.
+const OK_AND_LENGTH: &[u8] =
+    b"HTTP/1.1 200 OK\r\nContent-Type: application/json\r\nContent-Length: ";
 
 /// The most bytes of an answer's head.
 const MOST_OF_HEAD: usize = 136;
@@ -82,6 +88,42 @@ pub fn response(
     Ok(text)
 }
 
+/// The head of an answer 200 whose body is JSON, up to its length.
+fn ok_and_length() -> &'static [u8]
+    ensures { result.now ≡ codes "HTTP/1.1 " ++ (decimal ok ++ (codes " " ++ (phrase ok
+        ++ type_and_length))) }
+{
+    OK_AND_LENGTH
+}
+
+/// What stands between the length of an answer and its body.
+fn after_length(closes: bool) -> &'static [u8]
+    ensures { result.now ≡ codes "\r\n" ++ (closing_line closes ++ codes "\r\n") }
+{
+    if closes {
+        b"\r\nConnection: close\r\n\r\n"
+    } else {
+        b"\r\n\r\n"
+    }
+}
+
+/// Writes the answer 200 whose body is this JSON, its head and then its body; this takes no memory.
+///
+/// # Errors
+/// `Write` where the writer failed. Then a beginning of it is written.
+pub fn tell_json<W: Write>(writer: &mut W, closes: bool, body: &[u8]) -> Result<(), StreamFault>
+    ensures ok { OnOk result (Appends (W.contents writer.old) (W.contents writer.new)
+        (response ok closes body.now)) }
+    ensures err { OnErr result (Begins (W.contents writer.old) (W.contents writer.new)
+        (response ok closes body.now)) }
+    ensures fault { OnErr result (result ≡ Err StreamFault.Write) }
+{
+    let mut digits = itoa::Buffer::new();
+    let length = digits.format(body.len());
+    write_both(writer, ok_and_length(), length.as_bytes())?;
+    write_both(writer, after_length(closes), body)
+}
+
 /// The bytes of an answer where there is no memory, no store or no clock.
 fn unable() -> &'static [u8]
     ensures { result.now ≡ response service_unavailable false unable }
@@ -101,9 +143,7 @@ fn unable_at_last() -> &'static [u8]
 /// # Errors
 /// `Write` where the writer failed. Then a beginning of it is written.
 pub fn write_text<W: Write>(writer: &mut W, text: &[u8]) -> Result<(), StreamFault>
-    ensures ok { OnOk result (Appends (W.contents writer.old) (W.contents writer.new) text.now) }
-    ensures err { OnErr result (Begins (W.contents writer.old) (W.contents writer.new) text.now) }
-    ensures fault { OnErr result (result ≡ Err StreamFault.Write) }
+    ensures { WritesText text.now (W.contents writer.old) (W.contents writer.new) result }
 {
     write_whole(writer, text)
 }
@@ -140,11 +180,8 @@ pub fn tell_text<W: Write>(
     closes: bool,
     body: &[u8],
 ) -> Result<(), StreamFault>
-    ensures ok { OnOk result (TellsText closes status body.now
-        (Appends (W.contents writer.old) (W.contents writer.new))) }
-    ensures err { OnErr result (TellsText closes status body.now
-        (Begins (W.contents writer.old) (W.contents writer.new))) }
-    ensures fault { OnErr result (result ≡ Err StreamFault.Write) }
+    ensures { WritesTold (TellsText closes status body.now) (W.contents writer.old)
+        (W.contents writer.new) result }
 {
     match text_head(alloc, status, closes, body.len()) {
         Ok(head) => write_both(writer, head.as_bytes(), body),
@@ -154,11 +191,8 @@ pub fn tell_text<W: Write>(
 
 /// Writes a text and then another.
 fn write_both<W: Write>(writer: &mut W, first: &[u8], second: &[u8]) -> Result<(), StreamFault>
-    ensures ok { OnOk result
-        (Appends (W.contents writer.old) (W.contents writer.new) (first.now ++ second.now)) }
-    ensures err { OnErr result
-        (Begins (W.contents writer.old) (W.contents writer.new) (first.now ++ second.now)) }
-    ensures fault { OnErr result (result ≡ Err StreamFault.Write) }
+    ensures { WritesText (first.now ++ second.now) (W.contents writer.old)
+        (W.contents writer.new) result }
 {
     write_text(writer, first)?;
     write_text(writer, second)
@@ -169,11 +203,8 @@ fn write_both<W: Write>(writer: &mut W, first: &[u8], second: &[u8]) -> Result<(
 /// # Errors
 /// `Write` where the writer failed. Then a beginning of it is written.
 pub fn tell_unable<W: Write>(writer: &mut W, closes: bool) -> Result<(), StreamFault>
-    ensures ok { OnOk result (Appends (W.contents writer.old) (W.contents writer.new)
-        (response service_unavailable closes unable)) }
-    ensures err { OnErr result (Begins (W.contents writer.old) (W.contents writer.new)
-        (response service_unavailable closes unable)) }
-    ensures fault { OnErr result (result ≡ Err StreamFault.Write) }
+    ensures { WritesText (response service_unavailable closes unable) (W.contents writer.old)
+        (W.contents writer.new) result }
 {
     if closes {
         write_text(writer, unable_at_last())
@@ -213,11 +244,8 @@ fn not_request_at_last() -> &'static [u8]
 
 /// Writes that a request is no JSON object; this takes no memory.
 fn tell_not_request<W: Write>(writer: &mut W, closes: bool) -> Result<(), StreamFault>
-    ensures ok { OnOk result (Appends (W.contents writer.old) (W.contents writer.new)
-        (response bad_request closes (fault_text NotRequest))) }
-    ensures err { OnErr result (Begins (W.contents writer.old) (W.contents writer.new)
-        (response bad_request closes (fault_text NotRequest))) }
-    ensures fault { OnErr result (result ≡ Err StreamFault.Write) }
+    ensures { WritesText (response bad_request closes (fault_text NotRequest)) (W.contents writer.old)
+        (W.contents writer.new) result }
 {
     if closes {
         write_text(writer, not_request_at_last())
@@ -237,11 +265,8 @@ pub fn tell_fault<W: Write>(
     fault: WireFault,
     closes: bool,
 ) -> Result<(), StreamFault>
-    ensures ok { OnOk result
-        (TellsFault closes fault (Appends (W.contents writer.old) (W.contents writer.new))) }
-    ensures err { OnErr result
-        (TellsFault closes fault (Begins (W.contents writer.old) (W.contents writer.new))) }
-    ensures fault { OnErr result (result ≡ Err StreamFault.Write) }
+    ensures { WritesTold (TellsFault closes fault) (W.contents writer.old)
+        (W.contents writer.new) result }
 {
     match fault {
         WireFault::NotRequest => tell_not_request(writer, closes),
@@ -257,11 +282,8 @@ fn tell_member_fault<W: Write>(
     closes: bool,
 ) -> Result<(), StreamFault>
     requires { fault ≡ NotRequest → ⊥ }
-    ensures ok { OnOk result
-        (TellsFault closes fault (Appends (W.contents writer.old) (W.contents writer.new))) }
-    ensures err { OnErr result
-        (TellsFault closes fault (Begins (W.contents writer.old) (W.contents writer.new))) }
-    ensures fault { OnErr result (result ≡ Err StreamFault.Write) }
+    ensures { WritesTold (TellsFault closes fault) (W.contents writer.old)
+        (W.contents writer.new) result }
 {
     match fault_response(alloc, fault, closes) {
         Some(text) => write_text(writer, text.as_bytes()),

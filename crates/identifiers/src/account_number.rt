@@ -12,9 +12,16 @@ use std::marker::Model;
 /// (Subscription-Id-Data of type END_USER_E164, RFC 8506 section 8.48).
 ///
 /// Contracts see the list of its bytes.
-#[derive(Clone, Debug, Drop)]
+#[derive(Clone, Debug)]
 pub struct AccountNumber {
     text: String,
+}
+
+// It is written out, so that a caller doesn't prove again how each part is dropped.
+impl Drop for AccountNumber {
+    fn drop(self) {
+        let AccountNumber { text: _ } = self;
+    }
 }
 
 impl Model for AccountNumber {

@@ -11,9 +11,16 @@ use std::marker::Model;
 /// 0x7E (Redirect-Server-Address, RFC 8506 section 8.39; length and bytes: profile).
 ///
 /// Contracts see the list of its bytes.
-#[derive(Clone, Debug, Drop)]
+#[derive(Clone, Debug)]
 pub struct RedirectAddress {
     text: String,
+}
+
+// It is written out, so that a caller doesn't prove again how each part is dropped.
+impl Drop for RedirectAddress {
+    fn drop(self) {
+        let RedirectAddress { text: _ } = self;
+    }
 }
 
 impl Model for RedirectAddress {

@@ -14,9 +14,16 @@ use std::rc::RcStr;
 /// length and bytes: profile).
 ///
 /// Contracts see the list of its bytes. Copies share the text: many rows have one name.
-#[derive(Clone, Debug, Drop)]
+#[derive(Clone, Debug)]
 pub struct SessionId {
     text: RcStr,
+}
+
+// It is written out, so that a caller doesn't prove again how each part is dropped.
+impl Drop for SessionId {
+    fn drop(self) {
+        let SessionId { text: _ } = self;
+    }
 }
 
 impl Model for SessionId {

@@ -33,3 +33,4 @@ pub mod ByNumber
 pub mod Parted
 pub mod Paged
 pub mod Numbered
+pub mod WrittenParts

@@ -54,7 +54,7 @@ over_turned p (Some y) (Some z) h =
 
 module _ {A : Type 0} (same : A → A → Bool) (q : A → Bool) (one : (x y : A) → q x ≡ true →
     q y ≡ true → same x y ≡ true) (p : A → Bool) where
-  found_over : (named live : List A) → AreApart same live →
+  pub found_over : (named live : List A) → AreApart same live →
       ((y z : A) → find q live ≡ Some y → find q named ≡ Some z → p y ≡ false) →
       find q (filter p live ++ named) ≡ first_of (find q named) (only p (find q live))
   found_over named live apart hides =

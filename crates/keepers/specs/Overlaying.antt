@@ -3,6 +3,7 @@
 use Rattle.std.specs.Prelude.{◌≡◌, Bool, false, not, ◌==◌, ◌&&◌, ◌||◌, ◌++◌, List, [], None}
 use Rattle.std.specs.Prelude.{Some, filter, is_some, if◌then◌else◌}
 use Rattle.std.specs.List.{list_any}
+use Rattle.std.specs.List.Sorted.{IsPermutation}
 use Rattle.units.specs.Words.{GroupId, CycleNumber}
 use Rattle.identifiers.specs.Words.{SessionName}
 use Rattle.buckets.specs.Words.{BucketNumber}
@@ -14,9 +15,10 @@ use Rattle.reserving.specs.Sessions.{is_open, session_in, group_in, counter_in}
 use Rattle.reserving.specs.Rows.{AreApart}
 use Rattle.reserving.specs.Stored.{StoredRows}
 use Rattle.reserving.specs.Left.{is_dead, bucket_in, IsDead}
-use Rattle.reserving.specs.Restored.{FindsSame}
+use Rattle.reserving.specs.declared.restoring.GivenRows.{GivenRows}
+use Rattle.reserving.specs.Restored.{given, FindsSame}
 use Rattle.keepers.specs.Tables.{Rows, GroupRow, head_of, group_row, held_of}
-use Rattle.keepers.specs.Named.{Names, is_named}
+use Rattle.keepers.specs.Named.{Names, Numbers, is_named, is_numbered}
 use Rattle.keepers.specs.Keyed.{same_bucket}
 
 -- ---- of the rows that stand, those that stay live beside the ones that are named
@@ -58,6 +60,18 @@ rows_over named back live = record named {
   sessions = sessions_over named.sessions live.sessions;
   groups = groups_over named.groups (sessions_over named.sessions live.sessions) back live.groups;
 }
+
+-- the rows are those of a change, and their buckets all that are live after it
+pub record IsGivenOver (named : StoredRows) (live : List Row) (rows : GivenRows) : Type 0 where
+  pub same : record (given rows) { buckets = named.buckets } ≡ named
+  pub buckets : IsPermutation (filter (stays_bucket named.buckets) live ++ named.buckets) rows.purse
+
+-- none of the rows has a name or a cycle of one that was left
+abbrev pub is_fresh : Names → Numbers → StoredRows → Bool
+is_fresh names cycles w =
+    not (list_any (λ r. is_named names r.id) w.sessions)
+    && not (list_any (λ r. is_named names r.session) w.groups)
+    && not (list_any (λ c. is_numbered cycles c.cycle) w.counters)
 
 -- an account has these rows, whatever their order
 pub record IsAccountOf (w v : StoredRows) : Type 0 where

@@ -52,8 +52,8 @@ impl Accounts {
         &mut self,
         number: AccountNumber,
         rows: NamedRows,
-        charges: Vec<ChargeRow>,
-        kept: Option<KeptAnswer>,
+        mut charges: Vec<ChargeRow>,
+        mut kept: Option<KeptAnswer>,
     ) -> Result<(), AllocError>
         ensures done { OnOk result (ArePut number rows charges.items kept self.old.entries.items
             self.new.entries.items) }
@@ -65,8 +65,8 @@ impl Accounts {
             &mut self.places,
             number,
             rows,
-            charges,
-            kept,
+            &mut charges,
+            &mut kept,
         )
     }
 

@@ -1,17 +1,10 @@
-//! Copies of commands' contents and answers, and of vouchers.
+//! Copies of commands' contents, and of vouchers.
 
 ghost use Rattle.std.specs.Prelude.{◌≡◌, IfOk};
 
-use commands::{Allowance, Answer, Ask, Content, Credit, KeptCredit, Request, VoucherRedemption};
+use commands::{Allowance, Ask, Content, Credit, KeptCredit, Request, VoucherRedemption};
 use std::alloc::AllocError;
 use voucher_rules::Voucher;
-
-/// The same answer once more.
-pub fn copy_answer(answer: &Answer) -> Result<Answer, AllocError>
-    ensures { IfOk result (λ copy. copy ≡ answer.now) }
-{
-    answer.clone()
-}
 
 fn copy_ask(ask: &Ask) -> Result<Ask, AllocError>
     ensures { IfOk result (λ copy. copy ≡ ask.now) }

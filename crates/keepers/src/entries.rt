@@ -27,15 +27,27 @@ use reserving::{Account, ChargeRow, LoadFault};
 use shelves::TariffShelf;
 use std::alloc::{AllocError, Global};
 use std::collections::HashMap;
+use std::mem;
 use units::Moment;
 
 /// An account as it is kept in memory.
-#[derive(Drop)]
 pub(crate) struct Entry {
     pub(crate) number: AccountNumber,
     pub(crate) rows: Store,
     pub(crate) charges: Vec<ChargeRow>,
     pub(crate) answers: HashMap<Key, KeptAnswer>,
+}
+
+// It is written out, so that a caller doesn't prove again how each part is dropped.
+impl Drop for Entry {
+    fn drop(self) {
+        let Entry {
+            number: _,
+            rows: _,
+            charges: _,
+            answers: _,
+        } = self;
+    }
 }
 
 /// What may still change of the account of this number.
@@ -163,73 +175,90 @@ fn make_room(
     Ok(key)
 }
 
-/// Keeps an answer under its key, for which there is room.
+/// Keeps an answer under its key, for which there is room. It is taken.
 fn keep(
     answers: &mut HashMap<Key, KeptAnswer>,
     key: Option<Key>,
-    kept: Option<KeptAnswer>,
+    kept: &mut Option<KeptAnswer>,
 ) -> Result<(), AllocError>
     requires room { 0 < spare answers.old }
-    requires key { key ≡ option_map (λ x. key_of x.content) kept }
+    requires key { key ≡ option_map (λ x. key_of x.content) kept.old }
     ensures ok { IsOk result }
     ensures kept { (k : Key) →
-        get same_key answers.new k ≡ kept_after kept k (get same_key answers.old k) }
+        get same_key answers.new k ≡ kept_after kept.old k (get same_key answers.old k) }
 {
-    if let (Some(key), Some(kept)) = (key, kept) {
-        answers.insert(key, kept)?;
-    }
+    let Some(key) = key else {
+        return Ok(());
+    };
+    let Some(kept) = kept.take() else {
+        return Ok(());
+    };
+    answers.insert(key, kept)?;
     Ok(())
 }
 
+/// The answers of a new account: the one that is kept of its first command. It is taken.
+fn first_answers(
+    alloc: Global,
+    kept: &mut Option<KeptAnswer>,
+) -> Result<HashMap<Key, KeptAnswer>, AllocError>
+    ensures { IfOk result (λ answers. (k : Key) →
+        get same_key answers k ≡ kept_after kept.old k None) }
+{
+    let mut answers = HashMap::new(alloc);
+    let key = make_room(&mut answers, kept)?;
+    keep(&mut answers, key, kept)?;
+    Ok(answers)
+}
+
 /// Puts the rows of a change over those of an account that is there, with its further charges and
-/// an answer. The room is taken first: at a fault nothing has changed.
+/// an answer, which are taken. The room is taken first: at a fault nothing has changed.
 fn write_entry(
     entry: &mut Entry,
     rows: NamedRows,
-    mut charges: Vec<ChargeRow>,
-    kept: Option<KeptAnswer>,
+    charges: &mut Vec<ChargeRow>,
+    kept: &mut Option<KeptAnswer>,
 ) -> Result<(), AllocError>
     ensures number { entry.new.number ≡ entry.old.number }
     ensures rows { OnOk result (rows_of entry.new.rows ≡ over rows (rows_of entry.old.rows)) }
     ensures answers { OnOk result ((k : Key) →
-        get same_key entry.new.answers k ≡ kept_after kept k (get same_key entry.old.answers k)) }
+        get same_key entry.new.answers k ≡ kept_after kept.old k
+        (get same_key entry.old.answers k)) }
     ensures charges { OnOk result (entry.new.charges.items ≡
-        entry.old.charges.items ++ charges.items) }
+        entry.old.charges.items ++ charges.old.items) }
     ensures err_rows { OnErr result (entry.new.rows ≡ entry.old.rows) }
     ensures err_answers { OnErr result ((k : Key) →
         get same_key entry.new.answers k ≡ get same_key entry.old.answers k) }
     ensures err_charges { OnErr result (entry.new.charges.items ≡ entry.old.charges.items) }
 {
     entry.charges.reserve(charges.len())?;
-    let key = make_room(&mut entry.answers, &kept)?;
+    let key = make_room(&mut entry.answers, kept)?;
     entry.rows.put(rows)?;
     keep(&mut entry.answers, key, kept)?;
-    entry.charges.append(&mut charges)?;
+    entry.charges.append(charges)?;
     Ok(())
 }
 
-/// A new account.
+/// A new account, whose charges and answer are taken.
 fn new_entry(
     alloc: Global,
     number: AccountNumber,
     rows: NamedRows,
-    charges: Vec<ChargeRow>,
-    kept: Option<KeptAnswer>,
+    charges: &mut Vec<ChargeRow>,
+    kept: &mut Option<KeptAnswer>,
 ) -> Result<Entry, AllocError>
     ensures number { IfOk result (λ e. e.number ≡ number) }
     ensures rows { IfOk result (λ e. rows_of e.rows ≡ over rows no_rows) }
     ensures answers { IfOk result (λ e. (k : Key) →
-        get same_key e.answers k ≡ kept_after kept k None) }
-    ensures charges { IfOk result (λ e. e.charges.items ≡ charges.items) }
+        get same_key e.answers k ≡ kept_after kept.old k None) }
+    ensures charges { IfOk result (λ e. e.charges.items ≡ charges.old.items) }
 {
-    let mut answers = HashMap::new(alloc);
-    let key = make_room(&mut answers, &kept)?;
-    keep(&mut answers, key, kept)?;
+    let answers = first_answers(alloc, kept)?;
     let rows = Store::first(alloc, rows)?;
     Ok(Entry {
         number,
         rows,
-        charges,
+        charges: mem::replace(charges, Vec::new(alloc)),
         answers,
     })
 }
@@ -260,19 +289,20 @@ fn put_place(
 }
 
 /// Puts the rows of a change over those of an account, which is new where there is none of its
-/// number, with its further charges and an answer. At a fault nothing has changed.
+/// number, with its further charges and an answer, which are taken. At a fault no account has
+/// changed.
 pub(crate) fn put_entry(
     alloc: Global,
     entries: &mut Vec<Entry>,
     places: &mut HashMap<AccountNumber, usize>,
     number: AccountNumber,
     rows: NamedRows,
-    charges: Vec<ChargeRow>,
-    kept: Option<KeptAnswer>,
+    charges: &mut Vec<ChargeRow>,
+    kept: &mut Option<KeptAnswer>,
 ) -> Result<(), AllocError>
     requires { ArePlaced places.old entries.old.items }
     ensures places { ArePlaced places.new entries.new.items }
-    ensures done { OnOk result (ArePut number rows charges.items kept entries.old.items
+    ensures done { OnOk result (ArePut number rows charges.old.items kept.old entries.old.items
         entries.new.items) }
     ensures err { OnErr result (AreUnchanged entries.old.items entries.new.items) }
 {

@@ -3,15 +3,16 @@
 ghost use Rattle.std.specs.Prelude.{◌≡◌, IfOk};
 ghost use Rattle.keepers.specs.Keys.{same_key, key_of};
 
-use crate::copies::{copy_answer, copy_content};
-use commands::{Answer, Content};
+use crate::copies::copy_content;
+use commands::Content;
 use identifiers::{Reference, SessionId};
 use std::alloc::AllocError;
 use std::hash::{Hash, Hasher};
+use wire::WrittenAnswer;
 
 /// The key of a kept answer within its account: an accepted command with the same key is its
 /// repeat, or at fault.
-#[derive(Clone, Debug, Drop)]
+#[derive(Clone)]
 pub enum Key {
     /// Of a request: its session and its number in it (RFC 8506 section 8.2).
     Request { session: SessionId, number: u32 },
@@ -19,13 +20,26 @@ pub enum Key {
     Reference(Reference),
 }
 
+// It is written out, so that a caller doesn't prove again how each part is dropped.
+impl Drop for Key {
+    fn drop(self) {
+        match self {
+            Key::Request {
+                session: _,
+                number: _,
+            } => {}
+            Key::Reference(_) => {}
+        }
+    }
+}
+
 /// What is kept of an accepted command, so that its repeat is answered as it was.
-#[derive(Debug, Drop)]
+#[derive(Drop)]
 pub struct KeptAnswer {
     /// The command. It tells the key.
     pub content: Content,
-    /// Its first answer.
-    pub answer: Answer,
+    /// Its first answer, with the text that was written of it.
+    pub answer: WrittenAnswer,
 }
 
 impl Key {
@@ -55,7 +69,7 @@ impl KeptAnswer {
     {
         Ok(KeptAnswer {
             content: copy_content(&self.content)?,
-            answer: copy_answer(&self.answer)?,
+            answer: self.answer.copy()?,
         })
     }
 }

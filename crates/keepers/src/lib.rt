@@ -24,9 +24,7 @@ mod store;
 mod voucher_map;
 mod whole;
 
-pub use crate::copies::{
-    copy_answer, copy_content, copy_credit, copy_redemption, copy_request, copy_voucher,
-};
+pub use crate::copies::{copy_content, copy_credit, copy_redemption, copy_request, copy_voucher};
 pub use crate::failing::Failing;
 pub use crate::fault::StoreFault;
 pub use crate::keeper::Keeper;

@@ -24,7 +24,7 @@ pub struct Loaded<'b> {
 }
 
 /// A voucher that an account redeemed.
-#[derive(Debug, Drop)]
+#[derive(Drop)]
 pub struct Redeemed {
     /// The code of the voucher.
     pub code: VoucherCode,

@@ -5,7 +5,8 @@ ghost use Rattle.std.specs.List.{list_any};
 ghost use Rattle.std.specs.List.Sorted.{IsPermutation};
 ghost use Rattle.reserving.specs.Restored.{given};
 ghost use Rattle.keepers.specs.Overlaying.{stays_bucket, stays_counter, stays_session};
-ghost use Rattle.keepers.specs.Overlaying.{stays_group, rows_over, IsAccountOf};
+ghost use Rattle.buckets.specs.Row.{Row};
+ghost use Rattle.keepers.specs.Overlaying.{stays_group, rows_over, IsAccountOf, IsGivenOver};
 
 use crate::named_rows::{NamedRows, copy_of_group};
 use crate::store::{has_bucket, has_group, has_session, has_session_near, sessions_of};
@@ -72,15 +73,13 @@ pub(crate) fn rows_alone(alloc: Global, named: NamedRows) -> Result<StoredAccoun
     account_of(alloc, rows)
 }
 
-/// The rows of a change, with those that stay beside them of the groups that were left and of the
-/// live rows.
-pub(crate) fn rows_over(
+/// The rows of a change, and in the place of its buckets all that are live after it.
+pub(crate) fn given_over(
     alloc: Global,
     named: NamedRows,
-    back: &[SessionGroup],
-    live: &StoredAccount,
-) -> Result<StoredAccount, AllocError>
-    ensures { IfOk result (IsAccountOf (rows_over named back.now live.now)) }
+    live: &Purse,
+) -> Result<GivenRows, AllocError>
+    ensures { IfOk result (IsGivenOver named live.now) }
 {
     let NamedRows {
         as_of,
@@ -92,6 +91,40 @@ pub(crate) fn rows_over(
         sessions,
         groups,
     } = named;
+    Ok(GivenRows {
+        as_of,
+        barred,
+        purse: purse_of(alloc, buckets_over(buckets, live)?)?,
+        counters,
+        sessions,
+        groups,
+        next_bucket,
+        next_charge,
+    })
+}
+
+/// The rows of a change, with those that stay beside them of the groups that were left and of the
+/// live rows. The buckets are all there.
+pub(crate) fn rows_over(
+    alloc: Global,
+    rows: GivenRows,
+    back: &[SessionGroup],
+    live: &StoredAccount,
+) -> Result<StoredAccount, AllocError>
+    ensures { IfOk result (λ v. (buckets : List Row) →
+        IsPermutation (filter (stays_bucket buckets) live.now.buckets ++ buckets) rows.purse →
+        IsAccountOf (rows_over (record (given rows) { buckets = buckets }) back.now live.now) v) }
+{
+    let GivenRows {
+        as_of,
+        barred,
+        purse,
+        counters,
+        sessions,
+        groups,
+        next_bucket,
+        next_charge,
+    } = rows;
     let counts = (sessions.len(), groups.len());
     let mut sessions = sessions_over(alloc, sessions, live.sessions())?;
     let mut groups = groups_over(alloc, groups, &sessions, back, live.groups())?;
@@ -100,7 +133,7 @@ pub(crate) fn rows_over(
     let rows = GivenRows {
         as_of,
         barred,
-        purse: purse_of(alloc, buckets_over(buckets, live.purse())?)?,
+        purse,
         counters: counters_over(alloc, counters, live.counters())?,
         sessions,
         groups,

@@ -14,7 +14,7 @@ use reserving::ChargeRow;
 use units::Moment;
 
 /// Some of an account's charges: those beyond a number, up to the page's last one.
-#[derive(Debug, Drop)]
+#[derive(Drop)]
 pub struct ChargePage {
     /// The charges, in the order of their numbers.
     pub rows: Vec<ChargeRow>,

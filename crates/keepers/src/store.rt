@@ -8,6 +8,7 @@ ghost use Rattle.std.specs.Prelude.{position};
 ghost use Rattle.reserving.specs.Sessions.{session_in, group_in, counter_in, is_session, is_of};
 ghost use Rattle.reserving.specs.Sessions.{is_counter};
 ghost use Rattle.reserving.specs.Left.{bucket_in, is_dead};
+ghost use Rattle.reserving.specs.Ledger.{is_same};
 ghost use Rattle.keepers.specs.Change.{IsLoadedFrom, over, AreRowsAt, AreBroughtTo, AreDeadOf};
 ghost use Rattle.reserving.specs.Ledger.{Ledger};
 ghost use Rattle.keepers.specs.Tables.{no_rows};
@@ -21,15 +22,18 @@ ghost use Rattle.keepers.specs.Named.{AreLeftGroups};
 ghost use Rattle.keepers.specs.Inside.{AreSameRows, HasRoom};
 ghost use Rattle.keepers.specs.Replacing.{IsLeaving, KnowsMore, AreNoted, IsAppended, AreKnown};
 ghost use Rattle.keepers.specs.Replacing.{IsFiltered};
-ghost use Rattle.keepers.specs.Overlaying.{IsRestDead, back_from};
+ghost use Rattle.reserving.specs.Restored.{given};
+ghost use Rattle.keepers.specs.Overlaying.{IsRestDead, back_from, is_fresh};
 
 use crate::named_rows::{NamedRows, copy_of_group, copy_of_session};
-use crate::overlaying::{rows_alone, rows_over};
+use crate::overlaying::{given_over, rows_alone, rows_over};
 use crate::whole::WholeAccount;
 use buckets::Bucket;
 use calendar::Cycle;
 use identifiers::SessionId;
-use reserving::{Account, Counter, LoadFault, Session, SessionGroup, SessionState, StoredAccount};
+use reserving::{
+    Account, Counter, GivenRows, LoadFault, Session, SessionGroup, SessionState, StoredAccount,
+};
 use shelves::TariffShelf;
 use std::alloc::{AllocError, Global};
 use std::collections::HashMap;
@@ -56,12 +60,26 @@ pub(crate) struct Known {
 
 /// The rows of an account: those that were live after its last command, and those that were left.
 /// What the latter name is kept beside them, so that a commit doesn't search them.
-#[derive(Drop)]
 pub(crate) struct Store {
     live: StoredAccount,
     left: LeftStore,
     known: Known,
+    /// How many sessions that aren't open were written among the live ones since rows were left.
+    past: usize,
     alloc: Global,
+}
+
+// It is written out, so that a caller doesn't prove again how each part is dropped.
+impl Drop for Store {
+    fn drop(self) {
+        let Store {
+            live: _,
+            left: _,
+            known: _,
+            past: _,
+            alloc: _,
+        } = self;
+    }
 }
 
 impl Model for Store {
@@ -111,6 +129,7 @@ impl Store {
             live,
             left,
             known,
+            past: 0,
             alloc,
         }
     }
@@ -153,7 +172,7 @@ impl Store {
         ensures { result ≡ is_some
             (session_in session.now (self.now.left.sessions ++ self.now.live.sessions)) }
     {
-        has_session(self.live.sessions(), session)
+        self.live.has_session(session)
             || (self.known.names.contains_key(session) && has_session(&self.left.sessions, session))
     }
 
@@ -164,8 +183,18 @@ impl Store {
         ensures err { OnErr result (self.new ≡ self.old) }
     {
         let _named = named.as_of();
-        let back = back_from(&self.known.names, named.sessions(), &self.left.groups);
-        let live = rows_over(self.alloc, named, back, &self.live)?;
+        let _kept = self.live.as_of();
+        let rows = given_over(self.alloc, named, self.live.purse())?;
+        if is_fresh(&self.known, &rows)
+            && are_few(self.past, &self.live, &rows)
+            && self.live.is_writable(&rows)
+        {
+            self.past = self.past.saturating_add(count_past(&rows.sessions));
+            self.live.write(rows)?;
+            return Ok(());
+        }
+        let back = back_from(&self.known.names, &rows.sessions, &self.left.groups);
+        let live = rows_over(self.alloc, rows, back, &self.live)?;
         self.replace(live)
     }
 
@@ -184,6 +213,7 @@ impl Store {
         append(&mut self.left, leaving)?;
         keep(&mut self.left, &self.known, &after);
         self.live = after;
+        self.past = 0;
         Ok(())
     }
 
@@ -213,13 +243,32 @@ pub(crate) fn has_session(rows: &[Session], session: &SessionId) -> bool
     session_place(rows, session).is_some()
 }
 
+/// Whether two names end alike.
+fn end_alike(a: &SessionId, b: &SessionId) -> bool {
+    match (a.as_str().as_bytes().last(), b.as_str().as_bytes().last()) {
+        (Some(x), Some(y)) => *x == *y,
+        _ => true,
+    }
+}
+
+/// Whether two names are one. Such as stand side by side mostly differ at their ends, so that these
+/// are looked at first.
+fn is_one_name(a: &SessionId, b: &SessionId) -> bool
+    ensures { result ≡ true → is_same a.now b.now ≡ true }
+{
+    if !end_alike(a, b) {
+        return false;
+    }
+    *a == *b
+}
+
 /// Whether the row of a session stands at a place.
 fn stands_at(rows: &[Session], place: usize, session: &SessionId) -> bool
     ensures { result ≡ true → is_some (session_in session.now rows.now) ≡ true }
 {
     if place < rows.len() {
         let row = &rows[place];
-        return row.id == *session;
+        return is_one_name(&row.id, session);
     }
     false
 }
@@ -368,6 +417,54 @@ fn back_from<'s>(
     } else {
         &[]
     }
+}
+
+// ---- rows that are written over live ones, in their places
+
+/// Whether none of the rows has a name or a cycle of one that was left.
+fn is_fresh(known: &Known, rows: &GivenRows) -> bool
+    ensures { result ≡ is_fresh known.now.names known.now.cycles (given rows.now) }
+{
+    !any_named(&known.names, &rows.sessions)
+        && !any_group_of_named(&known.names, &rows.groups)
+        && !any_of_cycles(&known.cycles, &rows.counters)
+}
+
+/// Whether the session of a group is known.
+fn any_group_of_named(names: &HashMap<SessionId, bool>, rows: &[SessionGroup]) -> bool
+    ensures { result ≡ list_any (λ r. is_named names.now r.session) rows.now }
+{
+    rows.iter().any(|row| names.contains_key(&row.session))
+}
+
+/// How many of the sessions aren't open.
+fn count_past(sessions: &[Session]) -> usize {
+    let mut count: usize = 0;
+    for row in sessions {
+        if row.state != SessionState::Open {
+            count = count.saturating_add(1);
+        }
+    }
+    count
+}
+
+/// For so many live sessions one that isn't open may stay among them.
+const FOR_ONE_PAST: usize = 32;
+
+/// Whether few of the live rows can't change any more, and each of the counters has its row: such
+/// rows wait among the live ones until there are more, and then all of them leave at once.
+fn are_few(past: usize, live: &StoredAccount, rows: &GivenRows) -> bool {
+    past <= live.sessions().len() / FOR_ONE_PAST && have_rows(live.counters(), &rows.counters)
+}
+
+/// Whether each of the counters has its row.
+fn have_rows(rows: &[Counter], named: &[Counter]) -> bool {
+    for row in named {
+        if !has_counter(rows, row.group, row.cycle) {
+            return false;
+        }
+    }
+    true
 }
 
 // ---- what is left of the rows that were live

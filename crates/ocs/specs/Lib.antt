@@ -2,4 +2,5 @@ pub mod Once
 pub mod Ends
 pub mod Faults
 pub mod Told
+pub mod Runs
 pub mod Replayed

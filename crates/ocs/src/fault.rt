@@ -7,7 +7,7 @@ use thiserror::Error;
 use vouchers::VoucherFault;
 
 /// Why the program ends with status 1.
-#[derive(Clone, Copy, Debug, Drop, Error, PartialEq, Eq)]
+#[derive(Clone, Copy, Debug, Drop, Error)]
 pub enum ProgramFault {
     /// Lines of requests weren't answered to their end.
     #[error("{0}")]

@@ -14,13 +14,12 @@ ghost use Rattle.std.specs.Io.KnownBytes.{Appends};
 ghost use Rattle.operations.specs.Written.{WritesBeginning};
 ghost use Rattle.operations.specs.declared.status.Status.TheVariants.{Done, Failed, Unread};
 ghost use Rattle.tariffs.specs.OnceBook.{once_book};
-ghost use Rattle.operator.specs.Read.{IsInRange, IsSaid, texts_of};
-ghost use Rattle.operator.specs.declared.parsed.OnceWords.{OnceWords};
+ghost use Rattle.operator.specs.Read.{IsInRange, texts_of};
 ghost use Rattle.operator.specs.declared.parsed.ProgramWords.{ProgramWords};
-ghost use Rattle.operator.specs.declared.parsed.ProgramWords.TheVariants.{Once};
-ghost use Rattle.ocs.specs.Ends.{HasBegun, HasPrinted, IfOnce, IsEnd, IsEndBy};
+ghost use Rattle.ocs.specs.Ends.{HasBegun, HasPrinted, IfOnce, IsEndBy};
 ghost use Rattle.ocs.specs.Once.{once_text};
-ghost use Rattle.ocs.specs.Told.{IsTold, IsToldBy, line_of};
+ghost use Rattle.ocs.specs.Told.{IsToldBy, line_of};
+ghost use Rattle.ocs.specs.Runs.{Runs};
 
 use crate::doing::do_said;
 use crate::telling::{tell_fault, tell_start, tell_unread};
@@ -70,32 +69,8 @@ pub fn run_words<'a, F: Files, I: Read, O: Write, E: Write>(
     output: &mut O,
     errors: &mut E,
 ) -> Status
-    ensures end { IsEnd (texts_of words.entry.now) result }
-    ensures told { IsTold (texts_of words.entry.now) (O.contents output.old)
-        (O.contents output.new) result (E.contents errors.old) (E.contents errors.new) }
-    ensures unread { ((once : OnceWords) → IsSaid (texts_of words.entry.now) (Once once) → ⊥) →
-        input.new ≡ input.old }
-    ensures unwritten { result ≡ Unread → output.new ≡ output.old }
-    ensures printed { (said : ProgramWords) → IsSaid (texts_of words.entry.now) said →
-        result ≡ Done →
-        IfSome (line_of said) (Appends (O.contents output.old) (O.contents output.new)) }
-    ensures begun { (said : ProgramWords) → IsSaid (texts_of words.entry.now) said →
-        result ≡ Failed →
-        IfSome (line_of said) (WritesBeginning (O.contents output.old) (O.contents output.new)) }
-    ensures answered { (said : ProgramWords) → IsSaid (texts_of words.entry.now) said →
-        result ≡ Done →
-        HasPrinted F.File.remaining said (O.contents output.old) (O.contents output.new) Done }
-    ensures started { (said : ProgramWords) → IsSaid (texts_of words.entry.now) said →
-        result ≡ Failed →
-        HasBegun F.File.remaining said (O.contents output.old) (O.contents output.new) }
-    ensures done { (once : OnceWords) → IsSaid (texts_of words.entry.now) (Once once) →
-        result ≡ Done → IfSome (I.remaining input.old) (λ stream.
-        Appends (O.contents output.old) (O.contents output.new)
-        (once_text (once_book once.price once.block) once.credit stream)) }
-    ensures fault { (once : OnceWords) → IsSaid (texts_of words.entry.now) (Once once) →
-        result ≡ Failed → IfSome (I.remaining input.old) (λ stream.
-        WritesBeginning (O.contents output.old) (O.contents output.new)
-        (once_text (once_book once.price once.block) once.credit stream)) }
+    ensures { Runs F.File.remaining I.remaining O.contents E.contents (texts_of words.entry.now)
+        input.old input.new output.old output.new errors.old errors.new result }
 {
     match program_words(rt.alloc(), words) {
         Ok(said) => run_said(rt, files, said, input, output, errors),

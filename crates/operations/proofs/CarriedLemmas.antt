@@ -1,5 +1,6 @@
 -- A command that was served is carried out.
-use Rattle.std.proofs.Common.{◌≡◌, ℕ, List, Option, subst, Result, Ok, Err, false, OnErr, ap, sym}
+use Rattle.std.proofs.Common.{◌≡◌, ℕ, List, Option, subst, Result, Ok, Err, true, false, ap, sym}
+use Rattle.std.proofs.Common.{OnErr, OnOk}
 use Rattle.std.specs.Prelude.{is_ok, MatchResult}
 use Rattle.commands.specs.declared.answer.Answer.{Answer}
 use Rattle.commands.specs.declared.command.Command.{Command}
@@ -79,3 +80,8 @@ given_by (Err fault) answer h = absurd h
 pub told_error : {A E P : Type 0} (r : Result A E) → false ≡ is_ok r → OnErr r P → P
 told_error (Ok x) is told = absurd (cc)
 told_error (Err e) is told = told
+
+-- what an answer says, where a result without an error shows that there is one
+pub told_ok : {A E P : Type 0} (r : Result A E) → true ≡ is_ok r → OnOk r P → P
+told_ok (Ok x) is told = told
+told_ok (Err e) is told = absurd (cc)

@@ -1,6 +1,6 @@
 -- Vouchers that were added so far, one more, and all.
 use Rattle.std.proofs.Common.{Option, Result, Ok, Err, ◌≡◌, ◌+◌, ◌<◌, ℕ, suc, List, [], ◌∷◌, ◌++◌}
-use Rattle.std.proofs.Common.{length, take, refl, sym, ap, subst, ◌∙◌, arith}
+use Rattle.std.proofs.Common.{append-nil, length, take, refl, sym, ap, subst, ◌∙◌, arith}
 use Rattle.std.proofs.lemmas.Bool.{false≢true}
 use Rattle.std.proofs.lemmas.List.{length-append}
 use Rattle.std.specs.Prelude.{is_err, false, true}
@@ -94,6 +94,12 @@ one-more b t list rows row old mid new n m x so added e =
     (so-far-more b list (additions t rows) (addition_at t row) old mid new n x so added))
 
 -- ---- at the end
+
+-- with none left, those so far are all
+pub whole_of : (rows rest all : List VoucherAddition) → rows ++ rest ≡ all → length rest ≡ 0 →
+    rows ≡ all
+whole_of rows [] all e none = sym (append-nil rows) ∙ e
+whole_of rows (row ∷ rest) all e none = absurd (omega (arith, none))
 
 pub all-imported : (b : Shelf) (t : ℕ) (rows : List VoucherAddition) (old new : Tables)
     (n : Counts) →

@@ -1,21 +1,32 @@
 -- Vouchers that are added one after another, for every list of accepted commands whose tables a
 -- keeper holds.
 -- Source: profile.
-use Rattle.std.specs.Prelude.{◌≡◌, ◌<◌, ◌≤◌, ℕ, List, [], ◌∷◌, length, map, take, MatchResult}
-use Rattle.std.specs.Prelude.{Result}
+use Rattle.std.specs.Prelude.{◌≡◌, ◌≢◌, ◌<◌, ◌≤◌, ℕ, List, [], ◌∷◌, length, map, take, MatchResult}
+use Rattle.std.specs.Prelude.{Option, Result, Err, IfOk, OnOk}
+use Rattle.std.specs.Io.KnownBytes.{Appends}
 use Rattle.units.specs.Words.{Moment}
+use Rattle.texts.specs.StreamWords.{Bytes}
+use Rattle.texts.specs.declared.streams.StreamFault.{StreamFault}
+use Rattle.texts.specs.declared.streams.StreamFault.TheVariants.{Read as ReadFailed}
 use Rattle.commands.specs.declared.command.Command.TheVariants.{AddVoucher}
 use Rattle.commands.specs.declared.command.VoucherAddition.{VoucherAddition}
 use Rattle.shelves.specs.Shelves.{Shelf}
+use Rattle.keepers.specs.Faults.{HasCause}
 use Rattle.keepers.specs.Tables.{Tables}
 use Rattle.keepers.specs.declared.fault.StoreFault.{StoreFault}
 use Rattle.charging.specs.Accepted.{Accepted, IsInTime}
+use Rattle.charging.specs.Parts.{Leaves}
 use Rattle.charging.specs.Runs.{after_command, after_commands}
 use Rattle.charging.specs.Served.{AreTables, accepts, answer_to, moment_of}
 use Rattle.charging.specs.declared.running.DatedCommand.{DatedCommand}
 use Rattle.voucher_rules.specs.declared.adding.Addition.{Addition}
-use Rattle.operations.specs.Counts.{counted, counted_as, no_counts}
+use Rattle.operations.specs.Counts.{counted, counted_as, counts_line, no_counts, total}
+use Rattle.operations.specs.Printed.{PrintsCounts}
+use Rattle.operations.specs.Stored.{StopsAtStore}
+use Rattle.operations.specs.Written.{WritesBeginning}
 use Rattle.operations.specs.declared.counts.Counts.{Counts}
+use Rattle.operations.specs.declared.fault.OfficeFault.{OfficeFault}
+use Rattle.operations.specs.declared.fault.OfficeFault.TheVariants.{Store, Write}
 
 -- the command that adds a voucher, handed in with a moment
 abbrev pub addition_at : Moment → VoucherAddition → DatedCommand
@@ -87,6 +98,42 @@ abbrev pub TellsImport : Shelf → List DatedCommand → Tables → Tables → (
 TellsImport b commands old new tells =
     (list : List Accepted) → IsInTime list → AreTables b list old →
     IsImportTold b list commands old new tells
+
+-- ---- over a keeper
+
+-- all are counted, or a beginning of them was added before the store failed
+pub record ImportsOver {K : Type 0} (content : K → Tables) (failed : K → ℕ)
+    (honest clean : K → Type 0) (leaves : K → Tables → Type 0) (b : Shelf) (t : Moment)
+    (rows : List VoucherAddition) (old new : K) (result : Result Counts StoreFault) : Type 0 where
+  pub imported : clean new → Imports b (additions t rows) (content old) (content new) result
+  pub all : IfOk result (λ counts. total counts ≡ length rows)
+  pub cleanness : clean new → clean old
+  pub honesty : honest new → honest old
+  pub stands : honest new → clean old → OnOk result (clean new)
+  pub left : Leaves honest leaves old new (HoldsBeginning b (additions t rows) (content old))
+  pub cause : HasCause (failed old) (failed new) result
+
+-- the counts are written as a line; where it isn't written, all were added; where the store failed,
+-- a beginning of them was
+pub record ServesImport {A K W : Type 0} (content : K → Tables) (failed : K → ℕ)
+    (honest clean : K → Type 0) (leaves : K → Tables → Type 0) (contents : W → Option Bytes)
+    (b : Shelf) (t : Moment) (rows : List VoucherAddition) (old new : K) (before after : W)
+    (result : Result A OfficeFault) : Type 0 where
+  pub done : clean new → OnOk result (TellsImport b (additions t rows) (content old) (content new)
+      (λ counts. Appends (contents before) (contents after) (counts_line counts)))
+  pub printed : OnOk result (PrintsCounts (contents before) (contents after))
+  pub untold : (fault : StreamFault) → result ≡ Err (Write fault) → clean new →
+      TellsImport b (additions t rows) (content old) (content new)
+      (λ counts. WritesBeginning (contents before) (contents after) (counts_line counts))
+  pub unserved : (fault : StoreFault) → result ≡ Err (Store fault) → clean new →
+      BeginsImport b (additions t rows) (content old) (content new)
+  pub honesty : honest new → honest old
+  pub stands : honest new → clean old → OnOk result (clean new)
+  pub asked : (fault : StreamFault) → result ≡ Err (Write fault) → honest new → clean old →
+      clean new
+  pub fault : (fault : StreamFault) → result ≡ Err (Write fault) → fault ≢ ReadFailed
+  pub left : Leaves honest leaves old new (HoldsBeginning b (additions t rows) (content old))
+  pub stops : StopsAtStore failed clean old new before after result
 
 -- ---- one voucher
 

@@ -6,3 +6,4 @@ pub mod Months
 pub mod Counts
 pub mod Imports
 pub mod Printed
+pub mod Laws

@@ -1,10 +1,11 @@
 -- What is told of an account's month: a statement or an export of it, or that there is no account.
 -- Source: profile.
-use Rattle.std.specs.Prelude.{◌≡◌, ◌⊎◌, ◌+◌, ◌≤◌, ℕ, List, Option, Result, if◌then◌else◌, IfOk}
-use Rattle.std.specs.Prelude.{Ok, Err, IsErrOf, OnErr, min}
+use Rattle.std.specs.Prelude.{◌≡◌, ◌≢◌, ◌⊎◌, ◌+◌, ◌≤◌, ℕ, List, Option, Result, if◌then◌else◌, IfOk}
+use Rattle.std.specs.Prelude.{Ok, Err, IsErrOf, OnErr, OnOk, min}
 use Rattle.std.specs.Io.KnownBytes.{Appends}
 use Rattle.units.specs.Words.{Moment}
 use Rattle.texts.specs.StreamWords.{Bytes}
+use Rattle.texts.specs.declared.streams.StreamFault.{StreamFault}
 use Rattle.texts.specs.declared.streams.StreamFault.TheVariants as stream
 use Rattle.buckets.specs.Row.{Row}
 use Rattle.commands.specs.declared.answer.Answer.TheVariants.{Refused}
@@ -25,6 +26,7 @@ use Rattle.charging.specs.Served.{AreTables, history, moment_of}
 use Rattle.statements.specs.Texts.{export_text, statement_text}
 use Rattle.statements.specs.declared.fault.StatementFault.{StatementFault}
 use Rattle.statements.specs.declared.fault.StatementFault.TheVariants as statement
+use Rattle.operations.specs.Printed.{IsEnded}
 use Rattle.operations.specs.Told.{answer_line}
 use Rattle.operations.specs.Written.{WritesBeginning}
 use Rattle.operations.specs.declared.fault.OfficeFault.{OfficeFault}
@@ -115,3 +117,21 @@ pub record OnlyReads {K : Type 0} (content : K → Tables) (failed : K → ℕ) 
   pub cleanness : clean new → clean old
   pub kept : failed old ≤ failed new
   pub cause : IsErrOf result (Store store.Store) → min (failed old + 1) max_failures ≤ failed new
+
+-- ---- over a keeper
+
+-- an account's month is told, or that there is no account; nothing is changed
+pub record ServesStatement {K W : Type 0} (content : K → Tables) (failed : K → ℕ)
+    (honest clean : K → Type 0) (leaves : K → Tables → Type 0) (contents : W → Option Bytes)
+    (b : Shelf) (q : MonthQuery) (t : Moment) (old new : K) (before after : W)
+    (result : Result Status OfficeFault) : Type 0 where
+  pub told : clean new →
+      IsMonthTold b q t (content old) (contents before) (contents after) result
+  pub ended : IfOk result (IsEnded (Appends (contents before) (contents after) unknown_line))
+  pub printed : IfOk result (PrintsMonth b q (contents before) (contents after))
+  pub begun : OnErr result (BeginsMonth b q (contents before) (contents after))
+  pub reads : OnlyReads content failed clean old new result
+  pub honesty : honest new → honest old
+  pub stands : honest new → OnOk result (clean new)
+  pub fault : (fault : StreamFault) → result ≡ Err (Write fault) → fault ≢ stream.Read
+  pub left : honest new → (tables : Tables) → leaves new tables → leaves old tables

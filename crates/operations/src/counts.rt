@@ -9,7 +9,7 @@ use voucher_rules::Addition;
 
 /// How many vouchers were added, stood there with the same terms, and were refused since one of
 /// other terms stands under their code (`O5`). Only the first changed anything.
-#[derive(Clone, Copy, Debug, PartialEq, Eq)]
+#[derive(Clone, Copy)]
 pub struct Counts {
     /// Added by this import.
     pub new: u64,

@@ -8,7 +8,7 @@ use texts::StreamFault;
 use thiserror::Error;
 
 /// Why an operator's command wasn't done, or its answer not told.
-#[derive(Clone, Copy, Debug, Drop, Error, PartialEq, Eq)]
+#[derive(Clone, Copy, Debug, Drop, Error)]
 pub enum OfficeFault {
     /// The keeper didn't do what it was asked: nothing has changed, but of vouchers a beginning was
     /// added.

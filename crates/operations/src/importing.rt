@@ -1,22 +1,14 @@
 //! Vouchers that are added, each by a command of its own.
 
-ghost use Rattle.std.specs.Prelude.{◌≡◌, ◌≢◌, Err, IfErr, IfOk, OnErr, OnOk, length};
-ghost use Rattle.std.specs.Io.KnownBytes.{Appends};
 ghost use Rattle.texts.specs.declared.streams.StreamFault.{StreamFault};
-ghost use Rattle.texts.specs.declared.streams.StreamFault.TheVariants.{Read as ReadFailed};
-ghost use Rattle.keepers.specs.Faults.{HasCause};
 ghost use Rattle.keepers.specs.declared.fault.StoreFault.{StoreFault};
-ghost use Rattle.operations.specs.Counts.{counts_line, total};
+ghost use Rattle.operations.specs.Counts.{counts_line};
 ghost use Rattle.charging.specs.Parts.{Leaves, PartKeeps};
 ghost use Rattle.charging.specs.Served.{Writes};
 ghost use Rattle.commands.specs.declared.command.Command.TheVariants.{AddVoucher};
-ghost use Rattle.operations.specs.Imports.{Adds, BeginsImport, HoldsBeginning, Imports};
-ghost use Rattle.operations.specs.Imports.{TellsImport};
+ghost use Rattle.operations.specs.Imports.{Adds, ImportsOver, ServesImport};
 ghost use Rattle.operations.specs.Imports.{addition_at};
-ghost use Rattle.operations.specs.Imports.{additions};
-ghost use Rattle.operations.specs.Printed.{PrintsCounts};
-ghost use Rattle.operations.specs.Stored.{StopsAtStore};
-ghost use Rattle.operations.specs.Written.{WritesBeginning};
+ghost use Rattle.operations.specs.Written.{WritesText};
 ghost use Rattle.operations.specs.declared.fault.OfficeFault.TheVariants.{Store, Write};
 
 use crate::counts::{Counts, count_one, counts_text, no_counts};
@@ -45,16 +37,8 @@ pub fn import<K: Keeper>(
     rows: Vec<VoucherAddition>,
     moment: Moment,
 ) -> Result<Counts, StoreFault>
-    ensures imported { K.clean keeper.new →
-        Imports shelf.now (additions moment rows.items) (K.content keeper.old)
-        (K.content keeper.new) result }
-    ensures all { IfOk result (λ counts. total counts ≡ length rows.items) }
-    ensures cleanness { K.clean keeper.new → K.clean keeper.old }
-    ensures honesty { K.honest keeper.new → K.honest keeper.old }
-    ensures stands { K.honest keeper.new → K.clean keeper.old → OnOk result (K.clean keeper.new) }
-    ensures left { Leaves K.honest K.left keeper.old keeper.new
-        (HoldsBeginning shelf.now (additions moment rows.items) (K.content keeper.old)) }
-    ensures cause { HasCause (K.failed keeper.old) (K.failed keeper.new) result }
+    ensures { ImportsOver K.content K.failed K.honest K.clean K.left shelf.now moment
+        rows.items keeper.old keeper.new result }
 {
     // For the prover alone: looking at the value makes known here what its type keeps.
     let _size = rows.len();
@@ -103,27 +87,8 @@ pub fn serve_import<K: Keeper, W: Write>(
     moment: Moment,
     writer: &mut W,
 ) -> Result<(), OfficeFault>
-    ensures done { K.clean keeper.new → OnOk result
-        (TellsImport shelf.now (additions moment rows.items) (K.content keeper.old)
-        (K.content keeper.new)
-        (λ counts. Appends (W.contents writer.old) (W.contents writer.new) (counts_line counts))) }
-    ensures printed { OnOk result (PrintsCounts (W.contents writer.old) (W.contents writer.new)) }
-    ensures untold { (fault : StreamFault) → result ≡ Err (Write fault) → K.clean keeper.new →
-        TellsImport shelf.now (additions moment rows.items) (K.content keeper.old)
-        (K.content keeper.new) (λ counts.
-        WritesBeginning (W.contents writer.old) (W.contents writer.new) (counts_line counts)) }
-    ensures unserved { (fault : StoreFault) → result ≡ Err (Store fault) → K.clean keeper.new →
-        BeginsImport shelf.now (additions moment rows.items) (K.content keeper.old)
-        (K.content keeper.new) }
-    ensures honesty { K.honest keeper.new → K.honest keeper.old }
-    ensures stands { K.honest keeper.new → K.clean keeper.old → OnOk result (K.clean keeper.new) }
-    ensures asked { (fault : StreamFault) → result ≡ Err (Write fault) → K.honest keeper.new →
-        K.clean keeper.old → K.clean keeper.new }
-    ensures fault { (fault : StreamFault) → result ≡ Err (Write fault) → fault ≢ ReadFailed }
-    ensures left { Leaves K.honest K.left keeper.old keeper.new
-        (HoldsBeginning shelf.now (additions moment rows.items) (K.content keeper.old)) }
-    ensures stops { StopsAtStore K.failed K.clean keeper.old keeper.new writer.old writer.new
-        result }
+    ensures { ServesImport K.content K.failed K.honest K.clean K.left W.contents shelf.now moment
+        rows.items keeper.old keeper.new writer.old writer.new result }
 {
     let counts = import(alloc, keeper, shelf, rows, moment).map_err(OfficeFault::Store)?;
     write_counts(alloc, writer, counts).map_err(OfficeFault::Write)
@@ -131,11 +96,8 @@ pub fn serve_import<K: Keeper, W: Write>(
 
 /// Writes counts as a line.
 fn write_counts<W: Write>(alloc: Global, writer: &mut W, counts: Counts) -> Result<(), StreamFault>
-    ensures written { OnOk result
-        (Appends (W.contents writer.old) (W.contents writer.new) (counts_line counts)) }
-    ensures err { OnErr result
-        (WritesBeginning (W.contents writer.old) (W.contents writer.new) (counts_line counts)) }
-    ensures fault { IfErr result (λ fault. fault ≢ ReadFailed) }
+    ensures { WritesText (counts_line counts) (W.contents writer.old) (W.contents writer.new)
+        result }
 {
     let text = counts_text(alloc, counts)?;
     write_line(writer, text)

@@ -1,16 +1,15 @@
 //! An account's month, as a statement or as CSV.
 
-ghost use Rattle.std.specs.Prelude.{◌≡◌, ◌≢◌, Err, IfErr, IfOk, OnOk, OnErr, IsErrOf};
+ghost use Rattle.std.specs.Prelude.{◌≡◌, ◌≢◌, Err, IfOk, IsErrOf};
 ghost use Rattle.std.specs.Io.KnownBytes.{Appends};
 ghost use Rattle.texts.specs.declared.streams.StreamFault.{StreamFault};
 ghost use Rattle.texts.specs.declared.streams.StreamFault.TheVariants.{Read as ReadFailed};
-ghost use Rattle.keepers.specs.Tables.{Tables};
 ghost use Rattle.keepers.specs.declared.fault.StoreFault.TheVariants.{Store as StoreFailed};
 ghost use Rattle.statements.specs.Charges.{Asks, Writes, WritesSome};
-ghost use Rattle.operations.specs.Months.{BeginsMonth, IsMonthTold, OnlyReads, PrintsMonth, Tells};
+ghost use Rattle.operations.specs.Months.{ServesStatement, Tells};
 ghost use Rattle.operations.specs.Months.{month_ended, month_fault, rows_text, unknown_line};
 ghost use Rattle.operations.specs.Printed.{IsEnded};
-ghost use Rattle.operations.specs.Written.{WritesBeginning};
+ghost use Rattle.operations.specs.Written.{WritesText};
 ghost use Rattle.operations.specs.declared.fault.OfficeFault.TheVariants.{Store, Write};
 ghost use Rattle.operations.specs.declared.status.Status.TheVariants.{Failed};
 
@@ -28,9 +27,10 @@ use std::alloc::Global;
 use std::io::Write;
 use texts::StreamFault;
 use units::Moment;
+use wire::WrittenAnswer;
 
 /// What is asked of an account: its charges of a month.
-#[derive(Debug, Drop)]
+#[derive(Drop)]
 pub struct MonthQuery {
     /// The account whose charges are asked for.
     pub account: AccountNumber,
@@ -56,20 +56,8 @@ pub fn serve_statement<K: ChargeSource, W: Write>(
     moment: Moment,
     writer: &mut W,
 ) -> Result<Status, OfficeFault>
-    ensures told { K.clean keeper.new →
-        IsMonthTold shelf.now query.now moment (K.content keeper.old)
-        (W.contents writer.old) (W.contents writer.new) result }
-    ensures ended { IfOk result (IsEnded
-        (Appends (W.contents writer.old) (W.contents writer.new) unknown_line)) }
-    ensures printed { IfOk result (PrintsMonth shelf.now query.now
-        (W.contents writer.old) (W.contents writer.new)) }
-    ensures begun { OnErr result (BeginsMonth shelf.now query.now
-        (W.contents writer.old) (W.contents writer.new)) }
-    ensures reads { OnlyReads K.content K.failed K.clean keeper.old keeper.new result }
-    ensures honesty { K.honest keeper.new → K.honest keeper.old }
-    ensures stands { K.honest keeper.new → OnOk result (K.clean keeper.new) }
-    ensures fault { (fault : StreamFault) → result ≡ Err (Write fault) → fault ≢ ReadFailed }
-    ensures left { K.honest keeper.new → (t : Tables) → K.left keeper.new t → K.left keeper.old t }
+    ensures { ServesStatement K.content K.failed K.honest K.clean K.left W.contents shelf.now
+        query.now moment keeper.old keeper.new writer.old writer.new result }
 {
     let state = match account_state(keeper, shelf, &query.account, moment) {
         Ok(state) => state,
@@ -157,12 +145,9 @@ fn tell_unknown<W: Write>(alloc: Global, writer: &mut W) -> Result<Status, Offic
 
 /// Writes that the account isn't there.
 fn write_unknown<W: Write>(alloc: Global, writer: &mut W) -> Result<(), StreamFault>
-    ensures written { OnOk result
-        (Appends (W.contents writer.old) (W.contents writer.new) unknown_line) }
-    ensures err { OnErr result
-        (WritesBeginning (W.contents writer.old) (W.contents writer.new) unknown_line) }
-    ensures fault { IfErr result (λ fault. fault ≢ ReadFailed) }
+    ensures { WritesText unknown_line (W.contents writer.old) (W.contents writer.new) result }
 {
     let unknown = Answer::Refused(Refusal::AccountUnknown);
-    write_answer_line(alloc, writer, &unknown)
+    let unknown = WrittenAnswer::new(alloc, unknown)?;
+    write_answer_line(writer, &unknown)
 }

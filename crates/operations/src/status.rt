@@ -4,9 +4,10 @@ ghost use Rattle.std.specs.Prelude.{◌≡◌};
 ghost use Rattle.operations.specs.Told.{status_number, status_of};
 
 use commands::Answer;
+use wire::WrittenAnswer;
 
 /// How the program ends.
-#[derive(Clone, Copy, Debug, PartialEq, Eq)]
+#[derive(Clone, Copy)]
 pub enum Status {
     /// What the words say was done.
     Done,
@@ -29,8 +30,15 @@ impl Status {
     }
 }
 
+/// How a command ends that is given this answer.
+pub(crate) fn ends_as(answer: &WrittenAnswer) -> Status
+    ensures { result ≡ status_of answer.now }
+{
+    status_of(answer.answer())
+}
+
 /// How a command with this answer ends: a refusal is no success.
-pub(crate) fn status_of(answer: &Answer) -> Status
+fn status_of(answer: &Answer) -> Status
     ensures { result ≡ status_of answer.now }
 {
     match answer {

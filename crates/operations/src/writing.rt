@@ -1,16 +1,12 @@
 //! Lines of answers.
 
-ghost use Rattle.std.specs.Prelude.{◌≡◌, ◌≢◌, ◌++◌, ◌∷◌, [], string_bytes, IfErr, OnOk, OnErr};
-ghost use Rattle.std.specs.Io.KnownBytes.{Appends};
-ghost use Rattle.texts.specs.declared.streams.StreamFault.TheVariants.{Read as ReadFailed};
+ghost use Rattle.std.specs.Prelude.{◌++◌, ◌∷◌, [], string_bytes};
 ghost use Rattle.operations.specs.Told.{answer_line};
-ghost use Rattle.operations.specs.Written.{WritesBeginning};
+ghost use Rattle.operations.specs.Written.{WritesText};
 
-use commands::Answer;
-use std::alloc::Global;
 use std::io::Write;
 use texts::{StreamFault, write_whole};
-use wire::write_answer;
+use wire::WrittenAnswer;
 
 /// Writes a text and a line feed.
 ///
@@ -18,12 +14,8 @@ use wire::write_answer;
 /// `Memory` where memory was refused, `Write` where the writer failed: then a beginning of the line
 /// is written.
 pub fn write_line<W: Write>(writer: &mut W, text: String) -> Result<(), StreamFault>
-    ensures written { OnOk result
-        (Appends (W.contents writer.old) (W.contents writer.new) (string_bytes text ++ 10 ∷ [])) }
-    ensures err { OnErr result
-        (WritesBeginning (W.contents writer.old) (W.contents writer.new)
-        (string_bytes text ++ 10 ∷ [])) }
-    ensures fault { IfErr result (λ fault. fault ≢ ReadFailed) }
+    ensures { WritesText (string_bytes text ++ 10 ∷ []) (W.contents writer.old)
+        (W.contents writer.new) result }
 {
     let mut line = text;
     line.push('\n')?;
@@ -31,18 +23,18 @@ pub fn write_line<W: Write>(writer: &mut W, text: String) -> Result<(), StreamFa
     Ok(())
 }
 
-/// Writes an answer as a line.
+/// Writes an answer as a line, its text as it stands; this takes no memory.
+///
+/// # Errors
+/// `Write` where the writer failed: then a beginning of the line is written.
 pub(crate) fn write_answer_line<W: Write>(
-    alloc: Global,
     writer: &mut W,
-    answer: &Answer,
+    answer: &WrittenAnswer,
 ) -> Result<(), StreamFault>
-    ensures written { OnOk result
-        (Appends (W.contents writer.old) (W.contents writer.new) (answer_line answer.now)) }
-    ensures err { OnErr result
-        (WritesBeginning (W.contents writer.old) (W.contents writer.new) (answer_line answer.now)) }
-    ensures fault { IfErr result (λ fault. fault ≢ ReadFailed) }
+    ensures { WritesText (answer_line answer.now) (W.contents writer.old) (W.contents writer.new)
+        result }
 {
-    let text = write_answer(alloc, answer)?;
-    write_line(writer, text)
+    write_whole(writer, answer.text().as_bytes())?;
+    write_whole(writer, b"\n")?;
+    Ok(())
 }

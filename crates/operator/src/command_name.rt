@@ -6,7 +6,7 @@ ghost use Rattle.std.specs.Cmp.Lexicographic.{pointwise};
 ghost use Rattle.operator.specs.Commands.{command_name, command_named, office_name};
 
 /// A command of the program, by its name.
-#[derive(Clone, Copy, Debug, PartialEq, Eq)]
+#[derive(Clone, Copy)]
 pub(crate) enum CommandName {
     Once,
     Init,
@@ -20,7 +20,7 @@ pub(crate) enum CommandName {
 }
 
 /// A command of an operator, by its name.
-#[derive(Clone, Copy, Debug, PartialEq, Eq)]
+#[derive(Clone, Copy)]
 pub(crate) enum OfficeName {
     Open,
     Bar,

@@ -7,7 +7,7 @@ use texts::number;
 use units::Moment;
 
 /// A line of dated requests: when its command came, and the command's text.
-#[derive(Clone, Copy, Debug)]
+#[derive(Clone, Copy)]
 pub struct DatedLine<'a> {
     /// When the command came, 0 to 4,102,444,799 seconds since 1970.
     pub moment: Moment,

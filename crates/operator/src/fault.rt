@@ -18,7 +18,7 @@ pub enum WordsFault {
 }
 
 /// Why a word isn't what its place takes.
-#[derive(Clone, Copy, Debug, Drop)]
+#[derive(Clone, Copy, Drop)]
 pub(crate) enum ValueFault {
     /// It is no number, out of range, or no name.
     Invalid,

@@ -10,7 +10,7 @@ use texts::Month;
 use units::{Moment, Money};
 
 /// What the words of `once` say: an account's opening credit, and the one price of its tariff book.
-#[derive(Clone, Copy, Debug)]
+#[derive(Clone, Copy)]
 pub struct OnceWords {
     /// What the account's bucket is opened with, 1 to 10^15 micro-units.
     pub credit: Money,
@@ -21,7 +21,7 @@ pub struct OnceWords {
 }
 
 /// What the words of `init` say: a new database for this tariff book.
-#[derive(Debug, Drop)]
+#[derive(Drop)]
 pub struct InitWords {
     /// The path at which the database is made.
     pub database: FilePath,
@@ -30,14 +30,14 @@ pub struct InitWords {
 }
 
 /// What the words of `migrate` say: a database that is brought to the latest version.
-#[derive(Debug, Drop)]
+#[derive(Drop)]
 pub struct MigrateWords {
     /// The path of the database.
     pub database: FilePath,
 }
 
 /// What the words of `book` say: a tariff book more for a database.
-#[derive(Debug, Drop)]
+#[derive(Drop)]
 pub struct BookWords {
     /// The path of the database to which the book is added.
     pub database: FilePath,
@@ -48,7 +48,7 @@ pub struct BookWords {
 }
 
 /// What the words of `serve` say: connections on a port of 127.0.0.1.
-#[derive(Debug, Drop)]
+#[derive(Drop)]
 pub struct ServeWords {
     /// The path of the database that is served.
     pub database: FilePath,
@@ -61,7 +61,7 @@ pub struct ServeWords {
 }
 
 /// What the words of `import` say: a file of vouchers for a database.
-#[derive(Debug, Drop)]
+#[derive(Drop)]
 pub struct ImportWords {
     /// The path of the database to which the vouchers are added.
     pub database: FilePath,
@@ -72,7 +72,7 @@ pub struct ImportWords {
 }
 
 /// A command that an operator types.
-#[derive(Debug, Drop)]
+#[derive(Drop)]
 pub enum OfficeCommand {
     /// Opens an account.
     Open(AccountNumber),
@@ -105,7 +105,7 @@ impl OfficeCommand {
 }
 
 /// What the words of an operator's command say.
-#[derive(Debug, Drop)]
+#[derive(Drop)]
 pub struct OfficeWords {
     /// The path of the database on which the command is carried out.
     pub database: FilePath,
@@ -116,7 +116,7 @@ pub struct OfficeWords {
 }
 
 /// What the words of `statement` say: the charges of an account in a month.
-#[derive(Debug, Drop)]
+#[derive(Drop)]
 pub struct StatementWords {
     /// The path of the database that has the account.
     pub database: FilePath,
@@ -131,7 +131,7 @@ pub struct StatementWords {
 }
 
 /// What the words of `replay` say: a file of dated requests for a database.
-#[derive(Debug, Drop)]
+#[derive(Drop)]
 pub struct ReplayWords {
     /// The path of the database on which the requests are carried out.
     pub database: FilePath,
@@ -140,7 +140,7 @@ pub struct ReplayWords {
 }
 
 /// What the program's words say.
-#[derive(Debug, Drop)]
+#[derive(Drop)]
 pub enum ProgramWords {
     /// `once`: requests from standard input, over one account and one price.
     Once(OnceWords),

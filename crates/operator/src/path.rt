@@ -9,7 +9,7 @@ use std::marker::Model;
 /// The path of a file: 1 byte or more (profile).
 ///
 /// Contracts see the list of its bytes.
-#[derive(Debug, Drop)]
+#[derive(Drop)]
 pub struct FilePath {
     text: String,
 }

@@ -1,7 +1,7 @@
 //! The program's commands with their operands and options.
 
 ghost use Rattle.std.specs.Prelude.{◌≡◌, IfOk, false};
-ghost use Rattle.clap.specs.Words.{app_of, with_rule, with_subcommand};
+ghost use Rattle.clap.specs.Words.{App, app_of, with_rule, with_subcommand};
 ghost use Rattle.clap.specs.declared.builder.command.Command.TheViews.{out-Command as fields_of};
 ghost use Rattle.operator.specs.Program.{account_app, accounts_app, allow_app, allow_operands_app};
 ghost use Rattle.operator.specs.Program.{at, book_app, books_app, credit_app};
@@ -194,14 +194,18 @@ fn replay_command<'a>(alloc: Global) -> Result<Command<'a>, AllocError>
     )
 }
 
-/// A program with one more command.
-fn with_command<'a>(program: Command<'a>, command: Command<'a>) -> Result<Command<'a>, AllocError>
+/// A program with one more command, where that was made.
+fn with_command<'a>(
+    program: Command<'a>,
+    command: Result<Command<'a>, AllocError>,
+) -> Result<Command<'a>, AllocError>
     requires program { (fields_of program).has_globals ≡ false }
-    requires command { (fields_of command).has_globals ≡ false }
-    ensures app { IfOk result
-        (λ c. app_of c ≡ with_subcommand (app_of program.entry) (app_of command.entry).top) }
+    requires command { IfOk command (λ c. (fields_of c).has_globals ≡ false) }
+    ensures app { IfOk result (λ made. (app : App) → IfOk command.entry (λ c. app_of c ≡ app) →
+        app_of made ≡ with_subcommand (app_of program.entry) app.top) }
     ensures local { IfOk result (λ c. (fields_of c).has_globals ≡ false) }
 {
+    let command = command?;
     program.subcommand(command)
 }
 
@@ -221,8 +225,8 @@ fn first_program<'a>(alloc: Global) -> Result<Command<'a>, AllocError>
     ensures app { IfOk result (λ c. app_of c ≡ first_app) }
     ensures local { IfOk result (λ c. (fields_of c).has_globals ≡ false) }
 {
-    let program = with_command(top_command(alloc), once_command(alloc)?)?;
-    with_command(program, init_command(alloc)?)
+    let program = with_command(top_command(alloc), once_command(alloc))?;
+    with_command(program, init_command(alloc))
 }
 
 /// The program with `once`, `init`, `migrate` and `book`.
@@ -231,8 +235,8 @@ fn books_program<'a>(alloc: Global) -> Result<Command<'a>, AllocError>
     ensures local { IfOk result (λ c. (fields_of c).has_globals ≡ false) }
 {
     let program = first_program(alloc)?;
-    let program = with_command(program, migrate_command(alloc)?)?;
-    with_command(program, book_command(alloc)?)
+    let program = with_command(program, migrate_command(alloc))?;
+    with_command(program, book_command(alloc))
 }
 
 /// The same with `serve` and `import`.
@@ -241,8 +245,8 @@ fn files_program<'a>(alloc: Global) -> Result<Command<'a>, AllocError>
     ensures local { IfOk result (λ c. (fields_of c).has_globals ≡ false) }
 {
     let program = books_program(alloc)?;
-    let program = with_command(program, serve_command(alloc)?)?;
-    with_command(program, import_command(alloc)?)
+    let program = with_command(program, serve_command(alloc))?;
+    with_command(program, import_command(alloc))
 }
 
 /// The same with `open`, `bar` and `unbar`.
@@ -251,11 +255,11 @@ fn account_program<'a>(alloc: Global) -> Result<Command<'a>, AllocError>
     ensures local { IfOk result (λ c. (fields_of c).has_globals ≡ false) }
 {
     let program = files_program(alloc)?;
-    let open = account_command(alloc, "open", "Opens an account")?;
+    let open = account_command(alloc, "open", "Opens an account");
     let program = with_command(program, open)?;
-    let bar = account_command(alloc, "bar", "Bars an account: it is granted nothing more")?;
+    let bar = account_command(alloc, "bar", "Bars an account: it is granted nothing more");
     let program = with_command(program, bar)?;
-    let unbar = account_command(alloc, "unbar", "Ends that an account is barred")?;
+    let unbar = account_command(alloc, "unbar", "Ends that an account is barred");
     with_command(program, unbar)
 }
 
@@ -265,9 +269,9 @@ fn office_program<'a>(alloc: Global) -> Result<Command<'a>, AllocError>
     ensures local { IfOk result (λ c. (fields_of c).has_globals ≡ false) }
 {
     let program = account_program(alloc)?;
-    let program = with_command(program, sweep_command(alloc)?)?;
-    let program = with_command(program, credit_command(alloc)?)?;
-    with_command(program, allow_command(alloc)?)
+    let program = with_command(program, sweep_command(alloc))?;
+    let program = with_command(program, credit_command(alloc))?;
+    with_command(program, allow_command(alloc))
 }
 
 /// The program with all its commands.
@@ -276,6 +280,6 @@ pub(crate) fn program<'a>(alloc: Global) -> Result<Command<'a>, AllocError>
     ensures local { IfOk result (λ c. (fields_of c).has_globals ≡ false) }
 {
     let program = office_program(alloc)?;
-    let program = with_command(program, statement_command(alloc)?)?;
-    with_command(program, replay_command(alloc)?)
+    let program = with_command(program, statement_command(alloc))?;
+    with_command(program, replay_command(alloc))
 }

@@ -18,7 +18,7 @@ use texts::{StreamFault, next_line};
 use wire::WireFault;
 
 /// Why a line isn't a request.
-#[derive(Clone, Copy, Debug)]
+#[derive(Clone, Copy)]
 pub(crate) enum LineFault {
     /// It has no moment, or its body isn't a JSON object.
     NotRequest,
@@ -29,7 +29,7 @@ pub(crate) enum LineFault {
 }
 
 /// What a line is told.
-#[derive(Clone, Copy, Debug)]
+#[derive(Clone, Copy)]
 pub(crate) enum Line {
     /// The answer to its request.
     Request,

@@ -1,19 +1,17 @@
 //! Lines that are read, run and told.
 
-ghost use Rattle.std.specs.Prelude.{◌≡◌, ◌≢◌, ◌≤◌, ◌+◌, ◌++◌, Err, IfNone, IfSome, OnErr, OnOk};
+ghost use Rattle.std.specs.Prelude.{◌≡◌, ◌≤◌, ◌+◌, ◌++◌, Err, IfNone};
 ghost use Rattle.std.specs.Prelude.{Some, length, min};
 ghost use Rattle.texts.specs.declared.streams.StreamFault.{StreamFault};
-ghost use Rattle.texts.specs.declared.streams.StreamFault.TheVariants.{Read as ReadFailed};
 ghost use Rattle.charging.specs.Continued.{ForEachList};
-ghost use Rattle.charging.specs.Parts.{Leaves};
 ghost use Rattle.keepers.specs.Faults.{max_failures};
 ghost use Rattle.keepers.specs.declared.fault.StoreFault.TheVariants.{Store as StoreFailed};
 ghost use Rattle.keepers.specs.Tables.{Tables};
 ghost use Rattle.operations.specs.Imports.{HoldsBeginning};
 ghost use Rattle.request_lines.specs.declared.fault.LinesFault.TheVariants.{Read, Write};
 ghost use Rattle.request_lines.specs.Faults.{ended_as};
-ghost use Rattle.request_lines.specs.Served.{AnswersLines, BeginsLines, IsRunOpened, TellsLines};
-ghost use Rattle.request_lines.specs.Served.{commands_of};
+ghost use Rattle.request_lines.specs.Served.{IsRunOpened};
+ghost use Rattle.request_lines.specs.Answering.{LinesOver};
 
 use crate::fault::LinesFault;
 use crate::input::{Input, read_input};
@@ -47,24 +45,8 @@ pub fn lines<K: Keeper, R: Read, W: Write>(
     reader: &mut R,
     writer: &mut W,
 ) -> Result<(), LinesFault>
-    ensures answers { AnswersLines shelf.now opening (R.remaining reader.old)
-        (W.contents writer.old) (W.contents writer.new)
-        K.content K.failed K.clean keeper.old keeper.new result }
-    ensures told { OnOk result (IfSome (R.remaining reader.old)
-        (TellsLines (W.contents writer.old) (W.contents writer.new))) }
-    ensures begun { OnErr result (IfSome (R.remaining reader.old)
-        (BeginsLines (W.contents writer.old) (W.contents writer.new))) }
-    ensures unread { (fault : StreamFault) → result ≡ Err (Read fault) → keeper.new ≡ keeper.old }
-    ensures unwritten { (fault : StreamFault) → result ≡ Err (Read fault) →
-        writer.new ≡ writer.old }
-    ensures fault { (fault : StreamFault) → result ≡ Err (Write fault) → fault ≢ ReadFailed }
-    ensures honesty { K.honest keeper.new → K.honest keeper.old }
-    ensures stands { K.honest keeper.new → K.clean keeper.old → OnOk result (K.clean keeper.new) }
-    ensures asked { (fault : StreamFault) → result ≡ Err (Write fault) → K.honest keeper.new →
-        K.clean keeper.old → K.clean keeper.new }
-    ensures left { K.clean keeper.old → Leaves K.honest K.left keeper.old keeper.new (λ t.
-        IfSome (R.remaining reader.old) (λ stream.
-        HoldsBeginning shelf.now (commands_of opening stream) (K.content keeper.old) t)) }
+    ensures { LinesOver K.content K.failed K.honest K.clean K.left W.contents shelf.now opening
+        (R.remaining reader.old) keeper.old keeper.new writer.old writer.new result }
 {
     let Input { lines, requests } = match read_input(alloc, reader) {
         Ok(input) => input,

@@ -10,12 +10,11 @@ ghost use Rattle.request_lines.specs.Output.{line_text};
 ghost use Rattle.operations.specs.Written.{WritesBeginning};
 
 use crate::input::Line;
-use commands::Answer;
 use operations::write_line;
 use std::alloc::{AllocError, Global};
 use std::io::Write;
 use texts::StreamFault;
-use wire::{write_answer, write_fault};
+use wire::{WrittenAnswer, write_fault};
 
 /// Writes what each line is told: its fault, or the next answer. It ends at the first request that
 /// has no answer.
@@ -23,7 +22,7 @@ pub(crate) fn write_output<W: Write>(
     alloc: Global,
     writer: &mut W,
     lines: &[Line],
-    answers: &[Answer],
+    answers: &[WrittenAnswer],
 ) -> Result<(), StreamFault>
     ensures written { OnOk result (Appends (W.contents writer.old) (W.contents writer.new)
         (texts_of (map told_fault lines.now) answers.now)) }
@@ -48,14 +47,14 @@ pub(crate) fn write_output<W: Write>(
 fn line_text(
     alloc: Global,
     line: Line,
-    answer: Option<&Answer>,
+    answer: Option<&WrittenAnswer>,
 ) -> Result<Option<String>, AllocError>
     ensures { IfOk result (λ text. option_map string_bytes text
         ≡ line_text (told_fault line) (option_map (λ a. a.now) answer.entry)) }
 {
     match (line, answer) {
         (Line::Fault(fault), _) => Ok(Some(write_fault(alloc, fault.into())?)),
-        (Line::Request, Some(answer)) => Ok(Some(write_answer(alloc, answer)?)),
+        (Line::Request, Some(answer)) => Ok(Some(answer.to_text()?)),
         (Line::Request, None) => Ok(None),
     }
 }

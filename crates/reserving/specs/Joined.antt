@@ -86,3 +86,14 @@ pub record IsReadJoined (ledger : Ledger) (left : LeftRows) (t : Moment) (a : Ac
 abbrev pub IsRead : Type 0
 IsRead = (ledger : Ledger) (left : LeftRows) (t : Moment) (a : AccountRows) → a.as_of ≤ t →
     IsJoined ledger left a → IsReadJoined ledger left t a
+
+-- all of them
+pub record StaysJoined : Type 0 where
+  pub advanced : StaysAdvanced
+  pub opened : StaysOpened
+  pub denied : StaysDenied
+  pub touched : StaysTouched
+  pub closed : StaysClosed
+  pub barred : StaysBarred
+  pub credited : StaysCredited
+  pub read : IsRead

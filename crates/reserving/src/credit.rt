@@ -1,13 +1,11 @@
 //! Credits and allowances of an account.
 
 ghost use Rattle.std.specs.Prelude.{◌≡◌, ◌≤◌, ◌<◌, OnOk, OnErr, IfOk, IsErrOf, ◌↔◌};
-ghost use Rattle.reserving.specs.Ledger.{Ledger};
-ghost use Rattle.reserving.specs.Rows.{IsAccount, IsRowsOf};
-ghost use Rattle.reserving.specs.Requests.{credited};
-ghost use Rattle.reserving.specs.Left.{LeftRows, IsWith};
+ghost use Rattle.reserving.specs.Rows.{IsAccount};
 ghost use Rattle.std.specs.Prelude.{Some};
+ghost use Rattle.reserving.specs.Calls.{Credits};
 ghost use Rattle.buckets.specs.Kinds.{most_of, IsScopeOf};
-ghost use Rattle.reserving.specs.Changes.{advanced, credited_account};
+ghost use Rattle.reserving.specs.Changes.{credited_account};
 
 use crate::account::Account;
 use crate::fault::AccountFault;
@@ -30,18 +28,7 @@ impl<'b> Account<'b> {
         moment: Moment,
     ) -> Result<u32, AccountFault>
         requires { self.old.as_of ≤ moment }
-        ensures rows { OnOk result
-            (self.new ≡ advanced moment (credited_account BucketKind.Money from until scope
-            amount self.old)) }
-        ensures number { IfOk result (λ n. n ≡ self.old.next_bucket) }
-        ensures ledger { OnOk result ((ledger : Ledger) → IsRowsOf ledger self.old →
-            IsRowsOf (credited moment BucketKind.Money from until scope amount ledger) self.new) }
-        ensures left { OnOk result ((ledger : Ledger) (left : LeftRows) →
-            IsWith ledger left moment self.old →
-            IsWith (credited moment BucketKind.Money from until scope amount ledger) left
-            moment self.new) }
-        ensures limit { IsErrOf result AccountFault.Limit ↔ (4294967295 < self.old.next_bucket) }
-        ensures err { OnErr result (self.new ≡ self.old) }
+        ensures { Credits BucketKind.Money from until scope amount moment self.old self.new result }
     {
         let number = self.credit_now(BucketKind::Money, from, until, scope, amount.micros())?;
         self.advance(moment);
@@ -64,19 +51,8 @@ impl<'b> Account<'b> {
     ) -> Result<u32, AccountFault>
         requires moment { self.old.as_of ≤ moment }
         requires most { blocks.0 ≤ 1_000_000_000 }
-        ensures rows { OnOk result
-            (self.new ≡ advanced moment
-            (credited_account BucketKind.Blocks from until (Some group) blocks.0 self.old)) }
-        ensures number { IfOk result (λ n. n ≡ self.old.next_bucket) }
-        ensures ledger { OnOk result ((ledger : Ledger) → IsRowsOf ledger self.old →
-            IsRowsOf (credited moment BucketKind.Blocks from until (Some group) blocks.0 ledger)
-            self.new) }
-        ensures left { OnOk result ((ledger : Ledger) (left : LeftRows) →
-            IsWith ledger left moment self.old →
-            IsWith (credited moment BucketKind.Blocks from until (Some group) blocks.0 ledger) left
-            moment self.new) }
-        ensures limit { IsErrOf result AccountFault.Limit ↔ (4294967295 < self.old.next_bucket) }
-        ensures err { OnErr result (self.new ≡ self.old) }
+        ensures { Credits BucketKind.Blocks from until (Some group) blocks.0 moment self.old
+            self.new result }
     {
         let number = self.credit_now(BucketKind::Blocks, from, until, Some(group), blocks.0)?;
         self.advance(moment);

@@ -1,19 +1,16 @@
 //! Events: their price, and the debit of it.
 
-ghost use Rattle.std.specs.Prelude.{◌≡◌, ◌+◌, ◌≤◌, ◌<◌, ℕ, true, false, None, List, [], is_some};
-ghost use Rattle.std.specs.Prelude.{OnErr, IfOk, IfSome, Err};
+ghost use Rattle.std.specs.Prelude.{◌≡◌, ◌+◌, ◌≤◌, ◌<◌, true, None, [], is_some};
+ghost use Rattle.std.specs.Prelude.{Err};
+ghost use Rattle.reserving.specs.Calls.{Debits, Tells};
 ghost use Rattle.buckets.specs.Holding.{uncollected};
-ghost use Rattle.reserving.specs.Ledger.{Ledger};
 ghost use Rattle.reserving.specs.Pricing.{cycle_at};
-ghost use Rattle.reserving.specs.Sessions.{session_in, group_in, counter_in};
+ghost use Rattle.reserving.specs.Sessions.{group_in, counter_in};
 ghost use Rattle.buckets.specs.Kinds.{due};
-ghost use Rattle.reserving.specs.Settlement.{due_of};
-ghost use Rattle.reserving.specs.Debiting.{event_price, rest_price, is_covered, debit_passes};
-ghost use Rattle.reserving.specs.Rows.{IsAccount, IsRowsOf};
-ghost use Rattle.reserving.specs.Left.{LeftRows, joined, IsBeside, IsWith};
-ghost use Rattle.reserving.specs.Results.{IsDebit};
-ghost use Rattle.reserving.specs.Changes.{advanced, used_in, count_in, event_price_in};
-ghost use Rattle.reserving.specs.Changes.{rest_price_in, is_covered_in, debit_passes_in};
+ghost use Rattle.reserving.specs.Debiting.{event_price, rest_price};
+ghost use Rattle.reserving.specs.Rows.{IsAccount};
+ghost use Rattle.reserving.specs.Changes.{used_in, count_in, event_price_in};
+ghost use Rattle.reserving.specs.Changes.{rest_price_in};
 ghost use Rattle.reserving.specs.Changes.{debited_account};
 
 use crate::account::Account;
@@ -31,11 +28,9 @@ impl<'b> Account<'b> {
     /// moment (RFC 8506 section 6.1; TS 32.296, rating function). It takes no memory and changes
     /// nothing.
     pub fn quote(&self, group: u32, units: Units, moment: Moment) -> Amount
-        ensures rows { result.0 ≡ (event_price_in group 0 units.0 moment self.now).amount.0 }
-        ensures ledger { (ledger : Ledger) → IsRowsOf ledger self.now →
-            result.0 ≡ (event_price self.now.shelf moment group 0 units.0 ledger).amount.0 }
-        ensures left { (ledger : Ledger) (left : LeftRows) → IsWith ledger left moment self.now →
-            result.0 ≡ (event_price self.now.shelf moment group 0 units.0 ledger).amount.0 }
+        ensures { Tells moment self.now result.0
+            (event_price_in group 0 units.0 moment self.now).amount.0
+            (λ ledger. (event_price self.now.shelf moment group 0 units.0 ledger).amount.0) }
     {
         self.event_price(group, Blocks(0), units, moment).amount
     }
@@ -44,11 +39,9 @@ impl<'b> Account<'b> {
     /// 6.2). It takes no memory and changes nothing.
     pub fn quote_rest(&self, group: u32, units: Units, moment: Moment) -> Amount
         requires { self.now.as_of ≤ moment }
-        ensures rows { result.0 ≡ (rest_price_in group units.0 moment self.now).amount.0 }
-        ensures ledger { (ledger : Ledger) → IsRowsOf ledger self.now →
-            result.0 ≡ (rest_price self.now.shelf moment group units.0 ledger).amount.0 }
-        ensures left { (ledger : Ledger) (left : LeftRows) → IsWith ledger left moment self.now →
-            result.0 ≡ (rest_price self.now.shelf moment group units.0 ledger).amount.0 }
+        ensures { Tells moment self.now result.0
+            (rest_price_in group units.0 moment self.now).amount.0
+            (λ ledger. (rest_price self.now.shelf moment group units.0 ledger).amount.0) }
     {
         self.rest_price(group, units, moment).amount
     }
@@ -103,40 +96,7 @@ impl<'b> Account<'b> {
         moment: Moment,
     ) -> Result<Option<Settled>, AccountFault>
         requires { self.old.as_of ≤ moment }
-        ensures debit { IfOk result (λ s. (ledger : Ledger) → IsRowsOf ledger self.old →
-            IsDebit self.old.shelf moment session.now group units.0 ledger self.new s) }
-        ensures left { IfOk result (λ s. (ledger : Ledger) (left : LeftRows) →
-            group_in session.now group left.groups ≡ None → IsWith ledger left moment self.old →
-            IsBeside left moment self.new ×
-            IsDebit self.old.shelf moment session.now group units.0 ledger (joined left self.new)
-            s) }
-        ensures limit { result ≡ Err AccountFault.Limit → (ledger : Ledger) →
-            IsRowsOf ledger self.old →
-            (is_covered self.old.shelf moment group units.0 ledger ≡ true) ×
-            (debit_passes self.old.shelf moment session.now group units.0 ledger ≡ true) }
-        ensures limit_left { result ≡ Err AccountFault.Limit → (ledger : Ledger) (left : LeftRows) →
-            group_in session.now group left.groups ≡ None → IsWith ledger left moment self.old →
-            (is_covered self.old.shelf moment group units.0 ledger ≡ true) ×
-            (debit_passes self.old.shelf moment session.now group units.0 ledger ≡ true) }
-        ensures covered_rows { IfOk result
-            (λ s. is_some s ≡ is_covered_in group units.0 moment self.old) }
-        ensures within_rows { IfOk result (λ s. IfSome s (λ given.
-            debit_passes_in session.now group units.0 moment self.old ≡ false)) }
-        ensures limit_rows { result ≡ Err AccountFault.Limit →
-            (is_covered_in group units.0 moment self.old ≡ true) ×
-            (debit_passes_in session.now group units.0 moment self.old ≡ true) }
-        ensures by_rows { IfOk result
-            (λ s. IfSome s (λ given. self.new ≡ debited_account session.now group units.0
-            (rest_price_in group units.0 moment self.old).blocks
-            (due_of (rest_price_in group units.0 moment self.old)) (advanced moment self.old))) }
-        ensures uncovered { IfOk result (λ s. s ≡ None → self.new ≡ self.old) }
-        ensures number { IfOk result
-            (λ s. IfSome s (λ given. self.old.next_charge ≤ 4_294_967_295)) }
-        ensures as_of { IfOk result (λ s. IfSome s (λ given. self.new.as_of ≡ moment)) }
-        ensures new { IfOk result (λ s. (x : List ℕ) → session_in x self.old.sessions ≡ None →
-            session_in x self.new.sessions ≡ None) }
-        ensures tariff { self.new.shelf ≡ self.old.shelf }
-        ensures err { OnErr result (self.new ≡ self.old) }
+        ensures { Debits session.now group units.0 moment self.old self.new result }
     {
         let price = self.rest_price(group, units, moment);
         if self.funds(group, moment) < price.amount {

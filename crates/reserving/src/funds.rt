@@ -3,17 +3,16 @@
 ghost use Rattle.std.specs.Prelude.{◌≡◌, ◌≤◌, ◌<◌, ◌^◌, true, if◌then◌else◌};
 ghost use Rattle.buckets.specs.Kinds.{most_of, is_alike};
 ghost use Rattle.buckets.specs.Share.{sum_in};
-ghost use Rattle.buckets.specs.Spend.{Each, IsSound, funds, allowance};
+ghost use Rattle.buckets.specs.Spend.{Each, IsSound, funds};
 ghost use Rattle.buckets.specs.Row.{eligible_amount, is_eligible};
 ghost use Rattle.buckets.specs.Holding.{held_in};
-ghost use Rattle.reserving.specs.Ledger.{Ledger};
 ghost use Rattle.reserving.specs.Balance.{buckets_at};
 ghost use Rattle.reserving.specs.Sessions.{held_by, is_live_in, session_before};
 ghost use Rattle.std.specs.Prelude.{◌*◌, ◌+◌};
-ghost use Rattle.reserving.specs.Rows.{AreAscending, IsAccount, IsRowsOf};
-ghost use Rattle.reserving.specs.Left.{LeftRows, IsWith};
+ghost use Rattle.reserving.specs.Rows.{AreAscending, IsAccount};
 ghost use Rattle.reserving.specs.Changes.{advanced};
 ghost use Rattle.std.specs.List.{list_any};
+ghost use Rattle.reserving.specs.Calls.{Tells, TellsAllowance};
 ghost use Rattle.reserving.specs.Lapsed.{held_for, is_eligible_in, lapsed_for, lapsed_funds};
 ghost use Rattle.reserving.specs.Pricing.{validity_of};
 
@@ -30,11 +29,10 @@ impl<'b> Account<'b> {
     /// changes nothing.
     pub fn funds(&self, group: u32, moment: Moment) -> Amount
         requires { self.now.as_of ≤ moment }
-        ensures rows { result.0 ≡ funds group moment (advanced moment self.now).buckets }
-        ensures ledger { (ledger : Ledger) → IsRowsOf ledger self.now →
-            result.0 ≡ funds group moment (buckets_at (validity_of self.now.shelf) moment ledger) }
-        ensures left { (ledger : Ledger) (left : LeftRows) → IsWith ledger left moment self.now →
-            result.0 ≡ funds group moment (buckets_at (validity_of self.now.shelf) moment ledger) }
+        ensures { Tells moment self.now result.0
+            (funds group moment (advanced moment self.now).buckets)
+            (λ ledger. funds group moment
+            (buckets_at (validity_of self.now.shelf) moment ledger)) }
     {
         Amount(self.sum_later(BucketKind::Money, group, moment))
     }
@@ -43,14 +41,7 @@ impl<'b> Account<'b> {
     /// account balance management function). It takes no memory and changes nothing.
     pub fn allowance(&self, group: u32, moment: Moment) -> Blocks
         requires { self.now.as_of ≤ moment }
-        ensures rows { result.0 ≡ allowance group moment (advanced moment self.now).buckets }
-        ensures ledger { (ledger : Ledger) → IsRowsOf ledger self.now →
-            result.0 ≡ allowance group moment
-            (buckets_at (validity_of self.now.shelf) moment ledger) }
-        ensures left { (ledger : Ledger) (left : LeftRows) → IsWith ledger left moment self.now →
-            result.0 ≡ allowance group moment
-            (buckets_at (validity_of self.now.shelf) moment ledger) }
-        ensures most { result.0 ≤ 4_294_967_296_000_000_000 }
+        ensures { TellsAllowance group moment self.now result.0 }
     {
         Blocks(self.sum_later(BucketKind::Blocks, group, moment) as u64)
     }

@@ -1,22 +1,19 @@
 //! Grants, and the reservations that they make.
 
-ghost use Rattle.std.specs.Prelude.{◌≡◌, ℕ, ◌+◌, ◌*◌, ◌≤◌, ◌<◌, ◌==◌, None, true, false, is_some};
-ghost use Rattle.std.specs.Prelude.{nat_lt, length, option_map, OnOk, OnErr, IfOk};
+ghost use Rattle.std.specs.Prelude.{◌≡◌, ◌≤◌, ◌<◌, ◌==◌, None, true, is_some};
+ghost use Rattle.std.specs.Prelude.{length, option_map, OnOk, OnErr, IfOk};
+ghost use Rattle.reserving.specs.Calls.{IsLive, Reserves, TellsGrant};
 ghost use Rattle.buckets.specs.Spend.{funds, allowance};
 ghost use Rattle.shelves.specs.Shelves.{book_at};
-ghost use Rattle.reserving.specs.Ledger.{Ledger};
 ghost use Rattle.reserving.specs.Sessions.{group_in, is_live_in};
-ghost use Rattle.reserving.specs.Pricing.{tariff_at, cycle_at, periods_at, terms_at, wanted_with};
-ghost use Rattle.reserving.specs.Pricing.{grant_with};
+ghost use Rattle.reserving.specs.Pricing.{tariff_at, cycle_at, terms_at};
 ghost use Rattle.reserving.specs.Pricing.{validity_of};
-ghost use Rattle.reserving.specs.Reservation.{grant_for, held_due};
+ghost use Rattle.reserving.specs.Reservation.{held_due};
 ghost use Rattle.reserving.specs.Quotas.{IsQuota};
 ghost use Rattle.reserving.specs.Changes.{advanced, used_in, count_in, reserved_account};
 ghost use Rattle.reserving.specs.Prepared.{with_group_row, reservation_in};
-ghost use Rattle.reserving.specs.Rows.{IsAccount, IsRowsOf};
+ghost use Rattle.reserving.specs.Rows.{IsAccount};
 ghost use Rattle.reserving.specs.Placed.{AreOfBook};
-ghost use Rattle.reserving.specs.Left.{LeftRows, joined, IsBeside, IsWith};
-ghost use Rattle.reserving.specs.Results.{GivesGrant, GivesGrantIn, IsWithinGrant};
 
 use crate::account::Account;
 use crate::fault::AccountFault;
@@ -29,7 +26,7 @@ use rating::{Grant, Periods, greatest_grant};
 use units::{Amount, Blocks, Moment, Units};
 
 /// What is granted of a wanted amount (Granted-Service-Unit, RFC 8506 section 8.17).
-#[derive(Clone, Copy, Debug, PartialEq, Eq)]
+#[derive(Clone, Copy, Debug)]
 pub enum Granted {
     /// The funds cover no unit: nothing is reserved.
     Nothing,
@@ -73,29 +70,10 @@ impl<'b> Account<'b> {
         moment: Moment,
     ) -> Result<Granted, AccountFault>
         requires moment { self.old.as_of ≤ moment }
-        requires live { is_live_in (validity_of self.old.shelf) moment self.old.sessions session.now
-            ≡ true }
+        requires live { IsLive self.old moment session.now }
         requires free { reservation_in session.now group self.old.groups ≡ None }
-        ensures rows { IfOk result (λ granted. (ledger : Ledger) → IsRowsOf ledger self.old →
-            GivesGrant self.old.shelf moment session.now group (option_map (λ u. u.0) requested)
-            ledger self.new granted) }
-        ensures left { IfOk result (λ granted. (ledger : Ledger) (left : LeftRows) →
-            IsWith ledger left moment self.old →
-            IsBeside left moment self.new ×
-            GivesGrant self.old.shelf moment session.now group (option_map (λ u. u.0) requested)
-            ledger (joined left self.new) granted) }
-        ensures by_rows { IfOk result
-            (GivesGrantIn session.now group moment (option_map (λ u. u.0) requested) self.old
-            self.new) }
-        ensures as_of { OnOk result (self.new.as_of ≡ moment) }
-        ensures tariff { self.new.shelf ≡ self.old.shelf }
-        ensures sessions { OnOk result (self.new.sessions ≡ (advanced moment self.old).sessions) }
-        ensures within { IfOk result (IsWithinGrant (tariff_at self.old.shelf moment group)) }
-        ensures others { OnOk result ((g : ℕ) → (g == group) ≡ false →
-            reservation_in session.now g self.old.groups ≡ None →
-            reservation_in session.now g self.new.groups ≡ None) }
-        ensures memory { OnErr result (result ≡ Err AccountFault.Memory) }
-        ensures err { OnErr result (self.new ≡ self.old) }
+        ensures { Reserves session.now group (option_map (λ u. u.0) requested) moment self.old
+            self.new result }
     {
         let window = window_at(self.shelf.book_at(moment), moment);
         let quota = self.quota(session, group, requested, window.periods, moment);
@@ -122,21 +100,7 @@ impl<'b> Account<'b> {
     /// section 5.2). It takes no memory and changes nothing.
     pub fn would_grant(&self, group: u32, requested: Option<Units>, moment: Moment) -> bool
         requires { self.now.as_of ≤ moment }
-        ensures rows { result
-            ≡ nat_lt 0
-            (grant_with (tariff_at self.now.shelf moment group) (periods_at self.now.shelf moment) 0
-            (count_in group (cycle_at self.now.shelf group moment) self.now.counters)
-            (option_map (λ u. u.0) requested)
-            (funds group moment (advanced moment self.now).buckets)
-            (allowance group moment (advanced moment self.now).buckets)).units.0 }
-        ensures ledger { (ledger : Ledger) → IsRowsOf ledger self.now →
-            result ≡ nat_lt 0
-            (grant_for self.now.shelf moment group 0 (option_map (λ u. u.0) requested)
-            ledger).units.0 }
-        ensures left { (ledger : Ledger) (left : LeftRows) → IsWith ledger left moment self.now →
-            result ≡ nat_lt 0
-            (grant_for self.now.shelf moment group 0 (option_map (λ u. u.0) requested)
-            ledger).units.0 }
+        ensures { TellsGrant group (option_map (λ u. u.0) requested) moment self.now result }
     {
         let periods = window_at(self.shelf.book_at(moment), moment).periods;
         let quota = self.quota_after(0, group, requested, periods, moment);

@@ -1,7 +1,6 @@
 //! Reports of use, settled.
 
 ghost use Rattle.std.specs.Prelude.{◌≡◌, ◌+◌};
-ghost use Rattle.reserving.specs.Pricing.{validity_of};
 
 use crate::account::Account;
 use crate::fault::AccountFault;
@@ -16,7 +15,7 @@ use units::{Amount, Blocks, Moment, Units, UsedPart};
 
 /// What became of a report of used units or of a debit. The type keeps that what is collected and
 /// what isn't sum to the rated amount.
-#[derive(Clone, Copy, Debug, PartialEq, Eq)]
+#[derive(Clone, Copy)]
 pub struct Settled {
     /// The blocks that the report started.
     pub blocks: Blocks,
@@ -51,16 +50,15 @@ pub(crate) struct RatedUse {
 }
 
 impl<'b> Account<'b> {
-    ghost use Rattle.std.specs.Prelude.{◌≡◌, ℕ, [], ◌+◌, ◌≤◌, ◌<◌, ◌^◌, true, false, None, is_some};
-    ghost use Rattle.std.specs.Prelude.{OnOk, OnErr, IsOk, IfOk, IfSome, List, Some, unwrap_or};
+    ghost use Rattle.std.specs.Prelude.{◌≡◌, ◌+◌, ◌≤◌, ◌<◌, ◌^◌, true, false, None, is_some};
+    ghost use Rattle.std.specs.Prelude.{OnOk, OnErr, IfSome, List, Some, unwrap_or};
     ghost use Rattle.reserving.specs.Ledger.{Ledger};
-    ghost use Rattle.reserving.specs.Sessions.{is_live_in};
-    ghost use Rattle.reserving.specs.Settlement.{reported, price_of, passes, passes_limit};
-    ghost use Rattle.reserving.specs.Settlement.{passes_after, settled_by};
-    ghost use Rattle.reserving.specs.Rows.{IsAccount, IsRowsOf};
+    ghost use Rattle.reserving.specs.Settlement.{reported, price_of, passes};
+    ghost use Rattle.reserving.specs.Settlement.{passes_after};
+    ghost use Rattle.reserving.specs.Rows.{IsAccount};
     ghost use Rattle.reserving.specs.Placed.{AreOfShelf};
     ghost use Rattle.reserving.specs.Left.{LeftRows, IsWith};
-    ghost use Rattle.reserving.specs.Results.{IsSettlementOf};
+    ghost use Rattle.reserving.specs.Calls.{IsLive, Settles};
     ghost use Rattle.buckets.specs.Kinds.{due};
     ghost use Rattle.buckets.specs.Holding.{uncollected, held_sum};
     ghost use Rattle.reserving.specs.Changes.{coverable_in};
@@ -72,13 +70,12 @@ impl<'b> Account<'b> {
       UnitAfterTariffChange,
     };
     ghost use Rattle.units.specs.declared.blocks.TariffChangeUsage.TheVariants.{UnitIndeterminate};
-    ghost use Rattle.calendar.specs.Timetable.{period_at};
     ghost use Rattle.reserving.specs.Pricing.{cycle_at, units_of, terms_now};
     ghost use Rattle.reserving.specs.Sessions.{group_in, counter_in};
-    ghost use Rattle.reserving.specs.Changes.{advanced, used_in, reserved_in, terms_in, count_in};
-    ghost use Rattle.reserving.specs.Changes.{price_in, passes_in, settled_account};
-    ghost use Rattle.reserving.specs.Changes.{settled_by_rows, ended_rows};
-    ghost use Rattle.reserving.specs.Prepared.{with_rows, reservation_in};
+    ghost use Rattle.reserving.specs.Changes.{used_in, reserved_in, terms_in, count_in};
+    ghost use Rattle.reserving.specs.Changes.{price_in, settled_account};
+    ghost use Rattle.reserving.specs.Changes.{ended_rows};
+    ghost use Rattle.reserving.specs.Prepared.{with_rows};
 
     /// Settles a report of a live session's use of a rating group, and ends its reservation (RFC
     /// 8506 section 5.3; TS 32.299, session charging with unit reservation). The rated amount is
@@ -97,46 +94,8 @@ impl<'b> Account<'b> {
         moment: Moment,
     ) -> Result<Settled, AccountFault>
         requires moment { self.old.as_of ≤ moment }
-        requires live { is_live_in (validity_of self.old.shelf) moment self.old.sessions session.now
-            ≡ true }
-        ensures rows { OnOk result ((ledger : Ledger) → IsRowsOf ledger self.old →
-            IsRowsOf (settled_by self.old.shelf moment session.now group parts.now ledger)
-            self.new) }
-        ensures left { OnOk result ((ledger : Ledger) (left : LeftRows) →
-            IsWith ledger left moment self.old →
-            IsWith (settled_by self.old.shelf moment session.now group parts.now ledger)
-            left moment self.new) }
-        ensures by_rows { OnOk result
-            (self.new ≡ settled_by_rows session.now group parts.now (advanced moment self.old)) }
-        ensures as_of { OnOk result (self.new.as_of ≡ moment) }
-        ensures tariff { self.new.shelf ≡ self.old.shelf }
-        ensures sessions { OnOk result (self.new.sessions ≡ (advanced moment self.old).sessions) }
-        ensures settled { IfOk result (λ s. (ledger : Ledger) → IsRowsOf ledger self.old →
-            IsSettlementOf self.old.shelf moment session.now group parts.now ledger s) }
-        ensures settled_left { IfOk result (λ s. (ledger : Ledger) (left : LeftRows) →
-            IsWith ledger left moment self.old →
-            IsSettlementOf self.old.shelf moment session.now group parts.now ledger s) }
-        ensures within { OnOk result ((ledger : Ledger) → IsRowsOf ledger self.old →
-            passes_limit self.old.shelf moment session.now group parts.now ledger ≡ false) }
-        ensures within_left { OnOk result ((ledger : Ledger) (left : LeftRows) →
-            IsWith ledger left moment self.old →
-            passes_limit self.old.shelf moment session.now group parts.now ledger ≡ false) }
-        ensures limit { result ≡ Err AccountFault.Limit → (ledger : Ledger) →
-            IsRowsOf ledger self.old →
-            passes_limit self.old.shelf moment session.now group parts.now ledger ≡ true }
-        ensures limit_left { result ≡ Err AccountFault.Limit → (ledger : Ledger) (left : LeftRows) →
-            IsWith ledger left moment self.old →
-            passes_limit self.old.shelf moment session.now group parts.now ledger ≡ true }
-        ensures within_rows { OnOk result
-            (passes_in session.now group moment parts.now self.old ≡ false) }
-        ensures limit_rows { result ≡ Err AccountFault.Limit →
-            passes_in session.now group moment parts.now self.old ≡ true }
-        ensures ended { parts.now ≡ [] → IsOk result }
-        ensures free { OnOk result (reservation_in session.now group self.new.groups ≡ None) }
-        ensures others { OnOk result
-            ((s : List ℕ) (g : ℕ) → reservation_in s g self.old.groups ≡ None →
-            reservation_in s g self.new.groups ≡ None) }
-        ensures err { OnErr result (self.new ≡ self.old) }
+        requires live { IsLive self.old moment session.now }
+        ensures { Settles session.now group parts.now moment self.old self.new result }
     {
         if parts.is_empty() {
             self.advance(moment);
@@ -176,8 +135,7 @@ impl<'b> Account<'b> {
         moment: Moment,
     ) -> bool
         requires later { self.now.as_of ≤ moment }
-        requires live { is_live_in (validity_of self.now.shelf) moment self.now.sessions session.now
-            ≡ true }
+        requires live { IsLive self.now moment session.now }
         ensures { (ledger : Ledger) (left : LeftRows) → IsWith ledger left moment self.now →
             result ≡ passes_after charges self.now.shelf moment session.now group parts.now ledger }
     {

@@ -1,7 +1,9 @@
 -- What becomes of a file of vouchers, for every list of accepted commands whose tables a keeper
 -- holds, and which faults are told.
 -- Source: profile.
-use Rattle.std.specs.Prelude.{◌≡◌, List, Option, Ok, Err, IsTrue, false}
+use Rattle.std.specs.Prelude.{◌≡◌, ◌≤◌, ℕ, List, Option, Result, Ok, Err, IsTrue, false}
+use Rattle.std.specs.Prelude.{IfErr, IfSome, OnOk}
+use Rattle.std.specs.Io.KnownBytes.{Appends}
 use Rattle.units.specs.Words.{Moment}
 use Rattle.texts.specs.StreamWords.{Bytes}
 use Rattle.commands.specs.declared.command.VoucherAddition.{VoucherAddition}
@@ -9,6 +11,7 @@ use Rattle.shelves.specs.Shelves.{Shelf}
 use Rattle.keepers.specs.Tables.{Tables}
 use Rattle.operations.specs.Counts.{counts_line}
 use Rattle.operations.specs.Imports.{BeginsImport, TellsImport, additions}
+use Rattle.operations.specs.Printed.{PrintsCounts}
 use Rattle.operations.specs.Written.{WritesBeginning}
 use Rattle.operations.specs.declared.counts.Counts.{Counts}
 use Rattle.operations.specs.declared.fault.OfficeFault.TheVariants.{Store, Write}
@@ -65,3 +68,30 @@ IsImportEnd at (Database fault) = IsCommandFault at fault
 abbrev pub IsUntold : ImportFault → Type 0
 IsUntold (Vouchers fault) = Unit {0}
 IsUntold (Database fault) = IsUnanswered fault
+
+-- ---- what the calls answer
+
+-- the counts are printed, or nothing is where the vouchers weren't added
+pub record ImportsOffice {A O : Type 0} (contents : O → Option Bytes) (at : Option Moment)
+    (old new : O) (result : Result A ImportFault) : Type 0 where
+  pub printed : OnOk result (PrintsCounts (contents old) (contents new))
+  pub unwritten : IfErr result (λ fault. IsUntold fault → new ≡ old)
+  pub fault : IfErr result (IsImportEnd at)
+
+-- over a keeper: the vouchers of a reader's text are added and counted, or a fault says why not
+pub record ImportsFile {A K O : Type 0} (content : K → Tables) (failed : K → ℕ)
+    (honest clean : K → Type 0) (contents : O → Option Bytes) (b : Shelf) (bytes : Option Bytes)
+    (t : Moment) (old new : K) (before after : O) (result : Result A ImportFault) : Type 0 where
+  pub done : clean new → OnOk result (IfSome bytes (λ text.
+      IsFileImported b text t (content old) (content new)
+      (λ counts. Appends (contents before) (contents after) (counts_line counts))))
+  pub printed : OnOk result (PrintsCounts (contents before) (contents after))
+  pub fault : clean new → IfErr result (λ fault. IfSome bytes (λ text.
+      IsImportFault b text t (content old) (content new) (contents before) (contents after)
+      fault))
+  pub unwritten : IfErr result (λ fault. IsUntold fault → after ≡ before)
+  pub told : IfErr result IsFileFault
+  pub honesty : honest new → honest old
+  pub stands : honest new → clean old → OnOk result (clean new)
+  pub cleanness : clean new → clean old
+  pub failures : failed old ≤ failed new

@@ -7,4 +7,5 @@ pub mod Importing
 pub mod Stating
 pub mod Over
 pub mod Clocks
+pub mod Connecting
 pub mod ServingTold

@@ -1,6 +1,7 @@
 -- What words make of the database that files held before, whatever they held.
 -- Source: profile.
-use Rattle.std.specs.Prelude.{◌≡◌, ◌<◌, ℕ, Option, None, Some, Ok}
+use Rattle.std.specs.Prelude.{◌≡◌, ◌<◌, ℕ, Option, None, Some, Result, Ok, Err}
+use Rattle.std.specs.Prelude.{IfErr, IfOk, IfSome, OnErr, OnOk}
 use Rattle.std.specs.Io.KnownBytes.{Appends}
 use Rattle.units.specs.Words.{Moment, no_end}
 use Rattle.texts.specs.StreamWords.{Bytes}
@@ -29,6 +30,7 @@ use Rattle.sql_keeper.specs.Stops.{trees_in}
 use Rattle.operations.specs.Carried.{IsCarriedOut}
 use Rattle.operations.specs.Counts.{counts_line}
 use Rattle.operations.specs.Months.{IsMonthTold}
+use Rattle.operations.specs.Printed.{PrintsAnswer, PrintsCounts}
 use Rattle.operations.specs.Told.{answer_line, status_of}
 use Rattle.operations.specs.declared.stating.MonthQuery.{MonthQuery}
 use Rattle.operations.specs.declared.status.Status.{Status}
@@ -36,7 +38,11 @@ use Rattle.operator.specs.Office.{command_of}
 use Rattle.operator.specs.declared.parsed.ImportWords.{ImportWords}
 use Rattle.operator.specs.declared.parsed.OfficeWords.{OfficeWords}
 use Rattle.operator.specs.declared.parsed.StatementWords.{StatementWords}
-use Rattle.service.specs.Importing.{IsFileImported}
+use Rattle.service.specs.Importing.{IsFileImported, IsImportEnd, IsUntold}
+use Rattle.service.specs.Opening.{IsCommandFault, IsUnanswered}
+use Rattle.service.specs.declared.fault.DatabaseFault.{DatabaseFault}
+use Rattle.service.specs.declared.fault.DatabaseFault.TheVariants.{Clock}
+use Rattle.service.specs.declared.importing.ImportFault.{ImportFault}
 
 -- ---- what is opened
 
@@ -122,3 +128,42 @@ pub record IsImportDone (words : ImportWords) (text : Bytes) (before after : Opt
   pub said : IsMomentOf words.at moment
   pub imported : IsFileImported shelf text moment old new
       (λ counts. Appends before after (counts_line counts))
+
+-- ---- what the calls answer, over what the files held
+
+-- the moment of the words, or the clock's, which may have none
+pub record GivesMoment (at : Option Moment) (result : Result Moment DatabaseFault) : Type 0 where
+  pub said : IfSome at (λ t. result ≡ Ok t)
+  pub asked : at ≡ None → IfOk result (λ t. t < no_end)
+  pub moment : IfOk result (IsMomentOf at)
+  pub told : OnErr result (result ≡ Err Clock)
+  pub unasked : OnErr result (at ≡ None)
+
+-- a command's answer is printed, or nothing is where it wasn't carried out
+pub record CommandsOffice {O : Type 0} (contents : O → Option Bytes) (at : Option Moment)
+    (old new : O) (result : Result Status DatabaseFault) : Type 0 where
+  pub printed : IfOk result (λ status. PrintsAnswer status (contents old) (contents new))
+  pub unwritten : IfErr result (λ fault. IsUnanswered fault → new ≡ old)
+  pub fault : IfErr result (IsCommandFault at)
+
+-- so it is, and the command was carried out over what the files held
+pub record CommandsOver {D O : Type 0} {g : disk.Ghosts D} (image : Image)
+    (contents : O → Option Bytes) (words : OfficeWords) (old new : O)
+    (result : Result (Status × KeeperState (FileStore D g)) DatabaseFault) : Type 0 where
+  pub carried : IfOk result (λ r. HasCleanDisk (file_state r.1.connection) →
+      Comes image r.1 (IsCommandDone words (contents old) (contents new) r.0))
+  pub printed : IfOk result (λ r. PrintsAnswer r.0 (contents old) (contents new))
+  pub unwritten : IfErr result (λ fault. IsUnanswered fault → new ≡ old)
+  pub fault : IfErr result (IsCommandFault words.at)
+
+-- the vouchers of a text were added to what the files held, and their counts are printed; or
+-- nothing is where they weren't
+pub record ImportsOver {D O : Type 0} {g : disk.Ghosts D} (image : Image)
+    (contents : O → Option Bytes) (words : ImportWords) (bytes : Option Bytes) (old new : O)
+    (result : Result (KeeperState (FileStore D g)) ImportFault) : Type 0 where
+  pub imported : IfOk result (λ keeper. HasCleanDisk (file_state keeper.connection) →
+      IfSome bytes (λ text. Comes image keeper
+      (IsImportDone words text (contents old) (contents new))))
+  pub printed : OnOk result (PrintsCounts (contents old) (contents new))
+  pub unwritten : IfErr result (λ fault. IsUntold fault → new ≡ old)
+  pub fault : IfErr result (IsImportEnd words.at)

@@ -1,11 +1,23 @@
 -- What is told of a port and of its connections, and which faults come before the first connection.
 -- Source: profile.
-use Rattle.std.specs.Prelude.{◌≡◌, ℕ, List, [], ◌∷◌, ◌++◌, codes, length, Option}
+use Rattle.std.specs.Prelude.{◌≡◌, ◌≤◌, ℕ, List, [], ◌∷◌, ◌++◌, codes, length, Option, Result}
+use Rattle.std.specs.Prelude.{IfErr, IfOk, OnErr, OnOk}
 use Rattle.std.specs.Fmt.{decimal}
+use Rattle.std.specs.Io.KnownBytes.{Appends}
 use Rattle.texts.specs.StreamWords.{Bytes}
+use Rattle.sqlite_disk.specs.declared.Disk as disk
+use Rattle.sqlite_wal.specs.Recovery.{Image}
+use Rattle.sqlite_store.specs.declared.store.FileStore.{FileStore}
+use Rattle.sqlite.specs.Files.{file_state}
+use Rattle.shelves.specs.Shelves.{Shelf}
+use Rattle.keepers.specs.Tables.{Tables}
+use Rattle.charging.specs.Continued.{Continues, LeavesOn}
+use Rattle.sql_keeper.specs.Inside.{KeeperState, IsClean}
 use Rattle.operations.specs.Written.{WritesBeginning}
+use Rattle.operator.specs.declared.parsed.ServeWords.{ServeWords}
 use Rattle.http_api.specs.declared.fault.ServeFault.{ServeFault}
 use Rattle.http_api.specs.declared.fault.ServeFault.TheVariants.{Memory, Read, Write}
+use Rattle.service.specs.Over.{Comes}
 use Rattle.service.specs.declared.fault.DatabaseFault.{DatabaseFault}
 use Rattle.service.specs.declared.fault.DatabaseFault.TheVariants as database
 
@@ -57,3 +69,48 @@ abbrev pub IsTellFault : DatabaseFault → Type 0
 IsTellFault database.File = Unit {0}
 IsTellFault database.Memory = Unit {0}
 IsTellFault _ = ⊥
+
+-- ---- a port
+
+-- that it is listened to is told, and so many of its connections' faults; or a fault comes before
+-- the first connection
+pub record Listens {A O E : Type 0} (contents : O → Option Bytes) (faults : E → Option Bytes)
+    (words : ServeWords) (failed : A → ℕ) (old new : O) (before after : E)
+    (result : Result A DatabaseFault) : Type 0 where
+  pub listening : OnOk result (Appends (contents old) (contents new) (listening_line words.port))
+  pub begun : OnErr result
+      (WritesBeginning (contents old) (contents new) (listening_line words.port))
+  pub unwritten : IfErr result (λ fault. IsUnlistened fault → new ≡ old)
+  pub told : IfOk result (λ r. TellsFaults (failed r) (faults before) (faults after))
+  pub bounded : IfOk result (λ r. failed r ≤ words.connections)
+  pub untold : OnErr result (after ≡ before)
+  pub fault : IfErr result IsServeFault
+
+-- so it is, and what the files held goes on by the requests that were accepted
+pub record ListensOver {D O E : Type 0} {g : disk.Ghosts D} (image : Image)
+    (contents : O → Option Bytes) (faults : E → Option Bytes) (words : ServeWords) (old new : O)
+    (before after : E) (result : Result (ℕ × KeeperState (FileStore D g)) DatabaseFault)
+    : Type 0 where
+  pub continued : IfOk result (λ r. IsClean (file_state r.1.connection) →
+      Comes image r.1 Continues)
+  pub listening : OnOk result (Appends (contents old) (contents new) (listening_line words.port))
+  pub begun : OnErr result
+      (WritesBeginning (contents old) (contents new) (listening_line words.port))
+  pub unwritten : IfErr result (λ fault. IsUnlistened fault → new ≡ old)
+  pub told : IfOk result (λ r. TellsFaults r.0 (faults before) (faults after))
+  pub bounded : IfOk result (λ r. r.0 ≤ words.connections)
+  pub untold : OnErr result (after ≡ before)
+  pub fault : IfErr result IsServeFault
+
+-- so many connections at most end in a fault, each of which is told; what was accepted is what the
+-- tables go on by
+pub record ServesConnections {K E : Type 0} (content : K → Tables) (failed : K → ℕ)
+    (honest clean : K → Type 0) (leaves : K → Tables → Type 0) (faults : E → Option Bytes)
+    (b : Shelf) (connections : ℕ) (old new : K) (before after : E) (result : ℕ) : Type 0 where
+  pub told : TellsFaults result (faults before) (faults after)
+  pub bounded : result ≤ connections
+  pub continued : clean new → Continues b (content old) (content new)
+  pub cleanness : clean new → clean old
+  pub honesty : honest new → honest old
+  pub left : LeavesOn content honest clean leaves b old new
+  pub failures : failed old ≤ failed new

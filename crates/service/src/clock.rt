@@ -1,7 +1,7 @@
 //! The moment of a command: that of the words, or the machine's.
 
-ghost use Rattle.std.specs.Prelude.{◌≡◌, ◌<◌, Ok, Err, None, OnErr, IfOk, IfSome};
-ghost use Rattle.service.specs.Over.{IsMomentOf};
+ghost use Rattle.std.specs.Prelude.{◌<◌, Ok, None, IfSome};
+ghost use Rattle.service.specs.Over.{GivesMoment};
 ghost use Rattle.service.specs.declared.fault.DatabaseFault.TheVariants.{Clock};
 
 use crate::fault::DatabaseFault;
@@ -22,11 +22,7 @@ pub fn machine_moment(rt: &HostRuntime) -> Option<Moment>
 /// # Errors
 /// `Clock` where the machine is asked and has none.
 pub fn command_moment(rt: &HostRuntime, at: Option<Moment>) -> Result<Moment, DatabaseFault>
-    ensures said { IfSome at (λ t. result ≡ Ok t) }
-    ensures asked { at ≡ None → IfOk result (λ t. t < 4_102_444_800) }
-    ensures moment { IfOk result (IsMomentOf at) }
-    ensures told { OnErr result (result ≡ Err Clock) }
-    ensures unasked { OnErr result (at ≡ None) }
+    ensures { GivesMoment at result }
 {
     match at {
         Some(at) => Ok(at),

@@ -10,13 +10,12 @@ ghost use Rattle.operations.specs.Told.{answer_line, status_of};
 ghost use Rattle.operations.specs.Written.{WritesBeginning};
 ghost use Rattle.operations.specs.declared.fault.OfficeFault.TheVariants.{Store, Write};
 ghost use Rattle.operator.specs.Office.{command_of};
-ghost use Rattle.sqlite.specs.Files.{file_state};
-ghost use Rattle.sqlite.specs.State.{HasCleanDisk};
 ghost use Rattle.sqlite_wal.specs.Files.{image_at};
-ghost use Rattle.service.specs.Opening.{IsCommandFault, IsOfficeFault, IsUnanswered};
+ghost use Rattle.service.specs.Opening.{IsOfficeFault, IsUnanswered};
 ghost use Rattle.sql_keeper.specs.Inside.{tables_in};
 ghost use Rattle.sql_keeper.specs.Stops.{honest_in};
-ghost use Rattle.service.specs.Over.{Comes, IsCommandDone, IsMomentOf};
+ghost use Rattle.service.specs.Over.{IsCommandDone, IsMomentOf};
+ghost use Rattle.service.specs.Over.{CommandsOffice, CommandsOver};
 ghost use Rattle.service.specs.declared.fault.DatabaseFault.TheVariants.{Office as OfOffice};
 
 use crate::clock::command_moment;
@@ -46,10 +45,7 @@ pub fn command_office<O: Write>(
     words: OfficeWords,
     output: &mut O,
 ) -> Result<Status, DatabaseFault>
-    ensures printed { IfOk result (λ status.
-        PrintsAnswer status (O.contents output.old) (O.contents output.new)) }
-    ensures unwritten { IfErr result (λ fault. IsUnanswered fault → output.new ≡ output.old) }
-    ensures fault { IfErr result (IsCommandFault words.at) }
+    ensures { CommandsOffice O.contents words.at output.old output.new result }
 {
     match command_over(rt, words, output, Wary) {
         Ok((status, _keeper)) => Ok(status),
@@ -68,13 +64,7 @@ pub fn command_over<S: Start, O: Write>(
     output: &mut O,
     start: S,
 ) -> Result<(Status, SqlKeeper<DatabaseFiles<S>>), DatabaseFault>
-    ensures carried { IfOk result (λ r. HasCleanDisk (file_state r.1.connection) →
-        Comes (image_at S.Start) r.1
-        (IsCommandDone words (O.contents output.old) (O.contents output.new) r.0)) }
-    ensures printed { IfOk result (λ r.
-        PrintsAnswer r.0 (O.contents output.old) (O.contents output.new)) }
-    ensures unwritten { IfErr result (λ fault. IsUnanswered fault → output.new ≡ output.old) }
-    ensures fault { IfErr result (IsCommandFault words.at) }
+    ensures { CommandsOver (image_at S.Start) O.contents words output.old output.new result }
 {
     let moment = command_moment(rt, words.at)?;
     let office = open_office(rt, &words.database, start)?;

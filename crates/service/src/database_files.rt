@@ -3,11 +3,8 @@
 ghost use Rattle.std.specs.Prelude.{codes, ◌≡◌, true, false, IsTrue, IfOk, IfErr};
 ghost use Rattle.sqlite_wal.specs.Files.{image_at};
 ghost use Rattle.sqlite_std_file.specs.File.{file_is_usable, IsFresh};
-ghost use Rattle.sqlite.specs.State.{HasCleanDisk};
-ghost use Rattle.sqlite.specs.Held.{IsNew};
 ghost use Rattle.sqlite.specs.Opening.{is_open_error};
-ghost use Rattle.sqlite.specs.Start.{FindsIn};
-ghost use Rattle.sqlite.specs.Files.{file_state, IsOpened};
+ghost use Rattle.service.specs.Connecting.{ConnectsTo};
 
 use sqlite::{Connection, Error, ErrorCode};
 use sqlite_disk::{Files, Start};
@@ -81,14 +78,7 @@ pub fn open_database<S: Start>(
     path: &str,
     start: S,
 ) -> Result<Connection<DatabaseFiles<S>>, Error>
-    ensures memory { path.now ≡ codes ":memory:" →
-        result ≡ Err (Error.SqliteFailure ErrorCode.CannotOpen) }
-    ensures named { IfErr result (λ e. IsTrue (is_open_error e)) }
-    ensures opened { IfOk result (λ c. HasCleanDisk (file_state c) → IsOpened c) }
-    ensures found { IfOk result
-        (λ c. HasCleanDisk (file_state c) → FindsIn (image_at S.Start) (file_state c)) }
-    ensures fresh { IfOk result IsNew }
-    ensures guarded { IfOk result (λ c. HasCleanDisk (file_state c) → (file_state c).IsShielded) }
+    ensures { ConnectsTo (image_at S.Start) path.now result }
 {
     let files = files_at(rt, path, start)?;
     let options = options(rt)?;

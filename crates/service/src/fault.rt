@@ -16,7 +16,7 @@ use tariffs::BookFault;
 use thiserror::Error;
 
 /// Why a command over a database isn't carried out, in the order in which it is looked for.
-#[derive(Clone, Copy, Debug, Drop, Error, PartialEq, Eq)]
+#[derive(Clone, Copy, Debug, Drop, Error)]
 pub enum DatabaseFault {
     /// A file that the words name can't be read, a standard stream failed, or the database can't be
     /// opened as one.

@@ -1,16 +1,13 @@
 //! A file of vouchers over a database.
 
-ghost use Rattle.std.specs.Prelude.{◌≡◌, ◌≤◌, IfErr, IfOk, IfSome, OnOk};
-ghost use Rattle.std.specs.Io.KnownBytes.{Appends};
-ghost use Rattle.operations.specs.Counts.{counts_line};
+ghost use Rattle.std.specs.Prelude.{◌≡◌, IfErr, IfOk, IfSome, OnOk};
 ghost use Rattle.operations.specs.Printed.{PrintsCounts};
-ghost use Rattle.service.specs.Importing.{IsFileFault, IsFileImported, IsImportEnd};
-ghost use Rattle.service.specs.Importing.{IsImportFault, IsUntold};
+ghost use Rattle.service.specs.Importing.{IsFileFault};
+ghost use Rattle.service.specs.Importing.{ImportsFile, ImportsOffice};
+ghost use Rattle.service.specs.Importing.{IsUntold};
 ghost use Rattle.sql_keeper.specs.Inside.{clean_in, tables_in};
 ghost use Rattle.sql_keeper.specs.Stops.{honest_in};
-ghost use Rattle.service.specs.Over.{Comes, IsImportDone, IsMomentOf};
-ghost use Rattle.sqlite.specs.Files.{file_state};
-ghost use Rattle.sqlite.specs.State.{HasCleanDisk};
+ghost use Rattle.service.specs.Over.{IsImportDone, IsMomentOf, ImportsOver};
 ghost use Rattle.sqlite_wal.specs.Files.{image_at};
 
 use crate::clock::command_moment;
@@ -32,7 +29,7 @@ use units::Moment;
 use vouchers::{VoucherFault, read_vouchers};
 
 /// Why the vouchers of a file weren't all added and told.
-#[derive(Clone, Copy, Debug, Drop, Error, PartialEq, Eq)]
+#[derive(Clone, Copy, Debug, Drop, Error)]
 pub enum ImportFault {
     /// The file has a fault, or wasn't read to its end: nothing has changed.
     #[error("voucher fault {} at record {}", .0.kind.number(), .0.record_number)]
@@ -64,9 +61,7 @@ pub fn import_office<O: Write>(
     words: ImportWords,
     output: &mut O,
 ) -> Result<(), ImportFault>
-    ensures printed { OnOk result (PrintsCounts (O.contents output.old) (O.contents output.new)) }
-    ensures unwritten { IfErr result (λ fault. IsUntold fault → output.new ≡ output.old) }
-    ensures fault { IfErr result (IsImportEnd words.at) }
+    ensures { ImportsOffice O.contents words.at output.old output.new result }
 {
     let reader = open_file(rt, words.file.as_str())?;
     match import_over(rt, &words, reader, output, Wary) {
@@ -88,12 +83,8 @@ pub fn import_over<S: Start, R: Read + Drop, O: Write>(
     output: &mut O,
     start: S,
 ) -> Result<SqlKeeper<DatabaseFiles<S>>, ImportFault>
-    ensures imported { IfOk result (λ keeper. HasCleanDisk (file_state keeper.connection) →
-        IfSome (R.remaining reader) (λ text. Comes (image_at S.Start) keeper
-        (IsImportDone words.now text (O.contents output.old) (O.contents output.new)))) }
-    ensures printed { OnOk result (PrintsCounts (O.contents output.old) (O.contents output.new)) }
-    ensures unwritten { IfErr result (λ fault. IsUntold fault → output.new ≡ output.old) }
-    ensures fault { IfErr result (IsImportEnd words.now.at) }
+    ensures { ImportsOver (image_at S.Start) O.contents words.now (R.remaining reader) output.old
+        output.new result }
 {
     let moment = command_moment(rt, words.at)?;
     let office = open_office(rt, &words.database, start)?;
@@ -140,21 +131,8 @@ pub fn import_file<K: Keeper, R: Read + Drop, O: Write>(
     moment: Moment,
     output: &mut O,
 ) -> Result<(), ImportFault>
-    ensures done { K.clean keeper.new → OnOk result (IfSome (R.remaining reader) (λ text.
-        IsFileImported shelf.now text moment (K.content keeper.old) (K.content keeper.new)
-        (λ counts. Appends (O.contents output.old) (O.contents output.new)
-        (counts_line counts)))) }
-    ensures printed { OnOk result (PrintsCounts (O.contents output.old) (O.contents output.new)) }
-    ensures fault { K.clean keeper.new → IfErr result (λ fault.
-        IfSome (R.remaining reader) (λ text.
-        IsImportFault shelf.now text moment (K.content keeper.old) (K.content keeper.new)
-        (O.contents output.old) (O.contents output.new) fault)) }
-    ensures unwritten { IfErr result (λ fault. IsUntold fault → output.new ≡ output.old) }
-    ensures told { IfErr result IsFileFault }
-    ensures honesty { K.honest keeper.new → K.honest keeper.old }
-    ensures stands { K.honest keeper.new → K.clean keeper.old → OnOk result (K.clean keeper.new) }
-    ensures cleanness { K.clean keeper.new → K.clean keeper.old }
-    ensures failures { K.failed keeper.old ≤ K.failed keeper.new }
+    ensures { ImportsFile K.content K.failed K.honest K.clean O.contents shelf.now
+        (R.remaining reader) moment keeper.old keeper.new output.old output.new result }
 {
     let rows = match read_vouchers(alloc, reader) {
         Ok(rows) => rows,

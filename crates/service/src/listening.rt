@@ -1,14 +1,13 @@
 //! A port of 127.0.0.1, over the database of the words.
 
-ghost use Rattle.std.specs.Prelude.{◌≡◌, ◌≤◌, IfErr, IfOk, OnErr, OnOk, string_bytes};
+ghost use Rattle.std.specs.Prelude.{◌≡◌, IfErr, IfOk, OnErr, OnOk, string_bytes};
 ghost use Rattle.std.specs.Io.KnownBytes.{Appends};
-ghost use Rattle.sqlite.specs.Files.{file_state};
 ghost use Rattle.sqlite_wal.specs.Files.{image_at};
 ghost use Rattle.charging.specs.Continued.{Continues};
-ghost use Rattle.sql_keeper.specs.Inside.{IsClean, clean_in, tables_in};
-ghost use Rattle.service.specs.Over.{Comes};
+ghost use Rattle.sql_keeper.specs.Inside.{clean_in, tables_in};
 ghost use Rattle.operations.specs.Written.{WritesBeginning};
-ghost use Rattle.service.specs.ServingTold.{IsServeFault, IsTellFault, IsUnlistened, TellsFaults};
+ghost use Rattle.service.specs.ServingTold.{IsTellFault};
+ghost use Rattle.service.specs.ServingTold.{Listens, ListensOver};
 ghost use Rattle.service.specs.ServingTold.{listening_line};
 
 use crate::database_files::DatabaseFiles;
@@ -39,16 +38,8 @@ pub fn serve_database<O: Write, E: Write>(
     output: &mut O,
     errors: &mut E,
 ) -> Result<u32, DatabaseFault>
-    ensures listening { OnOk result (Appends (O.contents output.old) (O.contents output.new)
-        (listening_line words.now.port)) }
-    ensures begun { OnErr result (WritesBeginning (O.contents output.old) (O.contents output.new)
-        (listening_line words.now.port)) }
-    ensures unwritten { IfErr result (λ fault. IsUnlistened fault → output.new ≡ output.old) }
-    ensures told { IfOk result
-        (λ failed. TellsFaults failed (E.contents errors.old) (E.contents errors.new)) }
-    ensures bounded { IfOk result (λ failed. failed ≤ words.now.connections) }
-    ensures untold { OnErr result (errors.new ≡ errors.old) }
-    ensures fault { IfErr result IsServeFault }
+    ensures { Listens O.contents E.contents words.now (λ failed. failed) output.old output.new
+        errors.old errors.new result }
 {
     match serve_over(rt, words, output, errors, Wary) {
         Ok((failed, _keeper)) => Ok(failed),
@@ -68,18 +59,8 @@ pub fn serve_over<S: Start, O: Write, E: Write>(
     errors: &mut E,
     start: S,
 ) -> Result<(u32, SqlKeeper<DatabaseFiles<S>>), DatabaseFault>
-    ensures continued { IfOk result (λ r. IsClean (file_state r.1.connection) →
-        Comes (image_at S.Start) r.1 Continues) }
-    ensures listening { OnOk result (Appends (O.contents output.old) (O.contents output.new)
-        (listening_line words.now.port)) }
-    ensures begun { OnErr result (WritesBeginning (O.contents output.old) (O.contents output.new)
-        (listening_line words.now.port)) }
-    ensures unwritten { IfErr result (λ fault. IsUnlistened fault → output.new ≡ output.old) }
-    ensures told { IfOk result
-        (λ r. TellsFaults r.0 (E.contents errors.old) (E.contents errors.new)) }
-    ensures bounded { IfOk result (λ r. r.0 ≤ words.now.connections) }
-    ensures untold { OnErr result (errors.new ≡ errors.old) }
-    ensures fault { IfErr result IsServeFault }
+    ensures { ListensOver (image_at S.Start) O.contents E.contents words.now output.old output.new
+        errors.old errors.new result }
 {
     let office = open_office(rt, &words.database, start)?;
     serve_office(rt, office, words, output, errors)
@@ -97,16 +78,8 @@ fn serve_office<S: Alter + Drop, O: Write, E: Write>(
         Continues office.shelf (tables_in S.Store office.keeper) (tables_in S.Store r.1)) }
     ensures cleanness { IfOk result (λ r. clean_in S.Store r.1 →
         clean_in S.Store office.keeper) }
-    ensures listening { OnOk result (Appends (O.contents output.old) (O.contents output.new)
-        (listening_line words.now.port)) }
-    ensures begun { OnErr result (WritesBeginning (O.contents output.old) (O.contents output.new)
-        (listening_line words.now.port)) }
-    ensures unwritten { IfErr result (λ fault. IsUnlistened fault → output.new ≡ output.old) }
-    ensures told { IfOk result
-        (λ r. TellsFaults r.0 (E.contents errors.old) (E.contents errors.new)) }
-    ensures bounded { IfOk result (λ r. r.0 ≤ words.now.connections) }
-    ensures untold { OnErr result (errors.new ≡ errors.old) }
-    ensures fault { IfErr result IsServeFault }
+    ensures listens { Listens O.contents E.contents words.now (λ r. r.0) output.old output.new
+        errors.old errors.new result }
 {
     let Office { mut keeper, shelf } = office;
     let Ok(listener) = TcpListener::bind(rt, (Ipv4Addr::LOCALHOST, words.port)) else {

@@ -1,8 +1,7 @@
 //! Connections of a listener, one after another.
 
-ghost use Rattle.std.specs.Prelude.{◌≡◌, ◌≤◌};
-ghost use Rattle.charging.specs.Continued.{Continues, LeavesOn};
-ghost use Rattle.service.specs.ServingTold.{TellsFaults};
+ghost use Rattle.charging.specs.Continued.{GoesOn};
+ghost use Rattle.service.specs.ServingTold.{ServesConnections};
 
 use crate::telling::tell_fault;
 use http_api::{Clock, ServeFault, Served, serve_socket};
@@ -24,14 +23,8 @@ pub fn serve_connections<K: ChargeSource, C: Clock, E: Write>(
     clock: &mut C,
     errors: &mut E,
 ) -> u32
-    ensures told { TellsFaults result (E.contents errors.old) (E.contents errors.new) }
-    ensures bounded { result ≤ connections }
-    ensures continued { K.clean keeper.new →
-        Continues shelf.now (K.content keeper.old) (K.content keeper.new) }
-    ensures cleanness { K.clean keeper.new → K.clean keeper.old }
-    ensures honesty { K.honest keeper.new → K.honest keeper.old }
-    ensures left { LeavesOn K.content K.honest K.clean K.left shelf.now keeper.old keeper.new }
-    ensures failures { K.failed keeper.old ≤ K.failed keeper.new }
+    ensures { ServesConnections K.content K.failed K.honest K.clean K.left E.contents shelf.now
+        connections keeper.old keeper.new errors.old errors.new result }
 {
     let mut failed = 0;
     for _served in 0..connections {
@@ -49,14 +42,8 @@ fn serve_next<K: ChargeSource, C: Clock, E: Write>(
     clock: &mut C,
     errors: &mut E,
 ) -> u32
-    ensures told { TellsFaults result (E.contents errors.old) (E.contents errors.new) }
-    ensures bounded { result ≤ 1 }
-    ensures continued { K.clean keeper.new →
-        Continues shelf.now (K.content keeper.old) (K.content keeper.new) }
-    ensures cleanness { K.clean keeper.new → K.clean keeper.old }
-    ensures honesty { K.honest keeper.new → K.honest keeper.old }
-    ensures left { LeavesOn K.content K.honest K.clean K.left shelf.now keeper.old keeper.new }
-    ensures failures { K.failed keeper.old ≤ K.failed keeper.new }
+    ensures { ServesConnections K.content K.failed K.honest K.clean K.left E.contents shelf.now
+        1 keeper.old keeper.new errors.old errors.new result }
 {
     match serve_accepted(rt, listener, keeper, shelf, clock) {
         Ok(_) => 0,
@@ -75,12 +62,7 @@ fn serve_accepted<K: ChargeSource, C: Clock>(
     shelf: &TariffShelf,
     clock: &mut C,
 ) -> Result<Served, ServeFault>
-    ensures continued { K.clean keeper.new →
-        Continues shelf.now (K.content keeper.old) (K.content keeper.new) }
-    ensures cleanness { K.clean keeper.new → K.clean keeper.old }
-    ensures honesty { K.honest keeper.new → K.honest keeper.old }
-    ensures left { LeavesOn K.content K.honest K.clean K.left shelf.now keeper.old keeper.new }
-    ensures failures { K.failed keeper.old ≤ K.failed keeper.new }
+    ensures { GoesOn K.content K.failed K.honest K.clean K.left shelf.now keeper.old keeper.new }
 {
     match listener.accept() {
         Ok((stream, _)) => serve_socket(rt, &stream, keeper, shelf, clock),

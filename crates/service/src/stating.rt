@@ -4,14 +4,13 @@ ghost use Rattle.std.specs.Prelude.{◌≡◌, IfErr, IfOk, OnErr, OnOk};
 ghost use Rattle.std.specs.Io.KnownBytes.{Appends};
 ghost use Rattle.operations.specs.Months.{IsMonthTold, OnlyReads, unknown_line};
 ghost use Rattle.operations.specs.Printed.{IsEnded};
-ghost use Rattle.service.specs.Opening.{IsCommandFault, IsOfficeFault, IsUnasked};
-ghost use Rattle.sqlite.specs.Files.{file_state};
-ghost use Rattle.sqlite.specs.State.{HasCleanDisk};
+ghost use Rattle.service.specs.Opening.{IsOfficeFault, IsUnasked};
 ghost use Rattle.sqlite_wal.specs.Files.{image_at};
 ghost use Rattle.sql_keeper.specs.Inside.{tables_in};
 ghost use Rattle.sql_keeper.specs.Stops.{honest_in};
-ghost use Rattle.service.specs.Over.{Comes, IsMomentOf, IsMonthDone, query_of};
+ghost use Rattle.service.specs.Over.{IsMomentOf, IsMonthDone, query_of};
 ghost use Rattle.service.specs.Stating.{BeginsMonthOf, IsOfOffice, PrintsMonthOf};
+ghost use Rattle.service.specs.Stating.{StatesOffice, StatesOver};
 
 use crate::clock::command_moment;
 use crate::database_files::DatabaseFiles;
@@ -39,14 +38,7 @@ pub fn state_office<O: Write>(
     words: StatementWords,
     output: &mut O,
 ) -> Result<Status, DatabaseFault>
-    ensures printed { IfOk result
-        (PrintsMonthOf words (O.contents output.old) (O.contents output.new)) }
-    ensures begun { OnErr result
-        (BeginsMonthOf words (O.contents output.old) (O.contents output.new)) }
-    ensures ended { IfOk result (IsEnded
-        (Appends (O.contents output.old) (O.contents output.new) unknown_line)) }
-    ensures unwritten { IfErr result (λ fault. IsUnasked fault → output.new ≡ output.old) }
-    ensures fault { IfErr result (IsCommandFault words.at) }
+    ensures { StatesOffice O.contents words output.old output.new result }
 {
     match state_over(rt, words, output, Wary) {
         Ok((status, _keeper)) => Ok(status),
@@ -65,17 +57,7 @@ pub fn state_over<S: Start, O: Write>(
     output: &mut O,
     start: S,
 ) -> Result<(Status, SqlKeeper<DatabaseFiles<S>>), DatabaseFault>
-    ensures told { IfOk result (λ r. HasCleanDisk (file_state r.1.connection) →
-        Comes (image_at S.Start) r.1
-        (IsMonthDone words (O.contents output.old) (O.contents output.new) r.0)) }
-    ensures printed { IfOk result (λ r.
-        PrintsMonthOf words (O.contents output.old) (O.contents output.new) r.0) }
-    ensures begun { OnErr result
-        (BeginsMonthOf words (O.contents output.old) (O.contents output.new)) }
-    ensures ended { IfOk result (λ r. IsEnded
-        (Appends (O.contents output.old) (O.contents output.new) unknown_line) r.0) }
-    ensures unwritten { IfErr result (λ fault. IsUnasked fault → output.new ≡ output.old) }
-    ensures fault { IfErr result (IsCommandFault words.at) }
+    ensures { StatesOver (image_at S.Start) O.contents words output.old output.new result }
 {
     let moment = command_moment(rt, words.at)?;
     let office = open_office(rt, &words.database, start)?;

@@ -139,11 +139,23 @@ free_told names b c book y none = λ i. record {
       ∙ sym (none_reserved names c book) ∙ ap (content.reserved_in names c book) (sym none)) i;
 }
 
--- a group that isn't written stands in a session that is open as before, or has no reservation
-module _ (names : Names) (w : StoredRows) (r : Stored)
+-- a session that is open among those that are named is open over those that are stored
+pub open_named : (sessions : List Session) (r : Stored) (s : List ℕ) →
+    is_open_row (session_in s sessions) ≡ true → is_open_over sessions r s ≡ true
+open_named sessions r s = at (session_in s sessions)
+  where
+    at : (o : Option Session) → is_open_row o ≡ true → is_open_row (first_of o (r.sessions s)) ≡ true
+    at None e = not_both (sym e)
+    at (Some x) e = e
+
+-- a group that isn't written stands in a session that is open as before, or has no reservation; one
+-- that is written stands in one of the sessions among which it was tested
+module _ (names : Names) (among : List Session) (w : StoredRows) (r : Stored)
     (settled : AreSettled w.sessions w.groups r)
+    (opens : (s : List ℕ) → is_open_row (session_in s among) ≡ true →
+    is_open_over w.sessions r s ≡ true)
     (may : (s : List ℕ) (g : ℕ) (x : SessionGroup) → group_in s g w.groups ≡ Some x →
-    MayStand names w.sessions s x.reservation) where
+    MayStand names among s x.reservation) where
   pub open_after : List ℕ → Bool
   open_after s = is_open_over w.sessions r s
 
@@ -153,14 +165,9 @@ module _ (names : Names) (w : StoredRows) (r : Stored)
   unfolding open_after
   told_beside s g y there none = settled s g y there none
 
-  still_open : (s : List ℕ) → is_open_row (session_in s w.sessions) ≡ true → open_after s ≡ true
+  still_open : (s : List ℕ) → is_open_row (session_in s among) ≡ true → open_after s ≡ true
   unfolding open_after
-  still_open s = at (session_in s w.sessions)
-    where
-      at : (o : Option Session) → is_open_row o ≡ true →
-          is_open_row (first_of o (r.sessions s)) ≡ true
-      at None e = not_both (sym e)
-      at (Some x) e = e
+  still_open s e = opens s e
 
   pub groups_read : (s : List ℕ) (g : ℕ)
       → option_map
@@ -171,7 +178,7 @@ module _ (names : Names) (w : StoredRows) (r : Stored)
       (r.groups s g))
   groups_read s g = at (group_in s g w.groups) (r.groups s g) refl refl
     where
-      back : (o : Option Reservation) (used : ℕ) → MayStand names w.sessions s o
+      back : (o : Option Reservation) (used : ℕ) → MayStand names among s o
           → stored_group names (open_after s) (book_put o)
           (record { used = used; periods = option_map (names_held names) o })
           ≡ record { used = used; terms = option_map (λ (x : Reservation). x.terms) o }
@@ -211,7 +218,7 @@ module _ (names : Names) (w : StoredRows) (r : Stored)
       not_held true before = refl
       not_held false before = refl
 
-      back : (o : Option Reservation) → MayStand names w.sessions s o
+      back : (o : Option Reservation) → MayStand names among s o
           → held_in (open_after s
           && is_some (option_map (names_held names) o))
           (amount_at n (holds_in o)) ≡ tables.held_at n (holds_in o)
@@ -427,9 +434,10 @@ module _ (names : Names) (m : Meta) (change : Change) (texts : Option Kept) (c :
     rows_at x true e =
         kept_rows names change.kept texts
         (over_paid change.charges.items (over_stored names change.rows (c.rows x)))
-        ∙ rows_read names change.rows (c.rows x)
+        ∙ rows_read names change.rows.sessions change.rows (c.rows x)
         (subst (λ a. AreSettled change.rows.sessions change.rows.groups (c.rows a))
         (name_from change.number x e) may.settled)
+        (open_named change.rows.sessions (c.rows x))
         (may_at names change.rows.sessions change.rows.groups may.reservations)
         (keyed_named change.rows named).scoped
     rows_at x false e = refl

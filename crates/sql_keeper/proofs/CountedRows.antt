@@ -8,6 +8,7 @@ use Rattle.std.proofs.lemmas.List.{map_more}
 use Rattle.buckets.specs.Row.{Row}
 use Rattle.buckets.specs.declared.bucket.columns.Columns.{Columns}
 use Rattle.reserving.specs.Left.{is_dead, only, bucket_in}
+use Rattle.reserving.proofs.Lists.{no_some}
 use Rattle.sql_tables.specs.Selects.{only as those}
 use Rattle.sql_rows.specs.Content.{Rows as Stored}
 use Rattle.sql_rows.specs.Lists.{AreAllowances, AreBuckets, BucketsRise, is_live}
@@ -22,6 +23,12 @@ use Rattle.sql_keeper.proofs.DeadRows.{apart, spent_is_dead, in_order}
 use Rattle.sql_keeper.proofs.Overlays.{number_from}
 
 -- ---- one row
+
+-- a bucket of no one rating group isn't asked for
+pub not_scoped : (there : Bool) (scope : Option ℕ) (is : Bool) → scope ≡ None →
+    IsScoped there scope is
+not_scoped there None is e = tt
+not_scoped there (Some g) is e = absurd (no_some g (sym e))
 
 told_alike : (b : Row) (there is : Bool) (scope : Option ℕ) → IsScoped there scope is
     → record b { scope = scope; kind = content.kind_in (is_some scope && is) }

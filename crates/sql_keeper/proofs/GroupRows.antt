@@ -3,8 +3,8 @@ use Rattle.std.proofs.Common.{◌≡◌, ◌<◌, ℕ, Bool, true, false, cond, 
 use Rattle.std.proofs.Common.{Some, None, length, map, take, get_or, refl, sym, ap, ap₂, subst, ◌∙◌}
 use Rattle.std.proofs.Common.{true≢false}
 use Rattle.std.specs.Prelude.{if◌then◌else◌, ◌&&◌, ◌==◌, ◌+◌, nat_eq, option_map, unwrap_or}
-use Rattle.std.specs.Prelude.{filter, is_some}
-use Rattle.std.specs.List.{find, AllZip}
+use Rattle.std.specs.Prelude.{filter, is_some, nat_lt, not, ◌||◌}
+use Rattle.std.specs.List.{find, list_any, AllZip}
 use Rattle.std.proofs.lemmas.Bool.{and_parts}
 use Rattle.std.proofs.lemmas.List.{map_more}
 use Rattle.std.proofs.lemmas.Slice.Zip.{all_zipped_more}
@@ -16,6 +16,7 @@ use Rattle.reserving.specs.declared.session.Reservation.{Reservation}
 use Rattle.reserving.specs.declared.session.Terms.{Terms}
 use Rattle.reserving.specs.Sessions.{is_of, group_in, holds_in}
 use Rattle.reserving.specs.Left.{is_open_row}
+use Rattle.reserving.proofs.Lists.{no_some, some_of}
 use Rattle.keepers.specs.Tables.{GroupRow, group_row, held_at, held_of}
 use Rattle.sql_tables.specs.Keyed.{same_name}
 use Rattle.sql_rows.specs.declared.hold_rows.HeldColumns.{HeldColumns}
@@ -30,7 +31,7 @@ use Rattle.sql_rows.specs.Values.{Group, PeriodNames}
 use Rattle.sql_keeper.specs.Content.{group_in as group_told, is_reserved, held_in, periods_in}
 use Rattle.sql_keeper.specs.Content.{book_in, names_numbered, terms_in, Names}
 use Rattle.sql_keeper.specs.GroupRows.{amount_of, book_of, held_for, ArePeriodsOf, AreTermsOf}
-use Rattle.sql_keeper.specs.GroupRows.{IsReservationOf}
+use Rattle.sql_keeper.specs.GroupRows.{AreHoldsOf, IsReservationOf, are_held_of, is_held_of}
 use Rattle.sql_keeper.specs.GroupRows.{IsGroupOf, AreGroupsOf}
 use Rattle.sql_keeper.specs.LiveGroups.{AreLiveGroups}
 use Rattle.sql_keeper.proofs.HeldAlong.{held_along}
@@ -193,6 +194,63 @@ module _ (names : Names) (buckets : List Row) (held : List SessionHold) (books :
         c.group n c.row.periods x.reservation h.2.reservation
         ∙ ap₂ (λ m k. if is_some c.row.periods then amount_of k (held_for m held) n else 0) h.0 h.1
 
+    -- the reservation of a key
+    abbrev IsGranted : List ℕ → ℕ → Reservation → Type 0
+    IsGranted s g v = (book_of s g books ≡ Some v.terms.book)
+        × AreHoldsOf buckets (held_for s held) g v.holds
+
+    granted_in : (s : List ℕ) (g : ℕ) (c : Option OpenGroupAt) (x : Option SessionGroup)
+        → IsFound s g c x → (y : SessionGroup) (v : Reservation) → x ≡ Some y
+        → y.reservation ≡ Some v → IsGranted s g v
+    granted_in s g None None h y v e f = absurd (no_some y e)
+    granted_in s g None (Some x) h y v e f = absurd h
+    granted_in s g (Some c) None h y v e f = absurd (no_some y e)
+    granted_in s g (Some c) (Some x) h y v e f =
+        subst (λ n. IsGranted n g v) h.0 (subst (λ k. IsGranted c.session k v) h.1
+        (reserved_at c.row.periods x.reservation h.2.reservation v
+        (ap (λ (z : SessionGroup). z.reservation) (some_of x y e) ∙ f)))
+      where
+        reserved_at : (o : Option PeriodNames) (r : Option Reservation)
+            → IsReservationOf names buckets (held_for c.session held)
+            (book_of c.session c.group books) c.group o r → (w : Reservation) → r ≡ Some w
+            → IsGranted c.session c.group w
+        reserved_at None None k w i = absurd (no_some w i)
+        reserved_at None (Some r) k w i = absurd k
+        reserved_at (Some p) None k w i = absurd k
+        reserved_at (Some p) (Some r) k w i =
+            subst (IsGranted c.session c.group) (some_of r w i) (k.0.book, k.1)
+
+-- no row of a rating group says that nothing is held
+none_empty : (buckets : List Row) (g n : ℕ) (held : List HeldColumns)
+    → are_held_of buckets g held ≡ true
+    → ¬ (option_map (λ (x : HeldColumns). x.amount)
+    (find (λ x. x.group == g && x.bucket == n) held) ≡ Some 0)
+none_empty buckets g n [] all = λ e. no_some 0 e
+none_empty buckets g n (x ∷ xs) all =
+    let parts = and_parts (not (x.group == g) || is_held_of buckets x)
+    (are_held_of buckets g xs) all in
+    at (x.group == g) (x.bucket == n) refl parts.0 (none_empty buckets g n xs parts.1)
+  where
+    none : (amount : ℕ) (there : Bool) → (nat_lt 0 amount && there) ≡ true → amount ≡ 0 → ⊥
+    none amount there some e =
+        absurd (let less : nat_lt 0 0 ≡ true = ap (λ m. nat_lt 0 m) (sym e)
+        ∙ (and_parts (nat_lt 0 amount) there some).0 in cc)
+
+    at : (t u : Bool) → (x.group == g) ≡ t → (not (x.group == g) || is_held_of buckets x) ≡ true
+        → ¬ (option_map (λ (y : HeldColumns). y.amount)
+        (find (λ y. y.group == g && y.bucket == n) xs) ≡ Some 0)
+        → ¬ (option_map (λ (y : HeldColumns). y.amount)
+        (cond (t && u) (Some x) (find (λ y. y.group == g && y.bucket == n) xs)) ≡ Some 0)
+    at true true here passes later e =
+        none x.amount (list_any (λ (b : Row). b.number == x.bucket) buckets)
+        (sym (ap (λ b. not b || is_held_of buckets x) here) ∙ passes) (some_of x.amount 0 e)
+    at true false here passes later e = later e
+    at false u here passes later e = later e
+
+none_of : (o : Option ℕ) → unwrap_or o 0 ≡ 0 → ¬ (o ≡ Some 0) → o ≡ None
+none_of None e none = refl
+none_of (Some m) e none = absurd (none (ap Some e))
+
 rows_if : (f : Group → GroupRow) (on : Bool) (o : Option Group)
     → option_map f (if on then o else None) ≡ (if on then option_map f o else None)
 rows_if f true o = refl
@@ -223,6 +281,18 @@ live_groups names rows buckets held books cs xs distinct groups holds numbers al
       (group_in s g xs) (found names buckets held books s g cs xs all)
       ∙ ap₂ (λ o a. if is_reserved o then a else 0) (groups s g) (amount_is s g n)
       ∙ held_if (is_open_row (rows.sessions s)) (rows.groups s g) (rows.holds s g n);
+  grants = λ s g x v e f.
+      let own = granted_in names buckets held books s g (find (is_group_of s g) cs)
+      (group_in s g xs) (found names buckets held books s g cs xs all) x v e f in
+      record {
+        book = sym (sym (books_are s g books) ∙ numbers s g) ∙ own.0;
+        held = λ n k. none_of (rows.holds s g n)
+            (sym (amount_is s g n)
+            ∙ sym (ap (held_at n) own.1.order
+            ∙ held_along buckets g n (held_for s held) distinct own.1.all) ∙ k)
+            (λ z. none_empty buckets g n (held_for s held) own.1.all
+            (sym (are_held_for s g n held) ∙ holds s g n ∙ z));
+      };
 }
   where
     amount_is : (s : List ℕ) (g n : ℕ)

@@ -113,7 +113,7 @@ held_cons n x xs = sum_by-cons (λ (h : Hold). if h.bucket == n then h.amount el
 zero_plus : (n : ℕ) → 0 + n ≡ n
 zero_plus n = omega arith
 
-none_at : (n : ℕ) (hs : List Hold) → EachIn (λ y. nat_eq y.bucket n ≡ false) hs → held_at n hs ≡ 0
+pub none_at : (n : ℕ) (hs : List Hold) → EachIn (λ y. nat_eq y.bucket n ≡ false) hs → held_at n hs ≡ 0
 none_at n [] h = refl
 none_at n (x ∷ xs) h = held_cons n x xs
     ∙ ap (λ t. (if t then x.amount else 0) + held_at n xs) h.0
@@ -167,7 +167,7 @@ held_put : (p : Bool) (o before : Option ℕ) →
 held_put true o before = first_alone o
 held_put false o before = refl
 
-group_put : (a : List ℕ) (names : Names) (r : SessionGroup) (c : Content)
+pub group_put : (a : List ℕ) (names : Names) (r : SessionGroup) (c : Content)
     → AreHolds (holds_in r.reservation)
     → with_held_group a names r c ≡ with_rows a (put_group names r) c
 group_put a names r c h =

@@ -23,6 +23,7 @@ pub mod Held
 pub mod HeldAlong
 pub mod HoldRuns
 pub mod InTurn
+pub mod KeptGroups
 pub mod LiveGroups
 pub mod LiveRows
 pub mod LoadedAlone
@@ -31,12 +32,13 @@ pub mod Migrated
 pub mod MigratedRules
 pub mod Moved
 pub mod MovedRuled
+pub mod NewCharges
 pub mod NewGroups
 pub mod Numbers
 pub mod OneShelf
 pub mod Opens
-pub mod OwnTexts
 pub mod Overlays
+pub mod OwnTexts
 pub mod PlainRows
 pub mod Puts
 pub mod Redeemed
@@ -51,10 +53,12 @@ pub mod Standing
 pub mod StillOpen
 pub mod Stopped
 pub mod Swept
+pub mod SweptNamed
 pub mod SweptReads
 pub mod Tested
 pub mod Tidy
 pub mod TidyChanges
 pub mod TidySweeps
 pub mod Told
+pub mod ToldWithin
 pub mod Whole

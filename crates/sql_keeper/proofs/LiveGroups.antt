@@ -11,6 +11,7 @@ use Rattle.buckets.specs.Spend.{AreDistinct}
 use Rattle.reserving.specs.declared.session.Session.{Session}
 use Rattle.reserving.specs.declared.session.SessionGroup.{SessionGroup}
 use Rattle.reserving.specs.Left.{is_open_row}
+use Rattle.reserving.proofs.Lists.{no_some}
 use Rattle.reserving.specs.Sessions.{is_open}
 use Rattle.keepers.specs.Change.{has_reservation}
 use Rattle.sql_tables.specs.Selects.{only}
@@ -54,6 +55,7 @@ none_open names rows ss xs no_sessions nothing open_ones = record {
     holds = λ s g n.
         ap (λ t. if t then held_in (is_reserved (rows.groups s g)) (rows.holds s g n) else 0)
         (shut s);
+    grants = λ s g x v e f. absurd (no_some x e);
   });
 }
   where

@@ -2,11 +2,12 @@
 use Rattle.std.proofs.Common.{◌≡◌, ℕ, Bool, true, false, List, [], ◌∷◌, Option, Some, None}
 use Rattle.std.proofs.Common.{Result, Ok, Err, IfOk, OnOk, IsErrOf, cond, refl, sym, ap, ◌∙◌, subst}
 use Rattle.std.proofs.Common.{true≢false}
-use Rattle.std.specs.Prelude.{if◌then◌else◌, filter, option_map}
+use Rattle.std.specs.Prelude.{if◌then◌else◌, ◌==◌, filter, option_map}
 use Rattle.std.specs.List.{find}
 use Rattle.shelves.specs.Shelves.{Shelf}
 use Rattle.reserving.specs.declared.session.Session.{Session}
-use Rattle.reserving.specs.Sessions.{is_open}
+use Rattle.reserving.specs.Pricing.{cycle_at}
+use Rattle.reserving.specs.Sessions.{counter_in, group_in, is_open}
 use Rattle.reserving.specs.Rows.{AccountRows}
 use Rattle.reserving.specs.Stored.{StoredRows, stored}
 use Rattle.reserving.specs.Restored.{in_key_order, FindsSame}
@@ -20,8 +21,9 @@ use Rattle.keepers.specs.Tables.{Rows, Tables}
 use Rattle.keepers.specs.Change.{IsLoadedFrom, IsLoad, IsView}
 use Rattle.keepers.specs.Keeping.{Reads}
 use Rattle.sql_keeper.specs.Content.{head_in, rows_of, Names}
-use Rattle.sql_keeper.specs.LiveRows.{AreLiveBuckets, AreLiveRowsLoaded, IsAccountOf, IsLiveAccount}
-use Rattle.sql_keeper.specs.LiveRows.{IsLoadOf, IsReadAccount, account_with}
+use Rattle.sql_keeper.specs.LiveRows.{AreLiveBuckets, AreLiveRows, AreLiveRowsLoaded, IsAccountOf}
+use Rattle.sql_keeper.specs.LiveRows.{IsLiveAccount, IsLoadOf, IsReadAccount, IsReadUncounted}
+use Rattle.sql_keeper.specs.LiveRows.{IsLoadStored, account_with}
 use Rattle.sql_keeper.specs.LiveGroups.{AreLiveGroups}
 use Rattle.sql_keeper.specs.Writes.{head_of}
 use Rattle.sql_keeper.specs.declared.live_rows.ReadRows.{ReadRows}
@@ -61,6 +63,8 @@ live_read names shelf t told x w (head, live, counters) is found =
           ap (option_map group_row) (found.groups s g) ∙ live.groups.groups s g;
       holds = λ s g n.
           ap (held_of n) (found.groups s g) ∙ live.groups.holds s g n;
+      grants = λ s g y v e f.
+          live.groups.grants s g y v (sym (found.groups s g) ∙ e) f;
     } in (
       head ∙ ap Some (sym (ap head_of is)),
       record {
@@ -71,6 +75,34 @@ live_read names shelf t told x w (head, live, counters) is found =
       },
       (λ g c. found.counters g c ∙ counters g c),
     )
+
+-- what is told whatever the shelf and the moment
+pub for_each : {A E : Type 0} (P : Shelf → ℕ → A → Type 0) (r : Result A E)
+    → ((shelf : Shelf) (t : ℕ) → IfOk r (P shelf t))
+    → IfOk r (λ x. (shelf : Shelf) (t : ℕ) → P shelf t x)
+for_each P (Ok x) each = each
+for_each P (Err e) each = tt
+
+-- a head and what may still change whatever the moment, without a counter
+pub uncounted : (names : Names) (rows : Stored) (x : ReadRows) → Some x.head ≡ rows.head
+    → AreLiveRows names rows x.rows.purse x.rows.sessions.items x.rows.groups.items
+    → x.counters.items ≡ [] → IsReadUncounted names rows (Some x)
+uncounted names rows x head live none shelf t = (
+  sym head,
+  record {
+    buckets = live.buckets;
+    sessions = live.sessions;
+    groups = record {
+      groups = live.groups.groups;
+      holds = live.groups.holds;
+      grants = λ s g y v e f. record {
+        book = (live.groups.grants s g y v e f).book;
+        held = (live.groups.grants s g y v e f).held;
+      };
+    };
+  },
+  (λ g c. ap (counter_in g c) none ∙ either_none (c == cycle_at shelf g t) None refl),
+)
 
 pub live_loaded : AreLiveRowsLoaded
 live_loaded names shelf t rows w (head, live, counters) =
@@ -90,16 +122,21 @@ live_loaded names shelf t rows w (head, live, counters) =
 pub load_made : {E : Type 0} (names : Names) (shelf : Shelf) (t : ℕ) (a : List ℕ)
     (rows : Stored) (o : Option StoredRows) (r : Result (Option Loaded) E)
     → IfOk r (IsLoadOf shelf a o) → IsLiveAccount names shelf t rows o
-    → IfOk r (IsLoad shelf t a (rows_of names rows))
-load_made names shelf t a rows None (Ok None) made live = ap (option_map head_in) live
+    → IfOk r (IsLoadStored names shelf t a rows)
+load_made names shelf t a rows None (Ok None) made live =
+    record { load = ap (option_map head_in) live; grants = tt }
 load_made names shelf t a rows None (Ok (Some l)) made live = absurd made
 load_made names shelf t a rows (Some w) (Ok None) made live = absurd made
-load_made names shelf t a rows (Some w) (Ok (Some l)) (number, account, before) live = (
-  number,
-  subst (IsLoadedFrom shelf t (rows_of names rows)) (sym account)
-      (live_loaded names shelf t rows w live),
-  before ∙ ap stored (sym account),
-)
+load_made names shelf t a rows (Some w) (Ok (Some l)) (number, account, before) live = record {
+  load = (
+    number,
+    subst (IsLoadedFrom shelf t (rows_of names rows)) (sym account)
+        (live_loaded names shelf t rows w live),
+    before ∙ ap stored (sym account),
+  );
+  grants = λ s g x v e f. live.1.groups.grants s g x v
+      (ap (λ (y : StoredRows). group_in s g y.groups) (sym before) ∙ e) f;
+}
 load_made names shelf t a rows o (Err e) made live = tt
 
 abbrev answers : {A E : Type 0} → Result A E → Bool

@@ -61,7 +61,7 @@ alive b e = at (is_dead b) e
     at true k = refl
     at false k = sym k
 
-no_open : (o : Option Session) → is_open_row o ≡ false → only (λ r. is_open r.state) o ≡ None
+pub no_open : (o : Option Session) → is_open_row o ≡ false → only (λ r. is_open r.state) o ≡ None
 no_open None e = refl
 no_open (Some x) e = ap (λ u. if u then Some x else None) e
 

@@ -20,13 +20,17 @@ use Rattle.keepers.specs.declared.loaded.Change.{Change}
 use Rattle.keepers.specs.Naming.{IsNamed}
 use Rattle.sql_rows.specs.Values.{Kept, Meta}
 use Rattle.sql_rows.specs.Content.{Rows, Content, with_group, with_meta, with_rows}
-use Rattle.sql_rows.specs.Lists.{HasNoGroups}
+use Rattle.sql_rows.specs.Lists.{AreCoveredBeside, HasNoGroups}
 use Rattle.sql_keeper.specs.Content.{Names}
 use Rattle.sql_keeper.specs.Tests.{AreNewGroups, AreWritable, IsTested}
-use Rattle.sql_keeper.specs.Writes.{columns_of, with_all_paid, with_change, with_change_put}
+use Rattle.sql_keeper.specs.Writes.{columns_of, with_all_charged, with_change, with_change_put}
 use Rattle.sql_keeper.specs.Writes.{with_kept, with_named, with_new_book, with_new_group}
 use Rattle.sql_keeper.specs.Writes.{with_new_groups, with_redeemed, with_stored}
 use Rattle.sql_keeper.proofs.Changed.{AreKeyed, keyed_named, over_stored, stored_over}
+use Rattle.sql_keeper.specs.Grants.{is_kept}
+use Rattle.sql_keeper.specs.declared.seen.SeenAccount.{SeenAccount}
+use Rattle.sql_keeper.proofs.KeptGroups.{IsKeptIn, named_kept}
+use Rattle.sql_keeper.proofs.NewCharges.{all_charged_are}
 use Rattle.sql_keeper.proofs.Groups.{amount_at, amount_in, book_over, book_put, column_over}
 use Rattle.sql_keeper.proofs.Groups.{holds_over, may_hold, over_groups, over_holds}
 use Rattle.sql_keeper.proofs.Overlays.{each, each_over, name_from, opened, with_none, with_opened}
@@ -203,8 +207,9 @@ module _ (a : List ℕ) (names : Names) (sessions : List Session) (w : StoredRow
       (λ x. HasNoGroups (over_stored names others (c.rows a)) x.session) w.groups
       (λ x h. record { groups = h.groups; books = h.books; holds = h.holds }) new
 
-  named_new : with_named a names true w c ≡ with_stored a names w c
-  named_new =
+  named_new : (seen : Option SeenAccount) →
+      with_named a names true seen w c ≡ with_stored a names w c
+  named_new seen =
       new_over a names sessions w.groups (with_stored a names others c) keyed.groups may
       ∙ ap (with_rows a (over_new names w.groups))
       (stored_over a names sessions others c keyed_others tt)
@@ -216,12 +221,51 @@ module _ (a : List ℕ) (names : Names) (sessions : List Session) (w : StoredRow
 
 -- ---- a change
 
-pub put_is : (names : Names) (new : Bool) (m : Meta) (change : Change) (texts : Option Kept)
+-- its rows, put over what stays
+named_is : (names : Names) (new : Bool) (seen : Option SeenAccount) (m : Meta) (change : Change)
     (c : Content) → IsNamed change.rows → IsTested names change (c.rows change.number) new →
-    with_change_put names new m change texts c ≡ with_change names m change texts c
-put_is names false m change texts c named t = refl
-put_is names true m change texts c named t =
+    ((x : SessionGroup) → is_kept seen change.number x ≡ true → IsKeptIn (c.rows change.number) x)
+    → with_named change.number names new seen change.rows (with_meta m c)
+    ≡ with_stored change.number names change.rows (with_meta m c)
+named_is names false seen m change c named t kept =
+    named_kept change.number names change.rows.sessions change.rows (with_meta m c)
+    (keyed_named change.rows named) t.made.reservations seen kept
+named_is names true seen m change c named t kept =
+    named_new change.number names change.rows.sessions change.rows (with_meta m c)
+    (keyed_named change.rows named) t.made.reservations (t.new refl) seen
+
+-- rows that change beside the charges and their covered blocks
+opened_beside : (a : List ℕ) (f : Rows → Rows) (c : Content) → AreCoveredBeside (c.rows a)
+    → ((r : Rows) → AreCoveredBeside r → AreCoveredBeside (f r))
+    → AreCoveredBeside ((opened a f c).rows a)
+opened_beside a f c h to = at (same_name a a)
+  where
+    at : (t : Bool) → AreCoveredBeside (if t then f (c.rows a) else c.rows a)
+    at true = to (c.rows a) h
+    at false = h
+
+-- the rows of an account are put beside its charges and their covered blocks
+stored_beside : (names : Names) (m : Meta) (change : Change) (c : Content) → IsNamed change.rows
+    → AreWritable names change.rows.sessions change.rows.groups
+    → AreCoveredBeside (c.rows change.number)
+    → AreCoveredBeside ((with_stored change.number names change.rows (with_meta m c)).rows
+    change.number)
+stored_beside names m change c named may beside =
+    subst (λ (d : Content). AreCoveredBeside (d.rows change.number))
+    (sym (stored_over change.number names change.rows.sessions change.rows (with_meta m c)
+    (keyed_named change.rows named) may))
+    (opened_beside change.number (over_stored names change.rows) (with_meta m c) beside
+    (λ r h. h))
+
+pub put_is : (names : Names) (new : Bool) (seen : Option SeenAccount) (m : Meta) (change : Change)
+    (texts : Option Kept) (c : Content) → IsNamed change.rows
+    → IsTested names change (c.rows change.number) new →
+    ((x : SessionGroup) → is_kept seen change.number x ≡ true → IsKeptIn (c.rows change.number) x)
+    → with_change_put names new seen m change texts c ≡ with_change names m change texts c
+put_is names new seen m change texts c named t kept =
     ap (λ (d : Content). with_redeemed change.redeemed (with_kept change.number change.kept texts
-    (with_all_paid change.number change.charges.items d)))
-    (named_new change.number names change.rows.sessions change.rows (with_meta m c)
-    (keyed_named change.rows named) t.made.reservations (t.new refl))
+    d)) (ap (with_all_charged change.number change.charges.items)
+    (named_is names new seen m change c named t kept)
+    ∙ all_charged_are change.number change.charges.items
+    (with_stored change.number names change.rows (with_meta m c))
+    (stored_beside names m change c named t.made.reservations t.covered))

@@ -38,7 +38,7 @@ module _ {X : Type 0} (same : X → X → Bool) (is : X → Bool)
 
 -- ---- an account's rows change, and no other's
 
-chosen_twice : (p : Bool) (r : Rows) (f g : Rows → Rows) →
+pub chosen_twice : (p : Bool) (r : Rows) (f g : Rows → Rows) →
     (if p then f (if p then g r else r) else (if p then g r else r)) ≡ (if p then f (g r) else r)
 chosen_twice true r f g = refl
 chosen_twice false r f g = refl

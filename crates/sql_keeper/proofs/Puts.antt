@@ -3,7 +3,8 @@ use Rattle.std.proofs.Common.{◌≡◌, ◌∙◌, ap, refl, subst, ℕ, List, 
 use Rattle.std.proofs.Common.{OnErr, Bool, true, false, sym}
 use Rattle.std.specs.Prelude.{◌==◌, if◌then◌else◌}
 use Rattle.std.proofs.lemmas.Result.{on_ok_weaker}
-use Rattle.sqlite.specs.State.{State, KeepsCommit}
+use Rattle.sqlite.specs.Effect.{Database}
+use Rattle.sqlite.specs.State.{State, IsUnchanged, KeepsCommit}
 use Rattle.sqlite.proofs.StateLemmas.{survives_then}
 use Rattle.sql_tables.specs.Statements.{Attempts}
 use Rattle.buckets.specs.Row.{Row as Bucket}
@@ -18,12 +19,13 @@ use Rattle.sql_rows.specs.declared.head.Head.{Head}
 use Rattle.sql_rows.specs.Content.{Content, Rows, with_account, with_meta, with_rows, with_covered}
 use Rattle.sql_rows.specs.Content.{with_voucher, without_covered}
 use Rattle.sql_rows.specs.Each.{with_counters, with_sessions}
-use Rattle.sql_rows.specs.Makes.{Makes, MakesIfOpen}
+use Rattle.sql_rows.specs.Makes.{Makes, MakesIfOpen, Turns}
 use Rattle.sql_rows.specs.Values.{Voucher as VoucherRow}
 use Rattle.sql_keeper.specs.Additions.{with_addition}
 use Rattle.sql_keeper.specs.Commits.{with_money}
-use Rattle.sql_keeper.specs.Writes.{head_of, meta_at, row_of, with_all_counted, with_all_paid}
-use Rattle.sql_keeper.specs.Writes.{with_blocks}
+use Rattle.sql_keeper.specs.Content.{Names}
+use Rattle.sql_keeper.specs.Writes.{head_of, meta_at, row_of, with_all_charged}
+use Rattle.sql_keeper.specs.Writes.{with_all_counted, with_blocks, with_groups}
 use Rattle.sql_keeper.proofs.Overlays.{number_from}
 
 pub made_then : (f g : Content → Content) (a b c : State) → Makes f a b → Makes g b c →
@@ -42,6 +44,21 @@ made_then f g a b c one two = record {
     now_is = refl;
     committed_is = two.shows.committed_is ∙ one.shows.committed_is;
     mode = two.shows.mode;
+  };
+}
+
+-- what is made after what was only read
+pub made_since : (f : Content → Content) (a b c : State) → IsUnchanged a b → Makes f b c →
+    Makes f a c
+made_since f a b c same m = record {
+  turns = subst (λ (d : Database). Turns f d.trees c.now.trees) same.0.now_is m.turns;
+  book = m.book;
+  shows = record {
+    was_open = same.0.was_open;
+    is_open = m.shows.is_open;
+    now_is = refl;
+    committed_is = m.shows.committed_is ∙ same.0.committed_is;
+    mode = m.shows.mode;
   };
 }
 
@@ -87,6 +104,72 @@ module _ {A B E : Type 0} (f g : Content → Content) (a b c : State) (u : A) (r
     survives = survives_then a b c (λ _. ⊥) (λ _. ⊥) (λ _. ⊥) (λ clean db no. no)
         (λ clean db no. no) one.survives two.survives;
   }
+
+-- those of a list, then what follows
+if_open_then : (f g : Content → Content) (a b c : State) → MakesIfOpen f a b → MakesIfOpen g b c →
+    MakesIfOpen (λ x. g (f x)) a c
+if_open_then f g a b c one two = record {
+  was_open = λ on. one.was_open (two.was_open on);
+  made = λ on.
+      let m = one.made on in
+      made_then f g a b c m (two.made m.shows.is_open);
+}
+
+kept_if_open : (f : Content → Content) (a b c : State) → MakesIfOpen f a b → KeepsCommit b c →
+    KeepsCommit a c
+kept_if_open f a b c one two = record {
+  was_open = λ on. one.was_open (two.was_open on);
+  committed = λ on.
+      let m = one.made (one.was_open (two.was_open on)) in
+      two.committed on ∙ m.shows.committed_is;
+}
+
+err_if_open : {A E : Type 0} (f : Content → Content) (a b c : State) (r : Result A E)
+    → MakesIfOpen f a b → OnErr r (KeepsCommit b c) → OnErr r (KeepsCommit a c)
+err_if_open f a b c (Ok x) one two = tt
+err_if_open f a b c (Err e) one two = kept_if_open f a b c one two
+
+module _ {A B E : Type 0} (f g : Content → Content) (a b c : State) (u : A) (r : Result B E)
+    (one : Attempts {A = A} {E = E} (MakesIfOpen f) a b (Ok u)) where
+  -- those of another list
+  pub lists_then : Attempts {A = B} {E = E} (MakesIfOpen g) b c r
+      → Attempts {A = B} {E = E} (MakesIfOpen (λ x. g (f x))) a c r
+  lists_then two = record {
+    done = λ clean. on_ok_weaker {P = MakesIfOpen g b c} {Q = MakesIfOpen (λ x. g (f x)) a c} r
+        (if_open_then f g a b c (one.done (omega (arith, two.survives.clean, clean))))
+        (two.done clean);
+    kept = λ clean. err_if_open f a b c r (one.done (omega (arith, two.survives.clean, clean)))
+        (two.kept clean);
+    survives = survives_then a b c (λ _. ⊥) (λ _. ⊥) (λ _. ⊥) (λ clean db no. no)
+        (λ clean db no. no) one.survives two.survives;
+  }
+
+  -- one statement, for which the connection was open
+  pub list_makes : Attempts {A = B} {E = E} (Makes g) b c r
+      → Attempts {A = B} {E = E} (Makes (λ x. g (f x))) a c r
+  list_makes two = record {
+    done = λ clean. on_ok_weaker {P = Makes g b c} {Q = Makes (λ x. g (f x)) a c} r
+        (λ m.
+        let first = one.done (omega (arith, two.survives.clean, clean)) in
+        made_then f g a b c (first.made (first.was_open m.shows.was_open)) m) (two.done clean);
+    kept = λ clean. err_if_open f a b c r (one.done (omega (arith, two.survives.clean, clean)))
+        (two.kept clean);
+    survives = survives_then a b c (λ _. ⊥) (λ _. ⊥) (λ _. ⊥) (λ clean db no. no)
+        (λ clean db no. no) one.survives two.survives;
+  }
+
+-- those of a list, and another that failed
+pub list_failed : {A B C E F G : Type 0} (f h : Content → Content)
+    (does : State → State → Type 0) (a b c : State) (u : A) (e : F) (d : G)
+    → Attempts {A = A} {E = E} (MakesIfOpen f) a b (Ok u)
+    → Attempts {A = B} {E = F} does b c (Err e) → Attempts {A = C} {E = G} (Makes h) a c (Err d)
+list_failed f h does a b c u e d one two = record {
+  done = λ clean. tt;
+  kept = λ clean. kept_if_open f a b c (one.done (omega (arith, two.survives.clean, clean)))
+      (two.kept clean);
+  survives = survives_then a b c (λ _. ⊥) (λ _. ⊥) (λ _. ⊥) (λ clean db no. no)
+      (λ clean db no. no) one.survives two.survives;
+}
 
 -- one statement, and another that failed
 pub makes_failed : {A B C E F G : Type 0} (f h : Content → Content) (does : State → State → Type 0)
@@ -144,10 +227,10 @@ puts_addition {A} {B} {E} text code k terms t v a b c x r same row one two =
 -- the charges of the same list
 pub puts_paid : {A E : Type 0} (a : List ℕ) (xs ys : List ChargeRow) → ys ≡ xs
     → (old new : State) (r : Result A E)
-    → Attempts {A = A} {E = E} (MakesIfOpen (with_all_paid a ys)) old new r
-    → Attempts {A = A} {E = E} (MakesIfOpen (with_all_paid a xs)) old new r
+    → Attempts {A = A} {E = E} (MakesIfOpen (with_all_charged a ys)) old new r
+    → Attempts {A = A} {E = E} (MakesIfOpen (with_all_charged a xs)) old new r
 puts_paid {A} {E} a xs ys is old new r =
-    subst (λ zs. Attempts {A = A} {E = E} (MakesIfOpen (with_all_paid a zs)) old new r) is
+    subst (λ zs. Attempts {A = A} {E = E} (MakesIfOpen (with_all_charged a zs)) old new r) is
 
 -- the covered blocks of a charge: none, or some
 pub puts_none : {A E : Type 0} (a : List ℕ) (n m k l : ℕ) (old new : State) (r : Result A E)
@@ -173,3 +256,50 @@ puts_some {A} {E} a n m k l old new r number same some =
     at : (t : Bool) → (l == 0) ≡ t → (l == 0) ≡ false
     at true e = absurd (some (same ∙ number_from l 0 e))
     at false e = e
+
+-- what differs of an account, and at last its head
+module _ {A B C D E : Type 0} (a : List ℕ) (names : Names) (p q r s t : State) (x : A) (y : B)
+    (z : C) (v : D) (bs : List Bucket) (cs : List Counter) (ss : List Session)
+    (gs : List SessionGroup)
+    (one : Attempts {A = A} {E = E} (MakesIfOpen (with_all_counted a bs)) p q (Ok x)) where
+  pub two_lists : Attempts {A = B} {E = E} (MakesIfOpen (with_counters a cs)) q r (Ok y)
+      → Attempts {A = B} {E = E}
+      (MakesIfOpen (λ c. with_counters a cs (with_all_counted a bs c))) p r (Ok y)
+  two_lists two =
+      lists_then (with_all_counted a bs) (with_counters a cs) p q r x (Ok y) one two
+
+  module _ (two : Attempts {A = B} {E = E} (MakesIfOpen (with_counters a cs)) q r (Ok y)) where
+    pub three_lists : Attempts {A = C} {E = E} (MakesIfOpen (with_sessions a ss)) r s (Ok z)
+        → Attempts {A = C} {E = E} (MakesIfOpen
+        (λ c. with_sessions a ss (with_counters a cs (with_all_counted a bs c)))) p s (Ok z)
+    three_lists three =
+        lists_then (λ c. with_counters a cs (with_all_counted a bs c)) (with_sessions a ss) p r s y
+        (Ok z) (two_lists two) three
+
+    module _ (three : Attempts {A = C} {E = E} (MakesIfOpen (with_sessions a ss)) r s (Ok z)) where
+      pub four_lists : Attempts {A = D} {E = E} (MakesIfOpen (with_groups a names gs)) s t (Ok v)
+          → Attempts {A = D} {E = E} (MakesIfOpen (λ c. with_groups a names gs
+          (with_sessions a ss (with_counters a cs (with_all_counted a bs c))))) p t (Ok v)
+      four_lists four =
+          lists_then (λ c. with_sessions a ss (with_counters a cs (with_all_counted a bs c)))
+          (with_groups a names gs) p s t z (Ok v) (three_lists three) four
+
+      pub puts_swept : {F G : Type 0} (w : StoredRows) (h : Head) (u : State) (n : F) (d : G)
+          → bs ≡ w.buckets → cs ≡ w.counters → ss ≡ w.sessions → gs ≡ w.groups → h ≡ head_of w
+          → Attempts {A = D} {E = E} (MakesIfOpen (with_groups a names gs)) s t (Ok v)
+          → Attempts {A = F} {E = E} (Makes (with_account a h)) t u (Ok n)
+          → Attempts {A = G} {E = E} (Makes (λ c. with_account a (head_of w)
+          (with_groups a names w.groups (with_sessions a w.sessions
+          (with_counters a w.counters (with_all_counted a w.buckets c)))))) p u (Ok d)
+      puts_swept {F} {G} w h u n d buckets counters sessions groups head four five =
+          subst (λ (f : Content → Content). Attempts {A = G} {E = E} (Makes f) p u (Ok d))
+          (λ i c. with_account a (head i) (with_groups a names (groups i)
+          (with_sessions a (sessions i) (with_counters a (counters i)
+          (with_all_counted a (buckets i) c)))))
+          (record { done = all.done; kept = λ clean. tt; survives = all.survives })
+        where
+          all : Attempts {A = F} {E = E} (Makes (λ c. with_account a h (with_groups a names gs
+              (with_sessions a ss (with_counters a cs (with_all_counted a bs c)))))) p u (Ok n)
+          all = list_makes (λ c. with_groups a names gs (with_sessions a ss
+              (with_counters a cs (with_all_counted a bs c)))) (with_account a h) p t u v (Ok n)
+              (four_lists four) five

@@ -21,7 +21,7 @@ use Rattle.reserving.proofs.Lists.{no_some, not_both, some_of}
 use Rattle.sql_rows.specs.Content.{Rows as Stored}
 use Rattle.sql_rows.specs.Lists.{AreCountersIn}
 use Rattle.sql_keeper.specs.LiveRows.{AreCountersAt}
-use Rattle.sql_keeper.specs.Repeating.{AreEachRepeating, AreRepeating, repeats_in, repeats_with}
+use Rattle.sql_keeper.specs.Repeating.{AreEachCycle, AreRepeating, repeats_in, repeats_with}
 use Rattle.sql_keeper.specs.Repeating.{has_repeating, may_repeat}
 use Rattle.sql_keeper.proofs.LiveRows.{find_kept}
 
@@ -108,14 +108,14 @@ module _ (zone : ZoneRule) (t c : ℕ) (o never daily monthly : Option Counter) 
 -- all of them, by the book at the moment
 pub counters_joined : (s : Shelf) (b : Book) (t : ℕ) (rows : Stored)
     (never daily monthly all : List Counter) → b ≡ book_at s t
-    → AreEachRepeating b t rows never daily monthly → all ≡ (never ++ daily) ++ monthly
-    → AreCountersAt s t rows all
-counters_joined s b t rows never daily monthly all of_shelf each is g c =
+    → AreRepeating b often.None t rows never → AreEachCycle b t rows daily monthly
+    → all ≡ (never ++ daily) ++ monthly → AreCountersAt s t rows all
+counters_joined s b t rows never daily monthly all of_shelf first each is g c =
     ap (counter_in g c) is
     ∙ find-append (is_counter g c) (never ++ daily) monthly
     ∙ ap (λ o. option_or o (counter_in g c monthly)) (find-append (is_counter g c) never daily)
     ∙ one_of_three b.calendar.zone t c (rows.counters g c) (counter_in g c never)
-    (counter_in g c daily) (counter_in g c monthly) (repeats_in b g) (each.never_are g c)
+    (counter_in g c daily) (counter_in g c monthly) (repeats_in b g) (first g c)
     (each.daily_are g c) (each.monthly_are g c)
     ∙ ap (λ n. if c == n then rows.counters g c else None)
     (cycle_repeats b.calendar.zone (tariff_of b g) t

@@ -38,7 +38,7 @@ use Rattle.sql_rows.specs.Content.{Content, Rows, with_account, with_bucket, wit
 use Rattle.sql_rows.specs.Content.{with_counter}
 use Rattle.sql_rows.specs.Content.{with_group, with_hold, with_meta, with_rows, with_session}
 use Rattle.sql_rows.specs.Content.{with_answer, with_covered, without_covered, without_holds}
-use Rattle.sql_rows.specs.Each.{with_each}
+use Rattle.sql_rows.specs.Each.{with_counters, with_each, with_sessions}
 use Rattle.sql_rows.specs.Values.{Group, Kept, Meta, PeriodNames, plain_bucket, plain_charge}
 use Rattle.sql_rows.specs.Values.{reference_kind}
 use Rattle.sql_rows.specs.Values.{request_kind}
@@ -61,7 +61,7 @@ use Rattle.sql_keeper.specs.RuledRows.{is_ruled_kept, is_ruled_redeemed, is_rule
 use Rattle.sql_keeper.specs.Tests.{AreWritable, IsNamed, MayStand}
 use Rattle.sql_keeper.specs.AddsBook.{with_dated}
 use Rattle.sql_keeper.specs.Additions.{with_addition}
-use Rattle.sql_keeper.specs.Sweeps.{with_sweep}
+use Rattle.sql_keeper.specs.Sweeps.{with_sweep, with_swept}
 use Rattle.sql_keeper.specs.declared.swept_rows.SweptAccount.{SweptAccount}
 use Rattle.sql_keeper.specs.Writes.{columns_of, head_of, meta_at, name_at, names_at, names_held}
 use Rattle.sql_keeper.specs.Writes.{row_of}
@@ -69,6 +69,7 @@ use Rattle.sql_keeper.specs.Writes.{with_all_counted, with_all_paid, with_blocks
 use Rattle.sql_keeper.specs.Writes.{with_change, with_counted, with_groups, with_held_group}
 use Rattle.sql_keeper.specs.Writes.{with_kept, with_kind, with_paid, with_redeemed, with_scoped}
 use Rattle.sql_keeper.specs.Writes.{with_stored, with_texts}
+use Rattle.sql_keeper.proofs.Swept.{MayBePut}
 
 -- ---- a list of rows
 
@@ -193,10 +194,11 @@ module _ (shelf : Shelf) where
         (hold_kept shelf a (d.rows a) (so.rows a) s g h.bucket h.amount some))
         (holds_in x.reservation) freed (holds_ruled x.reservation parts.1) three
 
-    stored_kept : (w : StoredRows) (c : Content) → are_ruled_rows (shelf_names shelf) a w ≡ true
-        → AreWritable (shelf_names shelf) w.sessions w.groups → IsInRules shelf c
+    stored_kept : (among : List Session) (w : StoredRows) (c : Content)
+        → are_ruled_rows (shelf_names shelf) a w ≡ true
+        → AreWritable (shelf_names shelf) among w.groups → IsInRules shelf c
         → IsInRules shelf (with_stored a (shelf_names shelf) w c)
-    stored_kept w c rule may in' =
+    stored_kept among w c rule may in' =
         let groups = and_parts _ (list_all (is_ruled_group (shelf_names shelf)) w.groups) rule in
         let sessions = and_parts _ (list_all is_session w.sessions) groups.0 in
         let counters = and_parts _ (list_all is_counter w.counters) sessions.0 in
@@ -204,8 +206,8 @@ module _ (shelf : Shelf) where
         let head = and_parts (is_account_number a) (is_head (head_of w)) buckets.0 in
         each_kept (with_held_group a (shelf_names shelf)) (is_ruled_group (shelf_names shelf))
         (λ (x : SessionGroup).
-        MayStand (shelf_names shelf) w.sessions x.session x.reservation)
-        (held_kept w.sessions) w.groups _ groups.1 may
+        MayStand (shelf_names shelf) among x.session x.reservation)
+        (held_kept among) w.groups _ groups.1 may
         (all_kept (λ x. with_rows a (with_session x)) is_session
         (λ x d some so. rows_kept shelf d so a (with_session x)
         (session_kept shelf a (d.rows a) (so.rows a) x some)) w.sessions _ sessions.1
@@ -214,6 +216,33 @@ module _ (shelf : Shelf) where
         (counter_kept shelf a (d.rows a) (so.rows a) x some)) w.counters _ counters.1
         (all_kept (with_counted a) is_bucket counted_kept w.buckets _ buckets.1
         (account_kept shelf c in' a (head_of w) head.0 head.1))))
+
+    -- the same with the head put last
+    swept_kept : (among : List Session) (w : StoredRows) (c : Content)
+        → are_ruled_rows (shelf_names shelf) a w ≡ true
+        → AreWritable (shelf_names shelf) among w.groups → IsInRules shelf c
+        → IsInRules shelf (with_account a (head_of w) (with_groups a (shelf_names shelf) w.groups
+        (with_sessions a w.sessions (with_counters a w.counters
+        (with_all_counted a w.buckets c)))))
+    swept_kept among w c rule may in' =
+        let groups = and_parts _ (list_all (is_ruled_group (shelf_names shelf)) w.groups) rule in
+        let sessions = and_parts _ (list_all is_session w.sessions) groups.0 in
+        let counters = and_parts _ (list_all is_counter w.counters) sessions.0 in
+        let buckets = and_parts _ (list_all is_bucket w.buckets) counters.0 in
+        let head = and_parts (is_account_number a) (is_head (head_of w)) buckets.0 in
+        account_kept shelf _ (each_kept (with_held_group a (shelf_names shelf))
+        (is_ruled_group (shelf_names shelf))
+        (λ (x : SessionGroup).
+        MayStand (shelf_names shelf) among x.session x.reservation)
+        (held_kept among) w.groups _ groups.1 may
+        (all_kept (λ x. with_rows a (with_session x)) is_session
+        (λ x d some so. rows_kept shelf d so a (with_session x)
+        (session_kept shelf a (d.rows a) (so.rows a) x some)) w.sessions _ sessions.1
+        (all_kept (λ x. with_rows a (with_counter x)) is_counter
+        (λ x d some so. rows_kept shelf d so a (with_counter x)
+        (counter_kept shelf a (d.rows a) (so.rows a) x some)) w.counters _ counters.1
+        (all_kept (with_counted a) is_bucket counted_kept w.buckets c buckets.1 in'))))
+        a (head_of w) head.0 head.1
 
     -- ---- charges, texts, vouchers
 
@@ -296,7 +325,7 @@ module _ (shelf : Shelf) where
       redeemed_kept change.redeemed _ redeemed.1
       (kept_kept change.number change.kept texts _ kept.1 told
       (all_paid_kept change.number change.charges.items _ charges.1
-      (stored_kept change.number change.rows (with_meta m c) rows.1 may
+      (stored_kept change.number change.rows.sessions change.rows (with_meta m c) rows.1 may
       (meta_kept shelf c in' m (subst (λ n. is_moment n ≡ true) (sym last) rows.0)
       (λ none. none_there (is_some c.meta) there none)))))
 
@@ -313,16 +342,13 @@ module _ (shelf : Shelf) where
 
   pub sweep_kept : (text : List ℕ) (t : ℕ) (xs : List SweptAccount) (c : Content)
       → is_ruled_sweep (shelf_names shelf) t xs ≡ true
-      → EachIn (λ (x : SweptAccount).
-      AreWritable (shelf_names shelf) x.rows.sessions x.rows.groups) xs
-      → is_some c.meta ≡ true → IsInRules shelf c
+      → EachIn (MayBePut (shelf_names shelf)) xs → is_some c.meta ≡ true → IsInRules shelf c
       → IsInRules shelf (with_sweep (shelf_names shelf) text t xs c)
   sweep_kept text t xs c rule may there in' =
       let parts = and_parts (is_moment t) (list_all (is_ruled_swept (shelf_names shelf)) xs) rule in
-      each_kept (λ (x : SweptAccount). with_stored x.number (shelf_names shelf) x.rows)
-      (is_ruled_swept (shelf_names shelf)) (λ (x : SweptAccount).
-      AreWritable (shelf_names shelf) x.rows.sessions x.rows.groups)
-      (λ x d rule own so. stored_kept x.number x.rows d rule own so) xs
+      each_kept (with_swept (shelf_names shelf)) (is_ruled_swept (shelf_names shelf))
+      (MayBePut (shelf_names shelf))
+      (λ x d rule own so. swept_kept x.number own.among x.rows d rule own.may so) xs
       (with_meta (meta_at text t) c) parts.1 may
       (meta_kept shelf c in' (meta_at text t) parts.0
       (λ none. none_there (is_some c.meta) there none))

@@ -1,22 +1,24 @@
 -- What a keeper has seen of an account, and what reads of its tables leave of it.
 use Rattle.std.proofs.Common.{◌≡◌, ℕ, Bool, true, false, List, Option, Some, None, Result, Ok, Err}
 use Rattle.std.proofs.Common.{[], ◌∷◌, cond, IfOk, IsTrue, refl, sym, ap, subst, ◌∙◌}
-use Rattle.std.specs.Prelude.{if◌then◌else◌, option_map, is_some, slice_get, IfSome}
+use Rattle.std.specs.Prelude.{if◌then◌else◌, ◌&&◌, nat_eq, option_map, is_some, slice_get, IfSome}
 use Rattle.sqlite_trees.specs.Tree.{Trees}
 use Rattle.sqlite.specs.Effect.{Database}
 use Rattle.sqlite.specs.State.{State, HasCleanDisk}
 use Rattle.shelves.specs.Shelves.{Shelf}
+use Rattle.buckets.specs.declared.holds.Hold.{Hold}
 use Rattle.reserving.specs.declared.session.Session.{Session}
+use Rattle.reserving.specs.declared.session.SessionGroup.{SessionGroup}
+use Rattle.reserving.specs.declared.session.Reservation.{Reservation}
 use Rattle.reserving.specs.Left.{is_open_row, only}
-use Rattle.reserving.specs.Sessions.{is_open, session_in}
-use Rattle.reserving.specs.Stored.{StoredRows, stored}
+use Rattle.reserving.specs.Sessions.{group_in, is_open, session_in}
+use Rattle.reserving.specs.Stored.{StoredRows, stored as stored_rows}
 use Rattle.reserving.specs.Ledger.{is_same}
 use Rattle.reserving.proofs.Holds.{same_itself}
 use Rattle.reserving.proofs.Lists.{no_some, not_both, some_of}
 use Rattle.reserving.proofs.KeysFound.{is_none_is}
 use Rattle.keepers.specs.declared.loaded.Loaded.{Loaded}
-use Rattle.keepers.specs.Change.{IsLoad}
-use Rattle.keepers.specs.Tables.{Head as ToldHead, head_of as told_head}
+use Rattle.keepers.specs.Tables.{Head as ToldHead, head_of as told_head, held_at}
 use Rattle.sql_tables.specs.Keyed.{same_name}
 use Rattle.sql_tables.specs.Statements.{HasIdleBook, OnlyReads, Reads}
 use Rattle.sql_tables.specs.declared.reading.ReadFault.{ReadFault}
@@ -24,16 +26,21 @@ use Rattle.sql_rows.specs.declared.head.Head.{Head}
 use Rattle.sql_rows.specs.Content.{Rows as Stored, rows_in}
 use Rattle.sql_rows.specs.Lists.{HasNoGroups}
 use Rattle.sql_keeper.specs.Asks.{Asks}
-use Rattle.sql_keeper.specs.Content.{Names, head_in, rows_of}
+use Rattle.sql_keeper.specs.Content.{Names, head_in}
+use Rattle.sql_keeper.specs.Grants.{IsGrantIn, IsGrantSeen, grant_with, is_name, only_bucket}
+use Rattle.sql_keeper.specs.LiveRows.{AreGrantsStored, IsLoadStored}
 use Rattle.sql_keeper.specs.LiveGroups.{Gathers}
-use Rattle.sql_keeper.specs.Seen.{AreSeen, IsKnown, IsSeen, IsSeenOf, IsSeenWith, IsStanding}
-use Rattle.sql_keeper.specs.Seen.{IsUnknown, Sees, is_name, standing_in, standing_of}
+use Rattle.sql_keeper.specs.Seen.{AreSeen, IsJoined, IsKnown, IsSeen, IsSeenOf, IsSeenWith}
+use Rattle.sql_keeper.specs.Seen.{IsStanding, IsUnknown, IsUnknownAlone, Sees}
+use Rattle.sql_keeper.specs.Seen.{standing_in, standing_of}
 use Rattle.sql_keeper.specs.Writes.{head_of}
 use Rattle.sql_keeper.specs.declared.seen.SeenAccount.{SeenAccount}
+use Rattle.sql_keeper.specs.declared.seen.SeenGrant.{SeenGrant}
 use Rattle.sql_keeper.specs.declared.seen.Standing.{Standing}
 use Rattle.sql_keeper.specs.declared.seen.Standing.TheVariants.{Unknown, Open, Over}
 use Rattle.sql_keeper.proofs.InTurn.{gathers_from, have_read, none_read}
-use Rattle.sql_keeper.proofs.Overlays.{name_from}
+use Rattle.sql_keeper.proofs.Groups.{none_at}
+use Rattle.sql_keeper.proofs.Overlays.{name_from, number_from, number_itself}
 
 -- ---- over a call
 
@@ -116,18 +123,103 @@ pub seen_of_copy : (a b : List ℕ) (w : StoredRows) (x : SeenAccount) → a ≡
     → IsSeenOf b w x
 seen_of_copy a b w x same h = subst (λ n. IsSeenOf n w x) same h
 
+-- what a reservation that holds of one bucket alone tells
+pub record IsToldGrant (g : ℕ) (o : Option Reservation) (y : SeenGrant) : Type 0 where
+  pub reservation : Reservation
+  pub is : o ≡ Some reservation
+  pub group : y.group ≡ g
+  pub book : reservation.terms.book ≡ y.book
+  pub bucket : only_bucket reservation.holds ≡ Some y.bucket
+
+abbrev grant_as : ℕ → ℕ → ℕ → SeenGrant
+grant_as g b n = record { group = g; book = b; bucket = n }
+
+pub told_grant : (g : ℕ) (o : Option Reservation) (y : SeenGrant) → grant_with g o ≡ Some y
+    → IsToldGrant g o y
+told_grant g None y e = absurd (no_some y e)
+told_grant g (Some v) y e = at (only_bucket v.holds) refl e
+  where
+    at : (p : Option ℕ) → only_bucket v.holds ≡ p
+        → option_map (grant_as g v.terms.book) p ≡ Some y → IsToldGrant g (Some v) y
+    at None k f = absurd (no_some y f)
+    at (Some n) k f =
+        let same : grant_as g v.terms.book n ≡ y = some_of (grant_as g v.terms.book n) y f in
+        record {
+          reservation = v;
+          is = refl;
+          group = sym (ap (λ (z : SeenGrant). z.group) same);
+          book = ap (λ (z : SeenGrant). z.book) same;
+          bucket = k ∙ ap (λ (z : SeenGrant). Some z.bucket) same;
+        }
+
+pub own_is : (x : SessionGroup) (s : List ℕ) (o : Option SeenGrant)
+    → o ≡ grant_with x.group x.reservation → true ≡ same_name x.session s
+    → IfSome o (λ y. (same_name x.session s ≡ true) × (grant_with x.group x.reservation ≡ Some y))
+own_is x s None e on = tt
+own_is x s (Some y) e on = (sym on, sym e)
+
+pub grant_first : (xs : List SessionGroup) (x : SessionGroup) (s : List ℕ) (o : Option SeenGrant)
+    → Some x ≡ slice_get xs 0
+    → IfSome o (λ y. (same_name x.session s ≡ true) × (grant_with x.group x.reservation ≡ Some y))
+    → IfSome o (IsGrantIn xs s)
+grant_first xs x s None first h = tt
+grant_first [] x s (Some y) first h = absurd (no_some x (sym first))
+grant_first (z ∷ zs) x s (Some y) first (own, is) =
+    let here : z ≡ x = sym (some_of x z first) in
+    let told = told_grant x.group x.reservation y is in
+    let both : (same_name z.session s && nat_eq z.group x.group) ≡ true =
+    ap (λ (w : SessionGroup). same_name w.session s && nat_eq w.group x.group) here
+    ∙ ap (λ t. t && nat_eq x.group x.group) own ∙ number_itself x.group in
+    let found : group_in s x.group (z ∷ zs) ≡ Some x =
+    ap (λ t. cond t (Some z) (group_in s x.group zs)) both ∙ ap Some here in
+    record {
+      row = x;
+      found = subst (λ g. group_in s g (z ∷ zs) ≡ Some x) (sym told.group) found;
+      grant = subst (λ g. grant_with g x.reservation ≡ Some y) (sym told.group) is;
+    }
+
+pub grant_of_live : (gs hs : List SessionGroup) (live : Option (List ℕ)) (o : Option SeenGrant)
+    → gs ≡ hs → ((s : List ℕ) → live ≡ Some s → IfSome o (IsGrantIn gs s))
+    → (s : List ℕ) (y : SeenGrant) → live ≡ Some s → o ≡ Some y → IsGrantIn hs s y
+grant_of_live gs hs live o same h s y e f =
+    subst (λ l. IsGrantIn l s y) same (subst (λ p. IfSome p (IsGrantIn gs s)) f (h s e))
+
+one_held : (n b : ℕ) (hs : List Hold) → only_bucket hs ≡ Some b → ¬ (n ≡ b) → held_at n hs ≡ 0
+one_held n b [] e apart = absurd (no_some b e)
+one_held n b (h ∷ k ∷ hs) e apart = absurd (no_some b e)
+one_held n b (h ∷ []) e apart = none_at n (h ∷ []) (at (nat_eq h.bucket n) refl, tt)
+  where
+    at : (t : Bool) → nat_eq h.bucket n ≡ t → nat_eq h.bucket n ≡ false
+    at true k = absurd (apart (sym (number_from h.bucket n k) ∙ some_of h.bucket b e))
+    at false k = k
+
+grant_stored : (r : Stored) (l : Loaded) (s : List ℕ) (y : SeenGrant)
+    → AreGrantsStored r (Some l) → IsGrantIn l.before.groups s y → IsGrantSeen r s y
+grant_stored r l s y grants there =
+    let told = told_grant y.group there.row.reservation y there.grant in
+    let is = grants s y.group there.row told.reservation there.found told.is in
+    record {
+      book = is.book ∙ ap Some told.book;
+      held = λ n apart. is.held n
+          (one_held n y.bucket told.reservation.holds told.bucket apart);
+    }
+
 pub load_seen : (names : Names) (shelf : Shelf) (t : ℕ) (a : List ℕ) (trees : Trees) (l : Loaded)
     (o : Option SeenAccount) → IfSome o (IsSeenOf l.number l.before)
-    → IsLoad shelf t a (rows_of names (rows_in trees a)) (Some l) → Sees o trees
-load_seen names shelf t a trees l None h load = tt
-load_seen names shelf t a trees l (Some x) h (number, from, before) =
+    → IsLoadStored names shelf t a (rows_in trees a) (Some l) → Sees o trees
+load_seen names shelf t a trees l None h stored = tt
+load_seen names shelf t a trees l (Some x) h stored =
+    let number : l.number ≡ a = stored.load.0 in
+    let before = stored.load.2 in
+    let from = stored.load.1 in
     subst (λ b. IsSeen (rows_in trees b) x) (sym (h.account ∙ number)) (record {
-      head = head_back (rows_in trees a).head (stored l.account) from.head
-          ∙ ap (λ w. Some (head_of w)) (sym before) ∙ ap Some (sym h.head);
+      head = λ k e. head_back (rows_in trees a).head (stored_rows l.account) from.head
+          ∙ ap (λ w. Some (head_of w)) (sym before) ∙ sym h.head ∙ e;
       live = λ s e. only_open ((rows_in trees a).sessions s)
           (ap is_open_row (sym (from.sessions s))
           ∙ ap (λ (w : StoredRows). is_open_row (session_in s w.sessions)) (sym before)
           ∙ h.live s e);
+      grant = λ s y e f. grant_stored (rows_in trees a) l s y stored.grants (h.grant s y e f);
       unknown = λ s e. absurd (no_some s (sym h.unknown ∙ e));
     })
 
@@ -156,23 +248,56 @@ unknown_of r s k e h = record {
   groups = h.groups e;
 }
 
-pub noted : (x y : SeenAccount) (a s : List ℕ) (read : Result Bool ReadFault) → IsSeenWith s x y
-    → (read ≡ Ok false) × (same_name x.account a ≡ true) → (trees : Trees)
-    → IsSeen (rows_in trees x.account) x → IfOk read (IsKnown (rows_in trees a) s)
+-- of an account of which nothing else is seen
+pub alone_seen : (a s : List ℕ) (o : Option SeenAccount) → IfSome o (IsUnknownAlone a s)
+    → (trees : Trees) → IsKnown (rows_in trees a) s false → Sees o trees
+alone_seen a s None h trees known = tt
+alone_seen a s (Some x) h trees known =
+    subst (λ b. IsSeen (rows_in trees b) x) (sym h.account) (record {
+      head = λ k e. absurd (no_some k (sym h.head ∙ e));
+      live = λ z e. absurd (no_some z (sym h.live ∙ e));
+      grant = λ z y e f. absurd (no_some y (sym h.grant ∙ f));
+      unknown = λ z e. subst (IsUnknown (rows_in trees a)) (sym (h.unknown z e))
+          (unknown_of (rows_in trees a) s false refl known);
+    })
+
+pub noted : (x y : SeenAccount) (a s : List ℕ) → IsSeenWith s x y → true ≡ same_name x.account a
+    → (trees : Trees) → IsSeen (rows_in trees x.account) x → IsKnown (rows_in trees a) s false
     → IsSeen (rows_in trees y.account) y
-noted x y a s read w (answered, same) trees seen told =
-    let here : x.account ≡ a = name_from x.account a same in
+noted x y a s w same trees seen known =
+    let here : x.account ≡ a = name_from x.account a (sym same) in
     let none : IsUnknown (rows_in trees x.account) s =
     subst (λ b. IsUnknown (rows_in trees b) s) (sym here)
-    (unknown_of (rows_in trees a) s false refl
-    (subst (λ (r : Result Bool ReadFault). IfOk r (IsKnown (rows_in trees a) s)) answered told)) in
+    (unknown_of (rows_in trees a) s false refl known) in
     subst (λ b. IsSeen (rows_in trees b) y) (sym w.account) (record {
-      head = seen.head ∙ ap Some (sym w.head);
+      head = λ k e. seen.head k (sym w.head ∙ e);
       live = λ z e. seen.live z (sym w.live ∙ e);
+      grant = λ z y e f. seen.grant z y (sym w.live ∙ e) (sym w.grant ∙ f);
       unknown = λ z e. subst (IsUnknown (rows_in trees x.account)) (sym (w.unknown z e)) none;
     })
 
-name_is : (s : List ℕ) (o : Option (List ℕ)) → is_name s o ≡ true → o ≡ Some s
+-- what was answered
+pub not_known : (a s : List ℕ) (read : Result Bool ReadFault) → read ≡ Ok false → (trees : Trees)
+    → IfOk read (IsKnown (rows_in trees a) s) → IsKnown (rows_in trees a) s false
+not_known a s read answered trees told =
+    subst (λ (r : Result Bool ReadFault). IfOk r (IsKnown (rows_in trees a) s)) answered told
+
+-- ---- what is seen later
+
+pub joined_seen : (x y z : SeenAccount) → IsJoined x y z → true ≡ same_name x.account y.account
+    → (trees : Trees) → IsSeen (rows_in trees x.account) x → IsSeen (rows_in trees y.account) y
+    → IsSeen (rows_in trees z.account) z
+joined_seen x y z j same trees older newer =
+    let here : x.account ≡ y.account = name_from x.account y.account (sym same) in
+    subst (λ b. IsSeen (rows_in trees b) z) (sym j.account) (record {
+      head = λ k e. newer.head k (sym j.head ∙ e);
+      live = λ s e. newer.live s (sym j.live ∙ e);
+      grant = λ s y e f. newer.grant s y (sym j.live ∙ e) (sym j.grant ∙ f);
+      unknown = λ s e. subst (λ b. IsUnknown (rows_in trees b) s) here
+          (older.unknown s (sym j.unknown ∙ e));
+    })
+
+pub name_is : (s : List ℕ) (o : Option (List ℕ)) → is_name s o ≡ true → o ≡ Some s
 name_is s None e = absurd (not_both e)
 name_is s (Some z) e = ap Some (name_from z s e)
 
@@ -185,6 +310,14 @@ standing_told r x s seen = go (is_name s x.unknown) (is_name s x.live) refl refl
     go true q e f = seen.unknown s (name_is s x.unknown e)
     go false true e f = seen.live s (name_is s x.live f)
     go false false e f = tt
+
+pub head_told : (r : Stored) (x : SeenAccount) → IsSeen r x
+    → IfSome x.head (λ (h : Head). r.head ≡ Some h)
+head_told r x seen = go x.head refl
+  where
+    go : (o : Option Head) → x.head ≡ o → IfSome o (λ (h : Head). r.head ≡ Some h)
+    go None e = tt
+    go (Some h) e = seen.head h e
 
 -- of an account by its number
 pub of_account : (a b : List ℕ) → true ≡ same_name a b → (P : List ℕ → Type 0) → P a → P b

@@ -7,32 +7,34 @@ use Rattle.std.proofs.lemmas.Bool.Decides.{nat_tests}
 use Rattle.identifiers.specs.Texts.{same_name}
 use Rattle.shelves.specs.Shelves.{Shelf, IsShelf}
 use Rattle.reserving.specs.Ledger.{Ledger}
-use Rattle.reserving.specs.Sessions.{session_in, group_in}
+use Rattle.reserving.specs.declared.session.Session.{Session}
 use Rattle.reserving.specs.Rows.{EachIn, AreApart}
-use Rattle.reserving.specs.Stored.{StoredRows, IsStored, priced, advanced_stored}
+use Rattle.reserving.specs.Stored.{StoredRows, advanced_stored}
 use Rattle.reserving.proofs.Lists.{no_some, some_of, EachIn-weaker}
 use Rattle.reserving.proofs.LeftTests.{none_more}
 use Rattle.keepers.specs.declared.key.Key.{Key}
-use Rattle.keepers.specs.Tables.{Head, head_of as kept_head, GroupRow, AreListed}
-use Rattle.keepers.specs.Change.{IsLoadedFrom, AreRowsAt, AreBroughtTo, IsSwept, over}
-use Rattle.keepers.specs.Overlaying.{IsMadeFrom}
+use Rattle.keepers.specs.Tables.{Head, head_of as kept_head, AreListed}
+use Rattle.keepers.specs.Change.{AreRowsAt, AreBroughtTo, IsSwept, over}
 use Rattle.keepers.proofs.SweptRows.{brought_over, rows_brought}
 use Rattle.sql_rows.specs.declared.head.Head.{Head as HeadColumns}
-use Rattle.sql_rows.specs.Content.{Rows as Stored, Content, with_meta}
+use Rattle.sql_rows.specs.Content.{Rows as Stored, Content, with_account, with_head, with_meta}
+use Rattle.sql_rows.specs.Content.{with_rows}
+use Rattle.sql_rows.specs.Each.{with_counters, with_sessions}
 use Rattle.sql_keeper.specs.Content.{head_in, rows_of, is_numbered, charge_of, answer_in, last_in}
 use Rattle.sql_keeper.specs.Content.{voucher_in, tables_of, Names}
 use Rattle.sql_keeper.specs.Laws.{AreSweepsRead}
 use Rattle.sql_keeper.specs.Sweeps.{rows_at, AreSweptRows, IsSweptOf, AreAllSwept, with_accounts}
-use Rattle.sql_keeper.specs.Sweeps.{with_sweep}
+use Rattle.sql_keeper.specs.Sweeps.{with_swept, with_sweep}
 use Rattle.sql_keeper.specs.Tests.{AreWritable}
-use Rattle.sql_keeper.specs.Writes.{head_of, meta_at, with_stored}
+use Rattle.sql_keeper.specs.Writes.{head_of, meta_at, with_all_counted, with_groups}
 use Rattle.sql_keeper.specs.declared.swept_rows.SweptAccount.{SweptAccount}
-use Rattle.sql_keeper.proofs.Changed.{over_stored, stored_over, keyed, rows_read, may_at}
-use Rattle.sql_keeper.proofs.Changed.{free_settled, same_texts}
+use Rattle.sql_keeper.proofs.Changed.{AreKeyed, over_stored, same_texts}
+use Rattle.sql_keeper.proofs.CountedPuts.{counted_over, over_counted}
+use Rattle.sql_keeper.proofs.Groups.{groups_over, over_groups}
 use Rattle.sql_keeper.specs.Content.{told_charge}
-use Rattle.sql_keeper.proofs.LiveRows.{live_loaded}
-use Rattle.sql_keeper.proofs.LoadedAlone.{loaded_may_change, free_later}
-use Rattle.sql_keeper.proofs.Overlays.{name_from, opened}
+use Rattle.sql_keeper.proofs.Overlays.{chosen_twice, counters_over, name_from, opened, over_counters}
+use Rattle.sql_keeper.proofs.Overlays.{over_sessions, sessions_over, with_twice}
+use Rattle.sql_keeper.proofs.SweptNamed.{after, keyed_swept, loads, made, may_swept, read_swept}
 
 -- ---- one account
 
@@ -51,33 +53,21 @@ module _ (names : Names) (shelf : Shelf) (t : ℕ) (rows : Stored) where
       at true e = refl
       at false e = absurd (true≢false (sym e))
 
-  abbrev IsFree : StoredRows → Type 0
-  IsFree x = (s : List ℕ) (g : ℕ) (y : GroupRow) → (rows_of names rows).groups s g ≡ Some y
-      → group_in s g x.groups ≡ None → (y.terms ≡ None) × (session_in s x.sessions ≡ None)
-
-  -- what was loaded and brought on, written over what was there
+  -- what was loaded and brought on, where it differs, written over what was there
   listed_one : (w : StoredRows) → AreSweptRows names shelf t rows w
       → AreBroughtTo shelf t (rows_of names rows) (rows_of names (over_stored names w rows))
   listed_one w s v are kept early =
-      let loads : IsLoadedFrom shelf t (rows_of names rows) (priced shelf s.before) =
-      live_loaded names shelf t rows s.before s.live in
-      let made : IsMadeFrom s.before s.before (rows_of names rows) =
-      loaded_may_change shelf t (rows_of names rows) (priced shelf s.before) loads in
+      let head = (loads names shelf t rows w s).head in
       let same : kept_head s.before ≡ kept_head v =
-      some_of (kept_head s.before) (kept_head v) (sym loads.head ∙ are.head) in
+      some_of (kept_head s.before) (kept_head v) (sym head ∙ are.head) in
       let no_later : s.before.as_of ≤ t =
       subst (λ n. n ≤ t) (sym (ap (λ (x : Head). x.as_of) same)) early in
-      let is : advanced_stored shelf t s.before ≡ w = sym (s.is ∙ swept_is s.before no_later) in
       subst (AreListed (advanced_stored shelf t v))
-      (sym (rows_read names w rows (free_settled names w rows (free_of w s.before made is))
-      (may_at names w.sessions w.groups s.may) (keyed w s.stored).scoped))
-      (subst (λ x. AreListed (advanced_stored shelf t v) (over x (rows_of names rows))) is
-      (brought_over shelf t s.before v (rows_of names rows) made loads.head s.kept are kept))
-    where
-      free_of : (x before : StoredRows) → IsMadeFrom before before (rows_of names rows)
-          → advanced_stored shelf t before ≡ x → IsFree x
-      free_of x before made is =
-          subst IsFree is (free_later shelf t before (rows_of names rows) made)
+      (sym (read_swept names shelf t rows w s))
+      (subst (λ x. AreListed (advanced_stored shelf t v) (over x (rows_of names rows)))
+      (sym (swept_is s.before no_later))
+      (brought_over shelf t s.before v (rows_of names rows) (made names shelf t rows w s)
+      head s.kept.kept are kept))
 
 pub next_is : (shelf : Shelf) (t : ℕ) (w : StoredRows) →
     (rows_at shelf t w).next_charge ≡ w.next_charge
@@ -95,6 +85,42 @@ numbered_still n h k rows same there =
     ap (λ m. nat_lt 0 n && nat_lt n m) same ∙ sym (ap (is_numbered n) there) in
     ap (λ b. if b then told_charge rows n else None) tests
 
+-- ---- what is written of one account
+
+-- the head is put last, which an account that is there has
+headed : (a : List ℕ) (h : HeadColumns) (f : Stored → Stored) (c : Content)
+    → ((r : Stored) → (f r).head ≡ r.head)
+    → with_account a h (with_rows a f c) ≡ opened a (λ r. with_head h (f r)) c
+headed a h f c keeps = λ i. record c {
+  rows = λ x. chosen_twice (same_name a x) (c.rows x) (with_head h) f i;
+  count = if is_some (own (same_name a a) i) then c.count else c.count + 1;
+}
+  where
+    own : (b : Bool) → (if b then f (c.rows a) else c.rows a).head ≡ (c.rows a).head
+    own true = keeps (c.rows a)
+    own false = refl
+
+swept_over : (a : List ℕ) (names : Names) (among : List Session) (w : StoredRows) (c : Content)
+    → AreKeyed w → AreWritable names among w.groups
+    → with_account a (head_of w) (with_groups a names w.groups (with_sessions a w.sessions
+    (with_counters a w.counters (with_all_counted a w.buckets c)))) ≡ opened a (over_stored names w) c
+swept_over a names among w c h may =
+    let first = λ (r : Stored). over_counted w.buckets r in
+    let second = λ (r : Stored). over_counters w.counters (first r) in
+    let third = λ (r : Stored). over_sessions w.sessions (second r) in
+    let buckets = with_all_counted a w.buckets c in
+    let counters = with_counters a w.counters buckets in
+    let sessions = with_sessions a w.sessions counters in
+    ap (with_account a (head_of w))
+    (groups_over a names among w.groups sessions h.groups may
+    ∙ ap (with_rows a (over_groups names w.groups)) (sessions_over a w.sessions counters h.sessions
+    ∙ ap (with_rows a (over_sessions w.sessions)) (counters_over a w.counters buckets h.counters
+    ∙ ap (with_rows a (over_counters w.counters)) (counted_over a w.buckets c h.buckets)
+    ∙ with_twice a (over_counters w.counters) first c)
+    ∙ with_twice a (over_sessions w.sessions) second c)
+    ∙ with_twice a (over_groups names w.groups) third c)
+    ∙ headed a (head_of w) (λ r. over_groups names w.groups (third r)) c (λ r. refl)
+
 -- ---- an account after all of a list are written
 
 abbrev pub swept_at : List ℕ → List SweptAccount → Option SweptAccount
@@ -107,9 +133,11 @@ abbrev pub row_after : Names → Option SweptAccount → Stored → Stored
 row_after names None r = r
 row_after names (Some x) r = over_stored names x.rows r
 
--- the row may be written
-abbrev MayBePut : Names → SweptAccount → Type 0
-MayBePut names x = IsStored x.rows × AreWritable names x.rows.sessions x.rows.groups
+-- the rows may be written
+pub record MayBePut (names : Names) (x : SweptAccount) : Type 0 where
+  pub keyed : AreKeyed x.rows
+  pub among : List Session
+  pub may : AreWritable names among x.rows.groups
 
 -- the account is there
 abbrev IsThere : Content → SweptAccount → Type 0
@@ -119,9 +147,9 @@ module _ (names : Names) where
   abbrev one_after : SweptAccount → Content → Content
   one_after x c = opened x.number (over_stored names x.rows) c
 
-  step : (x : SweptAccount) (c : Content) → MayBePut names x →
-      with_stored x.number names x.rows c ≡ one_after x c
-  step x c may = stored_over x.number names x.rows.sessions x.rows c (keyed x.rows may.0) may.1
+  pub step : (x : SweptAccount) (c : Content) → MayBePut names x →
+      with_swept names x c ≡ one_after x c
+  step x c may = swept_over x.number names may.among x.rows c may.keyed may.may
 
   meta_after : (xs : List SweptAccount) (c : Content) → EachIn (MayBePut names) xs →
       (with_accounts names xs c).meta ≡ c.meta
@@ -170,7 +198,7 @@ module _ (names : Names) where
       ∙ count_after xs (one_after x c) may.1 (there_still x c xs there.1)
       ∙ ap (λ b. if b then c.count else c.count + 1) there.0
 
-  rows_after : (a : List ℕ) (xs : List SweptAccount) (c : Content) → EachIn (MayBePut names) xs
+  pub rows_after : (a : List ℕ) (xs : List SweptAccount) (c : Content) → EachIn (MayBePut names) xs
       → AreApart same_account xs
       → (with_accounts names xs c).rows a ≡ row_after names (swept_at a xs) (c.rows a)
   rows_after a [] c may apart = refl
@@ -193,7 +221,7 @@ module _ (names : Names) where
 
 -- ---- all of it
 
-apart_of : (xs : List SweptAccount)
+pub apart_of : (xs : List SweptAccount)
     → AreApart (λ x y. same_name y x) (map (λ (x : SweptAccount). x.number) xs)
     → AreApart same_account xs
 apart_of [] h = tt
@@ -232,15 +260,23 @@ found_one P a (y ∷ ys) x h e = at (same_name y.number a) refl e (found_one P a
         subst (λ z. P z × (z.number ≡ a)) is (h.0, name_from y.number a k)
     at false k f rest = rest f
 
+pub may_each : (names : Names) (shelf : Shelf) (t : ℕ) (c : Content) (xs : List SweptAccount)
+    → EachIn (IsSweptOf names shelf t c) xs → EachIn (MayBePut names) xs
+may_each names shelf t c xs each =
+    EachIn-weaker (IsSweptOf names shelf t c) (MayBePut names) xs (λ x h. record {
+      keyed = keyed_swept names shelf t (c.rows x.number) x.rows h;
+      among = (after names shelf t (c.rows x.number) x.rows h).sessions;
+      may = may_swept names shelf t (c.rows x.number) x.rows h;
+    }) each
+
 module _ (names : Names) (text : List ℕ) (shelf : Shelf) (t : ℕ) (c : Content)
     (xs : List SweptAccount) (ranges : IsShelf shelf) (all : AreAllSwept names shelf t c xs) where
-  may : EachIn (MayBePut names) xs
-  may = EachIn-weaker (IsSweptOf names shelf t c) (MayBePut names) xs
-      (λ x h. (h.stored, h.may)) all.each
+  pub may : EachIn (MayBePut names) xs
+  may = may_each names shelf t c xs all.each
 
   there : EachIn (IsThere c) xs
   there = EachIn-weaker (IsSweptOf names shelf t c) (IsThere c) xs
-      (λ x h. ap is_some h.live.0) all.each
+      (λ x h. ap is_some (h.live shelf t).0) all.each
 
   pub rows_are : (a : List ℕ) →
       (with_sweep names text t xs c).rows a ≡ row_after names (swept_at a xs) (c.rows a)
@@ -258,13 +294,14 @@ module _ (names : Names) (text : List ℕ) (shelf : Shelf) (t : ℕ) (c : Conten
   seen_of : (a : List ℕ) (x : SweptAccount) → IsSweptOf names shelf t c x → x.number ≡ a
       → AreSeen a (over_stored names x.rows (c.rows a))
   seen_of a x one is = record {
-    none = λ e. absurd (no_some _ (sym e ∙ ap (option_map head_in) here.live.0));
+    none = λ e. absurd (no_some _ (sym e ∙ ap (option_map head_in) (here.live shelf t).0));
     rows = rows_brought shelf t (rows_of names (c.rows a)) _ ranges
         (listed_one names shelf t (c.rows a) x.rows here);
     listed = listed_one names shelf t (c.rows a) x.rows here;
     answers = λ k. same_texts a k names x.rows [] (c.rows a);
     charges = λ n. numbered_still n (head_of here.before) (head_of x.rows) (c.rows a)
-        (ap (λ (w : StoredRows). w.next_charge) here.is ∙ next_is shelf t here.before) here.live.0;
+        (ap (λ (w : StoredRows). w.next_charge) here.is ∙ next_is shelf t here.before)
+        (here.live shelf t).0;
   }
     where
       here : AreSweptRows names shelf t (c.rows a) x.rows

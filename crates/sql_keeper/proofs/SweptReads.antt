@@ -1,49 +1,55 @@
--- The accounts of a sweep, read one after another and brought to a moment, and what is written of
--- them.
-use Rattle.std.proofs.Common.{◌≡◌, ◌<◌, ◌≤◌, ◌+◌, ◌∙◌, ap, refl, sym, subst, ℕ, suc, List, [], ◌∷◌}
-use Rattle.std.proofs.Common.{◌++◌, length, map, take, get_or, Option, Some, None, Result, Ok, Err}
-use Rattle.std.proofs.Common.{IfOk, IsTrue, arith, true}
+-- The accounts of a sweep, read, brought to a moment and written one after another, and what is
+-- written of them.
+use Rattle.std.proofs.Common.{◌≡◌, ◌<◌, ◌≤◌, ◌+◌, ◌∙◌, ap, refl, sym, subst, ℕ, List, [], ◌∷◌}
+use Rattle.std.proofs.Common.{◌++◌, length, map, take, get_or, cond, Option, Some, None, Result, Ok}
+use Rattle.std.proofs.Common.{Err, IfOk, IsTrue, arith, Bool, true, false, true≢false}
+use Rattle.std.specs.List.{list_all}
+use Rattle.std.specs.Result.{IsErr}
+use Rattle.std.proofs.lemmas.Bool.{and_from, and_parts}
 use Rattle.std.proofs.lemmas.List.{take_more, take_all}
-use Rattle.std.proofs.lemmas.Result.{IfOk-weaker}
 use Rattle.sqlite_trees.specs.Tree.{Trees}
 use Rattle.sqlite.specs.Effect.{Database}
-use Rattle.sqlite.specs.State.{State, HasCleanDisk}
+use Rattle.sqlite.specs.State.{State, HasCleanDisk, Survives}
+use Rattle.sqlite.proofs.StateLemmas.{survives_then}
+use Rattle.identifiers.specs.Texts.{same_name}
 use Rattle.shelves.specs.Shelves.{Shelf, IsShelf}
 use Rattle.reserving.specs.Stored.{StoredRows}
+use Rattle.reserving.specs.Rows.{AreApart, EachIn}
+use Rattle.reserving.proofs.Holds.{same_itself as name_itself}
 use Rattle.reserving.proofs.LeftTests.{each_append}
 use Rattle.keepers.specs.Change.{IsSwept}
-use Rattle.sql_tables.specs.Statements.{HasIdleBook}
-use Rattle.sql_tables.proofs.Keeps.{only_reads_then}
-use Rattle.sql_tables.proofs.Telling.{survive_then}
-use Rattle.sql_rows.specs.Content.{Content, content_of}
+use Rattle.sql_tables.specs.Statements.{Attempts, HasBook, HasRules, IsInside, OnlyReads}
+use Rattle.sql_rows.specs.Content.{Content, Rows as Stored, content_of, rows_in, with_meta}
+use Rattle.sql_rows.specs.Each.{with_each}
 use Rattle.sql_rows.specs.Lists.{AreAccounts}
-use Rattle.sql_rows.specs.Makes.{Turns}
-use Rattle.reserving.specs.Rows.{EachIn}
-use Rattle.reserving.proofs.Lists.{EachIn-weaker}
+use Rattle.sql_rows.specs.Makes.{Makes, Turns}
+use Rattle.sql_rows.proofs.Within.{HaveWithin}
+use Rattle.sql_rules.specs.Columns.{is_moment}
 use Rattle.sql_rules.specs.Ruled.{IsInRules}
-use Rattle.sql_keeper.specs.RuledRows.{is_ruled_sweep}
-use Rattle.sql_keeper.specs.Tests.{AreWritable}
+use Rattle.sql_keeper.specs.RuledRows.{is_ruled_sweep, is_ruled_swept}
 use Rattle.sql_keeper.proofs.RuledRows.{sweep_kept}
-use Rattle.sql_keeper.specs.Commits.{Transacts}
+use Rattle.sql_keeper.specs.Commits.{CommitsWhole}
 use Rattle.sql_keeper.specs.Content.{tables_of, Names}
-use Rattle.sql_keeper.specs.LiveGroups.{Gathers}
-use Rattle.sql_keeper.specs.LiveRows.{IsLiveAccount}
+use Rattle.sql_keeper.specs.LiveRows.{IsLiveUncounted}
 use Rattle.sql_keeper.specs.Sweeps.{AreSweptRows, IsSweptOf, IsSweptAs, IsSweptFrom, AreSweptOf}
-use Rattle.sql_keeper.specs.Sweeps.{AreAllSwept, with_sweep, BecomesSwept}
+use Rattle.sql_keeper.specs.Sweeps.{AreAllSwept, BecomesSwept, MakesSweep, SweepsEach, SweepsOne}
+use Rattle.sql_keeper.specs.Sweeps.{TransactsSweep, with_sweep, with_swept}
+use Rattle.sql_keeper.specs.Writes.{meta_at}
 use Rattle.sql_keeper.specs.declared.swept_rows.SweptAccount.{SweptAccount}
-use Rattle.sql_keeper.proofs.InTurn.{HaveRead, none_read, have_gathered, have_read_then}
-use Rattle.sql_keeper.proofs.InTurn.{gathers_from}
-use Rattle.sql_keeper.proofs.LiveGroups.{told_before}
 use Rattle.sql_keeper.specs.Tidy.{IsTidy}
-use Rattle.sql_keeper.proofs.Swept.{sweeps_read, swept_books, swept_meta}
+use Rattle.sql_keeper.proofs.Overlays.{name_from, not_both}
+use Rattle.sql_keeper.proofs.Puts.{made_since, made_then}
+use Rattle.sql_keeper.proofs.Swept.{MayBePut, apart_of, may, may_each, row_after, rows_after}
+use Rattle.sql_keeper.proofs.Swept.{sweeps_read, swept_at, swept_books, swept_meta}
 use Rattle.sql_keeper.proofs.TidySweeps.{tidy_sweep}
+use Rattle.sql_keeper.proofs.Whole.{not_shut}
 
 -- ---- one account
 
 pub swept_made : {E : Type 0} (names : Names) (shelf : Shelf) (t : ℕ)
     (c : Content) (a : List ℕ) (o : Option StoredRows) (r : Result SweptAccount E)
     → IfOk r (IsSweptFrom names shelf t a o)
-    → IsLiveAccount names shelf t (c.rows a) o → IfOk r (IsSweptAs names shelf t c a)
+    → IsLiveUncounted names (c.rows a) o → IfOk r (IsSweptAs names shelf t c a)
 swept_made names shelf t c a None (Ok x) made live = absurd made
 swept_made names shelf t c a (Some w) (Ok x) made live = record {
   number_is = made.number_is;
@@ -52,8 +58,6 @@ swept_made names shelf t c a (Some w) (Ok x) made live = record {
     live = live;
     kept = made.kept;
     is = made.is;
-    stored = made.stored;
-    may = made.may;
   });
 }
 swept_made names shelf t c a o (Err e) made live = tt
@@ -66,13 +70,8 @@ numbers_more : (xs : List SweptAccount) (x : SweptAccount)
 numbers_more [] x = refl
 numbers_more (y ∷ ys) x = ap (λ l. y.number ∷ l) (numbers_more ys x)
 
-numbers_length : (xs : List SweptAccount) →
-    length (map (λ (y : SweptAccount). y.number) xs) ≡ length xs
-numbers_length [] = refl
-numbers_length (y ∷ ys) = ap suc (numbers_length ys)
-
 module _ (names : Names) (shelf : Shelf) (t : ℕ) where
-  more_swept : (c : Content) (numbers : List (List ℕ)) (a : List ℕ) (xs : List SweptAccount)
+  pub more_swept : (c : Content) (numbers : List (List ℕ)) (a : List ℕ) (xs : List SweptAccount)
       (x : SweptAccount)
       → AreSweptOf names shelf t c numbers xs → IsSweptAs names shelf t c a x
       → AreSweptOf names shelf t c (numbers ++ a ∷ []) (xs ++ x ∷ [])
@@ -81,77 +80,216 @@ module _ (names : Names) (shelf : Shelf) (t : ℕ) where
     each = each_append (IsSweptOf names shelf t c) xs (x ∷ []) h.each (one.swept, tt);
   }
 
-  -- the accounts so far
-  pub record HasSwept (numbers : List (List ℕ)) (xs : List SweptAccount)
-      (old new : State) : Type 0 where
-    pub found : HasCleanDisk new → IsTrue new.is_open →
-        AreSweptOf names shelf t (content_of old.now.trees) numbers xs
-    pub reads : HaveRead old new
+-- ---- an account, within a transaction
 
-  pub none_swept : (xs : List SweptAccount) (s : State) → xs ≡ [] → HasIdleBook s →
-      HasSwept [] xs s s
-  none_swept xs s none idle = record {
-    found = λ clean on. subst (AreSweptOf names shelf t (content_of s.now.trees) []) (sym none)
-        (record { numbers_are = refl; each = tt });
-    reads = none_read s idle;
+-- what is read of it and put
+pub one_swept : {B C E F : Type 0} (names : Names) (shelf : Shelf) (t : ℕ) (a : List ℕ)
+    (old mid new : State) (o : Option StoredRows) (x : SweptAccount) (u : B) (v : C)
+    → HaveWithin old mid
+    → (HasCleanDisk mid → IsLiveUncounted names (rows_in old.now.trees a) o)
+    → IsSweptFrom names shelf t a o x → IsTrue (is_ruled_swept names x)
+    → Attempts {A = B} {E = F} (Makes (with_swept names x)) mid new (Ok u)
+    → Attempts {A = C} {E = E} (SweepsOne names shelf t a) old new (Ok v)
+one_swept {B} {C} {E} names shelf t a old mid new o x u v have live made ruled put = record {
+  done = λ clean.
+      let before : HasCleanDisk mid = omega (arith, put.survives.clean, clean) in
+      record {
+        account = x;
+        swept = swept_made {E = E} names shelf t (content_of old.now.trees) a o (Ok x) made
+            (live before);
+        ruled = ruled;
+        makes = made_since (with_swept names x) old mid new (have.same before) (put.done clean);
+      };
+  kept = λ clean. tt;
+  survives = survives_then old mid new (λ _. ⊥) (λ _. ⊥) (λ _. ⊥) (λ clean db no. no)
+      (λ clean db no. no) have.survives put.survives;
+}
+
+-- ---- one account after another
+
+each_last : {A : Type 0} (P : A → Type 0) (xs : List A) (a : A) → EachIn P (xs ++ a ∷ []) → P a
+each_last P [] a h = h.0
+each_last P (x ∷ xs) a h = each_last P xs a h.1
+
+each_first : {A : Type 0} (P : A → Type 0) (xs ys : List A) → EachIn P (xs ++ ys) → EachIn P xs
+each_first P [] ys h = tt
+each_first P (x ∷ xs) ys h = (h.0, each_first P xs ys h.1)
+
+apart_first : {A : Type 0} (same : A → A → Bool) (xs ys : List A) → AreApart same (xs ++ ys) →
+    AreApart same xs
+apart_first same [] ys h = tt
+apart_first same (x ∷ xs) ys h =
+    (each_first (λ y. same x y ≡ false) xs ys h.0, apart_first same xs ys h.1)
+
+other_way : (a b : List ℕ) → same_name a b ≡ false → same_name b a ≡ false
+other_way a b e = at (same_name b a) refl
+  where
+    at : (t : Bool) → same_name b a ≡ t → same_name b a ≡ false
+    at true k = not_both (sym (name_itself a)
+        ∙ ap (same_name a) (sym (name_from b a k)) ∙ e)
+    at false k = k
+
+-- an account whose number is none of theirs isn't among them
+not_among : (a : List ℕ) (xs : List SweptAccount)
+    → AreApart (λ x y. same_name y x) (map (λ (x : SweptAccount). x.number) xs ++ a ∷ [])
+    → swept_at a xs ≡ None
+not_among a [] h = refl
+not_among a (x ∷ xs) h =
+    ap (λ b. cond b (Some x) (swept_at a xs)) (other_way a x.number (each_last
+    (λ y. same_name y x.number ≡ false) (map (λ (y : SweptAccount). y.number) xs) a h.0))
+    ∙ not_among a xs h.1
+
+all_ruled : (f : SweptAccount → Bool) (xs : List SweptAccount) (x : SweptAccount)
+    → list_all f xs ≡ true → f x ≡ true → list_all f (xs ++ x ∷ []) ≡ true
+all_ruled f [] x all one = and_from (f x) true one refl
+all_ruled f (y ∷ ys) x all one =
+    let parts = and_parts (f y) (list_all f ys) all in
+    and_from (f y) (list_all f (ys ++ x ∷ [])) parts.0 (all_ruled f ys x parts.1 one)
+
+each_more : {X : Type 0} (change : X → Content → Content) (xs : List X) (x : X) (c : Content)
+    → with_each change (xs ++ x ∷ []) c ≡ change x (with_each change xs c)
+each_more change [] x c = refl
+each_more change (y ∷ ys) x c = each_more change ys x (change y c)
+
+module _ (names : Names) (text : List ℕ) (shelf : Shelf) (t : ℕ) where
+  -- the accounts so far
+  pub record HasSweptEach (numbers : List (List ℕ)) (old now : State) : Type 0 where
+    pub survives : Survives old now (λ _. ⊥)
+    pub made : HasCleanDisk now → MakesSweep names text shelf t numbers old now
+    pub rules : HasRules now
+
+  -- none yet
+  pub none_swept : {A E : Type 0} (u : A) (old now : State)
+      → Attempts {A = A} {E = E} (Makes (with_meta (meta_at text t))) old now (Ok u)
+      → HasRules now → HasSweptEach [] old now
+  none_swept u old now put rules = record {
+    survives = put.survives;
+    made = λ clean.
+        let m = put.done clean in
+        record {
+          turns = record {
+            accounts = [];
+            swept = λ apart. record { numbers_are = refl; each = tt };
+            ruled = refl;
+            turns = m.turns;
+          };
+          book = m.book;
+          shows = m.shows;
+        };
+    rules = rules;
+  }
+
+  -- an account that is brought on after others was read as it stood before them
+  as_before : (numbers : List (List ℕ)) (a : List ℕ) (xs : List SweptAccount) (x : SweptAccount)
+      (c d : Content) → d ≡ with_sweep names text t xs c
+      → AreApart (λ x y. same_name y x) (numbers ++ a ∷ []) → AreSweptOf names shelf t c numbers xs
+      → IsSweptAs names shelf t d a x → IsSweptAs names shelf t c a x
+  as_before numbers a xs x c d is apart swept one = record {
+    number_is = one.number_is;
+    swept = subst (λ (r : Stored). AreSweptRows names shelf t r x.rows) rows one.swept;
+  }
+    where
+      among : AreApart (λ x y. same_name y x)
+          (map (λ (y : SweptAccount). y.number) xs ++ a ∷ [])
+      among = subst (λ ns. AreApart (λ x y. same_name y x) (ns ++ a ∷ [])) (sym swept.numbers_are)
+          apart
+
+      at_a : d.rows a ≡ c.rows a
+      at_a = ap (λ (e : Content). e.rows a) is
+          ∙ rows_after names a xs (with_meta (meta_at text t) c)
+          (may_each names shelf t c xs swept.each)
+          (apart_of xs (apart_first (λ x y. same_name y x) (map (λ (y : SweptAccount). y.number) xs)
+          (a ∷ []) among))
+          ∙ ap (λ o. row_after names o (c.rows a)) (not_among a xs among)
+
+      rows : d.rows x.number ≡ c.rows x.number
+      rows = ap d.rows one.number_is ∙ at_a ∙ ap c.rows (sym one.number_is)
+
+  more_each : {A E : Type 0} (numbers : List (List ℕ)) (a : List ℕ) (u : A) (old mid new : State)
+      → HasSweptEach numbers old mid
+      → Attempts {A = A} {E = E} (SweepsOne names shelf t a) mid new (Ok u) → HasRules new
+      → HasSweptEach (numbers ++ a ∷ []) old new
+  more_each numbers a u old mid new h one rules = record {
+    survives = survives_then old mid new (λ _. ⊥) (λ _. ⊥) (λ _. ⊥) (λ clean db no. no)
+        (λ clean db no. no) h.survives one.survives;
+    made = λ clean.
+        let m = h.made (omega (arith, one.survives.clean, clean)) in
+        let next = one.done clean in
+        let xs = m.turns.accounts in
+        let both = made_then (with_sweep names text t xs) (with_swept names next.account) old mid
+        new (record { turns = m.turns.turns; book = m.book; shows = m.shows }) next.makes in
+        record {
+          turns = record {
+            accounts = xs ++ next.account ∷ [];
+            swept = λ apart.
+                let before = m.turns.swept
+                (apart_first (λ x y. same_name y x) numbers (a ∷ []) apart) in
+                more_swept names shelf t (content_of old.now.trees) numbers a xs next.account before
+                (as_before numbers a xs next.account (content_of old.now.trees)
+                (content_of mid.now.trees) m.turns.turns.content apart before next.swept);
+            ruled = all_ruled (is_ruled_swept names) xs next.account m.turns.ruled next.ruled;
+            turns = record {
+              content = both.turns.content ∙ sym (each_more (with_swept names) xs next.account
+                  (with_meta (meta_at text t) (content_of old.now.trees)));
+              catalog = both.turns.catalog;
+              stored = both.turns.stored;
+              plain = both.turns.plain;
+            };
+          };
+          book = both.book;
+          shows = both.shows;
+        };
+    rules = rules;
   }
 
   -- the next of the accounts
-  pub next_swept : {E : Type 0} (numbers : List (List ℕ)) (i : ℕ) (a : List ℕ)
-      (xs ys : List SweptAccount) (old mid new : State) (x : SweptAccount) → i < length numbers
-      → a ≡ get_or numbers i a → ys ≡ xs ++ x ∷ [] → HasSwept (take i numbers) xs old mid
-      → Gathers {A = SweptAccount} {E = E}
-      (λ trees x. IsSweptAs names shelf t (content_of trees) a x) mid new (Ok x)
-      → HasSwept (take (i + 1) numbers) ys old new
-  next_swept {E} numbers i a xs ys old mid new x less is more before here = record {
-    found = λ clean on.
-        let after = here.only.still clean on in
-        subst (AreSweptOf names shelf t (content_of old.now.trees) (take (i + 1) numbers))
-        (sym more)
-        (subst (λ ns. AreSweptOf names shelf t (content_of old.now.trees) ns (xs ++ x ∷ []))
-        (ap (λ b. take i numbers ++ b ∷ []) is ∙ sym (take_more numbers i a less))
-        (more_swept (content_of old.now.trees) (take i numbers) a xs x
-        (before.found (here.only.cleanness clean) after.was_open)
-        (told_before (λ trees. IsSweptAs names shelf t (content_of trees) a x) old mid new
-        before.reads.only here.only clean on (here.found clean on))));
-    reads = have_read_then old mid new before.reads (have_gathered {A = SweptAccount} {E = E}
-        (λ trees x. IsSweptAs names shelf t (content_of trees) a x) mid new x here);
+  pub next_swept : {A E : Type 0} (numbers : List (List ℕ)) (i : ℕ) (a : List ℕ) (u : A)
+      (old mid new : State) → i < length numbers → a ≡ get_or numbers i a
+      → HasSweptEach (take i numbers) old mid
+      → Attempts {A = A} {E = E} (SweepsOne names shelf t a) mid new (Ok u) → HasRules new
+      → HasSweptEach (take (i + 1) numbers) old new
+  next_swept {A} {E} numbers i a u old mid new less is h one rules =
+      subst (λ ns. HasSweptEach ns old new)
+      (ap (λ b. take i numbers ++ b ∷ []) is ∙ sym (take_more numbers i a less))
+      (more_each {A = A} {E = E} (take i numbers) a u old mid new h one rules)
+
+  pub all_swept : {A E : Type 0} (numbers : List (List ℕ)) (i : ℕ) (u : A) (old new : State)
+      → length numbers ≤ i → HasSweptEach (take i numbers) old new
+      → Attempts {A = A} {E = E} (MakesSweep names text shelf t numbers) old new (Ok u)
+  all_swept numbers i u old new end h = record {
+    done = λ clean. subst (λ ns. MakesSweep names text shelf t ns old new)
+        (take_all i numbers end) (h.made clean);
+    kept = λ clean. tt;
+    survives = h.survives;
   }
 
-  pub all_swept : {V E : Type 0} (items : V → List SweptAccount) (numbers : List (List ℕ))
-      (i : ℕ) (v : V) (old new : State) → length numbers ≤ i
-      → HasSwept (take i numbers) (items v) old new → Gathers {A = V} {E = E}
-      (λ trees v. AreSweptOf names shelf t (content_of trees) numbers (items v)) old new (Ok v)
-  all_swept {V} {E} items numbers i v old new end h =
-      gathers_from {A = V} {E = E}
-      (λ trees v. AreSweptOf names shelf t (content_of trees) numbers (items v)) old new
-      (Ok v) h.reads
-      (λ clean on. subst (λ ns. AreSweptOf names shelf t (content_of old.now.trees) ns (items v))
-      (take_all i numbers end) (h.found clean on))
-
-  -- the numbers of all accounts, and then the accounts of these numbers
-  pub all_read : {V E : Type 0} (items : V → List SweptAccount) (numbers : List (List ℕ))
-      (old mid new : State) (r : Result V E) → HaveRead old mid
-      → (HasCleanDisk mid → AreAccounts (content_of old.now.trees) numbers)
-      → Gathers (λ trees v. AreSweptOf names shelf t (content_of trees) numbers (items v)) mid new r
-      → Gathers (λ trees v. AreAllSwept names shelf t (content_of trees) (items v)) old new r
-  all_read items numbers old mid new r first accounts second = record {
-    found = λ clean on.
-        IfOk-weaker r (λ v. AreSweptOf names shelf t (content_of mid.now.trees) numbers (items v))
-        (λ v. AreAllSwept names shelf t (content_of old.now.trees) (items v))
-        (λ v there.
-        let here : AreSweptOf names shelf t (content_of old.now.trees) numbers (items v) =
-        told_before (λ trees. AreSweptOf names shelf t (content_of trees) numbers (items v)) old mid
-        new first.only second.only clean on there in
+  -- an account that isn't brought on
+  pub not_swept : {A B E F : Type 0} (does : State → State → Type 0) (numbers all : List (List ℕ))
+      (old mid new : State) (r : Result A E) (e : F) → IsErr r → HasSweptEach numbers old mid
+      → Attempts {A = B} {E = F} does mid new (Err e)
+      → Attempts {A = A} {E = E} (MakesSweep names text shelf t all) old new r
+  not_swept does numbers all old mid new (Ok u) e failed h one = absurd (true≢false (sym failed))
+  not_swept does numbers all old mid new (Err f) e failed h one = record {
+    done = λ clean. tt;
+    kept = λ clean.
+        let m = h.made (omega (arith, one.survives.clean, clean)) in
+        let k = one.kept clean in
         record {
-          all = subst (AreAccounts (content_of old.now.trees)) (sym here.numbers_are)
-              (accounts (second.only.cleanness clean));
-          each = here.each;
-        }) (second.found clean on);
-    only = only_reads_then old mid new first.only second.only;
-    stays = λ clean on. second.stays clean (first.stays (second.only.cleanness clean) on);
-    survives = survive_then old mid new first.stays first.survives second.survives;
+          was_open = λ on. m.shows.was_open;
+          committed = λ on. k.committed on ∙ m.shows.committed_is;
+        };
+    survives = survives_then old mid new (λ _. ⊥) (λ _. ⊥) (λ _. ⊥) (λ clean db no. no)
+        (λ clean db no. no) h.survives one.survives;
   }
+
+  -- what stays of the connection
+  pub book_swept : (numbers : List (List ℕ)) (old now : State) → HasSweptEach numbers old now →
+      HasBook now
+  book_swept numbers old now h clean on = (h.made clean).book
+
+  pub inside_swept : (numbers : List (List ℕ)) (old now : State) → HasSweptEach numbers old now →
+      IsInside now
+  inside_swept numbers old now h clean on = (h.made clean).shows.mode
 
 -- ---- what is written
 
@@ -170,11 +308,8 @@ become names text shelf t xs ranges last old new all ruled turns = record {
       (subst (λ n. IsInRules own (with_sweep n text t xs (content_of old))) (sym is)
       (sweep_kept own text t xs (content_of old)
       (subst (λ n. is_ruled_sweep n t xs ≡ true) is ruled)
-      (subst (λ n. EachIn (λ (x : SweptAccount).
-      AreWritable n x.rows.sessions x.rows.groups) xs) is
-      (EachIn-weaker (IsSweptOf names shelf t (content_of old)) (λ (x : SweptAccount).
-      AreWritable names x.rows.sessions x.rows.groups) xs (λ x h. h.may) all.each))
-      there in'));
+      (subst (λ n. EachIn (MayBePut n) xs) is
+      (may names text shelf t (content_of old) xs ranges all)) there in'));
   plain = turns.plain;
   meta = ap (λ (c : Content). c.meta) turns.content
       ∙ swept_meta names text shelf t (content_of old) xs ranges all;
@@ -185,30 +320,72 @@ become names text shelf t xs ranges last old new all ruled turns = record {
   stored = turns.stored;
 }
 
-module _ {V E : Type 0} (items : V → List SweptAccount) (names : Names) (text : List ℕ)
-    (shelf : Shelf) (t : ℕ) (v : V) (xs : List SweptAccount) (is : xs ≡ items v)
-    (ranges : IsShelf shelf) (last : t ≤ 4_102_488_000)
-    (ruled : is_ruled_sweep names t xs ≡ true) (old mid : State)
-    (reads : Gathers {A = V} {E = E}
-    (λ trees v. AreAllSwept names shelf t (content_of trees) (items v)) old mid (Ok v)) where
-  all_of : HasCleanDisk mid → IsTrue mid.is_open →
-      AreAllSwept names shelf t (content_of old.now.trees) xs
-  all_of clean on =
-      subst (AreAllSwept names shelf t (content_of old.now.trees)) (sym is) (reads.found clean on)
+-- the accounts of all numbers, one after another
+swept_whole : (names : Names) (text : List ℕ) (shelf : Shelf) (t : ℕ) (numbers : List (List ℕ))
+    → IsShelf shelf → t ≤ 4_102_488_000 → is_moment t ≡ true → (old db : Trees)
+    → AreAccounts (content_of old) numbers → SweepsEach names text shelf t numbers old db
+    → BecomesSwept names text shelf t old db
+swept_whole names text shelf t numbers ranges last ruled old db accounts each =
+    let s = each.swept accounts.apart in
+    become names text shelf t each.accounts ranges last old db (record {
+      all = subst (AreAccounts (content_of old)) (sym s.numbers_are) accounts;
+      each = s.each;
+    }) (and_from (is_moment t) (list_all (is_ruled_swept names) each.accounts) ruled each.ruled)
+    each.turns
 
-  pub become_swept : HasCleanDisk mid → IsTrue mid.is_open → (db : Trees)
-      → Turns (with_sweep names text t xs) mid.now.trees db
+module _ (names : Names) (text : List ℕ) (shelf : Shelf) (t : ℕ) (numbers : List (List ℕ))
+    (ranges : IsShelf shelf) (last : t ≤ 4_102_488_000) (ruled : is_moment t ≡ true)
+    (old mid new : State) (only : OnlyReads old mid)
+    (stops : Survives old mid (λ _. old.is_open ≡ false))
+    (accounts : HasCleanDisk mid → AreAccounts (content_of old.now.trees) numbers) where
+  become_swept : HasCleanDisk mid → IsTrue mid.is_open → (db : Trees)
+      → SweepsEach names text shelf t numbers mid.now.trees db
       → BecomesSwept names text shelf t old.now.trees db
-  become_swept clean on db turns =
-      become names text shelf t xs ranges last old.now.trees db (all_of clean on) ruled
-      (subst (λ (d : Database).
-      Turns (with_sweep names text t xs) d.trees db) (reads.only.still clean on).now_is turns)
+  become_swept clean on db each =
+      swept_whole names text shelf t numbers ranges last ruled old.now.trees db (accounts clean)
+      (subst (λ (d : Database). SweepsEach names text shelf t numbers d.trees db)
+      (only.still clean on).now_is each)
 
-  -- how many there are
-  pub count_swept : {A F : Type 0} (new : State) (u : A)
-      → Transacts {A = A} {E = F} (with_sweep names text t xs) mid new (Ok u) → HasCleanDisk new
-      → length (items v) ≡ (content_of old.now.trees).count
-  count_swept new u transacts clean =
-      let d = transacts.done clean in
-      let mid_clean : HasCleanDisk mid = omega (arith, transacts.survives.clean, clean) in
-      sym (numbers_length (items v)) ∙ (reads.found mid_clean d.0).all.count
+  survives_both : Survives mid new
+      (λ db. IsTrue mid.is_open × SweepsEach names text shelf t numbers mid.now.trees db)
+      → Survives old new (λ db. IsTrue old.is_open → BecomesSwept names text shelf t old.now.trees db)
+  survives_both s =
+      survives_then old mid new (λ _. old.is_open ≡ false)
+      (λ db. IsTrue mid.is_open × SweepsEach names text shelf t numbers mid.now.trees db)
+      (λ db. IsTrue old.is_open → BecomesSwept names text shelf t old.now.trees db)
+      (λ clean db shut on. absurd (not_shut old.is_open on shut))
+      (λ clean db e on. become_swept (omega (arith, s.clean, clean)) e.0 db e.1) stops s
+
+  pub sweep_written : {A B E F : Type 0} (u : A) (v : B)
+      → TransactsSweep {A = A} {E = E} names text shelf t numbers mid new (Ok u)
+      → CommitsWhole {A = B} {E = F} (BecomesSwept names text shelf t) old new (Ok v)
+  sweep_written u v w = record {
+    done = λ clean.
+        let d = w.done clean in
+        let mid_clean : HasCleanDisk mid = omega (arith, w.survives.clean, clean) in (
+          (only.still mid_clean d.0).was_open,
+          d.1,
+          become_swept mid_clean d.0 new.now.trees d.2.turns,
+        );
+    err = λ clean on. tt;
+    idle = w.idle;
+    survives = survives_both w.survives;
+  }
+
+  pub sweep_not_written : {A B E F : Type 0} (r : Result B F) (e : E) → IsErr r
+      → TransactsSweep {A = A} {E = E} names text shelf t numbers mid new (Err e)
+      → CommitsWhole {A = B} {E = F} (BecomesSwept names text shelf t) old new r
+  sweep_not_written (Ok v) e failed w = absurd (true≢false (sym failed))
+  sweep_not_written (Err f) e failed w = record {
+    done = λ clean. tt;
+    err = λ clean on.
+        let k = w.kept clean on in
+        let s = only.still (omega (arith, w.survives.clean, clean)) k.was_open in
+        record {
+          was_open = s.was_open;
+          now_is = k.now_is ∙ s.now_is;
+          committed_is = k.committed_is ∙ s.committed_is;
+        };
+    idle = w.idle;
+    survives = survives_both w.survives;
+  }

@@ -6,7 +6,9 @@ use Rattle.std.specs.Prelude.{◌||◌, ◌&&◌, if◌then◌else◌, map, not,
 use Rattle.std.specs.List.{find, list_all}
 use Rattle.std.proofs.lemmas.Bool.{and_parts, not-true}
 use Rattle.std.proofs.lemmas.List.{take_more, take_all}
-use Rattle.sqlite.specs.State.{State, HasCleanDisk}
+use Rattle.sqlite.specs.State.{State, HasCleanDisk, IsLive}
+use Rattle.sqlite_catalog.specs.Listing.{IsSound}
+use Rattle.sqlite_schema.specs.declared.schema.Constraint.TheVariants.{ForeignKey}
 use Rattle.reserving.specs.declared.session.Session.{Session}
 use Rattle.reserving.specs.declared.session.SessionGroup.{SessionGroup}
 use Rattle.reserving.specs.Rows.{EachIn}
@@ -19,8 +21,9 @@ use Rattle.keepers.specs.declared.loaded.Change.{Change}
 use Rattle.sql_tables.specs.Statements.{HasIdleBook, Reads}
 use Rattle.sql_rows.specs.declared.head.Head.{Head}
 use Rattle.sql_rows.specs.Content.{Rows as Stored, rows_in}
-use Rattle.sql_rows.specs.Lists.{AreGroups, GroupAt, HasNoGroups}
+use Rattle.sql_rows.specs.Lists.{AreCoveredBeside, AreGroups, GroupAt, HasNoGroups}
 use Rattle.sql_rows.specs.Values.{Group}
+use Rattle.sql_rows.proofs.ChargeBlocks.{covered_beside}
 use Rattle.sql_keeper.specs.RuledRows.{is_ruled_change}
 use Rattle.sql_keeper.specs.Content.{Names}
 use Rattle.sql_keeper.specs.LiveGroups.{Gathers}
@@ -333,21 +336,37 @@ change_found {E} names change o xs ys y z old mid new same_xs same_ys is one wri
           two.only clean on ((two.found clean on).new both.1)) both.0);
     })
 
+-- covered blocks stand beside a charge, since their key is one of charges
+pub beside_at : (s : State) → HasIdleBook s → IsLive s → (a : List ℕ) → HasCleanDisk s
+    → IsTrue s.is_open → AreCoveredBeside (rows_in s.now.trees a)
+beside_at s idle live a clean on =
+    covered_beside s.now.trees
+    ((subst (λ c. IsSound c s.now.trees) (idle clean on).book.schema (live on).0).obeys.rules
+    ForeignKey) a
+
 -- of a change that passed
 pub tested : {E : Type 0} (names : Names) (change : Change) (y : NamedSessions) (r : Result Bool E)
     (old new : State) → IfOk r (λ b. IsTrue y.are_settled × (b ≡ y.are_new)) →
+    HasIdleBook old → IsLive old →
     Gathers {A = NamedSessions} {E = E}
     (λ trees w. IsChangeFound names change (rows_in trees change.number) w) old new (Ok y) →
     Gathers {A = Bool} {E = E}
     (λ trees b. IsTested names change (rows_in trees change.number) b) old new r
-tested {E} names change y r old new passes h =
-    gathers_made {A = NamedSessions} {B = Bool} {E = E}
-    (λ trees w. IsChangeFound names change (rows_in trees change.number) w)
-    (λ trees b. IsTested names change (rows_in trees change.number) b) old new y r h
-    (λ trees found. so r passes (rows_in trees change.number) found)
+tested {E} names change y r old new passes idle live h =
+    gathers_from {A = Bool} {E = E}
+    (λ trees b. IsTested names change (rows_in trees change.number) b) old new r
+    (have_gathered {A = NamedSessions} {E = E}
+    (λ trees w. IsChangeFound names change (rows_in trees change.number) w) old new y h)
+    (λ clean on. so r passes (rows_in old.now.trees change.number) (h.found clean on)
+    (beside_at old idle live change.number (h.only.cleanness clean)
+    (h.only.still clean on).was_open))
   where
     so : (q : Result Bool E) → IfOk q (λ b. IsTrue y.are_settled × (b ≡ y.are_new)) →
-        (s : Stored) → IsChangeFound names change s y → IfOk q (λ b. IsTested names change s b)
-    so (Ok b) t s found =
-        record { made = found.made t.0; new = λ u. found.new (sym t.1 ∙ u) }
-    so (Err e) t s found = tt
+        (s : Stored) → IsChangeFound names change s y → AreCoveredBeside s →
+        IfOk q (λ b. IsTested names change s b)
+    so (Ok b) t s found beside = record {
+      made = found.made t.0;
+      new = λ u. found.new (sym t.1 ∙ u);
+      covered = beside;
+    }
+    so (Err e) t s found beside = tt

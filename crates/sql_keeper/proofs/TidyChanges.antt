@@ -5,9 +5,9 @@ use Rattle.std.specs.Prelude.{is_some, slice_get, unwrap_or}
 use Rattle.std.proofs.lemmas.Bool.{and_parts}
 use Rattle.tariffs.specs.Names.{period_named}
 use Rattle.voucher_rules.specs.declared.terms.VoucherTerms.{VoucherTerms}
-use Rattle.reserving.specs.declared.session.Session.{Session}
 use Rattle.reserving.specs.Left.{first_of, is_open_row}
 use Rattle.reserving.specs.Sessions.{session_in}
+use Rattle.reserving.specs.Stored.{StoredRows}
 use Rattle.keepers.specs.declared.loaded.Change.{Change}
 use Rattle.keepers.specs.Naming.{IsNamed}
 use Rattle.sql_rows.specs.Values.{Group, Kept, Meta, PeriodNames}
@@ -19,35 +19,24 @@ use Rattle.sql_keeper.specs.Tests.{AreSettled, MayBeMade}
 use Rattle.sql_keeper.specs.Tidy.{AreTidyRows, EndsTidy, IsTidy, are_terms}
 use Rattle.sql_keeper.specs.Tidy.{has_terms}
 use Rattle.sql_keeper.specs.Writes.{AreTexts, meta_at, with_change}
-use Rattle.sql_keeper.proofs.Changed.{keyed_named}
+use Rattle.sql_keeper.proofs.Changed.{keyed_named, open_named}
 use Rattle.sql_keeper.proofs.Overlays.{not_both}
 use Rattle.sql_keeper.proofs.Tidy.{may_be_over, tidy_meta, tidy_written}
 
 -- ---- a change
 
-module _ (change : Change) (r : Stored)
-    (settled : AreSettled change.rows.sessions change.rows.groups r) where
-  -- a session that a change names is open as it names it
-  stays_open : (s : List ℕ) → is_open_row (session_in s change.rows.sessions) ≡ true
-      → is_open_row (first_of (session_in s change.rows.sessions) (r.sessions s)) ≡ true
-  stays_open s = at (session_in s change.rows.sessions)
-    where
-      at : (o : Option Session) → is_open_row o ≡ true →
-          is_open_row (first_of o (r.sessions s)) ≡ true
-      at None k = not_both (sym k)
-      at (Some x) k = k
-
-  ended : EndsTidy change.rows r
-  ended s g none = at (r.groups s g) refl
-    where
-      at : (o : Option Group) → r.groups s g ≡ o → is_reserved o ≡ true
-          → is_open_row (r.sessions s) ≡ true
-          → is_open_row (first_of (session_in s change.rows.sessions) (r.sessions s)) ≡ true
-      at None e reserved on = not_both (sym reserved)
-      at (Some y) e reserved on = elim (settled s g y e none) [
-        | inl same ↦ same ∙ on
-        | inr free ↦ not_both (sym reserved ∙ ap is_some free)
-      ]
+-- of a session that is ended each group is written that has a reservation
+pub ends_settled : (w : StoredRows) (r : Stored) → AreSettled w.sessions w.groups r → EndsTidy w r
+ends_settled w r settled s g none = at (r.groups s g) refl
+  where
+    at : (o : Option Group) → r.groups s g ≡ o → is_reserved o ≡ true
+        → is_open_row (r.sessions s) ≡ true
+        → is_open_row (first_of (session_in s w.sessions) (r.sessions s)) ≡ true
+    at None e reserved on = not_both (sym reserved)
+    at (Some y) e reserved on = elim (settled s g y e none) [
+      | inl same ↦ same ∙ on
+      | inr free ↦ not_both (sym reserved ∙ ap is_some free)
+    ]
 
 pub tidy_change : (names : Names) (m : Meta) (change : Change) (texts : Option Kept) (c : Content)
     → IsNamed change.rows → MayBeMade names change (c.rows change.number)
@@ -57,10 +46,10 @@ tidy_change names m change texts c named may told t =
     tidy_written names change.number change.rows change.charges.items change.kept texts
     change.redeemed m c change.rows.sessions (keyed_named change.rows named) may.reservations
     may.numbers told
-    (ended change (c.rows change.number) may.settled)
+    (ends_settled change.rows (c.rows change.number) may.settled)
     (may_be_over names change.number change.rows change.charges.items change.kept texts
     change.redeemed m c change.rows.sessions (keyed_named change.rows named) may.reservations
-    may.numbers told (stays_open change (c.rows change.number) may.settled)) t
+    may.numbers told (open_named change.rows.sessions (c.rows change.number))) t
 
 -- ---- a voucher
 

@@ -4,6 +4,7 @@ pub mod Again
 pub mod Asks
 pub mod Books
 pub mod Causes
+pub mod ChargePages
 pub mod Commits
 pub mod Content
 pub mod Covered
@@ -11,6 +12,7 @@ pub mod Creates
 pub mod Dead
 pub mod Faults
 pub mod Finds
+pub mod Grants
 pub mod GroupRows
 pub mod Inside
 pub mod Kinds
@@ -29,7 +31,8 @@ pub mod Settled
 pub mod Shelves
 pub mod Stops
 pub mod Sweeps
+pub mod Calls
 pub mod Tests
 pub mod Tidy
+pub mod Within
 pub mod Writes
-pub mod ChargePages

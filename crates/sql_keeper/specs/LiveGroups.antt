@@ -1,6 +1,6 @@
 -- What sessions have of rating groups, with what is held there, read from the tables.
 -- Source: profile.
-use Rattle.std.specs.Prelude.{◌≡◌, true, false, List, None, Result, IfOk, OnOk, IsTrue}
+use Rattle.std.specs.Prelude.{◌≡◌, true, false, List, Some, None, Result, IfOk, OnOk, IsTrue}
 use Rattle.std.specs.Prelude.{option_map, if◌then◌else◌}
 use Rattle.units.specs.Words.{GroupId}
 use Rattle.identifiers.specs.Words.{SessionName}
@@ -9,10 +9,11 @@ use Rattle.sqlite_trees.specs.Tree.{Trees}
 use Rattle.sqlite.specs.State.{State, HasCleanDisk, Survives}
 use Rattle.reserving.specs.declared.session.Session.{Session}
 use Rattle.reserving.specs.declared.session.SessionGroup.{SessionGroup}
+use Rattle.reserving.specs.declared.session.Reservation.{Reservation}
 use Rattle.reserving.specs.Left.{is_open_row}
 use Rattle.reserving.specs.Sessions.{group_in, is_open}
 use Rattle.keepers.specs.Change.{is_loaded}
-use Rattle.keepers.specs.Tables.{Rows, group_row, held_of}
+use Rattle.keepers.specs.Tables.{Rows, group_row, held_at, held_of}
 use Rattle.sql_tables.specs.Statements.{OnlyReads}
 use Rattle.sql_rows.specs.Content.{Rows as Stored}
 use Rattle.sql_rows.specs.Lists.{AreSessions}
@@ -30,6 +31,13 @@ pub record Gathers {A E : Type 0} (told : Trees → A → Type 0) (old new : Sta
     -- a stop leaves what it left before
     pub survives : Survives old new (λ _. old.is_open ≡ false)
 
+-- how a session's reservation in a rating group is stored: the number of its book has a row, and no
+-- other bucket has one than those of which it holds
+pub record IsGrantStored (rows : Stored) (s : SessionName) (g : GroupId) (v : Reservation) : Type 0
+  where
+    pub book : rows.grant_books s g ≡ Some v.terms.book
+    pub held : (n : BucketNumber) → held_at n v.holds ≡ 0 → rows.holds s g n ≡ None
+
 -- what the open sessions have of rating groups, and what their reservations hold: all of it, and of
 -- no other session
 pub record AreLiveGroups (names : Names) (rows : Stored) (xs : List SessionGroup) : Type 0 where
@@ -39,6 +47,8 @@ pub record AreLiveGroups (names : Names) (rows : Stored) (xs : List SessionGroup
   pub holds : (s : SessionName) (g : GroupId) (n : BucketNumber) → held_of n (group_in s g xs) ≡
       (if is_open_row (rows.sessions s)
       then held_in (is_reserved (rows.groups s g)) (rows.holds s g n) else 0)
+  pub grants : (s : SessionName) (g : GroupId) (x : SessionGroup) (v : Reservation)
+      → group_in s g xs ≡ Some x → x.reservation ≡ Some v → IsGrantStored rows s g v
 
 -- the open sessions, and what they have of rating groups
 pub record AreOpenSessions (names : Names) (rows : Stored) (ss : List Session)

@@ -3,7 +3,7 @@
 use Rattle.std.specs.Prelude.{◌≡◌, ◌==◌, not, List, Option, Some, None, Result, Ok, Err}
 use Rattle.std.specs.Prelude.{if◌then◌else◌}
 use Rattle.units.specs.Words.{Moment, GroupId, CycleNumber}
-use Rattle.identifiers.specs.Words.{AccountName}
+use Rattle.identifiers.specs.Words.{AccountName, SessionName}
 use Rattle.buckets.specs.Words.{BucketNumber}
 use Rattle.buckets.specs.Row.{Row}
 use Rattle.shelves.specs.Shelves.{Shelf}
@@ -12,16 +12,17 @@ use Rattle.reserving.specs.declared.session.SessionGroup.{SessionGroup}
 use Rattle.reserving.specs.declared.session.Counter.{Counter}
 use Rattle.reserving.specs.Left.{is_dead, only, bucket_in}
 use Rattle.reserving.specs.Pricing.{cycle_at}
-use Rattle.reserving.specs.Sessions.{is_open, counter_in}
+use Rattle.reserving.specs.declared.session.Reservation.{Reservation}
+use Rattle.reserving.specs.Sessions.{group_in, is_open, counter_in}
 use Rattle.reserving.specs.Stored.{StoredRows, priced}
-use Rattle.keepers.specs.Change.{IsLoadedFrom}
+use Rattle.keepers.specs.Change.{IsLoad, IsLoadedFrom}
 use Rattle.keepers.specs.declared.loaded.Loaded.{Loaded}
 use Rattle.reserving.specs.Rows.{AccountRows}
 use Rattle.sql_rows.specs.Content.{Rows as Stored}
 use Rattle.sql_rows.specs.Lists.{AreSessions}
 use Rattle.sql_rows.specs.declared.head.Head.{Head as HeadColumns}
 use Rattle.sql_keeper.specs.Content.{told_buckets, rows_of, Names}
-use Rattle.sql_keeper.specs.LiveGroups.{AreLiveGroups}
+use Rattle.sql_keeper.specs.LiveGroups.{AreLiveGroups, IsGrantStored}
 use Rattle.sql_keeper.specs.Writes.{head_of}
 use Rattle.sql_keeper.specs.declared.live_rows.LiveRows.{LiveRows}
 use Rattle.sql_keeper.specs.declared.live_rows.ReadRows.{ReadRows}
@@ -74,6 +75,20 @@ IsLiveAccount names shelf t rows (Some w) =
     (rows.head ≡ Some (head_of w)) × AreLiveRows names rows w.buckets w.sessions w.groups
     × AreCountersAt shelf t rows w.counters
 
+-- an account's rows without its counters, which a sweep neither reads nor changes
+abbrev pub without_counters : Stored → Stored
+without_counters rows = record rows { counters = λ g c. None }
+
+-- what is read of an account without its counters, whatever the shelf and the moment
+abbrev pub IsReadUncounted : Names → Stored → Option ReadRows → Type 0
+IsReadUncounted names rows o =
+    (shelf : Shelf) (t : Moment) → IsReadAccount names shelf t (without_counters rows) o
+
+-- the account without its counters
+abbrev pub IsLiveUncounted : Names → Stored → Option StoredRows → Type 0
+IsLiveUncounted names rows o =
+    (shelf : Shelf) (t : Moment) → IsLiveAccount names shelf t (without_counters rows) o
+
 -- it is what a load asks of the account's rows, once the shelf prices it
 abbrev pub AreLiveRowsLoaded : Type 0
 AreLiveRowsLoaded =
@@ -100,3 +115,15 @@ IsAccountOf (Ok (Some l)) (Ok (Some a)) = a ≡ l.account
 IsAccountOf (Ok o) (Err f) = ⊥
 IsAccountOf (Err e) (Ok o) = ⊥
 IsAccountOf (Err e) (Err f) = f ≡ e
+
+-- what is loaded, and how the reservations of it are stored
+abbrev pub AreGrantsStored : Stored → Option Loaded → Type 0
+AreGrantsStored r None = Unit {0}
+AreGrantsStored r (Some l) =
+    (s : SessionName) (g : GroupId) (x : SessionGroup) (v : Reservation)
+    → group_in s g l.before.groups ≡ Some x → x.reservation ≡ Some v → IsGrantStored r s g v
+
+pub record IsLoadStored (names : Names) (shelf : Shelf) (t : Moment) (a : AccountName) (r : Stored)
+    (o : Option Loaded) : Type 0 where
+  pub load : IsLoad shelf t a (rows_of names r) o
+  pub grants : AreGrantsStored r o

@@ -12,6 +12,7 @@ use Rattle.tariffs.specs.Tariffs.{GroupTariff}
 use Rattle.reserving.specs.declared.session.Counter.{Counter}
 use Rattle.reserving.specs.Pricing.{tariff_of}
 use Rattle.reserving.specs.Sessions.{counter_in}
+use Rattle.sql_rows.specs.declared.head.Head.{Head}
 use Rattle.sql_rows.specs.Content.{Rows as Stored}
 
 abbrev pub repeats_with : Option GroupTariff → Cycle
@@ -38,8 +39,14 @@ AreRepeating b repeats t rows cs = (g : GroupId) (c : CycleNumber) → counter_i
     ≡ (if cycles.eq (repeats_in b g) repeats
     then (if c == cycle_of b.calendar.zone repeats t then rows.counters g c else None) else None)
 
-pub record AreEachRepeating (b : Book) (t : Moment) (rows : Stored)
-    (never daily monthly : List Counter) : Type 0 where
+-- what is kept of an account once, and its counters of the groups whose counters never begin again
+pub record IsFirst (b : Book) (t : Moment) (rows : Stored) (head : Option Head)
+    (never : List Counter) : Type 0 where
+  pub head_is : head ≡ rows.head
   pub never_are : AreRepeating b often.None t rows never
+
+-- those of the others
+pub record AreEachCycle (b : Book) (t : Moment) (rows : Stored) (daily monthly : List Counter)
+    : Type 0 where
   pub daily_are : AreRepeating b often.Day t rows daily
   pub monthly_are : AreRepeating b often.Month t rows monthly

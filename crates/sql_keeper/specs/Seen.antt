@@ -11,12 +11,14 @@ use Rattle.reserving.specs.Left.{is_open_row}
 use Rattle.reserving.specs.declared.session.Session.{Session}
 use Rattle.reserving.specs.Sessions.{is_open, session_in}
 use Rattle.reserving.specs.Stored.{StoredRows}
-use Rattle.sql_tables.specs.Keyed.{same_name}
 use Rattle.sql_rows.specs.Content.{Rows as Stored, rows_in}
 use Rattle.sql_rows.specs.Lists.{HasNoGroups}
+use Rattle.sql_rows.specs.declared.head.Head.{Head as HeadColumns}
+use Rattle.sql_keeper.specs.Grants.{IsGrantIn, IsGrantSeen, is_name}
 use Rattle.sql_keeper.specs.Inside.{IsKeeper, KeeperState}
 use Rattle.sql_keeper.specs.Writes.{head_of}
 use Rattle.sql_keeper.specs.declared.seen.SeenAccount.{SeenAccount}
+use Rattle.sql_keeper.specs.declared.seen.SeenGrant.{SeenGrant}
 use Rattle.sql_keeper.specs.declared.seen.Standing.{Standing}
 use Rattle.sql_keeper.specs.declared.seen.Standing.TheVariants.{Unknown, Open, Over}
 
@@ -58,21 +60,35 @@ pub record IsKnown (r : Stored) (s : SessionName) (known : Bool) : Type 0 where
 -- of the rows of an account
 pub record IsSeenOf (a : AccountName) (w : StoredRows) (x : SeenAccount) : Type 0 where
   pub account : x.account ≡ a
-  pub head : x.head ≡ head_of w
+  pub head : x.head ≡ Some (head_of w)
   pub live : (s : SessionName) → x.live ≡ Some s → is_open_row (session_in s w.sessions) ≡ true
+  pub grant : (s : SessionName) (y : SeenGrant) → x.live ≡ Some s → x.grant ≡ Some y
+      → IsGrantIn w.groups s y
   pub unknown : x.unknown ≡ None
+
+-- of an account of which a session has no row
+pub record IsUnknownAlone (a : AccountName) (s : SessionName) (x : SeenAccount) : Type 0 where
+  pub account : x.account ≡ a
+  pub head : x.head ≡ None
+  pub live : x.live ≡ None
+  pub grant : x.grant ≡ None
+  pub unknown : (z : SessionName) → x.unknown ≡ Some z → z ≡ s
+
+-- what was seen later, with the session that had no row before
+pub record IsJoined (older newer x : SeenAccount) : Type 0 where
+  pub account : x.account ≡ newer.account
+  pub head : x.head ≡ newer.head
+  pub live : x.live ≡ newer.live
+  pub grant : x.grant ≡ newer.grant
+  pub unknown : x.unknown ≡ older.unknown
 
 -- the same with a session that has no row, or without one
 pub record IsSeenWith (s : SessionName) (x y : SeenAccount) : Type 0 where
   pub account : y.account ≡ x.account
   pub head : y.head ≡ x.head
   pub live : y.live ≡ x.live
+  pub grant : y.grant ≡ x.grant
   pub unknown : (z : SessionName) → y.unknown ≡ Some z → z ≡ s
-
--- whether a name is this one
-abbrev pub is_name : SessionName → Option SessionName → Bool
-is_name s None = false
-is_name s (Some z) = same_name z s
 
 -- how a session stands by what is seen of its account
 abbrev pub standing_in : SeenAccount → SessionName → Option Standing
@@ -81,8 +97,10 @@ standing_in x s =
 
 -- it is what the account's rows are
 pub record IsSeen (r : Stored) (x : SeenAccount) : Type 0 where
-  pub head : r.head ≡ Some x.head
+  pub head : (h : HeadColumns) → x.head ≡ Some h → r.head ≡ Some h
   pub live : (s : SessionName) → x.live ≡ Some s → is_open_row (r.sessions s) ≡ true
+  pub grant : (s : SessionName) (y : SeenGrant) → x.live ≡ Some s → x.grant ≡ Some y
+      → IsGrantSeen r s y
   pub unknown : (s : SessionName) → x.unknown ≡ Some s → IsUnknown r s
 
 abbrev pub Sees : Option SeenAccount → Trees → Type 0

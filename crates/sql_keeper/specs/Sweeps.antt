@@ -1,27 +1,34 @@
--- A sweep: each account's rows at a later moment, written one account after another.
+-- A sweep: of each account's rows at a later moment those that differ, written one account after
+-- another.
 -- Source: profile.
-use Rattle.std.specs.Prelude.{◌≡◌, ◌≤◌, List, Option, Some, None, map, nat_le, if◌then◌else◌}
-use Rattle.std.specs.Prelude.{IsTrue, is_some}
+use Rattle.std.specs.Prelude.{◌≡◌, ◌≤◌, true, List, Option, Some, None, Result, map, nat_le}
+use Rattle.std.specs.Prelude.{if◌then◌else◌, IsTrue, OnErr, OnOk, is_some}
+use Rattle.std.specs.List.{list_all}
 use Rattle.units.specs.Words.{Moment}
+use Rattle.identifiers.specs.Texts.{same_name}
 use Rattle.identifiers.specs.Words.{AccountName}
 use Rattle.shelves.specs.Words.{BookText}
 use Rattle.sqlite_trees.specs.Tree.{Trees}
 use Rattle.sqlite_trees.specs.Objects.{catalog_tree}
-use Rattle.sql_tables.specs.Statements.{AreStored}
+use Rattle.sqlite.specs.State.{State, HasCleanDisk, Shows, Survives}
+use Rattle.sql_tables.specs.Statements.{AreStored, HasIdleBook, IsBook, IsIdle, IsStill}
 use Rattle.shelves.specs.Shelves.{Shelf}
-use Rattle.reserving.specs.Rows.{EachIn}
+use Rattle.reserving.specs.Rows.{AreApart, EachIn}
 use Rattle.reserving.specs.Stored.{StoredRows, IsStored, advanced_stored}
 use Rattle.keepers.specs.Change.{IsSwept}
-use Rattle.sql_rows.specs.Content.{Rows as Stored, Content, content_of, with_meta}
-use Rattle.sql_rows.specs.Each.{with_each}
+use Rattle.keepers.specs.Differing.{named_rows}
+use Rattle.sql_rows.specs.Content.{Rows as Stored, Content, content_of, with_account, with_meta}
+use Rattle.sql_rows.specs.Each.{with_counters, with_each, with_sessions}
 use Rattle.sql_rows.specs.Lists.{AreAccounts}
+use Rattle.sql_rows.specs.Makes.{Makes, Turns}
 use Rattle.sql_rows.specs.Plain.{ArePlain}
 use Rattle.sql_rules.specs.Ruled.{IsInRules}
 use Rattle.sql_keeper.specs.Content.{shelf_names, tables_of, Names}
-use Rattle.sql_keeper.specs.LiveRows.{IsLiveAccount}
+use Rattle.sql_keeper.specs.LiveRows.{IsLiveUncounted}
+use Rattle.sql_keeper.specs.RuledRows.{is_ruled_swept}
 use Rattle.sql_keeper.specs.Tests.{AreWritable}
 use Rattle.sql_keeper.specs.Tidy.{IsTidy}
-use Rattle.sql_keeper.specs.Writes.{meta_at, with_stored}
+use Rattle.sql_keeper.specs.Writes.{head_of, meta_at, with_all_counted, with_groups}
 use Rattle.sql_keeper.specs.declared.swept_rows.SweptAccount.{SweptAccount}
 
 -- ---- what is read
@@ -30,15 +37,25 @@ use Rattle.sql_keeper.specs.declared.swept_rows.SweptAccount.{SweptAccount}
 abbrev pub rows_at : Shelf → Moment → StoredRows → StoredRows
 rows_at shelf t w = if nat_le w.as_of t then advanced_stored shelf t w else w
 
--- these are what may still change of an account, at the moment, and they may be written
+-- those of an account's rows that differ at the moment
+abbrev pub differing_at : Shelf → Moment → StoredRows → StoredRows
+differing_at shelf t before = named_rows before (rows_at shelf t before)
+
+-- an account's rows may be kept as they are at the moment
+pub record MayBeKept (names : Names) (shelf : Shelf) (t : Moment) (before : StoredRows) : Type 0
+  where
+    pub kept : IsStored before
+    pub stored : IsStored (rows_at shelf t before)
+    pub may : AreWritable names (rows_at shelf t before).sessions (rows_at shelf t before).groups
+
+-- these are what differs at the moment of what may still change of an account, which may be kept;
+-- a sweep reads and changes no counter
 pub record AreSweptRows (names : Names) (shelf : Shelf) (t : Moment) (rows : Stored)
     (w : StoredRows) : Type 0 where
   pub before : StoredRows
-  pub live : IsLiveAccount names shelf t rows (Some before)
-  pub kept : IsStored before
-  pub is : w ≡ rows_at shelf t before
-  pub stored : IsStored w
-  pub may : AreWritable names w.sessions w.groups
+  pub live : IsLiveUncounted names rows (Some before)
+  pub kept : MayBeKept names shelf t before
+  pub is : w ≡ differing_at shelf t before
 
 abbrev pub IsSweptOf : Names → Shelf → Moment → Content → SweptAccount → Type 0
 IsSweptOf names shelf t c x = AreSweptRows names shelf t (c.rows x.number) x.rows
@@ -53,10 +70,8 @@ pub record IsSweptAs (names : Names) (shelf : Shelf) (t : Moment) (c : Content)
 pub record IsSweptOfRows (names : Names) (shelf : Shelf) (t : Moment) (number : AccountName)
     (before : StoredRows) (x : SweptAccount) : Type 0 where
   pub number_is : x.number ≡ number
-  pub kept : IsStored before
-  pub is : x.rows ≡ rows_at shelf t before
-  pub stored : IsStored x.rows
-  pub may : AreWritable names x.rows.sessions x.rows.groups
+  pub kept : MayBeKept names shelf t before
+  pub is : x.rows ≡ differing_at shelf t before
 
 abbrev pub IsSweptFrom : Names → Shelf → Moment → AccountName → Option StoredRows → SweptAccount →
     Type 0
@@ -77,13 +92,63 @@ pub record AreAllSwept (names : Names) (shelf : Shelf) (t : Moment) (c : Content
 
 -- ---- what is written
 
--- the rows of each account as they become
+-- what differs of an account, and at last what is kept of it once
+abbrev pub with_swept : Names → SweptAccount → Content → Content
+with_swept names x c =
+    with_account x.number (head_of x.rows) (with_groups x.number names x.rows.groups
+    (with_sessions x.number x.rows.sessions (with_counters x.number x.rows.counters
+    (with_all_counted x.number x.rows.buckets c))))
+
+-- of each account
 abbrev pub with_accounts : Names → List SweptAccount → Content → Content
-with_accounts names = with_each (λ x. with_stored x.number names x.rows)
+with_accounts names = with_each (with_swept names)
 
 -- and the moment
 abbrev pub with_sweep : Names → BookText → Moment → List SweptAccount → Content → Content
 with_sweep names text t xs c = with_accounts names xs (with_meta (meta_at text t) c)
+
+-- ---- one account after another, within a transaction
+
+-- an account is brought to the moment
+pub record SweepsOne (names : Names) (shelf : Shelf) (t : Moment) (number : AccountName)
+    (old new : State) : Type 0 where
+  pub account : SweptAccount
+  pub swept : IsSweptAs names shelf t (content_of old.now.trees) number account
+  pub ruled : IsTrue (is_ruled_swept names account)
+  pub makes : Makes (with_swept names account) old new
+
+-- each of these numbers is, if no two are the same
+pub record SweepsEach (names : Names) (text : BookText) (shelf : Shelf) (t : Moment)
+    (numbers : List AccountName) (old new : Trees) : Type 0 where
+  pub accounts : List SweptAccount
+  pub swept : AreApart (λ x y. same_name y x) numbers →
+      AreSweptOf names shelf t (content_of old) numbers accounts
+  pub ruled : IsTrue (list_all (is_ruled_swept names) accounts)
+  pub turns : Turns (with_sweep names text t accounts) old new
+
+pub record MakesSweep (names : Names) (text : BookText) (shelf : Shelf) (t : Moment)
+    (numbers : List AccountName) (old new : State) : Type 0 where
+  pub turns : SweepsEach names text shelf t numbers old.now.trees new.now.trees
+  pub book : IsBook new
+  pub shows : Shows old new new.now old.committed true
+
+pub record CommitsSweep (names : Names) (text : BookText) (shelf : Shelf) (t : Moment)
+    (numbers : List AccountName) (old new : State) : Type 0 where
+  pub turns : SweepsEach names text shelf t numbers old.now.trees new.now.trees
+  pub idle : IsIdle new
+
+-- outside a transaction: the sweep is committed, or nothing is changed, and a stop leaves what was
+-- left before or the sweep
+pub record TransactsSweep {A E : Type 0} (names : Names) (text : BookText) (shelf : Shelf)
+    (t : Moment) (numbers : List AccountName) (old new : State) (result : Result A E) : Type 0
+  where
+    pub done : HasCleanDisk new → OnOk result
+        (IsTrue old.is_open × IsTrue new.is_open
+        × CommitsSweep names text shelf t numbers old new)
+    pub kept : HasCleanDisk new → IsTrue new.is_open → OnErr result (IsStill old new)
+    pub idle : HasIdleBook new
+    pub survives : Survives old new
+        (λ db. IsTrue old.is_open × SweepsEach names text shelf t numbers old.now.trees db)
 
 -- ---- what becomes of the tables
 

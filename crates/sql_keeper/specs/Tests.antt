@@ -20,7 +20,7 @@ use Rattle.reserving.specs.Left.{first_of, is_open_row}
 use Rattle.keepers.specs.declared.loaded.Change.{Change}
 use Rattle.sql_rows.specs.declared.head.Head.{Head as HeadColumns}
 use Rattle.sql_rows.specs.Values.{Group}
-use Rattle.sql_rows.specs.Lists.{GroupAt, HasNoGroups}
+use Rattle.sql_rows.specs.Lists.{AreCoveredBeside, GroupAt, HasNoGroups}
 use Rattle.sql_rows.specs.Content.{Rows as Stored}
 use Rattle.sql_keeper.specs.Content.{Names, names_numbered}
 use Rattle.sql_keeper.specs.RuledRows.{is_ruled_change}
@@ -125,7 +125,8 @@ pub record IsChangeFound (names : Names) (change : Change) (r : Stored) (y : Nam
     pub made : IsTrue y.are_settled → MayBeMade names change r
     pub new : IsTrue y.are_new → AreNewGroups r change.rows.groups
 
--- it may be made, and whether its groups are new
+-- it may be made, and whether its groups are new; covered blocks stand beside a charge
 pub record IsTested (names : Names) (change : Change) (r : Stored) (are_new : Bool) : Type 0 where
   pub made : MayBeMade names change r
   pub new : IsTrue are_new → AreNewGroups r change.rows.groups
+  pub covered : AreCoveredBeside r

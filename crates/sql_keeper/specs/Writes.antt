@@ -31,10 +31,13 @@ use Rattle.sql_rows.specs.Values.{Meta, Group, PeriodNames, Kept, Voucher as Vou
 use Rattle.sql_rows.specs.Values.{request_kind, reference_kind, plain_bucket, plain_charge}
 use Rattle.sql_rows.specs.Content.{Content, Rows, with_rows, with_meta, with_account, with_group}
 use Rattle.sql_rows.specs.Content.{without_holds, with_answer, with_voucher, with_bucket}
-use Rattle.sql_rows.specs.Content.{with_charge, with_grant_book, without_grant_book, with_allowance}
+use Rattle.sql_rows.specs.Content.{has_charge, with_charge, with_grant_book, without_grant_book}
+use Rattle.sql_rows.specs.Content.{with_allowance}
 use Rattle.sql_rows.specs.Content.{without_allowance, with_covered, without_covered}
 use Rattle.sql_rows.specs.Each.{with_each, with_counters, with_sessions, with_holds}
 use Rattle.sql_keeper.specs.Content.{kept_in, Names, names_numbered}
+use Rattle.sql_keeper.specs.Grants.{is_kept}
+use Rattle.sql_keeper.specs.declared.seen.SeenAccount.{SeenAccount}
 
 -- ---- periods by their names
 
@@ -92,10 +95,26 @@ with_new_group a names r c =
 abbrev pub with_new_groups : AccountName → Names → List SessionGroup → Content → Content
 with_new_groups a names = with_each (with_new_group a names)
 
+-- the same of a group whose reservation was seen: the number of its book and what it holds of stay
+abbrev pub with_kept_group : AccountName → Names → SessionGroup → Content → Content
+with_kept_group a names r c =
+    with_holds a r.session r.group (holds_in r.reservation)
+    (with_rows a (with_group r.session r.group (columns_of names r)) c)
+
+abbrev pub with_group_over : AccountName → Names → Option SeenAccount → SessionGroup → Content →
+    Content
+with_group_over a names seen r c =
+    if is_kept seen a r then with_kept_group a names r c else with_held_group a names r c
+
+abbrev pub with_groups_over : AccountName → Names → Option SeenAccount → List SessionGroup →
+    Content → Content
+with_groups_over a names seen = with_each (with_group_over a names seen)
+
 -- groups of which nothing was there, or any
-abbrev pub with_groups_put : AccountName → Names → Bool → List SessionGroup → Content → Content
-with_groups_put a names true gs c = with_new_groups a names gs c
-with_groups_put a names false gs c = with_groups a names gs c
+abbrev pub with_groups_put : AccountName → Names → Bool → Option SeenAccount → List SessionGroup →
+    Content → Content
+with_groups_put a names true seen gs c = with_new_groups a names gs c
+with_groups_put a names false seen gs c = with_groups_over a names seen gs c
 
 abbrev pub with_texts : AccountName → Key → Kept → Content → Content
 with_texts a (Request s n) k c = with_rows a (with_answer request_kind s n k) c
@@ -132,6 +151,23 @@ with_paid a x c = with_rows a (with_blocks x.number x.covered.0)
 
 abbrev pub with_all_paid : AccountName → List ChargeRow → Content → Content
 with_all_paid a = with_each (with_paid a)
+
+-- the same of a charge as it is put: where the account has none of its number, no covered blocks
+-- stand there either
+abbrev pub some_blocks : BlockCount → Option BlockCount
+some_blocks m = if m == 0 then None else Some m
+
+abbrev pub with_new_blocks : AccountName → ChargeNumber → Option BlockCount → Content → Content
+with_new_blocks a n None c = c
+with_new_blocks a n (Some m) c = with_rows a (with_covered (record { number = n; blocks = m })) c
+
+abbrev pub with_charged : AccountName → ChargeRow → Content → Content
+with_charged a x c = if has_charge a x.number c then with_paid a x c
+    else with_new_blocks a x.number (some_blocks x.covered.0)
+    (with_rows a (with_charge (plain_charge x)) c)
+
+abbrev pub with_all_charged : AccountName → List ChargeRow → Content → Content
+with_all_charged a = with_each (with_charged a)
 
 -- ---- vouchers
 
@@ -177,22 +213,24 @@ abbrev pub meta_with : BookText → Change → Meta
 meta_with text change = meta_at text change.moment
 
 -- the rows of an account as they are put, where nothing was there of its groups, or any
-abbrev pub with_named : AccountName → Names → Bool → StoredRows → Content → Content
-with_named a names new w c =
-    with_groups_put a names new w.groups (with_sessions a w.sessions (with_counters a w.counters
+abbrev pub with_named : AccountName → Names → Bool → Option SeenAccount → StoredRows → Content →
+    Content
+with_named a names new seen w c =
+    with_groups_put a names new seen w.groups (with_sessions a w.sessions (with_counters a w.counters
     (with_all_counted a w.buckets (with_account a (head_of w) c))))
 
 -- an account's rows that a change names, and its charges
-abbrev pub with_changed_rows : Names → Bool → Change → Content → Content
-with_changed_rows names new change c =
-    with_all_paid change.number change.charges.items
-    (with_named change.number names new change.rows c)
+abbrev pub with_changed_rows : Names → Bool → Option SeenAccount → Change → Content → Content
+with_changed_rows names new seen change c =
+    with_all_charged change.number change.charges.items
+    (with_named change.number names new seen change.rows c)
 
 -- all of a change, as it is put
-abbrev pub with_change_put : Names → Bool → Meta → Change → Option Kept → Content → Content
-with_change_put names new m change texts c =
+abbrev pub with_change_put : Names → Bool → Option SeenAccount → Meta → Change → Option Kept →
+    Content → Content
+with_change_put names new seen m change texts c =
     with_redeemed change.redeemed (with_kept change.number change.kept texts
-    (with_changed_rows names new change (with_meta m c)))
+    (with_changed_rows names new seen change (with_meta m c)))
 
 -- all of a change
 abbrev pub with_change : Names → Meta → Change → Option Kept → Content → Content

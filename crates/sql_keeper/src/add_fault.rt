@@ -6,7 +6,7 @@ use tariffs::BookFault;
 use thiserror::Error;
 
 /// Why a book isn't added, in the order in which it is looked for (profile).
-#[derive(Clone, Copy, Debug, Drop, Error, PartialEq, Eq)]
+#[derive(Clone, Copy, Debug, Drop, Error)]
 pub enum AddFault {
     /// The text isn't that of a book.
     #[error("book fault {}", .0.number())]

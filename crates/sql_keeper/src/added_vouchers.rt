@@ -1,15 +1,14 @@
 //! A voucher that is added, in one transaction: all of it or nothing, also over a stop.
 
-ghost use Rattle.std.specs.Prelude.{◌≡◌, false, OnOk};
+ghost use Rattle.std.specs.Prelude.{◌≡◌, false};
 ghost use Rattle.keepers.specs.Change.{with_voucher as with_added};
-ghost use Rattle.keepers.specs.Keeping.{Keeps};
 ghost use Rattle.sql_rows.specs.Makes.{Makes};
 ghost use Rattle.sql_tables.specs.Statements.{Attempts, HasBook, HasIdleBook};
 ghost use Rattle.sql_keeper.specs.Additions.{BecomesAdded, with_addition};
 ghost use Rattle.sql_keeper.specs.Commits.{CommitsStanding, CommitsWhole, Transacts};
-ghost use Rattle.sql_keeper.specs.Inside.{clean_in, failed_in, tables_in};
-ghost use Rattle.sql_keeper.specs.Stops.{IsWhole, LeavesIn, honest_in, trees_in};
+ghost use Rattle.sql_keeper.specs.Stops.{trees_in};
 ghost use Rattle.sqlite.specs.Held.{state};
+ghost use Rattle.sql_keeper.specs.Calls.{StoresChange};
 
 use crate::faults::counted;
 use crate::keeper::SqlKeeper;
@@ -116,13 +115,9 @@ impl<S: Alter> SqlKeeper<S> {
         terms: VoucherTerms,
         moment: Moment,
     ) -> Result<(), StoreFault>
-        ensures done { clean_in S.Store self.new → OnOk result (tables_in S.Store self.new ≡
-            with_added code terms moment (tables_in S.Store self.old)) }
-        ensures kept { Keeps (tables_in S.Store) failed_in (honest_in S.Store) (clean_in S.Store)
-            (LeavesIn S.Store) self.old self.new
-            (λ t. t ≡ with_added code terms moment (tables_in S.Store self.old)) result }
-        ensures whole { IsWhole S.Store self.old self.new
-            (BecomesAdded self.old.text code terms moment (trees_in S.Store self.old)) }
+        ensures { StoresChange S.Store (with_added code terms moment)
+            (BecomesAdded self.old.text code terms moment (trees_in S.Store self.old))
+            self.old self.new result }
     {
         let text = self.text.as_str();
         let made = ask_to_add(&mut self.connection, text, &code, terms, moment);

@@ -1,14 +1,12 @@
 //! Questions to a keeper over a database, each of one row.
 
 ghost use Rattle.std.specs.Prelude.{◌≡◌, is_some};
-ghost use Rattle.keepers.specs.Keeping.{Reads as Finds};
 ghost use Rattle.sql_keeper.specs.Asks.{Asks};
-ghost use Rattle.sql_keeper.specs.Inside.{tables_in, failed_in, clean_in};
 ghost use Rattle.sql_keeper.specs.Seen.{IsKnown};
-ghost use Rattle.sql_keeper.specs.Stops.{IsWhole, LeavesIn, honest_in};
 ghost use Rattle.sql_rows.specs.Content.{rows_in};
 ghost use Rattle.sql_tables.specs.Statements.{HasIdleBook, Reads};
 ghost use Rattle.sqlite.specs.Held.{state};
+ghost use Rattle.sql_keeper.specs.Calls.{AsksTables};
 
 use crate::faults::counted;
 use crate::keeper::SqlKeeper;
@@ -87,10 +85,7 @@ impl<S: Alter> SqlKeeper<S> {
     /// # Errors
     /// A fault of the store, which is counted, or want of memory.
     pub fn last(&mut self) -> Result<Moment, StoreFault>
-        ensures reads { Finds (tables_in S.Store) failed_in (honest_in S.Store)
-            (clean_in S.Store) (LeavesIn S.Store) self.old self.new
-            (λ t. t ≡ (tables_in S.Store self.old).last) result }
-        ensures whole { IsWhole S.Store self.old self.new (λ _. ⊥) }
+        ensures { AsksTables S.Store (λ t moment. moment ≡ t.last) self.old self.new result }
     {
         let read = ask_for_last(&mut self.connection, self.last);
         counted(&mut self.failures, read)
@@ -101,10 +96,8 @@ impl<S: Alter> SqlKeeper<S> {
     /// # Errors
     /// A fault of the store, which is counted, or want of memory.
     pub fn has_account(&mut self, account: &AccountNumber) -> Result<bool, StoreFault>
-        ensures reads { Finds (tables_in S.Store) failed_in (honest_in S.Store)
-            (clean_in S.Store) (LeavesIn S.Store) self.old self.new
-            (λ there. there ≡ is_some ((tables_in S.Store self.old).rows account.now).head) result }
-        ensures whole { IsWhole S.Store self.old self.new (λ _. ⊥) }
+        ensures { AsksTables S.Store (λ t there. there ≡ is_some (t.rows account.now).head)
+            self.old self.new result }
     {
         let read = ask_for_account(&mut self.connection, account);
         counted(&mut self.failures, read)
@@ -119,12 +112,9 @@ impl<S: Alter> SqlKeeper<S> {
         account: &AccountNumber,
         session: &SessionId,
     ) -> Result<bool, StoreFault>
-        ensures reads { Finds (tables_in S.Store) failed_in (honest_in S.Store)
-            (clean_in S.Store) (LeavesIn S.Store) self.old self.new
-            (λ known. known ≡
-            is_some (((tables_in S.Store self.old).rows account.now).sessions session.now))
-            result }
-        ensures whole { IsWhole S.Store self.old self.new (λ _. ⊥) }
+        ensures { AsksTables S.Store
+            (λ t known. known ≡ is_some ((t.rows account.now).sessions session.now))
+            self.old self.new result }
     {
         let read = ask_for_session(&mut self.connection, self.alloc, account, session);
         let seen = self.seen.take();

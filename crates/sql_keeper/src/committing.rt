@@ -1,17 +1,17 @@
 //! A change in one transaction: all of it or nothing, also over a stop.
 
-ghost use Rattle.std.specs.Prelude.{◌≡◌, false, option_map, OnOk};
+ghost use Rattle.std.specs.Prelude.{◌≡◌, false, option_map};
 ghost use Rattle.keepers.specs.Change.{changed};
-ghost use Rattle.keepers.specs.Keeping.{Keeps};
 ghost use Rattle.sql_rows.specs.Texts.{kept_of};
 ghost use Rattle.sql_tables.specs.Statements.{HasIdleBook};
 ghost use Rattle.sql_keeper.specs.Content.{shelf_names};
 ghost use Rattle.sql_keeper.specs.Commits.{Becomes, CommitsChange, CommitsStanding, Transacts};
-ghost use Rattle.sql_keeper.specs.Inside.{clean_in, failed_in, names_in, tables_in};
+ghost use Rattle.sql_keeper.specs.Inside.{names_in};
 ghost use Rattle.sql_keeper.specs.Seen.{AreSeen};
-ghost use Rattle.sql_keeper.specs.Stops.{IsWhole, LeavesIn, honest_in, trees_in};
+ghost use Rattle.sql_keeper.specs.Stops.{trees_in};
 ghost use Rattle.sql_keeper.specs.Writes.{meta_with, with_change_put};
 ghost use Rattle.sqlite.specs.Held.{state};
+ghost use Rattle.sql_keeper.specs.Calls.{StoresChange};
 
 use crate::faults::counted;
 use crate::keeper::SqlKeeper;
@@ -33,6 +33,7 @@ fn write_change<S: Alter>(
     conn: &mut Connection<S>,
     books: &TariffShelf,
     are_new: bool,
+    seen: &Option<SeenAccount>,
     text: &str,
     change: &Change,
     texts: &Option<Kept>,
@@ -40,12 +41,12 @@ fn write_change<S: Alter>(
     requires plain { conn.old.in_transaction ≡ false }
     requires idle { HasIdleBook (state S.Store conn.old) }
     ensures plain { conn.new.in_transaction ≡ false }
-    ensures transacts { Transacts (with_change_put (shelf_names books.now) are_new
+    ensures transacts { Transacts (with_change_put (shelf_names books.now) are_new seen.now
         (meta_with text.now change.now) change.now (option_map kept_of texts.now))
         (state S.Store conn.old) (state S.Store conn.new) result }
 {
     let mut tx = conn.transaction();
-    put_change(&mut tx, books, are_new, text, change, texts)?;
+    put_change(&mut tx, books, are_new, seen, text, change, texts)?;
     tx.commit()
 }
 
@@ -72,7 +73,7 @@ fn make_change<S: Alter>(
     let _moment = change.moment.seconds();
     let are_new = test_change(conn, alloc, books, seen, change)?;
     let texts = kept_texts(alloc, &change.number, &change.kept)?;
-    write_change(conn, books, are_new, text, change, &texts)?;
+    write_change(conn, books, are_new, seen, text, change, &texts)?;
     Ok(())
 }
 
@@ -106,13 +107,9 @@ impl<S: Alter> SqlKeeper<S> {
     /// Want of memory; a fault of the store, which is counted, as is a change that may not be
     /// written.
     pub fn commit(&mut self, change: Change) -> Result<(), StoreFault>
-        ensures done { clean_in S.Store self.new →
-            OnOk result (tables_in S.Store self.new ≡ changed change (tables_in S.Store self.old)) }
-        ensures kept { Keeps (tables_in S.Store) failed_in (honest_in S.Store) (clean_in S.Store)
-            (LeavesIn S.Store) self.old self.new
-            (λ t. t ≡ changed change (tables_in S.Store self.old)) result }
-        ensures whole { IsWhole S.Store self.old self.new
-            (Becomes (names_in self.old) self.old.text change (trees_in S.Store self.old)) }
+        ensures { StoresChange S.Store (changed change)
+            (Becomes (names_in self.old) self.old.text change (trees_in S.Store self.old))
+            self.old self.new result }
     {
         let text = self.text.as_str();
         let made = ask_to_change(

@@ -7,7 +7,7 @@ use tariffs::BookFault;
 use thiserror::Error;
 
 /// Why the database of a book isn't made, in the order in which it is looked for (profile).
-#[derive(Clone, Copy, Debug, Drop, Error, PartialEq, Eq)]
+#[derive(Clone, Copy, Debug, Drop, Error)]
 pub enum CreateFault {
     /// The text isn't that of a book.
     #[error("book fault {}", .0.number())]

@@ -1,16 +1,14 @@
 //! The buckets of an account that can't be used any more.
 
 ghost use Rattle.keepers.specs.Change.{AreDeadOf};
-ghost use Rattle.keepers.specs.Keeping.{Reads as Finds};
 ghost use Rattle.sql_keeper.specs.Asks.{Asks};
 ghost use Rattle.sql_keeper.specs.Dead.{AreDead};
 ghost use Rattle.sql_keeper.specs.Content.{told_buckets};
-ghost use Rattle.sql_keeper.specs.Inside.{tables_in, failed_in, clean_in};
-ghost use Rattle.sql_keeper.specs.Stops.{IsWhole, LeavesIn, honest_in};
 ghost use Rattle.sql_keeper.specs.LiveGroups.{Gathers};
 ghost use Rattle.sql_rows.specs.Content.{rows_in};
 ghost use Rattle.sql_tables.specs.Statements.{HasIdleBook};
 ghost use Rattle.sqlite.specs.Held.{state};
+ghost use Rattle.sql_keeper.specs.Calls.{AsksTables};
 
 use crate::faults::counted;
 use crate::keeper::SqlKeeper;
@@ -61,11 +59,8 @@ impl<S: Alter> SqlKeeper<S> {
     /// # Errors
     /// A fault of the store, which is counted, as is a row out of its rules; want of memory.
     pub fn dead_buckets(&mut self, account: &AccountNumber) -> Result<Vec<Bucket>, StoreFault>
-        ensures reads { Finds (tables_in S.Store) failed_in (honest_in S.Store)
-            (clean_in S.Store) (LeavesIn S.Store) self.old self.new
-            (λ found. AreDeadOf ((tables_in S.Store self.old).rows account.now) found.items)
-            result }
-        ensures whole { IsWhole S.Store self.old self.new (λ _. ⊥) }
+        ensures { AsksTables S.Store (λ t found. AreDeadOf (t.rows account.now) found.items)
+            self.old self.new result }
     {
         let read = ask_for_dead(&mut self.connection, self.alloc, account);
         counted(&mut self.failures, read)

@@ -1,22 +1,21 @@
 //! What is kept of a command and its answer, found by its key.
 
 ghost use Rattle.std.specs.Prelude.{◌≡◌, Ok, Some, IfOk, option_map, option_and_then};
+ghost use Rattle.std.specs.Prelude.{string_bytes};
 ghost use Rattle.wire.specs.Contents.{content_of as command_of};
 ghost use Rattle.wire.specs.ReadingAnswers.{answer_of};
-ghost use Rattle.keepers.specs.Keeping.{Reads as Finds};
 ghost use Rattle.sql_keeper.specs.Asks.{Asks};
 ghost use Rattle.sql_keeper.specs.Content.{answer_in, kept_in, texts_of};
-ghost use Rattle.sql_keeper.specs.Inside.{tables_in, failed_in, clean_in};
-ghost use Rattle.sql_keeper.specs.Stops.{IsWhole, LeavesIn, honest_in};
 ghost use Rattle.sql_rows.specs.Content.{rows_in};
 ghost use Rattle.sql_rows.specs.Texts.{kept_of};
 ghost use Rattle.sql_tables.specs.Statements.{HasIdleBook, Reads};
 ghost use Rattle.sqlite.specs.Held.{state};
+ghost use Rattle.sql_keeper.specs.Calls.{AsksTables};
 
 use crate::faults::counted;
 use crate::keeper::SqlKeeper;
 use crate::still_open::still_open;
-use commands::{Answer, Content};
+use commands::Content;
 use identifiers::AccountNumber;
 use json_fields::WireFault;
 use keepers::{KeptAnswer, Key, StoreFault};
@@ -24,7 +23,7 @@ use sql_rows::{Kept, read_answer};
 use sql_tables::ReadFault;
 use sqlite::{Alter, Connection};
 use std::alloc::Global;
-use wire::read_content;
+use wire::{WrittenAnswer, read_content};
 
 /// Why a text isn't read: it is out of the rules, or memory ran out.
 fn fault_of(fault: WireFault) -> ReadFault {
@@ -46,23 +45,26 @@ fn content_said(alloc: Global, account: &AccountNumber, text: &str) -> Result<Co
     }
 }
 
-/// The answer that a kept text says.
-fn answer_said(alloc: Global, text: &str) -> Result<Answer, ReadFault>
-    ensures { IfOk result (λ a. answer_of text.now ≡ Ok a) }
+/// The answer that a kept text says, with that text as it stands.
+fn answer_said(alloc: Global, text: String) -> Result<WrittenAnswer, ReadFault>
+    ensures { IfOk result (λ a. answer_of (string_bytes text) ≡ Ok a) }
 {
-    let bytes = text.as_bytes();
-    match wire::read_answer(alloc, bytes) {
+    match WrittenAnswer::read(alloc, text) {
         Ok(answer) => Ok(answer),
         Err(fault) => Err(fault_of(fault)),
     }
 }
 
 /// What texts that are kept under an account say; texts that say nothing are out of the rules.
-fn kept_said(alloc: Global, account: &AccountNumber, texts: &Kept) -> Result<KeptAnswer, ReadFault>
-    ensures { IfOk result (λ k. kept_in account.now (kept_of texts.now) ≡ Some k) }
+fn kept_said(alloc: Global, account: &AccountNumber, texts: Kept) -> Result<KeptAnswer, ReadFault>
+    ensures { IfOk result (λ k. kept_in account.now (kept_of texts) ≡ Some k) }
 {
-    let content = content_said(alloc, account, texts.content.as_str())?;
-    let answer = answer_said(alloc, texts.answer.as_str())?;
+    let Kept {
+        content: command,
+        answer,
+    } = texts;
+    let content = content_said(alloc, account, command.as_str())?;
+    let answer = answer_said(alloc, answer)?;
     Ok(KeptAnswer { content, answer })
 }
 
@@ -89,10 +91,10 @@ fn texts_under<S: Alter>(
 fn kept_where(
     alloc: Global,
     account: &AccountNumber,
-    texts: &Option<Kept>,
+    texts: Option<Kept>,
 ) -> Result<Option<KeptAnswer>, ReadFault>
     ensures { IfOk result (λ o. o ≡
-        option_and_then (kept_in account.now) (option_map kept_of texts.now)) }
+        option_and_then (kept_in account.now) (option_map kept_of texts)) }
 {
     match texts {
         None => Ok(None),
@@ -112,7 +114,7 @@ fn answer_under<S: Alter>(
         (state S.Store conn.old) (state S.Store conn.new) result }
 {
     let texts = texts_under(conn, account, key)?;
-    kept_where(alloc, account, &texts)
+    kept_where(alloc, account, texts)
 }
 
 fn ask_for_answer<S: Alter>(
@@ -142,10 +144,8 @@ impl<S: Alter> SqlKeeper<S> {
         account: &AccountNumber,
         key: &Key,
     ) -> Result<Option<KeptAnswer>, StoreFault>
-        ensures reads { Finds (tables_in S.Store) failed_in (honest_in S.Store)
-            (clean_in S.Store) (LeavesIn S.Store) self.old self.new
-            (λ found. found ≡ (tables_in S.Store self.old).answers account.now key.now) result }
-        ensures whole { IsWhole S.Store self.old self.new (λ _. ⊥) }
+        ensures { AsksTables S.Store (λ t found. found ≡ t.answers account.now key.now)
+            self.old self.new result }
     {
         let read = ask_for_answer(&mut self.connection, self.alloc, account, key);
         counted(&mut self.failures, read)

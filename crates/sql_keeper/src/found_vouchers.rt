@@ -1,15 +1,13 @@
 //! What stands under the code of a voucher.
 
 ghost use Rattle.std.specs.Prelude.{◌≡◌, IfOk, option_map};
-ghost use Rattle.keepers.specs.Keeping.{Reads as Finds};
 ghost use Rattle.sql_keeper.specs.Asks.{Asks};
-ghost use Rattle.sql_keeper.specs.Inside.{tables_in, failed_in, clean_in};
-ghost use Rattle.sql_keeper.specs.Stops.{IsWhole, LeavesIn, honest_in};
 ghost use Rattle.sql_keeper.specs.Content.{voucher_in};
 ghost use Rattle.sql_rows.specs.Content.{content_of};
 ghost use Rattle.sql_rows.specs.Texts.{voucher_of};
 ghost use Rattle.sql_tables.specs.Statements.{HasIdleBook, Reads};
 ghost use Rattle.sqlite.specs.Held.{state};
+ghost use Rattle.sql_keeper.specs.Calls.{AsksTables};
 
 use crate::faults::counted;
 use crate::keeper::SqlKeeper;
@@ -99,10 +97,8 @@ impl<S: Alter> SqlKeeper<S> {
     /// A fault of the store, which is counted, as is a row whose terms no voucher can have; want of
     /// memory.
     pub fn find_voucher(&mut self, code: &VoucherCode) -> Result<Option<Voucher>, StoreFault>
-        ensures reads { Finds (tables_in S.Store) failed_in (honest_in S.Store)
-            (clean_in S.Store) (LeavesIn S.Store) self.old self.new
-            (λ found. found ≡ (tables_in S.Store self.old).vouchers code.now) result }
-        ensures whole { IsWhole S.Store self.old self.new (λ _. ⊥) }
+        ensures { AsksTables S.Store (λ t found. found ≡ t.vouchers code.now)
+            self.old self.new result }
     {
         let read = ask_for_voucher(&mut self.connection, self.alloc, code);
         counted(&mut self.failures, read)

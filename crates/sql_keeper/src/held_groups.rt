@@ -9,10 +9,12 @@ ghost use Rattle.sql_rows.specs.Makes.{Makes, MakesIfOpen};
 ghost use Rattle.sql_rows.specs.Texts.{names_put};
 ghost use Rattle.sql_keeper.specs.Content.{names_numbered, shelf_names};
 ghost use Rattle.sql_keeper.specs.Writes.{columns_of, name_at, names_at, with_book_of};
-ghost use Rattle.sql_keeper.specs.Writes.{with_groups, with_groups_put, with_held_group};
+ghost use Rattle.sql_keeper.specs.Writes.{with_group_over, with_groups, with_groups_over};
+ghost use Rattle.sql_keeper.specs.Writes.{with_groups_put, with_held_group, with_kept_group};
 ghost use Rattle.sql_keeper.specs.Writes.{with_new_book, with_new_group, with_new_groups};
 ghost use Rattle.sqlite.specs.Held.{state};
 
+use crate::seen::{SeenAccount, is_kept};
 use calendar::Period;
 use identifiers::AccountNumber;
 use reserving::{SessionGroup, Terms};
@@ -211,24 +213,86 @@ fn put_new_groups<S: Alter>(
     Ok(())
 }
 
-/// Puts each of what sessions have of rating groups, with what is held there, in the place of what
-/// was there; where nothing was, nothing is removed.
-pub(crate) fn put_groups_of<S: Alter>(
+/// Puts what a session has of a rating group whose reservation was seen: the number of its book and
+/// what it holds of stay.
+fn put_kept_group<S: Alter>(
     tx: &mut Transaction<'_, S>,
     account: &AccountNumber,
     books: &TariffShelf,
-    are_new: bool,
+    row: &SessionGroup,
+) -> Result<(), Error>
+    requires book { HasBook (state S.Store tx.old.conn.now) }
+    ensures same_reference { tx.new.conn.ghost_name ≡ tx.old.conn.ghost_name }
+    ensures makes { Attempts (Makes (with_kept_group account.now (shelf_names books.now) row.now))
+        (state S.Store tx.old.conn.now) (state S.Store tx.new.conn.now) result }
+{
+    put_columns(tx, account, books, row)?;
+    put_held(tx, account, row)
+}
+
+/// Puts what a session has of a rating group. Where its reservation was seen, only what may differ
+/// is put.
+fn put_group_over<S: Alter>(
+    tx: &mut Transaction<'_, S>,
+    account: &AccountNumber,
+    books: &TariffShelf,
+    seen: &Option<SeenAccount>,
+    row: &SessionGroup,
+) -> Result<(), Error>
+    requires book { HasBook (state S.Store tx.old.conn.now) }
+    ensures same_reference { tx.new.conn.ghost_name ≡ tx.old.conn.ghost_name }
+    ensures makes { Attempts
+        (Makes (with_group_over account.now (shelf_names books.now) seen.now row.now))
+        (state S.Store tx.old.conn.now) (state S.Store tx.new.conn.now) result }
+{
+    if is_kept(seen, account, row) {
+        put_kept_group(tx, account, books, row)
+    } else {
+        put_held_group(tx, account, books, row)
+    }
+}
+
+/// Puts each of these groups.
+fn put_groups_over<S: Alter>(
+    tx: &mut Transaction<'_, S>,
+    account: &AccountNumber,
+    books: &TariffShelf,
+    seen: &Option<SeenAccount>,
     rows: &[SessionGroup],
 ) -> Result<(), Error>
     requires open { IsInside (state S.Store tx.old.conn.now) }
     requires book { HasBook (state S.Store tx.old.conn.now) }
     ensures same_reference { tx.new.conn.ghost_name ≡ tx.old.conn.ghost_name }
     ensures makes { Attempts
-        (MakesIfOpen (with_groups_put account.now (shelf_names books.now) are_new rows.now))
+        (MakesIfOpen (with_groups_over account.now (shelf_names books.now) seen.now rows.now))
+        (state S.Store tx.old.conn.now) (state S.Store tx.new.conn.now) result }
+{
+    'rows: for row in rows {
+        put_group_over(tx, account, books, seen, row)?;
+    }
+    Ok(())
+}
+
+/// Puts each of what sessions have of rating groups, with what is held there, in the place of what
+/// was there; where nothing was, nothing is removed, nor where what was seen stays.
+pub(crate) fn put_groups_of<S: Alter>(
+    tx: &mut Transaction<'_, S>,
+    account: &AccountNumber,
+    books: &TariffShelf,
+    are_new: bool,
+    seen: &Option<SeenAccount>,
+    rows: &[SessionGroup],
+) -> Result<(), Error>
+    requires open { IsInside (state S.Store tx.old.conn.now) }
+    requires book { HasBook (state S.Store tx.old.conn.now) }
+    ensures same_reference { tx.new.conn.ghost_name ≡ tx.old.conn.ghost_name }
+    ensures makes { Attempts
+        (MakesIfOpen
+        (with_groups_put account.now (shelf_names books.now) are_new seen.now rows.now))
         (state S.Store tx.old.conn.now) (state S.Store tx.new.conn.now) result }
 {
     match are_new {
         true => put_new_groups(tx, account, books, rows),
-        false => put_groups(tx, account, books, rows),
+        false => put_groups_over(tx, account, books, seen, rows),
     }
 }

@@ -23,6 +23,7 @@ mod last_moment;
 mod laws;
 mod live_groups;
 mod live_rows;
+mod live_within;
 mod loading;
 mod migrating;
 mod older_shelves;

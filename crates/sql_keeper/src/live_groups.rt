@@ -47,7 +47,7 @@ fn read_live_groups<S: Alter>(
 }
 
 /// Whether there are no sessions.
-fn is_none(sessions: &[Session]) -> bool
+pub(crate) fn is_none(sessions: &[Session]) -> bool
     ensures { result ≡ (length sessions.now == 0) }
 {
     sessions.is_empty()

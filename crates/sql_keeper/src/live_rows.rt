@@ -4,7 +4,7 @@ ghost use Rattle.std.specs.Prelude.{◌≡◌, ℕ, ◌++◌, filter, IfOk};
 ghost use Rattle.calendar.specs.contracts.cycle.CyclePartialEq.TheImpl.{ghosts as cycles};
 ghost use Rattle.sql_keeper.specs.Content.{Names, shelf_names};
 ghost use Rattle.sql_keeper.specs.LiveGroups.{Gathers};
-ghost use Rattle.sql_keeper.specs.Repeating.{AreEachRepeating, AreRepeating, repeats_in};
+ghost use Rattle.sql_keeper.specs.Repeating.{AreEachCycle, AreRepeating, IsFirst, repeats_in};
 ghost use Rattle.sql_keeper.specs.Repeating.{has_repeating, may_repeat};
 ghost use Rattle.sql_keeper.specs.LiveRows.{account_with, AreCountersAt, AreLiveBuckets};
 ghost use Rattle.sql_keeper.specs.LiveRows.{AreLiveRows, IsReadAccount, IsLiveAccount};
@@ -12,7 +12,7 @@ ghost use Rattle.reserving.specs.Restored.{in_key_order, FindsSame};
 ghost use Rattle.sql_rows.specs.Content.{Rows as Stored, rows_in};
 ghost use Rattle.sql_tables.specs.Statements.{HasIdleBook, Reads};
 ghost use Rattle.sqlite.specs.Held.{state};
-ghost use Rattle.shelves.specs.Shelves.{Shelf};
+ghost use Rattle.shelves.specs.Shelves.{Shelf, book_at};
 
 use crate::counted_buckets::read_counted;
 use crate::live_groups::{OpenSessions, read_open_sessions};
@@ -21,7 +21,7 @@ use calendar::Cycle;
 use identifiers::AccountNumber;
 use reserving::{Counter, GivenRows, Session, SessionGroup, StoredAccount};
 use shelves::TariffShelf;
-use sql_rows::{Head, read_account, read_buckets_live, read_counters_in};
+use sql_rows::{Head, HeadCounters, read_buckets_live, read_counters_in, read_head_counters};
 use sql_tables::ReadFault;
 use sqlite::{Alter, Connection};
 use std::alloc::Global;
@@ -52,7 +52,7 @@ pub(crate) struct ReadRows {
 
 /// The purse of these buckets. They are out of the rules where they don't stand in the order of
 /// their use.
-fn purse_of(alloc: Global, buckets: Vec<Bucket>) -> Result<Purse, ReadFault>
+pub(crate) fn purse_of(alloc: Global, buckets: Vec<Bucket>) -> Result<Purse, ReadFault>
     ensures { IfOk result (λ purse. purse ≡ buckets.items) }
 {
     Purse::from_buckets(alloc, buckets).ok_or(ReadFault::Rules)
@@ -161,47 +161,66 @@ fn read_if_any<S: Alter>(
     Ok(read_repeating(conn, alloc, account, book, repeats, moment)?)
 }
 
-/// Counters of a moment, by how often they begin again.
+/// What is kept of an account once, with its counters that never begin again.
 #[derive(Drop)]
-struct RepeatingCounters {
+struct FirstRows {
+    head: Option<Head>,
     never: Vec<Counter>,
-    daily: Vec<Counter>,
-    monthly: Vec<Counter>,
 }
 
-/// The counters of an account at a moment; no other cycle is read.
-fn read_each_repeating<S: Alter>(
+/// What is kept of an account once, with its counters, at a moment, of the groups whose counters
+/// never begin again: one selection.
+fn read_first<S: Alter>(
     conn: &mut Connection<S>,
     alloc: Global,
     account: &AccountNumber,
     book: &TariffBook,
     moment: Moment,
-) -> Result<RepeatingCounters, ReadFault>
+) -> Result<FirstRows, ReadFault>
     requires idle { HasIdleBook (state S.Store conn.old) }
-    ensures { Gathers (λ trees x. AreEachRepeating book.now moment (rows_in trees account.now)
-        x.never.items x.daily.items x.monthly.items)
+    ensures { Gathers
+        (λ trees x. IsFirst book.now moment (rows_in trees account.now) x.head x.never.items)
         (state S.Store conn.old) (state S.Store conn.new) result }
 {
-    let never = read_if_any(conn, alloc, account, book, Cycle::None, moment)?;
+    let cycle = book.cycle_of(Cycle::None, moment);
+    let HeadCounters { head, counters } = read_head_counters(conn, alloc, account, cycle)?;
+    let never = counters_repeating(counters, book, Cycle::None);
+    Ok(FirstRows { head, never })
+}
+
+/// Counters of a moment that begin again, by how often.
+#[derive(Drop)]
+struct CycleCounters {
+    daily: Vec<Counter>,
+    monthly: Vec<Counter>,
+}
+
+/// The counters of an account at a moment that begin again; no other cycle is read.
+fn read_each_cycle<S: Alter>(
+    conn: &mut Connection<S>,
+    alloc: Global,
+    account: &AccountNumber,
+    book: &TariffBook,
+    moment: Moment,
+) -> Result<CycleCounters, ReadFault>
+    requires idle { HasIdleBook (state S.Store conn.old) }
+    ensures { Gathers (λ trees x. AreEachCycle book.now moment (rows_in trees account.now)
+        x.daily.items x.monthly.items)
+        (state S.Store conn.old) (state S.Store conn.new) result }
+{
     let daily = read_if_any(conn, alloc, account, book, Cycle::Day, moment)?;
     let monthly = read_if_any(conn, alloc, account, book, Cycle::Month, moment)?;
-    Ok(RepeatingCounters {
-        never,
-        daily,
-        monthly,
-    })
+    Ok(CycleCounters { daily, monthly })
 }
 
 /// All of them in one list.
-fn joined_counters(counters: RepeatingCounters) -> Result<Vec<Counter>, ReadFault>
-    ensures { IfOk result (λ xs. xs.items
-        ≡ (counters.never.items ++ counters.daily.items) ++ counters.monthly.items) }
+fn joined_counters(
+    never: Vec<Counter>,
+    daily: Vec<Counter>,
+    monthly: Vec<Counter>,
+) -> Result<Vec<Counter>, ReadFault>
+    ensures { IfOk result (λ xs. xs.items ≡ (never.items ++ daily.items) ++ monthly.items) }
 {
-    let RepeatingCounters {
-        never,
-        daily,
-        monthly,
-    } = counters;
     let mut all = never;
     let mut second = daily;
     let mut third = monthly;
@@ -210,22 +229,24 @@ fn joined_counters(counters: RepeatingCounters) -> Result<Vec<Counter>, ReadFaul
     Ok(all)
 }
 
-/// The counters of an account of the cycles at a moment; no other cycle is read.
+/// The counters of an account of the cycles at a moment, with those that never begin again, which
+/// were read before; no other cycle is read.
 fn read_counters_at<S: Alter>(
     conn: &mut Connection<S>,
     alloc: Global,
     account: &AccountNumber,
-    shelf: &TariffShelf,
+    book: &TariffBook,
     moment: Moment,
+    never: Vec<Counter>,
 ) -> Result<Vec<Counter>, ReadFault>
     requires idle { HasIdleBook (state S.Store conn.old) }
-    ensures { Gathers (λ trees xs.
-        AreCountersAt shelf.now moment (rows_in trees account.now) xs.items)
+    ensures { Gathers (λ trees xs. (s : Shelf) → book.now ≡ book_at s moment →
+        AreRepeating book.now Cycle.None moment (rows_in trees account.now) never.items →
+        AreCountersAt s moment (rows_in trees account.now) xs.items)
         (state S.Store conn.old) (state S.Store conn.new) result }
 {
-    let book = shelf.book_at(moment);
-    let counters = read_each_repeating(conn, alloc, account, book, moment)?;
-    joined_counters(counters)
+    let CycleCounters { daily, monthly } = read_each_cycle(conn, alloc, account, book, moment)?;
+    joined_counters(never, daily, monthly)
 }
 
 /// What may still change of an account, whatever the moment. The periods of reservations have the
@@ -266,11 +287,13 @@ fn read_rows_at<S: Alter>(
         (rows_in trees account.now) o)
         (state S.Store conn.old) (state S.Store conn.new) result }
 {
-    let Some(head) = read_account(conn, account)? else {
+    let book = shelf.book_at(moment);
+    let FirstRows { head, never } = read_first(conn, alloc, account, book, moment)?;
+    let Some(head) = head else {
         return Ok(None);
     };
     let rows = read_live_rows(conn, alloc, account, names)?;
-    let counters = read_counters_at(conn, alloc, account, shelf, moment)?;
+    let counters = read_counters_at(conn, alloc, account, book, moment, never)?;
     Ok(Some(ReadRows {
         head,
         rows,
@@ -303,7 +326,7 @@ fn account_of(
 }
 
 /// The account of what is read, where there is one.
-fn live_account_of(
+pub(crate) fn live_account_of(
     alloc: Global,
     read: Option<ReadRows>,
 ) -> Result<Option<StoredAccount>, ReadFault>

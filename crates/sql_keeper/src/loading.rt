@@ -2,22 +2,22 @@
 
 ghost use Rattle.std.specs.Prelude.{◌≡◌, IfOk};
 ghost use Rattle.keepers.specs.Change.{IsLoad, IsView};
-ghost use Rattle.keepers.specs.Keeping.{Reads as Finds};
 ghost use Rattle.reserving.specs.Stored.{priced};
 ghost use Rattle.sql_keeper.specs.Asks.{Asks};
-ghost use Rattle.sql_keeper.specs.Content.{rows_of, shelf_names};
+ghost use Rattle.sql_keeper.specs.Content.{shelf_names, rows_of};
 ghost use Rattle.sql_keeper.specs.Inside.{tables_in, failed_in, clean_in};
 ghost use Rattle.sql_keeper.specs.Stops.{IsWhole, LeavesIn, honest_in};
 ghost use Rattle.sql_keeper.specs.LiveGroups.{Gathers};
-ghost use Rattle.sql_keeper.specs.LiveRows.{IsAccountOf, IsLoadOf};
+ghost use Rattle.sql_keeper.specs.LiveRows.{IsAccountOf, IsLoadOf, IsLoadStored};
 ghost use Rattle.sql_rows.specs.Content.{rows_in};
 ghost use Rattle.sql_tables.specs.Statements.{HasIdleBook};
 ghost use Rattle.sqlite.specs.Held.{state};
+ghost use Rattle.sql_keeper.specs.Calls.{AsksTables};
 
 use crate::faults::counted;
 use crate::keeper::SqlKeeper;
 use crate::live_rows::read_live_account;
-use crate::seen::seen_in;
+use crate::seen::{seen_in, seen_later};
 use crate::still_open::still_open;
 use identifiers::AccountNumber;
 use keepers::{Loaded, StoreFault};
@@ -89,8 +89,8 @@ fn load_of<'b, S: Alter>(
     moment: Moment,
 ) -> Result<Option<Loaded<'b>>, ReadFault>
     requires idle { HasIdleBook (state S.Store conn.old) }
-    ensures { Gathers (λ trees found. IsLoad shelf.now moment account.now
-        (rows_of (shelf_names names.now) (rows_in trees account.now)) found)
+    ensures { Gathers (λ trees found. IsLoadStored (shelf_names names.now) shelf.now moment
+        account.now (rows_in trees account.now) found)
         (state S.Store conn.old) (state S.Store conn.new) result }
 {
     let rows = read_live_account(conn, alloc, account, names, shelf, moment)?;
@@ -106,8 +106,8 @@ fn ask_to_load<'b, S: Alter>(
     moment: Moment,
 ) -> Result<Option<Loaded<'b>>, ReadFault>
     requires idle { HasIdleBook (state S.Store conn.old) }
-    ensures { Asks (λ trees found. IsLoad shelf.now moment account.now
-        (rows_of (shelf_names names.now) (rows_in trees account.now)) found)
+    ensures { Asks (λ trees found. IsLoadStored (shelf_names names.now) shelf.now moment
+        account.now (rows_in trees account.now) found)
         (state S.Store conn.old) (state S.Store conn.new) result }
 {
     still_open(conn)?;
@@ -127,11 +127,9 @@ impl<S: Alter> SqlKeeper<S> {
         account: &AccountNumber,
         moment: Moment,
     ) -> Result<Option<Loaded<'b>>, StoreFault>
-        ensures reads { Finds (tables_in S.Store) failed_in (honest_in S.Store)
-            (clean_in S.Store) (LeavesIn S.Store) self.old self.new
-            (λ found. IsLoad shelf.now moment account.now
-            ((tables_in S.Store self.old).rows account.now) found) result }
-        ensures whole { IsWhole S.Store self.old self.new (λ _. ⊥) }
+        ensures { AsksTables S.Store
+            (λ t found. IsLoad shelf.now moment account.now (t.rows account.now) found)
+            self.old self.new result }
     {
         let read = ask_to_load(
             &mut self.connection,
@@ -141,7 +139,9 @@ impl<S: Alter> SqlKeeper<S> {
             account,
             moment,
         );
-        self.seen = seen_in(&read);
+        let newer = seen_in(&read);
+        let older = self.seen.take();
+        self.seen = seen_later(older, newer);
         counted(&mut self.failures, read)
     }
 
@@ -156,11 +156,8 @@ impl<S: Alter> SqlKeeper<S> {
         account: &AccountNumber,
         moment: Moment,
     ) -> Result<Option<Account<'b>>, StoreFault>
-        ensures reads { Finds (tables_in S.Store) failed_in (honest_in S.Store)
-            (clean_in S.Store) (LeavesIn S.Store) self.old self.new
-            (λ found. IsView shelf.now moment
-            ((tables_in S.Store self.old).rows account.now) found) result }
-        ensures whole { IsWhole S.Store self.old self.new (λ _. ⊥) }
+        ensures { AsksTables S.Store (λ t found. IsView shelf.now moment (t.rows account.now) found)
+            self.old self.new result }
     {
         let loaded = self.load(shelf, account, moment);
         account_of(loaded)

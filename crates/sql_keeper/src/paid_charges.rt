@@ -5,12 +5,13 @@ ghost use Rattle.sql_rows.specs.Content.{with_rows};
 ghost use Rattle.sql_rows.specs.Makes.{Makes, MakesIfOpen};
 ghost use Rattle.sql_tables.specs.Statements.{Attempts, HasBook, IsInside};
 ghost use Rattle.sql_keeper.specs.Covered.{blocks_of, covered_charge};
-ghost use Rattle.sql_keeper.specs.Writes.{with_all_paid, with_blocks, with_paid};
+ghost use Rattle.sql_keeper.specs.Writes.{some_blocks, with_all_charged, with_blocks};
+ghost use Rattle.sql_keeper.specs.Writes.{with_charged, with_new_blocks, with_paid};
 ghost use Rattle.sqlite.specs.Held.{state};
 
 use identifiers::AccountNumber;
 use reserving::ChargeRow;
-use sql_rows::{CoveredColumns, put_charge, put_covered, remove_covered};
+use sql_rows::{CoveredColumns, add_charge, put_charge, put_covered, remove_covered};
 use sqlite::{Alter, Error, Transaction};
 use units::Blocks;
 
@@ -48,6 +49,56 @@ fn put_with_blocks<S: Alter>(
     put_blocks(tx, account, charge)
 }
 
+/// Some of these blocks; none of none.
+fn some_blocks(blocks: u64) -> Option<u64>
+    ensures { result ≡ some_blocks blocks }
+{
+    if blocks == 0 { None } else { Some(blocks) }
+}
+
+/// Puts the blocks of a charge that is new that were covered, if any were.
+fn put_new_blocks<S: Alter>(
+    tx: &mut Transaction<'_, S>,
+    account: &AccountNumber,
+    number: u32,
+    blocks: Option<u64>,
+) -> Result<(), Error>
+    requires open { IsInside (state S.Store tx.old.conn.now) }
+    requires book { HasBook (state S.Store tx.old.conn.now) }
+    ensures same_reference { tx.new.conn.ghost_name ≡ tx.old.conn.ghost_name }
+    ensures makes { Attempts (MakesIfOpen (with_new_blocks account.now number blocks))
+        (state S.Store tx.old.conn.now) (state S.Store tx.new.conn.now) result }
+{
+    match blocks {
+        None => Ok(()),
+        Some(blocks) => {
+            put_covered(tx, account, number, Blocks(blocks))?;
+            Ok(())
+        }
+    }
+}
+
+/// Puts a charge with the blocks that were covered. Where the account has none of its number,
+/// nothing is removed.
+fn put_charged<S: Alter>(
+    tx: &mut Transaction<'_, S>,
+    account: &AccountNumber,
+    charge: &ChargeRow,
+) -> Result<(), Error>
+    requires book { HasBook (state S.Store tx.old.conn.now) }
+    ensures same_reference { tx.new.conn.ghost_name ≡ tx.old.conn.ghost_name }
+    ensures makes { Attempts (Makes (with_charged account.now charge.now))
+        (state S.Store tx.old.conn.now) (state S.Store tx.new.conn.now) result }
+{
+    let added = add_charge(tx, account, charge)?;
+    if added {
+        let covered = some_blocks(charge.covered.0);
+        return put_new_blocks(tx, account, charge.number, covered);
+    }
+    put_with_blocks(tx, account, charge)?;
+    Ok(())
+}
+
 /// Puts each charge in turn, with the blocks that were covered.
 ///
 /// # Errors
@@ -60,11 +111,11 @@ pub(crate) fn put_paid<S: Alter>(
     requires open { IsInside (state S.Store tx.old.conn.now) }
     requires book { HasBook (state S.Store tx.old.conn.now) }
     ensures same_reference { tx.new.conn.ghost_name ≡ tx.old.conn.ghost_name }
-    ensures makes { Attempts (MakesIfOpen (with_all_paid account.now rows.now))
+    ensures makes { Attempts (MakesIfOpen (with_all_charged account.now rows.now))
         (state S.Store tx.old.conn.now) (state S.Store tx.new.conn.now) result }
 {
     'rows: for row in rows {
-        put_with_blocks(tx, account, row)?;
+        put_charged(tx, account, row)?;
     }
     Ok(())
 }

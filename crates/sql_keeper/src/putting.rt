@@ -3,18 +3,18 @@
 ghost use Rattle.std.specs.Prelude.{◌≡◌, option_map};
 ghost use Rattle.keepers.specs.Keys.{key_of};
 ghost use Rattle.sql_tables.specs.Statements.{Attempts, HasBook, IsInside};
-ghost use Rattle.sql_rows.specs.Content.{with_account};
 ghost use Rattle.sql_rows.specs.Makes.{Makes, MakesIfOpen};
 ghost use Rattle.sql_rows.specs.Texts.{kept_of};
 ghost use Rattle.sql_keeper.specs.Content.{shelf_names};
 ghost use Rattle.sql_keeper.specs.Commits.{with_money};
 ghost use Rattle.sql_keeper.specs.Writes.{head_of, meta_with, with_change_put, with_kept};
-ghost use Rattle.sql_keeper.specs.Writes.{with_changed_rows, with_named, with_stored, with_texts};
+ghost use Rattle.sql_keeper.specs.Writes.{with_changed_rows, with_named, with_texts};
 ghost use Rattle.sqlite.specs.Held.{state};
 
 use crate::counted_buckets::put_counted;
-use crate::held_groups::{put_groups, put_groups_of};
+use crate::held_groups::put_groups_of;
 use crate::paid_charges::put_paid;
+use crate::seen::SeenAccount;
 use crate::voucher_puts::put_redeemed;
 use commands::Content;
 use identifiers::AccountNumber;
@@ -38,7 +38,7 @@ pub(crate) fn head_of(rows: &StoredAccount) -> Head
 }
 
 /// What a change leaves of an account once.
-fn head_named(rows: &NamedRows) -> Head
+pub(crate) fn head_named(rows: &NamedRows) -> Head
     ensures { result ≡ head_of rows.now }
 {
     Head {
@@ -47,23 +47,6 @@ fn head_named(rows: &NamedRows) -> Head
         next_bucket: rows.next_bucket(),
         next_charge: rows.next_charge(),
     }
-}
-
-/// Puts an account, its buckets and its counters.
-fn put_money<S: Alter>(
-    tx: &mut Transaction<'_, S>,
-    account: &AccountNumber,
-    rows: &StoredAccount,
-) -> Result<(), Error>
-    requires book { HasBook (state S.Store tx.old.conn.now) }
-    ensures same_reference { tx.new.conn.ghost_name ≡ tx.old.conn.ghost_name }
-    ensures makes { Attempts (Makes (with_money account.now rows.now))
-        (state S.Store tx.old.conn.now) (state S.Store tx.new.conn.now) result }
-{
-    let head = head_of(rows);
-    put_account(tx, account, &head)?;
-    put_counted(tx, account, rows.purse().buckets())?;
-    put_counters(tx, account, rows.counters())
 }
 
 /// Puts an account, and its buckets and counters that are named.
@@ -89,34 +72,18 @@ fn put_named<S: Alter>(
     account: &AccountNumber,
     books: &TariffShelf,
     are_new: bool,
+    seen: &Option<SeenAccount>,
     rows: &NamedRows,
 ) -> Result<(), Error>
     requires book { HasBook (state S.Store tx.old.conn.now) }
     ensures same_reference { tx.new.conn.ghost_name ≡ tx.old.conn.ghost_name }
     ensures makes { Attempts
-        (Makes (with_named account.now (shelf_names books.now) are_new rows.now))
+        (Makes (with_named account.now (shelf_names books.now) are_new seen.now rows.now))
         (state S.Store tx.old.conn.now) (state S.Store tx.new.conn.now) result }
 {
     put_named_money(tx, account, rows)?;
     put_sessions(tx, account, rows.sessions())?;
-    put_groups_of(tx, account, books, are_new, rows.groups())
-}
-
-/// Puts the rows of an account.
-pub(crate) fn put_stored<S: Alter>(
-    tx: &mut Transaction<'_, S>,
-    account: &AccountNumber,
-    books: &TariffShelf,
-    rows: &StoredAccount,
-) -> Result<(), Error>
-    requires book { HasBook (state S.Store tx.old.conn.now) }
-    ensures same_reference { tx.new.conn.ghost_name ≡ tx.old.conn.ghost_name }
-    ensures makes { Attempts (Makes (with_stored account.now (shelf_names books.now) rows.now))
-        (state S.Store tx.old.conn.now) (state S.Store tx.new.conn.now) result }
-{
-    put_money(tx, account, rows)?;
-    put_sessions(tx, account, rows.sessions())?;
-    put_groups(tx, account, books, rows.groups())
+    put_groups_of(tx, account, books, are_new, seen, rows.groups())
 }
 
 /// Puts the texts that are kept of a command under its key.
@@ -185,36 +152,39 @@ fn put_rows<S: Alter>(
     tx: &mut Transaction<'_, S>,
     books: &TariffShelf,
     are_new: bool,
+    seen: &Option<SeenAccount>,
     change: &Change,
 ) -> Result<(), Error>
     requires book { HasBook (state S.Store tx.old.conn.now) }
     ensures same_reference { tx.new.conn.ghost_name ≡ tx.old.conn.ghost_name }
-    ensures makes { Attempts (Makes (with_changed_rows (shelf_names books.now) are_new change.now))
+    ensures makes { Attempts
+        (Makes (with_changed_rows (shelf_names books.now) are_new seen.now change.now))
         (state S.Store tx.old.conn.now) (state S.Store tx.new.conn.now) result }
 {
-    put_named(tx, &change.number, books, are_new, &change.rows)?;
+    put_named(tx, &change.number, books, are_new, seen, &change.rows)?;
     put_paid(tx, &change.number, &change.charges)
 }
 
 /// Puts all that a change names: the moment, the account and its rows, the charges, the texts of
 /// what is kept, and the voucher that is redeemed. Where nothing was there of its groups, nothing
-/// of them is removed.
+/// of them is removed, nor where what was seen of them stays.
 pub(crate) fn put_change<S: Alter>(
     tx: &mut Transaction<'_, S>,
     books: &TariffShelf,
     are_new: bool,
+    seen: &Option<SeenAccount>,
     text: &str,
     change: &Change,
     texts: &Option<Kept>,
 ) -> Result<(), Error>
     requires book { HasBook (state S.Store tx.old.conn.now) }
     ensures same_reference { tx.new.conn.ghost_name ≡ tx.old.conn.ghost_name }
-    ensures makes { Attempts (Makes (with_change_put (shelf_names books.now) are_new
+    ensures makes { Attempts (Makes (with_change_put (shelf_names books.now) are_new seen.now
         (meta_with text.now change.now) change.now (option_map kept_of texts.now)))
         (state S.Store tx.old.conn.now) (state S.Store tx.new.conn.now) result }
 {
     put_meta(tx, LATEST, text, change.moment)?;
-    put_rows(tx, books, are_new, change)?;
+    put_rows(tx, books, are_new, seen, change)?;
     put_kept(tx, &change.number, &change.kept, texts)?;
     put_redeemed(tx, &change.redeemed)
 }

@@ -6,7 +6,7 @@ ghost use Rattle.identifiers.specs.Texts.{is_account_number, is_reference, is_se
 ghost use Rattle.sql_keeper.specs.Content.{shelf_names};
 ghost use Rattle.voucher_rules.specs.Standing.{unspent};
 ghost use Rattle.sql_keeper.specs.RuledRows.{are_ruled_rows, is_ruled_addition, is_ruled_change};
-ghost use Rattle.sql_keeper.specs.RuledRows.{is_ruled_group, is_ruled_sweep, is_ruled_swept};
+ghost use Rattle.sql_keeper.specs.RuledRows.{is_ruled_group, is_ruled_swept};
 ghost use Rattle.keepers.specs.Keys.{key_of};
 ghost use Rattle.sql_keeper.specs.RuledRows.{is_ruled_hold, is_ruled_kept, is_ruled_key};
 ghost use Rattle.sql_keeper.specs.RuledRows.{is_ruled_redeemed, is_ruled_reservation};
@@ -20,14 +20,14 @@ use buckets::{Bucket, Hold};
 use commands::Content;
 use identifiers::{AccountNumber, Reference, SessionId, VoucherCode};
 use keepers::{Change, KeptAnswer, NamedRows, Redeemed};
-use reserving::{ChargeRow, Counter, Reservation, Session, SessionGroup, StoredAccount};
+use reserving::{ChargeRow, Counter, Reservation, Session, SessionGroup};
 use shelves::TariffShelf;
 use units::Moment;
 use voucher_rules::VoucherTerms;
 
 // ---- values
 
-fn is_moment(moment: Moment) -> bool
+pub(crate) fn is_moment(moment: Moment) -> bool
     ensures { result ≡ is_moment moment }
 {
     moment.seconds() < 4_102_444_800
@@ -264,35 +264,9 @@ pub(crate) fn is_ruled_addition(code: &VoucherCode, terms: VoucherTerms, moment:
 
 // ---- a sweep
 
-fn is_stored_head(rows: &StoredAccount) -> bool
-    ensures { result ≡ is_head (head_of rows.now) }
-{
-    is_moment(rows.as_of())
-        && is_within(rows.next_bucket(), 1, 4_294_967_296)
-        && is_within(rows.next_charge(), 1, 4_294_967_296)
-}
-
-fn is_swept(books: &TariffShelf, account: &SweptAccount) -> bool
+/// Whether the rows of an account as a sweep leaves them are in the rules of their tables.
+pub(crate) fn is_ruled_swept(books: &TariffShelf, account: &SweptAccount) -> bool
     ensures { result ≡ is_ruled_swept (shelf_names books.now) account.now }
 {
-    is_number(&account.number)
-        && is_stored_head(&account.rows)
-        && are_buckets(account.rows.purse().buckets())
-        && are_counters(account.rows.counters())
-        && are_sessions(account.rows.sessions())
-        && are_groups(books, account.rows.groups())
-}
-
-fn are_swept(books: &TariffShelf, accounts: &[SweptAccount]) -> bool
-    ensures { result ≡ list_all (is_ruled_swept (shelf_names books.now)) accounts.now }
-{
-    accounts.iter().all(|account| is_swept(books, account))
-}
-
-/// Whether the rows of all accounts as a sweep leaves them are in the rules of their tables, and
-/// the moment too.
-pub(crate) fn is_ruled_sweep(books: &TariffShelf, moment: Moment, accounts: &[SweptAccount]) -> bool
-    ensures { result ≡ is_ruled_sweep (shelf_names books.now) moment accounts.now }
-{
-    is_moment(moment) && are_swept(books, accounts)
+    are_rows(books, &account.number, &account.rows)
 }

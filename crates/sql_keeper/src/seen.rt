@@ -4,19 +4,23 @@
 ghost use Rattle.std.specs.Prelude.{◌≡◌, ℕ, List, Ok, Some, true, false, IfOk, IfSome, IsTrue};
 ghost use Rattle.reserving.specs.Left.{is_open_row};
 ghost use Rattle.reserving.specs.Sessions.{is_open, session_in};
-ghost use Rattle.keepers.specs.Change.{IsLoad};
 ghost use Rattle.shelves.specs.Shelves.{Shelf};
 ghost use Rattle.sqlite_trees.specs.Tree.{Trees};
 ghost use Rattle.sql_tables.specs.Keyed.{same_name};
 ghost use Rattle.sql_rows.specs.Content.{rows_in};
-ghost use Rattle.sql_keeper.specs.Content.{Names, rows_of};
-ghost use Rattle.sql_keeper.specs.Seen.{IsKnown, IsSeen, IsSeenOf, IsSeenWith, IsStanding, Sees};
-ghost use Rattle.sql_keeper.specs.Seen.{is_name, is_unknown, standing_in, stands_open};
+ghost use Rattle.sql_keeper.specs.Content.{Names};
+ghost use Rattle.sql_keeper.specs.Grants.{IsGrantIn, grant_with, is_grant, is_kept};
+ghost use Rattle.sql_keeper.specs.Grants.{is_name, only_bucket, same_grant};
+ghost use Rattle.sql_keeper.specs.LiveRows.{IsLoadStored};
+ghost use Rattle.sql_keeper.specs.Seen.{IsJoined, IsKnown, IsSeen, IsSeenOf, IsSeenWith};
+ghost use Rattle.sql_keeper.specs.Seen.{IsStanding, IsUnknownAlone, Sees, is_unknown};
+ghost use Rattle.sql_keeper.specs.Seen.{standing_in, stands_open};
 
 use crate::putting::head_of;
+use buckets::Hold;
 use identifiers::{AccountNumber, SessionId};
 use keepers::Loaded;
-use reserving::{Session, SessionState, StoredAccount};
+use reserving::{Reservation, Session, SessionGroup, SessionState, StoredAccount};
 use sql_rows::Head;
 use sql_tables::ReadFault;
 
@@ -25,12 +29,25 @@ use sql_tables::ReadFault;
 pub(crate) struct SeenAccount {
     /// The account.
     pub account: AccountNumber,
-    /// What is kept of it once.
-    pub head: Head,
+    /// What is kept of it once, where it was read.
+    pub head: Option<Head>,
     /// A session of it that is open.
     pub live: Option<SessionId>,
+    /// The reservation of that session's first rating group, if it holds of one bucket alone.
+    pub grant: Option<SeenGrant>,
     /// A session that it has no row of.
     pub unknown: Option<SessionId>,
+}
+
+/// A reservation that holds of one bucket alone.
+#[derive(Clone, Copy)]
+pub(crate) struct SeenGrant {
+    /// Its rating group.
+    pub group: u32,
+    /// The number of its book.
+    pub book: u8,
+    /// The bucket.
+    pub bucket: u32,
 }
 
 /// How a session stands in the tables.
@@ -103,14 +120,82 @@ fn first_open(sessions: &[Session]) -> Option<SessionId>
     open_name(session)
 }
 
+/// The bucket of which something is held, if it is one alone.
+fn only_bucket(holds: &[Hold]) -> Option<u32>
+    ensures { result ≡ only_bucket holds.now }
+{
+    match holds {
+        [hold] => Some(hold.bucket),
+        _ => None,
+    }
+}
+
+/// A reservation in a rating group, if it holds of one bucket alone.
+fn grant_with(group: u32, reservation: &Option<Reservation>) -> Option<SeenGrant>
+    ensures { result ≡ grant_with group reservation.now }
+{
+    match reservation {
+        None => None,
+        Some(reservation) => match only_bucket(reservation.holds.as_slice()) {
+            None => None,
+            Some(bucket) => Some(SeenGrant {
+                group,
+                book: reservation.terms.book,
+                bucket,
+            }),
+        },
+    }
+}
+
+/// Whether a row is of a session.
+fn is_own(row: &SessionGroup, session: &SessionId) -> bool
+    ensures { result ≡ same_name row.now.session session.now }
+{
+    row.session == *session
+}
+
+/// The reservation of a row of a session, if it holds of one bucket alone.
+fn own_grant(row: &SessionGroup, session: &SessionId) -> Option<SeenGrant>
+    ensures { IfSome result (λ y. (same_name row.now.session session.now ≡ true)
+        × (grant_with row.now.group row.now.reservation ≡ Some y)) }
+{
+    if !is_own(row, session) {
+        return None;
+    }
+    grant_with(row.group, &row.reservation)
+}
+
+/// The reservation of the first of these rows, if it is of a session and holds of one bucket alone.
+fn grant_of(groups: &[SessionGroup], session: &SessionId) -> Option<SeenGrant>
+    ensures { IfSome result (IsGrantIn groups.now session.now) }
+{
+    let Some(row) = groups.first() else {
+        return None;
+    };
+    own_grant(row, session)
+}
+
+/// That of the session that was seen to be open.
+fn grant_seen(groups: &[SessionGroup], live: &Option<SessionId>) -> Option<SeenGrant>
+    ensures { (s : List ℕ) → live.now ≡ Some s → IfSome result (IsGrantIn groups.now s) }
+{
+    match live {
+        None => None,
+        Some(session) => grant_of(groups, session),
+    }
+}
+
 /// What is seen of the account of these rows.
 fn seen_as(account: AccountNumber, rows: &StoredAccount) -> SeenAccount
     ensures { IsSeenOf account rows.now result }
 {
+    let live = first_open(rows.sessions());
+    let grant = grant_seen(rows.groups(), &live);
     SeenAccount {
         account,
-        head: head_of(rows),
-        live: first_open(rows.sessions()),
+        head: Some(head_of(rows)),
+        live,
+        grant,
         unknown: None,
     }
 }
@@ -129,7 +214,7 @@ fn seen_of(account: &AccountNumber, rows: &StoredAccount) -> Option<SeenAccount>
 /// What is seen of an account that is loaded; None for want of memory.
 fn seen_loaded(loaded: &Loaded<'_>) -> Option<SeenAccount>
     ensures { (names : Names) (shelf : Shelf) (t : ℕ) (a : List ℕ) (trees : Trees) →
-        IsLoad shelf t a (rows_of names (rows_in trees a)) (Some loaded.now) → Sees result trees }
+        IsLoadStored names shelf t a (rows_in trees a) (Some loaded.now) → Sees result trees }
 {
     seen_of(&loaded.number, &loaded.before)
 }
@@ -137,7 +222,7 @@ fn seen_loaded(loaded: &Loaded<'_>) -> Option<SeenAccount>
 /// What is seen of an account that is loaded, if one is.
 fn seen_if_loaded(loaded: &Option<Loaded<'_>>) -> Option<SeenAccount>
     ensures { (names : Names) (shelf : Shelf) (t : ℕ) (a : List ℕ) (trees : Trees) →
-        IsLoad shelf t a (rows_of names (rows_in trees a)) loaded.now → Sees result trees }
+        IsLoadStored names shelf t a (rows_in trees a) loaded.now → Sees result trees }
 {
     match loaded {
         None => None,
@@ -148,7 +233,7 @@ fn seen_if_loaded(loaded: &Option<Loaded<'_>>) -> Option<SeenAccount>
 /// What is seen by a load.
 pub(crate) fn seen_in(read: &Result<Option<Loaded<'_>>, ReadFault>) -> Option<SeenAccount>
     ensures { (names : Names) (shelf : Shelf) (t : ℕ) (a : List ℕ) (trees : Trees) →
-        IfOk read.now (IsLoad shelf t a (rows_of names (rows_in trees a))) → Sees result trees }
+        IfOk read.now (IsLoadStored names shelf t a (rows_in trees a)) → Sees result trees }
 {
     match read {
         Ok(loaded) => seen_if_loaded(loaded),
@@ -173,11 +258,20 @@ fn is_same_account(one: &AccountNumber, other: &AccountNumber) -> bool
     *one == *other
 }
 
-/// Whether it was answered that a session of the account that was seen has no row.
-fn is_noted(read: &Result<bool, ReadFault>, seen: &AccountNumber, account: &AccountNumber) -> bool
-    ensures { IsTrue result → (read.now ≡ Ok false) × (same_name seen.now account.now ≡ true) }
+/// What is seen of an account of which a session has no row; None for want of memory.
+fn unknown_alone(account: &AccountNumber, session: &SessionId) -> Option<SeenAccount>
+    ensures { IfSome result (IsUnknownAlone account.now session.now) }
 {
-    has_no_row(read) && is_same_account(seen, account)
+    match account.clone() {
+        Ok(account) => Some(SeenAccount {
+            account,
+            head: None,
+            live: None,
+            grant: None,
+            unknown: copy_of(session),
+        }),
+        Err(_) => None,
+    }
 }
 
 /// What is seen, with a session that has no row in the place of another one.
@@ -188,31 +282,42 @@ fn with_unknown(seen: SeenAccount, session: &SessionId) -> SeenAccount
         account,
         head,
         live,
+        grant,
         unknown: _,
     } = seen;
     SeenAccount {
         account,
         head,
         live,
+        grant,
         unknown: copy_of(session),
     }
 }
 
-/// What is seen of an account, with what was answered of a session of this one.
-fn noted(
-    seen: SeenAccount,
+/// What is seen, with a session of an account that has no row; another account is forgotten.
+fn noted(seen: SeenAccount, account: &AccountNumber, session: &SessionId) -> Option<SeenAccount>
+    ensures { (trees : Trees) → IsSeen (rows_in trees seen.account) seen →
+        IsKnown (rows_in trees account.now) session.now false → Sees result trees }
+{
+    if !is_same_account(&seen.account, account) {
+        return unknown_alone(account, session);
+    }
+    Some(with_unknown(seen, session))
+}
+
+/// The same, where nothing else may have been seen.
+fn noted_first(
+    seen: Option<SeenAccount>,
     account: &AccountNumber,
     session: &SessionId,
-    read: &Result<bool, ReadFault>,
-) -> SeenAccount
-    ensures { (trees : Trees) → IsSeen (rows_in trees seen.account) seen →
-        IfOk read.now (IsKnown (rows_in trees account.now) session.now) →
-        IsSeen (rows_in trees result.account) result }
+) -> Option<SeenAccount>
+    ensures { (trees : Trees) → Sees seen trees →
+        IsKnown (rows_in trees account.now) session.now false → Sees result trees }
 {
-    if !is_noted(read, &seen.account, account) {
-        return seen;
+    match seen {
+        None => unknown_alone(account, session),
+        Some(seen) => noted(seen, account, session),
     }
-    with_unknown(seen, session)
 }
 
 /// What is seen, with what was answered of a session of an account.
@@ -225,9 +330,64 @@ pub(crate) fn seen_with(
     ensures { (trees : Trees) → Sees seen trees →
         IfOk read.now (IsKnown (rows_in trees account.now) session.now) → Sees result trees }
 {
-    match seen {
-        None => None,
-        Some(seen) => Some(noted(seen, account, session, read)),
+    if !has_no_row(read) {
+        return seen;
+    }
+    noted_first(seen, account, session)
+}
+
+/// What was seen later of an account, with the session that had no row before.
+fn joined(older: SeenAccount, newer: SeenAccount) -> SeenAccount
+    ensures { IsJoined older newer result }
+{
+    let SeenAccount {
+        account: _,
+        head: _,
+        live: _,
+        grant: _,
+        unknown,
+    } = older;
+    let SeenAccount {
+        account,
+        head,
+        live,
+        grant,
+        unknown: _,
+    } = newer;
+    SeenAccount {
+        account,
+        head,
+        live,
+        grant,
+        unknown,
+    }
+}
+
+/// The same, if it is of the same account.
+fn joined_if_same(older: SeenAccount, newer: SeenAccount) -> SeenAccount
+    ensures { (trees : Trees) → IsSeen (rows_in trees older.account) older →
+        IsSeen (rows_in trees newer.account) newer →
+        IsSeen (rows_in trees result.account) result }
+{
+    if !is_same_account(&older.account, &newer.account) {
+        return newer;
+    }
+    joined(older, newer)
+}
+
+/// What is seen once more was seen; what was seen before stays where it isn't of another account.
+pub(crate) fn seen_later(
+    older: Option<SeenAccount>,
+    newer: Option<SeenAccount>,
+) -> Option<SeenAccount>
+    ensures { (trees : Trees) → Sees older trees → Sees newer trees → Sees result trees }
+{
+    match newer {
+        None => older,
+        Some(newer) => match older {
+            None => Some(newer),
+            Some(older) => Some(joined_if_same(older, newer)),
+        },
     }
 }
 
@@ -239,7 +399,7 @@ fn head_of_seen(seen: &SeenAccount, account: &AccountNumber) -> Option<Head>
     if !is_same_account(&seen.account, account) {
         return None;
     }
-    Some(seen.head)
+    seen.head
 }
 
 /// What is kept once of an account that was seen.
@@ -303,5 +463,51 @@ pub(crate) fn standing_seen(
     match seen {
         None => None,
         Some(seen) => standing_of_seen(seen, account, session),
+    }
+}
+
+/// Whether two reservations are of one rating group and one book, and hold of one bucket.
+fn same_grant(one: SeenGrant, other: Option<SeenGrant>) -> bool
+    ensures { result ≡ same_grant one other }
+{
+    match other {
+        None => false,
+        Some(other) => {
+            other.group == one.group && other.book == one.book && other.bucket == one.bucket
+        }
+    }
+}
+
+/// Whether a row has the reservation that was seen.
+fn is_grant(grant: Option<SeenGrant>, row: &SessionGroup) -> bool
+    ensures { result ≡ is_grant grant row.now }
+{
+    match grant {
+        None => false,
+        Some(grant) => same_grant(grant, grant_with(row.group, &row.reservation)),
+    }
+}
+
+/// Whether a row of an account has the reservation that was seen of it.
+fn is_kept_in(seen: &SeenAccount, account: &AccountNumber, row: &SessionGroup) -> bool
+    ensures { result ≡ is_kept (Some seen.now) account.now row.now }
+{
+    is_same_account(&seen.account, account)
+        && is_name(&seen.live, &row.session)
+        && is_grant(seen.grant, row)
+}
+
+/// Whether a row of an account has a reservation that was seen, so that the number of its book and
+/// what it holds of are stored as they are.
+pub(crate) fn is_kept(
+    seen: &Option<SeenAccount>,
+    account: &AccountNumber,
+    row: &SessionGroup,
+) -> bool
+    ensures { result ≡ is_kept seen.now account.now row.now }
+{
+    match seen {
+        None => false,
+        Some(seen) => is_kept_in(seen, account, row),
     }
 }

@@ -339,6 +339,8 @@ pub(crate) fn test_change<S: Alter>(
         IsTested (shelf_names books.now) change.now (rows_in trees change.now.number) new)
         (state S.Store conn.old) (state S.Store conn.new) result }
 {
+    // For the prover alone: looking at the value makes known here what its type keeps.
+    let _ours = conn.schema();
     let found = find_change(conn, alloc, books, seen, change)?;
     told(found)
 }

@@ -14,7 +14,7 @@ use keepers::KeptAnswer;
 use sql_rows::Kept;
 use sql_tables::ReadFault;
 use std::alloc::Global;
-use wire::{write_answer, write_content};
+use wire::write_content;
 
 /// The account of a command that is kept.
 fn account_of(content: &Content) -> &AccountNumber
@@ -42,7 +42,7 @@ fn texts_of(alloc: Global, account: &AccountNumber, kept: &KeptAnswer) -> Result
         return Err(ReadFault::Rules);
     }
     let content = write_content(alloc, &kept.content)?;
-    let answer = write_answer(alloc, &kept.answer)?;
+    let answer = kept.answer.to_text()?;
     Ok(Kept { content, answer })
 }
 

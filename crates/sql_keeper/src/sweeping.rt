@@ -1,92 +1,138 @@
 //! A sweep in one transaction: each account at the moment, or nothing is changed, also over a stop.
 
-ghost use Rattle.std.specs.Prelude.{◌≡◌, false, IfOk, OnOk};
+ghost use Rattle.std.specs.Prelude.{◌≡◌, false, IfOk, IsTrue, OnOk};
 ghost use Rattle.keepers.specs.Change.{IsSwept};
 ghost use Rattle.keepers.specs.Keeping.{Keeps};
 ghost use Rattle.sql_rows.specs.Content.{content_of};
-ghost use Rattle.sql_rows.specs.Makes.{Makes, MakesIfOpen};
-ghost use Rattle.sql_tables.specs.Statements.{Attempts, HasBook, HasIdleBook, IsInside};
+ghost use Rattle.sql_rows.specs.Makes.{Makes};
+ghost use Rattle.sql_rules.specs.Columns.{is_moment};
+ghost use Rattle.sql_tables.specs.Statements.{Attempts, HasBook, HasIdleBook, HasRules, IsInside};
 ghost use Rattle.sql_keeper.specs.Content.{shelf_names};
 ghost use Rattle.sql_keeper.specs.Commits.{CommitsStanding, CommitsWhole, Transacts};
 ghost use Rattle.sql_keeper.specs.Inside.{clean_in, failed_in, names_in, tables_in};
 ghost use Rattle.sql_keeper.specs.Stops.{IsWhole, LeavesIn, honest_in, trees_in};
-ghost use Rattle.sql_keeper.specs.Sweeps.{BecomesSwept, with_accounts, with_sweep};
+ghost use Rattle.sql_keeper.specs.Sweeps.{BecomesSwept, MakesSweep, SweepsOne, TransactsSweep};
+ghost use Rattle.sql_keeper.specs.Sweeps.{with_swept, with_accounts, with_sweep};
 ghost use Rattle.sqlite.specs.Held.{state};
 ghost use Rattle.sqlite.specs.State.{HasCleanDisk};
+ghost use Rattle.sql_keeper.specs.Calls.{SweepsAll};
 
+use crate::counted_buckets::put_counted;
 use crate::faults::counted;
+use crate::held_groups::put_groups;
 use crate::keeper::SqlKeeper;
 use crate::last_moment::last_after;
-use crate::putting::put_stored;
-use crate::ruling::is_ruled_sweep;
+use crate::live_within::read_uncounted_within;
+use crate::putting::head_named;
+use crate::ruling::{is_moment, is_ruled_swept};
 use crate::still_open::still_open;
-use crate::swept_rows::{SweptAccount, read_sweep};
+use crate::swept_rows::{SweptAccount, swept_of};
+use identifiers::AccountNumber;
 use keepers::StoreFault;
 use shelves::TariffShelf;
-use sql_rows::put_meta;
+use sql_rows::{put_account, put_counters, put_meta, put_sessions, read_accounts};
 use sql_tables::{LATEST, ReadFault};
 use sqlite::{Alter, Connection, Error, Transaction};
 use std::alloc::Global;
 use units::Moment;
 
-/// Puts the rows of each of these accounts.
-fn put_accounts<S: Alter>(
+/// Puts what differs of an account, and at last what is kept of it once.
+fn put_swept<S: Alter>(
     tx: &mut Transaction<'_, S>,
     names: &TariffShelf,
-    accounts: &[SweptAccount],
+    account: &SweptAccount,
 ) -> Result<(), Error>
     requires open { IsInside (state S.Store tx.old.conn.now) }
     requires book { HasBook (state S.Store tx.old.conn.now) }
     ensures same_reference { tx.new.conn.ghost_name ≡ tx.old.conn.ghost_name }
-    ensures makes { Attempts (MakesIfOpen (with_accounts (shelf_names names.now) accounts.now))
+    ensures makes { Attempts (Makes (with_swept (shelf_names names.now) account.now))
+        (state S.Store tx.old.conn.now) (state S.Store tx.new.conn.now) result }
+    ensures rules { OnOk result (HasRules (state S.Store tx.new.conn.now)) }
+{
+    put_counted(tx, &account.number, account.rows.buckets())?;
+    put_counters(tx, &account.number, account.rows.counters())?;
+    put_sessions(tx, &account.number, account.rows.sessions())?;
+    put_groups(tx, &account.number, names, account.rows.groups())?;
+    let head = head_named(&account.rows);
+    put_account(tx, &account.number, &head)?;
+    Ok(())
+}
+
+/// Brings an account to the moment: what may still change of it is read, and what differs is put.
+fn sweep_account<S: Alter>(
+    tx: &mut Transaction<'_, S>,
+    alloc: Global,
+    account: &AccountNumber,
+    names: &TariffShelf,
+    shelf: &TariffShelf,
+    moment: Moment,
+) -> Result<(), ReadFault>
+    requires open { IsInside (state S.Store tx.old.conn.now) }
+    requires book { HasBook (state S.Store tx.old.conn.now) }
+    requires rules { HasRules (state S.Store tx.old.conn.now) }
+    ensures same_reference { tx.new.conn.ghost_name ≡ tx.old.conn.ghost_name }
+    ensures sweeps { Attempts
+        (SweepsOne (shelf_names names.now) shelf.now moment account.now)
+        (state S.Store tx.old.conn.now) (state S.Store tx.new.conn.now) result }
+    ensures rules { OnOk result (HasRules (state S.Store tx.new.conn.now)) }
+{
+    let rows = read_uncounted_within(tx, alloc, account, names)?;
+    let swept = swept_of(alloc, account, rows, names, shelf, moment)?;
+    if !is_ruled_swept(names, &swept) {
+        return Err(ReadFault::Rules);
+    }
+    put_swept(tx, names, &swept)?;
+    Ok(())
+}
+
+/// Puts the moment, and brings one account after another to it.
+fn sweep_each<S: Alter>(
+    tx: &mut Transaction<'_, S>,
+    alloc: Global,
+    accounts: &[AccountNumber],
+    names: &TariffShelf,
+    text: &str,
+    shelf: &TariffShelf,
+    moment: Moment,
+) -> Result<(), ReadFault>
+    requires book { HasBook (state S.Store tx.old.conn.now) }
+    ensures same_reference { tx.new.conn.ghost_name ≡ tx.old.conn.ghost_name }
+    ensures makes { Attempts
+        (MakesSweep (shelf_names names.now) text.now shelf.now moment accounts.now)
         (state S.Store tx.old.conn.now) (state S.Store tx.new.conn.now) result }
 {
+    put_meta(tx, LATEST, text, moment)?;
     'accounts: for account in accounts {
-        put_stored(tx, &account.number, names, &account.rows)?;
+        sweep_account(tx, alloc, account, names, shelf, moment)?;
     }
     Ok(())
 }
 
-/// Puts all that a sweep writes: the moment, and the rows of each account.
-fn put_sweep<S: Alter>(
-    tx: &mut Transaction<'_, S>,
-    names: &TariffShelf,
-    text: &str,
-    moment: Moment,
-    accounts: &[SweptAccount],
-) -> Result<(), Error>
-    requires book { HasBook (state S.Store tx.old.conn.now) }
-    ensures same_reference { tx.new.conn.ghost_name ≡ tx.old.conn.ghost_name }
-    ensures makes { Attempts
-        (Makes (with_sweep (shelf_names names.now) text.now moment accounts.now))
-        (state S.Store tx.old.conn.now) (state S.Store tx.new.conn.now) result }
-{
-    put_meta(tx, LATEST, text, moment)?;
-    put_accounts(tx, names, accounts)
-}
-
-/// Writes a sweep in one transaction.
+/// Makes a sweep of these accounts in one transaction.
 fn write_sweep<S: Alter>(
     conn: &mut Connection<S>,
+    alloc: Global,
+    accounts: &[AccountNumber],
     names: &TariffShelf,
     text: &str,
+    shelf: &TariffShelf,
     moment: Moment,
-    accounts: &[SweptAccount],
-) -> Result<(), Error>
+) -> Result<(), ReadFault>
     requires plain { conn.old.in_transaction ≡ false }
     requires idle { HasIdleBook (state S.Store conn.old) }
     ensures plain { conn.new.in_transaction ≡ false }
-    ensures transacts { Transacts (with_sweep (shelf_names names.now) text.now moment accounts.now)
-        (state S.Store conn.old) (state S.Store conn.new) result }
+    ensures transacts { TransactsSweep (shelf_names names.now) text.now shelf.now moment
+        accounts.now (state S.Store conn.old) (state S.Store conn.new) result }
 {
     let mut tx = conn.transaction();
-    put_sweep(&mut tx, names, text, moment, accounts)?;
-    tx.commit()
+    sweep_each(&mut tx, alloc, accounts, names, text, shelf, moment)?;
+    tx.commit()?;
+    Ok(())
 }
 
-/// Reads each account, brings it to the moment, and writes all in one transaction; how many there
-/// are. The tables become those of the sweep, or at a fault they are as before, and whatever a stop
-/// leaves is one of the two.
+/// Reads the accounts' numbers, and brings one account after another to the moment in one
+/// transaction; how many there are. The tables become those of the sweep, or at a fault they are as
+/// before, and whatever a stop leaves is one of the two.
 fn make_sweep<S: Alter>(
     conn: &mut Connection<S>,
     alloc: Global,
@@ -106,11 +152,11 @@ fn make_sweep<S: Alter>(
     // For the prover alone: looking at the value makes known here what its type keeps.
     let _ranges = shelf.first();
     let _moment = moment.seconds();
-    let accounts = read_sweep(conn, alloc, names, shelf, moment)?;
-    if !is_ruled_sweep(names, moment, &accounts) {
+    let accounts = read_accounts(conn, alloc)?;
+    if !is_moment(moment) {
         return Err(ReadFault::Rules);
     }
-    write_sweep(conn, names, text, moment, &accounts)?;
+    write_sweep(conn, alloc, &accounts, names, text, shelf, moment)?;
     Ok(accounts.len() as u64)
 }
 
@@ -140,25 +186,18 @@ impl<S: Alter> SqlKeeper<S> {
     /// Brings each account to the moment, in one transaction, and answers how many there are: of
     /// each what may still change is read, sessions whose supervision time is over end, what their
     /// reservations held is given up, and what is left of buckets that ended is expired. An account
-    /// of a later moment stays. At a fault nothing has changed, and whatever a stop leaves is the
-    /// rows before the sweep or with all of it.
+    /// of a later moment stays. Of an account's rows those alone are written that differ. At a fault
+    /// nothing has changed, and whatever a stop leaves is the rows before the sweep or with all of
+    /// it.
     ///
-    /// All accounts stand in memory together.
+    /// One account after another is read and written within the transaction, so that what stands in
+    /// memory of all of them are their numbers alone.
     ///
     /// # Errors
     /// Want of memory; a fault of the store, which is counted, as are rows that are no account's or
     /// that may not be written.
     pub fn sweep(&mut self, shelf: &TariffShelf, moment: Moment) -> Result<u64, StoreFault>
-        ensures count { clean_in S.Store self.new →
-            IfOk result (λ n. n ≡ (tables_in S.Store self.old).count) }
-        ensures done { clean_in S.Store self.new → OnOk result (IsSwept shelf.now moment
-            (tables_in S.Store self.old) (tables_in S.Store self.new)) }
-        ensures kept { Keeps (tables_in S.Store) failed_in (honest_in S.Store) (clean_in S.Store)
-            (LeavesIn S.Store) self.old self.new
-            (IsSwept shelf.now moment (tables_in S.Store self.old)) result }
-        ensures whole { IsWhole S.Store self.old self.new
-            (BecomesSwept (names_in self.old) self.old.text shelf.now moment
-            (trees_in S.Store self.old)) }
+        ensures { SweepsAll S.Store shelf.now moment self.old self.new result }
     {
         let text = self.text.as_str();
         let (alloc, names) = (self.alloc, &self.shelf);

@@ -1,7 +1,7 @@
 -- A loop that puts each row of a list.
 use Rattle.std.proofs.Common.{◌≡◌, ◌∙◌, ap, subst, sym, refl, arith, List, ◌∷◌, IsTrue, true, ℕ}
-use Rattle.std.proofs.Common.{◌+◌, ◌<◌, Ok, Result, OnOk, OnErr, drop, length, get_or}
-use Rattle.std.proofs.lemmas.List.{drop_more}
+use Rattle.std.proofs.Common.{◌+◌, ◌<◌, ◌≤◌, Ok, Result, OnOk, OnErr, drop, length, get_or}
+use Rattle.std.proofs.lemmas.List.{drop_all, drop_more}
 use Rattle.sqlite.specs.State.{State, HasCleanDisk, Survives, Shows, KeepsCommit}
 use Rattle.sqlite.proofs.StateLemmas.{survives_then}
 use Rattle.sqlite_trees.specs.Objects.{catalog_tree}
@@ -70,3 +70,28 @@ module _ {X : Type 0} (change : X → Content → Content) (all : List X) where
   put_at i x old mid now count less h a =
       put_more (get_or all i x) (drop (i + 1) all) old mid now count
       (subst (λ xs. HasPut xs old mid) (drop_more all i x less) h) a
+
+  -- all of them
+  pub put_all : {A E : Type 0} (i : ℕ) (old now : State) (v : A) → length all ≤ i
+      → HasPut (drop i all) old now
+      → Attempts {A = A} {E = E} (MakesIfOpen (with_each change all)) old now (Ok v)
+  put_all i old now v end h = record {
+    done = λ clean. record {
+      was_open = h.opened clean;
+      made = λ on.
+          let s = h.sofar clean on in
+          record {
+            turns = record {
+              content = ap (λ xs. with_each change xs (content_of now.now.trees))
+                  (sym (drop_all i all end)) ∙ s.content;
+              catalog = s.catalog;
+              stored = s.book.stored;
+              plain = s.plain;
+            };
+            book = s.book;
+            shows = s.shows;
+          };
+    };
+    kept = λ clean. tt;
+    survives = h.survives;
+  }

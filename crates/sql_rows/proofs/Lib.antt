@@ -1,11 +1,14 @@
 pub mod AccountsApart
+pub mod AddCharge
+pub mod Adds
 pub mod BookRules
 pub mod BucketRules
+pub mod ChargeBlocks
 pub mod Dead
 pub mod Each
-pub mod Joined
 pub mod MetaRules
 pub mod NamedTexts
+pub mod NamesPut
 pub mod Periods
 pub mod Plains
 pub mod PutAccount
@@ -20,7 +23,6 @@ pub mod PutGrantBook
 pub mod PutGroup
 pub mod PutHold
 pub mod PutMeta
-pub mod NamesPut
 pub mod PutSession
 pub mod PutVoucher
 pub mod Ranges
@@ -39,6 +41,7 @@ pub mod ReadCounters
 pub mod ReadCovered
 pub mod ReadGrantBooks
 pub mod ReadGroups
+pub mod ReadHeadCounters
 pub mod ReadHolds
 pub mod ReadLive
 pub mod ReadMeta
@@ -56,4 +59,6 @@ pub mod Rising
 pub mod RowRules
 pub mod Stays
 pub mod Tests
+pub mod Unioned
+pub mod Within
 pub mod Writes

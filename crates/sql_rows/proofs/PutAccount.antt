@@ -23,7 +23,7 @@ use Rattle.sqlite.specs.State.{State, ExecutesInside}
 use Rattle.sqlite.proofs.Callers.{IsPlain, command_of}
 use Rattle.sql_tables.specs.Keyed.{key_of, look, same_name}
 use Rattle.sql_tables.specs.Schema.{accounts, book_schema, key_index}
-use Rattle.sql_tables.specs.Statements.{Attempts, Changes, HasBook, IsBook, Puts}
+use Rattle.sql_tables.specs.Statements.{Attempts, Changes, HasBook, HasRules, IsBook, Puts}
 use Rattle.sql_tables.proofs.Casts.{cast_int, cast_null}
 use Rattle.sql_tables.proofs.Found.{put_tells, is_some_map}
 use Rattle.sql_tables.proofs.Keys.{text_last}
@@ -37,7 +37,7 @@ use Rattle.sql_rows.specs.Content.{with_account, with_head, rows_in, content_of}
 use Rattle.sql_rows.specs.Makes.{Makes}
 use Rattle.sql_rows.proofs.Plains.{plain_account}
 use Rattle.sql_rows.proofs.Stays.{only_changed, rows_turn}
-use Rattle.sql_rows.proofs.Writes.{writes, makes_turned}
+use Rattle.sql_rows.proofs.Writes.{writes, makes_turned, rules_after}
 
 abbrev pub put_account_text : List ℕ
 put_account_text =
@@ -127,6 +127,13 @@ module _ (a : List ℕ) (h : Head) where
       (turns old.now.trees new.now.trees p.changes p.counts) p.changes.catalog
       (plain_account a h old.now.trees new.now.trees p.changes)
       p.book p.shows)
+
+  pub rules_account : (params : Row) → params ≡ values
+      → (old new : State) (r : Result ℕ Error) → HasBook old
+      → Attempts (λ old new. ExecutesInside 0 put_account_text params old new r) old new r
+      → OnOk r (HasRules new)
+  rules_account =
+      rules_after put_account_text values (Puts accounts values) put_is put_plain puts (λ old new p. p.book)
 
   -- the parameters, as they are bound
   pub bound_account : (v1 v2 v3 v4 v5 : Value)

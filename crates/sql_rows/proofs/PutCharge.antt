@@ -106,9 +106,9 @@ module _ (a : List ℕ) (row : ChargeRow) (none : row.covered.0 ≡ 0) where
       put_charge_text terms project 10 9 put_is put_plain values (λ olds new. refl) again unset
       (λ id met r. refl) (λ id met. refl) refl (λ v. refl) (λ id. (refl, (refl, tt))) meets
 
-  turns : (old new : Trees) → Changes charges values old new
+  pub charge_turns : (old new : Trees) → Changes charges values old new
       → content_of new ≡ with_rows a (with_charge row) (content_of old)
-  turns old new c =
+  charge_turns old new c =
       only_changed 18 old new c.others
       ∙ rows_turn a (content_of old) (with_charge row) (λ r. r.charges)
       (λ r f. record r { charges = f }) (λ r. refl)
@@ -124,7 +124,7 @@ module _ (a : List ℕ) (row : ChargeRow) (none : row.covered.0 ≡ 0) where
       → Attempts (Makes (with_rows a (with_charge row))) old new r
   makes_charge =
       writes put_charge_text values (Puts charges values) (with_rows a (with_charge row)) puts
-      (puts_make charges values (with_rows a (with_charge row)) turns
+      (puts_make charges values (with_rows a (with_charge row)) charge_turns
       (plain_beside charges values (omega arith) (omega arith) (omega arith)))
 
   -- the parameters, as they are bound

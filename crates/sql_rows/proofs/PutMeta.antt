@@ -24,7 +24,7 @@ use Rattle.sqlite.specs.State.{State, ExecutesInside}
 use Rattle.sqlite.proofs.Callers.{IsPlain, command_of}
 use Rattle.sql_tables.specs.Keyed.{key_of, look, same_name}
 use Rattle.sql_tables.specs.Schema.{meta, accounts, book_schema, key_index}
-use Rattle.sql_tables.specs.Statements.{Attempts, Changes, HasBook, IsBook, Puts}
+use Rattle.sql_tables.specs.Statements.{Attempts, Changes, HasBook, HasRules, IsBook, Puts}
 use Rattle.sql_tables.proofs.Casts.{cast_int, cast_null, cast_or_null, cast_or_text}
 use Rattle.sql_tables.proofs.Counted.{counted}
 use Rattle.sql_tables.proofs.Found.{put_tells, is_some_map, apart_if, same_if}
@@ -38,7 +38,7 @@ use Rattle.sql_rows.specs.Content.{Rows, Content, with_meta, rows_in, content_of
 use Rattle.sql_rows.specs.Makes.{Makes}
 use Rattle.sql_rows.proofs.Plains.{plain_beside}
 use Rattle.sql_rows.proofs.Stays.{only_changed}
-use Rattle.sql_rows.proofs.Writes.{writes, makes_turned}
+use Rattle.sql_rows.proofs.Writes.{writes, makes_turned, rules_after}
 
 abbrev pub put_meta_text : List ℕ
 put_meta_text =
@@ -114,6 +114,13 @@ module _ (m : Meta) where
       (plain_beside meta values (omega arith) (omega arith) (omega arith) old.now.trees
       new.now.trees p.changes)
       p.book p.shows)
+
+  pub rules_meta : (params : Row) → params ≡ values
+      → (old new : State) (r : Result ℕ Error) → HasBook old
+      → Attempts (λ old new. ExecutesInside 0 put_meta_text params old new r) old new r
+      → OnOk r (HasRules new)
+  rules_meta =
+      rules_after put_meta_text values (Puts meta values) put_is put_plain puts (λ old new p. p.book)
 
   -- the parameters, as they are bound
   pub bound_meta : (v1 v2 v3 v4 : Value)

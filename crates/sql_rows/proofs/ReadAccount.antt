@@ -58,14 +58,14 @@ pub read_account_plain : IsPlain (understood book_schema read_account_text)
 unfolding understood everything
 read_account_plain = (refl, refl)
 
-abbrev columns : Row → Row
+abbrev pub columns : Row → Row
 columns r = column r 2 ∷ column r 3 ∷ column r 4 ∷ column r 5 ∷ []
 
 same_columns : (r : Row) → head_in (drop 1 r) ≡ head_in (Null ∷ columns r)
 same_columns [] = refl
 same_columns (v ∷ vs) = refl
 
-back : (x : Head) (r : Row) → head_cells x ≡ columns r → head_in (drop 1 r) ≡ x
+pub back : (x : Head) (r : Row) → head_cells x ≡ columns r → head_in (drop 1 r) ≡ x
 back x r is = same_columns r ∙ ap (λ w. head_in (Null ∷ w)) (sym is) ∙ head_told Null x
 
 module _ (a : List ℕ) where

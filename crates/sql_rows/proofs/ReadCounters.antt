@@ -14,20 +14,22 @@ use Rattle.sqlite_sql.specs.declared.ops.BinaryOp.TheVariants.{Compare}
 use Rattle.sqlite_sql.specs.declared.ops.CompareOp.TheVariants.{Eq}
 use Rattle.sqlite_sql.specs.Term.{Term, col, op2}
 use Rattle.sqlite_schema.specs.declared.command.Command.TheVariants.{Select}
-use Rattle.sqlite_schema.specs.Rules.{equal}
+use Rattle.sqlite_schema.specs.Rules.{Fits, equal}
 use Rattle.sqlite_rules.proofs.ListLemmas.{has_found}
 use Rattle.sqlite_tied.specs.Compute.{everything}
 use Rattle.sqlite.specs.Given.{IsPlain}
 use Rattle.sqlite.specs.Listing.{understood, reads_listing}
 use Rattle.sqlite.specs.State.{State}
 use Rattle.sqlite.proofs.Callers.{command_of}
+use Rattle.sqlite_trees.specs.Tree.{Trees}
+use Rattle.sql_tables.specs.Keyed.{IsStored}
 use Rattle.sql_tables.specs.Schema.{counters, book_schema}
 use Rattle.sql_tables.specs.Selects.{Selects}
 use Rattle.sql_tables.specs.Statements.{Answers}
-use Rattle.sql_tables.proofs.ByKey.{listed_told, only_all}
+use Rattle.sql_tables.proofs.ByKey.{answered_told, only_all}
 use Rattle.sql_tables.proofs.Columns.{equal_turned}
 use Rattle.sql_tables.proofs.Keys.{keys_split, int_tie}
-use Rattle.sql_tables.proofs.Selected.{select_from, selected_from, told}
+use Rattle.sql_tables.proofs.Selected.{AreAnswered, select_from, selected, told}
 use Rattle.sql_tables.proofs.Selections.{meets}
 use Rattle.sql_tables.proofs.Steps.{and_last, and_true, mapped_to}
 use Rattle.reserving.specs.declared.session.Counter.{Counter}
@@ -65,7 +67,7 @@ unfolding understood everything
 read_counters_in_plain = (refl, refl)
 
 module _ (a : List ℕ) where
-  abbrev front : Row → Bool
+  abbrev pub front : Row → Bool
   front r = equal Binary (column r 1) (Text a)
 
   abbrev rest : ℕ → ℕ → Row → Bool
@@ -87,7 +89,7 @@ module _ (a : List ℕ) where
       (ap (λ (w : Row). is_eq (value_cmp (nat y) (column w 1))) (sym is) ∙ int_tie x.cycle y)
 
 module _ (a : List ℕ) (cycle : ℕ) where
-  abbrev extra : Row → Bool
+  abbrev pub extra : Row → Bool
   extra r = equal Binary (column r 3) (nat cycle)
 
   -- a row under the key of a counter of the cycle passes the test
@@ -107,11 +109,12 @@ module _ (a : List ℕ) (cycle : ℕ) where
       ∙ sym (equal_turned (column r 3) (nat cycle) refl) ∙ e)
 
   abbrev AreSelected : List Row → List Counter → Type 0
-  AreSelected stored xs = Selects (λ r. front a r && extra r) columns stored (map counter_cells xs)
+  AreSelected stored xs =
+      AreAnswered (λ r. front a r && extra r) columns stored (map counter_cells xs)
 
   none_other : (stored : List Row) (xs : List Counter) → AreSelected stored xs → (g c : ℕ)
       → nat_eq c cycle ≡ false → find (λ x. nat_eq x.group g && nat_eq x.cycle c) xs ≡ None
-  none_other stored xs selects g c other =
+  none_other stored xs answered g c other =
       go (find (λ x. nat_eq x.group g && nat_eq x.cycle c) xs) refl
     where
       go : (o : Option Counter) → find (λ x. nat_eq x.group g && nat_eq x.cycle c) xs ≡ o
@@ -119,39 +122,41 @@ module _ (a : List ℕ) (cycle : ℕ) where
       go None e = e
       go (Some x) e =
           let h = has_found (λ x. nat_eq x.group g && nat_eq x.cycle c) xs x e in
-          let it =
-          selected_from (λ r. front a r && extra r) columns stored (map counter_cells xs) selects
-          (counter_cells x) (mapped_to counter_cells xs x h.0) in
+          let it = answered.from (counter_cells x) (mapped_to counter_cells xs x h.0) in
           let both = and_parts (front a it.0) (extra it.0) it.2 in
           let named = and_parts (nat_eq x.group g) (nat_eq x.cycle c) h.1 in
           let same : c ≡ cycle = sym ((unsigned_Decides x.cycle c).0 named.1)
           ∙ of_cycle x it.0 both.1 it.3 in
           absurd (let no : true ≡ false = sym ((unsigned_Decides c cycle).1 same) ∙ other in cc)
 
-  pub counters_read : (old new : State) (rows : List Row) (xs : List Counter) →
-      Answers read_counters_in_text (Text a ∷ nat cycle ∷ []) old new rows
-      → map counter_cells xs ≡ rows → AreCountersIn cycle (rows_in old.now.trees a) xs
-  counters_read old new rows xs got is g c = elim (cases_Bool (nat_eq c cycle)) [
+  -- a list of those rows
+  pub counters_answered : (trees : Trees) → Fits book_schema trees → IsStored (trees 6)
+      → (xs : List Counter) → AreSelected (trees 6) xs → AreCountersIn cycle (rows_in trees a) xs
+  counters_answered trees fits stored xs answered g c = elim (cases_Bool (nat_eq c cycle)) [
     | inl here ↦ rw here (subst (λ y. find (λ x. nat_eq x.group g && nat_eq x.cycle y) xs
-        ≡ (rows_in old.now.trees a).counters g y) (sym ((unsigned_Decides c cycle).0 here)) at)
-    | inr other ↦ rw other (none_other (old.now.trees 6) xs selects g c other)
+        ≡ (rows_in trees a).counters g y) (sym ((unsigned_Decides c cycle).0 here)) at)
+    | inr other ↦ rw other (none_other (trees 6) xs answered g c other)
   ]
     where
-      selects : AreSelected (old.now.trees 6) xs
-      selects = subst (Selects (λ r. front a r && extra r) columns (old.now.trees 6)) (sym is)
-          (told read_counters_in_text names 6 terms project order text_is read_counters_in_plain
-          (Text a ∷ nat cycle ∷ [])
-          (λ r. front a r && extra r) columns (λ r. and_last (front a r) (extra r))
-          (λ r. refl) old new rows got)
-
       at : find (λ x. nat_eq x.group g && nat_eq x.cycle cycle) xs
-          ≡ (rows_in old.now.trees a).counters g cycle
+          ≡ (rows_in trees a).counters g cycle
       at =
-          listed_told counters (inr (inr (inr (inl refl))))
-          (inr (inr (inr (inl refl)))) refl old.now.trees got.fits
-          (got.book.stored.1.1.1.0) counter_in counter_cells columns
+          answered_told counters (inr (inr (inr (inl refl))))
+          (inr (inr (inr (inl refl)))) refl trees fits stored counter_in counter_cells columns
           (λ r. front a r && extra r) (counter_key a g cycle) (refl, (refl, (refl, tt)))
           (λ x r m. back x r) (λ x. nat_eq x.group g && nat_eq x.cycle cycle) (λ x. true) (front a)
           (rest a g cycle) extra (λ r. refl) (splits a g cycle) (wanted a g cycle)
-          (λ r m h. lives g r m) (λ x r e same. refl) xs selects
+          (λ r m h. lives g r m) (λ x r e same. refl) xs answered
           ∙ only_all _
+
+  pub counters_read : (old new : State) (rows : List Row) (xs : List Counter) →
+      Answers read_counters_in_text (Text a ∷ nat cycle ∷ []) old new rows
+      → map counter_cells xs ≡ rows → AreCountersIn cycle (rows_in old.now.trees a) xs
+  counters_read old new rows xs got is =
+      counters_answered old.now.trees got.fits got.book.stored.1.1.1.0 xs
+      (selected (λ r. front a r && extra r) columns (old.now.trees 6) (map counter_cells xs)
+      (subst (Selects (λ r. front a r && extra r) columns (old.now.trees 6)) (sym is)
+      (told read_counters_in_text names 6 terms project order text_is read_counters_in_plain
+      (Text a ∷ nat cycle ∷ [])
+      (λ r. front a r && extra r) columns (λ r. and_last (front a r) (extra r))
+      (λ r. refl) old new rows got)))

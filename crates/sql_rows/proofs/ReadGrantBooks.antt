@@ -51,7 +51,8 @@ back x r is = same_columns r ∙ ap (λ w. at_in (Null ∷ Null ∷ w)) (sym is)
 
 abbrev pub read_grant_books_text : List ℕ
 read_grant_books_text =
-    codes "SELECT rating_group, book FROM grant_books WHERE account = ?1 AND session = ?2"
+    codes "SELECT rating_group, book FROM grant_books WHERE account = ?1 AND session = ?2 "
+    ++ codes "ORDER BY rating_group"
 
 abbrev of_session : List Term
 of_session =
@@ -59,7 +60,7 @@ of_session =
     ∷ op2 (Compare Eq Binary) (col 1 2) (col 0 1) ∷ []
 
 abbrev order : List (Term × Key)
-order = []
+order = (col 1 3, record { collation = Binary; descending = false }) ∷ []
 
 text_is : (command_of (understood book_schema read_grant_books_text)
     ≡ Select (record { lets = []; body = select_from 24 of_session project order }) names) ×

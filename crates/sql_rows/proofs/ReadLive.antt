@@ -1,10 +1,12 @@
--- What the texts of `read_left` and `read_held` answer.
+-- What the text of `read_buckets_live` answers.
 use Rattle.std.specs.Prelude.{codes}
 use Rattle.std.proofs.Common.{◌≡◌, inl, inr, ℕ, pos, List, [], ◌∷◌, ◌++◌, map, drop, Bool, true}
-use Rattle.std.proofs.Common.{false, ◌&&◌, cond, refl, sym, ap, ap₂, subst, ◌∙◌, nat_eq, nat_lt}
-use Rattle.std.specs.Prelude.{filter}
-use Rattle.std.specs.List.Sorted.{IsPermutation}
+use Rattle.std.proofs.Common.{false, ◌&&◌, ◌||◌, ◌⊎◌, refl, sym, ap, ap₂, subst, ◌∙◌, nat_eq, nat_lt}
+use Rattle.std.proofs.Common.{arith}
+use Rattle.std.proofs.lemmas.Bool.{and_from, and_parts, cases_Bool}
+use Rattle.std.proofs.lemmas.Bool.Decides.{nat_tests}
 use Rattle.sqlite_value.specs.declared.value.Value.TheVariants.{Null, Int, Text}
+use Rattle.sqlite_value.specs.declared.keys.Collation.{Collation}
 use Rattle.sqlite_value.specs.declared.keys.Collation.TheVariants.{Binary}
 use Rattle.sqlite_value.specs.declared.keys.Key.{Key}
 use Rattle.sqlite_value.specs.Order.{Row, column}
@@ -20,27 +22,24 @@ use Rattle.sqlite.specs.Listing.{understood, reads_listing}
 use Rattle.sqlite.specs.State.{State}
 use Rattle.sqlite.proofs.Callers.{command_of}
 use Rattle.sql_tables.specs.Schema.{buckets, book_schema}
-use Rattle.sql_tables.specs.Selects.{Selects}
 use Rattle.sql_tables.specs.Statements.{Answers}
-use Rattle.sql_tables.proofs.ByKey.{listed_told}
-use Rattle.sql_tables.proofs.Selected.{select_from, told}
+use Rattle.sql_tables.proofs.ByKey.{answered_told}
+use Rattle.sql_tables.proofs.Selected.{AreAnswered}
 use Rattle.sql_tables.proofs.Steps.{and_last}
 use Rattle.buckets.specs.Row.{Row as Bucket}
 use Rattle.sql_rows.specs.Values.{nat, nat_in, bucket_key, bucket_in, bucket_cells}
 use Rattle.sql_rows.specs.Content.{rows_in}
-use Rattle.sql_rows.specs.Lists.{AreBuckets, is_held, is_left}
+use Rattle.sql_rows.specs.Lists.{AreBuckets, is_held, is_left, is_live}
 use Rattle.sql_rows.proofs.BucketRules.{HasNumbers, has_numbers}
 use Rattle.sql_rows.proofs.ReadBuckets.{back, columns, front, names, project, rest, splits, wanted}
 use Rattle.sql_rows.proofs.Tests.{any_told, is_any, none_told}
+use Rattle.sql_rows.proofs.Unioned.{AreUnited, part_from, union_of, union_told}
 
-abbrev pub read_left_text : List ℕ
-read_left_text =
+abbrev pub read_live_text : List ℕ
+read_live_text =
     codes "SELECT number, starts, ends, scope, credited, available, reserved, charged, expired "
-    ++ codes "FROM buckets WHERE account = ?1 AND available >= 1 ORDER BY ends, number"
-
-abbrev pub read_held_text : List ℕ
-read_held_text =
-    codes "SELECT number, starts, ends, scope, credited, available, reserved, charged, expired "
+    ++ codes "FROM buckets WHERE account = ?1 AND available >= 1 UNION ALL "
+    ++ codes "SELECT number, starts, ends, scope, credited, available, reserved, charged, expired "
     ++ codes "FROM buckets WHERE account = ?1 AND available = 0 AND reserved >= 1 "
     ++ codes "ORDER BY ends, number"
 
@@ -55,46 +54,28 @@ held_terms =
     ∷ op2 (Compare Eq Binary) (col 1 7) (lit (Int (pos 0)))
     ∷ op2 (Compare Ge Binary) (col 1 8) (lit (Int (pos 1))) ∷ []
 
+-- of the two parts joined
+abbrev shown : List Term
+shown =
+    col 1 1 ∷ col 1 2 ∷ col 1 3 ∷ col 1 4 ∷ col 1 5 ∷ col 1 6 ∷ col 1 7 ∷ col 1 8 ∷ col 1 9 ∷ []
+
+abbrev by : List Collation
+by = Binary ∷ Binary ∷ Binary ∷ Binary ∷ Binary ∷ Binary ∷ Binary ∷ Binary ∷ Binary ∷ Binary ∷ []
+
 abbrev order : List (Term × Key)
-order = (col 1 4, record { collation = Binary; descending = false }) ∷
-    (col 1 2, record { collation = Binary; descending = false }) ∷ []
+order = (col 1 3, record { collation = Binary; descending = false }) ∷
+    (col 1 1, record { collation = Binary; descending = false }) ∷ []
 
-left_is : (command_of (understood book_schema read_left_text)
-    ≡ Select (record { lets = []; body = select_from 4 left_terms project order }) names) ×
-    (reads_listing book_schema read_left_text ≡ false)
+text_is : (command_of (understood book_schema read_live_text)
+    ≡ Select (union_of 10 (part_from 4 left_terms project) (part_from 4 held_terms project) by shown
+    order) names) ×
+    (reads_listing book_schema read_live_text ≡ false)
 unfolding understood everything
-left_is = (refl, refl)
+text_is = (refl, refl)
 
-pub read_left_plain : IsPlain (understood book_schema read_left_text)
+pub read_live_plain : IsPlain (understood book_schema read_live_text)
 unfolding understood everything
-read_left_plain = (refl, refl)
-
-held_is : (command_of (understood book_schema read_held_text)
-    ≡ Select (record { lets = []; body = select_from 4 held_terms project order }) names) ×
-    (reads_listing book_schema read_held_text ≡ false)
-unfolding understood everything
-held_is = (refl, refl)
-
-pub read_held_plain : IsPlain (understood book_schema read_held_text)
-unfolding understood everything
-read_held_plain = (refl, refl)
-
--- ---- a test that is the same for all stored rows
-
-same_kept : (p q : Row → Bool) (rows : List Row) → ((r : Row) → Has rows r → p r ≡ q r)
-    → filter p rows ≡ filter q rows
-same_kept p q [] same = refl
-same_kept p q (r ∷ rs) same =
-    ap₂ (λ (b : Bool) (kept : List Row). cond b (r ∷ kept) kept) (same r (inl refl))
-    (same_kept p q rs (λ x h. same x (inr h)))
-
-selects_alike : (p q : Row → Bool) (stored out : List Row)
-    → ((r : Row) → Has stored r → p r ≡ q r) → Selects p columns stored out
-    → Selects q columns stored out
-selects_alike p q stored out same h = record {
-  same = subst (λ (kept : List Row). IsPermutation (map columns kept) out)
-      (same_kept p q stored same) h.same;
-}
+read_live_plain = (refl, refl)
 
 -- ---- the tests
 
@@ -114,52 +95,103 @@ held_same (v ∷ vs) has =
     ap₂ ◌&&◌ (ap (λ w. equal Binary w (nat 0)) has.available ∙ none_told (nat_in (column vs 6)))
     (ap is_any has.reserved ∙ any_told (nat_in (column vs 7)))
 
+-- one of the two passes, where one that isn't spent does
+or_right : (p q : Bool) → q ≡ true → (p || q) ≡ true
+or_right true q e = refl
+or_right false q e = e
+
+nothing_left : (m : ℕ) (z : Bool) → nat_lt 0 m ≡ false → nat_eq 0 m ≡ z → z ≡ true
+nothing_left m true none e = refl
+nothing_left m false none e = absurd (grind (arith, nat_tests, none, e))
+
+left_lives : (b : Bucket) → is_left b ≡ true → is_live b ≡ true
+left_lives b e = ap (λ t. t || nat_lt 0 b.reserved) e
+
+held_lives : (b : Bucket) → is_held b ≡ true → is_live b ≡ true
+held_lives b e = or_right (nat_lt 0 b.available) (nat_lt 0 b.reserved)
+    (and_parts (nat_eq 0 b.available) (nat_lt 0 b.reserved) e).1
+
+lives_held : (b : Bucket) → is_left b ≡ false → is_live b ≡ true → is_held b ≡ true
+lives_held b none e =
+    and_from (nat_eq 0 b.available) (nat_lt 0 b.reserved)
+    (nothing_left b.available (nat_eq 0 b.available) none refl)
+    (sym (ap (λ t. t || nat_lt 0 b.reserved) none) ∙ e)
+
 -- ---- the buckets
 
-module _ (a : List ℕ) (test : Bucket → Bool) where
-  abbrev passes : Row → Bool
-  passes r = front a r && test (bucket_in (drop 1 r))
-
-  told_live : (x : Bucket) (r : Row) → test (bucket_in (drop 1 r)) ≡ true
-      → bucket_cells x ≡ columns r → test x ≡ true
-  told_live x r e is = ap test (sym (back x r is)) ∙ e
-
-  live_told : (old new : State) (sql : List ℕ) (rows : List Row) (bs : List Bucket)
-      → Answers sql (Text a ∷ []) old new rows
-      → Selects passes columns (old.now.trees 4) (map bucket_cells bs)
-      → AreBuckets test (rows_in old.now.trees a) bs
-  live_told old new sql rows bs got selects n =
-      listed_told buckets (inr (inr (inl refl))) (inr (inr (inl refl))) refl old.now.trees got.fits
-      (got.book.stored.1.1.0) bucket_in bucket_cells columns
-      passes (bucket_key a n) (refl, (refl, tt)) (λ x r m. back x r)
-      (λ x. nat_eq x.number n) test (front a) (rest a n) (λ r. test (bucket_in (drop 1 r)))
-      (λ r. refl) (splits a n) (wanted a n) (λ r m h. h) told_live bs selects
-
 module _ (a : List ℕ) where
-  pub left_read : (old new : State) (rows : List Row) (bs : List Bucket)
-      → Answers read_left_text (Text a ∷ []) old new rows
-      → map bucket_cells bs ≡ rows → AreBuckets is_left (rows_in old.now.trees a) bs
-  left_read old new rows bs got is =
-      live_told a is_left old new read_left_text rows bs got
-      (selects_alike (λ r. front a r && left_tested r) (passes a is_left) (old.now.trees 4)
-      (map bucket_cells bs)
-      (λ r h. ap (λ t. front a r && t) (left_same r (has_numbers old.now.trees got.fits r h)))
-      (subst (Selects (λ r. front a r && left_tested r) columns (old.now.trees 4)) (sym is)
-      (told read_left_text names 4 left_terms project order left_is read_left_plain (Text a ∷ [])
-      (λ r. front a r && left_tested r) columns (λ r. and_last (front a r) (left_tested r))
-      (λ r. refl) old new rows got)))
+  abbrev passes : Row → Bool
+  passes r = front a r && is_live (bucket_in (drop 1 r))
 
-  pub held_read : (old new : State) (rows : List Row) (bs : List Bucket)
-      → Answers read_held_text (Text a ∷ []) old new rows
-      → map bucket_cells bs ≡ rows → AreBuckets is_held (rows_in old.now.trees a) bs
-  held_read old new rows bs got is =
-      live_told a is_held old new read_held_text rows bs got
-      (selects_alike (λ r. front a r && held_tested r) (passes a is_held) (old.now.trees 4)
-      (map bucket_cells bs)
-      (λ r h. ap (λ t. front a r && t) (held_same r (has_numbers old.now.trees got.fits r h)))
-      (subst (Selects (λ r. front a r && held_tested r) columns (old.now.trees 4)) (sym is)
-      (told read_held_text names 4 held_terms project order held_is read_held_plain (Text a ∷ [])
-      (λ r. front a r && held_tested r) columns
+  abbrev left_passes : Row → Bool
+  left_passes r = front a r && left_tested r
+
+  abbrev held_passes : Row → Bool
+  held_passes r = front a r && held_tested r
+
+  left_pass : (r : Row) → HasNumbers r → left_passes r ≡ true → passes r ≡ true
+  left_pass r has e =
+      let both = and_parts (front a r) (left_tested r) e in
+      and_from (front a r) (is_live (bucket_in (drop 1 r))) both.0
+      (left_lives (bucket_in (drop 1 r)) (sym (left_same r has) ∙ both.1))
+
+  held_pass : (r : Row) → HasNumbers r → held_passes r ≡ true → passes r ≡ true
+  held_pass r has e =
+      let both = and_parts (front a r) (held_tested r) e in
+      and_from (front a r) (is_live (bucket_in (drop 1 r))) both.0
+      (held_lives (bucket_in (drop 1 r)) (sym (held_same r has) ∙ both.1))
+
+  pass_either : (r : Row) → HasNumbers r → passes r ≡ true →
+      (left_passes r ≡ true) ⊎ (held_passes r ≡ true)
+  pass_either r has e =
+      let both = and_parts (front a r) (is_live (bucket_in (drop 1 r))) e in
+      elim (cases_Bool (is_left (bucket_in (drop 1 r)))) [
+        | inl some ↦ inl
+            (and_from (front a r) (left_tested r) both.0 (left_same r has ∙ some))
+        | inr none ↦ inr
+            (and_from (front a r) (held_tested r) both.0
+            (held_same r has ∙ lives_held (bucket_in (drop 1 r)) none both.1))
+      ]
+
+  -- both parts are one list of those that aren't spent
+  one_list : (stored out : List Row) → ((r : Row) → Has stored r → HasNumbers r)
+      → AreUnited left_passes held_passes columns columns stored stored out
+      → AreAnswered passes columns stored out
+  one_list stored out numbers united = record {
+    from = λ v h.
+        elim (united.from v h) [
+          | inl x ↦ (x.0, x.1, left_pass x.0 (numbers x.0 x.1) x.2, x.3)
+          | inr x ↦ (x.0, x.1, held_pass x.0 (numbers x.0 x.1) x.2, x.3)
+        ];
+    to = λ r h e.
+        elim (pass_either r (numbers r h) e) [
+          | inl p ↦ united.to_one r h p
+          | inr p ↦ united.to_two r h p
+        ];
+  }
+
+  told_live : (x : Bucket) (r : Row) → is_live (bucket_in (drop 1 r)) ≡ true
+      → bucket_cells x ≡ columns r → is_live x ≡ true
+  told_live x r e is = ap is_live (sym (back x r is)) ∙ e
+
+  answered : (old new : State) (rows : List Row) → Answers read_live_text (Text a ∷ []) old new rows
+      → AreAnswered passes columns (old.now.trees 4) rows
+  answered old new rows got =
+      one_list (old.now.trees 4) rows (λ r h. has_numbers old.now.trees got.fits r h)
+      (union_told 4 4 refl refl left_terms held_terms project project 10 by shown order (Text a ∷ [])
+      left_passes held_passes columns columns (λ r. and_last (front a r) (left_tested r))
       (λ r. ap (λ t. front a r && t)
       (and_last (equal Binary (column r 7) (nat 0)) (is_any (column r 8))))
-      (λ r. refl) old new rows got)))
+      (λ r. refl) (λ r. refl) (λ r. refl) (λ r. refl) read_live_text names text_is read_live_plain
+      old new rows got)
+
+  pub live_read : (old new : State) (rows : List Row) (bs : List Bucket)
+      → Answers read_live_text (Text a ∷ []) old new rows
+      → map bucket_cells bs ≡ rows → AreBuckets is_live (rows_in old.now.trees a) bs
+  live_read old new rows bs got is n =
+      answered_told buckets (inr (inr (inl refl))) (inr (inr (inl refl))) refl old.now.trees got.fits
+      (got.book.stored.1.1.0) bucket_in bucket_cells columns
+      passes (bucket_key a n) (refl, (refl, tt)) (λ x r m. back x r)
+      (λ x. nat_eq x.number n) is_live (front a) (rest a n) (λ r. is_live (bucket_in (drop 1 r)))
+      (λ r. refl) (splits a n) (wanted a n) (λ r m h. h) told_live bs
+      (subst (AreAnswered passes columns (old.now.trees 4)) (sym is) (answered old new rows got))

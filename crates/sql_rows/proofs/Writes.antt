@@ -1,13 +1,21 @@
 -- From what a text does to a table to what it makes of the content.
-use Rattle.std.proofs.Common.{◌≡◌, ℕ, true, List, Ok, Err, Result, OnOk, IsTrue, subst}
+use Rattle.std.proofs.Common.{◌≡◌, ℕ, true, List, Ok, Err, Result, OnOk, IsTrue, subst, arith}
 use Rattle.sqlite_value.specs.Order.{Row}
 use Rattle.sqlite_trees.specs.Objects.{catalog_tree}
 use Rattle.sqlite_trees.specs.Tree.{Trees}
+use Rattle.sqlite_catalog.specs.Listing.{IsSound}
+use Rattle.sqlite_schema.specs.declared.command.Command.TheVariants.{InsertOr}
+use Rattle.sqlite_schema.specs.declared.command.Conflict.{Conflict}
+use Rattle.sqlite_schema.specs.declared.command.Source.{Source}
+use Rattle.sqlite_schema.specs.declared.command.Upsert.{Upsert}
 use Rattle.sqlite_schema.specs.declared.schema.Table.{Table}
 use Rattle.sqlite.specs.declared.error.Error.{Error}
-use Rattle.sqlite.specs.State.{State, ExecutesInside, Shows}
-use Rattle.sql_tables.specs.Statements.{Attempts, Changes, HasBook, IsBook, Puts}
-use Rattle.sql_tables.proofs.Keeps.{done_as}
+use Rattle.sqlite.specs.Listing.{understood}
+use Rattle.sqlite.specs.State.{State, ExecutesInside, HasCleanDisk, Shows}
+use Rattle.sqlite.proofs.Callers.{IsPlain, command_of, runs_as}
+use Rattle.sql_tables.specs.Schema.{book_schema}
+use Rattle.sql_tables.specs.Statements.{Attempts, Changes, HasBook, HasRules, IsBook, Puts}
+use Rattle.sql_tables.proofs.Keeps.{done_as, sound_fits}
 use Rattle.sql_rows.specs.Content.{Content, content_of}
 use Rattle.sql_rows.specs.Makes.{Makes}
 use Rattle.sql_rows.specs.Plain.{ArePlain}
@@ -28,6 +36,28 @@ writes text values does change runs makes params same old new r has =
     made : (r : Result ℕ Error) → OnOk r (does old new) → OnOk r (Makes change old new)
     made (Ok count) h = makes old new h
     made (Err e) h = tt
+
+-- an upsert leaves tables that obey their rules
+pub rules_after : {at : ℕ} {how : Conflict} {from : Source} {clauses : List Upsert}
+    (text : List ℕ) (values : Row) (does : State → State → Type 0)
+    → command_of (understood book_schema text) ≡ InsertOr at how from clauses
+    → IsPlain (understood book_schema text)
+    → ((old new : State) (r : Result ℕ Error) → (IsTrue old.is_open → IsBook old)
+    → OnOk r (ExecutesInside 0 text values old new r) → OnOk r (does old new))
+    → ((old new : State) → does old new → IsBook new)
+    → (params : Row) → params ≡ values → (old new : State) (r : Result ℕ Error) → HasBook old
+    → Attempts (λ old new. ExecutesInside 0 text params old new r) old new r → OnOk r (HasRules new)
+rules_after {at} {how} {from} {clauses} text values does is plain runs books params same old new
+    (Ok count) has a = λ clean on.
+    let before : HasCleanDisk old = omega (arith, a.survives.clean, clean) in
+    let ran : ExecutesInside 0 text values old new (Ok count) =
+    subst (λ p. ExecutesInside 0 text p old new (Ok count)) same (a.done clean) in
+    let book : IsBook old = has before ran.1.was_open in
+    let after : IsBook new = books old new (runs old new (Ok count) (has before) ran) in
+    let w = runs_as text values old new book_schema book.schema (InsertOr at how from clauses) is
+    plain count ran.0 in
+    sound_fits new.now.trees (subst (λ s. IsSound s new.now.trees) after.schema w.sound)
+rules_after text values does is plain runs books params same old new (Err e) has a = tt
 
 -- the content is turned, the rest is left
 pub makes_turned : (change : Content → Content) (old new : State)

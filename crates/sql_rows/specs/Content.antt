@@ -122,6 +122,10 @@ with_answer kind name number k r = record r {
 abbrev pub with_charge : ChargeRow → Rows → Rows
 with_charge x r = record r { charges = λ n. if nat_eq x.number n then Some x else r.charges n }
 
+-- whether an account has a charge of a number
+abbrev pub has_charge : AccountName → ChargeNumber → Content → Bool
+has_charge a n c = is_some ((c.rows a).charges n)
+
 -- the book of a reservation
 abbrev pub with_grant_book : SessionName → GroupId → BookNumber → Rows → Rows
 with_grant_book s g n r = record r {

@@ -22,8 +22,9 @@ use Rattle.reserving.specs.Rows.{AreApart}
 use Rattle.sql_tables.specs.Keyed.{same_name}
 use Rattle.sql_tables.specs.Selects.{only}
 use Rattle.sql_rows.specs.Values.{CoveredRow, DatedBook, Group, book_values, flag_number}
-use Rattle.sql_rows.specs.Values.{group_cells, nat}
+use Rattle.sql_rows.specs.Values.{counter_cells, group_cells, head_cells, nat}
 use Rattle.sql_rows.specs.Content.{Content, Rows}
+use Rattle.sql_rows.specs.declared.head.Head.{Head as HeadColumns}
 
 abbrev pub is_live : Bucket → Bool
 is_live b = nat_lt 0 b.available || nat_lt 0 b.reserved
@@ -66,14 +67,6 @@ pub record AreAccounts (content : Content) (xs : List AccountName) : Type 0 wher
 abbrev pub AreBuckets : (Bucket → Bool) → Rows → List Bucket → Type 0
 AreBuckets test rows bs = (n : BucketNumber) →
     find (λ b. nat_eq b.number n) bs ≡ only test (rows.buckets n)
-
--- one list of two: under a number that one of them hasn't it has what the other has
-abbrev pub AreJoined : {X : Type 0} → (X → ℕ) → List X → List X → List X → Type 0
-AreJoined number xs ys zs = (n : ℕ) →
-    (find (λ x. nat_eq (number x) n) xs ≡ None →
-    find (λ x. nat_eq (number x) n) zs ≡ find (λ x. nat_eq (number x) n) ys)
-    × (find (λ x. nat_eq (number x) n) ys ≡ None →
-    find (λ x. nat_eq (number x) n) zs ≡ find (λ x. nat_eq (number x) n) xs)
 
 -- the sessions that pass the test
 abbrev pub AreSessions : (Session → Bool) → Rows → List Session → Type 0
@@ -202,6 +195,10 @@ pub record GrantBookAt : Type 0 where
 abbrev pub grant_book_cells : GrantBookAt → Values
 grant_book_cells x = nat x.group ∷ nat x.book ∷ []
 
+-- by the rating group
+abbrev pub grant_book_before : GrantBookAt → GrantBookAt → Bool
+grant_book_before x y = nat_lt x.group y.group
+
 -- those of all reservations of the session
 abbrev pub AreGrantBooks : Rows → SessionName → List GrantBookAt → Type 0
 AreGrantBooks rows s xs = (g : GroupId) →
@@ -252,6 +249,14 @@ AreCovered after last rows xs = (n : ChargeNumber) →
     option_map (λ (x : CoveredRow). x.blocks) (find (λ x. nat_eq x.number n) xs)
     ≡ (if nat_lt after n && nat_le n last then rows.covered n else None)
 
+-- covered blocks stand beside a charge
+abbrev pub AreCoveredBeside : Rows → Type 0
+AreCoveredBeside r = (n : ChargeNumber) → r.charges n ≡ None → r.covered n ≡ None
+
+-- by the charge's number
+abbrev pub covered_before : CoveredRow → CoveredRow → Bool
+covered_before x y = nat_lt x.number y.number
+
 -- whether a charge lies beyond a number, and up to another
 abbrev pub is_within : ChargeNumber → ChargeNumber → ChargeRow → Bool
 is_within after last x = nat_lt after x.number && nat_le x.number last
@@ -272,3 +277,11 @@ abbrev pub AreCountersIn : CycleNumber → Rows → List Counter → Type 0
 AreCountersIn cycle rows xs = (g : GroupId) (c : CycleNumber) →
     find (λ x. nat_eq x.group g && nat_eq x.cycle c) xs
     ≡ (if nat_eq c cycle then rows.counters g c else None)
+
+-- the columns of an account's own row, and of its counters' rows behind it, as one selection gives
+-- them
+abbrev pub head_part : HeadColumns → Values
+head_part h = nat 0 ∷ head_cells h
+
+abbrev pub counter_part : Counter → Values
+counter_part k = nat 1 ∷ (counter_cells k ++ nat 0 ∷ [])

@@ -1,10 +1,10 @@
 -- What a statement does to a connection, told by the content of the tables.
 -- Source: profile.
-use Rattle.std.specs.Prelude.{◌≡◌, true, IsTrue}
+use Rattle.std.specs.Prelude.{◌≡◌, Bool, true, not, IsTrue, Result, IfOk, if◌then◌else◌}
 use Rattle.sqlite_trees.specs.Objects.{catalog_tree}
 use Rattle.sqlite_trees.specs.Tree.{Trees}
-use Rattle.sqlite.specs.State.{State, Shows}
-use Rattle.sql_tables.specs.Statements.{AreStored, IsBook, IsIdle}
+use Rattle.sqlite.specs.State.{State, HasCleanDisk, Shows}
+use Rattle.sql_tables.specs.Statements.{AreStored, Attempts, IsBook, IsIdle}
 use Rattle.sql_rows.specs.Content.{Content, content_of}
 use Rattle.sql_rows.specs.Plain.{ArePlain}
 
@@ -27,6 +27,13 @@ pub record Makes (change : Content → Content) (old new : State) : Type 0 where
 pub record MakesIfOpen (change : Content → Content) (old new : State) : Type 0 where
   pub was_open : IsTrue new.is_open → IsTrue old.is_open
   pub made : IsTrue old.is_open → Makes change old new
+
+-- the change is made where nothing stood in its place, and it is told whether anything did
+pub record AddsIfNone {E : Type 0} (stands : Content → Bool) (change : Content → Content)
+    (old new : State) (result : Result Bool E) : Type 0 where
+  pub makes : Attempts (Makes (λ c. if stands c then c else change c)) old new result
+  pub told : HasCleanDisk new
+      → IfOk result (λ added. added ≡ not (stands (content_of old.now.trees)))
 
 -- the change is committed
 pub record Commits (change : Content → Content) (old new : State) : Type 0 where

@@ -25,7 +25,7 @@ use Rattle.sql_rows.specs.declared.reserved_rows.ReservedColumns.{ReservedColumn
 use Rattle.sql_rows.specs.declared.session_book_rows.SessionBook.{SessionBook}
 use Rattle.sql_rows.specs.declared.session_hold_rows.SessionHold.{SessionHold}
 use Rattle.sql_rows.specs.declared.voucher_rows.VoucherColumns.{VoucherColumns}
-use Rattle.sql_tables.specs.Statements.{Reads}
+use Rattle.sql_tables.specs.Statements.{Reads, ReadsWithin}
 use Rattle.sql_rows.specs.Content.{rows_in}
 use Rattle.sql_rows.specs.Lists.{AreBuckets, BookAt, GrantBookAt, GroupAt, HoldAt, OpenGroupAt}
 use Rattle.sql_rows.specs.Lists.{ReservedAt, SessionBookAt, SessionHoldAt}
@@ -42,6 +42,12 @@ abbrev pub ReadsBuckets : {E : Type 0} → (Bucket → Bool) → AccountName →
     Result (Vec BucketColumns Global) E → Type 0
 ReadsBuckets test account =
     Reads (λ trees bs. AreBuckets test (rows_in trees account) (map bucket_row bs.items))
+
+-- the same within a transaction
+abbrev pub ReadsBucketsWithin : {E : Type 0} → (Bucket → Bool) → AccountName → State → State →
+    Result (Vec BucketColumns Global) E → Type 0
+ReadsBucketsWithin test account =
+    ReadsWithin (λ trees bs. AreBuckets test (rows_in trees account) (map bucket_row bs.items))
 
 abbrev pub voucher_of : VoucherColumns → Voucher
 voucher_of v = record { amount = v.amount; days = v.days; scope = v.scope; account = v.account }

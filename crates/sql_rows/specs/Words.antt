@@ -8,3 +8,7 @@ KeyKind = ℕ
 -- the name of a session, or a reference, byte by byte
 abbrev pub KeyName : Type 0
 KeyName = List ℕ
+
+-- the number of a request (CC-Request-Number); 0 with a reference
+abbrev pub KeyNumber : Type 0
+KeyNumber = ℕ

@@ -1,11 +1,12 @@
 //! Rows of accounts.
 
-ghost use Rattle.std.specs.Prelude.{◌≡◌, map, IfOk};
+ghost use Rattle.std.specs.Prelude.{◌≡◌, map, IfOk, OnOk};
 ghost use Rattle.sql_rows.specs.Content.{content_of, rows_in, with_account};
 ghost use Rattle.sql_rows.specs.Values.{head_cells, head_key};
 ghost use Rattle.sql_rows.specs.Lists.{AreAccounts, Ascends, name_before};
 ghost use Rattle.sql_rows.specs.Makes.{Makes};
-ghost use Rattle.sql_tables.specs.Statements.{Attempts, HasBook, HasIdleBook, Reads};
+ghost use Rattle.sql_tables.specs.Statements.{Attempts, HasBook, HasIdleBook, HasRules, Reads};
+ghost use Rattle.sql_tables.specs.Statements.{ReadsWithin};
 ghost use Rattle.sql_tables.specs.Selects.{one_or_none};
 ghost use Rattle.sqlite.specs.Held.{state};
 
@@ -14,7 +15,7 @@ use crate::decoding::{account_at, flag_at, moment_at};
 use crate::head::Head;
 use identifiers::AccountNumber;
 use sql_tables::{
-    ReadFault, checked, flag, has_columns, large, number_at, one_of, read, text, write,
+    ReadFault, checked, flag, has_columns, large, number_at, one_of, read, read_within, text, write,
 };
 use sqlite::{Alter, Connection, Error, Row, Transaction};
 use std::alloc::Global;
@@ -33,6 +34,8 @@ pub fn put_account<S: Alter>(
     ensures same_reference { tx.new.conn.ghost_name ≡ tx.old.conn.ghost_name }
     ensures makes { Attempts (Makes (with_account account.now head.now))
         (state S.Store tx.old.conn.now) (state S.Store tx.new.conn.now) result }
+    // The rows of the tables obey their rules then.
+    ensures rules { OnOk result (HasRules (state S.Store tx.new.conn.now)) }
 {
     let number = text(account.as_str());
     let barred = flag(head.barred);
@@ -67,6 +70,30 @@ pub fn read_account<S: Alter>(
         conn,
         "SELECT barred, as_of, next_bucket, next_charge FROM accounts \
          WHERE account = ?1",
+        &[of_account],
+    )?;
+    head_among(&rows)
+}
+
+/// What is kept of an account once, within a transaction: none where it is not opened.
+///
+/// # Errors
+/// As of `read_account`. Then nothing is committed.
+pub fn read_account_within<S: Alter>(
+    tx: &mut Transaction<'_, S>,
+    account: &AccountNumber,
+) -> Result<Option<Head>, ReadFault>
+    requires book { HasBook (state S.Store tx.old.conn.now) }
+    requires rules { HasRules (state S.Store tx.old.conn.now) }
+    ensures same_reference { tx.new.conn.ghost_name ≡ tx.old.conn.ghost_name }
+    ensures reads { ReadsWithin (λ trees o. o ≡ (rows_in trees account.now).head)
+        (state S.Store tx.old.conn.now) (state S.Store tx.new.conn.now) result }
+{
+    let of_account = text(account.as_str());
+    let rows = read_within(
+        tx,
+        "SELECT barred, as_of, next_bucket, next_charge \
+         FROM accounts WHERE account = ?1",
         &[of_account],
     )?;
     head_among(&rows)

@@ -1,16 +1,18 @@
 //! Rows that say which buckets count blocks.
 
-ghost use Rattle.std.specs.Prelude.{◌≡◌, ℕ, Option, map, is_some, IfOk};
+ghost use Rattle.std.specs.Prelude.{◌≡◌, ℕ, Option, map, nat_lt, is_some, IfOk};
 ghost use Rattle.sql_rows.specs.Content.{rows_in, with_allowance, with_rows, without_allowance};
-ghost use Rattle.sql_rows.specs.Lists.{AreAllowances};
+ghost use Rattle.sql_rows.specs.Lists.{AreAllowances, Ascends};
 ghost use Rattle.sql_rows.specs.Values.{number_cells};
 ghost use Rattle.sql_rows.specs.Makes.{Makes};
-ghost use Rattle.sql_tables.specs.Statements.{Attempts, HasBook, HasIdleBook, Reads};
+ghost use Rattle.sql_tables.specs.Statements.{Attempts, HasBook, HasIdleBook, HasRules, Reads};
+ghost use Rattle.sql_tables.specs.Statements.{ReadsWithin, AttemptsOver};
 ghost use Rattle.sql_tables.specs.Selects.{one_or_none};
 ghost use Rattle.sqlite.specs.Held.{state};
 
+use crate::ascending::{InOrder, do_ascend};
 use identifiers::AccountNumber;
-use sql_tables::{ReadFault, has_columns, one_of, read, small_at, text, whole, write};
+use sql_tables::{ReadFault, has_columns, one_of, read, read_within, small_at, text, whole, write};
 use sqlite::{Alter, Connection, Error, Row, Transaction};
 use std::alloc::Global;
 
@@ -24,9 +26,8 @@ pub fn put_allowance<S: Alter>(
     bucket: u32,
 ) -> Result<usize, Error>
     requires book { HasBook (state S.Store tx.old.conn.now) }
-    ensures same_reference { tx.new.conn.ghost_name ≡ tx.old.conn.ghost_name }
-    ensures makes { Attempts (Makes (with_rows account.now (with_allowance bucket)))
-        (state S.Store tx.old.conn.now) (state S.Store tx.new.conn.now) result }
+    ensures { AttemptsOver S.Store (Makes (with_rows account.now (with_allowance bucket)))
+        tx.old.conn tx.new.conn result }
 {
     let of_account = text(account.as_str());
     let number = whole(bucket);
@@ -49,9 +50,8 @@ pub fn remove_allowance<S: Alter>(
     bucket: u32,
 ) -> Result<usize, Error>
     requires book { HasBook (state S.Store tx.old.conn.now) }
-    ensures same_reference { tx.new.conn.ghost_name ≡ tx.old.conn.ghost_name }
-    ensures makes { Attempts (Makes (with_rows account.now (without_allowance bucket)))
-        (state S.Store tx.old.conn.now) (state S.Store tx.new.conn.now) result }
+    ensures { AttemptsOver S.Store (Makes (with_rows account.now (without_allowance bucket)))
+        tx.old.conn tx.new.conn result }
 {
     let of_account = text(account.as_str());
     let number = whole(bucket);
@@ -86,6 +86,32 @@ pub fn read_allowance<S: Alter>(
     allowance_among(&rows)
 }
 
+/// Whether a bucket of an account counts blocks, within a transaction.
+///
+/// # Errors
+/// As of `read_allowance`. Then nothing is committed.
+pub fn read_allowance_within<S: Alter>(
+    tx: &mut Transaction<'_, S>,
+    account: &AccountNumber,
+    bucket: u32,
+) -> Result<bool, ReadFault>
+    requires book { HasBook (state S.Store tx.old.conn.now) }
+    requires rules { HasRules (state S.Store tx.old.conn.now) }
+    ensures same_reference { tx.new.conn.ghost_name ≡ tx.old.conn.ghost_name }
+    ensures reads { ReadsWithin (λ trees is. is ≡ (rows_in trees account.now).allowances bucket)
+        (state S.Store tx.old.conn.now) (state S.Store tx.new.conn.now) result }
+{
+    let of_account = text(account.as_str());
+    let number = whole(bucket);
+    let rows = read_within(
+        tx,
+        "SELECT number FROM allowance_buckets \
+         WHERE account = ?1 AND number = ?2",
+        &[of_account, number],
+    )?;
+    allowance_among(&rows)
+}
+
 /// Whether there is a row, which tells a number.
 fn allowance_among(rows: &[Row]) -> Result<bool, ReadFault>
     ensures { IfOk result (λ is.
@@ -105,11 +131,19 @@ fn number_among(rows: &[Row]) -> Result<Option<u32>, ReadFault>
     }
 }
 
-/// The numbers of an account's buckets that count blocks.
+impl InOrder for u32 {
+    ghost before = { nat_lt };
+
+    fn is_before(&self, other: &u32) -> bool {
+        *self < *other
+    }
+}
+
+/// The numbers of an account's buckets that count blocks, in order, each once.
 ///
 /// # Errors
-/// `Store` where the store failed, `Rules` where a row is out of its rules, `Memory` where a growth
-/// was refused. Nothing is changed then either.
+/// `Store` where the store failed, `Rules` where a row is out of its rules or the numbers don't
+/// rise, `Memory` where a growth was refused. Nothing is changed then either.
 pub fn read_allowances<S: Alter>(
     conn: &mut Connection<S>,
     alloc: Global,
@@ -118,6 +152,7 @@ pub fn read_allowances<S: Alter>(
     requires idle { HasIdleBook (state S.Store conn.old) }
     ensures reads { Reads (λ trees xs. AreAllowances (rows_in trees account.now) xs.items)
         (state S.Store conn.old) (state S.Store conn.new) result }
+    ensures order { IfOk result (λ xs. Ascends nat_lt xs.items) }
 {
     let rows = read(
         conn,
@@ -128,12 +163,16 @@ pub fn read_allowances<S: Alter>(
 }
 
 fn numbers_from(alloc: Global, rows: &[Row]) -> Result<Vec<u32>, ReadFault>
-    ensures { IfOk result (λ xs. map number_cells xs.items ≡ rows.now) }
+    ensures cells { IfOk result (λ xs. map number_cells xs.items ≡ rows.now) }
+    ensures order { IfOk result (λ xs. Ascends nat_lt xs.items) }
 {
     let mut numbers = Vec::new(alloc);
     'rows: for row in rows {
         let number = number_from(row)?;
         numbers.push(number)?;
+    }
+    if !do_ascend(&numbers) {
+        return Err(ReadFault::Rules);
     }
     Ok(numbers)
 }

@@ -5,7 +5,7 @@ ghost use Rattle.sql_rows.specs.Content.{rows_in, with_answer, with_rows};
 ghost use Rattle.sql_rows.specs.Values.{answer_cells};
 ghost use Rattle.sql_rows.specs.Texts.{kept_of};
 ghost use Rattle.sql_rows.specs.Makes.{Makes};
-ghost use Rattle.sql_tables.specs.Statements.{Attempts, HasBook, HasIdleBook, Reads};
+ghost use Rattle.sql_tables.specs.Statements.{HasBook, HasIdleBook, Reads, AttemptsOver};
 ghost use Rattle.sql_tables.specs.Selects.{one_or_none};
 ghost use Rattle.sqlite.specs.Held.{state};
 
@@ -14,7 +14,7 @@ use sql_tables::{ReadFault, has_columns, one_of, read, text, text_at, whole, wri
 use sqlite::{Alter, Connection, Error, Row, Transaction};
 
 /// The texts that are kept of an accepted command.
-#[derive(Debug, Drop)]
+#[derive(Drop)]
 pub struct Kept {
     /// The command.
     pub content: String,
@@ -38,10 +38,8 @@ pub fn put_answer<S: Alter>(
     answer: &str,
 ) -> Result<usize, Error>
     requires book { HasBook (state S.Store tx.old.conn.now) }
-    ensures same_reference { tx.new.conn.ghost_name ≡ tx.old.conn.ghost_name }
-    ensures makes { Attempts (Makes (with_rows account.now (with_answer kind name.now number
-        (record { content = content.now; answer = answer.now }))))
-        (state S.Store tx.old.conn.now) (state S.Store tx.new.conn.now) result }
+    ensures { AttemptsOver S.Store (Makes (with_rows account.now (with_answer kind name.now number
+        (record { content = content.now; answer = answer.now })))) tx.old.conn tx.new.conn result }
 {
     let of_account = text(account.as_str());
     let of_kind = whole(kind);

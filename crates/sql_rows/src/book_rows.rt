@@ -7,7 +7,8 @@ ghost use Rattle.sql_rows.specs.Lists.{AreBooks, BookAt, book_at_cells};
 ghost use Rattle.sql_rows.specs.Ruled.{AreRuledBooks, IsRuledBook};
 ghost use Rattle.sql_rows.specs.Texts.{book_at};
 ghost use Rattle.sql_rows.specs.Makes.{Makes};
-ghost use Rattle.sql_tables.specs.Statements.{Attempts, HasBook, HasIdleBook, HasRules, Reads};
+ghost use Rattle.sql_tables.specs.Statements.{HasBook, HasIdleBook, HasRules, Reads};
+ghost use Rattle.sql_tables.specs.Statements.{AttemptsOver};
 ghost use Rattle.sql_tables.specs.Statements.{ReadsWithin};
 ghost use Rattle.sqlite.specs.Held.{state};
 ghost use Rattle.sqlite.specs.State.{HasCleanDisk};
@@ -21,7 +22,6 @@ use std::alloc::Global;
 use units::Moment;
 
 /// A tariff book after the first, as it stands: no rule of its text is tested yet.
-#[derive(Debug, Drop)]
 pub struct BookColumns {
     /// Its number on the shelf.
     pub number: u32,
@@ -29,6 +29,17 @@ pub struct BookColumns {
     pub starts: Moment,
     /// Its text.
     pub content: String,
+}
+
+// It is written out, so that a caller doesn't prove again how each part is dropped.
+impl Drop for BookColumns {
+    fn drop(self) {
+        let BookColumns {
+            number: _,
+            starts: _,
+            content: _,
+        } = self;
+    }
 }
 
 /// Puts a tariff book after the first: the first moment at which it holds, and its text.
@@ -42,10 +53,9 @@ pub fn put_book<S: Alter>(
     content: &str,
 ) -> Result<usize, Error>
     requires book { HasBook (state S.Store tx.old.conn.now) }
-    ensures same_reference { tx.new.conn.ghost_name ≡ tx.old.conn.ghost_name }
-    ensures makes { Attempts
+    ensures { AttemptsOver S.Store
         (Makes (with_book number (record { starts = starts; content = content.now })))
-        (state S.Store tx.old.conn.now) (state S.Store tx.new.conn.now) result }
+        tx.old.conn tx.new.conn result }
 {
     let of_number = whole(number);
     let moment = large(starts.seconds());

@@ -7,7 +7,8 @@ ghost use Rattle.sql_rows.specs.Lists.{BucketsRise, Rises, is_dead};
 ghost use Rattle.sql_rows.specs.Texts.{ReadsBuckets, bucket_row};
 ghost use Rattle.sql_rows.specs.Each.{with_buckets};
 ghost use Rattle.sql_rows.specs.Makes.{Makes, MakesIfOpen};
-ghost use Rattle.sql_tables.specs.Statements.{Attempts, HasBook, HasIdleBook, IsInside};
+ghost use Rattle.sql_tables.specs.Statements.{HasBook, HasIdleBook, IsInside};
+ghost use Rattle.sql_tables.specs.Statements.{AttemptsOver};
 ghost use Rattle.sqlite.specs.Held.{state};
 
 use crate::decoding::moment_at;
@@ -31,9 +32,9 @@ pub fn put_bucket<S: Alter>(
     bucket: &Bucket,
 ) -> Result<usize, Error>
     requires book { HasBook (state S.Store tx.old.conn.now) }
-    ensures same_reference { tx.new.conn.ghost_name ≡ tx.old.conn.ghost_name }
-    ensures makes { Attempts (Makes (with_rows account.now (with_bucket (plain_bucket bucket.now))))
-        (state S.Store tx.old.conn.now) (state S.Store tx.new.conn.now) result }
+    ensures { AttemptsOver S.Store
+        (Makes (with_rows account.now (with_bucket (plain_bucket bucket.now))))
+        tx.old.conn tx.new.conn result }
 {
     let of_account = text(account.as_str());
     let number = whole(bucket.number());
@@ -60,12 +61,12 @@ pub fn put_bucket<S: Alter>(
     )
 }
 
-/// All buckets, as their columns stand: no rule of theirs is tested yet, and each is told as one of
-/// money.
+/// All buckets, in the order of their numbers, each once, as their columns stand: no other rule of
+/// theirs is tested yet, and each is told as one of money.
 ///
 /// # Errors
-/// `Store` where the store failed, `Rules` where a row is out of its rules, `Memory` where a growth
-/// was refused. Nothing is changed then either.
+/// `Store` where the store failed, `Rules` where a row is out of its rules or the numbers don't
+/// rise, `Memory` where a growth was refused. Nothing is changed then either.
 pub fn read_buckets_all<S: Alter>(
     conn: &mut Connection<S>,
     alloc: Global,
@@ -74,6 +75,7 @@ pub fn read_buckets_all<S: Alter>(
     requires idle { HasIdleBook (state S.Store conn.old) }
     ensures reads { ReadsBuckets (λ b. true) account.now
         (state S.Store conn.old) (state S.Store conn.new) result }
+    ensures order { IfOk result (λ bs. BucketsRise (map bucket_row bs.items)) }
 {
     let rows = read(
         conn,
@@ -81,7 +83,19 @@ pub fn read_buckets_all<S: Alter>(
          FROM buckets WHERE account = ?1 ORDER BY number",
         &[text(account.as_str())],
     )?;
-    buckets_from(alloc, &rows)
+    all_from(alloc, &rows)
+}
+
+/// The buckets of these rows, if each number is above the one before it.
+fn all_from(alloc: Global, rows: &[Row]) -> Result<Vec<BucketColumns>, ReadFault>
+    ensures cells { IfOk result (λ bs. map bucket_cells (map bucket_row bs.items) ≡ rows.now) }
+    ensures order { IfOk result (λ bs. BucketsRise (map bucket_row bs.items)) }
+{
+    let buckets = buckets_from(alloc, rows)?;
+    if !do_buckets_rise(&buckets) {
+        return Err(ReadFault::Rules);
+    }
+    Ok(buckets)
 }
 
 /// The buckets of which nothing is available and nothing reserved, in the order of their numbers,
@@ -190,9 +204,8 @@ pub fn put_buckets<S: Alter>(
 ) -> Result<(), Error>
     requires open { IsInside (state S.Store tx.old.conn.now) }
     requires book { HasBook (state S.Store tx.old.conn.now) }
-    ensures same_reference { tx.new.conn.ghost_name ≡ tx.old.conn.ghost_name }
-    ensures makes { Attempts (MakesIfOpen (with_buckets account.now rows.now))
-        (state S.Store tx.old.conn.now) (state S.Store tx.new.conn.now) result }
+    ensures { AttemptsOver S.Store (MakesIfOpen (with_buckets account.now rows.now))
+        tx.old.conn tx.new.conn result }
 {
     'rows: for row in rows {
         put_bucket(tx, account, row)?;

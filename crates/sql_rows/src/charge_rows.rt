@@ -1,12 +1,13 @@
 //! Rows of charges.
 
 ghost use Rattle.std.specs.Prelude.{◌≡◌, map, false, IsTrue, IfOk};
-ghost use Rattle.sql_rows.specs.Content.{rows_in, with_charge, with_rows};
+ghost use Rattle.sql_rows.specs.Content.{has_charge, rows_in, with_charge, with_rows};
 ghost use Rattle.sql_rows.specs.Values.{charge_cells, plain_charge};
 ghost use Rattle.sql_rows.specs.Lists.{AreCharges, NumbersRise, is_within};
 ghost use Rattle.sql_rows.specs.Each.{with_charges};
-ghost use Rattle.sql_rows.specs.Makes.{Makes, MakesIfOpen};
+ghost use Rattle.sql_rows.specs.Makes.{AddsIfNone, Makes, MakesIfOpen};
 ghost use Rattle.sql_tables.specs.Statements.{Attempts, HasBook, HasIdleBook, IsInside, Reads};
+ghost use Rattle.sql_tables.specs.Statements.{AttemptsOver};
 ghost use Rattle.sqlite.specs.Held.{state};
 
 use crate::decoding::{moment_at, session_at};
@@ -30,9 +31,9 @@ pub fn put_charge<S: Alter>(
     charge: &ChargeRow,
 ) -> Result<usize, Error>
     requires book { HasBook (state S.Store tx.old.conn.now) }
-    ensures same_reference { tx.new.conn.ghost_name ≡ tx.old.conn.ghost_name }
-    ensures makes { Attempts (Makes (with_rows account.now (with_charge (plain_charge charge.now))))
-        (state S.Store tx.old.conn.now) (state S.Store tx.new.conn.now) result }
+    ensures { AttemptsOver S.Store
+        (Makes (with_rows account.now (with_charge (plain_charge charge.now))))
+        tx.old.conn tx.new.conn result }
 {
     let of_account = text(account.as_str());
     let number = whole(charge.number);
@@ -63,6 +64,50 @@ pub fn put_charge<S: Alter>(
             uncollected,
         ],
     )
+}
+
+/// Adds the columns of an account's charge, if it has none of its number, and answers whether it had
+/// none; one that it has stays as it is.
+///
+/// # Errors
+/// As of `put_charge`.
+pub fn add_charge<S: Alter>(
+    tx: &mut Transaction<'_, S>,
+    account: &AccountNumber,
+    charge: &ChargeRow,
+) -> Result<bool, Error>
+    requires book { HasBook (state S.Store tx.old.conn.now) }
+    ensures same_reference { tx.new.conn.ghost_name ≡ tx.old.conn.ghost_name }
+    ensures adds { AddsIfNone (has_charge account.now charge.now.number)
+        (with_rows account.now (with_charge (plain_charge charge.now)))
+        (state S.Store tx.old.conn.now) (state S.Store tx.new.conn.now) result }
+{
+    let of_account = text(account.as_str());
+    let number = whole(charge.number);
+    let moment = large(charge.moment.seconds());
+    let session = text(charge.session.as_str());
+    let group = whole(charge.group);
+    let blocks = checked(charge.blocks.0 as u128, 6)?;
+    let rated = checked(charge.rated.0, 7)?;
+    let collected = checked(charge.collected.0, 8)?;
+    let uncollected = checked(charge.uncollected.0, 9)?;
+    let count = write(
+        tx,
+        "INSERT INTO charges VALUES (?1, ?2, ?3, ?4, ?5, ?6, ?7, ?8, ?9) \
+         ON CONFLICT (account, number) DO NOTHING",
+        &[
+            of_account,
+            number,
+            moment,
+            session,
+            group,
+            blocks,
+            rated,
+            collected,
+            uncollected,
+        ],
+    )?;
+    Ok(count == 1)
 }
 
 /// The charges of an account beyond a number and up to another, in the order of their numbers, as
@@ -166,9 +211,8 @@ pub fn put_charges<S: Alter>(
 ) -> Result<(), Error>
     requires open { IsInside (state S.Store tx.old.conn.now) }
     requires book { HasBook (state S.Store tx.old.conn.now) }
-    ensures same_reference { tx.new.conn.ghost_name ≡ tx.old.conn.ghost_name }
-    ensures makes { Attempts (MakesIfOpen (with_charges account.now rows.now))
-        (state S.Store tx.old.conn.now) (state S.Store tx.new.conn.now) result }
+    ensures { AttemptsOver S.Store (MakesIfOpen (with_charges account.now rows.now))
+        tx.old.conn tx.new.conn result }
 {
     'rows: for row in rows {
         put_charge(tx, account, row)?;

@@ -5,7 +5,8 @@ ghost use Rattle.sql_rows.specs.Content.{rows_in, with_counter, with_rows};
 ghost use Rattle.sql_rows.specs.Each.{with_counters};
 ghost use Rattle.sql_rows.specs.Values.{counter_cells};
 ghost use Rattle.sql_rows.specs.Makes.{Makes, MakesIfOpen};
-ghost use Rattle.sql_tables.specs.Statements.{Attempts, HasBook, HasIdleBook, IsInside, Reads};
+ghost use Rattle.sql_tables.specs.Statements.{HasBook, HasIdleBook, IsInside, Reads};
+ghost use Rattle.sql_tables.specs.Statements.{AttemptsOver};
 ghost use Rattle.sql_tables.specs.Selects.{one_or_none};
 ghost use Rattle.sqlite.specs.Held.{state};
 
@@ -27,9 +28,8 @@ pub fn put_counter<S: Alter>(
     counter: &Counter,
 ) -> Result<usize, Error>
     requires book { HasBook (state S.Store tx.old.conn.now) }
-    ensures same_reference { tx.new.conn.ghost_name ≡ tx.old.conn.ghost_name }
-    ensures makes { Attempts (Makes (with_rows account.now (with_counter counter.now)))
-        (state S.Store tx.old.conn.now) (state S.Store tx.new.conn.now) result }
+    ensures { AttemptsOver S.Store (Makes (with_rows account.now (with_counter counter.now)))
+        tx.old.conn tx.new.conn result }
 {
     let of_account = text(account.as_str());
     let group = whole(counter.group);
@@ -107,9 +107,8 @@ pub fn put_counters<S: Alter>(
 ) -> Result<(), Error>
     requires open { IsInside (state S.Store tx.old.conn.now) }
     requires book { HasBook (state S.Store tx.old.conn.now) }
-    ensures same_reference { tx.new.conn.ghost_name ≡ tx.old.conn.ghost_name }
-    ensures makes { Attempts (MakesIfOpen (with_counters account.now rows.now))
-        (state S.Store tx.old.conn.now) (state S.Store tx.new.conn.now) result }
+    ensures { AttemptsOver S.Store (MakesIfOpen (with_counters account.now rows.now))
+        tx.old.conn tx.new.conn result }
 {
     'rows: for row in rows {
         put_counter(tx, account, row)?;

@@ -2,13 +2,14 @@
 
 ghost use Rattle.std.specs.Prelude.{◌≡◌, map, IfOk};
 ghost use Rattle.sql_rows.specs.Content.{rows_in, with_covered, with_rows, without_covered};
-ghost use Rattle.sql_rows.specs.Lists.{AreCovered};
+ghost use Rattle.sql_rows.specs.Lists.{AreCovered, Ascends, covered_before};
 ghost use Rattle.sql_rows.specs.Texts.{covered_row};
 ghost use Rattle.sql_rows.specs.Values.{covered_cells};
 ghost use Rattle.sql_rows.specs.Makes.{Makes};
-ghost use Rattle.sql_tables.specs.Statements.{Attempts, HasBook, HasIdleBook, Reads};
+ghost use Rattle.sql_tables.specs.Statements.{HasBook, HasIdleBook, Reads, AttemptsOver};
 ghost use Rattle.sqlite.specs.Held.{state};
 
+use crate::ascending::{InOrder, do_ascend};
 use identifiers::AccountNumber;
 use sql_tables::{ReadFault, checked, has_columns, number_at, read, small_at, text, whole, write};
 use sqlite::{Alter, Connection, Error, Row, Transaction};
@@ -16,7 +17,7 @@ use std::alloc::Global;
 use units::Blocks;
 
 /// The blocks of a charge that allowances paid.
-#[derive(Clone, Copy, Debug, PartialEq, Eq)]
+#[derive(Clone, Copy)]
 pub struct CoveredColumns {
     /// The charge's number within the account.
     pub number: u32,
@@ -36,10 +37,9 @@ pub fn put_covered<S: Alter>(
     covered: Blocks,
 ) -> Result<usize, Error>
     requires book { HasBook (state S.Store tx.old.conn.now) }
-    ensures same_reference { tx.new.conn.ghost_name ≡ tx.old.conn.ghost_name }
-    ensures makes { Attempts (Makes (with_rows account.now
-        (with_covered (record { number = charge; blocks = covered.0 }))))
-        (state S.Store tx.old.conn.now) (state S.Store tx.new.conn.now) result }
+    ensures { AttemptsOver S.Store (Makes (with_rows account.now
+        (with_covered (record { number = charge; blocks = covered.0 })))) tx.old.conn tx.new.conn
+        result }
 {
     let of_account = text(account.as_str());
     let number = whole(charge);
@@ -63,9 +63,8 @@ pub fn remove_covered<S: Alter>(
     charge: u32,
 ) -> Result<usize, Error>
     requires book { HasBook (state S.Store tx.old.conn.now) }
-    ensures same_reference { tx.new.conn.ghost_name ≡ tx.old.conn.ghost_name }
-    ensures makes { Attempts (Makes (with_rows account.now (without_covered charge)))
-        (state S.Store tx.old.conn.now) (state S.Store tx.new.conn.now) result }
+    ensures { AttemptsOver S.Store (Makes (with_rows account.now (without_covered charge)))
+        tx.old.conn tx.new.conn result }
 {
     let of_account = text(account.as_str());
     let number = whole(charge);
@@ -76,11 +75,20 @@ pub fn remove_covered<S: Alter>(
     )
 }
 
-/// The covered blocks of an account's charges beyond a number and up to another.
+impl InOrder for CoveredColumns {
+    ghost before = { λ x y. covered_before (covered_row x) (covered_row y) };
+
+    fn is_before(&self, other: &CoveredColumns) -> bool {
+        self.number < other.number
+    }
+}
+
+/// The covered blocks of an account's charges beyond a number and up to another, in the order of
+/// their numbers, each once.
 ///
 /// # Errors
-/// `Store` where the store failed, `Rules` where a row is out of its rules, `Memory` where a growth
-/// was refused. Nothing is changed then either.
+/// `Store` where the store failed, `Rules` where a row is out of its rules or the numbers don't
+/// rise, `Memory` where a growth was refused. Nothing is changed then either.
 pub fn read_covered_within<S: Alter>(
     conn: &mut Connection<S>,
     alloc: Global,
@@ -92,6 +100,7 @@ pub fn read_covered_within<S: Alter>(
     ensures reads { Reads (λ trees xs.
         AreCovered after last (rows_in trees account.now) (map covered_row xs.items))
         (state S.Store conn.old) (state S.Store conn.new) result }
+    ensures order { IfOk result (λ xs. Ascends covered_before (map covered_row xs.items)) }
 {
     let of_account = text(account.as_str());
     let beyond = whole(after);
@@ -106,12 +115,16 @@ pub fn read_covered_within<S: Alter>(
 }
 
 fn covered_rows_from(alloc: Global, rows: &[Row]) -> Result<Vec<CoveredColumns>, ReadFault>
-    ensures { IfOk result (λ xs. map covered_cells (map covered_row xs.items) ≡ rows.now) }
+    ensures cells { IfOk result (λ xs. map covered_cells (map covered_row xs.items) ≡ rows.now) }
+    ensures order { IfOk result (λ xs. Ascends covered_before (map covered_row xs.items)) }
 {
     let mut covered = Vec::new(alloc);
     'rows: for row in rows {
         let one = covered_from(row)?;
         covered.push(one)?;
+    }
+    if !do_ascend(&covered) {
+        return Err(ReadFault::Rules);
     }
     Ok(covered)
 }

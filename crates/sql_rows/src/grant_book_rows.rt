@@ -2,19 +2,21 @@
 
 ghost use Rattle.std.specs.Prelude.{◌≡◌, map, IfOk};
 ghost use Rattle.sql_rows.specs.Content.{rows_in, with_grant_book, with_rows, without_grant_book};
-ghost use Rattle.sql_rows.specs.Lists.{AreGrantBooks, grant_book_cells};
+ghost use Rattle.sql_rows.specs.Lists.{AreGrantBooks, Ascends, grant_book_before};
+ghost use Rattle.sql_rows.specs.Lists.{grant_book_cells};
 ghost use Rattle.sql_rows.specs.Texts.{grant_book_at};
 ghost use Rattle.sql_rows.specs.Makes.{Makes};
-ghost use Rattle.sql_tables.specs.Statements.{Attempts, HasBook, HasIdleBook, Reads};
+ghost use Rattle.sql_tables.specs.Statements.{HasBook, HasIdleBook, Reads, AttemptsOver};
 ghost use Rattle.sqlite.specs.Held.{state};
 
+use crate::ascending::{InOrder, do_ascend};
 use identifiers::{AccountNumber, SessionId};
 use sql_tables::{ReadFault, has_columns, read, small_at, text, whole, write};
 use sqlite::{Alter, Connection, Error, Row, Transaction};
 use std::alloc::Global;
 
 /// The book that a reservation goes by.
-#[derive(Clone, Copy, Debug, PartialEq, Eq)]
+#[derive(Clone, Copy)]
 pub struct GrantBook {
     /// Rating-Group (RFC 8506 section 8.29).
     pub group: u32,
@@ -34,10 +36,9 @@ pub fn put_grant_book<S: Alter>(
     book: u32,
 ) -> Result<usize, Error>
     requires book { HasBook (state S.Store tx.old.conn.now) }
-    ensures same_reference { tx.new.conn.ghost_name ≡ tx.old.conn.ghost_name }
-    ensures makes { Attempts
+    ensures { AttemptsOver S.Store
         (Makes (with_rows account.now (with_grant_book session.now group book)))
-        (state S.Store tx.old.conn.now) (state S.Store tx.new.conn.now) result }
+        tx.old.conn tx.new.conn result }
 {
     let of_account = text(account.as_str());
     let of_session = text(session.as_str());
@@ -64,10 +65,9 @@ pub fn remove_grant_book<S: Alter>(
     group: u32,
 ) -> Result<usize, Error>
     requires book { HasBook (state S.Store tx.old.conn.now) }
-    ensures same_reference { tx.new.conn.ghost_name ≡ tx.old.conn.ghost_name }
-    ensures makes { Attempts
+    ensures { AttemptsOver S.Store
         (Makes (with_rows account.now (without_grant_book session.now group)))
-        (state S.Store tx.old.conn.now) (state S.Store tx.new.conn.now) result }
+        tx.old.conn tx.new.conn result }
 {
     let of_account = text(account.as_str());
     let of_session = text(session.as_str());
@@ -79,11 +79,19 @@ pub fn remove_grant_book<S: Alter>(
     )
 }
 
-/// The books of a session's reservations, by rating group.
+impl InOrder for GrantBook {
+    ghost before = { λ x y. grant_book_before (grant_book_at x) (grant_book_at y) };
+
+    fn is_before(&self, other: &GrantBook) -> bool {
+        self.group < other.group
+    }
+}
+
+/// The books of a session's reservations, in the order of their rating groups, each once.
 ///
 /// # Errors
-/// `Store` where the store failed, `Rules` where a row is out of its rules, `Memory` where a growth
-/// was refused. Nothing is changed then either.
+/// `Store` where the store failed, `Rules` where a row is out of its rules or the groups don't rise,
+/// `Memory` where a growth was refused. Nothing is changed then either.
 pub fn read_grant_books<S: Alter>(
     conn: &mut Connection<S>,
     alloc: Global,
@@ -94,22 +102,29 @@ pub fn read_grant_books<S: Alter>(
     ensures reads { Reads (λ trees xs.
         AreGrantBooks (rows_in trees account.now) session.now (map grant_book_at xs.items))
         (state S.Store conn.old) (state S.Store conn.new) result }
+    ensures order { IfOk result (λ xs. Ascends grant_book_before (map grant_book_at xs.items)) }
 {
     let rows = read(
         conn,
-        "SELECT rating_group, book FROM grant_books WHERE account = ?1 AND session = ?2",
+        "SELECT rating_group, book FROM grant_books WHERE account = ?1 AND session = ?2 \
+         ORDER BY rating_group",
         &[text(account.as_str()), text(session.as_str())],
     )?;
     grant_books_from(alloc, &rows)
 }
 
 fn grant_books_from(alloc: Global, rows: &[Row]) -> Result<Vec<GrantBook>, ReadFault>
-    ensures { IfOk result (λ xs. map grant_book_cells (map grant_book_at xs.items) ≡ rows.now) }
+    ensures cells { IfOk result
+        (λ xs. map grant_book_cells (map grant_book_at xs.items) ≡ rows.now) }
+    ensures order { IfOk result (λ xs. Ascends grant_book_before (map grant_book_at xs.items)) }
 {
     let mut books = Vec::new(alloc);
     'rows: for row in rows {
         let book = grant_book_from(row)?;
         books.push(book)?;
+    }
+    if !do_ascend(&books) {
+        return Err(ReadFault::Rules);
     }
     Ok(books)
 }

@@ -1,13 +1,13 @@
 //! Rows of what sessions have of rating groups.
 
-ghost use Rattle.std.specs.Prelude.{◌≡◌, map, false, option_map, IfOk};
+ghost use Rattle.std.specs.Prelude.{◌≡◌, map, option_map, IfOk};
 ghost use Rattle.sqlite_value.specs.Value.{owned};
 ghost use Rattle.sqlite_value.specs.declared.value.Value.TheVariants.{Text};
 ghost use Rattle.sql_rows.specs.Content.{rows_in, with_group, with_rows};
 ghost use Rattle.sql_rows.specs.Lists.{AreGroups, Ascends, group_at_before, group_at_cells};
 ghost use Rattle.sql_rows.specs.Texts.{ArePeriods, group_at, names_put};
 ghost use Rattle.sql_rows.specs.Makes.{Makes};
-ghost use Rattle.sql_tables.specs.Statements.{Attempts, HasBook, HasIdleBook, Reads};
+ghost use Rattle.sql_tables.specs.Statements.{HasBook, HasIdleBook, Reads, AttemptsOver};
 ghost use Rattle.sqlite.specs.Held.{state};
 ghost use Rattle.sqlite.specs.Values.{bound_value, or_null};
 
@@ -23,7 +23,6 @@ use sqlite::{Alter, Connection, Error, Row, Transaction};
 use std::alloc::Global;
 
 /// The names of the tariff periods at a grant and at its switch.
-#[derive(Debug, Drop)]
 pub struct PeriodNames {
     /// The name of the tariff period at the grant.
     pub before: String,
@@ -31,8 +30,17 @@ pub struct PeriodNames {
     pub after: String,
 }
 
+// It is written out, so that a caller doesn't prove again how each part is dropped.
+impl Drop for PeriodNames {
+    fn drop(self) {
+        let PeriodNames {
+            before: _,
+            after: _,
+        } = self;
+    }
+}
+
 /// What a session has of a rating group.
-#[derive(Debug, Drop)]
 pub struct GroupColumns {
     /// Rating-Group (RFC 8506 section 8.29).
     pub group: u32,
@@ -40,6 +48,17 @@ pub struct GroupColumns {
     pub used: u64,
     /// The periods of its reservation; none where it has none.
     pub periods: Option<PeriodNames>,
+}
+
+// It is written out, so that a caller doesn't prove again how each part is dropped.
+impl Drop for GroupColumns {
+    fn drop(self) {
+        let GroupColumns {
+            group: _,
+            used: _,
+            periods: _,
+        } = self;
+    }
 }
 
 impl InOrder for GroupColumns {
@@ -51,7 +70,7 @@ impl InOrder for GroupColumns {
 }
 
 /// The names of the tariff periods at a grant and at its switch, as they are put.
-#[derive(Clone, Copy, Debug)]
+#[derive(Clone, Copy)]
 pub struct PutNames<'a> {
     /// The name of the tariff period at the grant.
     pub before: &'a str,
@@ -95,10 +114,9 @@ pub fn put_group<S: Alter>(
     periods: Option<PutNames<'_>>,
 ) -> Result<usize, Error>
     requires book { HasBook (state S.Store tx.old.conn.now) }
-    ensures same_reference { tx.new.conn.ghost_name ≡ tx.old.conn.ghost_name }
-    ensures makes { Attempts (Makes (with_rows account.now (with_group session.now group
+    ensures { AttemptsOver S.Store (Makes (with_rows account.now (with_group session.now group
         (record { used = used; periods = option_map names_put periods.entry }))))
-        (state S.Store tx.old.conn.now) (state S.Store tx.new.conn.now) result }
+        tx.old.conn tx.new.conn result }
 {
     let of_account = text(account.as_str());
     let of_session = text(session.as_str());

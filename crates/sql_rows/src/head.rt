@@ -3,7 +3,7 @@
 use units::Moment;
 
 /// What is kept of an account once.
-#[derive(Clone, Copy, Debug)]
+#[derive(Clone, Copy)]
 pub struct Head {
     /// Whether it is barred (profile).
     pub barred: bool,

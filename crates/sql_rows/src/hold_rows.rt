@@ -6,7 +6,8 @@ ghost use Rattle.sql_rows.specs.Each.{with_holds};
 ghost use Rattle.sql_rows.specs.Lists.{AreHolds, Ascends, hold_before, hold_cells};
 ghost use Rattle.sql_rows.specs.Texts.{hold_at};
 ghost use Rattle.sql_rows.specs.Makes.{Makes, MakesIfOpen};
-ghost use Rattle.sql_tables.specs.Statements.{Attempts, HasBook, HasIdleBook, IsInside, Reads};
+ghost use Rattle.sql_tables.specs.Statements.{HasBook, HasIdleBook, IsInside, Reads};
+ghost use Rattle.sql_tables.specs.Statements.{AttemptsOver};
 ghost use Rattle.sqlite.specs.Held.{state};
 
 use crate::ascending::{InOrder, do_ascend};
@@ -17,7 +18,7 @@ use sqlite::{Alter, Connection, Error, Row, Transaction};
 use std::alloc::Global;
 
 /// What is held of a bucket for a rating group.
-#[derive(Clone, Copy, Debug, PartialEq, Eq)]
+#[derive(Clone, Copy)]
 pub struct HeldColumns {
     /// Rating-Group (RFC 8506 section 8.29).
     pub group: u32,
@@ -48,10 +49,9 @@ pub fn put_hold<S: Alter>(
     hold: &Hold,
 ) -> Result<usize, Error>
     requires book { HasBook (state S.Store tx.old.conn.now) }
-    ensures same_reference { tx.new.conn.ghost_name ≡ tx.old.conn.ghost_name }
-    ensures makes { Attempts (Makes (with_rows account.now
-        (with_hold session.now group hold.now.bucket hold.now.amount)))
-        (state S.Store tx.old.conn.now) (state S.Store tx.new.conn.now) result }
+    ensures { AttemptsOver S.Store (Makes (with_rows account.now
+        (with_hold session.now group hold.now.bucket hold.now.amount))) tx.old.conn tx.new.conn
+        result }
 {
     let of_account = text(account.as_str());
     let of_session = text(session.as_str());
@@ -79,9 +79,8 @@ pub fn remove_holds<S: Alter>(
     group: u32,
 ) -> Result<usize, Error>
     requires book { HasBook (state S.Store tx.old.conn.now) }
-    ensures same_reference { tx.new.conn.ghost_name ≡ tx.old.conn.ghost_name }
-    ensures makes { Attempts (Makes (with_rows account.now (without_holds session.now group)))
-        (state S.Store tx.old.conn.now) (state S.Store tx.new.conn.now) result }
+    ensures { AttemptsOver S.Store (Makes (with_rows account.now (without_holds session.now group)))
+        tx.old.conn tx.new.conn result }
 {
     let of_account = text(account.as_str());
     let of_session = text(session.as_str());
@@ -161,9 +160,8 @@ pub fn put_holds<S: Alter>(
 ) -> Result<(), Error>
     requires open { IsInside (state S.Store tx.old.conn.now) }
     requires book { HasBook (state S.Store tx.old.conn.now) }
-    ensures same_reference { tx.new.conn.ghost_name ≡ tx.old.conn.ghost_name }
-    ensures makes { Attempts (MakesIfOpen (with_holds account.now session.now group rows.now))
-        (state S.Store tx.old.conn.now) (state S.Store tx.new.conn.now) result }
+    ensures { AttemptsOver S.Store (MakesIfOpen (with_holds account.now session.now group rows.now))
+        tx.old.conn tx.new.conn result }
 {
     'rows: for row in rows {
         put_hold(tx, account, session, group, row)?;

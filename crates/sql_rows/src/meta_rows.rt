@@ -1,6 +1,6 @@
 //! The row that is kept once.
 
-ghost use Rattle.std.specs.Prelude.{◌≡◌, map, option_map, IfErr, MatchResult, Option};
+ghost use Rattle.std.specs.Prelude.{◌≡◌, map, option_map, IfErr, MatchResult, OnOk, Option};
 ghost use Rattle.sql_rows.specs.Content.{content_of, with_meta};
 ghost use Rattle.sql_rows.specs.Ruled.{IsRefusedMeta, IsRuledMeta};
 ghost use Rattle.sql_rows.specs.Values.{Meta as KeptOnce, meta_cells};
@@ -20,7 +20,7 @@ use sqlite::{Alter, Connection, Error, Row, Transaction};
 use units::Moment;
 
 /// What is kept once.
-#[derive(Debug, Drop)]
+#[derive(Drop)]
 pub struct Meta {
     /// The version of the tables.
     pub version: u32,
@@ -46,6 +46,8 @@ pub fn put_meta<S: Alter>(
     ensures makes { Attempts
         (Makes (with_meta (record { version = version; book = book.now; last = last })))
         (state S.Store tx.old.conn.now) (state S.Store tx.new.conn.now) result }
+    // The rows of the tables obey their rules then.
+    ensures rules { OnOk result (HasRules (state S.Store tx.new.conn.now)) }
 {
     let id = whole(1);
     let of_version = whole(version);

@@ -4,24 +4,34 @@ ghost use Rattle.std.specs.Prelude.{◌≡◌, map, IfOk};
 ghost use Rattle.sql_rows.specs.Content.{rows_in};
 ghost use Rattle.sql_rows.specs.Lists.{AreOpenGroups, Ascends, open_group_before, open_group_cells};
 ghost use Rattle.sql_rows.specs.Texts.{open_group_at};
-ghost use Rattle.sql_tables.specs.Statements.{HasIdleBook, Reads};
+ghost use Rattle.sql_tables.specs.Statements.{HasBook, HasIdleBook, HasRules, Reads};
+ghost use Rattle.sql_tables.specs.Statements.{ReadsWithin};
 ghost use Rattle.sqlite.specs.Held.{state};
 
 use crate::ascending::{InOrder, do_ascend};
 use crate::decoding::{flag_at, session_at};
 use crate::group_rows::{GroupColumns, periods_from};
 use identifiers::{AccountNumber, SessionId};
-use sql_tables::{ReadFault, has_columns, number_at, read, small_at, text};
-use sqlite::{Alter, Connection, Row};
+use sql_tables::{ReadFault, has_columns, number_at, read, read_within, small_at, text};
+use sqlite::{Alter, Connection, Row, Transaction};
 use std::alloc::Global;
 
 /// What an open session has of a rating group.
-#[derive(Debug, Drop)]
 pub struct OpenGroup {
     /// Session-Id (RFC 6733 section 8.8).
     pub session: SessionId,
     /// What it has of the rating group.
     pub columns: GroupColumns,
+}
+
+// It is written out, so that a caller doesn't prove again how each part is dropped.
+impl Drop for OpenGroup {
+    fn drop(self) {
+        let OpenGroup {
+            session: _,
+            columns: _,
+        } = self;
+    }
 }
 
 impl InOrder for OpenGroup {
@@ -60,6 +70,34 @@ pub fn read_groups_open<S: Alter>(
          AND state = 1 AND session_groups.account = sessions.account \
          AND session_groups.session = sessions.session \
          ORDER BY session_groups.session, rating_group",
+        &[text(account.as_str())],
+    )?;
+    open_groups_from(alloc, &rows)
+}
+
+/// What the open sessions of an account have of rating groups, within a transaction.
+///
+/// # Errors
+/// As of `read_groups_open`. Then nothing is committed.
+pub fn read_groups_open_within<S: Alter>(
+    tx: &mut Transaction<'_, S>,
+    alloc: Global,
+    account: &AccountNumber,
+) -> Result<Vec<OpenGroup>, ReadFault>
+    requires book { HasBook (state S.Store tx.old.conn.now) }
+    requires rules { HasRules (state S.Store tx.old.conn.now) }
+    ensures same_reference { tx.new.conn.ghost_name ≡ tx.old.conn.ghost_name }
+    ensures reads { ReadsWithin (λ trees xs.
+        AreOpenGroups (rows_in trees account.now) (map open_group_at xs.items))
+        (state S.Store tx.old.conn.now) (state S.Store tx.new.conn.now) result }
+    ensures order { IfOk result (λ xs. Ascends open_group_before (map open_group_at xs.items)) }
+{
+    let rows = read_within(
+        tx,
+        "SELECT rating_group, used, reserved, period_before, period_after, session_groups.session \
+         FROM sessions, session_groups WHERE sessions.account = ?1 AND state = 1 \
+         AND session_groups.account = sessions.account AND session_groups.session \
+         = sessions.session ORDER BY session_groups.session, rating_group",
         &[text(account.as_str())],
     )?;
     open_groups_from(alloc, &rows)

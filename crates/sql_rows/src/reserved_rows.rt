@@ -17,7 +17,6 @@ use sqlite::{Alter, Row, Transaction};
 use std::alloc::Global;
 
 /// A rating group of a session that has a reservation.
-#[derive(Debug, Drop)]
 pub struct ReservedColumns {
     /// The session's account.
     pub account: AccountNumber,
@@ -25,6 +24,17 @@ pub struct ReservedColumns {
     pub session: SessionId,
     /// Rating-Group (RFC 8506 section 8.29).
     pub group: u32,
+}
+
+// It is written out, so that a caller doesn't prove again how each part is dropped.
+impl Drop for ReservedColumns {
+    fn drop(self) {
+        let ReservedColumns {
+            account: _,
+            session: _,
+            group: _,
+        } = self;
+    }
 }
 
 /// The rating groups of all sessions that have a reservation, within a transaction.

@@ -5,24 +5,34 @@ ghost use Rattle.sql_rows.specs.Content.{rows_in};
 ghost use Rattle.sql_rows.specs.Lists.{AreAllHolds, Ascends, session_hold_before};
 ghost use Rattle.sql_rows.specs.Lists.{session_hold_cells};
 ghost use Rattle.sql_rows.specs.Texts.{session_hold_at};
-ghost use Rattle.sql_tables.specs.Statements.{HasIdleBook, Reads};
+ghost use Rattle.sql_tables.specs.Statements.{HasBook, HasIdleBook, HasRules, Reads};
+ghost use Rattle.sql_tables.specs.Statements.{ReadsWithin};
 ghost use Rattle.sqlite.specs.Held.{state};
 
 use crate::ascending::{InOrder, do_ascend};
 use crate::decoding::session_at;
 use crate::hold_rows::HeldColumns;
 use identifiers::{AccountNumber, SessionId};
-use sql_tables::{ReadFault, has_columns, number_at, read, small_at, text};
-use sqlite::{Alter, Connection, Row};
+use sql_tables::{ReadFault, has_columns, number_at, read, read_within, small_at, text};
+use sqlite::{Alter, Connection, Row, Transaction};
 use std::alloc::Global;
 
 /// What is held for a session.
-#[derive(Debug, Drop)]
 pub struct SessionHold {
     /// Session-Id (RFC 6733 section 8.8).
     pub session: SessionId,
     /// What its reservation in a rating group holds of a bucket.
     pub columns: HeldColumns,
+}
+
+// It is written out, so that a caller doesn't prove again how each part is dropped.
+impl Drop for SessionHold {
+    fn drop(self) {
+        let SessionHold {
+            session: _,
+            columns: _,
+        } = self;
+    }
 }
 
 impl InOrder for SessionHold {
@@ -58,6 +68,32 @@ pub fn read_holds_all<S: Alter>(
         conn,
         "SELECT rating_group, bucket, amount, session \
          FROM holds WHERE account = ?1 ORDER BY session, rating_group, bucket",
+        &[text(account.as_str())],
+    )?;
+    session_holds_from(alloc, &rows)
+}
+
+/// All that is held for sessions of an account, within a transaction.
+///
+/// # Errors
+/// As of `read_holds_all`. Then nothing is committed.
+pub fn read_holds_all_within<S: Alter>(
+    tx: &mut Transaction<'_, S>,
+    alloc: Global,
+    account: &AccountNumber,
+) -> Result<Vec<SessionHold>, ReadFault>
+    requires book { HasBook (state S.Store tx.old.conn.now) }
+    requires rules { HasRules (state S.Store tx.old.conn.now) }
+    ensures same_reference { tx.new.conn.ghost_name ≡ tx.old.conn.ghost_name }
+    ensures reads { ReadsWithin (λ trees xs.
+        AreAllHolds (rows_in trees account.now) (map session_hold_at xs.items))
+        (state S.Store tx.old.conn.now) (state S.Store tx.new.conn.now) result }
+    ensures order { IfOk result (λ xs. Ascends session_hold_before (map session_hold_at xs.items)) }
+{
+    let rows = read_within(
+        tx,
+        "SELECT rating_group, bucket, amount, session FROM holds \
+         WHERE account = ?1 ORDER BY session, rating_group, bucket",
         &[text(account.as_str())],
     )?;
     session_holds_from(alloc, &rows)

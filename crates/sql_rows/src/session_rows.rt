@@ -7,7 +7,8 @@ ghost use Rattle.sql_rows.specs.Lists.{AreSessions, Ascends, HasNoGroups};
 ghost use Rattle.reserving.specs.Sessions.{is_open, session_before};
 ghost use Rattle.sql_rows.specs.Each.{with_sessions};
 ghost use Rattle.sql_rows.specs.Makes.{Makes, MakesIfOpen};
-ghost use Rattle.sql_tables.specs.Statements.{Attempts, HasBook, HasIdleBook, IsInside, Reads};
+ghost use Rattle.sql_tables.specs.Statements.{Attempts, HasBook, HasIdleBook, HasRules, IsInside};
+ghost use Rattle.sql_tables.specs.Statements.{Reads, ReadsWithin, AttemptsOver};
 ghost use Rattle.sql_tables.specs.Selects.{one_or_none};
 ghost use Rattle.sqlite.specs.Held.{state};
 ghost use Rattle.sqlite.specs.State.{HasCleanDisk};
@@ -16,7 +17,9 @@ use crate::ascending::{InOrder, do_ascend};
 use crate::decoding::{moment_at, session_at, state_at};
 use identifiers::{AccountNumber, SessionId};
 use reserving::{Session, SessionState};
-use sql_tables::{ReadFault, has_columns, large, one_of, read, small_at, text, whole, write};
+use sql_tables::{
+    ReadFault, has_columns, large, one_of, read, read_within, small_at, text, whole, write,
+};
 use sqlite::{Alter, Connection, Error, Row, Transaction};
 use std::alloc::Global;
 
@@ -38,9 +41,8 @@ pub fn put_session<S: Alter>(
     session: &Session,
 ) -> Result<usize, Error>
     requires book { HasBook (state S.Store tx.old.conn.now) }
-    ensures same_reference { tx.new.conn.ghost_name ≡ tx.old.conn.ghost_name }
-    ensures makes { Attempts (Makes (with_rows account.now (with_session session.now)))
-        (state S.Store tx.old.conn.now) (state S.Store tx.new.conn.now) result }
+    ensures { AttemptsOver S.Store (Makes (with_rows account.now (with_session session.now)))
+        tx.old.conn tx.new.conn result }
 {
     let of_account = text(account.as_str());
     let name = text(session.id.as_str());
@@ -147,6 +149,33 @@ pub fn read_sessions_open<S: Alter>(
     sessions_from(alloc, &rows)
 }
 
+/// The open sessions of an account, within a transaction.
+///
+/// # Errors
+/// As of `read_sessions_open`. Then nothing is committed.
+pub fn read_sessions_open_within<S: Alter>(
+    tx: &mut Transaction<'_, S>,
+    alloc: Global,
+    account: &AccountNumber,
+) -> Result<Vec<Session>, ReadFault>
+    requires book { HasBook (state S.Store tx.old.conn.now) }
+    requires rules { HasRules (state S.Store tx.old.conn.now) }
+    ensures same_reference { tx.new.conn.ghost_name ≡ tx.old.conn.ghost_name }
+    ensures reads { ReadsWithin (λ trees xs.
+        AreSessions (λ x. is_open x.state) (rows_in trees account.now) xs.items)
+        (state S.Store tx.old.conn.now) (state S.Store tx.new.conn.now) result }
+    ensures order { IfOk result (λ xs. Ascends session_before xs.items) }
+{
+    let rows = read_within(
+        tx,
+        "SELECT session, last_number, touched, state FROM sessions \
+         WHERE account = ?1 AND state = 1 \
+         ORDER BY session",
+        &[text(account.as_str())],
+    )?;
+    sessions_from(alloc, &rows)
+}
+
 fn sessions_from(alloc: Global, rows: &[Row]) -> Result<Vec<Session>, ReadFault>
     ensures cells { IfOk result (λ xs. map session_cells xs.items ≡ rows.now) }
     ensures order { IfOk result (λ xs. Ascends session_before xs.items) }
@@ -173,9 +202,8 @@ pub fn put_sessions<S: Alter>(
 ) -> Result<(), Error>
     requires open { IsInside (state S.Store tx.old.conn.now) }
     requires book { HasBook (state S.Store tx.old.conn.now) }
-    ensures same_reference { tx.new.conn.ghost_name ≡ tx.old.conn.ghost_name }
-    ensures makes { Attempts (MakesIfOpen (with_sessions account.now rows.now))
-        (state S.Store tx.old.conn.now) (state S.Store tx.new.conn.now) result }
+    ensures { AttemptsOver S.Store (MakesIfOpen (with_sessions account.now rows.now))
+        tx.old.conn tx.new.conn result }
 {
     'rows: for row in rows {
         put_session(tx, account, row)?;

@@ -7,7 +7,7 @@ ghost use Rattle.sql_rows.specs.Content.{content_of, with_voucher};
 ghost use Rattle.sql_rows.specs.Texts.{voucher_of};
 ghost use Rattle.sql_rows.specs.Values.{voucher_cells};
 ghost use Rattle.sql_rows.specs.Makes.{Makes};
-ghost use Rattle.sql_tables.specs.Statements.{Attempts, HasBook, HasIdleBook, Reads};
+ghost use Rattle.sql_tables.specs.Statements.{HasBook, HasIdleBook, Reads, AttemptsOver};
 ghost use Rattle.sql_tables.specs.Selects.{one_or_none};
 ghost use Rattle.sqlite.specs.Held.{state};
 ghost use Rattle.sqlite.specs.Values.{bound_value, or_null};
@@ -24,7 +24,7 @@ use std::alloc::Global;
 use units::Money;
 
 /// A voucher, as it stands.
-#[derive(Debug, Drop)]
+#[derive(Drop)]
 pub struct VoucherColumns {
     /// Micro-units.
     pub amount: u64,
@@ -61,14 +61,12 @@ pub fn put_voucher<S: Alter>(
     account: Option<&AccountNumber>,
 ) -> Result<usize, Error>
     requires book { HasBook (state S.Store tx.old.conn.now) }
-    ensures same_reference { tx.new.conn.ghost_name ≡ tx.old.conn.ghost_name }
-    ensures makes { Attempts (Makes (with_voucher code.now (record {
+    ensures { AttemptsOver S.Store (Makes (with_voucher code.now (record {
       amount = amount;
       days = days;
       scope = scope;
       account = option_copied account.entry;
-    })))
-        (state S.Store tx.old.conn.now) (state S.Store tx.new.conn.now) result }
+    }))) tx.old.conn tx.new.conn result }
 {
     let of_code = text(code);
     let micros = large(amount.micros());

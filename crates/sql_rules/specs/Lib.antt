@@ -4,3 +4,4 @@ pub mod Ruled
 pub mod Rules
 pub mod Tables
 pub mod Walks
+pub mod Laws

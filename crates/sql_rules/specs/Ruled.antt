@@ -2,12 +2,14 @@
 -- Source: profile.
 use Rattle.std.specs.Prelude.{◌≡◌, ◌≤◌, ◌<◌, ℕ, ◌&&◌, Bool, true, List, Option, Some, None, IsTrue}
 use Rattle.std.specs.Prelude.{nat_le}
+use Rattle.identifiers.specs.Words.{AccountName}
 use Rattle.identifiers.specs.Texts.{is_account_number, is_session_id, is_voucher_code}
 use Rattle.shelves.specs.Shelves.{Shelf, count}
 use Rattle.buckets.specs.Row.{Row as Bucket}
 use Rattle.reserving.specs.declared.session.Session.{Session}
 use Rattle.reserving.specs.declared.session.Counter.{Counter}
 use Rattle.reserving.specs.declared.charge.ChargeRow.{ChargeRow}
+use Rattle.sql_rows.specs.Words.{KeyKind, KeyName, KeyNumber}
 use Rattle.sql_rows.specs.declared.head.Head.{Head}
 use Rattle.sql_rows.specs.Content.{Content, Rows}
 use Rattle.sql_rows.specs.Values.{DatedBook, Group, Kept, Meta, PeriodNames, Voucher}
@@ -44,7 +46,7 @@ abbrev pub is_group : Shelf → ℕ → Group → Bool
 is_group shelf g x =
     is_small g && nat_le x.used 1_000_000_000_000_000_000 && are_named shelf x.periods
 
-abbrev pub is_answer : List ℕ → ℕ → List ℕ → ℕ → Kept → Bool
+abbrev pub is_answer : AccountName → KeyKind → KeyName → KeyNumber → Kept → Bool
 is_answer a kind name number k =
     is_answer_key kind name number && are_kept_texts a k.content k.answer
 

@@ -15,6 +15,7 @@ use Rattle.sqlite_value.specs.declared.value.Value.{Value}
 use Rattle.sqlite_value.specs.Order.{Row, column}
 use Rattle.wire.specs.Contents.{is_content_text}
 use Rattle.wire.specs.ReadingAnswers.{is_answer_text}
+use Rattle.sql_rows.specs.Words.{KeyKind, KeyName, KeyNumber}
 use Rattle.sql_rows.specs.Values.{text_in}
 use Rattle.sql_rules.specs.Columns.{number_at, text_at, is_within, is_optional_within, is_small}
 use Rattle.sql_rules.specs.Columns.{is_numbering, is_next, is_moment, is_money, is_some_money}
@@ -78,7 +79,7 @@ is_ruled_grant_book shelf row = is_within 1 (count shelf) (number_at row 4)
 -- ---- kept answers
 
 -- a request under its session's name and its number, an operator's command under its reference
-abbrev pub is_answer_key : ℕ → List ℕ → ℕ → Bool
+abbrev pub is_answer_key : KeyKind → KeyName → KeyNumber → Bool
 is_answer_key kind name number =
     (nat_eq 1 kind && is_session_id name && is_small number)
     || (nat_eq 2 kind && is_reference name && nat_eq 0 number)

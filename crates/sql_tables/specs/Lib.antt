@@ -2,6 +2,7 @@ pub mod Keyed
 pub mod Ours
 pub mod Schema
 pub mod Selects
+pub mod Selecting
 pub mod Stages
 pub mod Statements
 pub mod Texts

@@ -2,7 +2,7 @@
 -- Source: profile.
 use Rattle.std.specs.Prelude.{◌≡◌, ◌≤◌, ◌<◌, ℕ, ◌+◌, List, take, codes, None, [], ◌∷◌, pos, negsuc}
 use Rattle.std.specs.Prelude.{false}
-use Rattle.std.specs.Prelude.{Result, IfErr, OnOk, ◌++◌, ⊤}
+use Rattle.std.specs.Prelude.{Result, IfErr, IfOk, OnOk, ◌++◌, ⊤}
 use Rattle.std.specs.List.{AllByRecursion}
 use Rattle.sql_tables.specs.Words.{TablesVersion, TreeNumber}
 use Rattle.sqlite_value.specs.declared.value.Value.TheVariants.{Int}
@@ -15,6 +15,8 @@ use Rattle.sqlite.specs.Given.{IsPlain}
 use Rattle.sqlite.specs.Listing.{understood, reads_listing}
 use Rattle.sqlite.proofs.Callers.{command_of}
 use Rattle.sqlite.specs.Effect.{Database}
+use Rattle.sqlite_trees.specs.declared.store.Store.{Ghosts}
+use Rattle.sqlite.specs.Held.{Held, state}
 use Rattle.sqlite.specs.State.{State, HasCleanDisk, IsUnchanged, Survives}
 use Rattle.sql_tables.specs.Keyed.{IsStored}
 use Rattle.sql_tables.specs.Schema.{latest, schema_at}
@@ -123,3 +125,13 @@ pub record IsFound (v : TablesVersion) (old new : State) : Type 0 where
   pub stored : AreStoredAt v new.now.trees
   pub settled : new.now ≡ new.committed
   pub unchanged : IsUnchanged old new
+
+-- which version's tables the database has, or why it has none; nothing is changed
+pub record FindsVersion {S : Type 0} (g : Ghosts S) (old new : Held S)
+    (result : Result TablesVersion OpenFault) : Type 0 where
+  pub found : HasCleanDisk (state g new) → IfOk result (λ v. IsFound v (state g old) (state g new))
+  pub version : IfOk result IsVersion
+  pub idle : OnOk result (new.in_transaction ≡ false)
+  pub told : IfErr result IsNoVersion
+  pub means : HasCleanDisk (state g new) → IfErr result (IsTold (state g old).now)
+  pub survives : Survives (state g old) (state g new) (λ _. ⊥)

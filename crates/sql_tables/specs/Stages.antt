@@ -1,14 +1,17 @@
 -- The tables as they are made, one after another.
 -- Source: profile.
-use Rattle.std.specs.Prelude.{◌≡◌, ℕ, true, List, [], drop, take, length, IsTrue}
+use Rattle.std.specs.Prelude.{◌≡◌, ℕ, true, false, List, [], drop, take, length, IsTrue}
+use Rattle.std.specs.Prelude.{Result, OnErr, OnOk}
 use Rattle.std.specs.List.{AllByRecursion}
 use Rattle.sql_tables.specs.Words.{TablesVersion}
 use Rattle.sqlite_trees.specs.Objects.{catalog_tree}
 use Rattle.sqlite_trees.specs.Tree.{Trees}
+use Rattle.sqlite_trees.specs.declared.store.Store.{Ghosts}
 use Rattle.sqlite_schema.specs.declared.schema.Table.{Table}
 use Rattle.sqlite_catalog.specs.Change.{KeepsRows}
 use Rattle.sqlite_catalog.specs.Listing.{IsSound, Lists}
-use Rattle.sqlite.specs.State.{State, HasCleanDisk, Shows}
+use Rattle.sqlite.specs.Held.{Held, state}
+use Rattle.sqlite.specs.State.{State, HasCleanDisk, Shows, Survives}
 use Rattle.sql_tables.specs.Keyed.{IsStored}
 use Rattle.sql_tables.specs.Schema.{book_schema, latest, pieces_to, schema_at, tables_of}
 use Rattle.sql_tables.specs.Statements.{AreStored, IsBook, IsIdle}
@@ -25,6 +28,10 @@ HasStage k s = HasCleanDisk s → IsTrue s.is_open → s.now.schema ≡ stage k
 pub record IsBlank (s : State) : Type 0 where
   pub none : s.now.schema ≡ stage 0
   pub settled : s.now ≡ s.committed
+
+-- unless its disk failed it, or an earlier failure shut it
+abbrev pub HasNoTable : State → Type 0
+HasNoTable s = HasCleanDisk s → IsTrue s.is_open → IsBlank s
 
 -- the tables among the pieces from one place to another
 abbrev pub tables_between : ℕ → ℕ → List Table
@@ -50,6 +57,16 @@ pub record BuildsAll (old new : State) : Type 0 where
 pub record CommitsAll (new : State) : Type 0 where
   pub idle : IsIdle new
   pub empty : AreEmpty book_schema.tables new.now.trees
+
+-- outside a transaction: tables are made and committed, or the call answers an error and nothing is
+-- changed; a stop in it leaves what was there, or these tables without a row
+pub record Creates {A E S : Type 0} (g : Ghosts S) (made : State → Type 0) (tables : List Table)
+    (old new : Held S) (result : Result A E) : Type 0 where
+  pub idle : new.in_transaction ≡ false
+  pub done : HasCleanDisk (state g new) → OnOk result (made (state g new))
+  pub kept : HasCleanDisk (state g new) → IsTrue (state g new).is_open →
+      OnErr result (IsTrue (state g old).is_open × ((state g new).now ≡ (state g old).now))
+  pub crash : Survives (state g old) (state g new) (λ trees. AreEmpty tables trees)
 
 -- ---- versions
 

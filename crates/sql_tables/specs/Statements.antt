@@ -2,6 +2,7 @@
 use Rattle.std.specs.Prelude.{◌≡◌, ◌≢◌, ◌⊎◌, ◌≤◌, ℕ, true, List, [], ◌∷◌, Option, None, cond, take}
 use Rattle.std.specs.Prelude.{length, is_some, ◌+◌, if◌then◌else◌, IsTrue, false, Result, IfOk}
 use Rattle.std.specs.Prelude.{OnOk, OnErr}
+use Rattle.std.specs.Borrow.{MutBor}
 use Rattle.std.specs.List.{AllByRecursion}
 use Rattle.std.specs.FinMap.{get, insert}
 use Rattle.std.specs.Ordering.{eq_by_cmp}
@@ -11,6 +12,8 @@ use Rattle.sqlite_disk.specs.Disk.{MoreFaults}
 use Rattle.sqlite_trees.specs.Objects.{catalog_tree}
 use Rattle.sqlite_trees.specs.Tree.{Trees}
 use Rattle.sqlite_schema.specs.declared.schema.Table.{Table}
+use Rattle.sqlite_trees.specs.declared.store.Store.{Ghosts}
+use Rattle.sqlite.specs.Held.{Held, state}
 use Rattle.sqlite.specs.State.{State, HasCleanDisk, Shows, Shown, IsUnchanged, IsRolledBack}
 use Rattle.sqlite.specs.State.{KeepsCommit, Survives}
 use Rattle.sqlite_schema.specs.Rules.{Fits}
@@ -136,3 +139,9 @@ pub record Answers (sql : List ℕ) (params : Row) (old new : State) (rows : Lis
   pub book : IsBook old
   pub fits : Fits book_schema old.now.trees
   pub shown : Shown sql params old new rows
+
+-- within a transaction, over a connection that stays the same one
+pub record AttemptsOver {A E S : Type 0} (g : Ghosts S) (does : State → State → Type 0)
+    (old new : MutBor (Held S)) (result : Result A E) : Type 0 where
+  pub same_reference : new.ghost_name ≡ old.ghost_name
+  pub makes : Attempts does (state g old.now) (state g new.now) result

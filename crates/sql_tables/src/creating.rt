@@ -1,13 +1,14 @@
 //! The tables and indexes, made.
 
-ghost use Rattle.std.specs.Prelude.{◌≡◌, ◌⊎◌, ◌≤◌, ◌<◌, false, IsTrue, IfOk, OnOk, OnErr};
-ghost use Rattle.sql_tables.specs.Stages.{Adds, AreEmpty, BuildsAll, BuildsTo, CommitsAll};
-ghost use Rattle.sql_tables.specs.Stages.{CommitsTo, HasStage, HasVersion, IsBlank, Migrates};
+ghost use Rattle.std.specs.Prelude.{◌≡◌, ◌≤◌, ◌<◌, false, IfOk};
+ghost use Rattle.sql_tables.specs.Stages.{Adds, BuildsAll, BuildsTo, CommitsAll};
+ghost use Rattle.sql_tables.specs.Stages.{CommitsTo, Creates, HasNoTable, HasStage, HasVersion};
+ghost use Rattle.sql_tables.specs.Stages.{Migrates};
 ghost use Rattle.sql_tables.specs.Schema.{book_schema, latest, schema_at};
-ghost use Rattle.sql_tables.specs.Statements.{Attempts};
+ghost use Rattle.sql_tables.specs.Statements.{Attempts, AttemptsOver};
 ghost use Rattle.sqlite.specs.Held.{state};
 ghost use Rattle.sqlite.specs.Steps.{over_memory};
-ghost use Rattle.sqlite.specs.State.{HasCleanDisk, Survives};
+ghost use Rattle.sqlite.specs.State.{HasCleanDisk};
 
 use crate::writing::write;
 use sqlite::{Alter, Connection, Error, MemStore, Transaction};
@@ -477,9 +478,7 @@ fn create_all<S: Alter>(tx: &mut Transaction<'_, S>) -> Result<(), Error>
 /// An error of the store. Then nothing is committed.
 pub fn create_each<S: Alter>(tx: &mut Transaction<'_, S>) -> Result<(), Error>
     requires stage { HasStage 0 (state S.Store tx.old.conn.now) }
-    ensures same_reference { tx.new.conn.ghost_name ≡ tx.old.conn.ghost_name }
-    ensures makes { Attempts BuildsAll (state S.Store tx.old.conn.now)
-        (state S.Store tx.new.conn.now) result }
+    ensures { AttemptsOver S.Store BuildsAll tx.old.conn tx.new.conn result }
 {
     create_all(tx)
 }
@@ -521,9 +520,7 @@ fn create_to<S: Alter>(tx: &mut Transaction<'_, S>, version: u32) -> Result<(), 
 pub fn create_since<S: Alter>(tx: &mut Transaction<'_, S>, version: u32) -> Result<(), Error>
     requires known { (1 ≤ version) × (version < latest) }
     requires has { HasVersion version (state S.Store tx.old.conn.now) }
-    ensures same_reference { tx.new.conn.ghost_name ≡ tx.old.conn.ghost_name }
-    ensures makes { Attempts (Migrates version) (state S.Store tx.old.conn.now)
-        (state S.Store tx.new.conn.now) result }
+    ensures { AttemptsOver S.Store (Migrates version) tx.old.conn tx.new.conn result }
 {
     match version {
         1 => create_later(tx),
@@ -538,16 +535,8 @@ pub fn create_since<S: Alter>(tx: &mut Transaction<'_, S>, version: u32) -> Resu
 /// An error of the store. Then the database is as it was.
 pub fn create_tables<S: Alter>(conn: &mut Connection<S>) -> Result<(), Error>
     requires idle { conn.old.in_transaction ≡ false }
-    requires blank { HasCleanDisk (state S.Store conn.old) →
-        IsTrue (state S.Store conn.old).is_open → IsBlank (state S.Store conn.old) }
-    ensures idle { conn.new.in_transaction ≡ false }
-    ensures done { HasCleanDisk (state S.Store conn.new) →
-        OnOk result (CommitsAll (state S.Store conn.new)) }
-    ensures kept { HasCleanDisk (state S.Store conn.new) → IsTrue (state S.Store conn.new).is_open
-        → OnErr result (IsTrue (state S.Store conn.old).is_open
-        × ((state S.Store conn.new).now ≡ (state S.Store conn.old).now)) }
-    ensures crash { Survives (state S.Store conn.old) (state S.Store conn.new)
-        (λ trees. AreEmpty book_schema.tables trees) }
+    requires blank { HasNoTable (state S.Store conn.old) }
+    ensures { Creates S.Store CommitsAll book_schema.tables conn.old conn.new result }
 {
     let mut tx = conn.transaction();
     create_each(&mut tx)?;
@@ -562,16 +551,9 @@ pub fn create_tables<S: Alter>(conn: &mut Connection<S>) -> Result<(), Error>
 pub fn create_tables_at<S: Alter>(conn: &mut Connection<S>, version: u32) -> Result<(), Error>
     requires known { (1 ≤ version) × (version ≤ latest) }
     requires idle { conn.old.in_transaction ≡ false }
-    requires blank { HasCleanDisk (state S.Store conn.old) →
-        IsTrue (state S.Store conn.old).is_open → IsBlank (state S.Store conn.old) }
-    ensures idle { conn.new.in_transaction ≡ false }
-    ensures done { HasCleanDisk (state S.Store conn.new) →
-        OnOk result (CommitsTo version (state S.Store conn.new)) }
-    ensures kept { HasCleanDisk (state S.Store conn.new) → IsTrue (state S.Store conn.new).is_open
-        → OnErr result (IsTrue (state S.Store conn.old).is_open
-        × ((state S.Store conn.new).now ≡ (state S.Store conn.old).now)) }
-    ensures crash { Survives (state S.Store conn.old) (state S.Store conn.new)
-        (λ trees. AreEmpty (schema_at version).tables trees) }
+    requires blank { HasNoTable (state S.Store conn.old) }
+    ensures { Creates S.Store (CommitsTo version) (schema_at version).tables conn.old conn.new
+        result }
 {
     let mut tx = conn.transaction();
     create_to(&mut tx, version)?;

@@ -7,7 +7,7 @@ use thiserror::Error;
 
 /// Why a database isn't opened (profile). Its tables are looked at first, then the rules of what is
 /// kept once, then the version.
-#[derive(Clone, Copy, Debug, Drop, Error, PartialEq, Eq)]
+#[derive(Clone, Copy, Debug, Drop, Error)]
 pub enum OpenFault {
     /// The database hasn't the tables of a version of this system, or has others.
     #[error("the database is not one of this system")]

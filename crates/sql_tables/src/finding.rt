@@ -1,11 +1,9 @@
 //! Whether a database is one of this system.
 
-ghost use Rattle.std.specs.Prelude.{◌≡◌, ◌<◌, [], false, true, slice_index_or, IfErr, IfOk, IsTrue};
-ghost use Rattle.std.specs.Prelude.{OnOk};
+ghost use Rattle.std.specs.Prelude.{◌≡◌, ◌<◌, [], slice_index_or, IfErr, IfOk, IsTrue};
 ghost use Rattle.sqlite.specs.Held.{state};
-ghost use Rattle.sqlite.specs.State.{HasCleanDisk, Survives};
 ghost use Rattle.sql_tables.specs.Schema.{schema_at};
-ghost use Rattle.sql_tables.specs.Opens.{FindsAll, IsFound, IsNoVersion, IsTold, IsVersion};
+ghost use Rattle.sql_tables.specs.Opens.{FindsAll, FindsVersion, IsNoVersion, IsTold, IsVersion};
 ghost use Rattle.sql_tables.specs.Opens.{rowids_texts};
 
 use crate::creating::create_in_memory_at;
@@ -103,14 +101,7 @@ fn tables_differ<S: Alter>(conn: &mut Connection<S>, version: u32) -> Result<(),
 /// those of one and a rowid stands twice or is no integer; `Store` where the store failed or a
 /// transaction is open; `Memory` where memory was refused.
 pub fn find_tables<S: Alter>(conn: &mut Connection<S>, alloc: Global) -> Result<u32, OpenFault>
-    ensures found { HasCleanDisk (state S.Store conn.new) →
-        IfOk result (λ v. IsFound v (state S.Store conn.old) (state S.Store conn.new)) }
-    ensures version { IfOk result IsVersion }
-    ensures idle { OnOk result (conn.new.in_transaction ≡ false) }
-    ensures told { IfErr result IsNoVersion }
-    ensures means { HasCleanDisk (state S.Store conn.new) →
-        IfErr result (IsTold (state S.Store conn.old).now) }
-    ensures survives { Survives (state S.Store conn.old) (state S.Store conn.new) (λ _. ⊥) }
+    ensures { FindsVersion S.Store conn.old conn.new result }
 {
     if !conn.is_autocommit() {
         return Err(OpenFault::Store);

@@ -1,29 +1,26 @@
 //! A selection, and the columns of its rows.
 
-ghost use Rattle.std.specs.Prelude.{◌≡◌, ◌<◌, ◌^◌, ℕ, List, Option, false, IfErr, IfOk, IfSome};
+ghost use Rattle.std.specs.Prelude.{◌≡◌, ◌<◌, ◌^◌, ℕ, List, Option, IfSome};
 ghost use Rattle.std.specs.Prelude.{MatchResult, pos, length, option_map};
 ghost use Rattle.sql_tables.specs.Schema.{book_schema};
 ghost use Rattle.sql_tables.specs.Selects.{one_or_none};
-ghost use Rattle.sql_tables.specs.Statements.{Answers, Attempts, HasBook, HasIdleBook, HasRules};
-ghost use Rattle.sql_tables.specs.Statements.{OnlyReads};
+ghost use Rattle.sql_tables.specs.Statements.{HasBook, HasIdleBook, HasRules};
 ghost use Rattle.sqlite.specs.Given.{IsPlain};
 ghost use Rattle.sqlite.specs.Held.{state};
 ghost use Rattle.sqlite.specs.Listing.{understood};
-ghost use Rattle.sqlite.specs.State.{HasCleanDisk, IsUnchanged, Survives};
 ghost use Rattle.sqlite.specs.Values.{bound, or_null};
-ghost use Rattle.sqlite_schema.specs.Rules.{Keeps};
-ghost use Rattle.sqlite_schema.specs.declared.schema.Constraint.TheVariants.{ForeignKey};
 ghost use Rattle.sqlite_value.specs.Order.{Row as Values, column};
 ghost use Rattle.sqlite_value.specs.declared.value.Value.TheVariants.{Int, Null, Text};
 ghost use Rattle.std.specs.Str.{IsUtf8};
 ghost use Rattle.std.specs.String.{string_bytes};
+ghost use Rattle.sql_tables.specs.Selecting.{SelectsRows, SelectsRowsWithin};
 
 use sqlite::types::ValueRef;
 use sqlite::{Alter, Connection, Error, ErrorCode, Row, Transaction};
 use std::alloc::{AllocError, AllocFailed};
 
 /// Why rows weren't read.
-#[derive(Clone, Copy, Debug, PartialEq, Eq)]
+#[derive(Clone, Copy, Debug)]
 pub enum ReadFault {
     /// A growth was refused.
     Memory,
@@ -62,17 +59,7 @@ pub fn read<S: Alter>(
 ) -> Result<Vec<Row>, ReadFault>
     requires plain { IsPlain (understood book_schema sql.now) }
     requires idle { HasIdleBook (state S.Store conn.old) }
-    ensures answers { HasCleanDisk (state S.Store conn.new) → IfOk result (λ rows.
-        Answers sql.now (bound params.now) (state S.Store conn.old)
-        (state S.Store conn.new) rows.items) }
-    ensures reads { OnlyReads (state S.Store conn.old) (state S.Store conn.new) }
-    // A stop leaves what it left before.
-    ensures stops { Survives (state S.Store conn.old) (state S.Store conn.new)
-        (λ _. (state S.Store conn.old).is_open ≡ false) }
-    ensures fault { IfErr result (λ e. ¬ (e ≡ ReadFault.Rules)) }
-    // A row whose columns are a key of another table has a row there.
-    ensures keys { HasCleanDisk (state S.Store conn.new) → IfOk result (λ _.
-        Keeps ForeignKey book_schema (state S.Store conn.old).now.trees) }
+    ensures { SelectsRows S.Store sql.now (bound params.now) conn.old conn.new result }
 {
     // For the prover alone: looking at the value makes known here what its type keeps.
     let _ours = conn.schema();
@@ -94,13 +81,7 @@ pub fn read_within<S: Alter>(
     requires plain { IsPlain (understood book_schema sql.now) }
     requires book { HasBook (state S.Store tx.old.conn.now) }
     requires rules { HasRules (state S.Store tx.old.conn.now) }
-    ensures same_reference { tx.new.conn.ghost_name ≡ tx.old.conn.ghost_name }
-    ensures answers { HasCleanDisk (state S.Store tx.new.conn.now) → IfOk result (λ rows.
-        Answers sql.now (bound params.now) (state S.Store tx.old.conn.now)
-        (state S.Store tx.new.conn.now) rows.items) }
-    ensures still { Attempts IsUnchanged (state S.Store tx.old.conn.now)
-        (state S.Store tx.new.conn.now) result }
-    ensures fault { IfErr result (λ e. ¬ (e ≡ ReadFault.Rules)) }
+    ensures { SelectsRowsWithin S.Store sql.now (bound params.now) tx.old.conn tx.new.conn result }
 {
     match tx.query_all(sql, params) {
         Ok(rows) => Ok(rows),

@@ -14,6 +14,7 @@ use Rattle.statements.specs.declared.fault.StatementFault.{StatementFault}
 use Rattle.statements.specs.declared.fault.StatementFault.TheVariants.{Store}
 use Rattle.statements.specs.declared.rows.Form.{Form}
 use Rattle.statements.specs.declared.rows.Sums.{Sums}
+use Rattle.identifiers.specs.Words.{AccountName}
 
 -- asking a source changes nothing of it, nor what a stop leaves; it answers only where the source
 -- can still be asked, and it fails only with a cause
@@ -53,3 +54,15 @@ pub record SumsSome (old new : Option Bytes) (form : Form)
   pub whole : IfOk result (λ sums. (sums ≡ sums_of (month rows))
       × Appends old new (charges_text form (month rows)))
   pub beginning : OnErr result (WritesBeginning old new (charges_text form (month rows)))
+
+-- ---- over a source and a writer
+
+-- the text of an account's charges is written; of a source that stays clean, of all that it has
+pub record WritesCharges {T K W : Type 0} (content : K → Tables) (failed : K → ℕ)
+    (honest clean : K → Type 0) (leaves : K → Tables → Type 0) (contents : W → Option Bytes)
+    (account : AccountName) (text : List ChargeColumns → Bytes) (old new : K) (before after : W)
+    (result : Result T StatementFault) : Type 0 where
+  pub writes : clean new →
+      Writes ((content old).charges account) (contents before) (contents after) text result
+  pub some : WritesSome (contents before) (contents after) text result
+  pub asks : Asks content failed honest clean leaves old new result

@@ -7,7 +7,7 @@ ghost use Rattle.statements.specs.Columns.{blanks, column_text, columns_text};
 use std::alloc::{AllocError, Global};
 
 /// A number and the places that its column has.
-#[derive(Clone, Copy, Debug, PartialEq, Eq)]
+#[derive(Clone, Copy)]
 pub(crate) struct Column {
     pub(crate) width: usize,
     pub(crate) value: u128,

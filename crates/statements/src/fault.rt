@@ -8,7 +8,7 @@ use texts::StreamFault;
 use thiserror::Error;
 
 /// Why a statement or an export wasn't written whole.
-#[derive(Clone, Copy, Debug, Drop, Error, PartialEq, Eq)]
+#[derive(Clone, Copy, Debug, Drop, Error)]
 pub enum StatementFault {
     /// A growth was refused.
     #[error("out of memory")]

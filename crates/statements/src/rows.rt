@@ -15,7 +15,7 @@ use tariffs::TariffBook;
 use texts::{StreamFault, write_whole};
 
 /// How a charge is written.
-#[derive(Clone, Copy, Debug, PartialEq, Eq)]
+#[derive(Clone, Copy)]
 pub(crate) enum Form {
     /// As a line of a statement.
     Lines,
@@ -24,7 +24,7 @@ pub(crate) enum Form {
 }
 
 /// The sums of the charges of a month.
-#[derive(Clone, Copy, Debug, PartialEq, Eq)]
+#[derive(Clone, Copy)]
 pub(crate) struct Sums {
     pub(crate) blocks: u128,
     pub(crate) rated: u128,

@@ -1,10 +1,10 @@
 //! A statement and an export of a month.
 
-ghost use Rattle.std.specs.Prelude.{◌≡◌, OnOk, OnErr, IfOk, ℕ};
+ghost use Rattle.std.specs.Prelude.{◌≡◌, OnOk, OnErr, IfOk};
 ghost use Rattle.std.specs.Io.KnownBytes.{Appends};
 ghost use Rattle.reserving.specs.ChargeColumns.{ChargeColumns};
 ghost use Rattle.keepers.specs.Rows.{AreCharges};
-ghost use Rattle.statements.specs.Charges.{Asks, SumsSome, Writes, WritesSome};
+ghost use Rattle.statements.specs.Charges.{Asks, SumsSome, Writes, WritesCharges};
 ghost use Rattle.statements.specs.Records.{header_record};
 ghost use Rattle.statements.specs.Months.{cycle_of_month};
 ghost use Rattle.statements.specs.Texts.{of_month, charges_text, sums_of, head_text, foot_text};
@@ -162,15 +162,9 @@ pub fn statement<S: ChargeSource, W: Write>(
     moment: Moment,
     buckets: &[Bucket],
 ) -> Result<(), StatementFault>
-    ensures writes { S.clean source.new →
-        Writes ((S.content source.old).charges asked.now.account.now)
-        (W.contents writer.old) (W.contents writer.new)
-        (λ rows. statement_text asked.now.book.now asked.now.account.now asked.now.month moment rows
-        buckets.now) result }
-    ensures some { WritesSome (W.contents writer.old) (W.contents writer.new)
-        (λ rows. statement_text asked.now.book.now asked.now.account.now asked.now.month moment rows
-        buckets.now) result }
-    ensures asks { Asks S.content S.failed S.honest S.clean S.left source.old source.new
+    ensures { WritesCharges S.content S.failed S.honest S.clean S.left W.contents
+        asked.now.account.now (λ rows. statement_text asked.now.book.now asked.now.account.now
+        asked.now.month moment rows buckets.now) source.old source.new writer.old writer.new
         result }
 {
     write_head(alloc, writer, asked.account, asked.month, moment)?;
@@ -191,14 +185,9 @@ pub fn export<S: ChargeSource, W: Write>(
     writer: &mut W,
     asked: &AccountMonth,
 ) -> Result<(), StatementFault>
-    ensures writes { S.clean source.new →
-        Writes ((S.content source.old).charges asked.now.account.now)
-        (W.contents writer.old) (W.contents writer.new)
-        (λ rows. export_text asked.now.book.now asked.now.month rows) result }
-    ensures some { WritesSome (W.contents writer.old) (W.contents writer.new)
-        (λ rows. export_text asked.now.book.now asked.now.month rows) result }
-    ensures asks { Asks S.content S.failed S.honest S.clean S.left source.old source.new
-        result }
+    ensures { WritesCharges S.content S.failed S.honest S.clean S.left W.contents
+        asked.now.account.now (λ rows. export_text asked.now.book.now asked.now.month rows)
+        source.old source.new writer.old writer.new result }
 {
     write_header(alloc, writer)?;
     write_charges(alloc, source, writer, asked, Form::Records)?;

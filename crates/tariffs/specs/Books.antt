@@ -1,12 +1,13 @@
 -- A tariff book, and the book of a document.
 use Rattle.std.specs.Prelude.{◌≡◌, ℕ, ◌<◌, ◌≤◌, List, length, Some, Result, Ok, All, IsUtf8, codes}
+use Rattle.std.specs.Prelude.{Err, IfOk}
 use Rattle.units.specs.Words.{Seconds, CurrencyNumber}
 use Rattle.toml.specs.Data.{Members}
 use Rattle.toml.specs.Parse.{parse_document}
 use Rattle.calendar.specs.Timetable.{Timetable, IsTimetable, timetable_of}
 use Rattle.tariffs.specs.declared.fault.BookFault.{BookFault}
-use Rattle.tariffs.specs.declared.fault.BookFault.TheVariants.{WeekNotCovered}
-use Rattle.tariffs.specs.Faults.{◌>>=◌, or_fault}
+use Rattle.tariffs.specs.declared.fault.BookFault.TheVariants.{NotToml, WeekNotCovered}
+use Rattle.tariffs.specs.Faults.{Gives, ◌>>=◌, or_fault}
 use Rattle.tariffs.specs.Fields.{text_of, number_in}
 use Rattle.tariffs.specs.Names.{ArePeriods, names_of}
 use Rattle.tariffs.specs.WeekFields.{zone_in, zone_of, entries_of}
@@ -64,3 +65,10 @@ book_of t = do
 pub record IsDocument (bytes : List ℕ) (t : Members) : Type 0 where
   pub text : IsUtf8 bytes
   pub parsed : parse_document bytes ≡ Some t
+
+-- bytes are read as the book of a document, or its first fault is told
+pub record ReadsBook (bytes : List ℕ) (result : Result Book BookFault) : Type 0 where
+  pub book : IfOk result (λ b. (t : Members) × IsDocument bytes t × (book_of t ≡ Ok b))
+  pub fault : (t : Members) → IsDocument bytes t → Gives (λ b. b) result (book_of t)
+  pub no_document : ((t : Members) → IsDocument bytes t → ⊥) →
+      Gives (λ b. b) result (Err NotToml)

@@ -1,21 +1,17 @@
 //! The tariff book.
 
-ghost use Rattle.std.specs.Prelude.{◌≡◌, ◌≢◌, ◌==◌, ℕ, ◌+◌, ◌*◌, ◌<◌, ◌≤◌, nat_lt, pos, ◌+ℤ◌, ◌*ℤ◌};
-ghost use Rattle.std.specs.Prelude.{length, find, slice_get, option_copied, IfOk, IfErr, IfSome};
+ghost use Rattle.std.specs.Prelude.{◌≡◌, ◌==◌, ◌+◌, ◌<◌, ◌≤◌, nat_lt};
+ghost use Rattle.std.specs.Prelude.{length, find, slice_get, option_copied, IfSome};
 ghost use Rattle.std.specs.Prelude.{IfNone, Ok, Err, All};
-ghost use Rattle.toml.specs.Data.{Members};
 ghost use Rattle.toml.specs.View.{table_view};
-ghost use Rattle.calendar.specs.Timetable.{period_at, IsEntryAt, IsChange, switch_within};
-ghost use Rattle.calendar.specs.Timetable.{validity_from, cycle_of, day_end};
+ghost use Rattle.calendar.specs.Timetable.{period_at, IsEntryAt, IsSwitch, IsWindow};
+ghost use Rattle.calendar.specs.Timetable.{IsCycleOf, validity_from, day_end};
 ghost use Rattle.calendar.specs.Clock.{day};
 ghost use Rattle.calendar.specs.declared.week.Entry.{Entry};
-ghost use Rattle.jiff.specs.Types.{Date};
-ghost use Rattle.jiff.specs.Words.{epoch_day};
-ghost use Rattle.tariffs.specs.declared.fault.BookFault.TheVariants.{NotToml};
 ghost use Rattle.tariffs.specs.Faults.{Gives};
 ghost use Rattle.tariffs.specs.Names.{period_named};
 ghost use Rattle.tariffs.specs.Tariffs.{IsTariff};
-ghost use Rattle.tariffs.specs.Books.{Book, IsBook, IsDocument, book_of};
+ghost use Rattle.tariffs.specs.Books.{Book, IsBook, ReadsBook, book_of};
 ghost use Rattle.tariffs.specs.GroupPrices.{GroupPrices};
 ghost use Rattle.tariffs.specs.BookPrices.{prices_at, ArePricesOf};
 
@@ -31,7 +27,6 @@ use toml::Table;
 use units::{Moment, Steps};
 
 /// The tariff book of an operator: what rating groups cost in which period of the week.
-#[derive(Drop)]
 pub struct TariffBook {
     zone_text: String,
     calendar: Calendar,
@@ -39,6 +34,20 @@ pub struct TariffBook {
     validity: u32,
     periods: PeriodNames,
     tariffs: Vec<Tariff>,
+}
+
+// It is written out, so that a caller doesn't prove again how each part is dropped.
+impl Drop for TariffBook {
+    fn drop(self) {
+        let TariffBook {
+            zone_text: _,
+            calendar: _,
+            currency: _,
+            validity: _,
+            periods: _,
+            tariffs: _,
+        } = self;
+    }
 }
 
 impl Model for TariffBook {
@@ -83,11 +92,7 @@ impl TariffBook {
     /// arrays in their order, and the first fault is answered; want of memory may be answered in
     /// place of it.
     pub fn read(alloc: Global, bytes: &[u8]) -> Result<TariffBook, BookFault>
-        ensures book { IfOk result
-            (λ b. (t : Members) × IsDocument bytes.now t × (book_of t ≡ Ok b)) }
-        ensures fault { (t : Members) → IsDocument bytes.now t → Gives (λ b. b) result (book_of t) }
-        ensures no_document { ((t : Members) → IsDocument bytes.now t → ⊥) →
-            Gives (λ b. b) result (Err NotToml) }
+        ensures { ReadsBook bytes.now result }
     {
         match toml::table_from_slice(alloc, bytes) {
             Ok(table) => book(alloc, &table),
@@ -207,12 +212,7 @@ impl TariffBook {
     pub fn next_switch(&self, moment: Moment, seconds: u32) -> Option<Moment>
         requires seconds { seconds ≤ 43_200 }
         requires in_range { moment + seconds ≤ 4_102_488_000 }
-        ensures value { result ≡ switch_within self.now.calendar moment seconds }
-        ensures found { IfSome result (IsChange self.now.calendar moment (moment + seconds)) }
-        ensures least { IfSome result
-            (λ s. (r : ℕ) → IsChange self.now.calendar moment (moment + seconds) r → s ≤ r) }
-        ensures none { IfNone result
-            ((r : ℕ) → IsChange self.now.calendar moment (moment + seconds) r → ⊥) }
+        ensures { IsSwitch self.now.calendar moment seconds result }
     {
         self.calendar.next_switch(moment, seconds)
     }
@@ -228,12 +228,7 @@ impl TariffBook {
         requires seconds { seconds ≤ 43_200 }
         requires in_range { moment + seconds ≤ 4_102_488_000 }
         requires steps { steps.old ≤ 1_000_000_000 }
-        ensures value { result ≡ switch_within self.now.calendar moment seconds }
-        ensures found { IfSome result (IsChange self.now.calendar moment (moment + seconds)) }
-        ensures least { IfSome result
-            (λ s. (r : ℕ) → IsChange self.now.calendar moment (moment + seconds) r → s ≤ r) }
-        ensures none { IfNone result
-            ((r : ℕ) → IsChange self.now.calendar moment (moment + seconds) r → ⊥) }
+        ensures switch { IsSwitch self.now.calendar moment seconds result }
         ensures steps { steps.new ≤ steps.old + 260 }
     {
         self.calendar.next_switch_steps(moment, seconds, steps)
@@ -243,10 +238,7 @@ impl TariffBook {
     /// section 8.20), and these seconds cut at the next later change of period after it
     /// (Validity-Time, section 8.33).
     pub fn window_from(&self, moment: Moment, seconds: u32) -> Window
-        ensures switch { result.switch ≡ switch_within self.now.calendar moment seconds }
-        ensures found { IfSome result.switch
-            (IsChange self.now.calendar moment (moment + seconds)) }
-        ensures validity { result.validity ≡ validity_from self.now.calendar moment seconds }
+        ensures { IsWindow self.now.calendar moment seconds result }
     {
         self.calendar.window_from(moment, seconds)
     }
@@ -262,10 +254,7 @@ impl TariffBook {
     /// The number of a counter's cycle at a moment, in the book's zone: 0 for none; days since
     /// 1969-12-31; months since January 1969 (profile).
     pub fn cycle_of(&self, cycle: Cycle, moment: Moment) -> u32
-        ensures value { result ≡ cycle_of self.now.calendar.zone cycle moment }
-        ensures month { (d : Date) →
-            epoch_day d +ℤ pos 1 ≡ pos (day self.now.calendar.zone moment) →
-            cycle ≡ Cycle.Month → pos (result + 1 + 12 * 1969) ≡ pos 12 *ℤ d.year +ℤ pos d.month }
+        ensures { IsCycleOf self.now.calendar.zone cycle moment result }
     {
         self.calendar.cycle_of(cycle, moment)
     }

@@ -8,7 +8,7 @@ use std::alloc::{AllocError, AllocFailed};
 use thiserror::Error;
 
 /// Why a tariff book was not read: the first fault in the order of its keys (profile).
-#[derive(Clone, Copy, Debug, Drop, Error, PartialEq, Eq)]
+#[derive(Clone, Copy, Debug, Drop, Error)]
 pub enum BookFault {
     /// The text is not TOML.
     #[error("the text is not TOML")]

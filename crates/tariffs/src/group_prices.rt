@@ -10,7 +10,7 @@ use calendar::Period;
 use std::marker::Model;
 
 /// A side of a tariff switch (Tariff-Time-Change, RFC 8506 section 8.20).
-#[derive(Clone, Copy, Debug, PartialEq, Eq)]
+#[derive(Clone, Copy)]
 pub enum Side {
     /// Before the switch; all of a grant without one.
     Before,

@@ -18,9 +18,15 @@ use std::marker::Model;
 use toml::{Table, Value};
 
 /// The names of a book's tariff periods, in the book's order: 1 to 8, distinct.
-#[derive(Debug, Drop)]
 pub(crate) struct PeriodNames {
     names: Vec<String>,
+}
+
+// It is written out, so that a caller doesn't prove again how each part is dropped.
+impl Drop for PeriodNames {
+    fn drop(self) {
+        let PeriodNames { names: _ } = self;
+    }
 }
 
 impl Model for PeriodNames {

@@ -11,7 +11,6 @@ use std::marker::Model;
 use units::UnitKind;
 
 /// The tariff of a rating group (Rating-Group, RFC 8506 section 8.29).
-#[derive(Debug, Drop)]
 pub struct Tariff {
     pub(crate) group: u32,
     pub(crate) unit: UnitKind,
@@ -21,6 +20,22 @@ pub struct Tariff {
     pub(crate) cycle: Cycle,
     pub(crate) final_action: FinalAction,
     pub(crate) prices: Vec<Vec<Tier>>,
+}
+
+// It is written out, so that a caller doesn't prove again how each part is dropped.
+impl Drop for Tariff {
+    fn drop(self) {
+        let Tariff {
+            group: _,
+            unit: _,
+            block: _,
+            slice: _,
+            max_grant: _,
+            cycle: _,
+            final_action: _,
+            prices: _,
+        } = self;
+    }
 }
 
 impl Model for Tariff {

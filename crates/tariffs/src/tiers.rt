@@ -2,7 +2,7 @@
 
 /// The price of a block up to a place on the account's counter of the group and cycle (TS 32.296,
 /// rating).
-#[derive(Clone, Copy, Debug, Drop, PartialEq, Eq)]
+#[derive(Clone, Copy, Drop)]
 pub struct Tier {
     /// The last place that it prices, from 1; None in the last tier, which has no bound.
     pub upto: Option<u64>,

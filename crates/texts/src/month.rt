@@ -9,7 +9,7 @@ use std::marker::Model;
 /// A civil month from January 1970 to December 2099 (profile).
 ///
 /// Contracts see its number YYYYMM, as 202601 for January 2026.
-#[derive(Clone, Copy, Debug, PartialEq, Eq)]
+#[derive(Clone, Copy)]
 pub struct Month {
     number: u32,
 }

@@ -54,6 +54,7 @@ pub fn next_byte<R: Read>(reader: &mut R) -> Result<Option<u8>, StreamFault>
         (λ byte. Consumes (R.remaining reader.old) (R.remaining reader.new) (option_to_list byte)) }
     ensures end { IfOk result (λ byte. IfNone byte (IsAtEnd (R.remaining reader.new))) }
     ensures err { OnErr result (Keeps (R.remaining reader.old) (R.remaining reader.new)) }
+    ensures fault { OnErr result (result ≡ Err StreamFault.Read) }
 {
     let mut one = [0u8; 1];
     for _attempt in 0..MAX_ATTEMPTS {
@@ -190,8 +191,9 @@ fn ends_line(byte: u8) -> bool
 /// `Memory` where a growth was refused, `Read` where the reader failed, or was interrupted 100
 /// times.
 pub fn next_line<R: Read>(alloc: Global, reader: &mut R) -> Result<Option<Vec<u8>>, StreamFault>
-    ensures { IfOk result (λ line. IfSome (R.remaining reader.old)
+    ensures line { IfOk result (λ line. IfSome (R.remaining reader.old)
         (λ stream. IsLineOf stream line (R.remaining reader.new))) }
+    ensures fault { IsErrOf result StreamFault.Write → ⊥ }
 {
     let mut line = Vec::new(alloc);
     for _taken in 0..u64::MAX {

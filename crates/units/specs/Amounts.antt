@@ -1,5 +1,8 @@
 -- Amounts of money, as a request writes them (Unit-Value, RFC 8506 section 8.8).
-use Rattle.std.specs.Prelude.{◌^◌, ℤ, pos, negsuc, ◌+ℤ◌, ◌*ℤ◌, ◌≤ℤ◌, unsigned_abs}
+use Rattle.std.specs.Prelude.{◌≡◌, ◌⊎◌, ◌^◌, ℕ, ℤ, pos, negsuc, ◌+ℤ◌, ◌*ℤ◌, ◌≤ℤ◌, ◌<ℤ◌}
+use Rattle.std.specs.Prelude.{unsigned_abs, Result, IfOk, IsErrOf}
+use Rattle.units.specs.declared.money.UnitFault.{UnitFault}
+use Rattle.units.specs.declared.money.UnitFault.TheVariants.{Exponent, OutOfRange}
 
 -- an exponent lies between -6 and 0
 pub record IsExponent (exponent : ℤ) : Type 0 where
@@ -9,3 +12,13 @@ pub record IsExponent (exponent : ℤ) : Type 0 where
 -- the digits times 10 to the exponent, counted in micro-units
 abbrev pub micros_of : ℤ → ℤ → ℤ
 micros_of digits exponent = digits *ℤ pos (10 ^ unsigned_abs (exponent +ℤ pos 6))
+
+-- digits and a power of ten are read as money: where the power is an exponent, and the micro-units
+-- are in their range
+pub record ReadsMoney (digits power : ℤ) (result : Result ℕ UnitFault) : Type 0 where
+  pub value : IfOk result (λ m. pos m ≡ micros_of digits power)
+  pub exponent : IsErrOf result Exponent → IsExponent power → ⊥
+  pub exponent_told : (IsExponent power → ⊥) → IsErrOf result Exponent
+  pub out_of_range : IsErrOf result OutOfRange →
+      (micros_of digits power <ℤ pos 0) ⊎
+      (pos 1_000_000_000_000_000 <ℤ micros_of digits power)

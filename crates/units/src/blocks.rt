@@ -39,7 +39,7 @@ pub struct UsedPart {
 }
 
 /// A number of blocks: the steps in which units are priced.
-#[derive(Clone, Copy, Debug, PartialEq, Eq, PartialOrd, Ord)]
+#[derive(Clone, Copy, PartialEq, Eq, PartialOrd, Ord)]
 pub struct Blocks(pub u64);
 
 /// The blocks that a use starts: the multiples of the block's size that are at least the units used

@@ -1,14 +1,13 @@
 //! Amounts of money.
 
-ghost use Rattle.std.specs.Prelude.{◌≡◌, ℕ, ◌≤◌, ◌↔◌, ◌<ℤ◌, ◌⊎◌, pos, IsSome, IfSome, IfOk};
-ghost use Rattle.std.specs.Prelude.{IsErrOf};
-ghost use Rattle.units.specs.Amounts.{micros_of, IsExponent};
+ghost use Rattle.std.specs.Prelude.{◌≡◌, ℕ, ◌≤◌, ◌↔◌, IsSome, IfSome};
+ghost use Rattle.units.specs.Amounts.{ReadsMoney};
 
 use std::marker::Model;
 use thiserror::Error;
 
 /// Why digits and an exponent are no amount of money.
-#[derive(Clone, Copy, Debug, Drop, Error, PartialEq, Eq)]
+#[derive(Clone, Copy, Debug, Drop, Error)]
 pub enum UnitFault {
     /// The value is below 0 or above 10^15 micro-units.
     #[error("the value is out of range")]
@@ -19,7 +18,7 @@ pub enum UnitFault {
 }
 
 /// A sum of money in micro-units of the book's currency, however large.
-#[derive(Clone, Copy, Debug, PartialEq, Eq, PartialOrd, Ord)]
+#[derive(Clone, Copy, PartialEq, Eq, PartialOrd, Ord)]
 pub struct Amount(pub u128);
 
 /// An amount of money: 0 to 10^15 micro-units of the book's currency (CC-Money, RFC 8506 section
@@ -56,12 +55,7 @@ impl Money {
     /// times 10 to the exponent, in units of the currency. The exponent's fault is told before the
     /// value's.
     pub fn from_digits(digits: i64, exponent: i32) -> Result<Money, UnitFault>
-        ensures value { IfOk result (λ m. pos m ≡ micros_of digits exponent) }
-        ensures exponent { IsErrOf result UnitFault.Exponent → IsExponent exponent → ⊥ }
-        ensures exponent_told { (IsExponent exponent → ⊥) → IsErrOf result UnitFault.Exponent }
-        ensures out_of_range { IsErrOf result UnitFault.OutOfRange →
-            (micros_of digits exponent <ℤ pos 0)
-            ⊎ (pos 1_000_000_000_000_000 <ℤ micros_of digits exponent) }
+        ensures { ReadsMoney digits exponent result }
     {
         let factor: u64 = match exponent {
             -6 => 1,

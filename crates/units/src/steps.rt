@@ -8,7 +8,7 @@ use std::marker::Model;
 /// one.
 ///
 /// A call that counts takes `&mut Steps` last and wants at most 10^9 steps before it.
-#[derive(Debug, Drop)]
+#[derive(Drop)]
 pub struct Steps {
     taken: u64,
 }

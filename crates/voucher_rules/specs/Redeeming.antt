@@ -1,7 +1,7 @@
 -- What redeeming a voucher comes to, over what stands under its code.
 -- Source: profile.
-use Rattle.std.specs.Prelude.{◌≡◌, Option, Some, None, Result, Ok, Err, IsSomeAnd, nat_lt}
-use Rattle.std.specs.Prelude.{if◌then◌else◌}
+use Rattle.std.specs.Prelude.{◌≡◌, ◌↔◌, Option, Some, None, Result, Ok, Err, IsSomeAnd, nat_lt}
+use Rattle.std.specs.Prelude.{if◌then◌else◌, IsErrOf, IsTrue}
 use Rattle.units.specs.Words.{Moment, DayCount, no_end}
 use Rattle.identifiers.specs.Words.{AccountName}
 use Rattle.voucher_rules.specs.declared.terms.VoucherTerms.{VoucherTerms}
@@ -58,6 +58,14 @@ redemption day_end (Some voucher) account t =
 abbrev pub EndsTooLate : DayEnds → Option Voucher → Moment → Type 0
 EndsTooLate day_end found t = IsSomeAnd found
     (λ voucher. (voucher.redeemer ≡ None) × (bucket_end day_end voucher.terms t ≡ None))
+
+-- what a redemption comes to, and exactly when each refusal comes
+pub record Redeems (day_end : DayEnds) (found : Option Voucher) (account : AccountName) (t : Moment)
+    (result : Result Redemption RedeemRefusal) : Type 0 where
+  pub value : result ≡ redemption day_end found account t
+  pub unknown : IsErrOf result VoucherUnknown ↔ (found ≡ None)
+  pub spent : IsErrOf result VoucherSpent ↔ IsTrue (is_spent found)
+  pub late : IsErrOf result EndOutOfRange ↔ EndsTooLate day_end found t
 
 -- what stands under the code afterwards
 abbrev pub after_redemption : Result Redemption RedeemRefusal → Option Voucher → Option Voucher

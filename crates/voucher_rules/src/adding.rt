@@ -7,7 +7,7 @@ use crate::terms::VoucherTerms;
 use crate::voucher::Voucher;
 
 /// What adding a voucher comes to, over what stands under its code.
-#[derive(Debug, Drop, PartialEq, Eq)]
+#[derive(Drop)]
 pub enum Addition {
     /// Nothing stood there: this voucher does, from now on.
     New(Voucher),

@@ -1,8 +1,7 @@
 //! A voucher that is redeemed.
 
-ghost use Rattle.std.specs.Prelude.{◌≡◌, ◌↔◌, IsErrOf, IsTrue, None};
-ghost use Rattle.voucher_rules.specs.Standing.{is_spent};
-ghost use Rattle.voucher_rules.specs.Redeeming.{redemption, EndsTooLate};
+ghost use Rattle.std.specs.Prelude.{None};
+ghost use Rattle.voucher_rules.specs.Redeeming.{Redeems};
 
 use crate::civil_days::CivilDays;
 use crate::voucher::Voucher;
@@ -11,7 +10,7 @@ use thiserror::Error;
 use units::{Moment, Money};
 
 /// Why a voucher isn't redeemed, in the order in which it is looked for (profile).
-#[derive(Clone, Copy, Debug, Drop, Error, PartialEq, Eq)]
+#[derive(Clone, Copy, Debug, Drop, Error)]
 pub enum RedeemRefusal {
     /// `O3`: there is no such voucher.
     #[error("there is no such voucher")]
@@ -25,7 +24,7 @@ pub enum RedeemRefusal {
 }
 
 /// What a redemption comes to: the terms of the credit, and what stands under the code afterwards.
-#[derive(Debug, Drop, PartialEq, Eq)]
+#[derive(Drop)]
 pub struct Redemption {
     /// The amount that the account is credited.
     pub amount: Money,
@@ -53,11 +52,7 @@ pub fn redeem<C: CivilDays>(
     moment: Moment,
     calendar: &C,
 ) -> Result<Redemption, RedeemRefusal>
-    ensures value { result ≡ redemption (C.day_end calendar.now) found account moment }
-    ensures unknown { IsErrOf result RedeemRefusal.VoucherUnknown ↔ (found ≡ None) }
-    ensures spent { IsErrOf result RedeemRefusal.VoucherSpent ↔ IsTrue (is_spent found) }
-    ensures late { IsErrOf result RedeemRefusal.EndOutOfRange ↔
-        EndsTooLate (C.day_end calendar.now) found moment }
+    ensures { Redeems (C.day_end calendar.now) found account moment result }
 {
     let voucher = found.ok_or(RedeemRefusal::VoucherUnknown)?;
     if voucher.redeemer.is_some() {

@@ -12,7 +12,7 @@ use units::{Moment, Money};
 /// micro-units, that lasts 1 to 3,650 days or has no end, for one rating group or for all.
 ///
 /// Contracts see a record of the three.
-#[derive(Clone, Copy, Debug, PartialEq, Eq)]
+#[derive(Clone, Copy, PartialEq, Eq)]
 pub struct VoucherTerms {
     amount: Money,
     days: Option<u32>,

@@ -6,7 +6,7 @@ ghost use Rattle.vouchers.specs.Faults.{number_of};
 use thiserror::Error;
 
 /// What is wrong with a file of vouchers, in the order in which it is looked for (profile).
-#[derive(Clone, Copy, Debug, Drop, Error, PartialEq, Eq)]
+#[derive(Clone, Copy, Debug, Drop, Error)]
 pub enum FaultKind {
     /// The first record isn't `code,amount,days,scope`, or there is none.
     #[error("the header is not code,amount,days,scope")]
@@ -53,7 +53,7 @@ impl FaultKind {
 }
 
 /// Why a file of vouchers wasn't read, and at which of its records; the header is record 1.
-#[derive(Clone, Copy, Debug, Drop, Error, PartialEq, Eq)]
+#[derive(Clone, Copy, Debug, Drop, Error)]
 #[error("{kind} at record {record_number}")]
 pub struct VoucherFault {
     /// The record's number in the file; the header is 1.

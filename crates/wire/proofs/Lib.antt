@@ -1,5 +1,6 @@
 pub mod BalancesAgain
 pub mod AnswersAgain
+pub mod SweptText
 pub mod ContentsAgain
 pub mod AllowancesAgain
 pub mod RedeemedAgain

@@ -1,6 +1,6 @@
 -- What is kept of a command, as text.
 use Rattle.std.specs.Prelude.{◌≡◌, ℕ, List, Option, Some, None, Result, Ok, Err, nat_eq}
-use Rattle.std.specs.Prelude.{Bool, true, false, MatchResult}
+use Rattle.std.specs.Prelude.{Bool, true, false, IfOk, MatchResult}
 use Rattle.std.specs.Cmp.Lexicographic.{pointwise}
 use Rattle.identifiers.specs.Words.{AccountName}
 use Rattle.serde_json.specs.Data.{Data}
@@ -114,6 +114,15 @@ abbrev pub ReadsTexts : List ℕ → List ℕ → Result Content WireFault → T
 ReadsTexts account bytes returned =
     MatchResult returned (λ c. is_content_text account bytes ≡ true)
     (λ e. ¬ (e ≡ Memory) → is_content_text account bytes ≡ false)
+
+-- bytes are read as the content that they are the text of, of this account
+pub record ReadsContent (name : AccountName) (bytes : List ℕ) (result : Result Content WireFault)
+    : Type 0 where
+  pub text : IfOk result (λ c. content_text c ≡ bytes)
+  pub account : IfOk result (λ c. account_of c ≡ name)
+  pub said : IfOk result (λ c. content_of name bytes ≡ Ok c)
+  pub written : ReadsWritten name bytes result
+  pub texts : ReadsTexts name bytes result
 
 -- what was written has its members in byte order
 abbrev pub CreditsAreInOrder : (Credit → Data) → Type 0

@@ -12,7 +12,7 @@ ghost use Rattle.wire.specs.Contents.{content_text, content_of, request_content_
 ghost use Rattle.wire.specs.Contents.{credit_content_in, allowance_content_in};
 ghost use Rattle.wire.specs.Contents.{redemption_content_in, given_content_when};
 ghost use Rattle.wire.specs.Contents.{operator_content_when, content_when, account_of};
-ghost use Rattle.wire.specs.Contents.{ContentsReadAgain, ReadsTexts, ReadsWritten};
+ghost use Rattle.wire.specs.Contents.{ContentsReadAgain, ReadsContent};
 ghost use Rattle.wire.specs.Contents.{CreditsAreInOrder};
 ghost use Rattle.wire.specs.Contents.{AllowancesAreInOrder, RedemptionsAreInOrder};
 
@@ -199,11 +199,7 @@ pub fn read_content(
     account: AccountNumber,
     bytes: &[u8],
 ) -> Result<Content, WireFault>
-    ensures text { IfOk result (λ c. content_text c ≡ bytes.now) }
-    ensures account { IfOk result (λ c. account_of c ≡ account) }
-    ensures said { IfOk result (λ c. content_of account bytes.now ≡ Ok c) }
-    ensures written { ReadsWritten account bytes.now result }
-    ensures texts { ReadsTexts account bytes.now result }
+    ensures { ReadsContent account bytes.now result }
 {
     let content = content(alloc, account, bytes)?;
     let text = write_content(alloc, &content)?;

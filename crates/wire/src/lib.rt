@@ -15,6 +15,7 @@ mod redeeming;
 mod requests;
 mod services;
 mod writing;
+mod written;
 
 pub use crate::allowances::read_allow;
 pub use crate::contents::{
@@ -27,6 +28,7 @@ pub use crate::reading::{answer_again, answer_in_order, read_answer};
 pub use crate::redeeming::read_redeem;
 pub use crate::requests::read_request;
 pub use crate::writing::{write_answer, write_fault};
+pub use crate::written::{AnswerRoom, WrittenAnswer};
 pub use json_fields::WireFault;
 pub use wire_requests::{
     request_again, request_fault_is_told, request_in_order, request_is_read, request_is_said,

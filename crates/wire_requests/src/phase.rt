@@ -1,7 +1,7 @@
 //! Where a request is in its session.
 
 /// Where a session's request stands in its session.
-#[derive(Clone, Copy, PartialEq, Eq)]
+#[derive(Clone, Copy)]
 pub(crate) enum Phase {
     Initial,
     Update,

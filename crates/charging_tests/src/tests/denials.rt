@@ -53,7 +53,7 @@ charges:
 account: 1767607200 false 1
 buckets: (1000000; 0, 1000000, 0, 0)
 sessions: s19b 0 1767607200 NeverOpened; s19c 0 1767607200 NeverOpened;
-   s19e 0 1767607200 NeverOpened; s19 0 1767607200 Open; s19d 0 1767607200 NeverOpened;"##;
+   s19 0 1767607200 Open; s19d 0 1767607200 NeverOpened; s19e 0 1767607200 NeverOpened;"##;
 
 #[test]
 fn unknown_groups_and_a_bar(rt: HostRuntime) {

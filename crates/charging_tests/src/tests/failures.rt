@@ -3,7 +3,7 @@
 
 use crate::tests::lines::commands_between;
 use crate::tests::rows::push_rows;
-use crate::tests::scenarios::{assert_told, push_answer, shelf, try_all, whole_lines};
+use crate::tests::scenarios::{assert_told, push_told, shelf, try_all, whole_lines};
 use charging::run;
 use keepers::{Failing, Keeper, MemoryKeeper, StoreFault};
 use shelves::TariffShelf;
@@ -111,7 +111,7 @@ fn hand_in(
     let failures = keeper.failures();
     let mut text = String::new(alloc);
     for answer in &run.answers {
-        push_answer(rt, alloc, &mut text, answer);
+        push_told(rt, &mut text, answer.text());
     }
     push_rows(rt, alloc, &mut text, &mut keeper.inner, shelf);
     Outcome {

@@ -33,8 +33,7 @@ fn push_counters(rt: &impl Abort, text: &mut String, rows: &[Counter]) {
     }
 }
 
-/// Each session's name, last number, last moment and state. Those that weren't loaded by the last
-/// change stand first.
+/// Each session's name, last number, last moment and state. Those that were left stand first.
 fn push_sessions(rt: &impl Abort, text: &mut String, rows: &[Session]) {
     push(rt, text, "sessions:");
     for row in rows {

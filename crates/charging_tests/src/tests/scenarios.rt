@@ -16,7 +16,7 @@ use std::alloc::Global;
 use std::process::Abort;
 use tariffs::TariffBook;
 use units::Moment;
-use wire::write_answer;
+use wire::{WrittenAnswer, write_answer};
 
 /// The shelf of the scenarios: the worked book alone.
 pub(crate) fn shelf(rt: &impl Abort, alloc: Global) -> TariffShelf {
@@ -29,17 +29,22 @@ pub(crate) fn whole_lines(rt: &impl Abort, alloc: Global, text: &str) -> String 
     text.replace(alloc, "\n  ", "").expect(rt, "memory")
 }
 
+/// The text of an answer in a line.
+pub(crate) fn push_told(rt: &impl Abort, text: &mut String, answer: &str) {
+    push(rt, text, "= ");
+    push(rt, text, answer);
+    push(rt, text, "\n");
+}
+
 /// An answer in a line.
 pub(crate) fn push_answer(rt: &impl Abort, alloc: Global, text: &mut String, answer: &Answer) {
     let answer = write_answer(alloc, answer).expect(rt, "memory");
-    push(rt, text, "= ");
-    push(rt, text, answer.as_str());
-    push(rt, text, "\n");
+    push_told(rt, text, answer.as_str());
 }
 
 /// The commands among these lines, each with its answer in the line after it, as far as there are
 /// answers.
-fn push_answered(rt: &impl Abort, alloc: Global, text: &mut String, lines: &str, all: &[Answer]) {
+fn push_answered(rt: &impl Abort, text: &mut String, lines: &str, all: &[WrittenAnswer]) {
     let mut answers = all.iter();
     for line in lines.lines() {
         if is_command(line)
@@ -47,7 +52,7 @@ fn push_answered(rt: &impl Abort, alloc: Global, text: &mut String, lines: &str,
         {
             push(rt, text, line);
             push(rt, text, "\n");
-            push_answer(rt, alloc, text, answer);
+            push_told(rt, text, answer.text());
         }
     }
 }
@@ -100,7 +105,7 @@ fn told(
     let run = run(alloc, keeper, shelf, all_commands(rt, alloc, part));
     let after = rows(rt, alloc, keeper, shelf);
     let mut text = String::new(alloc);
-    push_answered(rt, alloc, &mut text, part, &run.answers);
+    push_answered(rt, &mut text, part, &run.answers);
     push_looked(rt, &mut text, part, before.as_str(), after.as_str());
     text
 }

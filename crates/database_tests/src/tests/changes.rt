@@ -13,7 +13,7 @@ use sql_tables::ReadFault;
 use std::alloc::Global;
 use std::process::Abort;
 use tariffs::TariffBook;
-use wire::read_credit;
+use wire::{WrittenAnswer, read_credit};
 
 /// What is kept of a credit of account 49151 by its body.
 fn kept_of(rt: &impl Abort, alloc: Global, body: &str) -> KeptAnswer {
@@ -22,7 +22,7 @@ fn kept_of(rt: &impl Abort, alloc: Global, body: &str) -> KeptAnswer {
     assert!(rt; credit.can_be_kept());
     KeptAnswer {
         content: Content::Credit(KeptCredit::new(credit)),
-        answer: Answer::Bucket(1),
+        answer: WrittenAnswer::new(alloc, Answer::Bucket(1)).expect(rt, "memory"),
     }
 }
 

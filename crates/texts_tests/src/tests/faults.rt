@@ -7,7 +7,9 @@ use wire::{read_request, write_fault};
 
 /// The fault of a body, and the text that answers it.
 pub(crate) fn told(rt: &impl Abort, alloc: Global, body: &str) -> String {
-    let fault = read_request(alloc, body.as_bytes()).expect_err(rt, "a fault");
+    let fault = read_request(alloc, body.as_bytes())
+        .err()
+        .expect(rt, "a fault");
     let answer = write_fault(alloc, fault).expect(rt, "memory");
     format!(in alloc; "{fault} {}", answer.as_str()).expect(rt, "memory")
 }

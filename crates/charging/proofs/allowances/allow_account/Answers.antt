@@ -7,7 +7,7 @@ use Rattle.keepers.specs.Change.{IsLoad}
 use Rattle.keepers.specs.Keys.{key_of}
 use Rattle.keepers.specs.Tables.{Tables}
 use Rattle.charging.specs.Stepping.{Answers, Commits}
-use Rattle.charging.proofs.Serving.{left_as, served-by}
+use Rattle.charging.proofs.Serving.{left_as, served-by, served-as}
 use Rattle.charging.proofs.Operated.{made_change, made_tells}
 use Rattle.charging.proofs.Allowing.{allow-told, allow-done}
 use Rattle.charging.proofs.Refused.{accepted_given}
@@ -17,7 +17,10 @@ use Rattle.charging.proofs.allowances.allow_account.Goals.{After-commit}
 -- what its commit makes is what the allowance comes to
 done : (g : _) (c : After-commit g) (t : Tables) →
     Commits (made_change c.args.loaded c.add_allowance.new.account c.new.result
-    (Some c.kept_allowance-kept.result) None) (g.K.Keeper.content c.args.keeper.now) t →
+    (Some (record {
+      content = content.Allow c.args.allowance;
+      answer = answer.Bucket c.in-Ok-Ok.number;
+    })) None) (g.K.Keeper.content c.args.keeper.now) t →
     (b : Shelf) → IsLoad b c.args.moment c.args.allowance.account
     ((g.K.Keeper.content c.args.keeper.now).rows c.args.allowance.account) (Some c.args.loaded) →
     (g.K.Keeper.content c.args.keeper.now).answers c.args.allowance.account
@@ -31,11 +34,17 @@ done g c t made = λ b load fresh list time is le.
     c.add_allowance.new.account c.in-Ok-Ok.ensures.allows
     c.in-Ok-Ok.number
     (made_change c.args.loaded c.add_allowance.new.account c.new.result
-    (Some c.kept_allowance-kept.result) None)
+    (Some (record {
+      content = content.Allow c.args.allowance;
+      answer = answer.Bucket c.in-Ok-Ok.number;
+    })) None)
     c.in-Ok-Ok.field-0-is c.in-Ok-Ok.ensures.tariff c.in-Ok-Ok.ensures.moment
     (made_tells c.args.loaded c.add_allowance.new.account c.new.result
-    (Some c.kept_allowance-kept.result) _ None None c.new.ensures.items
-    (ap Some c.kept_allowance-kept.ensures) refl) made
+    (Some (record {
+      content = content.Allow c.args.allowance;
+      answer = answer.Bucket c.in-Ok-Ok.number;
+    })) _ None None c.new.ensures.items
+    refl refl) made
 
 pub returns-in-Ok-Ok-clause-served : goal.returns-in-Ok-Ok-clause-served
 returns-in-Ok-Ok-clause-served g c = λ clean b load fresh list time is le.
@@ -53,19 +62,24 @@ returns-in-Ok-Ok-clause-left g c = λ honest t l.
     (done g (goal.at.returns-in-Ok-Ok-clause-left g c).After-commit t made b load fresh
     list time is le).tables)
 
-pub returns-in-Ok-Err-clause-served : goal.returns-in-Ok-Err-clause-served
-returns-in-Ok-Err-clause-served g c = λ clean b load fresh list time is le.
-    allow-told b list c.args.allowance c.args.moment (g.K.Keeper.content c.args.keeper.now)
+pub returns-in_ok-refuse-in-Ok-Err-clause-served : goal.returns-in_ok-refuse-in-Ok-Err-clause-served
+returns-in_ok-refuse-in-Ok-Err-clause-served g c = λ clean b load fresh list time is le.
+    served-as b list (command.Allow c.args.allowance) c.args.moment
+    (g.K.Keeper.content c.args.keeper.now) (g.K.Keeper.content c.abandon.new.self)
+    c.in_ok-refuse-in-Ok-Err.field-0 _ c.in_ok-refuse-in-Ok-Err.ensures
+    (allow-told b list c.args.allowance c.args.moment (g.K.Keeper.content c.args.keeper.now)
     (g.K.Keeper.content c.abandon.new.self) c.args.loaded time le is
     (record { load = load; account = c.moment_on-moment.ensures.kept })
     c.moment_on-moment.result fresh c.moment_on-moment.ensures.value c.in-Ok-Err.field-0
     c.add_allowance.new.account c.in-Ok-Err.ensures.allows c.in-Ok-Err.refusal
-    c.in-Ok-Err.field-0-is (ap g.K.Keeper.content c.abandon.ensures)
+    c.in-Ok-Err.field-0-is (ap g.K.Keeper.content c.abandon.ensures))
 
 pub returns-in-Ok-Ok-clause-refused : goal.returns-in-Ok-Ok-clause-refused
 returns-in-Ok-Ok-clause-refused g c = λ clean.
     accepted_given c.commit.result (answer.Bucket c.in-Ok-Ok.number) _ _ refl
     (c.commit.ensures.done clean)
 
-pub returns-in-Ok-Err-clause-refused : goal.returns-in-Ok-Err-clause-refused
-returns-in-Ok-Err-clause-refused g c = λ clean e. ap g.K.Keeper.content c.abandon.ensures
+pub returns-in_ok-refuse-in-Ok-Err-clause-refused :
+    goal.returns-in_ok-refuse-in-Ok-Err-clause-refused
+returns-in_ok-refuse-in-Ok-Err-clause-refused g c = λ clean e.
+    ap g.K.Keeper.content c.abandon.ensures

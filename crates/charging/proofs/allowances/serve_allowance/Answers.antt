@@ -5,7 +5,7 @@ use Rattle.keepers.specs.Change.{IsLoad}
 use Rattle.keepers.specs.Keys.{key_of}
 use Rattle.keepers.specs.Tables.{Tables}
 use Rattle.charging.specs.Stepping.{ServesAt, WritesAt, LeavesRefused}
-use Rattle.charging.proofs.Serving.{left_as, none_loaded, some_loaded}
+use Rattle.charging.proofs.Serving.{left_as, none_loaded, some_loaded, served-as}
 use Rattle.charging.proofs.Allowing.{allow-unknown, allow-again}
 use Rattle.charging.proofs.allowances.serve_allowance.Goals as goal
 use Rattle.charging.proofs.allowances.serve_allowance.Goals.{After-allow_account}
@@ -14,20 +14,23 @@ pub returns-in-Some-clause-served : goal.returns-in-Some-clause-served
 returns-in-Some-clause-served g c = λ clean list time is le.
     allow-again c.args.shelf.now list c.args.allowance c.args.moment
     (g.K.Keeper.content c.args.keeper.now) (g.K.Keeper.content c.find_allowance.new.keeper)
-    c.in-Some.kept c.repeated_allowance.result time le is
-    (sym (c.in_ok-kept.ensures.found clean) ∙ c.in-Some.is) c.repeated_allowance.ensures
+    c.in-Some.kept c.in_ok-repeated_allowance.field-0 time le is
+    (sym (c.in_ok-kept.ensures.found clean) ∙ c.in-Some.is) c.in_ok-repeated_allowance.ensures
     (c.in_ok-kept.ensures.same clean)
 
 pub returns-in_default-2-clause-served : goal.returns-in_default-2-clause-served
 returns-in_default-2-clause-served g c = λ clean list time is le.
     let same = c.in_ok-kept.ensures.same (c.in_ok-loaded.ensures.cleanness clean) in
-    allow-unknown c.args.shelf.now list c.args.allowance c.args.moment
+    served-as c.args.shelf.now list (command.Allow c.args.allowance) c.args.moment
+    (g.K.Keeper.content c.args.keeper.now) (g.K.Keeper.content c.load.new.self)
+    c.in_ok-refuse.field-0 _ c.in_ok-refuse.ensures
+    (allow-unknown c.args.shelf.now list c.args.allowance c.args.moment
     (g.K.Keeper.content c.args.keeper.now) (g.K.Keeper.content c.load.new.self) time le is
     (none_loaded c.args.shelf.now c.args.moment c.args.allowance.account
     (g.K.Keeper.content c.find_allowance.new.keeper)
     (g.K.Keeper.content c.args.keeper.now) c.in_ok-loaded.field-0 same
     (c.in_ok-loaded.ensures.found clean) c.in_default-2.is)
-    (c.in_ok-loaded.ensures.same clean ∙ same)
+    (c.in_ok-loaded.ensures.same clean ∙ same))
 
 -- what was loaded and what was looked for, of the tables before the call
 taken : (g : _) (c : After-allow_account g) → g.K.Keeper.clean c.load.new.self →

@@ -1,27 +1,35 @@
 use Rattle.std.proofs.Common.{subst, Option}
+use Rattle.commands.specs.declared.command.Command.TheVariants as command
 use Rattle.charging.specs.States.{TellsStateAt}
 use Rattle.charging.specs.declared.balances.AccountState.{AccountState}
+use Rattle.charging.proofs.Serving.{served-as}
 use Rattle.charging.proofs.Stated.{balance-unknown, balance-told}
 use Rattle.charging.proofs.balances.tell_balance.Goals as goal
 
 pub returns-in_default-clause-served : goal.returns-in_default-clause-served
 returns-in_default-clause-served g c = λ clean list time is le.
-    balance-unknown c.args.shelf.now list c.args.number c.args.moment
+    served-as c.args.shelf.now list (command.Balance c.args.number) c.args.moment
+    (g.K.Keeper.content c.args.keeper.now) (g.K.Keeper.content c.state_at.new.keeper)
+    c.in_ok-refuse.field-0 _ c.in_ok-refuse.ensures
+    (balance-unknown c.args.shelf.now list c.args.number c.args.moment
     (g.K.Keeper.content c.args.keeper.now) (g.K.Keeper.content c.state_at.new.keeper) time le is
     (subst (λ (o : Option AccountState). TellsStateAt c.args.shelf.now c.args.number c.args.moment
     (g.K.Keeper.content c.args.keeper.now) o) c.in_default.is (c.in_ok-state.ensures.found clean)
     list time is le)
-    (c.in_ok-state.ensures.same clean)
+    (c.in_ok-state.ensures.same clean))
 
 pub returns-clause-served : goal.returns-clause-served
 returns-clause-served g c = λ clean list time is le.
-    balance-told c.args.shelf.now list c.args.number c.args.moment
+    served-as c.args.shelf.now list (command.Balance c.args.number) c.args.moment
+    (g.K.Keeper.content c.args.keeper.now) (g.K.Keeper.content c.state_at.new.keeper)
+    c.in_ok-new.field-0 _ c.in_ok-new.ensures
+    (balance-told c.args.shelf.now list c.args.number c.args.moment
     (g.K.Keeper.content c.args.keeper.now) (g.K.Keeper.content c.state_at.new.keeper)
     c.in-Some.state c.in_ok-balance.balance time le is
     (subst (λ (o : Option AccountState). TellsStateAt c.args.shelf.now c.args.number c.args.moment
     (g.K.Keeper.content c.args.keeper.now) o) c.in-Some.is (c.in_ok-state.ensures.found clean)
     list time is le)
-    c.in_ok-balance.ensures (c.in_ok-state.ensures.same clean)
+    c.in_ok-balance.ensures (c.in_ok-state.ensures.same clean))
 
 pub returns-in_default-clause-refused : goal.returns-in_default-clause-refused
 returns-in_default-clause-refused g c = λ clean e. c.in_ok-state.ensures.same clean

@@ -7,7 +7,7 @@ use Rattle.keepers.specs.Change.{IsLoad}
 use Rattle.keepers.specs.Keys.{key_of}
 use Rattle.keepers.specs.Tables.{Tables}
 use Rattle.charging.specs.Stepping.{Answers, Commits}
-use Rattle.charging.proofs.Serving.{left_as, served-by}
+use Rattle.charging.proofs.Serving.{left_as, served-by, served-as}
 use Rattle.charging.proofs.Operated.{credit-told, credit-done, made_change, made_tells}
 use Rattle.charging.proofs.Refused.{accepted_given}
 use Rattle.charging.proofs.operators.credit_account.Goals as goal
@@ -16,7 +16,10 @@ use Rattle.charging.proofs.operators.credit_account.Goals.{After-commit}
 -- what its commit makes is what the credit comes to
 done : (g : _) (c : After-commit g) (t : Tables) →
     Commits (made_change c.args.loaded c.add_bucket.new.account c.new.result
-    (Some c.kept_credit-kept.result) None) (g.K.Keeper.content c.args.keeper.now) t → (b : Shelf) →
+    (Some (record {
+      content = c.kept_credit-kept.result;
+      answer = answer.Bucket c.in-Ok-Some.number;
+    })) None) (g.K.Keeper.content c.args.keeper.now) t → (b : Shelf) →
     IsLoad b c.args.moment c.args.credit.account
     ((g.K.Keeper.content c.args.keeper.now).rows c.args.credit.account) (Some c.args.loaded) →
     (g.K.Keeper.content c.args.keeper.now).answers c.args.credit.account
@@ -30,11 +33,20 @@ done g c t made = λ b load fresh list time is le.
     c.add_bucket.new.account c.in-Ok-Some.ensures.credits
     c.in-Ok-Some.number
     (made_change c.args.loaded c.add_bucket.new.account c.new.result
-    (Some c.kept_credit-kept.result) None)
+    (Some (record {
+      content = c.kept_credit-kept.result;
+      answer = answer.Bucket c.in-Ok-Some.number;
+    })) None)
     c.in-Ok-Some.field-0-is c.in-Ok-Some.ensures.tariff c.in-Ok-Some.ensures.moment
     (made_tells c.args.loaded c.add_bucket.new.account c.new.result
-    (Some c.kept_credit-kept.result) _ None None c.new.ensures.items
-    (ap Some c.kept_credit-kept.ensures) refl) made
+    (Some (record {
+      content = c.kept_credit-kept.result;
+      answer = answer.Bucket c.in-Ok-Some.number;
+    })) _ None None c.new.ensures.items
+    (λ i. Some (record {
+      content = c.kept_credit-kept.ensures i;
+      answer = answer.Bucket c.in-Ok-Some.number;
+    })) refl) made
 
 pub returns-in-Ok-Some-clause-served : goal.returns-in-Ok-Some-clause-served
 returns-in-Ok-Some-clause-served g c = λ clean b load fresh list time is le.
@@ -52,19 +64,25 @@ returns-in-Ok-Some-clause-left g c = λ honest t l.
     (done g (goal.at.returns-in-Ok-Some-clause-left g c).After-commit t made b load fresh
     list time is le).tables)
 
-pub returns-in-Ok-None-clause-served : goal.returns-in-Ok-None-clause-served
-returns-in-Ok-None-clause-served g c = λ clean b load fresh list time is le.
-    credit-told b list c.args.credit c.args.moment (g.K.Keeper.content c.args.keeper.now)
+pub returns-in_ok-refuse-in-Ok-None-clause-served :
+    goal.returns-in_ok-refuse-in-Ok-None-clause-served
+returns-in_ok-refuse-in-Ok-None-clause-served g c = λ clean b load fresh list time is le.
+    served-as b list (command.Credit c.args.credit) c.args.moment
+    (g.K.Keeper.content c.args.keeper.now) (g.K.Keeper.content c.abandon.new.self)
+    c.in_ok-refuse-in-Ok-None.field-0 _ c.in_ok-refuse-in-Ok-None.ensures
+    (credit-told b list c.args.credit c.args.moment (g.K.Keeper.content c.args.keeper.now)
     (g.K.Keeper.content c.abandon.new.self) c.args.loaded time le is
     (record { load = load; account = c.moment_on-moment.ensures.kept })
     c.moment_on-moment.result fresh c.moment_on-moment.ensures.value c.in-Ok-None.field-0
     c.add_bucket.new.account c.in-Ok-None.ensures.credits
-    c.in-Ok-None.field-0-is (ap g.K.Keeper.content c.abandon.ensures)
+    c.in-Ok-None.field-0-is (ap g.K.Keeper.content c.abandon.ensures))
 
 pub returns-in-Ok-Some-clause-refused : goal.returns-in-Ok-Some-clause-refused
 returns-in-Ok-Some-clause-refused g c = λ clean.
     accepted_given c.commit.result (answer.Bucket c.in-Ok-Some.number) _ _ refl
     (c.commit.ensures.done clean)
 
-pub returns-in-Ok-None-clause-refused : goal.returns-in-Ok-None-clause-refused
-returns-in-Ok-None-clause-refused g c = λ clean e. ap g.K.Keeper.content c.abandon.ensures
+pub returns-in_ok-refuse-in-Ok-None-clause-refused :
+    goal.returns-in_ok-refuse-in-Ok-None-clause-refused
+returns-in_ok-refuse-in-Ok-None-clause-refused g c = λ clean e.
+    ap g.K.Keeper.content c.abandon.ensures

@@ -6,7 +6,7 @@ use Rattle.keepers.specs.declared.loaded.Change.{Change}
 use Rattle.keepers.specs.Differing.{named_rows}
 use Rattle.keepers.specs.Tables.{Tables}
 use Rattle.charging.specs.Stepping.{Answers, Commits}
-use Rattle.charging.proofs.Serving.{commits-from, left_as, served-by}
+use Rattle.charging.proofs.Serving.{commits-from, left_as, served-by, served-as}
 use Rattle.charging.proofs.Operated.{not-there, open-again, open-done}
 use Rattle.charging.proofs.Refused.{accepted_given}
 use Rattle.charging.proofs.operators.open_account.Goals as goal
@@ -14,11 +14,14 @@ use Rattle.charging.proofs.operators.open_account.Goals.{After-commit}
 
 pub returns-then-branch-clause-served : goal.returns-then-branch-clause-served
 returns-then-branch-clause-served g c = λ clean list time is le.
-    open-again c.args.shelf.now list c.args.number c.args.moment
+    served-as c.args.shelf.now list (command.OpenAccount c.args.number) c.args.moment
+    (g.K.Keeper.content c.args.keeper.now) (g.K.Keeper.content c.has_account.new.self)
+    c.in_ok-refuse.field-0 _ c.in_ok-refuse.ensures
+    (open-again c.args.shelf.now list c.args.number c.args.moment
     (g.K.Keeper.content c.args.keeper.now) (g.K.Keeper.content c.has_account.new.self) time le
     is
     (sym (c.in_ok-has_account.ensures.found clean) ∙ c.if-branch.true)
-    (c.in_ok-has_account.ensures.same clean)
+    (c.in_ok-has_account.ensures.same clean))
 
 -- the change of a new account
 abbrev change : (g : _) → After-commit g → Change

@@ -2,7 +2,8 @@ use Rattle.std.proofs.Common.{◌≡◌, refl, Some, None}
 use Rattle.commands.specs.declared.answer.Answer.TheVariants as answer
 use Rattle.keepers.specs.Tables.{Tables}
 use Rattle.charging.specs.Stepping.{Answers, Commits, bar_command}
-use Rattle.charging.proofs.Serving.{none_loaded, some_loaded, commits-from, left_as, served-by}
+use Rattle.charging.proofs.Serving.{none_loaded, some_loaded, commits-from, left_as}
+use Rattle.charging.proofs.Serving.{served-by, served-as}
 use Rattle.charging.proofs.Operated.{bar-unknown, bar-done, made_change, made_tells}
 use Rattle.charging.proofs.Refused.{accepted_given}
 use Rattle.charging.proofs.operators.set_barred.Goals as goal
@@ -10,12 +11,15 @@ use Rattle.charging.proofs.operators.set_barred.Goals.{After-commit}
 
 pub returns-in_default-clause-served : goal.returns-in_default-clause-served
 returns-in_default-clause-served g c = λ clean list time is le.
-    bar-unknown c.args.shelf.now list c.args.number c.args.barred c.args.moment
+    served-as c.args.shelf.now list (bar_command c.args.number c.args.barred) c.args.moment
+    (g.K.Keeper.content c.args.keeper.now) (g.K.Keeper.content c.load.new.self)
+    c.in_ok-refuse.field-0 _ c.in_ok-refuse.ensures
+    (bar-unknown c.args.shelf.now list c.args.number c.args.barred c.args.moment
     (g.K.Keeper.content c.args.keeper.now) (g.K.Keeper.content c.load.new.self) time le is
     (none_loaded c.args.shelf.now c.args.moment c.args.number (g.K.Keeper.content c.args.keeper.now)
     (g.K.Keeper.content c.args.keeper.now) c.in_ok-loaded.field-0 refl
     (c.in_ok-loaded.ensures.found clean) c.in_default.is)
-    (c.in_ok-loaded.ensures.same clean)
+    (c.in_ok-loaded.ensures.same clean))
 
 -- what its commit makes is what the command comes to
 done : (g : _) (c : After-commit g) (t : Tables) → g.K.Keeper.clean c.load.new.self →

@@ -1,13 +1,19 @@
-use Rattle.charging.proofs.Serving.{left_as}
+use Rattle.std.proofs.Common.{◌∙◌, ap, sym}
+use Rattle.commands.specs.declared.command.Command.TheVariants as command
+use Rattle.charging.specs.Stepping.{is_unaccepted}
+use Rattle.charging.proofs.Serving.{left_as, served-as}
 use Rattle.charging.proofs.Operated.{sweep-served, sweep-writes}
 use Rattle.charging.proofs.Refused.{not_told}
 use Rattle.charging.proofs.operators.sweep.Goals as goal
 
 pub returns-clause-served : goal.returns-clause-served
 returns-clause-served g c = λ clean list time is le.
-    sweep-served c.args.shelf.now list c.args.moment c.in_ok-count.count
+    served-as c.args.shelf.now list command.Sweep c.args.moment
     (g.K.Keeper.content c.args.keeper.now) (g.K.Keeper.content c.sweep.new.self)
-    time is le (c.in_ok-count.ensures.count clean) (c.in_ok-count.ensures.done clean)
+    c.swept.result _ c.swept.ensures
+    (sweep-served c.args.shelf.now list c.args.moment c.in_ok-count.count
+    (g.K.Keeper.content c.args.keeper.now) (g.K.Keeper.content c.sweep.new.self)
+    time is le (c.in_ok-count.ensures.count clean) (c.in_ok-count.ensures.done clean))
 
 pub returns-clause-left : goal.returns-clause-left
 returns-clause-left g c = λ honest t l.
@@ -20,4 +26,4 @@ returns-in_err-count-clause-left g c = λ honest t l.
     (sweep-writes c.args.shelf.now c.args.moment (g.K.Keeper.content c.args.keeper.now) t)
 
 pub returns-clause-refused : goal.returns-clause-refused
-returns-clause-refused g c = λ clean e. not_told _ e
+returns-clause-refused g c = λ clean e. not_told _ (sym (ap is_unaccepted c.swept.ensures) ∙ e)

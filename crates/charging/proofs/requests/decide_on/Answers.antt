@@ -10,7 +10,7 @@ use Rattle.keepers.specs.Tables.{Tables}
 use Rattle.charging.specs.Stepping.{Answers, Commits, is_known, kept_of_request}
 use Rattle.charging.proofs.Operated.{made_change}
 use Rattle.charging.proofs.Requested.{request-told, request-done}
-use Rattle.charging.proofs.Serving.{left_as, served-by}
+use Rattle.charging.proofs.Serving.{left_as, served-by, served-as}
 use Rattle.charging.proofs.Refused.{accepted_given}
 use Rattle.charging.proofs.requests.decide_on.Goals as goal
 use Rattle.charging.proofs.requests.decide_on.Goals.{After-keep}
@@ -60,19 +60,22 @@ returns-in-Ok-clause-left g c = λ honest t l.
     (done g (goal.at.returns-in-Ok-clause-left g c).After-keep t made b load fresh new list
     time is le).tables)
 
-pub returns-in-Ok-2-clause-served : goal.returns-in-Ok-2-clause-served
-returns-in-Ok-2-clause-served g c = λ clean b load fresh new list time is le.
-    request-told b list c.args.request c.args.moment (g.K.Keeper.content c.args.keeper.now)
+pub returns-in_ok-new-in-Ok-2-clause-served : goal.returns-in_ok-new-in-Ok-2-clause-served
+returns-in_ok-new-in-Ok-2-clause-served g c = λ clean b load fresh new list time is le.
+    served-as b list (Ccr c.args.request) c.args.moment
+    (g.K.Keeper.content c.args.keeper.now) (g.K.Keeper.content c.abandon.new.self)
+    c.in_ok-new-in-Ok-2.field-0 _ c.in_ok-new-in-Ok-2.ensures
+    (request-told b list c.args.request c.args.moment (g.K.Keeper.content c.args.keeper.now)
     (g.K.Keeper.content c.abandon.new.self) c.args.loaded time le is
     (record { load = load; account = c.moment_on-moment.ensures.kept })
     fresh new c.moment_on-moment.result c.moment_on-moment.ensures.value
     c.in-Ok.decided.answer c.in-Ok.decided.accepted c.in-Ok.ensures.answer c.in-Ok.ensures.accepted
-    c.if-decide.false (ap g.K.Keeper.content c.abandon.ensures)
+    c.if-decide.false (ap g.K.Keeper.content c.abandon.ensures))
 
 pub returns-in-Ok-clause-refused : goal.returns-in-Ok-clause-refused
 returns-in-Ok-clause-refused g c = λ clean.
     accepted_given c.keep.result (answer.Request c.in-Ok.decided.answer) _ _
     (ap not (c.in-Ok.decided.told c.if-decide.true)) (c.keep.ensures.done clean)
 
-pub returns-in-Ok-2-clause-refused : goal.returns-in-Ok-2-clause-refused
-returns-in-Ok-2-clause-refused g c = λ clean e. ap g.K.Keeper.content c.abandon.ensures
+pub returns-in_ok-new-in-Ok-2-clause-refused : goal.returns-in_ok-new-in-Ok-2-clause-refused
+returns-in_ok-new-in-Ok-2-clause-refused g c = λ clean e. ap g.K.Keeper.content c.abandon.ensures

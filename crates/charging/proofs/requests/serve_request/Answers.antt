@@ -23,11 +23,11 @@ returns-then-branch-clause-served g c = λ clean list time is le.
     let before = c.in_ok-read.ensures.same clean_read ∙ c.in_ok-kept.ensures.same clean_find in
     request-known c.args.shelf.now list c.args.request c.args.moment
     (g.K.Keeper.content c.args.keeper.now) (g.K.Keeper.content c.is_known.new.keeper)
-    c.in_ok-failed.field-0 time le is
+    c.in_ok-tell_failed.field-0 time le is
     (sym (c.in_ok-kept.ensures.found clean_find) ∙ c.in_default.is)
     (ap (is_known c.args.request) (sym before) ∙ sym (c.in_ok-is_known.ensures.found clean)
     ∙ c.if-branch.true)
-    c.in_ok-failed.ensures (c.in_ok-is_known.ensures.same clean ∙ before)
+    c.in_ok-tell_failed.ensures (c.in_ok-is_known.ensures.same clean ∙ before)
 
 pub returns-in_default-2-clause-served : goal.returns-in_default-2-clause-served
 returns-in_default-2-clause-served g c = λ clean list time is le.
@@ -38,12 +38,12 @@ returns-in_default-2-clause-served g c = λ clean list time is le.
     ∙ c.in_ok-kept.ensures.same clean_find in
     request-unknown c.args.shelf.now list c.args.request c.args.moment
     (g.K.Keeper.content c.args.keeper.now)
-    (g.K.Keeper.content c.load.new.self) c.in_ok-failed-2.field-0 time le is
+    (g.K.Keeper.content c.load.new.self) c.in_ok-tell_failed-2.field-0 time le is
     (none_loaded c.args.shelf.now c.args.moment c.args.request.account
     (g.K.Keeper.content c.is_known.new.keeper)
     (g.K.Keeper.content c.args.keeper.now) c.in_ok-loaded.field-0 same
     (c.in_ok-loaded.ensures.found clean) c.in_default-2.is)
-    c.in_ok-failed-2.ensures (c.in_ok-loaded.ensures.same clean ∙ same)
+    c.in_ok-tell_failed-2.ensures (c.in_ok-loaded.ensures.same clean ∙ same)
 
 -- what was loaded and what was looked for, of the tables before the call
 taken : (g : _) (c : After-decide_on g) → g.K.Keeper.clean c.load.new.self →

@@ -1,8 +1,17 @@
 use Rattle.charging.proofs.Accounted.{served_again}
 use Rattle.charging.proofs.stepping.step.Goals as goal
 
-pub returns-clause-again : goal.returns-clause-again
-returns-clause-again g c = λ clean.
-    served_again c.args.shelf.now c.args.command c.args.moment
-    (g.K.Keeper.content c.args.keeper.now)
-    (g.K.Keeper.content c.serve.new.keeper) c.serve.result (c.serve.ensures.served clean)
+pub returns : goal.returns
+returns g c = record {
+  served = c.serve.ensures.served;
+  refused = c.serve.ensures.refused;
+  err = c.serve.ensures.kept.err;
+  cleanness = c.serve.ensures.kept.cleanness;
+  honesty = c.serve.ensures.kept.honesty;
+  stands = c.serve.ensures.stands;
+  left = c.serve.ensures.left;
+  cause = c.serve.ensures.kept.cause;
+  again = λ clean. served_again c.args.shelf.now c.args.command c.args.moment
+      (g.K.Keeper.content c.args.keeper.now) (g.K.Keeper.content c.serve.new.keeper)
+      c.serve.result (c.serve.ensures.served clean);
+}

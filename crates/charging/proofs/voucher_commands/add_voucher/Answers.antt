@@ -5,8 +5,8 @@ use Rattle.voucher_rules.specs.Adding.{addition}
 use Rattle.shelves.specs.Shelves.{Shelf}
 use Rattle.keepers.specs.Change.{with_voucher}
 use Rattle.keepers.specs.Tables.{Tables}
-use Rattle.charging.specs.Stepping.{Answers}
-use Rattle.charging.proofs.Serving.{left_as}
+use Rattle.charging.specs.Stepping.{Answers, is_unaccepted}
+use Rattle.charging.proofs.Serving.{left_as, served-as}
 use Rattle.charging.proofs.Vouchered.{add-told, add-done}
 use Rattle.charging.proofs.Refused.{not_told}
 use Rattle.charging.proofs.voucher_commands.add_voucher.Goals as goal
@@ -28,10 +28,13 @@ done g c t clean_find made = λ b list time is le.
 
 pub returns-in_ok-add_voucher-in-New-clause-served :
     goal.returns-in_ok-add_voucher-in-New-clause-served
-returns-in_ok-add_voucher-in-New-clause-served g c = λ clean.
-    done g (goal.at.returns-in_ok-add_voucher-in-New-clause-served g c).After-add_voucher
+returns-in_ok-add_voucher-in-New-clause-served g c = λ clean b list time is le.
+    served-as b list (command.AddVoucher c.args.addition) c.args.moment
+    (g.K.Keeper.content c.args.keeper.now) (g.K.Keeper.content c.add_voucher.new.self)
+    c.in_ok-done.done answer.Done c.in_ok-done.ensures
+    (done g (goal.at.returns-in_ok-add_voucher-in-New-clause-served g c).After-add_voucher
     (g.K.Keeper.content c.add_voucher.new.self) (c.add_voucher.ensures.kept.cleanness clean)
-    (c.in_ok-add_voucher-in-New.ensures.done clean)
+    (c.in_ok-add_voucher-in-New.ensures.done clean) b list time is le)
 
 pub returns-in_ok-add_voucher-in-New-clause-left :
     goal.returns-in_ok-add_voucher-in-New-clause-left
@@ -56,24 +59,36 @@ returns-in-Present-clause-served g c = λ clean b list time is le.
     let v = c.args.addition in
     let present = ap (λ o. addition o v.terms) (sym (c.in_ok-found.ensures.found clean))
     ∙ sym c.add.ensures.value ∙ c.in-Present.is in
-    add-told b list v c.args.moment (g.K.Keeper.content c.args.keeper.now)
+    served-as b list (command.AddVoucher c.args.addition) c.args.moment
+    (g.K.Keeper.content c.args.keeper.now) (g.K.Keeper.content c.find_voucher.new.self)
+    c.in_ok-done.done _ c.in_ok-done.ensures
+    (add-told b list v c.args.moment (g.K.Keeper.content c.args.keeper.now)
     (g.K.Keeper.content c.find_voucher.new.self) time le is _ present _ refl refl
-    (c.in_ok-found.ensures.same clean)
+    (c.in_ok-found.ensures.same clean))
 
-pub returns-in-Conflicting-clause-served : goal.returns-in-Conflicting-clause-served
-returns-in-Conflicting-clause-served g c = λ clean b list time is le.
+pub returns-in_ok-refuse-in-Conflicting-clause-served :
+    goal.returns-in_ok-refuse-in-Conflicting-clause-served
+returns-in_ok-refuse-in-Conflicting-clause-served g c = λ clean b list time is le.
     let v = c.args.addition in
     let conflicting = ap (λ o. addition o v.terms) (sym (c.in_ok-found.ensures.found clean))
     ∙ sym c.add.ensures.value ∙ c.in-Conflicting.is in
-    add-told b list v c.args.moment (g.K.Keeper.content c.args.keeper.now)
+    served-as b list (command.AddVoucher c.args.addition) c.args.moment
+    (g.K.Keeper.content c.args.keeper.now) (g.K.Keeper.content c.find_voucher.new.self)
+    c.in_ok-refuse-in-Conflicting.field-0 _ c.in_ok-refuse-in-Conflicting.ensures
+    (add-told b list v c.args.moment (g.K.Keeper.content c.args.keeper.now)
     (g.K.Keeper.content c.find_voucher.new.self) time le is _ conflicting _ refl refl
-    (c.in_ok-found.ensures.same clean)
+    (c.in_ok-found.ensures.same clean))
 
-pub returns-in_ok-add_voucher-in-New-clause-refused : goal.returns-in_ok-add_voucher-in-New-clause-refused
-returns-in_ok-add_voucher-in-New-clause-refused g c = λ clean e. not_told _ e
+pub returns-in_ok-add_voucher-in-New-clause-refused :
+    goal.returns-in_ok-add_voucher-in-New-clause-refused
+returns-in_ok-add_voucher-in-New-clause-refused g c = λ clean e.
+    not_told _ (sym (ap is_unaccepted c.in_ok-done.ensures) ∙ e)
 
 pub returns-in-Present-clause-refused : goal.returns-in-Present-clause-refused
-returns-in-Present-clause-refused g c = λ clean e. not_told _ e
+returns-in-Present-clause-refused g c = λ clean e.
+    not_told _ (sym (ap is_unaccepted c.in_ok-done.ensures) ∙ e)
 
-pub returns-in-Conflicting-clause-refused : goal.returns-in-Conflicting-clause-refused
-returns-in-Conflicting-clause-refused g c = λ clean e. c.in_ok-found.ensures.same clean
+pub returns-in_ok-refuse-in-Conflicting-clause-refused :
+    goal.returns-in_ok-refuse-in-Conflicting-clause-refused
+returns-in_ok-refuse-in-Conflicting-clause-refused g c = λ clean e.
+    c.in_ok-found.ensures.same clean

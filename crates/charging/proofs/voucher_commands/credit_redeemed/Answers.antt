@@ -9,7 +9,7 @@ use Rattle.keepers.specs.Keys.{key_of}
 use Rattle.keepers.specs.Tables.{Tables}
 use Rattle.charging.specs.Outcomes.{book_days}
 use Rattle.charging.specs.Stepping.{Answers, Commits}
-use Rattle.charging.proofs.Serving.{left_as, served-by}
+use Rattle.charging.proofs.Serving.{left_as, served-by, served-as}
 use Rattle.charging.proofs.Operated.{made_change, made_tells}
 use Rattle.charging.proofs.Vouchered.{redeem-told, redeem-done}
 use Rattle.charging.proofs.Refused.{accepted_given}
@@ -19,7 +19,10 @@ use Rattle.charging.proofs.voucher_commands.credit_redeemed.Goals.{After-commit}
 -- what its commit makes is what the redemption comes to
 done : (g : _) (c : After-commit g) (t : Tables) →
     Commits (made_change c.args.loaded c.make_bucket.new.account c.new.result
-    (Some c.kept_redemption-kept.result)
+    (Some (record {
+      content = content.Redeem c.args.asked;
+      answer = answer.Bucket c.in-Ok-Some.number;
+    }))
     (Some (record { code = c.args.code; voucher = c.args.redeemed.voucher })))
     (g.K.Keeper.content c.args.keeper.now) t → (b : Shelf) →
     IsLoad b c.args.moment c.args.asked.account
@@ -37,13 +40,19 @@ done g c t made = λ b load fresh code redeems list time is le.
     c.in-Ok-Some.field-0 c.make_bucket.new.account c.in-Ok-Some.ensures.makes
     c.in-Ok-Some.number
     (made_change c.args.loaded c.make_bucket.new.account c.new.result
-    (Some c.kept_redemption-kept.result)
+    (Some (record {
+      content = content.Redeem c.args.asked;
+      answer = answer.Bucket c.in-Ok-Some.number;
+    }))
     (Some (record { code = c.args.code; voucher = c.args.redeemed.voucher })))
     c.in-Ok-Some.field-0-is c.in-Ok-Some.ensures.tariff c.in-Ok-Some.ensures.moment
     (made_tells c.args.loaded c.make_bucket.new.account c.new.result
-    (Some c.kept_redemption-kept.result) _
+    (Some (record {
+      content = content.Redeem c.args.asked;
+      answer = answer.Bucket c.in-Ok-Some.number;
+    })) _
     (Some (record { code = c.args.code; voucher = c.args.redeemed.voucher })) _ c.new.ensures.items
-    (ap Some c.kept_redemption-kept.ensures)
+    refl
     (λ i. Some (record { code = code i; voucher = c.args.redeemed.voucher }))) made
 
 pub returns-in-Ok-Some-clause-served : goal.returns-in-Ok-Some-clause-served
@@ -62,19 +71,26 @@ returns-in-Ok-Some-clause-left g c = λ honest t l.
     (done g (goal.at.returns-in-Ok-Some-clause-left g c).After-commit t made b load fresh code
     redeems list time is le).tables)
 
-pub returns-in-Ok-None-clause-served : goal.returns-in-Ok-None-clause-served
-returns-in-Ok-None-clause-served g c = λ clean b load fresh code redeems list time is le.
-    redeem-told b list c.args.asked c.args.moment (g.K.Keeper.content c.args.keeper.now)
+pub returns-in_ok-refuse-in-Ok-None-clause-served :
+    goal.returns-in_ok-refuse-in-Ok-None-clause-served
+returns-in_ok-refuse-in-Ok-None-clause-served g c =
+    λ clean b load fresh code redeems list time is le.
+    served-as b list (command.Redeem c.args.asked) c.args.moment
+    (g.K.Keeper.content c.args.keeper.now) (g.K.Keeper.content c.abandon.new.self)
+    c.in_ok-refuse-in-Ok-None.field-0 _ c.in_ok-refuse-in-Ok-None.ensures
+    (redeem-told b list c.args.asked c.args.moment (g.K.Keeper.content c.args.keeper.now)
     (g.K.Keeper.content c.abandon.new.self) c.args.loaded time le is
     (record { load = load; account = c.moment_on-moment.ensures.kept })
     c.moment_on-moment.result fresh c.moment_on-moment.ensures.value c.args.redeemed redeems
     c.in-Ok-None.field-0 c.make_bucket.new.account c.in-Ok-None.ensures.makes
-    c.in-Ok-None.field-0-is (ap g.K.Keeper.content c.abandon.ensures)
+    c.in-Ok-None.field-0-is (ap g.K.Keeper.content c.abandon.ensures))
 
 pub returns-in-Ok-Some-clause-refused : goal.returns-in-Ok-Some-clause-refused
 returns-in-Ok-Some-clause-refused g c = λ clean.
     accepted_given c.commit.result (answer.Bucket c.in-Ok-Some.number) _ _ refl
     (c.commit.ensures.done clean)
 
-pub returns-in-Ok-None-clause-refused : goal.returns-in-Ok-None-clause-refused
-returns-in-Ok-None-clause-refused g c = λ clean e. ap g.K.Keeper.content c.abandon.ensures
+pub returns-in_ok-refuse-in-Ok-None-clause-refused :
+    goal.returns-in_ok-refuse-in-Ok-None-clause-refused
+returns-in_ok-refuse-in-Ok-None-clause-refused g c = λ clean e.
+    ap g.K.Keeper.content c.abandon.ensures

@@ -1,6 +1,5 @@
 use Rattle.std.proofs.Common.{rules, ◌≡◌, ◌∙◌, ap, sym, subst, Ok, Some, None}
 use Rattle.commands.specs.declared.answer.Answer.TheVariants as answer
-use Rattle.commands.specs.declared.answer.Refusal.{Refusal}
 use Rattle.commands.specs.declared.command.Command.TheVariants as command
 use Rattle.commands.specs.declared.command.Content.TheVariants as content
 use Rattle.voucher_rules.specs.Redeeming.{redemption}
@@ -8,9 +7,8 @@ use Rattle.keepers.specs.Change.{IsLoad}
 use Rattle.keepers.specs.Keys.{key_of}
 use Rattle.keepers.specs.Tables.{Tables}
 use Rattle.charging.specs.Outcomes.{book_days}
-use Rattle.charging.specs.Served.{IsServed}
 use Rattle.charging.specs.Stepping.{ServesAt, WritesAt, LeavesRefused}
-use Rattle.charging.proofs.Serving.{left_as, none_loaded, some_loaded}
+use Rattle.charging.proofs.Serving.{left_as, none_loaded, some_loaded, served-as}
 use Rattle.charging.proofs.Vouchered.{redeem-unknown, redeem-again, redeem-refused}
 use Rattle.charging.proofs.voucher_commands.serve_redemption.Goals as goal
 use Rattle.charging.proofs.voucher_commands.serve_redemption.Goals.{After-credit_redeemed}
@@ -19,8 +17,8 @@ pub returns-in-Some-clause-served : goal.returns-in-Some-clause-served
 returns-in-Some-clause-served g c = λ clean list time is le.
     redeem-again c.args.shelf.now list c.args.asked c.args.moment
     (g.K.Keeper.content c.args.keeper.now) (g.K.Keeper.content c.find_redemption.new.keeper)
-    c.in-Some.kept c.repeated_redemption.result time le is
-    (sym (c.in_ok-kept.ensures.found clean) ∙ c.in-Some.is) c.repeated_redemption.ensures
+    c.in-Some.kept c.in_ok-repeated_redemption.field-0 time le is
+    (sym (c.in_ok-kept.ensures.found clean) ∙ c.in-Some.is) c.in_ok-repeated_redemption.ensures
     (c.in_ok-kept.ensures.same clean)
 
 -- what was loaded and what was looked for, of the tables before the call
@@ -76,8 +74,8 @@ returns-in-Ok-clause-left g c = λ honest t l.
     WritesAt c.args.shelf.now (command.Redeem c.args.asked) c.args.moment x t) known.4
     (writes c.args.shelf.now known.0 known.1 known.2 known.3))
 
-pub returns-in-Err-clause-served : goal.returns-in-Err-clause-served
-returns-in-Err-clause-served g c = λ clean list time is le.
+pub returns-in_ok-refuse-in-Err-clause-served : goal.returns-in_ok-refuse-in-Err-clause-served
+returns-in_ok-refuse-in-Err-clause-served g c = λ clean list time is le.
     let given = ap g.K.Keeper.content c.abandon.ensures in
     let clean_load = subst g.K.Keeper.clean c.abandon.ensures clean in
     let clean_voucher = c.in_ok-loaded.ensures.cleanness clean_load in
@@ -96,9 +94,10 @@ returns-in-Err-clause-served g c = λ clean list time is le.
     ((λ i. (sym same_find i).vouchers c.args.asked.code)
     ∙ sym (c.in_ok-found.ensures.found clean_voucher))
     ∙ sym c.in_ok-redeemed.ensures ∙ c.in-Err.is in
-    subst (λ (x : Refusal). IsServed c.args.shelf.now list (command.Redeem c.args.asked)
-    c.args.moment (g.K.Keeper.content c.args.keeper.now) (g.K.Keeper.content c.abandon.new.self)
-    (answer.Refused x)) (sym c.told_refusal.ensures)
+    served-as c.args.shelf.now list (command.Redeem c.args.asked) c.args.moment
+    (g.K.Keeper.content c.args.keeper.now) (g.K.Keeper.content c.abandon.new.self)
+    c.in_ok-refuse-in-Err.field-0 _
+    (c.in_ok-refuse-in-Err.ensures ∙ ap answer.Refused c.told_refusal.ensures)
     (redeem-refused c.args.shelf.now list c.args.asked c.args.moment
     (g.K.Keeper.content c.args.keeper.now) (g.K.Keeper.content c.abandon.new.self)
     c.in-Some-2.loaded c.in-Err.refusal time le is loads fresh redeems
@@ -109,13 +108,16 @@ returns-in_default-2-clause-served g c = λ clean list time is le.
     let clean_voucher = c.in_ok-loaded.ensures.cleanness clean in
     let same = c.in_ok-found.ensures.same clean_voucher
     ∙ c.in_ok-kept.ensures.same (c.in_ok-found.ensures.cleanness clean_voucher) in
-    redeem-unknown c.args.shelf.now list c.args.asked c.args.moment
+    served-as c.args.shelf.now list (command.Redeem c.args.asked) c.args.moment
+    (g.K.Keeper.content c.args.keeper.now) (g.K.Keeper.content c.load.new.self)
+    c.in_ok-refuse.field-0 _ c.in_ok-refuse.ensures
+    (redeem-unknown c.args.shelf.now list c.args.asked c.args.moment
     (g.K.Keeper.content c.args.keeper.now) (g.K.Keeper.content c.load.new.self) time le is
     (none_loaded c.args.shelf.now c.args.moment c.args.asked.account
     (g.K.Keeper.content c.find_voucher.new.self)
     (g.K.Keeper.content c.args.keeper.now) c.in_ok-loaded.field-0 same
     (c.in_ok-loaded.ensures.found clean) c.in_default-2.is)
-    (c.in_ok-loaded.ensures.same clean ∙ same)
+    (c.in_ok-loaded.ensures.same clean ∙ same))
 
 pub returns-in-Some-clause-refused : goal.returns-in-Some-clause-refused
 returns-in-Some-clause-refused g c = λ clean e. c.in_ok-kept.ensures.same clean
@@ -127,8 +129,8 @@ returns-in-Ok-clause-refused g c = λ clean.
     subst (λ (x : Tables). LeavesRefused x (g.K.Keeper.content c.credit_redeemed.new.keeper)
     c.credit_redeemed.result) known.4 (c.credit_redeemed.ensures.refused clean)
 
-pub returns-in-Err-clause-refused : goal.returns-in-Err-clause-refused
-returns-in-Err-clause-refused g c = λ clean e.
+pub returns-in_ok-refuse-in-Err-clause-refused : goal.returns-in_ok-refuse-in-Err-clause-refused
+returns-in_ok-refuse-in-Err-clause-refused g c = λ clean e.
     let clean_load = subst g.K.Keeper.clean c.abandon.ensures clean in
     let clean_voucher = c.in_ok-loaded.ensures.cleanness clean_load in
     ap g.K.Keeper.content c.abandon.ensures ∙ c.in_ok-loaded.ensures.same clean_load

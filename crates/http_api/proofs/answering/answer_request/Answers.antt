@@ -5,8 +5,7 @@ use Rattle.http_messages.specs.Refusals.{number_of}
 use Rattle.http_messages.specs.Texts.{Begins, TellsFault, no_members, response}
 use Rattle.http_api.specs.Replies.{Replies}
 use Rattle.http_api.proofs.RequestReplies.{ok_gives, err_gives, refused_reply, unread_reply}
-use Rattle.http_api.proofs.RequestReplies.{command_reply, statement_reply, owed_command}
-use Rattle.http_api.proofs.RequestReplies.{not_memory}
+use Rattle.http_api.proofs.RequestReplies.{command_reply, statement_reply}
 use Rattle.http_api.proofs.ShownReplies.{shows_as, shows_same}
 use Rattle.http_api.proofs.answering.answer_request.Goals as goal
 
@@ -53,25 +52,6 @@ returns-in-States-clause-err g c = λ clean. err_gives c.serve_statement.result
     c.in-States.statement c.args.clock.now c.serve_statement.new.clock
     (g.K.Keeper.content c.args.keeper.now) (g.K.Keeper.content c.serve_statement.new.keeper) replies
     asking (subst (IsAsked asking) c.in-States.is asked)) (c.serve_statement.ensures.err clean)
-
-pub returns-in-Refused-clause-memory : goal.returns-in-Refused-clause-memory
-returns-in-Refused-clause-memory g c = λ clean e.
-    not_memory c.tell_refusal.result c.tell_refusal.ensures.fault e
-
-pub returns-in-Unread-clause-memory : goal.returns-in-Unread-clause-memory
-returns-in-Unread-clause-memory g c = λ clean e.
-    not_memory c.tell_fault.result c.tell_fault.ensures.fault e
-
-pub returns-in-Does-clause-memory : goal.returns-in-Does-clause-memory
-returns-in-Does-clause-memory g c = λ clean e asking asked.
-    owed_command g.C.Clock.gives c.args.shelf.now c.in-Does.command c.args.clock.now
-    c.serve_command.new.clock (g.K.Keeper.content c.args.keeper.now)
-    (g.K.Keeper.content c.serve_command.new.keeper) (c.serve_command.ensures.memory clean e) asking
-    (subst (IsAsked asking) c.in-Does.is asked)
-
-pub returns-in-States-clause-memory : goal.returns-in-States-clause-memory
-returns-in-States-clause-memory g c = λ clean e.
-    not_memory c.serve_statement.result c.serve_statement.ensures.fault e
 
 pub returns-in-Refused-clause-shown : goal.returns-in-Refused-clause-shown
 returns-in-Refused-clause-shown g c = shows_same

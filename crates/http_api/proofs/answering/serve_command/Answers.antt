@@ -2,12 +2,12 @@ use Rattle.std.proofs.Common.{refl, subst, Ok}
 use Rattle.std.specs.Io.KnownBytes.{Appends}
 use Rattle.http_messages.specs.Asking.{reads}
 use Rattle.http_messages.specs.Texts.{Begins, response, unable}
-use Rattle.http_messages.specs.Statuses.{service_unavailable}
+use Rattle.http_messages.specs.Statuses.{ok, service_unavailable}
+use Rattle.wire.specs.Spelled.{answer_text}
 use Rattle.http_api.specs.Replies.{Replies}
-use Rattle.http_api.specs.Told.{TellsAnswer}
 use Rattle.http_api.proofs.Continuing.{continued_step, leaves_step}
 use Rattle.http_api.proofs.RequestReplies.{ok_gives, err_gives, unclocked_reply, failed_reply}
-use Rattle.http_api.proofs.RequestReplies.{answered_reply, owed_answer, not_memory, not_read}
+use Rattle.http_api.proofs.RequestReplies.{served_reply}
 use Rattle.http_api.proofs.ShownReplies.{shows_new, shows_same}
 use Rattle.http_api.proofs.answering.serve_command.Goals as goal
 
@@ -19,10 +19,6 @@ returns-in_default-clause-ok g c = λ clean. ok_gives c.tell_unable.result
     (subst (λ o. g.C.Clock.gives c.args.clock.now o c.now.new.self) c.in_default.is c.now.ensures))
     c.tell_unable.ensures.ok
 
-pub returns-in_default-clause-memory : goal.returns-in_default-clause-memory
-returns-in_default-clause-memory g c = λ clean e.
-    not_memory c.tell_unable.result c.tell_unable.ensures.fault e
-
 pub returns-in_default-clause-err : goal.returns-in_default-clause-err
 returns-in_default-clause-err g c = λ clean. err_gives c.tell_unable.result
     (unclocked_reply g.C.Clock.gives c.args.shelf.now c.args.closes
@@ -33,31 +29,21 @@ returns-in_default-clause-err g c = λ clean. err_gives c.tell_unable.result
 
 pub returns-in-Ok-clause-ok : goal.returns-in-Ok-clause-ok
 returns-in-Ok-clause-ok g c = λ clean. ok_gives c.tell_answer.result
-    (answered_reply g.C.Clock.gives c.args.shelf.now c.args.closes
+    (served_reply g.C.Clock.gives c.args.shelf.now c.args.closes
     (Appends (g.W.Write.contents c.args.writer.now) (g.W.Write.contents c.tell_answer.new.writer))
-    c.args.command c.is_read_command-read.result c.in-Some.moment c.args.clock.now c.now.new.self
+    c.args.command c.in-Some.moment c.args.clock.now c.now.new.self
     (g.K.Keeper.content c.args.keeper.now) (g.K.Keeper.content c.step.new.keeper) c.in-Ok.answer
-    c.is_read_command-read.ensures
     (subst (λ o. g.C.Clock.gives c.args.clock.now o c.now.new.self) c.in-Some.is c.now.ensures)
     (c.in-Ok.ensures.served clean)) c.tell_answer.ensures.ok
 
 pub returns-in-Ok-clause-err : goal.returns-in-Ok-clause-err
 returns-in-Ok-clause-err g c = λ clean. err_gives c.tell_answer.result
-    (answered_reply g.C.Clock.gives c.args.shelf.now c.args.closes
+    (served_reply g.C.Clock.gives c.args.shelf.now c.args.closes
     (Begins (g.W.Write.contents c.args.writer.now) (g.W.Write.contents c.tell_answer.new.writer))
-    c.args.command c.is_read_command-read.result c.in-Some.moment c.args.clock.now c.now.new.self
+    c.args.command c.in-Some.moment c.args.clock.now c.now.new.self
     (g.K.Keeper.content c.args.keeper.now) (g.K.Keeper.content c.step.new.keeper) c.in-Ok.answer
-    c.is_read_command-read.ensures
     (subst (λ o. g.C.Clock.gives c.args.clock.now o c.now.new.self) c.in-Some.is c.now.ensures)
     (c.in-Ok.ensures.served clean)) c.tell_answer.ensures.err
-
-pub returns-in-Ok-clause-memory : goal.returns-in-Ok-clause-memory
-returns-in-Ok-clause-memory g c = λ clean e.
-    owed_answer g.C.Clock.gives c.args.shelf.now c.args.command c.is_read_command-read.result
-    c.in-Some.moment c.args.clock.now c.now.new.self (g.K.Keeper.content c.args.keeper.now)
-    (g.K.Keeper.content c.step.new.keeper) c.in-Ok.answer c.is_read_command-read.ensures
-    (subst (λ o. g.C.Clock.gives c.args.clock.now o c.now.new.self) c.in-Some.is c.now.ensures)
-    (c.in-Ok.ensures.served clean) (c.tell_answer.ensures.memory e)
 
 pub returns-in-Err-clause-ok : goal.returns-in-Err-clause-ok
 returns-in-Err-clause-ok g c = λ clean. ok_gives c.tell_unable-in-Err.result
@@ -77,14 +63,9 @@ returns-in-Err-clause-err g c = λ clean. err_gives c.tell_unable-in-Err.result
     (subst (λ o. g.C.Clock.gives c.args.clock.now o c.now.new.self) c.in-Some.is c.now.ensures)
     (c.in-Err.ensures.served clean)) c.tell_unable-in-Err.ensures.err
 
-pub returns-in-Err-clause-memory : goal.returns-in-Err-clause-memory
-returns-in-Err-clause-memory g c = λ clean e.
-    not_memory c.tell_unable-in-Err.result c.tell_unable-in-Err.ensures.fault e
-
 pub returns-in-Ok-clause-goes_on : goal.returns-in-Ok-clause-goes_on
 returns-in-Ok-clause-goes_on g c = record {
-  unwritten = c.tell_answer.ensures.unwritten;
-  read = c.tell_answer.ensures.read;
+  fault = c.tell_answer.ensures.fault;
   continued = λ clean. continued_step c.args.shelf.now c.args.command c.in-Some.moment
       (g.K.Keeper.content c.args.keeper.now) (g.K.Keeper.content c.step.new.keeper) c.step.result
       (c.step.ensures.served clean);
@@ -98,8 +79,7 @@ returns-in-Ok-clause-goes_on g c = record {
 
 pub returns-in-Err-clause-goes_on : goal.returns-in-Err-clause-goes_on
 returns-in-Err-clause-goes_on g c = record {
-  unwritten = not_memory c.tell_unable-in-Err.result c.tell_unable-in-Err.ensures.fault;
-  read = not_read c.tell_unable-in-Err.result c.tell_unable-in-Err.ensures.fault;
+  fault = c.tell_unable-in-Err.ensures.fault;
   continued = λ clean. continued_step c.args.shelf.now c.args.command c.in-Some.moment
       (g.K.Keeper.content c.args.keeper.now) (g.K.Keeper.content c.step.new.keeper) c.step.result
       (c.step.ensures.served clean);
@@ -130,12 +110,11 @@ returns-in-Ok-clause-shown g c = shows_new
     c.args.clock.now c.now.new.self) (g.W.Write.contents c.args.writer.now)
     (g.W.Write.contents c.tell_answer.new.writer) g.K.Keeper.content g.K.Keeper.honest
     g.K.Keeper.clean c.args.keeper.now c.step.new.keeper c.tell_answer.result
-    (TellsAnswer c.is_read_command-read.result c.in-Ok.answer c.args.closes)
+    (λ Writes. Writes (response ok c.args.closes (answer_text c.in-Ok.answer)))
     c.in-Ok.ensures.stands c.in-Ok.ensures.cleanness
-    (λ Writes clean tells. answered_reply g.C.Clock.gives c.args.shelf.now c.args.closes Writes
-    c.args.command c.is_read_command-read.result c.in-Some.moment c.args.clock.now c.now.new.self
+    (λ Writes clean tells. served_reply g.C.Clock.gives c.args.shelf.now c.args.closes Writes
+    c.args.command c.in-Some.moment c.args.clock.now c.now.new.self
     (g.K.Keeper.content c.args.keeper.now) (g.K.Keeper.content c.step.new.keeper) c.in-Ok.answer
-    c.is_read_command-read.ensures
     (subst (λ o. g.C.Clock.gives c.args.clock.now o c.now.new.self) c.in-Some.is c.now.ensures)
     (c.in-Ok.ensures.served clean) tells) c.tell_answer.ensures.ok c.tell_answer.ensures.err
 

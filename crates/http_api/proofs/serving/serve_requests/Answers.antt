@@ -6,12 +6,12 @@ use Rattle.charging.specs.Continued.{Continues, LeavesOn}
 use Rattle.http_messages.specs.Asking.{Asking, IsAsked}
 use Rattle.keepers.specs.Tables.{Tables}
 use Rattle.http_api.specs.Replies.{Replies}
-use Rattle.http_api.proofs.RequestReplies.{at_err, fault_told}
+use Rattle.http_api.proofs.RequestReplies.{at_err, fault_told, not_memory, not_read}
 use Rattle.http_api.proofs.Continuing.{continued_none, continued_more, leaves_more}
 use Rattle.http_api.proofs.Taking.{IsOneMore, IsSoFar, taken_one, some_left, turns-more}
 use Rattle.http_api.proofs.Taking.{so_far-none, so_far-more, so_far-closed, so_far-broken}
 use Rattle.http_api.proofs.Taking.{so_far-ended, so_far-full, so_far-begun}
-use Rattle.http_api.proofs.Taking.{so_far-short, so_far-owed, so_far-unread, so_far-cut}
+use Rattle.http_api.proofs.Taking.{so_far-unread, so_far-cut}
 use Rattle.http_api.proofs.serving.serve_requests.Goals as goal
 use Rattle.http_api.proofs.serving.serve_requests.Goals.{After-answer_request}
 
@@ -116,11 +116,13 @@ returns-in_err-heard g c = record {
       (g.K.Keeper.content c.loop-served.keeper)
       (omega (arith, c.loop-served.invariant.turns)) (c.loop-served.invariant.so_far clean));
   memory = λ clean e.
-      so_far-short g.C.Clock.gives c.args.shelf.now c.loop-served.served c.loop-served.left
+      so_far-unread g.C.Clock.gives c.args.shelf.now c.loop-served.served c.loop-served.left
       (g.R.Read.remaining c.args.reader.now) (g.R.Read.remaining c.loop-served.reader)
       c.args.clock.now c.loop-served.clock (g.W.Write.contents c.args.writer.now)
       (g.W.Write.contents c.loop-served.writer) (g.K.Keeper.content c.args.keeper.now)
-      (g.K.Keeper.content c.loop-served.keeper) (c.loop-served.invariant.so_far clean);
+      (g.K.Keeper.content c.loop-served.keeper) c.loop-served-test.true
+      (some_left c.loop-served.left c.loop-served.served c.loop-served.invariant.turns
+      c.loop-served-test.true) (c.loop-served.invariant.so_far clean);
   read = λ clean e.
       so_far-unread g.C.Clock.gives c.args.shelf.now c.loop-served.served c.loop-served.left
       (g.R.Read.remaining c.args.reader.now) (g.R.Read.remaining c.loop-served.reader)
@@ -195,24 +197,12 @@ returns-in_err-answer_request g c = record {
       (g.W.Write.contents c.loop-served.writer) _ _ _ c.loop-served-test.true
       (one_more g (goal.at.returns-in_err-answer_request g c).After-answer_request _ clean
       (c.in_err-answer_request.ensures.err clean)));
-  memory = λ clean e.
-      let refused : c.answer_request.result ≡ Err broken.Memory =
-      fault_told c.answer_request.result c.from_residual-in_err-answer_request.result _
-      broken.Memory
-      c.in_err-answer_request.was c.from_residual-in_err-answer_request.ensures.1 e in
-      so_far-owed g.C.Clock.gives c.args.shelf.now c.loop-served.served c.loop-served.left
-      (g.R.Read.remaining c.args.reader.now) (g.R.Read.remaining c.loop-served.reader)
-      (g.R.Read.remaining c.hear.new.reader) c.args.clock.now c.loop-served.clock
-      c.answer_request.new.clock (g.W.Write.contents c.args.writer.now)
-      (g.W.Write.contents c.loop-served.writer) (g.W.Write.contents c.answer_request.new.writer)
-      (g.K.Keeper.content c.args.keeper.now) (g.K.Keeper.content c.loop-served.keeper)
-      (g.K.Keeper.content c.answer_request.new.keeper) c.in_ok-heard.field-0 c.in-Some.heard
-      c.in-Some.is (c.answer_request.ensures.goes_on.unwritten refused)
-      (c.loop-served.invariant.so_far (c.answer_request.ensures.goes_on.cleanness clean))
-      c.in_ok-heard.ensures.heard (c.answer_request.ensures.memory clean refused);
-  read = λ clean e. absurd (c.answer_request.ensures.goes_on.read (fault_told c.answer_request.result
-      c.from_residual-in_err-answer_request.result _ broken.Read c.in_err-answer_request.was
-      c.from_residual-in_err-answer_request.ensures.1 e));
+  memory = λ clean e. not_memory c.answer_request.result c.answer_request.ensures.goes_on.fault
+      (fault_told c.answer_request.result c.from_residual-in_err-answer_request.result _
+      broken.Memory c.in_err-answer_request.was c.from_residual-in_err-answer_request.ensures.1 e);
+  read = λ clean e. absurd (not_read c.answer_request.result c.answer_request.ensures.goes_on.fault
+      (fault_told c.answer_request.result c.from_residual-in_err-answer_request.result _
+      broken.Read c.in_err-answer_request.was c.from_residual-in_err-answer_request.ensures.1 e));
   write = λ clean e.
       so_far-cut g.C.Clock.gives c.args.shelf.now c.loop-served.served c.loop-served.left
       c.in-Some.heard.closes (g.R.Read.remaining c.args.reader.now) _ _ _ _

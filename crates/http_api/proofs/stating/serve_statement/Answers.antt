@@ -128,7 +128,7 @@ returns-in-None-clause-shown g c = shows_new
     c.args.clock.now c.now.new.self) (g.W.Write.contents c.args.writer.now)
     (g.W.Write.contents c.tell_unknown.new.writer) g.K.Keeper.content g.K.Keeper.honest
     g.K.Keeper.clean c.args.keeper.now c.account_state.new.keeper c.tell_unknown.result
-    (TellsAnswer true (Refused AccountUnknown) c.args.closes) c.in-Ok.ensures.stands
+    (TellsAnswer (Refused AccountUnknown) c.args.closes) c.in-Ok.ensures.stands
     c.in-Ok.ensures.cleanness
     (λ Writes clean tells. unknown_reply g.C.Clock.gives c.args.shelf.now c.args.closes Writes
     c.args.asked.now c.in-Some.moment c.args.clock.now c.now.new.self

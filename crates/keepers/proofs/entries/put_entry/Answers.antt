@@ -43,12 +43,12 @@ returns-in-Some-clause-done c =
           c.in_ok-write_entry.ensures.rows;
       answers = λ a k. seen_written (answer_of_entry k) c.args.number c.in-Some.place
           c.args.entries.now.items c.index_mut.result.now c.write_entry.new.entry at
-          c.index_mut.ensures.value c.write_entry.ensures.number (kept_after c.args.kept k) a
+          c.index_mut.ensures.value c.write_entry.ensures.number (kept_after c.args.kept.now k) a
           (c.in_ok-write_entry.ensures.answers k);
       charges = λ a. seen_written charges_of_entry c.args.number c.in-Some.place
           c.args.entries.now.items c.index_mut.result.now c.write_entry.new.entry at
           c.index_mut.ensures.value c.write_entry.ensures.number
-          (λ rows. rows ++ c.args.charges.items) a c.in_ok-write_entry.ensures.charges;
+          (λ rows. rows ++ c.args.charges.now.items) a c.in_ok-write_entry.ensures.charges;
       count = count_written c.args.number c.in-Some.place c.args.entries.now.items
           c.write_entry.new.entry at;
     }
@@ -70,12 +70,12 @@ returns-clause-done c = record {
       (over c.args.rows) a c.in_ok-entry.ensures.rows;
   answers = λ a k. ap (λ xs. answer_of_entry k (entry_in a xs)) (added c)
       ∙ seen_added c.args.number c.args.entries.now.items _
-      (none_there c) c.in_ok-entry.ensures.number (answer_of_entry k) (kept_after c.args.kept k) a
+      (none_there c) c.in_ok-entry.ensures.number (answer_of_entry k) (kept_after c.args.kept.now k) a
       (c.in_ok-entry.ensures.answers k);
   charges = λ a. ap (λ xs. charges_of_entry (entry_in a xs)) (added c)
       ∙ seen_added c.args.number c.args.entries.now.items _
       (none_there c) c.in_ok-entry.ensures.number charges_of_entry
-      (λ rows. rows ++ c.args.charges.items) a c.in_ok-entry.ensures.charges;
+      (λ rows. rows ++ c.args.charges.now.items) a c.in_ok-entry.ensures.charges;
   count = ap length (added c)
       ∙ count_added c.args.number c.args.entries.now.items _
       (none_there c) c.in_ok-entry.ensures.number;

@@ -9,4 +9,4 @@ returns-then-place-rows c = λ e.
     let row : Session = c.index-rows-place.result in
     stands (is_session c.args.session.now) c.args.rows.now c.args.place row
     c.if-place-rows.true (ap (is_session c.args.session.now) (sym c.index-rows-place.is)
-    ∙ sym c.eq.ensures ∙ e)
+    ∙ c.is_one_name.ensures e)

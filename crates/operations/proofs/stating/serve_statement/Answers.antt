@@ -1,4 +1,4 @@
-use Rattle.std.proofs.Common.{subst, sym, Result}
+use Rattle.std.proofs.Common.{rules, subst, sym, Result}
 use Rattle.std.specs.Prelude.{OnOk}
 use Rattle.keepers.proofs.Placed.{on_ok}
 use Rattle.operations.specs.Months.{IsMonthTold, OnlyReads, month_ended}
@@ -12,98 +12,89 @@ use Rattle.operations.proofs.MonthLemmas.{unknown_begun, unknown_printed, unknow
 use Rattle.operations.proofs.WriteFaults.{IsNoReading, month_unread, no_reading}
 use Rattle.operations.proofs.stating.serve_statement.Goals as goal
 
-pub returns-in-Err-clause-told : goal.returns-in-Err-clause-told
-returns-in-Err-clause-told g c = λ clean.
-    nothing_told c.args.shelf.now c.args.query.now c.args.moment
-    (g.K.Keeper.content c.args.keeper.now) (g.W.Write.contents c.args.writer.now) _
-    (nothing_written (g.W.Write.contents c.args.writer.now))
-
-pub returns-in-Some-clause-told : goal.returns-in-Some-clause-told
-returns-in-Some-clause-told g c = λ clean.
-    let viewed = c.write_month.ensures.asks.cleanness clean in
-    let b = c.args.shelf.now in
-    let q = c.args.query.now in
-    let old = g.K.Keeper.content c.args.keeper.now in
-    let w0 = g.W.Write.contents c.args.writer.now in
-    let w1 = g.W.Write.contents c.write_month.new.writer in
-    subst (IsMonthTold b q c.args.moment old w0 w1) (sym c.month_ended.ensures)
-    (month_told b q c.args.moment old w0 w1 c.in-Ok.state c.in-Some.state
-    (g.K.Keeper.content c.account_state.new.keeper) (month_ended c.write_month.result)
-    (c.in-Ok.ensures.found viewed) c.in-Some.is (c.in-Ok.ensures.same viewed)
-    (tells_ended _ _ _ _ c.write_month.result (c.write_month.ensures.writes clean)))
-
-pub returns-in-None-clause-told : goal.returns-in-None-clause-told
-returns-in-None-clause-told g c = λ clean.
-    unknown_told c.args.shelf.now c.args.query.now c.args.moment
-    (g.K.Keeper.content c.args.keeper.now)
-    (g.W.Write.contents c.args.writer.now) (g.W.Write.contents c.tell_unknown.new.writer)
-    c.in-Ok.state c.tell_unknown.result (c.in-Ok.ensures.found clean) c.in-None.is
-    c.tell_unknown.ensures.told
-
-pub returns-in-None-clause-reads : goal.returns-in-None-clause-reads
-returns-in-None-clause-reads g c = record {
-  same = λ clean. c.in-Ok.ensures.same clean;
-  cleanness = λ clean. c.in-Ok.ensures.cleanness clean;
-  kept = c.in-Ok.ensures.cause.kept;
-  cause = λ failed. absurd (c.tell_unknown.ensures.unstored failed);
+pub returns-in-Err : goal.returns-in-Err
+returns-in-Err g c = record {
+  told = λ clean.
+      nothing_told c.args.shelf.now c.args.query.now c.args.moment
+      (g.K.Keeper.content c.args.keeper.now) (g.W.Write.contents c.args.writer.now) _
+      (nothing_written (g.W.Write.contents c.args.writer.now));
+  ended = search rules;
+  printed = search rules;
+  begun = nothing_begun c.args.shelf.now c.args.query.now (g.W.Write.contents c.args.writer.now)
+      (nothing_written (g.W.Write.contents c.args.writer.now));
+  reads = search rules;
+  honesty = search rules;
+  stands = search rules;
+  fault = search rules;
+  left = search rules;
 }
 
-pub returns-in-Some-clause-reads : goal.returns-in-Some-clause-reads
-returns-in-Some-clause-reads g c =
-    subst (OnlyReads g.K.Keeper.content g.K.Keeper.failed g.K.Keeper.clean c.args.keeper.now
-    c.write_month.new.keeper) (sym c.month_ended.ensures)
-    (reads_asked g.K.Keeper.content g.K.Keeper.failed g.K.Keeper.honest g.K.Keeper.clean
-    g.K.Keeper.left c.args.keeper.now c.account_state.new.keeper c.write_month.new.keeper c.write_month.result c.in-Ok.ensures.same
-    c.in-Ok.ensures.cleanness c.in-Ok.ensures.cause.kept c.write_month.ensures.asks)
+pub returns-in-Some : goal.returns-in-Some
+returns-in-Some g c = record {
+  told = λ clean.
+      let viewed = c.write_month.ensures.asks.cleanness clean in
+      let b = c.args.shelf.now in
+      let q = c.args.query.now in
+      let old = g.K.Keeper.content c.args.keeper.now in
+      let w0 = g.W.Write.contents c.args.writer.now in
+      let w1 = g.W.Write.contents c.write_month.new.writer in
+      subst (IsMonthTold b q c.args.moment old w0 w1) (sym c.month_ended.ensures)
+      (month_told b q c.args.moment old w0 w1 c.in-Ok.state c.in-Some.state
+      (g.K.Keeper.content c.account_state.new.keeper) (month_ended c.write_month.result)
+      (c.in-Ok.ensures.found viewed) c.in-Some.is (c.in-Ok.ensures.same viewed)
+      (tells_ended _ _ _ _ c.write_month.result (c.write_month.ensures.writes clean)));
+  ended = ended_done c.write_month.result c.month_ended.result _ c.month_ended.ensures;
+  printed = some_printed c.args.shelf.now c.args.query.now c.in-Some.state.moment
+      c.in-Some.state.buckets.items (g.W.Write.contents c.args.writer.now)
+      (g.W.Write.contents c.write_month.new.writer) c.write_month.result c.month_ended.result
+      c.month_ended.ensures c.write_month.ensures.some;
+  begun = some_begun c.args.shelf.now c.args.query.now c.in-Some.state.moment
+      c.in-Some.state.buckets.items (g.W.Write.contents c.args.writer.now)
+      (g.W.Write.contents c.write_month.new.writer) c.write_month.result c.month_ended.result
+      c.month_ended.ensures c.write_month.ensures.some;
+  reads = subst (OnlyReads g.K.Keeper.content g.K.Keeper.failed g.K.Keeper.clean c.args.keeper.now
+      c.write_month.new.keeper) (sym c.month_ended.ensures)
+      (reads_asked g.K.Keeper.content g.K.Keeper.failed g.K.Keeper.honest g.K.Keeper.clean
+      g.K.Keeper.left c.args.keeper.now c.account_state.new.keeper c.write_month.new.keeper
+      c.write_month.result c.in-Ok.ensures.same
+      c.in-Ok.ensures.cleanness c.in-Ok.ensures.cause.kept c.write_month.ensures.asks);
+  honesty = search rules;
+  stands = λ honest.
+      subst (λ (x : Result Status OfficeFault). OnOk x (g.K.Keeper.clean c.write_month.new.keeper))
+      (sym c.month_ended.ensures)
+      (ended_stands c.write_month.result (g.K.Keeper.clean c.write_month.new.keeper)
+      (c.write_month.ensures.asks.stands honest));
+  fault = λ fault told.
+      no_reading c.month_ended.result fault
+      (subst (λ (r : Result Status OfficeFault). IsNoReading r) (sym c.month_ended.ensures)
+      (month_unread c.write_month.result)) told;
+  left = search rules;
+}
 
-pub returns-in-Some-clause-stands : goal.returns-in-Some-clause-stands
-returns-in-Some-clause-stands g c = λ honest.
-    subst (λ (x : Result Status OfficeFault). OnOk x (g.K.Keeper.clean c.write_month.new.keeper))
-    (sym c.month_ended.ensures)
-    (ended_stands c.write_month.result (g.K.Keeper.clean c.write_month.new.keeper)
-    (c.write_month.ensures.asks.stands honest))
-
-pub returns-in-None-clause-stands : goal.returns-in-None-clause-stands
-returns-in-None-clause-stands g c = λ honest.
-    on_ok c.tell_unknown.result (c.in-Ok.ensures.stands honest)
-
-pub returns-in-Some-clause-ended : goal.returns-in-Some-clause-ended
-returns-in-Some-clause-ended g c =
-    ended_done c.write_month.result c.month_ended.result _ c.month_ended.ensures
-
-pub returns-in-Some-clause-printed : goal.returns-in-Some-clause-printed
-returns-in-Some-clause-printed g c =
-    some_printed c.args.shelf.now c.args.query.now c.in-Some.state.moment
-    c.in-Some.state.buckets.items (g.W.Write.contents c.args.writer.now)
-    (g.W.Write.contents c.write_month.new.writer) c.write_month.result c.month_ended.result
-    c.month_ended.ensures c.write_month.ensures.some
-
-pub returns-in-Some-clause-begun : goal.returns-in-Some-clause-begun
-returns-in-Some-clause-begun g c =
-    some_begun c.args.shelf.now c.args.query.now c.in-Some.state.moment
-    c.in-Some.state.buckets.items (g.W.Write.contents c.args.writer.now)
-    (g.W.Write.contents c.write_month.new.writer) c.write_month.result c.month_ended.result
-    c.month_ended.ensures c.write_month.ensures.some
-
-pub returns-in-None-clause-printed : goal.returns-in-None-clause-printed
-returns-in-None-clause-printed g c =
-    unknown_printed c.args.shelf.now c.args.query.now (g.W.Write.contents c.args.writer.now)
-    (g.W.Write.contents c.tell_unknown.new.writer) c.tell_unknown.result
-    c.tell_unknown.ensures.told
-
-pub returns-in-None-clause-begun : goal.returns-in-None-clause-begun
-returns-in-None-clause-begun g c =
-    unknown_begun c.args.shelf.now c.args.query.now (g.W.Write.contents c.args.writer.now)
-    (g.W.Write.contents c.tell_unknown.new.writer) c.tell_unknown.result
-    c.tell_unknown.ensures.told
-
-pub returns-in-Err-clause-begun : goal.returns-in-Err-clause-begun
-returns-in-Err-clause-begun g c =
-    nothing_begun c.args.shelf.now c.args.query.now (g.W.Write.contents c.args.writer.now)
-    (nothing_written (g.W.Write.contents c.args.writer.now))
-
-pub returns-in-Some-clause-fault : goal.returns-in-Some-clause-fault
-returns-in-Some-clause-fault g c = λ fault told.
-    no_reading c.month_ended.result fault
-    (subst (λ (r : Result Status OfficeFault). IsNoReading r) (sym c.month_ended.ensures)
-    (month_unread c.write_month.result)) told
+pub returns-in-None : goal.returns-in-None
+returns-in-None g c = record {
+  told = λ clean.
+      unknown_told c.args.shelf.now c.args.query.now c.args.moment
+      (g.K.Keeper.content c.args.keeper.now)
+      (g.W.Write.contents c.args.writer.now) (g.W.Write.contents c.tell_unknown.new.writer)
+      c.in-Ok.state c.tell_unknown.result (c.in-Ok.ensures.found clean) c.in-None.is
+      c.tell_unknown.ensures.told;
+  ended = search rules;
+  printed = unknown_printed c.args.shelf.now c.args.query.now (g.W.Write.contents c.args.writer.now)
+      (g.W.Write.contents c.tell_unknown.new.writer) c.tell_unknown.result
+      c.tell_unknown.ensures.told;
+  begun = unknown_begun c.args.shelf.now c.args.query.now (g.W.Write.contents c.args.writer.now)
+      (g.W.Write.contents c.tell_unknown.new.writer) c.tell_unknown.result
+      c.tell_unknown.ensures.told;
+  reads = record {
+    same = λ clean. c.in-Ok.ensures.same clean;
+    cleanness = λ clean. c.in-Ok.ensures.cleanness clean;
+    kept = c.in-Ok.ensures.cause.kept;
+    cause = λ failed. absurd (c.tell_unknown.ensures.unstored failed);
+  };
+  honesty = search rules;
+  stands = λ honest.
+      on_ok c.tell_unknown.result (c.in-Ok.ensures.stands honest);
+  fault = search rules;
+  left = search rules;
+}

@@ -17,7 +17,7 @@ loop-line-preserved g c =
     (g.R.Read.remaining c.next_line.new.reader) c.in-Some.line c.loop-line.input c.add_line.new.self
     c.loop-line.invariant
     (subst (λ l. IfSome (g.R.Read.remaining c.loop-line.reader) (λ stream. IsLineOf stream l
-    (g.R.Read.remaining c.next_line.new.reader))) c.in-Some.is c.in_ok-line.ensures)
+    (g.R.Read.remaining c.next_line.new.reader))) c.in-Some.is c.in_ok-line.ensures.line)
     (subst (λ (l : List ℕ). (read : List (Result DatedCommand WireFault)) →
     IsInput read c.loop-line.input → IsInput (read ++ line_request l ∷ []) c.add_line.new.self)
     c.deref.ensures.value c.in_ok-add_line.ensures)

@@ -1,4 +1,4 @@
-use Rattle.std.proofs.Common.{◌≡◌, ℕ, List, subst, map, refl, inl, inr}
+use Rattle.std.proofs.Common.{rules, ◌≡◌, ℕ, List, subst, map, refl, inl, inr}
 use Rattle.std.specs.Io.KnownBytes.{Appends}
 use Rattle.std.specs.Prelude.{◌≢◌, OnErr, OnOk}
 use Rattle.texts.specs.declared.streams.StreamFault.{StreamFault}
@@ -18,29 +18,37 @@ use Rattle.request_lines.proofs.Ended.{none_answered, none_begun}
 use Rattle.request_lines.proofs.HeldLines.{held-stream}
 use Rattle.request_lines.proofs.line_answers.lines.Goals as goal
 
-pub returns-in-Err-clause-answers : goal.returns-in-Err-clause-answers
-returns-in-Err-clause-answers g c = none_answered c.args.shelf.now c.args.opening
-    (g.R.Read.remaining c.args.reader.now) (g.W.Write.contents c.args.writer.now)
-    g.K.Keeper.content g.K.Keeper.failed g.K.Keeper.clean c.args.keeper.now _ _ refl
+pub returns-in-Err : goal.returns-in-Err
+returns-in-Err g c = record {
+  answers = none_answered c.args.shelf.now c.args.opening
+      (g.R.Read.remaining c.args.reader.now) (g.W.Write.contents c.args.writer.now)
+      g.K.Keeper.content g.K.Keeper.failed g.K.Keeper.clean c.args.keeper.now _ _ refl;
+  told = search rules;
+  begun = none_begun (g.W.Write.contents c.args.writer.now) (g.R.Read.remaining c.args.reader.now);
+  unread = search rules;
+  unwritten = search rules;
+  fault = search rules;
+  honesty = search rules;
+  stands = search rules;
+  asked = search rules;
+  left = λ clean honest t left. inl left;
+}
 
-pub returns-in_default-clause-answers : goal.returns-in_default-clause-answers
-returns-in_default-clause-answers g c = none_answered c.args.shelf.now c.args.opening
-    (g.R.Read.remaining c.args.reader.now) (g.W.Write.contents c.args.writer.now)
-    g.K.Keeper.content g.K.Keeper.failed g.K.Keeper.clean c.args.keeper.now _ _ refl
-
-pub returns-in-Err-clause-begun : goal.returns-in-Err-clause-begun
-returns-in-Err-clause-begun g c =
-    none_begun (g.W.Write.contents c.args.writer.now) (g.R.Read.remaining c.args.reader.now)
-
-pub returns-in_default-clause-begun : goal.returns-in_default-clause-begun
-returns-in_default-clause-begun g c =
-    none_begun (g.W.Write.contents c.args.writer.now) (g.R.Read.remaining c.args.reader.now)
-
-pub returns-in-Err-clause-left : goal.returns-in-Err-clause-left
-returns-in-Err-clause-left g c = λ clean honest t left. inl left
-
-pub returns-in_default-clause-left : goal.returns-in_default-clause-left
-returns-in_default-clause-left g c = λ clean honest t left. inl left
+pub returns-in_default : goal.returns-in_default
+returns-in_default g c = record {
+  answers = none_answered c.args.shelf.now c.args.opening
+      (g.R.Read.remaining c.args.reader.now) (g.W.Write.contents c.args.writer.now)
+      g.K.Keeper.content g.K.Keeper.failed g.K.Keeper.clean c.args.keeper.now _ _ refl;
+  told = search rules;
+  begun = none_begun (g.W.Write.contents c.args.writer.now) (g.R.Read.remaining c.args.reader.now);
+  unread = search rules;
+  unwritten = search rules;
+  fault = search rules;
+  honesty = search rules;
+  stands = search rules;
+  asked = search rules;
+  left = λ clean honest t left. inl left;
+}
 
 pub returns : goal.returns
 returns g c =

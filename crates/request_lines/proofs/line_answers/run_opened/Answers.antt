@@ -15,7 +15,8 @@ returns-then-is_some-clause-runs g c = λ clean.
     c.args.requests.items new answers c.run-fault.result.fault)) (sym c.new-answers.ensures.items)
     (opening-stopped b c.args.opening.items c.args.requests.items c.run-fault.result.fault
     c.run-fault.result.answers.items old new (sym c.is_some.ensures
-    ∙ c.if-is_some.true) c.run-fault.ensures.beginning c.run-fault.ensures.stopped (c.run-fault.ensures.runs clean))
+    ∙ c.if-is_some.true) c.run-fault.ensures.runs.beginning c.run-fault.ensures.runs.stopped
+    (c.run-fault.ensures.runs.runs clean))
 
 pub returns-clause-runs : goal.returns-clause-runs
 returns-clause-runs g c = λ clean.
@@ -25,11 +26,11 @@ returns-clause-runs g c = λ clean.
     let before = c.run-fault.result.answers.items in
     let all : length before ≡ length c.args.opening.items =
     where_none (length before ≡ length c.args.opening.items) c.run-fault.result.fault
-    (sym c.is_some.ensures ∙ c.if-is_some.false) c.run-fault.ensures.whole in
+    (sym c.is_some.ensures ∙ c.if-is_some.false) c.run-fault.ensures.runs.whole in
     requests-run c.args.shelf.now c.args.opening.items c.args.requests.items c.run.result.fault
     before c.run.result.answers.items old mid new all
-    (c.run-fault.ensures.runs (c.run.ensures.cleanness clean))
-    (c.run.ensures.runs clean) c.run.ensures.whole c.run.ensures.stopped
+    (c.run-fault.ensures.runs.runs (c.run.ensures.runs.cleanness clean))
+    (c.run.ensures.runs.runs clean) c.run.ensures.runs.whole c.run.ensures.runs.stopped
 
 pub returns-then-is_some-clause-whole : goal.returns-then-is_some-clause-whole
 returns-then-is_some-clause-whole g c =
@@ -41,16 +42,16 @@ returns-then-is_some-clause-stands g c = λ honest clean.
 
 pub returns-clause-stands : goal.returns-clause-stands
 returns-clause-stands g c = λ honest clean.
-    c.run.ensures.stands honest
+    c.run.ensures.runs.stands honest
     (where_none (g.K.Keeper.clean c.run-fault.new.keeper) c.run-fault.result.fault
     (sym c.is_some.ensures ∙ c.if-is_some.false)
-    (c.run-fault.ensures.stands (c.run.ensures.honesty honest) clean))
+    (c.run-fault.ensures.runs.stands (c.run.ensures.runs.honesty honest) clean))
 
 pub returns-then-is_some-clause-held : goal.returns-then-is_some-clause-held
 returns-then-is_some-clause-held g c = λ honest clean t left.
     held-opening c.args.shelf.now (g.K.Keeper.content c.args.keeper.now) t c.args.opening.items
     c.args.requests.items c.run-fault.result.answers.items
-    (c.run-fault.ensures.held honest clean t left)
+    (c.run-fault.ensures.runs.held honest clean t left)
 
 pub returns-clause-held : goal.returns-clause-held
 returns-clause-held g c = λ honest clean t left.
@@ -58,11 +59,11 @@ returns-clause-held g c = λ honest clean t left.
     let none = sym c.is_some.ensures ∙ c.if-is_some.false in
     let all : length before ≡ length c.args.opening.items =
     where_none (length before ≡ length c.args.opening.items) c.run-fault.result.fault none
-    c.run-fault.ensures.whole in
+    c.run-fault.ensures.runs.whole in
     let asked : g.K.Keeper.clean c.run-fault.new.keeper =
     where_none (g.K.Keeper.clean c.run-fault.new.keeper) c.run-fault.result.fault none
-    (c.run-fault.ensures.stands (c.run.ensures.honesty honest) clean) in
+    (c.run-fault.ensures.runs.stands (c.run.ensures.runs.honesty honest) clean) in
     held-requests c.args.shelf.now (g.K.Keeper.content c.args.keeper.now) t
     (g.K.Keeper.content c.run-fault.new.keeper) c.args.opening.items c.args.requests.items before
-    c.run.result.answers.items all (c.run-fault.ensures.runs asked)
-    (c.run.ensures.held honest asked t left)
+    c.run.result.answers.items all (c.run-fault.ensures.runs.runs asked)
+    (c.run.ensures.runs.held honest asked t left)

@@ -13,4 +13,5 @@ returns-then-place-sessions c = λ e.
     record { id = c.args.id.now; last_number = 0; touched = 0; state = Open } in
     found_at sessions_total (is_session c.args.id.now) named (session_ties named)
     c.args.place c.args.sessions.now row c.if-place-sessions.true
-    (ap (is_session c.args.id.now) (sym c.index-sessions-place.is) ∙ sym c.eq.ensures ∙ e) c.requires
+    (ap (is_session c.args.id.now) (sym c.index-sessions-place.is) ∙ c.is_one_name.ensures e)
+    c.requires

@@ -1,10 +1,19 @@
+use Rattle.std.proofs.Common.{rules}
 use Rattle.sqlite_wal.specs.Files.{image_at}
 use Rattle.charging.specs.Continued.{Continues}
 use Rattle.service.proofs.CleanOffices.{clean_from}
 use Rattle.service.proofs.listening.serve_over.Goals as goal
 
-pub returns-clause-continued : goal.returns-clause-continued
-returns-clause-continued g c =
-    clean_from (image_at g.S.Start) _ _ c.serve_office.result (λ r. r.1) Continues
-    c.in_ok-office.ensures.opened c.serve_office.ensures.cleanness
-    c.serve_office.ensures.continued
+pub returns : goal.returns
+returns g c = record {
+  continued = clean_from (image_at g.S.Start) _ _ c.serve_office.result (λ r. r.1) Continues
+      c.in_ok-office.ensures.opened c.serve_office.ensures.cleanness
+      c.serve_office.ensures.continued;
+  listening = search rules;
+  begun = search rules;
+  unwritten = search rules;
+  told = search rules;
+  bounded = search rules;
+  untold = search rules;
+  fault = search rules;
+}

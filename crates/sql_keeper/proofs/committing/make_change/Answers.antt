@@ -12,8 +12,9 @@ returns-in_err-write_change-clause-commits g c =
     c.in_ok-are_new.ensures.survives
     (become_at _ _ c.args.change.now _ c.as_of-named.ensures.named c.in_ok-texts.ensures.told
     c.in_ok-texts.ensures.rules
-    (omega (arith, c.seconds-moment.ensures.in_range, c.seconds-moment.ensures.value)) _ _ _
-    c.in_ok-are_new.ensures.only c.in_ok-are_new.ensures.found) _ _
+    (omega (arith, c.seconds-moment.ensures.in_range, c.seconds-moment.ensures.value)) _
+    c.args.seen.now _ _ c.in_ok-are_new.ensures.only c.in_ok-are_new.ensures.found
+    c.requires.seen) _ _
     c.in_err-write_change.ensures.transacts)
 
 pub returns-clause-commits : goal.returns-clause-commits
@@ -21,6 +22,7 @@ returns-clause-commits g c =
     written _ _ _ _ _ c.in_ok-are_new.ensures.only c.in_ok-are_new.ensures.survives
     (become_at _ _ c.args.change.now _ c.as_of-named.ensures.named c.in_ok-texts.ensures.told
     c.in_ok-texts.ensures.rules
-    (omega (arith, c.seconds-moment.ensures.in_range, c.seconds-moment.ensures.value)) _ _ _
-    c.in_ok-are_new.ensures.only c.in_ok-are_new.ensures.found) _ _
+    (omega (arith, c.seconds-moment.ensures.in_range, c.seconds-moment.ensures.value)) _
+    c.args.seen.now _ _ c.in_ok-are_new.ensures.only c.in_ok-are_new.ensures.found
+    c.requires.seen) _ _
     c.in_ok-write_change.ensures.transacts

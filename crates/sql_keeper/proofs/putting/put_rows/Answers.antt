@@ -1,5 +1,5 @@
 use Rattle.sql_keeper.specs.Content.{shelf_names}
-use Rattle.sql_keeper.specs.Writes.{with_all_paid, with_named}
+use Rattle.sql_keeper.specs.Writes.{with_all_charged, with_named}
 use Rattle.sql_keeper.proofs.Puts.{makes_all_then, puts_paid}
 use Rattle.sql_keeper.proofs.putting.put_rows.Goals as goal
 
@@ -7,8 +7,9 @@ pub returns-clause-makes : goal.returns-clause-makes
 returns-clause-makes g c =
     let change = c.args.change.now in
     let stored =
-    with_named change.number (shelf_names c.args.books.now) c.args.are_new change.rows in
-    let charged = with_all_paid change.number change.charges.items in
+    with_named change.number (shelf_names c.args.books.now) c.args.are_new c.args.seen.now
+    change.rows in
+    let charged = with_all_charged change.number change.charges.items in
     makes_all_then stored charged _ _ _ c.in_ok-put_named.field-0 c.put_paid.result
     c.in_ok-put_named.ensures.makes
     (puts_paid change.number _ _ c.deref.ensures.value _ _ c.put_paid.result

@@ -1,11 +1,10 @@
 use Rattle.std.proofs.Common.{subst}
 use Rattle.std.specs.Prelude.{IfOk}
-use Rattle.keepers.specs.Change.{IsLoad}
 use Rattle.sql_rows.specs.Content.{rows_in}
-use Rattle.sql_keeper.specs.Content.{rows_of}
+use Rattle.sql_keeper.specs.LiveRows.{IsLoadStored}
 use Rattle.sql_keeper.proofs.seen.seen_in.Goals as goal
 
 pub returns-in-Ok : goal.returns-in-Ok
 returns-in-Ok c = λ names shelf t a trees load.
     c.seen_if_loaded.ensures names shelf t a trees
-    (subst (λ r. IfOk r (IsLoad shelf t a (rows_of names (rows_in trees a)))) c.in-Ok.is load)
+    (subst (λ r. IfOk r (IsLoadStored names shelf t a (rows_in trees a))) c.in-Ok.is load)

@@ -7,4 +7,4 @@ pub returns : goal.returns
 returns g c =
     tested (shelf_names c.args.books.now) c.args.change.now c.in_ok-found.found c.told.result
     (state g.S.Store c.args.conn.now) (state g.S.Store c.find_change.new.conn) c.told.ensures
-    c.in_ok-found.ensures
+    c.requires.idle c.schema-ours.ensures.live c.in_ok-found.ensures

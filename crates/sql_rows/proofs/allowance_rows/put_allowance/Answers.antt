@@ -1,10 +1,12 @@
-use Rattle.std.proofs.Common.{◌∙◌, ap}
+use Rattle.std.proofs.Common.{rules, ◌∙◌, ap}
 use Rattle.sqlite_value.specs.declared.value.Value.TheVariants.{Text}
 use Rattle.sql_rows.proofs.PutAllowance.{makes_allowance, bound_allowance}
 use Rattle.sql_rows.proofs.allowance_rows.put_allowance.Goals as goal
 
-pub returns-clause-makes : goal.returns-clause-makes
-returns-clause-makes g c =
-    makes_allowance c.args.account.now c.args.bucket _ (bound_allowance c.args.account.now c.args.bucket _ _
-    (c.text-of_account.ensures ∙ ap Text c.as_str.ensures.value) c.whole-number.ensures)
-    _ _ c.write.result c.requires.book c.write.ensures.runs
+pub returns : goal.returns
+returns g c = record {
+  same_reference = search rules;
+  makes = makes_allowance c.args.account.now c.args.bucket _ (bound_allowance c.args.account.now c.args.bucket _ _
+      (c.text-of_account.ensures ∙ ap Text c.as_str.ensures.value) c.whole-number.ensures)
+      _ _ c.write.result c.requires.book c.write.ensures.runs;
+}

@@ -8,11 +8,10 @@ use Rattle.sql_rows.proofs.allowance_rows.read_allowances.Goals as goal
 pub read-requires-clause-plain : goal.read-requires-clause-plain
 read-requires-clause-plain g c = read_allowances_plain
 
-pub returns : goal.returns
-returns g c = record {
-  reads = reads_as _ read_allowances_text _ _ _ _ _ _ c.numbers_from.result
-      c.read.ensures.reads c.read.ensures.stops c.in_ok-rows.ensures.answers
-      (λ i. map bound_value ((c.text.ensures ∙ ap Text c.as_str.ensures.value) i ∷ []))
-      c.deref.ensures.value c.numbers_from.ensures
-      (λ xs. allowances_read c.args.account.now _ _ _ xs.items);
-}
+pub returns-clause-reads : goal.returns-clause-reads
+returns-clause-reads g c =
+    reads_as _ read_allowances_text _ _ _ _ _ _ c.numbers_from.result
+    c.read.ensures.reads c.read.ensures.stops c.in_ok-rows.ensures.answers
+    (λ i. map bound_value ((c.text.ensures ∙ ap Text c.as_str.ensures.value) i ∷ []))
+    c.deref.ensures.value c.numbers_from.ensures.cells
+    (λ xs. allowances_read c.args.account.now _ _ _ xs.items)

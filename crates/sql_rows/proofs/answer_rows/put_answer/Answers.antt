@@ -7,16 +7,18 @@ use Rattle.sql_rows.specs.Values.{nat}
 use Rattle.sql_rows.proofs.PutAnswer.{put_answer_text, makes_answer, bound_answer}
 use Rattle.sql_rows.proofs.answer_rows.put_answer.Goals as goal
 
-pub returns-clause-makes : goal.returns-clause-makes
-returns-clause-makes g c =
-    makes_answer c.args.account.now c.args.kind c.args.name.now c.args.number
-    (record { content = c.args.content.now; answer = c.args.answer.now }) _
-    (bound_answer c.args.account.now c.args.kind c.args.name.now c.args.number
-    (record { content = c.args.content.now; answer = c.args.answer.now }) _ _ _ _ _ _
-    (c.text-of_account.ensures ∙ ap Text c.as_str.ensures.value)
-    c.whole-of_kind.ensures
-    c.text-of_name.ensures
-    c.whole-of_number.ensures
-    c.text-of_content.ensures
-    c.text-of_answer.ensures)
-    _ _ c.write.result c.requires.book c.write.ensures.runs
+pub returns : goal.returns
+returns g c = record {
+  same_reference = search rules;
+  makes = makes_answer c.args.account.now c.args.kind c.args.name.now c.args.number
+      (record { content = c.args.content.now; answer = c.args.answer.now }) _
+      (bound_answer c.args.account.now c.args.kind c.args.name.now c.args.number
+      (record { content = c.args.content.now; answer = c.args.answer.now }) _ _ _ _ _ _
+      (c.text-of_account.ensures ∙ ap Text c.as_str.ensures.value)
+      c.whole-of_kind.ensures
+      c.text-of_name.ensures
+      c.whole-of_number.ensures
+      c.text-of_content.ensures
+      c.text-of_answer.ensures)
+      _ _ c.write.result c.requires.book c.write.ensures.runs;
+}

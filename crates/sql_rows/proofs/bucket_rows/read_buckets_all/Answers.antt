@@ -9,11 +9,10 @@ use Rattle.sql_rows.proofs.bucket_rows.read_buckets_all.Goals as goal
 pub read-requires-clause-plain : goal.read-requires-clause-plain
 read-requires-clause-plain g c = read_buckets_all_plain
 
-pub returns : goal.returns
-returns g c = record {
-  reads = reads_as _ read_buckets_all_text _ _ _ _ _ _ c.buckets_from.result c.read.ensures.reads
-      c.read.ensures.stops c.in_ok-rows.ensures.answers
-      (λ i. map bound_value ((c.text.ensures ∙ ap Text c.as_str.ensures.value) i ∷ []))
-      c.deref.ensures.value c.buckets_from.ensures
-      (λ bs. all_read c.args.account.now _ _ _ (map bucket_row bs.items));
-}
+pub returns-clause-reads : goal.returns-clause-reads
+returns-clause-reads g c =
+    reads_as _ read_buckets_all_text _ _ _ _ _ _ c.all_from.result c.read.ensures.reads
+    c.read.ensures.stops c.in_ok-rows.ensures.answers
+    (λ i. map bound_value ((c.text.ensures ∙ ap Text c.as_str.ensures.value) i ∷ []))
+    c.deref.ensures.value c.all_from.ensures.cells
+    (λ bs. all_read c.args.account.now _ _ _ (map bucket_row bs.items))

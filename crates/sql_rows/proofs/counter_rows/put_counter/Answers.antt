@@ -7,12 +7,14 @@ use Rattle.sql_rows.specs.Values.{nat}
 use Rattle.sql_rows.proofs.PutCounter.{put_counter_text, makes_counter, bound_counter}
 use Rattle.sql_rows.proofs.counter_rows.put_counter.Goals as goal
 
-pub returns-clause-makes : goal.returns-clause-makes
-returns-clause-makes g c =
-    makes_counter c.args.account.now c.args.counter.now _
-    (bound_counter c.args.account.now c.args.counter.now _ _ _ _
-    (c.text-of_account.ensures ∙ ap Text c.as_str.ensures.value)
-    c.whole-group.ensures
-    c.whole-cycle.ensures
-    c.in_ok-blocks.ensures)
-    _ _ c.write.result c.requires.book c.write.ensures.runs
+pub returns : goal.returns
+returns g c = record {
+  same_reference = search rules;
+  makes = makes_counter c.args.account.now c.args.counter.now _
+      (bound_counter c.args.account.now c.args.counter.now _ _ _ _
+      (c.text-of_account.ensures ∙ ap Text c.as_str.ensures.value)
+      c.whole-group.ensures
+      c.whole-cycle.ensures
+      c.in_ok-blocks.ensures)
+      _ _ c.write.result c.requires.book c.write.ensures.runs;
+}

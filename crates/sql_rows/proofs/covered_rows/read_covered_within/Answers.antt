@@ -9,13 +9,12 @@ use Rattle.sql_rows.proofs.covered_rows.read_covered_within.Goals as goal
 pub read-requires-clause-plain : goal.read-requires-clause-plain
 read-requires-clause-plain g c = read_covered_plain
 
-pub returns : goal.returns
-returns g c = record {
-  reads = reads_as _ read_covered_text _ _ _ _ _ _ c.covered_rows_from.result
-      c.read.ensures.reads c.read.ensures.stops c.in_ok-rows.ensures.answers
-      (λ i. map bound_value ((c.text-of_account.ensures ∙ ap Text c.as_str.ensures.value) i
-      ∷ c.whole-beyond.ensures i ∷ c.whole-up_to.ensures i ∷ []))
-      c.deref.ensures.value c.covered_rows_from.ensures
-      (λ xs. covered_read c.args.account.now c.args.after c.args.last _ _ _
-      (map covered_row xs.items));
-}
+pub returns-clause-reads : goal.returns-clause-reads
+returns-clause-reads g c =
+    reads_as _ read_covered_text _ _ _ _ _ _ c.covered_rows_from.result
+    c.read.ensures.reads c.read.ensures.stops c.in_ok-rows.ensures.answers
+    (λ i. map bound_value ((c.text-of_account.ensures ∙ ap Text c.as_str.ensures.value) i
+    ∷ c.whole-beyond.ensures i ∷ c.whole-up_to.ensures i ∷ []))
+    c.deref.ensures.value c.covered_rows_from.ensures.cells
+    (λ xs. covered_read c.args.account.now c.args.after c.args.last _ _ _
+    (map covered_row xs.items))

@@ -9,13 +9,12 @@ use Rattle.sql_rows.proofs.grant_book_rows.read_grant_books.Goals as goal
 pub read-requires-clause-plain : goal.read-requires-clause-plain
 read-requires-clause-plain g c = read_grant_books_plain
 
-pub returns : goal.returns
-returns g c = record {
-  reads = reads_as _ read_grant_books_text _ _ _ _ _ _ c.grant_books_from.result
-      c.read.ensures.reads c.read.ensures.stops c.in_ok-rows.ensures.answers
-      (λ i. map bound_value ((c.text.ensures ∙ ap Text c.as_str.ensures.value) i ∷
-      (c.text-2.ensures ∙ ap Text c.as_str-2.ensures.value) i ∷ []))
-      c.deref.ensures.value c.grant_books_from.ensures
-      (λ xs. grant_books_read c.args.account.now c.args.session.now _ _ _
-      (map grant_book_at xs.items));
-}
+pub returns-clause-reads : goal.returns-clause-reads
+returns-clause-reads g c =
+    reads_as _ read_grant_books_text _ _ _ _ _ _ c.grant_books_from.result
+    c.read.ensures.reads c.read.ensures.stops c.in_ok-rows.ensures.answers
+    (λ i. map bound_value ((c.text.ensures ∙ ap Text c.as_str.ensures.value) i ∷
+    (c.text-2.ensures ∙ ap Text c.as_str-2.ensures.value) i ∷ []))
+    c.deref.ensures.value c.grant_books_from.ensures.cells
+    (λ xs. grant_books_read c.args.account.now c.args.session.now _ _ _
+    (map grant_book_at xs.items))

@@ -1,13 +1,15 @@
-use Rattle.std.proofs.Common.{◌∙◌, ap}
+use Rattle.std.proofs.Common.{rules, ◌∙◌, ap}
 use Rattle.sqlite_value.specs.declared.value.Value.TheVariants.{Text}
 use Rattle.sql_rows.proofs.RemoveGrantBook.{makes_none, bound_key}
 use Rattle.sql_rows.proofs.grant_book_rows.remove_grant_book.Goals as goal
 
-pub returns-clause-makes : goal.returns-clause-makes
-returns-clause-makes g c =
-    makes_none c.args.account.now c.args.session.now c.args.group _
-    (bound_key c.args.account.now c.args.session.now c.args.group _ _ _
-    (c.text-of_account.ensures ∙ ap Text c.as_str.ensures.value)
-    (c.text-of_session.ensures ∙ ap Text c.as_str-2.ensures.value)
-    c.whole-of_group.ensures)
-    _ _ c.write.result c.requires.book c.write.ensures.runs
+pub returns : goal.returns
+returns g c = record {
+  same_reference = search rules;
+  makes = makes_none c.args.account.now c.args.session.now c.args.group _
+      (bound_key c.args.account.now c.args.session.now c.args.group _ _ _
+      (c.text-of_account.ensures ∙ ap Text c.as_str.ensures.value)
+      (c.text-of_session.ensures ∙ ap Text c.as_str-2.ensures.value)
+      c.whole-of_group.ensures)
+      _ _ c.write.result c.requires.book c.write.ensures.runs;
+}

@@ -10,19 +10,21 @@ use Rattle.sql_rows.proofs.PutGroup.{put_group_text, makes_group, bound_group}
 use Rattle.sql_rows.proofs.NamesPut.{before_put, after_put, there_put}
 use Rattle.sql_rows.proofs.group_rows.put_group.Goals as goal
 
-pub returns-clause-makes : goal.returns-clause-makes
-returns-clause-makes g c =
-    let there : c.is_some.result ≡ is_some c.args.periods = search rules in
-    makes_group c.args.account.now c.args.session.now c.args.group
-    (record { used = c.args.used; periods = option_map names_put c.args.periods }) _
-    (bound_group c.args.account.now c.args.session.now c.args.group
-    (record { used = c.args.used; periods = option_map names_put c.args.periods }) _ _ _ _ _ _ _
-    (c.text-of_account.ensures ∙ ap Text c.as_str.ensures.value)
-    (c.text-of_session.ensures ∙ ap Text c.as_str-2.ensures.value)
-    c.whole-of_group.ensures
-    c.in_ok-units.ensures
-    (c.flag-reserved.ensures
-    ∙ ap (λ t. nat (flag_number t)) (there ∙ there_put c.args.periods))
-    (c.before_or_null-at_grant.ensures ∙ before_put c.args.periods)
-    (c.after_or_null-at_switch.ensures ∙ after_put c.args.periods))
-    _ _ c.write.result c.requires.book c.write.ensures.runs
+pub returns : goal.returns
+returns g c = record {
+  same_reference = search rules;
+  makes = let there : c.is_some.result ≡ is_some c.args.periods = search rules in
+      makes_group c.args.account.now c.args.session.now c.args.group
+      (record { used = c.args.used; periods = option_map names_put c.args.periods }) _
+      (bound_group c.args.account.now c.args.session.now c.args.group
+      (record { used = c.args.used; periods = option_map names_put c.args.periods }) _ _ _ _ _ _ _
+      (c.text-of_account.ensures ∙ ap Text c.as_str.ensures.value)
+      (c.text-of_session.ensures ∙ ap Text c.as_str-2.ensures.value)
+      c.whole-of_group.ensures
+      c.in_ok-units.ensures
+      (c.flag-reserved.ensures
+      ∙ ap (λ t. nat (flag_number t)) (there ∙ there_put c.args.periods))
+      (c.before_or_null-at_grant.ensures ∙ before_put c.args.periods)
+      (c.after_or_null-at_switch.ensures ∙ after_put c.args.periods))
+      _ _ c.write.result c.requires.book c.write.ensures.runs;
+}

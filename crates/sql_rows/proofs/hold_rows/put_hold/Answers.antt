@@ -7,14 +7,16 @@ use Rattle.sql_rows.specs.Values.{nat}
 use Rattle.sql_rows.proofs.PutHold.{put_hold_text, makes_hold, bound_hold}
 use Rattle.sql_rows.proofs.hold_rows.put_hold.Goals as goal
 
-pub returns-clause-makes : goal.returns-clause-makes
-returns-clause-makes g c =
-    makes_hold c.args.account.now c.args.session.now c.args.group c.args.hold.now.bucket
-    c.args.hold.now.amount _ (bound_hold c.args.account.now c.args.session.now c.args.group
-    c.args.hold.now.bucket c.args.hold.now.amount _ _ _ _ _
-    (c.text-of_account.ensures ∙ ap Text c.as_str.ensures.value)
-    (c.text-of_session.ensures ∙ ap Text c.as_str-2.ensures.value)
-    c.whole-of_group.ensures
-    c.whole-bucket.ensures
-    c.in_ok-amount.ensures)
-    _ _ c.write.result c.requires.book c.write.ensures.runs
+pub returns : goal.returns
+returns g c = record {
+  same_reference = search rules;
+  makes = makes_hold c.args.account.now c.args.session.now c.args.group c.args.hold.now.bucket
+      c.args.hold.now.amount _ (bound_hold c.args.account.now c.args.session.now c.args.group
+      c.args.hold.now.bucket c.args.hold.now.amount _ _ _ _ _
+      (c.text-of_account.ensures ∙ ap Text c.as_str.ensures.value)
+      (c.text-of_session.ensures ∙ ap Text c.as_str-2.ensures.value)
+      c.whole-of_group.ensures
+      c.whole-bucket.ensures
+      c.in_ok-amount.ensures)
+      _ _ c.write.result c.requires.book c.write.ensures.runs;
+}

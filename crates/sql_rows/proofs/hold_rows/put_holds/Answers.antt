@@ -1,6 +1,7 @@
 use Rattle.std.proofs.Common.{rules, ◌∙◌, arith}
+use Rattle.sqlite.specs.Held.{state}
 use Rattle.sql_rows.specs.Content.{with_rows, with_hold}
-use Rattle.sql_rows.proofs.Each.{put_at}
+use Rattle.sql_rows.proofs.Each.{put_all, put_at}
 use Rattle.sql_rows.proofs.hold_rows.put_holds.Goals as goal
 
 pub rows-preserved : goal.rows-preserved
@@ -10,4 +11,13 @@ rows-preserved g c = record {
       with_rows c.args.account.now (with_hold c.args.session.now c.args.group x.bucket x.amount))
       c.args.rows.now c.rows.row-index _ _ _ _ c.in_ok-put_hold.field-0
       (omega arith) c.rows.invariant.put c.in_ok-put_hold.ensures.makes;
+}
+
+pub returns : goal.returns
+returns g c = record {
+  same_reference = c.rows.invariant.same;
+  makes = put_all (λ x.
+      with_rows c.args.account.now (with_hold c.args.session.now c.args.group x.bucket x.amount))
+      c.args.rows.now c.rows.row-index (state g.S.Store c.args.tx.now.conn.now)
+      (state g.S.Store c.rows.tx.conn.now) _ (omega arith) c.rows.invariant.put;
 }

@@ -4,12 +4,25 @@ use Rattle.sqlite.specs.State.{ExecutesInside}
 use Rattle.sqlite.specs.Values.{or_null, bound_value}
 use Rattle.sqlite_value.specs.declared.value.Value.TheVariants.{Text}
 use Rattle.sql_rows.specs.Values.{nat}
-use Rattle.sql_rows.proofs.PutMeta.{put_meta_text, makes_meta, bound_meta}
+use Rattle.sql_rows.proofs.PutMeta.{put_meta_text, makes_meta, rules_meta, bound_meta}
 use Rattle.sql_rows.proofs.meta_rows.put_meta.Goals as goal
 
 pub returns-clause-makes : goal.returns-clause-makes
 returns-clause-makes g c =
     makes_meta (record { version = c.args.version; book = c.args.book.now; last = c.args.last }) _
+    (bound_meta (record {
+      version = c.args.version;
+      book = c.args.book.now;
+      last = c.args.last;
+    }) _ _ _ _ c.whole-id.ensures
+    c.whole-of_version.ensures
+    c.text-of_book.ensures
+    (c.large-moment.ensures ∙ ap nat c.seconds.ensures.value))
+    _ _ c.write.result c.requires.book c.write.ensures.runs
+
+pub returns-clause-rules : goal.returns-clause-rules
+returns-clause-rules g c =
+    rules_meta (record { version = c.args.version; book = c.args.book.now; last = c.args.last }) _
     (bound_meta (record {
       version = c.args.version;
       book = c.args.book.now;

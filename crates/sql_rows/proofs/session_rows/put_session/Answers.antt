@@ -7,13 +7,15 @@ use Rattle.sql_rows.specs.Values.{nat}
 use Rattle.sql_rows.proofs.PutSession.{put_session_text, makes_session, bound_session}
 use Rattle.sql_rows.proofs.session_rows.put_session.Goals as goal
 
-pub returns-clause-makes : goal.returns-clause-makes
-returns-clause-makes g c =
-    makes_session c.args.account.now c.args.session.now _
-    (bound_session c.args.account.now c.args.session.now _ _ _ _ _
-    (c.text-of_account.ensures ∙ ap Text c.as_str.ensures.value)
-    (c.text-name.ensures ∙ ap Text c.as_str-2.ensures.value)
-    c.whole-last_number.ensures
-    (c.large-touched.ensures ∙ ap nat c.seconds.ensures.value)
-    (c.whole-state.ensures ∙ ap nat c.state_number.ensures))
-    _ _ c.write.result c.requires.book c.write.ensures.runs
+pub returns : goal.returns
+returns g c = record {
+  same_reference = search rules;
+  makes = makes_session c.args.account.now c.args.session.now _
+      (bound_session c.args.account.now c.args.session.now _ _ _ _ _
+      (c.text-of_account.ensures ∙ ap Text c.as_str.ensures.value)
+      (c.text-name.ensures ∙ ap Text c.as_str-2.ensures.value)
+      c.whole-last_number.ensures
+      (c.large-touched.ensures ∙ ap nat c.seconds.ensures.value)
+      (c.whole-state.ensures ∙ ap nat c.state_number.ensures))
+      _ _ c.write.result c.requires.book c.write.ensures.runs;
+}

@@ -1,5 +1,9 @@
+use Rattle.std.proofs.Common.{rules}
 use Rattle.sql_tables.proofs.Stages.{builds_all}
 use Rattle.sql_tables.proofs.creating.create_each.Goals as goal
 
-pub returns-clause-makes : goal.returns-clause-makes
-returns-clause-makes g c = builds_all _ _ _ c.create_all.ensures.makes
+pub returns : goal.returns
+returns g c = record {
+  same_reference = search rules;
+  makes = builds_all _ _ _ c.create_all.ensures.makes;
+}

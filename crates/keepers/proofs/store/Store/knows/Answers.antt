@@ -10,7 +10,7 @@ pub returns-then-has_session : goal.returns-then-has_session
 returns-then-has_session c =
     let p : Parts = parts_of c.self.inside in
     let s = c.args.session.now in
-    let live = c.has_session.ensures ∙ ap (λ xs. is_some (session_in s xs)) c.sessions.ensures in
+    let live = c.has_session.ensures in
     c.if-has_session.true ∙ known_live s p.left.sessions p.live.sessions
     (sym live ∙ c.if-has_session.true)
     ∙ ap (λ (q : Parts). is_some (session_in s (q.left.sessions ++ q.live.sessions))) c.self.view_is
@@ -19,7 +19,7 @@ pub returns-then-contains_key : goal.returns-then-contains_key
 returns-then-contains_key c =
     let p : Parts = parts_of c.self.inside in
     let s = c.args.session.now in
-    let live = c.has_session.ensures ∙ ap (λ xs. is_some (session_in s xs)) c.sessions.ensures in
+    let live = c.has_session.ensures in
     c.has_session-then-contains_key.ensures
     ∙ ap (λ xs. is_some (session_in s xs)) c.deref.ensures.value
     ∙ known_left s p.left.sessions p.live.sessions (sym live ∙ c.if-has_session.false)
@@ -29,7 +29,7 @@ pub returns-else-contains_key : goal.returns-else-contains_key
 returns-else-contains_key c =
     let p : Parts = parts_of c.self.inside in
     let s = c.args.session.now in
-    let live = c.has_session.ensures ∙ ap (λ xs. is_some (session_in s xs)) c.sessions.ensures in
+    let live = c.has_session.ensures in
     c.if-contains_key.false
     ∙ known_none c.self.inside.known.names s p.left.sessions p.live.sessions
     c.self.invariant.sessions (sym c.contains_key.ensures ∙ c.if-contains_key.false)

@@ -33,15 +33,6 @@ nothing_told c =
     ∙ ap (λ (x : AccountRows). periods_at x.shelf c.args.moment) c.self.view_is)
     c.quota-quota.ensures.quota
 
-pub returns-then-quota-eq0-clause-rows : goal.returns-then-quota-eq0-clause-rows
-returns-then-quota-eq0-clause-rows c = λ ledger rows. (
-  sym (ap (λ (x : Grant). x.units.0)
-      (grant_told ledger c.args.self.now c.args.session.now c.args.group c.args.moment
-      (option_map (λ (u : Units). u.0) c.args.requested) _ _ c.quota-quota.ensures.account
-      rows c.requires.moment (nothing_told c))) ∙ c.if-quota-eq0.true,
-  c.advance.ensures.ledger ledger rows,
-)
-
 pub hold_quota-requires-clause-there : goal.hold_quota-requires-clause-there
 hold_quota-requires-clause-there c =
     group_there c.args.self.now c.advance-2.new.self c.args.session.now c.args.group c.args.moment
@@ -133,80 +124,97 @@ brought : (c : goal.After-struct_known-2-1) →
     ≡ advanced c.args.moment (with_group_row c.args.session.now c.args.group c.args.self.now)
 brought c = c.advance-2.ensures.rows ∙ ap (advanced c.args.moment) c.in_ok-room.ensures.ok
 
-pub returns-clause-rows : goal.returns-clause-rows
-returns-clause-rows c = λ ledger rows.
-    grant_is ledger c.args.self.now c.advance-2.new.self c.hold_quota.new.self c.args.session.now
-    c.args.group c.args.moment (requested_units c) c.quota-quota.result.wanted (granted c)
-    c.window_at-window.result.switch c.window_at-window.result.validity
-    (nat_lt (granted c).units.0 c.quota-quota.result.wanted)
-    c.quota-quota.ensures.account rows c.requires.moment c.requires.live c.requires.free
-    (quota_told c) (some_units c) (switch c) (validity c) refl (brought c) c.hold_quota.ensures
+after : (c : goal.After-struct_known-2-1) →
+    c.hold_quota.new.self
+    ≡ reserved_account c.args.session.now c.args.group (held_due (granted c))
+    (advanced c.args.moment (with_group_row c.args.session.now c.args.group c.args.self.now))
+after c =
+    c.hold_quota.ensures
+    ∙ ap (reserved_account c.args.session.now c.args.group (held_due (granted c))) (brought c)
 
-pub returns-clause-within : goal.returns-clause-within
-returns-clause-within c =
-    let some : 0 < c.quota-quota.result.grant.units.0 = omega (arith, c.if-quota-eq0.false) in
-    within_grant (book_at c.args.self.now.shelf c.args.moment)
-    (used_in c.args.session.now c.args.group c.args.self.now.groups) c.args.group
-    (option_map (λ (u : Units). u.0) c.args.requested) c.window_at-window.result.periods _ _ _
-    c.quota-quota.result.wanted c.quota-quota.result.grant c.quota-quota.ensures.quota some
-
-pub returns-clause-others : goal.returns-clause-others
-returns-clause-others c = λ g n h.
-    others_reserved c.args.self.now c.advance-2.new.self c.hold_quota.new.self c.args.session.now g
-    c.args.group c.args.moment (held_due c.quota-quota.result.grant)
-    (c.advance-2.ensures.rows ∙ ap (advanced c.args.moment) c.in_ok-room.ensures.ok)
-    c.hold_quota.ensures n h
-
-pub returns-then-quota-eq0-clause-others : goal.returns-then-quota-eq0-clause-others
-returns-then-quota-eq0-clause-others c =
-    λ g n h. others_advanced c.args.self.now c.advance.new.self c.args.session.now g c.args.moment
-    c.advance.ensures.rows h
-
-pub returns-clause-sessions : goal.returns-clause-sessions
-returns-clause-sessions c =
-    ap (λ (x : AccountRows). x.sessions)
-    (c.hold_quota.ensures
-    ∙ ap (reserved_account c.args.session.now c.args.group (held_due c.quota-quota.result.grant))
-    (c.advance-2.ensures.rows ∙ ap (advanced c.args.moment) c.in_ok-room.ensures.ok))
-
-pub returns-then-quota-eq0-clause-sessions : goal.returns-then-quota-eq0-clause-sessions
-returns-then-quota-eq0-clause-sessions c =
-    ap (λ (x : AccountRows). x.sessions) c.advance.ensures.rows
-
-pub returns-then-quota-eq0-clause-left : goal.returns-then-quota-eq0-clause-left
-returns-then-quota-eq0-clause-left c = λ ledger left h.
-    let later : IsWith ledger left c.args.moment c.advance.new.self =
-    c.advance.ensures.left ledger left h in (
-      record { apart = later.apart; cycles = later.cycles },
-      (
+pub returns-then-quota-eq0 : goal.returns-then-quota-eq0
+returns-then-quota-eq0 c = record {
+  rows =
+      λ ledger rows. (
         sym (ap (λ (x : Grant). x.units.0)
-            (nothing_beside ledger left c.args.moment c.args.self.now c.args.session.now
-            c.args.group (option_map (λ (u : Units). u.0) c.args.requested) _ _ h
-            c.requires.moment c.requires.live (nothing_told c))) ∙ c.if-quota-eq0.true,
-        later.rows,
-      ),
-    )
+            (grant_told ledger c.args.self.now c.args.session.now c.args.group c.args.moment
+            (option_map (λ (u : Units). u.0) c.args.requested) _ _ c.quota-quota.ensures.account
+            rows c.requires.moment (nothing_told c))) ∙ c.if-quota-eq0.true,
+        c.advance.ensures.ledger ledger rows,
+      );
+  left =
+      λ ledger left h.
+      let later : IsWith ledger left c.args.moment c.advance.new.self =
+      c.advance.ensures.left ledger left h in (
+        record { apart = later.apart; cycles = later.cycles },
+        (
+          sym (ap (λ (x : Grant). x.units.0)
+              (nothing_beside ledger left c.args.moment c.args.self.now c.args.session.now
+              c.args.group (option_map (λ (u : Units). u.0) c.args.requested) _ _ h
+              c.requires.moment c.requires.live (nothing_told c))) ∙ c.if-quota-eq0.true,
+          later.rows,
+        ),
+      );
+  by_rows = (
+    sym (ap (λ (x : Grant). x.units.0) (nothing_told c).grant) ∙ c.if-quota-eq0.true,
+    c.advance.ensures.rows,
+  );
+  as_of = ap (λ (x : AccountRows). x.as_of) c.advance.ensures.rows;
+  tariff = ap (λ (x : AccountRows). x.shelf) c.advance.ensures.rows;
+  sessions = ap (λ (x : AccountRows). x.sessions) c.advance.ensures.rows;
+  within = tt;
+  others =
+      λ g n h. others_advanced c.args.self.now c.advance.new.self c.args.session.now g c.args.moment
+      c.advance.ensures.rows h;
+  memory = tt;
+  err = tt;
+}
 
-pub returns-clause-left : goal.returns-clause-left
-returns-clause-left c = λ ledger left h.
-    grant_beside ledger left c.args.self.now c.advance-2.new.self c.hold_quota.new.self
-    c.args.session.now c.args.group c.args.moment (requested_units c)
-    c.quota-quota.result.wanted (granted c)
-    c.window_at-window.result.switch c.window_at-window.result.validity
-    (nat_lt (granted c).units.0 c.quota-quota.result.wanted)
-    h c.requires.moment c.requires.live c.requires.free (quota_told c) (some_units c) (switch c)
-    (validity c) refl (brought c) c.hold_quota.ensures
-
-pub returns-then-quota-eq0-clause-by_rows : goal.returns-then-quota-eq0-clause-by_rows
-returns-then-quota-eq0-clause-by_rows c = (
-  sym (ap (λ (x : Grant). x.units.0) (nothing_told c).grant) ∙ c.if-quota-eq0.true,
-  c.advance.ensures.rows,
-)
-
-pub returns-clause-by_rows : goal.returns-clause-by_rows
-returns-clause-by_rows c =
-    grant_in_is c.args.self.now c.advance-2.new.self c.hold_quota.new.self c.args.session.now
-    c.args.group c.args.moment (requested_units c) c.quota-quota.result.wanted (granted c)
-    c.window_at-window.result.switch c.window_at-window.result.validity
-    (nat_lt (granted c).units.0 c.quota-quota.result.wanted)
-    (quota_told c) (some_units c) (switch c) (validity c) refl (brought c) c.hold_quota.ensures
+pub returns : goal.returns
+returns c = record {
+  rows =
+      λ ledger rows.
+      grant_is ledger c.args.self.now c.advance-2.new.self c.hold_quota.new.self c.args.session.now
+      c.args.group c.args.moment (requested_units c) c.quota-quota.result.wanted (granted c)
+      c.window_at-window.result.switch c.window_at-window.result.validity
+      (nat_lt (granted c).units.0 c.quota-quota.result.wanted)
+      c.quota-quota.ensures.account rows c.requires.moment c.requires.live c.requires.free
+      (quota_told c) (some_units c) (switch c) (validity c) refl (brought c) c.hold_quota.ensures;
+  left =
+      λ ledger left h.
+      grant_beside ledger left c.args.self.now c.advance-2.new.self c.hold_quota.new.self
+      c.args.session.now c.args.group c.args.moment (requested_units c)
+      c.quota-quota.result.wanted (granted c)
+      c.window_at-window.result.switch c.window_at-window.result.validity
+      (nat_lt (granted c).units.0 c.quota-quota.result.wanted)
+      h c.requires.moment c.requires.live c.requires.free (quota_told c) (some_units c) (switch c)
+      (validity c) refl (brought c) c.hold_quota.ensures;
+  by_rows =
+      grant_in_is c.args.self.now c.advance-2.new.self c.hold_quota.new.self c.args.session.now
+      c.args.group c.args.moment (requested_units c) c.quota-quota.result.wanted (granted c)
+      c.window_at-window.result.switch c.window_at-window.result.validity
+      (nat_lt (granted c).units.0 c.quota-quota.result.wanted)
+      (quota_told c) (some_units c) (switch c) (validity c) refl (brought c) c.hold_quota.ensures;
+  as_of = ap (λ (x : AccountRows). x.as_of) (after c);
+  tariff = ap (λ (x : AccountRows). x.shelf) (after c);
+  sessions =
+      ap (λ (x : AccountRows). x.sessions)
+      (c.hold_quota.ensures
+      ∙ ap (reserved_account c.args.session.now c.args.group (held_due c.quota-quota.result.grant))
+      (c.advance-2.ensures.rows ∙ ap (advanced c.args.moment) c.in_ok-room.ensures.ok));
+  within =
+      let some : 0 < c.quota-quota.result.grant.units.0 = omega (arith, c.if-quota-eq0.false) in
+      within_grant (book_at c.args.self.now.shelf c.args.moment)
+      (used_in c.args.session.now c.args.group c.args.self.now.groups) c.args.group
+      (option_map (λ (u : Units). u.0) c.args.requested) c.window_at-window.result.periods _ _ _
+      c.quota-quota.result.wanted c.quota-quota.result.grant c.quota-quota.ensures.quota some;
+  others =
+      λ g n h.
+      others_reserved c.args.self.now c.advance-2.new.self c.hold_quota.new.self
+      c.args.session.now g
+      c.args.group c.args.moment (held_due c.quota-quota.result.grant)
+      (c.advance-2.ensures.rows ∙ ap (advanced c.args.moment) c.in_ok-room.ensures.ok)
+      c.hold_quota.ensures n h;
+  memory = tt;
+  err = tt;
+}

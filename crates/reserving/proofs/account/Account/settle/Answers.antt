@@ -1,11 +1,12 @@
-use Rattle.std.proofs.Common.{false, ◌≡◌, refl, sym, ap, ◌∙◌, arith}
+use Rattle.std.proofs.Common.{false, ◌≡◌, [], refl, sym, ap, ◌∙◌, arith}
 use Rattle.buckets.specs.Kinds.{due}
 use Rattle.reserving.specs.Changes.{advanced, used_in, count_in, price_in, settled_account}
 use Rattle.reserving.specs.Changes.{ended_rows}
 use Rattle.reserving.specs.Pricing.{cycle_at}
 use Rattle.reserving.specs.Rows.{AccountRows}
-use Rattle.reserving.specs.Settlement.{passes, reported, due_of}
-use Rattle.reserving.proofs.Lists.{is_nothing, is_something}
+use Rattle.reserving.specs.Prepared.{with_rows}
+use Rattle.reserving.specs.Settlement.{passes, reported, due_of, passes_limit}
+use Rattle.reserving.proofs.Lists.{is_nothing, is_something, no_fault}
 use Rattle.reserving.proofs.calls.Settled.{rows_ended, nothing_settled, within_used, within_counted}
 use Rattle.reserving.proofs.calls.Settled.{passes_is, there_later, counter_there, used_middle}
 use Rattle.reserving.proofs.calls.Settled.{count_middle, rows_settled, settled_is, ended_is, IsTold}
@@ -17,27 +18,6 @@ use Rattle.reserving.proofs.left.Settled.{left_ended, left_settled}
 use Rattle.reserving.proofs.LeftReadings.{passes_told}
 use Rattle.reserving.proofs.left.Settlement.{settlement_beside}
 use Rattle.reserving.proofs.account.Account.settle.Goals as goal
-
-pub returns-then-is_empty-clause-rows : goal.returns-then-is_empty-clause-rows
-returns-then-is_empty-clause-rows c = λ ledger rows.
-    rows_ended ledger c.args.self.now c.advance.new.self c.end_reservation.new.self
-    c.args.session.now c.args.group c.args.moment c.args.parts.now
-    c.end_reservation.ensures.account rows c.requires.moment c.requires.live
-    (is_nothing c.args.parts.now (sym c.is_empty.ensures ∙ c.if-is_empty.true))
-    c.advance.ensures.rows (c.advance.ensures.ledger ledger rows) c.end_reservation.ensures.rows
-
-pub returns-then-is_empty-clause-settled : goal.returns-then-is_empty-clause-settled
-returns-then-is_empty-clause-settled c = λ ledger rows.
-    nothing_settled ledger c.args.self.now c.args.session.now c.args.group c.args.moment
-    c.args.parts.now _
-    (is_nothing c.args.parts.now (sym c.is_empty.ensures ∙ c.if-is_empty.true)) refl refl refl refl
-
-pub returns-in_default-clause-limit : goal.returns-in_default-clause-limit
-returns-in_default-clause-limit c = λ e ledger rows.
-    passes_is ledger c.args.self.now c.args.session.now c.args.group c.args.moment c.args.parts.now
-    c.rate.ensures.account rows c.requires.moment c.requires.live
-    (is_something c.args.parts.now (sym c.is_empty.ensures ∙ c.if-is_empty.false))
-    ∙ c.rate.ensures.none c.in_default.is
 
 pub settle_use-charged-requires-clause-group : goal.settle_use-charged-requires-clause-group
 settle_use-charged-requires-clause-group c =
@@ -97,18 +77,18 @@ due_is' : (c : goal.After-result-7-1) →
     c.args.self.now)
 due_is' c = λ i. due (c.in-Some.ensures.amount i) (c.in-Some.ensures.covered i)
 
-pub returns-clause-rows : goal.returns-clause-rows
-returns-clause-rows c = λ ledger rows.
-    rows_settled ledger c.args.self.now c.advance-2.new.self c.settle_use-charged.new.self
-    c.args.session.now c.args.group c.cycle_at-cycle.result c.args.moment
-    c.in-Some.rated.units.0 c.in-Some.rated.blocks.0
-    (due c.in-Some.rated.amount.0 c.in-Some.rated.covered.0) c.args.parts.now
-    c.rate.ensures.account rows c.requires.moment c.requires.live
-    (is_something c.args.parts.now (sym c.is_empty.ensures ∙ c.if-is_empty.false))
-    c.cycle_at-cycle.ensures
-    c.in-Some.ensures.units c.in-Some.ensures.blocks (due_is' c)
-    (c.advance-2.ensures.rows ∙ ap (advanced c.args.moment) c.in_ok-make_rows.ensures.ok)
+-- the account after it
+after : (c : goal.After-result-7-1) →
+    c.settle_use-charged.new.self
+    ≡ settled_account c.args.session.now c.args.group c.in-Some.rated.units.0
+    c.in-Some.rated.blocks.0 (due c.in-Some.rated.amount.0 c.in-Some.rated.covered.0)
+    (advanced c.args.moment
+    (with_rows c.args.session.now c.args.group c.cycle_at-cycle.result c.args.self.now))
+after c =
     c.settle_use-charged.ensures.rows
+    ∙ ap (settled_account c.args.session.now c.args.group c.in-Some.rated.units.0
+    c.in-Some.rated.blocks.0 (due c.in-Some.rated.amount.0 c.in-Some.rated.covered.0))
+    (c.advance-2.ensures.rows ∙ ap (advanced c.args.moment) c.in_ok-make_rows.ensures.ok)
 
 -- what is answered, by the account's rows
 told : (c : goal.After-result-7-1) →
@@ -126,12 +106,6 @@ told c = record {
   all = c.settle_use-charged.ensures.collected;
 }
 
-pub returns-clause-settled : goal.returns-clause-settled
-returns-clause-settled c = λ ledger rows.
-    settlement_is ledger c.args.self.now c.advance-2.new.self c.args.session.now c.args.group
-    c.cycle_at-cycle.result c.args.moment c.args.parts.now _
-    c.rate.ensures.account rows c.requires.moment c.requires.live (told c)
-
 -- what is reported stays within the limits
 within : (c : goal.After-result-7-1) →
     passes (used_in c.args.session.now c.args.group c.args.self.now.groups)
@@ -147,129 +121,182 @@ within c =
     c.args.self.now.counters) (sym c.in-Some.ensures.blocks i) c.args.self.now.next_charge)
     ∙ c.in-Some.ensures.some
 
-pub returns-clause-within : goal.returns-clause-within
-returns-clause-within c = λ ledger rows.
-    passes_is ledger c.args.self.now c.args.session.now c.args.group c.args.moment c.args.parts.now
-    c.rate.ensures.account rows c.requires.moment c.requires.live
-    (is_something c.args.parts.now (sym c.is_empty.ensures ∙ c.if-is_empty.false)) ∙ within c
-
-pub returns-clause-sessions : goal.returns-clause-sessions
-returns-clause-sessions c =
-    ap (λ (x : AccountRows). x.sessions)
-    (c.settle_use-charged.ensures.rows
-    ∙ ap (settled_account c.args.session.now c.args.group c.in-Some.rated.units.0
-    c.in-Some.rated.blocks.0 (due c.in-Some.rated.amount.0 c.in-Some.rated.covered.0))
-    (c.advance-2.ensures.rows ∙ ap (advanced c.args.moment) c.in_ok-make_rows.ensures.ok))
-
-pub returns-then-is_empty-clause-sessions : goal.returns-then-is_empty-clause-sessions
-returns-then-is_empty-clause-sessions c =
-    ap (λ (x : AccountRows). x.sessions)
-    (c.end_reservation.ensures.rows
-    ∙ ap (ended_rows c.args.session.now c.args.group) c.advance.ensures.rows)
-
-pub returns-clause-free : goal.returns-clause-free
-returns-clause-free c =
-    settled_free c.args.session.now c.args.group c.in-Some.rated.units.0 c.in-Some.rated.blocks.0
-    (due c.in-Some.rated.amount.0 c.in-Some.rated.covered.0) c.advance-2.new.self
-    c.settle_use-charged.new.self
-    c.settle_use-charged.ensures.rows
-
-pub returns-then-is_empty-clause-free : goal.returns-then-is_empty-clause-free
-returns-then-is_empty-clause-free c =
-    ended_free c.args.session.now c.args.group c.advance.new.self c.end_reservation.new.self
+pub returns-then-is_empty : goal.returns-then-is_empty
+returns-then-is_empty c =
+    let none : c.args.parts.now ≡ [] =
+    is_nothing c.args.parts.now (sym c.is_empty.ensures ∙ c.if-is_empty.true) in
+    let after : c.end_reservation.new.self
+    ≡ ended_rows c.args.session.now c.args.group (advanced c.args.moment c.args.self.now) =
     c.end_reservation.ensures.rows
+    ∙ ap (ended_rows c.args.session.now c.args.group) c.advance.ensures.rows in record {
+      rows =
+          λ ledger rows.
+          rows_ended ledger c.args.self.now c.advance.new.self c.end_reservation.new.self
+          c.args.session.now c.args.group c.args.moment c.args.parts.now
+          c.end_reservation.ensures.account rows c.requires.moment c.requires.live none
+          c.advance.ensures.rows (c.advance.ensures.ledger ledger rows)
+          c.end_reservation.ensures.rows;
+      left =
+          λ ledger left h.
+          left_ended ledger left c.args.self.now c.advance.new.self c.end_reservation.new.self
+          c.args.session.now c.args.group c.args.moment c.args.parts.now h c.requires.moment
+          c.requires.live none
+          c.advance.ensures.rows c.end_reservation.ensures.rows;
+      by_rows =
+          ended_is c.args.self.now c.advance.new.self c.end_reservation.new.self c.args.session.now
+          c.args.group c.args.moment c.args.parts.now none
+          c.advance.ensures.rows c.end_reservation.ensures.rows;
+      as_of = ap (λ (x : AccountRows). x.as_of) after;
+      tariff = ap (λ (x : AccountRows). x.shelf) after;
+      sessions = ap (λ (x : AccountRows). x.sessions) after;
+      settled =
+          λ ledger rows.
+          nothing_settled ledger c.args.self.now c.args.session.now c.args.group c.args.moment
+          c.args.parts.now _ none refl refl refl refl;
+      settled_left =
+          λ ledger left h.
+          nothing_settled ledger c.args.self.now c.args.session.now c.args.group c.args.moment
+          c.args.parts.now _ none refl refl refl refl;
+      within = λ ledger rows. ap (λ ps. passes_limit c.args.self.now.shelf c.args.moment
+          c.args.session.now c.args.group ps ledger) none;
+      within_left = λ ledger left h. ap (λ ps. passes_limit c.args.self.now.shelf c.args.moment
+          c.args.session.now c.args.group ps ledger) none;
+      limit = λ e. absurd (no_fault e);
+      limit_left = λ e. absurd (no_fault e);
+      within_rows =
+          passes_in_none c.args.session.now c.args.group c.args.moment c.args.parts.now
+          c.args.self.now
+          none;
+      limit_rows = λ e. absurd (no_fault e);
+      ended = λ e. refl;
+      free =
+          ended_free c.args.session.now c.args.group c.advance.new.self c.end_reservation.new.self
+          c.end_reservation.ensures.rows;
+      others =
+          λ s g h.
+          others_ended c.args.self.now c.advance.new.self c.end_reservation.new.self s g
+          c.args.session.now c.args.group c.args.moment c.advance.ensures.rows
+          c.end_reservation.ensures.rows h;
+      err = tt;
+    }
 
-pub returns-clause-others : goal.returns-clause-others
-returns-clause-others c = λ s g h.
-    others_settled c.args.self.now c.advance-2.new.self c.settle_use-charged.new.self s g
-    c.args.session.now c.args.group _ c.args.moment c.in-Some.rated.units.0
-    c.in-Some.rated.blocks.0 (due c.in-Some.rated.amount.0 c.in-Some.rated.covered.0)
-    (c.advance-2.ensures.rows ∙ ap (advanced c.args.moment) c.in_ok-make_rows.ensures.ok)
-    c.settle_use-charged.ensures.rows h
+pub returns-in_default : goal.returns-in_default
+returns-in_default c = record {
+  rows = tt;
+  left = tt;
+  by_rows = tt;
+  as_of = tt;
+  tariff = refl;
+  sessions = tt;
+  settled = tt;
+  settled_left = tt;
+  within = tt;
+  within_left = tt;
+  limit =
+      λ e ledger rows.
+      passes_is ledger c.args.self.now c.args.session.now c.args.group c.args.moment
+      c.args.parts.now
+      c.rate.ensures.account rows c.requires.moment c.requires.live
+      (is_something c.args.parts.now (sym c.is_empty.ensures ∙ c.if-is_empty.false))
+      ∙ c.rate.ensures.none c.in_default.is;
+  limit_left =
+      λ e ledger left h.
+      passes_told ledger left c.args.moment c.args.self.now c.args.session.now c.args.group
+      c.args.parts.now c.requires.moment h c.requires.live
+      (is_something c.args.parts.now (sym c.is_empty.ensures ∙ c.if-is_empty.false))
+      ∙ c.rate.ensures.none c.in_default.is;
+  within_rows = tt;
+  limit_rows =
+      λ e.
+      passes_in_some c.args.session.now c.args.group c.args.moment c.args.parts.now c.args.self.now
+      (is_something c.args.parts.now (sym c.is_empty.ensures ∙ c.if-is_empty.false))
+      ∙ c.rate.ensures.none c.in_default.is;
+  ended = λ none.
+      absurd (is_something c.args.parts.now (sym c.is_empty.ensures ∙ c.if-is_empty.false) none);
+  free = tt;
+  others = tt;
+  err = refl;
+}
 
-pub returns-then-is_empty-clause-others : goal.returns-then-is_empty-clause-others
-returns-then-is_empty-clause-others c = λ s g h.
-    others_ended c.args.self.now c.advance.new.self c.end_reservation.new.self s g
-    c.args.session.now c.args.group c.args.moment c.advance.ensures.rows
-    c.end_reservation.ensures.rows h
-
-pub returns-then-is_empty-clause-left : goal.returns-then-is_empty-clause-left
-returns-then-is_empty-clause-left c = λ ledger left h.
-    left_ended ledger left c.args.self.now c.advance.new.self c.end_reservation.new.self
-    c.args.session.now c.args.group c.args.moment c.args.parts.now h c.requires.moment
-    c.requires.live
-    (is_nothing c.args.parts.now (sym c.is_empty.ensures ∙ c.if-is_empty.true))
-    c.advance.ensures.rows c.end_reservation.ensures.rows
-
-pub returns-clause-left : goal.returns-clause-left
-returns-clause-left c = λ ledger left h.
-    left_settled ledger left c.args.self.now c.advance-2.new.self c.settle_use-charged.new.self
-    c.args.session.now c.args.group c.cycle_at-cycle.result c.args.moment
-    c.in-Some.rated.units.0 c.in-Some.rated.blocks.0
-    (due c.in-Some.rated.amount.0 c.in-Some.rated.covered.0) c.args.parts.now
-    h c.requires.moment c.requires.live
-    (is_something c.args.parts.now (sym c.is_empty.ensures ∙ c.if-is_empty.false))
-    c.cycle_at-cycle.ensures
-    c.in-Some.ensures.units c.in-Some.ensures.blocks (due_is' c) c.in-Some.ensures.some
-    (c.advance-2.ensures.rows ∙ ap (advanced c.args.moment) c.in_ok-make_rows.ensures.ok)
-    c.settle_use-charged.ensures.rows
-
-pub returns-then-is_empty-clause-settled_left : goal.returns-then-is_empty-clause-settled_left
-returns-then-is_empty-clause-settled_left c = λ ledger left h.
-    nothing_settled ledger c.args.self.now c.args.session.now c.args.group c.args.moment
-    c.args.parts.now _
-    (is_nothing c.args.parts.now (sym c.is_empty.ensures ∙ c.if-is_empty.true)) refl refl refl refl
-
-pub returns-in_default-clause-limit_left : goal.returns-in_default-clause-limit_left
-returns-in_default-clause-limit_left c = λ e ledger left h.
-    passes_told ledger left c.args.moment c.args.self.now c.args.session.now c.args.group
-    c.args.parts.now c.requires.moment h c.requires.live
-    (is_something c.args.parts.now (sym c.is_empty.ensures ∙ c.if-is_empty.false))
-    ∙ c.rate.ensures.none c.in_default.is
-
-pub returns-clause-settled_left : goal.returns-clause-settled_left
-returns-clause-settled_left c = λ ledger left h.
-    settlement_beside ledger left c.args.self.now c.advance-2.new.self c.args.session.now
-    c.args.group c.cycle_at-cycle.result c.args.moment c.args.parts.now _
-    h c.requires.moment c.requires.live (told c)
-
-pub returns-clause-within_left : goal.returns-clause-within_left
-returns-clause-within_left c = λ ledger left h.
-    passes_told ledger left c.args.moment c.args.self.now c.args.session.now c.args.group
-    c.args.parts.now c.requires.moment h c.requires.live
-    (is_something c.args.parts.now (sym c.is_empty.ensures ∙ c.if-is_empty.false)) ∙ within c
-
-pub returns-then-is_empty-clause-by_rows : goal.returns-then-is_empty-clause-by_rows
-returns-then-is_empty-clause-by_rows c =
-    ended_is c.args.self.now c.advance.new.self c.end_reservation.new.self c.args.session.now
-    c.args.group c.args.moment c.args.parts.now
-    (is_nothing c.args.parts.now (sym c.is_empty.ensures ∙ c.if-is_empty.true))
-    c.advance.ensures.rows c.end_reservation.ensures.rows
-
-pub returns-clause-by_rows : goal.returns-clause-by_rows
-returns-clause-by_rows c =
-    settled_is c.args.self.now c.advance-2.new.self c.settle_use-charged.new.self c.args.session.now
-    c.args.group c.cycle_at-cycle.result c.args.moment c.in-Some.rated.units.0
-    c.in-Some.rated.blocks.0 (due c.in-Some.rated.amount.0 c.in-Some.rated.covered.0)
-    c.args.parts.now
-    c.requires.live (is_something c.args.parts.now (sym c.is_empty.ensures ∙ c.if-is_empty.false))
-    c.cycle_at-cycle.ensures
-    c.in-Some.ensures.units c.in-Some.ensures.blocks (due_is' c)
-    (c.advance-2.ensures.rows ∙ ap (advanced c.args.moment) c.in_ok-make_rows.ensures.ok)
-    c.settle_use-charged.ensures.rows
-
-pub returns-then-is_empty-clause-within_rows : goal.returns-then-is_empty-clause-within_rows
-returns-then-is_empty-clause-within_rows c =
-    passes_in_none c.args.session.now c.args.group c.args.moment c.args.parts.now c.args.self.now
-    (is_nothing c.args.parts.now (sym c.is_empty.ensures ∙ c.if-is_empty.true))
-
-pub returns-in_default-clause-limit_rows : goal.returns-in_default-clause-limit_rows
-returns-in_default-clause-limit_rows c = λ e.
-    passes_in_some c.args.session.now c.args.group c.args.moment c.args.parts.now c.args.self.now
-    (is_something c.args.parts.now (sym c.is_empty.ensures ∙ c.if-is_empty.false))
-    ∙ c.rate.ensures.none c.in_default.is
-
-pub returns-clause-within_rows : goal.returns-clause-within_rows
-returns-clause-within_rows c =
-    passes_in_some c.args.session.now c.args.group c.args.moment c.args.parts.now c.args.self.now
-    (is_something c.args.parts.now (sym c.is_empty.ensures ∙ c.if-is_empty.false)) ∙ within c
+pub returns : goal.returns
+returns c = record {
+  rows =
+      λ ledger rows.
+      rows_settled ledger c.args.self.now c.advance-2.new.self c.settle_use-charged.new.self
+      c.args.session.now c.args.group c.cycle_at-cycle.result c.args.moment
+      c.in-Some.rated.units.0 c.in-Some.rated.blocks.0
+      (due c.in-Some.rated.amount.0 c.in-Some.rated.covered.0) c.args.parts.now
+      c.rate.ensures.account rows c.requires.moment c.requires.live
+      (is_something c.args.parts.now (sym c.is_empty.ensures ∙ c.if-is_empty.false))
+      c.cycle_at-cycle.ensures
+      c.in-Some.ensures.units c.in-Some.ensures.blocks (due_is' c)
+      (c.advance-2.ensures.rows ∙ ap (advanced c.args.moment) c.in_ok-make_rows.ensures.ok)
+      c.settle_use-charged.ensures.rows;
+  left =
+      λ ledger left h.
+      left_settled ledger left c.args.self.now c.advance-2.new.self c.settle_use-charged.new.self
+      c.args.session.now c.args.group c.cycle_at-cycle.result c.args.moment
+      c.in-Some.rated.units.0 c.in-Some.rated.blocks.0
+      (due c.in-Some.rated.amount.0 c.in-Some.rated.covered.0) c.args.parts.now
+      h c.requires.moment c.requires.live
+      (is_something c.args.parts.now (sym c.is_empty.ensures ∙ c.if-is_empty.false))
+      c.cycle_at-cycle.ensures
+      c.in-Some.ensures.units c.in-Some.ensures.blocks (due_is' c) c.in-Some.ensures.some
+      (c.advance-2.ensures.rows ∙ ap (advanced c.args.moment) c.in_ok-make_rows.ensures.ok)
+      c.settle_use-charged.ensures.rows;
+  by_rows =
+      settled_is c.args.self.now c.advance-2.new.self c.settle_use-charged.new.self
+      c.args.session.now
+      c.args.group c.cycle_at-cycle.result c.args.moment c.in-Some.rated.units.0
+      c.in-Some.rated.blocks.0 (due c.in-Some.rated.amount.0 c.in-Some.rated.covered.0)
+      c.args.parts.now
+      c.requires.live (is_something c.args.parts.now (sym c.is_empty.ensures ∙ c.if-is_empty.false))
+      c.cycle_at-cycle.ensures
+      c.in-Some.ensures.units c.in-Some.ensures.blocks (due_is' c)
+      (c.advance-2.ensures.rows ∙ ap (advanced c.args.moment) c.in_ok-make_rows.ensures.ok)
+      c.settle_use-charged.ensures.rows;
+  as_of = ap (λ (x : AccountRows). x.as_of) (after c);
+  tariff = ap (λ (x : AccountRows). x.shelf) (after c);
+  sessions = ap (λ (x : AccountRows). x.sessions) (after c);
+  settled =
+      λ ledger rows.
+      settlement_is ledger c.args.self.now c.advance-2.new.self c.args.session.now c.args.group
+      c.cycle_at-cycle.result c.args.moment c.args.parts.now _
+      c.rate.ensures.account rows c.requires.moment c.requires.live (told c);
+  settled_left =
+      λ ledger left h.
+      settlement_beside ledger left c.args.self.now c.advance-2.new.self c.args.session.now
+      c.args.group c.cycle_at-cycle.result c.args.moment c.args.parts.now _
+      h c.requires.moment c.requires.live (told c);
+  within =
+      λ ledger rows.
+      passes_is ledger c.args.self.now c.args.session.now c.args.group c.args.moment
+      c.args.parts.now
+      c.rate.ensures.account rows c.requires.moment c.requires.live
+      (is_something c.args.parts.now (sym c.is_empty.ensures ∙ c.if-is_empty.false)) ∙ within c;
+  within_left =
+      λ ledger left h.
+      passes_told ledger left c.args.moment c.args.self.now c.args.session.now c.args.group
+      c.args.parts.now c.requires.moment h c.requires.live
+      (is_something c.args.parts.now (sym c.is_empty.ensures ∙ c.if-is_empty.false)) ∙ within c;
+  limit = λ e. absurd (no_fault e);
+  limit_left = λ e. absurd (no_fault e);
+  within_rows =
+      passes_in_some c.args.session.now c.args.group c.args.moment c.args.parts.now c.args.self.now
+      (is_something c.args.parts.now (sym c.is_empty.ensures ∙ c.if-is_empty.false)) ∙ within c;
+  limit_rows = λ e. absurd (no_fault e);
+  ended = λ none. refl;
+  free =
+      settled_free c.args.session.now c.args.group c.in-Some.rated.units.0 c.in-Some.rated.blocks.0
+      (due c.in-Some.rated.amount.0 c.in-Some.rated.covered.0) c.advance-2.new.self
+      c.settle_use-charged.new.self
+      c.settle_use-charged.ensures.rows;
+  others =
+      λ s g h.
+      others_settled c.args.self.now c.advance-2.new.self c.settle_use-charged.new.self s g
+      c.args.session.now c.args.group _ c.args.moment c.in-Some.rated.units.0
+      c.in-Some.rated.blocks.0 (due c.in-Some.rated.amount.0 c.in-Some.rated.covered.0)
+      (c.advance-2.ensures.rows ∙ ap (advanced c.args.moment) c.in_ok-make_rows.ensures.ok)
+      c.settle_use-charged.ensures.rows h;
+  err = tt;
+}

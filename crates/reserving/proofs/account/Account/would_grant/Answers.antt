@@ -37,18 +37,19 @@ quota_told c =
     ∙ ap (λ (x : AccountRows). periods_at x.shelf c.args.moment) c.self.view_is)
     c.quota_after-quota.ensures
 
-pub returns-clause-ledger : goal.returns-clause-ledger
-returns-clause-ledger c = λ ledger rows.
-    ap (λ (x : Grant). nat_lt 0 x.units.0)
-    (new_told ledger c.args.self.now c.args.group c.args.moment (requested c)
-    c.quota_after-quota.result.wanted (grant c)
-    (subst IsPriced c.self.view_is c.self.invariant.priced).account rows c.requires (quota_told c))
-
-pub returns-clause-left : goal.returns-clause-left
-returns-clause-left c = λ ledger left h.
-    ap (λ (x : Grant). nat_lt 0 x.units.0)
-    (new_told_beside ledger left c.args.moment c.args.self.now c.args.group (requested c)
-    c.quota_after-quota.result.wanted (grant c) c.requires h (quota_told c))
-
-pub returns-clause-rows : goal.returns-clause-rows
-returns-clause-rows c = ap (λ (x : Grant). nat_lt 0 x.units.0) (quota_told c).grant
+pub returns : goal.returns
+returns c = record {
+  rows = ap (λ (x : Grant). nat_lt 0 x.units.0) (quota_told c).grant;
+  ledger =
+      λ ledger rows.
+      ap (λ (x : Grant). nat_lt 0 x.units.0)
+      (new_told ledger c.args.self.now c.args.group c.args.moment (requested c)
+      c.quota_after-quota.result.wanted (grant c)
+      (subst IsPriced c.self.view_is c.self.invariant.priced).account rows c.requires (quota_told
+      c));
+  left =
+      λ ledger left h.
+      ap (λ (x : Grant). nat_lt 0 x.units.0)
+      (new_told_beside ledger left c.args.moment c.args.self.now c.args.group (requested c)
+      c.quota_after-quota.result.wanted (grant c) c.requires h (quota_told c));
+}

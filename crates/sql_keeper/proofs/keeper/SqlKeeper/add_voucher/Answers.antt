@@ -20,22 +20,19 @@ invariant_of-self g c = record {
   seen = λ clean on. tt;
 }
 
-pub returns-clause-done : goal.returns-clause-done
-returns-clause-done g c =
-    rw (← c.self.view_is) (added_law g.S.Store _ c.ask_to_add-made.new.conn _ _ _ _
-    c.self.invariant.keeper _
-    (handed_on _ _ _ _ _ c.counted.ensures.handed c.ask_to_add-made.ensures.commits.commits))
-
-pub returns-clause-kept : goal.returns-clause-kept
-returns-clause-kept g c = rw (← c.self.view_is) (keeps g.S.Store _ _ c.self.invariant.keeper refl
-    (λ text. BecomesAdded text c.args.code c.args.terms c.args.moment) _
-    c.ask_to_add-made.result c.counted.result c.counted.ensures.handed
-    c.ask_to_add-made.ensures.commits _ c.counted.ensures.cause
-    (λ db b. b.tables (shelf_names c.self.inside.shelf)))
-
-pub returns-clause-whole : goal.returns-clause-whole
-returns-clause-whole g c = rw (← c.self.view_is) (standing_whole g.S.Store _ _
-    c.self.invariant.keeper refl
-    (λ text. BecomesAdded text c.args.code c.args.terms c.args.moment) _
-    c.ask_to_add-made.result c.counted.result c.counted.ensures.handed
-    c.ask_to_add-made.ensures.commits c.as_str-text.ensures.value)
+pub returns : goal.returns
+returns g c = rw (← c.self.view_is) (record {
+  done = added_law g.S.Store _ c.ask_to_add-made.new.conn _ _ _ _
+      c.self.invariant.keeper _
+      (handed_on _ _ _ _ _ c.counted.ensures.handed c.ask_to_add-made.ensures.commits.commits);
+  kept = keeps g.S.Store _ _ c.self.invariant.keeper refl
+      (λ text. BecomesAdded text c.args.code c.args.terms c.args.moment) _
+      c.ask_to_add-made.result c.counted.result c.counted.ensures.handed
+      c.ask_to_add-made.ensures.commits _ c.counted.ensures.cause
+      (λ db b. b.tables (shelf_names c.self.inside.shelf));
+  whole = standing_whole g.S.Store _ _
+      c.self.invariant.keeper refl
+      (λ text. BecomesAdded text c.args.code c.args.terms c.args.moment) _
+      c.ask_to_add-made.result c.counted.result c.counted.ensures.handed
+      c.ask_to_add-made.ensures.commits c.as_str-text.ensures.value;
+})

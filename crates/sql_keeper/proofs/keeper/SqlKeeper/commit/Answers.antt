@@ -20,21 +20,18 @@ invariant_of-self g c = record {
   seen = λ clean on. tt;
 }
 
-pub returns-clause-done : goal.returns-clause-done
-returns-clause-done g c =
-    rw (← c.self.view_is) (committed g.S.Store _ c.ask_to_change-made.new.conn _ _
-    c.self.invariant.keeper _
-    (handed_on _ _ _ _ _ c.counted.ensures.handed c.ask_to_change-made.ensures.commits.commits))
-
-pub returns-clause-kept : goal.returns-clause-kept
-returns-clause-kept g c = rw (← c.self.view_is) (keeps g.S.Store _ _ c.self.invariant.keeper refl
-    (λ text. Becomes (shelf_names c.self.inside.shelf) text c.args.change) _
-    c.ask_to_change-made.result c.counted.result c.counted.ensures.handed
-    c.ask_to_change-made.ensures.commits _ c.counted.ensures.cause (λ db b. b.tables))
-
-pub returns-clause-whole : goal.returns-clause-whole
-returns-clause-whole g c = rw (← c.self.view_is) (standing_whole g.S.Store _ _
-    c.self.invariant.keeper refl
-    (λ text. Becomes (shelf_names c.self.inside.shelf) text c.args.change) _
-    c.ask_to_change-made.result c.counted.result c.counted.ensures.handed
-    c.ask_to_change-made.ensures.commits c.as_str-text.ensures.value)
+pub returns : goal.returns
+returns g c = rw (← c.self.view_is) (record {
+  done = committed g.S.Store _ c.ask_to_change-made.new.conn _ _
+      c.self.invariant.keeper _
+      (handed_on _ _ _ _ _ c.counted.ensures.handed c.ask_to_change-made.ensures.commits.commits);
+  kept = keeps g.S.Store _ _ c.self.invariant.keeper refl
+      (λ text. Becomes (shelf_names c.self.inside.shelf) text c.args.change) _
+      c.ask_to_change-made.result c.counted.result c.counted.ensures.handed
+      c.ask_to_change-made.ensures.commits _ c.counted.ensures.cause (λ db b. b.tables);
+  whole = standing_whole g.S.Store _ _
+      c.self.invariant.keeper refl
+      (λ text. Becomes (shelf_names c.self.inside.shelf) text c.args.change) _
+      c.ask_to_change-made.result c.counted.result c.counted.ensures.handed
+      c.ask_to_change-made.ensures.commits c.as_str-text.ensures.value;
+})

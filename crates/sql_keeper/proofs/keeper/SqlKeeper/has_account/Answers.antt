@@ -16,12 +16,12 @@ invariant_of-self g c = record {
       c.ask_for_account-read.ensures.only;
 }
 
-pub returns-clause-reads : goal.returns-clause-reads
-returns-clause-reads g c = rw (← c.self.view_is) (asked g.S.Store _ _ c.self.invariant.keeper
-    refl _ _ c.ask_for_account-read.result c.counted.result c.ask_for_account-read.ensures
-    c.counted.ensures.handed c.counted.ensures.cause
-    (λ clean on x t. t ∙ sym (is_some_map head_in _)))
-
-pub returns-clause-whole : goal.returns-clause-whole
-returns-clause-whole g c = rw (← c.self.view_is) (asked_whole g.S.Store _ _
-    c.self.invariant.keeper refl _ c.ask_for_account-read.result c.ask_for_account-read.ensures)
+pub returns : goal.returns
+returns g c = rw (← c.self.view_is) (record {
+  reads = asked g.S.Store _ _ c.self.invariant.keeper
+      refl _ _ c.ask_for_account-read.result c.counted.result c.ask_for_account-read.ensures
+      c.counted.ensures.handed c.counted.ensures.cause
+      (λ clean on x t. t ∙ sym (is_some_map head_in _));
+  whole = asked_whole g.S.Store _ _
+      c.self.invariant.keeper refl _ c.ask_for_account-read.result c.ask_for_account-read.ensures;
+})

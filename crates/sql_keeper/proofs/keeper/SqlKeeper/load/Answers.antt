@@ -1,8 +1,9 @@
-use Rattle.std.proofs.Common.{refl}
+use Rattle.std.proofs.Common.{refl, subst, sym}
 use Rattle.sqlite.specs.Held.{state}
-use Rattle.keepers.specs.Change.{IsLoad}
 use Rattle.sql_rows.specs.Content.{rows_in}
-use Rattle.sql_keeper.specs.Content.{rows_of, shelf_names}
+use Rattle.sql_keeper.specs.Content.{shelf_names}
+use Rattle.sql_keeper.specs.LiveRows.{IsLoadStored}
+use Rattle.sql_keeper.specs.Seen.{Sees}
 use Rattle.sql_keeper.proofs.Asked.{keeper_after}
 use Rattle.sql_keeper.proofs.SeenRows.{seen_asked}
 use Rattle.sql_keeper.proofs.Standing.{asked, asked_whole}
@@ -12,21 +13,23 @@ pub invariant_of-self : goal.invariant_of-self
 invariant_of-self g c = record {
   keeper = keeper_after g.S.Store _ _ c.self.invariant.keeper c.ask_to_load-read.ensures.only
       c.ask_to_load-read.ensures.survives refl refl refl c.counted.ensures.bounded;
-  seen = seen_asked (λ trees found. IsLoad c.args.shelf.now c.args.moment c.args.account.now
-      (rows_of (shelf_names c.self.inside.shelf) (rows_in trees c.args.account.now)) found)
-      c.self.inside.seen c.seen_in.result
+  seen = seen_asked (λ trees found. IsLoadStored (shelf_names c.self.inside.shelf)
+      c.args.shelf.now c.args.moment c.args.account.now (rows_in trees c.args.account.now) found)
+      c.self.inside.seen c.seen_later.result
       (state g.S.Store c.self.inside.connection) (state g.S.Store c.ask_to_load-read.new.conn)
       c.ask_to_load-read.result c.self.invariant.seen c.ask_to_load-read.ensures
-      (λ trees before told. c.seen_in.ensures (shelf_names c.self.inside.shelf)
-      c.args.shelf.now c.args.moment c.args.account.now trees told);
+      (λ trees before told. c.seen_later.ensures trees
+      (subst (λ o. Sees o trees) (sym c.take-older.ensures.value) before)
+      (c.seen_in-newer.ensures (shelf_names c.self.inside.shelf)
+      c.args.shelf.now c.args.moment c.args.account.now trees told));
 }
 
-pub returns-clause-reads : goal.returns-clause-reads
-returns-clause-reads g c = rw (← c.self.view_is) (asked g.S.Store _ _ c.self.invariant.keeper
-    refl _ _ c.ask_to_load-read.result c.counted.result c.ask_to_load-read.ensures
-    c.counted.ensures.handed c.counted.ensures.cause
-    (λ clean on x t. t))
-
-pub returns-clause-whole : goal.returns-clause-whole
-returns-clause-whole g c = rw (← c.self.view_is) (asked_whole g.S.Store _ _
-    c.self.invariant.keeper refl _ c.ask_to_load-read.result c.ask_to_load-read.ensures)
+pub returns : goal.returns
+returns g c = rw (← c.self.view_is) (record {
+  reads = asked g.S.Store _ _ c.self.invariant.keeper
+      refl _ _ c.ask_to_load-read.result c.counted.result c.ask_to_load-read.ensures
+      c.counted.ensures.handed c.counted.ensures.cause
+      (λ clean on x t. t.load);
+  whole = asked_whole g.S.Store _ _
+      c.self.invariant.keeper refl _ c.ask_to_load-read.result c.ask_to_load-read.ensures;
+})

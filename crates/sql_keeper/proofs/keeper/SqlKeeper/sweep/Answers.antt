@@ -21,26 +21,21 @@ invariant_of-self g c = record {
   seen = λ clean on. tt;
 }
 
-pub returns-clause-count : goal.returns-clause-count
-returns-clause-count g c = rw (← c.self.view_is) (λ clean.
-    handed _ _ c.ask_to_sweep-made.result c.counted.result c.counted.ensures.handed (λ x h. h)
-    (c.ask_to_sweep-made.ensures.count clean.disk))
-
-pub returns-clause-done : goal.returns-clause-done
-returns-clause-done g c =
-    rw (← c.self.view_is) (swept_law g.S.Store _ c.ask_to_sweep-made.new.conn _ _ _
-    c.self.invariant.keeper _
-    (handed_on _ _ _ _ _ c.counted.ensures.handed c.ask_to_sweep-made.ensures.commits.commits))
-
-pub returns-clause-kept : goal.returns-clause-kept
-returns-clause-kept g c = rw (← c.self.view_is) (keeps g.S.Store _ _ c.self.invariant.keeper refl
-    (λ text. BecomesSwept (shelf_names c.self.inside.shelf) text c.args.shelf.now c.args.moment) _
-    c.ask_to_sweep-made.result c.counted.result c.counted.ensures.handed
-    c.ask_to_sweep-made.ensures.commits _ c.counted.ensures.cause (λ db b. b.tables))
-
-pub returns-clause-whole : goal.returns-clause-whole
-returns-clause-whole g c = rw (← c.self.view_is) (standing_whole g.S.Store _ _
-    c.self.invariant.keeper refl
-    (λ text. BecomesSwept (shelf_names c.self.inside.shelf) text c.args.shelf.now c.args.moment) _
-    c.ask_to_sweep-made.result c.counted.result c.counted.ensures.handed
-    c.ask_to_sweep-made.ensures.commits c.as_str-text.ensures.value)
+pub returns : goal.returns
+returns g c = rw (← c.self.view_is) (record {
+  count = λ clean.
+      handed _ _ c.ask_to_sweep-made.result c.counted.result c.counted.ensures.handed (λ x h. h)
+      (c.ask_to_sweep-made.ensures.count clean.disk);
+  done = swept_law g.S.Store _ c.ask_to_sweep-made.new.conn _ _ _
+      c.self.invariant.keeper _
+      (handed_on _ _ _ _ _ c.counted.ensures.handed c.ask_to_sweep-made.ensures.commits.commits);
+  kept = keeps g.S.Store _ _ c.self.invariant.keeper refl
+      (λ text. BecomesSwept (shelf_names c.self.inside.shelf) text c.args.shelf.now c.args.moment) _
+      c.ask_to_sweep-made.result c.counted.result c.counted.ensures.handed
+      c.ask_to_sweep-made.ensures.commits _ c.counted.ensures.cause (λ db b. b.tables);
+  whole = standing_whole g.S.Store _ _
+      c.self.invariant.keeper refl
+      (λ text. BecomesSwept (shelf_names c.self.inside.shelf) text c.args.shelf.now c.args.moment) _
+      c.ask_to_sweep-made.result c.counted.result c.counted.ensures.handed
+      c.ask_to_sweep-made.ensures.commits c.as_str-text.ensures.value;
+})

@@ -1,0 +1,71 @@
+-- What each call on a purse does to its buckets, and what it answers.
+-- Source: TS 32.296, account balance management function (reservation and debit of an account);
+-- TS 32.299, session charging with unit reservation.
+use Rattle.std.specs.Prelude.{◌≡◌, ◌+◌, ◌↔◌, List, Result, Err, OnOk, OnErr, IfOk, IsErrOf}
+use Rattle.units.specs.Words.{Moment, Micros, BlockCount, GroupId}
+use Rattle.units.specs.declared.blocks.Blocks.{Blocks}
+use Rattle.buckets.specs.declared.holds.Hold.{Hold}
+use Rattle.buckets.specs.declared.kind.Due.{Due}
+use Rattle.buckets.specs.declared.purse.Charged.{Charged}
+use Rattle.buckets.specs.declared.purse.PurseFault.{PurseFault}
+use Rattle.buckets.specs.declared.purse.PurseFault.TheVariants.{Memory, NotCovered}
+use Rattle.buckets.specs.Kinds.{due}
+use Rattle.buckets.specs.Row.{Row}
+use Rattle.buckets.specs.Spend.{IsSound, held_rows, inserted}
+use Rattle.buckets.specs.Holding.{holds_of, IsWithin, charged_rows, uncollected, covered_blocks}
+use Rattle.buckets.specs.Holding.{rest_of_holds, settled_rows}
+
+-- a bucket is added; at an error nothing has changed
+pub record Adds {T E : Type 0} (b : Row) (old new : List Row) (result : Result T E) : Type 0 where
+  pub ok : OnOk result (new ≡ inserted b old)
+  pub err : OnErr result (new ≡ old)
+
+-- what is due is held, where it isn't short
+pub record HoldsDue (group : GroupId) (at : Moment) (d : Due) (IsShort : Type 0)
+    (old new : List Row) (result : Result (List Hold) PurseFault) : Type 0 where
+  pub rows : OnOk result (new ≡ held_rows group at d old)
+  pub holds : IfOk result (λ h. h ≡ holds_of group at d old)
+  pub within : IfOk result (λ h. IsWithin h new)
+  pub not_covered : IsErrOf result NotCovered ↔ IsShort
+  pub err : OnErr result (new ≡ old)
+
+-- what is due is held, where it is covered
+pub record IsHeld (group : GroupId) (at : Moment) (d : Due) (old new : List Row) (given : List Hold)
+    : Type 0 where
+  pub rows : new ≡ held_rows group at d old
+  pub holds : given ≡ holds_of group at d old
+  pub within : IsWithin given new
+
+-- an amount is charged to holds, and what they don't reach to the eligible buckets
+pub record ChargesMoney (group : GroupId) (at : Moment) (amount : Micros) (lent rest : List Hold)
+    (old new : List Row) (result : Result Charged PurseFault) : Type 0 where
+  pub sound : IsSound old
+  pub rows : OnOk result (new ≡ charged_rows lent group at (due amount 0) old)
+  pub holds : OnOk result (rest ≡ rest_of_holds lent (due amount 0) old)
+  pub within : OnOk result (IsWithin rest new)
+  pub uncollected : IfOk result (λ c. c.uncollected.0 ≡ uncollected lent group at amount old)
+  pub collected : IfOk result (λ c. c.collected.0 + c.uncollected.0 ≡ amount)
+  pub memory : OnErr result (result ≡ Err Memory)
+  pub err : OnErr result (new ≡ old)
+  pub err_holds : OnErr result (rest ≡ lent)
+
+-- blocks are charged to holds, and what they don't reach to the eligible allowances
+pub record ChargesBlocks (group : GroupId) (at : Moment) (blocks : BlockCount)
+    (lent rest : List Hold) (old new : List Row) (result : Result Blocks PurseFault)
+    : Type 0 where
+  pub sound : IsSound old
+  pub rows : OnOk result (new ≡ charged_rows lent group at (due 0 blocks) old)
+  pub holds : OnOk result (rest ≡ rest_of_holds lent (due 0 blocks) old)
+  pub within : OnOk result (IsWithin rest new)
+  pub covered : IfOk result (λ c. c.0 ≡ covered_blocks lent group at blocks old)
+  pub memory : OnErr result (result ≡ Err Memory)
+  pub err : OnErr result (new ≡ old)
+  pub err_holds : OnErr result (rest ≡ lent)
+
+-- what is due is charged, and what is left of the holds is given up
+pub record SettlesDue (holds : List Hold) (group : GroupId) (at : Moment) (amount : Micros)
+    (blocks : BlockCount) (old new : List Row) (given : Charged) : Type 0 where
+  pub sound : IsSound old
+  pub rows : new ≡ settled_rows holds group at (due amount blocks) old
+  pub uncollected : given.uncollected.0 ≡ uncollected holds group at amount old
+  pub collected : given.collected.0 + given.uncollected.0 ≡ amount

@@ -1,0 +1,24 @@
+use Rattle.std.proofs.Common.{ap, ◌∙◌}
+use Rattle.decisions.specs.Decisions.{answer_of}
+use Rattle.decisions.proofs.deciding.decide.Goals as goal
+
+pub returns : goal.returns
+returns c = record {
+  answer =
+      λ ledger left rows asked. c.answer_to.ensures
+      ∙ ap (answer_of c.args.request.now)
+      (c.in_ok-ruling.ensures.ruled.follows ledger left asked rows).same;
+  accepted =
+      λ ledger left rows asked.
+      (c.in_ok-ruling.ensures.ruled.follows ledger left asked rows).acceptance;
+  rows =
+      λ ledger left rows asked.
+      (c.in_ok-ruling.ensures.ruled.follows ledger left asked rows).rows;
+  charges =
+      λ ledger left rows asked.
+      (c.in_ok-ruling.ensures.ruled.follows ledger left asked rows).written;
+  moment = c.in_ok-ruling.ensures.ruled.stands.moment;
+  tariff = c.in_ok-ruling.ensures.tariff;
+  same = c.in_ok-ruling.ensures.ruled.stands.same;
+  unwritten = c.in_ok-ruling.ensures.ruled.stands.unwritten;
+}

@@ -1,0 +1,45 @@
+-- What the calls on a request say, for each ledger whose rows the account's are together with those
+-- left.
+-- Source: RFC 8506 sections 5.1, 6 and 9.
+use Rattle.std.specs.Prelude.{◌≡◌, Bool, false, if◌then◌else◌, [], ◌++◌, Option, is_some}
+use Rattle.std.specs.Prelude.{Result, IfOk, IfSome}
+use Rattle.units.specs.Words.{Moment}
+use Rattle.commands.specs.declared.request.Request.{Request}
+use Rattle.commands.specs.declared.answer.RequestAnswer.{RequestAnswer}
+use Rattle.reserving.specs.Ledger.{Ledger}
+use Rattle.reserving.specs.Rows.{AccountRows}
+use Rattle.reserving.specs.Left.{LeftRows, IsWith}
+use Rattle.reserving.specs.Charges.{charge_rows}
+use Rattle.decisions.specs.declared.decided.Decided.{Decided}
+use Rattle.decisions.specs.Asked.{IsAsked}
+use Rattle.decisions.specs.Decisions.{decision, answer_of, is_read}
+
+-- a request is decided: its answer, whether it is accepted, and its charges are the decision's, and
+-- the account has the rows of the ledger after it; what isn't accepted changes nothing
+pub record Decides {E : Type 0} (request : Request) (known : Bool) (t : Moment)
+    (before after : AccountRows) (result : Result Decided E) : Type 0 where
+  pub answer : IfOk result (λ d. (ledger : Ledger) (left : LeftRows) →
+      IsWith ledger left t before → IsAsked ledger left request known →
+      d.answer ≡ answer_of request (decision before.shelf t request ledger).outcome)
+  pub accepted : IfOk result (λ d. (ledger : Ledger) (left : LeftRows) →
+      IsWith ledger left t before → IsAsked ledger left request known →
+      d.accepted ≡ (decision before.shelf t request ledger).accepted)
+  pub rows : IfOk result (λ d. (ledger : Ledger) (left : LeftRows) →
+      IsWith ledger left t before → IsAsked ledger left request known →
+      IsWith (decision before.shelf t request ledger).after left t after)
+  pub charges : IfOk result (λ d. (ledger : Ledger) (left : LeftRows) →
+      IsWith ledger left t before → IsAsked ledger left request known →
+      charge_rows (decision before.shelf t request ledger).after
+      ≡ charge_rows ledger ++ d.charges.items)
+  pub moment : IfOk result (λ d. after.as_of ≡ (if d.accepted then t else before.as_of))
+  pub tariff : after.shelf ≡ before.shelf
+  pub same : IfOk result (λ d. d.accepted ≡ false → after ≡ before)
+  pub unwritten : IfOk result (λ d. d.accepted ≡ false → d.charges.items ≡ [])
+
+-- a check of the balance or a price enquiry is answered as it would be decided; nothing else is
+pub record ReadsAlone {E : Type 0} (request : Request) (t : Moment) (a : AccountRows)
+    (result : Result (Option RequestAnswer) E) : Type 0 where
+  pub answer : IfOk result (λ r. IfSome r (λ answer. (ledger : Ledger) (left : LeftRows) →
+      IsWith ledger left t a →
+      answer ≡ answer_of request (decision a.shelf t request ledger).outcome))
+  pub read : IfOk result (λ r. is_some r ≡ is_read request.ask)

@@ -1,0 +1,13 @@
+use Rattle.std.proofs.Common.{◌∙◌, arith}
+use Rattle.sql_keeper.specs.Content.{shelf_names}
+use Rattle.sql_keeper.specs.Writes.{with_group_over}
+use Rattle.sql_rows.proofs.Each.{put_next}
+use Rattle.sql_keeper.proofs.held_groups.put_groups_over.Goals as goal
+
+pub rows-preserved : goal.rows-preserved
+rows-preserved g c = record {
+  same = c.in_ok-put_group_over.ensures.same_reference ∙ c.rows.invariant.same;
+  put = put_next (with_group_over c.args.account.now (shelf_names c.args.books.now)
+      c.args.seen.now) c.args.rows.now c.rows.row-index c.row-item.result
+      _ _ _ _ (omega arith) c.row-item.is c.rows.invariant.put c.in_ok-put_group_over.ensures.makes;
+}

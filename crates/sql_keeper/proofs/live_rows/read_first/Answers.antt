@@ -1,0 +1,18 @@
+use Rattle.sqlite.specs.Held.{state}
+use Rattle.calendar.specs.declared.cycle.Cycle.TheVariants as often
+use Rattle.sql_rows.specs.Content.{rows_in}
+use Rattle.sql_keeper.proofs.Repeating.{repeating_among}
+use Rattle.sql_keeper.proofs.Told.{made_of, one_tells}
+use Rattle.sql_keeper.proofs.live_rows.read_first.Goals as goal
+
+pub returns : goal.returns
+returns g c =
+    made_of _ _ (state g.S.Store c.args.conn.now) (state g.S.Store c.read_head_counters.new.conn)
+    _ (one_tells _ _ _ c.in_ok-head.field-0 c.in_ok-head.ensures.reads)
+    (λ trees told. record {
+      head_is = told.0;
+      never_are = repeating_among c.args.book.now often.None c.args.moment c.cycle_of-cycle.result
+          (rows_in trees c.args.account.now) c.in_ok-head.field-0.counters.items
+          c.counters_repeating-never.result.items c.cycle_of-cycle.ensures.value told.1
+          c.counters_repeating-never.ensures;
+    })

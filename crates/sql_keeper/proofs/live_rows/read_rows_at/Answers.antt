@@ -1,0 +1,26 @@
+use Rattle.std.proofs.Common.{sym, ◌∙◌}
+use Rattle.sqlite.specs.Held.{state}
+use Rattle.sql_keeper.proofs.Told.{made_of, several_tell, tell_both}
+use Rattle.sql_keeper.proofs.live_rows.read_rows_at.Goals as goal
+
+pub returns-in_default : goal.returns-in_default
+returns-in_default g c =
+    made_of _ _ (state g.S.Store c.args.conn.now) (state g.S.Store c.read_first.new.conn) _
+    (several_tell _ _ _ c.in_ok-head.field-0 c.in_ok-head.ensures)
+    (λ trees first. sym first.head_is ∙ c.in_default.is)
+
+pub returns : goal.returns
+returns g c =
+    made_of _ _ (state g.S.Store c.args.conn.now) (state g.S.Store c.read_counters_at.new.conn) _
+    (tell_both _ _ (state g.S.Store c.args.conn.now) (state g.S.Store c.read_first.new.conn)
+    (state g.S.Store c.read_counters_at.new.conn)
+    (several_tell _ _ _ c.in_ok-head.field-0 c.in_ok-head.ensures)
+    (tell_both _ _ (state g.S.Store c.read_first.new.conn)
+    (state g.S.Store c.read_live_rows.new.conn) (state g.S.Store c.read_counters_at.new.conn)
+    (several_tell _ _ _ c.in_ok-rows.rows c.in_ok-rows.ensures)
+    (several_tell _ _ _ c.in_ok-counters.counters c.in_ok-counters.ensures)))
+    (λ trees told. (
+      sym told.0.head_is ∙ c.in-Some.is,
+      told.1.0,
+      told.1.1 c.args.shelf.now c.book_at-book.ensures.value told.0.never_are,
+    ))

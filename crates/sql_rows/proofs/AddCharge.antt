@@ -1,0 +1,157 @@
+-- What the text of `add_charge` does.
+use Rattle.std.specs.Prelude.{codes, is_some, if◌then◌else◌, ◌==◌, not, IfOk}
+use Rattle.std.proofs.Common.{◌≡◌, ◌⊎◌, inl, inr, ℕ, ℤ, List, [], ◌∷◌, ◌++◌, Bool, true, false, ◌&&◌}
+use Rattle.std.proofs.Common.{Some, None, Option, Ok, Err, Result, OnOk, IsTrue, refl, sym, ap, subst}
+use Rattle.std.proofs.Common.{◌∙◌, arith, option_map}
+use Rattle.std.specs.Ordering.{eq_by_cmp}
+use Rattle.sqlite_value.specs.declared.value.Value.TheVariants.{Null, Int, Text}
+use Rattle.sqlite_value.specs.Keys.{plain}
+use Rattle.sqlite_value.specs.Order.{Row, row_cmp}
+use Rattle.sqlite_trees.specs.Objects.{catalog_tree}
+use Rattle.sqlite_trees.specs.Tree.{Trees}
+use Rattle.sqlite_sql.specs.Term.{Term, lit, col}
+use Rattle.sqlite_schema.specs.declared.command.Source.TheVariants.{Values}
+use Rattle.sqlite_schema.specs.declared.command.Conflict.TheVariants.{Abort}
+use Rattle.sqlite_schema.specs.declared.command.Command.TheVariants.{InsertOr}
+use Rattle.sqlite_schema.specs.Rules.{agree}
+use Rattle.sqlite_rules.specs.Cast.{cast_row}
+use Rattle.sqlite_rules.specs.Keys.{conflicts}
+use Rattle.sqlite_tied.specs.Compute.{everything}
+use Rattle.sqlite.specs.declared.error.Error.{Error}
+use Rattle.sqlite.specs.Listing.{understood}
+use Rattle.sqlite.specs.State.{State, ExecutesInside, HasCleanDisk}
+use Rattle.sqlite.proofs.Callers.{IsPlain, command_of}
+use Rattle.reserving.specs.declared.charge.ChargeRow.{ChargeRow}
+use Rattle.sql_tables.specs.Keyed.{key_of, look}
+use Rattle.sql_tables.specs.Schema.{charges, book_schema, key_index}
+use Rattle.sql_tables.specs.Statements.{Attempts, HasBook, IsBook}
+use Rattle.sql_tables.proofs.Casts.{cast_int, cast_null}
+use Rattle.sql_tables.proofs.Found.{is_some_map}
+use Rattle.sql_tables.proofs.Steps.{or_false}
+use Rattle.sql_tables.proofs.Ties.{agree_ties}
+use Rattle.sql_rows.specs.Values.{charge_values, charge_in}
+use Rattle.sql_rows.specs.Content.{Content, content_of, has_charge, rows_in}
+use Rattle.sql_rows.specs.Content.{with_charge, with_rows}
+use Rattle.sql_rows.specs.Makes.{AddsIfNone, Makes}
+use Rattle.sql_rows.specs.Plain.{ArePlain}
+use Rattle.sql_rows.proofs.Adds.{AddsRow, IsAdded, IsThere, adds_table}
+use Rattle.sql_rows.proofs.Plains.{plain_beside}
+use Rattle.sql_rows.proofs.PutCharge.{charge_turns}
+use Rattle.sql_rows.proofs.Writes.{makes_turned}
+
+abbrev pub add_charge_text : List ℕ
+add_charge_text =
+    codes "INSERT INTO charges VALUES (?1, ?2, ?3, ?4, ?5, ?6, ?7, ?8, ?9) "
+    ++ codes "ON CONFLICT (account, number) DO NOTHING"
+
+abbrev terms : List Term
+terms = lit Null ∷ col 0 0 ∷ col 0 1 ∷ col 0 2 ∷ col 0 3 ∷ col 0 4 ∷ col 0 5 ∷ col 0 6 ∷ col 0 7
+    ∷ col 0 8 ∷ []
+
+abbrev places : List ℕ
+places = 1 ∷ 2 ∷ []
+
+add_is : command_of (understood book_schema add_charge_text)
+    ≡ InsertOr 9 Abort (Values terms 10) (record { target = Some places; update = None } ∷ [])
+unfolding understood everything
+add_is = refl
+
+add_plain : IsPlain (understood book_schema add_charge_text)
+unfolding understood everything
+add_plain = (refl, refl)
+
+module _ (a : List ℕ) (row : ChargeRow) (none : row.covered.0 ≡ 0) where
+  abbrev values : Row
+  values = charge_values a row
+
+  again : (id : ℤ) → cast_row charges (Int id ∷ values) ≡ Int id ∷ values
+  again id = simp (cast_int)
+
+  unset : cast_row charges (Null ∷ values) ≡ Null ∷ values
+  unset = simp (cast_int, cast_null)
+
+  meets : (id : ℤ) (other : Row) →
+      conflicts (Some places) book_schema.indexes charges (Int id ∷ values) other
+      ≡ eq_by_cmp row_cmp (key_of places other) (key_of places (Int id ∷ values))
+  meets id other = or_false (agree plain places other places (Int id ∷ values))
+      ∙ agree_ties places other (Int id ∷ values) (refl, (refl, tt))
+
+  adds : (old new : State) (r : Result ℕ Error) → (IsTrue old.is_open → IsBook old)
+      → OnOk r (ExecutesInside 0 add_charge_text values old new r)
+      → IfOk r (AddsRow charges values old new)
+  adds =
+      adds_table 9 charges refl (inr (inr (inr (inr (inr (inr (inr (inr (inr (inl refl))))))))))
+      (key_index charges) (inr (inr (inr (inr (inr (inr (inr (inr (inr (inl refl))))))))))
+      refl refl refl (λ e. omega arith) refl
+      add_charge_text terms 10 add_is add_plain values again unset
+      refl (λ v. refl) (λ id. (refl, (refl, tt))) meets
+
+  abbrev stands : Content → Bool
+  stands c = has_charge a row.number c
+
+  abbrev change : Content → Content
+  change c = if stands c then c else with_rows a (with_charge row) c
+
+  -- whether there is a charge of its number
+  there : (trees : Trees) → stands (content_of trees)
+      ≡ is_some (look charges trees (key_of places (Null ∷ values)))
+  there trees = is_some_map charge_in (look charges trees (key_of places (Null ∷ values)))
+
+  -- it is added where there was none
+  record IsCharged (old new : State) (count : ℕ) : Type 0 where
+    made : Makes change old new
+    told : (count == 1) ≡ not (stands (content_of old.now.trees))
+
+  chosen : (t : Bool) (c : Content) → stands c ≡ t
+      → change c ≡ (if t then c else with_rows a (with_charge row) c)
+  chosen t c e = ap (λ b. if b then c else with_rows a (with_charge row) c) e
+
+  charged : (old new : State) (count : ℕ) → AddsRow charges values old new count
+      → IsCharged old new count
+  charged old new count h = at h.adds
+    where
+      at : IsAdded charges values old.now.trees new.now.trees count
+          ⊎ IsThere charges values old.now.trees new.now.trees count → IsCharged old new count
+      at (inl x) =
+          let missing : stands (content_of old.now.trees) ≡ false =
+          there old.now.trees ∙ ap is_some x.none in
+          record {
+            made = makes_turned change old new
+                (charge_turns a row none old.now.trees new.now.trees x.changes
+                ∙ sym (chosen false (content_of old.now.trees) missing))
+                x.changes.catalog
+                (plain_beside charges values (omega arith) (omega arith) (omega arith)
+                old.now.trees new.now.trees x.changes) h.book h.shows;
+            told = ap (λ n. n == 1) x.one ∙ ap not (sym missing);
+          }
+      at (inr x) =
+          let standing : stands (content_of old.now.trees) ≡ true =
+          there old.now.trees ∙ x.there in
+          record {
+            made = makes_turned change old new
+                (ap content_of x.same ∙ sym (chosen true (content_of old.now.trees) standing))
+                (ap (λ (t : Trees). t catalog_tree) x.same)
+                (subst ArePlain (sym x.same)) h.book h.shows;
+            told = ap (λ n. n == 1) x.none ∙ ap not (sym standing);
+          }
+
+  pub adds_charge : (params : Row) → params ≡ values → (old new : State) (count : ℕ)
+      → HasBook old
+      → Attempts {A = ℕ} {E = Error}
+      (λ old new. ExecutesInside 0 add_charge_text params old new (Ok count)) old new (Ok count)
+      → AddsIfNone {E = Error} stands (with_rows a (with_charge row)) old new (Ok (count == 1))
+  adds_charge params same old new count has ran = record {
+    makes = record {
+      done = λ clean. (is clean).made;
+      kept = ran.kept;
+      survives = ran.survives;
+    };
+    told = λ clean. (is clean).told;
+  }
+    where
+      is : HasCleanDisk new → IsCharged old new count
+      is clean =
+          charged old new count (adds old new (Ok count)
+          (has (omega (arith, ran.survives.clean, clean)))
+          (subst (λ p. ExecutesInside 0 add_charge_text p old new (Ok count)) same
+          (ran.done clean)))
