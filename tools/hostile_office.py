@@ -112,8 +112,10 @@ def replayed(built, place, text):
 
 
 def rows(place, unwanted=UNDUE):
-    """All rows of a database, which has none that is unwanted."""
+    """All rows of a database, which has none that is unwanted. A changed byte of a comment in the texts
+    of its tables need not be UTF-8."""
     with contextlib.closing(sqlite3.connect(place / "db")) as opened:
+        opened.text_factory = lambda text: text.decode(errors="replace")
         for asked in unwanted:
             found = opened.execute(asked).fetchall()
             need(not found, asked, found)
