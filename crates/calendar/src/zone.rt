@@ -1,7 +1,7 @@
 //! Zones: what a clock shows at a moment, and which moment a clock means.
 
 ghost use Rattle.std.specs.Prelude.{◌≡◌, ◌↔◌, ◌≤◌, ◌<◌, ◌^◌, ◌+◌, ◌*◌, ◌-◌, IsSome, IfSome, IfOk};
-ghost use Rattle.std.specs.Prelude.{ℕ, ℤ, length, nat_le, pos, ◌+ℤ◌, ◌*ℤ◌};
+ghost use Rattle.std.specs.Prelude.{ℤ, length, nat_le, pos, ◌+ℤ◌, ◌*ℤ◌};
 ghost use Rattle.jiff.specs.Words.{epoch_day, IsWithin};
 ghost use Rattle.jiff.specs.Types.{Date};
 ghost use Rattle.std.specs.List.{prefix_len};

@@ -18,11 +18,12 @@ use Rattle.buckets.specs.Holding.{paid, holds_of, held_sum, uncollected}
 use Rattle.buckets.proofs.Dues.{sum_in-cons}
 use Rattle.buckets.proofs.Paid.{sum_in-both}
 use Rattle.buckets.proofs.Parts.{sum_at, sum_at-parts}
-use Rattle.reserving.specs.Ledger.{Fact, Ledger, charged, next_bucket, next_charge}
-use Rattle.reserving.specs.Ledger.Fact.{Touch, Close, Recorded, Barred}
+use Rattle.reserving.specs.Ledger.{Fact, Ledger, charged, next_bucket, next_charge, counts}
+use Rattle.reserving.specs.Ledger.Fact.{Recorded}
 use Rattle.reserving.specs.SoundLedger.{IsSoundLedger}
 use Rattle.reserving.specs.Balance.{credits, bucket_at, buckets_at}
 use Rattle.reserving.specs.Charges.{charge_rows}
+use Rattle.reserving.specs.Charges.{charge_by}
 use Rattle.reserving.specs.Sessions.{holds_at}
 use Rattle.reserving.specs.Requests.{recorded, touched, credited}
 use Rattle.reserving.specs.Settlement.{charge_facts, reported, report_price, settled, settled_by}
@@ -41,6 +42,8 @@ use Rattle.charging.proofs.Credited.{AreCredited, distinct, in_order, charge_cre
 use Rattle.charging.proofs.Sound.{IsSoundHistory, sound_none, keeps_sound}
 use Rattle.charging.proofs.Coverable.{money_paid, blocks_paid, report_covers, event_covers}
 use Rattle.charging.proofs.Steps.{is_quiet, with_grant, granted, Keeps}
+use Rattle.reserving.proofs.Counted.{IsQuiet, quiet, quiet_money}
+use Rattle.reserving.proofs.rows.Touching.{SameMoney}
 
 -- ---- sums
 
@@ -88,27 +91,16 @@ sums_same new old same sums k =
 
 same_quiet : (t : ℕ) (f : Fact) (ledger : Ledger) → is_quiet f ≡ true →
     SameSums (record { at = t; fact = f } ∷ ledger) ledger
-same_quiet t (Touch s) ledger q = record {
-  rows = append-nil (charge_rows ledger);
-  credits_are = refl;
-  charged_is = λ n. omega arith;
-}
-same_quiet t (Close s) ledger q = record {
-  rows = append-nil (charge_rows ledger);
-  credits_are = refl;
-  charged_is = λ n. omega arith;
-}
-same_quiet t (Recorded s n) ledger q = record {
-  rows = append-nil (charge_rows ledger);
-  credits_are = refl;
-  charged_is = λ n. omega arith;
-}
-same_quiet t (Barred x) ledger q = record {
-  rows = append-nil (charge_rows ledger);
-  credits_are = refl;
-  charged_is = λ n. omega arith;
-}
-same_quiet t _ ledger q = cc
+same_quiet t f ledger q =
+    let none : IsQuiet (counts f) = quiet f q in
+    let money : SameMoney (record { at = t; fact = f } ∷ ledger) ledger =
+    quiet_money t f ledger none in
+    record {
+      rows = (λ i. charge_rows ledger ++ charge_by (next_charge ledger) t (none.usage i))
+          ∙ append-nil (charge_rows ledger);
+      credits_are = money.credits;
+      charged_is = money.charged;
+    }
 
 same_touched : (t : ℕ) (s : List ℕ) (n : ℕ) (ledger : Ledger) →
     SameSums (touched t s n ledger) ledger

@@ -8,7 +8,6 @@ use Rattle.buckets.specs.Spend.{IsInOrder, AreDistinct, IsBelow, inserted}
 use Rattle.buckets.proofs.SharesAlong.{KeepsPlace, IsInOrder-map, IsInOrder-inserted}
 use Rattle.buckets.proofs.Kept.{AreDistinct-map, AreDistinct-inserted}
 use Rattle.reserving.specs.Ledger.{Fact, Ledger, next_bucket}
-use Rattle.reserving.specs.Ledger.Fact.{Touch, Close, Recorded, Barred}
 use Rattle.reserving.specs.Balance.{credits, bucket_at, buckets_at}
 use Rattle.reserving.specs.Requests.{credited}
 use Rattle.reserving.specs.Settlement.{charge_facts}
@@ -16,6 +15,8 @@ use Rattle.reserving.specs.Reservation.{hold_facts}
 use Rattle.reserving.proofs.Crediting.{IsBelow-inserted}
 use Rattle.reserving.proofs.rows.Lapsing.{IsBelow-map}
 use Rattle.charging.proofs.Steps.{is_quiet}
+use Rattle.reserving.proofs.rows.Touching.{SameMoney}
+use Rattle.reserving.proofs.Counted.{quiet, quiet_money}
 
 -- ---- the buckets of a ledger
 
@@ -56,11 +57,10 @@ same_credits new old same h =
 
 pub quiet_credits : (t : ℕ) (f : Fact) (ledger : Ledger) → is_quiet f ≡ true →
     SameCredits (record { at = t; fact = f } ∷ ledger) ledger
-quiet_credits t (Touch s) ledger q = record { rows = refl; next = omega arith }
-quiet_credits t (Close s) ledger q = record { rows = refl; next = omega arith }
-quiet_credits t (Recorded s n) ledger q = record { rows = refl; next = omega arith }
-quiet_credits t (Barred x) ledger q = record { rows = refl; next = omega arith }
-quiet_credits t _ ledger q = cc
+quiet_credits t f ledger q =
+    let money : SameMoney (record { at = t; fact = f } ∷ ledger) ledger =
+    quiet_money t f ledger (quiet f q) in
+    record { rows = money.credits; next = money.next_bucket }
 
 pub charge_credits : (t : ℕ) (hs : List Hold) (ledger : Ledger) →
     SameCredits (charge_facts t hs ++ ledger) ledger

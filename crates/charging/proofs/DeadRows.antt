@@ -11,9 +11,8 @@ use Rattle.reserving.specs.declared.session.Session.{Session}
 use Rattle.reserving.specs.declared.session.SessionState.TheVariants.{Open, Ended, NeverOpened}
 use Rattle.reserving.specs.Ledger.{Fact, Ledger, Recording, is_same, counts_before, hold_of, held}
 use Rattle.reserving.specs.Ledger.{charged, only, is_live, last_touch, last_recording, open_grant}
-use Rattle.reserving.specs.Ledger.{next_bucket}
-use Rattle.reserving.specs.Ledger.Fact.{Credit, Grant, Hold as HoldFact, End, Use, Charge, Touch}
-use Rattle.reserving.specs.Ledger.Fact.{Close, Recorded, Barred}
+use Rattle.reserving.specs.Ledger.{next_bucket, HoldOf, EndOf, counts as counts_of, number_of}
+use Rattle.reserving.specs.Ledger.{holds_by, but_ended, ends_of}
 use Rattle.reserving.specs.Balance.{credits, balance_of, bucket_at, buckets_at}
 use Rattle.reserving.specs.Sessions.{is_open, state_at, session_row, session_at, holds_at}
 use Rattle.reserving.specs.Sessions.{reservation_of, reservation_at, group_at}
@@ -44,31 +43,20 @@ no e = absurd (true≢false (sym e))
 before_implies : (f : Fact) (p q : List ℕ → ℕ → Bool) →
     ((s : List ℕ) (g : ℕ) → p s g ≡ true → q s g ≡ true) → (s : List ℕ) (g : ℕ) →
     counts_before f p s g ≡ true → counts_before f q s g ≡ true
-before_implies (End x y) p q h s g e =
-    let both = and_parts (p s g) (not (is_same s x && g == y)) e in
-    λ i. h s g both.0 i && both.1 i
-before_implies (Credit k a b c d e) p q h s g z = h s g z
-before_implies (Grant a b c d e) p q h s g z = h s g z
-before_implies (HoldFact a b c d) p q h s g z = h s g z
-before_implies (Use a b c d e f x) p q h s g z = h s g z
-before_implies (Charge a b) p q h s g z = h s g z
-before_implies (Touch a) p q h s g z = h s g z
-before_implies (Close a) p q h s g z = h s g z
-before_implies (Recorded a b) p q h s g z = h s g z
-before_implies (Barred a) p q h s g z = h s g z
+before_implies f p q h s g e = at (counts_of f).end e
+  where
+    at : (o : Option EndOf) → but_ended o p s g ≡ true → but_ended o q s g ≡ true
+    at None k = h s g k
+    at (Some x) k = let both = and_parts (p s g) (not (ends_of s g x)) k in
+        λ i. h s g both.0 i && both.1 i
 
 before_counts : (f : Fact) (p : List ℕ → ℕ → Bool) (s : List ℕ) (g : ℕ) →
     counts_before f p s g ≡ true → p s g ≡ true
-before_counts (End x y) p s g e = (and_parts (p s g) (not (is_same s x && g == y)) e).0
-before_counts (Credit k a b c d e) p s g h = h
-before_counts (Grant a b c d e) p s g h = h
-before_counts (HoldFact a b c d) p s g h = h
-before_counts (Use a b c d e f x) p s g h = h
-before_counts (Charge a b) p s g h = h
-before_counts (Touch a) p s g h = h
-before_counts (Close a) p s g h = h
-before_counts (Recorded a b) p s g h = h
-before_counts (Barred a) p s g h = h
+before_counts f p s g e = at (counts_of f).end e
+  where
+    at : (o : Option EndOf) → but_ended o p s g ≡ true → p s g ≡ true
+    at None k = k
+    at (Some x) k = (and_parts (p s g) (not (ends_of s g x)) k).0
 
 swapped : (a b c : Bool) → ((a && b) && c) ≡ ((a && c) && b)
 swapped true true true = refl
@@ -79,16 +67,12 @@ swapped false b c = refl
 
 before_and : (f : Fact) (p q : List ℕ → ℕ → Bool) (s : List ℕ) (g : ℕ) →
     counts_before f (λ x y. p x y && q x y) s g ≡ (counts_before f p s g && q s g)
-before_and (End x y) p q s g = swapped (p s g) (q s g) (not (is_same s x && g == y))
-before_and (Credit k a b c d e) p q s g = refl
-before_and (Grant a b c d e) p q s g = refl
-before_and (HoldFact a b c d) p q s g = refl
-before_and (Use a b c d e f x) p q s g = refl
-before_and (Charge a b) p q s g = refl
-before_and (Touch a) p q s g = refl
-before_and (Close a) p q s g = refl
-before_and (Recorded a b) p q s g = refl
-before_and (Barred a) p q s g = refl
+before_and f p q s g = at (counts_of f).end
+  where
+    at : (o : Option EndOf) →
+        but_ended o (λ x y. p x y && q x y) s g ≡ (but_ended o p s g && q s g)
+    at None = refl
+    at (Some x) = swapped (p s g) (q s g) (not (ends_of s g x))
 
 only_itself : (s : List ℕ) (g : ℕ) → only s g s g ≡ true
 only_itself s g = λ i. is_same-refl s i && number_same g i
@@ -97,21 +81,21 @@ hold_none : (keep counts : List ℕ → ℕ → Bool) (n : ℕ) (f : Fact) →
     ((s : List ℕ) (g : ℕ) → counts s g ≡ true → keep s g ≡ true) →
     ((s : List ℕ) (g : ℕ) → counts s g ≡ true →
     hold_of (λ x y. keep x y && only s g x y) n f ≡ 0) → hold_of counts n f ≡ 0
-hold_none keep counts n (HoldFact s g b a) k h = at (counts s g) refl
+hold_none keep counts n f k h = by_hold (counts_of f).hold h
   where
-    at : (x : Bool) → counts s g ≡ x → (if x && b == n then a else 0) ≡ 0
-    at false e = refl
-    at true e =
-        sym (λ i. if (k s g e i && only_itself s g i) && b == n then a else 0) ∙ h s g e
-hold_none keep counts n (Credit x a b c d e) k h = refl
-hold_none keep counts n (Grant a b c d e) k h = refl
-hold_none keep counts n (End a b) k h = refl
-hold_none keep counts n (Use a b c d e f x) k h = refl
-hold_none keep counts n (Charge a b) k h = refl
-hold_none keep counts n (Touch a) k h = refl
-hold_none keep counts n (Close a) k h = refl
-hold_none keep counts n (Recorded a b) k h = refl
-hold_none keep counts n (Barred a) k h = refl
+    by_hold : (o : Option HoldOf) → ((s : List ℕ) (g : ℕ) → counts s g ≡ true →
+        number_of (holds_by (λ x y. keep x y && only s g x y) n) o ≡ 0) →
+        number_of (holds_by counts n) o ≡ 0
+    by_hold None each = refl
+    by_hold (Some x) each = at (counts x.session x.group) refl
+      where
+        at : (c : Bool) → counts x.session x.group ≡ c →
+            (if c && x.bucket == n then x.amount else 0) ≡ 0
+        at false e = refl
+        at true e =
+            sym (λ i. if (k x.session x.group e i && only_itself x.session x.group i)
+            && x.bucket == n then x.amount else 0)
+            ∙ each x.session x.group e
 
 none_held : (keep counts : List ℕ → ℕ → Bool) (n : ℕ) (ledger : Ledger) →
     ((s : List ℕ) (g : ℕ) → counts s g ≡ true → keep s g ≡ true) →
@@ -259,8 +243,8 @@ module _ (v : ℕ → ℕ) (from : ℕ) (old : Ledger) where
             known (Some r) k = live (is_live v from old s) r refl k
 
   -- a dead bucket's number
-  dead_number : AreCredited (credits old) (next_bucket old) → IsSoundLedger old → (n : ℕ) (c : Row) →
-      bucket_in n (credits old) ≡ Some c → IsDead (bucket_at v from old c) →
+  dead_number : AreCredited (credits old) (next_bucket old) → IsSoundLedger old → (n : ℕ)
+      (c : Row) → bucket_in n (credits old) ≡ Some c → IsDead (bucket_at v from old c) →
       IsDeadNumber v from old n
   dead_number made sound n c found dead =
       let number : c.number ≡ n = same_number c.number n

@@ -40,6 +40,7 @@ use Rattle.reserving.specs.Pricing.{validity_of, tariff_of, tariff_at, switch_by
 use Rattle.reserving.specs.Pricing.{wanted_units}
 use Rattle.reserving.specs.Requests.{recorded, touched, closed, credited}
 use Rattle.reserving.specs.Settlement.{settled_by, due_of, charge_facts, passes}
+use Rattle.reserving.specs.Settlement.{use_of}
 use Rattle.reserving.specs.Reservation.{reserved, grant_for, held_due}
 use Rattle.reserving.specs.Debiting.{debited, debit_passes, is_covered}
 use Rattle.reserving.proofs.LaterBooks.{AgreeBefore, live_same}
@@ -350,7 +351,7 @@ module _ (from : ℕ) (b u : Shelf) (on : GoesOnFrom from b u) (t : ℕ) (early 
       debited_at r rows =
           record {
             at = t;
-            fact = Use s g units r.blocks (due_of r).blocks (due_of r).money 0;
+            fact = Use (use_of s g units r.blocks (due_of r) 0);
           } ∷ charge_facts t (parts (paid [] g t (due_of r) rows) rows) ++ ledger
 
   charged_same : (tariff : GroupTariff) (s : List ℕ) (n g units : ℕ) (ledger : Ledger) →

@@ -64,7 +64,7 @@ recorded_granted b t s g units due ledger =
     (hold_facts t s g (holds_of g t due (buckets_at (validity_of b) t ledger)))
     (with_grant b t s g units ledger)
     (each_hold (λ d. recording_in s d ≡ None) t s g
-    (holds_of g t due (buckets_at (validity_of b) t ledger)) (λ x n. refl))
+    (holds_of g t due (buckets_at (validity_of b) t ledger)) (λ x. refl))
 
 -- ---- a session's requests are of one that was touched
 
@@ -130,7 +130,8 @@ module _ (b : Shelf) (P : List Report → Ledger → Type 0) (k : Keeps b P)
 
   kept_recorded : (t : ℕ) (s : List ℕ) (n : ℕ) (ledger : Ledger) →
       last_recording s ledger ≡ None → IsKept ledger → IsKept (recorded t s n ledger)
-  kept_recorded t s n ledger new h = k.quiet t (Recorded s n) reports ledger refl refl new h
+  kept_recorded t s n ledger new h =
+      k.quiet t (Recorded s n) reports ledger refl refl (record { close = tt; request = new }) h
 
   -- a first request that isn't refused has a new name
   new_name : (s : List ℕ) (o : Option Recording) (other : Option Failure) →
@@ -331,7 +332,8 @@ module _ (b : Shelf) (P : List Report → Ledger → Type 0) (k : Keeps b P) whe
       let live : IsOpen b P k more s (settled_touched b t s n services ledger) =
       open_touched b P k more t s n (settled_services b t s services ledger)
       (kept_services t s services reports ledger touches h) in
-      k.quiet t (Close s) more (settled_touched b t s n services ledger) refl refl live.0 live.1)
+      k.quiet t (Close s) more (settled_touched b t s n services ledger) refl refl
+      (record { close = live.0; request = tt }) live.1)
 
   -- ---- a request
 

@@ -145,9 +145,9 @@ module _ (b : Shelf) (P : List Report → Ledger → Type 0) (k : Keeps b P) whe
   kept_opened s h (command.Credit c) t reports p = kept_credit c t reports h p
   kept_opened s h (command.Allow a) t reports p = kept_allowance a t reports h p
   kept_opened s h (command.Bar n) t reports p =
-      k.quiet t (Barred true) reports h.ledger refl refl tt p
+      k.quiet t (Barred true) reports h.ledger refl refl (record { close = tt; request = tt }) p
   kept_opened s h (command.Unbar n) t reports p =
-      k.quiet t (Barred false) reports h.ledger refl refl tt p
+      k.quiet t (Barred false) reports h.ledger refl refl (record { close = tt; request = tt }) p
   kept_opened s h (command.AddVoucher v) t reports p =
       kept_addition (addition s v.terms) (command.AddVoucher v) t reports h p p
   kept_opened s h (command.Redeem r) t reports p = kept_redeem s r t reports h p

@@ -24,6 +24,7 @@ use Rattle.reserving.specs.Requests.{credited, with_bar}
 use Rattle.reserving.specs.Rows.{AccountRows, IsAccount, IsRowsOf}
 use Rattle.reserving.specs.Stored.{StoredRows, stored, priced}
 use Rattle.reserving.specs.Left.{LeftRows, IsWith, left_of, differing}
+use Rattle.reserving.specs.Others.{OtherRows, other_rows, other_sessions, other_groups}
 use Rattle.reserving.proofs.StoredRows.{IsStored-stored}
 use Rattle.reserving.proofs.LeftTests.{first_alone}
 use Rattle.keepers.specs.declared.key.Key.{Key}
@@ -35,7 +36,8 @@ use Rattle.keepers.specs.Keys.{key_of}
 use Rattle.keepers.specs.Tables.{Head, Rows, Tables, group_row, held_of, no_rows}
 use Rattle.keepers.specs.Change.{AreRowsAt, held_over, over, changed, IsSwept}
 use Rattle.keepers.specs.Differing.{equal_bucket, equal_counter, equal_session, equal_group}
-use Rattle.keepers.specs.Differing.{named_rows}
+use Rattle.keepers.specs.Differing.{named_rows, named_for}
+use Rattle.keepers.proofs.NamedOwn.{named_own}
 use Rattle.charging.specs.Histories.{History}
 use Rattle.charging.specs.Accepted.{Accepted, one, concerned_by, is_opening, names_code}
 use Rattle.charging.specs.Accepted.{last_moment, IsInTime}
@@ -247,6 +249,25 @@ made_change found x charges kept redeemed = record {
   kept = kept;
   redeemed = redeemed;
 }
+
+-- the same, where no row of another session than this may have changed
+abbrev pub made_for : Option (List ℕ) → Loaded → AccountRows → Vec ChargeRow Global →
+    Option KeptAnswer → Option Redeemed → Change
+made_for own found x charges kept redeemed = record (made_change found x charges kept redeemed) {
+  rows = named_for own found.before (stored x);
+}
+
+pub named_so : (own : Option (List ℕ)) (session : List ℕ) (found : Loaded) (x : AccountRows) →
+    found.before ≡ stored found.account →
+    IfSome own (λ s. (s ≡ session) × (other_rows s x ≡ other_rows s found.account)) →
+    named_for own found.before (stored x) ≡ named_rows found.before (stored x)
+named_so None session found x is h = refl
+named_so (Some s) session found x is h =
+    named_own s found.before (stored x)
+    (ap (λ (o : OtherRows). o.sessions) h.1
+    ∙ ap (λ (w : StoredRows). other_sessions s w.sessions) (sym is))
+    (ap (λ (o : OtherRows). o.groups) h.1
+    ∙ ap (λ (w : StoredRows). other_groups s w.groups) (sym is))
 
 pub made_tells : (found : Loaded) (x : AccountRows) (charges : Vec ChargeRow Global)
     (kept told : Option KeptAnswer) (redeemed spent : Option Redeemed) → charges.items ≡ [] →

@@ -370,7 +370,8 @@ served-by b list c t old mid new a (Err fault) before done same f = same ∙ bef
 
 -- an answer that is the same as the one that is served
 pub served-as : (b : Shelf) (list : List Accepted) (c : Command) (t : ℕ) (old new : Tables)
-    (given a : Answer) → given ≡ a → IsServed b list c t old new a → IsServed b list c t old new given
+    (given a : Answer) → given ≡ a → IsServed b list c t old new a →
+    IsServed b list c t old new given
 served-as b list c t old new given a is served = subst (IsServed b list c t old new) (sym is) served
 
 -- what a call gives, told of what it is the same as

@@ -9,6 +9,7 @@ use Rattle.reserving.specs.Ledger.{charged, held}
 use Rattle.reserving.specs.Ledger.Fact.{Charge, Hold as HoldFact}
 use Rattle.reserving.specs.Settlement.{charge_facts}
 use Rattle.reserving.specs.Reservation.{hold_facts}
+use Rattle.reserving.specs.Reservation.{hold_for}
 use Rattle.reserving.proofs.SettledFacts.{charged-charge_facts, charged-hold_facts}
 use Rattle.reserving.proofs.SettledFacts.{credits-charge_facts, credits-hold_facts}
 use Rattle.reserving.proofs.SettledFacts.{held-charge_facts, held-hold_facts, held-hold_facts_other}
@@ -32,10 +33,10 @@ charges_are t (h ∷ hs) =
 
 holds_are : (t : ℕ) (s : List ℕ) (g : ℕ) (shares : List Hold) →
     hold_facts t s g shares
-    ≡ map (λ h. record { at = t; fact = HoldFact s g h.bucket h.amount }) shares
+    ≡ map (λ h. record { at = t; fact = HoldFact (hold_for s g h) }) shares
 holds_are t s g [] = refl
 holds_are t s g (h ∷ hs) =
-    ap (λ l. record { at = t; fact = HoldFact s g h.bucket h.amount } ∷ l) (holds_are t s g hs)
+    ap (λ l. record { at = t; fact = HoldFact (hold_for s g h) } ∷ l) (holds_are t s g hs)
 
 pub charges_are_shares : ChargesAreShares
 charges_are_shares t shares ledger = record {

@@ -249,8 +249,8 @@ module _ (b : Shelf) (list : List Accepted) (r : VoucherRedemption) (t : ℕ) (o
       new ≡ changed change old →
       IsServed b list (command.Redeem r) t old new (answer.Bucket number)
   redeem-done number change some shelf stands tells grown =
-      let done = subst (λ (q : Option ℕ). Makes q Money y.from y.until y.scope y.amount m h.ledger left x)
-      some made in
+      let done = subst (λ (q : Option ℕ). Makes q Money y.from y.until y.scope y.amount m h.ledger
+      left x) some made in
       let as_of : x.as_of ≡ m = subst (λ (q : Option ℕ). IfSome q (λ n. x.as_of ≡ m)) some stands in
       let after : Ledger = credited t Money y.from y.until y.scope y.amount h.ledger in
       served-loaded b list (command.Redeem r) t r.account refl time le old new tables found loads

@@ -21,9 +21,11 @@ use Rattle.commands.specs.declared.command.Command.TheVariants as command
 use Rattle.commands.specs.declared.command.Content.TheVariants as content
 use Rattle.commands.specs.declared.command.Credit.{Credit}
 use Rattle.reserving.specs.Ledger.{Ledger, Fact as fact}
+use Rattle.reserving.specs.Ledger.{Fact}
 use Rattle.charging.specs.Histories.{History, no_history}
 use Rattle.charging.specs.Accepted.{Outcome}
 use Rattle.charging.specs.Outcomes.{told, done, outcome}
+use Rattle.buckets.specs.declared.kind.BucketKind.{BucketKind}
 
 abbrev tariff : ℕ → GroupTariff
 tariff group = record {
@@ -95,10 +97,21 @@ allowance blocks until group reference = record {
   reference = reference;
 }
 
+-- a bucket that is made at a moment, with no end
+abbrev made : BucketKind → ℕ → ℕ → Option ℕ → ℕ → Fact
+made kind number from scope amount = fact.Credit (record {
+  kind = kind;
+  number = number;
+  from = from;
+  until = 4102444800;
+  scope = scope;
+  amount = amount;
+})
+
 -- credited at 00:00 of a Monday
 abbrev paid : Ledger
 paid =
-    record { at = 1767571200; fact = fact.Credit Money 1 1767571200 4102444800 None 1000000 } ∷ []
+    record { at = 1767571200; fact = made Money 1 1767571200 None 1000000 } ∷ []
 
 abbrev with_credit : History
 with_credit = record {
@@ -112,7 +125,7 @@ abbrev with_blocks : History
 with_blocks = record {
   opened = true;
   ledger =
-      record { at = 1767571260; fact = fact.Credit Blocks 2 1767571260 4102444800 (Some 10) 3 }
+      record { at = 1767571260; fact = made Blocks 2 1767571260 (Some 10) 3 }
       ∷ paid;
   kept =
       record { content = content.Allow (allowance 3 None 10 a1); answer = answer.Bucket 2 }
@@ -179,7 +192,7 @@ under_the_book : comes_to with_blocks (command.Allow (allowance 1 None 30 a2)) 1
     (record {
       opened = true;
       ledger =
-          record { at = 1767657600; fact = fact.Credit Blocks 3 1767657600 4102444800 (Some 30) 1 }
+          record { at = 1767657600; fact = made Blocks 3 1767657600 (Some 30) 1 }
           ∷ with_blocks.ledger;
       kept =
           record { content = content.Allow (allowance 1 None 30 a2); answer = answer.Bucket 3 }

@@ -10,7 +10,7 @@ use Rattle.reserving.specs.Ledger.{Ledger, charged, held}
 use Rattle.reserving.specs.Ledger.Fact.{Charge, Hold as HoldFact}
 use Rattle.reserving.specs.Balance.{credits}
 use Rattle.reserving.specs.Settlement.{charge_facts}
-use Rattle.reserving.specs.Reservation.{hold_facts}
+use Rattle.reserving.specs.Reservation.{hold_for, hold_facts}
 
 -- what shares take of a bucket
 abbrev pub taken_of : BucketNumber → List Hold → BucketAmount
@@ -32,7 +32,7 @@ pub record AreCharged (t : Moment) (shares : List Hold) (ledger : Ledger) : Type
 pub record AreHeld (t : Moment) (session : SessionName) (group : GroupId) (shares : List Hold)
     (ledger : Ledger) : Type 0 where
   pub facts : hold_facts t session group shares
-      ≡ map (λ h. record { at = t; fact = HoldFact session group h.bucket h.amount }) shares
+      ≡ map (λ h. record { at = t; fact = HoldFact (hold_for session group h) }) shares
   pub held_more : (counts : SessionName → GroupId → Bool) (n : BucketNumber) →
       held counts n (hold_facts t session group shares ++ ledger)
       ≡ (if counts session group then taken_of n shares else 0) + held counts n ledger

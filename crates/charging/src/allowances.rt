@@ -195,6 +195,7 @@ fn allow_account<K: Keeper>(
                 alloc,
                 keeper,
                 loaded,
+                None,
                 Vec::new(alloc),
                 Some(Content::Allow(allowance)),
                 None,

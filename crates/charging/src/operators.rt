@@ -1,6 +1,6 @@
 //! Operators' commands: accounts are opened, credited, barred, and swept.
 
-ghost use Rattle.std.specs.Prelude.{◌≡◌, ◌≤◌, IfOk, IfSome, IsTrue, None, Some, OnErr, true};
+ghost use Rattle.std.specs.Prelude.{◌≡◌, ◌≤◌, IfOk, IfSome, IsTrue, None, Some, true};
 ghost use Rattle.commands.specs.Kept.{is_kept};
 ghost use Rattle.commands.specs.declared.answer.Answer.TheVariants as answer;
 ghost use Rattle.commands.specs.declared.command.Command.TheVariants as command;
@@ -60,6 +60,7 @@ pub(crate) fn open_account<K: Keeper>(
         alloc,
         keeper,
         loaded,
+        None,
         Vec::new(alloc),
         None,
         None,
@@ -94,6 +95,7 @@ pub(crate) fn set_barred<K: Keeper>(
         alloc,
         keeper,
         loaded,
+        None,
         Vec::new(alloc),
         None,
         None,
@@ -274,6 +276,7 @@ fn credit_account<K: Keeper>(
                 alloc,
                 keeper,
                 loaded,
+                None,
                 Vec::new(alloc),
                 Some(kept),
                 None,

@@ -2,7 +2,7 @@
 use Rattle.std.proofs.Common.{◌≡◌, ◌∙◌, ℕ, Bool, true, false, List, [], ◌∷◌, refl, sym, ap, subst}
 use Rattle.std.proofs.Common.{inl, inr, take, drop, codes, Option, Some, None, Result, Ok, Err}
 use Rattle.std.proofs.Common.{IfSome}
-use Rattle.std.specs.Prelude.{◌||◌, if◌then◌else◌, nat_le, nat_lt, length, IfErr, ⊤}
+use Rattle.std.specs.Prelude.{◌||◌, if◌then◌else◌, nat_le, nat_lt, length, IfErr}
 use Rattle.httparse.specs.Grammar.{RequestHead}
 use Rattle.http_messages.specs.Methods.{is_post, is_put}
 use Rattle.http_messages.specs.Statuses.{length_required, payload_too_large}

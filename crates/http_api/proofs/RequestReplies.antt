@@ -1,5 +1,5 @@
 -- The reply to one request.
-use Rattle.std.proofs.Common.{◌≡◌, ℕ, Bool, true, false, List, [], ◌∷◌, refl, sym, ap, subst}
+use Rattle.std.proofs.Common.{◌≡◌, ℕ, Bool, List, [], ◌∷◌, refl, sym, ap, subst}
 use Rattle.std.proofs.Common.{◌∙◌, inl, inr, arith, Option, Some, None, Result, Ok, Err}
 use Rattle.std.proofs.KnownBytes.{Appends-nil}
 use Rattle.std.specs.Prelude.{IsErrAnd, OnErr}
@@ -17,7 +17,7 @@ use Rattle.keepers.specs.Tables.{Tables}
 pub use Rattle.keepers.proofs.Placed.{on_err as at_err}
 use Rattle.charging.specs.Accepted.{Accepted}
 use Rattle.charging.specs.Continued.{ForEachList}
-use Rattle.charging.specs.Served.{AreTables, Serves, moment_of}
+use Rattle.charging.specs.Served.{AreTables, Serves}
 use Rattle.http_messages.specs.Statuses as status
 use Rattle.http_messages.specs.Asking.{Asking, refuses, reads, states, IsAsked}
 use Rattle.http_messages.specs.declared.asking.StatementAsked.{StatementAsked}

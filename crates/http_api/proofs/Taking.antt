@@ -1,8 +1,7 @@
 -- A connection as it goes on: so many requests were taken, and one more, up to its end or to a
 -- fault.
 use Rattle.std.proofs.Common.{◌≡◌, ◌≢◌, ◌≤◌, ◌<◌, ◌+◌, ◌-◌, ◌==◌, ℕ, zero, suc, Bool, true, false}
-use Rattle.std.proofs.Common.{true≢false, List, [], ◌∷◌, ◌++◌, length, take, refl, sym, ap}
-use Rattle.std.proofs.Common.{subst}
+use Rattle.std.proofs.Common.{true≢false, List, [], ◌∷◌, ◌++◌, length, take, refl, sym, ap, subst}
 use Rattle.std.proofs.Common.{◌∙◌, inl, inr, arith, le_refl, Option, Some, None, IfSome, Err}
 use Rattle.std.specs.Io.KnownBytes.{Appends}
 use Rattle.std.proofs.KnownBytes.{Appends-nil, Appends-trans}
@@ -23,9 +22,8 @@ use Rattle.http_api.specs.Clocks.{GivesInTurn}
 use Rattle.http_api.specs.Hearing.{Hears, HearsNext}
 use Rattle.http_api.specs.Replies.{reply_text, IsReplied, Replies}
 use Rattle.http_api.specs.Connections.{Connection, new_connection, left_after, after_reply}
-use Rattle.http_api.specs.Connections.{IsAnswered, Takes, IsTurn, Turns, IsTaken, IsOver, IsServed}
-use Rattle.http_api.specs.Connections.{IsBegun, IsUnread}
-use Rattle.http_api.specs.Connections.{IsTakenWith, IsCutOff, ServesConnection}
+use Rattle.http_api.specs.Connections.{IsAnswered, Takes, Turns, IsTaken, IsOver, IsServed}
+use Rattle.http_api.specs.Connections.{IsBegun, IsUnread, IsTakenWith, IsCutOff, ServesConnection}
 use Rattle.http_api.proofs.Continuing.{continued_none}
 use Rattle.http_api.proofs.Statuses.{SaysStatus, asked_says, reply_says}
 
@@ -240,7 +238,8 @@ module _ {C : Type 0} (gives : C → Option ℕ → C → Type 0) (b : Shelf) wh
   one_more stream count left r1 r2 c0 c1 c2 w0 w1 Writes old mid new heard some so hears replies =
       let here : Hears so.rest (Some heard) r2 =
       subst (λ (r : Option (List ℕ)). IfSome r (λ s. Hears s (Some heard) r2)) so.rest_is hears in
-      let case : IsHeard b here.next heard r2 = heard_case b so.rest here.next heard r2 here.is_next here.hears in
+      let case : IsHeard b here.next heard r2 = heard_case b so.rest here.next heard r2 here.is_next
+      here.hears in
       let reply : Replies gives b case.asking
       (left_after heard.closes left == 0) c1 c2 Writes mid new = replies case.asking case.asked in
       let moments : List (Option ℕ) = so.moments ++ reply.moments in

@@ -14,7 +14,7 @@ use Rattle.charging.specs.Accepted.{Accepted, IsInTime}
 use Rattle.charging.specs.Continued.{ForEachList, Continues, LeavesOn}
 use Rattle.charging.specs.Served.{AreTables}
 use Rattle.http_messages.specs.Statuses.{IsAnswerStatus}
-use Rattle.http_messages.specs.Requests.{Ask, Next, asks, refused, ended, IsNext}
+use Rattle.http_messages.specs.Requests.{Next, asks, refused, ended, IsNext}
 use Rattle.http_messages.specs.Asking.{Asking, refuses, asked_of}
 use Rattle.http_messages.specs.Texts.{Begins}
 use Rattle.http_api.specs.Clocks.{GivesInTurn}

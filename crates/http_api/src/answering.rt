@@ -78,7 +78,8 @@ fn serve_command<W: Write, K: ChargeSource, C: Clock>(
         (Replies C.gives shelf.now (reads (Ok command)) closes clock.old clock.new
         (Begins (W.contents writer.old) (W.contents writer.new))
         (K.content keeper.old) (K.content keeper.new)) }
-    ensures shown { Shows (Replies C.gives shelf.now (reads (Ok command)) closes clock.old clock.new)
+    ensures shown { Shows
+        (Replies C.gives shelf.now (reads (Ok command)) closes clock.old clock.new)
         (W.contents writer.old) (W.contents writer.new)
         K.content K.honest K.clean keeper.old keeper.new result }
     ensures goes_on { GoesOn shelf.now K.content K.failed K.honest K.clean K.left

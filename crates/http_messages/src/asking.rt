@@ -3,7 +3,7 @@
 ghost use Rattle.std.specs.Prelude.{◌≡◌, Result};
 ghost use Rattle.std.specs.List.{before_first, after_first};
 ghost use Rattle.commands.specs.declared.command.Command.{Command};
-ghost use Rattle.json_fields.specs.Gives.{Gives, Says, or_fault};
+ghost use Rattle.json_fields.specs.Gives.{Gives, Says};
 ghost use Rattle.json_fields.specs.declared.fault.WireFault.{WireFault};
 ghost use Rattle.http_messages.specs.Requests.{seen};
 ghost use Rattle.http_messages.specs.Routes.{table};

@@ -1,4 +1,5 @@
-//! Requests that are refused, and the bytes that tell so: constants, so that no memory is asked for.
+//! Requests that are refused, and the bytes that tell so: constants, so that no memory is asked
+//! for.
 
 ghost use Rattle.std.specs.Prelude.{◌≡◌, true, false};
 ghost use Rattle.http_messages.specs.Refusals.{number_of, refusal_of};

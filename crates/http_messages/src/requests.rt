@@ -1,6 +1,6 @@
 //! A request with its body, taken off a stream.
 
-ghost use Rattle.std.specs.Prelude.{◌≡◌, ◌≤◌, ◌*◌, length, IfOk, IsErrOf, IfSome};
+ghost use Rattle.std.specs.Prelude.{◌≤◌, ◌*◌, length, IfOk, IsErrOf, IfSome};
 ghost use Rattle.httparse.specs.Grammar.{RequestHead};
 ghost use Rattle.http_messages.specs.Parts.{Part, whole, first_part, IsHeadPart, IsShort};
 ghost use Rattle.http_messages.specs.Requests.{TellsNext, IsHeadOf, Tells, after_head, SaysStatus};

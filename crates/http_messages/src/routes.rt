@@ -89,8 +89,8 @@ fn add(router: &mut Router<Route>, text: &str, value: Route) -> Result<(), Strea
     }
 }
 
-/// Puts the rows of the table into a router that has none. The one fault is `Memory`, where a growth
-/// was refused.
+/// Puts the rows of the table into a router that has none. The one fault is `Memory`, where a
+/// growth was refused.
 #[tactic(auto, unfolding(crate::specs::Routes::table))]
 fn add_routes(router: &mut Router<Route>) -> Result<(), StreamFault>
     requires { router.old ≡ [] }

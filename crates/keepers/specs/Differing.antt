@@ -1,7 +1,7 @@
 -- Rows that differ from those before: a change names them alone.
 -- Source: profile.
 use Rattle.std.specs.Prelude.{◌≡◌, ◌==◌, ◌&&◌, Bool, true, false, Option, Some}
-use Rattle.std.specs.Prelude.{None}
+use Rattle.std.specs.Prelude.{None, List, [], ◌∷◌, not, if◌then◌else◌}
 use Rattle.std.specs.Cmp.Lexicographic.{pointwise}
 use Rattle.units.specs.Words.{GroupId, CycleNumber}
 use Rattle.identifiers.specs.Words.{SessionName}
@@ -21,6 +21,7 @@ use Rattle.reserving.specs.declared.session.Counter.{Counter}
 use Rattle.reserving.specs.Ledger.{is_same}
 use Rattle.reserving.specs.Sessions.{session_in, group_in}
 use Rattle.reserving.specs.Sessions.{counter_in}
+use Rattle.reserving.specs.Others.{own_sessions, own_groups}
 use Rattle.reserving.specs.Stored.{StoredRows}
 use Rattle.reserving.specs.Left.{bucket_in, differing}
 use Rattle.keepers.specs.Tables.{Rows, group_row, held_of}
@@ -88,6 +89,30 @@ named_rows before after = record after {
   sessions = differing equal_session before.sessions after.sessions;
   groups = differing equal_group before.groups after.groups;
 }
+
+-- the same of one session's rows alone
+abbrev pub named_rows_of : SessionName → StoredRows → StoredRows → StoredRows
+named_rows_of s before after = record after {
+  buckets = differing equal_bucket before.buckets after.buckets;
+  counters = differing equal_counter before.counters after.counters;
+  sessions = differing equal_session (own_sessions s before.sessions)
+      (own_sessions s after.sessions);
+  groups = differing equal_group (own_groups s before.groups) (own_groups s after.groups);
+}
+
+-- the rows of all sessions, or of one alone where no other may have changed
+abbrev pub named_for : Option SessionName → StoredRows → StoredRows → StoredRows
+named_for None = named_rows
+named_for (Some s) = named_rows_of s
+
+-- the row of a session, where it differs from what it was
+abbrev pub is_changed : Option Session → Session → Bool
+is_changed None x = true
+is_changed (Some y) x = not (equal_session x y)
+
+abbrev pub changed_session : Option Session → Option Session → List Session
+changed_session before None = []
+changed_session before (Some x) = if is_changed before x then x ∷ [] else []
 
 -- rows that were loaded are there
 pub record AreThere (before : StoredRows) (r : Rows) : Type 0 where

@@ -124,7 +124,7 @@ fn any_session(rows: &[Session], row: &Session) -> bool
     rows.iter().any(|old| equal_session(row, old))
 }
 
-fn any_group(rows: &[SessionGroup], row: &SessionGroup) -> bool
+pub(crate) fn any_group(rows: &[SessionGroup], row: &SessionGroup) -> bool
     ensures { result ≡ list_any (equal_group row.now) rows.now }
 {
     rows.iter().any(|old| equal_group(row, old))
@@ -206,7 +206,7 @@ fn same_state(x: SessionState, y: SessionState) -> bool
     }
 }
 
-fn equal_session(x: &Session, y: &Session) -> bool
+pub(crate) fn equal_session(x: &Session, y: &Session) -> bool
     ensures { result ≡ equal_session x.now y.now }
 {
     x.id == y.id

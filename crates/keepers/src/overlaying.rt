@@ -191,8 +191,8 @@ fn sessions_over(
     Ok(rows)
 }
 
-/// Whether a group's row stays beside those that are named: it isn't named, and has a reservation or
-/// is of one of these sessions. The session's row is looked for from this place on.
+/// Whether a group's row stays beside those that are named: it isn't named, and has a reservation
+/// or is of one of these sessions. The session's row is looked for from this place on.
 fn stays_group(
     named: &[SessionGroup],
     sessions: &[Session],

@@ -273,9 +273,9 @@ fn stands_at(rows: &[Session], place: usize, session: &SessionId) -> bool
     false
 }
 
-/// Whether there is a row of this session, for a walk that asks for sessions in their order: the row
-/// mostly stands at the place of the last one or at the next one, and is searched for only where it
-/// doesn't. The place is then that of the row.
+/// Whether there is a row of this session, for a walk that asks for sessions in their order: the
+/// row mostly stands at the place of the last one or at the next one, and is searched for only
+/// where it doesn't. The place is then that of the row.
 pub(crate) fn has_session_near(rows: &[Session], place: &mut usize, session: &SessionId) -> bool
     ensures { result ≡ is_some (session_in session.now rows.now) }
 {
@@ -723,8 +723,8 @@ fn any_named(names: &HashMap<SessionId, bool>, rows: &[Session]) -> bool
     rows.iter().any(|row| names.contains_key(&row.id))
 }
 
-/// Whether a session is known. None of these sessions is; its row is looked for among them from this
-/// place on.
+/// Whether a session is known. None of these sessions is; its row is looked for among them from
+/// this place on.
 fn is_known(
     names: &HashMap<SessionId, bool>,
     sessions: &[Session],

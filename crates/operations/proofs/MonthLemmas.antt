@@ -1,5 +1,5 @@
 -- What is told of an account's month is its ledger's.
-use Rattle.std.proofs.Common.{◌≡◌, ℕ, Bool, true, false, List, Option, None, Some, refl, sym, ap}
+use Rattle.std.proofs.Common.{◌≡◌, ℕ, true, false, List, Option, None, Some, refl, sym, ap}
 use Rattle.std.proofs.Common.{subst, ◌∙◌, ◌≤◌, Result, Ok, Err, arith, inl, inr}
 use Rattle.std.specs.Prelude.{if◌then◌else◌, IfOk, OnErr, OnOk}
 use Rattle.std.specs.Io.KnownBytes.{Appends}
@@ -10,7 +10,7 @@ use Rattle.reserving.specs.ChargeColumns.{ChargeColumns}
 use Rattle.reserving.specs.Charges.{charge_rows}
 use Rattle.keepers.specs.Tables.{Tables}
 use Rattle.keepers.specs.declared.fault.StoreFault.TheVariants as store
-use Rattle.charging.specs.Accepted.{Accepted, IsInTime}
+use Rattle.charging.specs.Accepted.{Accepted}
 use Rattle.charging.specs.Histories.{History}
 use Rattle.charging.specs.Served.{AreTables, history, moment_of}
 use Rattle.charging.specs.States.{IsState, IsStateAt, TellsState}

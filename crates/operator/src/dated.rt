@@ -1,6 +1,6 @@
 //! A line with a moment in front.
 
-ghost use Rattle.std.specs.Prelude.{◌≡◌, IfSome, IfNone, ◌≢◌};
+ghost use Rattle.std.specs.Prelude.{◌≡◌};
 ghost use Rattle.operator.specs.Lines.{moment_of, IsDated};
 
 use texts::number;

@@ -21,8 +21,7 @@ use Rattle.charging.proofs.RunLemmas.{commands_after}
 use Rattle.request_lines.specs.declared.input.Input.{Input}
 use Rattle.request_lines.specs.Lines.{line_request}
 use Rattle.request_lines.specs.Served.{requests_in, opening_for, opening_in, commands_of, faults_in}
-use Rattle.request_lines.specs.Served.{texts_of}
-use Rattle.request_lines.specs.Served.{text_of, text_to, IsAnswered}
+use Rattle.request_lines.specs.Served.{texts_of, text_of, text_to, IsAnswered}
 use Rattle.request_lines.specs.Served.{IsShort, IsBegun, IsRunOpened, IsUntold}
 use Rattle.request_lines.specs.Input.{told_fault, IsInput}
 use Rattle.operations.specs.Written.{WritesBeginning}
@@ -238,7 +237,8 @@ module _ (b : Shelf) (amount : Option ℕ) (w0 w1 : Option (List ℕ)) where
         count = run.count;
         few = run.few;
         tables = run.tables;
-        written = subst Writes (text_is input opening given fault old new stream list h run) written;
+        written =
+            subst Writes (text_is input opening given fault old new stream list h run) written;
       }
 
   -- all commands were run, and what is answered isn't written whole

@@ -24,12 +24,13 @@ use Rattle.reserving.specs.declared.session.SessionGroup.{SessionGroup}
 use Rattle.reserving.specs.declared.session.Reservation.{Reservation}
 use Rattle.reserving.specs.declared.session.Counter.{Counter}
 use Rattle.reserving.specs.declared.session.Terms.{Terms}
-use Rattle.reserving.specs.Ledger.{Fact, Dated, Ledger, or_else, open_grant, held, only, used}
+use Rattle.reserving.specs.Ledger.{Dated, Ledger, or_else, open_grant, held, only, used}
 use Rattle.reserving.specs.Ledger.{counter, has_group, has_counter, inner, is_live, is_same}
+use Rattle.reserving.specs.Ledger.{UseOf, GrantOf, EndOf, counts as counts_of, number_of, test_of}
+use Rattle.reserving.specs.Ledger.{blocks_by, is_use_in, told_of, telling}
 use Rattle.reserving.specs.Ledger.{units_in, names_group, grant_in, counts_group, blocks_in}
 use Rattle.reserving.specs.Ledger.{uses_in, credits_in, newest, total, next_bucket, next_charge}
-use Rattle.reserving.specs.Ledger.Fact.{End, Use, Charge, Credit, Grant, Hold as HoldFact, Touch}
-use Rattle.reserving.specs.Ledger.Fact.{Close, Recorded, Barred}
+use Rattle.reserving.specs.Ledger.Fact.{Charge}
 use Rattle.reserving.specs.Pricing.{cycle_at, validity_of}
 use Rattle.reserving.specs.Keyed.{put}
 use Rattle.reserving.specs.Balance.{buckets_at}
@@ -49,6 +50,7 @@ use Rattle.reserving.proofs.Keys.{is_key, own_key, key_session, key_group, key_o
 use Rattle.reserving.proofs.Keys.{is_cycle, own_cycle, cycle_group, cycle_cycle, other_counter}
 use Rattle.reserving.proofs.Keys.{same_tests, not_true}
 use Rattle.reserving.proofs.Holds.{one_if, held_split, held_same}
+use Rattle.reserving.proofs.Counted.{is_named, unnamed_grant, none_units}
 use Rattle.reserving.proofs.SettledFacts.{is_barred-front, total-front, newest-front, any-front}
 use Rattle.reserving.proofs.SettledFacts.{any_dated-front, each_charge, held-charge_facts}
 use Rattle.reserving.proofs.SettledFacts.{charged-charge_facts, IsMoved, SameSessions, SameGroup}
@@ -60,19 +62,7 @@ use Rattle.reserving.proofs.kept.Settled.{settled_number}
 
 -- ---- what wasn't named is 0
 
-none_units : (s : List ℕ) (g : ℕ) (f : Fact) → names_group s g f ≡ false → units_in s g f ≡ 0
-none_units s g (Use a b c d covered e f) h = rw h refl
-none_units s g (HoldFact a b c d) h = refl
-none_units s g (Credit k a b c d e) h = refl
-none_units s g (Grant a b c d e) h = refl
-none_units s g (End a b) h = refl
-none_units s g (Charge a b) h = refl
-none_units s g (Touch a) h = refl
-none_units s g (Close a) h = refl
-none_units s g (Recorded a b) h = refl
-none_units s g (Barred a) h = refl
-
-used_none : (s : List ℕ) (g : ℕ) (ledger : Ledger) → has_group s g ledger ≡ false →
+pub used_none : (s : List ℕ) (g : ℕ) (ledger : Ledger) → has_group s g ledger ≡ false →
     used s g ledger ≡ 0
 used_none s g [] h = refl
 used_none s g (d ∷ older) h =
@@ -111,25 +101,21 @@ pub open_none : (s : List ℕ) (g : ℕ) (ledger : Ledger) → has_group s g led
     open_grant s g ledger ≡ None
 open_none s g [] h = refl
 open_none s g (d ∷ older) h =
-    by_fact d.at d.fact (or_parts (names_group s g d.fact) (has_group s g older) h).0
+    by_grant (counts_of d.fact).usage (counts_of d.fact).grant (counts_of d.fact).end
+    (or_parts (names_group s g d.fact) (has_group s g older) h).0
     (open_none s g older (or_parts (names_group s g d.fact) (has_group s g older) h).1)
   where
-    by_fact : (at : ℕ) (fact : Fact) → names_group s g fact ≡ false →
-        inner (newest (grant_in s g) older) ≡ None →
-        inner (or_else (grant_in s g (record { at = at; fact = fact }))
-        (newest (grant_in s g) older)) ≡ None
-    by_fact at (Grant a b p c e) k r =
-        (λ i. inner (or_else (if k i then Some (Some p) else None) (newest (grant_in s g) older)))
+    by_grant : (u : Option UseOf) (x : Option GrantOf) (e : Option EndOf) →
+        is_named s g u x ≡ false → inner (newest (grant_in s g) older) ≡ None →
+        inner (or_else (told_of (λ y. y.terms) s g (telling x e)) (newest (grant_in s g) older))
+        ≡ None
+    by_grant u (Some x) e k r =
+        (λ i. inner (or_else (if unnamed_grant s g u x k i then Some (Some x.terms) else None)
+        (newest (grant_in s g) older)))
         ∙ r
-    by_fact at (End a b) k r = grant_ended (is_same a s && b == g) (newest (grant_in s g) older) r
-    by_fact at (Use a b c e covered x y) k r = r
-    by_fact at (HoldFact a b c e) k r = r
-    by_fact at (Credit kind a b c e x) k r = r
-    by_fact at (Charge a b) k r = r
-    by_fact at (Touch a) k r = r
-    by_fact at (Close a) k r = r
-    by_fact at (Recorded a b) k r = r
-    by_fact at (Barred a) k r = r
+    by_grant u None (Some e) k r =
+        grant_ended (is_same e.session s && e.group == g) (newest (grant_in s g) older) r
+    by_grant u None None k r = r
 
 either_periods : (h l : Bool) (hs : List Hold) (p : Option Terms) (used : ℕ) (s : List ℕ) (g : ℕ)
     → l ≡ true → (h ≡ false → p ≡ None) →
@@ -159,26 +145,17 @@ if_none false = refl
 
 none_blocks : (f : ℕ → ℕ) (g c : ℕ) (d : Dated) → counts_group f g c d ≡ false →
     (if f d.at == c then blocks_in g d.fact else 0) ≡ 0
-none_blocks f g c d h = by_fact d.at d.fact h
+none_blocks f g c d h = by_use d.at (counts_of d.fact).usage h
   where
     both : (t u : Bool) (n : ℕ) → (u && t) ≡ false → (if t then (if u then n else 0) else 0) ≡ 0
     both true true n e = cc
     both true false n e = refl
     both false u n e = refl
 
-    by_fact : (at : ℕ) (fact : Fact) →
-        counts_group f g c (record { at = at; fact = fact }) ≡ false →
-        (if f at == c then blocks_in g fact else 0) ≡ 0
-    by_fact at (Use s' g' u b covered r x) e = both (f at == c) (g' == g) b e
-    by_fact at (HoldFact s' g' b n) e = if_none (f at == c)
-    by_fact at (Credit k n a b x y) e = if_none (f at == c)
-    by_fact at (Grant s' g' x y z) e = if_none (f at == c)
-    by_fact at (End s' g') e = if_none (f at == c)
-    by_fact at (Charge b n) e = if_none (f at == c)
-    by_fact at (Touch s') e = if_none (f at == c)
-    by_fact at (Close s') e = if_none (f at == c)
-    by_fact at (Recorded s' n) e = if_none (f at == c)
-    by_fact at (Barred b) e = if_none (f at == c)
+    by_use : (at : ℕ) (o : Option UseOf) → test_of (is_use_in f g c at) o ≡ false →
+        (if f at == c then number_of (blocks_by g) o else 0) ≡ 0
+    by_use at None e = if_none (f at == c)
+    by_use at (Some u) e = both (f at == c) (u.group == g) u.blocks e
 
 counter_none : (f : ℕ → ℕ) (g c : ℕ) (ledger : Ledger) → has_counter f g c ledger ≡ false →
     counter f g c ledger ≡ 0

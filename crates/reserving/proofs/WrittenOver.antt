@@ -325,6 +325,18 @@ writable_told w v sound kept e =
     } in
     record { stored = stored; keys = keys }
 
+-- no two sessions that are written have one name
+pub sessions_ascend : (w : StoredRows) → are_keys_ascending w ≡ true →
+    AreApart (λ x y. is_session x.id y) w.sessions
+sessions_ascend w e =
+    let k1 = and_parts
+    (are_ascending session_before w.sessions && are_ascending group_before w.groups)
+    (are_ascending counter_before w.counters) e in
+    let k2 = and_parts (are_ascending session_before w.sessions)
+    (are_ascending group_before w.groups) k1.0 in
+    apart_of_ascending session_before (λ x y. is_session x.id y) sessions_parted w.sessions
+    (ascending_told session_before (λ x. (session_key x).chain) w.sessions k2.0)
+
 -- ---- the writes, and the tests
 
 pub no_rows : {A : Type 0} (xs : List A) → length xs ≡ 0 → xs ≡ []

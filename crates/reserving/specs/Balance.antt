@@ -1,18 +1,20 @@
 -- The balance: each bucket at a moment, as sums over the ledger.
 -- Source: TS 32.296, account balance management function; the ledger: profile.
-use Rattle.std.specs.Prelude.{◌-◌, nat_lt, if◌then◌else◌, List, [], ◌∷◌, map}
+use Rattle.std.specs.Prelude.{◌-◌, nat_lt, if◌then◌else◌, List, [], ◌∷◌, map, Option, Some, None}
 use Rattle.units.specs.Words.{Moment, Seconds}
 use Rattle.buckets.specs.Words.{BucketAmount}
 use Rattle.buckets.specs.Row.{Row, new_row}
 use Rattle.buckets.specs.Spend.{inserted}
-use Rattle.reserving.specs.Ledger.{Fact, Ledger, charged, held, is_live}
-use Rattle.reserving.specs.Ledger.Fact.{Credit}
+use Rattle.reserving.specs.Ledger.{Fact, Ledger, CreditOf, counts, charged, held, is_live}
 
 -- the buckets as they were credited, by end and then by number
+abbrev pub with_credit : Option CreditOf → List Row → List Row
+with_credit None rows = rows
+with_credit (Some c) rows =
+    inserted (new_row c.kind c.number c.from c.until c.scope c.amount) rows
+
 abbrev pub credited_by : Fact → List Row → List Row
-credited_by (Credit kind number from until scope amount) rows =
-    inserted (new_row kind number from until scope amount) rows
-credited_by _ rows = rows
+credited_by f rows = with_credit (counts f).credit rows
 
 abbrev pub credits : Ledger → List Row
 credits [] = []

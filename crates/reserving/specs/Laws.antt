@@ -1,13 +1,13 @@
 -- Laws over the definitions alone.
 -- Source: profile.
-use Rattle.std.specs.Prelude.{◌≡◌, ◌≤◌, ◌+◌, ◌&&◌, ◌==◌, Bool, true, false, not, List, [], ◌∷◌}
+use Rattle.std.specs.Prelude.{◌≡◌, ◌≤◌, ◌+◌, ◌&&◌, Bool, true, not, List, [], ◌∷◌}
 use Rattle.units.specs.Words.{Moment, Seconds, UnitCount, BlockCount, GroupId}
 use Rattle.identifiers.specs.Words.{SessionName}
 use Rattle.buckets.specs.Words.{BucketNumber, BucketAmount}
 use Rattle.buckets.specs.declared.kind.Due.{Due}
 use Rattle.buckets.specs.Row.{Row, IsBalanced, with_end, with_release}
-use Rattle.reserving.specs.Ledger.{Fact, Ledger, is_same, is_live, any, hold_of, held}
-use Rattle.reserving.specs.Ledger.Fact.{End}
+use Rattle.reserving.specs.Ledger.{Fact, Ledger, counts as counts_of, test_of, ends_of, is_live}
+use Rattle.reserving.specs.Ledger.{any, hold_of, held}
 use Rattle.buckets.specs.Spend.{Each, AreDistinct}
 use Rattle.reserving.specs.Balance.{bucket_at, buckets_at}
 use Rattle.reserving.specs.Settlement.{settled}
@@ -74,8 +74,7 @@ IsDeadSettled =
 
 -- the fact ends this reservation
 abbrev pub is_end_of : SessionName → GroupId → Fact → Bool
-is_end_of s g (End session group) = is_same s session && g == group
-is_end_of s g _ = false
+is_end_of s g f = test_of (ends_of s g) (counts_of f).end
 
 -- the sum of a bucket's holds that count, of reservations that no fact after the hold ended
 abbrev pub held_unended : (SessionName → GroupId → Bool) → BucketNumber → Ledger → Ledger →

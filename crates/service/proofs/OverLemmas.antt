@@ -20,7 +20,6 @@ use Rattle.sql_tables.specs.Texts.{stage}
 use Rattle.sql_rows.specs.Content.{content_of}
 use Rattle.sql_keeper.specs.Content.{shelf_names, tables_of, Names}
 use Rattle.sql_keeper.specs.Inside.{IsClean, KeeperState, tables_in}
-use Rattle.sql_keeper.specs.Creates.{IsNewBook}
 use Rattle.sql_keeper.specs.Migrates.{BecomesLatest, IsMigrated}
 use Rattle.sql_keeper.specs.Opened.{IsCreated, IsKept, IsLeft, IsOpened}
 use Rattle.sql_keeper.specs.Shelves.{IsShelfOf}
@@ -135,7 +134,8 @@ pub comes_from : {D : Type 0} {g : disk.Ghosts D} (image : Image)
 comes_from image old new s says opened clean done db text shelf held left is =
     let same = same_office image old s opened clean db text shelf held left is in
     subst (λ (t : Tables). says shelf t (tables_in over_files new)) same.1
-    (subst (λ (x : Shelf). says x (tables_in over_files old) (tables_in over_files new)) same.0 done)
+    (subst (λ (x : Shelf). says x (tables_in over_files old) (tables_in over_files new)) same.0
+    done)
 
 -- so it is of what a call answers
 pub over_from : {D A E : Type 0} {g : disk.Ghosts D} (image : Image)

@@ -13,7 +13,6 @@ use Rattle.sqlite_trees.specs.Tree.{Trees}
 use Rattle.sqlite.specs.Effect.{IsDatabase}
 use Rattle.sqlite.specs.Files.{HoldsDatabase, file_state, over_files}
 use Rattle.sqlite.specs.State.{HasCleanDisk}
-use Rattle.commands.specs.declared.answer.Answer.{Answer}
 use Rattle.shelves.specs.Shelves.{Shelf}
 use Rattle.keepers.specs.Tables.{Tables}
 use Rattle.sql_tables.specs.Schema.{latest}

@@ -1,17 +1,13 @@
 -- What was left of a book's tables is found again.
-use Rattle.std.proofs.Common.{◌≡◌, ◌≤◌, ◌<◌, inl, inr, ◌∙◌, arith, List, ℕ, suc, Option, Some, None}
+use Rattle.std.proofs.Common.{◌≡◌, ◌≤◌, ◌<◌, ◌∙◌, arith, List, ℕ, Option, Some, None}
 use Rattle.std.proofs.Common.{sym, ap, subst, refl}
 use Rattle.std.specs.Prelude.{◌^◌}
-use Rattle.tariffs.specs.Books.{Book}
-use Rattle.shelves.specs.Shelves.{IsShelf, Shelf, count, one_book, with_book}
+use Rattle.shelves.specs.Shelves.{IsShelf, Shelf, one_book, with_book}
 use Rattle.std.specs.Str.{IsUtf8}
 use Rattle.sqlite_trees.specs.Tree.{Trees}
 use Rattle.sqlite_trees.specs.Objects.{catalog_tree}
-use Rattle.sqlite_trees.specs.declared.store.Store.{Ghosts}
 use Rattle.sqlite_catalog.specs.Listing.{Lists}
-use Rattle.sqlite_catalog.proofs.ReadLemmas.{lists_once}
 use Rattle.sqlite.specs.Effect.{Database}
-use Rattle.sqlite.specs.Held.{Held, state}
 use Rattle.sql_tables.specs.Schema.{book_schema, latest}
 use Rattle.sql_tables.specs.Stages.{AreStoredAt}
 use Rattle.sql_tables.specs.Statements.{AreStored}
@@ -20,19 +16,12 @@ use Rattle.sql_rows.specs.Content.{content_of}
 use Rattle.sql_tables.specs.declared.fault.OpenFault.{OpenFault}
 use Rattle.sql_tables.specs.declared.fault.OpenFault.TheVariants.{Foreign, Version, Rules, Store}
 use Rattle.sql_tables.specs.declared.fault.OpenFault.TheVariants.{Memory, Older}
-use Rattle.keepers.specs.declared.loaded.Change.{Change}
-use Rattle.voucher_rules.specs.declared.terms.VoucherTerms.{VoucherTerms}
-use Rattle.sql_keeper.specs.AddsBook.{BecomesDated}
-use Rattle.sql_keeper.specs.Additions.{BecomesAdded}
 use Rattle.sql_keeper.specs.Again.{AreLeftAgain}
 use Rattle.sql_keeper.specs.Books.{IsBookOf}
 use Rattle.sql_keeper.specs.Causes.{HasFault}
-use Rattle.sql_keeper.specs.Commits.{Becomes}
-use Rattle.sql_keeper.specs.Content.{Names}
 use Rattle.sql_keeper.specs.Creates.{first_meta}
 use Rattle.sql_keeper.specs.Opened.{IsLeft}
 use Rattle.sql_keeper.specs.Shelves.{AreLater, HasShelf, IsShelfOf}
-use Rattle.sql_keeper.specs.Sweeps.{BecomesSwept}
 use Rattle.sql_keeper.specs.Writes.{meta_at, meta_with}
 use Rattle.sql_keeper.proofs.Causes.{latest_known, same_version}
 use Rattle.sql_keeper.proofs.Shelving.{dated_shelf}

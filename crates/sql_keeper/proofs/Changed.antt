@@ -40,8 +40,7 @@ use Rattle.sql_rows.specs.Each.{with_counters, with_sessions}
 use Rattle.sql_keeper.specs.Content.{periods_in, terms_in, group_in as stored_group, is_reserved}
 use Rattle.sql_keeper.specs.Content.{held_in, Names}
 use Rattle.sql_keeper.specs.Content.{rows_of, is_numbered, charge_of, kept_in, answer_in}
-use Rattle.sql_keeper.specs.Content.{voucher_in, tables_of, names_numbered}
-use Rattle.sql_keeper.specs.Content.{told_charge}
+use Rattle.sql_keeper.specs.Content.{voucher_in, tables_of, names_numbered, told_charge}
 use Rattle.sql_keeper.specs.Content as content
 use Rattle.sql_keeper.specs.Writes.{name_at, names_at, names_held, columns_of, head_of}
 use Rattle.sql_keeper.specs.Writes.{with_all_counted, with_stored, with_texts}
@@ -50,8 +49,7 @@ use Rattle.sql_keeper.specs.Tests.{IsNamed, MayStand, AreNumbered, AreWritable}
 use Rattle.sql_keeper.specs.Tests.{first_number, is_open_over, IsSettled, AreSettled, MayBeMade}
 use Rattle.sql_keeper.specs.Laws.{AreChangesRead}
 use Rattle.sql_keeper.proofs.CountedPuts.{AreScoped, scoped, over_counted, counted_over}
-use Rattle.sql_keeper.proofs.CountedPuts.{counted_told}
-use Rattle.sql_keeper.proofs.CountedPuts.{over_paid, paid_over, paid_told}
+use Rattle.sql_keeper.proofs.CountedPuts.{counted_told, over_paid, paid_over, paid_told}
 use Rattle.sql_keeper.proofs.Overlays.{name_from, not_both, with_opened, opened, over_counters}
 use Rattle.sql_keeper.proofs.Overlays.{over_sessions, counters_over, sessions_over}
 use Rattle.sql_keeper.proofs.Groups.{amount_at, amount_in, book_over, book_put, over_groups}
@@ -144,7 +142,8 @@ pub open_named : (sessions : List Session) (r : Stored) (s : List ℕ) →
     is_open_row (session_in s sessions) ≡ true → is_open_over sessions r s ≡ true
 open_named sessions r s = at (session_in s sessions)
   where
-    at : (o : Option Session) → is_open_row o ≡ true → is_open_row (first_of o (r.sessions s)) ≡ true
+    at : (o : Option Session) → is_open_row o ≡ true →
+        is_open_row (first_of o (r.sessions s)) ≡ true
     at None e = not_both (sym e)
     at (Some x) e = e
 

@@ -269,18 +269,20 @@ pub live_groups : (names : Names) (rows : Stored) (buckets : List Row) (held : L
     → AreAllGrantBooks rows (map session_book_at books)
     → AreGroupsOf names buckets held books cs xs → AreLiveGroups names rows xs
 live_groups names rows buckets held books cs xs distinct groups holds numbers all = record {
-  groups = λ s g.
-      row_told names buckets held books s g (find (is_group_of s g) cs) (group_in s g xs)
-      (found names buckets held books s g cs xs all)
-      ∙ ap₂ (λ b o. option_map (group_told names true b) o)
-      (sym (books_are s g books) ∙ numbers s g) (groups s g)
-      ∙ rows_if (group_told names true (rows.grant_books s g)) (is_open_row (rows.sessions s))
-      (rows.groups s g);
-  holds = λ s g n.
-      held_told names buckets held books distinct s g n (find (is_group_of s g) cs)
-      (group_in s g xs) (found names buckets held books s g cs xs all)
-      ∙ ap₂ (λ o a. if is_reserved o then a else 0) (groups s g) (amount_is s g n)
-      ∙ held_if (is_open_row (rows.sessions s)) (rows.groups s g) (rows.holds s g n);
+  told = record {
+    groups = λ s g.
+        row_told names buckets held books s g (find (is_group_of s g) cs) (group_in s g xs)
+        (found names buckets held books s g cs xs all)
+        ∙ ap₂ (λ b o. option_map (group_told names true b) o)
+        (sym (books_are s g books) ∙ numbers s g) (groups s g)
+        ∙ rows_if (group_told names true (rows.grant_books s g)) (is_open_row (rows.sessions s))
+        (rows.groups s g);
+    holds = λ s g n.
+        held_told names buckets held books distinct s g n (find (is_group_of s g) cs)
+        (group_in s g xs) (found names buckets held books s g cs xs all)
+        ∙ ap₂ (λ o a. if is_reserved o then a else 0) (groups s g) (amount_is s g n)
+        ∙ held_if (is_open_row (rows.sessions s)) (rows.groups s g) (rows.holds s g n);
+  };
   grants = λ s g x v e f.
       let own = granted_in names buckets held books s g (find (is_group_of s g) cs)
       (group_in s g xs) (found names buckets held books s g cs xs all) x v e f in

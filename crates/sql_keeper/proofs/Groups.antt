@@ -23,8 +23,7 @@ use Rattle.sql_rows.specs.Each.{with_holds}
 use Rattle.sql_keeper.specs.Content.{Names}
 use Rattle.sql_keeper.specs.Writes.{columns_of, with_book_of, with_held_group, with_groups}
 use Rattle.sql_keeper.specs.Tests.{MayStand, AreWritable}
-use Rattle.sql_keeper.proofs.Overlays.{number_from, with_twice, each}
-use Rattle.sql_keeper.proofs.Overlays.{each_over}
+use Rattle.sql_keeper.proofs.Overlays.{number_from, with_twice, each, each_over}
 
 -- what the holds have of a bucket
 abbrev pub amount_at : ℕ → List Hold → Option ℕ
@@ -113,7 +112,8 @@ held_cons n x xs = sum_by-cons (λ (h : Hold). if h.bucket == n then h.amount el
 zero_plus : (n : ℕ) → 0 + n ≡ n
 zero_plus n = omega arith
 
-pub none_at : (n : ℕ) (hs : List Hold) → EachIn (λ y. nat_eq y.bucket n ≡ false) hs → held_at n hs ≡ 0
+pub none_at : (n : ℕ) (hs : List Hold) → EachIn (λ y. nat_eq y.bucket n ≡ false) hs →
+    held_at n hs ≡ 0
 none_at n [] h = refl
 none_at n (x ∷ xs) h = held_cons n x xs
     ∙ ap (λ t. (if t then x.amount else 0) + held_at n xs) h.0

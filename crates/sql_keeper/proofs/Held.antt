@@ -1,8 +1,7 @@
 -- What the commands leave is in its rules, and is found again: it is refused for no row.
-use Rattle.std.proofs.Common.{◌≡◌, ◌≤◌, ◌<◌, ◌⊎◌, inl, inr, ◌∙◌, ◌++◌, ◌+◌, ℕ, suc, List, [], ◌∷◌, Some}
-use Rattle.std.proofs.Common.{refl, sym, ap, subst, arith, length, length-append, true, IsTrue}
+use Rattle.std.proofs.Common.{◌≡◌, ◌≤◌, ◌<◌, inl, inr, ◌∙◌, ◌++◌, ◌+◌, ℕ, suc, List, [], ◌∷◌, Some}
+use Rattle.std.proofs.Common.{refl, sym, ap, subst, arith, length, length-append, true}
 use Rattle.std.specs.Prelude.{is_some}
-use Rattle.std.specs.Str.{IsUtf8}
 use Rattle.std.proofs.lemmas.Bool.{and_from}
 use Rattle.std.proofs.lemmas.Bool.Decides.{nat_tests}
 use Rattle.units.specs.Words.{no_end}
@@ -16,7 +15,6 @@ use Rattle.sqlite_catalog.specs.Listing.{IsSound}
 use Rattle.sqlite_catalog.proofs.ReadLemmas.{lists_once}
 use Rattle.sqlite.specs.Effect.{Database}
 use Rattle.sqlite.specs.Held.{Held, state}
-use Rattle.sqlite.specs.State.{HasCleanDisk}
 use Rattle.sql_tables.specs.Schema.{book_schema}
 use Rattle.keepers.specs.declared.loaded.Change.{Change}
 use Rattle.voucher_rules.specs.declared.terms.VoucherTerms.{VoucherTerms}

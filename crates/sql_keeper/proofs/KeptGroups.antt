@@ -24,7 +24,7 @@ use Rattle.sql_rows.specs.Content.{Rows, Content, rows_in, with_group, with_rows
 use Rattle.sql_rows.specs.Makes.{Makes}
 use Rattle.sql_keeper.specs.Content.{Names}
 use Rattle.sql_keeper.specs.Grants.{is_grant, is_kept, is_name, only_bucket, same_grant, grant_with}
-use Rattle.sql_keeper.specs.Seen.{IsSeen, Sees}
+use Rattle.sql_keeper.specs.Seen.{Sees}
 use Rattle.sql_keeper.specs.Tests.{AreWritable}
 use Rattle.sql_keeper.specs.Writes.{columns_of, with_group_over, with_groups_over, with_held_group}
 use Rattle.sql_keeper.specs.Writes.{with_kept_group, with_named, with_stored}

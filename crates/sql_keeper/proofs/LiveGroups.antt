@@ -48,13 +48,15 @@ pub none_open : (names : Names) (rows : Stored) (ss : List Session) (xs : List S
 none_open names rows ss xs no_sessions nothing open_ones = record {
   sessions = open_ones;
   groups = subst (AreLiveGroups names rows) (sym nothing) (record {
-    groups = λ s g.
-        ap (λ t. if t then option_map (group_told names true (rows.grant_books s g))
-        (rows.groups s g)
-        else None) (shut s);
-    holds = λ s g n.
-        ap (λ t. if t then held_in (is_reserved (rows.groups s g)) (rows.holds s g n) else 0)
-        (shut s);
+    told = record {
+      groups = λ s g.
+          ap (λ t. if t then option_map (group_told names true (rows.grant_books s g))
+          (rows.groups s g)
+          else None) (shut s);
+      holds = λ s g n.
+          ap (λ t. if t then held_in (is_reserved (rows.groups s g)) (rows.holds s g n) else 0)
+          (shut s);
+    };
     grants = λ s g x v e f. absurd (no_some x e);
   });
 }

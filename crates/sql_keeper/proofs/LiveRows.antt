@@ -23,8 +23,8 @@ use Rattle.keepers.specs.Keeping.{Reads}
 use Rattle.sql_keeper.specs.Content.{head_in, rows_of, Names}
 use Rattle.sql_keeper.specs.LiveRows.{AreLiveBuckets, AreLiveRows, AreLiveRowsLoaded, IsAccountOf}
 use Rattle.sql_keeper.specs.LiveRows.{IsLiveAccount, IsLoadOf, IsReadAccount, IsReadUncounted}
-use Rattle.sql_keeper.specs.LiveRows.{IsLoadStored, account_with}
-use Rattle.sql_keeper.specs.LiveGroups.{AreLiveGroups}
+use Rattle.sql_keeper.specs.LiveRows.{IsLoadStored, IsToldAccount, account_with}
+use Rattle.sql_keeper.specs.LiveGroups.{AreToldGroups}
 use Rattle.sql_keeper.specs.Writes.{head_of}
 use Rattle.sql_keeper.specs.declared.live_rows.ReadRows.{ReadRows}
 use Rattle.sql_keeper.proofs.DeadRows.{those_are}
@@ -58,23 +58,23 @@ pub live_read : (names : Names) (shelf : Shelf) (t : ℕ) (told : Stored) (x : R
     → FindsSame (account_with x.head x.rows x.counters.items) w
     → IsLiveAccount names shelf t told (Some w)
 live_read names shelf t told x w (head, live, counters) is found =
-    let groups : AreLiveGroups names told w.groups = record {
+    let groups : AreToldGroups names told w.groups = record {
       groups = λ s g.
-          ap (option_map group_row) (found.groups s g) ∙ live.groups.groups s g;
+          ap (option_map group_row) (found.groups s g) ∙ live.told.groups.groups s g;
       holds = λ s g n.
-          ap (held_of n) (found.groups s g) ∙ live.groups.holds s g n;
-      grants = λ s g y v e f.
-          live.groups.grants s g y v (sym (found.groups s g) ∙ e) f;
-    } in (
+          ap (held_of n) (found.groups s g) ∙ live.told.groups.holds s g n;
+    } in
+    let account : IsToldAccount names shelf t told w = (
       head ∙ ap Some (sym (ap head_of is)),
       record {
         buckets = subst (AreLiveBuckets told)
-            (sym (ap (λ (v : StoredRows). v.buckets) is)) live.buckets;
-        sessions = λ s. found.sessions s ∙ live.sessions s;
+            (sym (ap (λ (v : StoredRows). v.buckets) is)) live.told.buckets;
+        sessions = λ s. found.sessions s ∙ live.told.sessions s;
         groups = groups;
       },
       (λ g c. found.counters g c ∙ counters g c),
-    )
+    ) in
+    (account, (λ s g y v e f. live.grants s g y v (sym (found.groups s g) ∙ e) f))
 
 -- what is told whatever the shelf and the moment
 pub for_each : {A E : Type 0} (P : Shelf → ℕ → A → Type 0) (r : Result A E)
@@ -90,28 +90,27 @@ pub uncounted : (names : Names) (rows : Stored) (x : ReadRows) → Some x.head �
 uncounted names rows x head live none shelf t = (
   sym head,
   record {
-    buckets = live.buckets;
-    sessions = live.sessions;
-    groups = record {
-      groups = live.groups.groups;
-      holds = live.groups.holds;
-      grants = λ s g y v e f. record {
-        book = (live.groups.grants s g y v e f).book;
-        held = (live.groups.grants s g y v e f).held;
-      };
+    told = record {
+      buckets = live.told.buckets;
+      sessions = live.told.sessions;
+      groups = record { groups = live.told.groups.groups; holds = live.told.groups.holds };
+    };
+    grants = λ s g y v e f. record {
+      book = (live.grants s g y v e f).book;
+      held = (live.grants s g y v e f).held;
     };
   },
   (λ g c. ap (counter_in g c) none ∙ either_none (c == cycle_at shelf g t) None refl),
 )
 
 pub live_loaded : AreLiveRowsLoaded
-live_loaded names shelf t rows w (head, live, counters) =
-    let groups = open_loaded names rows w.groups live.groups in
+live_loaded names shelf t rows w (head, told, counters) =
+    let groups = open_loaded names rows w.groups told.groups in
     record {
       priced_by = refl;
       head = ap (option_map head_in) head;
-      buckets = live.buckets;
-      sessions = λ s. live.sessions s
+      buckets = told.buckets;
+      sessions = λ s. told.sessions s
           ∙ those_are (λ (x : Session). is_open x.state) (λ x. is_open x.state) (λ x. refl)
           (rows.sessions s);
       groups = groups.groups;
@@ -131,11 +130,11 @@ load_made names shelf t a rows (Some w) (Ok (Some l)) (number, account, before) 
   load = (
     number,
     subst (IsLoadedFrom shelf t (rows_of names rows)) (sym account)
-        (live_loaded names shelf t rows w live),
+        (live_loaded names shelf t rows w live.0),
     before ∙ ap stored (sym account),
   );
-  grants = λ s g x v e f. live.1.groups.grants s g x v
-      (ap (λ (y : StoredRows). group_in s g y.groups) (sym before) ∙ e) f;
+  grants = λ s g x v e f.
+      live.1 s g x v (ap (λ (y : StoredRows). group_in s g y.groups) (sym before) ∙ e) f;
 }
 load_made names shelf t a rows o (Err e) made live = tt
 

@@ -1,5 +1,5 @@
 -- What a migration leaves of what the tables held.
-use Rattle.std.proofs.Common.{◌≡◌, ◌≤◌, ◌<◌, ◌∙◌, ℕ, zero, suc, Bool, true, false, List, [], Option}
+use Rattle.std.proofs.Common.{◌≡◌, ◌≤◌, ◌<◌, ◌∙◌, ℕ, zero, suc, Bool, true, false, List, Option}
 use Rattle.std.proofs.Common.{Some, None, refl, sym, ap, subst, arith, length, nat_le}
 use Rattle.std.proofs.lemmas.Option.{same_Some}
 use Rattle.std.specs.Prelude.{if◌then◌else◌, is_some, option_map}

@@ -1,19 +1,17 @@
--- The rows of an older version are in the rules of the latest once the tables that it hasn't are made.
-use Rattle.std.proofs.Common.{◌≡◌, ◌<◌, ℕ, zero, suc, List, [], ◌∷◌, Option, Some, None, Bool, true}
-use Rattle.std.proofs.Common.{false, refl, sym, ap, subst, arith, IsTrue, length, ◌∙◌}
+-- The rows of an older version are in the rules of the latest once the tables that it hasn't are
+-- made.
+use Rattle.std.proofs.Common.{◌≡◌, ◌<◌, ℕ, zero, suc, List, [], Option, Some, Bool, true}
+use Rattle.std.proofs.Common.{false, refl, sym, ap, subst, arith, IsTrue, ◌∙◌}
 use Rattle.std.specs.Prelude.{if◌then◌else◌, is_some, nat_le}
 use Rattle.std.proofs.lemmas.Bool.Decides.{nat_tests}
 use Rattle.std.specs.List.{AllByRecursion}
 use Rattle.shelves.specs.Shelves.{Shelf, count}
-use Rattle.sqlite_value.specs.Order.{Row}
 use Rattle.sqlite_trees.specs.Tree.{Trees}
 use Rattle.sqlite_schema.specs.Rules.{Fits}
-use Rattle.sqlite_catalog.specs.Change.{KeepsRows}
 use Rattle.sql_tables.specs.Keyed.{IsStored}
 use Rattle.sql_tables.specs.Opens.{IsVersion}
-use Rattle.sql_tables.specs.Schema.{book_schema, latest, pieces_to, schema_at}
-use Rattle.sql_tables.specs.Stages.{AreEmpty, tables_between}
-use Rattle.sql_rows.specs.Content.{Content, Rows, content_of, with_meta}
+use Rattle.sql_tables.specs.Schema.{book_schema, latest}
+use Rattle.sql_rows.specs.Content.{Content, Rows, content_of}
 use Rattle.sql_rows.specs.Makes.{Turns}
 use Rattle.sql_rows.specs.Plain.{ArePlain}
 use Rattle.sql_rows.specs.Values.{Meta}
@@ -54,15 +52,23 @@ module _ (shelf : Shelf) (old mid : Trees) where
       go (suc (suc (suc zero))) low = still_ruled 3 k.1.1.1.0 (all 3 (omega arith))
       go (suc (suc (suc (suc zero)))) low = still_ruled 4 k.1.1.1.1.0 (all 4 (omega arith))
       go (suc (suc (suc (suc (suc zero))))) low = still_ruled 5 k.1.1.1.1.1.0 (all 5 (omega arith))
-      go (suc (suc (suc (suc (suc (suc zero)))))) low = still_ruled 6 k.1.1.1.1.1.1.0 (all 6 (omega arith))
-      go (suc (suc (suc (suc (suc (suc (suc zero))))))) low = still_ruled 7 k.1.1.1.1.1.1.1.0 (all 7 (omega arith))
-      go (suc (suc (suc (suc (suc (suc (suc (suc zero)))))))) low = still_ruled 8 k.1.1.1.1.1.1.1.1.0 (all 8 (omega arith))
-      go (suc (suc (suc (suc (suc (suc (suc (suc (suc zero))))))))) low = still_ruled 9 k.1.1.1.1.1.1.1.1.1.0 (all 9 (omega arith))
+      go (suc (suc (suc (suc (suc (suc zero)))))) low =
+          still_ruled 6 k.1.1.1.1.1.1.0 (all 6 (omega arith))
+      go (suc (suc (suc (suc (suc (suc (suc zero))))))) low =
+          still_ruled 7 k.1.1.1.1.1.1.1.0 (all 7 (omega arith))
+      go (suc (suc (suc (suc (suc (suc (suc (suc zero)))))))) low =
+          still_ruled 8 k.1.1.1.1.1.1.1.1.0 (all 8 (omega arith))
+      go (suc (suc (suc (suc (suc (suc (suc (suc (suc zero))))))))) low =
+          still_ruled 9 k.1.1.1.1.1.1.1.1.1.0 (all 9 (omega arith))
       go (suc (suc (suc (suc (suc (suc (suc (suc (suc (suc zero)))))))))) low = none_ruled 10 e.0
-      go (suc (suc (suc (suc (suc (suc (suc (suc (suc (suc (suc zero))))))))))) low = none_ruled 11 e.1.0
-      go (suc (suc (suc (suc (suc (suc (suc (suc (suc (suc (suc (suc zero)))))))))))) low = none_ruled 12 e.1.1.0
-      go (suc (suc (suc (suc (suc (suc (suc (suc (suc (suc (suc (suc (suc zero))))))))))))) low = none_ruled 13 e.1.1.1.0
-      go (suc (suc (suc (suc (suc (suc (suc (suc (suc (suc (suc (suc (suc (suc n)))))))))))))) low = absurd (omega (arith, low))
+      go (suc (suc (suc (suc (suc (suc (suc (suc (suc (suc (suc zero))))))))))) low =
+          none_ruled 11 e.1.0
+      go (suc (suc (suc (suc (suc (suc (suc (suc (suc (suc (suc (suc zero)))))))))))) low =
+          none_ruled 12 e.1.1.0
+      go (suc (suc (suc (suc (suc (suc (suc (suc (suc (suc (suc (suc (suc zero))))))))))))) low =
+          none_ruled 13 e.1.1.1.0
+      go (suc (suc (suc (suc (suc (suc (suc (suc (suc (suc (suc (suc (suc (suc n)))))))))))))) low =
+          absurd (omega (arith, low))
 
   ruled_2 : AreKept 2 old mid → AreRuled shelf 2 old → AreRuled shelf latest mid
   ruled_2 (k, e) all = go
@@ -74,15 +80,24 @@ module _ (shelf : Shelf) (old mid : Trees) where
       go (suc (suc (suc zero))) low = still_ruled 3 k.1.1.1.0 (all 3 (omega arith))
       go (suc (suc (suc (suc zero)))) low = still_ruled 4 k.1.1.1.1.0 (all 4 (omega arith))
       go (suc (suc (suc (suc (suc zero))))) low = still_ruled 5 k.1.1.1.1.1.0 (all 5 (omega arith))
-      go (suc (suc (suc (suc (suc (suc zero)))))) low = still_ruled 6 k.1.1.1.1.1.1.0 (all 6 (omega arith))
-      go (suc (suc (suc (suc (suc (suc (suc zero))))))) low = still_ruled 7 k.1.1.1.1.1.1.1.0 (all 7 (omega arith))
-      go (suc (suc (suc (suc (suc (suc (suc (suc zero)))))))) low = still_ruled 8 k.1.1.1.1.1.1.1.1.0 (all 8 (omega arith))
-      go (suc (suc (suc (suc (suc (suc (suc (suc (suc zero))))))))) low = still_ruled 9 k.1.1.1.1.1.1.1.1.1.0 (all 9 (omega arith))
-      go (suc (suc (suc (suc (suc (suc (suc (suc (suc (suc zero)))))))))) low = still_ruled 10 k.1.1.1.1.1.1.1.1.1.1.0 (all 10 (omega arith))
-      go (suc (suc (suc (suc (suc (suc (suc (suc (suc (suc (suc zero))))))))))) low = still_ruled 11 k.1.1.1.1.1.1.1.1.1.1.1.0 (all 11 (omega arith))
-      go (suc (suc (suc (suc (suc (suc (suc (suc (suc (suc (suc (suc zero)))))))))))) low = none_ruled 12 e.0
-      go (suc (suc (suc (suc (suc (suc (suc (suc (suc (suc (suc (suc (suc zero))))))))))))) low = none_ruled 13 e.1.0
-      go (suc (suc (suc (suc (suc (suc (suc (suc (suc (suc (suc (suc (suc (suc n)))))))))))))) low = absurd (omega (arith, low))
+      go (suc (suc (suc (suc (suc (suc zero)))))) low =
+          still_ruled 6 k.1.1.1.1.1.1.0 (all 6 (omega arith))
+      go (suc (suc (suc (suc (suc (suc (suc zero))))))) low =
+          still_ruled 7 k.1.1.1.1.1.1.1.0 (all 7 (omega arith))
+      go (suc (suc (suc (suc (suc (suc (suc (suc zero)))))))) low =
+          still_ruled 8 k.1.1.1.1.1.1.1.1.0 (all 8 (omega arith))
+      go (suc (suc (suc (suc (suc (suc (suc (suc (suc zero))))))))) low =
+          still_ruled 9 k.1.1.1.1.1.1.1.1.1.0 (all 9 (omega arith))
+      go (suc (suc (suc (suc (suc (suc (suc (suc (suc (suc zero)))))))))) low =
+          still_ruled 10 k.1.1.1.1.1.1.1.1.1.1.0 (all 10 (omega arith))
+      go (suc (suc (suc (suc (suc (suc (suc (suc (suc (suc (suc zero))))))))))) low =
+          still_ruled 11 k.1.1.1.1.1.1.1.1.1.1.1.0 (all 11 (omega arith))
+      go (suc (suc (suc (suc (suc (suc (suc (suc (suc (suc (suc (suc zero)))))))))))) low =
+          none_ruled 12 e.0
+      go (suc (suc (suc (suc (suc (suc (suc (suc (suc (suc (suc (suc (suc zero))))))))))))) low =
+          none_ruled 13 e.1.0
+      go (suc (suc (suc (suc (suc (suc (suc (suc (suc (suc (suc (suc (suc (suc n)))))))))))))) low =
+          absurd (omega (arith, low))
 
   -- those of each older version
   pub ruled_since : (v : ℕ) → IsVersion v → v < latest → AreKept v old mid → AreRuled shelf v old →

@@ -70,7 +70,8 @@ module _ {S : Type 0} (g : Ghosts S) (old begun : Held S)
       let it = (idle clean on).0 in record { schema = it.schema; stored = it.stored })
 
   pub begun_ruled : (v : ℕ) → HasRuledRows v (state g old) → HasRuledRows v (state g begun)
-  begun_ruled v ruled = subst (λ h. HasRuledRows v (state g h)) (sym is) (λ clean on. ruled clean on)
+  begun_ruled v ruled =
+      subst (λ h. HasRuledRows v (state g h)) (sym is) (λ clean on. ruled clean on)
 
   module _ (v : ℕ) (idle : HasIdleAt v (state g old)) (mid new : State) where
     -- what was written within it is undone

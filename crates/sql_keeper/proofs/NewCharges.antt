@@ -1,6 +1,6 @@
 -- Charges of which nothing was there, put without a removal.
-use Rattle.std.proofs.Common.{◌≡◌, ℕ, Bool, true, false, not, List, [], ◌∷◌, refl, sym, ap, ◌∙◌, arith}
-use Rattle.std.proofs.Common.{Option, Some, None, Ok, Result, subst, nat_eq}
+use Rattle.std.proofs.Common.{◌≡◌, ℕ, Bool, true, false, not, List, [], ◌∷◌, refl, sym, ap, ◌∙◌}
+use Rattle.std.proofs.Common.{arith, Option, Some, None, Ok, Result, subst, nat_eq}
 use Rattle.std.specs.Prelude.{if◌then◌else◌, ◌==◌, is_some}
 use Rattle.std.proofs.lemmas.Bool.{not-true}
 use Rattle.std.proofs.lemmas.Result.{on_ok_weaker}
@@ -8,7 +8,6 @@ use Rattle.sqlite.specs.State.{State}
 use Rattle.sql_tables.specs.Statements.{Attempts}
 use Rattle.identifiers.specs.Texts.{same_name}
 use Rattle.reserving.specs.declared.charge.ChargeRow.{ChargeRow}
-use Rattle.reserving.proofs.KeysFound.{is_none_is}
 use Rattle.reserving.proofs.Lists.{no_some}
 use Rattle.sql_rows.specs.Content.{Content, Rows, content_of, has_charge, with_charge, with_covered}
 use Rattle.sql_rows.specs.Content.{with_rows, without_covered}
@@ -17,7 +16,7 @@ use Rattle.sql_rows.specs.Makes.{AddsIfNone, Makes, MakesIfOpen}
 use Rattle.sql_rows.specs.Values.{plain_charge}
 use Rattle.sql_keeper.specs.Writes.{some_blocks, with_all_charged, with_all_paid, with_blocks}
 use Rattle.sql_keeper.specs.Writes.{with_charged, with_new_blocks, with_paid}
-use Rattle.sql_keeper.proofs.Overlays.{name_from, number_from, opened}
+use Rattle.sql_keeper.proofs.Overlays.{name_from, number_from}
 use Rattle.sql_keeper.proofs.Puts.{makes_all_then, makes_then}
 
 -- ---- how one is put
@@ -182,8 +181,11 @@ module _ (a : List ℕ) (x : ChargeRow) (c : Content) (beside : AreBeside a c) w
               → (nat_eq x.number m ≡ false) × ((c.rows a).charges m ≡ None)
           left true e gone = absurd (no_some (plain_charge x) (sym gone
               ∙ ap (λ t. if t then Some (plain_charge x) else (c.rows a).charges m) e))
-          left false e gone =
-              (e, sym (ap (λ t. if t then Some (plain_charge x) else (c.rows a).charges m) e) ∙ gone)
+          left false e gone = (
+            e,
+            sym (ap (λ t. if t then Some (plain_charge x) else (c.rows a).charges m) e)
+                ∙ gone,
+          )
 
           go : (u : Bool) → (if u then without_covered x.number old
               else with_covered (record { number = x.number; blocks = x.covered.0 }) old).charges m

@@ -1,5 +1,5 @@
 -- Rows in their rules are as the statements write them.
-use Rattle.std.proofs.Common.{◌≡◌, ◌<◌, ◌&&◌, ◌||◌, ℕ, Bool, true, false, [], ◌∷◌, Some, refl, sym}
+use Rattle.std.proofs.Common.{◌≡◌, ◌&&◌, ◌||◌, Bool, true, false, [], ◌∷◌, refl, sym}
 use Rattle.std.proofs.Common.{subst, ap, arith, drop, nat_eq, nat_le}
 use Rattle.std.specs.Prelude.{option_map}
 use Rattle.std.proofs.lemmas.Bool.{and_parts}
@@ -8,7 +8,6 @@ use Rattle.sqlite_sql.specs.Ops.{is_null}
 use Rattle.sqlite_value.specs.declared.value.Value.{Value}
 use Rattle.sqlite_value.specs.Order.{Row, column}
 use Rattle.sqlite_trees.specs.Tree.{Trees}
-use Rattle.sql_tables.specs.Keyed.{look}
 use Rattle.sql_tables.specs.Schema.{accounts, latest, session_groups, sessions}
 use Rattle.sql_rows.specs.Plain.{ArePlain, is_plain_group, is_plain_head, is_plain_session}
 use Rattle.sql_rows.specs.Values.{nat_in}

@@ -1,15 +1,14 @@
 -- What is written of rows in their rules leaves content in its rules.
 use Rattle.std.proofs.Common.{◌≡◌, ℕ, zero, suc, List, [], ◌∷◌, Bool, true, false, ◌&&◌, ◌||◌, Some}
 use Rattle.std.proofs.Common.{None, Option, refl, subst, sym, ap, length, map, arith, ◌+◌, ◌++◌}
-use Rattle.std.proofs.Common.{◌<◌}
-use Rattle.std.proofs.Common.{◌≤◌}
+use Rattle.std.proofs.Common.{◌<◌, ◌≤◌}
 use Rattle.std.specs.Prelude.{is_some, option_map, slice_get, unwrap_or, nat_le, ◌==◌}
 use Rattle.std.specs.Prelude.{if◌then◌else◌}
 use Rattle.std.specs.List.{list_all, list_any}
 use Rattle.std.proofs.lemmas.Bool.{and_from, and_parts}
 use Rattle.std.proofs.lemmas.Bool.Decides.{nat_tests}
 use Rattle.std.proofs.lemmas.List.{length-append, length-map}
-use Rattle.identifiers.specs.Texts.{is_account_number, is_reference, is_session_id}
+use Rattle.identifiers.specs.Texts.{is_account_number, is_session_id}
 use Rattle.tariffs.specs.Books.{Book}
 use Rattle.voucher_rules.specs.declared.terms.VoucherTerms.{VoucherTerms}
 use Rattle.voucher_rules.specs.Standing.{unspent}
@@ -40,31 +39,28 @@ use Rattle.sql_rows.specs.Content.{with_group, with_hold, with_meta, with_rows, 
 use Rattle.sql_rows.specs.Content.{with_answer, with_covered, without_covered, without_holds}
 use Rattle.sql_rows.specs.Each.{with_counters, with_each, with_sessions}
 use Rattle.sql_rows.specs.Values.{Group, Kept, Meta, PeriodNames, plain_bucket, plain_charge}
-use Rattle.sql_rows.specs.Values.{reference_kind}
-use Rattle.sql_rows.specs.Values.{request_kind}
+use Rattle.sql_rows.specs.Values.{reference_kind, request_kind}
 use Rattle.sql_rules.specs.Columns.{is_moment, is_numbering, is_small, is_within}
 use Rattle.sql_rules.specs.Rules.{are_kept_texts, has_period, is_answer_key, is_period_name}
 use Rattle.sql_rules.specs.Ruled.{AreInRules, IsInRules, are_named, is_book, is_bucket, is_charge}
-use Rattle.sql_rules.specs.Ruled.{is_counter}
-use Rattle.sql_rules.specs.Ruled.{is_group, is_head, is_session, is_voucher}
+use Rattle.sql_rules.specs.Ruled.{is_counter, is_group, is_head, is_session, is_voucher}
 use Rattle.sql_rules.proofs.KeptRules.{account_kept, allowance_gone, allowance_kept, answer_kept}
 use Rattle.sql_rules.proofs.KeptRules.{book_kept, bucket_kept, charge_kept, counter_kept}
 use Rattle.sql_rules.proofs.KeptRules.{covered_gone}
 use Rattle.sql_rules.proofs.KeptRules.{covered_kept, grant_book_gone, grant_book_kept, group_kept}
 use Rattle.sql_rules.proofs.KeptRules.{hold_kept, holds_gone, meta_kept, rows_kept, session_kept}
 use Rattle.sql_rules.proofs.KeptRules.{voucher_kept}
-use Rattle.sql_keeper.specs.Content.{Names, names_numbered, shelf_names}
+use Rattle.sql_keeper.specs.Content.{names_numbered, shelf_names}
 use Rattle.sql_keeper.specs.RuledRows.{are_ruled_rows, are_ruled_texts, is_ruled_addition}
 use Rattle.sql_keeper.specs.RuledRows.{is_ruled_change, is_ruled_sweep, is_ruled_swept}
 use Rattle.sql_keeper.specs.RuledRows.{is_ruled_group, is_ruled_hold, is_ruled_key}
 use Rattle.sql_keeper.specs.RuledRows.{is_ruled_kept, is_ruled_redeemed, is_ruled_reservation}
-use Rattle.sql_keeper.specs.Tests.{AreWritable, IsNamed, MayStand}
+use Rattle.sql_keeper.specs.Tests.{AreWritable, MayStand}
 use Rattle.sql_keeper.specs.AddsBook.{with_dated}
 use Rattle.sql_keeper.specs.Additions.{with_addition}
 use Rattle.sql_keeper.specs.Sweeps.{with_sweep, with_swept}
 use Rattle.sql_keeper.specs.declared.swept_rows.SweptAccount.{SweptAccount}
-use Rattle.sql_keeper.specs.Writes.{columns_of, head_of, meta_at, name_at, names_at, names_held}
-use Rattle.sql_keeper.specs.Writes.{row_of}
+use Rattle.sql_keeper.specs.Writes.{columns_of, head_of, meta_at, names_held, row_of}
 use Rattle.sql_keeper.specs.Writes.{with_all_counted, with_all_paid, with_blocks, with_book_of}
 use Rattle.sql_keeper.specs.Writes.{with_change, with_counted, with_groups, with_held_group}
 use Rattle.sql_keeper.specs.Writes.{with_kept, with_kind, with_paid, with_redeemed, with_scoped}

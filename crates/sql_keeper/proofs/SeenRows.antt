@@ -1,6 +1,6 @@
 -- What a keeper has seen of an account, and what reads of its tables leave of it.
-use Rattle.std.proofs.Common.{◌≡◌, ℕ, Bool, true, false, List, Option, Some, None, Result, Ok, Err}
-use Rattle.std.proofs.Common.{[], ◌∷◌, cond, IfOk, IsTrue, refl, sym, ap, subst, ◌∙◌}
+use Rattle.std.proofs.Common.{◌≡◌, ℕ, Bool, true, false, List, Option, Some, None, Result, Ok}
+use Rattle.std.proofs.Common.{[], ◌∷◌, cond, IfOk, refl, sym, ap, subst, ◌∙◌}
 use Rattle.std.specs.Prelude.{if◌then◌else◌, ◌&&◌, nat_eq, option_map, is_some, slice_get, IfSome}
 use Rattle.sqlite_trees.specs.Tree.{Trees}
 use Rattle.sqlite.specs.Effect.{Database}
@@ -28,7 +28,7 @@ use Rattle.sql_rows.specs.Lists.{HasNoGroups}
 use Rattle.sql_keeper.specs.Asks.{Asks}
 use Rattle.sql_keeper.specs.Content.{Names, head_in}
 use Rattle.sql_keeper.specs.Grants.{IsGrantIn, IsGrantSeen, grant_with, is_name, only_bucket}
-use Rattle.sql_keeper.specs.LiveRows.{AreGrantsStored, IsLoadStored}
+use Rattle.sql_keeper.specs.LiveRows.{AreLoadedGrants, IsLoadStored}
 use Rattle.sql_keeper.specs.LiveGroups.{Gathers}
 use Rattle.sql_keeper.specs.Seen.{AreSeen, IsJoined, IsKnown, IsSeen, IsSeenOf, IsSeenWith}
 use Rattle.sql_keeper.specs.Seen.{IsStanding, IsUnknown, IsUnknownAlone, Sees}
@@ -194,7 +194,7 @@ one_held n b (h ∷ []) e apart = none_at n (h ∷ []) (at (nat_eq h.bucket n) r
     at false k = k
 
 grant_stored : (r : Stored) (l : Loaded) (s : List ℕ) (y : SeenGrant)
-    → AreGrantsStored r (Some l) → IsGrantIn l.before.groups s y → IsGrantSeen r s y
+    → AreLoadedGrants r (Some l) → IsGrantIn l.before.groups s y → IsGrantSeen r s y
 grant_stored r l s y grants there =
     let told = told_grant y.group there.row.reservation y there.grant in
     let is = grants s y.group there.row told.reservation there.found told.is in

@@ -1,5 +1,5 @@
 -- The laws of keepers, of a call over a connection that may be shut.
-use Rattle.std.proofs.Common.{◌≡◌, ◌≤◌, ◌⊎◌, inl, inr, ℕ, List, Result, Ok, Err, OnOk, OnErr}
+use Rattle.std.proofs.Common.{◌≡◌, ◌≤◌, inl, inr, ℕ, List, Result, Ok, Err, OnOk, OnErr}
 use Rattle.std.proofs.Common.{IsTrue, ap, sym, ◌∙◌, subst, arith, false}
 use Rattle.sqlite_trees.specs.Tree.{Trees}
 use Rattle.sqlite_trees.specs.declared.store.Store.{Ghosts}

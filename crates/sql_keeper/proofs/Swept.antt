@@ -32,8 +32,8 @@ use Rattle.sql_keeper.proofs.Changed.{AreKeyed, over_stored, same_texts}
 use Rattle.sql_keeper.proofs.CountedPuts.{counted_over, over_counted}
 use Rattle.sql_keeper.proofs.Groups.{groups_over, over_groups}
 use Rattle.sql_keeper.specs.Content.{told_charge}
-use Rattle.sql_keeper.proofs.Overlays.{chosen_twice, counters_over, name_from, opened, over_counters}
-use Rattle.sql_keeper.proofs.Overlays.{over_sessions, sessions_over, with_twice}
+use Rattle.sql_keeper.proofs.Overlays.{chosen_twice, counters_over, name_from, opened}
+use Rattle.sql_keeper.proofs.Overlays.{over_counters, over_sessions, sessions_over, with_twice}
 use Rattle.sql_keeper.proofs.SweptNamed.{after, keyed_swept, loads, made, may_swept, read_swept}
 
 -- ---- one account
@@ -103,7 +103,8 @@ headed a h f c keeps = λ i. record c {
 swept_over : (a : List ℕ) (names : Names) (among : List Session) (w : StoredRows) (c : Content)
     → AreKeyed w → AreWritable names among w.groups
     → with_account a (head_of w) (with_groups a names w.groups (with_sessions a w.sessions
-    (with_counters a w.counters (with_all_counted a w.buckets c)))) ≡ opened a (over_stored names w) c
+    (with_counters a w.counters (with_all_counted a w.buckets c))))
+    ≡ opened a (over_stored names w) c
 swept_over a names among w c h may =
     let first = λ (r : Stored). over_counted w.buckets r in
     let second = λ (r : Stored). over_counters w.counters (first r) in

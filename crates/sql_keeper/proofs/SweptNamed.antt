@@ -42,7 +42,8 @@ IsFreeBeside names r x = (s : List ℕ) (g : ℕ) (y : GroupRow) → (rows_of na
 
 -- a session that isn't open isn't among them
 abbrev pub AreOpenAlone : Stored → StoredRows → Type 0
-AreOpenAlone r x = (s : List ℕ) → is_open_row (r.sessions s) ≡ false → session_in s x.sessions ≡ None
+AreOpenAlone r x =
+    (s : List ℕ) → is_open_row (r.sessions s) ≡ false → session_in s x.sessions ≡ None
 
 -- a group that is told in an open session, and without terms, has no reservation
 no_periods : (names : Names) (on : Bool) (book : Option ℕ) (p : Option PeriodNames) → on ≡ true

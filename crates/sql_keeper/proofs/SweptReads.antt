@@ -55,7 +55,7 @@ swept_made names shelf t c a (Some w) (Ok x) made live = record {
   number_is = made.number_is;
   swept = subst (λ n. AreSweptRows names shelf t (c.rows n) x.rows) (sym made.number_is) (record {
     before = w;
-    live = live;
+    live = λ s u. (live s u).0;
     kept = made.kept;
     is = made.is;
   });
@@ -348,7 +348,8 @@ module _ (names : Names) (text : List ℕ) (shelf : Shelf) (t : ℕ) (numbers : 
 
   survives_both : Survives mid new
       (λ db. IsTrue mid.is_open × SweepsEach names text shelf t numbers mid.now.trees db)
-      → Survives old new (λ db. IsTrue old.is_open → BecomesSwept names text shelf t old.now.trees db)
+      → Survives old new
+      (λ db. IsTrue old.is_open → BecomesSwept names text shelf t old.now.trees db)
   survives_both s =
       survives_then old mid new (λ _. old.is_open ≡ false)
       (λ db. IsTrue mid.is_open × SweepsEach names text shelf t numbers mid.now.trees db)

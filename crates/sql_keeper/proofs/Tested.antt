@@ -36,7 +36,7 @@ use Rattle.sql_keeper.specs.declared.seen.Standing.TheVariants.{Unknown, Open, O
 use Rattle.sql_keeper.specs.declared.settling.NamedSessions.{NamedSessions}
 use Rattle.sql_keeper.proofs.Changed.{settled_each}
 use Rattle.sql_keeper.proofs.InTurn.{HaveRead, none_read, have_read, have_gathered, have_read_then}
-use Rattle.sql_keeper.proofs.InTurn.{gathers_from, gathers_made}
+use Rattle.sql_keeper.proofs.InTurn.{gathers_from}
 use Rattle.sql_keeper.proofs.LiveGroups.{told_before}
 use Rattle.sql_keeper.proofs.Overlays.{name_from, number_from}
 

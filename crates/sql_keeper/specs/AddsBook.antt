@@ -1,7 +1,7 @@
 -- A book that is added behind those of a shelf, committed whole or not at all.
 -- Source: profile.
-use Rattle.std.specs.Prelude.{◌≡◌, ◌≤◌, ◌<◌, ℕ, suc, ◌++◌, List, [], ◌∷◌, Some, None, length, Result}
-use Rattle.std.specs.Prelude.{◌⊎◌, Ok, Err, IfErr, IsTrue, OnErr, OnOk}
+use Rattle.std.specs.Prelude.{◌≡◌, ◌≤◌, ◌<◌, ℕ, suc, ◌++◌, List, [], ◌∷◌, Some, None, length}
+use Rattle.std.specs.Prelude.{Result, ◌⊎◌, Ok, Err, IfErr, IsTrue, OnErr, OnOk}
 use Rattle.units.specs.Words.{Moment, GroupId, BookNumber, no_end}
 use Rattle.identifiers.specs.Words.{SessionName, AccountName}
 use Rattle.shelves.specs.Words.{BookText}

@@ -1,4 +1,5 @@
--- What the calls of a keeper over a database leave of it: of its tables, and of its rows after a stop.
+-- What the calls of a keeper over a database leave of it: of its tables, and of its rows after a
+-- stop.
 -- Source: profile.
 use Rattle.std.specs.Prelude.{◌≡◌, ℕ, IfOk, OnOk, Result}
 use Rattle.units.specs.Words.{Moment}
@@ -20,8 +21,8 @@ pub record AsksTables {S T : Type 0} (g : Ghosts S) (Found : Tables → T → Ty
       (Found (tables_in g old)) result
   pub whole : IsWhole g old new (λ _. ⊥)
 
--- a call that writes: the tables are changed so, and a stop leaves the rows that there were or those
--- that they become
+-- a call that writes: the tables are changed so, and a stop leaves the rows that there were or
+-- those that they become
 pub record StoresChange {S T : Type 0} (g : Ghosts S) (change : Tables → Tables)
     (becomes : Trees → Type 0) (old new : KeeperState S) (result : Result T StoreFault)
     : Type 0 where

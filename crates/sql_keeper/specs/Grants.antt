@@ -1,6 +1,6 @@
 -- What was seen of a reservation, and a row that leaves its book and its one hold where they stand.
 -- Source: profile.
-use Rattle.std.specs.Prelude.{◌≡◌, ◌==◌, ◌&&◌, Bool, true, false, List, [], ◌∷◌, Option, Some, None}
+use Rattle.std.specs.Prelude.{◌≡◌, ◌==◌, ◌&&◌, Bool, false, List, [], ◌∷◌, Option, Some, None}
 use Rattle.std.specs.Prelude.{option_map}
 use Rattle.units.specs.Words.{GroupId}
 use Rattle.identifiers.specs.Words.{AccountName, SessionName}

@@ -38,17 +38,26 @@ pub record IsGrantStored (rows : Stored) (s : SessionName) (g : GroupId) (v : Re
     pub book : rows.grant_books s g ≡ Some v.terms.book
     pub held : (n : BucketNumber) → held_at n v.holds ≡ 0 → rows.holds s g n ≡ None
 
+-- how the reservations that sessions have in rating groups are stored
+abbrev pub AreGrantsStored : Stored → List SessionGroup → Type 0
+AreGrantsStored rows xs =
+    (s : SessionName) (g : GroupId) (x : SessionGroup) (v : Reservation)
+    → group_in s g xs ≡ Some x → x.reservation ≡ Some v → IsGrantStored rows s g v
+
 -- what the open sessions have of rating groups, and what their reservations hold: all of it, and of
 -- no other session
-pub record AreLiveGroups (names : Names) (rows : Stored) (xs : List SessionGroup) : Type 0 where
+pub record AreToldGroups (names : Names) (rows : Stored) (xs : List SessionGroup) : Type 0 where
   pub groups : (s : SessionName) (g : GroupId) → option_map group_row (group_in s g xs) ≡
       (if is_open_row (rows.sessions s)
       then option_map (group_told names true (rows.grant_books s g)) (rows.groups s g) else None)
   pub holds : (s : SessionName) (g : GroupId) (n : BucketNumber) → held_of n (group_in s g xs) ≡
       (if is_open_row (rows.sessions s)
       then held_in (is_reserved (rows.groups s g)) (rows.holds s g n) else 0)
-  pub grants : (s : SessionName) (g : GroupId) (x : SessionGroup) (v : Reservation)
-      → group_in s g xs ≡ Some x → x.reservation ≡ Some v → IsGrantStored rows s g v
+
+-- and how their reservations are stored
+pub record AreLiveGroups (names : Names) (rows : Stored) (xs : List SessionGroup) : Type 0 where
+  pub told : AreToldGroups names rows xs
+  pub grants : AreGrantsStored rows xs
 
 -- the open sessions, and what they have of rating groups
 pub record AreOpenSessions (names : Names) (rows : Stored) (ss : List Session)
@@ -66,5 +75,5 @@ pub record AreLoadedGroups (r : Rows) (xs : List SessionGroup) : Type 0 where
 -- what the open sessions have is what is loaded
 abbrev pub AreOpenGroupsLoaded : Type 0
 AreOpenGroupsLoaded =
-    (names : Names) (rows : Stored) (xs : List SessionGroup) → AreLiveGroups names rows xs
+    (names : Names) (rows : Stored) (xs : List SessionGroup) → AreToldGroups names rows xs
     → AreLoadedGroups (rows_of names rows) xs

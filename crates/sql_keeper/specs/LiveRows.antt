@@ -3,7 +3,7 @@
 use Rattle.std.specs.Prelude.{◌≡◌, ◌==◌, not, List, Option, Some, None, Result, Ok, Err}
 use Rattle.std.specs.Prelude.{if◌then◌else◌}
 use Rattle.units.specs.Words.{Moment, GroupId, CycleNumber}
-use Rattle.identifiers.specs.Words.{AccountName, SessionName}
+use Rattle.identifiers.specs.Words.{AccountName}
 use Rattle.buckets.specs.Words.{BucketNumber}
 use Rattle.buckets.specs.Row.{Row}
 use Rattle.shelves.specs.Shelves.{Shelf}
@@ -12,8 +12,7 @@ use Rattle.reserving.specs.declared.session.SessionGroup.{SessionGroup}
 use Rattle.reserving.specs.declared.session.Counter.{Counter}
 use Rattle.reserving.specs.Left.{is_dead, only, bucket_in}
 use Rattle.reserving.specs.Pricing.{cycle_at}
-use Rattle.reserving.specs.declared.session.Reservation.{Reservation}
-use Rattle.reserving.specs.Sessions.{group_in, is_open, counter_in}
+use Rattle.reserving.specs.Sessions.{is_open, counter_in}
 use Rattle.reserving.specs.Stored.{StoredRows, priced}
 use Rattle.keepers.specs.Change.{IsLoad, IsLoadedFrom}
 use Rattle.keepers.specs.declared.loaded.Loaded.{Loaded}
@@ -22,7 +21,7 @@ use Rattle.sql_rows.specs.Content.{Rows as Stored}
 use Rattle.sql_rows.specs.Lists.{AreSessions}
 use Rattle.sql_rows.specs.declared.head.Head.{Head as HeadColumns}
 use Rattle.sql_keeper.specs.Content.{told_buckets, rows_of, Names}
-use Rattle.sql_keeper.specs.LiveGroups.{AreLiveGroups, IsGrantStored}
+use Rattle.sql_keeper.specs.LiveGroups.{AreGrantsStored, AreToldGroups}
 use Rattle.sql_keeper.specs.Writes.{head_of}
 use Rattle.sql_keeper.specs.declared.live_rows.LiveRows.{LiveRows}
 use Rattle.sql_keeper.specs.declared.live_rows.ReadRows.{ReadRows}
@@ -39,11 +38,17 @@ AreCountersAt shelf t rows cs = (g : GroupId) (c : CycleNumber) →
 
 -- all that may still change whatever the moment: the buckets that aren't dead, the open sessions,
 -- and what they have of rating groups; the names are those of the periods of reservations
-pub record AreLiveRows (names : Names) (rows : Stored) (bs : List Row) (ss : List Session)
+pub record AreToldRows (names : Names) (rows : Stored) (bs : List Row) (ss : List Session)
     (xs : List SessionGroup) : Type 0 where
   pub buckets : AreLiveBuckets rows bs
   pub sessions : AreSessions (λ x. is_open x.state) rows ss
-  pub groups : AreLiveGroups names rows xs
+  pub groups : AreToldGroups names rows xs
+
+-- and how the reservations among them are stored
+pub record AreLiveRows (names : Names) (rows : Stored) (bs : List Row) (ss : List Session)
+    (xs : List SessionGroup) : Type 0 where
+  pub told : AreToldRows names rows bs ss xs
+  pub grants : AreGrantsStored rows xs
 
 -- the rows of an account with this head
 abbrev pub account_with : HeadColumns → LiveRows → List Counter → StoredRows
@@ -67,13 +72,17 @@ IsReadAccount names shelf t rows (Some x) =
     × AreLiveRows names rows x.rows.purse x.rows.sessions.items x.rows.groups.items
     × AreCountersAt shelf t rows x.counters.items
 
--- the account, with all of it that may still change at the moment; there is none where it has no
--- head
+-- the account, with all of it that may still change at the moment
+abbrev pub IsToldAccount : Names → Shelf → Moment → Stored → StoredRows → Type 0
+IsToldAccount names shelf t rows w =
+    (rows.head ≡ Some (head_of w)) × AreToldRows names rows w.buckets w.sessions w.groups
+    × AreCountersAt shelf t rows w.counters
+
+-- and how its reservations are stored; there is none where it has no head
 abbrev pub IsLiveAccount : Names → Shelf → Moment → Stored → Option StoredRows → Type 0
 IsLiveAccount names shelf t rows None = rows.head ≡ None
 IsLiveAccount names shelf t rows (Some w) =
-    (rows.head ≡ Some (head_of w)) × AreLiveRows names rows w.buckets w.sessions w.groups
-    × AreCountersAt shelf t rows w.counters
+    IsToldAccount names shelf t rows w × AreGrantsStored rows w.groups
 
 -- an account's rows without its counters, which a sweep neither reads nor changes
 abbrev pub without_counters : Stored → Stored
@@ -85,6 +94,11 @@ IsReadUncounted names rows o =
     (shelf : Shelf) (t : Moment) → IsReadAccount names shelf t (without_counters rows) o
 
 -- the account without its counters
+abbrev pub IsToldUncounted : Names → Stored → StoredRows → Type 0
+IsToldUncounted names rows w =
+    (shelf : Shelf) (t : Moment) → IsToldAccount names shelf t (without_counters rows) w
+
+-- and how its reservations are stored
 abbrev pub IsLiveUncounted : Names → Stored → Option StoredRows → Type 0
 IsLiveUncounted names rows o =
     (shelf : Shelf) (t : Moment) → IsLiveAccount names shelf t (without_counters rows) o
@@ -93,7 +107,7 @@ IsLiveUncounted names rows o =
 abbrev pub AreLiveRowsLoaded : Type 0
 AreLiveRowsLoaded =
     (names : Names) (shelf : Shelf) (t : Moment) (rows : Stored) (w : StoredRows)
-    → IsLiveAccount names shelf t rows (Some w)
+    → IsToldAccount names shelf t rows w
     → IsLoadedFrom shelf t (rows_of names rows) (priced shelf w)
 
 -- ---- once they are read
@@ -117,13 +131,11 @@ IsAccountOf (Err e) (Ok o) = ⊥
 IsAccountOf (Err e) (Err f) = f ≡ e
 
 -- what is loaded, and how the reservations of it are stored
-abbrev pub AreGrantsStored : Stored → Option Loaded → Type 0
-AreGrantsStored r None = Unit {0}
-AreGrantsStored r (Some l) =
-    (s : SessionName) (g : GroupId) (x : SessionGroup) (v : Reservation)
-    → group_in s g l.before.groups ≡ Some x → x.reservation ≡ Some v → IsGrantStored r s g v
+abbrev pub AreLoadedGrants : Stored → Option Loaded → Type 0
+AreLoadedGrants r None = Unit {0}
+AreLoadedGrants r (Some l) = AreGrantsStored r l.before.groups
 
 pub record IsLoadStored (names : Names) (shelf : Shelf) (t : Moment) (a : AccountName) (r : Stored)
     (o : Option Loaded) : Type 0 where
   pub load : IsLoad shelf t a (rows_of names r) o
-  pub grants : AreGrantsStored r o
+  pub grants : AreLoadedGrants r o

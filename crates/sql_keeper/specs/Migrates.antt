@@ -28,7 +28,6 @@ use Rattle.sql_rules.specs.Tables.{AreRuled}
 use Rattle.sql_tables.specs.Opens.{IsVersion}
 use Rattle.sql_tables.specs.declared.fault.OpenFault.{OpenFault}
 use Rattle.sql_tables.specs.declared.fault.OpenFault.TheVariants.{Foreign, Version, Rules, Older}
-use Rattle.sql_tables.specs.declared.fault.OpenFault.TheVariants.{Store}
 use Rattle.sql_keeper.specs.Books.{IsBookOf}
 use Rattle.sql_keeper.specs.Causes.{IsOtherThan}
 use Rattle.sql_keeper.specs.Content.{Names, is_reserved, tables_of}

@@ -1,6 +1,6 @@
 -- A keeper that was just made over a database, and what is left where none was made.
 -- Source: profile.
-use Rattle.std.specs.Prelude.{◌≡◌, ◌≤◌, ◌⊎◌, false, [], IsTrue}
+use Rattle.std.specs.Prelude.{◌≡◌, false, [], IsTrue}
 use Rattle.shelves.specs.Words.{BookText}
 use Rattle.shelves.specs.Shelves.{Shelf}
 use Rattle.sqlite_trees.specs.declared.store.Store.{Ghosts}

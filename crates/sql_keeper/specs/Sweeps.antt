@@ -24,7 +24,7 @@ use Rattle.sql_rows.specs.Makes.{Makes, Turns}
 use Rattle.sql_rows.specs.Plain.{ArePlain}
 use Rattle.sql_rules.specs.Ruled.{IsInRules}
 use Rattle.sql_keeper.specs.Content.{shelf_names, tables_of, Names}
-use Rattle.sql_keeper.specs.LiveRows.{IsLiveUncounted}
+use Rattle.sql_keeper.specs.LiveRows.{IsToldUncounted}
 use Rattle.sql_keeper.specs.RuledRows.{is_ruled_swept}
 use Rattle.sql_keeper.specs.Tests.{AreWritable}
 use Rattle.sql_keeper.specs.Tidy.{IsTidy}
@@ -53,7 +53,7 @@ pub record MayBeKept (names : Names) (shelf : Shelf) (t : Moment) (before : Stor
 pub record AreSweptRows (names : Names) (shelf : Shelf) (t : Moment) (rows : Stored)
     (w : StoredRows) : Type 0 where
   pub before : StoredRows
-  pub live : IsLiveUncounted names rows (Some before)
+  pub live : IsToldUncounted names rows before
   pub kept : MayBeKept names shelf t before
   pub is : w ≡ differing_at shelf t before
 

@@ -1,8 +1,7 @@
 -- What a change writes, one row after another.
 -- Source: profile.
 use Rattle.std.specs.Prelude.{◌≡◌, ◌==◌, ℕ, Bool, true, false, List, [], Option, Some, None}
-use Rattle.std.specs.Prelude.{unwrap_or, if◌then◌else◌}
-use Rattle.std.specs.Prelude.{option_map, slice_get}
+use Rattle.std.specs.Prelude.{unwrap_or, if◌then◌else◌, option_map, slice_get}
 use Rattle.units.specs.Words.{Moment, BlockCount, GroupId}
 use Rattle.identifiers.specs.Words.{SessionName, AccountName}
 use Rattle.buckets.specs.Words.{BucketNumber}
@@ -32,8 +31,7 @@ use Rattle.sql_rows.specs.Values.{request_kind, reference_kind, plain_bucket, pl
 use Rattle.sql_rows.specs.Content.{Content, Rows, with_rows, with_meta, with_account, with_group}
 use Rattle.sql_rows.specs.Content.{without_holds, with_answer, with_voucher, with_bucket}
 use Rattle.sql_rows.specs.Content.{has_charge, with_charge, with_grant_book, without_grant_book}
-use Rattle.sql_rows.specs.Content.{with_allowance}
-use Rattle.sql_rows.specs.Content.{without_allowance, with_covered, without_covered}
+use Rattle.sql_rows.specs.Content.{with_allowance, without_allowance, with_covered, without_covered}
 use Rattle.sql_rows.specs.Each.{with_each, with_counters, with_sessions, with_holds}
 use Rattle.sql_keeper.specs.Content.{kept_in, Names, names_numbered}
 use Rattle.sql_keeper.specs.Grants.{is_kept}
@@ -216,8 +214,8 @@ meta_with text change = meta_at text change.moment
 abbrev pub with_named : AccountName → Names → Bool → Option SeenAccount → StoredRows → Content →
     Content
 with_named a names new seen w c =
-    with_groups_put a names new seen w.groups (with_sessions a w.sessions (with_counters a w.counters
-    (with_all_counted a w.buckets (with_account a (head_of w) c))))
+    with_groups_put a names new seen w.groups (with_sessions a w.sessions
+    (with_counters a w.counters (with_all_counted a w.buckets (with_account a (head_of w) c))))
 
 -- an account's rows that a change names, and its charges
 abbrev pub with_changed_rows : Names → Bool → Option SeenAccount → Change → Content → Content

@@ -3,7 +3,6 @@
 
 ghost use Rattle.std.specs.Prelude.{◌≡◌, ◌<◌, ◌≤◌, ◌^◌, ◌⊎◌, false, map, nat_lt, Some, IfErr};
 ghost use Rattle.std.specs.Prelude.{IfOk, OnOk};
-ghost use Rattle.std.specs.String.{string_bytes};
 ghost use Rattle.sql_tables.specs.Opens.{IsNoVersion, IsVersion};
 ghost use Rattle.sql_tables.specs.declared.fault.OpenFault.TheVariants.{Foreign, Rules, Version};
 ghost use Rattle.sql_rows.specs.Content.{content_of, with_meta};
@@ -13,8 +12,7 @@ ghost use Rattle.sql_rows.specs.Ruled.{AreRuledBooks};
 ghost use Rattle.sql_rows.specs.Texts.{book_at, meta_of};
 ghost use Rattle.sql_tables.specs.Schema.{latest};
 ghost use Rattle.sql_tables.specs.Stages.{HasVersion, Migrates};
-ghost use Rattle.sql_tables.specs.Statements.{Attempts, HasBook, HasRules, IsInside};
-ghost use Rattle.sql_tables.specs.Statements.{ReadsWithin};
+ghost use Rattle.sql_tables.specs.Statements.{Attempts, HasBook, HasRules, IsInside, ReadsWithin};
 ghost use Rattle.sql_keeper.specs.Causes.{IsUnruledMeta};
 ghost use Rattle.sql_keeper.specs.Migrates.{AreUnruledReserved, BringsToLatest, FindsAny, HasAt};
 ghost use Rattle.sql_keeper.specs.Migrates.{HasIdleAt, HasRuledRows, IsMigrated, IsNotMigrated};

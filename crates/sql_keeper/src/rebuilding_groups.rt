@@ -11,7 +11,7 @@ ghost use Rattle.sql_rows.specs.Texts.{names_of, open_group_at};
 ghost use Rattle.tariffs.specs.Names.{period_named};
 
 use crate::own_rows::{held_for, number_of};
-use buckets::{Bucket, Hold, Holds, Purse};
+use buckets::{Bucket, Hold, Holds};
 use calendar::Period;
 use rating::Periods;
 use reserving::{Reservation, SessionGroup, Terms};

@@ -243,8 +243,8 @@ fn is_kept(kept: &Option<KeptAnswer>) -> bool
     }
 }
 
-/// Whether the rows that a change writes, but for its texts, are in the rules of their tables, where
-/// the tariff books are those of the shelf.
+/// Whether the rows that a change writes, but for its texts, are in the rules of their tables,
+/// where the tariff books are those of the shelf.
 pub(crate) fn is_ruled_change(books: &TariffShelf, change: &Change) -> bool
     ensures { result ≡ is_ruled_change (shelf_names books.now) change.now }
 {

@@ -1,6 +1,6 @@
 //! What is tested of a change before it is written, so that what is written reads as the change.
 
-ghost use Rattle.std.specs.Prelude.{◌≡◌, IsTrue, option_map};
+ghost use Rattle.std.specs.Prelude.{◌≡◌, IsTrue};
 ghost use Rattle.reserving.specs.Sessions.{session_in};
 ghost use Rattle.reserving.specs.Left.{is_open_row};
 ghost use Rattle.sql_keeper.specs.Content.{names_numbered, shelf_names};

@@ -1,10 +1,10 @@
 -- What the text of `add_charge` does.
 use Rattle.std.specs.Prelude.{codes, is_some, if◌then◌else◌, ◌==◌, not, IfOk}
-use Rattle.std.proofs.Common.{◌≡◌, ◌⊎◌, inl, inr, ℕ, ℤ, List, [], ◌∷◌, ◌++◌, Bool, true, false, ◌&&◌}
-use Rattle.std.proofs.Common.{Some, None, Option, Ok, Err, Result, OnOk, IsTrue, refl, sym, ap, subst}
-use Rattle.std.proofs.Common.{◌∙◌, arith, option_map}
+use Rattle.std.proofs.Common.{◌≡◌, ◌⊎◌, inl, inr, ℕ, ℤ, List, [], ◌∷◌, ◌++◌, Bool, true, false}
+use Rattle.std.proofs.Common.{Some, None, Ok, Result, OnOk, IsTrue, refl, sym, ap, subst}
+use Rattle.std.proofs.Common.{◌∙◌, arith}
 use Rattle.std.specs.Ordering.{eq_by_cmp}
-use Rattle.sqlite_value.specs.declared.value.Value.TheVariants.{Null, Int, Text}
+use Rattle.sqlite_value.specs.declared.value.Value.TheVariants.{Null, Int}
 use Rattle.sqlite_value.specs.Keys.{plain}
 use Rattle.sqlite_value.specs.Order.{Row, row_cmp}
 use Rattle.sqlite_trees.specs.Objects.{catalog_tree}
@@ -30,8 +30,7 @@ use Rattle.sql_tables.proofs.Found.{is_some_map}
 use Rattle.sql_tables.proofs.Steps.{or_false}
 use Rattle.sql_tables.proofs.Ties.{agree_ties}
 use Rattle.sql_rows.specs.Values.{charge_values, charge_in}
-use Rattle.sql_rows.specs.Content.{Content, content_of, has_charge, rows_in}
-use Rattle.sql_rows.specs.Content.{with_charge, with_rows}
+use Rattle.sql_rows.specs.Content.{Content, content_of, has_charge, with_charge, with_rows}
 use Rattle.sql_rows.specs.Makes.{AddsIfNone, Makes}
 use Rattle.sql_rows.specs.Plain.{ArePlain}
 use Rattle.sql_rows.proofs.Adds.{AddsRow, IsAdded, IsThere, adds_table}

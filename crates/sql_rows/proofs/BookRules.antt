@@ -1,8 +1,7 @@
 -- The books after the first, as they are read: where each is in its rules, no fault of the rules is
 -- told of them.
-use Rattle.std.proofs.Common.{◌≡◌, inl, inr, ℕ, zero, suc, ◌<◌, List, [], ◌∷◌, map, drop, Bool, true}
-use Rattle.std.proofs.Common.{false, ◌&&◌, Some, None, Option, is_eq, refl, ap, ap₂, ◌∙◌, length}
-use Rattle.std.proofs.Common.{get_or, arith}
+use Rattle.std.proofs.Common.{◌≡◌, inl, inr, ℕ, List, [], ◌∷◌, map, drop, true}
+use Rattle.std.proofs.Common.{false, ◌&&◌, Some, None, Option, is_eq, refl, ap, ap₂, ◌∙◌}
 use Rattle.std.specs.Prelude.{option_map}
 use Rattle.std.specs.List.{AllByRecursion}
 use Rattle.std.proofs.lemmas.Bool.{and_parts}
@@ -25,7 +24,7 @@ use Rattle.sql_tables.proofs.Keys.{keys_split}
 use Rattle.sql_tables.proofs.Selected.{selected_from}
 use Rattle.sql_tables.proofs.Selections.{full_key, meets, met_has, met_some, one_row}
 use Rattle.sql_tables.proofs.Steps.{and_true}
-use Rattle.sql_rows.specs.Values.{nat, nat_in, DatedBook, book_key, book_in}
+use Rattle.sql_rows.specs.Values.{nat, DatedBook, book_key, book_in}
 use Rattle.sql_rows.specs.Content.{content_of}
 use Rattle.sql_rows.specs.Lists.{BookAt, book_at_cells}
 use Rattle.sql_rows.specs.Ruled.{AreRuledBooks, IsRuledBook}
@@ -84,7 +83,8 @@ fitting trees fits row has =
 
 -- it is the row under its number
 under_number : (trees : Trees) → Fits book_schema trees → IsStored (trees 22) → (r : Row)
-    → Has (trees 22) r → (n : ℕ) → column r 1 ≡ nat n → look books trees (book_key n) ≡ Some (drop 1 r)
+    → Has (trees 22) r → (n : ℕ) → column r 1 ≡ nat n
+    → look books trees (book_key n) ≡ Some (drop 1 r)
 under_number trees fits stored r h n is =
     let met : meets (1 ∷ []) (book_key n) r ≡ true =
     keys_split (nat n) (column r 1) [] [] ∙ and_true _
@@ -96,8 +96,8 @@ under_number trees fits stored r h n is =
     ∙ it.1
     ∙ ap Some (back.3 ∙ ap (drop 1) (one_row (1 ∷ []) book_schema books
     (inr (inr (inr (inr (inr (inr (inr (inr (inr (inr (inl refl))))))))))) (key_index books)
-    (inr (inr (inr (inr (inr (inr (inr (inr (inr (inr (inr (inr (inl refl))))))))))))) refl refl refl
-    trees fits stored (book_key n) (λ x m. full_key (1 ∷ []) (book_key n) x (refl, tt) m)
+    (inr (inr (inr (inr (inr (inr (inr (inr (inr (inr (inr (inr (inl refl))))))))))))) refl refl
+    refl trees fits stored (book_key n) (λ x m. full_key (1 ∷ []) (book_key n) x (refl, tt) m)
     back.0 r back.1 h back.2 met))
 
 -- ---- the rows that are read

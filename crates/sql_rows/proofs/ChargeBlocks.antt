@@ -1,6 +1,6 @@
 -- Covered blocks stand beside a charge.
-use Rattle.std.specs.Prelude.{codes, is_some, pos, ◌||◌}
-use Rattle.std.proofs.Common.{◌≡◌, inl, inr, ℕ, List, [], ◌∷◌, Bool, true, Some, None, Option}
+use Rattle.std.specs.Prelude.{codes, is_some}
+use Rattle.std.proofs.Common.{◌≡◌, inl, inr, ℕ, List, [], ◌∷◌, true, Some, None, Option}
 use Rattle.std.proofs.Common.{refl, sym, ap, ◌∙◌, option_map}
 use Rattle.sqlite_value.specs.Keys.{plain, joined}
 use Rattle.sqlite_value.specs.Order.{Row}

@@ -1,6 +1,6 @@
 -- Those of buckets whose numbers rise that pass a test.
-use Rattle.std.proofs.Common.{◌≡◌, ℕ, ◌<◌, ◌≤◌, List, [], ◌∷◌, Bool, true, false, Some, None}
-use Rattle.std.proofs.Common.{Option, refl, sym, ap, ◌∙◌, arith, nat_eq, eqb-true, map, subst, Ok}
+use Rattle.std.proofs.Common.{◌≡◌, ℕ, ◌<◌, ◌≤◌, List, [], ◌∷◌, Bool, true, false, None}
+use Rattle.std.proofs.Common.{refl, sym, ap, ◌∙◌, arith, nat_eq, eqb-true, map, subst, Ok}
 use Rattle.std.proofs.Common.{Err, Result, OnOk}
 use Rattle.std.specs.Prelude.{filter, IfOk}
 use Rattle.std.specs.List.{find}

@@ -1,8 +1,8 @@
 -- A loop that puts each row of a list.
 use Rattle.std.proofs.Common.{◌≡◌, ◌∙◌, ap, subst, sym, refl, arith, List, ◌∷◌, IsTrue, true, ℕ}
-use Rattle.std.proofs.Common.{◌+◌, ◌<◌, ◌≤◌, Ok, Result, OnOk, OnErr, drop, length, get_or}
+use Rattle.std.proofs.Common.{◌+◌, ◌<◌, ◌≤◌, Ok, drop, length, get_or}
 use Rattle.std.proofs.lemmas.List.{drop_all, drop_more}
-use Rattle.sqlite.specs.State.{State, HasCleanDisk, Survives, Shows, KeepsCommit}
+use Rattle.sqlite.specs.State.{State, HasCleanDisk, Survives, Shows}
 use Rattle.sqlite.proofs.StateLemmas.{survives_then}
 use Rattle.sqlite_trees.specs.Objects.{catalog_tree}
 use Rattle.sql_tables.specs.Statements.{Attempts, IsBook}

@@ -1,5 +1,5 @@
 -- What is kept once, as it is read: where it is in its rules, no fault of the rules is told of it.
-use Rattle.std.proofs.Common.{◌≡◌, inl, inr, ℕ, ℤ, pos, negsuc, List, [], ◌∷◌, map, drop, Bool}
+use Rattle.std.proofs.Common.{◌≡◌, inl, inr, ℕ, pos, negsuc, List, [], ◌∷◌, map, drop, Bool}
 use Rattle.std.proofs.Common.{true, false, not, ◌&&◌, Some, None, Option, refl, sym, ap, ap₂, subst}
 use Rattle.std.proofs.Common.{◌∙◌}
 use Rattle.std.specs.Prelude.{slice_index_or, Result, Ok, Err, IfErr, IfOk, MatchResult}
@@ -13,7 +13,6 @@ use Rattle.sqlite_value.proofs.OrderLemmas.{value_cmp-Int}
 use Rattle.sqlite_sql.specs.declared.ops.BinaryOp.TheVariants.{Compare}
 use Rattle.sqlite_sql.specs.declared.ops.CompareOp.TheVariants.{Ge}
 use Rattle.sqlite_sql.specs.Ops.{binary, from_truth, is_false, is_null}
-use Rattle.sqlite_schema.specs.declared.schema.Kind.{Kind}
 use Rattle.sqlite_schema.specs.declared.schema.Kind.TheVariants as kind
 use Rattle.sqlite_schema.specs.declared.schema.Constraint.TheVariants.{Datatype, NotNull, Check}
 use Rattle.sqlite_schema.specs.Rules.{Fits, are_present, are_typed, is_of, passes_checks}
@@ -25,7 +24,6 @@ use Rattle.sql_tables.specs.Keyed.{key_of}
 use Rattle.sql_tables.specs.Schema.{meta, book_schema}
 use Rattle.sql_tables.specs.Selects.{one_or_none}
 use Rattle.sql_tables.specs.Statements.{Answers}
-use Rattle.sql_tables.proofs.Selected.{told}
 use Rattle.sql_tables.proofs.Single.{one_selected}
 use Rattle.sql_rows.specs.Values.{nat, nat_in, text_in, Meta, meta_key, meta_in, meta_cells}
 use Rattle.sql_rows.specs.Content.{content_of}

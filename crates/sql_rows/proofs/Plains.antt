@@ -1,6 +1,6 @@
 -- What is put and what is removed leave rows that are as the statements write them.
-use Rattle.std.proofs.Common.{◌≡◌, ◌≢◌, ℕ, List, [], ◌∷◌, Bool, true, false, cond, Some, None, Option}
-use Rattle.std.proofs.Common.{IsTrue, refl, sym, subst, ◌∙◌, take, length, arith}
+use Rattle.std.proofs.Common.{◌≡◌, ◌≢◌, ℕ, List, ◌∷◌, Bool, true, false, cond, Some, None, Option}
+use Rattle.std.proofs.Common.{refl, sym, subst, ◌∙◌, arith}
 use Rattle.std.specs.Ordering.{eq_by_cmp}
 use Rattle.std.specs.FinMap.{get}
 use Rattle.sqlite_value.specs.declared.value.Value.TheVariants.{Null}

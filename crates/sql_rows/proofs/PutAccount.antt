@@ -133,7 +133,8 @@ module _ (a : List ℕ) (h : Head) where
       → Attempts (λ old new. ExecutesInside 0 put_account_text params old new r) old new r
       → OnOk r (HasRules new)
   rules_account =
-      rules_after put_account_text values (Puts accounts values) put_is put_plain puts (λ old new p. p.book)
+      rules_after put_account_text values (Puts accounts values) put_is put_plain puts
+      (λ old new p. p.book)
 
   -- the parameters, as they are bound
   pub bound_account : (v1 v2 v3 v4 v5 : Value)

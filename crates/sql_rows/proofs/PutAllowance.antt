@@ -1,7 +1,8 @@
 -- What the text of `put_allowance` does.
 use Rattle.std.specs.Prelude.{codes, if◌then◌else◌, is_some}
-use Rattle.std.proofs.Common.{◌≡◌, inl, inr, ℕ, ℤ, List, [], ◌∷◌, ◌++◌, map, Bool, true, false, ◌&&◌, Option, Some, Result}
-use Rattle.std.proofs.Common.{OnOk, IsTrue, refl, ap, ◌∙◌, arith, nat_eq}
+use Rattle.std.proofs.Common.{◌≡◌, inl, inr, ℕ, ℤ, List, [], ◌∷◌, ◌++◌, map, Bool, true, false}
+use Rattle.std.proofs.Common.{◌&&◌, Option, Some, Result, OnOk, IsTrue, refl, ap, ◌∙◌, arith}
+use Rattle.std.proofs.Common.{nat_eq}
 use Rattle.std.specs.Ordering.{eq_by_cmp}
 use Rattle.sqlite_value.specs.declared.value.Value.{Value}
 use Rattle.sqlite_value.specs.declared.value.Value.TheVariants.{Null, Int, Text}
@@ -92,9 +93,10 @@ module _ (a : List ℕ) (n : ℕ) where
       → OnOk r (Puts allowance_buckets values old new)
   puts =
       puts_table 12 allowance_buckets refl
-      (inr (inr (inr (inr (inr (inr (inr (inr (inr (inr (inr (inr (inl refl))))))))))))) (key_index allowance_buckets)
-      (inr (inr (inr (inr (inr (inr (inr (inr (inr (inr (inr (inr (inr (inr (inr (inl refl))))))))))))))))
-      refl refl refl (λ e. omega arith) refl
+      (inr (inr (inr (inr (inr (inr (inr (inr (inr (inr (inr (inr (inl refl)))))))))))))
+      (key_index allowance_buckets)
+      (inr (inr (inr (inr (inr (inr (inr (inr (inr
+      (inr (inr (inr (inr (inr (inr (inl refl)))))))))))))))) refl refl refl (λ e. omega arith) refl
       put_allowance_text terms project 3 2 put_is put_plain values (λ olds new. refl) again unset
       (λ id met r. refl) (λ id met. refl) refl (λ v. refl) (λ id. (refl, (refl, tt))) meets
 
@@ -115,7 +117,8 @@ module _ (a : List ℕ) (n : ℕ) where
       → Attempts (λ old new. ExecutesInside 0 put_allowance_text params old new r) old new r
       → Attempts (Makes (with_rows a (with_allowance n))) old new r
   makes_allowance =
-      writes put_allowance_text values (Puts allowance_buckets values) (with_rows a (with_allowance n)) puts
+      writes put_allowance_text values (Puts allowance_buckets values)
+      (with_rows a (with_allowance n)) puts
       (puts_make allowance_buckets values (with_rows a (with_allowance n)) turns
       (plain_beside allowance_buckets values (omega arith) (omega arith) (omega arith)))
 

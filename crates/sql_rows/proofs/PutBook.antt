@@ -1,6 +1,6 @@
 -- What the text of `put_book` does.
 use Rattle.std.specs.Prelude.{codes}
-use Rattle.std.proofs.Common.{◌≡◌, inl, inr, ℕ, ℤ, List, [], ◌∷◌, ◌++◌, map, ◌&&◌, Some, Result}
+use Rattle.std.proofs.Common.{◌≡◌, inl, inr, ℕ, ℤ, List, [], ◌∷◌, ◌++◌, map, Some, Result}
 use Rattle.std.proofs.Common.{OnOk, IsTrue, refl, ◌∙◌, arith, nat_eq}
 use Rattle.std.specs.Ordering.{eq_by_cmp}
 use Rattle.sqlite_value.specs.declared.value.Value.{Value}
@@ -21,7 +21,7 @@ use Rattle.sqlite.specs.declared.error.Error.{Error}
 use Rattle.sqlite.specs.Listing.{understood}
 use Rattle.sqlite.specs.State.{State, ExecutesInside}
 use Rattle.sqlite.proofs.Callers.{IsPlain, command_of}
-use Rattle.sql_tables.specs.Keyed.{key_of, same_name}
+use Rattle.sql_tables.specs.Keyed.{key_of}
 use Rattle.sql_tables.specs.Schema.{books, book_schema, key_index}
 use Rattle.sql_tables.specs.Statements.{Attempts, Changes, HasBook, IsBook, Puts}
 use Rattle.sql_tables.proofs.Casts.{cast_int, cast_null}
@@ -97,7 +97,8 @@ module _ (n : ℕ) (x : DatedBook) where
       → content_of new ≡ with_book n x (content_of old)
   turns old new c = only_changed 22 old new c.others ∙ (λ i. record (content_of old) {
     books = λ m.
-        put_tells book_in books values old new c x refl (book_key m) (nat_eq n m) (number_last n m) i;
+        put_tells book_in books values old new c x refl (book_key m) (nat_eq n m)
+        (number_last n m) i;
   })
 
   pub makes_book : (params : Row) → params ≡ values

@@ -87,8 +87,10 @@ module _ (a : List ℕ) (x : CoveredRow) where
       → OnOk r (Puts covered values old new)
   puts =
       puts_table 13 covered refl
-      (inr (inr (inr (inr (inr (inr (inr (inr (inr (inr (inr (inr (inr (inl refl)))))))))))))) (key_index covered)
-      (inr (inr (inr (inr (inr (inr (inr (inr (inr (inr (inr (inr (inr (inr (inr (inr (inl refl)))))))))))))))))
+      (inr (inr (inr (inr (inr (inr (inr (inr (inr (inr (inr (inr (inr (inl refl))))))))))))))
+      (key_index covered)
+      (inr (inr (inr (inr (inr (inr (inr (inr
+      (inr (inr (inr (inr (inr (inr (inr (inr (inl refl)))))))))))))))))
       refl refl refl (λ e. omega arith) refl
       put_covered_text terms project 4 3 put_is put_plain values (λ olds new. refl) again unset
       (λ id met r. refl) (λ id met. refl) refl (λ v. refl) (λ id. (refl, (refl, tt))) meets

@@ -88,7 +88,8 @@ module _ (a s : List ℕ) (g n : ℕ) where
       → OnOk r (Puts grant_books values old new)
   puts =
       puts_table 11 grant_books refl
-      (inr (inr (inr (inr (inr (inr (inr (inr (inr (inr (inr (inl refl)))))))))))) (key_index grant_books)
+      (inr (inr (inr (inr (inr (inr (inr (inr (inr (inr (inr (inl refl))))))))))))
+      (key_index grant_books)
       (inr (inr (inr (inr (inr (inr (inr (inr (inr (inr (inr (inr (inr (inl refl))))))))))))))
       refl refl refl (λ e. omega arith) refl
       put_grant_book_text terms project 5 4 put_is put_plain values (λ olds new. refl) again unset
@@ -111,7 +112,8 @@ module _ (a s : List ℕ) (g n : ℕ) where
       → Attempts (λ old new. ExecutesInside 0 put_grant_book_text params old new r) old new r
       → Attempts (Makes (with_rows a (with_grant_book s g n))) old new r
   makes_grant_book =
-      writes put_grant_book_text values (Puts grant_books values) (with_rows a (with_grant_book s g n)) puts
+      writes put_grant_book_text values (Puts grant_books values)
+      (with_rows a (with_grant_book s g n)) puts
       (puts_make grant_books values (with_rows a (with_grant_book s g n)) turns
       (plain_beside grant_books values (omega arith) (omega arith) (omega arith)))
 

@@ -1,8 +1,7 @@
 -- What the text of `read_books` answers.
 use Rattle.std.specs.Prelude.{codes, option_map}
-use Rattle.std.proofs.Common.{◌≡◌, inl, inr, ℕ, List, [], ◌∷◌, ◌++◌, map, drop, Bool, true, false}
+use Rattle.std.proofs.Common.{◌≡◌, inl, inr, ℕ, List, [], ◌∷◌, map, drop, Bool, true, false}
 use Rattle.std.proofs.Common.{Some, None, Option, is_eq, nat_eq, refl, sym, ap, subst, ◌∙◌}
-use Rattle.sqlite_value.specs.declared.value.Value.TheVariants.{Null}
 use Rattle.sqlite_value.specs.declared.keys.Collation.TheVariants.{Binary}
 use Rattle.sqlite_value.specs.declared.keys.Key.{Key}
 use Rattle.sqlite_value.specs.Order.{Row, column, value_cmp}
@@ -21,7 +20,7 @@ use Rattle.sql_tables.proofs.Keys.{keys_split, int_tie}
 use Rattle.sql_tables.proofs.Selected.{select_from, told}
 use Rattle.sql_tables.proofs.Selections.{meets}
 use Rattle.sql_tables.proofs.Steps.{and_true}
-use Rattle.sql_rows.specs.Values.{nat, nat_in, DatedBook, book_key, book_in}
+use Rattle.sql_rows.specs.Values.{nat, nat_in, book_key, book_in}
 use Rattle.sql_rows.specs.Content.{content_of}
 use Rattle.sql_rows.specs.Lists.{BookAt, book_at_cells, AreBooks}
 
@@ -90,7 +89,8 @@ books_read old new rows xs got is n =
     ap (option_map (λ (x : BookAt). x.row))
     (listed_told books (inr (inr (inr (inr (inr (inr (inr (inr (inr (inr (inl refl)))))))))))
     (inr (inr (inr (inr (inr (inr (inr (inr (inr (inr (inr (inr (inl refl))))))))))))) refl
-    old.now.trees got.fits (got.book.stored.1.1.1.1.1.1.1.1.1.1.0) at_in book_at_cells columns (λ r. true)
+    old.now.trees got.fits (got.book.stored.1.1.1.1.1.1.1.1.1.1.0) at_in book_at_cells columns
+    (λ r. true)
     (book_key n) (refl, tt) (λ x r m. back x r) (λ x. nat_eq x.number n) (λ x. true) (λ r. true)
     (rest n) (λ r. true) (λ r. refl) (splits n) (wanted n) (λ r m h. refl)
     (λ x r e same. refl) xs

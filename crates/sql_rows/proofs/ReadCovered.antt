@@ -1,7 +1,8 @@
 -- What the text of `read_covered_within` answers.
-use Rattle.std.specs.Prelude.{codes, nat_le, option_map, if◌then◌else◌}
+use Rattle.std.specs.Prelude.{codes, nat_le, option_map}
 use Rattle.std.proofs.Common.{◌≡◌, inl, inr, ℕ, List, [], ◌∷◌, ◌++◌, map, drop, Bool, true, false}
-use Rattle.std.proofs.Common.{◌&&◌, Some, None, Option, is_eq, nat_eq, nat_lt, ap₂, refl, sym, ap, subst, ◌∙◌}
+use Rattle.std.proofs.Common.{◌&&◌, Some, None, Option, is_eq, nat_eq, nat_lt, ap₂, refl, sym, ap}
+use Rattle.std.proofs.Common.{subst, ◌∙◌}
 use Rattle.std.proofs.lemmas.Bool.{and_parts, cases_Bool}
 use Rattle.std.specs.Cmp.{unsigned_Decides}
 use Rattle.std.specs.List.{find}
@@ -165,7 +166,8 @@ module _ (a : List ℕ) (after last : ℕ) where
       at here =
           listed_told covered
           (inr (inr (inr (inr (inr (inr (inr (inr (inr (inr (inr (inr (inr (inl refl))))))))))))))
-          (inr (inr (inr (inr (inr (inr (inr (inr (inr (inr (inr (inr (inr (inr (inr (inr (inl refl)))))))))))))))))
+          (inr (inr (inr (inr (inr (inr (inr (inr
+          (inr (inr (inr (inr (inr (inr (inr (inr (inl refl)))))))))))))))))
           refl old.now.trees got.fits (got.book.stored.1.1.1.1.1.1.1.1.1.1.1.1.1.0) at_in
           covered_cells columns (λ r. front r && extra r) (charge_key a n) (refl, (refl, tt))
           (λ x r m. back x r) (λ x. nat_eq x.number n) (λ x. true) front (rest n) extra

@@ -1,8 +1,8 @@
 -- What the text of `read_buckets_live` answers.
 use Rattle.std.specs.Prelude.{codes}
 use Rattle.std.proofs.Common.{◌≡◌, inl, inr, ℕ, pos, List, [], ◌∷◌, ◌++◌, map, drop, Bool, true}
-use Rattle.std.proofs.Common.{false, ◌&&◌, ◌||◌, ◌⊎◌, refl, sym, ap, ap₂, subst, ◌∙◌, nat_eq, nat_lt}
-use Rattle.std.proofs.Common.{arith}
+use Rattle.std.proofs.Common.{false, ◌&&◌, ◌||◌, ◌⊎◌, refl, sym, ap, ap₂, subst, ◌∙◌, nat_eq}
+use Rattle.std.proofs.Common.{nat_lt, arith}
 use Rattle.std.proofs.lemmas.Bool.{and_from, and_parts, cases_Bool}
 use Rattle.std.proofs.lemmas.Bool.Decides.{nat_tests}
 use Rattle.sqlite_value.specs.declared.value.Value.TheVariants.{Null, Int, Text}
@@ -178,8 +178,9 @@ module _ (a : List ℕ) where
       → AreAnswered passes columns (old.now.trees 4) rows
   answered old new rows got =
       one_list (old.now.trees 4) rows (λ r h. has_numbers old.now.trees got.fits r h)
-      (union_told 4 4 refl refl left_terms held_terms project project 10 by shown order (Text a ∷ [])
-      left_passes held_passes columns columns (λ r. and_last (front a r) (left_tested r))
+      (union_told 4 4 refl refl left_terms held_terms project project 10 by shown order
+      (Text a ∷ []) left_passes held_passes columns columns
+      (λ r. and_last (front a r) (left_tested r))
       (λ r. ap (λ t. front a r && t)
       (and_last (equal Binary (column r 7) (nat 0)) (is_any (column r 8))))
       (λ r. refl) (λ r. refl) (λ r. refl) (λ r. refl) read_live_text names text_is read_live_plain
@@ -189,8 +190,8 @@ module _ (a : List ℕ) where
       → Answers read_live_text (Text a ∷ []) old new rows
       → map bucket_cells bs ≡ rows → AreBuckets is_live (rows_in old.now.trees a) bs
   live_read old new rows bs got is n =
-      answered_told buckets (inr (inr (inl refl))) (inr (inr (inl refl))) refl old.now.trees got.fits
-      (got.book.stored.1.1.0) bucket_in bucket_cells columns
+      answered_told buckets (inr (inr (inl refl))) (inr (inr (inl refl))) refl old.now.trees
+      got.fits (got.book.stored.1.1.0) bucket_in bucket_cells columns
       passes (bucket_key a n) (refl, (refl, tt)) (λ x r m. back x r)
       (λ x. nat_eq x.number n) is_live (front a) (rest a n) (λ r. is_live (bucket_in (drop 1 r)))
       (λ r. refl) (splits a n) (wanted a n) (λ r m h. h) told_live bs

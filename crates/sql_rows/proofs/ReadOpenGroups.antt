@@ -260,7 +260,8 @@ module _ (a : List ℕ) (trees : Trees) (fits : Fits book_schema trees)
       let one = and_parts (front t) (equal Binary (column t 5) (nat 1)
       && (equal Binary (column r 1) (column t 1)
       && (equal Binary (column r 2) (column t 2) && true))) it.2 in
-      let two = and_parts (equal Binary (column t 5) (nat 1)) (equal Binary (column r 1) (column t 1)
+      let two = and_parts (equal Binary (column t 5) (nat 1))
+      (equal Binary (column r 1) (column t 1)
       && (equal Binary (column r 2) (column t 2) && true)) one.1 in
       let three = and_parts (equal Binary (column r 1) (column t 1))
       (equal Binary (column r 2) (column t 2) && true) two.1 in

@@ -1,6 +1,6 @@
 -- What the text of `read_reserved_within` answers.
 use Rattle.std.specs.Prelude.{codes, negsuc, option_map, is_some, if◌then◌else◌}
-use Rattle.std.proofs.Common.{◌≡◌, inl, inr, ℕ, pos, List, [], ◌∷◌, ◌++◌, map, drop, Bool, true}
+use Rattle.std.proofs.Common.{◌≡◌, inl, inr, ℕ, pos, List, [], ◌∷◌, map, drop, Bool, true}
 use Rattle.std.proofs.Common.{false, ◌&&◌, Some, None, Option, is_eq, nat_eq, refl, sym, ap, ap₂}
 use Rattle.std.proofs.Common.{subst, ◌∙◌, eqb-true}
 use Rattle.sqlite_value.specs.declared.value.Value.{Value}
@@ -109,7 +109,8 @@ same_flag : {A B : Type 0} (b : Bool) (x : A) (y : B)
 same_flag true x y = refl
 same_flag false x y = refl
 
-reserved_is : (o : Option Row) → is_some (only (λ (x : ReservedAt). x.reserved) (option_map at_in o))
+reserved_is : (o : Option Row)
+    → is_some (only (λ (x : ReservedAt). x.reserved) (option_map at_in o))
     ≡ has_reservation (option_map group_in o)
 reserved_is None = refl
 reserved_is (Some v) =

@@ -1,7 +1,7 @@
 -- What the text of `remove_covered` does.
 use Rattle.std.specs.Prelude.{codes}
-use Rattle.std.proofs.Common.{◌≡◌, ℕ, List, [], ◌∷◌, map, take, Bool, ◌&&◌, Ok, Err, Result, OnOk, IsTrue}
-use Rattle.std.proofs.Common.{refl, ◌∙◌, arith, nat_eq}
+use Rattle.std.proofs.Common.{◌≡◌, ℕ, List, [], ◌∷◌, map, take, Bool, ◌&&◌, Ok, Err, Result, OnOk}
+use Rattle.std.proofs.Common.{IsTrue, refl, ◌∙◌, arith, nat_eq}
 use Rattle.std.specs.List.{list_all}
 use Rattle.std.specs.Ordering.{eq_by_cmp}
 use Rattle.sqlite_value.specs.declared.value.Value.{Value}
@@ -82,8 +82,8 @@ module _ (a : List ℕ) (n : ℕ) where
       let command = Delete 13 (record { lets = []; body = rowids_where 29 of_key }) in
       let w = runs_as remove_covered_text wanted old new book_schema book.schema command remove_is
       remove_plain count h.0 in
-      let done = removes_rows book_schema 13 covered refl wanted of_key test gone (λ x. refl) old new
-      (statement_of remove_covered_text (understood book_schema remove_covered_text)) count
+      let done = removes_rows book_schema 13 covered refl wanted of_key test gone (λ x. refl) old
+      new (statement_of remove_covered_text (understood book_schema remove_covered_text)) count
       book.schema stored w in
       let p : RemovesRows places book_schema covered wanted old.now.trees new.now.trees =
       removes_key places book_schema covered wanted test old.now.trees new.now.trees means

@@ -1,7 +1,7 @@
 -- What the text of `remove_grant_book` does.
 use Rattle.std.specs.Prelude.{codes}
-use Rattle.std.proofs.Common.{◌≡◌, ℕ, List, [], ◌∷◌, map, take, Bool, ◌&&◌, Ok, Err, Result, OnOk, IsTrue}
-use Rattle.std.proofs.Common.{refl, ◌∙◌, arith, nat_eq}
+use Rattle.std.proofs.Common.{◌≡◌, ℕ, List, [], ◌∷◌, map, take, Bool, ◌&&◌, Ok, Err, Result, OnOk}
+use Rattle.std.proofs.Common.{IsTrue, refl, ◌∙◌, arith, nat_eq}
 use Rattle.std.specs.List.{list_all}
 use Rattle.std.specs.Ordering.{eq_by_cmp}
 use Rattle.sqlite_value.specs.declared.value.Value.{Value}
@@ -81,9 +81,10 @@ module _ (a s : List ℕ) (g : ℕ) where
       let book = has h.1.was_open in
       let stored = book.stored.1.1.1.1.1.1.1.1.1.1.1.0 in
       let command = Delete 11 (record { lets = []; body = rowids_where 24 of_key }) in
-      let w = runs_as remove_grant_book_text wanted old new book_schema book.schema command remove_is
-      remove_plain count h.0 in
-      let done = removes_rows book_schema 11 grant_books refl wanted of_key test gone (λ x. refl) old new
+      let w = runs_as remove_grant_book_text wanted old new book_schema book.schema command
+      remove_is remove_plain count h.0 in
+      let done = removes_rows book_schema 11 grant_books refl wanted of_key test gone (λ x. refl)
+      old new
       (statement_of remove_grant_book_text (understood book_schema remove_grant_book_text)) count
       book.schema stored w in
       let p : RemovesRows places book_schema grant_books wanted old.now.trees new.now.trees =

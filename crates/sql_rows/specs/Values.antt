@@ -1,7 +1,6 @@
 -- The values of a row, and the row that values are.
 -- Source: profile.
-use Rattle.std.specs.Prelude.{ℕ, zero, suc, pos, negsuc, Bool, true, false, List, [], ◌∷◌, Option}
-use Rattle.std.specs.Prelude.{Some, None}
+use Rattle.std.specs.Prelude.{ℕ, zero, suc, pos, negsuc, Bool, List, [], ◌∷◌, Option, Some, None}
 use Rattle.std.specs.Prelude.{is_some, if◌then◌else◌, ◌==◌}
 use Rattle.units.specs.Words.{Moment, DayCount, Micros, UnitCount, BlockCount, GroupId, CycleNumber}
 use Rattle.units.specs.Words.{BookNumber, CcRequestNumber}

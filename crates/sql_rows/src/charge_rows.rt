@@ -6,8 +6,7 @@ ghost use Rattle.sql_rows.specs.Values.{charge_cells, plain_charge};
 ghost use Rattle.sql_rows.specs.Lists.{AreCharges, NumbersRise, is_within};
 ghost use Rattle.sql_rows.specs.Each.{with_charges};
 ghost use Rattle.sql_rows.specs.Makes.{AddsIfNone, Makes, MakesIfOpen};
-ghost use Rattle.sql_tables.specs.Statements.{Attempts, HasBook, HasIdleBook, IsInside, Reads};
-ghost use Rattle.sql_tables.specs.Statements.{AttemptsOver};
+ghost use Rattle.sql_tables.specs.Statements.{HasBook, HasIdleBook, IsInside, Reads, AttemptsOver};
 ghost use Rattle.sqlite.specs.Held.{state};
 
 use crate::decoding::{moment_at, session_at};
@@ -66,8 +65,8 @@ pub fn put_charge<S: Alter>(
     )
 }
 
-/// Adds the columns of an account's charge, if it has none of its number, and answers whether it had
-/// none; one that it has stays as it is.
+/// Adds the columns of an account's charge, if it has none of its number, and answers whether it
+/// had none; one that it has stays as it is.
 ///
 /// # Errors
 /// As of `put_charge`.

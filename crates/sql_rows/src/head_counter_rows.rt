@@ -28,8 +28,8 @@ pub struct HeadCounters {
     pub counters: Vec<Counter>,
 }
 
-/// What is kept of an account once, and its counters of a cycle in the order of their rating groups,
-/// each once: one selection of two parts.
+/// What is kept of an account once, and its counters of a cycle in the order of their rating
+/// groups, each once: one selection of two parts.
 ///
 /// # Errors
 /// `Store` where the store failed, `Rules` where a row is out of its rules or the keys don't rise,

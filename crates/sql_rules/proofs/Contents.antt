@@ -1,9 +1,8 @@
 -- The content of tables whose rows are in their rules.
-use Rattle.std.proofs.Common.{◌≡◌, ◌≤◌, ◌<◌, ℕ, pos, negsuc, List, [], ◌∷◌, length, Bool, true}
+use Rattle.std.proofs.Common.{◌≡◌, ◌≤◌, ◌<◌, ℕ, pos, negsuc, List, [], ◌∷◌, length, true}
 use Rattle.std.proofs.Common.{eqb-true, false}
-use Rattle.std.proofs.Common.{◌&&◌, Some, None, Option, refl, sym, ap, subst, ◌∙◌, arith, nat_eq}
-use Rattle.std.proofs.Common.{inl, inr, drop, IsTrue}
-use Rattle.std.proofs.Common.{nat_le, nat_lt, is_eq}
+use Rattle.std.proofs.Common.{Some, None, Option, refl, sym, ap, subst, ◌∙◌, arith, nat_eq}
+use Rattle.std.proofs.Common.{inl, inr, drop, IsTrue, nat_le, nat_lt, is_eq}
 use Rattle.std.specs.Prelude.{is_some, option_map}
 use Rattle.std.specs.Cmp.{unsigned_Decides}
 use Rattle.std.specs.Ordering.{eq_by_cmp}
@@ -24,8 +23,7 @@ use Rattle.sql_tables.specs.Keyed.{look}
 use Rattle.sql_tables.specs.Schema.{accounts, allowance_buckets, answers, book_schema, books}
 use Rattle.sql_tables.specs.Schema.{buckets}
 use Rattle.sql_tables.specs.Schema.{charges, counters, covered, grant_books, holds, key_index}
-use Rattle.sql_tables.specs.Schema.{latest}
-use Rattle.sql_tables.specs.Schema.{meta, session_groups, sessions, vouchers}
+use Rattle.sql_tables.specs.Schema.{latest, meta, session_groups, sessions, vouchers}
 use Rattle.sql_tables.proofs.Keys.{int_tie, keys_split, number_last}
 use Rattle.sql_tables.proofs.Selections.{full_key, meets, one_row}
 use Rattle.sql_rows.specs.Content.{content_of, rows_in}

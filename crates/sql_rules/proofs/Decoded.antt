@@ -1,7 +1,6 @@
 -- A row that is in its rules is told as a row that is.
 use Rattle.std.proofs.Common.{◌≡◌, ℕ, pos, negsuc, List, [], ◌∷◌, drop, Bool, true, false, ◌&&◌}
-use Rattle.std.proofs.Common.{◌||◌}
-use Rattle.std.proofs.Common.{Some, None, Option, refl, sym, ◌∙◌, nat_le, nat_eq, nat_lt, is_eq}
+use Rattle.std.proofs.Common.{Some, None, refl, sym, ◌∙◌, nat_le, nat_eq, nat_lt, is_eq}
 use Rattle.std.proofs.Common.{arith, subst}
 use Rattle.std.specs.Prelude.{if◌then◌else◌, ◌==◌}
 use Rattle.std.specs.Cmp.{unsigned_Decides}

@@ -1,10 +1,10 @@
 -- A row whose content is in its rules is in its rules, where it is as the statements write it.
-use Rattle.std.proofs.Common.{◌≡◌, ◌<◌, ℕ, zero, suc, List, [], ◌∷◌, drop, Bool, true, false, ◌&&◌, ◌||◌}
+use Rattle.std.proofs.Common.{◌≡◌, ◌<◌, ℕ, zero, suc, [], ◌∷◌, drop, Bool, true, false, ◌&&◌, ◌||◌}
 use Rattle.std.proofs.Common.{Some, None, refl, nat_eq, nat_le, nat_lt, arith}
 use Rattle.std.specs.Prelude.{if◌then◌else◌, ◌==◌}
 use Rattle.std.proofs.lemmas.Bool.{and_from, and_parts}
 use Rattle.std.proofs.lemmas.Bool.Decides.{nat_tests}
-use Rattle.identifiers.specs.Texts.{is_account_number, is_session_id, is_voucher_code}
+use Rattle.identifiers.specs.Texts.{is_account_number, is_voucher_code}
 use Rattle.shelves.specs.Shelves.{Shelf, count}
 use Rattle.sqlite_sql.specs.Ops.{is_null}
 use Rattle.sqlite_value.specs.declared.value.Value.{Value}
@@ -18,7 +18,7 @@ use Rattle.sql_rows.specs.Values.{session_in, group_in, hold_in, answer_in, vouc
 use Rattle.sql_rows.specs.Values.{book_in, grant_book_in, covered_in}
 use Rattle.sql_rules.specs.Columns.{is_within, is_optional_within, is_moment, is_some_money}
 use Rattle.sql_rules.specs.Columns.{is_money, is_next, is_numbering, is_small}
-use Rattle.sql_rules.specs.Rules.{are_periods, is_period_name, is_ruled_answer, is_ruled_book}
+use Rattle.sql_rules.specs.Rules.{are_periods, is_ruled_answer, is_ruled_book}
 use Rattle.sql_rules.specs.Rules.{is_ruled_account, is_ruled_bucket, is_ruled_counter}
 use Rattle.sql_rules.specs.Rules.{is_ruled_session, is_ruled_group, is_ruled_hold}
 use Rattle.sql_rules.specs.Rules.{is_ruled_charge, is_ruled_covered, is_ruled_grant_book}

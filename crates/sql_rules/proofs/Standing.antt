@@ -24,7 +24,6 @@ use Rattle.sqlite.proofs.Callers.{reads_as}
 use Rattle.sql_tables.specs.Keyed.{IsStored}
 use Rattle.sql_tables.specs.Schema.{schema_at}
 use Rattle.sql_tables.proofs.Steps.{bare}
-use Rattle.sql_tables.specs.Rises.{AreRising}
 use Rattle.sql_tables.proofs.Ascents.{rising_stored}
 use Rattle.sql_rules.specs.Tables.{rows_of, IsRows}
 use Rattle.sql_rules.specs.Walks.{Pass}

@@ -1,6 +1,6 @@
 -- Rows of tables whose content is in its rules, as the statements write them, are in their rules.
 use Rattle.std.proofs.Common.{◌≡◌, ◌≤◌, ◌<◌, ℕ, zero, suc, List, [], ◌∷◌, drop, length, Bool, true}
-use Rattle.std.proofs.Common.{false, not, Some, None, Option, refl, sym, ap, ap₂, subst, ◌∙◌, arith}
+use Rattle.std.proofs.Common.{false, not, Some, None, Option, refl, sym, ap, subst, ◌∙◌, arith}
 use Rattle.std.proofs.Common.{inl, inr, get_or, nat_eq, IsTrue}
 use Rattle.std.specs.Prelude.{option_map, is_some}
 use Rattle.std.specs.FinMap.{get-from_entries}
@@ -23,14 +23,13 @@ use Rattle.sqlite_schema.specs.Rules.{Fits, is_of, passes_checks, suits}
 use Rattle.sqlite_rules.specs.Lists.{Has}
 use Rattle.sqlite_rules.proofs.ListLemmas.{all_has}
 use Rattle.sql_tables.specs.Keyed.{IsStored, entries_of, key_of, look}
-use Rattle.sql_tables.specs.Schema.{accounts, allowance_buckets, answers, at_least_zero}
-use Rattle.sql_tables.specs.Schema.{book_schema}
+use Rattle.sql_tables.specs.Schema.{answers, at_least_zero, book_schema}
 use Rattle.sql_tables.specs.Schema.{books, buckets, charges, counters, covered, grant_books, holds}
-use Rattle.sql_tables.specs.Schema.{latest, meta, number, session_groups, sessions, vouchers}
+use Rattle.sql_tables.specs.Schema.{latest, meta, number, sessions, vouchers}
 use Rattle.sql_tables.specs.Statements.{AreStored}
 use Rattle.sql_tables.proofs.Keys.{number_last}
 use Rattle.sql_tables.proofs.Selections.{met_some}
-use Rattle.sql_rows.specs.Content.{content_of, rows_in}
+use Rattle.sql_rows.specs.Content.{content_of}
 use Rattle.sql_rows.specs.Plain.{ArePlain}
 use Rattle.sql_rows.specs.Values.{Meta, nat, nat_in, text_in, meta_key, head_key, bucket_key}
 use Rattle.sql_rows.specs.Values.{counter_key, session_key, group_key, hold_key, answer_key}
@@ -46,7 +45,7 @@ use Rattle.sql_rules.proofs.Encoded.{account_back, answer_back, book_back, bucke
 use Rattle.sql_rules.proofs.Encoded.{charge_back, counter_back, covered_back, grant_book_back}
 use Rattle.sql_rules.proofs.Encoded.{group_back, hold_back, session_back, voucher_back}
 use Rattle.sql_rules.proofs.Lookups.{mapped}
-use Rattle.sql_rules.proofs.MappedRows.{IsKeyed, full_rows, keyed, under_key}
+use Rattle.sql_rules.proofs.MappedRows.{full_rows, keyed, under_key}
 use Rattle.sql_rules.proofs.Typed.{check_at, number_column, text_column, typed_column}
 
 -- ---- a row alone
@@ -189,7 +188,8 @@ module _ (shelf : Shelf) (trees : Trees) (fits : Fits book_schema trees) where
 
   pub hold_of : (r : Row) → Stands 6 r
       → key_of (table_at 6).primary r
-      ≡ hold_key (text_in (column r 1)) (text_in (column r 2)) (nat_in (column r 3)) (nat_in (column r 4))
+      ≡ hold_key (text_in (column r 1)) (text_in (column r 2)) (nat_in (column r 3))
+      (nat_in (column r 4))
   hold_of r has =
       let low : 6 < 14 = omega arith in
       let there = full 6 low r has in
@@ -203,7 +203,8 @@ module _ (shelf : Shelf) (trees : Trees) (fits : Fits book_schema trees) where
 
   pub answer_of : (r : Row) → Stands 7 r
       → key_of (table_at 7).primary r
-      ≡ answer_key (text_in (column r 1)) (nat_in (column r 2)) (text_in (column r 3)) (nat_in (column r 4))
+      ≡ answer_key (text_in (column r 1)) (nat_in (column r 2)) (text_in (column r 3))
+      (nat_in (column r 4))
   answer_of r has =
       let low : 7 < 14 = omega arith in
       let there = full 7 low r has in
@@ -344,8 +345,8 @@ module _ (shelf : Shelf) (trees : Trees) (fits : Fits book_schema trees) where
           (told 7 low answer_in r _ has (answer_of r has)))
       row_ruled (suc (suc (suc (suc (suc (suc (suc (suc zero)))))))) low r has =
           voucher_back r
-          (typed_or (column r 3) (λ some. typed_column trees fits vouchers (keyed 8 low) r has refl 2
-          none_named (omega arith) some))
+          (typed_or (column r 3) (λ some. typed_column trees fits vouchers (keyed 8 low) r has refl
+          2 none_named (omega arith) some))
           (in'.vouchers (text_in (column r 1)) (voucher_in (drop 1 r))
           (told 8 low voucher_in r _ has (voucher_of r has)))
       row_ruled (suc (suc (suc (suc (suc (suc (suc (suc (suc zero))))))))) low r has =
@@ -368,8 +369,8 @@ module _ (shelf : Shelf) (trees : Trees) (fits : Fits book_schema trees) where
           covered_back r ((in'.rows (text_in (column r 1))).covered (nat_in (column r 2))
           (covered_in (drop 1 r)) (told 13 low covered_in r _ has (covered_of r has)))
       row_ruled
-          (suc (suc (suc (suc (suc (suc (suc (suc (suc (suc (suc (suc (suc (suc n)))))))))))))) low r
-          has =
+          (suc (suc (suc (suc (suc (suc (suc (suc (suc (suc (suc (suc (suc (suc n)))))))))))))) low
+          r has =
           absurd (omega (arith, low))
 
       pub rows_ruled : AreRuled shelf latest trees

@@ -1,7 +1,6 @@
 -- One more table whose rowids differ.
 use Rattle.std.proofs.Common.{◌≡◌, ℕ, zero, suc, ◌+◌, List, [], ◌∷◌, take, length, sym, ap, subst}
-use Rattle.std.proofs.Common.{◌∙◌}
-use Rattle.std.proofs.Common.{refl, arith, Ok, Err, Result}
+use Rattle.std.proofs.Common.{◌∙◌, refl, arith, Ok, Err, Result}
 use Rattle.std.specs.List.{AllByRecursion}
 use Rattle.sqlite_value.specs.Order.{Row}
 use Rattle.sqlite_trees.specs.declared.store.Store.{Ghosts}
@@ -57,8 +56,8 @@ told_twice g v text k is old was new rows then' shown falls so all =
     let split =
     subst (AllByRecursion (λ (t : Table). IsStored ((state g old).now.trees t.tree))) is.all all in
     let one : IsStored ((state g old).now.trees is.table.tree) =
-    (all_end (λ (t : Table). IsStored ((state g old).now.trees t.tree)) (take k (schema_at v).tables)
-    (is.table ∷ is.rest) split).0 in
+    (all_end (λ (t : Table). IsStored ((state g old).now.trees t.tree))
+    (take k (schema_at v).tables) (is.table ∷ is.rest) split).0 in
     let here : IsStored ((state g was).now.trees is.table.tree) =
     subst (λ (d : Database). IsStored (d.trees is.table.tree)) (sym at) one in
     falls (rows_rise v text is.table is.rowids (state g was) new rows has shown here)

@@ -1,7 +1,7 @@
 -- A list that a selection answers tells what is under a key.
-use Rattle.std.proofs.Common.{◌≡◌, ◌⊎◌, inl, inr, ℕ, List, [], ◌∷◌, map, drop, Bool, true, false}
-use Rattle.std.proofs.Common.{cond, Ordering, Less, Equal, Greater, Some, None, Option, is_eq}
-use Rattle.std.proofs.Common.{IsTrue, refl, sym, ap, subst, ◌∙◌}
+use Rattle.std.proofs.Common.{◌≡◌, inl, inr, ℕ, List, [], ◌∷◌, map, drop, Bool, true, false}
+use Rattle.std.proofs.Common.{Ordering, Less, Equal, Greater, Some, None, Option, is_eq}
+use Rattle.std.proofs.Common.{refl, sym, ap, ◌∙◌}
 use Rattle.std.specs.Prelude.{option_and_then, if◌then◌else◌}
 use Rattle.std.proofs.lemmas.Bool.{cases_Bool}
 use Rattle.std.specs.FinMap.{get-from_entries}

@@ -3,7 +3,6 @@ use Rattle.std.specs.Prelude.{◌≡◌, ◌≤◌, true, IfSome, ⊤}
 use Rattle.std.specs.List.{AllByRecursion}
 use Rattle.units.specs.Words.{greatest_number}
 use Rattle.identifiers.specs.Texts.{is_account_number, is_session_id, is_redirect_address}
-use Rattle.commands.specs.Measured.{Measured}
 use Rattle.commands.specs.Quantities.{is_quantity}
 use Rattle.commands.specs.declared.answer.FinalUnit.{FinalUnit}
 use Rattle.commands.specs.declared.answer.FinalUnit.TheVariants.{Terminate, Redirect}

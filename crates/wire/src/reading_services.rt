@@ -1,9 +1,8 @@
 //! The services of an answer, read.
 
-ghost use Rattle.std.specs.Prelude.{◌≡◌, ◌≤◌};
 ghost use Rattle.serde_json.specs.Find.{get};
 ghost use Rattle.serde_json.specs.View.{view, items_view};
-ghost use Rattle.commands.specs.Names.{name_of, granted_unit};
+ghost use Rattle.commands.specs.Names.{granted_unit};
 ghost use Rattle.json_fields.specs.Gives.{Gives, Says};
 ghost use Rattle.wire.specs.ReadingAnswers.{redirect_at, final_told, final_in, final_at};
 ghost use Rattle.wire.specs.ReadingAnswers.{quantity_in, switch_at, session_grant_in};

@@ -4,7 +4,6 @@ ghost use Rattle.std.specs.Prelude.{◌≡◌, ◌++◌, ◌≤◌, IfSome, OnOk
 ghost use Rattle.std.specs.List.{AllByRecursion};
 ghost use Rattle.identifiers.specs.Texts.{is_redirect_address};
 ghost use Rattle.commands.specs.Quantities.{is_quantity};
-ghost use Rattle.json_fields.specs.Spelling.{whole};
 ghost use Rattle.json_fields.specs.Tokens.{Adds, tokens_of, member_tokens, perhaps_tokens};
 ghost use Rattle.json_fields.specs.Tokens.{item_tokens};
 ghost use Rattle.wire.specs.Spelled.{granted_data, server_data, final_data, final_of};

@@ -18,8 +18,6 @@ use Rattle.commands.specs.declared.avp.Avp.TheVariants as avp
 use Rattle.commands.specs.declared.request.RequestKind.{RequestKind}
 use Rattle.commands.specs.declared.request.RequestKind.TheVariants as kind
 use Rattle.commands.specs.declared.request.EventAction.{EventAction}
-use Rattle.commands.specs.declared.request.EventAction.TheVariants.{DirectDebiting, CheckBalance}
-use Rattle.commands.specs.declared.request.EventAction.TheVariants.{PriceEnquiry}
 use Rattle.commands.specs.declared.service.Service.{Service}
 use Rattle.commands.specs.Names.{name_of, tariff_change_usage}
 use Rattle.commands.specs.Codes.{kind_number, kind_numbered, action_numbered}
@@ -44,7 +42,7 @@ use Rattle.wire_requests.specs.Reading.{event_at, action_at, ask_at, request_in}
 use Rattle.wire_requests.specs.Said.{SaysNumber}
 use Rattle.wire_requests.specs.Told.{values, services_told, money_told, amount_told, is_number}
 use Rattle.wire_requests.specs.Told.{asks_refund, holders, IsTold, TellsOf, FaultsAreTold}
-use Rattle.wire_requests.proofs.Said.{or_found, text_said, number_said, kind_at_said, equal}
+use Rattle.wire_requests.proofs.Said.{or_found, text_said, number_said, kind_at_said}
 use Rattle.wire_requests.proofs.SaidServices.{object_stands}
 
 -- ---- steps

@@ -28,7 +28,7 @@ use Rattle.reserving.specs.Keyed.{put}
 use Rattle.reserving.specs.Balance.{credits, balance_of, bucket_at, buckets_at}
 use Rattle.reserving.specs.Sessions.{is_of, group_in, group_at, counter_at, holds_at, holds_in}
 use Rattle.reserving.specs.Sessions.{held_by, reservation_of, reservation_at}
-use Rattle.reserving.specs.Reservation.{hold_facts, reserved}
+use Rattle.reserving.specs.Reservation.{grant_at, hold_facts, reserved}
 use Rattle.reserving.specs.Changes.{used_in, reserved_in, with_reservation, reserved_account}
 use Rattle.reserving.specs.Prepared.{reservation_in}
 use Rattle.reserving.specs.SoundLedger.{IsUnknown, IsSoundLedger}
@@ -65,11 +65,7 @@ holds_for shelf t group due ledger = holds_of group t due (buckets_at (validity_
 
 abbrev granted : Shelf → ℕ → List ℕ → ℕ → ℕ → Ledger → Ledger
 granted shelf t session group units ledger =
-    record {
-      at = t;
-      fact = Grant session group (terms_at shelf t) units
-          (counter (cycle_at shelf group) group (cycle_at shelf group t) ledger);
-    } ∷ ledger
+    record { at = t; fact = Grant (grant_at shelf t session group units ledger) } ∷ ledger
 
 same_sessions-reserved : (shelf : Shelf) (t : ℕ) (session : List ℕ) (group units : ℕ) (due : Due)
     (ledger : Ledger) → SameSessions ledger (reserved shelf t session group units due ledger)
@@ -78,12 +74,12 @@ same_sessions-reserved shelf t session group units due ledger =
     let before : Ledger = granted shelf t session group units ledger in
     record {
       touch = λ s. newest-front _ (hold_facts t session group hs) before
-          (each_hold _ t session group hs (λ b n. refl));
+          (each_hold _ t session group hs (λ x. refl));
       closed = λ s. any-front _ (hold_facts t session group hs) before
-          (each_hold _ t session group hs (λ b n. refl));
+          (each_hold _ t session group hs (λ x. refl));
       recording =
           λ s. newest-front _ (hold_facts t session group hs) before
-          (each_hold _ t session group hs (λ b n. refl));
+          (each_hold _ t session group hs (λ x. refl));
     }
 
 bucket_at-reserved : (shelf : Shelf) (t : ℕ) (session : List ℕ) (group units : ℕ) (due : Due)
@@ -164,15 +160,15 @@ other_reserved shelf t session group units due ledger s g h =
     let p : Terms = terms_at shelf t in
     record {
       named = any-front (names_group s g) (hold_facts t session group hs) before
-          (each_hold _ t session group hs (λ b n. refl)) ∙ (λ i. h i || has_group s g ledger);
+          (each_hold _ t session group hs (λ x. refl)) ∙ (λ i. h i || has_group s g ledger);
       used = omega (
         arith,
         total-front (λ d. units_in s g d.fact) (hold_facts t session group hs) before
-            (each_hold _ t session group hs (λ b n. refl)),
+            (each_hold _ t session group hs (λ x. refl)),
       );
       grant = ap inner
           (newest-front (grant_in s g) (hold_facts t session group hs) before
-          (each_hold _ t session group hs (λ b n. refl)))
+          (each_hold _ t session group hs (λ x. refl)))
           ∙ (λ i. inner
           (or_else (if h i then Some (Some p) else None) (newest (grant_in s g) ledger)));
       held = λ n. omega (arith, held-hold_facts_other (only s g) n t session group hs before h);
@@ -239,17 +235,17 @@ own_reserved shelf t session group units due ledger live distinct free =
     let G : Row → ℕ = share (eligible_amount group t) rows due in
     let named : has_group session group after ≡ true =
     any-front (names_group session group) (hold_facts t session group hs) before
-    (each_hold _ t session group hs (λ b n. refl))
+    (each_hold _ t session group hs (λ x. refl))
     ∙ (λ i. own i || has_group session group ledger) in
     let so_far : used session group after ≡ used session group ledger =
     omega (
       arith,
       total-front (λ d. units_in session group d.fact) (hold_facts t session group hs) before
-          (each_hold _ t session group hs (λ b n. refl)),
+          (each_hold _ t session group hs (λ x. refl)),
     ) in
     let grant : open_grant session group after ≡ Some p =
     ap inner (newest-front (grant_in session group) (hold_facts t session group hs) before
-    (each_hold _ t session group hs (λ b n. refl)))
+    (each_hold _ t session group hs (λ x. refl)))
     ∙ (λ i. inner
     (or_else (if own i then Some (Some p) else None) (newest (grant_in session group) ledger)))
     in
@@ -355,11 +351,11 @@ counter_reserved shelf cycle_of t session group units due ledger g c =
       if_none (cycle_of t == c),
       total-front (λ d. if cycle_of d.at == c then blocks_in g d.fact else 0)
           (hold_facts t session group hs) before
-          (each_hold _ t session group hs (λ b n. if_none (cycle_of t == c))),
+          (each_hold _ t session group hs (λ x. if_none (cycle_of t == c))),
     ) in
     let named : has_counter cycle_of g c after ≡ has_counter cycle_of g c ledger =
     any_dated-front (counts_group cycle_of g c) (hold_facts t session group hs) before
-    (each_hold _ t session group hs (λ b n. refl)) in
+    (each_hold _ t session group hs (λ x. refl)) in
     let same :
     (let r : Counter = record { group = g; cycle = c; blocks = counter cycle_of g c ledger } in
     r) ≡ (let r : Counter =
@@ -444,7 +440,7 @@ IsSoundLedger-reserved shelf t session group units due ledger below has sound =
     omega (
       arith,
       total-front (λ d. credits_in d.fact) (hold_facts t session group hs) before
-          (each_hold _ t session group hs (λ b n. refl)),
+          (each_hold _ t session group hs (λ x. refl)),
     ) in
     record {
       touched = same_touched ledger after same sound.touched;
@@ -490,7 +486,7 @@ IsRowsOf-reserved ledger a session group units due account rows live none =
     record {
       barred = rows.barred
           ∙ sym (is_barred-front (hold_facts t session group hs) before
-          (each_hold _ t session group hs (λ b n. refl)));
+          (each_hold _ t session group hs (λ x. refl)));
       buckets =
           ap (held_rows group t due) rows.buckets
           ∙ sym (buckets_at-reserved shelf t session group units due ledger live sound.distinct);
@@ -507,14 +503,14 @@ IsRowsOf-reserved ledger a session group units due account rows live none =
           ∙ omega (
             arith,
             total-front (λ d. credits_in d.fact) (hold_facts t session group hs) before
-                (each_hold _ t session group hs (λ b n. refl)),
+                (each_hold _ t session group hs (λ x. refl)),
           );
       next_charge =
           rows.next_charge
           ∙ omega (
             arith,
             total-front (λ d. uses_in d.fact) (hold_facts t session group hs) before
-                (each_hold _ t session group hs (λ b n. refl)),
+                (each_hold _ t session group hs (λ x. refl)),
           );
       sound = IsSoundLedger-reserved shelf t session group units due ledger
           (made_in ledger a account rows)

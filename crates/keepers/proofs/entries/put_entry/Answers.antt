@@ -70,8 +70,8 @@ returns-clause-done c = record {
       (over c.args.rows) a c.in_ok-entry.ensures.rows;
   answers = λ a k. ap (λ xs. answer_of_entry k (entry_in a xs)) (added c)
       ∙ seen_added c.args.number c.args.entries.now.items _
-      (none_there c) c.in_ok-entry.ensures.number (answer_of_entry k) (kept_after c.args.kept.now k) a
-      (c.in_ok-entry.ensures.answers k);
+      (none_there c) c.in_ok-entry.ensures.number (answer_of_entry k) (kept_after c.args.kept.now k)
+      a (c.in_ok-entry.ensures.answers k);
   charges = λ a. ap (λ xs. charges_of_entry (entry_in a xs)) (added c)
       ∙ seen_added c.args.number c.args.entries.now.items _
       (none_there c) c.in_ok-entry.ensures.number charges_of_entry

@@ -126,7 +126,8 @@ returns g c =
           ended-stands (g.K.Keeper.clean c.run_opened-answers.new.keeper) fault written result is
           (c.run_opened-answers.ensures.stands honest clean);
       asked = λ f k honest clean.
-          ended-asked fault written result f is k (c.run_opened-answers.ensures.stands honest clean);
+          ended-asked fault written result f is k
+          (c.run_opened-answers.ensures.stands honest clean);
       left = λ clean honest t left. inr (held-stream b old t opening c.in-Ok.input
           c.in-Ok-open_first.opening.items r c.in-Ok.ensures opened
           (c.run_opened-answers.ensures.held honest clean t left));

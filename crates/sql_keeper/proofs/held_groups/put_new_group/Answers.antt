@@ -26,5 +26,5 @@ pub returns-in_err-put_new_number-clause-makes : goal.returns-in_err-put_new_num
 returns-in_err-put_new_number-clause-makes g c =
     let p = err_from_is_err_and c.from_residual-in_err-put_new_number.result
     c.from_residual-in_err-put_new_number.ensures.1 in
-    rw p.1 (makes_failed _ _ _ _ _ _ c.in_ok-put_columns.field-0 _ _ c.in_ok-put_columns.ensures.makes
-    c.in_err-put_new_number.ensures.makes)
+    rw p.1 (makes_failed _ _ _ _ _ _ c.in_ok-put_columns.field-0 _ _
+    c.in_ok-put_columns.ensures.makes c.in_err-put_new_number.ensures.makes)

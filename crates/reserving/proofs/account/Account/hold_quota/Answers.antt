@@ -46,6 +46,7 @@ invariant_of-self c =
           (subst (λ (x : AccountRows). is_live_in (validity_of x.shelf) x.as_of x.sessions
           c.args.session.now ≡ true) (sym c.self.view_is) c.requires.live)
           (c.self.invariant.calm e));
+      quiet = tt;
     }
 
 pub returns : goal.returns

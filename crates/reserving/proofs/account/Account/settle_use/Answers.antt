@@ -47,6 +47,7 @@ invariant_of-self c =
           (calm_settled now c.args.session.now c.args.group c.args.rated.units.0
           c.args.rated.blocks.0 (due c.args.rated.amount.0 c.args.rated.covered.0)
           (subst IsCalm c.self.view_is (c.self.invariant.calm e)));
+      quiet = tt;
     }
 
 pub returns-clause-uncollected : goal.returns-clause-uncollected
