@@ -13,10 +13,10 @@ use Rattle.std.proofs.Common.{◌||◌, refl, sym, ap, eqb-true, arith}
 use Rattle.std.specs.List.{list_any, IsDistinct, AllByRecursion}
 use Rattle.std.proofs.Math.Dec.{eqb}
 use Rattle.std.proofs.lemmas.Map.Steps.{length-le_from_distinct_below}
-use Rattle.buckets.specs.Row.{Row, IsBalanced}
+use Rattle.buckets.specs.Row.{BucketRow, IsBalanced}
 use Rattle.buckets.specs.Spend.{Each, AreDistinct, DiffersFromAll, IsSound}
 
-abbrev numbers : List Row → List ℕ
+abbrev numbers : List BucketRow → List ℕ
 numbers rows = map (λ b. b.number) rows
 
 not_equal : (n m : ℕ) → m ≢ n → eqb n m ≡ false
@@ -26,17 +26,17 @@ not_equal n m other = at (eqb n m) refl
     at true e = absurd (other (sym (eqb-true n m e)))
     at false e = refl
 
-apart : (n : ℕ) (rows : List Row) → DiffersFromAll n rows →
+apart : (n : ℕ) (rows : List BucketRow) → DiffersFromAll n rows →
     AllByRecursion (λ y. eqb n y ≡ false) (numbers rows)
 apart n [] h = tt
 apart n (b ∷ bs) h = (not_equal n b.number h.0, apart n bs h.1)
 
-distinct : (rows : List Row) → AreDistinct rows → IsDistinct eqb (numbers rows)
+distinct : (rows : List BucketRow) → AreDistinct rows → IsDistinct eqb (numbers rows)
 unfolding IsDistinct
 distinct [] h = tt
 distinct (b ∷ bs) h = (apart b.number bs h.0, distinct bs h.1)
 
-below : (rows : List Row) → Each IsBalanced rows → (q : ℕ) →
+below : (rows : List BucketRow) → Each IsBalanced rows → (q : ℕ) →
     list_any (eqb q) (numbers rows) ≡ true → q < 4_294_967_296
 below [] h q e = absurd (let no_number : false ≡ true = e in cc)
 below (b ∷ bs) h q e = at (eqb q b.number) refl e (below bs h.1 q)
@@ -48,17 +48,17 @@ below (b ∷ bs) h q e = at (eqb q b.number) refl e (below bs h.1 q)
         let less : b.number < 4_294_967_296 = h.0.number in omega (arith, is, less)
     at false other k rest = rest k
 
-counted : (rows : List Row) → length (numbers rows) ≡ length rows
+counted : (rows : List BucketRow) → length (numbers rows) ≡ length rows
 counted [] = refl
 counted (b ∷ bs) = ap (λ n. suc n) (counted bs)
 
-pub few : (rows : List Row) → IsSound rows → length rows ≤ 4_294_967_296
+pub few : (rows : List BucketRow) → IsSound rows → length rows ≤ 4_294_967_296
 few rows h =
     let most = length-le_from_distinct_below (numbers rows) 4_294_967_296
     (distinct rows h.distinct) (below rows h.balanced) in
     omega (arith, most, counted rows)
 
-eligible_most : (kind : BucketKind) (group at : ℕ) (b : Row) → IsBalanced b →
+eligible_most : (kind : BucketKind) (group at : ℕ) (b : BucketRow) → IsBalanced b →
     (if is_alike b.kind kind then eligible_amount group at b else 0) ≤ most_of kind
 eligible_most kind group at b h = by_kind b.kind kind refl
   where
@@ -75,7 +75,7 @@ eligible_most kind group at b h = by_kind b.kind kind refl
     by_kind Blocks Blocks e = subst (λ j. eligible_amount group at b ≤ most_of j) e
         (within (is_eligible group at b))
 
-each_most : (kind : BucketKind) (group at : ℕ) (rows : List Row) → Each IsBalanced rows →
+each_most : (kind : BucketKind) (group at : ℕ) (rows : List BucketRow) → Each IsBalanced rows →
     sum_in kind (eligible_amount group at) rows ≤ length rows * most_of kind
 each_most kind group at [] h = omega arith
 each_most kind group at (b ∷ bs) h =
@@ -86,7 +86,7 @@ each_most kind group at (b ∷ bs) h =
     omega (arith, sum_in-cons kind (eligible_amount group at) b bs, here, rest, more)
 
 -- what the eligible buckets of a kind have together
-pub sum_in-most : (kind : BucketKind) (group at : ℕ) (rows : List Row) → IsSound rows →
+pub sum_in-most : (kind : BucketKind) (group at : ℕ) (rows : List BucketRow) → IsSound rows →
     sum_in kind (eligible_amount group at) rows ≤ 4_294_967_296 * most_of kind
 sum_in-most kind group at rows h = by_kind kind
   where

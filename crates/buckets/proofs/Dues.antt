@@ -8,7 +8,7 @@ use Rattle.buckets.specs.declared.kind.BucketKind.{BucketKind}
 use Rattle.buckets.specs.declared.kind.BucketKind.TheVariants.{Money, Blocks}
 use Rattle.buckets.specs.declared.kind.Due.{Due}
 use Rattle.buckets.specs.Kinds.{is_alike, due_in, less}
-use Rattle.buckets.specs.Row.{Row}
+use Rattle.buckets.specs.Row.{BucketRow}
 use Rattle.buckets.specs.Share.{sum_in, left_over}
 
 -- what is left in one unit once something is taken of another or of the same
@@ -32,21 +32,21 @@ due_is : (d e : Due) → d.money ≡ e.money → d.blocks ≡ e.blocks → d ≡
 due_is d e m b = λ i. record { money = m i; blocks = b i }
 
 -- the sum of one kind, bucket by bucket
-pub sum_in-cons : (k : BucketKind) (f : Row → ℕ) (b : Row) (bs : List Row) →
+pub sum_in-cons : (k : BucketKind) (f : BucketRow → ℕ) (b : BucketRow) (bs : List BucketRow) →
     sum_in k f (b ∷ bs) ≡ (if is_alike b.kind k then f b else 0) + sum_in k f bs
 sum_in-cons k f b bs = sum_by-cons (λ x. if is_alike x.kind k then f x else 0) b bs
 
 -- what is left over in one unit
-pub due_left : (f : Row → ℕ) (rows : List Row) (d : Due) (k : BucketKind) →
+pub due_left : (f : BucketRow → ℕ) (rows : List BucketRow) (d : Due) (k : BucketKind) →
     due_in k (left_over f rows d) ≡ due_in k d - sum_in k f rows
 due_left f rows d Money = refl
 due_left f rows d Blocks = refl
 
-pub left_over_none : (f : Row → ℕ) (d : Due) → left_over f [] d ≡ d
+pub left_over_none : (f : BucketRow → ℕ) (d : Due) → left_over f [] d ≡ d
 left_over_none f d =
     due_is (left_over f [] d) d (omega arith) (omega arith)
 
-pub left_over_more : (f : Row → ℕ) (b : Row) (bs : List Row) (d : Due) →
+pub left_over_more : (f : BucketRow → ℕ) (b : BucketRow) (bs : List BucketRow) (d : Due) →
     left_over f (b ∷ bs) d ≡ left_over f bs (less b.kind (f b) d)
 left_over_more f b bs d =
     due_is (left_over f (b ∷ bs) d) (left_over f bs (less b.kind (f b) d))
@@ -54,7 +54,8 @@ left_over_more f b bs d =
     (omega (arith, sum_in-cons Blocks f b bs, due_less b.kind Blocks (f b) d))
 
 -- what a walk has taken from what is due when it stands behind a bucket
-pub left_after : (f : Row → ℕ) (left after whole : Due) (rows : List Row) (i : ℕ) (d new : Row) →
+pub left_after : (f : BucketRow → ℕ) (left after whole : Due) (rows : List BucketRow) (i : ℕ)
+    (d new : BucketRow) →
     i < length rows → after ≡ less (get_or rows i d).kind (f (get_or rows i d)) left →
     left_over f (drop i rows) left ≡ whole →
     left_over f (drop (i + 1) (set rows i new)) after ≡ whole

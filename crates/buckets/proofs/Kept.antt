@@ -3,9 +3,10 @@ use Rattle.std.proofs.Common.{◌≢◌, ℕ, ◌+◌, ◌-◌, ◌<◌, ◌≤�
 use Rattle.std.proofs.Common.{sym, ◌∙◌, arith}
 use Rattle.std.specs.Prelude.{if◌then◌else◌, nat_lt, min}
 use Rattle.buckets.specs.declared.kind.Due.{Due}
-use Rattle.buckets.specs.declared.holds.Hold.{Hold}
+use Rattle.buckets.specs.declared.holds.HeldAmount.{HeldAmount}
 use Rattle.buckets.specs.Kinds.{due_in, less}
-use Rattle.buckets.specs.Row.{Row, IsBalanced, eligible_amount, is_eligible, with_hold, with_charge}
+use Rattle.buckets.specs.Row.{BucketRow, IsBalanced, eligible_amount, is_eligible, with_hold}
+use Rattle.buckets.specs.Row.{with_charge}
 use Rattle.buckets.specs.Row.{with_charge_of_hold, with_release, with_end}
 use Rattle.buckets.specs.Share.{along}
 use Rattle.buckets.specs.Spend.{Each, DiffersFromAll, AreDistinct, IsSound, IsBelow, inserted}
@@ -16,7 +17,8 @@ use Rattle.buckets.proofs.SharesAlong.{with_charge_of_hold_keeps, with_end_keeps
 
 -- ---- numbers
 
-DiffersFromAll-along : (does : Row → ℕ → Row) (f : Row → ℕ) (n : ℕ) (left : Due) (rows : List Row) →
+DiffersFromAll-along : (does : BucketRow → ℕ → BucketRow) (f : BucketRow → ℕ) (n : ℕ) (left : Due)
+    (rows : List BucketRow) →
     KeepsPlaces does → DiffersFromAll n rows → DiffersFromAll n (along does f left rows)
 DiffersFromAll-along does f n left [] k h = tt
 DiffersFromAll-along does f n left (b ∷ bs) k h = (
@@ -24,7 +26,8 @@ DiffersFromAll-along does f n left (b ∷ bs) k h = (
   DiffersFromAll-along does f n (less b.kind (f b) left) bs k h.1,
 )
 
-pub AreDistinct-along : (does : Row → ℕ → Row) (f : Row → ℕ) (left : Due) (rows : List Row) →
+pub AreDistinct-along : (does : BucketRow → ℕ → BucketRow) (f : BucketRow → ℕ) (left : Due)
+    (rows : List BucketRow) →
     KeepsPlaces does → AreDistinct rows → AreDistinct (along does f left rows)
 AreDistinct-along does f left [] k h = tt
 AreDistinct-along does f left (b ∷ bs) k h = (
@@ -33,24 +36,26 @@ AreDistinct-along does f left (b ∷ bs) k h = (
   AreDistinct-along does f (less b.kind (f b) left) bs k h.1,
 )
 
-DiffersFromAll-map : (does : Row → Row) (n : ℕ) (rows : List Row) → KeepsPlace does →
+DiffersFromAll-map : (does : BucketRow → BucketRow) (n : ℕ) (rows : List BucketRow) →
+    KeepsPlace does →
     DiffersFromAll n rows → DiffersFromAll n (map does rows)
 DiffersFromAll-map does n [] k h = tt
 DiffersFromAll-map does n (b ∷ bs) k h =
     (λ e. h.0 (sym (k.number b) ∙ e), DiffersFromAll-map does n bs k h.1)
 
-pub AreDistinct-map : (does : Row → Row) (rows : List Row) → KeepsPlace does → AreDistinct rows →
+pub AreDistinct-map : (does : BucketRow → BucketRow) (rows : List BucketRow) → KeepsPlace does →
+    AreDistinct rows →
     AreDistinct (map does rows)
 AreDistinct-map does [] k h = tt
 AreDistinct-map does (b ∷ bs) k h =
     (rw (k.number b) (DiffersFromAll-map does b.number bs k h.0), AreDistinct-map does bs k h.1)
 
-DiffersFromAll-below : (n : ℕ) (rows : List Row) → IsBelow n rows → DiffersFromAll n rows
+DiffersFromAll-below : (n : ℕ) (rows : List BucketRow) → IsBelow n rows → DiffersFromAll n rows
 DiffersFromAll-below n [] h = tt
 DiffersFromAll-below n (b ∷ bs) h =
     (λ e. let less : b.number < n = h.0 in omega arith, DiffersFromAll-below n bs h.1)
 
-DiffersFromAll-inserted : (n : ℕ) (b : Row) (rows : List Row) → b.number ≢ n →
+DiffersFromAll-inserted : (n : ℕ) (b : BucketRow) (rows : List BucketRow) → b.number ≢ n →
     DiffersFromAll n rows → DiffersFromAll n (inserted b rows)
 DiffersFromAll-inserted n b [] e h = (e, tt)
 DiffersFromAll-inserted n b (x ∷ xs) e h =
@@ -58,7 +63,8 @@ DiffersFromAll-inserted n b (x ∷ xs) e h =
     (λ t. DiffersFromAll n (if t then b ∷ x ∷ xs else x ∷ inserted b xs))
     [ true ↦ (e, h) | false ↦ (h.0, DiffersFromAll-inserted n b xs e h.1) ]
 
-pub AreDistinct-inserted : (b : Row) (rows : List Row) → IsBelow b.number rows → AreDistinct rows →
+pub AreDistinct-inserted : (b : BucketRow) (rows : List BucketRow) → IsBelow b.number rows →
+    AreDistinct rows →
     AreDistinct (inserted b rows)
 AreDistinct-inserted b [] new h = (tt, tt)
 AreDistinct-inserted b (x ∷ xs) new h =
@@ -74,27 +80,30 @@ AreDistinct-inserted b (x ∷ xs) new h =
 
 -- ---- the four columns
 
-pub Each-inserted : (P : Row → Type 0) (b : Row) (rows : List Row) → P b → Each P rows →
+pub Each-inserted : (P : BucketRow → Type 0) (b : BucketRow) (rows : List BucketRow) → P b →
+    Each P rows →
     Each P (inserted b rows)
 Each-inserted P b [] p h = (p, tt)
 Each-inserted P b (x ∷ xs) p h =
     elim (nat_lt b.until x.until) as (λ t. Each P (if t then b ∷ x ∷ xs else x ∷ inserted b xs))
     [ true ↦ (p, h) | false ↦ (h.0, Each-inserted P b xs p h.1) ]
 
-balanced_hold : (b : Row) (n : ℕ) → n ≤ b.available → IsBalanced b → IsBalanced (with_hold b n)
+balanced_hold : (b : BucketRow) (n : ℕ) → n ≤ b.available → IsBalanced b →
+    IsBalanced (with_hold b n)
 balanced_hold b n le h = record
     { sum = omega arith; most = h.most; scope = h.scope; number = h.number }
 
-balanced_charge : (b : Row) (n : ℕ) → n ≤ b.available → IsBalanced b → IsBalanced (with_charge b n)
+balanced_charge : (b : BucketRow) (n : ℕ) → n ≤ b.available → IsBalanced b →
+    IsBalanced (with_charge b n)
 balanced_charge b n le h = record
     { sum = omega arith; most = h.most; scope = h.scope; number = h.number }
 
-balanced_charge_of_hold : (b : Row) (n : ℕ) → n ≤ b.reserved → IsBalanced b →
+balanced_charge_of_hold : (b : BucketRow) (n : ℕ) → n ≤ b.reserved → IsBalanced b →
     IsBalanced (with_charge_of_hold b n)
 balanced_charge_of_hold b n le h = record
     { sum = omega arith; most = h.most; scope = h.scope; number = h.number }
 
-pub balanced_release : (t : ℕ) (b : Row) (n : ℕ) → n ≤ b.reserved → IsBalanced b →
+pub balanced_release : (t : ℕ) (b : BucketRow) (n : ℕ) → n ≤ b.reserved → IsBalanced b →
     IsBalanced (with_release t b n)
 balanced_release t b n le h =
     elim (nat_lt t b.until) as
@@ -104,7 +113,7 @@ balanced_release t b n le h =
       | false ↦ record { sum = omega arith; most = h.most; scope = h.scope; number = h.number }
     ]
 
-pub balanced_end : (t : ℕ) (b : Row) → IsBalanced b → IsBalanced (with_end t b)
+pub balanced_end : (t : ℕ) (b : BucketRow) → IsBalanced b → IsBalanced (with_end t b)
 balanced_end t b h =
     elim (nat_lt t b.until) as
     (λ e. IsBalanced
@@ -122,7 +131,7 @@ pub eligible_within : (e : Bool) (a m : ℕ) → min (if e then a else 0) m ≤ 
 eligible_within true a m = omega arith
 eligible_within false a m = omega arith
 
-balanced_along-hold : (group t : ℕ) (left : Due) (rows : List Row) → Each IsBalanced rows →
+balanced_along-hold : (group t : ℕ) (left : Due) (rows : List BucketRow) → Each IsBalanced rows →
     Each IsBalanced (along with_hold (eligible_amount group t) left rows)
 balanced_along-hold group t left [] h = tt
 balanced_along-hold group t left (b ∷ bs) h = (
@@ -130,7 +139,7 @@ balanced_along-hold group t left (b ∷ bs) h = (
   balanced_along-hold group t (less b.kind (eligible_amount group t b) left) bs h.1,
 )
 
-balanced_along-charge : (group t : ℕ) (left : Due) (rows : List Row) → Each IsBalanced rows →
+balanced_along-charge : (group t : ℕ) (left : Due) (rows : List BucketRow) → Each IsBalanced rows →
     Each IsBalanced (along with_charge (eligible_amount group t) left rows)
 balanced_along-charge group t left [] h = tt
 balanced_along-charge group t left (b ∷ bs) h = (
@@ -139,7 +148,7 @@ balanced_along-charge group t left (b ∷ bs) h = (
   balanced_along-charge group t (less b.kind (eligible_amount group t b) left) bs h.1,
 )
 
-balanced_along-charge_of_hold : (holds : List Hold) (left : Due) (rows : List Row) →
+balanced_along-charge_of_hold : (holds : List HeldAmount) (left : Due) (rows : List BucketRow) →
     IsWithin holds rows → Each IsBalanced rows →
     Each IsBalanced (along with_charge_of_hold (held_in holds) left rows)
 balanced_along-charge_of_hold holds left [] w h = tt
@@ -149,20 +158,21 @@ balanced_along-charge_of_hold holds left (b ∷ bs) w h =
       balanced_along-charge_of_hold holds (less b.kind (held_in holds b) left) bs w.1 h.1,
     )
 
-balanced_released : (holds : List Hold) (t : ℕ) (rows : List Row) → IsWithin holds rows →
+balanced_released : (holds : List HeldAmount) (t : ℕ) (rows : List BucketRow) →
+    IsWithin holds rows →
     Each IsBalanced rows → Each IsBalanced (map (λ b. with_release t b (held_in holds b)) rows)
 balanced_released holds t [] w h = tt
 balanced_released holds t (b ∷ bs) w h =
     (balanced_release t b (held_in holds b) w.0 h.0, balanced_released holds t bs w.1 h.1)
 
-balanced_ended : (t : ℕ) (rows : List Row) → Each IsBalanced rows →
+balanced_ended : (t : ℕ) (rows : List BucketRow) → Each IsBalanced rows →
     Each IsBalanced (map (with_end t) rows)
 balanced_ended t [] h = tt
 balanced_ended t (b ∷ bs) h = (balanced_end t b h.0, balanced_ended t bs h.1)
 
 -- ---- all of it
 
-pub IsSound-hold : (group t : ℕ) (left : Due) (rows : List Row) → IsSound rows →
+pub IsSound-hold : (group t : ℕ) (left : Due) (rows : List BucketRow) → IsSound rows →
     IsSound (along with_hold (eligible_amount group t) left rows)
 IsSound-hold group t left rows h = record {
   order = IsInOrder-along with_hold (eligible_amount group t) rows left with_hold_keeps h.order;
@@ -171,7 +181,7 @@ IsSound-hold group t left rows h = record {
   balanced = balanced_along-hold group t left rows h.balanced;
 }
 
-pub IsSound-charge : (group t : ℕ) (left : Due) (rows : List Row) → IsSound rows →
+pub IsSound-charge : (group t : ℕ) (left : Due) (rows : List BucketRow) → IsSound rows →
     IsSound (along with_charge (eligible_amount group t) left rows)
 IsSound-charge group t left rows h = record {
   order = IsInOrder-along with_charge (eligible_amount group t) rows left with_charge_keeps h.order;
@@ -181,7 +191,7 @@ IsSound-charge group t left rows h = record {
   balanced = balanced_along-charge group t left rows h.balanced;
 }
 
-pub IsSound-charge_of_hold : (holds : List Hold) (left : Due) (rows : List Row) →
+pub IsSound-charge_of_hold : (holds : List HeldAmount) (left : Due) (rows : List BucketRow) →
     IsWithin holds rows → IsSound rows →
     IsSound (along with_charge_of_hold (held_in holds) left rows)
 IsSound-charge_of_hold holds left rows w h = record {
@@ -193,7 +203,8 @@ IsSound-charge_of_hold holds left rows w h = record {
   balanced = balanced_along-charge_of_hold holds left rows w h.balanced;
 }
 
-pub IsSound-release : (holds : List Hold) (t : ℕ) (rows : List Row) → IsWithin holds rows →
+pub IsSound-release : (holds : List HeldAmount) (t : ℕ) (rows : List BucketRow) →
+    IsWithin holds rows →
     IsSound rows → IsSound (map (λ b. with_release t b (held_in holds b)) rows)
 IsSound-release holds t rows w h = record {
   order = IsInOrder-map (λ b. with_release t b (held_in holds b)) rows (released_keeps holds t)
@@ -204,14 +215,15 @@ IsSound-release holds t rows w h = record {
   balanced = balanced_released holds t rows w h.balanced;
 }
 
-pub IsSound-end : (t : ℕ) (rows : List Row) → IsSound rows → IsSound (map (with_end t) rows)
+pub IsSound-end : (t : ℕ) (rows : List BucketRow) → IsSound rows → IsSound (map (with_end t) rows)
 IsSound-end t rows h = record {
   order = IsInOrder-map (with_end t) rows (with_end_keeps t) h.order;
   distinct = AreDistinct-map (with_end t) rows (with_end_keeps t) h.distinct;
   balanced = balanced_ended t rows h.balanced;
 }
 
-pub IsSound-inserted : (b : Row) (rows : List Row) → IsBelow b.number rows → IsBalanced b →
+pub IsSound-inserted : (b : BucketRow) (rows : List BucketRow) → IsBelow b.number rows →
+    IsBalanced b →
     IsSound rows → IsSound (inserted b rows)
 IsSound-inserted b rows new p h = record {
   order = IsInOrder-inserted b rows new h.order;

@@ -6,8 +6,8 @@ use Rattle.std.proofs.lemmas.Bool.{eqb-true}
 use Rattle.std.proofs.lemmas.List.{drop_more, drop-set-lt}
 use Rattle.std.proofs.lemmas.List.Sums.{sum_by-cons}
 use Rattle.buckets.specs.declared.kind.Due.{Due}
-use Rattle.buckets.specs.declared.holds.Hold.{Hold}
-use Rattle.buckets.specs.Row.{Row}
+use Rattle.buckets.specs.declared.holds.HeldAmount.{HeldAmount}
+use Rattle.buckets.specs.Row.{BucketRow}
 use Rattle.buckets.specs.Spend.{Each, DiffersFromAll, AreDistinct}
 use Rattle.buckets.specs.Kinds.{less}
 use Rattle.buckets.specs.Holding.{held_in, IsWithin, IsLeftWithin}
@@ -15,17 +15,19 @@ use Rattle.buckets.specs.Merged.{first_held, next_of, unmet, AreMet}
 
 -- where a walk stands: at a place of the holds and at one of the rows, from which on they are met
 -- where the holds stand in order
-pub record IsWalk (holds : List Hold) (place : ℕ) (in_order : Bool) (rows : List Row) (i : ℕ) :
+pub record IsWalk (holds : List HeldAmount) (place : ℕ) (in_order : Bool) (rows : List BucketRow)
+    (i : ℕ) :
     Type 0 where
   pub within : place ≤ length holds
   pub met : in_order ≡ true → AreMet holds (drop place holds) (drop i rows)
 
-held_more : (h : Hold) (hs : List Hold) (b : Row) →
+held_more : (h : HeldAmount) (hs : List HeldAmount) (b : BucketRow) →
     held_in (h ∷ hs) b ≡ (if h.bucket == b.number then h.amount else 0) + held_in hs b
 held_more h hs b = sum_by-cons (λ x. if x.bucket == b.number then x.amount else 0) h hs
 
 -- a hold of one bucket isn't of another
-other_bucket : (h : Hold) (x b : Row) → (h.bucket == x.number) ≡ true → x.number ≢ b.number →
+other_bucket : (h : HeldAmount) (x b : BucketRow) → (h.bucket == x.number) ≡ true →
+    x.number ≢ b.number →
     (h.bucket == b.number) ≡ false
 other_bucket h x b is other = at (h.bucket == b.number) refl
   where
@@ -36,13 +38,14 @@ other_bucket h x b is other = at (h.bucket == b.number) refl
         sym (eqb-true h.bucket x.number is) ∙ eqb-true h.bucket b.number e in
         absurd (other same)
 
-held_behind : (h : Hold) (hs : List Hold) (b : Row) → (h.bucket == b.number) ≡ false →
+held_behind : (h : HeldAmount) (hs : List HeldAmount) (b : BucketRow) →
+    (h.bucket == b.number) ≡ false →
     held_in (h ∷ hs) b ≡ held_in hs b
 held_behind h hs b e =
     held_more h hs b ∙ ap (λ t. (if t then h.amount else 0) + held_in hs b) e ∙ omega arith
 
 -- all that is met is met elsewhere
-held_nowhere : (hs : List Hold) (rows : List Row) (b : Row) → unmet hs rows ≡ [] →
+held_nowhere : (hs : List HeldAmount) (rows : List BucketRow) (b : BucketRow) → unmet hs rows ≡ [] →
     DiffersFromAll b.number rows → held_in hs b ≡ 0
 held_nowhere hs [] b met away = ap (λ ys. held_in ys b) met
 held_nowhere [] (x ∷ xs) b met away = refl
@@ -50,19 +53,20 @@ held_nowhere (h ∷ hs) (x ∷ xs) b met away =
     at (h.bucket == x.number) refl met (λ ys m. held_nowhere ys xs b m away.1)
   where
     at : (t : Bool) → (h.bucket == x.number) ≡ t → unmet (if t then hs else h ∷ hs) xs ≡ [] →
-        ((ys : List Hold) → unmet ys xs ≡ [] → held_in ys b ≡ 0) → held_in (h ∷ hs) b ≡ 0
+        ((ys : List HeldAmount) → unmet ys xs ≡ [] → held_in ys b ≡ 0) → held_in (h ∷ hs) b ≡ 0
     at true e m rest = held_behind h hs b (other_bucket h x b e away.0) ∙ rest hs m
     at false e m rest = rest (h ∷ hs) m
 
 -- the first hold has all that is held of the first bucket
-first_is : (rest : List Hold) (b : Row) (bs : List Row) → unmet rest (b ∷ bs) ≡ [] →
+first_is : (rest : List HeldAmount) (b : BucketRow) (bs : List BucketRow) →
+    unmet rest (b ∷ bs) ≡ [] →
     DiffersFromAll b.number bs → held_in rest b ≡ first_held b rest
 first_is [] b bs met away = refl
 first_is (h ∷ hs) b bs met away =
     at (h.bucket == b.number) refl met (λ ys m. held_nowhere ys bs b m away)
   where
     at : (t : Bool) → (h.bucket == b.number) ≡ t → unmet (if t then hs else h ∷ hs) bs ≡ [] →
-        ((ys : List Hold) → unmet ys bs ≡ [] → held_in ys b ≡ 0) →
+        ((ys : List HeldAmount) → unmet ys bs ≡ [] → held_in ys b ≡ 0) →
         held_in (h ∷ hs) b ≡ (if t then h.amount else 0)
     at true e m none =
         held_more h hs b
@@ -71,7 +75,7 @@ first_is (h ∷ hs) b bs met away =
     at false e m none = none (h ∷ hs) m
 
 -- those behind it have all that is held of the others
-next_is : (rest : List Hold) (b x : Row) → x.number ≢ b.number →
+next_is : (rest : List HeldAmount) (b x : BucketRow) → x.number ≢ b.number →
     held_in rest x ≡ held_in (next_of b rest) x
 next_is [] b x other = refl
 next_is (h ∷ hs) b x other = at (h.bucket == b.number) refl
@@ -81,21 +85,23 @@ next_is (h ∷ hs) b x other = at (h.bucket == b.number) refl
     at true e = held_behind h hs x (other_bucket h b x e (λ n. other (sym n)))
     at false e = refl
 
-next_same : (holds rest : List Hold) (b : Row) (bs : List Row) → DiffersFromAll b.number bs →
+next_same : (holds rest : List HeldAmount) (b : BucketRow) (bs : List BucketRow) →
+    DiffersFromAll b.number bs →
     Each (λ x. held_in holds x ≡ held_in rest x) bs →
     Each (λ x. held_in holds x ≡ held_in (next_of b rest) x) bs
 next_same holds rest b [] away h = tt
 next_same holds rest b (x ∷ xs) away h =
     (h.0 ∙ next_is rest b x away.0, next_same holds rest b xs away.1 h.1)
 
-each_same : (holds : List Hold) (rows : List Row) →
+each_same : (holds : List HeldAmount) (rows : List BucketRow) →
     Each (λ b. held_in holds b ≡ held_in holds b) rows
 each_same holds [] = tt
 each_same holds (b ∷ bs) = (refl, each_same holds bs)
 
 -- ---- at the beginning of a walk, and at each bucket
 
-pub walk_first : (holds : List Hold) (in_order : Bool) (rows : List Row) → AreDistinct rows →
+pub walk_first : (holds : List HeldAmount) (in_order : Bool) (rows : List BucketRow) →
+    AreDistinct rows →
     (in_order ≡ true → unmet holds rows ≡ []) → IsWalk holds 0 in_order rows 0
 walk_first holds in_order rows distinct met = record {
   within = omega arith;
@@ -103,11 +109,13 @@ walk_first holds in_order rows distinct met = record {
       record { met = met order; same = each_same holds rows; distinct = distinct };
 }
 
-one_met : (holds rest : List Hold) (b : Row) (bs : List Row) → AreMet holds rest (b ∷ bs) →
+one_met : (holds rest : List HeldAmount) (b : BucketRow) (bs : List BucketRow) →
+    AreMet holds rest (b ∷ bs) →
     held_in holds b ≡ first_held b rest
 one_met holds rest b bs h = h.same.0 ∙ first_is rest b bs h.met h.distinct.0
 
-others_met : (holds rest : List Hold) (b : Row) (bs : List Row) → AreMet holds rest (b ∷ bs) →
+others_met : (holds rest : List HeldAmount) (b : BucketRow) (bs : List BucketRow) →
+    AreMet holds rest (b ∷ bs) →
     AreMet holds (next_of b rest) bs
 others_met holds rest b bs h = record {
   met = h.met;
@@ -115,8 +123,8 @@ others_met holds rest b bs h = record {
   distinct = h.distinct.1;
 }
 
-pub met_at : {holds : List Hold} {place : ℕ} {in_order : Bool} {rows : List Row} {i : ℕ}
-    (d : Row) → IsWalk holds place in_order rows i → i < length rows → in_order ≡ true →
+pub met_at : {holds : List HeldAmount} {place : ℕ} {in_order : Bool} {rows : List BucketRow} {i : ℕ}
+    (d : BucketRow) → IsWalk holds place in_order rows i → i < length rows → in_order ≡ true →
     held_in holds (get_or rows i d) ≡ first_held (get_or rows i d) (drop place holds)
 met_at {holds} {place} {in_order} {rows} {i} d walk lt order =
     one_met holds (drop place holds) (get_or rows i d) (drop (i + 1) rows)
@@ -124,8 +132,9 @@ met_at {holds} {place} {in_order} {rows} {i} d walk lt order =
 
 -- ---- behind a bucket, whatever is written there
 
-pub walk_after : {holds : List Hold} {place after : ℕ} {in_order : Bool} {rows : List Row} {i : ℕ}
-    (d new : Row) → IsWalk holds place in_order rows i → after ≤ length holds →
+pub walk_after : {holds : List HeldAmount} {place after : ℕ} {in_order : Bool}
+    {rows : List BucketRow} {i : ℕ}
+    (d new : BucketRow) → IsWalk holds place in_order rows i → after ≤ length holds →
     drop after holds ≡ next_of (get_or rows i d) (drop place holds) → i < length rows →
     IsWalk holds after in_order (set rows i new) (i + 1)
 walk_after {holds} {place} {after} {in_order} {rows} {i} d new walk within is lt = record {
@@ -135,13 +144,14 @@ walk_after {holds} {place} {after} {in_order} {rows} {i} d new walk within is lt
       (subst (AreMet holds (drop place holds)) (drop_more rows i d lt) (walk.met order)));
 }
 
-pub within_after : (holds : List Hold) (rows : List Row) (i : ℕ) (d new : Row) → i < length rows →
+pub within_after : (holds : List HeldAmount) (rows : List BucketRow) (i : ℕ) (d new : BucketRow) →
+    i < length rows →
     IsWithin holds (drop i rows) → IsWithin holds (drop (i + 1) (set rows i new))
 within_after holds rows i d new lt h =
     rw (drop-set-lt (i + 1) rows i new (omega arith)) ((rw (drop_more rows i d lt) at h).1)
 
-pub left_within_after : (holds : List Hold) (left after : Due) (rows : List Row) (i : ℕ)
-    (d new : Row) → i < length rows →
+pub left_within_after : (holds : List HeldAmount) (left after : Due) (rows : List BucketRow) (i : ℕ)
+    (d new : BucketRow) → i < length rows →
     after ≡ less (get_or rows i d).kind (held_in holds (get_or rows i d)) left →
     IsLeftWithin holds left (drop i rows) →
     IsLeftWithin holds after (drop (i + 1) (set rows i new))

@@ -8,9 +8,9 @@ use Rattle.std.proofs.lemmas.List.Sums.{sum_by-cons}
 use Rattle.buckets.specs.declared.kind.BucketKind.{BucketKind}
 use Rattle.buckets.specs.declared.kind.BucketKind.TheVariants.{Money, Blocks}
 use Rattle.buckets.specs.declared.kind.Due.{Due}
-use Rattle.buckets.specs.declared.holds.Hold.{Hold}
+use Rattle.buckets.specs.declared.holds.HeldAmount.{HeldAmount}
 use Rattle.buckets.specs.Kinds.{is_alike, due_in, less}
-use Rattle.buckets.specs.Row.{Row, eligible_amount}
+use Rattle.buckets.specs.Row.{BucketRow, eligible_amount}
 use Rattle.buckets.specs.Share.{sum_in, share, parts}
 use Rattle.buckets.specs.Spend.{IsInOrder, PrecedesAll, AreDistinct, DiffersFromAll}
 use Rattle.buckets.specs.Holding.{held_in, unheld, paid, paid_of_hold, paid_of_rest, AreHolds}
@@ -23,7 +23,7 @@ if_both : (t : Bool) (n m : ℕ) →
 if_both true n m = refl
 if_both false n m = refl
 
-pub sum_in-both : (k : BucketKind) (f g : Row → ℕ) (rows : List Row) →
+pub sum_in-both : (k : BucketKind) (f g : BucketRow → ℕ) (rows : List BucketRow) →
     sum_in k (λ b. f b + g b) rows ≡ sum_in k f rows + sum_in k g rows
 sum_in-both k f g [] = refl
 sum_in-both k f g (b ∷ bs) =
@@ -37,16 +37,17 @@ sum_in-both k f g (b ∷ bs) =
     )
 
 -- what holds have together
-abbrev pub amounts : List Hold → ℕ
+abbrev pub amounts : List HeldAmount → ℕ
 amounts [] = 0
 amounts (h ∷ hs) = h.amount + amounts hs
 
-one_part : (t : Bool) (h : Hold) (hs : List Hold) → nat_lt 0 h.amount ≡ t →
+one_part : (t : Bool) (h : HeldAmount) (hs : List HeldAmount) → nat_lt 0 h.amount ≡ t →
     amounts (if t then h ∷ hs else hs) ≡ h.amount + amounts hs
 one_part true h hs e = refl
 one_part false h hs e = (let none : h.amount ≡ 0 = grind (arith, nat_tests) in omega (arith, none))
 
-pub amounts-parts : (f : Row → ℕ) (rows : List Row) → amounts (parts f rows) ≡ sum_by f rows
+pub amounts-parts : (f : BucketRow → ℕ) (rows : List BucketRow) →
+    amounts (parts f rows) ≡ sum_by f rows
 amounts-parts f [] = refl
 amounts-parts f (b ∷ bs) =
     one_part (nat_lt 0 (f b)) (record { bucket = b.number; amount = f b }) (parts f bs) refl
@@ -54,7 +55,8 @@ amounts-parts f (b ∷ bs) =
     ∙ sym (sum_by-cons f b bs)
 
 -- the shares of those behind the first
-sum_in-next : (k : BucketKind) (f : Row → ℕ) (b : Row) (bs ys : List Row) (c : Due) →
+sum_in-next : (k : BucketKind) (f : BucketRow → ℕ) (b : BucketRow) (bs ys : List BucketRow)
+    (c : Due) →
     PrecedesAll b ys →
     sum_in k (share f (b ∷ bs) c) ys ≡ sum_in k (share f bs (less b.kind (f b) c)) ys
 sum_in-next k f b bs [] c h = refl
@@ -73,7 +75,8 @@ one_share Blocks Money n s c = omega arith
 one_share Blocks Blocks n s c = omega arith
 
 -- the shares of what is due are all of it, as far as the sum reaches
-pub sum_in-share : (k : BucketKind) (f : Row → ℕ) (rows : List Row) (due : Due) → IsInOrder rows →
+pub sum_in-share : (k : BucketKind) (f : BucketRow → ℕ) (rows : List BucketRow) (due : Due) →
+    IsInOrder rows →
     sum_in k (share f rows due) rows ≡ min (sum_in k f rows) (due_in k due)
 sum_in-share k f [] due order = omega arith
 sum_in-share k f (b ∷ bs) due order =
@@ -108,26 +111,27 @@ sum_in-paid k holds group t due rows order =
 
 -- ---- parts of distinct buckets are holds
 
-part_apart : (t : Bool) (n : ℕ) (h : Hold) (hs : List Hold) → h.bucket ≢ n →
+part_apart : (t : Bool) (n : ℕ) (h : HeldAmount) (hs : List HeldAmount) → h.bucket ≢ n →
     AllByRecursion (λ other. other.bucket ≢ n) hs →
     AllByRecursion (λ other. other.bucket ≢ n) (if t then h ∷ hs else hs)
 part_apart true n h hs here more = (here, more)
 part_apart false n h hs here more = more
 
-parts_apart : (f : Row → ℕ) (n : ℕ) (rows : List Row) → DiffersFromAll n rows →
+parts_apart : (f : BucketRow → ℕ) (n : ℕ) (rows : List BucketRow) → DiffersFromAll n rows →
     AllByRecursion (λ other. other.bucket ≢ n) (parts f rows)
 parts_apart f n [] differ = tt
 parts_apart f n (b ∷ bs) differ =
     part_apart (nat_lt 0 (f b)) n (record { bucket = b.number; amount = f b }) (parts f bs) differ.0
     (parts_apart f n bs differ.1)
 
-part_holds : (t : Bool) (h : Hold) (hs : List Hold) → nat_lt 0 h.amount ≡ t →
+part_holds : (t : Bool) (h : HeldAmount) (hs : List HeldAmount) → nat_lt 0 h.amount ≡ t →
     AllByRecursion (λ other. other.bucket ≢ h.bucket) hs → AreHolds hs →
     AreHolds (if t then h ∷ hs else hs)
 part_holds true h hs test apart more = (grind (arith, nat_tests), apart, more)
 part_holds false h hs test apart more = more
 
-pub AreHolds-parts : (f : Row → ℕ) (rows : List Row) → AreDistinct rows → AreHolds (parts f rows)
+pub AreHolds-parts : (f : BucketRow → ℕ) (rows : List BucketRow) → AreDistinct rows →
+    AreHolds (parts f rows)
 AreHolds-parts f [] distinct = tt
 AreHolds-parts f (b ∷ bs) distinct =
     part_holds (nat_lt 0 (f b)) (record { bucket = b.number; amount = f b }) (parts f bs) refl

@@ -7,9 +7,10 @@ use Rattle.std.proofs.lemmas.List.Sums.{sum_by-cons}
 use Rattle.buckets.specs.declared.kind.BucketKind.{BucketKind}
 use Rattle.buckets.specs.declared.kind.BucketKind.TheVariants.{Money, Blocks}
 use Rattle.buckets.specs.declared.kind.Due.{Due}
-use Rattle.buckets.specs.declared.holds.Hold.{Hold}
+use Rattle.buckets.specs.declared.holds.HeldAmount.{HeldAmount}
 use Rattle.buckets.specs.Kinds.{is_alike, due_in}
-use Rattle.buckets.specs.Row.{Row, precedes, is_paid_before, covers, is_eligible, eligible_amount}
+use Rattle.buckets.specs.Row.{BucketRow, precedes, is_paid_before, covers, is_eligible}
+use Rattle.buckets.specs.Row.{eligible_amount}
 use Rattle.buckets.specs.Row.{with_charge}
 use Rattle.buckets.specs.Row.{with_charge_of_hold, with_release}
 use Rattle.buckets.specs.Share.{sum_in, sum_before, share}
@@ -29,7 +30,7 @@ part_le true true n = omega arith
 part_le true false n = omega arith
 part_le false p n = omega arith
 
-before_most : (f : Row → ℕ) (b : Row) (rows : List Row) →
+before_most : (f : BucketRow → ℕ) (b : BucketRow) (rows : List BucketRow) →
     sum_before f b rows ≤ sum_in b.kind f rows
 before_most f b [] = omega arith
 before_most f b (x ∷ xs) =
@@ -46,7 +47,7 @@ alike_itself Money = refl
 alike_itself Blocks = refl
 
 -- what stands before a bucket, and its own, are within the sum
-before_le : (f : Row → ℕ) (b : Row) (rows : List Row) → IsAmong b rows →
+before_le : (f : BucketRow → ℕ) (b : BucketRow) (rows : List BucketRow) → IsAmong b rows →
     sum_before f b rows + f b ≤ sum_in b.kind f rows
 before_le f b [] h = absurd h
 before_le f b (x ∷ xs) (inl e) =
@@ -72,7 +73,8 @@ before_le f b (x ∷ xs) (inr h) =
     )
 
 -- what passes the sum takes all of each
-share_all : (f : Row → ℕ) (b : Row) (rows : List Row) (due : Due) → IsAmong b rows →
+share_all : (f : BucketRow → ℕ) (b : BucketRow) (rows : List BucketRow) (due : Due) →
+    IsAmong b rows →
     sum_in b.kind f rows ≤ due_in b.kind due → share f rows due b ≡ f b
 share_all f b rows due h le =
     let within : sum_before f b rows + f b ≤ sum_in b.kind f rows = before_le f b rows h in
@@ -80,12 +82,12 @@ share_all f b rows due h le =
 
 -- a bucket whose available amount is charged whole, and of which nothing is given up, has nothing
 -- left
-module _ (group at rest : ℕ) (b c : Row) (from : c.from ≡ b.from) (until : c.until ≡ b.until)
+module _ (group at rest : ℕ) (b c : BucketRow) (from : c.from ≡ b.from) (until : c.until ≡ b.until)
     (scope : c.scope ≡ b.scope) where
-  abbrev given : Row
+  abbrev given : BucketRow
   given = record c { reserved = c.reserved - rest; available = c.available + rest }
 
-  abbrev gone : Row
+  abbrev gone : BucketRow
   gone = record c { reserved = c.reserved - rest; expired = c.expired + rest }
 
   left_of : (l : Bool) → is_eligible group at b ≡ l → (n : ℕ) → (l ≡ true → n ≡ 0) →
@@ -118,7 +120,8 @@ all_taken true n part e k = omega (arith, e)
 all_taken false n part e k = absurd (let no_bucket : false ≡ true = k in cc)
 
 -- what is due reaches all that is held in a bucket's unit, and all that is eligible
-pub spent_all : (holds : List Hold) (group at : ℕ) (due : Due) (rows : List Row) (b : Row) →
+pub spent_all : (holds : List HeldAmount) (group at : ℕ) (due : Due) (rows : List BucketRow)
+    (b : BucketRow) →
     IsAmong b rows →
     held_sum b.kind holds rows + sum_in b.kind (eligible_amount group at) rows
     ≤ due_in b.kind due →
@@ -161,7 +164,7 @@ alike_due Blocks Blocks d h = refl
 alike_due Money Blocks d h = absurd (let differ : false ≡ true = h in cc)
 alike_due Blocks Money d h = absurd (let differ : false ≡ true = h in cc)
 
-alike_sum : (j k : BucketKind) (f : Row → ℕ) (rows : List Row) → is_alike j k ≡ true →
+alike_sum : (j k : BucketKind) (f : BucketRow → ℕ) (rows : List BucketRow) → is_alike j k ≡ true →
     sum_in j f rows ≡ sum_in k f rows
 alike_sum Money Money f rows h = refl
 alike_sum Blocks Blocks f rows h = refl
@@ -185,7 +188,7 @@ second_of : (s t : Bool) → (s && t) ≡ true → t ≡ true
 second_of true t h = h
 second_of false t h = absurd (let differ : false ≡ true = h in cc)
 
-before_trans : (x a b : Row) → is_paid_before x a ≡ true → is_paid_before a b ≡ true →
+before_trans : (x a b : BucketRow) → is_paid_before x a ≡ true → is_paid_before a b ≡ true →
     is_paid_before x b ≡ true
 before_trans x a b h k =
     both (is_alike x.kind b.kind) (precedes x b)
@@ -202,7 +205,8 @@ part_most true false n h = absurd (let differ : false ≡ true = h refl in cc)
 part_most false true n h = omega arith
 part_most false false n h = omega arith
 
-before_more : (f : Row → ℕ) (a b : Row) (rows : List Row) → is_paid_before a b ≡ true →
+before_more : (f : BucketRow → ℕ) (a b : BucketRow) (rows : List BucketRow) →
+    is_paid_before a b ≡ true →
     sum_before f a rows ≤ sum_before f b rows
 before_more f a b [] k = omega arith
 before_more f a b (x ∷ xs) k =
@@ -215,7 +219,7 @@ before_more f a b (x ∷ xs) k =
     )
 
 -- what stands before a bucket, and its own, stand before each bucket after it
-before_both : (f : Row → ℕ) (a b : Row) (rows : List Row) → IsAmong a rows →
+before_both : (f : BucketRow → ℕ) (a b : BucketRow) (rows : List BucketRow) → IsAmong a rows →
     is_paid_before a b ≡ true → sum_before f a rows + f a ≤ sum_before f b rows
 before_both f a b [] h k = absurd h
 before_both f a b (x ∷ xs) (inl e) k =
@@ -240,7 +244,8 @@ before_both f a b (x ∷ xs) (inr h) k =
     )
 
 -- a bucket of which something is taken follows none of its unit that has something left
-share_first : (f : Row → ℕ) (a b : Row) (rows : List Row) (due : Due) → IsAmong a rows →
+share_first : (f : BucketRow → ℕ) (a b : BucketRow) (rows : List BucketRow) (due : Due) →
+    IsAmong a rows →
     is_paid_before a b ≡ true → 0 < share f rows due b → share f rows due a ≡ f a
 share_first f a b rows due h k some =
     let within : sum_before f a rows + f a ≤ sum_before f b rows = before_both f a b rows h k in

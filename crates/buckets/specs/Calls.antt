@@ -4,25 +4,26 @@
 use Rattle.std.specs.Prelude.{◌≡◌, ◌+◌, ◌↔◌, List, Result, Err, OnOk, OnErr, IfOk, IsErrOf}
 use Rattle.units.specs.Words.{Moment, Micros, BlockCount, GroupId}
 use Rattle.units.specs.declared.blocks.Blocks.{Blocks}
-use Rattle.buckets.specs.declared.holds.Hold.{Hold}
+use Rattle.buckets.specs.declared.holds.HeldAmount.{HeldAmount}
 use Rattle.buckets.specs.declared.kind.Due.{Due}
 use Rattle.buckets.specs.declared.purse.Charged.{Charged}
 use Rattle.buckets.specs.declared.purse.PurseFault.{PurseFault}
 use Rattle.buckets.specs.declared.purse.PurseFault.TheVariants.{Memory, NotCovered}
 use Rattle.buckets.specs.Kinds.{due}
-use Rattle.buckets.specs.Row.{Row}
+use Rattle.buckets.specs.Row.{BucketRow}
 use Rattle.buckets.specs.Spend.{IsSound, held_rows, inserted}
 use Rattle.buckets.specs.Holding.{holds_of, IsWithin, charged_rows, uncollected, covered_blocks}
 use Rattle.buckets.specs.Holding.{rest_of_holds, settled_rows}
 
 -- a bucket is added; at an error nothing has changed
-pub record Adds {T E : Type 0} (b : Row) (old new : List Row) (result : Result T E) : Type 0 where
+pub record Adds {T E : Type 0} (b : BucketRow) (old new : List BucketRow) (result : Result T E)
+    : Type 0 where
   pub ok : OnOk result (new ≡ inserted b old)
   pub err : OnErr result (new ≡ old)
 
 -- what is due is held, where it isn't short
 pub record HoldsDue (group : GroupId) (at : Moment) (d : Due) (IsShort : Type 0)
-    (old new : List Row) (result : Result (List Hold) PurseFault) : Type 0 where
+    (old new : List BucketRow) (result : Result (List HeldAmount) PurseFault) : Type 0 where
   pub rows : OnOk result (new ≡ held_rows group at d old)
   pub holds : IfOk result (λ h. h ≡ holds_of group at d old)
   pub within : IfOk result (λ h. IsWithin h new)
@@ -30,15 +31,17 @@ pub record HoldsDue (group : GroupId) (at : Moment) (d : Due) (IsShort : Type 0)
   pub err : OnErr result (new ≡ old)
 
 -- what is due is held, where it is covered
-pub record IsHeld (group : GroupId) (at : Moment) (d : Due) (old new : List Row) (given : List Hold)
+pub record IsHeld (group : GroupId) (at : Moment) (d : Due) (old new : List BucketRow)
+    (given : List HeldAmount)
     : Type 0 where
   pub rows : new ≡ held_rows group at d old
   pub holds : given ≡ holds_of group at d old
   pub within : IsWithin given new
 
 -- an amount is charged to holds, and what they don't reach to the eligible buckets
-pub record ChargesMoney (group : GroupId) (at : Moment) (amount : Micros) (lent rest : List Hold)
-    (old new : List Row) (result : Result Charged PurseFault) : Type 0 where
+pub record ChargesMoney (group : GroupId) (at : Moment) (amount : Micros)
+    (lent rest : List HeldAmount)
+    (old new : List BucketRow) (result : Result Charged PurseFault) : Type 0 where
   pub sound : IsSound old
   pub rows : OnOk result (new ≡ charged_rows lent group at (due amount 0) old)
   pub holds : OnOk result (rest ≡ rest_of_holds lent (due amount 0) old)
@@ -51,7 +54,7 @@ pub record ChargesMoney (group : GroupId) (at : Moment) (amount : Micros) (lent 
 
 -- blocks are charged to holds, and what they don't reach to the eligible allowances
 pub record ChargesBlocks (group : GroupId) (at : Moment) (blocks : BlockCount)
-    (lent rest : List Hold) (old new : List Row) (result : Result Blocks PurseFault)
+    (lent rest : List HeldAmount) (old new : List BucketRow) (result : Result Blocks PurseFault)
     : Type 0 where
   pub sound : IsSound old
   pub rows : OnOk result (new ≡ charged_rows lent group at (due 0 blocks) old)
@@ -63,8 +66,8 @@ pub record ChargesBlocks (group : GroupId) (at : Moment) (blocks : BlockCount)
   pub err_holds : OnErr result (rest ≡ lent)
 
 -- what is due is charged, and what is left of the holds is given up
-pub record SettlesDue (holds : List Hold) (group : GroupId) (at : Moment) (amount : Micros)
-    (blocks : BlockCount) (old new : List Row) (given : Charged) : Type 0 where
+pub record SettlesDue (holds : List HeldAmount) (group : GroupId) (at : Moment) (amount : Micros)
+    (blocks : BlockCount) (old new : List BucketRow) (given : Charged) : Type 0 where
   pub sound : IsSound old
   pub rows : new ≡ settled_rows holds group at (due amount blocks) old
   pub uncollected : given.uncollected.0 ≡ uncollected holds group at amount old

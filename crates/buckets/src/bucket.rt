@@ -1,7 +1,6 @@
 //! A bucket of money or of blocks.
 
-ghost use Rattle.std.specs.Prelude.{◌≡◌, ℕ, ◌+◌, ◌-◌, ◌≤◌, ◌<◌, ◌==◌, ◌&&◌, IsTrue, ◌↔◌};
-ghost use Rattle.std.specs.Prelude.{if◌then◌else◌};
+ghost use Rattle.std.specs.Prelude.{◌≡◌, ◌+◌, ◌-◌, ◌≤◌, ◌<◌, ◌==◌, ◌&&◌, if◌then◌else◌};
 ghost use Rattle.buckets.specs.Kinds.{is_alike, most_of, IsScopeOf};
 ghost use Rattle.buckets.specs.Row.{is_eligible, eligible_amount, with_hold, with_charge};
 ghost use Rattle.buckets.specs.Row.{with_charge_of_hold, with_release, with_end, new_row};
@@ -53,9 +52,9 @@ impl Drop for Bucket {
 }
 
 impl Model for Bucket {
-    ghost use Rattle.buckets.specs.Row.{Row, IsBalanced};
+    ghost use Rattle.buckets.specs.Row.{BucketRow, IsBalanced};
 
-    ghost Value = { Row };
+    ghost Value = { BucketRow };
 
     ghost view = { λ b. record {
       number = b.number;

@@ -4,7 +4,7 @@ ghost use Rattle.std.specs.Prelude.{◌≡◌, ◌+◌, ◌-◌, ◌≤◌, ◌<
 ghost use Rattle.std.specs.Prelude.{OnOk, OnErr, IfOk, map, length, filter};
 ghost use Rattle.std.specs.Prelude.{Some};
 ghost use Rattle.buckets.specs.Kinds.{due, most_of, IsScopeOf};
-ghost use Rattle.buckets.specs.Row.{Row, with_end, new_row};
+ghost use Rattle.buckets.specs.Row.{BucketRow, with_end, new_row};
 ghost use Rattle.buckets.specs.Spend.{funds, allowance, IsBelow, IsSound};
 ghost use Rattle.buckets.specs.Holding.{IsWithin, charged_rows, released_rows};
 ghost use Rattle.buckets.specs.Holding.{uncollected, unpaid, rest_of_holds};
@@ -72,10 +72,10 @@ impl Drop for Purse {
 
 impl Model for Purse {
     ghost use Rattle.std.specs.Prelude.{List};
-    ghost use Rattle.buckets.specs.Row.{Row};
+    ghost use Rattle.buckets.specs.Row.{BucketRow};
     ghost use Rattle.buckets.specs.Spend.{IsSound};
 
-    ghost Value = { List Row };
+    ghost Value = { List BucketRow };
 
     ghost view = { λ p. p.buckets.items };
 

@@ -6,7 +6,7 @@ use Rattle.std.proofs.lemmas.Bool.Decides.{nat_tests}
 use Rattle.std.specs.Prelude.{find, option_and_then}
 use Rattle.std.proofs.lemmas.Bool.{cases_lt}
 use Rattle.calendar.specs.Clock.{ZoneRule, IsZone, clock, next_change}
-use Rattle.calendar.specs.Timetable.{numbers_from, reached, read_clock, in_time, moment_of}
+use Rattle.calendar.specs.Timetable.{numbers_from, reached, read_clock, in_time, moment_shown}
 use Rattle.calendar.proofs.Stretches.{clock_stays, next_apart, next_later, lead_is}
 use Rattle.calendar.proofs.Stretches.{le_yes, le_no}
 
@@ -68,7 +68,7 @@ late_none m h =
 
 -- what the code finds for the first moment at which the clock has come so far
 moment_is : (zone : ZoneRule) (shown s m : ℕ) → IsFirst zone shown s → m ≡ read_clock zone shown s →
-    s ≤ m → in_time m ≡ moment_of zone shown
+    s ≤ m → in_time m ≡ moment_shown zone shown
 moment_is zone shown s m first is order =
     elim (cases_lt s 4_102_444_800) [
       | inl below ↦ (
@@ -111,7 +111,7 @@ not_before zone shown start r is at small below early =
 -- it comes so far before the next change
 pub read_before : (zone : ZoneRule) (shown start : ℕ) → IsZone zone → start ≡ shown - 136_800 →
     shown < 2 ^ 33 → start + (shown - clock zone start) < next_change zone start →
-    in_time (start + (shown - clock zone start)) ≡ moment_of zone shown
+    in_time (start + (shown - clock zone start)) ≡ moment_shown zone shown
 read_before zone shown start is at small below =
     let on =
     clock_stays zone start (start + (shown - clock zone start)) (omega (arith, at, small))
@@ -142,7 +142,7 @@ read_before zone shown start is at small below =
 pub read_after : (zone : ZoneRule) (shown start next : ℕ) → IsZone zone →
     start ≡ shown - 136_800 → shown < 2 ^ 33 → next ≡ next_change zone start →
     next ≤ start + (shown - clock zone start) → clock zone next ≤ shown →
-    in_time (next + (shown - clock zone next)) ≡ moment_of zone shown
+    in_time (next + (shown - clock zone next)) ≡ moment_shown zone shown
 read_after zone shown start next is at small change past come =
     let low = clock_low zone next is in
     let low' = clock_low zone start is in
@@ -177,7 +177,7 @@ read_after zone shown start next is at small change past come =
 pub read_gap : (zone : ZoneRule) (shown start next : ℕ) → IsZone zone →
     start ≡ shown - 136_800 → shown < 2 ^ 33 → next ≡ next_change zone start →
     next ≤ start + (shown - clock zone start) → shown < clock zone next →
-    in_time (start + (shown - clock zone start)) ≡ moment_of zone shown
+    in_time (start + (shown - clock zone start)) ≡ moment_shown zone shown
 read_gap zone shown start next is at small change past come =
     let later : start < next =
     omega (arith, change, next_later zone start (omega (arith, at, small))) in
@@ -196,7 +196,7 @@ read_gap zone shown start next is at small change past come =
 
 -- no moment of a command shows a day so late
 pub read_never : (zone : ZoneRule) (shown : ℕ) → IsZone zone → 4_102_600_000 < shown →
-    moment_of zone shown ≡ None
+    moment_shown zone shown ≡ None
 read_never zone shown is far =
     let at =
     reached_none zone shown (λ r early. omega (arith, early, far, clock_high zone r is)) in

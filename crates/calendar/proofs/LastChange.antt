@@ -5,7 +5,7 @@ use Rattle.std.proofs.Common.{inl, inr, nat_le, nat_lt, Option, Some, None, ◌=
 use Rattle.std.specs.Prelude.{Contains, find, option_and_then}
 use Rattle.std.proofs.lemmas.Bool.{cases_Bool, cases_lt}
 use Rattle.std.proofs.lemmas.Bool.Decides.{nat_tests}
-use Rattle.calendar.specs.declared.zone.Change.{Change}
+use Rattle.calendar.specs.declared.zone.ZoneChange.{ZoneChange}
 use Rattle.calendar.specs.Clock.{ZoneRule, IsZone, AreApart, lead_after, lead, clock, next_change}
 use Rattle.calendar.specs.Timetable.{numbers_from, midnight, reached, read_clock, in_time, day_end}
 use Rattle.calendar.specs.Laws.{IsShownFirst, IsSkipped}
@@ -14,46 +14,47 @@ use Rattle.calendar.proofs.Stretches.{next_later}
 use Rattle.calendar.proofs.Places.{all_later}
 use Rattle.calendar.proofs.DayEnds.{IsFirst, clock_high, clock_low}
 
-here_is : (c : Change) (cs : List Change) → Contains (c ∷ cs) c
+here_is : (c : ZoneChange) (cs : List ZoneChange) → Contains (c ∷ cs) c
 here_is c cs = (0, omega arith, refl)
 
-there_is : (c d : Change) (cs : List Change) → Contains cs d → Contains (c ∷ cs) d
+there_is : (c d : ZoneChange) (cs : List ZoneChange) → Contains cs d → Contains (c ∷ cs) d
 there_is c d cs (i, within, is) = (suc i, omega (arith, within), is)
 
 -- no change of the rest has come
-none_come : (now : ℕ) (cs : List Change) (t : ℕ) →
-    ((d : Change) → Contains cs d → t < d.at) → lead_after now cs t ≡ now
+none_come : (now : ℕ) (cs : List ZoneChange) (t : ℕ) →
+    ((d : ZoneChange) → Contains cs d → t < d.at) → lead_after now cs t ≡ now
 none_come now [] t late = refl
 none_come now (c ∷ cs) t late =
     let test : nat_le c.at t ≡ false = le_no c.at t (late c (here_is c cs)) in rw test refl
 
-last_at : (now : ℕ) (cs : List Change) (t i : ℕ) (c : Change) → AreApart cs → i < length cs →
+last_at : (now : ℕ) (cs : List ZoneChange) (t i : ℕ) (c : ZoneChange) → AreApart cs →
+    i < length cs →
     get_or cs i c ≡ c → c.at ≤ t →
-    ((d : Change) → Contains cs d → d.at ≤ t → d.at ≤ c.at) → lead_after now cs t ≡ c.lead
+    ((d : ZoneChange) → Contains cs d → d.at ≤ t → d.at ≤ c.at) → lead_after now cs t ≡ c.lead
 last_at now [] t i c apart within is come last = absurd (omega (arith, within))
 last_at now (x ∷ cs) t zero c apart within is come last =
-    let at : x.at ≡ c.at = ap (λ (y : Change). y.at) is in
+    let at : x.at ≡ c.at = ap (λ (y : ZoneChange). y.at) is in
     let test : nat_le x.at t ≡ true = le_yes x.at t (omega (arith, at, come)) in
-    let late : (d : Change) → Contains cs d → t < d.at = λ d in_rest.
+    let late : (d : ZoneChange) → Contains cs d → t < d.at = λ d in_rest.
     elim (cases_lt t d.at) [
       | inl after ↦ after
       | inr before ↦ (
           let least = last d (there_is x d cs in_rest) before in
           let apart' = all_later x cs in_rest.0 d apart in_rest.1 in
-          let same : (get_or cs in_rest.0 d).at ≡ d.at = ap (λ (y : Change). y.at) in_rest.2 in
+          let same : (get_or cs in_rest.0 d).at ≡ d.at = ap (λ (y : ZoneChange). y.at) in_rest.2 in
           absurd (omega (arith, least, apart', same, at)))
     ] in
-    rw test (none_come x.lead cs t late ∙ ap (λ (y : Change). y.lead) is)
+    rw test (none_come x.lead cs t late ∙ ap (λ (y : ZoneChange). y.lead) is)
 last_at now (x ∷ cs) t (suc i) c apart within is come last =
     let apart' = all_later x cs i c apart (omega (arith, within)) in
-    let same : (get_or cs i c).at ≡ c.at = ap (λ (y : Change). y.at) is in
+    let same : (get_or cs i c).at ≡ c.at = ap (λ (y : ZoneChange). y.at) is in
     let test : nat_le x.at t ≡ true = le_yes x.at t (omega (arith, apart', same, come)) in
     rw test (last_at x.lead cs t i c (tail_apart x cs apart) (omega (arith, within)) is come
     (λ d in_rest. last d (there_is x d cs in_rest)))
 
-pub lead_is_last : (zone : ZoneRule) (t : ℕ) (last : Change) → IsZone zone →
+pub lead_is_last : (zone : ZoneRule) (t : ℕ) (last : ZoneChange) → IsZone zone →
     Contains zone.changes last → last.at ≤ t + 31_622_400 →
-    ((c : Change) → Contains zone.changes c → c.at ≤ t + 31_622_400 → c.at ≤ last.at) →
+    ((c : ZoneChange) → Contains zone.changes c → c.at ≤ t + 31_622_400 → c.at ≤ last.at) →
     lead zone t ≡ last.lead
 lead_is_last zone t last is (i, within, same) come latest =
     last_at zone.before zone.changes (t + 31_622_400) i last is.apart within same come latest

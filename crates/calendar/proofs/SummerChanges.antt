@@ -8,7 +8,7 @@ use Rattle.std.proofs.lemmas.Bool.Decides.{nat_tests}
 use Rattle.std.proofs.lemmas.List.{append_assoc, append-nil}
 use Rattle.jiff_core.specs.Calendar.{day_count}
 use Rattle.jiff_core.proofs.CalendarLemmas.{days_in_month_bounds, day_count-next_month}
-use Rattle.calendar.specs.declared.zone.Change.{Change}
+use Rattle.calendar.specs.declared.zone.ZoneChange.{ZoneChange}
 use Rattle.calendar.specs.declared.summer.YearlyChange.{YearlyChange}
 use Rattle.calendar.specs.declared.summer.SummerTime.{SummerTime}
 use Rattle.calendar.specs.Clock.{IsLead, AreChanges, AreApart, IsZone}
@@ -83,17 +83,17 @@ moment_whole c l year is_c is_l late =
 
 -- ---- two changes a year
 
-abbrev pairs_from : (ℕ → Change) → (ℕ → Change) → ℕ → ℕ → List Change
+abbrev pairs_from : (ℕ → ZoneChange) → (ℕ → ZoneChange) → ℕ → ℕ → List ZoneChange
 pairs_from f g year zero = []
 pairs_from f g year (suc n) = f year ∷ g year ∷ pairs_from f g (year + 1) n
 
-pub record Pairs (f g : ℕ → Change) : Type 0 where
+pub record Pairs (f g : ℕ → ZoneChange) : Type 0 where
   pub whole : (year : ℕ) → 1969 ≤ year → ((f year).at % 60 ≡ 0) × ((g year).at % 60 ≡ 0)
   pub leads : (year : ℕ) → IsLead (f year).lead × IsLead (g year).lead
   pub within : (year : ℕ) → 1969 ≤ year → (f year).at + 604_800 ≤ (g year).at
   pub across : (year : ℕ) → 1969 ≤ year → (g year).at + 604_800 ≤ (f (year + 1)).at
 
-pairs_changes : (f g : ℕ → Change) (year n : ℕ) → Pairs f g → 1969 ≤ year →
+pairs_changes : (f g : ℕ → ZoneChange) (year n : ℕ) → Pairs f g → 1969 ≤ year →
     AreChanges (pairs_from f g year n)
 pairs_changes f g year zero p late = tt
 pairs_changes f g year (suc n) p late = (
@@ -106,7 +106,7 @@ pairs_changes f g year (suc n) p late = (
   ),
 )
 
-pairs_apart : (f g : ℕ → Change) (year n : ℕ) → Pairs f g → 1969 ≤ year →
+pairs_apart : (f g : ℕ → ZoneChange) (year n : ℕ) → Pairs f g → 1969 ≤ year →
     AreApart (pairs_from f g year n)
 pairs_apart f g year zero p late = tt
 pairs_apart f g year (suc zero) p late = (p.within year late, tt)
@@ -215,7 +215,7 @@ is_zone rule is =
 
 -- ---- as the code puts them in
 
-pub one_year : (rule : SummerTime) (year : ℕ) (items new all : List Change) → year < 2101 →
+pub one_year : (rule : SummerTime) (year : ℕ) (items new all : List ZoneChange) → year < 2101 →
     items ++ changes_from rule year (2101 - year) ≡ all → new ≡ items ++ changes_in rule year →
     new ++ changes_from rule (year + 1) (2101 - (year + 1)) ≡ all
 unfolding changes_from
@@ -226,7 +226,7 @@ one_year rule year items new all below made is =
     (changes_from rule (year + 1) (2101 - (year + 1)))
     ∙ ap (λ n. items ++ changes_from rule year n) (sym step) ∙ made
 
-pub all_years : (rule : SummerTime) (year : ℕ) (items all : List Change) → 2101 ≤ year →
+pub all_years : (rule : SummerTime) (year : ℕ) (items all : List ZoneChange) → 2101 ≤ year →
     items ++ changes_from rule year (2101 - year) ≡ all → items ≡ all
 unfolding changes_from
 all_years rule year items all past made =
@@ -234,7 +234,7 @@ all_years rule year items all past made =
     sym (append-nil items) ∙ ap (λ n. items ++ changes_from rule year n) (sym none) ∙ made
 
 -- the zone that the code makes
-pub made_zone : (rule : SummerTime) (before : ℕ) (items : List Change) → IsSummerTime rule →
+pub made_zone : (rule : SummerTime) (before : ℕ) (items : List ZoneChange) → IsSummerTime rule →
     before ≡ (zone_of_rule rule).before → items ≡ changes_from rule 1969 132 →
     IsZone (record { before = before; changes = items })
 made_zone rule before items is before_is items_are =

@@ -3,14 +3,14 @@
 use Rattle.std.specs.Prelude.{◌≡◌, ℕ, ℤ, ◌+◌, ◌-◌, ◌/◌, ◌%◌, ◌≤◌, pos, ◌+ℤ◌, ◌*ℤ◌, unsigned_abs}
 use Rattle.std.specs.Prelude.{List, [], ◌∷◌, nat_le, if◌then◌else◌}
 use Rattle.units.specs.Words.{Moment}
-use Rattle.calendar.specs.declared.zone.Change.{Change}
+use Rattle.calendar.specs.declared.zone.ZoneChange.{ZoneChange}
 
 -- a zone: the lead of its clock before its first change, and its changes in the order of time, each
 -- with its moment and the lead from then on. The lead is 86,400 seconds and those by which the
 -- clock is ahead of UTC: what it shows at 1970-01-01 00:00 UTC, in seconds since 1969-12-31 00:00
 pub record ZoneRule : Type 0 where
   pub before : ℕ
-  pub changes : List Change
+  pub changes : List ZoneChange
 
 -- the zone whose clock always has this lead
 abbrev pub always : ℕ → ZoneRule
@@ -30,12 +30,12 @@ abbrev pub since_1968 : Moment → ℕ
 since_1968 t = t + 31_622_400
 
 -- the lead after the last change at or before a moment
-abbrev pub lead_after : ℕ → List Change → Moment → ℕ
+abbrev pub lead_after : ℕ → List ZoneChange → Moment → ℕ
 lead_after now [] t = now
 lead_after now (c ∷ cs) t = if nat_le c.at t then lead_after c.lead cs t else now
 
 -- the moment of the first change after a moment; without one a number past all moments
-abbrev pub next_after : List Change → ℕ → ℕ
+abbrev pub next_after : List ZoneChange → ℕ → ℕ
 next_after [] t = 60_000_000_000
 next_after (c ∷ cs) t = if nat_le c.at t then next_after cs t else c.at
 
@@ -54,12 +54,12 @@ pub record IsLead (lead : ℕ) : Type 0 where
   pub whole : lead % 60 ≡ 0
 
 -- each change is at a whole minute, to such a lead
-abbrev pub AreChanges : List Change → Type 0
+abbrev pub AreChanges : List ZoneChange → Type 0
 AreChanges [] = Unit {0}
 AreChanges (c ∷ cs) = (c.at % 60 ≡ 0) × IsLead c.lead × AreChanges cs
 
 -- each change is at least a week after the one before
-abbrev pub AreApart : List Change → Type 0
+abbrev pub AreApart : List ZoneChange → Type 0
 AreApart [] = Unit {0}
 AreApart (c ∷ []) = Unit {0}
 AreApart (c ∷ next ∷ cs) = (c.at + 604_800 ≤ next.at) × AreApart (next ∷ cs)

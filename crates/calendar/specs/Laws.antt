@@ -5,7 +5,7 @@ use Rattle.units.specs.Words.{Moment, DayCount}
 use Rattle.jiff.specs.Types.{Date}
 use Rattle.jiff.specs.Words.{epoch_day, weekday_of}
 use Rattle.calendar.specs.declared.week.Entry.{Entry}
-use Rattle.calendar.specs.declared.zone.Change.{Change}
+use Rattle.calendar.specs.declared.zone.ZoneChange.{ZoneChange}
 use Rattle.calendar.specs.declared.summer.SummerTime.{SummerTime}
 use Rattle.calendar.specs.Clock.{ZoneRule, IsZone, since_1968, lead, clock, day, weekday}
 use Rattle.calendar.specs.Summer.{IsSummerTime, zone_of_rule}
@@ -26,9 +26,9 @@ IsWeekdayOfDate = (zone : ZoneRule) (t : Moment) (d : Date) →
 
 -- the lead at a moment is that after the last change at or before it
 abbrev pub IsLeadOfLast : Type 0
-IsLeadOfLast = (zone : ZoneRule) (t : Moment) (last : Change) → IsZone zone →
+IsLeadOfLast = (zone : ZoneRule) (t : Moment) (last : ZoneChange) → IsZone zone →
     Contains zone.changes last → last.at ≤ since_1968 t →
-    ((c : Change) → Contains zone.changes c → c.at ≤ since_1968 t → c.at ≤ last.at) →
+    ((c : ZoneChange) → Contains zone.changes c → c.at ≤ since_1968 t → c.at ≤ last.at) →
     lead zone t ≡ last.lead
 
 -- the changes of a rule make a zone: they are in order, each at least a week after the one before

@@ -3,7 +3,7 @@
 use Rattle.std.specs.Prelude.{◌≡◌, ℕ, zero, suc, ◌+◌, ◌-◌, ◌*◌, ◌%◌, ◌<◌, ◌≤◌, ◌⊎◌, ◌++◌, List, []}
 use Rattle.std.specs.Prelude.{◌∷◌, pos, ◌+ℤ◌, unsigned_abs, nat_lt, if◌then◌else◌, Bool}
 use Rattle.jiff_tz.specs.PosixRule.{weekday_of_month}
-use Rattle.calendar.specs.declared.zone.Change.{Change}
+use Rattle.calendar.specs.declared.zone.ZoneChange.{ZoneChange}
 use Rattle.calendar.specs.declared.summer.YearlyChange.{YearlyChange}
 use Rattle.calendar.specs.declared.summer.SummerTime.{SummerTime}
 use Rattle.calendar.specs.Clock.{ZoneRule, IsLead}
@@ -18,11 +18,11 @@ abbrev pub moment_in : YearlyChange → ℕ → ℕ → ℕ
 moment_in c before year = day_in c year * 86400 + c.seconds + 86400 - before
 
 -- the change to summer time and that back, in a year
-abbrev pub beginning_in : SummerTime → ℕ → Change
+abbrev pub beginning_in : SummerTime → ℕ → ZoneChange
 beginning_in rule year =
     record { at = moment_in rule.begins rule.standard year; lead = rule.summer }
 
-abbrev pub end_in : SummerTime → ℕ → Change
+abbrev pub end_in : SummerTime → ℕ → ZoneChange
 end_in rule year = record { at = moment_in rule.ends rule.summer year; lead = rule.standard }
 
 -- summer time begins and ends within one civil year
@@ -30,13 +30,13 @@ abbrev pub is_northern : SummerTime → Bool
 is_northern rule = nat_lt rule.begins.month rule.ends.month
 
 -- both changes of a year, in the order of their months
-abbrev pub changes_in : SummerTime → ℕ → List Change
+abbrev pub changes_in : SummerTime → ℕ → List ZoneChange
 changes_in rule year =
     if is_northern rule then beginning_in rule year ∷ end_in rule year ∷ []
     else end_in rule year ∷ beginning_in rule year ∷ []
 
 -- the changes of n years, from one on
-unfoldable pub changes_from : SummerTime → ℕ → ℕ → List Change
+unfoldable pub changes_from : SummerTime → ℕ → ℕ → List ZoneChange
 changes_from rule year zero = []
 changes_from rule year (suc n) = changes_in rule year ++ changes_from rule (year + 1) n
 

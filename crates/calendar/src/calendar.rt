@@ -2,12 +2,10 @@
 
 ghost use Rattle.std.specs.Prelude.{◌≡◌, ◌↔◌, ◌≤◌, ◌<◌, ◌^◌, ◌+◌, ◌*◌, ◌-◌, ℕ, Some, IsSome};
 ghost use Rattle.std.specs.Prelude.{IfSome, IfNone};
-ghost use Rattle.calendar.specs.Clock.{day};
 ghost use Rattle.calendar.specs.Week.{IsWeek};
 ghost use Rattle.calendar.specs.Timetable.{timetable_of, IsTimetable, period_at, IsEntryAt};
 ghost use Rattle.calendar.specs.Timetable.{IsChange, IsSwitch, IsWindow, switch_within};
-ghost use Rattle.calendar.specs.Timetable.{cut_after, validity_from};
-ghost use Rattle.calendar.specs.Timetable.{IsCycleOf, cycle_of, day_end};
+ghost use Rattle.calendar.specs.Timetable.{cut_after, validity_from, IsCycleOf, cycle_of, day_end};
 
 use crate::cycle::Cycle;
 use crate::week::{Entry, Period};

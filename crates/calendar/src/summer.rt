@@ -9,7 +9,7 @@ ghost use Rattle.calendar.specs.Summer.{day_in, moment_in, beginning_in, end_in,
 ghost use Rattle.calendar.specs.Summer.{changes_in, changes_from, zone_of_rule, IsYearly};
 ghost use Rattle.calendar.specs.Summer.{IsSummerTime};
 
-use crate::zone::Change;
+use crate::zone::ZoneChange;
 use jiff_core::civil::Date;
 use std::alloc::{AllocError, Global};
 
@@ -96,24 +96,24 @@ fn moment_in(change: YearlyChange, before: u64, year: u16) -> u64
 }
 
 /// The change to summer time in a year.
-fn beginning_in(rule: &SummerTime, year: u16) -> Change
+fn beginning_in(rule: &SummerTime, year: u16) -> ZoneChange
     requires rule { IsSummerTime rule.now }
     requires year { (1969 ≤ year) × (year ≤ 2100) }
     ensures { result ≡ beginning_in rule.now year }
 {
-    Change {
+    ZoneChange {
         at: moment_in(rule.begins, rule.standard, year),
         lead: rule.summer,
     }
 }
 
 /// The change back to standard time in a year.
-fn end_in(rule: &SummerTime, year: u16) -> Change
+fn end_in(rule: &SummerTime, year: u16) -> ZoneChange
     requires rule { IsSummerTime rule.now }
     requires year { (1969 ≤ year) × (year ≤ 2100) }
     ensures { result ≡ end_in rule.now year }
 {
-    Change {
+    ZoneChange {
         at: moment_in(rule.ends, rule.summer, year),
         lead: rule.standard,
     }
@@ -138,7 +138,7 @@ pub(crate) fn first_lead(rule: &SummerTime) -> u64
 }
 
 /// Puts both changes of a year behind those before.
-fn add_year(rule: &SummerTime, year: u16, changes: &mut Vec<Change>) -> Result<(), AllocError>
+fn add_year(rule: &SummerTime, year: u16, changes: &mut Vec<ZoneChange>) -> Result<(), AllocError>
     requires rule { IsSummerTime rule.now }
     requires year { (1969 ≤ year) × (year ≤ 2100) }
     ensures { IfOk result (λ _. changes.new.items ≡ changes.old.items ++ changes_in rule.now year) }
@@ -154,7 +154,7 @@ fn add_year(rule: &SummerTime, year: u16, changes: &mut Vec<Change>) -> Result<(
 }
 
 /// The changes of all years of moments.
-pub(crate) fn changes(alloc: Global, rule: &SummerTime) -> Result<Vec<Change>, AllocError>
+pub(crate) fn changes(alloc: Global, rule: &SummerTime) -> Result<Vec<ZoneChange>, AllocError>
     requires { IsSummerTime rule.now }
     ensures { IfOk result (λ v. v.items ≡ changes_from rule.now 1969 132) }
 {

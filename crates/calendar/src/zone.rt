@@ -1,7 +1,7 @@
 //! Zones: what a clock shows at a moment, and which moment a clock means.
 
 ghost use Rattle.std.specs.Prelude.{◌≡◌, ◌↔◌, ◌≤◌, ◌<◌, ◌^◌, ◌+◌, ◌*◌, ◌-◌, IsSome, IfSome, IfOk};
-ghost use Rattle.std.specs.Prelude.{ℕ, ℤ, length, nat_le, pos, ◌+ℤ◌, ◌*ℤ◌};
+ghost use Rattle.std.specs.Prelude.{ℤ, length, nat_le, pos, ◌+ℤ◌, ◌*ℤ◌};
 ghost use Rattle.jiff.specs.Words.{epoch_day, IsWithin};
 ghost use Rattle.jiff.specs.Types.{Date};
 ghost use Rattle.std.specs.List.{prefix_len};
@@ -9,7 +9,7 @@ ghost use Rattle.calendar.specs.Clock.{IsZone, IsLead, AreApart, minutes_ahead, 
 ghost use Rattle.calendar.specs.Clock.{lead_after, next_after, next_change, clock, day};
 ghost use Rattle.calendar.specs.Months.{month};
 ghost use Rattle.calendar.specs.Summer.{IsSummerTime, zone_of_rule};
-ghost use Rattle.calendar.specs.Timetable.{day_end, in_time, moment_of};
+ghost use Rattle.calendar.specs.Timetable.{day_end, in_time, moment_shown};
 
 use crate::summer;
 use crate::summer::SummerTime;
@@ -24,7 +24,7 @@ const BEFORE_1970: u64 = 31_622_400;
 
 /// A change of a zone's offset (a transition, RFC 9636 section 3.2).
 #[derive(Clone, Copy)]
-pub struct Change {
+pub struct ZoneChange {
     /// Its moment, in seconds since 1968-12-31 00:00 UTC.
     pub at: u64,
     /// The lead of the clock from then on: 86,400 seconds and those by which it is ahead of UTC.
@@ -35,7 +35,7 @@ pub struct Change {
 /// hours from UTC either way, and when that changes.
 pub struct Zone {
     before: u64,
-    changes: Vec<Change>,
+    changes: Vec<ZoneChange>,
 }
 
 // It is written out, so that a caller doesn't prove again how each part is dropped.
@@ -68,20 +68,20 @@ pub(crate) struct Stretch {
 }
 
 /// How many changes are at or before a moment in seconds since 1968-12-31 00:00 UTC, by halves.
-fn come(changes: &[Change], at: u64) -> usize
+fn come(changes: &[ZoneChange], at: u64) -> usize
     requires { AreApart changes.now }
     ensures value { result ≡ prefix_len (λ c. nat_le c.at at) changes.now }
     ensures few { result ≤ length changes.now }
 {
     changes.partition_point(
-        |change: &Change| -> bool
+        |change: &ZoneChange| -> bool
             ensures { result ≡ nat_le change.now.at at }
         { change.at <= at },
     )
 }
 
 /// The lead after so many changes.
-fn lead_after(before: u64, changes: &[Change], at: u64, place: usize) -> u64
+fn lead_after(before: u64, changes: &[ZoneChange], at: u64, place: usize) -> u64
     requires place { place ≡ prefix_len (λ c. nat_le c.at at) changes.now }
     requires few { place ≤ length changes.now }
     ensures { result ≡ lead_after before changes.now at }
@@ -94,7 +94,7 @@ fn lead_after(before: u64, changes: &[Change], at: u64, place: usize) -> u64
 }
 
 /// The moment of the change after so many; without one a number past all moments.
-fn next_after(changes: &[Change], at: u64, place: usize) -> u64
+fn next_after(changes: &[ZoneChange], at: u64, place: usize) -> u64
     requires place { place ≡ prefix_len (λ c. nat_le c.at at) changes.now }
     requires few { place ≤ length changes.now }
     ensures { result ≡ next_after changes.now at }
@@ -107,7 +107,7 @@ fn next_after(changes: &[Change], at: u64, place: usize) -> u64
 }
 
 /// The stretch of a moment in seconds since 1968-12-31 00:00 UTC, its end in the same.
-fn stretch_of(before: u64, changes: &[Change], at: u64) -> Stretch
+fn stretch_of(before: u64, changes: &[ZoneChange], at: u64) -> Stretch
     requires { AreApart changes.now }
     ensures lead { result.lead ≡ lead_after before changes.now at }
     ensures until { result.until ≡ next_after changes.now at }
@@ -215,7 +215,7 @@ impl Zone {
     /// What a clock shows, in seconds since 1969-12-31 00:00, read as a moment.
     fn read_clock(&self, shown: u64) -> u64
         requires { shown < 2 ^ 33 }
-        ensures { in_time result ≡ moment_of self.now shown }
+        ensures { in_time result ≡ moment_shown self.now shown }
     {
         let start = shown.saturating_sub(136_800);
         let first = self.stretch_at(start);

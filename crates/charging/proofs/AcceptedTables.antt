@@ -18,7 +18,8 @@ use Rattle.reserving.specs.Left.{first_of}
 use Rattle.reserving.proofs.LeftParted.{find_both}
 use Rattle.keepers.specs.declared.key.Key.{Key}
 use Rattle.charging.specs.Histories.{History, kept_under}
-use Rattle.charging.specs.Accepted.{Accepted, Outcome, one, each, concerned_by, names, reaches}
+use Rattle.charging.specs.Accepted.{Accepted, CommandOutcome, one, each, concerned_by, names}
+use Rattle.charging.specs.Accepted.{reaches}
 use Rattle.charging.specs.Accepted.{is_opening, names_code, voucher_after, voucher_under}
 use Rattle.charging.specs.Accepted.{standing_for, last_moment, as_of, account_count, IsInTime}
 use Rattle.charging.specs.Accepted.{IsRowOf, IsRow, history_of, AreTablesOf}
@@ -69,7 +70,7 @@ as_of-last a (d ∷ before) h = at (reaches a (concerned_by d.command)) (as_of-l
     at true le = omega arith
     at false le = omega (arith, h.0, le)
 
-module _ (ends : DayEnds) (outcome : Option Voucher → History → Command → ℕ → Outcome) where
+module _ (ends : DayEnds) (outcome : Option Voucher → History → Command → ℕ → CommandOutcome) where
   -- a history after a command that names its account
   abbrev after : List Accepted → Accepted → History → History
   after list d h = (outcome (standing_for ends d.command list) h d.command d.moment).after

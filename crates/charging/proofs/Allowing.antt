@@ -28,7 +28,8 @@ use Rattle.keepers.specs.Tables.{Tables}
 use Rattle.keepers.specs.Change.{changed}
 use Rattle.charging.specs.Histories.{History}
 use Rattle.charging.specs.Accepted.{Accepted, last_moment, IsInTime}
-use Rattle.charging.specs.Outcomes.{outcome, told, keeping, repeated, is_full, begin_of, end_of}
+use Rattle.charging.specs.Outcomes.{outcome, only_told, keeping, repeated, is_full, begin_of}
+use Rattle.charging.specs.Outcomes.{end_of}
 use Rattle.charging.specs.Outcomes.{is_over, allowance_refusal, allowed_unless, new_allowance}
 use Rattle.charging.specs.Served.{history, AreTables, IsServed}
 use Rattle.charging.specs.Stepping.{IsTaken, Makes, Allows}
@@ -44,7 +45,7 @@ pub allow-unknown : (b : Shelf) (list : List Accepted) (a : Allowance) (t : ℕ)
     IsServed b list (command.Allow a) t old new (answer.Refused AccountUnknown)
 allow-unknown b list a t old new time le tables none same =
     served-told b list (command.Allow a) t a.account refl time le
-    (told (answer.Refused AccountUnknown) (history b a.account list))
+    (only_told (answer.Refused AccountUnknown) (history b a.account list))
     (answer.Refused AccountUnknown) old new
     (outcome-unopened b list (command.Allow a) t a.account refl old tables none) refl refl same
     tables
@@ -59,7 +60,7 @@ allow-again b list a t old new kept given time le tables is answers same =
     let h : History = history b a.account list in
     let k : Key = key_of (content.Allow a) in
     served-told b list (command.Allow a) t a.account refl time le
-    (told (repeated kept (content.Allow a) (answer.Refused ContentDiffers)) h) given old new
+    (only_told (repeated kept (content.Allow a) (answer.Refused ContentDiffers)) h) given old new
     (outcome-kept b list (command.Allow a) t a.account refl old k kept tables is
     ∙ allowance-repeated b a t h kept (sym (tables.answers a.account k) ∙ is))
     refl answers same tables
@@ -173,7 +174,7 @@ module _ (b : Shelf) (list : List Accepted) (a : Allowance) (t : ℕ) (old new :
       ap (λ u. allowance_refusal b a u h.ledger) (sym now)
       ∙ subst (λ (q : Result ℕ Refusal). Allows b q a m h.ledger left x) is allowed in
       served-told b list (command.Allow a) t a.account refl time le
-      (told (answer.Refused refusal) h) (answer.Refused refusal) old new
+      (only_told (answer.Refused refusal) h) (answer.Refused refusal) old new
       (fresh-is ∙ ap (λ r. allowed_unless r a t h) refused)
       refl refl same tables
 

@@ -1,6 +1,6 @@
 -- A balance tells each bucket of an account once, in the order of their numbers.
 use Rattle.std.proofs.Common.{List}
-use Rattle.buckets.specs.Row.{Row}
+use Rattle.buckets.specs.Row.{BucketRow}
 use Rattle.reserving.specs.Ledger.{Ledger}
 use Rattle.reserving.specs.Balance.{buckets_at}
 use Rattle.reserving.specs.Pricing.{validity_of}
@@ -19,7 +19,7 @@ balances_are_by_number b a list t =
     let ledger : Ledger = (history b a list).ledger in
     let sound : IsSoundHistory b _ ledger =
     kept_history b (IsSoundHistory b) (keeps_sound b) (sound_none b) a list in
-    let rows : List Row = buckets_at (validity_of b) t ledger in
+    let rows : List BucketRow = buckets_at (validity_of b) t ledger in
     let apart : AreApart same_bucket rows =
     distinct_apart rows (distinct (validity_of b) t ledger sound.paying.credits) in
     record {

@@ -4,6 +4,7 @@ use Rattle.std.proofs.Common.{cond, List, [], ◌∷◌, ◌++◌, length, refl,
 use Rattle.std.proofs.Common.{Option, Some, None}
 use Rattle.std.specs.Prelude.{if◌then◌else◌, ◌==◌, filter, find, sum_by, slice_get}
 use Rattle.std.specs.Prelude.{slice_index_or, option_map, option_and_then, unwrap_or}
+use Rattle.std.specs.Prelude.{IfSome}
 use Rattle.std.specs.List.{All, AllByRecursion}
 use Rattle.std.proofs.lemmas.List.Elements.{All-head, All-tail}
 use Rattle.std.proofs.lemmas.List.Sums.{sum_by-cons}
@@ -23,8 +24,8 @@ use Rattle.rating.proofs.RunFacts.{rated_bound}
 use Rattle.shelves.specs.declared.dated.DatedBook.{DatedBook}
 use Rattle.shelves.specs.Shelves.{Shelf, IsShelf, tariff_of, tariff_in}
 use Rattle.shelves.proofs.Begun.{book_within}
-use Rattle.buckets.specs.declared.holds.Hold.{Hold}
-use Rattle.buckets.specs.Row.{Row}
+use Rattle.buckets.specs.declared.holds.HeldAmount.{HeldAmount}
+use Rattle.buckets.specs.Row.{BucketRow}
 use Rattle.buckets.specs.Share.{parts}
 use Rattle.buckets.specs.Holding.{paid, holds_of}
 use Rattle.reserving.specs.declared.charge.ChargeRow.{ChargeRow}
@@ -32,9 +33,9 @@ use Rattle.reserving.specs.declared.session.Counter.{Counter}
 use Rattle.reserving.specs.declared.session.Terms.{Terms}
 use Rattle.reserving.specs.Ledger.{Fact, Dated, Ledger, counter, used, open_grant, next_charge}
 use Rattle.reserving.specs.Ledger.{uses_in}
-use Rattle.reserving.specs.Ledger.Fact.{Credit, Grant, Hold as HoldFact, End, Use, Charge, Touch}
-use Rattle.reserving.specs.Ledger.Fact.{Close, Recorded, Barred}
+use Rattle.reserving.specs.Ledger.{UseOf, blocks_by, number_of, counts}
 use Rattle.reserving.specs.Charges.{charge_of, charge_rows}
+use Rattle.reserving.specs.Charges.{charge_by}
 use Rattle.reserving.specs.Pricing.{cycle_at, terms_now, prices_by, rated_with, validity_of}
 use Rattle.reserving.specs.Settlement.{charge_facts, due_of, price_of, report_price, settled_by}
 use Rattle.reserving.specs.Settlement.{coverable}
@@ -59,6 +60,7 @@ use Rattle.charging.specs.BoundedCharges.{IsBounded, FitTogether, AreBounded, Ch
 use Rattle.charging.proofs.Steps.{Keeps, is_quiet, with_grant}
 use Rattle.charging.proofs.KeptHistories.{kept_history}
 use Rattle.charging.proofs.NeverOpened.{unopened-ledger}
+use Rattle.reserving.proofs.Counted.{has_none, quiet}
 
 -- ---- no block costs more than 10^9
 
@@ -138,15 +140,16 @@ price_within b is t g o used place covered used_parts =
 
 -- ---- each use of a ledger
 
+abbrev IsFair : UseOf → Type 0
+IsFair u = (u.rated ≤ u.blocks * 1_000_000_000) × (u.uncollected ≤ u.rated)
+
 abbrev IsFairUse : Fact → Type 0
-IsFairUse (Use s g units blocks covered rated uncollected) =
-    (rated ≤ blocks * 1_000_000_000) × (uncollected ≤ rated)
-IsFairUse _ = Unit {0}
+IsFairUse f = IfSome (counts f).usage IsFair
 
 abbrev AreFair : Ledger → Type 0
 AreFair ledger = EachIn (λ d. IsFairUse d.fact) ledger
 
-charges_fair : (t : ℕ) (hs : List Hold) (ledger : Ledger) → AreFair ledger →
+charges_fair : (t : ℕ) (hs : List HeldAmount) (ledger : Ledger) → AreFair ledger →
     AreFair (charge_facts t hs ++ ledger)
 charges_fair t hs ledger h =
     each_append (λ d. IsFairUse d.fact) (charge_facts t hs) ledger
@@ -154,17 +157,13 @@ charges_fair t hs ledger h =
 
 quiet_fair : (t : ℕ) (f : Fact) (ledger : Ledger) → is_quiet f ≡ true → AreFair ledger →
     AreFair (record { at = t; fact = f } ∷ ledger)
-quiet_fair t (Touch s) ledger q h = (tt, h)
-quiet_fair t (Close s) ledger q h = (tt, h)
-quiet_fair t (Recorded s n) ledger q h = (tt, h)
-quiet_fair t (Barred x) ledger q h = (tt, h)
-quiet_fair t _ ledger q h = cc
+quiet_fair t f ledger q h = (has_none IsFair (counts f).usage (quiet f q).usage, h)
 
 settled_fair : (b : Shelf) → IsShelf b → (t : ℕ) (s : List ℕ) (g : ℕ) (used_parts : List UsedPart)
     (ledger : Ledger) → AreFair ledger → AreFair (settled_by b t s g used_parts ledger)
 settled_fair b is t s g [] ledger h = (tt, h)
 settled_fair b is t s g (p ∷ ps) ledger h =
-    let rows : List Row = buckets_at (validity_of b) t ledger in
+    let rows : List BucketRow = buckets_at (validity_of b) t ledger in
     let price : Rated = report_price b t s g (p ∷ ps) ledger in
     let within : IsWithin price =
     price_within b is t g (open_grant s g ledger) (used s g ledger)
@@ -187,13 +186,13 @@ keeps_fair b is = record {
   settle = λ t s g used_parts reports ledger touches h. settled_fair b is t s g used_parts ledger h;
   grant = λ t s g asked reports ledger has some h.
       let given : ℕ = (grant_for b t g (used s g ledger) asked ledger).units.0 in
-      let hs : List Hold =
+      let hs : List HeldAmount =
       holds_of g t (held_due (grant_for b t g (used s g ledger) asked ledger))
       (buckets_at (validity_of b) t ledger) in
       each_append (λ d. IsFairUse d.fact) (hold_facts t s g hs) (with_grant b t s g given ledger)
-      (each_hold (λ d. IsFairUse d.fact) t s g hs (λ n m. tt)) (tt, h);
+      (each_hold (λ d. IsFairUse d.fact) t s g hs (λ x. tt)) (tt, h);
   event = λ t s g units n reports ledger new covered h.
-      let rows : List Row = buckets_at (validity_of b) t ledger in
+      let rows : List BucketRow = buckets_at (validity_of b) t ledger in
       let price : Rated = rest_price b t g units ledger in
       let within : IsWithin price = price_within b is t g None 0 _ _ _ in (
         tt,
@@ -221,7 +220,7 @@ older_within b d older h g c = let most = h g c in omega (arith, most)
 
 one_bounded : (b : Shelf) (n : ℕ) (d : Dated) (older : Ledger) → CountsWithin b (d ∷ older) →
     IsFairUse d.fact → EachIn IsBounded (charge_of n d)
-one_bounded b n d older h fair = at d.fact refl h fair
+one_bounded b n d older h fair = at (counts d.fact).usage h fair
   where
     counted : (g blocks : ℕ) (own : Bool) (same : Bool) → own ≡ true → same ≡ true →
         blocks ≤ (if own then (if same then blocks else 0) else 0)
@@ -229,11 +228,15 @@ one_bounded b n d older h fair = at d.fact refl h fair
     counted g blocks true false e f = cc
     counted g blocks false same e f = cc
 
-    at : (f : Fact) → f ≡ d.fact → CountsWithin b (record { at = d.at; fact = f } ∷ older) →
-        IsFairUse f → EachIn IsBounded (charge_of n (record { at = d.at; fact = f }))
-    at (Use s g units blocks covered rated left) e most fair =
+    at : (o : Option UseOf) →
+        ((g c : ℕ) → (if cycle_at b g d.at == c then number_of (blocks_by g) o else 0)
+        + counter (cycle_at b g) g c older ≤ 4_000_000_000_000_000_000) → IfSome o IsFair →
+        EachIn IsBounded (charge_by n d.at o)
+    at None most fair = tt
+    at (Some u) most fair =
+        let g = u.group in
         let bound = most g (cycle_at b g d.at) in
-        let here = counted g blocks (cycle_at b g d.at == cycle_at b g d.at) (g == g)
+        let here = counted g u.blocks (cycle_at b g d.at == cycle_at b g d.at) (g == g)
         (number_same (cycle_at b g d.at)) (number_same g) in
         let price = fair.0 in
         let short = fair.1 in (
@@ -245,15 +248,6 @@ one_bounded b n d older h fair = at d.fact refl h fair
           },
           tt,
         )
-    at (Credit kind m from until scope amount) e most fair = tt
-    at (Grant s g terms units place) e most fair = tt
-    at (HoldFact s g m amount) e most fair = tt
-    at (End s g) e most fair = tt
-    at (Charge m amount) e most fair = tt
-    at (Touch s) e most fair = tt
-    at (Close s) e most fair = tt
-    at (Recorded s m) e most fair = tt
-    at (Barred x) e most fair = tt
 
 charges_bounded : (b : Shelf) (ledger : Ledger) → CountsWithin b ledger → AreFair ledger →
     EachIn IsBounded (charge_rows ledger)
@@ -267,19 +261,11 @@ charges_bounded b (d ∷ older) h fair =
 
 length_more : (xs : List ChargeRow) (n : ℕ) (d : Dated) →
     length (xs ++ charge_of n d) ≡ length xs + uses_in d.fact
-length_more [] n d = at d.fact
+length_more [] n d = at (counts d.fact).usage
   where
-    at : (f : Fact) → length (charge_of n (record { at = d.at; fact = f })) ≡ 0 + uses_in f
-    at (Use s g units blocks covered rated left) = refl
-    at (Credit kind m from until scope amount) = refl
-    at (Grant s g terms units place) = refl
-    at (HoldFact s g m amount) = refl
-    at (End s g) = refl
-    at (Charge m amount) = refl
-    at (Touch s) = refl
-    at (Close s) = refl
-    at (Recorded s m) = refl
-    at (Barred x) = refl
+    at : (o : Option UseOf) → length (charge_by n d.at o) ≡ 0 + number_of (λ u. 1) o
+    at None = refl
+    at (Some u) = refl
 length_more (x ∷ xs) n d = let more = length_more xs n d in omega (arith, more)
 
 charge_count : (ledger : Ledger) → length (charge_rows ledger) + 1 ≡ next_charge ledger

@@ -4,10 +4,10 @@ use Rattle.std.proofs.Common.{ap}
 use Rattle.std.proofs.Common.{◌∙◌, arith}
 use Rattle.std.specs.Prelude.{if◌then◌else◌, nat_lt, sum_by}
 use Rattle.std.proofs.lemmas.List.Sums.{sum_by-cons}
-use Rattle.buckets.specs.declared.holds.Hold.{Hold}
+use Rattle.buckets.specs.declared.holds.HeldAmount.{HeldAmount}
 use Rattle.buckets.specs.declared.kind.BucketKind.{BucketKind}
 use Rattle.buckets.specs.Kinds.{is_alike}
-use Rattle.buckets.specs.Row.{Row}
+use Rattle.buckets.specs.Row.{BucketRow}
 use Rattle.buckets.specs.Share.{sum_in, parts}
 use Rattle.buckets.specs.Spend.{AreDistinct, Each, inserted}
 use Rattle.buckets.specs.Holding.{held_in, held_sum}
@@ -22,8 +22,8 @@ if_most : (t : Bool) (n m : ℕ) → n ≤ m → (if t then n else 0) ≤ (if t 
 if_most true n m le = le
 if_most false n m le = omega arith
 
-pub sum_in-most : (k : BucketKind) (f g : Row → ℕ) (rows : List Row) →
-    ((b : Row) → f b ≤ g b) → sum_in k f rows ≤ sum_in k g rows
+pub sum_in-most : (k : BucketKind) (f g : BucketRow → ℕ) (rows : List BucketRow) →
+    ((b : BucketRow) → f b ≤ g b) → sum_in k f rows ≤ sum_in k g rows
 sum_in-most k f g [] le = omega arith
 sum_in-most k f g (b ∷ bs) le =
     omega (
@@ -34,7 +34,7 @@ sum_in-most k f g (b ∷ bs) le =
       sum_in-most k f g bs le,
     )
 
-pub sum_in-each : (k : BucketKind) (f g : Row → ℕ) (rows : List Row) →
+pub sum_in-each : (k : BucketKind) (f g : BucketRow → ℕ) (rows : List BucketRow) →
     Each (λ b. f b ≡ g b) rows → sum_in k f rows ≡ sum_in k g rows
 sum_in-each k f g [] h = refl
 sum_in-each k f g (b ∷ bs) h =
@@ -46,8 +46,8 @@ sum_in-each k f g (b ∷ bs) h =
       sum_in-each k f g bs h.1,
     )
 
-pub sum_in-alike : (k : BucketKind) (f g : Row → ℕ) (rows : List Row) →
-    ((b : Row) → f b ≡ g b) → sum_in k f rows ≡ sum_in k g rows
+pub sum_in-alike : (k : BucketKind) (f g : BucketRow → ℕ) (rows : List BucketRow) →
+    ((b : BucketRow) → f b ≡ g b) → sum_in k f rows ≡ sum_in k g rows
 sum_in-alike k f g [] h = refl
 sum_in-alike k f g (b ∷ bs) h =
     omega (
@@ -58,7 +58,7 @@ sum_in-alike k f g (b ∷ bs) h =
       sum_in-alike k f g bs h,
     )
 
-sum_by-inserted : (f : Row → ℕ) (b : Row) (rows : List Row) →
+sum_by-inserted : (f : BucketRow → ℕ) (b : BucketRow) (rows : List BucketRow) →
     sum_by f (inserted b rows) ≡ f b + sum_by f rows
 sum_by-inserted f b [] = sum_by-cons f b []
 sum_by-inserted f b (x ∷ xs) =
@@ -74,14 +74,14 @@ sum_by-inserted f b (x ∷ xs) =
     ]
 
 -- a bucket more
-pub sum_in-inserted : (k : BucketKind) (f : Row → ℕ) (b : Row) (rows : List Row) →
+pub sum_in-inserted : (k : BucketKind) (f : BucketRow → ℕ) (b : BucketRow) (rows : List BucketRow) →
     sum_in k f (inserted b rows) ≡ (if is_alike b.kind k then f b else 0) + sum_in k f rows
 sum_in-inserted k f b rows =
     sum_by-inserted (λ x. if is_alike x.kind k then f x else 0) b rows
 
 -- what is told by a bucket's number doesn't change with its position
 pub sum_in-moved : (k : BucketKind) (f : ℕ → ℕ) (v : ℕ → ℕ) (t : ℕ) (ledger : Ledger)
-    (cs : List Row) →
+    (cs : List BucketRow) →
     sum_in k (λ b. f b.number) (map (bucket_at v t ledger) cs) ≡ sum_in k (λ c. f c.number) cs
 sum_in-moved k f v t ledger [] = refl
 sum_in-moved k f v t ledger (c ∷ cs) =
@@ -92,7 +92,8 @@ sum_in-moved k f v t ledger (c ∷ cs) =
 
 -- ---- holds
 
-held_sum-each : (k : BucketKind) (holds : List Hold) (f : Row → ℕ) (rows : List Row) →
+held_sum-each : (k : BucketKind) (holds : List HeldAmount) (f : BucketRow → ℕ)
+    (rows : List BucketRow) →
     Each (λ b. sum_at b.number holds ≡ f b) rows → held_sum k holds rows ≡ sum_in k f rows
 held_sum-each k holds f [] h = refl
 held_sum-each k holds f (b ∷ bs) h =
@@ -105,7 +106,8 @@ held_sum-each k holds f (b ∷ bs) h =
     )
 
 -- parts have together what was asked for them
-pub held_sum-parts : (k : BucketKind) (f : Row → ℕ) (rows : List Row) → AreDistinct rows →
+pub held_sum-parts : (k : BucketKind) (f : BucketRow → ℕ) (rows : List BucketRow) →
+    AreDistinct rows →
     held_sum k (parts f rows) rows ≡ sum_in k f rows
 held_sum-parts k f rows distinct =
     held_sum-each k (parts f rows) f rows (sum_at-parts f rows distinct)

@@ -6,23 +6,24 @@ use Rattle.std.proofs.lemmas.List.Sums.{sum_by_push}
 use Rattle.std.proofs.lemmas.Bool.{leb-true}
 use Rattle.units.specs.declared.blocks.UsedPart.{UsedPart}
 use Rattle.shelves.specs.Shelves.{Shelf}
-use Rattle.buckets.specs.declared.holds.Hold.{Hold}
+use Rattle.buckets.specs.declared.holds.HeldAmount.{HeldAmount}
 use Rattle.buckets.specs.declared.kind.BucketKind.{BucketKind}
 use Rattle.buckets.specs.declared.kind.BucketKind.TheVariants.{Money, Blocks}
 use Rattle.buckets.specs.declared.kind.Due.{Due}
 use Rattle.buckets.specs.Kinds.{is_alike}
-use Rattle.buckets.specs.Row.{Row, new_row}
+use Rattle.buckets.specs.Row.{BucketRow, new_row}
 use Rattle.buckets.specs.Share.{sum_in, parts}
 use Rattle.buckets.specs.Spend.{inserted, funds, allowance}
 use Rattle.buckets.specs.Holding.{paid, holds_of, held_sum, uncollected}
 use Rattle.buckets.proofs.Dues.{sum_in-cons}
 use Rattle.buckets.proofs.Paid.{sum_in-both}
 use Rattle.buckets.proofs.Parts.{sum_at, sum_at-parts}
-use Rattle.reserving.specs.Ledger.{Fact, Ledger, charged, next_bucket, next_charge}
-use Rattle.reserving.specs.Ledger.Fact.{Touch, Close, Recorded, Barred}
+use Rattle.reserving.specs.Ledger.{Fact, Ledger, charged, next_bucket, next_charge, counts}
+use Rattle.reserving.specs.Ledger.Fact.{Recorded}
 use Rattle.reserving.specs.SoundLedger.{IsSoundLedger}
 use Rattle.reserving.specs.Balance.{credits, bucket_at, buckets_at}
 use Rattle.reserving.specs.Charges.{charge_rows}
+use Rattle.reserving.specs.Charges.{charge_by}
 use Rattle.reserving.specs.Sessions.{holds_at}
 use Rattle.reserving.specs.Requests.{recorded, touched, credited}
 use Rattle.reserving.specs.Settlement.{charge_facts, reported, report_price, settled, settled_by}
@@ -41,6 +42,8 @@ use Rattle.charging.proofs.Credited.{AreCredited, distinct, in_order, charge_cre
 use Rattle.charging.proofs.Sound.{IsSoundHistory, sound_none, keeps_sound}
 use Rattle.charging.proofs.Coverable.{money_paid, blocks_paid, report_covers, event_covers}
 use Rattle.charging.proofs.Steps.{is_quiet, with_grant, granted, Keeps}
+use Rattle.reserving.proofs.Counted.{IsQuiet, quiet, quiet_money}
+use Rattle.reserving.proofs.rows.Touching.{SameMoney}
 
 -- ---- sums
 
@@ -49,7 +52,7 @@ abbrev charged_in : BucketKind → Ledger → ℕ
 charged_in k ledger = sum_in k (λ c. charged c.number ledger) (credits ledger)
 
 -- it is what they show as charged, at any moment
-shown : (k : BucketKind) (v : ℕ → ℕ) (t : ℕ) (ledger : Ledger) (cs : List Row) →
+shown : (k : BucketKind) (v : ℕ → ℕ) (t : ℕ) (ledger : Ledger) (cs : List BucketRow) →
     sum_in k (λ x. x.charged) (map (bucket_at v t ledger) cs)
     ≡ sum_in k (λ c. charged c.number ledger) cs
 shown k v t ledger [] = refl
@@ -88,27 +91,16 @@ sums_same new old same sums k =
 
 same_quiet : (t : ℕ) (f : Fact) (ledger : Ledger) → is_quiet f ≡ true →
     SameSums (record { at = t; fact = f } ∷ ledger) ledger
-same_quiet t (Touch s) ledger q = record {
-  rows = append-nil (charge_rows ledger);
-  credits_are = refl;
-  charged_is = λ n. omega arith;
-}
-same_quiet t (Close s) ledger q = record {
-  rows = append-nil (charge_rows ledger);
-  credits_are = refl;
-  charged_is = λ n. omega arith;
-}
-same_quiet t (Recorded s n) ledger q = record {
-  rows = append-nil (charge_rows ledger);
-  credits_are = refl;
-  charged_is = λ n. omega arith;
-}
-same_quiet t (Barred x) ledger q = record {
-  rows = append-nil (charge_rows ledger);
-  credits_are = refl;
-  charged_is = λ n. omega arith;
-}
-same_quiet t _ ledger q = cc
+same_quiet t f ledger q =
+    let none : IsQuiet (counts f) = quiet f q in
+    let money : SameMoney (record { at = t; fact = f } ∷ ledger) ledger =
+    quiet_money t f ledger none in
+    record {
+      rows = (λ i. charge_rows ledger ++ charge_by (next_charge ledger) t (none.usage i))
+          ∙ append-nil (charge_rows ledger);
+      credits_are = money.credits;
+      charged_is = money.charged;
+    }
 
 same_touched : (t : ℕ) (s : List ℕ) (n : ℕ) (ledger : Ledger) →
     SameSums (touched t s n ledger) ledger
@@ -121,7 +113,7 @@ same_touched t s n ledger = record {
 same_reserved : (b : Shelf) (t : ℕ) (s : List ℕ) (g units : ℕ) (due : Due) (ledger : Ledger) →
     SameSums (reserved b t s g units due ledger) ledger
 same_reserved b t s g units due ledger =
-    let hs : List Hold = holds_of g t due (buckets_at (validity_of b) t ledger) in
+    let hs : List HeldAmount = holds_of g t due (buckets_at (validity_of b) t ledger) in
     let before : Ledger = with_grant b t s g units ledger in
     let same = hold_credits t s g hs before in
     record {
@@ -141,7 +133,7 @@ sums_credit : (t : ℕ) (kind : BucketKind) (from until : ℕ) (scope : Option �
     IsCharged (credited t kind from until scope amount ledger)
 sums_credit t kind from until scope amount ledger sound sums k =
     let new : Ledger = credited t kind from until scope amount ledger in
-    let made : Row = new_row kind (next_bucket ledger) from until scope amount in
+    let made : BucketRow = new_row kind (next_bucket ledger) from until scope amount in
     let same : (n : ℕ) → charged n new ≡ charged n ledger = λ n. omega arith in
     ap (sum_by (taken_of k)) (charge_rows-credited t kind from until scope amount ledger)
     ∙ sums k
@@ -154,14 +146,14 @@ sums_credit t kind from until scope amount ledger sound sums k =
 -- ---- charges
 
 -- what parts of buckets charge
-charged_more : (k : BucketKind) (f : Row → ℕ) (v : ℕ → ℕ) (t : ℕ) (ledger : Ledger) →
+charged_more : (k : BucketKind) (f : BucketRow → ℕ) (v : ℕ → ℕ) (t : ℕ) (ledger : Ledger) →
     AreCredited (credits ledger) (next_bucket ledger) →
     sum_in k (λ c. charged c.number (charge_facts t (parts f (buckets_at v t ledger)) ++ ledger))
     (credits ledger)
     ≡ sum_in k f (buckets_at v t ledger) + charged_in k ledger
 charged_more k f v t ledger h =
-    let rows : List Row = buckets_at v t ledger in
-    let hs : List Hold = parts f rows in
+    let rows : List BucketRow = buckets_at v t ledger in
+    let hs : List HeldAmount = parts f rows in
     sum_in-alike k (λ c. charged c.number (charge_facts t hs ++ ledger))
     (λ c. sum_at c.number hs + charged c.number ledger) (credits ledger)
     (λ c. charged-charge_facts c.number t hs ledger)
@@ -193,9 +185,9 @@ sums_settled : (v : ℕ → ℕ) (t : ℕ) (s : List ℕ) (g units blocks : ℕ)
     + allowance g t (buckets_at v t ledger) → IsCharged ledger →
     IsCharged (settled v t s g units blocks due ledger)
 sums_settled v t s g units blocks due ledger made within sums k =
-    let rows : List Row = buckets_at v t ledger in
-    let holds : List Hold = holds_at v t s g ledger in
-    let hs : List Hold = parts (paid holds g t due rows) rows in
+    let rows : List BucketRow = buckets_at v t ledger in
+    let holds : List HeldAmount = holds_at v t s g ledger in
+    let hs : List HeldAmount = parts (paid holds g t due rows) rows in
     let same = charge_credits t hs ledger in
     ap (sum_by (taken_of k)) (charge_rows-settled v t s g units blocks due ledger)
     ∙ sum_by_push (taken_of k) (charge_rows ledger) _
@@ -226,10 +218,10 @@ sums_debited : (b : Shelf) (t : ℕ) (s : List ℕ) (g units : ℕ) (ledger : Le
     IsCharged ledger → IsCharged (debited b t s g units ledger)
 sums_debited b t s g units ledger covered made sums k =
     let v : ℕ → ℕ = (validity_of b) in
-    let rows : List Row = buckets_at v t ledger in
+    let rows : List BucketRow = buckets_at v t ledger in
     let due : Due = due_of (rest_price b t g units ledger) in
     let blocks : ℕ = (rest_price b t g units ledger).blocks in
-    let hs : List Hold = parts (paid [] g t due rows) rows in
+    let hs : List HeldAmount = parts (paid [] g t due rows) rows in
     let same = charge_credits t hs ledger in
     let within : due.money ≤ funds g t rows = leb-true due.money (funds g t rows) covered in
     ap (sum_by (taken_of k)) (charge_rows-charged_use v t s g units blocks due ledger)

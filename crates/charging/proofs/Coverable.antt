@@ -14,8 +14,8 @@ use Rattle.rating.proofs.Sums.{dearer_none}
 use Rattle.rating.proofs.Quotas.{pays_within}
 use Rattle.buckets.specs.declared.kind.BucketKind.TheVariants.{Money, Blocks}
 use Rattle.buckets.specs.declared.kind.Due.{Due}
-use Rattle.buckets.specs.declared.holds.Hold.{Hold}
-use Rattle.buckets.specs.Row.{Row}
+use Rattle.buckets.specs.declared.holds.HeldAmount.{HeldAmount}
+use Rattle.buckets.specs.Row.{BucketRow}
 use Rattle.buckets.specs.Share.{sum_in}
 use Rattle.buckets.specs.Spend.{IsInOrder, allowance}
 use Rattle.buckets.specs.Holding.{held_sum, paid, uncollected}
@@ -32,12 +32,14 @@ use Rattle.charging.specs.Allowed.{CoversFirst, ReportsAreCovered, EventsAreCove
 
 -- ---- what buckets pay of what is due, in each unit
 
-pub money_paid : (holds : List Hold) (g t : ℕ) (due : Due) (rows : List Row) → IsInOrder rows →
+pub money_paid : (holds : List HeldAmount) (g t : ℕ) (due : Due) (rows : List BucketRow) →
+    IsInOrder rows →
     sum_in Money (paid holds g t due rows) rows + uncollected holds g t due.money rows
     ≡ due.money
 money_paid holds g t due rows order = sum_in-paid Money holds g t due rows order
 
-pub blocks_paid : (holds : List Hold) (g t : ℕ) (due : Due) (rows : List Row) → IsInOrder rows →
+pub blocks_paid : (holds : List HeldAmount) (g t : ℕ) (due : Due) (rows : List BucketRow) →
+    IsInOrder rows →
     due.blocks ≤ held_sum Blocks holds rows + allowance g t rows →
     sum_in Blocks (paid holds g t due rows) rows ≡ due.blocks
 blocks_paid holds g t due rows order le =

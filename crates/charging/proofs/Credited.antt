@@ -1,14 +1,13 @@
 -- The buckets of each ledger are in order, and no two have one number.
 use Rattle.std.proofs.Common.{◌≡◌, ℕ, ◌+◌, true, List, [], ◌∷◌, ◌++◌, refl, sym, subst, arith}
 use Rattle.std.proofs.Common.{Option}
-use Rattle.buckets.specs.declared.holds.Hold.{Hold}
+use Rattle.buckets.specs.declared.holds.HeldAmount.{HeldAmount}
 use Rattle.buckets.specs.declared.kind.BucketKind.{BucketKind}
-use Rattle.buckets.specs.Row.{Row, new_row}
+use Rattle.buckets.specs.Row.{BucketRow, new_row}
 use Rattle.buckets.specs.Spend.{IsInOrder, AreDistinct, IsBelow, inserted}
 use Rattle.buckets.proofs.SharesAlong.{KeepsPlace, IsInOrder-map, IsInOrder-inserted}
 use Rattle.buckets.proofs.Kept.{AreDistinct-map, AreDistinct-inserted}
 use Rattle.reserving.specs.Ledger.{Fact, Ledger, next_bucket}
-use Rattle.reserving.specs.Ledger.Fact.{Touch, Close, Recorded, Barred}
 use Rattle.reserving.specs.Balance.{credits, bucket_at, buckets_at}
 use Rattle.reserving.specs.Requests.{credited}
 use Rattle.reserving.specs.Settlement.{charge_facts}
@@ -16,10 +15,12 @@ use Rattle.reserving.specs.Reservation.{hold_facts}
 use Rattle.reserving.proofs.Crediting.{IsBelow-inserted}
 use Rattle.reserving.proofs.rows.Lapsing.{IsBelow-map}
 use Rattle.charging.proofs.Steps.{is_quiet}
+use Rattle.reserving.proofs.rows.Touching.{SameMoney}
+use Rattle.reserving.proofs.Counted.{quiet, quiet_money}
 
 -- ---- the buckets of a ledger
 
-pub record AreCredited (rows : List Row) (next : ℕ) : Type 0 where
+pub record AreCredited (rows : List BucketRow) (next : ℕ) : Type 0 where
   pub order : IsInOrder rows
   pub distinct : AreDistinct rows
   pub below : IsBelow next rows
@@ -33,7 +34,7 @@ pub more_credits : (t : ℕ) (kind : BucketKind) (from until : ℕ) (scope : Opt
     AreCredited (credits (credited t kind from until scope amount ledger))
     (next_bucket (credited t kind from until scope amount ledger))
 more_credits t kind from until scope amount ledger h =
-    let b : Row = new_row kind (next_bucket ledger) from until scope amount in
+    let b : BucketRow = new_row kind (next_bucket ledger) from until scope amount in
     let next : next_bucket ledger + 1
     ≡ next_bucket (credited t kind from until scope amount ledger) = omega arith in
     record {
@@ -56,13 +57,12 @@ same_credits new old same h =
 
 pub quiet_credits : (t : ℕ) (f : Fact) (ledger : Ledger) → is_quiet f ≡ true →
     SameCredits (record { at = t; fact = f } ∷ ledger) ledger
-quiet_credits t (Touch s) ledger q = record { rows = refl; next = omega arith }
-quiet_credits t (Close s) ledger q = record { rows = refl; next = omega arith }
-quiet_credits t (Recorded s n) ledger q = record { rows = refl; next = omega arith }
-quiet_credits t (Barred x) ledger q = record { rows = refl; next = omega arith }
-quiet_credits t _ ledger q = cc
+quiet_credits t f ledger q =
+    let money : SameMoney (record { at = t; fact = f } ∷ ledger) ledger =
+    quiet_money t f ledger (quiet f q) in
+    record { rows = money.credits; next = money.next_bucket }
 
-pub charge_credits : (t : ℕ) (hs : List Hold) (ledger : Ledger) →
+pub charge_credits : (t : ℕ) (hs : List HeldAmount) (ledger : Ledger) →
     SameCredits (charge_facts t hs ++ ledger) ledger
 charge_credits t [] ledger = record { rows = refl; next = refl }
 charge_credits t (h ∷ hs) ledger =
@@ -71,7 +71,7 @@ charge_credits t (h ∷ hs) ledger =
       next = omega (arith, (charge_credits t hs ledger).next);
     }
 
-pub hold_credits : (t : ℕ) (s : List ℕ) (g : ℕ) (hs : List Hold) (ledger : Ledger) →
+pub hold_credits : (t : ℕ) (s : List ℕ) (g : ℕ) (hs : List HeldAmount) (ledger : Ledger) →
     SameCredits (hold_facts t s g hs ++ ledger) ledger
 hold_credits t s g [] ledger = record { rows = refl; next = refl }
 hold_credits t s g (h ∷ hs) ledger =

@@ -1,14 +1,15 @@
 -- What is dead at a moment stays as it is, fact by fact.
 use Rattle.std.proofs.Common.{◌≡◌, ◌≢◌, ℕ, ◌+◌, ◌-◌, ◌≤◌, ◌<◌, Bool, true, false, true≢false, List}
-use Rattle.std.proofs.Common.{[], ◌∷◌, ◌++◌, map, refl, sym, ap, subst, ◌∙◌, arith, Option, Some, None}
-use Rattle.std.specs.Prelude.{if◌then◌else◌, ◌==◌, ◌&&◌, ◌||◌, not, nat_lt}
+use Rattle.std.proofs.Common.{[], ◌∷◌, ◌++◌, map, refl, sym, ap, subst, ◌∙◌, arith, Option, Some}
+use Rattle.std.proofs.Common.{None}
+use Rattle.std.specs.Prelude.{if◌then◌else◌, ◌==◌, ◌&&◌, ◌||◌, not, nat_lt, IfSome}
 use Rattle.std.proofs.lemmas.Bool.{and_parts, and_from}
 use Rattle.std.proofs.lemmas.Bool.Decides.{nat_tests}
 use Rattle.std.proofs.lemmas.List.Sums.{sum_by-cons}
-use Rattle.buckets.specs.declared.holds.Hold.{Hold}
+use Rattle.buckets.specs.declared.holds.HeldAmount.{HeldAmount}
 use Rattle.buckets.specs.declared.kind.BucketKind.{BucketKind}
 use Rattle.buckets.specs.declared.kind.Due.{Due}
-use Rattle.buckets.specs.Row.{Row, new_row, is_eligible, eligible_amount}
+use Rattle.buckets.specs.Row.{BucketRow, new_row, is_eligible, eligible_amount}
 use Rattle.buckets.specs.Share.{share, parts}
 use Rattle.buckets.specs.Spend.{Each, inserted}
 use Rattle.buckets.specs.Holding.{held_in, unheld, paid, holds_of}
@@ -19,31 +20,35 @@ use Rattle.reserving.specs.Ledger.{Fact, Ledger, is_same, or_else, touch_in, rec
 use Rattle.reserving.specs.Ledger.{units_in, names_group, charge_to, credits_in, hold_of}
 use Rattle.reserving.specs.Ledger.{counts_before, charged, next_bucket, used, last_touch, is_within}
 use Rattle.reserving.specs.Ledger.{is_closed, is_live, last_recording, held, only, has_group}
-use Rattle.reserving.specs.Ledger.{counter}
-use Rattle.reserving.specs.Ledger.Fact.{Credit, Grant, Hold as HoldFact, End, Use, Charge, Touch}
+use Rattle.reserving.specs.Ledger.{Counts, GrantOf, HoldOf, EndOf, UseOf, ChargeOf, RequestOf}
+use Rattle.reserving.specs.Ledger.{counts as counts_of, number_of, test_of, paid_by, units_by}
+use Rattle.reserving.specs.Ledger.{holds_by, but_ended, ends_of, touched_at, recorded_at}
+use Rattle.reserving.specs.Ledger.Fact.{Credit, Grant, Hold, End, Use, Charge, Touch}
 use Rattle.reserving.specs.Ledger.Fact.{Close, Recorded, Barred}
-use Rattle.reserving.specs.Balance.{credited_by, credits, bucket_at, buckets_at}
+use Rattle.reserving.specs.Balance.{with_credit, credited_by, credits, bucket_at, buckets_at}
 use Rattle.reserving.specs.Sessions.{holds_at}
-use Rattle.reserving.specs.Pricing.{cycle_at, terms_at, validity_of}
+use Rattle.reserving.specs.Pricing.{validity_of}
 use Rattle.reserving.specs.Left.{bucket_in}
 use Rattle.reserving.specs.Rows.{EachIn}
 use Rattle.reserving.specs.Requests.{credited}
-use Rattle.reserving.specs.Settlement.{charge_facts, settled_by, report_price, due_of}
-use Rattle.reserving.specs.Reservation.{hold_facts}
+use Rattle.reserving.specs.Settlement.{charge_facts, use_of, settled_by, report_price, due_of}
+use Rattle.reserving.specs.Reservation.{grant_at, hold_for, hold_facts}
 use Rattle.reserving.specs.Debiting.{debited, rest_price}
 use Rattle.reserving.proofs.Keys.{same_number}
 use Rattle.reserving.proofs.Holds.{same_from}
+use Rattle.reserving.proofs.Counted.{is_named}
 use Rattle.charging.proofs.StepsAt.{KeepsAt}
 
 -- ---- rows
 
-each_weaker : (P Q : Row → Type 0) (rows : List Row) → ((b : Row) → P b → Q b) → Each P rows →
+each_weaker : (P Q : BucketRow → Type 0) (rows : List BucketRow) → ((b : BucketRow) → P b → Q b) →
+    Each P rows →
     Each Q rows
 each_weaker P Q [] f h = tt
 each_weaker P Q (b ∷ bs) f h = (f b h.0, each_weaker P Q bs f h.1)
 
 -- a bucket of another number hides none
-found_inserted : (n : ℕ) (b : Row) (rows : List Row) → (b.number == n) ≡ false →
+found_inserted : (n : ℕ) (b : BucketRow) (rows : List BucketRow) → (b.number == n) ≡ false →
     bucket_in n (inserted b rows) ≡ bucket_in n rows
 found_inserted n b [] e = ap (λ y. if y then Some b else None) e
 found_inserted n b (x ∷ xs) e = at (nat_lt b.until x.until) (found_inserted n b xs e)
@@ -53,7 +58,7 @@ found_inserted n b (x ∷ xs) e = at (nat_lt b.until x.until) (found_inserted n 
     at true rest = ap (λ y. if y then Some b else bucket_in n (x ∷ xs)) e
     at false rest = ap (λ o. if x.number == n then Some x else o) rest
 
-share_none : (f : Row → ℕ) (rows : List Row) (due : Due) (b : Row) → f b ≡ 0 →
+share_none : (f : BucketRow → ℕ) (rows : List BucketRow) (due : Due) (b : BucketRow) → f b ≡ 0 →
     share f rows due b ≡ 0
 share_none f rows due b e = omega (arith, e)
 
@@ -61,7 +66,7 @@ if_none : (x : Bool) (n : ℕ) → n ≡ 0 → (if x then n else 0) ≡ 0
 if_none true n e = e
 if_none false n e = refl
 
-held_in_none : (holds : List Hold) (n : ℕ) (b : Row) → b.number ≡ n →
+held_in_none : (holds : List HeldAmount) (n : ℕ) (b : BucketRow) → b.number ≡ n →
     EachIn (λ h. (h.bucket == n) ≡ false) holds → held_in holds b ≡ 0
 held_in_none [] n b e h = refl
 held_in_none (x ∷ xs) n b e h =
@@ -69,7 +74,7 @@ held_in_none (x ∷ xs) n b e h =
     (λ i. if x.bucket == e i then x.amount else 0) ∙ ap (λ y. if y then x.amount else 0) h.0 in
     omega (
       arith,
-      sum_by-cons (λ (y : Hold). if y.bucket == b.number then y.amount else 0) x xs,
+      sum_by-cons (λ (y : HeldAmount). if y.bucket == b.number then y.amount else 0) x xs,
       one,
       held_in_none xs n b e h.1,
     )
@@ -106,7 +111,7 @@ module _ (v : ℕ → ℕ) (from : ℕ) (old : Ledger) where
   Excludes counts = (s : List ℕ) (g : ℕ) → IsOver s → counts s g ≡ false
 
   -- a bucket of the number has nothing left
-  abbrev pub IsUsedUp : ℕ → Row → Type 0
+  abbrev pub IsUsedUp : ℕ → BucketRow → Type 0
   IsUsedUp n c = c.number ≡ n → nat_lt from c.until ≡ true → c.credited - charged n old ≡ 0
 
   pub record IsDeadNumber (n : ℕ) : Type 0 where
@@ -154,17 +159,13 @@ module _ (v : ℕ → ℕ) (from : ℕ) (old : Ledger) where
 
   -- ---- a fact of another session
 
-  abbrev IsApart : List ℕ → Fact → Type 0
-  IsApart s (Grant x g terms units counter) = is_same x s ≡ false
-  IsApart s (Use x g units blocks covered rated uncollected) = is_same x s ≡ false
-  IsApart s (Touch x) = is_same x s ≡ false
-  IsApart s (Close x) = is_same x s ≡ false
-  IsApart s (Recorded x n) = is_same x s ≡ false
-  IsApart s (Credit kind number begin until scope amount) = Unit {0}
-  IsApart s (HoldFact x g bucket amount) = Unit {0}
-  IsApart s (End x g) = Unit {0}
-  IsApart s (Charge bucket amount) = Unit {0}
-  IsApart s (Barred barred) = Unit {0}
+  abbrev IsApart : List ℕ → Counts → Type 0
+  IsApart s c =
+      IfSome c.usage (λ u. is_same u.session s ≡ false)
+      × IfSome c.grant (λ x. is_same x.session s ≡ false)
+      × IfSome c.touch (λ x. is_same x s ≡ false)
+      × IfSome c.close (λ x. is_same x s ≡ false)
+      × IfSome c.request (λ r. is_same r.session s ≡ false)
 
   record IsElsewhere (s : List ℕ) (t : ℕ) (f : Fact) : Type 0 where
     touching : touch_in s (record { at = t; fact = f }) ≡ None
@@ -173,77 +174,44 @@ module _ (v : ℕ → ℕ) (from : ℕ) (old : Ledger) where
     using : (g : ℕ) → units_in s g f ≡ 0
     naming : (g : ℕ) → names_group s g f ≡ false
 
-  elsewhere : (s : List ℕ) (t : ℕ) (f : Fact) → IsApart s f → IsElsewhere s t f
-  elsewhere s t (Grant x g terms units counter) e = record {
-    touching = refl;
-    recording = refl;
-    closing = refl;
-    using = λ h. refl;
-    naming = λ h. ap (λ y. y && g == h) e;
+  elsewhere : (s : List ℕ) (t : ℕ) (f : Fact) → IsApart s (counts_of f) → IsElsewhere s t f
+  elsewhere s t f e = record {
+    touching = touching (counts_of f).touch e.2;
+    recording = recording (counts_of f).request e.4;
+    closing = closing (counts_of f).close e.3;
+    using = λ g. using g (counts_of f).usage e.0;
+    naming = λ g. naming g (counts_of f).usage (counts_of f).grant e.0 e.1;
   }
-  elsewhere s t (Use x g units blocks covered rated uncollected) e = record {
-    touching = refl;
-    recording = refl;
-    closing = refl;
-    using = λ h. ap (λ y. if y && g == h then units else 0) e;
-    naming = λ h. ap (λ y. y && g == h) e;
-  }
-  elsewhere s t (Touch x) e = record {
-    touching = ap (λ y. if y then Some t else None) e;
-    recording = refl;
-    closing = refl;
-    using = λ h. refl;
-    naming = λ h. refl;
-  }
-  elsewhere s t (Close x) e = record {
-    touching = refl;
-    recording = refl;
-    closing = e;
-    using = λ h. refl;
-    naming = λ h. refl;
-  }
-  elsewhere s t (Recorded x n) e = record {
-    touching = refl;
-    recording = ap (λ y. if y then Some (record { number = n; at = t }) else None) e;
-    closing = refl;
-    using = λ h. refl;
-    naming = λ h. refl;
-  }
-  elsewhere s t (Credit kind number begin until scope amount) e = record {
-    touching = refl;
-    recording = refl;
-    closing = refl;
-    using = λ h. refl;
-    naming = λ h. refl;
-  }
-  elsewhere s t (HoldFact x g bucket amount) e = record {
-    touching = refl;
-    recording = refl;
-    closing = refl;
-    using = λ h. refl;
-    naming = λ h. refl;
-  }
-  elsewhere s t (End x g) e = record {
-    touching = refl;
-    recording = refl;
-    closing = refl;
-    using = λ h. refl;
-    naming = λ h. refl;
-  }
-  elsewhere s t (Charge bucket amount) e = record {
-    touching = refl;
-    recording = refl;
-    closing = refl;
-    using = λ h. refl;
-    naming = λ h. refl;
-  }
-  elsewhere s t (Barred barred) e = record {
-    touching = refl;
-    recording = refl;
-    closing = refl;
-    using = λ h. refl;
-    naming = λ h. refl;
-  }
+    where
+      touching : (o : Option (List ℕ)) → IfSome o (λ x. is_same x s ≡ false) →
+          touched_at s t o ≡ None
+      touching None k = refl
+      touching (Some x) k = ap (λ y. if y then Some t else None) k
+
+      recording : (o : Option RequestOf) → IfSome o (λ r. is_same r.session s ≡ false) →
+          recorded_at s t o ≡ None
+      recording None k = refl
+      recording (Some r) k =
+          ap (λ y. if y then Some (record { number = r.number; at = t }) else None) k
+
+      closing : (o : Option (List ℕ)) → IfSome o (λ x. is_same x s ≡ false) →
+          test_of (λ x. is_same x s) o ≡ false
+      closing None k = refl
+      closing (Some x) k = k
+
+      using : (g : ℕ) (o : Option UseOf) → IfSome o (λ u. is_same u.session s ≡ false) →
+          number_of (units_by s g) o ≡ 0
+      using g None k = refl
+      using g (Some u) k = ap (λ y. if y && u.group == g then u.units else 0) k
+
+      naming : (g : ℕ) (o : Option UseOf) (x : Option GrantOf) →
+          IfSome o (λ u. is_same u.session s ≡ false) →
+          IfSome x (λ y. is_same y.session s ≡ false) → is_named s g o x ≡ false
+      naming g None None k l = refl
+      naming g (Some u) None k l = ap (λ y. y && u.group == g) k
+      naming g None (Some x) k l = ap (λ y. y && x.group == g) l
+      naming g (Some u) (Some x) k l =
+          λ i. (k i && u.group == g) || (l i && x.group == g)
 
   session_front : (s : List ℕ) (t : ℕ) (f : Fact) (ledger : Ledger) → IsElsewhere s t f →
       SameSession s ledger → SameSession s (record { at = t; fact = f } ∷ ledger)
@@ -257,91 +225,44 @@ module _ (v : ℕ → ℕ) (from : ℕ) (old : Ledger) where
 
   -- ---- a fact of another bucket
 
-  abbrev IsFree : ℕ → Fact → Type 0
-  IsFree n (Charge bucket amount) = (bucket == n) ≡ false
-  IsFree n (HoldFact x g bucket amount) = (bucket == n) ≡ false
-  IsFree n (Credit kind number begin until scope amount) = ⊥
-  IsFree n (Grant x g terms units counter) = Unit {0}
-  IsFree n (Use x g units blocks covered rated uncollected) = Unit {0}
-  IsFree n (End x g) = Unit {0}
-  IsFree n (Touch x) = Unit {0}
-  IsFree n (Close x) = Unit {0}
-  IsFree n (Recorded x m) = Unit {0}
-  IsFree n (Barred barred) = Unit {0}
+  abbrev IsFree : ℕ → Counts → Type 0
+  IsFree n c =
+      (c.credit ≡ None)
+      × IfSome c.charge (λ x. (x.bucket == n) ≡ false)
+      × IfSome c.hold (λ x. (x.bucket == n) ≡ false)
 
   record IsNoMoney (n : ℕ) (f : Fact) : Type 0 where
-    rows : (rows : List Row) → credited_by f rows ≡ rows
+    rows : (rows : List BucketRow) → credited_by f rows ≡ rows
     none : credits_in f ≡ 0
     charging : charge_to n f ≡ 0
     holding : (counts : List ℕ → ℕ → Bool) → hold_of counts n f ≡ 0
     before : (counts : List ℕ → ℕ → Bool) → Excludes counts → Excludes (counts_before f counts)
 
-  no_money : (n : ℕ) (f : Fact) → IsFree n f → IsNoMoney n f
-  no_money n (Charge bucket amount) e = record {
-    rows = λ r. refl;
-    none = refl;
-    charging = ap (λ y. if y then amount else 0) e;
-    holding = λ counts. refl;
-    before = λ counts x. x;
+  no_money : (n : ℕ) (f : Fact) → IsFree n (counts_of f) → IsNoMoney n f
+  no_money n f e = record {
+    rows = λ r i. with_credit (e.0 i) r;
+    none = ap (number_of (λ c. 1)) e.0;
+    charging = charging (counts_of f).charge e.1;
+    holding = λ p. holding p (counts_of f).hold e.2;
+    before = λ p. before p (counts_of f).end;
   }
-  no_money n (HoldFact s g bucket amount) e = record {
-    rows = λ r. refl;
-    none = refl;
-    charging = refl;
-    holding = λ counts. ap (λ y. if counts s g && y then amount else 0) e
-        ∙ held_not (counts s g) amount;
-    before = λ counts x. x;
-  }
-  no_money n (Credit kind number begin until scope amount) e = absurd e
-  no_money n (Grant s g terms units counter) e = record {
-    rows = λ r. refl;
-    none = refl;
-    charging = refl;
-    holding = λ counts. refl;
-    before = λ counts x. x;
-  }
-  no_money n (Use s g units blocks covered rated uncollected) e = record {
-    rows = λ r. refl;
-    none = refl;
-    charging = refl;
-    holding = λ counts. refl;
-    before = λ counts x. x;
-  }
-  no_money n (End s g) e = record {
-    rows = λ r. refl;
-    none = refl;
-    charging = refl;
-    holding = λ counts. refl;
-    before = λ counts x z h o. ap (λ y. y && not (is_same z s && h == g)) (x z h o);
-  }
-  no_money n (Touch s) e = record {
-    rows = λ r. refl;
-    none = refl;
-    charging = refl;
-    holding = λ counts. refl;
-    before = λ counts x. x;
-  }
-  no_money n (Close s) e = record {
-    rows = λ r. refl;
-    none = refl;
-    charging = refl;
-    holding = λ counts. refl;
-    before = λ counts x. x;
-  }
-  no_money n (Recorded s m) e = record {
-    rows = λ r. refl;
-    none = refl;
-    charging = refl;
-    holding = λ counts. refl;
-    before = λ counts x. x;
-  }
-  no_money n (Barred barred) e = record {
-    rows = λ r. refl;
-    none = refl;
-    charging = refl;
-    holding = λ counts. refl;
-    before = λ counts x. x;
-  }
+    where
+      charging : (o : Option ChargeOf) → IfSome o (λ x. (x.bucket == n) ≡ false) →
+          number_of (paid_by n) o ≡ 0
+      charging None k = refl
+      charging (Some x) k = ap (λ y. if y then x.amount else 0) k
+
+      holding : (p : List ℕ → ℕ → Bool) (o : Option HoldOf) →
+          IfSome o (λ x. (x.bucket == n) ≡ false) → number_of (holds_by p n) o ≡ 0
+      holding p None k = refl
+      holding p (Some x) k =
+          ap (λ y. if p x.session x.group && y then x.amount else 0) k
+          ∙ held_not (p x.session x.group) x.amount
+
+      before : (p : List ℕ → ℕ → Bool) (o : Option EndOf) → Excludes p →
+          Excludes (but_ended o p)
+      before p None h = h
+      before p (Some x) h = λ z g o. ap (λ y. y && not (ends_of z g x)) (h z g o)
 
   bucket_front : (n t : ℕ) (f : Fact) (ledger : Ledger) → IsNoMoney n f → SameBucket n ledger →
       SameBucket n (record { at = t; fact = f } ∷ ledger)
@@ -359,8 +280,9 @@ module _ (v : ℕ → ℕ) (from : ℕ) (old : Ledger) where
 
   -- ---- a fact of neither
 
-  stays_front : (t : ℕ) (f : Fact) (ledger : Ledger) → ((s : List ℕ) → IsOver s → IsApart s f) →
-      ((n : ℕ) → IsDeadNumber n → IsFree n f) → Stays ledger →
+  stays_front : (t : ℕ) (f : Fact) (ledger : Ledger) →
+      ((s : List ℕ) → IsOver s → IsApart s (counts_of f)) →
+      ((n : ℕ) → IsDeadNumber n → IsFree n (counts_of f)) → Stays ledger →
       Stays (record { at = t; fact = f } ∷ ledger)
   stays_front t f ledger apart free h = record {
     sessions = λ s o. session_front s t f ledger (elsewhere s t f (apart s o)) (h.sessions s o);
@@ -405,10 +327,10 @@ module _ (v : ℕ → ℕ) (from : ℕ) (old : Ledger) where
 
   -- ---- buckets that have nothing
 
-  abbrev HasNone : (Row → ℕ) → ℕ → List Row → Type 0
+  abbrev HasNone : (BucketRow → ℕ) → ℕ → List BucketRow → Type 0
   HasNone f n rows = Each (λ b. b.number ≡ n → f b ≡ 0) rows
 
-  available_none : (t n : ℕ) (ledger : Ledger) (cs : List Row) → from ≤ t →
+  available_none : (t n : ℕ) (ledger : Ledger) (cs : List BucketRow) → from ≤ t →
       charged n ledger ≡ charged n old → Each (IsUsedUp n) cs →
       HasNone (λ b. b.available) n (map (bucket_at v t ledger) cs)
   available_none t n ledger [] le same h = tt
@@ -433,7 +355,7 @@ module _ (v : ℕ → ℕ) (from : ℕ) (old : Ledger) where
       available_none t n ledger (credits ledger) le h.charge h.spent
 
   -- so nothing of them is eligible
-  share_of_none : (t n g : ℕ) (rows all : List Row) (due : Due) →
+  share_of_none : (t n g : ℕ) (rows all : List BucketRow) (due : Due) →
       HasNone (λ b. b.available) n rows →
       HasNone (share (eligible_amount g t) all due) n rows
   share_of_none t n g rows all due h =
@@ -444,10 +366,10 @@ module _ (v : ℕ → ℕ) (from : ℕ) (old : Ledger) where
 
   -- ---- parts of what isn't dead
 
-  abbrev AreFree : List Hold → Type 0
+  abbrev AreFree : List HeldAmount → Type 0
   AreFree holds = EachIn (λ h. (n : ℕ) → IsDeadNumber n → (h.bucket == n) ≡ false) holds
 
-  free_parts : (f : Row → ℕ) (rows : List Row) →
+  free_parts : (f : BucketRow → ℕ) (rows : List BucketRow) →
       ((n : ℕ) → IsDeadNumber n → HasNone f n rows) → AreFree (parts f rows)
   free_parts f [] h = tt
   free_parts f (b ∷ bs) h =
@@ -459,35 +381,40 @@ module _ (v : ℕ → ℕ) (from : ℕ) (old : Ledger) where
       at true e rest = (λ n d. not_of b.number n (f b) e ((h n d).0), rest)
       at false e rest = rest
 
-  free_of : (holds : List Hold) (n : ℕ) → IsDeadNumber n → AreFree holds →
+  free_of : (holds : List HeldAmount) (n : ℕ) → IsDeadNumber n → AreFree holds →
       EachIn (λ h. (h.bucket == n) ≡ false) holds
   free_of [] n d h = tt
   free_of (x ∷ xs) n d h = (h.0 n d, free_of xs n d h.1)
 
   -- ---- charges and holds of what isn't dead
 
-  stays_charges : (t : ℕ) (hs : List Hold) (ledger : Ledger) → AreFree hs → Stays ledger →
+  stays_charges : (t : ℕ) (hs : List HeldAmount) (ledger : Ledger) → AreFree hs → Stays ledger →
       Stays (charge_facts t hs ++ ledger)
   stays_charges t [] ledger f h = h
   stays_charges t (x ∷ xs) ledger f h =
-      stays_front t (Charge x.bucket x.amount) (charge_facts t xs ++ ledger) (λ s o. tt) f.0
+      stays_front t (Charge x.bucket x.amount) (charge_facts t xs ++ ledger)
+      (λ s o. (tt, tt, tt, tt, tt))
+      (λ n d. (refl, f.0 n d, tt))
       (stays_charges t xs ledger f.1 h)
 
-  stays_holds : (t : ℕ) (s : List ℕ) (g : ℕ) (hs : List Hold) (ledger : Ledger) → AreFree hs →
+  stays_holds : (t : ℕ) (s : List ℕ) (g : ℕ) (hs : List HeldAmount) (ledger : Ledger) → AreFree hs →
       Stays ledger → Stays (hold_facts t s g hs ++ ledger)
   stays_holds t s g [] ledger f h = h
   stays_holds t s g (x ∷ xs) ledger f h =
-      stays_front t (HoldFact s g x.bucket x.amount) (hold_facts t s g xs ++ ledger)
-      (λ y o. tt) f.0 (stays_holds t s g xs ledger f.1 h)
+      stays_front t (Hold (hold_for s g x)) (hold_facts t s g xs ++ ledger)
+      (λ y o. (tt, tt, tt, tt, tt))
+      (λ n d. (refl, tt, f.0 n d))
+      (stays_holds t s g xs ledger f.1 h)
 
   -- what is paid by a session that may act
-  free_payments : (t : ℕ) (g : ℕ) (due : Due) (holds : List Hold) (ledger : Ledger) → from ≤ t →
+  free_payments : (t : ℕ) (g : ℕ) (due : Due) (holds : List HeldAmount) (ledger : Ledger) →
+      from ≤ t →
       AreFree holds → Stays ledger →
       AreFree (parts (paid holds g t due (buckets_at v t ledger)) (buckets_at v t ledger))
   free_payments t g due holds ledger le free h =
       free_parts (paid holds g t due rows) rows (λ n d. none n d)
     where
-      rows : List Row
+      rows : List BucketRow
       rows = buckets_at v t ledger
 
       none : (n : ℕ) → IsDeadNumber n → HasNone (paid holds g t due rows) n rows
@@ -509,7 +436,7 @@ module _ (v : ℕ → ℕ) (from : ℕ) (old : Ledger) where
       free_parts (λ b. held (only s g) b.number ledger) (buckets_at v t ledger)
       (λ n d. each n d (buckets_at v t ledger))
     where
-      each : (n : ℕ) → IsDeadNumber n → (rows : List Row) →
+      each : (n : ℕ) → IsDeadNumber n → (rows : List BucketRow) →
           HasNone (λ b. held (only s g) b.number ledger) n rows
       each n d [] = tt
       each n d (b ∷ bs) = (
@@ -525,14 +452,25 @@ module _ (v : ℕ → ℕ) (from : ℕ) (old : Ledger) where
       (amount : ℕ) (ledger : Ledger) → Stays ledger →
       Stays (credited t kind begin until scope amount ledger)
   stays_credited t kind begin until scope amount ledger h = record {
-    sessions = λ s o. session_front s t fact ledger (elsewhere s t fact tt) (h.sessions s o);
+    sessions = λ s o. session_front s t fact ledger (elsewhere s t fact (no_session s))
+        (h.sessions s o);
     buckets = λ n d. one n (h.buckets n d);
   }
     where
       fact : Fact
-      fact = Credit kind (next_bucket ledger) begin until scope amount
+      fact = Credit (record {
+        kind = kind;
+        number = next_bucket ledger;
+        from = begin;
+        until = until;
+        scope = scope;
+        amount = amount;
+      })
 
-      b : Row
+      no_session : (s : List ℕ) → IsApart s (counts_of fact)
+      no_session s = (tt, tt, tt, tt, tt)
+
+      b : BucketRow
       b = new_row kind (next_bucket ledger) begin until scope amount
 
       one : (n : ℕ) → SameBucket n ledger →
@@ -555,32 +493,28 @@ keeps_stays b from old t le = record {
       ∙ ended_then v from old t s ledger le (h.sessions s o) o.over);
   fresh = λ s ledger h e o. o.known (sym ((h.sessions s o).recorded) ∙ e);
   bar = λ barred ledger h.
-      stays_front v from old t (Barred barred) ledger (λ s o. tt) (λ n d. tt) h;
+      stays_front v from old t (Barred barred) ledger (λ s o. (tt, tt, tt, tt, tt))
+      (λ n d. (refl, tt, tt)) h;
   credit = λ kind begin until scope amount ledger h.
       stays_credited v from old t kind begin until scope amount ledger h;
   note = λ s n ledger may h. noted s n ledger may h;
   touch = λ s n ledger may h.
       noted s n (record { at = t; fact = Touch s } ∷ ledger) may
-      (stays_front v from old t (Touch s) ledger (λ x o. apart v from old s x may o)
-      (λ m d. tt) h);
+      (stays_front v from old t (Touch s) ledger
+      (λ x o. (tt, tt, apart v from old s x may o, tt, tt)) (λ m d. (refl, tt, tt)) h);
   close = λ s ledger may h.
-      stays_front v from old t (Close s) ledger (λ x o. apart v from old s x may o)
-      (λ m d. tt) h;
+      stays_front v from old t (Close s) ledger
+      (λ x o. (tt, tt, tt, apart v from old s x may o, tt)) (λ m d. (refl, tt, tt)) h;
   settle = λ s g used_parts ledger may h. settled_stays s g used_parts ledger may h;
   grant = λ s g units due ledger may h.
       stays_holds v from old t s g (holds_of g t due (buckets_at v t ledger))
-      (record {
-        at = t;
-        fact = Grant s g (terms_at b t) units
-            (counter (cycle_at b g) g (cycle_at b g t) ledger);
-      } ∷ ledger)
+      (record { at = t; fact = Grant (grant_at b t s g units ledger) } ∷ ledger)
       (free_parts v from old (share (eligible_amount g t) (buckets_at v t ledger) due)
       (buckets_at v t ledger)
       (λ n d. share_of_none v from old t n g (buckets_at v t ledger) (buckets_at v t ledger) due
       (rows_none v from old t n ledger le (h.buckets n d))))
-      (stays_front v from old t (Grant s g (terms_at b t) units
-      (counter (cycle_at b g) g (cycle_at b g t) ledger)) ledger
-      (λ x o. apart v from old s x may o) (λ m d. tt) h);
+      (stays_front v from old t (Grant (grant_at b t s g units ledger)) ledger
+      (λ x o. (tt, apart v from old s x may o, tt, tt, tt)) (λ m d. (refl, tt, tt)) h);
   event = λ s g units ledger may h. debited_stays s g units ledger may h;
 }
   where
@@ -590,18 +524,20 @@ keeps_stays b from old t le = record {
     noted : (s : List ℕ) (n : ℕ) (ledger : Ledger) → May v from old s → Stays v from old ledger →
         Stays v from old (record { at = t; fact = Recorded s n } ∷ ledger)
     noted s n ledger may h =
-        stays_front v from old t (Recorded s n) ledger (λ x o. apart v from old s x may o)
-        (λ m d. tt) h
+        stays_front v from old t (Recorded s n) ledger
+        (λ x o. (tt, tt, tt, tt, apart v from old s x may o)) (λ m d. (refl, tt, tt)) h
 
     settled_stays : (s : List ℕ) (g : ℕ) (used_parts : List UsedPart) (ledger : Ledger) →
         May v from old s → Stays v from old ledger →
         Stays v from old (settled_by b t s g used_parts ledger)
     settled_stays s g [] ledger may h =
-        stays_front v from old t (End s g) ledger (λ x o. tt) (λ m d. tt) h
+        stays_front v from old t (End s g) ledger (λ x o. (tt, tt, tt, tt, tt))
+        (λ m d. (refl, tt, tt)) h
     settled_stays s g (p ∷ ps) ledger may h =
         let due : Due = due_of (report_price b t s g (p ∷ ps) ledger) in
-        stays_front v from old t (End s g) _ (λ x o. tt) (λ m d. tt)
-        (stays_front v from old t _ _ (λ x o. apart v from old s x may o) (λ m d. tt)
+        stays_front v from old t (End s g) _ (λ x o. (tt, tt, tt, tt, tt)) (λ m d. (refl, tt, tt))
+        (stays_front v from old t (Use (use_of s g _ _ due _)) _
+        (λ x o. (apart v from old s x may o, tt, tt, tt, tt)) (λ m d. (refl, tt, tt))
         (stays_charges v from old t _ ledger
         (free_payments v from old t g due (holds_at v t s g ledger) ledger le
         (free_reservation v from old t s g ledger may h) h) h))
@@ -610,6 +546,7 @@ keeps_stays b from old t le = record {
         Stays v from old ledger → Stays v from old (debited b t s g units ledger)
     debited_stays s g units ledger may h =
         let due : Due = due_of (rest_price b t g units ledger) in
-        stays_front v from old t _ _ (λ x o. apart v from old s x may o) (λ m d. tt)
+        stays_front v from old t (Use (use_of s g _ _ due _)) _
+        (λ x o. (apart v from old s x may o, tt, tt, tt, tt)) (λ m d. (refl, tt, tt))
         (stays_charges v from old t _ ledger
         (free_payments v from old t g due [] ledger le tt h) h)

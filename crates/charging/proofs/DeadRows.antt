@@ -4,16 +4,15 @@ use Rattle.std.proofs.Common.{[], ◌∷◌, refl, sym, ap, subst, ◌∙◌, ar
 use Rattle.std.specs.Prelude.{if◌then◌else◌, ◌==◌, ◌&&◌, not, nat_lt, is_some, option_map}
 use Rattle.std.proofs.lemmas.Bool.{and_parts}
 use Rattle.std.proofs.lemmas.Bool.Decides.{nat_tests}
-use Rattle.buckets.specs.Row.{Row}
+use Rattle.buckets.specs.Row.{BucketRow}
 use Rattle.buckets.specs.Spend.{Each, AreDistinct, IsBelow}
 use Rattle.shelves.specs.Shelves.{Shelf}
 use Rattle.reserving.specs.declared.session.Session.{Session}
 use Rattle.reserving.specs.declared.session.SessionState.TheVariants.{Open, Ended, NeverOpened}
 use Rattle.reserving.specs.Ledger.{Fact, Ledger, Recording, is_same, counts_before, hold_of, held}
 use Rattle.reserving.specs.Ledger.{charged, only, is_live, last_touch, last_recording, open_grant}
-use Rattle.reserving.specs.Ledger.{next_bucket}
-use Rattle.reserving.specs.Ledger.Fact.{Credit, Grant, Hold as HoldFact, End, Use, Charge, Touch}
-use Rattle.reserving.specs.Ledger.Fact.{Close, Recorded, Barred}
+use Rattle.reserving.specs.Ledger.{next_bucket, HoldOf, EndOf, counts as counts_of, number_of}
+use Rattle.reserving.specs.Ledger.{holds_by, but_ended, ends_of}
 use Rattle.reserving.specs.Balance.{credits, balance_of, bucket_at, buckets_at}
 use Rattle.reserving.specs.Sessions.{is_open, state_at, session_row, session_at, holds_at}
 use Rattle.reserving.specs.Sessions.{reservation_of, reservation_at, group_at}
@@ -44,31 +43,20 @@ no e = absurd (true≢false (sym e))
 before_implies : (f : Fact) (p q : List ℕ → ℕ → Bool) →
     ((s : List ℕ) (g : ℕ) → p s g ≡ true → q s g ≡ true) → (s : List ℕ) (g : ℕ) →
     counts_before f p s g ≡ true → counts_before f q s g ≡ true
-before_implies (End x y) p q h s g e =
-    let both = and_parts (p s g) (not (is_same s x && g == y)) e in
-    λ i. h s g both.0 i && both.1 i
-before_implies (Credit k a b c d e) p q h s g z = h s g z
-before_implies (Grant a b c d e) p q h s g z = h s g z
-before_implies (HoldFact a b c d) p q h s g z = h s g z
-before_implies (Use a b c d e f x) p q h s g z = h s g z
-before_implies (Charge a b) p q h s g z = h s g z
-before_implies (Touch a) p q h s g z = h s g z
-before_implies (Close a) p q h s g z = h s g z
-before_implies (Recorded a b) p q h s g z = h s g z
-before_implies (Barred a) p q h s g z = h s g z
+before_implies f p q h s g e = at (counts_of f).end e
+  where
+    at : (o : Option EndOf) → but_ended o p s g ≡ true → but_ended o q s g ≡ true
+    at None k = h s g k
+    at (Some x) k = let both = and_parts (p s g) (not (ends_of s g x)) k in
+        λ i. h s g both.0 i && both.1 i
 
 before_counts : (f : Fact) (p : List ℕ → ℕ → Bool) (s : List ℕ) (g : ℕ) →
     counts_before f p s g ≡ true → p s g ≡ true
-before_counts (End x y) p s g e = (and_parts (p s g) (not (is_same s x && g == y)) e).0
-before_counts (Credit k a b c d e) p s g h = h
-before_counts (Grant a b c d e) p s g h = h
-before_counts (HoldFact a b c d) p s g h = h
-before_counts (Use a b c d e f x) p s g h = h
-before_counts (Charge a b) p s g h = h
-before_counts (Touch a) p s g h = h
-before_counts (Close a) p s g h = h
-before_counts (Recorded a b) p s g h = h
-before_counts (Barred a) p s g h = h
+before_counts f p s g e = at (counts_of f).end e
+  where
+    at : (o : Option EndOf) → but_ended o p s g ≡ true → p s g ≡ true
+    at None k = k
+    at (Some x) k = (and_parts (p s g) (not (ends_of s g x)) k).0
 
 swapped : (a b c : Bool) → ((a && b) && c) ≡ ((a && c) && b)
 swapped true true true = refl
@@ -79,16 +67,12 @@ swapped false b c = refl
 
 before_and : (f : Fact) (p q : List ℕ → ℕ → Bool) (s : List ℕ) (g : ℕ) →
     counts_before f (λ x y. p x y && q x y) s g ≡ (counts_before f p s g && q s g)
-before_and (End x y) p q s g = swapped (p s g) (q s g) (not (is_same s x && g == y))
-before_and (Credit k a b c d e) p q s g = refl
-before_and (Grant a b c d e) p q s g = refl
-before_and (HoldFact a b c d) p q s g = refl
-before_and (Use a b c d e f x) p q s g = refl
-before_and (Charge a b) p q s g = refl
-before_and (Touch a) p q s g = refl
-before_and (Close a) p q s g = refl
-before_and (Recorded a b) p q s g = refl
-before_and (Barred a) p q s g = refl
+before_and f p q s g = at (counts_of f).end
+  where
+    at : (o : Option EndOf) →
+        but_ended o (λ x y. p x y && q x y) s g ≡ (but_ended o p s g && q s g)
+    at None = refl
+    at (Some x) = swapped (p s g) (q s g) (not (ends_of s g x))
 
 only_itself : (s : List ℕ) (g : ℕ) → only s g s g ≡ true
 only_itself s g = λ i. is_same-refl s i && number_same g i
@@ -97,21 +81,21 @@ hold_none : (keep counts : List ℕ → ℕ → Bool) (n : ℕ) (f : Fact) →
     ((s : List ℕ) (g : ℕ) → counts s g ≡ true → keep s g ≡ true) →
     ((s : List ℕ) (g : ℕ) → counts s g ≡ true →
     hold_of (λ x y. keep x y && only s g x y) n f ≡ 0) → hold_of counts n f ≡ 0
-hold_none keep counts n (HoldFact s g b a) k h = at (counts s g) refl
+hold_none keep counts n f k h = by_hold (counts_of f).hold h
   where
-    at : (x : Bool) → counts s g ≡ x → (if x && b == n then a else 0) ≡ 0
-    at false e = refl
-    at true e =
-        sym (λ i. if (k s g e i && only_itself s g i) && b == n then a else 0) ∙ h s g e
-hold_none keep counts n (Credit x a b c d e) k h = refl
-hold_none keep counts n (Grant a b c d e) k h = refl
-hold_none keep counts n (End a b) k h = refl
-hold_none keep counts n (Use a b c d e f x) k h = refl
-hold_none keep counts n (Charge a b) k h = refl
-hold_none keep counts n (Touch a) k h = refl
-hold_none keep counts n (Close a) k h = refl
-hold_none keep counts n (Recorded a b) k h = refl
-hold_none keep counts n (Barred a) k h = refl
+    by_hold : (o : Option HoldOf) → ((s : List ℕ) (g : ℕ) → counts s g ≡ true →
+        number_of (holds_by (λ x y. keep x y && only s g x y) n) o ≡ 0) →
+        number_of (holds_by counts n) o ≡ 0
+    by_hold None each = refl
+    by_hold (Some x) each = at (counts x.session x.group) refl
+      where
+        at : (c : Bool) → counts x.session x.group ≡ c →
+            (if c && x.bucket == n then x.amount else 0) ≡ 0
+        at false e = refl
+        at true e =
+            sym (λ i. if (k x.session x.group e i && only_itself x.session x.group i)
+            && x.bucket == n then x.amount else 0)
+            ∙ each x.session x.group e
 
 none_held : (keep counts : List ℕ → ℕ → Bool) (n : ℕ) (ledger : Ledger) →
     ((s : List ℕ) (g : ℕ) → counts s g ≡ true → keep s g ≡ true) →
@@ -134,13 +118,14 @@ none_held keep counts n (d ∷ older) k h =
 
 -- ---- rows found by their numbers
 
-each_only : (P : Row → Type 0) (n : ℕ) (rows : List Row) (c : Row) → AreDistinct rows →
+each_only : (P : BucketRow → Type 0) (n : ℕ) (rows : List BucketRow) (c : BucketRow) →
+    AreDistinct rows →
     bucket_in n rows ≡ Some c → P c → Each (λ x. x.number ≡ n → P x) rows
 each_only P n [] c apart found p = tt
 each_only P n (x ∷ xs) c apart found p =
     at (x.number == n) refl found (each_only P n xs c apart.1)
   where
-    others : (ys : List Row) → x.number ≡ n → Each (λ y. y.number ≢ x.number) ys →
+    others : (ys : List BucketRow) → x.number ≡ n → Each (λ y. y.number ≢ x.number) ys →
         Each (λ y. y.number ≡ n → P y) ys
     others [] e h = tt
     others (y ∷ ys) e h = (λ k. absurd (h.0 (k ∙ sym e)), others ys e h.1)
@@ -155,14 +140,14 @@ each_only P n (x ∷ xs) c apart found p =
       rest k p,
     )
 
-below_found : (n next : ℕ) (rows : List Row) (c : Row) → IsBelow next rows →
+below_found : (n next : ℕ) (rows : List BucketRow) (c : BucketRow) → IsBelow next rows →
     bucket_in n rows ≡ Some c → c.number < next
 below_found n next [] c h e = absurd (no_some c e)
 below_found n next (x ∷ xs) c h e = at (x.number == n) e (below_found n next xs c h.1)
   where
     at : (t : Bool) → (if t then Some x else bucket_in n xs) ≡ Some c →
         (bucket_in n xs ≡ Some c → c.number < next) → c.number < next
-    at true k rest = subst (λ (y : Row). y.number < next) (some_of x c k) h.0
+    at true k rest = subst (λ (y : BucketRow). y.number < next) (some_of x c k) h.0
     at false k rest = rest k
 
 -- ---- a bucket with nothing left is the same later
@@ -181,7 +166,7 @@ later_expired true false n h z = no (h refl)
 later_expired false true n h z = z
 later_expired false false n h z = refl
 
-balance_later : (t u : ℕ) (c : Row) (n : ℕ) →
+balance_later : (t u : ℕ) (c : BucketRow) (n : ℕ) →
     (nat_lt u c.until ≡ true → nat_lt t c.until ≡ true) →
     (if nat_lt t c.until then c.credited - n - 0 else 0) ≡ 0 →
     balance_of u c n 0 ≡ balance_of t c n 0
@@ -259,8 +244,8 @@ module _ (v : ℕ → ℕ) (from : ℕ) (old : Ledger) where
             known (Some r) k = live (is_live v from old s) r refl k
 
   -- a dead bucket's number
-  dead_number : AreCredited (credits old) (next_bucket old) → IsSoundLedger old → (n : ℕ) (c : Row) →
-      bucket_in n (credits old) ≡ Some c → IsDead (bucket_at v from old c) →
+  dead_number : AreCredited (credits old) (next_bucket old) → IsSoundLedger old → (n : ℕ)
+      (c : BucketRow) → bucket_in n (credits old) ≡ Some c → IsDead (bucket_at v from old c) →
       IsDeadNumber v from old n
   dead_number made sound n c found dead =
       let number : c.number ≡ n = same_number c.number n
@@ -319,7 +304,7 @@ module _ (v : ℕ → ℕ) (from : ℕ) (old : Ledger) where
         })
         else None
 
-    same_bucket : (n : ℕ) (c : Row) → c.number ≡ n → IsDeadNumber v from old n →
+    same_bucket : (n : ℕ) (c : BucketRow) → c.number ≡ n → IsDeadNumber v from old n →
         IsDead (bucket_at v from old c) → bucket_at v u ledger c ≡ bucket_at v from old c
     same_bucket n c number d dead =
         let same : SameBucket v from old n ledger = h.buckets n d in
@@ -340,14 +325,14 @@ module _ (v : ℕ → ℕ) (from : ℕ) (old : Ledger) where
         earlier t k until e = grind (arith, nat_tests, k, e)
 
     same_row : AreCredited (credits old) (next_bucket old) → IsSoundLedger old → (n : ℕ)
-        (x : Row) → bucket_in n (buckets_at v from old) ≡ Some x → IsDead x →
+        (x : BucketRow) → bucket_in n (buckets_at v from old) ≡ Some x → IsDead x →
         bucket_in n (buckets_at v u ledger) ≡ Some x
     same_row made sound n x found dead =
         at (bucket_in n (credits old)) refl
         (sym (find-map (λ b. b.number == n) (bucket_at v from old) (credits old) (λ b. refl))
         ∙ found)
       where
-        at : (o : Option Row) → bucket_in n (credits old) ≡ o →
+        at : (o : Option BucketRow) → bucket_in n (credits old) ≡ o →
             option_map (bucket_at v from old) o ≡ Some x →
             bucket_in n (buckets_at v u ledger) ≡ Some x
         at None k e = absurd (no_some x e)
@@ -359,7 +344,7 @@ module _ (v : ℕ → ℕ) (from : ℕ) (old : Ledger) where
             let d : IsDeadNumber v from old n = dead_number made sound n c k is_dead in
             find-map (λ b. b.number == n) (bucket_at v u ledger) (credits ledger) (λ b. refl)
             ∙ ap (option_map (bucket_at v u ledger)) ((h.buckets n d).row ∙ k)
-            ∙ ap (λ (y : Row). Some y) (same_bucket n c number d is_dead ∙ row)
+            ∙ ap (λ (y : BucketRow). Some y) (same_bucket n c number d is_dead ∙ row)
 
     pub dead_for_good : AreCredited (credits old) (next_bucket old) → IsSoundLedger old →
         AreDeadForGood v from u old ledger

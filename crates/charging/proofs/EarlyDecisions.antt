@@ -27,7 +27,7 @@ use Rattle.tariffs.specs.Books.{Book}
 use Rattle.tariffs.specs.Tariffs.{GroupTariff}
 use Rattle.rating.specs.declared.grant.Grant.{Grant}
 use Rattle.rating.specs.declared.report.Rated.{Rated}
-use Rattle.buckets.specs.Row.{Row}
+use Rattle.buckets.specs.Row.{BucketRow}
 use Rattle.buckets.specs.Share.{parts}
 use Rattle.buckets.specs.Holding.{paid}
 use Rattle.buckets.specs.declared.kind.BucketKind.TheVariants.{Money}
@@ -40,6 +40,7 @@ use Rattle.reserving.specs.Pricing.{validity_of, tariff_of, tariff_at, switch_by
 use Rattle.reserving.specs.Pricing.{wanted_units}
 use Rattle.reserving.specs.Requests.{recorded, touched, closed, credited}
 use Rattle.reserving.specs.Settlement.{settled_by, due_of, charge_facts, passes}
+use Rattle.reserving.specs.Settlement.{use_of}
 use Rattle.reserving.specs.Reservation.{reserved, grant_for, held_due}
 use Rattle.reserving.specs.Debiting.{debited, debit_passes, is_covered}
 use Rattle.reserving.proofs.LaterBooks.{AgreeBefore, live_same}
@@ -56,7 +57,7 @@ use Rattle.decisions.specs.Granting.{Answered, grant_answer, granted_with, grant
 use Rattle.decisions.specs.Granting.{granted_if, granted_by, granted}
 use Rattle.decisions.specs.Granting.{grant_answers, after_grants, any_grants, first_denial}
 use Rattle.decisions.specs.Granting.{final_unit}
-use Rattle.decisions.specs.Events.{event_units, debit_refusal, charged}
+use Rattle.decisions.specs.Events.{event_units, debit_refusal, charged_at_once}
 use Rattle.decisions.specs.Events.{charged_by, charged_unless_barred, debit_decision, balance_of}
 use Rattle.decisions.specs.Events.{checked_by, priced_by, read_refusal, check_decision}
 use Rattle.decisions.specs.Events.{enquiry_decision, decided_action, refund_refusal, refunded}
@@ -346,16 +347,16 @@ module _ (from : ℕ) (b u : Shelf) (on : GoesOnFrom from b u) (t : ℕ) (early 
       λ i. debited_at (rest_same from b u on t early ledger h.before h.numbered g units i)
       (rows_same from b u on t early ledger h.before h.numbered i)
     where
-      debited_at : Rated → List Row → Ledger
+      debited_at : Rated → List BucketRow → Ledger
       debited_at r rows =
           record {
             at = t;
-            fact = Use s g units r.blocks (due_of r).blocks (due_of r).money 0;
+            fact = Use (use_of s g units r.blocks (due_of r) 0);
           } ∷ charge_facts t (parts (paid [] g t (due_of r) rows) rows) ++ ledger
 
   charged_same : (tariff : GroupTariff) (s : List ℕ) (n g units : ℕ) (ledger : Ledger) →
       IsEarlyLedger ledger →
-      charged b tariff t s n g units ledger ≡ charged u tariff t s n g units ledger
+      charged_at_once b tariff t s n g units ledger ≡ charged_at_once u tariff t s n g units ledger
   charged_same tariff s n g units ledger h =
       λ i. if passes (used s g ledger) units
       (place_same from b u on t early ledger h.before h.numbered g i)
@@ -392,7 +393,7 @@ module _ (from : ℕ) (b u : Shelf) (on : GoesOnFrom from b u) (t : ℕ) (early 
   charged_by_early (Some tariff) s n e ledger h =
       let units : ℕ = event_units tariff e.requested in
       either_decision from (count b) (is_covered b t e.group units ledger)
-      (charged b tariff t s n e.group units ledger) _
+      (charged_at_once b tariff t s n e.group units ledger) _
       (either_decision from (count b) (debit_passes b t s e.group units ledger) _ _ h
       (early_recorded from (count b) t early s n (debited b t s e.group units ledger)
       (early_debited from (count b) t early b s e.group units ledger h)))

@@ -2,20 +2,19 @@
 -- step of a command before the moment leaves such a one.
 use Rattle.std.proofs.Common.{ℕ, ◌<◌, ◌≤◌, Bool, List, [], ◌∷◌, ◌++◌, Option, arith}
 use Rattle.units.specs.declared.blocks.UsedPart.{UsedPart}
-use Rattle.buckets.specs.declared.holds.Hold.{Hold}
+use Rattle.buckets.specs.declared.holds.HeldAmount.{HeldAmount}
 use Rattle.buckets.specs.declared.kind.BucketKind.{BucketKind}
 use Rattle.buckets.specs.declared.kind.Due.{Due}
 use Rattle.shelves.specs.Shelves.{Shelf, count, number_at}
 use Rattle.shelves.proofs.Begun.{begun_few}
 use Rattle.reserving.specs.Ledger.{Ledger}
-use Rattle.reserving.specs.Ledger.Fact.{Grant}
-use Rattle.reserving.specs.Pricing.{terms_at}
 use Rattle.reserving.specs.Requests.{recorded, touched, closed, credited, with_bar}
 use Rattle.reserving.specs.Settlement.{settled_by, charge_facts}
 use Rattle.reserving.specs.Reservation.{reserved, hold_facts}
 use Rattle.reserving.specs.Debiting.{debited}
 use Rattle.reserving.proofs.LaterBooks.{IsBefore}
 use Rattle.reserving.proofs.LaterCalls.{AreNumbered}
+use Rattle.charging.proofs.Steps.{with_grant}
 
 -- each fact is dated before the moment, and each grant's book has a number up to this one
 pub record IsEarly (from n : ℕ) (ledger : Ledger) : Type 0 where
@@ -50,14 +49,15 @@ module _ (from n t : ℕ) (early : t < from) where
       IsEarly from n (with_bar t barred ledger)
   early_barred barred ledger h = record { before = (early, h.before); numbered = (tt, h.numbered) }
 
-  early_charges : (hs : List Hold) (ledger : Ledger) → IsEarly from n ledger →
+  early_charges : (hs : List HeldAmount) (ledger : Ledger) → IsEarly from n ledger →
       IsEarly from n (charge_facts t hs ++ ledger)
   early_charges [] ledger h = h
   early_charges (x ∷ xs) ledger h =
       let rest : IsEarly from n (charge_facts t xs ++ ledger) = early_charges xs ledger h in
       record { before = (early, rest.before); numbered = (tt, rest.numbered) }
 
-  early_holds : (s : List ℕ) (g : ℕ) (hs : List Hold) (ledger : Ledger) → IsEarly from n ledger →
+  early_holds : (s : List ℕ) (g : ℕ) (hs : List HeldAmount) (ledger : Ledger) →
+      IsEarly from n ledger →
       IsEarly from n (hold_facts t s g hs ++ ledger)
   early_holds s g [] ledger h = h
   early_holds s g (x ∷ xs) ledger h =
@@ -79,10 +79,10 @@ module _ (from n t : ℕ) (early : t < from) where
       record { before = (early, rest.before); numbered = (tt, rest.numbered) }
 
 -- a grant has a book of the shelf
-early_granted : (from t : ℕ) → t < from → (b : Shelf) (s : List ℕ) (g units place : ℕ)
+early_granted : (from t : ℕ) → t < from → (b : Shelf) (s : List ℕ) (g units : ℕ)
     (ledger : Ledger) → IsEarly from (count b) ledger →
-    IsEarly from (count b) (record { at = t; fact = Grant s g (terms_at b t) units place } ∷ ledger)
-early_granted from t early b s g units place ledger h =
+    IsEarly from (count b) (with_grant b t s g units ledger)
+early_granted from t early b s g units ledger h =
     let few : number_at b t ≤ count b = (let most = begun_few b.later t in omega (arith, most)) in
     record { before = (early, h.before); numbered = (few, h.numbered) }
 
@@ -90,4 +90,4 @@ pub early_reserved : (from t : ℕ) → t < from → (b : Shelf) (s : List ℕ) 
     (ledger : Ledger) → IsEarly from (count b) ledger →
     IsEarly from (count b) (reserved b t s g units due ledger)
 early_reserved from t early b s g units due ledger h =
-    early_holds from (count b) t early s g _ _ (early_granted from t early b s g units _ ledger h)
+    early_holds from (count b) t early s g _ _ (early_granted from t early b s g units ledger h)

@@ -40,8 +40,8 @@ use Rattle.keepers.specs.declared.key.KeptAnswer.{KeptAnswer}
 use Rattle.keepers.specs.Keys.{key_of}
 use Rattle.charging.specs.Balances.{by_number, bucket_balance}
 use Rattle.charging.specs.Histories.{History, kept_under}
-use Rattle.charging.specs.Accepted.{Outcome}
-use Rattle.charging.specs.Outcomes.{told, keeping, unless_kept, failed, decided_by}
+use Rattle.charging.specs.Accepted.{CommandOutcome}
+use Rattle.charging.specs.Outcomes.{only_told, keeping, unless_kept, failed, decided_by}
 use Rattle.charging.specs.Outcomes.{request_outcome, from_of, until_of, is_full, is_out_of_range}
 use Rattle.charging.specs.Outcomes.{new_credit, credit_outcome, addition_outcome, book_days}
 use Rattle.charging.specs.Outcomes.{begin_of, end_of, is_over, allowance_refusal, allowed_unless}
@@ -70,7 +70,7 @@ module _ (from : ℕ) (b u : Shelf) (on : GoesOnFrom from b u) (t : ℕ) (early 
       request_outcome b r t h ≡ request_outcome u r t h
   request_same r h is =
       ap (λ (d : Decision). if is_read r.ask
-      then told (answer.Request (answer_of r d.outcome)) h
+      then only_told (answer.Request (answer_of r d.outcome)) h
       else unless_kept (kept_under (key_of (content.Request r)) h) (content.Request r)
       (failed r (InvalidAvpValue RequestNumber)) h (decided_by r d h))
       (decision_same from b u on t early r h.ledger is)
@@ -105,7 +105,7 @@ module _ (from : ℕ) (b u : Shelf) (on : GoesOnFrom from b u) (t : ℕ) (early 
   opened_same found h (command.AddVoucher v) is = refl
   opened_same found h (command.Redeem r) is = redeem_same found r h
   opened_same found h command.Sweep is = refl
-  opened_same found h (command.Balance n) is = λ i. told (answer.Balance (record {
+  opened_same found h (command.Balance n) is = λ i. only_told (answer.Balance (record {
     account = n;
     barred = is_barred h.ledger;
     buckets = map bucket_balance
@@ -116,21 +116,21 @@ module _ (from : ℕ) (b u : Shelf) (on : GoesOnFrom from b u) (t : ℕ) (early 
   pub outcome_same : (found : Option Voucher) (h : History) (c : Command) →
       IsEarly from (count b) h.ledger → outcome b found h c t ≡ outcome u found h c t
   outcome_same found h c is =
-      ap (λ (x : Outcome). if h.opened then x else unopened_outcome found h c)
+      ap (λ (x : CommandOutcome). if h.opened then x else unopened_outcome found h c)
       (opened_same found h c is)
 
 -- ---- and before the same moment
 
-abbrev IsEarlyOutcome : ℕ → ℕ → Outcome → Type 0
+abbrev IsEarlyOutcome : ℕ → ℕ → CommandOutcome → Type 0
 IsEarlyOutcome from n o = IsEarly from n o.after.ledger
 
-either_outcome : (from n : ℕ) (c : Bool) (x y : Outcome) → IsEarlyOutcome from n x →
+either_outcome : (from n : ℕ) (c : Bool) (x y : CommandOutcome) → IsEarlyOutcome from n x →
     IsEarlyOutcome from n y → IsEarlyOutcome from n (if c then x else y)
 either_outcome from n true x y p q = p
 either_outcome from n false x y p q = q
 
 unless_early : (from n : ℕ) (o : Option KeptAnswer) (new : Content) (conflict : Answer)
-    (h : History) (fresh : Outcome) → IsEarly from n h.ledger → IsEarlyOutcome from n fresh →
+    (h : History) (fresh : CommandOutcome) → IsEarly from n h.ledger → IsEarlyOutcome from n fresh →
     IsEarlyOutcome from n (unless_kept o new conflict h fresh)
 unless_early from n None new conflict h fresh p q = q
 unless_early from n (Some kept) new conflict h fresh p q = p

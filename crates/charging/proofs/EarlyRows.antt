@@ -1,43 +1,19 @@
 -- The rows of a ledger whose facts are before books that are added later are the same over both
 -- shelves.
-use Rattle.std.proofs.Common.{◌≡◌, ℕ, [], ◌∷◌, refl, sym, ap, ◌∙◌, Some, None}
-use Rattle.std.specs.Prelude.{◌==◌, ◌&&◌, ◌||◌, if◌then◌else◌}
+use Rattle.std.proofs.Common.{◌≡◌, ℕ, sym, ap, ◌∙◌, Some, None}
+use Rattle.std.specs.Prelude.{if◌then◌else◌}
 use Rattle.tariffs.specs.Books.{Book}
 use Rattle.shelves.specs.Shelves.{Shelf}
 use Rattle.shelves.specs.Laws.{GoesOnFrom}
-use Rattle.reserving.specs.Ledger.{Fact, Ledger, counts_group, has_counter}
-use Rattle.reserving.specs.Ledger.Fact.{Credit, Grant, Hold, End, Use, Charge, Touch, Close}
-use Rattle.reserving.specs.Ledger.Fact.{Recorded, Barred}
+use Rattle.reserving.specs.Ledger.{Ledger}
 use Rattle.reserving.specs.Pricing.{validity_of, cycle_at, cycle_with, tariff_of}
 use Rattle.reserving.specs.Sessions.{counter_at}
 use Rattle.reserving.specs.Rows.{IsRowsOf}
 use Rattle.reserving.specs.Stored.{StoredRows, priced}
 use Rattle.reserving.proofs.LaterBooks.{IsBefore, AgreeBefore, buckets_same, session_same}
-use Rattle.reserving.proofs.LaterBooks.{group_same, count_same, rows_go_on}
+use Rattle.reserving.proofs.LaterBooks.{group_same, count_same, has_same, rows_go_on}
 
 -- ---- counters
-
-counts_same : (f h : ℕ → ℕ) (g c at : ℕ) → f at ≡ h at → (x : Fact) →
-    counts_group f g c (record { at = at; fact = x }) ≡
-    counts_group h g c (record { at = at; fact = x })
-counts_same f h g c at same (Use session group units blocks covered rated uncollected) =
-    λ i. group == g && same i == c
-counts_same f h g c at same (Credit kind number start until scope amount) = refl
-counts_same f h g c at same (Grant session group terms units place) = refl
-counts_same f h g c at same (Hold session group bucket amount) = refl
-counts_same f h g c at same (End session group) = refl
-counts_same f h g c at same (Charge bucket amount) = refl
-counts_same f h g c at same (Touch session) = refl
-counts_same f h g c at same (Close session) = refl
-counts_same f h g c at same (Recorded session number) = refl
-counts_same f h g c at same (Barred barred) = refl
-
-has_same : (from : ℕ) (f h : ℕ → ℕ) (g c : ℕ) (ledger : Ledger) → AgreeBefore from f h →
-    IsBefore from ledger → has_counter f g c ledger ≡ has_counter h g c ledger
-has_same from f h g c [] agree before = refl
-has_same from f h g c (d ∷ older) agree before =
-    λ i. counts_same f h g c d.at (agree d.at before.0) d.fact i
-    || has_same from f h g c older agree before.1 i
 
 counter_same : (from : ℕ) (f h : ℕ → ℕ) (g c : ℕ) (ledger : Ledger) → AgreeBefore from f h →
     IsBefore from ledger → counter_at f ledger g c ≡ counter_at h ledger g c

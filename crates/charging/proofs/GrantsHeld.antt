@@ -14,25 +14,28 @@ use Rattle.reserving.specs.declared.session.Terms.{Terms}
 use Rattle.tariffs.specs.Tariffs.{GroupTariff, IsTariff}
 use Rattle.rating.specs.declared.grant.Grant.{Grant as RatedGrant}
 use Rattle.units.specs.declared.blocks.UsedPart.{UsedPart}
-use Rattle.buckets.specs.declared.holds.Hold.{Hold}
+use Rattle.buckets.specs.declared.holds.HeldAmount.{HeldAmount}
 use Rattle.buckets.specs.declared.kind.BucketKind.{BucketKind}
 use Rattle.buckets.specs.declared.kind.BucketKind.TheVariants.{Money, Blocks}
 use Rattle.buckets.specs.declared.kind.Due.{Due}
 use Rattle.buckets.specs.Kinds.{due_in}
-use Rattle.buckets.specs.Row.{Row, eligible_amount}
+use Rattle.buckets.specs.Row.{BucketRow, eligible_amount}
 use Rattle.buckets.specs.Share.{sum_in, share, parts}
 use Rattle.buckets.specs.Spend.{funds, allowance}
 use Rattle.buckets.specs.Holding.{held_in, held_sum, holds_of, paid}
 use Rattle.buckets.proofs.Parts.{sum_at, held_in-sum_at}
 use Rattle.reserving.specs.Ledger.{Fact, Ledger, or_else, inner, newest, last_recording, used}
 use Rattle.reserving.specs.Ledger.{counter, held, only, open_grant, grant_in, next_bucket}
-use Rattle.reserving.specs.Ledger.Fact.{Grant, End, Use, Touch, Close, Recorded, Barred}
+use Rattle.reserving.specs.Ledger.{UseOf, test_of, counts}
+use Rattle.reserving.specs.Ledger.Fact.{Grant, End, Use}
 use Rattle.reserving.specs.Pricing.{tariff_of, tariff_at, cycle_at, periods_at, terms_at}
 use Rattle.reserving.specs.Pricing.{validity_of}
 use Rattle.reserving.specs.Balance.{credits, buckets_at}
 use Rattle.reserving.specs.Requests.{credited}
-use Rattle.reserving.specs.Settlement.{charge_facts, due_of, settled_by}
+use Rattle.reserving.specs.Settlement.{charge_facts, due_of, report_price, settled_by}
+use Rattle.reserving.specs.Settlement.{use_of}
 use Rattle.reserving.specs.Reservation.{reserved, grant_for, held_due}
+use Rattle.reserving.specs.Reservation.{grant_at}
 use Rattle.reserving.specs.Debiting.{rest_price, debited}
 use Rattle.reserving.proofs.Lists.{some_of}
 use Rattle.reserving.proofs.Keys.{is_key, own_key, key_session, key_group}
@@ -45,7 +48,8 @@ use Rattle.charging.proofs.Credited.{AreCredited, in_order, distinct}
 use Rattle.charging.proofs.GrantPrices.{HasBlocks, PaysFor, pays_more, grant_pays, grant_within}
 use Rattle.charging.proofs.GrantPrices.{grant_allowed}
 use Rattle.charging.proofs.GrantsLeft.{held_together, LeavesGrant, leaves_both, leaves_same}
-use Rattle.charging.proofs.GrantsLeft.{leaves_one, leaves_charges, leaves_holds, tells}
+use Rattle.charging.proofs.GrantsLeft.{IsUntold, leaves_one, leaves_charges, leaves_holds}
+use Rattle.reserving.proofs.Counted.{IsQuiet, is_end, is_named, quiet}
 
 -- ---- groups with a tariff have blocks
 
@@ -125,21 +129,20 @@ pub covered_quiet : (b : Shelf) (t : ℕ) (f : Fact) (ledger : Ledger) → is_qu
     AreCovered b ledger → AreCovered b (record { at = t; fact = f } ∷ ledger)
 covered_quiet b t f ledger q h s g =
     covered_left b s g (record { at = t; fact = f } ∷ ledger) ledger
-    (leaves_one s g t f ledger (untold f q)) (h s g)
+    (leaves_one s g t f ledger (untold (quiet f q))) (h s g)
   where
-    untold : (f : Fact) → is_quiet f ≡ true → tells s g f ≡ false
-    untold (Touch session) k = refl
-    untold (Close session) k = refl
-    untold (Recorded session number) k = refl
-    untold (Barred barred) k = refl
-    untold _ k = cc
+    untold : IsQuiet (counts f) → IsUntold s g (counts f)
+    untold none = record {
+      named = λ i. is_named s g (none.usage i) (none.grant i);
+      ended = ap (test_of (is_end s g)) none.end;
+    }
 
 pub covered_credit : (b : Shelf) (t : ℕ) (kind : BucketKind) (from until : ℕ) (scope : Option ℕ)
     (amount : ℕ) (ledger : Ledger) → AreCovered b ledger →
     AreCovered b (credited t kind from until scope amount ledger)
 covered_credit b t kind from until scope amount ledger h s g =
     covered_left b s g (credited t kind from until scope amount ledger) ledger
-    (leaves_one s g t _ ledger refl) (h s g)
+    (leaves_one s g t _ ledger (record { named = refl; ended = refl })) (h s g)
 
 -- ---- settlements
 
@@ -166,19 +169,19 @@ covered_end b t session group new old left h s g x = by_test (is_key session gro
         IsCovered b s g more x
     by_test true own e = absurd (ended t session group new s g x own e)
     by_test false other e = covered_left b s g more old
-        (leaves_both s g more new old (leaves_one s g t (End session group) new other)
+        (leaves_both s g more new old (leaves_one s g t (End session group) new
+        (record { named = refl; ended = other }))
         (left s g other)) (h s g) x e
 
 -- a use of a group leaves the grants of others
-leaves_use : (t : ℕ) (session : List ℕ) (group units blocks covered rated short : ℕ)
-    (hs : List Hold) (ledger : Ledger) (s : List ℕ) (g : ℕ) → is_key session group s g ≡ false →
-    LeavesGrant s g (record { at = t; fact = Use session group units blocks covered rated short }
-    ∷ charge_facts t hs ++ ledger) ledger
-leaves_use t session group units blocks covered rated short hs ledger s g other =
-    leaves_both s g (record { at = t; fact = Use session group units blocks covered rated short }
-    ∷ charge_facts t hs ++ ledger) (charge_facts t hs ++ ledger) ledger
-    (leaves_one s g t (Use session group units blocks covered rated short)
-    (charge_facts t hs ++ ledger) other) (leaves_charges s g t hs ledger)
+leaves_use : (t : ℕ) (u : UseOf) (hs : List HeldAmount) (ledger : Ledger) (s : List ℕ) (g : ℕ) →
+    is_key u.session u.group s g ≡ false →
+    LeavesGrant s g (record { at = t; fact = Use u } ∷ charge_facts t hs ++ ledger) ledger
+leaves_use t u hs ledger s g other =
+    leaves_both s g (record { at = t; fact = Use u } ∷ charge_facts t hs ++ ledger)
+    (charge_facts t hs ++ ledger) ledger
+    (leaves_one s g t (Use u) (charge_facts t hs ++ ledger)
+    (record { named = other; ended = refl })) (leaves_charges s g t hs ledger)
 
 pub covered_settle : (b : Shelf) (t : ℕ) (session : List ℕ) (group : ℕ) (used_parts : List UsedPart)
     (ledger : Ledger) → AreCovered b ledger →
@@ -186,7 +189,9 @@ pub covered_settle : (b : Shelf) (t : ℕ) (session : List ℕ) (group : ℕ) (u
 covered_settle b t session group [] ledger h =
     covered_end b t session group ledger ledger (λ s g other. leaves_same s g ledger) h
 covered_settle b t session group (p ∷ ps) ledger h =
-    covered_end b t session group _ ledger (leaves_use t session group _ _ _ _ _ _ ledger) h
+    covered_end b t session group _ ledger (leaves_use t
+    (use_of session group _ _ (due_of (report_price b t session group (p ∷ ps) ledger)) _) _ ledger)
+    h
 
 -- ---- debits: of a session that has no grant
 
@@ -198,7 +203,7 @@ covered_debit b t session group units ledger new h s g x = by_test (is_key sessi
     more : Ledger
     more = debited b t session group units ledger
 
-    hs : List Hold
+    hs : List HeldAmount
     hs = parts (paid [] group t (due_of (rest_price b t group units ledger))
         (buckets_at (validity_of b) t ledger)) (buckets_at (validity_of b) t ledger)
 
@@ -211,9 +216,8 @@ covered_debit b t session group units ledger new h s g x = by_test (is_key sessi
         (before.recorded (ap (λ n. last_recording n ledger)
         (sym (key_session session group s g own)) ∙ new))
     by_test false other e = covered_left b s g more ledger
-        (leaves_use t session group units (rest_price b t group units ledger).blocks
-        (rest_price b t group units ledger).covered.0 (rest_price b t group units ledger).amount.0
-        0 hs ledger s g other) (h s g) x e
+        (leaves_use t (use_of session group units (rest_price b t group units ledger).blocks
+        (due_of (rest_price b t group units ledger)) 0) hs ledger s g other) (h s g) x e
 
 -- ---- grants
 
@@ -238,10 +242,10 @@ granted_together k b t s g units due ledger made le =
       same,
     )
   where
-    rows : List Row
+    rows : List BucketRow
     rows = buckets_at (validity_of b) t ledger
 
-    hs : List Hold
+    hs : List HeldAmount
     hs = holds_of g t due rows
 
     more : Ledger
@@ -251,7 +255,7 @@ granted_together k b t s g units due ledger made le =
         sum_at n hs + held (only s g) n (with_grant b t s g units ledger)
     own n = held-hold_facts (only s g) n t s g hs (with_grant b t s g units ledger) (own_key s g)
 
-    summed : (xs : List Row) → held_sum k hs xs ≡ sum_in k (λ x. sum_at x.number hs) xs
+    summed : (xs : List BucketRow) → held_sum k hs xs ≡ sum_in k (λ x. sum_at x.number hs) xs
     summed xs = sum_in-alike k (held_in hs) (λ x. sum_at x.number hs) xs (λ x. held_in-sum_at hs x)
 
     same : held_together k s g more
@@ -347,7 +351,8 @@ covered_grant b is t session group asked ledger made recorded h s g =
         (leaves_holds s g t session group
         (holds_of group t (held_due grant) (buckets_at (validity_of b) t ledger))
         (with_grant b t session group grant.units.0 ledger))
-        (leaves_one s g t (Grant session group (terms_at b t) grant.units.0 place) ledger other)
+        (leaves_one s g t (Grant (grant_at b t session group grant.units.0 ledger)) ledger
+        (record { named = other; ended = refl }))
 
     by_test : (k : Bool) → is_key session group s g ≡ k → IsCoveredAt b more s g
     by_test true same = subst (λ n. IsCoveredAt b more s n) (key_group session group s g same)

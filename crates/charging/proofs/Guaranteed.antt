@@ -6,17 +6,18 @@ use Rattle.tariffs.specs.Tariffs.{GroupTariff}
 use Rattle.shelves.specs.Shelves.{Shelf, IsShelf, tariff_in}
 use Rattle.rating.specs.declared.grant.Grant.{Grant as RatedGrant}
 use Rattle.units.specs.declared.blocks.UsedPart.{UsedPart}
-use Rattle.buckets.specs.declared.holds.Hold.{Hold}
+use Rattle.buckets.specs.declared.holds.HeldAmount.{HeldAmount}
 use Rattle.buckets.specs.declared.kind.BucketKind.{BucketKind}
 use Rattle.buckets.specs.declared.kind.BucketKind.TheVariants.{Money, Blocks}
 use Rattle.buckets.specs.Holding.{held_sum, holds_of, uncollected}
-use Rattle.reserving.specs.Ledger.{Fact, Ledger, used, counter, held, only, next_bucket}
-use Rattle.reserving.specs.Ledger.Fact.{Touch, Close, Recorded, Barred}
+use Rattle.reserving.specs.Ledger.{Fact, Ledger, used, counter, held, only, next_bucket, counts}
+use Rattle.reserving.specs.Ledger.Fact.{Touch, Recorded}
 use Rattle.reserving.specs.Pricing.{cycle_at, terms_now, rated_with, validity_of}
 use Rattle.reserving.specs.Balance.{credits, buckets_at}
 use Rattle.reserving.specs.Sessions.{holds_at}
 use Rattle.reserving.specs.Settlement.{price_by, coverable}
 use Rattle.reserving.specs.Settlement.{reported, report_price, charge_facts, settled_by, missing}
+use Rattle.reserving.specs.Settlement.{due_of, use_of}
 use Rattle.reserving.specs.Reservation.{hold_facts, grant_for, held_due}
 use Rattle.reserving.specs.Debiting.{debited}
 use Rattle.charging.specs.SessionReports.{Report}
@@ -31,6 +32,8 @@ use Rattle.charging.proofs.GrantsLeft.{held_together}
 use Rattle.charging.proofs.GrantsHeld.{has_blocks, IsCovered, AreCovered, covered_none}
 use Rattle.charging.proofs.GrantsHeld.{covered_quiet, covered_credit, covered_settle, covered_debit}
 use Rattle.charging.proofs.GrantsHeld.{covered_grant}
+use Rattle.rating.specs.declared.report.Rated.{Rated}
+use Rattle.reserving.proofs.Counted.{has_none, quiet}
 
 -- what each ledger of an account keeps: it is paid, its open grants are covered, and its uses
 -- within them are collected
@@ -41,23 +44,20 @@ pub record IsGuaranteed (b : Shelf) (reports : List Report) (ledger : Ledger) : 
 
 -- ---- facts that are no uses
 
-AreQuotasPaid-charges : (b : Shelf) (t : ℕ) (hs : List Hold) (ledger : Ledger) →
+AreQuotasPaid-charges : (b : Shelf) (t : ℕ) (hs : List HeldAmount) (ledger : Ledger) →
     AreQuotasPaid b ledger → AreQuotasPaid b (charge_facts t hs ++ ledger)
 AreQuotasPaid-charges b t [] ledger h = h
 AreQuotasPaid-charges b t (x ∷ xs) ledger h = (tt, AreQuotasPaid-charges b t xs ledger h)
 
-AreQuotasPaid-holds : (b : Shelf) (t : ℕ) (s : List ℕ) (g : ℕ) (hs : List Hold) (ledger : Ledger) →
+AreQuotasPaid-holds : (b : Shelf) (t : ℕ) (s : List ℕ) (g : ℕ) (hs : List HeldAmount)
+    (ledger : Ledger) →
     AreQuotasPaid b ledger → AreQuotasPaid b (hold_facts t s g hs ++ ledger)
 AreQuotasPaid-holds b t s g [] ledger h = h
 AreQuotasPaid-holds b t s g (x ∷ xs) ledger h = (tt, AreQuotasPaid-holds b t s g xs ledger h)
 
 quiet_quotas : (b : Shelf) (t : ℕ) (f : Fact) (ledger : Ledger) → is_quiet f ≡ true →
     AreQuotasPaid b ledger → AreQuotasPaid b (record { at = t; fact = f } ∷ ledger)
-quiet_quotas b t (Touch s) ledger q h = (tt, h)
-quiet_quotas b t (Close s) ledger q h = (tt, h)
-quiet_quotas b t (Recorded s n) ledger q h = (tt, h)
-quiet_quotas b t (Barred x) ledger q h = (tt, h)
-quiet_quotas b t _ ledger q h = cc
+quiet_quotas b t f ledger q h = (has_none _ (counts f).usage (quiet f q).usage, h)
 
 -- ---- a report
 
@@ -106,10 +106,12 @@ settled_quotas : (b : Shelf) → IsShelf b →
     AreQuotasPaid b (settled_by b t s g used_parts ledger)
 settled_quotas b is t s g [] reports ledger h = (tt, h.quotas)
 settled_quotas b is t s g (p ∷ ps) reports ledger h =
-    let hs : List Hold = paid_parts b t s g (p ∷ ps) ledger in (
+    let price : Rated = report_price b t s g (p ∷ ps) ledger in
+    let hs : List HeldAmount = paid_parts b t s g (p ∷ ps) ledger in (
       tt,
       (
-        subst (IsWithinGrant b t s g (reported (p ∷ ps)) (missing b t s g (p ∷ ps) ledger))
+        subst (IsWithinGrant b t (use_of s g (reported (p ∷ ps)) price.blocks (due_of price)
+            (missing b t s g (p ∷ ps) ledger)))
             (sym (before_charges-charges t hs ledger h.paying.begins))
             (within_grant b is t s g (p ∷ ps) reports ledger h),
         AreQuotasPaid-charges b t hs ledger h.quotas,

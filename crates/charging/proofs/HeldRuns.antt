@@ -1,15 +1,15 @@
 -- What a run leaves of a keeper whose store may fail, command by command.
-use Rattle.std.proofs.Common.{◌≡◌, ◌+◌, ◌≤◌, ◌<◌, ℕ, List, [], ◌∷◌, ◌++◌, length, take}
-use Rattle.std.proofs.Common.{refl, sym, ap, subst, ◌∙◌, arith, le_refl, ◌⊎◌, inl, inr, Option, Some}
-use Rattle.std.proofs.Common.{None, Result, Ok, Err}
+use Rattle.std.proofs.Common.{◌≡◌, ◌+◌, ◌≤◌, ℕ, List, [], ◌∷◌, ◌++◌, length, take}
+use Rattle.std.proofs.Common.{refl, sym, ap, subst, ◌∙◌, arith, le_refl, ◌⊎◌, inl, inr, Some}
+use Rattle.std.proofs.Common.{None, Ok, Err}
 use Rattle.std.proofs.lemmas.List.{length-append, append_assoc}
 use Rattle.std.proofs.lemmas.Option.{same_Some}
 use Rattle.std.proofs.Math.Seq.{take-append_seam}
-use Rattle.std.specs.Prelude.{Vec, min}
+use Rattle.std.specs.Prelude.{Vec}
 use Rattle.std.specs.Global.{Global}
 use Rattle.commands.specs.declared.answer.Answer.{Answer}
 use Rattle.shelves.specs.Shelves.{Shelf}
-use Rattle.keepers.specs.Faults.{HasCause, max_failures}
+use Rattle.keepers.specs.Faults.{HasCause}
 use Rattle.keepers.specs.Tables.{Tables}
 use Rattle.keepers.specs.declared.fault.StoreFault.{StoreFault}
 use Rattle.keepers.specs.declared.fault.StoreFault.TheVariants.{Memory, Store}
@@ -30,7 +30,8 @@ no-answers : (given : List Answer) (x : Answer) → given ++ x ∷ [] ≡ [] →
 no-answers given x e = omega (arith, ap length e, length-append given (x ∷ []))
 
 -- a beginning of the commands that is as long as this, or one longer, is held
-held-at : (b : Shelf) (commands xs rest : List DatedCommand) (old t : Tables) (given : List Answer) →
+held-at : (b : Shelf) (commands xs rest : List DatedCommand) (old t : Tables)
+    (given : List Answer) →
     xs ++ rest ≡ commands → length given ≤ length xs → length xs ≤ length given + 1 →
     AreAfter b xs old t → AreHeld b commands old given t
 held-at b commands xs rest old t given all low high after = λ list time is. record {
@@ -98,7 +99,8 @@ module _ {K : Type 0} (content : K → Tables) (failed : K → ℕ) (honest clea
         }
 
   -- what a stop leaves of so many is held
-  held-now : (commands ds rest : List DatedCommand) (old now : K) (given : List Answer) (t : Tables) →
+  held-now : (commands ds rest : List DatedCommand) (old now : K) (given : List Answer)
+      (t : Tables) →
       Has old now ds given → ds ++ rest ≡ commands → length given ≡ length ds → honest now →
       leaves now t → ((ds ≡ []) × leaves old t) ⊎ AreHeld b commands (content old) given t
   held-now commands ds rest old now given t had all count h l = at (had.left h t l)
@@ -136,7 +138,8 @@ module _ {K : Type 0} (content : K → Tables) (failed : K → ℕ) (honest clea
       Has old now ds given → ds ++ rest ≡ commands → length given ≡ length ds → honest now →
       AreAnswered b commands (content old) given
   answered-now commands ds rest old now given had all count h = λ list time is.
-      (run-of b list commands ds rest (content now) given all count (had.runs h list time is)).answers
+      (run-of b list commands ds rest (content now) given all count
+      (had.runs h list time is)).answers
 
   -- ---- a run ends
 
@@ -144,8 +147,8 @@ module _ {K : Type 0} (content : K → Tables) (failed : K → ℕ) (honest clea
       (had : Has old now ds answers.items) (all : ds ++ rest ≡ commands)
       (count : length answers.items ≡ length ds) where
     runs-now : clean now → Runs b commands (content old) (content now) answers.items
-    runs-now c = λ list time is. run-of b list commands ds rest (content now) answers.items all count
-        (had.runs (is_honest now c) list time is)
+    runs-now c = λ list time is. run-of b list commands ds rest (content now) answers.items all
+        count (had.runs (is_honest now c) list time is)
 
     -- each command was answered
     pub run-whole : length rest ≡ 0 → RunsOver content failed honest clean leaves b commands old now
@@ -255,5 +258,6 @@ module _ {K : Type 0} (content : K → Tables) (failed : K → ℕ) (honest clea
               (held-failed t h (left h t l));
           left = λ h t l. left-or-held (held-failed t h (left h t l));
           failures = omega (arith, cause.kept, had.failures);
-          cause = λ e. omega (arith, cause.cause (λ i. Err (same_Some fault Store e i)), had.failures);
+          cause =
+              λ e. omega (arith, cause.cause (λ i. Err (same_Some fault Store e i)), had.failures);
         }

@@ -23,7 +23,7 @@ use Rattle.units.specs.declared.blocks.UsedPart.{UsedPart}
 use Rattle.buckets.specs.declared.kind.BucketKind.TheVariants.{Money}
 use Rattle.buckets.specs.declared.kind.Due.{Due}
 use Rattle.reserving.specs.Settlement.{due_of}
-use Rattle.buckets.specs.declared.holds.Hold.{Hold}
+use Rattle.buckets.specs.declared.holds.HeldAmount.{HeldAmount}
 use Rattle.buckets.specs.Share.{parts}
 use Rattle.buckets.specs.Holding.{holds_of, paid}
 use Rattle.reserving.specs.Ledger.{Ledger, Recording, or_else, is_barred, is_within, is_live}
@@ -46,7 +46,8 @@ use Rattle.decisions.specs.Decided.{Decision, invalid, refused_or}
 use Rattle.decisions.specs.Settling.{settled_service, settled_services}
 use Rattle.decisions.specs.Granting.{Answered, granted_units, granted_if, granted_by, granted}
 use Rattle.decisions.specs.Granting.{after_grants, any_grants}
-use Rattle.decisions.specs.Events.{event_fault, event_units, debit_refusal, charged, charged_by}
+use Rattle.decisions.specs.Events.{event_fault, event_units, debit_refusal, charged_at_once}
+use Rattle.decisions.specs.Events.{charged_by}
 use Rattle.decisions.specs.Events.{charged_unless_barred, debit_decision, read_refusal}
 use Rattle.decisions.specs.Events.{decided_action, refund_refusal, refunded, refund_decision}
 use Rattle.decisions.specs.Decisions.{initial_refusal, opened, opened_unless_barred}
@@ -64,11 +65,11 @@ recorded_granted b t s g units due ledger =
     (hold_facts t s g (holds_of g t due (buckets_at (validity_of b) t ledger)))
     (with_grant b t s g units ledger)
     (each_hold (λ d. recording_in s d ≡ None) t s g
-    (holds_of g t due (buckets_at (validity_of b) t ledger)) (λ x n. refl))
+    (holds_of g t due (buckets_at (validity_of b) t ledger)) (λ x. refl))
 
 -- ---- a session's requests are of one that was touched
 
-touched-charges : (s : List ℕ) (t : ℕ) (hs : List Hold) (ledger : Ledger) →
+touched-charges : (s : List ℕ) (t : ℕ) (hs : List HeldAmount) (ledger : Ledger) →
     last_touch s (charge_facts t hs ++ ledger) ≡ last_touch s ledger
 touched-charges s t [] ledger = refl
 touched-charges s t (h ∷ hs) ledger = touched-charges s t hs ledger
@@ -130,7 +131,8 @@ module _ (b : Shelf) (P : List Report → Ledger → Type 0) (k : Keeps b P)
 
   kept_recorded : (t : ℕ) (s : List ℕ) (n : ℕ) (ledger : Ledger) →
       last_recording s ledger ≡ None → IsKept ledger → IsKept (recorded t s n ledger)
-  kept_recorded t s n ledger new h = k.quiet t (Recorded s n) reports ledger refl refl new h
+  kept_recorded t s n ledger new h =
+      k.quiet t (Recorded s n) reports ledger refl refl (record { close = tt; request = new }) h
 
   -- a first request that isn't refused has a new name
   new_name : (s : List ℕ) (o : Option Recording) (other : Option Failure) →
@@ -222,7 +224,7 @@ module _ (b : Shelf) (P : List Report → Ledger → Type 0) (k : Keeps b P)
   kept_charged (Some tariff) t s n e ledger new h =
       let units : ℕ = event_units tariff e.requested in
       either_decision (is_covered b t e.group units ledger)
-      (charged b tariff t s n e.group units ledger) _
+      (charged_at_once b tariff t s n e.group units ledger) _
       (λ covered. either_decision (debit_passes b t s e.group units ledger) _ _ (λ p. h)
       (λ p. k.event t s e.group units n reports ledger new covered h))
       (λ p. kept_recorded t s n ledger new h)
@@ -331,7 +333,8 @@ module _ (b : Shelf) (P : List Report → Ledger → Type 0) (k : Keeps b P) whe
       let live : IsOpen b P k more s (settled_touched b t s n services ledger) =
       open_touched b P k more t s n (settled_services b t s services ledger)
       (kept_services t s services reports ledger touches h) in
-      k.quiet t (Close s) more (settled_touched b t s n services ledger) refl refl live.0 live.1)
+      k.quiet t (Close s) more (settled_touched b t s n services ledger) refl refl
+      (record { close = live.0; request = tt }) live.1)
 
   -- ---- a request
 

@@ -28,8 +28,8 @@ use Rattle.decisions.specs.Decisions.{decision, answer_of, is_read}
 use Rattle.keepers.specs.declared.key.KeptAnswer.{KeptAnswer}
 use Rattle.keepers.specs.Keys.{key_of}
 use Rattle.charging.specs.Histories.{History, kept_under}
-use Rattle.charging.specs.Accepted.{Accepted, Outcome, concerned_by, names}
-use Rattle.charging.specs.Outcomes.{told, keeping, unless_kept, decided_by, request_outcome}
+use Rattle.charging.specs.Accepted.{Accepted, CommandOutcome, concerned_by, names}
+use Rattle.charging.specs.Outcomes.{only_told, keeping, unless_kept, decided_by, request_outcome}
 use Rattle.charging.specs.Outcomes.{from_of, until_of, is_full, is_out_of_range, new_credit}
 use Rattle.charging.specs.Outcomes.{credit_outcome, addition_outcome, book_days, redeemed_outcome}
 use Rattle.charging.specs.Outcomes.{redemption_outcome, new_redemption, redeem_outcome}
@@ -43,17 +43,18 @@ use Rattle.charging.proofs.KeptDecisions.{kept_decided}
 
 module _ (b : Shelf) (P : List Report → Ledger → Type 0) (k : Keeps b P) where
   -- what a command comes to, with its reports where it is accepted
-  abbrev IsKept : Command → ℕ → List Report → Outcome → Type 0
+  abbrev IsKept : Command → ℕ → List Report → CommandOutcome → Type 0
   IsKept c t reports o = P (if o.accepted then with_reports b t c reports else reports)
       o.after.ledger
 
-  either_outcome : (c : Command) (t : ℕ) (reports : List Report) (v : Bool) (x y : Outcome) →
+  either_outcome : (c : Command) (t : ℕ) (reports : List Report) (v : Bool) (x y : CommandOutcome) →
       IsKept c t reports x → IsKept c t reports y → IsKept c t reports (if v then x else y)
   either_outcome c t reports true x y p q = p
   either_outcome c t reports false x y p q = q
 
   kept_unless : (c : Command) (t : ℕ) (reports : List Report) (o : Option KeptAnswer)
-      (new : Content) (conflict : Answer) (h : History) (fresh : Outcome) → P reports h.ledger →
+      (new : Content) (conflict : Answer) (h : History) (fresh : CommandOutcome) →
+      P reports h.ledger →
       IsKept c t reports fresh →
       IsKept c t reports (unless_kept o new conflict h fresh)
   kept_unless c t reports None new conflict h fresh p q = q
@@ -71,7 +72,7 @@ module _ (b : Shelf) (P : List Report → Ledger → Type 0) (k : Keeps b P) whe
           IsKept (command.Ccr r) t reports
           (if v then keeping (content.Request r)
           (answer.Request (answer_of r d.outcome)) d.after h
-          else told (answer.Request (answer_of r d.outcome)) h)
+          else only_told (answer.Request (answer_of r d.outcome)) h)
       at true q = q
       at false q = p
 
@@ -145,9 +146,9 @@ module _ (b : Shelf) (P : List Report → Ledger → Type 0) (k : Keeps b P) whe
   kept_opened s h (command.Credit c) t reports p = kept_credit c t reports h p
   kept_opened s h (command.Allow a) t reports p = kept_allowance a t reports h p
   kept_opened s h (command.Bar n) t reports p =
-      k.quiet t (Barred true) reports h.ledger refl refl tt p
+      k.quiet t (Barred true) reports h.ledger refl refl (record { close = tt; request = tt }) p
   kept_opened s h (command.Unbar n) t reports p =
-      k.quiet t (Barred false) reports h.ledger refl refl tt p
+      k.quiet t (Barred false) reports h.ledger refl refl (record { close = tt; request = tt }) p
   kept_opened s h (command.AddVoucher v) t reports p =
       kept_addition (addition s v.terms) (command.AddVoucher v) t reports h p p
   kept_opened s h (command.Redeem r) t reports p = kept_redeem s r t reports h p

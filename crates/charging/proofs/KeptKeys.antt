@@ -9,7 +9,7 @@ use Rattle.commands.specs.declared.answer.Answer.{Answer}
 use Rattle.commands.specs.declared.answer.Answer.TheVariants as answer
 use Rattle.commands.specs.declared.answer.Failure.{Failure}
 use Rattle.commands.specs.declared.answer.Failure.TheVariants.{InvalidAvpValue}
-use Rattle.commands.specs.declared.answer.Outcome.{Outcome as RequestOutcome}
+use Rattle.commands.specs.declared.answer.Outcome.{Outcome}
 use Rattle.commands.specs.declared.answer.Refusal.TheVariants.{ContentDiffers}
 use Rattle.commands.specs.declared.avp.Avp.TheVariants.{RequestNumber}
 use Rattle.commands.specs.declared.allowance.Allowance.{Allowance}
@@ -35,8 +35,8 @@ use Rattle.reserving.specs.Pricing.{tariff_at}
 use Rattle.keepers.specs.declared.key.KeptAnswer.{KeptAnswer}
 use Rattle.keepers.specs.Keys.{key_of}
 use Rattle.charging.specs.Histories.{History, kept_under}
-use Rattle.charging.specs.Accepted.{Outcome}
-use Rattle.charging.specs.Outcomes.{told, keeping, same_content, repeated, unless_kept, failed}
+use Rattle.charging.specs.Accepted.{CommandOutcome}
+use Rattle.charging.specs.Outcomes.{only_told, keeping, same_content, repeated, unless_kept, failed}
 use Rattle.charging.specs.Outcomes.{decided_by, request_outcome, new_credit, credit_outcome}
 use Rattle.charging.specs.Outcomes.{new_allowance, allowance_outcome}
 use Rattle.charging.specs.Outcomes.{new_redemption, redeem_outcome}
@@ -131,7 +131,7 @@ same-content test x y h = at test (same_content x y) h (content_exact x y)
 
 -- ---- a request
 
-told_or : (o : Option Failure) (ledger : Ledger) (outcome : RequestOutcome) →
+told_or : (o : Option Failure) (ledger : Ledger) (outcome : Outcome) →
     (refused_or o ledger (told_of outcome ledger)).accepted ≡ false
 told_or None ledger outcome = refl
 told_or (Some failure) ledger outcome = refl
@@ -162,12 +162,12 @@ reads-refused b t r ledger h = read_ask r.ask b t r.session r.number ledger h
 pub decided-told : (b : Shelf) (r : Request) (t : ℕ) (h : History) →
     (decision b t r h.ledger).accepted ≡ false →
     decided_by r (decision b t r h.ledger) h ≡
-    told (answer.Request (answer_of r (decision b t r h.ledger).outcome)) h
+    only_told (answer.Request (answer_of r (decision b t r h.ledger).outcome)) h
 decided-told b r t h e = ap
     (λ v. if v then keeping (content.Request r)
     (answer.Request (answer_of r (decision b t r h.ledger).outcome))
     (decision b t r h.ledger).after h
-    else told (answer.Request (answer_of r (decision b t r h.ledger).outcome)) h) e
+    else only_told (answer.Request (answer_of r (decision b t r h.ledger).outcome)) h) e
 
 pub decided-kept : (b : Shelf) (r : Request) (t : ℕ) (h : History) →
     (decision b t r h.ledger).accepted ≡ true →
@@ -178,29 +178,29 @@ decided-kept b r t h e = ap
     (λ v. if v then keeping (content.Request r)
     (answer.Request (answer_of r (decision b t r h.ledger).outcome))
     (decision b t r h.ledger).after h
-    else told (answer.Request (answer_of r (decision b t r h.ledger).outcome)) h) e
+    else only_told (answer.Request (answer_of r (decision b t r h.ledger).outcome)) h) e
 
 module _ (b : Shelf) (r : Request) (t : ℕ) (h : History) where
   abbrev conflict : Answer
   conflict = failed r (InvalidAvpValue RequestNumber)
 
-  abbrev of_kept : Option KeptAnswer → Outcome
+  abbrev of_kept : Option KeptAnswer → CommandOutcome
   of_kept o = unless_kept o (content.Request r) conflict h
       (decided_by r (decision b t r h.ledger) h)
 
-  abbrev read_told : Outcome
-  read_told = told (answer.Request (answer_of r (decision b t r h.ledger).outcome)) h
+  abbrev read_told : CommandOutcome
+  read_told = only_told (answer.Request (answer_of r (decision b t r h.ledger).outcome)) h
 
   -- whose key is kept
   pub request-repeated : (kept : KeptAnswer) (o : Option KeptAnswer) →
       o ≡ kept_under (key_of (content.Request r)) h →
       (if is_read r.ask then None else o) ≡ Some kept →
-      request_outcome b r t h ≡ told (repeated kept (content.Request r) conflict) h
+      request_outcome b r t h ≡ only_told (repeated kept (content.Request r) conflict) h
   request-repeated kept o under found = at (is_read r.ask) found
     where
       at : (v : Bool) → (if v then None else o) ≡ Some kept →
           (if v then read_told else of_kept (kept_under (key_of (content.Request r)) h)) ≡
-          told (repeated kept (content.Request r) conflict) h
+          only_told (repeated kept (content.Request r) conflict) h
       at true e = absurd (no_some kept e)
       at false e = ap of_kept (sym under ∙ e)
 
@@ -220,7 +220,8 @@ module _ (b : Shelf) (r : Request) (t : ℕ) (h : History) where
 
 pub credit-repeated : (c : Credit) (t : ℕ) (h : History) (kept : KeptAnswer) →
     kept_under (key_of (content.Credit c)) h ≡ Some kept →
-    credit_outcome c t h ≡ told (repeated kept (content.Credit c) (answer.Refused ContentDiffers)) h
+    credit_outcome c t h ≡ only_told (repeated kept (content.Credit c)
+    (answer.Refused ContentDiffers)) h
 credit-repeated c t h kept e =
     ap (λ o. unless_kept o (content.Credit c) (answer.Refused ContentDiffers) h (new_credit c t h))
     e
@@ -235,7 +236,7 @@ credit-fresh c t h e = ap
 pub allowance-repeated : (b : Shelf) (a : Allowance) (t : ℕ) (h : History) (kept : KeptAnswer) →
     kept_under (key_of (content.Allow a)) h ≡ Some kept →
     allowance_outcome b a t h ≡
-    told (repeated kept (content.Allow a) (answer.Refused ContentDiffers)) h
+    only_told (repeated kept (content.Allow a) (answer.Refused ContentDiffers)) h
 allowance-repeated b a t h kept e =
     ap (λ o. unless_kept o (content.Allow a) (answer.Refused ContentDiffers) h
     (new_allowance b a t h)) e
@@ -252,7 +253,7 @@ allowance-fresh b a t h e =
 pub redemption-repeated : (b : Shelf) (standing : Option Voucher) (r : VoucherRedemption) (t : ℕ)
     (h : History) (kept : KeptAnswer) → kept_under (key_of (content.Redeem r)) h ≡ Some kept →
     redeem_outcome b standing r t h ≡
-    told (repeated kept (content.Redeem r) (answer.Refused ContentDiffers)) h
+    only_told (repeated kept (content.Redeem r) (answer.Refused ContentDiffers)) h
 redemption-repeated b standing r t h kept e =
     ap (λ o. unless_kept o (content.Redeem r) (answer.Refused ContentDiffers) h
     (new_redemption b standing r t h)) e

@@ -35,8 +35,8 @@ use Rattle.keepers.specs.declared.key.Key.{Key}
 use Rattle.keepers.specs.declared.key.KeptAnswer.{KeptAnswer}
 use Rattle.keepers.specs.Keys.{key_of}
 use Rattle.charging.specs.Histories.{History, is_kept_under, kept_under}
-use Rattle.charging.specs.Accepted.{Accepted, Outcome, concerned_by, names}
-use Rattle.charging.specs.Outcomes.{outcome, opened_outcome, unopened_outcome, told, keeping}
+use Rattle.charging.specs.Accepted.{Accepted, CommandOutcome, concerned_by, names}
+use Rattle.charging.specs.Outcomes.{outcome, opened_outcome, unopened_outcome, only_told, keeping}
 use Rattle.charging.specs.Outcomes.{unless_kept, failed, decided_by, request_outcome, from_of}
 use Rattle.charging.specs.Outcomes.{until_of, is_full, is_out_of_range, new_credit}
 use Rattle.charging.specs.Outcomes.{allowance_refusal, allowed_unless, new_allowance}
@@ -47,7 +47,7 @@ use Rattle.charging.specs.Served.{history, standing}
 -- ---- an account that is there stays
 
 kept_stays : (o : Option KeptAnswer) (new : Content) (conflict : Answer) (h : History)
-    (fresh : Outcome) → fresh.after.opened ≡ h.opened →
+    (fresh : CommandOutcome) → fresh.after.opened ≡ h.opened →
     (unless_kept o new conflict h fresh).after.opened ≡ h.opened
 kept_stays None new conflict h fresh e = e
 kept_stays (Some kept) new conflict h fresh e = refl
@@ -58,7 +58,7 @@ decided_stays r d h = at d.accepted
   where
     at : (v : Bool) →
         (if v then keeping (content.Request r) (answer.Request (answer_of r d.outcome)) d.after h
-        else told (answer.Request (answer_of r d.outcome)) h).after.opened ≡ h.opened
+        else only_told (answer.Request (answer_of r d.outcome)) h).after.opened ≡ h.opened
     at true = refl
     at false = refl
 
@@ -67,7 +67,7 @@ request_stays : (b : Shelf) (r : Request) (t : ℕ) (h : History) →
 request_stays b r t h = at (is_read r.ask)
   where
     at : (v : Bool) →
-        (if v then told (answer.Request (answer_of r (decision b t r h.ledger).outcome)) h
+        (if v then only_told (answer.Request (answer_of r (decision b t r h.ledger).outcome)) h
         else unless_kept (kept_under (key_of (content.Request r)) h) (content.Request r)
         (failed r (InvalidAvpValue RequestNumber)) h
         (decided_by r (decision b t r h.ledger) h)).after.opened ≡ h.opened
@@ -79,7 +79,7 @@ request_stays b r t h = at (is_read r.ask)
 credit_stays : (c : Credit) (t : ℕ) (h : History) → (new_credit c t h).after.opened ≡ h.opened
 credit_stays c t h = at (is_out_of_range c t h.ledger)
   where
-    at : (v : Bool) → (if v then told (answer.Refused OutOfRange) h
+    at : (v : Bool) → (if v then only_told (answer.Refused OutOfRange) h
         else keeping (content.Credit c) (answer.Bucket (next_bucket h.ledger))
         (credited t Money (from_of c t) (until_of c) c.scope c.amount h.ledger) h).after.opened ≡
         h.opened
@@ -95,7 +95,7 @@ redeemed_stays : (x : Redemption) (r : VoucherRedemption) (t : ℕ) (h : History
     (redeemed_outcome x r t h).after.opened ≡ h.opened
 redeemed_stays x r t h = at (is_full h.ledger)
   where
-    at : (v : Bool) → (if v then told (answer.Refused OutOfRange) h
+    at : (v : Bool) → (if v then only_told (answer.Refused OutOfRange) h
         else keeping (content.Redeem r) (answer.Bucket (next_bucket h.ledger))
         (credited t Money x.from x.until x.scope x.amount h.ledger) h).after.opened ≡ h.opened
     at true = refl

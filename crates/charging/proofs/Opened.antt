@@ -17,10 +17,8 @@ use Rattle.buckets.specs.Spend.{funds, allowance}
 use Rattle.shelves.specs.Shelves.{Shelf, book_at}
 use Rattle.tariffs.specs.Tariffs.{GroupTariff}
 use Rattle.rating.specs.declared.grant.Grant.{Grant as RatedGrant}
-use Rattle.reserving.specs.Ledger.{Fact, Ledger, is_same, is_live, is_barred, last_recording, held}
-use Rattle.reserving.specs.Ledger.{units_in, used, counter, names_group, has_group}
-use Rattle.reserving.specs.Ledger.Fact.{Credit, Grant, Hold as HoldFact, End, Use, Charge, Touch}
-use Rattle.reserving.specs.Ledger.Fact.{Close, Recorded, Barred}
+use Rattle.reserving.specs.Ledger.{Ledger, is_same, is_live, is_barred, last_recording, held}
+use Rattle.reserving.specs.Ledger.{used, counter, has_group}
 use Rattle.reserving.specs.Balance.{buckets_at}
 use Rattle.reserving.specs.Pricing.{tariff_at, cycle_at, periods_at, validity_of, grant_with}
 use Rattle.reserving.specs.Requests.{touched}
@@ -28,42 +26,17 @@ use Rattle.reserving.specs.Reservation.{reserved, grant_for, held_due}
 use Rattle.reserving.specs.SoundLedger.{IsSoundLedger}
 use Rattle.reserving.proofs.Holds.{held_split, held_same, split_by, split_less}
 use Rattle.reserving.proofs.Keys.{is_same-sym}
+use Rattle.reserving.proofs.SettledRows.{used_none}
 use Rattle.reserving.proofs.rows.Touching.{SameMoney, same_touched, buckets_at-same}
 use Rattle.decisions.specs.Reports.{units_of, asked_units}
 use Rattle.decisions.specs.Granting.{Answered, grant_answer, granted_units}
 use Rattle.decisions.specs.Granting.{granted_if, granted_by, granted, grant_answers, grants_new}
 use Rattle.decisions.specs.Granting.{any_grants, denial, first_denial}
 use Rattle.charging.specs.Served.{history}
-use Rattle.charging.specs.Opening.{is_granted, IsFirstDenial}
-use Rattle.charging.specs.Opening.{SessionsOpenByGrants}
+use Rattle.charging.specs.Opening.{is_granted, IsFirstDenial, SessionsOpenByGrants}
 use Rattle.charging.proofs.KeptHistories.{kept_history}
 use Rattle.charging.proofs.Recorded.{new_has_no_groups}
 use Rattle.charging.proofs.Sound.{IsSoundHistory, sound_none, keeps_sound}
-
--- ---- what wasn't named is 0
-
-none_units : (s : List ℕ) (g : ℕ) (f : Fact) → names_group s g f ≡ false → units_in s g f ≡ 0
-none_units s g (Use x y units blocks covered rated uncollected) h =
-    ap (λ y. if y then units else 0) h
-none_units s g (HoldFact a b c d) h = refl
-none_units s g (Credit k a b c d e) h = refl
-none_units s g (Grant a b c d e) h = refl
-none_units s g (End a b) h = refl
-none_units s g (Charge a b) h = refl
-none_units s g (Touch a) h = refl
-none_units s g (Close a) h = refl
-none_units s g (Recorded a b) h = refl
-none_units s g (Barred a) h = refl
-
-used_none : (s : List ℕ) (g : ℕ) (ledger : Ledger) → has_group s g ledger ≡ false →
-    used s g ledger ≡ 0
-used_none s g [] h = refl
-used_none s g (d ∷ older) h =
-    omega (
-      arith,
-      none_units s g d.fact (or_parts (names_group s g d.fact) (has_group s g older) h).0,
-      used_none s g older (or_parts (names_group s g d.fact) (has_group s g older) h).1,
-    )
 
 -- ---- a new session holds nothing, so that touching it leaves each bucket
 
@@ -204,8 +177,8 @@ module _ (b : Shelf) (t : ℕ) (s : List ℕ) (n : ℕ) (ledger : Ledger) (sound
         (asked_units x.requested) (funds x.group t (buckets_at (validity_of b) t ledger))
         (allowance x.group t (buckets_at (validity_of b) t ledger))).units.0) known);
     stays = λ k. refl;
-    failed = λ k. ap (λ (o : Option GroupTariff). service.Failed (if is_some o then CreditLimitReached
-        else RatingFailed)) (sym known);
+    failed = λ k. ap (λ (o : Option GroupTariff). service.Failed
+        (if is_some o then CreditLimitReached else RatingFailed)) (sym known);
   }
   by_tariff (Some tariff) x known e = by_request tariff x x.requested known refl e
 

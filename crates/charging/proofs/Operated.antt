@@ -24,6 +24,7 @@ use Rattle.reserving.specs.Requests.{credited, with_bar}
 use Rattle.reserving.specs.Rows.{AccountRows, IsAccount, IsRowsOf}
 use Rattle.reserving.specs.Stored.{StoredRows, stored, priced}
 use Rattle.reserving.specs.Left.{LeftRows, IsWith, left_of, differing}
+use Rattle.reserving.specs.Others.{OtherRows, other_rows, other_sessions, other_groups}
 use Rattle.reserving.proofs.StoredRows.{IsStored-stored}
 use Rattle.reserving.proofs.LeftTests.{first_alone}
 use Rattle.keepers.specs.declared.key.Key.{Key}
@@ -35,11 +36,13 @@ use Rattle.keepers.specs.Keys.{key_of}
 use Rattle.keepers.specs.Tables.{Head, Rows, Tables, group_row, held_of, no_rows}
 use Rattle.keepers.specs.Change.{AreRowsAt, held_over, over, changed, IsSwept}
 use Rattle.keepers.specs.Differing.{equal_bucket, equal_counter, equal_session, equal_group}
-use Rattle.keepers.specs.Differing.{named_rows}
+use Rattle.keepers.specs.Differing.{named_rows, named_for}
+use Rattle.keepers.proofs.NamedOwn.{named_own}
 use Rattle.charging.specs.Histories.{History}
 use Rattle.charging.specs.Accepted.{Accepted, one, concerned_by, is_opening, names_code}
 use Rattle.charging.specs.Accepted.{last_moment, IsInTime}
-use Rattle.charging.specs.Outcomes.{book_days, outcome, told, done, keeping, repeated, with_ledger}
+use Rattle.charging.specs.Outcomes.{book_days, outcome, only_told, done, keeping, repeated}
+use Rattle.charging.specs.Outcomes.{with_ledger}
 use Rattle.charging.specs.Outcomes.{from_of, until_of, is_unusable, is_full, is_out_of_range}
 use Rattle.charging.specs.Outcomes.{new_credit, opened_outcome, unopened_outcome}
 use Rattle.charging.specs.Served.{history, standing, AreTables, IsServed}
@@ -87,7 +90,7 @@ pub open-again : (b : Shelf) (list : List Accepted) (n : List ℕ) (t : ℕ) (ol
     IsServed b list (command.OpenAccount n) t old new (answer.Refused AccountExists)
 open-again b list n t old new time le tables there same =
     served-told b list (command.OpenAccount n) t n refl time le
-    (told (answer.Refused AccountExists) (history b n list))
+    (only_told (answer.Refused AccountExists) (history b n list))
     (answer.Refused AccountExists) old new
     (outcome-opened b list (command.OpenAccount n) t n refl (is-there b list n old tables there))
     refl refl same tables
@@ -200,7 +203,7 @@ bar-codes n true code = refl
 bar-codes n false code = refl
 
 bar-unopened : (s : Option Voucher) (h : History) (n : List ℕ) (barred : Bool) →
-    unopened_outcome s h (bar_command n barred) ≡ told (answer.Refused AccountUnknown) h
+    unopened_outcome s h (bar_command n barred) ≡ only_told (answer.Refused AccountUnknown) h
 bar-unopened s h n true = refl
 bar-unopened s h n false = refl
 
@@ -220,7 +223,7 @@ pub bar-unknown : (b : Shelf) (list : List Accepted) (n : List ℕ) (barred : Bo
     IsServed b list (bar_command n barred) t old new (answer.Refused AccountUnknown)
 bar-unknown b list n barred t old new time le tables none same =
     served-told b list (bar_command n barred) t n (bar-named n barred) time le
-    (told (answer.Refused AccountUnknown) (history b n list))
+    (only_told (answer.Refused AccountUnknown) (history b n list))
     (answer.Refused AccountUnknown) old new
     (outcome-unopened b list (bar_command n barred) t n (bar-named n barred) old tables none
     ∙ bar-unopened (standing b (bar_command n barred) list) (history b n list) n barred) refl
@@ -247,6 +250,25 @@ made_change found x charges kept redeemed = record {
   kept = kept;
   redeemed = redeemed;
 }
+
+-- the same, where no row of another session than this may have changed
+abbrev pub made_for : Option (List ℕ) → Loaded → AccountRows → Vec ChargeRow Global →
+    Option KeptAnswer → Option Redeemed → Change
+made_for own found x charges kept redeemed = record (made_change found x charges kept redeemed) {
+  rows = named_for own found.before (stored x);
+}
+
+pub named_so : (own : Option (List ℕ)) (session : List ℕ) (found : Loaded) (x : AccountRows) →
+    found.before ≡ stored found.account →
+    IfSome own (λ s. (s ≡ session) × (other_rows s x ≡ other_rows s found.account)) →
+    named_for own found.before (stored x) ≡ named_rows found.before (stored x)
+named_so None session found x is h = refl
+named_so (Some s) session found x is h =
+    named_own s found.before (stored x)
+    (ap (λ (o : OtherRows). o.sessions) h.1
+    ∙ ap (λ (w : StoredRows). other_sessions s w.sessions) (sym is))
+    (ap (λ (o : OtherRows). o.groups) h.1
+    ∙ ap (λ (w : StoredRows). other_groups s w.groups) (sym is))
 
 pub made_tells : (found : Loaded) (x : AccountRows) (charges : Vec ChargeRow Global)
     (kept told : Option KeptAnswer) (redeemed spent : Option Redeemed) → charges.items ≡ [] →
@@ -309,7 +331,7 @@ pub credit-unknown : (b : Shelf) (list : List Accepted) (c : Credit) (t : ℕ) (
     IsServed b list (command.Credit c) t old new (answer.Refused AccountUnknown)
 credit-unknown b list c t old new time le tables none same =
     served-told b list (command.Credit c) t c.account refl time le
-    (told (answer.Refused AccountUnknown) (history b c.account list))
+    (only_told (answer.Refused AccountUnknown) (history b c.account list))
     (answer.Refused AccountUnknown) old new
     (outcome-unopened b list (command.Credit c) t c.account refl old tables none) refl refl same
     tables
@@ -324,7 +346,7 @@ credit-again b list c t old new kept given time le tables is answers same =
     let h : History = history b c.account list in
     let k : Key = key_of (content.Credit c) in
     served-told b list (command.Credit c) t c.account refl time le
-    (told (repeated kept (content.Credit c) (answer.Refused ContentDiffers)) h) given old new
+    (only_told (repeated kept (content.Credit c) (answer.Refused ContentDiffers)) h) given old new
     (outcome-kept b list (command.Credit c) t c.account refl old k kept tables is
     ∙ credit-repeated c t h kept (sym (tables.answers c.account k) ∙ is))
     refl answers same tables
@@ -383,8 +405,8 @@ module _ (b : Shelf) (list : List Accepted) (c : Credit) (t : ℕ) (old new : Ta
       ap (λ u. is_out_of_range c u h.ledger) (sym now)
       ∙ subst (λ (q : Option ℕ). Credits q c m h.ledger left x) none credit in
       served-told b list (command.Credit c) t c.account refl time le
-      (told (answer.Refused OutOfRange) h) (answer.Refused OutOfRange) old new
-      (fresh-is ∙ ap (λ v. if v then told (answer.Refused OutOfRange) h
+      (only_told (answer.Refused OutOfRange) h) (answer.Refused OutOfRange) old new
+      (fresh-is ∙ ap (λ v. if v then only_told (answer.Refused OutOfRange) h
       else keeping (content.Credit c) (answer.Bucket (next_bucket h.ledger))
       (credited t Money (from_of c t) (until_of c) c.scope c.amount h.ledger) h) refused)
       refl refl same tables
@@ -405,7 +427,7 @@ module _ (b : Shelf) (list : List Accepted) (c : Credit) (t : ℕ) (old new : Ta
       served-loaded b list (command.Credit c) t c.account refl time le old new tables found loads
       (keeping (content.Credit c) (answer.Bucket (next_bucket h.ledger)) after h)
       (answer.Bucket number) x change refl
-      (fresh-is ∙ ap (λ v. if v then told (answer.Refused OutOfRange) h
+      (fresh-is ∙ ap (λ v. if v then only_told (answer.Refused OutOfRange) h
       else keeping (content.Credit c) (answer.Bucket (next_bucket h.ledger)) after h) allowed)
       refl (ap answer.Bucket done.1)
       (record {

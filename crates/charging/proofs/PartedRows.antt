@@ -4,7 +4,7 @@ use Rattle.std.proofs.Common.{ap, ◌∙◌, arith, Option, Some, None}
 use Rattle.std.specs.Prelude.{if◌then◌else◌, ◌==◌, ◌&&◌, is_some}
 use Rattle.std.specs.List.{find}
 use Rattle.std.proofs.lemmas.Bool.Decides.{nat_tests}
-use Rattle.buckets.specs.Row.{Row, precedes}
+use Rattle.buckets.specs.Row.{BucketRow, precedes}
 use Rattle.buckets.specs.Spend.{Each, AreDistinct, DiffersFromAll}
 use Rattle.reserving.specs.Ledger.{Ledger, has_group}
 use Rattle.reserving.specs.Pricing.{validity_of}
@@ -36,7 +36,8 @@ in_one same q one xs ys apart = record {
 
 -- ---- buckets in their places
 
-placed_parts : (P : Row → Type 0) (b : Row) (xs : List Row) → Each P (placed b xs) →
+placed_parts : (P : BucketRow → Type 0) (b : BucketRow) (xs : List BucketRow) →
+    Each P (placed b xs) →
     P b × Each P xs
 placed_parts P b [] h = (h.0, tt)
 placed_parts P b (x ∷ xs) h = at (precedes b x) h (placed_parts P b xs)
@@ -46,11 +47,12 @@ placed_parts P b (x ∷ xs) h = at (precedes b x) h (placed_parts P b xs)
     at true k later = k
     at false k later = let rest = later k.1 in (rest.0, (k.0, rest.1))
 
-merged_parts : (P : Row → Type 0) (left rows : List Row) → Each P (merged left rows) → Each P rows
+merged_parts : (P : BucketRow → Type 0) (left rows : List BucketRow) → Each P (merged left rows) →
+    Each P rows
 merged_parts P [] rows h = h
 merged_parts P (b ∷ bs) rows h = merged_parts P bs rows (placed_parts P b (merged bs rows) h).1
 
-placed_distinct : (b : Row) (xs : List Row) → AreDistinct (placed b xs) →
+placed_distinct : (b : BucketRow) (xs : List BucketRow) → AreDistinct (placed b xs) →
     DiffersFromAll b.number xs × AreDistinct xs
 placed_distinct b [] h = (tt, tt)
 placed_distinct b (x ∷ xs) h = at (precedes b x) h (placed_distinct b xs)
@@ -64,7 +66,7 @@ placed_distinct b (x ∷ xs) h = at (precedes b x) h (placed_distinct b xs)
         let rest = later k.1 in
         (((λ e. first.0 (sym e)), rest.0), (first.1, rest.1))
 
-find_placed : (n : ℕ) (b : Row) (xs : List Row) → DiffersFromAll b.number xs →
+find_placed : (n : ℕ) (b : BucketRow) (xs : List BucketRow) → DiffersFromAll b.number xs →
     bucket_in n (placed b xs) ≡ cond (b.number == n) (Some b) (bucket_in n xs)
 find_placed n b [] other = refl
 find_placed n b (x ∷ xs) other = at (precedes b x) (find_placed n b xs other.1)
@@ -86,7 +88,7 @@ find_placed n b (x ∷ xs) other = at (precedes b x) (find_placed n b xs other.1
         ap (λ o. cond (x.number == n) (Some x) o) rest
         ∙ turned (x.number == n) (b.number == n) refl refl
 
-find_merged : (n : ℕ) (left rows : List Row) → AreDistinct (merged left rows) →
+find_merged : (n : ℕ) (left rows : List BucketRow) → AreDistinct (merged left rows) →
     bucket_in n (merged left rows) ≡ first_of (bucket_in n left) (bucket_in n rows)
 find_merged n [] rows h = refl
 find_merged n (b ∷ bs) rows h =
@@ -101,7 +103,7 @@ find_merged n (b ∷ bs) rows h =
     at true rest = refl
     at false rest = rest
 
-none_numbered : (n : ℕ) (rows : List Row) → DiffersFromAll n rows → bucket_in n rows ≡ None
+none_numbered : (n : ℕ) (rows : List BucketRow) → DiffersFromAll n rows → bucket_in n rows ≡ None
 none_numbered n [] h = refl
 none_numbered n (b ∷ bs) h = at (b.number == n) refl (none_numbered n bs h.1)
   where
@@ -110,7 +112,8 @@ none_numbered n (b ∷ bs) h = at (b.number == n) refl (none_numbered n bs h.1)
     at true e rest = absurd (h.0 (let p : b.number ≡ n = grind (arith, nat_tests, e) in p))
     at false e rest = rest
 
-none_merged : (n : ℕ) (left rows : List Row) → AreDistinct (merged left rows) → (b : Row) →
+none_merged : (n : ℕ) (left rows : List BucketRow) → AreDistinct (merged left rows) →
+    (b : BucketRow) →
     bucket_in n left ≡ Some b → bucket_in n rows ≡ None
 none_merged n [] rows h b e = absurd (cc)
 none_merged n (x ∷ xs) rows h b e =

@@ -7,52 +7,58 @@ use Rattle.std.proofs.lemmas.Bool.{leb-true}
 use Rattle.rating.specs.declared.report.Rated.{Rated}
 use Rattle.units.specs.declared.blocks.UsedPart.{UsedPart}
 use Rattle.shelves.specs.Shelves.{Shelf}
-use Rattle.buckets.specs.declared.holds.Hold.{Hold}
+use Rattle.buckets.specs.declared.holds.HeldAmount.{HeldAmount}
 use Rattle.buckets.specs.declared.kind.BucketKind.{BucketKind}
 use Rattle.buckets.specs.declared.kind.BucketKind.TheVariants.{Money, Blocks}
 use Rattle.buckets.specs.declared.kind.Due.{Due}
 use Rattle.buckets.specs.Kinds.{due_in}
-use Rattle.buckets.specs.Row.{Row, eligible_amount}
+use Rattle.buckets.specs.Row.{BucketRow, eligible_amount}
 use Rattle.buckets.specs.Share.{parts, sum_in}
 use Rattle.buckets.specs.Spend.{IsInOrder, funds}
 use Rattle.buckets.specs.Holding.{paid, uncollected, holds_of, held_sum}
 use Rattle.buckets.proofs.Short.{spent_all}
 use Rattle.reserving.specs.Ledger.{Fact, Ledger, Recording, or_else, is_same, last_touch}
 use Rattle.reserving.specs.Ledger.{last_recording, next_bucket}
-use Rattle.reserving.specs.Ledger.Fact.{Touch, Close, Recorded, Barred}
+use Rattle.reserving.specs.Ledger.{UseOf, recorded_at, touched_at, counts}
+use Rattle.reserving.specs.Ledger.Fact.{Touch, Recorded}
 use Rattle.reserving.specs.Balance.{credits, buckets_at}
 use Rattle.reserving.specs.Sessions.{holds_at}
 use Rattle.reserving.specs.Requests.{touched, credited}
 use Rattle.reserving.specs.Settlement.{charge_facts, reported, report_price, settled, settled_by}
 use Rattle.reserving.specs.Settlement.{due_of}
+use Rattle.reserving.specs.Settlement.{use_of}
 use Rattle.reserving.specs.Reservation.{hold_facts, reserved}
 use Rattle.reserving.specs.Debiting.{rest_price, is_covered, debited}
 use Rattle.reserving.proofs.Lists.{no_some}
 use Rattle.charging.specs.SessionReports.{Report, with_report}
 use Rattle.charging.specs.Paid.{before_charges, taken, is_touched, IsReport, IsEvent}
 use Rattle.charging.specs.Paid.{without_last, ArePaid}
+use Rattle.charging.specs.Paid.{IsPaidUse, is_charge, reports_without, taken_by}
 use Rattle.reserving.specs.Pricing.{validity_of}
-use Rattle.charging.proofs.Steps.{is_quiet, is_touch, with_grant, Keeps}
+use Rattle.charging.proofs.Steps.{is_quiet, is_touch, untouched, with_grant, Keeps}
 use Rattle.charging.proofs.Credited.{AreCredited, no_credits, more_credits, SameCredits}
 use Rattle.charging.proofs.Credited.{same_credits, quiet_credits, charge_credits, hold_credits}
 use Rattle.charging.proofs.Credited.{in_order}
 use Rattle.charging.proofs.Taking.{taken_parts}
 use Rattle.charging.proofs.Coverable.{money_paid, blocks_paid, report_covers, report_covers_all}
 use Rattle.charging.proofs.Coverable.{event_covers}
+use Rattle.reserving.proofs.Counted.{IsQuiet, quiet, rest_none, has_none}
 
 -- ---- charges in front
 
-pub before_charges-charges : (t : ℕ) (hs : List Hold) (ledger : Ledger) →
+pub before_charges-charges : (t : ℕ) (hs : List HeldAmount) (ledger : Ledger) →
     before_charges ledger ≡ ledger → before_charges (charge_facts t hs ++ ledger) ≡ ledger
 before_charges-charges t [] ledger begins = begins
 before_charges-charges t (h ∷ hs) ledger begins = before_charges-charges t hs ledger begins
 
-ArePaid-charges : (b : Shelf) (t : ℕ) (hs : List Hold) (reports : List Report) (ledger : Ledger) →
+ArePaid-charges : (b : Shelf) (t : ℕ) (hs : List HeldAmount) (reports : List Report)
+    (ledger : Ledger) →
     ArePaid b reports ledger → ArePaid b reports (charge_facts t hs ++ ledger)
 ArePaid-charges b t [] reports ledger h = h
 ArePaid-charges b t (x ∷ xs) reports ledger h = (tt, ArePaid-charges b t xs reports ledger h)
 
-ArePaid-holds : (b : Shelf) (t : ℕ) (s : List ℕ) (g : ℕ) (hs : List Hold) (reports : List Report)
+ArePaid-holds : (b : Shelf) (t : ℕ) (s : List ℕ) (g : ℕ) (hs : List HeldAmount)
+    (reports : List Report)
     (ledger : Ledger) → ArePaid b reports ledger → ArePaid b reports (hold_facts t s g hs ++ ledger)
 ArePaid-holds b t s g [] reports ledger h = h
 ArePaid-holds b t s g (x ∷ xs) reports ledger h = (tt, ArePaid-holds b t s g xs reports ledger h)
@@ -62,10 +68,6 @@ ArePaid-holds b t s g (x ∷ xs) reports ledger h = (tt, ArePaid-holds b t s g x
 abbrev pub TouchesAreRecorded : Ledger → Type 0
 TouchesAreRecorded ledger =
     (s : List ℕ) → last_recording s ledger ≡ None → last_touch s ledger ≡ None
-
-rest-none : {A : Type 0} (x y : Option A) → or_else x y ≡ None → y ≡ None
-rest-none None y e = e
-rest-none (Some x) y e = absurd (no_some x (sym e))
 
 pub touches-touched : (t : ℕ) (s : List ℕ) (n : ℕ) (ledger : Ledger) → TouchesAreRecorded ledger →
     TouchesAreRecorded (touched t s n ledger)
@@ -79,12 +81,12 @@ touches-touched t s n ledger h other = at (is_same s other)
     at true e = absurd (no_some own (sym e))
     at false e = h other e
 
-touches-charges : (t : ℕ) (hs : List Hold) (ledger : Ledger) → TouchesAreRecorded ledger →
+touches-charges : (t : ℕ) (hs : List HeldAmount) (ledger : Ledger) → TouchesAreRecorded ledger →
     TouchesAreRecorded (charge_facts t hs ++ ledger)
 touches-charges t [] ledger h = h
 touches-charges t (x ∷ xs) ledger h = touches-charges t xs ledger h
 
-touches-holds : (t : ℕ) (s : List ℕ) (g : ℕ) (hs : List Hold) (ledger : Ledger) →
+touches-holds : (t : ℕ) (s : List ℕ) (g : ℕ) (hs : List HeldAmount) (ledger : Ledger) →
     TouchesAreRecorded ledger → TouchesAreRecorded (hold_facts t s g hs ++ ledger)
 touches-holds t s g [] ledger h = h
 touches-holds t s g (x ∷ xs) ledger h = touches-holds t s g xs ledger h
@@ -103,33 +105,25 @@ pub record IsPaying (b : Shelf) (reports : List Report) (ledger : Ledger) : Type
 paying_quiet : (b : Shelf) (t : ℕ) (f : Fact) (reports : List Report) (ledger : Ledger) →
     is_quiet f ≡ true → is_touch f ≡ false → IsPaying b reports ledger →
     IsPaying b reports (record { at = t; fact = f } ∷ ledger)
-paying_quiet b t (Close s) reports ledger q n h =
+paying_quiet b t f reports ledger q n h =
+    let none : IsQuiet (counts f) = quiet f q in
+    let no_charge : is_charge f ≡ false = ap is_some none.charge in
     record {
-      credits = same_credits _ ledger (quiet_credits t (Close s) ledger q) h.credits;
-      begins = refl;
-      nothing = λ k. refl;
-      recorded = h.recorded;
-      paid = (tt, h.paid);
+      credits = same_credits _ ledger (quiet_credits t f ledger q) h.credits;
+      begins = ap (λ (c : Bool). if c then before_charges ledger
+          else record { at = t; fact = f } ∷ ledger) no_charge;
+      nothing = λ k. ap (λ (c : Bool). if c then taken_by k f ledger + taken k ledger else 0)
+          no_charge;
+      recorded = λ other e.
+          (λ i. or_else (touched_at other t (untouched f n i)) (last_touch other ledger))
+          ∙ h.recorded other
+          (rest_none (recorded_at other t (counts f).request) (last_recording other ledger) e);
+      paid = (
+        has_none (λ u. IsPaidUse b reports t u ledger) (counts f).usage none.usage,
+        subst (λ (o : Option UseOf). ArePaid b (reports_without o ledger reports) ledger)
+            (sym none.usage) h.paid,
+      );
     }
-paying_quiet b t (Recorded s n) reports ledger q n' h = record {
-  credits = same_credits _ ledger (quiet_credits t (Recorded s n) ledger q) h.credits;
-  begins = refl;
-  nothing = λ k. refl;
-  recorded = λ other e. h.recorded other
-      (rest-none (if is_same s other then Some (record { number = n; at = t }) else None)
-      (last_recording other ledger) e);
-  paid = (tt, h.paid);
-}
-paying_quiet b t (Barred x) reports ledger q n h =
-    record {
-      credits = same_credits _ ledger (quiet_credits t (Barred x) ledger q) h.credits;
-      begins = refl;
-      nothing = λ k. refl;
-      recorded = h.recorded;
-      paid = (tt, h.paid);
-    }
-paying_quiet b t (Touch s) reports ledger q n h = absurd (true≢false n)
-paying_quiet b t _ reports ledger q n h = cc
 
 paying_touch : (b : Shelf) (t : ℕ) (s : List ℕ) (n : ℕ) (reports : List Report) (ledger : Ledger) →
     IsPaying b reports ledger → IsPaying b reports (touched t s n ledger)
@@ -156,7 +150,7 @@ paying_credit b t kind from until scope amount reports ledger h =
     }
 
 -- what buckets pay of a report
-abbrev pub paid_parts : Shelf → ℕ → List ℕ → ℕ → List UsedPart → Ledger → List Hold
+abbrev pub paid_parts : Shelf → ℕ → List ℕ → ℕ → List UsedPart → Ledger → List HeldAmount
 paid_parts b t s g used_parts ledger =
     parts (paid (holds_at (validity_of b) t s g ledger) g t
     (due_of (report_price b t s g used_parts ledger)) (buckets_at (validity_of b) t ledger))
@@ -179,8 +173,7 @@ settled_is_paid b t s g p ps reports ledger touches h = (
         h.nothing Blocks,
         blocks_paid holds g t all rows order (report_covers b t s g (p ∷ ps) ledger),
       );
-      report = λ e. subst (IsReport b own t s g (reported (p ∷ ps)) price.blocks all.blocks
-          all.money (uncollected holds g t all.money rows)) (sym before) report;
+      report = λ e. subst (IsReport b own t use_made) (sym before) report;
       event = λ e. absurd (true≢false (sym is_touched_before ∙ e));
     },
     subst (λ v. ArePaid b (if v then reports else own ∷ reports) (charge_facts t hs ++ ledger))
@@ -188,10 +181,10 @@ settled_is_paid b t s g p ps reports ledger touches h = (
   ),
 )
   where
-    rows : List Row
+    rows : List BucketRow
     rows = buckets_at (validity_of b) t ledger
 
-    holds : List Hold
+    holds : List HeldAmount
     holds = holds_at (validity_of b) t s g ledger
 
     price : Rated
@@ -200,7 +193,7 @@ settled_is_paid b t s g p ps reports ledger touches h = (
     all : Due
     all = due_of price
 
-    hs : List Hold
+    hs : List HeldAmount
     hs = paid_parts b t s g (p ∷ ps) ledger
 
     takes : (k : BucketKind) → taken k (charge_facts t hs ++ ledger)
@@ -224,8 +217,11 @@ settled_is_paid b t s g p ps reports ledger touches h = (
     is_touched_before : is_touched s (before_charges (charge_facts t hs ++ ledger)) ≡ true
     is_touched_before = ap (is_touched s) before ∙ touches
 
-    report : IsReport b own t s g (reported (p ∷ ps)) price.blocks all.blocks all.money
-        (uncollected holds g t all.money rows) ledger
+    use_made : UseOf
+    use_made = use_of s g (reported (p ∷ ps)) price.blocks all
+        (uncollected holds g t all.money rows)
+
+    report : IsReport b own t use_made ledger
     report = record {
       moment = refl;
       session = refl;
@@ -275,7 +271,8 @@ paying_settle b t s g (p ∷ ps) reports ledger touches h = record {
 
 -- ---- grants and debits
 
-paying_holds : (b : Shelf) (t : ℕ) (s : List ℕ) (g : ℕ) (hs : List Hold) (reports : List Report)
+paying_holds : (b : Shelf) (t : ℕ) (s : List ℕ) (g : ℕ) (hs : List HeldAmount)
+    (reports : List Report)
     (ledger : Ledger) → IsPaying b reports ledger →
     IsPaying b reports (hold_facts t s g hs ++ ledger)
 paying_holds b t s g [] reports ledger h = h
@@ -328,8 +325,7 @@ paying_debit b t s g units reports ledger new covered h = record {
         blocks_paid [] g t all rows order (omega (arith, event_covers b t g units ledger)),
       );
       report = λ e. absurd (true≢false (sym e ∙ untouched));
-      event = λ e. subst (IsEvent b t g units price.blocks all.blocks all.money 0) (sym before)
-          event;
+      event = λ e. subst (IsEvent b t (use_of s g units price.blocks all 0)) (sym before) event;
     },
     subst (λ v. ArePaid b (if v then without_last reports else reports)
         (charge_facts t hs ++ ledger)) (sym untouched)
@@ -337,7 +333,7 @@ paying_debit b t s g units reports ledger new covered h = record {
   );
 }
   where
-    rows : List Row
+    rows : List BucketRow
     rows = buckets_at (validity_of b) t ledger
 
     price : Rated
@@ -346,7 +342,7 @@ paying_debit b t s g units reports ledger new covered h = record {
     all : Due
     all = due_of price
 
-    hs : List Hold
+    hs : List HeldAmount
     hs = parts (paid [] g t all rows) rows
 
     takes : (k : BucketKind) → taken k (charge_facts t hs ++ ledger)
@@ -368,7 +364,7 @@ paying_debit b t s g units reports ledger new covered h = record {
     untouched : is_touched s (before_charges (charge_facts t hs ++ ledger)) ≡ false
     untouched = ap (is_touched s) before ∙ ap is_some (h.recorded s new)
 
-    event : IsEvent b t g units price.blocks all.blocks all.money 0 ledger
+    event : IsEvent b t (use_of s g units price.blocks all 0) ledger
     event = record {
       blocks_are = refl;
       covered_is = refl;
@@ -392,7 +388,8 @@ keeps_paying b = record {
   touch = paying_touch b;
   credit = paying_credit b;
   settle = paying_settle b;
-  grant = λ t s g asked reports ledger recorded some h. paying_reserved b t s g _ _ reports ledger h;
+  grant =
+      λ t s g asked reports ledger recorded some h. paying_reserved b t s g _ _ reports ledger h;
   event = λ t s g units n reports ledger new covered h.
       paying_quiet b t (Recorded s n) reports _ refl refl
       (paying_debit b t s g units reports ledger new covered h);

@@ -1,6 +1,6 @@
 -- Each grant that isn't ended has its prices on the shelf, so that each reservation has.
 use Rattle.std.proofs.Common.{◌≡◌, ℕ, ◌<◌, Bool, true, false, true≢false, List, [], ◌∷◌, ◌++◌, refl}
-use Rattle.std.proofs.Common.{sym, ap, subst, ◌∙◌, arith, Option, Some, None}
+use Rattle.std.proofs.Common.{sym, ap, subst, ◌∙◌, Option, Some, None}
 use Rattle.std.specs.Prelude.{if◌then◌else◌, ◌==◌, ◌&&◌, nat_lt, is_some, option_map}
 use Rattle.std.specs.Prelude.{option_and_then}
 use Rattle.units.specs.declared.blocks.UsedPart.{UsedPart}
@@ -12,11 +12,9 @@ use Rattle.tariffs.specs.Tariffs.{GroupTariff}
 use Rattle.tariffs.proofs.WeekFacts.{period_below}
 use Rattle.shelves.specs.Shelves.{Shelf, IsShelf, book_at}
 use Rattle.shelves.proofs.Begun.{book_is, last_begun_holds}
-use Rattle.rating.specs.declared.grant.Grant.{Grant as RatedGrant}
-use Rattle.buckets.specs.declared.holds.Hold.{Hold}
-use Rattle.buckets.specs.declared.kind.BucketKind.{BucketKind}
+use Rattle.buckets.specs.declared.holds.HeldAmount.{HeldAmount}
 use Rattle.buckets.specs.declared.kind.Due.{Due}
-use Rattle.buckets.specs.Row.{Row}
+use Rattle.buckets.specs.Row.{BucketRow}
 use Rattle.buckets.specs.Share.{parts}
 use Rattle.buckets.specs.Spend.{funds, allowance}
 use Rattle.buckets.specs.Holding.{holds_of, paid}
@@ -25,32 +23,30 @@ use Rattle.reserving.specs.declared.session.SessionGroup.{SessionGroup}
 use Rattle.reserving.specs.declared.session.Terms.{Terms}
 use Rattle.reserving.specs.Ledger.{Fact, Ledger, is_same, inner, or_else, newest, grant_in}
 use Rattle.reserving.specs.Ledger.{open_grant, used, counter, has_group, is_live}
-use Rattle.reserving.specs.Ledger.Fact.{Touch, Close, Recorded, Barred, End, Use, Grant}
-use Rattle.reserving.specs.Pricing.{tariff_at, periods_at, periods_by, switch_by, terms_at}
+use Rattle.reserving.specs.Ledger.Fact.{End}
+use Rattle.reserving.specs.Pricing.{tariff_at, periods_at, switch_by, terms_at}
 use Rattle.reserving.specs.Pricing.{cycle_at, validity_of, grant_with}
-use Rattle.reserving.specs.Requests.{recorded, touched, credited}
-use Rattle.reserving.specs.Sessions.{is_of, group_in, group_at, holds_at, reservation_of}
+use Rattle.reserving.specs.Sessions.{group_in, group_at, holds_at, reservation_of}
 use Rattle.reserving.specs.Sessions.{reservation_at}
 use Rattle.reserving.specs.Balance.{buckets_at}
 use Rattle.reserving.specs.Settlement.{charge_facts, report_price, due_of, settled_by}
 use Rattle.reserving.specs.Reservation.{hold_facts, reserved, grant_for, held_due}
-use Rattle.reserving.specs.Debiting.{rest_price, debited}
+use Rattle.reserving.specs.Debiting.{rest_price}
 use Rattle.reserving.specs.Rows.{EachIn}
-use Rattle.reserving.specs.Stored.{StoredRows, IsStored}
-use Rattle.reserving.specs.Placed.{AreOfBook, prices_on, is_placed, ArePlaced}
+use Rattle.reserving.specs.Placed.{AreOfBook, prices_on, is_placed}
 use Rattle.reserving.proofs.Lists.{no_some, some_of, EachIn-weaker}
 use Rattle.reserving.proofs.Keys.{second_true, same_number, found_own}
 use Rattle.reserving.proofs.SettledFacts.{newest-front, each_charge, each_hold}
 use Rattle.reserving.proofs.kept.Placed.{prices_there}
-use Rattle.keepers.specs.Tables.{Head, GroupRow, Rows, Tables, group_row, AreListed}
+use Rattle.keepers.specs.Tables.{Head, GroupRow, Rows, group_row}
 use Rattle.keepers.specs.Change.{AreRowsAt}
 use Rattle.charging.specs.Accepted.{Accepted, IsRowOf, as_of}
 use Rattle.charging.specs.Histories.{History}
 use Rattle.charging.specs.PricedRows.{ReservationsArePriced, NoBookIsMissing}
-use Rattle.charging.specs.Served.{history, AreTables}
-use Rattle.charging.specs.SessionReports.{Report}
+use Rattle.charging.specs.Served.{history}
 use Rattle.charging.proofs.KeptHistories.{kept_history}
-use Rattle.charging.proofs.Steps.{is_quiet, is_touch, granted, with_grant, Keeps}
+use Rattle.charging.proofs.Steps.{is_quiet, with_grant, Keeps}
+use Rattle.reserving.proofs.Counted.{quiet, quiet_money}
 
 -- ---- the terms of a grant of a moment
 
@@ -145,13 +141,11 @@ granted_on b ranges t session group units ledger some h s g x e =
 
 quiet_priced : (b : Shelf) (t : ℕ) (f : Fact) (ledger : Ledger) → is_quiet f ≡ true →
     IsPricedLedger b ledger → IsPricedLedger b (record { at = t; fact = f } ∷ ledger)
-quiet_priced b t (Touch s) ledger q h = h
-quiet_priced b t (Close s) ledger q h = h
-quiet_priced b t (Recorded s n) ledger q h = h
-quiet_priced b t (Barred x) ledger q h = h
-quiet_priced b t _ ledger q h = cc
+quiet_priced b t f ledger q h s g x e =
+    h s g x (sym ((quiet_money t f ledger (quiet f q)).open_grant s g) ∙ e)
 
-charges_priced : (b : Shelf) (t : ℕ) (hs : List Hold) (ledger : Ledger) → IsPricedLedger b ledger →
+charges_priced : (b : Shelf) (t : ℕ) (hs : List HeldAmount) (ledger : Ledger) →
+    IsPricedLedger b ledger →
     IsPricedLedger b (charge_facts t hs ++ ledger)
 charges_priced b t hs ledger h =
     passed b (charge_facts t hs) ledger
@@ -162,8 +156,8 @@ settled_priced : (b : Shelf) (t : ℕ) (s : List ℕ) (g : ℕ) (used_parts : Li
     IsPricedLedger b (settled_by b t s g used_parts ledger)
 settled_priced b t s g [] ledger h = ended b t s g ledger h
 settled_priced b t s g (p ∷ ps) ledger h = λ x y z e.
-    let rows : List Row = buckets_at (validity_of b) t ledger in
-    let hs : List Hold = parts (paid (holds_at (validity_of b) t s g ledger) g t
+    let rows : List BucketRow = buckets_at (validity_of b) t ledger in
+    let hs : List HeldAmount = parts (paid (holds_at (validity_of b) t s g ledger) g t
     (due_of (report_price b t s g (p ∷ ps) ledger)) rows) rows in
     not_ended (is_same s x && g == y) (newest (grant_in x y) (charge_facts t hs ++ ledger)) z
     (is_some (prices_on b y z) ≡ true) (charges_priced b t hs ledger h x y z) e
@@ -172,9 +166,9 @@ reserved_priced : (b : Shelf) → IsShelf b → (t : ℕ) (s : List ℕ) (g unit
     (ledger : Ledger) → is_some (tariff_at b t g) ≡ true → IsPricedLedger b ledger →
     IsPricedLedger b (reserved b t s g units due ledger)
 reserved_priced b ranges t s g units due ledger some h =
-    let hs : List Hold = holds_of g t due (buckets_at (validity_of b) t ledger) in
+    let hs : List HeldAmount = holds_of g t due (buckets_at (validity_of b) t ledger) in
     passed b (hold_facts t s g hs) (with_grant b t s g units ledger)
-    (λ x y. each_hold (λ d. grant_in x y d ≡ None) t s g hs (λ n m. refl))
+    (λ x y. each_hold (λ d. grant_in x y d ≡ None) t s g hs (λ z. refl))
     (granted_on b ranges t s g units ledger some h)
 
 keeps_priced : (b : Shelf) → IsShelf b → Keeps b (λ reports ledger. IsPricedLedger b ledger)
@@ -188,7 +182,7 @@ keeps_priced b ranges = record {
       (held_due (grant_for b t g (used s g ledger) asked ledger)) ledger
       (tariff_there b t g (used s g ledger) asked ledger some) h;
   event = λ t s g units n reports ledger new covered h.
-      let rows : List Row = buckets_at (validity_of b) t ledger in
+      let rows : List BucketRow = buckets_at (validity_of b) t ledger in
       charges_priced b t (parts (paid [] g t (due_of (rest_price b t g units ledger)) rows) rows)
       ledger h;
 }

@@ -4,17 +4,19 @@ use Rattle.std.proofs.Common.{ap, ◌∙◌, Option, Some, None}
 use Rattle.std.specs.Prelude.{if◌then◌else◌, ◌&&◌, ◌||◌, ◌==◌, is_some}
 use Rattle.units.specs.declared.blocks.UsedPart.{UsedPart}
 use Rattle.reserving.specs.Settlement.{due_of}
-use Rattle.buckets.specs.declared.holds.Hold.{Hold}
+use Rattle.buckets.specs.declared.holds.HeldAmount.{HeldAmount}
 use Rattle.buckets.specs.Holding.{paid}
 use Rattle.buckets.specs.Share.{parts}
 use Rattle.shelves.specs.Shelves.{Shelf}
 use Rattle.reserving.specs.Ledger.{Fact, Ledger, Recording, is_same, or_else, names_group, touch_in}
 use Rattle.reserving.specs.Ledger.{has_group, last_touch, last_recording}
-use Rattle.reserving.specs.Ledger.Fact.{Credit, Grant, Hold as HoldFact, End, Use, Charge, Touch}
-use Rattle.reserving.specs.Ledger.Fact.{Close, Recorded, Barred}
+use Rattle.reserving.specs.Ledger.{HoldOf, recorded_at, touched_at, counts}
+use Rattle.reserving.specs.Ledger.Fact.{Grant, Hold, End, Use, Charge}
 use Rattle.reserving.specs.Requests.{recorded, touched}
 use Rattle.reserving.specs.Settlement.{charge_facts, report_price, settled_by}
+use Rattle.reserving.specs.Settlement.{use_of}
 use Rattle.reserving.specs.Reservation.{hold_facts}
+use Rattle.reserving.specs.Reservation.{grant_at, hold_for}
 use Rattle.reserving.specs.Balance.{buckets_at}
 use Rattle.reserving.specs.Debiting.{debited, rest_price}
 use Rattle.reserving.specs.Sessions.{holds_at}
@@ -25,7 +27,8 @@ use Rattle.reserving.specs.Pricing.{validity_of}
 use Rattle.charging.specs.Accepted.{Accepted}
 use Rattle.charging.specs.Served.{history}
 use Rattle.charging.specs.Paid.{is_touched}
-use Rattle.charging.proofs.Steps.{is_quiet, is_touch, granted, Keeps}
+use Rattle.reserving.proofs.Counted.{rest_none, is_named}
+use Rattle.charging.proofs.Steps.{is_quiet, IsQuiet, quiet, is_touch, untouched, granted, Keeps}
 use Rattle.charging.proofs.KeptHistories.{kept_history}
 use Rattle.charging.proofs.Paying.{TouchesAreRecorded, touches-touched}
 
@@ -66,8 +69,8 @@ charge_plain n m = record {
   record_before = λ s t ledger e. e;
 }
 
-hold_plain : (s : List ℕ) (g n m : ℕ) → IsPlain (HoldFact s g n m)
-hold_plain s g n m = record {
+hold_plain : (h : HoldOf) → IsPlain (Hold h)
+hold_plain h = record {
   names = λ s g. refl;
   touch = λ s t. refl;
   record_before = λ s t ledger e. e;
@@ -76,46 +79,35 @@ hold_plain s g n m = record {
 end_plain : (s : List ℕ) (g : ℕ) → IsPlain (End s g)
 end_plain s g = record { names = λ x y. refl; touch = λ x u. refl; record_before = λ x u l e. e }
 
-charges : (t : ℕ) (hs : List Hold) (ledger : Ledger) → AreRecorded ledger →
+charges : (t : ℕ) (hs : List HeldAmount) (ledger : Ledger) → AreRecorded ledger →
     AreRecorded (charge_facts t hs ++ ledger)
 charges t [] ledger h = h
 charges t (x ∷ xs) ledger h =
     plain t (Charge x.bucket x.amount) (charge_facts t xs ++ ledger)
     (charge_plain x.bucket x.amount) (charges t xs ledger h)
 
-holds : (t : ℕ) (s : List ℕ) (g : ℕ) (hs : List Hold) (ledger : Ledger) → AreRecorded ledger →
+holds : (t : ℕ) (s : List ℕ) (g : ℕ) (hs : List HeldAmount) (ledger : Ledger) → AreRecorded ledger →
     AreRecorded (hold_facts t s g hs ++ ledger)
 holds t s g [] ledger h = h
 holds t s g (x ∷ xs) ledger h =
-    plain t (HoldFact s g x.bucket x.amount) (hold_facts t s g xs ++ ledger)
-    (hold_plain s g x.bucket x.amount) (holds t s g xs ledger h)
+    plain t (Hold (hold_for s g x)) (hold_facts t s g xs ++ ledger)
+    (hold_plain (hold_for s g x)) (holds t s g xs ledger h)
 
-pub charges_record : (s : List ℕ) (t : ℕ) (hs : List Hold) (ledger : Ledger) →
+pub charges_record : (s : List ℕ) (t : ℕ) (hs : List HeldAmount) (ledger : Ledger) →
     last_recording s (charge_facts t hs ++ ledger) ≡ last_recording s ledger
 charges_record s t [] ledger = refl
 charges_record s t (x ∷ xs) ledger = charges_record s t xs ledger
 
 quiet_kept : (t : ℕ) (f : Fact) (ledger : Ledger) → is_quiet f ≡ true → is_touch f ≡ false →
     AreRecorded ledger → AreRecorded (front t f ledger)
-quiet_kept t (Touch s) ledger q n h = absurd (true≢false n)
-quiet_kept t (Close s) ledger q n h =
-    plain t (Close s) ledger (record {
-      names = λ x g. refl;
-      touch = λ x u. refl;
-      record_before = λ x u l e. e;
-    }) h
-quiet_kept t (Recorded s n) ledger q e h =
-    plain t (Recorded s n) ledger
-    (record {
-      names = λ x g. refl;
-      touch = λ x u. refl;
+quiet_kept t f ledger q n h =
+    let none : IsQuiet (counts f) = quiet f q in
+    plain t f ledger (record {
+      names = λ x g i. is_named x g (none.usage i) (none.grant i);
+      touch = λ x u i. touched_at x u (untouched f n i);
       record_before = λ x u l e.
-          no_record (is_same s x) (record { number = n; at = u }) (last_recording x l) e;
+          rest_none (recorded_at x u (counts f).request) (last_recording x l) e;
     }) h
-quiet_kept t (Barred x) ledger q n h =
-    plain t (Barred x) ledger
-    (record { names = λ x g. refl; touch = λ x u. refl; record_before = λ x u l e. e }) h
-quiet_kept t _ ledger q n h = cc
 
 -- ---- a fact of a recorded session's group
 
@@ -153,12 +145,13 @@ settled_kept : (b : Shelf) (t : ℕ) (s : List ℕ) (g : ℕ) (used_parts : List
     AreRecorded (settled_by b t s g used_parts ledger)
 settled_kept b t s g [] ledger touches h = plain t (End s g) ledger (end_plain s g) h
 settled_kept b t s g (p ∷ ps) ledger touches h =
-    let hs : List Hold = parts
+    let hs : List HeldAmount = parts
     (paid (holds_at (validity_of b) t s g ledger) g t
     (due_of (report_price b t s g (p ∷ ps) ledger)) (buckets_at (validity_of b) t ledger))
     (buckets_at (validity_of b) t ledger) in
     plain t (End s g) _ (end_plain s g)
-    (named t s (Use s g _ _ _ _ _) _ (λ x y e. same_from s x (first_true (is_same s x) (g == y) e))
+    (named t s (Use (use_of s g _ _ (due_of (report_price b t s g (p ∷ ps) ledger)) _)) _
+    (λ x y e. same_from s x (first_true (is_same s x) (g == y) e))
     (λ x. refl) (λ x. refl)
     (λ e. touched_recorded s ledger touches h (sym (charges_record s t hs ledger) ∙ e))
     (charges t hs ledger h))
@@ -167,7 +160,7 @@ granted_kept : (b : Shelf) (t : ℕ) (s : List ℕ) (g : ℕ) (asked : Option �
     (last_recording s ledger ≡ None → ⊥) → AreRecorded ledger →
     AreRecorded (granted b t s g asked ledger)
 granted_kept b t s g asked ledger has h =
-    holds t s g _ _ (named t s (Grant s g _ _ _) ledger
+    holds t s g _ _ (named t s (Grant (grant_at b t s g _ ledger)) ledger
     (λ x y e. same_from s x (first_true (is_same s x) (g == y) e)) (λ x. refl) (λ x. refl) has h)
 
 -- ---- an event
@@ -208,7 +201,7 @@ keeps_recorded b = record {
   quiet = λ t f reports ledger q n fits h. quiet_kept t f ledger q n h;
   touch = λ t s n reports ledger h. touched_kept t s n ledger h;
   credit = λ t kind from until scope amount reports ledger h.
-      plain t (Credit kind _ from until scope amount) ledger
+      plain t _ ledger
       (record { names = λ x y. refl; touch = λ x u. refl; record_before = λ x u l e. e }) h;
   settle = λ t s g used_parts reports ledger touches h.
       settled_kept b t s g used_parts ledger touches h;

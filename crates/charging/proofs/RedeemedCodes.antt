@@ -23,7 +23,7 @@ use Rattle.shelves.specs.Shelves.{Shelf}
 use Rattle.keepers.specs.declared.key.KeptAnswer.{KeptAnswer}
 use Rattle.keepers.specs.Keys.{key_of}
 use Rattle.charging.specs.Histories.{History, kept_under}
-use Rattle.charging.specs.Accepted.{Accepted, Outcome, names_code, voucher_after}
+use Rattle.charging.specs.Accepted.{Accepted, CommandOutcome, names_code, voucher_after}
 use Rattle.charging.specs.Outcomes.{book_days, unless_kept}
 use Rattle.charging.specs.Outcomes.{redemption_outcome, new_redemption, redeem_outcome}
 use Rattle.charging.specs.Outcomes.{unopened_outcome, outcome}
@@ -119,7 +119,7 @@ ok_if_done r t h (Ok x) e = refl
 ok_if_done r t h (Err refusal) e = no e
 
 fresh_if_done : (found : Option KeptAnswer) (new : Content) (conflict : Answer) (h : History)
-    (fresh : Outcome) → (unless_kept found new conflict h fresh).accepted ≡ true →
+    (fresh : CommandOutcome) → (unless_kept found new conflict h fresh).accepted ≡ true →
     fresh.accepted ≡ true
 fresh_if_done None new conflict h fresh e = e
 fresh_if_done (Some kept) new conflict h fresh e = no e

@@ -1,5 +1,5 @@
 -- What a refusal leaves of the tables, of no list of commands too.
-use Rattle.std.proofs.Common.{◌≡◌, Bool, true, false, true≢false, sym, ap, ◌∙◌}
+use Rattle.std.proofs.Common.{◌≡◌, true, false, true≢false, sym, ap, ◌∙◌}
 use Rattle.std.specs.Prelude.{Result, Ok, Err, IfOk}
 use Rattle.commands.specs.declared.answer.Answer.{Answer}
 use Rattle.keepers.specs.declared.fault.StoreFault.{StoreFault}

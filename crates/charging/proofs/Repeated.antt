@@ -36,9 +36,9 @@ use Rattle.decisions.specs.Decisions.{decision, answer_of, is_read}
 use Rattle.keepers.specs.declared.key.KeptAnswer.{KeptAnswer}
 use Rattle.keepers.specs.Keys.{key_of, key_decides}
 use Rattle.charging.specs.Histories.{History, is_kept_under, kept_under}
-use Rattle.charging.specs.Accepted.{Accepted, Outcome, one, concerned_by, names}
+use Rattle.charging.specs.Accepted.{Accepted, CommandOutcome, one, concerned_by, names}
 use Rattle.charging.specs.declared.running.DatedCommand.{DatedCommand}
-use Rattle.charging.specs.Outcomes.{told, keeping, repeated, unless_kept, failed, decided_by}
+use Rattle.charging.specs.Outcomes.{only_told, keeping, repeated, unless_kept, failed, decided_by}
 use Rattle.charging.specs.Outcomes.{request_outcome, from_of, until_of, is_full, is_out_of_range}
 use Rattle.charging.specs.Outcomes.{new_credit, credit_outcome, book_days, refused_as}
 use Rattle.charging.specs.Outcomes.{begin_of, end_of, allowance_refusal, allowed_unless}
@@ -85,21 +85,22 @@ found_older kept new older free found = at (is_kept_under (key_of kept.content) 
 
 -- ---- outcomes
 
-if_both : (P : Outcome → Type 0) (test : Bool) (x y : Outcome) → P x → P y →
+if_both : (P : CommandOutcome → Type 0) (test : Bool) (x y : CommandOutcome) → P x → P y →
     P (if test then x else y)
 if_both P true x y p q = p
 if_both P false x y p q = q
 
-unless_both : (P : Outcome → Type 0) (found : Option KeptAnswer) (new : Content) (conflict : Answer)
-    (h : History) (fresh : Outcome) →
-    ((given : Answer) → P (told given h)) → (found ≡ None → P fresh) →
+unless_both : (P : CommandOutcome → Type 0) (found : Option KeptAnswer) (new : Content)
+    (conflict : Answer)
+    (h : History) (fresh : CommandOutcome) →
+    ((given : Answer) → P (only_told given h)) → (found ≡ None → P fresh) →
     P (unless_kept found new conflict h fresh)
 unless_both P None new conflict h fresh p q = q refl
 unless_both P (Some kept) new conflict h fresh p q = p (repeated kept new conflict)
 
 -- a property of what a request comes to on the history of an account that is there
-of_request : (P : Outcome → Type 0) (b : Shelf) (r : Request) (t : ℕ) (h : History) →
-    ((given : Answer) → P (told given h)) →
+of_request : (P : CommandOutcome → Type 0) (b : Shelf) (r : Request) (t : ℕ) (h : History) →
+    ((given : Answer) → P (only_told given h)) →
     ((given : Answer) (ledger : Ledger) → kept_under (key_of (content.Request r)) h ≡ None →
     P (keeping (content.Request r) given ledger h)) → P (request_outcome b r t h)
 of_request P b r t h same kept =
@@ -107,15 +108,15 @@ of_request P b r t h same kept =
     let given : Answer = answer.Request (answer_of r d.outcome) in
     let conflict : Answer = failed r (InvalidAvpValue RequestNumber) in
     let found : Option KeptAnswer = kept_under (key_of (content.Request r)) h in
-    if_both P (is_read r.ask) (told given h)
+    if_both P (is_read r.ask) (only_told given h)
     (unless_kept found (content.Request r) conflict h (decided_by r d h)) (same given)
     (unless_both P found (content.Request r) conflict h (decided_by r d h) same (λ free.
-    if_both P d.accepted (keeping (content.Request r) given d.after h) (told given h)
+    if_both P d.accepted (keeping (content.Request r) given d.after h) (only_told given h)
     (kept given d.after free) (same given)))
 
 -- of what a credit comes to
-of_credit : (P : Outcome → Type 0) (c : Credit) (t : ℕ) (h : History) →
-    ((given : Answer) → P (told given h)) →
+of_credit : (P : CommandOutcome → Type 0) (c : Credit) (t : ℕ) (h : History) →
+    ((given : Answer) → P (only_told given h)) →
     ((given : Answer) (ledger : Ledger) → kept_under (key_of (content.Credit c)) h ≡ None →
     P (keeping (content.Credit c) given ledger h)) → P (credit_outcome c t h)
 of_credit P c t h same kept =
@@ -123,21 +124,22 @@ of_credit P c t h same kept =
     let ledger : Ledger = credited t Money (from_of c t) (until_of c) c.scope c.amount h.ledger in
     unless_both P (kept_under (key_of (content.Credit c)) h) (content.Credit c)
     (answer.Refused ContentDiffers) h (new_credit c t h) same (λ free.
-    if_both P (is_out_of_range c t h.ledger) (told (answer.Refused OutOfRange) h)
+    if_both P (is_out_of_range c t h.ledger) (only_told (answer.Refused OutOfRange) h)
     (keeping (content.Credit c) given ledger h) (same (answer.Refused OutOfRange))
     (kept given ledger free))
 
 -- of what an allowance comes to
-of_allowed : (P : Outcome → Type 0) (o : Option Refusal) (a : Allowance) (t : ℕ) (h : History) →
-    ((given : Answer) → P (told given h)) →
+of_allowed : (P : CommandOutcome → Type 0) (o : Option Refusal) (a : Allowance) (t : ℕ)
+    (h : History) →
+    ((given : Answer) → P (only_told given h)) →
     ((given : Answer) (ledger : Ledger) → P (keeping (content.Allow a) given ledger h)) →
     P (allowed_unless o a t h)
 of_allowed P (Some refusal) a t h same kept = same (answer.Refused refusal)
 of_allowed P None a t h same kept = kept (answer.Bucket (next_bucket h.ledger))
     (credited t Blocks (begin_of a t) (end_of a) (Some a.scope) a.blocks h.ledger)
 
-of_allowance : (P : Outcome → Type 0) (b : Shelf) (a : Allowance) (t : ℕ) (h : History) →
-    ((given : Answer) → P (told given h)) →
+of_allowance : (P : CommandOutcome → Type 0) (b : Shelf) (a : Allowance) (t : ℕ) (h : History) →
+    ((given : Answer) → P (only_told given h)) →
     ((given : Answer) (ledger : Ledger) → kept_under (key_of (content.Allow a)) h ≡ None →
     P (keeping (content.Allow a) given ledger h)) → P (allowance_outcome b a t h)
 of_allowance P b a t h same kept =
@@ -147,20 +149,22 @@ of_allowance P b a t h same kept =
     (λ given ledger. kept given ledger free))
 
 -- of what a redemption comes to
-of_redeemed : (P : Outcome → Type 0) (o : Result Redemption RedeemRefusal) (r : VoucherRedemption)
-    (t : ℕ) (h : History) → ((given : Answer) → P (told given h)) →
+of_redeemed : (P : CommandOutcome → Type 0) (o : Result Redemption RedeemRefusal)
+    (r : VoucherRedemption)
+    (t : ℕ) (h : History) → ((given : Answer) → P (only_told given h)) →
     ((given : Answer) (ledger : Ledger) → P (keeping (content.Redeem r) given ledger h)) →
     P (redemption_outcome o r t h)
 of_redeemed P (Err refusal) r t h same kept = same (answer.Refused (refused_as refusal))
 of_redeemed P (Ok x) r t h same kept =
     let given : Answer = answer.Bucket (next_bucket h.ledger) in
     let ledger : Ledger = credited t Money x.from x.until x.scope x.amount h.ledger in
-    if_both P (is_full h.ledger) (told (answer.Refused OutOfRange) h)
+    if_both P (is_full h.ledger) (only_told (answer.Refused OutOfRange) h)
     (keeping (content.Redeem r) given ledger h) (same (answer.Refused OutOfRange))
     (kept given ledger)
 
-of_redemption : (P : Outcome → Type 0) (b : Shelf) (s : Option Voucher) (r : VoucherRedemption)
-    (t : ℕ) (h : History) → ((given : Answer) → P (told given h)) →
+of_redemption : (P : CommandOutcome → Type 0) (b : Shelf) (s : Option Voucher)
+    (r : VoucherRedemption)
+    (t : ℕ) (h : History) → ((given : Answer) → P (only_told given h)) →
     ((given : Answer) (ledger : Ledger) → kept_under (key_of (content.Redeem r)) h ≡ None →
     P (keeping (content.Redeem r) given ledger h)) → P (redeem_outcome b s r t h)
 of_redemption P b s r t h same kept =
@@ -240,7 +244,7 @@ keeps_through b kept a list (d ∷ ds) keeps =
 -- ---- the first time
 
 -- where it is accepted it is kept with its answer
-abbrev IsKeptFirst : Content → Outcome → Type 0
+abbrev IsKeptFirst : Content → CommandOutcome → Type 0
 IsKeptFirst new o = o.accepted ≡ true → Keeps (record { content = new; answer = o.answer }) o.after
 
 first_kept : (new : Content) (given : Answer) (ledger : Ledger) (h : History) → h.opened ≡ true →
@@ -254,7 +258,7 @@ first_request b r t h = at h.opened refl
   where
     at : (there : Bool) → h.opened ≡ there →
         IsKeptFirst (content.Request r)
-        (if there then request_outcome b r t h else told (failed r UserUnknown) h)
+        (if there then request_outcome b r t h else only_told (failed r UserUnknown) h)
     at true there = of_request (IsKeptFirst (content.Request r)) b r t h (λ given. no)
         (λ given ledger free. first_kept (content.Request r) given ledger h there)
     at false there = no
@@ -294,55 +298,55 @@ first_allowance b a t h = at h.opened refl
 
 -- ---- the repeat
 
-unread : (read : Bool) (x y : Outcome) → not read ≡ true → (if read then x else y) ≡ y
+unread : (read : Bool) (x y : CommandOutcome) → not read ≡ true → (if read then x else y) ≡ y
 unread true x y e = no e
 unread false x y e = refl
 
 -- on a history that keeps it, a command is told its first answer
 repeat_request : (b : Shelf) (r : Request) (given : Answer) (t : ℕ) (h : History) →
     not (is_read r.ask) ≡ true → Keeps (record { content = content.Request r; answer = given }) h →
-    outcome b None h (command.Ccr r) t ≡ told given h
+    outcome b None h (command.Ccr r) t ≡ only_told given h
 repeat_request b r given t h key keeps =
     let d : Decision = decision b t r h.ledger in
     let conflict : Answer = failed r (InvalidAvpValue RequestNumber) in
-    ap (λ o. if o then request_outcome b r t h else told (failed r UserUnknown) h) keeps.there
-    ∙ unread (is_read r.ask) (told (answer.Request (answer_of r d.outcome)) h)
+    ap (λ o. if o then request_outcome b r t h else only_told (failed r UserUnknown) h) keeps.there
+    ∙ unread (is_read r.ask) (only_told (answer.Request (answer_of r d.outcome)) h)
     (unless_kept (kept_under (key_of (content.Request r)) h) (content.Request r) conflict h
     (decided_by r d h)) key
     ∙ ap (λ found. unless_kept found (content.Request r) conflict h (decided_by r d h)) keeps.found
-    ∙ ap (λ same. told (if same then given else conflict) h) ((request_exact r r).1 refl)
+    ∙ ap (λ same. only_told (if same then given else conflict) h) ((request_exact r r).1 refl)
 
 repeat_credit : (b : Shelf) (c : Credit) (given : Answer) (t : ℕ) (h : History) →
     Keeps (record { content = content.Credit c; answer = given }) h →
-    outcome b None h (command.Credit c) t ≡ told given h
+    outcome b None h (command.Credit c) t ≡ only_told given h
 repeat_credit b c given t h keeps =
     ap (λ o. if o then credit_outcome c t h
     else unopened_outcome None h (command.Credit c)) keeps.there
     ∙ ap (λ found. unless_kept found (content.Credit c) (answer.Refused ContentDiffers) h
     (new_credit c t h)) keeps.found
-    ∙ ap (λ same. told (if same then given else answer.Refused ContentDiffers) h)
+    ∙ ap (λ same. only_told (if same then given else answer.Refused ContentDiffers) h)
     ((credit_exact c c).1 refl)
 
 repeat_allowance : (b : Shelf) (a : Allowance) (given : Answer) (t : ℕ) (h : History) →
     Keeps (record { content = content.Allow a; answer = given }) h →
-    outcome b None h (command.Allow a) t ≡ told given h
+    outcome b None h (command.Allow a) t ≡ only_told given h
 repeat_allowance b a given t h keeps =
     ap (λ o. if o then allowance_outcome b a t h
     else unopened_outcome None h (command.Allow a)) keeps.there
     ∙ ap (λ found. unless_kept found (content.Allow a) (answer.Refused ContentDiffers) h
     (new_allowance b a t h)) keeps.found
-    ∙ ap (λ same. told (if same then given else answer.Refused ContentDiffers) h)
+    ∙ ap (λ same. only_told (if same then given else answer.Refused ContentDiffers) h)
     ((allowance_exact a a).1 refl)
 
 repeat_redemption : (b : Shelf) (s : Option Voucher) (r : VoucherRedemption) (given : Answer)
     (t : ℕ) (h : History) → Keeps (record { content = content.Redeem r; answer = given }) h →
-    outcome b s h (command.Redeem r) t ≡ told given h
+    outcome b s h (command.Redeem r) t ≡ only_told given h
 repeat_redemption b s r given t h keeps =
     ap (λ o. if o then redeem_outcome b s r t h else unopened_outcome s h (command.Redeem r))
     keeps.there
     ∙ ap (λ found. unless_kept found (content.Redeem r) (answer.Refused ContentDiffers) h
     (new_redemption b s r t h)) keeps.found
-    ∙ ap (λ same. told (if same then given else answer.Refused ContentDiffers) h)
+    ∙ ap (λ same. only_told (if same then given else answer.Refused ContentDiffers) h)
     ((redemption_exact r r).1 refl)
 
 -- ---- once
@@ -374,7 +378,7 @@ answers-once b list (command.Ccr r) t between u key taken =
     let after : List Accepted =
     after_commands b (record { moment = t; command = command.Ccr r } ∷ list) between in
     let told_again : outcome b None (history b r.account after) (command.Ccr r) u ≡
-    told given (history b r.account after) =
+    only_told given (history b r.account after) =
     repeat_request b r given u (history b r.account after) key
     (kept_between b kept r.account list (command.Ccr r) t between refl
     (first_request b r t (history b r.account list) taken)) in
@@ -385,7 +389,7 @@ answers-once b list (command.Credit c) t between u key taken =
     let after : List Accepted =
     after_commands b (record { moment = t; command = command.Credit c } ∷ list) between in
     let told_again : outcome b None (history b c.account after) (command.Credit c) u ≡
-    told given (history b c.account after) =
+    only_told given (history b c.account after) =
     repeat_credit b c given u (history b c.account after)
     (kept_between b kept c.account list (command.Credit c) t between refl
     (first_credit b c t (history b c.account list) taken)) in
@@ -397,7 +401,7 @@ answers-once b list (command.Allow a) t between u key taken =
     let after : List Accepted =
     after_commands b (record { moment = t; command = command.Allow a } ∷ list) between in
     let told_again : outcome b None (history b a.account after) (command.Allow a) u ≡
-    told given (history b a.account after) =
+    only_told given (history b a.account after) =
     repeat_allowance b a given u (history b a.account after)
     (kept_between b kept a.account list (command.Allow a) t between refl
     (first_allowance b a t (history b a.account list) taken)) in
@@ -413,7 +417,7 @@ answers-once b list (command.Redeem r) t between u key taken =
     let after : List Accepted =
     after_commands b (record { moment = t; command = command.Redeem r } ∷ list) between in
     let told_again : outcome b (standing b (command.Redeem r) after) (history b r.account after)
-    (command.Redeem r) u ≡ told given (history b r.account after) =
+    (command.Redeem r) u ≡ only_told given (history b r.account after) =
     repeat_redemption b (standing b (command.Redeem r) after) r given u (history b r.account after)
     (kept_between b kept r.account list (command.Redeem r) t between refl
     (first_redemption b (standing b (command.Redeem r) list) r t (history b r.account list)

@@ -45,7 +45,7 @@ use Rattle.keepers.specs.Differing.{named_rows}
 use Rattle.keepers.proofs.Asked.{known_is, new_unleft}
 use Rattle.charging.specs.Histories.{History}
 use Rattle.charging.specs.Accepted.{Accepted, last_moment, IsInTime}
-use Rattle.charging.specs.Outcomes.{outcome, failed, repeated, told, keeping, decided_by}
+use Rattle.charging.specs.Outcomes.{outcome, failed, repeated, only_told, keeping, decided_by}
 use Rattle.charging.specs.Outcomes.{unopened_outcome}
 use Rattle.charging.specs.Served.{history, AreTables, IsServed}
 use Rattle.charging.specs.Stepping.{IsTaken, is_known, kept_of_request}
@@ -82,7 +82,7 @@ request-again b list r t old new kept given time le tables is answers same =
     let h : History = history b r.account list in
     let k : Key = key_of (content.Request r) in
     served-told b list (Ccr r) t r.account refl time le
-    (told (repeated kept (content.Request r) (failed r (InvalidAvpValue RequestNumber))) h)
+    (only_told (repeated kept (content.Request r) (failed r (InvalidAvpValue RequestNumber))) h)
     given old new
     (outcome-kept b list (Ccr r) t r.account refl old k kept tables
     (kept-answer (is_read r.ask) (old.answers r.account k) kept is)
@@ -109,7 +109,7 @@ module _ (b : Shelf) (list : List Accepted) (r : Request) (t : ℕ) (old : Table
       IsServed b list (Ccr r) t old new (answer.Request given)
   told-fresh new given answers refused same =
       served-told b list (Ccr r) t r.account refl time le
-      (told (answer.Request (answer_of r (decision b t r h.ledger).outcome)) h)
+      (only_told (answer.Request (answer_of r (decision b t r h.ledger).outcome)) h)
       (answer.Request given) old new
       (fresh-is ∙ decided-told b r t h refused) refl (ap answer.Request answers) same tables
 

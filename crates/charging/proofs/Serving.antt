@@ -26,7 +26,7 @@ use Rattle.keepers.specs.Steps.{Extends}
 use Rattle.keepers.proofs.Taking.{taken}
 use Rattle.keepers.proofs.Leaving.{left_behind}
 use Rattle.charging.specs.Histories.{History, kept_under}
-use Rattle.charging.specs.Accepted.{Accepted, Outcome, one, concerned_by, names, is_opening}
+use Rattle.charging.specs.Accepted.{Accepted, CommandOutcome, one, concerned_by, names, is_opening}
 use Rattle.charging.specs.Accepted.{names_code, voucher_after, as_of, last_moment, IsInTime}
 use Rattle.charging.proofs.AcceptedTables.{Adds, tables_changed, row_none, row_some, as_of-last}
 use Rattle.charging.specs.Outcomes.{book_days, outcome, opened_outcome, unopened_outcome}
@@ -161,7 +161,7 @@ is-there b list a old tables e = at (old.rows a).head refl e
 module _ (b : Shelf) (list : List Accepted) (c : Command) (t : ℕ) (a : List ℕ)
     (named : concerned_by c ≡ one a) where
   -- what it comes to
-  abbrev comes : Outcome
+  abbrev comes : CommandOutcome
   comes = outcome b (standing b c list) (history b a list) c t
 
   answer_named : answer_to b list c t ≡ comes.answer
@@ -189,7 +189,7 @@ module _ (b : Shelf) (list : List Accepted) (c : Command) (t : ℕ) (a : List �
 
   -- it isn't accepted
   pub served-told : IsInTime list → last_moment list ≤ t →
-      (o : Outcome) (given : Answer) (old new : Tables) → comes ≡ o →
+      (o : CommandOutcome) (given : Answer) (old new : Tables) → comes ≡ o →
       o.accepted ≡ false → given ≡ o.answer → new ≡ old → AreTables b list old →
       IsServed b list c t old new given
   served-told time le o given old new is refused answers same tables = record {
@@ -202,7 +202,7 @@ module _ (b : Shelf) (list : List Accepted) (c : Command) (t : ℕ) (a : List �
   }
 
   -- it is accepted
-  adds : (o : Outcome) (change : Change) (old : Tables) → comes ≡ o →
+  adds : (o : CommandOutcome) (change : Change) (old : Tables) → comes ≡ o →
       a ≡ change.number → IsChange b list t c (history b a list) o.after change old →
       Adds (book_days b) (outcome b) b (record { moment = t; command = c }) list change old
   adds o change old is number x =
@@ -232,7 +232,7 @@ module _ (b : Shelf) (list : List Accepted) (c : Command) (t : ℕ) (a : List �
       }
 
   pub served-done : IsInTime list → last_moment list ≤ t →
-      (o : Outcome) (given : Answer) (change : Change) (old new : Tables) →
+      (o : CommandOutcome) (given : Answer) (change : Change) (old new : Tables) →
       comes ≡ o → o.accepted ≡ true → given ≡ o.answer →
       a ≡ change.number →
       IsChange b list t c (history b a list) o.after change old → new ≡ changed change old →
@@ -287,7 +287,7 @@ module _ (b : Shelf) (list : List Accepted) (c : Command) (t : ℕ) (a : List �
 
     -- the call left the account with the rows that weren't loaded the ledger's after the command,
     -- and the change tells it
-    pub record IsCalled (o : Outcome) (x : AccountRows) (change : Change) : Type 0 where
+    pub record IsCalled (o : CommandOutcome) (x : AccountRows) (change : Change) : Type 0 where
       pub shelf : x.shelf ≡ found.account.shelf
       pub at_moment : x.as_of ≡ t
       pub grows : Extends (history b a list).ledger o.after.ledger
@@ -301,14 +301,14 @@ module _ (b : Shelf) (list : List Accepted) (c : Command) (t : ℕ) (a : List �
       pub moment : change.moment ≡ x.as_of
       pub after : change.rows ≡ named_rows found.before (stored x)
 
-    left : (o : Outcome) (x : AccountRows) (change : Change) → IsCalled o x change →
+    left : (o : CommandOutcome) (x : AccountRows) (change : Change) → IsCalled o x change →
         AreRowsAt b o.after.ledger x.as_of
         (over (named_rows (stored found.account) (stored x)) (old.rows a))
     left o x change is = left_behind b (history b a list).ledger o.after.ledger (as_of a list) t
         (old.rows a) found.account x account.are loads.account loads.load.1
         (is.shelf ∙ account.of_book) is.grows is.rows
 
-    pub served-loaded : (o : Outcome) (given : Answer) (x : AccountRows) (change : Change) →
+    pub served-loaded : (o : CommandOutcome) (given : Answer) (x : AccountRows) (change : Change) →
         is_opening c ≡ false → comes ≡ o → o.accepted ≡ true →
         given ≡ o.answer → IsCalled o x change → new ≡ changed change old →
         IsServed b list c t old new given
@@ -370,7 +370,8 @@ served-by b list c t old mid new a (Err fault) before done same f = same ∙ bef
 
 -- an answer that is the same as the one that is served
 pub served-as : (b : Shelf) (list : List Accepted) (c : Command) (t : ℕ) (old new : Tables)
-    (given a : Answer) → given ≡ a → IsServed b list c t old new a → IsServed b list c t old new given
+    (given a : Answer) → given ≡ a → IsServed b list c t old new a →
+    IsServed b list c t old new given
 served-as b list c t old new given a is served = subst (IsServed b list c t old new) (sym is) served
 
 -- what a call gives, told of what it is the same as

@@ -3,19 +3,20 @@ use Rattle.std.proofs.Common.{◌≡◌, ℕ, ◌+◌, Bool, true, false, List, 
 use Rattle.std.proofs.Common.{◌∙◌, arith}
 use Rattle.std.specs.Prelude.{if◌then◌else◌, ◌==◌}
 use Rattle.std.proofs.lemmas.List.Sums.{sum_by-cons}
-use Rattle.buckets.specs.declared.holds.Hold.{Hold}
+use Rattle.buckets.specs.declared.holds.HeldAmount.{HeldAmount}
 use Rattle.buckets.proofs.Parts.{sum_at}
 use Rattle.reserving.specs.Ledger.{charged, held}
-use Rattle.reserving.specs.Ledger.Fact.{Charge, Hold as HoldFact}
+use Rattle.reserving.specs.Ledger.Fact.{Charge, Hold}
 use Rattle.reserving.specs.Settlement.{charge_facts}
 use Rattle.reserving.specs.Reservation.{hold_facts}
+use Rattle.reserving.specs.Reservation.{hold_for}
 use Rattle.reserving.proofs.SettledFacts.{charged-charge_facts, charged-hold_facts}
 use Rattle.reserving.proofs.SettledFacts.{credits-charge_facts, credits-hold_facts}
 use Rattle.reserving.proofs.SettledFacts.{held-charge_facts, held-hold_facts, held-hold_facts_other}
 use Rattle.charging.specs.SharesTold.{taken_of, ChargesAreShares}
 use Rattle.charging.specs.SharesTold.{HoldsAreShares}
 
-sum_is : (n : ℕ) (shares : List Hold) → sum_at n shares ≡ taken_of n shares
+sum_is : (n : ℕ) (shares : List HeldAmount) → sum_at n shares ≡ taken_of n shares
 sum_is n [] = refl
 sum_is n (h ∷ hs) =
     omega (
@@ -24,18 +25,18 @@ sum_is n (h ∷ hs) =
       sum_by-cons (λ x. if x.bucket == n then x.amount else 0) h hs,
     )
 
-charges_are : (t : ℕ) (shares : List Hold) →
+charges_are : (t : ℕ) (shares : List HeldAmount) →
     charge_facts t shares ≡ map (λ h. record { at = t; fact = Charge h.bucket h.amount }) shares
 charges_are t [] = refl
 charges_are t (h ∷ hs) =
     ap (λ l. record { at = t; fact = Charge h.bucket h.amount } ∷ l) (charges_are t hs)
 
-holds_are : (t : ℕ) (s : List ℕ) (g : ℕ) (shares : List Hold) →
+holds_are : (t : ℕ) (s : List ℕ) (g : ℕ) (shares : List HeldAmount) →
     hold_facts t s g shares
-    ≡ map (λ h. record { at = t; fact = HoldFact s g h.bucket h.amount }) shares
+    ≡ map (λ h. record { at = t; fact = Hold (hold_for s g h) }) shares
 holds_are t s g [] = refl
 holds_are t s g (h ∷ hs) =
-    ap (λ l. record { at = t; fact = HoldFact s g h.bucket h.amount } ∷ l) (holds_are t s g hs)
+    ap (λ l. record { at = t; fact = Hold (hold_for s g h) } ∷ l) (holds_are t s g hs)
 
 pub charges_are_shares : ChargesAreShares
 charges_are_shares t shares ledger = record {

@@ -1,12 +1,11 @@
 -- The ledger of each history is sound.
-use Rattle.std.proofs.Common.{◌≡◌, ℕ, true, false, true≢false, List, [], ◌∷◌, ◌∙◌, None}
+use Rattle.std.proofs.Common.{◌≡◌, ℕ, true, false, List, [], ◌∷◌, ◌∙◌, None}
 use Rattle.shelves.specs.Shelves.{Shelf}
-use Rattle.buckets.specs.declared.holds.Hold.{Hold}
-use Rattle.buckets.specs.Row.{Row}
+use Rattle.buckets.specs.declared.holds.HeldAmount.{HeldAmount}
+use Rattle.buckets.specs.Row.{BucketRow}
 use Rattle.buckets.specs.Share.{parts}
 use Rattle.buckets.specs.Holding.{paid}
-use Rattle.reserving.specs.Ledger.{Fact, Ledger, last_recording}
-use Rattle.reserving.specs.Ledger.Fact.{Touch, Close, Recorded, Barred}
+use Rattle.reserving.specs.Ledger.{Fact, Ledger, last_recording, counts}
 use Rattle.reserving.specs.SoundLedger.{IsSoundLedger}
 use Rattle.reserving.specs.Balance.{buckets_at}
 use Rattle.reserving.specs.Settlement.{due_of}
@@ -14,14 +13,13 @@ use Rattle.reserving.specs.Debiting.{rest_price, debited}
 use Rattle.reserving.proofs.Crediting.{IsSoundLedger-credited}
 use Rattle.reserving.proofs.SettledRows.{IsSoundLedger-settled_by}
 use Rattle.reserving.proofs.rows.Touching.{IsSoundLedger-touched, IsSoundLedger-recorded}
-use Rattle.reserving.proofs.rows.Closing.{IsSoundLedger-closed}
-use Rattle.reserving.proofs.rows.Barring.{IsSoundLedger-barred}
+use Rattle.reserving.proofs.Counted.{IsSoundLedger-quiet}
 use Rattle.reserving.proofs.rows.Empty.{IsSoundLedger-none}
 use Rattle.reserving.proofs.rows.Reserved.{IsSoundLedger-reserved}
 use Rattle.reserving.proofs.rows.Debited.{IsSoundLedger-debited}
 use Rattle.reserving.specs.Pricing.{validity_of}
 use Rattle.charging.specs.SessionReports.{Report}
-use Rattle.charging.proofs.Steps.{is_quiet, is_touch, IsInPlace, Keeps}
+use Rattle.charging.proofs.Steps.{is_quiet, quiet, is_touch, untouched, IsInPlace, Keeps}
 use Rattle.charging.proofs.Credited.{all_made}
 use Rattle.charging.proofs.Recorded.{charges_record}
 use Rattle.charging.proofs.Paying.{IsPaying, paying_none, keeps_paying}
@@ -31,12 +29,10 @@ pub record IsSoundHistory (b : Shelf) (reports : List Report) (ledger : Ledger) 
   pub sound : IsSoundLedger ledger
 
 sound_quiet : (t : ℕ) (f : Fact) (ledger : Ledger) → is_quiet f ≡ true → is_touch f ≡ false →
-    IsInPlace f ledger → IsSoundLedger ledger → IsSoundLedger (record { at = t; fact = f } ∷ ledger)
-sound_quiet t (Touch s) ledger q n fits h = absurd (true≢false n)
-sound_quiet t (Close s) ledger q n fits h = IsSoundLedger-closed t s ledger fits h
-sound_quiet t (Recorded s k) ledger q n fits h = IsSoundLedger-recorded t s k ledger fits h
-sound_quiet t (Barred x) ledger q n fits h = IsSoundLedger-barred t x ledger h
-sound_quiet t _ ledger q n fits h = cc
+    IsInPlace (counts f) ledger → IsSoundLedger ledger →
+    IsSoundLedger (record { at = t; fact = f } ∷ ledger)
+sound_quiet t f ledger q n fits h =
+    IsSoundLedger-quiet t ledger h f (quiet f q) (untouched f n) fits
 
 sound_debited : (b : Shelf) (t : ℕ) (s : List ℕ) (g units : ℕ) (reports : List Report)
     (ledger : Ledger) → IsSoundHistory b reports ledger →
@@ -50,8 +46,8 @@ sound_debited b t s g units reports ledger h =
 new_debited : (b : Shelf) (t : ℕ) (s : List ℕ) (g units : ℕ) (ledger : Ledger) →
     last_recording s ledger ≡ None → last_recording s (debited b t s g units ledger) ≡ None
 new_debited b t s g units ledger new =
-    let rows : List Row = buckets_at (validity_of b) t ledger in
-    let hs : List Hold =
+    let rows : List BucketRow = buckets_at (validity_of b) t ledger in
+    let hs : List HeldAmount =
     parts (paid [] g t (due_of (rest_price b t g units ledger)) rows) rows in
     charges_record s t hs ledger ∙ new
 

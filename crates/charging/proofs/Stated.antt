@@ -3,7 +3,7 @@ use Rattle.std.proofs.Common.{◌≡◌, ℕ, ◌≤◌, false, List, ◌++◌, 
 use Rattle.std.proofs.Common.{None}
 use Rattle.std.proofs.Math.Nat.{le-max_right}
 use Rattle.std.specs.Prelude.{if◌then◌else◌}
-use Rattle.buckets.specs.Row.{Row}
+use Rattle.buckets.specs.Row.{BucketRow}
 use Rattle.commands.specs.declared.answer.Answer.TheVariants as answer
 use Rattle.commands.specs.declared.answer.Refusal.TheVariants.{AccountUnknown}
 use Rattle.commands.specs.declared.balance.AccountBalance.{AccountBalance}
@@ -23,7 +23,7 @@ use Rattle.keepers.proofs.Found.{bucket_filter}
 use Rattle.charging.specs.Accepted.{Accepted, as_of, last_moment, IsInTime}
 use Rattle.charging.specs.Balances.{bucket_balance, by_number, account_balance, AreByNumber}
 use Rattle.charging.specs.Histories.{History}
-use Rattle.charging.specs.Outcomes.{told, opened_outcome, unopened_outcome}
+use Rattle.charging.specs.Outcomes.{only_told, opened_outcome, unopened_outcome}
 use Rattle.charging.specs.Served.{history, AreTables, IsServed}
 use Rattle.charging.specs.States.{IsState, IsStateOf}
 use Rattle.charging.specs.declared.balances.AccountState.{AccountState}
@@ -39,7 +39,7 @@ none-stated b a list old tables none =
     (row_none b (as_of a list) (history b a list) (old.rows a) none (tables.accounts a)).0
 
 pub some-stated : (b : Shelf) (a : List ℕ) (t : ℕ) (list : List Accepted) (old : Tables)
-    (x : AccountRows) (dead : List Row) (s : AccountState) → IsInTime list →
+    (x : AccountRows) (dead : List BucketRow) (s : AccountState) → IsInTime list →
     AreTables b list old → last_moment list ≤ t → IsLoadedFrom b t (old.rows a) x →
     AreDeadOf (old.rows a) dead → IsStateOf t x dead s → IsState b t (history b a list) (Some s)
 some-stated b a t list old x dead s time tables le loads found h =
@@ -77,7 +77,7 @@ pub balance-unknown : (b : Shelf) (list : List Accepted) (n : List ℕ) (t : ℕ
 balance-unknown b list n t old new time le tables none same =
     let h : History = history b n list in
     served-told b list (command.Balance n) t n refl time le
-    (told (answer.Refused AccountUnknown) h) (answer.Refused AccountUnknown) old new
+    (only_told (answer.Refused AccountUnknown) h) (answer.Refused AccountUnknown) old new
     (ap (λ v. if v then opened_outcome b None h (command.Balance n) t
     else unopened_outcome None h (command.Balance n)) none)
     refl refl same tables
@@ -94,7 +94,7 @@ pub balance-told : (b : Shelf) (list : List Accepted) (n : List ℕ) (t : ℕ) (
 balance-told b list n t old new s given time le tables state is same =
     let h : History = history b n list in
     served-told b list (command.Balance n) t n refl time le
-    (told (answer.Balance (account_balance b n t h.ledger)) h) (answer.Balance given) old new
+    (only_told (answer.Balance (account_balance b n t h.ledger)) h) (answer.Balance given) old new
     (outcome-opened b list (command.Balance n) t n refl state.0) refl
     (ap answer.Balance (is ∙ (λ i. record {
       account = n;

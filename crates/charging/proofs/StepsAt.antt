@@ -54,7 +54,8 @@ use Rattle.decisions.specs.Decided.{Decision, invalid, refused_or}
 use Rattle.decisions.specs.Settling.{settled_service, settled_services}
 use Rattle.decisions.specs.Granting.{Answered, granted_units, granted_if, granted_by, granted}
 use Rattle.decisions.specs.Granting.{after_grants, any_grants}
-use Rattle.decisions.specs.Events.{event_fault, event_units, debit_refusal, charged, charged_by}
+use Rattle.decisions.specs.Events.{event_fault, event_units, debit_refusal, charged_at_once}
+use Rattle.decisions.specs.Events.{charged_by}
 use Rattle.decisions.specs.Events.{charged_unless_barred, debit_decision, read_refusal}
 use Rattle.decisions.specs.Events.{decided_action, refund_refusal, refunded, refund_decision}
 use Rattle.decisions.specs.Decisions.{initial_refusal, opened, opened_unless_barred}
@@ -63,7 +64,7 @@ use Rattle.decisions.specs.Decisions.{decision, is_read}
 use Rattle.keepers.specs.declared.key.KeptAnswer.{KeptAnswer}
 use Rattle.keepers.specs.Keys.{key_of}
 use Rattle.charging.specs.Histories.{History, kept_under}
-use Rattle.charging.specs.Accepted.{Outcome}
+use Rattle.charging.specs.Accepted.{CommandOutcome}
 use Rattle.charging.specs.Outcomes.{unless_kept, decided_by, request_outcome}
 use Rattle.charging.specs.Outcomes.{from_of, until_of, is_full, is_out_of_range, new_credit}
 use Rattle.charging.specs.Outcomes.{credit_outcome, addition_outcome, book_days}
@@ -215,7 +216,7 @@ module _ (b : Shelf) (t : ℕ) (May : List ℕ → Type 0) (P : Ledger → Type 
   kept_charged (Some tariff) s n e ledger may h =
       let units : ℕ = event_units tariff e.requested in
       either_decision (is_covered b t e.group units ledger)
-      (charged b tariff t s n e.group units ledger) _
+      (charged_at_once b tariff t s n e.group units ledger) _
       (either_decision (debit_passes b t s e.group units ledger) _ _ h
       (k.note s n (debited b t s e.group units ledger) may
       (k.event s e.group units ledger may h)))
@@ -261,13 +262,13 @@ module _ (b : Shelf) (t : ℕ) (May : List ℕ → Type 0) (P : Ledger → Type 
 
   -- ---- commands
 
-  either_outcome : (v : Bool) (x y : Outcome) → P x.after.ledger → P y.after.ledger →
+  either_outcome : (v : Bool) (x y : CommandOutcome) → P x.after.ledger → P y.after.ledger →
       P (if v then x else y).after.ledger
   either_outcome true x y p q = p
   either_outcome false x y p q = q
 
   kept_unless : (o : Option KeptAnswer) (new : Content) (conflict : Answer) (h : History)
-      (fresh : Outcome) → P h.ledger → P fresh.after.ledger →
+      (fresh : CommandOutcome) → P h.ledger → P fresh.after.ledger →
       P (unless_kept o new conflict h fresh).after.ledger
   kept_unless None new conflict h fresh p q = q
   kept_unless (Some kept) new conflict h fresh p q = p

@@ -37,7 +37,7 @@ use Rattle.keepers.specs.Tables.{Tables}
 use Rattle.keepers.specs.Change.{IsLoad, redeemed_over, changed, with_voucher}
 use Rattle.charging.specs.Histories.{History, no_history}
 use Rattle.charging.specs.Accepted.{Accepted, last_moment, IsInTime}
-use Rattle.charging.specs.Outcomes.{book_days, outcome, told, keeping, repeated, refused_as}
+use Rattle.charging.specs.Outcomes.{book_days, outcome, only_told, keeping, repeated, refused_as}
 use Rattle.charging.specs.Outcomes.{is_full, addition_outcome, redeemed_outcome, redemption_outcome}
 use Rattle.charging.specs.Served.{history, voucher, standing, AreTables, with_command, IsServed}
 use Rattle.charging.specs.Stepping.{IsTaken, Makes}
@@ -124,7 +124,7 @@ pub redeem-unknown : (b : Shelf) (list : List Accepted) (r : VoucherRedemption) 
     IsServed b list (command.Redeem r) t old new (answer.Refused AccountUnknown)
 redeem-unknown b list r t old new time le tables none same =
     served-told b list (command.Redeem r) t r.account refl time le
-    (told (answer.Refused AccountUnknown) (history b r.account list))
+    (only_told (answer.Refused AccountUnknown) (history b r.account list))
     (answer.Refused AccountUnknown) old new
     (outcome-unopened b list (command.Redeem r) t r.account refl old tables none) refl refl same
     tables
@@ -139,7 +139,7 @@ redeem-again b list r t old new kept given time le tables is answers same =
     let h : History = history b r.account list in
     let k : Key = key_of (content.Redeem r) in
     served-told b list (command.Redeem r) t r.account refl time le
-    (told (repeated kept (content.Redeem r) (answer.Refused ContentDiffers)) h) given old new
+    (only_told (repeated kept (content.Redeem r) (answer.Refused ContentDiffers)) h) given old new
     (outcome-kept b list (command.Redeem r) t r.account refl old k kept tables is
     ∙ redemption-repeated b (standing b (command.Redeem r) list) r t h kept
     (sym (tables.answers r.account k) ∙ is))
@@ -174,7 +174,7 @@ redeem-refused b list r t old new found refusal time le tables loads fresh redee
     let opened : (history b r.account list).opened ≡ true =
     is-there b list r.account old tables (ap is_some loads.1.head) in
     served-told b list (command.Redeem r) t r.account refl time le
-    (told (answer.Refused (refused_as refusal)) (history b r.account list))
+    (only_told (answer.Refused (refused_as refusal)) (history b r.account list))
     (answer.Refused (refused_as refusal)) old new
     (redeemed-is b list r t old tables opened fresh (Err refusal) redeems) refl refl same tables
 
@@ -215,8 +215,8 @@ module _ (b : Shelf) (list : List Accepted) (r : VoucherRedemption) (t : ℕ) (o
       subst (λ (q : Option ℕ). Makes q Money y.from y.until y.scope y.amount m h.ledger left x) none
       made in
       served-told b list (command.Redeem r) t r.account refl time le
-      (told (answer.Refused OutOfRange) h) (answer.Refused OutOfRange) old new
-      (redeem-is ∙ ap (λ v. if v then told (answer.Refused OutOfRange) h
+      (only_told (answer.Refused OutOfRange) h) (answer.Refused OutOfRange) old new
+      (redeem-is ∙ ap (λ v. if v then only_told (answer.Refused OutOfRange) h
       else keeping (content.Redeem r) (answer.Bucket (next_bucket h.ledger))
       (credited t Money y.from y.until y.scope y.amount h.ledger) h) full)
       refl refl same tables
@@ -249,14 +249,14 @@ module _ (b : Shelf) (list : List Accepted) (r : VoucherRedemption) (t : ℕ) (o
       new ≡ changed change old →
       IsServed b list (command.Redeem r) t old new (answer.Bucket number)
   redeem-done number change some shelf stands tells grown =
-      let done = subst (λ (q : Option ℕ). Makes q Money y.from y.until y.scope y.amount m h.ledger left x)
-      some made in
+      let done = subst (λ (q : Option ℕ). Makes q Money y.from y.until y.scope y.amount m h.ledger
+      left x) some made in
       let as_of : x.as_of ≡ m = subst (λ (q : Option ℕ). IfSome q (λ n. x.as_of ≡ m)) some stands in
       let after : Ledger = credited t Money y.from y.until y.scope y.amount h.ledger in
       served-loaded b list (command.Redeem r) t r.account refl time le old new tables found loads
       (keeping (content.Redeem r) (answer.Bucket (next_bucket h.ledger)) after h)
       (answer.Bucket number) x change refl
-      (redeem-is ∙ ap (λ v. if v then told (answer.Refused OutOfRange) h
+      (redeem-is ∙ ap (λ v. if v then only_told (answer.Refused OutOfRange) h
       else keeping (content.Redeem r) (answer.Bucket (next_bucket h.ledger)) after h) done.0)
       refl (ap answer.Bucket done.1)
       (record {

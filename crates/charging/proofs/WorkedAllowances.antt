@@ -21,9 +21,11 @@ use Rattle.commands.specs.declared.command.Command.TheVariants as command
 use Rattle.commands.specs.declared.command.Content.TheVariants as content
 use Rattle.commands.specs.declared.command.Credit.{Credit}
 use Rattle.reserving.specs.Ledger.{Ledger, Fact as fact}
+use Rattle.reserving.specs.Ledger.{Fact}
 use Rattle.charging.specs.Histories.{History, no_history}
-use Rattle.charging.specs.Accepted.{Outcome}
-use Rattle.charging.specs.Outcomes.{told, done, outcome}
+use Rattle.charging.specs.Accepted.{CommandOutcome}
+use Rattle.charging.specs.Outcomes.{only_told, done, outcome}
+use Rattle.buckets.specs.declared.kind.BucketKind.{BucketKind}
 
 abbrev tariff : ℕ → GroupTariff
 tariff group = record {
@@ -95,10 +97,21 @@ allowance blocks until group reference = record {
   reference = reference;
 }
 
+-- a bucket that is made at a moment, with no end
+abbrev made : BucketKind → ℕ → ℕ → Option ℕ → ℕ → Fact
+made kind number from scope amount = fact.Credit (record {
+  kind = kind;
+  number = number;
+  from = from;
+  until = 4102444800;
+  scope = scope;
+  amount = amount;
+})
+
 -- credited at 00:00 of a Monday
 abbrev paid : Ledger
 paid =
-    record { at = 1767571200; fact = fact.Credit Money 1 1767571200 4102444800 None 1000000 } ∷ []
+    record { at = 1767571200; fact = made Money 1 1767571200 None 1000000 } ∷ []
 
 abbrev with_credit : History
 with_credit = record {
@@ -112,18 +125,18 @@ abbrev with_blocks : History
 with_blocks = record {
   opened = true;
   ledger =
-      record { at = 1767571260; fact = fact.Credit Blocks 2 1767571260 4102444800 (Some 10) 3 }
+      record { at = 1767571260; fact = made Blocks 2 1767571260 (Some 10) 3 }
       ∷ paid;
   kept =
       record { content = content.Allow (allowance 3 None 10 a1); answer = answer.Bucket 2 }
       ∷ with_credit.kept;
 }
 
-abbrev comes_to : History → Command → ℕ → Outcome
+abbrev comes_to : History → Command → ℕ → CommandOutcome
 comes_to h c t = outcome shelf None h c t
 
-abbrev refused : Refusal → History → Outcome
-refused refusal h = told (answer.Refused refusal) h
+abbrev refused : Refusal → History → CommandOutcome
+refused refusal h = only_told (answer.Refused refusal) h
 
 -- ---- given once
 
@@ -132,7 +145,7 @@ given : comes_to with_credit (command.Allow (allowance 3 None 10 a1)) 1767571260
 given = refl
 
 given_again : comes_to with_blocks (command.Allow (allowance 3 None 10 a1)) 1767571320
-    ≡ told (answer.Bucket 2) with_blocks
+    ≡ only_told (answer.Bucket 2) with_blocks
 given_again = refl
 
 -- ---- refused
@@ -179,7 +192,7 @@ under_the_book : comes_to with_blocks (command.Allow (allowance 1 None 30 a2)) 1
     (record {
       opened = true;
       ledger =
-          record { at = 1767657600; fact = fact.Credit Blocks 3 1767657600 4102444800 (Some 30) 1 }
+          record { at = 1767657600; fact = made Blocks 3 1767657600 (Some 30) 1 }
           ∷ with_blocks.ledger;
       kept =
           record { content = content.Allow (allowance 1 None 30 a2); answer = answer.Bucket 3 }

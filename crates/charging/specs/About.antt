@@ -27,10 +27,9 @@ pub record About : Type 0 where
   pub code : CodeUse
   -- it makes an account
   pub opens : Bool
-  -- it has a key, its number, its reference or its code, under which it may be repeated
+  -- it has a key, its number, its reference or its code, under which it may be repeated; a check or
+  -- an enquiry has none: it is answered anew each time
   pub keyed : Bool
-  -- a balance, a check or an enquiry: it is answered anew each time
-  pub reads : Bool
   -- the request of a session
   pub request : Option Request
 
@@ -41,15 +40,13 @@ concerning who = record {
   code = no_code;
   opens = false;
   keyed = false;
-  reads = false;
   request = None;
 }
 
--- a request of a session, which has its number as its key
+-- a request of a session, which has its number as its key unless it reads
 abbrev pub of_request : Request → About
 of_request r = record (concerning (one r.account)) {
   keyed = not (is_read r.ask);
-  reads = is_read r.ask;
   request = Some r;
 }
 
@@ -69,4 +66,4 @@ about (command.Redeem r) = record (concerning (one r.account)) {
   keyed = true;
 }
 about command.Sweep = concerning each
-about (command.Balance n) = record (concerning (one n)) { reads = true }
+about (command.Balance n) = concerning (one n)

@@ -28,7 +28,7 @@ pub record Accepted : Type 0 where
 
 -- what a command is answered on an account's history, whether it is accepted, and the history after
 -- it
-pub record Outcome : Type 0 where
+pub record CommandOutcome : Type 0 where
   pub answer : Answer
   pub accepted : Bool
   pub after : History
@@ -123,7 +123,8 @@ IsRow shelf t history r = IsRowOf r.head shelf t history r
 
 -- by where days end, and what commands come to over what stands under their codes and on an
 -- account's history
-module _ (ends : DayEnds) (outcome : Option Voucher → History → Command → Moment → Outcome) where
+module _ (ends : DayEnds) (outcome : Option Voucher → History → Command → Moment →
+    CommandOutcome) where
   -- the account's history
   abbrev pub history_of : AccountName → List Accepted → History
   history_of a [] = no_history

@@ -5,7 +5,7 @@ use Rattle.std.specs.List.{AllByRecursion}
 use Rattle.units.specs.Words.{Moment}
 use Rattle.identifiers.specs.Words.{AccountName}
 use Rattle.buckets.specs.Words.{BucketNumber}
-use Rattle.buckets.specs.Row.{Row}
+use Rattle.buckets.specs.Row.{BucketRow}
 use Rattle.shelves.specs.Shelves.{Shelf}
 use Rattle.reserving.specs.Balance.{buckets_at}
 use Rattle.reserving.specs.Left.{bucket_in}
@@ -15,12 +15,12 @@ use Rattle.charging.specs.Balances.{by_number}
 use Rattle.charging.specs.Served.{history}
 
 -- each number is below all that follow
-abbrev pub AreRising : List Row → Type 0
+abbrev pub AreRising : List BucketRow → Type 0
 AreRising [] = Unit {0}
-AreRising (b ∷ bs) = AllByRecursion (λ (x : Row). b.number < x.number) bs × AreRising bs
+AreRising (b ∷ bs) = AllByRecursion (λ (x : BucketRow). b.number < x.number) bs × AreRising bs
 
 -- under each number the bucket is told that has it, and numbers rise
-pub record AreToldByNumber (buckets told : List Row) : Type 0 where
+pub record AreToldByNumber (buckets told : List BucketRow) : Type 0 where
   pub each : (n : BucketNumber) → bucket_in n told ≡ bucket_in n buckets
   pub order : AreRising told
 

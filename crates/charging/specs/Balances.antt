@@ -4,7 +4,7 @@ use Rattle.std.specs.Prelude.{List, [], ◌∷◌, map, nat_lt, if◌then◌else
 use Rattle.std.specs.List.Sorted.{IsNonDecreasingBy, IsPermutation}
 use Rattle.units.specs.Words.{Moment}
 use Rattle.identifiers.specs.Words.{AccountName}
-use Rattle.buckets.specs.Row.{Row}
+use Rattle.buckets.specs.Row.{BucketRow}
 use Rattle.buckets.specs.declared.kind.BucketKind.{BucketKind}
 use Rattle.buckets.specs.declared.kind.BucketKind.TheVariants as kind
 use Rattle.commands.specs.declared.balance.AccountBalance.{AccountBalance}
@@ -17,11 +17,11 @@ use Rattle.reserving.specs.Balance.{buckets_at}
 use Rattle.reserving.specs.Pricing.{validity_of}
 
 -- a bucket stands before the first of a greater number
-abbrev pub numbered : Row → List Row → List Row
+abbrev pub numbered : BucketRow → List BucketRow → List BucketRow
 numbered b [] = b ∷ []
 numbered b (x ∷ xs) = if nat_lt b.number x.number then b ∷ x ∷ xs else x ∷ numbered b xs
 
-abbrev pub by_number : List Row → List Row
+abbrev pub by_number : List BucketRow → List BucketRow
 by_number [] = []
 by_number (b ∷ bs) = numbered b (by_number bs)
 
@@ -31,7 +31,7 @@ unit_of kind.Money = MicroUnits
 unit_of kind.Blocks = Blocks
 
 -- a bucket as it is told
-abbrev pub bucket_balance : Row → BucketBalance
+abbrev pub bucket_balance : BucketRow → BucketBalance
 bucket_balance b = record {
   number = b.number;
   from = b.from;
@@ -55,6 +55,6 @@ account_balance b n t ledger = record {
 }
 
 -- the same buckets, whose numbers don't fall
-pub record AreByNumber (buckets told : List Row) : Type 0 where
+pub record AreByNumber (buckets told : List BucketRow) : Type 0 where
   pub same : IsPermutation buckets told
   pub order : IsNonDecreasingBy (λ b. b.number) told

@@ -1,5 +1,5 @@
--- What the charges of an account come to: each within its bounds, and their sums within what 128 bits
--- hold.
+-- What the charges of an account come to: each within its bounds, and their sums within what 128
+-- bits hold.
 -- Source: profile.
 use Rattle.std.specs.Prelude.{◌*◌, ◌<◌, ◌≤◌, ◌^◌, Bool, List, filter, length, sum_by}
 use Rattle.units.specs.Words.{most_counted}

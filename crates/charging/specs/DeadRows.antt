@@ -4,7 +4,7 @@ use Rattle.std.specs.Prelude.{◌≡◌, ◌≤◌, false, List, Some}
 use Rattle.units.specs.Words.{Moment, Seconds, GroupId}
 use Rattle.identifiers.specs.Words.{SessionName, AccountName}
 use Rattle.buckets.specs.Words.{BucketNumber}
-use Rattle.buckets.specs.Row.{Row}
+use Rattle.buckets.specs.Row.{BucketRow}
 use Rattle.shelves.specs.Shelves.{Shelf}
 use Rattle.reserving.specs.declared.session.Session.{Session}
 use Rattle.reserving.specs.Ledger.{Ledger}
@@ -20,7 +20,7 @@ use Rattle.charging.specs.Runs.{after_commands}
 -- the rows of a ledger at a moment that are dead are those of a later ledger at a later moment
 pub record AreDeadForGood (v : Moment → Seconds) (t u : Moment) (old new : Ledger) : Type 0 where
   -- a bucket that has nothing available and nothing reserved
-  pub buckets : (n : BucketNumber) (x : Row) → bucket_in n (buckets_at v t old) ≡ Some x →
+  pub buckets : (n : BucketNumber) (x : BucketRow) → bucket_in n (buckets_at v t old) ≡ Some x →
       IsDead x →
       bucket_in n (buckets_at v u new) ≡ Some x
   -- a session that is over, or that was never opened

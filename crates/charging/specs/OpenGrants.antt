@@ -1,33 +1,26 @@
 -- What a session was granted of a group and hasn't ended yet, in one reader.
 -- Source: TS 32.299, session charging with unit reservation; the ledger: profile.
-use Rattle.std.specs.Prelude.{◌≡◌, ◌==◌, ◌&&◌, Option, Some, None, option_map}
-use Rattle.std.specs.Prelude.{if◌then◌else◌}
+use Rattle.std.specs.Prelude.{◌≡◌, Option, option_map}
 use Rattle.units.specs.Words.{UnitCount, Place, GroupId}
 use Rattle.identifiers.specs.Words.{SessionName}
 use Rattle.reserving.specs.declared.session.Terms.{Terms}
-use Rattle.reserving.specs.Ledger.{Fact, Dated, Ledger, is_same, newest, inner, open_grant}
-use Rattle.reserving.specs.Ledger.Fact.{Grant, End}
+use Rattle.reserving.specs.Ledger.{Dated, Ledger, GrantOf, tells, newest, inner, open_grant}
 use Rattle.charging.specs.Quotas.{grant_open}
 
 -- a grant: its terms, its units, and its place of the group's counter
-pub record Granted : Type 0 where
+pub record PlacedGrant : Type 0 where
   pub terms : Terms
   pub units : UnitCount
   pub counter : Place
 
-abbrev pub granting : SessionName → GroupId → Dated → Option (Option Granted)
-granting s g d = granted_by d.fact
-  where
-    granted_by : Fact → Option (Option Granted)
-    granted_by (Grant session group terms units counter) =
-        if is_same session s && group == g
-        then Some (Some (record { terms = terms; units = units; counter = counter }))
-        else None
-    granted_by (End session group) = if is_same session s && group == g then Some None else None
-    granted_by _ = None
+abbrev pub granted_by : GrantOf → PlacedGrant
+granted_by x = record { terms = x.terms; units = x.units; counter = x.counter }
+
+abbrev pub granting : SessionName → GroupId → Dated → Option (Option PlacedGrant)
+granting s g d = tells granted_by s g d
 
 -- the grant of a session's group that no later fact ended
-abbrev pub granted : SessionName → GroupId → Ledger → Option Granted
+abbrev pub granted : SessionName → GroupId → Ledger → Option PlacedGrant
 granted s g ledger = inner (newest (granting s g) ledger)
 
 -- by its terms a report is priced, and by its units and its counter a quota is told: both are of

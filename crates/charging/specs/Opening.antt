@@ -30,7 +30,8 @@ IsFirstDenial failure [] = Unit {0}
 IsFirstDenial failure (x ∷ xs) = x.outcome ≡ service.Failed failure
 
 -- the session opens exactly where some service is granted units, asked in the order of the request,
--- each on the ledger that the one before left; else the request is denied for the first one's reason
+-- each on the ledger that the one before left; else the request is denied for the first one's
+-- reason
 pub record IsOpenedByGrants (b : Shelf) (t : Moment) (s : SessionName) (n : CcRequestNumber)
     (services : List Service) (ledger : Ledger) : Type 0 where
   pub opens : any_grants b t ledger services ≡

@@ -44,18 +44,18 @@ use Rattle.keepers.specs.declared.key.KeptAnswer.{KeptAnswer}
 use Rattle.keepers.specs.Keys.{key_of}
 use Rattle.charging.specs.Balances.{account_balance}
 use Rattle.charging.specs.Histories.{History, kept_under}
-use Rattle.charging.specs.Accepted.{Outcome}
+use Rattle.charging.specs.Accepted.{CommandOutcome}
 
 -- an answer that changes nothing
-abbrev pub told : Answer → History → Outcome
-told given h = record { answer = given; accepted = false; after = h }
+abbrev pub only_told : Answer → History → CommandOutcome
+only_told given h = record { answer = given; accepted = false; after = h }
 
 -- an accepted command without a key
-abbrev pub done : Answer → History → Outcome
+abbrev pub done : Answer → History → CommandOutcome
 done given after = record { answer = given; accepted = true; after = after }
 
 -- an accepted command is kept with its answer
-abbrev pub keeping : Content → Answer → Ledger → History → Outcome
+abbrev pub keeping : Content → Answer → Ledger → History → CommandOutcome
 keeping kept given ledger h =
     done given (record {
       opened = h.opened;
@@ -76,9 +76,10 @@ same_content x y = false
 abbrev pub repeated : KeptAnswer → Content → Answer → Answer
 repeated kept new conflict = if same_content kept.content new then kept.answer else conflict
 
-abbrev pub unless_kept : Option KeptAnswer → Content → Answer → History → Outcome → Outcome
+abbrev pub unless_kept : Option KeptAnswer → Content → Answer → History → CommandOutcome →
+    CommandOutcome
 unless_kept None new conflict h fresh = fresh
-unless_kept (Some kept) new conflict h fresh = told (repeated kept new conflict) h
+unless_kept (Some kept) new conflict h fresh = only_told (repeated kept new conflict) h
 
 -- ---- requests
 
@@ -86,16 +87,16 @@ unless_kept (Some kept) new conflict h fresh = told (repeated kept new conflict)
 abbrev pub failed : Request → Failure → Answer
 failed r failure = answer.Request (answer_of r (Failed failure))
 
-abbrev pub decided_by : Request → Decision → History → Outcome
+abbrev pub decided_by : Request → Decision → History → CommandOutcome
 decided_by r d h =
     if d.accepted
     then keeping (content.Request r) (answer.Request (answer_of r d.outcome)) d.after h
-    else told (answer.Request (answer_of r d.outcome)) h
+    else only_told (answer.Request (answer_of r d.outcome)) h
 
-abbrev pub request_outcome : Shelf → Request → Moment → History → Outcome
+abbrev pub request_outcome : Shelf → Request → Moment → History → CommandOutcome
 request_outcome b r t h =
     if is_read r.ask
-    then told (answer.Request (answer_of r (decision b t r h.ledger).outcome)) h
+    then only_told (answer.Request (answer_of r (decision b t r h.ledger).outcome)) h
     else unless_kept (kept_under (key_of (content.Request r)) h) (content.Request r)
     (failed r (InvalidAvpValue RequestNumber)) h (decided_by r (decision b t r h.ledger) h)
 
@@ -119,14 +120,14 @@ is_full ledger = nat_lt greatest_number (next_bucket ledger)
 abbrev pub is_out_of_range : Credit → Moment → Ledger → Bool
 is_out_of_range c t ledger = is_unusable c t || is_full ledger
 
-abbrev pub new_credit : Credit → Moment → History → Outcome
+abbrev pub new_credit : Credit → Moment → History → CommandOutcome
 new_credit c t h =
     if is_out_of_range c t h.ledger
-    then told (answer.Refused OutOfRange) h
+    then only_told (answer.Refused OutOfRange) h
     else keeping (content.Credit c) (answer.Bucket (next_bucket h.ledger))
     (credited t Money (from_of c t) (until_of c) c.scope c.amount h.ledger) h
 
-abbrev pub credit_outcome : Credit → Moment → History → Outcome
+abbrev pub credit_outcome : Credit → Moment → History → CommandOutcome
 credit_outcome c t h = unless_kept (kept_under (key_of (content.Credit c)) h) (content.Credit c)
     (answer.Refused ContentDiffers) h (new_credit c t h)
 
@@ -151,15 +152,15 @@ allowance_refusal b a t ledger =
     else (if is_known (book_at b t) a.scope then None else Some ScopeUnknown)
 
 -- else it is a credit in blocks of the group
-abbrev pub allowed_unless : Option Refusal → Allowance → Moment → History → Outcome
-allowed_unless (Some refusal) a t h = told (answer.Refused refusal) h
+abbrev pub allowed_unless : Option Refusal → Allowance → Moment → History → CommandOutcome
+allowed_unless (Some refusal) a t h = only_told (answer.Refused refusal) h
 allowed_unless None a t h = keeping (content.Allow a) (answer.Bucket (next_bucket h.ledger))
     (credited t Blocks (begin_of a t) (end_of a) (Some a.scope) a.blocks h.ledger) h
 
-abbrev pub new_allowance : Shelf → Allowance → Moment → History → Outcome
+abbrev pub new_allowance : Shelf → Allowance → Moment → History → CommandOutcome
 new_allowance b a t h = allowed_unless (allowance_refusal b a t h.ledger) a t h
 
-abbrev pub allowance_outcome : Shelf → Allowance → Moment → History → Outcome
+abbrev pub allowance_outcome : Shelf → Allowance → Moment → History → CommandOutcome
 allowance_outcome b a t h =
     unless_kept (kept_under (key_of (content.Allow a)) h) (content.Allow a)
     (answer.Refused ContentDiffers) h (new_allowance b a t h)
@@ -167,10 +168,10 @@ allowance_outcome b a t h =
 -- ---- vouchers
 
 -- a voucher that is new is accepted; one that is there with the same terms changes nothing
-abbrev pub addition_outcome : Addition → History → Outcome
+abbrev pub addition_outcome : Addition → History → CommandOutcome
 addition_outcome (New voucher) h = done answer.Done h
-addition_outcome Present h = told answer.Done h
-addition_outcome Conflicting h = told (answer.Refused ContentDiffers) h
+addition_outcome Present h = only_told answer.Done h
+addition_outcome Conflicting h = only_told (answer.Refused ContentDiffers) h
 
 -- where days end by the calendar of the book at the moment
 abbrev pub book_days : Shelf → DayEnds
@@ -182,23 +183,25 @@ refused_as refusal.VoucherSpent = VoucherSpent
 refused_as refusal.EndOutOfRange = OutOfRange
 
 -- its bucket is a credit's
-abbrev pub redeemed_outcome : Redemption → VoucherRedemption → Moment → History → Outcome
+abbrev pub redeemed_outcome : Redemption → VoucherRedemption → Moment → History → CommandOutcome
 redeemed_outcome x r t h =
     if is_full h.ledger
-    then told (answer.Refused OutOfRange) h
+    then only_told (answer.Refused OutOfRange) h
     else keeping (content.Redeem r) (answer.Bucket (next_bucket h.ledger))
     (credited t Money x.from x.until x.scope x.amount h.ledger) h
 
 abbrev pub redemption_outcome : Result Redemption RedeemRefusal → VoucherRedemption → Moment →
-    History → Outcome
-redemption_outcome (Err refusal) r t h = told (answer.Refused (refused_as refusal)) h
+    History → CommandOutcome
+redemption_outcome (Err refusal) r t h = only_told (answer.Refused (refused_as refusal)) h
 redemption_outcome (Ok x) r t h = redeemed_outcome x r t h
 
-abbrev pub new_redemption : Shelf → Option Voucher → VoucherRedemption → Moment → History → Outcome
+abbrev pub new_redemption : Shelf → Option Voucher → VoucherRedemption → Moment → History →
+    CommandOutcome
 new_redemption b standing r t h =
     redemption_outcome (redemption (book_days b) standing r.account t) r t h
 
-abbrev pub redeem_outcome : Shelf → Option Voucher → VoucherRedemption → Moment → History → Outcome
+abbrev pub redeem_outcome : Shelf → Option Voucher → VoucherRedemption → Moment → History →
+    CommandOutcome
 redeem_outcome b standing r t h =
     unless_kept (kept_under (key_of (content.Redeem r)) h) (content.Redeem r)
     (answer.Refused ContentDiffers) h (new_redemption b standing r t h)
@@ -209,9 +212,9 @@ abbrev pub with_ledger : Ledger → History → History
 with_ledger ledger h = record { opened = h.opened; ledger = ledger; kept = h.kept }
 
 -- of an account that is there
-abbrev pub opened_outcome : Shelf → Option Voucher → History → Command → Moment → Outcome
+abbrev pub opened_outcome : Shelf → Option Voucher → History → Command → Moment → CommandOutcome
 opened_outcome b standing h (command.Ccr r) t = request_outcome b r t h
-opened_outcome b standing h (command.OpenAccount n) t = told (answer.Refused AccountExists) h
+opened_outcome b standing h (command.OpenAccount n) t = only_told (answer.Refused AccountExists) h
 opened_outcome b standing h (command.Credit c) t = credit_outcome c t h
 opened_outcome b standing h (command.Allow a) t = allowance_outcome b a t h
 opened_outcome b standing h (command.Bar n) t =
@@ -221,25 +224,25 @@ opened_outcome b standing h (command.Unbar n) t =
 opened_outcome b standing h (command.AddVoucher v) t =
     addition_outcome (addition standing v.terms) h
 opened_outcome b standing h (command.Redeem r) t = redeem_outcome b standing r t h
-opened_outcome b standing h command.Sweep t = told answer.Done h
+opened_outcome b standing h command.Sweep t = only_told answer.Done h
 opened_outcome b standing h (command.Balance n) t =
-    told (answer.Balance (account_balance b n t h.ledger)) h
+    only_told (answer.Balance (account_balance b n t h.ledger)) h
 
 -- of an account that isn't: it can be opened
-abbrev pub unopened_outcome : Option Voucher → History → Command → Outcome
-unopened_outcome standing h (command.Ccr r) = told (failed r UserUnknown) h
+abbrev pub unopened_outcome : Option Voucher → History → Command → CommandOutcome
+unopened_outcome standing h (command.Ccr r) = only_told (failed r UserUnknown) h
 unopened_outcome standing h (command.OpenAccount n) =
     done answer.Done (record { opened = true; ledger = h.ledger; kept = h.kept })
-unopened_outcome standing h (command.Credit c) = told (answer.Refused AccountUnknown) h
-unopened_outcome standing h (command.Allow a) = told (answer.Refused AccountUnknown) h
-unopened_outcome standing h (command.Bar n) = told (answer.Refused AccountUnknown) h
-unopened_outcome standing h (command.Unbar n) = told (answer.Refused AccountUnknown) h
+unopened_outcome standing h (command.Credit c) = only_told (answer.Refused AccountUnknown) h
+unopened_outcome standing h (command.Allow a) = only_told (answer.Refused AccountUnknown) h
+unopened_outcome standing h (command.Bar n) = only_told (answer.Refused AccountUnknown) h
+unopened_outcome standing h (command.Unbar n) = only_told (answer.Refused AccountUnknown) h
 unopened_outcome standing h (command.AddVoucher v) =
     addition_outcome (addition standing v.terms) h
-unopened_outcome standing h (command.Redeem r) = told (answer.Refused AccountUnknown) h
-unopened_outcome standing h command.Sweep = told answer.Done h
-unopened_outcome standing h (command.Balance n) = told (answer.Refused AccountUnknown) h
+unopened_outcome standing h (command.Redeem r) = only_told (answer.Refused AccountUnknown) h
+unopened_outcome standing h command.Sweep = only_told answer.Done h
+unopened_outcome standing h (command.Balance n) = only_told (answer.Refused AccountUnknown) h
 
-abbrev pub outcome : Shelf → Option Voucher → History → Command → Moment → Outcome
+abbrev pub outcome : Shelf → Option Voucher → History → Command → Moment → CommandOutcome
 outcome b standing h c t =
     if h.opened then opened_outcome b standing h c t else unopened_outcome standing h c

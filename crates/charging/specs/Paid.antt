@@ -1,8 +1,8 @@
 -- What each use in an account's ledger came from, and what paid for it (RFC 8506 section 5.3: used
 -- units are debited; TS 32.296, account balance management function).
 use Rattle.std.specs.Prelude.{◌≡◌, ◌+◌, ◌<◌, ◌==◌, Bool, true, false, List, [], ◌∷◌, is_some}
-use Rattle.std.specs.Prelude.{if◌then◌else◌, Option, Some, None}
-use Rattle.units.specs.Words.{Moment, Micros, UnitCount, BlockCount, GroupId}
+use Rattle.std.specs.Prelude.{if◌then◌else◌, Option, Some, None, IfSome}
+use Rattle.units.specs.Words.{Moment, Micros, BlockCount, GroupId}
 use Rattle.identifiers.specs.Words.{SessionName}
 use Rattle.buckets.specs.Words.{BucketNumber, BucketAmount}
 use Rattle.shelves.specs.Shelves.{Shelf}
@@ -10,11 +10,10 @@ use Rattle.buckets.specs.declared.kind.BucketKind.{BucketKind}
 use Rattle.buckets.specs.declared.kind.BucketKind.TheVariants.{Money, Blocks}
 use Rattle.buckets.specs.declared.kind.Due.{Due}
 use Rattle.buckets.specs.Kinds.{is_alike, due}
-use Rattle.buckets.specs.Row.{Row, eligible_amount}
+use Rattle.buckets.specs.Row.{BucketRow, eligible_amount}
 use Rattle.buckets.specs.Holding.{held_in, paid_of_hold, settled_row}
 use Rattle.buckets.specs.Laws.{IsAmong}
-use Rattle.reserving.specs.Ledger.{Fact, Ledger, last_touch}
-use Rattle.reserving.specs.Ledger.Fact.{Use, Charge}
+use Rattle.reserving.specs.Ledger.{Fact, Ledger, UseOf, counts, number_of, last_touch}
 use Rattle.reserving.specs.Balance.{credits, buckets_at}
 use Rattle.reserving.specs.Sessions.{holds_at}
 use Rattle.reserving.specs.Settlement.{reported, report_price, missing}
@@ -25,11 +24,10 @@ use Rattle.charging.specs.SessionReports.{Report}
 -- ---- the charges of a use stand right before it
 
 abbrev pub is_charge : Fact → Bool
-is_charge (Charge bucket amount) = true
-is_charge _ = false
+is_charge f = is_some (counts f).charge
 
 -- what buckets count, by their numbers
-abbrev pub kind_in : BucketNumber → List Row → Option BucketKind
+abbrev pub kind_in : BucketNumber → List BucketRow → Option BucketKind
 kind_in n [] = None
 kind_in n (c ∷ cs) = if c.number == n then Some c.kind else kind_in n cs
 
@@ -39,9 +37,9 @@ is_of kind (Some k) = is_alike k kind
 
 -- what a charge takes of a bucket of a kind, in its unit
 abbrev pub taken_by : BucketKind → Fact → Ledger → BucketAmount
-taken_by kind (Charge bucket amount) older =
-    if is_of kind (kind_in bucket (credits older)) then amount else 0
-taken_by kind _ older = 0
+taken_by kind f older =
+    number_of (λ c. if is_of kind (kind_in c.bucket (credits older)) then c.amount else 0)
+    (counts f).charge
 
 -- the ledger before them
 abbrev pub before_charges : Ledger → Ledger
@@ -67,7 +65,7 @@ covered_blocks ledger = taken Blocks ledger
 -- eligible bucket has anything left: neither money nor blocks
 abbrev pub IsSpent : Shelf → Moment → SessionName → GroupId → Due → Ledger → Type 0
 IsSpent b t s g due before =
-    (x : Row) → IsAmong x (buckets_at (validity_of b) t before) →
+    (x : BucketRow) → IsAmong x (buckets_at (validity_of b) t before) →
     (paid_of_hold (holds_at (validity_of b) t s g before) due
     (buckets_at (validity_of b) t before) x ≡
     held_in (holds_at (validity_of b) t s g before) x)
@@ -76,35 +74,32 @@ IsSpent b t s g due before =
 
 -- the use that a report made: it has the price of the blocks that the report's parts started and no
 -- allowance covered, each part in its period
-pub record IsReport (b : Shelf) (r : Report) (t : Moment) (s : SessionName) (g : GroupId)
-    (units : UnitCount) (blocks covered : BlockCount) (rated uncollected : Micros) (before : Ledger)
-    : Type 0 where
-  pub moment : t ≡ r.at
-  pub session : s ≡ r.session
-  pub group : g ≡ r.group
-  pub units_are : units ≡ reported r.parts
-  pub blocks_are : blocks ≡ (report_price b t s g r.parts before).blocks
-  pub covered_is : covered ≡ (report_price b t s g r.parts before).covered.0
-  pub rated_is : rated ≡ (report_price b t s g r.parts before).amount.0
-  pub uncollected_is : uncollected ≡ missing b t s g r.parts before
-  pub short : 0 < uncollected → IsSpent b t s g (due rated covered) before
+pub record IsReport (b : Shelf) (r : Report) (t : Moment) (u : UseOf) (before : Ledger) : Type 0
+  where
+    pub moment : t ≡ r.at
+    pub session : u.session ≡ r.session
+    pub group : u.group ≡ r.group
+    pub units_are : u.units ≡ reported r.parts
+    pub blocks_are : u.blocks ≡ (report_price b t u.session u.group r.parts before).blocks
+    pub covered_is : u.covered ≡ (report_price b t u.session u.group r.parts before).covered.0
+    pub rated_is : u.rated ≡ (report_price b t u.session u.group r.parts before).amount.0
+    pub uncollected_is : u.uncollected ≡ missing b t u.session u.group r.parts before
+    pub short : 0 < u.uncollected →
+        IsSpent b t u.session u.group (due u.rated u.covered) before
 
 -- the same of the last of some reports
-abbrev pub IsLastReport : Shelf → List Report → Moment → SessionName → GroupId → UnitCount →
-    BlockCount → BlockCount → Micros → Micros → Ledger → Type 0
-IsLastReport b [] t s g units blocks covered rated uncollected before = ⊥
-IsLastReport b (r ∷ older) t s g units blocks covered rated uncollected before =
-    IsReport b r t s g units blocks covered rated uncollected before
+abbrev pub IsLastReport : Shelf → List Report → Moment → UseOf → Ledger → Type 0
+IsLastReport b [] t u before = ⊥
+IsLastReport b (r ∷ older) t u before = IsReport b r t u before
 
 -- a debit: the eligible buckets had the price of the blocks that it started and no allowance
 -- covered
-pub record IsEvent (b : Shelf) (t : Moment) (g : GroupId) (units : UnitCount)
-    (blocks covered : BlockCount) (rated uncollected : Micros) (before : Ledger) : Type 0 where
-  pub blocks_are : blocks ≡ (rest_price b t g units before).blocks
-  pub covered_is : covered ≡ (rest_price b t g units before).covered.0
-  pub rated_is : rated ≡ (rest_price b t g units before).amount.0
-  pub funded : is_covered b t g units before ≡ true
-  pub whole : uncollected ≡ 0
+pub record IsEvent (b : Shelf) (t : Moment) (u : UseOf) (before : Ledger) : Type 0 where
+  pub blocks_are : u.blocks ≡ (rest_price b t u.group u.units before).blocks
+  pub covered_is : u.covered ≡ (rest_price b t u.group u.units before).covered.0
+  pub rated_is : u.rated ≡ (rest_price b t u.group u.units before).amount.0
+  pub funded : is_covered b t u.group u.units before ≡ true
+  pub whole : u.uncollected ≡ 0
 
 -- ---- each use
 
@@ -114,30 +109,30 @@ is_touched s ledger = is_some (last_touch s ledger)
 
 -- what is collected and what isn't are the price, and allowances give just the blocks that are
 -- covered: of the session's report where its session was touched, else of a debit
-pub record IsPaidUse (b : Shelf) (reports : List Report) (t : Moment) (s : SessionName)
-    (g : GroupId) (units : UnitCount) (blocks covered : BlockCount) (rated uncollected : Micros)
+pub record IsPaidUse (b : Shelf) (reports : List Report) (t : Moment) (u : UseOf)
     (older : Ledger) : Type 0 where
-  pub sum : collected older + uncollected ≡ rated
-  pub allowed : covered_blocks older ≡ covered
-  pub report : is_touched s (before_charges older) ≡ true →
-      IsLastReport b reports t s g units blocks covered rated uncollected (before_charges older)
-  pub event : is_touched s (before_charges older) ≡ false →
-      IsEvent b t g units blocks covered rated uncollected (before_charges older)
+  pub sum : collected older + u.uncollected ≡ u.rated
+  pub allowed : covered_blocks older ≡ u.covered
+  pub report : is_touched u.session (before_charges older) ≡ true →
+      IsLastReport b reports t u (before_charges older)
+  pub event : is_touched u.session (before_charges older) ≡ false →
+      IsEvent b t u (before_charges older)
 
 abbrev pub IsPaid : Shelf → List Report → Moment → Fact → Ledger → Type 0
-IsPaid b reports t (Use s g units blocks covered rated uncollected) older =
-    IsPaidUse b reports t s g units blocks covered rated uncollected older
-IsPaid b reports t _ older = Unit {0}
+IsPaid b reports t f older = IfSome (counts f).usage (λ u. IsPaidUse b reports t u older)
 
 abbrev pub without_last : List Report → List Report
 without_last [] = []
 without_last (r ∷ older) = older
 
 -- the reports before a fact: without the last one where the fact is its use
+abbrev pub reports_without : Option UseOf → Ledger → List Report → List Report
+reports_without None older reports = reports
+reports_without (Some u) older reports =
+    if is_touched u.session (before_charges older) then without_last reports else reports
+
 abbrev pub reports_before : Fact → Ledger → List Report → List Report
-reports_before (Use s g units blocks covered rated uncollected) older reports =
-    if is_touched s (before_charges older) then without_last reports else reports
-reports_before _ older reports = reports
+reports_before f older reports = reports_without (counts f).usage older reports
 
 -- each use of a ledger is paid, and each of the reports made one of them, in their order
 abbrev pub ArePaid : Shelf → List Report → Ledger → Type 0

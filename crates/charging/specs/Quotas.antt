@@ -1,12 +1,11 @@
 -- The quota guarantee: a report within its grant is collected whole (TS 32.299, session charging
 -- with unit reservation).
-use Rattle.std.specs.Prelude.{◌≡◌, ◌≤◌, ◌==◌, ◌&&◌, [], ◌∷◌, Option, Some, None}
-use Rattle.std.specs.Prelude.{if◌then◌else◌}
-use Rattle.units.specs.Words.{Moment, Micros, UnitCount, Place, GroupId}
+use Rattle.std.specs.Prelude.{◌≡◌, ◌≤◌, [], ◌∷◌, Option, Some, IfSome}
+use Rattle.units.specs.Words.{Moment, UnitCount, Place, GroupId}
 use Rattle.identifiers.specs.Words.{SessionName}
 use Rattle.shelves.specs.Shelves.{Shelf}
-use Rattle.reserving.specs.Ledger.{Fact, Dated, Ledger, is_same, newest, inner, counter}
-use Rattle.reserving.specs.Ledger.Fact.{Grant, End, Use}
+use Rattle.reserving.specs.Ledger.{Fact, Dated, Ledger, GrantOf, UseOf, counts, tells, newest, inner}
+use Rattle.reserving.specs.Ledger.{counter}
 use Rattle.reserving.specs.Pricing.{cycle_at}
 use Rattle.charging.specs.Paid.{before_charges}
 
@@ -15,14 +14,11 @@ pub record OpenGrant : Type 0 where
   pub units : UnitCount
   pub counter : Place
 
+abbrev pub quota_by : GrantOf → OpenGrant
+quota_by x = record { units = x.units; counter = x.counter }
+
 abbrev pub grant_told : SessionName → GroupId → Dated → Option (Option OpenGrant)
-grant_told s g d = told_by d.fact
-  where
-    told_by : Fact → Option (Option OpenGrant)
-    told_by (Grant session group terms units counter) = if is_same session s && group == g
-        then Some (Some (record { units = units; counter = counter })) else None
-    told_by (End session group) = if is_same session s && group == g then Some None else None
-    told_by _ = None
+grant_told s g d = tells quota_by s g d
 
 -- the grant of a session's group that no later fact ended
 abbrev pub grant_open : SessionName → GroupId → Ledger → Option OpenGrant
@@ -30,16 +26,14 @@ grant_open s g ledger = inner (newest (grant_told s g) ledger)
 
 -- a use that ends a grant, has at most its units and starts at its counter is collected whole: what
 -- the grant held of allowances and of money pays for it
-abbrev pub IsWithinGrant : Shelf → Moment → SessionName → GroupId → UnitCount → Micros → Ledger →
-    Type 0
-IsWithinGrant b t s g units uncollected before =
-    (x : OpenGrant) → grant_open s g before ≡ Some x → units ≤ x.units →
-    counter (cycle_at b g) g (cycle_at b g t) before ≡ x.counter → uncollected ≡ 0
+abbrev pub IsWithinGrant : Shelf → Moment → UseOf → Ledger → Type 0
+IsWithinGrant b t u before =
+    (x : OpenGrant) → grant_open u.session u.group before ≡ Some x → u.units ≤ x.units →
+    counter (cycle_at b u.group) u.group (cycle_at b u.group t) before ≡ x.counter →
+    u.uncollected ≡ 0
 
 abbrev pub IsQuotaPaid : Shelf → Moment → Fact → Ledger → Type 0
-IsQuotaPaid b t (Use s g units blocks covered rated uncollected) older =
-    IsWithinGrant b t s g units uncollected (before_charges older)
-IsQuotaPaid b t _ older = Unit {0}
+IsQuotaPaid b t f older = IfSome (counts f).usage (λ u. IsWithinGrant b t u (before_charges older))
 
 -- so each use of a ledger, whatever stood between
 abbrev pub AreQuotasPaid : Shelf → Ledger → Type 0

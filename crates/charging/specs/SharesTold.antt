@@ -5,20 +5,20 @@ use Rattle.std.specs.Prelude.{◌≡◌, ◌+◌, Bool, ◌==◌, List, ◌++◌
 use Rattle.units.specs.Words.{Moment, GroupId}
 use Rattle.identifiers.specs.Words.{SessionName}
 use Rattle.buckets.specs.Words.{BucketNumber, BucketAmount}
-use Rattle.buckets.specs.declared.holds.Hold.{Hold}
+use Rattle.buckets.specs.declared.holds.HeldAmount.{HeldAmount}
 use Rattle.reserving.specs.Ledger.{Ledger, charged, held}
-use Rattle.reserving.specs.Ledger.Fact.{Charge, Hold as HoldFact}
+use Rattle.reserving.specs.Ledger.Fact.{Charge, Hold}
 use Rattle.reserving.specs.Balance.{credits}
 use Rattle.reserving.specs.Settlement.{charge_facts}
-use Rattle.reserving.specs.Reservation.{hold_facts}
+use Rattle.reserving.specs.Reservation.{hold_for, hold_facts}
 
 -- what shares take of a bucket
-abbrev pub taken_of : BucketNumber → List Hold → BucketAmount
+abbrev pub taken_of : BucketNumber → List HeldAmount → BucketAmount
 taken_of n shares = sum_by (λ h. if h.bucket == n then h.amount else 0) shares
 
 -- charges: one a share, in the order of the shares, and each bucket's sum grows by what they take
 -- of it
-pub record AreCharged (t : Moment) (shares : List Hold) (ledger : Ledger) : Type 0 where
+pub record AreCharged (t : Moment) (shares : List HeldAmount) (ledger : Ledger) : Type 0 where
   pub facts : charge_facts t shares
       ≡ map (λ h. record { at = t; fact = Charge h.bucket h.amount }) shares
   pub charged_more : (n : BucketNumber) →
@@ -29,10 +29,10 @@ pub record AreCharged (t : Moment) (shares : List Hold) (ledger : Ledger) : Type
 
 -- holds: one a share, and what is held of each bucket grows by what they take of it, where the
 -- reservation counts
-pub record AreHeld (t : Moment) (session : SessionName) (group : GroupId) (shares : List Hold)
+pub record AreHeld (t : Moment) (session : SessionName) (group : GroupId) (shares : List HeldAmount)
     (ledger : Ledger) : Type 0 where
   pub facts : hold_facts t session group shares
-      ≡ map (λ h. record { at = t; fact = HoldFact session group h.bucket h.amount }) shares
+      ≡ map (λ h. record { at = t; fact = Hold (hold_for session group h) }) shares
   pub held_more : (counts : SessionName → GroupId → Bool) (n : BucketNumber) →
       held counts n (hold_facts t session group shares ++ ledger)
       ≡ (if counts session group then taken_of n shares else 0) + held counts n ledger
@@ -41,9 +41,10 @@ pub record AreHeld (t : Moment) (session : SessionName) (group : GroupId) (share
   pub credits_same : credits (hold_facts t session group shares ++ ledger) ≡ credits ledger
 
 abbrev pub ChargesAreShares : Type 0
-ChargesAreShares = (t : Moment) (shares : List Hold) (ledger : Ledger) → AreCharged t shares ledger
+ChargesAreShares = (t : Moment) (shares : List HeldAmount) (ledger : Ledger) →
+    AreCharged t shares ledger
 
 abbrev pub HoldsAreShares : Type 0
-HoldsAreShares = (t : Moment) (session : SessionName) (group : GroupId) (shares : List Hold)
+HoldsAreShares = (t : Moment) (session : SessionName) (group : GroupId) (shares : List HeldAmount)
     (ledger : Ledger) →
     AreHeld t session group shares ledger

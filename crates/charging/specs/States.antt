@@ -3,7 +3,7 @@
 use Rattle.std.specs.Prelude.{◌≡◌, ◌++◌, ◌≤◌, List, true, false, Option, Some, None, max}
 use Rattle.units.specs.Words.{Moment}
 use Rattle.identifiers.specs.Words.{AccountName}
-use Rattle.buckets.specs.Row.{Row}
+use Rattle.buckets.specs.Row.{BucketRow}
 use Rattle.shelves.specs.Shelves.{Shelf}
 use Rattle.reserving.specs.Ledger.{Ledger, is_barred}
 use Rattle.reserving.specs.Balance.{buckets_at}
@@ -42,7 +42,7 @@ TellsState b a t tables found = (list : List Accepted) → IsInTime list →
 -- ---- of the rows
 
 -- what was loaded, brought to the later of the moment and its own, with the dead buckets
-pub record IsStateOf (t : Moment) (a : AccountRows) (dead : List Row) (s : AccountState)
+pub record IsStateOf (t : Moment) (a : AccountRows) (dead : List BucketRow) (s : AccountState)
     : Type 0 where
   pub account : IsAccount a
   pub moment : s.moment ≡ max t a.as_of

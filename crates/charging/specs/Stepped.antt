@@ -13,9 +13,10 @@ use Rattle.charging.specs.Repeats.{IsAnsweredAgain}
 use Rattle.charging.specs.Served.{Serves, Writes}
 use Rattle.charging.specs.Stepping.{LeavesRefused}
 
--- the command is served, or a store fault changes nothing; over an honest store an answer leaves one
--- that can be asked, and a stop leaves what was there, or that with the command
-pub record StepsOver {K : Type 0} (content : K → Tables) (failed : K → ℕ) (honest clean : K → Type 0)
+-- the command is served, or a store fault changes nothing; over an honest store an answer leaves
+-- one that can be asked, and a stop leaves what was there, or that with the command
+pub record StepsOver {K : Type 0} (content : K → Tables) (failed : K → ℕ)
+    (honest clean : K → Type 0)
     (leaves : K → Tables → Type 0) (b : Shelf) (command : Command) (moment : Moment) (old new : K)
     (result : Result Answer StoreFault) : Type 0 where
   pub served : clean new → Serves b command moment (content old) (content new) result

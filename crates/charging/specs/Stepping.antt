@@ -1,11 +1,11 @@
 -- What the parts of a step come to, for every list of accepted commands whose tables a keeper
 -- holds.
 -- Source: profile.
-use Rattle.std.specs.Prelude.{◌≡◌, ◌≤◌, Bool, true, false, List, Option, Some, None, Result, Ok, Err}
-use Rattle.std.specs.Prelude.{◌&&◌, not, is_some, if◌then◌else◌, MatchResult, IfOk, Vec}
+use Rattle.std.specs.Prelude.{◌≡◌, ◌≤◌, Bool, true, false, List, Option, Some, None, Result, Ok}
+use Rattle.std.specs.Prelude.{Err, ◌&&◌, not, is_some, if◌then◌else◌, MatchResult, IfOk, Vec}
 use Rattle.std.specs.Global.{Global}
 use Rattle.units.specs.Words.{Moment, GroupId}
-use Rattle.identifiers.specs.Words.{AccountName}
+use Rattle.identifiers.specs.Words.{AccountName, SessionName}
 use Rattle.buckets.specs.Words.{BucketNumber, BucketAmount}
 use Rattle.commands.specs.declared.answer.Answer.{Answer}
 use Rattle.commands.specs.declared.answer.Answer.TheVariants as answer
@@ -37,7 +37,7 @@ use Rattle.keepers.specs.declared.loaded.Redeemed.{Redeemed}
 use Rattle.keepers.specs.Keys.{key_of}
 use Rattle.keepers.specs.Tables.{Tables}
 use Rattle.keepers.specs.Change.{IsLoad, changed}
-use Rattle.keepers.specs.Differing.{named_rows}
+use Rattle.keepers.specs.Differing.{named_rows, named_for}
 use Rattle.charging.specs.Accepted.{Accepted, last_moment, IsInTime}
 use Rattle.charging.specs.Outcomes.{from_of, until_of, is_full, is_out_of_range}
 use Rattle.charging.specs.Outcomes.{begin_of, end_of, allowance_refusal}
@@ -57,8 +57,8 @@ Answers b c t old new given = (list : List Accepted) → IsInTime list → AreTa
 
 -- ---- refusals
 
--- the answer tells by itself that nothing was accepted: it is a refusal, what was read, or a failure
--- of a request that isn't a denial
+-- the answer tells by itself that nothing was accepted: it is a refusal, what was read, or a
+-- failure of a request that isn't a denial
 abbrev pub is_unaccepted : Answer → Bool
 is_unaccepted (answer.Request r) = not (may_be_accepted r.outcome)
 is_unaccepted (answer.Refused refusal) = true
@@ -93,6 +93,13 @@ change_of loaded charges kept redeemed = record {
   charges = charges;
   kept = kept;
   redeemed = redeemed;
+}
+
+-- the same, where no row of another session than this may have changed
+abbrev pub change_for : Option SessionName → Loaded → Vec ChargeRow Global → Option KeptAnswer →
+    Option Redeemed → Change
+change_for own loaded charges kept redeemed = record (change_of loaded charges kept redeemed) {
+  rows = named_for own loaded.before (stored loaded.account);
 }
 
 -- tables are those with the change

@@ -11,7 +11,7 @@ ghost use Rattle.reserving.specs.Left.{LeftRows, IsWith};
 ghost use Rattle.decisions.specs.Known.{is_known};
 ghost use Rattle.keepers.specs.Keys.{key_of};
 ghost use Rattle.keepers.specs.Change.{IsLoad};
-ghost use Rattle.keepers.specs.Keeping.{Reads};
+ghost use Rattle.keepers.specs.Keeping.{KeeperReads};
 ghost use Rattle.charging.specs.Outcomes.{is_over, repeated};
 ghost use Rattle.charging.specs.Parts.{Leaves, PartKeeps};
 ghost use Rattle.charging.specs.Stepping.{ServesAt, WritesAt, Allows, Makes, LeavesRefused};
@@ -76,7 +76,7 @@ fn find_allowance<K: Keeper>(
     keeper: &mut K,
     allowance: &Allowance,
 ) -> Result<Option<KeptAnswer>, StoreFault>
-    ensures { Reads K.content K.failed K.honest K.clean K.left keeper.old keeper.new
+    ensures { KeeperReads K.content K.failed K.honest K.clean K.left keeper.old keeper.new
         (λ found. found ≡
         (K.content keeper.old).answers allowance.now.account
         (key_of (content.Allow allowance.now)))
@@ -195,6 +195,7 @@ fn allow_account<K: Keeper>(
                 alloc,
                 keeper,
                 loaded,
+                None,
                 Vec::new(alloc),
                 Some(Content::Allow(allowance)),
                 None,

@@ -3,7 +3,7 @@
 ghost use Rattle.std.specs.Prelude.{◌≡◌, ◌++◌, IfOk, OnOk, map};
 ghost use Rattle.std.specs.List.Sorted.{IsNonDecreasingBy, IsPermutation};
 ghost use Rattle.commands.specs.declared.command.Command.TheVariants as command;
-ghost use Rattle.keepers.specs.Keeping.{Reads};
+ghost use Rattle.keepers.specs.Keeping.{KeeperReads};
 ghost use Rattle.keepers.specs.Tables.{Tables};
 ghost use Rattle.charging.specs.Balances.{AreByNumber, bucket_balance, unit_of};
 ghost use Rattle.charging.specs.States.{IsStateOf, TellsState, TellsStateAt};
@@ -44,7 +44,7 @@ pub fn account_state<K: Keeper>(
     number: &AccountNumber,
     moment: Moment,
 ) -> Result<Option<AccountState>, StoreFault>
-    ensures { Reads K.content K.failed K.honest K.clean K.left keeper.old keeper.new
+    ensures { KeeperReads K.content K.failed K.honest K.clean K.left keeper.old keeper.new
         (TellsState shelf.now number.now moment (K.content keeper.old)) result }
 {
     let last = keeper.last()?;

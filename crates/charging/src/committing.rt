@@ -1,11 +1,12 @@
 //! Changes of one account.
 
-ghost use Rattle.std.specs.Prelude.{◌≡◌, ◌≤◌, max, IfOk, OnOk};
+ghost use Rattle.std.specs.Prelude.{◌≡◌, ◌≤◌, max, IfOk, OnOk, option_copied};
 ghost use Rattle.reserving.specs.Rows.{IsAccount};
 ghost use Rattle.charging.specs.Parts.{Leaves, PartKeeps};
-ghost use Rattle.charging.specs.Stepping.{Commits, change_of, kept_as};
+ghost use Rattle.charging.specs.Stepping.{Commits, change_for, kept_as};
 
 use commands::{Answer, Content};
+use identifiers::SessionId;
 use keepers::{Keeper, KeptAnswer, Loaded, Redeemed, StoreFault};
 use reserving::{Account, ChargeRow};
 use std::alloc::{AllocError, Global};
@@ -39,24 +40,26 @@ fn kept_as(
 
 /// Commits an account as it stands, with the charges that a command made, its content where it is
 /// kept and the voucher that it redeemed, and gives the command's answer. The answer's text is made
-/// before: where its growth is refused nothing has changed.
+/// before: where its growth is refused nothing has changed. Where the rows of one session alone may
+/// have changed, no other session's row is looked at.
 pub(crate) fn commit<K: Keeper>(
     alloc: Global,
     keeper: &mut K,
     loaded: Loaded,
+    own: Option<&SessionId>,
     charges: Vec<ChargeRow>,
     content: Option<Content>,
     redeemed: Option<Redeemed>,
     answer: Answer,
 ) -> Result<WrittenAnswer, StoreFault>
     ensures done { K.clean keeper.new → IfOk result (λ given. (given ≡ answer)
-        × Commits (change_of loaded.entry charges (kept_as content answer) redeemed)
-        (K.content keeper.old) (K.content keeper.new)) }
+        × Commits (change_for (option_copied own.entry) loaded.entry charges
+        (kept_as content answer) redeemed) (K.content keeper.old) (K.content keeper.new)) }
     ensures account { IsAccount loaded.entry.account }
     ensures kept { PartKeeps K.content K.failed K.honest K.clean keeper.old keeper.new result }
     ensures left { Leaves K.honest K.left keeper.old keeper.new
-        (Commits (change_of loaded.entry charges (kept_as content answer) redeemed)
-        (K.content keeper.old)) }
+        (Commits (change_for (option_copied own.entry) loaded.entry charges
+        (kept_as content answer) redeemed) (K.content keeper.old)) }
 {
     // For the prover alone: the call makes known here what each account keeps.
     let _moment = loaded.account.as_of();
@@ -68,7 +71,7 @@ pub(crate) fn commit<K: Keeper>(
         keeper.abandon(loaded);
         return Err(StoreFault::Memory);
     };
-    commit_change(alloc, keeper, loaded, charges, kept, redeemed)?;
+    commit_change(alloc, keeper, loaded, own, charges, kept, redeemed)?;
     Ok(given)
 }
 
@@ -77,19 +80,22 @@ fn commit_change<K: Keeper>(
     alloc: Global,
     keeper: &mut K,
     loaded: Loaded,
+    own: Option<&SessionId>,
     charges: Vec<ChargeRow>,
     kept: Option<KeptAnswer>,
     redeemed: Option<Redeemed>,
 ) -> Result<(), StoreFault>
     ensures done { K.clean keeper.new → OnOk result
-        (Commits (change_of loaded.entry charges kept redeemed) (K.content keeper.old)
-        (K.content keeper.new)) }
+        (Commits (change_for (option_copied own.entry) loaded.entry charges kept redeemed)
+        (K.content keeper.old) (K.content keeper.new)) }
     ensures account { IsAccount loaded.entry.account }
     ensures kept { PartKeeps K.content K.failed K.honest K.clean keeper.old keeper.new result }
     ensures left { Leaves K.honest K.left keeper.old keeper.new
-        (Commits (change_of loaded.entry charges kept redeemed) (K.content keeper.old)) }
+        (Commits (change_for (option_copied own.entry) loaded.entry charges kept redeemed)
+        (K.content keeper.old)) }
 {
-    let moment = loaded.account.as_of();
-    let change = loaded.into_change(alloc, moment, charges, kept, redeemed)?;
+    // For the prover alone: the call makes known here what each account keeps.
+    let _kept = loaded.account.as_of();
+    let change = loaded.into_change(alloc, own, charges, kept, redeemed)?;
     keeper.commit(change)
 }

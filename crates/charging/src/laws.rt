@@ -13,9 +13,8 @@ ghost use Rattle.charging.specs.PartedRows.{RowsAreParted, NewSessionsAreNotLeft
 ghost use Rattle.charging.specs.OpenGrants.{GrantsAreOne};
 ghost use Rattle.charging.specs.BoundedCharges.{ChargesAreBounded};
 ghost use Rattle.charging.specs.SharesTold.{ChargesAreShares, HoldsAreShares};
-ghost use Rattle.charging.specs.RedeemedCodes.{IsLeftByThese};
-ghost use Rattle.charging.specs.RedeemedCodes.{IsRedeemedAtMostOnce};
-ghost use Rattle.charging.specs.Served.{history, AreTables};
+ghost use Rattle.charging.specs.RedeemedCodes.{IsLeftByThese, IsRedeemedAtMostOnce};
+ghost use Rattle.charging.specs.Served.{AreTables};
 ghost use Rattle.charging.specs.Allowed.{ReportsAreCovered, EventsAreCovered};
 ghost use Rattle.charging.specs.Repeats.{AnswersOnce};
 ghost use Rattle.charging.specs.Laws.{AccountsAreIsolated, CodesAreRedeemedOnce, LedgersAreSound};
@@ -120,8 +119,8 @@ pub fn collection()
 {}
 
 /// The charges of an account are within bounds: each starts no more blocks than a counter counts,
-/// none of them dearer than 10^9 micro-units, and the sums of an account's charges, and of any among
-/// them, are numbers of 128 bits. So no statement of them ends for a sum (profile).
+/// none of them dearer than 10^9 micro-units, and the sums of an account's charges, and of any
+/// among them, are numbers of 128 bits. So no statement of them ends for a sum (profile).
 pub fn charges_within_bounds()
     ensures { ChargesAreBounded }
 {}
@@ -150,9 +149,9 @@ pub fn codes_redeemed_once()
     ensures once { IsRedeemedAtMostOnce }
 {}
 
-/// Isolation: in a run of commands from nothing an account's answers and rows, and what stands under
-/// the codes that it redeems, are those of its own commands alone: those that name it, and the
-/// additions of the vouchers that it redeems, where no redemption for another account names the
+/// Isolation: in a run of commands from nothing an account's answers and rows, and what stands
+/// under the codes that it redeems, are those of its own commands alone: those that name it, and
+/// the additions of the vouchers that it redeems, where no redemption for another account names the
 /// code of one. Others and sweeps reach it through the moments of its commands, and where moments
 /// never fall not at all (profile).
 pub fn isolation()

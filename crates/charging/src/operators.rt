@@ -1,6 +1,6 @@
 //! Operators' commands: accounts are opened, credited, barred, and swept.
 
-ghost use Rattle.std.specs.Prelude.{◌≡◌, ◌≤◌, IfOk, IfSome, IsTrue, None, Some, OnErr, true};
+ghost use Rattle.std.specs.Prelude.{◌≡◌, ◌≤◌, IfOk, IfSome, IsTrue, None, Some, true};
 ghost use Rattle.commands.specs.Kept.{is_kept};
 ghost use Rattle.commands.specs.declared.answer.Answer.TheVariants as answer;
 ghost use Rattle.commands.specs.declared.command.Command.TheVariants as command;
@@ -11,7 +11,7 @@ ghost use Rattle.reserving.specs.Ledger.{Ledger};
 ghost use Rattle.reserving.specs.Left.{LeftRows, IsWith};
 ghost use Rattle.keepers.specs.Keys.{key_of};
 ghost use Rattle.keepers.specs.Change.{IsLoad};
-ghost use Rattle.keepers.specs.Keeping.{Reads};
+ghost use Rattle.keepers.specs.Keeping.{KeeperReads};
 ghost use Rattle.charging.specs.Outcomes.{is_unusable, repeated};
 ghost use Rattle.charging.specs.Parts.{Leaves, PartKeeps};
 ghost use Rattle.charging.specs.Stepping.{ServesAt, WritesAt, Credits, Makes, bar_command};
@@ -60,6 +60,7 @@ pub(crate) fn open_account<K: Keeper>(
         alloc,
         keeper,
         loaded,
+        None,
         Vec::new(alloc),
         None,
         None,
@@ -94,6 +95,7 @@ pub(crate) fn set_barred<K: Keeper>(
         alloc,
         keeper,
         loaded,
+        None,
         Vec::new(alloc),
         None,
         None,
@@ -169,7 +171,7 @@ fn repeated_credit(
 
 /// What is kept under a credit's reference.
 fn find_credit<K: Keeper>(keeper: &mut K, credit: &Credit) -> Result<Option<KeptAnswer>, StoreFault>
-    ensures { Reads K.content K.failed K.honest K.clean K.left keeper.old keeper.new
+    ensures { KeeperReads K.content K.failed K.honest K.clean K.left keeper.old keeper.new
         (λ found. found ≡
         (K.content keeper.old).answers credit.now.account (key_of (content.Credit credit.now)))
         result }
@@ -274,6 +276,7 @@ fn credit_account<K: Keeper>(
                 alloc,
                 keeper,
                 loaded,
+                None,
                 Vec::new(alloc),
                 Some(kept),
                 None,

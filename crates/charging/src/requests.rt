@@ -11,7 +11,7 @@ ghost use Rattle.keepers.specs.Change.{IsLoad};
 ghost use Rattle.keepers.specs.Tables.{Tables};
 ghost use Rattle.charging.specs.Outcomes.{failed, repeated};
 ghost use Rattle.charging.specs.Parts.{Leaves, PartKeeps, PartReads};
-ghost use Rattle.charging.specs.Stepping.{Answers, Commits, ServesAt, WritesAt, change_of};
+ghost use Rattle.charging.specs.Stepping.{Answers, Commits, ServesAt, WritesAt, change_for};
 ghost use Rattle.charging.specs.Stepping.{LeavesRefused, is_known, kept_of_request};
 
 use crate::committing::{commit, moment_on};
@@ -197,21 +197,23 @@ fn keep<K: Keeper>(
 ) -> Result<WrittenAnswer, StoreFault>
     ensures done { K.clean keeper.new →
         IfOk result (λ given. (given ≡ answer.Request decided.answer)
-        × Commits (change_of loaded.entry decided.charges (Some (record {
+        × Commits (change_for decided.own loaded.entry decided.charges (Some (record {
           content = content.Request request;
           answer = answer.Request decided.answer;
         })) None) (K.content keeper.old) (K.content keeper.new)) }
     ensures kept { PartKeeps K.content K.failed K.honest K.clean keeper.old keeper.new result }
     ensures left { Leaves K.honest K.left keeper.old keeper.new
-        (Commits (change_of loaded.entry decided.charges (Some (record {
+        (Commits (change_for decided.own loaded.entry decided.charges (Some (record {
           content = content.Request request;
           answer = answer.Request decided.answer;
         })) None) (K.content keeper.old)) }
 {
+    let own = decided.own;
     commit(
         alloc,
         keeper,
         loaded,
+        own.as_ref(),
         decided.charges,
         Some(Content::Request(request)),
         None,

@@ -1,13 +1,13 @@
 //! Vouchers: operators add them, and accounts redeem them.
 
-ghost use Rattle.std.specs.Prelude.{◌≡◌, ◌≤◌, IfOk, None, Ok, Some};
+ghost use Rattle.std.specs.Prelude.{◌≡◌, IfOk, None, Ok, Some};
 ghost use Rattle.commands.specs.declared.answer.Answer.TheVariants as answer;
 ghost use Rattle.commands.specs.declared.command.Command.TheVariants as command;
 ghost use Rattle.commands.specs.declared.command.Content.TheVariants as content;
 ghost use Rattle.shelves.specs.Shelves.{Shelf};
 ghost use Rattle.keepers.specs.Keys.{key_of};
 ghost use Rattle.keepers.specs.Change.{IsLoad};
-ghost use Rattle.keepers.specs.Keeping.{Reads};
+ghost use Rattle.keepers.specs.Keeping.{KeeperReads};
 ghost use Rattle.voucher_rules.specs.Redeeming.{redemption};
 ghost use Rattle.charging.specs.Outcomes.{book_days, refused_as, repeated};
 ghost use Rattle.charging.specs.Parts.{Leaves, PartKeeps};
@@ -129,7 +129,7 @@ fn find_redemption<K: Keeper>(
     keeper: &mut K,
     asked: &VoucherRedemption,
 ) -> Result<Option<KeptAnswer>, StoreFault>
-    ensures { Reads K.content K.failed K.honest K.clean K.left keeper.old keeper.new
+    ensures { KeeperReads K.content K.failed K.honest K.clean K.left keeper.old keeper.new
         (λ found. found ≡
         (K.content keeper.old).answers asked.now.account (key_of (content.Redeem asked.now)))
         result }
@@ -210,6 +210,7 @@ fn credit_redeemed<K: Keeper>(
                 alloc,
                 keeper,
                 loaded,
+                None,
                 Vec::new(alloc),
                 Some(Content::Redeem(asked)),
                 Some(spent),

@@ -36,7 +36,7 @@ impl Drop for FinalUnit {
 
 /// Units granted to a service of a session (Granted-Service-Unit, RFC 8506 section 8.17).
 #[derive(Clone, Debug)]
-pub struct Granted {
+pub struct GrantedServiceUnit {
     /// How much is granted: CC-Time, CC-Total-Octets or CC-Service-Specific-Units.
     pub quantity: Quantity,
     /// Tariff-Time-Change (RFC 8506 section 8.20): when the price changes, where it does.
@@ -48,9 +48,9 @@ pub struct Granted {
 }
 
 // It is written out, so that a caller doesn't prove again how each part is dropped.
-impl Drop for Granted {
+impl Drop for GrantedServiceUnit {
     fn drop(self) {
-        let Granted {
+        let GrantedServiceUnit {
             quantity: _,
             switch: _,
             validity: _,
@@ -109,7 +109,7 @@ pub enum ServiceOutcome {
     /// Nothing was asked for.
     Settled,
     /// Units are granted until the validity time is over.
-    Granted(Granted),
+    Granted(GrantedServiceUnit),
     /// The units of an event were charged.
     Debited(Quantity),
     /// Units were asked for and not granted, or the rating group is unknown.

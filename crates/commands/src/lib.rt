@@ -17,7 +17,7 @@ mod used;
 
 pub use crate::allowance::{Allowance, AllowanceBlocks};
 pub use crate::answer::{
-    Answer, Balance, Cost, Failure, FinalUnit, Granted, Outcome, Refusal, RequestAnswer,
+    Answer, Balance, Cost, Failure, FinalUnit, GrantedServiceUnit, Outcome, Refusal, RequestAnswer,
     ServiceAnswer, ServiceAnswers, ServiceFailure, ServiceOutcome,
 };
 pub use crate::avp::Avp;

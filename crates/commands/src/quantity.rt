@@ -1,6 +1,6 @@
 //! A number of units of a kind.
 
-ghost use Rattle.std.specs.Prelude.{◌≡◌, ◌≤◌, IsTrue};
+ghost use Rattle.std.specs.Prelude.{◌≡◌, IsTrue};
 ghost use Rattle.commands.specs.Quantities.{is_quantity};
 
 use std::marker::Model;

@@ -1,6 +1,6 @@
 //! What a service reports as used.
 
-ghost use Rattle.std.specs.Prelude.{◌≡◌, ◌≤◌, ◌==◌, IsTrue};
+ghost use Rattle.std.specs.Prelude.{◌≡◌, ◌==◌, IsTrue};
 ghost use Rattle.std.specs.List.{find};
 ghost use Rattle.commands.specs.Reports.{usage_number, usage_numbered, is_report};
 

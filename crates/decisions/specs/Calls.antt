@@ -10,12 +10,14 @@ use Rattle.reserving.specs.Ledger.{Ledger}
 use Rattle.reserving.specs.Rows.{AccountRows}
 use Rattle.reserving.specs.Left.{LeftRows, IsWith}
 use Rattle.reserving.specs.Charges.{charge_rows}
+use Rattle.reserving.specs.Others.{other_rows}
 use Rattle.decisions.specs.declared.decided.Decided.{Decided}
 use Rattle.decisions.specs.Asked.{IsAsked}
 use Rattle.decisions.specs.Decisions.{decision, answer_of, is_read}
 
 -- a request is decided: its answer, whether it is accepted, and its charges are the decision's, and
--- the account has the rows of the ledger after it; what isn't accepted changes nothing
+-- the account has the rows of the ledger after it; what isn't accepted changes nothing; where its
+-- session is told, no row of another session has changed
 pub record Decides {E : Type 0} (request : Request) (known : Bool) (t : Moment)
     (before after : AccountRows) (result : Result Decided E) : Type 0 where
   pub answer : IfOk result (λ d. (ledger : Ledger) (left : LeftRows) →
@@ -35,6 +37,8 @@ pub record Decides {E : Type 0} (request : Request) (known : Bool) (t : Moment)
   pub tariff : after.shelf ≡ before.shelf
   pub same : IfOk result (λ d. d.accepted ≡ false → after ≡ before)
   pub unwritten : IfOk result (λ d. d.accepted ≡ false → d.charges.items ≡ [])
+  pub others : IfOk result (λ d. IfSome d.own (λ s. (s ≡ request.session) ×
+      (other_rows s after ≡ other_rows s before)))
 
 -- a check of the balance or a price enquiry is answered as it would be decided; nothing else is
 pub record ReadsAlone {E : Type 0} (request : Request) (t : Moment) (a : AccountRows)

@@ -59,9 +59,10 @@ debit_refusal b s e ledger = if has_record s ledger then Some (invalid SessionId
     else option_map invalid (event_fault b e)
 
 -- its units are charged at once
-abbrev pub charged : Shelf → GroupTariff → Moment → SessionName → CcRequestNumber → GroupId →
+abbrev pub charged_at_once : Shelf → GroupTariff → Moment → SessionName → CcRequestNumber →
+    GroupId →
     UnitCount → Ledger → Decision
-charged b tariff t s n g units ledger =
+charged_at_once b tariff t s n g units ledger =
     if debit_passes b t s g units ledger
     then told (Failed UnableToComply) ledger
     else accepted (Services (record {
@@ -74,7 +75,7 @@ charged b tariff t s n g units ledger =
 abbrev pub charged_if_covered : Shelf → GroupTariff → Moment → SessionName → CcRequestNumber →
     GroupId → UnitCount → Ledger → Decision
 charged_if_covered b tariff t s n g units ledger =
-    if is_covered b t g units ledger then charged b tariff t s n g units ledger
+    if is_covered b t g units ledger then charged_at_once b tariff t s n g units ledger
     else denied t s n CreditLimitReached ledger
 
 abbrev pub charged_by : Option GroupTariff → Shelf → Moment → SessionName → CcRequestNumber →

@@ -4,6 +4,7 @@ ghost use Rattle.std.specs.Prelude.{◌≡◌, true};
 ghost use Rattle.decisions.specs.Decided.{may_be_accepted};
 
 use commands::RequestAnswer;
+use identifiers::SessionId;
 use reserving::ChargeRow;
 
 /// What a request comes to. The type keeps that the answer of an accepted one is none of a read,
@@ -16,5 +17,8 @@ pub struct Decided {
     pub accepted: bool,
     /// The charges that it made, in order.
     pub charges: Vec<ChargeRow>,
+    /// The request's session, where it is known that no row of another session has changed: nothing
+    /// of them ended by the moment.
+    pub own: Option<SessionId>,
     pub ghost told: { accepted ≡ true → may_be_accepted answer.outcome ≡ true },
 }

@@ -1,7 +1,8 @@
 //! The denial of a request that would begin a session.
 
-ghost use Rattle.std.specs.Prelude.{◌≡◌, ◌≤◌, IfOk, None};
+ghost use Rattle.std.specs.Prelude.{◌≡◌, ◌≤◌, IfOk, OnOk, None};
 ghost use Rattle.reserving.specs.Sessions.{session_in};
+ghost use Rattle.reserving.specs.Others.{OthersStay};
 ghost use Rattle.decisions.specs.Decided.{denied};
 ghost use Rattle.decisions.specs.Follows.{IsNew, IsRuledBy};
 
@@ -24,6 +25,8 @@ pub(crate) fn deny(
     ensures ruled { IfOk result (IsRuledBy (IsNew asked.now.session.now)
         (denied asked.now.moment asked.now.session.now asked.now.number why)
         asked.now.moment account.old account.new) }
+    ensures stay { OnOk result (OthersStay asked.now.session.now asked.now.moment account.old
+        account.new) }
     ensures tariff { account.new.shelf ≡ account.old.shelf }
 {
     account.deny(asked.session, asked.number, asked.moment)?;

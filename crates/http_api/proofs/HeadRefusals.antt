@@ -2,7 +2,7 @@
 use Rattle.std.proofs.Common.{◌≡◌, ◌∙◌, ℕ, Bool, true, false, List, [], ◌∷◌, refl, sym, ap, subst}
 use Rattle.std.proofs.Common.{inl, inr, take, drop, codes, Option, Some, None, Result, Ok, Err}
 use Rattle.std.proofs.Common.{IfSome}
-use Rattle.std.specs.Prelude.{◌||◌, if◌then◌else◌, nat_le, nat_lt, length, IfErr, ⊤}
+use Rattle.std.specs.Prelude.{◌||◌, if◌then◌else◌, nat_le, nat_lt, length, IfErr}
 use Rattle.httparse.specs.Grammar.{RequestHead}
 use Rattle.http_messages.specs.Methods.{is_post, is_put}
 use Rattle.http_messages.specs.Statuses.{length_required, payload_too_large}
@@ -13,16 +13,16 @@ use Rattle.http_messages.specs.Requests.{length_of, fields_of, ask_of, after_len
 use Rattle.http_messages.specs.Requests.{refused, ended, IsNextOf, Tells, TellsNext}
 use Rattle.http_messages.specs.declared.requests.Taken.{Taken}
 use Rattle.http_messages.specs.declared.requests.Taken.TheVariants as taken
-use Rattle.http_messages.specs.declared.asking.Asked.TheVariants as told
+use Rattle.http_messages.specs.declared.asking.HttpAsked.TheVariants as told
 use Rattle.http_messages.specs.declared.refusal.HttpRefusal.{HttpRefusal}
 use Rattle.http_messages.specs.Asking.{refuses, IsAsked}
-use Rattle.http_messages.specs.Refusals.{number_of, refusal_of}
+use Rattle.http_messages.specs.Refusals.{refusal_status, refusal_of}
 use Rattle.http_api.specs.declared.hearing.Heard.{Heard}
 use Rattle.http_api.specs.Hearing.{IsOfHead, Hears, HearsNext}
 
 -- it is read back from its status
 abbrev IsOne : ℕ → Type 0
-IsOne status = number_of (refusal_of status) ≡ status
+IsOne status = refusal_status (refusal_of status) ≡ status
 
 abbrev Refuses : Result ℕ ℕ → Type 0
 Refuses length = IfErr length IsOne
@@ -82,7 +82,7 @@ pub refused_heard : (next : Next) (left : Option (List ℕ)) (status : ℕ) (why
 refused_heard (asks ask rest) left status why heard is asked closes of tells = absurd tells
 refused_heard (refused code) left status why heard is asked closes of tells = (
   subst (λ a. IsAsked (refuses code) a) (sym asked)
-      (ap number_of is ∙ ap (λ s. number_of (refusal_of s)) tells ∙ of),
+      (ap refusal_status is ∙ ap (λ s. refusal_status (refusal_of s)) tells ∙ of),
   closes,
 )
 refused_heard ended left status why heard is asked closes of tells = absurd tells

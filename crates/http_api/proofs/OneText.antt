@@ -2,7 +2,7 @@
 -- commands accepted before and of the moments that the clock gave.
 use Rattle.std.proofs.Common.{◌≡◌, ◌≤◌, ◌<◌, ◌+◌, ℕ, zero, suc, Bool, true, false, List, [], ◌∷◌}
 use Rattle.std.proofs.Common.{◌++◌, length, take, drop, length-append, refl, sym, ap, subst, ◌∙◌}
-use Rattle.std.proofs.Common.{arith, inl, inr, Option, Some, None, Result, Ok, Err}
+use Rattle.std.proofs.Common.{arith, inl, inr, Option, None, Ok, Err}
 use Rattle.std.specs.Prelude.{nat_lt}
 use Rattle.std.proofs.lemmas.Bool.{ltb-true, ltb-false}
 use Rattle.std.proofs.Math.Seq.{take-append_seam, drop-append_seam}
@@ -15,7 +15,7 @@ use Rattle.http_messages.specs.Requests.{Next, asks, refused, ended, IsNext}
 use Rattle.http_messages.specs.Asking.{Asking, refuses, reads, states, asked_of}
 use Rattle.http_api.specs.Replies.{Reply, reply_at, statement_at, IsDue, IsReply}
 use Rattle.http_api.specs.Connections.{Connection, new_connection, left_after, after_reply, IsOver}
-use Rattle.http_api.specs.Connections.{IsAnswered, Takes, IsTurn, Turns}
+use Rattle.http_api.specs.Connections.{IsAnswered, Takes}
 use Rattle.http_api.specs.OneText.{GetsDue, NextGetsDue, IsDueTurn, DueTurns, DueTurnsAreTurns}
 use Rattle.http_api.specs.OneText.{TextIsOne, TurnsAreOne}
 use Rattle.http_api.proofs.Statuses.{SaysStatus, asked_says, reply_says}

@@ -1,5 +1,5 @@
 -- The reply to one request.
-use Rattle.std.proofs.Common.{◌≡◌, ℕ, Bool, true, false, List, [], ◌∷◌, refl, sym, ap, subst}
+use Rattle.std.proofs.Common.{◌≡◌, ℕ, Bool, List, [], ◌∷◌, refl, sym, ap, subst}
 use Rattle.std.proofs.Common.{◌∙◌, inl, inr, arith, Option, Some, None, Result, Ok, Err}
 use Rattle.std.proofs.KnownBytes.{Appends-nil}
 use Rattle.std.specs.Prelude.{IsErrAnd, OnErr}
@@ -17,12 +17,12 @@ use Rattle.keepers.specs.Tables.{Tables}
 pub use Rattle.keepers.proofs.Placed.{on_err as at_err}
 use Rattle.charging.specs.Accepted.{Accepted}
 use Rattle.charging.specs.Continued.{ForEachList}
-use Rattle.charging.specs.Served.{AreTables, Serves, moment_of}
+use Rattle.charging.specs.Served.{AreTables, Serves}
 use Rattle.http_messages.specs.Statuses as status
 use Rattle.http_messages.specs.Asking.{Asking, refuses, reads, states, IsAsked}
 use Rattle.http_messages.specs.declared.asking.StatementAsked.{StatementAsked}
-use Rattle.http_messages.specs.declared.asking.Asked.TheVariants as told
-use Rattle.http_messages.specs.Refusals.{number_of}
+use Rattle.http_messages.specs.declared.asking.HttpAsked.TheVariants as told
+use Rattle.http_messages.specs.Refusals.{refusal_status}
 use Rattle.http_messages.specs.Texts.{response, no_members, unable, Begins, TellsFault}
 use Rattle.http_messages.specs.declared.refusal.HttpRefusal.{HttpRefusal}
 use Rattle.http_api.specs.Clocks.{GivesInTurn}
@@ -133,11 +133,11 @@ module _ {C : Type 0} (gives : C → Option ℕ → C → Type 0) (b : Shelf) (c
 
   -- a refusal
   pub refused_reply : (why : HttpRefusal) (c : C) (tables : Tables) →
-      Writes (response (number_of why) closes no_members) → (asking : Asking) →
+      Writes (response (refusal_status why) closes no_members) → (asking : Asking) →
       IsAsked asking (told.Refused why) → Replies gives b asking closes c c Writes tables tables
   refused_reply why c tables w (refuses s) asked =
       subst (λ x. Replies gives b (refuses x) closes c c Writes tables tables) asked
-      (refused_by (number_of why) c tables w)
+      (refused_by (refusal_status why) c tables w)
   refused_reply why c tables w (reads read) asked = absurd asked
   refused_reply why c tables w (states q) asked = absurd asked
 

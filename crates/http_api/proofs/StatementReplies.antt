@@ -30,7 +30,7 @@ use Rattle.reserving.specs.Balance.{buckets_at}
 use Rattle.reserving.specs.Pricing.{validity_of}
 use Rattle.http_api.specs.Replies.{unserved, MayAsk, GoesOn, statement_media, statement_reply}
 use Rattle.http_api.specs.Replies.{reply_text, IsReplied, Replies}
-use Rattle.http_api.specs.Told.{IsTold, TellsAnswer, TellsCharges}
+use Rattle.http_api.specs.Told.{IsBodyTold, TellsAnswer, TellsCharges}
 use Rattle.http_api.proofs.RequestReplies.{unserved_reply}
 
 -- the charges of the tables are those of the ledger
@@ -139,7 +139,7 @@ module _ {C : Type 0} (gives : C → Option ℕ → C → Type 0) (b : Shelf) (c
   told_reply : (t : ℕ) (list : List Accepted) (new : Tables) (h : History) (s : AccountState)
       (text : List ℕ) → h ≡ history b q.account list → AreTables b list new → IsInTime list →
       h.opened ≡ true → IsStateAt b (moment_of list t) h.ledger s →
-      IsTold closes
+      IsBodyTold closes
       (statement_text b.first q.account q.month s.moment (charge_rows h.ledger) s.buckets.items)
       text →
       IsReplied b (states q) closes (Some t ∷ []) text new list

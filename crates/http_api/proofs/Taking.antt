@@ -1,8 +1,7 @@
 -- A connection as it goes on: so many requests were taken, and one more, up to its end or to a
 -- fault.
 use Rattle.std.proofs.Common.{◌≡◌, ◌≢◌, ◌≤◌, ◌<◌, ◌+◌, ◌-◌, ◌==◌, ℕ, zero, suc, Bool, true, false}
-use Rattle.std.proofs.Common.{true≢false, List, [], ◌∷◌, ◌++◌, length, take, refl, sym, ap}
-use Rattle.std.proofs.Common.{subst}
+use Rattle.std.proofs.Common.{true≢false, List, [], ◌∷◌, ◌++◌, length, take, refl, sym, ap, subst}
 use Rattle.std.proofs.Common.{◌∙◌, inl, inr, arith, le_refl, Option, Some, None, IfSome, Err}
 use Rattle.std.specs.Io.KnownBytes.{Appends}
 use Rattle.std.proofs.KnownBytes.{Appends-nil, Appends-trans}
@@ -23,9 +22,10 @@ use Rattle.http_api.specs.Clocks.{GivesInTurn}
 use Rattle.http_api.specs.Hearing.{Hears, HearsNext}
 use Rattle.http_api.specs.Replies.{reply_text, IsReplied, Replies}
 use Rattle.http_api.specs.Connections.{Connection, new_connection, left_after, after_reply}
-use Rattle.http_api.specs.Connections.{IsAnswered, Takes, IsTurn, Turns, IsTaken, IsOver, IsServed}
-use Rattle.http_api.specs.Connections.{IsBegun, IsUnread}
-use Rattle.http_api.specs.Connections.{IsTakenWith, IsCutOff, ServesConnection}
+use Rattle.http_api.specs.Connections.{IsAnswered, Takes, Turns, IsTaken, IsOver}
+use Rattle.http_api.specs.Connections.{IsConnectionServed}
+use Rattle.http_api.specs.Connections.{IsConnectionBegun, IsUnread, IsTakenWith, IsCutOff}
+use Rattle.http_api.specs.Connections.{ServesConnection}
 use Rattle.http_api.proofs.Continuing.{continued_none}
 use Rattle.http_api.proofs.Statuses.{SaysStatus, asked_says, reply_says}
 
@@ -240,7 +240,8 @@ module _ {C : Type 0} (gives : C → Option ℕ → C → Type 0) (b : Shelf) wh
   one_more stream count left r1 r2 c0 c1 c2 w0 w1 Writes old mid new heard some so hears replies =
       let here : Hears so.rest (Some heard) r2 =
       subst (λ (r : Option (List ℕ)). IfSome r (λ s. Hears s (Some heard) r2)) so.rest_is hears in
-      let case : IsHeard b here.next heard r2 = heard_case b so.rest here.next heard r2 here.is_next here.hears in
+      let case : IsHeard b here.next heard r2 = heard_case b so.rest here.next heard r2 here.is_next
+      here.hears in
       let reply : Replies gives b case.asking
       (left_after heard.closes left == 0) c1 c2 Writes mid new = replies case.asking case.asked in
       let moments : List (Option ℕ) = so.moments ++ reply.moments in
@@ -310,12 +311,12 @@ module _ {C : Type 0} (gives : C → Option ℕ → C → Type 0) (b : Shelf) wh
       total ≡ count + 1 → next ≡ left_after closes left → next ≡ 0 →
       IfSome r0
       (λ stream. IsOneMore stream count left closes r2 c0 c2 w0 w1 (Appends w1 w2) old new) →
-      IfSome r0 (λ stream. IsServed gives b stream total c0 c2 w0 w2 old new)
+      IfSome r0 (λ stream. IsConnectionServed gives b stream total c0 c2 w0 w2 old new)
   so_far-closed count total left next closes None r2 c0 c2 w0 w1 w2 old new count_is next_is over
       one = tt
   so_far-closed count total left next closes (Some stream) r2 c0 c2 w0 w1 w2 old new count_is
       next_is over one =
-      let whole : IsServed gives b stream (count + 1) c0 c2 w0 w2 old new = record {
+      let whole : IsConnectionServed gives b stream (count + 1) c0 c2 w0 w2 old new = record {
         moments = one.moments;
         given = one.given;
         text = one.text ++ one.more;
@@ -325,14 +326,14 @@ module _ {C : Type 0} (gives : C → Option ℕ → C → Type 0) (b : Shelf) wh
             (one.text ++ one.more) new list = one.at list time are in
             record { taken = at.taken; over = inl (at.left_is ∙ sym next_is ∙ over) };
       } in
-      subst (λ n. IsServed gives b stream n c0 c2 w0 w2 old new) (sym count_is) whole
+      subst (λ n. IsConnectionServed gives b stream n c0 c2 w0 w2 old new) (sym count_is) whole
 
   -- or its answer isn't written to its end
   pub so_far-broken : (count left : ℕ) (closes : Bool) (r0 r2 : Option (List ℕ)) (c0 c2 : C)
       (w0 w1 w2 : Option (List ℕ)) (old new : Tables) → count < 1000 →
       IfSome r0
       (λ stream. IsOneMore stream count left closes r2 c0 c2 w0 w1 (Begins w1 w2) old new) →
-      IfSome r0 (λ stream. IsBegun gives b stream c0 c2 w0 w2 old new)
+      IfSome r0 (λ stream. IsConnectionBegun gives b stream c0 c2 w0 w2 old new)
   so_far-broken count left closes None r2 c0 c2 w0 w1 w2 old new few one = tt
   so_far-broken count left closes (Some stream) r2 c0 c2 w0 w1 w2 old new few one = record {
     count = count + 1;
@@ -369,7 +370,7 @@ module _ {C : Type 0} (gives : C → Option ℕ → C → Type 0) (b : Shelf) wh
       (so : IsSoFar stream count left r1 c0 c1 w0 w1 old new) →
       ((list : List Accepted) →
       (at : IsAt b stream count left so.rest so.moments so.text new list) → IsOver at.taken.last) →
-      IsServed gives b stream count c0 c1 w0 w1 old new
+      IsConnectionServed gives b stream count c0 c1 w0 w1 old new
   served_over stream count left r1 c0 c1 w0 w1 old new so over = record {
     moments = so.moments;
     given = so.given;
@@ -386,7 +387,7 @@ module _ {C : Type 0} (gives : C → Option ℕ → C → Type 0) (b : Shelf) wh
       (w0 w1 : Option (List ℕ)) (old new : Tables) (o : Option Heard) →
       o ≡ None → IfSome r0 (λ stream. IsSoFar stream count left r1 c0 c1 w0 w1 old new) →
       IfSome r1 (λ s. Hears s o r2) →
-      IfSome r0 (λ stream. IsServed gives b stream count c0 c1 w0 w1 old new)
+      IfSome r0 (λ stream. IsConnectionServed gives b stream count c0 c1 w0 w1 old new)
   so_far-ended count left None r1 r2 c0 c1 w0 w1 old new o is so hears = tt
   so_far-ended count left (Some stream) r1 r2 c0 c1 w0 w1 old new o is so hears =
       let here : Hears so.rest None r2 =
@@ -402,19 +403,19 @@ module _ {C : Type 0} (gives : C → Option ℕ → C → Type 0) (b : Shelf) wh
       (w0 w1 : Option (List ℕ)) (old new : Tables) →
       total ≡ count →
       left ≡ 0 → IfSome r0 (λ stream. IsSoFar stream count left r1 c0 c1 w0 w1 old new) →
-      IfSome r0 (λ stream. IsServed gives b stream total c0 c1 w0 w1 old new)
+      IfSome r0 (λ stream. IsConnectionServed gives b stream total c0 c1 w0 w1 old new)
   so_far-full count total left None r1 c0 c1 w0 w1 old new count_is none so = tt
   so_far-full count total left (Some stream) r1 c0 c1 w0 w1 old new count_is none so =
-      let whole : IsServed gives b stream count c0 c1 w0 w1 old new =
+      let whole : IsConnectionServed gives b stream count c0 c1 w0 w1 old new =
       served_over stream count left r1 c0 c1 w0 w1 old new so
       (λ list at. inl (at.left_is ∙ none)) in
-      subst (λ n. IsServed gives b stream n c0 c1 w0 w1 old new) (sym count_is) whole
+      subst (λ n. IsConnectionServed gives b stream n c0 c1 w0 w1 old new) (sym count_is) whole
 
   -- the next request isn't read
   pub so_far-begun : (count left : ℕ) (r0 r1 : Option (List ℕ)) (c0 c1 : C)
       (w0 w1 : Option (List ℕ)) (old new : Tables) →
       count ≤ 1000 → IfSome r0 (λ stream. IsSoFar stream count left r1 c0 c1 w0 w1 old new) →
-      IfSome r0 (λ stream. IsBegun gives b stream c0 c1 w0 w1 old new)
+      IfSome r0 (λ stream. IsConnectionBegun gives b stream c0 c1 w0 w1 old new)
   so_far-begun count left None r1 c0 c1 w0 w1 old new few so = tt
   so_far-begun count left (Some stream) r1 c0 c1 w0 w1 old new few so = record {
     count = count;

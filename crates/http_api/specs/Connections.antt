@@ -14,7 +14,7 @@ use Rattle.charging.specs.Accepted.{Accepted, IsInTime}
 use Rattle.charging.specs.Continued.{ForEachList, Continues, LeavesOn}
 use Rattle.charging.specs.Served.{AreTables}
 use Rattle.http_messages.specs.Statuses.{IsAnswerStatus}
-use Rattle.http_messages.specs.Requests.{Ask, Next, asks, refused, ended, IsNext}
+use Rattle.http_messages.specs.Requests.{Next, asks, refused, ended, IsNext}
 use Rattle.http_messages.specs.Asking.{Asking, refuses, asked_of}
 use Rattle.http_messages.specs.Texts.{Begins}
 use Rattle.http_api.specs.Clocks.{GivesInTurn}
@@ -96,23 +96,24 @@ pub record IsTaken (b : Shelf) (stream : Bytes) (count : ℕ) (moments : List (O
   pub time : IsInTime last.list
 
 -- and the connection is over
-pub record IsWhole (b : Shelf) (stream : Bytes) (count : ℕ) (moments : List (Option Moment))
+pub record IsWholeConnection (b : Shelf) (stream : Bytes) (count : ℕ)
+    (moments : List (Option Moment))
     (text : Bytes) (content : Tables) (list : List Accepted) : Type 0 where
   pub taken : IsTaken b stream count moments text content list
   pub over : IsOver taken.last
 
 -- a stream is served to the end of the connection
-pub record IsServed {C : Type 0} (gives : C → Option Moment → C → Type 0) (b : Shelf)
+pub record IsConnectionServed {C : Type 0} (gives : C → Option Moment → C → Type 0) (b : Shelf)
     (stream : Bytes) (count : ℕ) (before after : C) (empty full : Option Bytes) (old new : Tables)
     : Type 0 where
   pub moments : List (Option Moment)
   pub given : GivesInTurn gives before moments after
   pub text : Bytes
   pub written : Appends empty full text
-  pub whole : ForEachList b old (IsWhole b stream count moments text new)
+  pub whole : ForEachList b old (IsWholeConnection b stream count moments text new)
 
 -- so many requests of it were taken, and a beginning of their answers is written
-pub record IsBegun {C : Type 0} (gives : C → Option Moment → C → Type 0) (b : Shelf)
+pub record IsConnectionBegun {C : Type 0} (gives : C → Option Moment → C → Type 0) (b : Shelf)
     (stream : Bytes) (before after : C) (empty full : Option Bytes) (old new : Tables)
     : Type 0 where
   pub count : ℕ
@@ -177,9 +178,9 @@ pub record IsShown {C : Type 0} (gives : C → Option Moment → C → Type 0) (
     (result : Result Served ServeFault) : Type 0 where
   pub held : Tables
   pub served : IfOk result (λ done. IfSome bytes (λ stream.
-      IsServed gives b stream done.requests before after empty full old held))
+      IsConnectionServed gives b stream done.requests before after empty full old held))
   pub begun : OnErr result (IfSome bytes (λ stream.
-      IsBegun gives b stream before after empty full old held))
+      IsConnectionBegun gives b stream before after empty full old held))
 
 -- what comes of a connection over a keeper that stays clean, where the reader tells its bytes: it
 -- is served to its end, or a beginning of it is, and each fault says which; at most 1,000 requests
@@ -189,9 +190,10 @@ pub record ServesConnection {C K : Type 0} (gives : C → Option Moment → C �
     (failed : K → ℕ) (honest clean : K → Type 0) (leaves : K → Tables → Type 0) (old new : K)
     (result : Result Served ServeFault) : Type 0 where
   pub served : clean new → IfOk result (λ done. IfSome bytes (λ stream.
-      IsServed gives b stream done.requests before after empty full (content old) (content new)))
+      IsConnectionServed gives b stream done.requests before after empty full (content old)
+      (content new)))
   pub begun : clean new → OnErr result (IfSome bytes (λ stream.
-      IsBegun gives b stream before after empty full (content old) (content new)))
+      IsConnectionBegun gives b stream before after empty full (content old) (content new)))
   pub memory : clean new → IsErrOf result Memory → IfSome bytes (λ stream.
       IsUnread gives b stream before after empty full (content old) (content new))
   pub read : clean new → IsErrOf result Read → IfSome bytes (λ stream.

@@ -3,13 +3,13 @@ use Rattle.std.specs.Prelude.{◌≡◌, true, Option, Some, None, ⊤}
 use Rattle.texts.specs.StreamWords.{Bytes}
 use Rattle.http_messages.specs.Requests.{Next, asks, refused, ended, IsNext}
 use Rattle.http_messages.specs.Asking.{refuses, asked_of, IsAsked}
-use Rattle.http_messages.specs.Refusals.{number_of, refusal_of}
+use Rattle.http_messages.specs.Refusals.{refusal_status, refusal_of}
 use Rattle.http_api.specs.declared.hearing.Heard.{Heard}
 
 -- a refusal is one of a head or a length
 abbrev pub IsOfHead : Next → Type 0
 IsOfHead (asks ask rest) = ⊤
-IsOfHead (refused status) = number_of (refusal_of status) ≡ status
+IsOfHead (refused status) = refusal_status (refusal_of status) ≡ status
 IsOfHead ended = ⊤
 
 -- a refusal ends the connection

@@ -17,8 +17,8 @@ TellsAnswer answer closes Writes = Writes (response ok closes (answer_text answe
     ⊎ Writes (response service_unavailable closes unable)
 
 -- the body is told, or that there is no memory or no store
-abbrev pub IsTold : Bool → Bytes → Bytes → Type 0
-IsTold closes body text = (text ≡ response_of Text ok closes body)
+abbrev pub IsBodyTold : Bool → Bytes → Bytes → Type 0
+IsBodyTold closes body text = (text ≡ response_of Text ok closes body)
     ⊎ (text ≡ response service_unavailable closes unable)
 
 -- a text is written, and it tells the body that is made of an account's charges
@@ -26,4 +26,5 @@ pub record TellsCharges (charges : ChargeNumber → Option ChargeColumns)
     (body : List ChargeColumns → Bytes) (closes : Bool) (Writes : Bytes → Type 0) : Type 0 where
   pub text : Bytes
   pub written : Writes text
-  pub told : (rows : List ChargeColumns) → AreCharges charges rows → IsTold closes (body rows) text
+  pub told : (rows : List ChargeColumns) → AreCharges charges rows →
+      IsBodyTold closes (body rows) text

@@ -11,7 +11,7 @@ use crate::stating::serve_statement;
 use crate::telling::tell_answer;
 use charging::step;
 use commands::Command;
-use http_messages::{Asked, tell_fault, tell_refusal, tell_unable};
+use http_messages::{HttpAsked, tell_fault, tell_refusal, tell_unable};
 use keepers::ChargeSource;
 use shelves::TariffShelf;
 use std::alloc::Global;
@@ -31,7 +31,7 @@ pub(crate) fn answer_request<W: Write, K: ChargeSource, C: Clock>(
     keeper: &mut K,
     shelf: &TariffShelf,
     clock: &mut C,
-    asked: Asked,
+    asked: HttpAsked,
     closes: bool,
 ) -> Result<(), StreamFault>
     ensures ok { K.clean keeper.new → OnOk result ((asking : Asking) → IsAsked asking asked →
@@ -50,10 +50,12 @@ pub(crate) fn answer_request<W: Write, K: ChargeSource, C: Clock>(
         keeper.old keeper.new result }
 {
     match asked {
-        Asked::Refused(refusal) => tell_refusal(writer, refusal, closes),
-        Asked::Unread(fault) => tell_fault(alloc, writer, fault, closes),
-        Asked::Does(command) => serve_command(alloc, writer, keeper, shelf, clock, command, closes),
-        Asked::States(statement) => {
+        HttpAsked::Refused(refusal) => tell_refusal(writer, refusal, closes),
+        HttpAsked::Unread(fault) => tell_fault(alloc, writer, fault, closes),
+        HttpAsked::Does(command) => serve_command(
+            alloc, writer, keeper, shelf, clock, command, closes,
+        ),
+        HttpAsked::States(statement) => {
             serve_statement(alloc, writer, keeper, shelf, clock, &statement, closes)
         }
     }
@@ -78,7 +80,8 @@ fn serve_command<W: Write, K: ChargeSource, C: Clock>(
         (Replies C.gives shelf.now (reads (Ok command)) closes clock.old clock.new
         (Begins (W.contents writer.old) (W.contents writer.new))
         (K.content keeper.old) (K.content keeper.new)) }
-    ensures shown { Shows (Replies C.gives shelf.now (reads (Ok command)) closes clock.old clock.new)
+    ensures shown { Shows
+        (Replies C.gives shelf.now (reads (Ok command)) closes clock.old clock.new)
         (W.contents writer.old) (W.contents writer.new)
         K.content K.honest K.clean keeper.old keeper.new result }
     ensures goes_on { GoesOn shelf.now K.content K.failed K.honest K.clean K.left

@@ -19,11 +19,11 @@ pub enum ServeFault {
 
 impl ServeFault {
     ghost use Rattle.std.specs.Prelude.{◌≡◌};
-    ghost use Rattle.http_api.specs.Faults.{fault_number};
+    ghost use Rattle.http_api.specs.Faults.{serve_fault_number};
 
     /// The number of the fault, 1 to 3.
     pub fn number(self) -> u8
-        ensures { result ≡ fault_number self }
+        ensures { result ≡ serve_fault_number self }
     {
         match self {
             ServeFault::Memory => 1,

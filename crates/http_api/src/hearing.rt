@@ -7,7 +7,7 @@ ghost use Rattle.http_messages.specs.Asking.{asked_of, IsAsked};
 ghost use Rattle.http_api.specs.Hearing.{IsOfHead, Hears, HearsNext};
 
 use http_messages::{
-    Asked, HeaderSpan, HttpRefusal, Request, Route, Router, Taken, ask, next_request,
+    HeaderSpan, HttpAsked, HttpRefusal, HttpRequest, Route, Router, Taken, ask, next_request,
 };
 use std::alloc::Global;
 use std::io::BufRead;
@@ -16,7 +16,7 @@ use texts::StreamFault;
 /// A request: what it asks, and whether the connection ends after it.
 #[derive(Drop)]
 pub(crate) struct Heard {
-    pub(crate) asked: Asked,
+    pub(crate) asked: HttpAsked,
     pub(crate) closes: bool,
 }
 
@@ -50,7 +50,7 @@ fn heard_of(alloc: Global, router: &Router<Route>, taken: Taken) -> Option<Heard
     match taken {
         Taken::Request(request) => Some(heard_request(alloc, router, &request)),
         Taken::Refused(status) => Some(Heard {
-            asked: Asked::Refused(HttpRefusal::of_head(status)),
+            asked: HttpAsked::Refused(HttpRefusal::of_head(status)),
             closes: true,
         }),
         Taken::Ended => None,
@@ -58,7 +58,7 @@ fn heard_of(alloc: Global, router: &Router<Route>, taken: Taken) -> Option<Heard
 }
 
 /// What a request asks.
-fn heard_request(alloc: Global, router: &Router<Route>, request: &Request) -> Heard
+fn heard_request(alloc: Global, router: &Router<Route>, request: &HttpRequest) -> Heard
     requires { router.now ≡ table }
     ensures asked { IsAsked (asked_of (seen request.now)) result.asked }
     ensures closes { result.closes ≡ request.now.closes }

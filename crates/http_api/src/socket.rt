@@ -35,8 +35,8 @@ pub fn serve_socket<K: ChargeSource, C: Clock>(
     shelf: &TariffShelf,
     clock: &mut C,
 ) -> Result<Served, ServeFault>
-    ensures { ServesSocket K.content K.failed K.honest K.clean K.left shelf.now keeper.old keeper.new
-        result }
+    ensures { ServesSocket K.content K.failed K.honest K.clean K.left shelf.now
+        keeper.old keeper.new result }
 {
     if limit(stream).is_err() {
         return Err(ServeFault::Read);
@@ -61,8 +61,8 @@ fn serve_joined<K: ChargeSource, C: Clock>(
     shelf: &TariffShelf,
     clock: &mut C,
 ) -> Result<Served, ServeFault>
-    ensures { ServesSocket K.content K.failed K.honest K.clean K.left shelf.now keeper.old keeper.new
-        result }
+    ensures { ServesSocket K.content K.failed K.honest K.clean K.left shelf.now
+        keeper.old keeper.new result }
 {
     let begun = Cell::new(None);
     let mut reader = PatientReader {

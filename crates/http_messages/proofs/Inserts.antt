@@ -29,7 +29,8 @@ one_more text value old new known e h = e ∙ ap (added text value) h
 pub one_error : (x : Result Scan InsertError) (value : Route) (old new : Routes)
     (r : Result (Unit {0}) InsertError) (e : InsertError) → fits_read x old →
     InsertsRead x value old new r → r ≡ Err e → e ≡ OutOfMemory
-one_error x value old new r e fits h is = refused x e fits (subst (InsertsRead x value old new) is h)
+one_error x value old new r e fits h is =
+    refused x e fits (subst (InsertsRead x value old new) is h)
   where
     refused : (x : Result Scan InsertError) (e : InsertError) → fits_read x old →
         InsertsRead x value old new (Err e) → e ≡ OutOfMemory

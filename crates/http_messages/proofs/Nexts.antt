@@ -3,7 +3,7 @@ use Rattle.std.proofs.Common.{◌≡◌, ℕ, List, refl, subst, Option, Some, N
 use Rattle.std.specs.Prelude.{Result, Ok, Err, Vec}
 use Rattle.std.specs.Global.{Global}
 use Rattle.httparse.specs.Grammar.{RequestHead}
-use Rattle.http_messages.specs.declared.head.Head.{Head}
+use Rattle.http_messages.specs.declared.head.HttpHead.{HttpHead}
 use Rattle.http_messages.specs.declared.head_part.HeadPart.{HeadPart}
 use Rattle.http_messages.specs.declared.head_part.HeadPart.TheVariants as head_part
 use Rattle.http_messages.specs.declared.requests.Taken.{Taken}
@@ -62,7 +62,7 @@ next_whole (Ok told) part bytes given left right is same h = λ begun k.
     (subst (λ p. IfSome left (λ rest. TellsNext (whole p rest) told right)) same h)
 
 -- it is no head
-pub next_none : (part : List ℕ) (o : Option Head) (left right : Option (List ℕ)) →
+pub next_none : (part : List ℕ) (o : Option HttpHead) (left right : Option (List ℕ)) →
     o ≡ None → IsHeadIn part o →
     IfSome left (λ rest. TellsNext (whole part rest) (taken.Refused bad_request) right)
 next_none part o None right e h = tt
@@ -73,8 +73,8 @@ next_none part o (Some rest) right e h = record {
 }
 
 -- it is one
-pub next_some : {E : Type 0} (result : Result Taken E) (part : List ℕ) (o : Option Head)
-    (head : Head) (left right : Option (List ℕ)) → o ≡ Some head → IsHeadIn part o →
+pub next_some : {E : Type 0} (result : Result Taken E) (part : List ℕ) (o : Option HttpHead)
+    (head : HttpHead) (left right : Option (List ℕ)) → o ≡ Some head → IsHeadIn part o →
     IfOk result (λ told. IfSome left
     (λ rest. (said : RequestHead) → IsHeadOf said head → Tells (after_head said rest) told right)) →
     IfOk result (λ told. IfSome left (λ rest. TellsNext (whole part rest) told right))

@@ -1,5 +1,5 @@
 -- What is told of a text that is no JSON object.
-use Rattle.std.proofs.Common.{◌≡◌, refl, codes}
+use Rattle.std.proofs.Common.{◌≡◌, refl}
 use Rattle.std.specs.Fmt.{digits}
 use Rattle.json.specs.Print.{escape_byte}
 use Rattle.json_fields.specs.declared.fault.WireFault.TheVariants.{NotRequest}

@@ -23,7 +23,7 @@ use Rattle.matchit.proofs.LongestLemmas.{longest-kid}
 use Rattle.http_messages.specs.declared.routes.Route.{Route}
 use Rattle.http_messages.specs.declared.routes.Route.TheVariants.{Ccr, Account, Statement, Credits}
 use Rattle.http_messages.specs.declared.routes.Route.TheVariants.{Allowances, Redeem, Sweep}
-use Rattle.http_messages.specs.Routes.{table, row_of}
+use Rattle.http_messages.specs.Routes.{table, route_at}
 use Rattle.http_messages.specs.Paths.{IsPart, IsPathOf, AreRoutesPaths}
 
 -- ---- the table as nodes
@@ -667,13 +667,13 @@ map_key_is : {K L : Type 0} (f : K → L) (o : Option K) → option_map f o ≡ 
 map_key_is f None = refl
 map_key_is f (Some k) = refl
 
-row_is : (path : List ℕ) → row_of path ≡ map_key numbered (first (rows root) path)
+row_is : (path : List ℕ) → route_at path ≡ map_key numbered (first (rows root) path)
 row_is path = map_key_is (λ (r : RouteOf Route). r.value) (first table path)
     ∙ sym (first-rename (λ (r : RouteOf Route). r.value) table path)
     ∙ ap (λ (rs : RowsOf Route). first rs path) table_is
     ∙ first-rename numbered (rows root) path
 
-row_found : (path : List ℕ) (route : Route) → IsText path → row_of path ≡ Some route →
+row_found : (path : List ℕ) (route : Route) → IsText path → route_at path ≡ Some route →
     IsPathOf route path
 row_found path route text h = by (first (rows root) path) refl (sym (row_is path) ∙ h)
   where
@@ -684,7 +684,7 @@ row_found path route text h = by (first (rows root) path) refl (sym (row_is path
         (path_of path n text e)
 
 row_each : (path : List ℕ) (route : Route) → IsText path → IsPathOf route path →
-    row_of path ≡ Some route
+    route_at path ≡ Some route
 row_each path route text is =
     let at = found_at path route text is in
     row_is path ∙ ap (map_key numbered) at.2 ∙ ap Some at.1

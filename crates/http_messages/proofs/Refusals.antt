@@ -3,7 +3,7 @@ use Rattle.std.proofs.Common.{◌≡◌, ℕ, Bool, true, false, List, [], ◌�
 use Rattle.std.proofs.Common.{refl, ◌∙◌, codes, drop, Option, Some, None, Result, Ok, Err}
 use Rattle.std.specs.Prelude.{◌||◌, if◌then◌else◌, nat_le, nat_lt, length, IfErr, ⊤}
 use Rattle.httparse.specs.Grammar.{RequestHead}
-use Rattle.http_messages.specs.declared.head.Head.{Head}
+use Rattle.http_messages.specs.declared.head.HttpHead.{HttpHead}
 use Rattle.http_messages.specs.Methods.{is_post, is_put}
 use Rattle.http_messages.specs.Statuses.{IsAnswerStatus, length_required}
 use Rattle.http_messages.specs.Statuses.{payload_too_large}
@@ -50,7 +50,7 @@ length_says head =
     unless_says (values_of (codes "Transfer-Encoding") fields) (length_by head.method lengths)
     (by_says head.method lengths)
 
-pub head_says : (said : RequestHead) (told : Head) (status : ℕ) → IsHeadOf said told →
+pub head_says : (said : RequestHead) (told : HttpHead) (status : ℕ) → IsHeadOf said told →
     told.length ≡ Err status → IsAnswerStatus status
 head_says said told status is e = subst Refuses (sym is.length ∙ e) (length_says said)
 

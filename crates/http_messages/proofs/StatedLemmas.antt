@@ -2,7 +2,7 @@
 use Rattle.std.proofs.Common.{◌≡◌, Result, Ok, Err, refl, sym, subst}
 use Rattle.json_fields.specs.declared.fault.WireFault.{WireFault}
 use Rattle.json_fields.specs.Gives.{Fails}
-use Rattle.http_messages.specs.declared.asking.Asked.TheVariants as told
+use Rattle.http_messages.specs.declared.asking.HttpAsked.TheVariants as told
 use Rattle.http_messages.specs.declared.asking.StatementAsked.{StatementAsked}
 use Rattle.http_messages.specs.Asking.{stated, IsAsked}
 

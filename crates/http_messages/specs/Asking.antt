@@ -21,13 +21,13 @@ use Rattle.wire.specs.Redeemed.{redemption_of}
 use Rattle.http_messages.specs.Methods.{is_get}
 use Rattle.http_messages.specs.Statuses.{not_found, method_not_allowed}
 use Rattle.http_messages.specs.Requests.{Ask}
-use Rattle.http_messages.specs.declared.asking.Asked.{Asked}
-use Rattle.http_messages.specs.declared.asking.Asked.TheVariants as told
+use Rattle.http_messages.specs.declared.asking.HttpAsked.{HttpAsked}
+use Rattle.http_messages.specs.declared.asking.HttpAsked.TheVariants as told
 use Rattle.http_messages.specs.declared.asking.StatementAsked.{StatementAsked}
 use Rattle.http_messages.specs.declared.routes.Route.{Route}
 use Rattle.http_messages.specs.declared.routes.Route.TheVariants.{Ccr, Account, Statement, Credits}
 use Rattle.http_messages.specs.declared.routes.Route.TheVariants.{Allowances, Redeem, Sweep}
-use Rattle.http_messages.specs.Refusals.{number_of}
+use Rattle.http_messages.specs.Refusals.{refusal_status}
 use Rattle.http_messages.specs.Routes.{route_of, serves}
 
 -- a request is refused, read as a command or with a fault, or asks for a statement
@@ -115,8 +115,8 @@ abbrev pub asked_of : Ask → Asking
 asked_of ask = asked_by (route_of ask.target) ask
 
 -- as it is told
-abbrev pub IsAsked : Asking → Asked → Type 0
-IsAsked (refuses status) (told.Refused given) = number_of given ≡ status
+abbrev pub IsAsked : Asking → HttpAsked → Type 0
+IsAsked (refuses status) (told.Refused given) = refusal_status given ≡ status
 IsAsked (refuses status) (told.Unread fault) = ⊥
 IsAsked (refuses status) (told.Does c) = ⊥
 IsAsked (refuses status) (told.States q) = ⊥

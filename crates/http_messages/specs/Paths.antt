@@ -7,7 +7,7 @@ use Rattle.matchit.specs.Level.{IsText}
 use Rattle.http_messages.specs.declared.routes.Route.{Route}
 use Rattle.http_messages.specs.declared.routes.Route.TheVariants.{Ccr, Account, Statement, Credits}
 use Rattle.http_messages.specs.declared.routes.Route.TheVariants.{Allowances, Redeem, Sweep}
-use Rattle.http_messages.specs.Routes.{row_of}
+use Rattle.http_messages.specs.Routes.{route_at}
 
 -- a part of a path: it isn't empty and has no slash
 pub record IsPart (part : Bytes) : Type 0 where
@@ -40,7 +40,7 @@ IsPathOf Sweep path = path ≡ codes "/sweep"
 
 -- a path of bytes has a row exactly where it is one of that row's
 pub record AreRoutesPaths : Type 0 where
-  pub found : (path : Bytes) (route : Route) → IsText path → row_of path ≡ Some route →
+  pub found : (path : Bytes) (route : Route) → IsText path → route_at path ≡ Some route →
       IsPathOf route path
   pub each : (path : Bytes) (route : Route) → IsText path → IsPathOf route path →
-      row_of path ≡ Some route
+      route_at path ≡ Some route

@@ -12,14 +12,14 @@ use Rattle.http_messages.specs.declared.refusal.HttpRefusal.TheVariants.{FieldsT
 use Rattle.http_messages.specs.declared.refusal.HttpRefusal.TheVariants.{NotImplemented}
 
 -- the status of a refusal
-abbrev pub number_of : HttpRefusal → ℕ
-number_of BadRequest = status.bad_request
-number_of NotFound = status.not_found
-number_of MethodNotAllowed = status.method_not_allowed
-number_of LengthRequired = status.length_required
-number_of PayloadTooLarge = status.payload_too_large
-number_of FieldsTooLarge = status.fields_too_large
-number_of NotImplemented = status.not_implemented
+abbrev pub refusal_status : HttpRefusal → ℕ
+refusal_status BadRequest = status.bad_request
+refusal_status NotFound = status.not_found
+refusal_status MethodNotAllowed = status.method_not_allowed
+refusal_status LengthRequired = status.length_required
+refusal_status PayloadTooLarge = status.payload_too_large
+refusal_status FieldsTooLarge = status.fields_too_large
+refusal_status NotImplemented = status.not_implemented
 
 -- the refusal of a head or of a length that has this status
 abbrev pub refusal_of : StatusCode → HttpRefusal

@@ -4,8 +4,8 @@ use Rattle.std.specs.Prelude.{if◌then◌else◌, Option, Some, None, Result, O
 use Rattle.texts.specs.StreamWords.{Bytes}
 use Rattle.httparse.specs.Grammar.{RequestHead, ReadsRequest}
 use Rattle.httparse.specs.Spans.{name_and_value}
-use Rattle.http_messages.specs.declared.head.Head.{Head}
-use Rattle.http_messages.specs.declared.requests.Request.{Request}
+use Rattle.http_messages.specs.declared.head.HttpHead.{HttpHead}
+use Rattle.http_messages.specs.declared.requests.HttpRequest.{HttpRequest}
 use Rattle.http_messages.specs.declared.requests.Taken.{Taken}
 use Rattle.http_messages.specs.declared.requests.Taken.TheVariants as taken
 use Rattle.http_messages.specs.Parts.{Part, whole, too_long, cut, first_part}
@@ -70,18 +70,18 @@ IsNext stream next = IsNextOf (first_part stream) next
 
 -- ---- as it is told
 
-pub record IsHeadOf (head : RequestHead) (told : Head) : Type 0 where
+pub record IsHeadOf (head : RequestHead) (told : HttpHead) : Type 0 where
   pub method : told.method ≡ head.method
   pub target : string_bytes told.target ≡ head.target
   pub length : told.length ≡ length_of head
   pub closes : told.closes ≡ closes head.minor (fields_of head)
 
 -- the head that a head part is, or that it is none
-abbrev pub IsHeadIn : Bytes → Option Head → Type 0
+abbrev pub IsHeadIn : Bytes → Option HttpHead → Type 0
 IsHeadIn part (Some told) = (head : RequestHead) × IsHead part head × IsHeadOf head told
 IsHeadIn part None = (head : RequestHead) → ¬ (IsHead part head)
 
-pub record IsRequest (ask : Ask) (told : Request) : Type 0 where
+pub record IsRequest (ask : Ask) (told : HttpRequest) : Type 0 where
   pub method : told.method ≡ ask.method
   pub target : string_bytes told.target ≡ ask.target
   pub closes : told.closes ≡ ask.closes
@@ -111,7 +111,7 @@ SaysStatus (taken.Refused status) = IsAnswerStatus status
 SaysStatus taken.Ended = Unit {0}
 
 -- a request as it is told
-abbrev pub seen : Request → Ask
+abbrev pub seen : HttpRequest → Ask
 seen told = record {
   method = told.method;
   target = string_bytes told.target;

@@ -55,8 +55,8 @@ serves Redeem method = is_post method
 serves Sweep method = is_post method
 
 -- the row of a path
-abbrev pub row_of : Bytes → Option Route
-row_of path = option_map (λ r. r.value) (first table path)
+abbrev pub route_at : Bytes → Option Route
+route_at path = option_map (λ r. r.value) (first table path)
 
 -- a target has a query: a question mark
 abbrev pub has_query : Bytes → Bool
@@ -64,4 +64,4 @@ has_query target = list_any (λ b. b == 63) target
 
 -- what a target names: the row of its path; none where it has a query
 abbrev pub route_of : Bytes → Option Route
-route_of target = if has_query target then None else row_of target
+route_of target = if has_query target then None else route_at target

@@ -3,7 +3,7 @@
 ghost use Rattle.std.specs.Prelude.{◌≡◌, Result};
 ghost use Rattle.std.specs.List.{before_first, after_first};
 ghost use Rattle.commands.specs.declared.command.Command.{Command};
-ghost use Rattle.json_fields.specs.Gives.{Gives, Says, or_fault};
+ghost use Rattle.json_fields.specs.Gives.{Gives, Says};
 ghost use Rattle.json_fields.specs.declared.fault.WireFault.{WireFault};
 ghost use Rattle.http_messages.specs.Requests.{seen};
 ghost use Rattle.http_messages.specs.Routes.{table};
@@ -15,7 +15,7 @@ ghost use Rattle.http_messages.specs.Asking.{reads, stated, asking_by, asked_of,
 ghost use Rattle.http_messages.specs.declared.asking.StatementAsked.{StatementAsked};
 
 use crate::refusal::HttpRefusal;
-use crate::requests::Request;
+use crate::requests::HttpRequest;
 use crate::routes::{Route, is_get, route_of};
 use commands::{Avp, Command};
 use http::Method;
@@ -36,7 +36,7 @@ pub struct StatementAsked {
 
 /// What a request asks: it is refused, isn't read, is a command or asks for a statement.
 #[derive(Drop)]
-pub enum Asked {
+pub enum HttpAsked {
     /// It is refused.
     Refused(HttpRefusal),
     /// The path or the body has a fault, or memory ran out.
@@ -157,30 +157,30 @@ fn read_statement(alloc: Global, target: &str) -> Result<StatementAsked, WireFau
 }
 
 /// A command that is read, or its fault.
-fn told(read: Result<Command, WireFault>) -> Asked
+fn told(read: Result<Command, WireFault>) -> HttpAsked
     ensures { (reading : Result Command WireFault) → Gives (λ c. c) read reading →
         IsAsked (reads reading) result }
 {
     match read {
-        Ok(command) => Asked::Does(command),
-        Err(fault) => Asked::Unread(fault),
+        Ok(command) => HttpAsked::Does(command),
+        Err(fault) => HttpAsked::Unread(fault),
     }
 }
 
 /// A statement that is asked for, or the fault of its path.
 #[tactic(auto, using(crate::proofs::StatedLemmas::stated_is, crate::proofs::StatedLemmas::unstated_is))]
-fn told_statement(read: Result<StatementAsked, WireFault>) -> Asked
+fn told_statement(read: Result<StatementAsked, WireFault>) -> HttpAsked
     ensures { (reading : Result StatementAsked WireFault) → Gives (λ q. q) read reading →
         IsAsked (stated reading) result }
 {
     match read {
-        Ok(statement) => Asked::States(statement),
-        Err(fault) => Asked::Unread(fault),
+        Ok(statement) => HttpAsked::States(statement),
+        Err(fault) => HttpAsked::Unread(fault),
     }
 }
 
 /// What a request asks of a route that has its method: first the path is read, then the body.
-fn asked_by(alloc: Global, route: Route, method: &Method, target: &str, body: &[u8]) -> Asked
+fn asked_by(alloc: Global, route: Route, method: &Method, target: &str, body: &[u8]) -> HttpAsked
     ensures { IsAsked (asking_by route method.now target.now body.now) result }
 {
     match route {
@@ -190,20 +190,20 @@ fn asked_by(alloc: Global, route: Route, method: &Method, target: &str, body: &[
         Route::Credits => told(read_credits(alloc, target, body)),
         Route::Allowances => told(read_allowance(alloc, target, body)),
         Route::Redeem => told(read_redemption(alloc, target, body)),
-        Route::Sweep => Asked::Does(Command::Sweep),
+        Route::Sweep => HttpAsked::Does(Command::Sweep),
     }
 }
 
 /// What a request asks by the table of routes.
-pub fn ask(alloc: Global, router: &Router<Route>, request: &Request) -> Asked
+pub fn ask(alloc: Global, router: &Router<Route>, request: &HttpRequest) -> HttpAsked
     requires { router.now ≡ table }
     ensures { IsAsked (asked_of (seen request.now)) result }
 {
     let Some(route) = route_of(router, request.target.as_str()) else {
-        return Asked::Refused(HttpRefusal::NotFound);
+        return HttpAsked::Refused(HttpRefusal::NotFound);
     };
     if !route.serves(&request.method) {
-        return Asked::Refused(HttpRefusal::MethodNotAllowed);
+        return HttpAsked::Refused(HttpRefusal::MethodNotAllowed);
     }
     asked_by(
         alloc,

@@ -1,6 +1,6 @@
 //! What a head says.
 
-ghost use Rattle.std.specs.Prelude.{◌≡◌, ◌≤◌, ◌*◌, List, ℕ, length, IfOk, IfSome, IfNone};
+ghost use Rattle.std.specs.Prelude.{◌≡◌, ◌≤◌, ◌*◌, length, IfOk, IfSome, IfNone};
 ghost use Rattle.http.specs.Token.{IsToken};
 ghost use Rattle.httparse.specs.Grammar.{RequestHead};
 ghost use Rattle.httparse.specs.Spans.{IsRequestAt, IsRequestWithin};
@@ -15,7 +15,7 @@ use std::alloc::{AllocError, Global};
 
 /// What a head says.
 #[derive(Drop)]
-pub struct Head {
+pub struct HttpHead {
     /// The method.
     pub method: Method,
     /// The target, as it stands.
@@ -70,7 +70,7 @@ pub(crate) fn read_head(
     alloc: Global,
     part: &[u8],
     room: &mut [HeaderSpan],
-) -> Result<Option<Head>, AllocError>
+) -> Result<Option<HttpHead>, AllocError>
     requires room { length part.now ≤ 3 * length room.old }
     ensures { IfOk result (IsHeadIn part.now) }
 {
@@ -87,7 +87,7 @@ pub(crate) fn read_head(
     let fields = &room[..spans.headers];
     let length = body_length(&method, part, fields);
     let closes = spans.version == 0 || count_closing(part, fields) > 0;
-    Ok(Some(Head {
+    Ok(Some(HttpHead {
         method,
         target,
         length,

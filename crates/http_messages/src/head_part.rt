@@ -1,6 +1,6 @@
 //! The bytes of a head, taken off a stream.
 
-ghost use Rattle.std.specs.Prelude.{◌≡◌, ◌≤◌, IfOk, IsErrOf, IfSome};
+ghost use Rattle.std.specs.Prelude.{IfOk, IsErrOf, IfSome};
 ghost use Rattle.http_messages.specs.Parts.{first_part, IsHeadPart, IsShort};
 
 use std::alloc::Global;

@@ -13,12 +13,12 @@ mod route_laws;
 mod routes;
 mod text;
 
-pub use crate::asking::{Asked, StatementAsked, ask};
-pub use crate::head::Head;
+pub use crate::asking::{HttpAsked, StatementAsked, ask};
+pub use crate::head::HttpHead;
 pub use crate::head_part::{HeadPart, MAX_HEAD_PART, next_head_part};
 pub use crate::refusal::{HttpRefusal, tell_refusal};
 pub use crate::request_laws::{first_parts_are_shortest, next_is_one};
-pub use crate::requests::{MAX_FIELDS, Request, Taken, next_request};
+pub use crate::requests::{HttpRequest, MAX_FIELDS, Taken, next_request};
 pub use crate::route_laws::routes_are_paths;
 pub use crate::routes::{Route, known_router};
 pub use crate::text::{Media, response, tell_fault, tell_json, tell_text, tell_unable, write_text};

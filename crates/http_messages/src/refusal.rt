@@ -1,7 +1,8 @@
-//! Requests that are refused, and the bytes that tell so: constants, so that no memory is asked for.
+//! Requests that are refused, and the bytes that tell so: constants, so that no memory is asked
+//! for.
 
 ghost use Rattle.std.specs.Prelude.{◌≡◌, true, false};
-ghost use Rattle.http_messages.specs.Refusals.{number_of, refusal_of};
+ghost use Rattle.http_messages.specs.Refusals.{refusal_status, refusal_of};
 ghost use Rattle.http_messages.specs.Texts.{response, no_members, WritesText};
 
 use crate::text::write_text;
@@ -87,7 +88,7 @@ impl HttpRefusal {
 
     /// The bytes that tell it, where the connection goes on.
     fn text(self) -> &'static [u8]
-        ensures { result.now ≡ response (number_of self) false no_members }
+        ensures { result.now ≡ response (refusal_status self) false no_members }
     {
         match self {
             HttpRefusal::BadRequest => BAD_REQUEST,
@@ -102,7 +103,7 @@ impl HttpRefusal {
 
     /// The bytes that tell it before the connection ends.
     fn text_at_last(self) -> &'static [u8]
-        ensures { result.now ≡ response (number_of self) true no_members }
+        ensures { result.now ≡ response (refusal_status self) true no_members }
     {
         match self {
             HttpRefusal::BadRequest => BAD_REQUEST_AT_LAST,
@@ -125,7 +126,8 @@ pub fn tell_refusal<W: Write>(
     refusal: HttpRefusal,
     closes: bool,
 ) -> Result<(), StreamFault>
-    ensures { WritesText (response (number_of refusal) closes no_members) (W.contents writer.old)
+    ensures { WritesText (response (refusal_status refusal) closes no_members)
+        (W.contents writer.old)
         (W.contents writer.new) result }
 {
     if closes {

@@ -1,11 +1,11 @@
 //! A request with its body, taken off a stream.
 
-ghost use Rattle.std.specs.Prelude.{◌≡◌, ◌≤◌, ◌*◌, length, IfOk, IsErrOf, IfSome};
+ghost use Rattle.std.specs.Prelude.{◌≤◌, ◌*◌, length, IfOk, IsErrOf, IfSome};
 ghost use Rattle.httparse.specs.Grammar.{RequestHead};
 ghost use Rattle.http_messages.specs.Parts.{Part, whole, first_part, IsHeadPart, IsShort};
 ghost use Rattle.http_messages.specs.Requests.{TellsNext, IsHeadOf, Tells, after_head, SaysStatus};
 
-use crate::head::{Head, read_head};
+use crate::head::{HttpHead, read_head};
 use crate::head_part::{HeadPart, next_head_part};
 use http::{Method, StatusCode};
 use httparse::spans::HeaderSpan;
@@ -18,7 +18,7 @@ pub const MAX_FIELDS: usize = 2731;
 
 /// A request of HTTP that was read whole: what its head part says of it, and its body.
 #[derive(Debug, Drop)]
-pub struct Request {
+pub struct HttpRequest {
     /// The method.
     pub method: Method,
     /// The target, as it stands.
@@ -33,7 +33,7 @@ pub struct Request {
 #[derive(Drop)]
 pub enum Taken {
     /// The next request, with its body.
-    Request(Request),
+    Request(HttpRequest),
     /// A refusal, after which nothing more is read.
     Refused(StatusCode),
     /// The stream ends before a request does.
@@ -103,7 +103,11 @@ fn after_bytes<R: BufRead>(
 }
 
 /// The request of a head, with its body.
-fn with_body<R: BufRead>(alloc: Global, reader: &mut R, head: Head) -> Result<Taken, StreamFault>
+fn with_body<R: BufRead>(
+    alloc: Global,
+    reader: &mut R,
+    head: HttpHead,
+) -> Result<Taken, StreamFault>
     ensures tells { IfOk result (λ taken. IfSome (R.remaining reader.old)
         (λ rest. (said : RequestHead) → IsHeadOf said head →
         Tells (after_head said rest) taken (R.remaining reader.new))) }
@@ -117,7 +121,7 @@ fn with_body<R: BufRead>(alloc: Global, reader: &mut R, head: Head) -> Result<Ta
     };
     match next_bytes(alloc, reader, length)? {
         None => Ok(Taken::Ended),
-        Some(body) => Ok(Taken::Request(Request {
+        Some(body) => Ok(Taken::Request(HttpRequest {
             method: head.method,
             target: head.target,
             closes: head.closes,

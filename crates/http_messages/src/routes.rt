@@ -3,7 +3,7 @@
 ghost use Rattle.std.specs.Prelude.{◌≡◌, [], IfOk, OnOk, OnErr};
 ghost use Rattle.matchit.specs.declared.InsertError.TheVariants.{OutOfMemory};
 ghost use Rattle.http_messages.specs.Methods.{is_get, is_post, is_put};
-ghost use Rattle.http_messages.specs.Routes.{added, table, row_of, has_query, route_of, serves};
+ghost use Rattle.http_messages.specs.Routes.{added, table, route_at, has_query, route_of, serves};
 ghost use Rattle.http_messages.specs.Routes.{Fits};
 
 use http::Method;
@@ -89,8 +89,8 @@ fn add(router: &mut Router<Route>, text: &str, value: Route) -> Result<(), Strea
     }
 }
 
-/// Puts the rows of the table into a router that has none. The one fault is `Memory`, where a growth
-/// was refused.
+/// Puts the rows of the table into a router that has none. The one fault is `Memory`, where a
+/// growth was refused.
 #[tactic(auto, unfolding(crate::specs::Routes::table))]
 fn add_routes(router: &mut Router<Route>) -> Result<(), StreamFault>
     requires { router.old ≡ [] }
@@ -123,7 +123,7 @@ pub fn known_router(alloc: Global) -> Result<Router<Route>, StreamFault>
 /// The row of a path.
 fn row_of(router: &Router<Route>, path: &str) -> Option<Route>
     requires { router.now ≡ table }
-    ensures { result ≡ row_of path.now }
+    ensures { result ≡ route_at path.now }
 {
     match router.at(path) {
         Ok(found) => Some(*found.value),

@@ -1,6 +1,6 @@
 //! The bytes of an answer of HTTP.
 
-ghost use Rattle.std.specs.Prelude.{◌≡◌, ◌++◌, ℕ, IfOk, OnOk, OnErr, IfSome, None, true, false};
+ghost use Rattle.std.specs.Prelude.{◌≡◌, ◌++◌, IfOk, OnOk, OnErr, IfSome, None, true, false};
 ghost use Rattle.std.specs.Prelude.{string_bytes, codes, Err};
 ghost use Rattle.std.specs.Fmt.{decimal};
 ghost use Rattle.json_fields.specs.declared.fault.WireFault.TheVariants.{Memory, NotRequest};
@@ -244,8 +244,8 @@ fn not_request_at_last() -> &'static [u8]
 
 /// Writes that a request is no JSON object; this takes no memory.
 fn tell_not_request<W: Write>(writer: &mut W, closes: bool) -> Result<(), StreamFault>
-    ensures { WritesText (response bad_request closes (fault_text NotRequest)) (W.contents writer.old)
-        (W.contents writer.new) result }
+    ensures { WritesText (response bad_request closes (fault_text NotRequest))
+        (W.contents writer.old) (W.contents writer.new) result }
 {
     if closes {
         write_text(writer, not_request_at_last())

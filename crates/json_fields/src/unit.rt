@@ -1,6 +1,6 @@
 //! The members that count units.
 
-ghost use Rattle.std.specs.Prelude.{◌≡◌, ◌≤◌, ◌&&◌, nat_le, IfOk};
+ghost use Rattle.std.specs.Prelude.{◌≡◌, ◌≤◌, ◌&&◌, IfOk};
 ghost use Rattle.serde_json.specs.View.{view};
 ghost use Rattle.commands.specs.Quantities.{most_units};
 ghost use Rattle.json_fields.specs.Gives.{Says};

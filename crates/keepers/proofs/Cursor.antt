@@ -4,7 +4,7 @@ use Rattle.std.proofs.Common.{get_or, refl, sym, ap, ◌∙◌, arith, cond, Som
 use Rattle.std.specs.Prelude.{◌==◌, is_some}
 use Rattle.std.specs.List.{find, list_any}
 use Rattle.std.proofs.lemmas.Bool.{or_from}
-use Rattle.buckets.specs.Row.{Row}
+use Rattle.buckets.specs.Row.{BucketRow}
 use Rattle.reserving.specs.declared.session.Session.{Session}
 use Rattle.reserving.specs.declared.session.SessionGroup.{SessionGroup}
 use Rattle.reserving.specs.declared.session.Counter.{Counter}
@@ -63,7 +63,7 @@ stands {A} p (x ∷ xs) (suc i) d h e = at (p x) (stands p xs i d (omega (arith,
 
 -- ---- keys, read either way
 
-pub turn_bucket : (x y : Row) → same_bucket x y ≡ same_bucket y x
+pub turn_bucket : (x y : BucketRow) → same_bucket x y ≡ same_bucket y x
 turn_bucket x y = same_tests (y.number == x.number) (x.number == y.number)
     (λ e. turned y.number x.number e) (λ e. turned x.number y.number e)
 

@@ -5,7 +5,7 @@ use Rattle.std.specs.Prelude.{◌==◌, filter}
 use Rattle.std.specs.List.Sorted.{IsNonDecreasingBy, IsPermutation}
 use Rattle.std.proofs.lemmas.Bool.Decides.{nat_tests}
 use Rattle.std.proofs.lemmas.List.Sorted.{IsNonDecreasingBy-short}
-use Rattle.buckets.specs.Row.{Row}
+use Rattle.buckets.specs.Row.{BucketRow}
 use Rattle.reserving.specs.Left.{is_dead}
 use Rattle.reserving.proofs.Keys.{number_same}
 use Rattle.reserving.proofs.LeftTests.{find_filter, apart_filter}
@@ -13,14 +13,14 @@ use Rattle.reserving.proofs.Reordered.{find_reordered, apart_reordered}
 use Rattle.keepers.specs.Keyed.{same_bucket}
 use Rattle.keepers.specs.Tables.{no_rows}
 use Rattle.keepers.specs.Change.{AreDeadOf}
-use Rattle.keepers.specs.Parts.{Parts, AreParts, rows_of}
+use Rattle.keepers.specs.Parts.{Parts, AreParts, rows_of_parts}
 use Rattle.keepers.proofs.Found.{one_bucket}
 
-pub none_dead : (rows : List Row) → rows ≡ [] → AreDeadOf no_rows rows
+pub none_dead : (rows : List BucketRow) → rows ≡ [] → AreDeadOf no_rows rows
 none_dead rows is = subst (AreDeadOf no_rows) (sym is) (record {
   found = λ n. refl;
   apart = tt;
-  order = IsNonDecreasingBy-short (λ (b : Row). b.number) [] (omega arith);
+  order = IsNonDecreasingBy-short (λ (b : BucketRow). b.number) [] (omega arith);
 })
 
 not_both : (a b : ℕ) → (a == b) ≡ true → (b == a) ≡ false → ⊥
@@ -35,11 +35,11 @@ same_either_way a b = at (a == b) (b == a) refl refl
     at false true e k = absurd (not_both b a k e)
     at false false e k = refl
 
-pub parts_dead : (p : Parts) → AreParts p → (rows : List Row) →
+pub parts_dead : (p : Parts) → AreParts p → (rows : List BucketRow) →
     IsPermutation (filter is_dead (p.left.buckets ++ p.live.buckets)) rows →
-    IsNonDecreasingBy (λ b. b.number) rows → AreDeadOf (rows_of p) rows
+    IsNonDecreasingBy (λ b. b.number) rows → AreDeadOf (rows_of_parts p) rows
 parts_dead p h rows same order =
-    let all : List Row = p.left.buckets ++ p.live.buckets in record {
+    let all : List BucketRow = p.left.buckets ++ p.live.buckets in record {
       found = λ n.
           sym (find_reordered same_bucket (λ b. b.number == n) (one_bucket n) (filter is_dead all)
           rows same (apart_filter same_bucket is_dead all h.buckets))

@@ -3,8 +3,8 @@ use Rattle.std.proofs.Common.{◌≡◌, ℕ, true, List, [], ◌∷◌, refl, a
 use Rattle.std.proofs.Common.{Some, None}
 use Rattle.std.specs.Prelude.{◌==◌}
 use Rattle.std.specs.Cmp.Lexicographic.{pointwise}
-use Rattle.buckets.specs.declared.holds.Hold.{Hold}
-use Rattle.buckets.specs.Row.{Row}
+use Rattle.buckets.specs.declared.holds.HeldAmount.{HeldAmount}
+use Rattle.buckets.specs.Row.{BucketRow}
 use Rattle.rating.specs.declared.grant.Periods.{Periods}
 use Rattle.buckets.specs.declared.kind.BucketKind.{BucketKind}
 use Rattle.buckets.specs.declared.kind.BucketKind.TheVariants.{Money, Blocks}
@@ -34,7 +34,7 @@ kind_from Money Blocks e = absurd (not_both e)
 kind_from Blocks Money e = absurd (not_both e)
 kind_from Blocks Blocks e = refl
 
-pub bucket_from : (x y : Row) → equal_bucket x y ≡ true → x ≡ y
+pub bucket_from : (x y : BucketRow) → equal_bucket x y ≡ true → x ≡ y
 bucket_from x y e =
     let number = both (x.number == y.number) _ e in
     let kind = both (same_kind x.kind y.kind) _ number.1 in
@@ -107,7 +107,7 @@ terms_from x y e =
       periods = periods_from x.periods y.periods parts.1 i;
     }
 
-hold_from : (x y : Hold) → equal_hold x y ≡ true → x ≡ y
+hold_from : (x y : HeldAmount) → equal_hold x y ≡ true → x ≡ y
 hold_from x y e =
     let parts = both (x.bucket == y.bucket) (x.amount == y.amount) e in
     λ i. record {
@@ -115,7 +115,7 @@ hold_from x y e =
       amount = number_from x.amount y.amount parts.1 i;
     }
 
-holds_from : (xs ys : List Hold) → pointwise equal_hold xs ys ≡ true → xs ≡ ys
+holds_from : (xs ys : List HeldAmount) → pointwise equal_hold xs ys ≡ true → xs ≡ ys
 holds_from [] [] e = refl
 holds_from [] (y ∷ ys) e = absurd (not_both e)
 holds_from (x ∷ xs) [] e = absurd (not_both e)

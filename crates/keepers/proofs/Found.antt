@@ -2,7 +2,7 @@
 use Rattle.std.proofs.Common.{◌≡◌, ℕ, Bool, true, false, cond, List, [], ◌∷◌, ◌++◌, refl, sym}
 use Rattle.std.proofs.Common.{ap, ◌∙◌, Option, Some, None}
 use Rattle.std.specs.Prelude.{if◌then◌else◌, ◌==◌, ◌≢◌, filter}
-use Rattle.buckets.specs.Row.{Row, precedes}
+use Rattle.buckets.specs.Row.{BucketRow, precedes}
 use Rattle.buckets.specs.Spend.{AreDistinct, DiffersFromAll}
 use Rattle.reserving.specs.Rows.{EachIn, AreApart}
 use Rattle.reserving.proofs.Lists.{no_some}
@@ -22,7 +22,7 @@ told_by_one o (Some y) (Some x) h k = absurd (no_some x (sym (k y refl)))
 
 -- ---- one number each
 
-number_apart : (x : Row) (xs : List Row) → DiffersFromAll x.number xs →
+number_apart : (x : BucketRow) (xs : List BucketRow) → DiffersFromAll x.number xs →
     EachIn (λ y. (y.number == x.number) ≡ false) xs
 number_apart x [] h = tt
 number_apart x (y ∷ ys) h = (at (y.number == x.number) refl, number_apart x ys h.1)
@@ -31,22 +31,22 @@ number_apart x (y ∷ ys) h = (at (y.number == x.number) refl, number_apart x ys
     at true e = absurd (h.0 (same_number y.number x.number e))
     at false e = refl
 
-pub distinct_apart : (xs : List Row) → AreDistinct xs → AreApart same_bucket xs
+pub distinct_apart : (xs : List BucketRow) → AreDistinct xs → AreApart same_bucket xs
 distinct_apart [] h = tt
 distinct_apart (x ∷ xs) h = (number_apart x xs h.0, distinct_apart xs h.1)
 
-pub one_bucket : (n : ℕ) (x y : Row) → (x.number == n) ≡ true → (y.number == n) ≡ true →
+pub one_bucket : (n : ℕ) (x y : BucketRow) → (x.number == n) ≡ true → (y.number == n) ≡ true →
     same_bucket x y ≡ true
 one_bucket n x y e k = (λ i. y.number == same_number x.number n e i) ∙ k
 
-pub bucket_filter : (n : ℕ) (p : Row → Bool) (xs : List Row) → AreDistinct xs →
+pub bucket_filter : (n : ℕ) (p : BucketRow → Bool) (xs : List BucketRow) → AreDistinct xs →
     bucket_in n (filter p xs) ≡ only p (bucket_in n xs)
 bucket_filter n p xs h = find_filter same_bucket (λ b. b.number == n) (one_bucket n) p xs
     (distinct_apart xs h)
 
 -- ---- merged
 
-differs_placed : (n : ℕ) (b : Row) (xs : List Row) → DiffersFromAll n (placed b xs) →
+differs_placed : (n : ℕ) (b : BucketRow) (xs : List BucketRow) → DiffersFromAll n (placed b xs) →
     (b.number ≢ n) × DiffersFromAll n xs
 differs_placed n b [] h = (h.0, tt)
 differs_placed n b (x ∷ xs) h = at (precedes b x) h (differs_placed n b xs)
@@ -57,7 +57,7 @@ differs_placed n b (x ∷ xs) h = at (precedes b x) h (differs_placed n b xs)
     at true k rest = (k.0, k.1)
     at false k rest = let r = rest k.1 in (r.0, (k.0, r.1))
 
-pub distinct_placed : (b : Row) (xs : List Row) → AreDistinct (placed b xs) →
+pub distinct_placed : (b : BucketRow) (xs : List BucketRow) → AreDistinct (placed b xs) →
     DiffersFromAll b.number xs × AreDistinct xs
 distinct_placed b [] h = (tt, tt)
 distinct_placed b (x ∷ xs) h = at (precedes b x) h (distinct_placed b xs)
@@ -72,13 +72,13 @@ distinct_placed b (x ∷ xs) h = at (precedes b x) h (distinct_placed b xs)
     at false k rest = let r = rest k.1 in let d =
         differs_placed x.number b xs k.0 in ((turned d.0, r.0), (d.1, r.1))
 
-bucket_placed : (n : ℕ) (b : Row) (xs : List Row) → DiffersFromAll b.number xs →
+bucket_placed : (n : ℕ) (b : BucketRow) (xs : List BucketRow) → DiffersFromAll b.number xs →
     bucket_in n (placed b xs) ≡ first_of (bucket_in n xs) (cond (b.number == n) (Some b) None)
 bucket_placed n b [] h = refl
 bucket_placed n b (x ∷ xs) h =
     at (precedes b x) (b.number == n) (x.number == n) refl refl (bucket_placed n b xs h.1)
   where
-    none : (b.number == n) ≡ true → (ys : List Row) → DiffersFromAll b.number ys →
+    none : (b.number == n) ≡ true → (ys : List BucketRow) → DiffersFromAll b.number ys →
         bucket_in n ys ≡ None
     none e [] d = refl
     none e (y ∷ ys) d = by (y.number == n) refl (none e ys d.1)
@@ -114,18 +114,19 @@ later_first : {A : Type 0} (o p q : Option A) →
 later_first None p q = refl
 later_first (Some x) p q = refl
 
-cond_first : (t : Bool) (b : Row) (o : Option Row) → (t ≡ true → o ≡ None) →
+cond_first : (t : Bool) (b : BucketRow) (o : Option BucketRow) → (t ≡ true → o ≡ None) →
     first_of o (cond t (Some b) None) ≡ cond t (Some b) o
 cond_first true b o h = ap (λ p. first_of p (Some b)) (h refl)
 cond_first false b None h = refl
 cond_first false b (Some x) h = refl
 
-pub distinct_merged : (left rows : List Row) → AreDistinct (merged left rows) → AreDistinct rows
+pub distinct_merged : (left rows : List BucketRow) → AreDistinct (merged left rows) →
+    AreDistinct rows
 distinct_merged [] rows h = h
 distinct_merged (b ∷ bs) rows h = distinct_merged bs rows (distinct_placed b (merged bs rows) h).1
 
 -- found among those loaded, or among those left
-pub bucket_merged : (n : ℕ) (left rows : List Row) → AreDistinct (merged left rows) →
+pub bucket_merged : (n : ℕ) (left rows : List BucketRow) → AreDistinct (merged left rows) →
     bucket_in n (merged left rows) ≡ first_of (bucket_in n rows) (bucket_in n left)
 bucket_merged n [] rows h = sym (both (bucket_in n rows))
   where
@@ -141,7 +142,7 @@ bucket_merged n (b ∷ bs) rows h =
     ∙ later_first (bucket_in n rows) (bucket_in n bs) (cond (b.number == n) (Some b) None)
     ∙ at (sym rest) (b.number == n) refl
   where
-    none : (ys : List Row) → (b.number == n) ≡ true → DiffersFromAll b.number ys →
+    none : (ys : List BucketRow) → (b.number == n) ≡ true → DiffersFromAll b.number ys →
         bucket_in n ys ≡ None
     none [] e d = refl
     none (y ∷ ys) e d = by (y.number == n) refl (none ys e d.1)
@@ -151,7 +152,7 @@ bucket_merged n (b ∷ bs) rows h =
         by true k rest = absurd (d.0 (same_number y.number n k ∙ sym (same_number b.number n e)))
         by false k rest = rest
 
-    second_none : (o p : Option Row) → first_of o p ≡ None → p ≡ None
+    second_none : (o p : Option BucketRow) → first_of o p ≡ None → p ≡ None
     second_none None p e = e
     second_none (Some x) p e = absurd (no_some x (sym e))
 

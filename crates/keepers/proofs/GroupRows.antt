@@ -3,7 +3,7 @@
 use Rattle.std.proofs.Common.{◌≡◌, ℕ, Bool, true, false, List, refl, sym, ◌∙◌}
 use Rattle.std.proofs.Common.{Option, Some, None}
 use Rattle.std.specs.Prelude.{◌==◌, if◌then◌else◌, is_some, option_map}
-use Rattle.buckets.specs.Row.{Row}
+use Rattle.buckets.specs.Row.{BucketRow}
 use Rattle.buckets.specs.Share.{parts}
 use Rattle.reserving.specs.declared.session.SessionGroup.{SessionGroup}
 use Rattle.reserving.specs.declared.session.Reservation.{Reservation}
@@ -58,7 +58,7 @@ held_if n false o = refl
 -- ---- and back
 
 -- what a list has of a group, by its row and what is held there of the buckets in their order
-abbrev pub group_of : List ℕ → ℕ → List Row → Option GroupRow → (ℕ → ℕ) → Option SessionGroup
+abbrev pub group_of : List ℕ → ℕ → List BucketRow → Option GroupRow → (ℕ → ℕ) → Option SessionGroup
 group_of s g buckets None held = None
 group_of s g buckets (Some r) held =
     Some (record {
@@ -68,14 +68,14 @@ group_of s g buckets (Some r) held =
       reservation = reservation_of (parts (λ b. held b.number) buckets) r.terms;
     })
 
-same_reservation : (buckets : List Row) (o : Option Reservation) →
+same_reservation : (buckets : List BucketRow) (o : Option Reservation) →
     IsInOrderOf buckets (holds_in o) →
     o ≡ reservation_of (parts (λ b. held_at b.number (holds_in o)) buckets)
     (option_map (λ (x : Reservation). x.terms) o)
 same_reservation buckets None h = refl
 same_reservation buckets (Some x) h = λ i. Some (record { terms = x.terms; holds = h i })
 
-pub group_back : (s : List ℕ) (g : ℕ) (buckets : List Row) (groups : List SessionGroup) →
+pub group_back : (s : List ℕ) (g : ℕ) (buckets : List BucketRow) (groups : List SessionGroup) →
     AreInOrderOf buckets groups →
     group_in s g groups ≡ group_of s g buckets (option_map group_row (group_in s g groups))
     (λ n. held_of n (group_in s g groups))
@@ -101,7 +101,7 @@ group_back s g buckets groups h = at (group_in s g groups) refl
         })
 
 -- lists of the same rows have the same of a group
-pub group_same : (s : List ℕ) (g : ℕ) (buckets : List Row) (xs ys : List SessionGroup) →
+pub group_same : (s : List ℕ) (g : ℕ) (buckets : List BucketRow) (xs ys : List SessionGroup) →
     AreInOrderOf buckets xs → AreInOrderOf buckets ys →
     option_map group_row (group_in s g xs) ≡ option_map group_row (group_in s g ys) →
     ((n : ℕ) → held_of n (group_in s g xs) ≡ held_of n (group_in s g ys)) →

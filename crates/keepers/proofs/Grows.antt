@@ -3,14 +3,12 @@ use Rattle.std.proofs.Common.{◌≡◌, ℕ, Bool, true, false, cond, List, [],
 use Rattle.std.proofs.Common.{sym, ap, subst, ◌∙◌, Option, Some, None}
 use Rattle.std.specs.Prelude.{if◌then◌else◌, ◌==◌, nat_lt, option_map}
 use Rattle.std.proofs.lemmas.Bool.{or_parts, cond-false}
-use Rattle.buckets.specs.Row.{Row, new_row}
+use Rattle.buckets.specs.Row.{BucketRow, new_row}
 use Rattle.buckets.specs.Spend.{inserted}
 use Rattle.reserving.specs.Ledger.{Fact, Dated, Ledger, or_else, newest, any, any_dated}
 use Rattle.reserving.specs.Ledger.{recording_in, last_recording, has_group, names_group}
-use Rattle.reserving.specs.Ledger.{has_counter, counts_group}
-use Rattle.reserving.specs.Ledger.Fact.{Credit, Grant, Hold, End, Use, Charge, Touch, Close}
-use Rattle.reserving.specs.Ledger.Fact.{Recorded, Barred}
-use Rattle.reserving.specs.Balance.{credits, credited_by, bucket_at, buckets_at}
+use Rattle.reserving.specs.Ledger.{has_counter, counts_group, CreditOf, counts}
+use Rattle.reserving.specs.Balance.{credits, with_credit, bucket_at, buckets_at}
 use Rattle.reserving.specs.Sessions.{session_row, session_at, state_at, group_at, counter_at}
 use Rattle.reserving.proofs.Lists.{find-map, no_some}
 use Rattle.reserving.specs.Left.{bucket_in}
@@ -43,12 +41,12 @@ none_of : {A : Type 0} (t : Bool) (x : A) → (if t then Some x else None) ≡ N
 none_of true x e = absurd (no_some x (sym e))
 none_of false x e = refl
 
-inserted_none : (n : ℕ) (b : Row) (xs : List Row) → bucket_in n (inserted b xs) ≡ None →
+inserted_none : (n : ℕ) (b : BucketRow) (xs : List BucketRow) → bucket_in n (inserted b xs) ≡ None →
     bucket_in n xs ≡ None
 inserted_none n b [] e = refl
 inserted_none n b (x ∷ xs) e = at (nat_lt b.until x.until) e (inserted_none n b xs)
   where
-    first : (u : Bool) (o : Option Row) → cond u (Some b) o ≡ None → o ≡ None
+    first : (u : Bool) (o : Option BucketRow) → cond u (Some b) o ≡ None → o ≡ None
     first true o k = absurd (no_some b (sym k))
     first false o k = k
 
@@ -63,25 +61,17 @@ inserted_none n b (x ∷ xs) e = at (nat_lt b.until x.until) e (inserted_none n 
     at true k rest = first (b.number == n) (bucket_in n (x ∷ xs)) k
     at false k rest = later (x.number == n) k rest
 
-credited_none : (n : ℕ) (f : Fact) (xs : List Row) → bucket_in n (credited_by f xs) ≡ None →
-    bucket_in n xs ≡ None
-credited_none n (Credit kind number from until scope amount) xs e =
-    inserted_none n (new_row kind number from until scope amount) xs e
-credited_none n (Grant session group terms units counter) xs e = e
-credited_none n (Hold session group bucket amount) xs e = e
-credited_none n (End session group) xs e = e
-credited_none n (Use session group units blocks covered rated uncollected) xs e = e
-credited_none n (Charge bucket amount) xs e = e
-credited_none n (Touch session) xs e = e
-credited_none n (Close session) xs e = e
-credited_none n (Recorded session number) xs e = e
-credited_none n (Barred barred) xs e = e
+credited_none : (n : ℕ) (o : Option CreditOf) (xs : List BucketRow) →
+    bucket_in n (with_credit o xs) ≡ None → bucket_in n xs ≡ None
+credited_none n None xs e = e
+credited_none n (Some c) xs e =
+    inserted_none n (new_row c.kind c.number c.from c.until c.scope c.amount) xs e
 
 credits_front : (n : ℕ) (front old : Ledger) → bucket_in n (credits (front ++ old)) ≡ None →
     bucket_in n (credits old) ≡ None
 credits_front n [] old e = e
 credits_front n (d ∷ ds) old e =
-    credits_front n ds old (credited_none n d.fact (credits (ds ++ old)) e)
+    credits_front n ds old (credited_none n (counts d.fact).credit (credits (ds ++ old)) e)
 
 mapped_none : {A B : Type 0} (f : A → B) (o : Option A) → option_map f o ≡ None → o ≡ None
 mapped_none f None e = refl

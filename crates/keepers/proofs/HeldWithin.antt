@@ -3,7 +3,7 @@ use Rattle.std.proofs.Common.{◌≡◌, ℕ, ◌+◌, ◌≤◌, Bool, true, fa
 use Rattle.std.proofs.Common.{subst, ◌∙◌, arith, Option, Some, None}
 use Rattle.std.specs.Prelude.{if◌then◌else◌, not, filter}
 use Rattle.std.specs.List.{find}
-use Rattle.buckets.specs.Row.{Row}
+use Rattle.buckets.specs.Row.{BucketRow}
 use Rattle.buckets.specs.Holding.{held_in}
 use Rattle.reserving.specs.declared.session.SessionGroup.{SessionGroup}
 use Rattle.reserving.specs.Sessions.{is_of, group_in, holds_in, held_by}
@@ -12,14 +12,15 @@ use Rattle.reserving.proofs.Keys.{is_key-sym}
 use Rattle.reserving.proofs.LeftParted.{one_group}
 
 -- what the reservation of a group that is found holds, of these sessions
-abbrev pub held_found : (List ℕ → Bool) → Row → Option SessionGroup → ℕ
+abbrev pub held_found : (List ℕ → Bool) → BucketRow → Option SessionGroup → ℕ
 held_found q b None = 0
 held_found q b (Some r) = if q r.session then held_in (holds_in r.reservation) b else 0
 
 abbrev without : SessionGroup → List SessionGroup → List SessionGroup
 without x rows = filter (λ r. not (is_of x.session x.group r)) rows
 
-less_held : (q : List ℕ → Bool) (p : SessionGroup → Bool) (rows : List SessionGroup) (b : Row) →
+less_held : (q : List ℕ → Bool) (p : SessionGroup → Bool) (rows : List SessionGroup)
+    (b : BucketRow) →
     held_by q (filter p rows) b ≤ held_by q rows b
 less_held q p [] b = omega arith
 less_held q p (r ∷ rs) b = at (p r) (less_held q p rs b)
@@ -30,7 +31,7 @@ less_held q p (r ∷ rs) b = at (p r) (less_held q p rs b)
     at true h = omega (arith, h)
     at false h = omega (arith, h)
 
-without_held : (q : List ℕ → Bool) (b : Row) (x : SessionGroup) (rows : List SessionGroup) →
+without_held : (q : List ℕ → Bool) (b : BucketRow) (x : SessionGroup) (rows : List SessionGroup) →
     held_found q b (group_in x.session x.group rows) + held_by q (without x rows) b
     ≤ held_by q rows b
 without_held q b x [] = omega arith
@@ -86,11 +87,12 @@ found_without x y rows other =
             (is_key-sym x.session x.group r.session r.group ∙ f) same
 
 -- each row's own is no more than what is found under its key
-abbrev pub AreWithin : (List ℕ → Bool) → Row → List SessionGroup → List SessionGroup → Type 0
+abbrev pub AreWithin : (List ℕ → Bool) → BucketRow → List SessionGroup → List SessionGroup → Type 0
 AreWithin q b rows all =
     EachIn (λ r. held_found q b (Some r) ≤ held_found q b (group_in r.session r.group all)) rows
 
-within_without : (q : List ℕ → Bool) (b : Row) (x : SessionGroup) (rows all : List SessionGroup) →
+within_without : (q : List ℕ → Bool) (b : BucketRow) (x : SessionGroup)
+    (rows all : List SessionGroup) →
     EachIn (λ y. is_of x.session x.group y ≡ false) rows → AreWithin q b rows all →
     AreWithin q b rows (without x all)
 within_without q b x [] all d h = tt
@@ -100,7 +102,7 @@ within_without q b x (y ∷ ys) all d h = (
   within_without q b x ys all d.1 h.1,
 )
 
-pub held_within : (q : List ℕ → Bool) (b : Row) (rows all : List SessionGroup) →
+pub held_within : (q : List ℕ → Bool) (b : BucketRow) (rows all : List SessionGroup) →
     AreApart (λ x y. is_of x.session x.group y) rows → AreWithin q b rows all →
     held_by q rows b ≤ held_by q all b
 held_within q b [] all d h = omega arith

@@ -3,7 +3,7 @@
 use Rattle.std.proofs.Common.{◌≡◌, ℕ, Bool, true, false, List, ◌++◌, refl, sym, ap, subst, ◌∙◌}
 use Rattle.std.proofs.Common.{Option, Some, None}
 use Rattle.std.specs.Prelude.{if◌then◌else◌, ◌==◌, not, is_some, option_map}
-use Rattle.buckets.specs.Row.{Row}
+use Rattle.buckets.specs.Row.{BucketRow}
 use Rattle.shelves.specs.Shelves.{Shelf}
 use Rattle.reserving.specs.declared.session.Session.{Session}
 use Rattle.reserving.specs.declared.session.SessionGroup.{SessionGroup}
@@ -85,7 +85,8 @@ module _ (shelf : Shelf) (before after : Ledger) (u t : ℕ) (r : Rows) (a x : A
       first_of (bucket_in n x.buckets) (bucket_in n left.buckets)
   bucket_after n = bucket_merged n left.buckets x.buckets left_with.apart.whole.sound.distinct
 
-  bucket_gone : (n : ℕ) (y : Row) → bucket_in n w.buckets ≡ Some y → bucket_in n x.buckets ≡ None →
+  bucket_gone : (n : ℕ) (y : BucketRow) → bucket_in n w.buckets ≡ Some y →
+      bucket_in n x.buckets ≡ None →
       is_dead y ≡ true
   bucket_gone n y e k = at (is_dead y) refl
     where
@@ -260,7 +261,7 @@ module _ (shelf : Shelf) (before after : Ledger) (u t : ℕ) (r : Rows) (a x : A
           (one_group s g) left.groups x.groups y left_with.apart.whole.groups e)
           ∙ sym (find_both (is_of s g) left.groups x.groups)
 
-      by_bucket : (n : ℕ) (o : Option Row) → bucket_in n x.buckets ≡ o →
+      by_bucket : (n : ℕ) (o : Option BucketRow) → bucket_in n x.buckets ≡ o →
           first_of o (r.buckets n) ≡ first_of o (bucket_in n left.buckets)
       by_bucket n None k = h.are.buckets n
           ∙ same_left is_dead (bucket_in n w.buckets) (bucket_in n left.buckets) (bucket_left n)

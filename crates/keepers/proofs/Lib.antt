@@ -1,6 +1,7 @@
 pub mod GroupRows
 pub mod GroupsOverlaid
 pub mod NamedOver
+pub mod NamedOwn
 pub mod Overlaid
 pub mod Grows
 pub mod Told

@@ -1,14 +1,12 @@
 -- The charges of a ledger rise in their numbers.
 use Rattle.std.proofs.Common.{◌≡◌, ◌⊎◌, inl, inr, ℕ, ◌+◌, ◌<◌, ◌≤◌, true, List, [], ◌∷◌, ◌++◌, refl}
-use Rattle.std.proofs.Common.{sym, ap, ◌∙◌, subst, arith, append-nil}
-use Rattle.std.specs.Prelude.{◌&&◌, nat_le}
+use Rattle.std.proofs.Common.{sym, ap, ◌∙◌, subst, arith, append-nil, Option, Some, None}
+use Rattle.std.specs.Prelude.{nat_le}
 use Rattle.std.proofs.lemmas.Bool.{and_from}
 use Rattle.std.proofs.lemmas.Bool.Decides.{nat_tests}
 use Rattle.reserving.specs.ChargeColumns.{ChargeColumns}
-use Rattle.reserving.specs.Charges.{charge_of, charge_rows}
-use Rattle.reserving.specs.Ledger.{Fact, Dated, Ledger, next_charge, uses_in}
-use Rattle.reserving.specs.Ledger.Fact.{Credit, Grant, Hold, End, Use, Charge, Touch, Close}
-use Rattle.reserving.specs.Ledger.Fact.{Recorded, Barred}
+use Rattle.reserving.specs.Charges.{charge_by, charge_rows}
+use Rattle.reserving.specs.Ledger.{Ledger, UseOf, counts as counts_of, number_of, next_charge}
 use Rattle.keepers.specs.Rows.{are_rising}
 use Rattle.keepers.proofs.Unique.{rising_parts}
 
@@ -17,29 +15,19 @@ AreBelow n [] = Unit {0}
 AreBelow n (c ∷ rest) = (c.number < n) × AreBelow n rest
 
 -- a fact adds one charge, under this number, or none
-record AddsOne (n : ℕ) (d : Dated) : Type 0 where
+record AddsOne (n t : ℕ) (o : Option UseOf) : Type 0 where
   pub row : ChargeColumns
-  pub is : charge_of n d ≡ row ∷ []
+  pub is : charge_by n t o ≡ row ∷ []
   pub number : row.number ≡ n
-  pub counts : uses_in d.fact ≡ 1
+  pub counts : number_of (λ u. 1) o ≡ 1
 
-record AddsNone (n : ℕ) (d : Dated) : Type 0 where
-  pub is : charge_of n d ≡ []
-  pub counts : uses_in d.fact ≡ 0
+record AddsNone (n t : ℕ) (o : Option UseOf) : Type 0 where
+  pub is : charge_by n t o ≡ []
+  pub counts : number_of (λ u. 1) o ≡ 0
 
-adds : (n t : ℕ) (f : Fact) →
-    AddsOne n (record { at = t; fact = f }) ⊎ AddsNone n (record { at = t; fact = f })
-adds n t (Use s g u blocks covered rated left) =
-    inl (record { row = _; is = refl; number = refl; counts = refl })
-adds n t (Credit kind m from until scope amount) = inr (record { is = refl; counts = refl })
-adds n t (Grant s g p u c) = inr (record { is = refl; counts = refl })
-adds n t (Hold s g m amount) = inr (record { is = refl; counts = refl })
-adds n t (End s g) = inr (record { is = refl; counts = refl })
-adds n t (Charge m amount) = inr (record { is = refl; counts = refl })
-adds n t (Touch s) = inr (record { is = refl; counts = refl })
-adds n t (Close s) = inr (record { is = refl; counts = refl })
-adds n t (Recorded s m) = inr (record { is = refl; counts = refl })
-adds n t (Barred x) = inr (record { is = refl; counts = refl })
+adds : (n t : ℕ) (o : Option UseOf) → AddsOne n t o ⊎ AddsNone n t o
+adds n t None = inr (record { is = refl; counts = refl })
+adds n t (Some u) = inl (record { row = _; is = refl; number = refl; counts = refl })
 
 more_below : (n m : ℕ) (rows : List ChargeColumns) → n ≤ m → AreBelow n rows → AreBelow m rows
 more_below n m [] le h = tt
@@ -71,10 +59,12 @@ record AreNumbered (ledger : Ledger) : Type 0 where
 
 numbered : (ledger : Ledger) → AreNumbered ledger
 numbered [] = record { rising = refl; below = tt }
-numbered (d ∷ older) = at (adds (next_charge older) d.at d.fact) (numbered older)
+numbered (d ∷ older) =
+    at (adds (next_charge older) d.at (counts_of d.fact).usage) (numbered older)
   where
-    at : AddsOne (next_charge older) d ⊎ AddsNone (next_charge older) d → AreNumbered older →
-        AreNumbered (d ∷ older)
+    at : AddsOne (next_charge older) d.at (counts_of d.fact).usage
+        ⊎ AddsNone (next_charge older) d.at (counts_of d.fact).usage →
+        AreNumbered older → AreNumbered (d ∷ older)
     at (inl one) h =
         let rows = ap (λ l. charge_rows older ++ l) one.is in
         let number = one.number in

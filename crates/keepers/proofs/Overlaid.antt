@@ -6,7 +6,7 @@ use Rattle.std.specs.List.{find, list_any}
 use Rattle.std.specs.List.Sorted.{IsPermutation}
 use Rattle.std.proofs.lemmas.Bool.{not_from_false, not-true}
 use Rattle.std.proofs.lemmas.List.Sorted.{IsPermutation-refl}
-use Rattle.buckets.specs.Row.{Row}
+use Rattle.buckets.specs.Row.{BucketRow}
 use Rattle.reserving.specs.declared.session.Session.{Session}
 use Rattle.reserving.specs.declared.session.SessionGroup.{SessionGroup}
 use Rattle.reserving.specs.declared.session.Reservation.{Reservation}
@@ -28,7 +28,7 @@ use Rattle.reserving.proofs.LeftMore.{apart_none}
 use Rattle.reserving.proofs.Reordered.{apart_reordered, find_reordered}
 use Rattle.keepers.specs.Tables.{GroupRow, head_of, group_row, held_of, no_rows}
 use Rattle.keepers.specs.Change.{held_over, over}
-use Rattle.keepers.specs.Parts.{Parts, AreParts, rows_of}
+use Rattle.keepers.specs.Parts.{Parts, AreParts, rows_of_parts}
 use Rattle.keepers.specs.Named.{Names, is_named, AreLeftGroups}
 use Rattle.keepers.specs.Naming.{IsNamed}
 use Rattle.keepers.specs.Keyed.{same_bucket, same_session, same_group, same_counter}
@@ -124,17 +124,18 @@ module _ (named : StoredRows) (names : Names) (p : Parts) (after : StoredRows) (
 
   -- ---- buckets
 
-  bucket_live : (n : ℕ) (y : Row) → bucket_in n p.live.buckets ≡ Some y →
+  bucket_live : (n : ℕ) (y : BucketRow) → bucket_in n p.live.buckets ≡ Some y →
       bucket_in n (p.left.buckets ++ p.live.buckets) ≡ Some y
   bucket_live n y e = find_both (λ b. b.number == n) p.left.buckets p.live.buckets
       ∙ behind_some (bucket_in n p.left.buckets) (bucket_in n p.live.buckets) y
       (λ z f. apart_none same_bucket (λ b. b.number == n) (one_bucket n) p.left.buckets
       p.live.buckets z h.buckets f) e
 
-  number_of : (n : ℕ) (rows : List Row) (y : Row) → bucket_in n rows ≡ Some y → y.number ≡ n
+  number_of : (n : ℕ) (rows : List BucketRow) (y : BucketRow) → bucket_in n rows ≡ Some y →
+      y.number ≡ n
   number_of n rows y e = same_number y.number n (find-passes (λ b. b.number == n) rows y e)
 
-  bucket_hidden : (n : ℕ) (y z : Row) → bucket_in n p.live.buckets ≡ Some y →
+  bucket_hidden : (n : ℕ) (y z : BucketRow) → bucket_in n p.live.buckets ≡ Some y →
       bucket_in n named.buckets ≡ Some z → stays_bucket named.buckets y ≡ false
   bucket_hidden n y z e f =
       hidden (not (is_dead y)) (is_some (bucket_in y.number named.buckets))
@@ -157,7 +158,7 @@ module _ (named : StoredRows) (names : Names) (p : Parts) (after : StoredRows) (
       ∙ found_over same_bucket (λ b. b.number == n) (one_bucket n) (stays_bucket named.buckets)
       named.buckets p.live.buckets live_buckets (bucket_hidden n)
 
-  bucket_dead : (n : ℕ) (y : Row) →
+  bucket_dead : (n : ℕ) (y : BucketRow) →
       bucket_in n (p.left.buckets ++ p.live.buckets) ≡ Some y → bucket_in n after.buckets ≡ None →
       IsDead y
   bucket_dead n y e k = dead_parts y
@@ -412,7 +413,7 @@ module _ (named : StoredRows) (names : Names) (p : Parts) (after : StoredRows) (
 
   -- ---- all of it
 
-  pub rest_dead : IsRestDead after (rows_of p)
+  pub rest_dead : IsRestDead after (rows_of_parts p)
   rest_dead = record {
     dead = λ n y e k. bucket_dead n y e k;
     ended = λ s y e k. session_ended s y e k;
@@ -432,7 +433,7 @@ module _ (named : StoredRows) (names : Names) (p : Parts) (after : StoredRows) (
             free.1,
           )
 
-  pub overlaid : over after (rows_of p) ≡ over named (rows_of p)
+  pub overlaid : over after (rows_of_parts p) ≡ over named (rows_of_parts p)
   overlaid = λ i. record {
     head = Some (of.head i);
     buckets = λ n. (ap (λ o. first_of o (bucket_in n (p.left.buckets ++ p.live.buckets)))
@@ -475,7 +476,7 @@ number_back a b = at (b == a) (a == b) refl refl
         absurd (not_both (sym e ∙ (λ i. b == same_number a b f i) ∙ number_same b))
     at false false e f = refl
 
-pub account_given : (w : StoredRows) (purse : List Row) (v : StoredRows) →
+pub account_given : (w : StoredRows) (purse : List BucketRow) (v : StoredRows) →
     IsPermutation w.buckets purse → IsAccountOf (record w { buckets = purse }) v → IsAccountOf w v
 account_given w purse v all of = record {
   head = of.head;
@@ -503,7 +504,8 @@ account_reordered w v sessions groups e finds s g = record {
       (record { sessions = s; groups = g; counters = IsPermutation-refl w.counters });
 }
 
-pub account_over : (named live : StoredRows) (back : List SessionGroup) (buckets purse : List Row)
+pub account_over : (named live : StoredRows) (back : List SessionGroup)
+    (buckets purse : List BucketRow)
     (counters : List Counter) (sessions : List Session) (groups : List SessionGroup)
     (v : StoredRows) →
     buckets ≡ filter (stays_bucket named.buckets) live.buckets ++ named.buckets →

@@ -11,13 +11,13 @@ use Rattle.std.proofs.lemmas.List.Elements.{filter-append}
 use Rattle.std.proofs.lemmas.Option.{none-some}
 use Rattle.reserving.specs.ChargeColumns.{ChargeColumns}
 use Rattle.keepers.specs.Faults.{HasCause}
-use Rattle.keepers.specs.Keeping.{Reads}
+use Rattle.keepers.specs.Keeping.{KeeperReads}
 use Rattle.keepers.specs.Tables.{Tables, charge_in}
 use Rattle.keepers.specs.declared.fault.StoreFault.{StoreFault}
 use Rattle.keepers.specs.declared.fault.StoreFault.TheVariants.{Store}
 use Rattle.keepers.specs.Rows.{is_between, are_rising, AreCharges}
 use Rattle.keepers.specs.Visits.{Visits, Shows, SeesCharges, SeesBeginning}
-use Rattle.keepers.specs.Pages.{is_within, IsPage}
+use Rattle.keepers.specs.Pages.{is_number_within, IsPage}
 use Rattle.keepers.specs.declared.pages.ChargePage.{ChargePage}
 use Rattle.keepers.proofs.Unique.{rising_parts, first_is}
 use Rattle.keepers.proofs.ShownRows.{shown_visits, shows_then, shows_stopped}
@@ -97,7 +97,7 @@ module _ {K V : Type 0} (content : K → Tables) (failed : K → ℕ) (honest cl
   -- what a page's rows are shown for
   paged : (after : ℕ) (old mid now : K) (page : ChargePage) (before seen next : V) (all : Bool) →
       HasShown after old mid before seen →
-      Reads content failed honest clean leaves mid now (Pages mid after) (Ok page) →
+      KeeperReads content failed honest clean leaves mid now (Pages mid after) (Ok page) →
       Shows Sees (filter (is_between from until) page.rows.items) all seen next → clean now →
       (rows : List ChargeColumns) → AreCharges ((content old).charges account) rows →
       Shows Sees (filter (is_between from until) (up_to page.last rows)) all before next
@@ -107,17 +107,17 @@ module _ {K V : Type 0} (content : K → Tables) (failed : K → ℕ) (honest cl
       let is = subst (λ (t : Tables). IsPage (t.charges account) after page) (had.same was)
       (read.found ok) in
       subst (λ l. Shows Sees l all before next)
-      (sym (filter-append p (up_to after rows) (filter (is_within after page.last) rows))
+      (sym (filter-append p (up_to after rows) (filter (is_number_within after page.last) rows))
       ∙ ap (filter p) (grown after page.last 0 rows are.rising is.from_there))
       (shows_then Sees (filter p (up_to after rows))
-      (filter p (filter (is_within after page.last) rows)) all before seen next
+      (filter p (filter (is_number_within after page.last) rows)) all before seen next
       (had.shown was rows are)
       (subst (λ l. Shows Sees (filter p l) all seen next) (is.rows rows are) shows))
 
   -- one page more
   pub page_shown : (after : ℕ) (old mid now : K) (page : ChargePage) (before seen next : V) →
       HasShown after old mid before seen →
-      Reads content failed honest clean leaves mid now (Pages mid after) (Ok page) →
+      KeeperReads content failed honest clean leaves mid now (Pages mid after) (Ok page) →
       Shows Sees (filter (is_between from until) page.rows.items) true seen next →
       HasShown page.last old now before next
   page_shown after old mid now page before seen next had read shows = record {
@@ -132,9 +132,9 @@ module _ {K V : Type 0} (content : K → Tables) (failed : K → ℕ) (honest cl
   -- an answer after a page
   answers : (after : ℕ) (old mid now : K) (page : ChargePage) (before seen next : V) →
       HasShown after old mid before seen →
-      Reads content failed honest clean leaves mid now (Pages mid after) (Ok page) →
+      KeeperReads content failed honest clean leaves mid now (Pages mid after) (Ok page) →
       (clean now → SeesCharges Sees from until ((content old).charges account) before next) →
-      Reads {T = Unit {0}} content failed honest clean leaves old now
+      KeeperReads {T = Unit {0}} content failed honest clean leaves old now
       (λ done. SeesCharges Sees from until ((content old).charges account) before next) (Ok tt)
   answers after old mid now page before seen next had read sees = record {
     found = sees;
@@ -152,9 +152,9 @@ module _ {K V : Type 0} (content : K → Tables) (failed : K → ℕ) (honest cl
   -- the visitor stopped
   pub stopped : (after : ℕ) (old mid now : K) (page : ChargePage) (before seen next : V) →
       HasShown after old mid before seen →
-      Reads content failed honest clean leaves mid now (Pages mid after) (Ok page) →
+      KeeperReads content failed honest clean leaves mid now (Pages mid after) (Ok page) →
       Shows Sees (filter (is_between from until) page.rows.items) false seen next →
-      Reads {T = Unit {0}} content failed honest clean leaves old now
+      KeeperReads {T = Unit {0}} content failed honest clean leaves old now
       (λ done. SeesCharges Sees from until ((content old).charges account) before next) (Ok tt)
   stopped after old mid now page before seen next had read shows =
       let p = is_between from until in
@@ -171,10 +171,10 @@ module _ {K V : Type 0} (content : K → Tables) (failed : K → ℕ) (honest cl
   -- no page is left
   pub ended : (after : ℕ) (old mid now : K) (page : ChargePage) (before seen next : V) →
       HasShown after old mid before seen →
-      Reads content failed honest clean leaves mid now (Pages mid after) (Ok page) →
+      KeeperReads content failed honest clean leaves mid now (Pages mid after) (Ok page) →
       Shows Sees (filter (is_between from until) page.rows.items) true seen next →
       page.is_last ≡ true →
-      Reads {T = Unit {0}} content failed honest clean leaves old now
+      KeeperReads {T = Unit {0}} content failed honest clean leaves old now
       (λ done. SeesCharges Sees from until ((content old).charges account) before next) (Ok tt)
   ended after old mid now page before seen next had read shows last =
       let p = is_between from until in
@@ -192,8 +192,8 @@ module _ {K V : Type 0} (content : K → Tables) (failed : K → ℕ) (honest cl
   pub failed_then : {A B : Type 0} (after : ℕ) (old mid now : K) (before seen : V)
       (Found : A → Type 0) (Seen : B → Type 0) (e : StoreFault) →
       HasShown after old mid before seen →
-      Reads content failed honest clean leaves mid now Found (Err e) →
-      Reads content failed honest clean leaves old now Seen (Err e)
+      KeeperReads content failed honest clean leaves mid now Found (Err e) →
+      KeeperReads content failed honest clean leaves old now Seen (Err e)
   failed_then after old mid now before seen Found Seen e had read = record {
     found = λ ok. tt;
     same = λ ok. read.same ok ∙ had.same (read.cleanness ok);
@@ -213,7 +213,7 @@ module _ {K V : Type 0} (content : K → Tables) (failed : K → ℕ) (honest cl
   pub begun : {A : Type 0} (after : ℕ) (old mid now : K) (before seen : V) (Found : A → Type 0)
       (r : Result A StoreFault) →
       HasShown after old mid before seen →
-      Reads content failed honest clean leaves mid now Found r → clean now →
+      KeeperReads content failed honest clean leaves mid now Found r → clean now →
       SeesBeginning Sees from until ((content old).charges account) before seen
   begun after old mid now before seen Found r had read ok rows are =
       let p = is_between from until in (
@@ -227,7 +227,7 @@ module _ {K V : Type 0} (content : K → Tables) (failed : K → ℕ) (honest cl
   -- nothing is said of a store that isn't clean
   pub never : (after : ℕ) (old now : K) (before seen : V) → HasShown after old now before seen →
       (honest now → clean now) → (clean now → ⊥) →
-      Reads {T = Unit {0}} content failed honest clean leaves old now
+      KeeperReads {T = Unit {0}} content failed honest clean leaves old now
       (λ done. SeesCharges Sees from until ((content old).charges account) before seen) (Ok tt)
   never after old now before seen had asked unclean = record {
     found = λ ok. absurd (unclean ok);

@@ -10,7 +10,7 @@ use Rattle.reserving.specs.ChargeColumns.{ChargeColumns}
 use Rattle.reserving.specs.Left.{only}
 use Rattle.keepers.specs.Tables.{charge_in}
 use Rattle.keepers.specs.Rows.{are_rising, AreCharges}
-use Rattle.keepers.specs.Pages.{is_within}
+use Rattle.keepers.specs.Pages.{is_number_within}
 use Rattle.keepers.proofs.Unique.{rising_parts, absent, itself, first_is, same_lists}
 
 abbrev pub up_to : ℕ → List ChargeColumns → List ChargeColumns
@@ -130,14 +130,15 @@ parted a least (c ∷ rest) h =
 -- those of a page follow those up to it
 pub grown : (after last least : ℕ) (rows : List ChargeColumns) → are_rising least rows ≡ true →
     after ≤ last →
-    up_to after rows ++ filter (is_within after last) rows ≡ up_to last rows
+    up_to after rows ++ filter (is_number_within after last) rows ≡ up_to last rows
 grown after last least rows h less =
-    sym (ap (λ l. l ++ filter (is_within after last) rows)
+    sym (ap (λ l. l ++ filter (is_number_within after last) rows)
     (filter_twice (λ c. nat_le c.number after) (λ c. nat_le c.number last)
     (λ c. nat_le c.number after)
     (λ c. low c.number (nat_le c.number last) (nat_le c.number after) refl refl) rows))
     ∙ sym (ap (λ l. up_to after (up_to last rows) ++ l)
-    (filter_twice (λ c. nat_lt after c.number) (λ c. nat_le c.number last) (is_within after last)
+    (filter_twice (λ c. nat_lt after c.number) (λ c. nat_le c.number last)
+    (is_number_within after last)
     (λ c. turned (nat_le c.number last) (nat_lt after c.number)) rows))
     ∙ parted after least (up_to last rows)
     (rising_filtered (λ c. nat_le c.number last) least rows h)
@@ -178,9 +179,9 @@ all_up_to a least (c ∷ rest) h none =
 -- rows that rise and tell the same are the charges beyond a number, up to another
 pub page_is : {charges : ℕ → Option ChargeColumns} {rows : List ChargeColumns} (after last : ℕ)
     (xs : List ChargeColumns) → AreCharges charges rows → are_rising 0 xs ≡ true →
-    ((n : ℕ) → charge_in n xs ≡ only (is_within after last) (charge_in n rows)) →
-    xs ≡ filter (is_within after last) rows
+    ((n : ℕ) → charge_in n xs ≡ only (is_number_within after last) (charge_in n rows)) →
+    xs ≡ filter (is_number_within after last) rows
 page_is {charges} {rows} after last xs are rising tells =
-    same_lists 0 xs (filter (is_within after last) rows) rising
-    (rising_filtered (is_within after last) 0 rows are.rising)
-    (λ n. tells n ∙ sym (find_filtered (is_within after last) 0 n rows are.rising))
+    same_lists 0 xs (filter (is_number_within after last) rows) rising
+    (rising_filtered (is_number_within after last) 0 rows are.rising)
+    (λ n. tells n ∙ sym (find_filtered (is_number_within after last) 0 n rows are.rising))

@@ -5,7 +5,7 @@ use Rattle.std.specs.Prelude.{if◌then◌else◌, ◌==◌, not, filter, is_som
 use Rattle.std.specs.Prelude.{Result, Ok, Err, IfOk}
 use Rattle.std.specs.List.{find}
 use Rattle.std.proofs.lemmas.Bool.{not-true}
-use Rattle.buckets.specs.Row.{Row, IsBalanced, with_release, with_end}
+use Rattle.buckets.specs.Row.{BucketRow, IsBalanced, with_release, with_end}
 use Rattle.buckets.specs.Spend.{Each}
 use Rattle.buckets.proofs.SharesAlong.{with_end_keeps, with_release_number}
 use Rattle.shelves.specs.Shelves.{Shelf}
@@ -81,7 +81,7 @@ apart_with same p before after hb ha gone =
     (EachIn-weaker (λ y. p y ≡ true) (λ y. EachIn (λ z. same y z ≡ false) after) (filter p before)
     (λ y e. none_each (same y) after (gone y e)) (each_passes p before))
 
-pub each_in : (P : Row → Type 0) (xs : List Row) → Each P xs → EachIn P xs
+pub each_in : (P : BucketRow → Type 0) (xs : List BucketRow) → Each P xs → EachIn P xs
 each_in P [] h = tt
 each_in P (x ∷ xs) h = (h.0, each_in P xs h.1)
 
@@ -193,10 +193,10 @@ parts_advanced shelf t p h = record {
     keeps : List ℕ → Bool
     keeps = is_live_in (validity_of shelf) t p.live.sessions
 
-    later : Row → Row
+    later : BucketRow → BucketRow
     later b = with_end t (with_release t b (lapsed_in keeps p.live.groups b))
 
-    number : (b : Row) → (later b).number ≡ b.number
+    number : (b : BucketRow) → (later b).number ≡ b.number
     number b = (with_end_keeps t).number (with_release t b (lapsed_in keeps p.live.groups b))
         ∙ with_release_number t b (lapsed_in keeps p.live.groups b)
 

@@ -25,7 +25,7 @@ use Rattle.reserving.proofs.left.Loaded.{nothing}
 use Rattle.reserving.proofs.KeysFound.{is_none_is}
 use Rattle.keepers.specs.Tables.{group_row, held_of}
 use Rattle.keepers.specs.Change.{has_reservation, is_loaded, IsLoadedFrom}
-use Rattle.keepers.specs.Parts.{Parts, AreParts, rows_of}
+use Rattle.keepers.specs.Parts.{Parts, AreParts, rows_of_parts}
 use Rattle.keepers.specs.Keyed.{same_bucket, same_session, same_group, same_counter}
 use Rattle.keepers.proofs.Found.{one_bucket, bucket_filter}
 use Rattle.keepers.proofs.GroupRows.{reserved_row, row_if, held_if}
@@ -157,15 +157,16 @@ module _ (shelf : Shelf) (t : ℕ) (p : Parts) (h : AreParts p) (live : IsStored
           ∙ sym (λ i. if is_open_row (away i) || (reserved_row y.reservation ∙ free) i
           then Some y else None)
 
-  pub parts_loaded : IsLoadedFrom shelf t (rows_of p) a
+  pub parts_loaded : IsLoadedFrom shelf t (rows_of_parts p) a
   parts_loaded = record {
     priced_by = refl;
     head = refl;
     buckets = bucket_found;
     sessions = session_found;
     groups = λ s g. ap (option_map group_row) (group_found s g)
-        ∙ row_if (is_loaded (rows_of p) s g) (group_in s g (p.left.groups ++ p.live.groups));
+        ∙ row_if (is_loaded (rows_of_parts p) s g) (group_in s g (p.left.groups ++ p.live.groups));
     holds = λ s g n. ap (held_of n) (group_found s g)
-        ∙ held_if n (is_loaded (rows_of p) s g) (group_in s g (p.left.groups ++ p.live.groups));
+        ∙ held_if n (is_loaded (rows_of_parts p) s g) (group_in s g
+        (p.left.groups ++ p.live.groups));
     counters = counter_found;
   }

@@ -20,7 +20,7 @@ use Rattle.keepers.specs.Keyed.{same_bucket, same_session, same_group, same_coun
 use Rattle.keepers.specs.Tables.{GroupRow, group_row, held_of, AreListed}
 use Rattle.keepers.specs.Change.{AreBroughtTo, over}
 use Rattle.keepers.specs.Overlaying.{IsMadeFrom}
-use Rattle.keepers.specs.Parts.{Parts, AreParts, rows_of, advanced_parts}
+use Rattle.keepers.specs.Parts.{Parts, AreParts, rows_of_parts, advanced_parts}
 use Rattle.keepers.proofs.Found.{told_by_one, one_bucket}
 use Rattle.keepers.proofs.GroupRows.{row_over, held_over_is}
 use Rattle.keepers.proofs.PartsKept.{parts_advanced}
@@ -99,7 +99,7 @@ module _ (p : Parts) (h : AreParts p) where
             (is_of s g) p.left.groups y h.others k),
       )
 
-  live_may_change : IsMadeFrom p.live p.live (rows_of p)
+  live_may_change : IsMadeFrom p.live p.live (rows_of_parts p)
   live_may_change = record {
     buckets = λ n y e.
         find_both (λ b. b.number == n) p.left.buckets p.live.buckets
@@ -156,7 +156,8 @@ module _ (shelf : Shelf) (t : ℕ) (p : Parts) (h : AreParts p) where
       (none_lapsed shelf t p.live s g) (group_apart q later s g)
       ∙ sym (find_both (is_of s g) q.left.groups q.live.groups)
 
-  same_parts : (w : StoredRows) → AreListed w (over q.live (rows_of p)) → AreListed w (rows_of q)
+  same_parts : (w : StoredRows) → AreListed w (over q.live (rows_of_parts p)) →
+      AreListed w (rows_of_parts q)
   same_parts w are = record {
     head = are.head;
     buckets = λ n.
@@ -192,7 +193,7 @@ module _ (shelf : Shelf) (t : ℕ) (p : Parts) (h : AreParts p) where
   }
 
 pub parts_brought : (shelf : Shelf) (t : ℕ) (p : Parts) → AreParts p → IsStored p.live →
-    AreBroughtTo shelf t (rows_of p) (rows_of (advanced_parts shelf t p))
+    AreBroughtTo shelf t (rows_of_parts p) (rows_of_parts (advanced_parts shelf t p))
 parts_brought shelf t p h live w are kept early =
     same_parts shelf t p h (advanced_stored shelf t w)
-    (brought_over shelf t p.live w (rows_of p) (live_may_change p h) refl live are kept)
+    (brought_over shelf t p.live w (rows_of_parts p) (live_may_change p h) refl live are kept)

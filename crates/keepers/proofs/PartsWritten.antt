@@ -4,7 +4,7 @@ use Rattle.std.proofs.Common.{Some, None}
 use Rattle.std.specs.Prelude.{if◌then◌else◌, ◌==◌, ◌&&◌, not, filter, is_some, option_map}
 use Rattle.std.specs.List.{find}
 use Rattle.std.proofs.lemmas.Bool.{not_from_false}
-use Rattle.buckets.specs.Row.{Row}
+use Rattle.buckets.specs.Row.{BucketRow}
 use Rattle.reserving.specs.declared.session.Session.{Session}
 use Rattle.reserving.specs.declared.session.SessionGroup.{SessionGroup}
 use Rattle.reserving.specs.declared.session.Counter.{Counter}
@@ -23,7 +23,7 @@ use Rattle.reserving.proofs.LeftMore.{apart_none}
 use Rattle.keepers.specs.Tables.{head_of, group_row, held_of, no_rows}
 use Rattle.keepers.specs.Change.{held_over, over}
 use Rattle.keepers.specs.Overlaying.{IsRestDead}
-use Rattle.keepers.specs.Parts.{Parts, AreParts, rows_of, leaves_bucket, leaves_counter}
+use Rattle.keepers.specs.Parts.{Parts, AreParts, rows_of_parts, leaves_bucket, leaves_counter}
 use Rattle.keepers.specs.Parts.{leaves_session, leaves_group, with_live}
 use Rattle.keepers.specs.Keyed.{same_bucket, same_session, same_group, same_counter}
 use Rattle.keepers.proofs.Found.{told_by_one, one_bucket}
@@ -55,16 +55,16 @@ none_not o e = ap (λ x. not (is_some x)) e
 zero_is : (n : ℕ) → n ≡ 0 → (n == 0) ≡ true
 zero_is n e = ap (λ m. m == 0) e
 
-dead_test : (b : Row) → IsDead b → is_dead b ≡ true
+dead_test : (b : BucketRow) → IsDead b → is_dead b ≡ true
 dead_test b d = both_true (b.available == 0) (b.reserved == 0) (zero_is b.available d.available)
     (zero_is b.reserved d.reserved)
 
 module _ (w : StoredRows) (p : Parts) (h : AreParts p) (live : IsStored p.live)
-    (is : IsStored w) (rest : IsRestDead w (rows_of p)) where
+    (is : IsStored w) (rest : IsRestDead w (rows_of_parts p)) where
   after : AreParts (with_live w p)
   after = parts_replaced w p is live h
 
-  gone_bucket : (n : ℕ) (y : Row) → bucket_in n (p.left.buckets ++ p.live.buckets) ≡ Some y →
+  gone_bucket : (n : ℕ) (y : BucketRow) → bucket_in n (p.left.buckets ++ p.live.buckets) ≡ Some y →
       bucket_in n w.buckets ≡ None → leaves_bucket w y ≡ true
   gone_bucket n y e k =
       let number : y.number ≡ n =
@@ -120,7 +120,7 @@ module _ (w : StoredRows) (p : Parts) (h : AreParts p) (live : IsStored p.live)
   group_after s g = replaced same_group (is_of s g) (one_group s g) (leaves_group w)
       (p.left.groups ++ p.live.groups) w.groups h.groups after.groups (gone_group s g)
 
-  pub parts_written : rows_of (with_live w p) ≡ over w (rows_of p)
+  pub parts_written : rows_of_parts (with_live w p) ≡ over w (rows_of_parts p)
   parts_written = λ i. record {
     head = Some (head_of w);
     buckets = λ n. sym (replaced same_bucket (λ b. b.number == n) (one_bucket n) (leaves_bucket w)
@@ -148,7 +148,7 @@ over_nothing n None = refl
 over_nothing n (Some x) = refl
 
 pub parts_first : (w : StoredRows) →
-    rows_of (record { live = w; left = none_left }) ≡ over w no_rows
+    rows_of_parts (record { live = w; left = none_left }) ≡ over w no_rows
 parts_first w = λ i. record {
   head = Some (head_of w);
   buckets = λ n. over_none (bucket_in n w.buckets) i;

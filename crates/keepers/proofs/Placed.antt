@@ -15,7 +15,7 @@ use Rattle.reserving.specs.Keyed.{put}
 use Rattle.reserving.proofs.Lists.{find-passes, find-put, find-put_other, put_first, no_some}
 use Rattle.reserving.proofs.Lists.{not_both}
 use Rattle.reserving.proofs.KeysFound.{placed, unplaced}
-use Rattle.keepers.specs.declared.entries.Entry.{Entry}
+use Rattle.keepers.specs.declared.entries.AccountEntry.{AccountEntry}
 use Rattle.reserving.specs.declared.charge.ChargeRow.{ChargeRow}
 use Rattle.reserving.specs.Left.{first_of}
 use Rattle.reserving.proofs.LeftParted.{find_both}
@@ -61,12 +61,12 @@ pub on_ok : {T E P : Type 0} (r : Result T E) → P → OnOk r P
 on_ok (Ok x) p = p
 on_ok (Err e) p = tt
 
-pub head_there : (o : Option Entry) → is_some o ≡ is_some (rows_of_entry o).head
+pub head_there : (o : Option AccountEntry) → is_some o ≡ is_some (rows_of_entry o).head
 head_there None = refl
 head_there (Some e) = refl
 
 -- a charge by its number, once further ones stand after those of an account
-pub charge_over : (m a : List ℕ) (n : ℕ) (xs ys : List Entry) (more : List ChargeRow) →
+pub charge_over : (m a : List ℕ) (n : ℕ) (xs ys : List AccountEntry) (more : List ChargeRow) →
     charges_of_entry (entry_in a ys) ≡
     (if same_name m a then charges_of_entry (entry_in a xs) ++ more
     else charges_of_entry (entry_in a xs)) →
@@ -83,11 +83,11 @@ charge_over m a n xs ys more is = ap (charge_in n) is ∙ at (same_name m a)
     at false = refl
 
 -- the account that stands where the number was found
-pub record IsFound (n : List ℕ) (e : Entry) (xs : List Entry) : Type 0 where
+pub record IsFound (n : List ℕ) (e : AccountEntry) (xs : List AccountEntry) : Type 0 where
   pub number : e.number ≡ n
   pub found : entry_in n xs ≡ Some e
 
-pub found_at : (n : List ℕ) (place : ℕ) (xs : List Entry) (e : Entry) →
+pub found_at : (n : List ℕ) (place : ℕ) (xs : List AccountEntry) (e : AccountEntry) →
     position (is_entry n) xs ≡ Some place → e ≡ get_or xs place e → IsFound n e xs
 found_at n place xs e h is =
     let found : entry_in n xs ≡ Some e = (placed never (is_entry n) e place xs h).found e
@@ -97,11 +97,11 @@ found_at n place xs e h is =
       found = found;
     }
 
-entry_put : (n a : List ℕ) (e : Entry) (xs : List Entry) → e.number ≡ n →
+entry_put : (n a : List ℕ) (e : AccountEntry) (xs : List AccountEntry) → e.number ≡ n →
     entry_in a (put never (is_entry n) e xs) ≡ (if same_name n a then Some e else entry_in a xs)
 entry_put n a e xs number = at (same_name n a) refl
   where
-    other : same_name n a ≡ false → (y : Entry) → is_entry n y ≡ true → is_entry a y ≡ false
+    other : same_name n a ≡ false → (y : AccountEntry) → is_entry n y ≡ true → is_entry a y ≡ false
     other h y e = ap (λ m. same_name m a) ((bytes_decides y.number n).0 e) ∙ h
 
     at : (t : Bool) → same_name n a ≡ t → entry_in a (put never (is_entry n) e xs) ≡
@@ -114,8 +114,9 @@ entry_put n a e xs number = at (same_name n a) refl
         (other h)
 
 -- what is seen of the accounts, once one is put that is seen as a change of the one that was there
-pub seen_put : {V : Type 0} (see : Option Entry → V) (change : V → V) (n a : List ℕ) (e : Entry)
-    (xs : List Entry) → e.number ≡ n → see (Some e) ≡ change (see (entry_in n xs)) →
+pub seen_put : {V : Type 0} (see : Option AccountEntry → V) (change : V → V) (n a : List ℕ)
+    (e : AccountEntry)
+    (xs : List AccountEntry) → e.number ≡ n → see (Some e) ≡ change (see (entry_in n xs)) →
     see (entry_in a (put never (is_entry n) e xs)) ≡
     (if same_name n a then change (see (entry_in a xs)) else see (entry_in a xs))
 seen_put see change n a e xs number is = ap see (entry_put n a e xs number)
@@ -126,7 +127,8 @@ seen_put see change n a e xs number is = ap see (entry_put n a e xs number)
     at true h = is ∙ ap (λ m. change (see (entry_in m xs))) ((bytes_decides n a).0 h)
     at false h = refl
 
-pub same_put : {V : Type 0} (see : Option Entry → V) (n a : List ℕ) (e : Entry) (xs : List Entry) →
+pub same_put : {V : Type 0} (see : Option AccountEntry → V) (n a : List ℕ) (e : AccountEntry)
+    (xs : List AccountEntry) →
     e.number ≡ n → see (Some e) ≡ see (entry_in n xs) →
     see (entry_in a (put never (is_entry n) e xs)) ≡ see (entry_in a xs)
 same_put see n a e xs number is = seen_put see (λ v. v) n a e xs number is ∙ at (same_name n a)
@@ -137,8 +139,10 @@ same_put see n a e xs number is = seen_put see (λ v. v) n a e xs number is ∙ 
 
 -- ---- at the place where it was found
 
-module _ {V : Type 0} (see : Option Entry → V) (n : List ℕ) (place : ℕ) (xs : List Entry)
-    (old e : Entry) (at : position (is_entry n) xs ≡ Some place) (is : old ≡ get_or xs place old)
+module _ {V : Type 0} (see : Option AccountEntry → V) (n : List ℕ) (place : ℕ)
+    (xs : List AccountEntry)
+    (old e : AccountEntry) (at : position (is_entry n) xs ≡ Some place)
+    (is : old ≡ get_or xs place old)
     (number : e.number ≡ old.number) where
   there : IsFound n old xs
   there = found_at n place xs old at is
@@ -158,7 +162,7 @@ module _ {V : Type 0} (see : Option Entry → V) (n : List ℕ) (place : ℕ) (x
   seen_left a same = ap (λ ys. see (entry_in a ys)) set_put
       ∙ same_put see n a e xs (number ∙ there.number) (same ∙ ap see (sym there.found))
 
-pub count_written : (n : List ℕ) (place : ℕ) (xs : List Entry) (e : Entry) →
+pub count_written : (n : List ℕ) (place : ℕ) (xs : List AccountEntry) (e : AccountEntry) →
     position (is_entry n) xs ≡ Some place →
     length (set xs place e) ≡ (if is_some (entry_in n xs) then length xs else length xs + 1)
 count_written n place xs e at = ap length (sym (placed never (is_entry n) e place xs at).put)
@@ -166,12 +170,13 @@ count_written n place xs e at = ap length (sym (placed never (is_entry n) e plac
 
 -- ---- a new account
 
-module _ (n : List ℕ) (xs : List Entry) (e : Entry) (none : position (is_entry n) xs ≡ None)
+module _ (n : List ℕ) (xs : List AccountEntry) (e : AccountEntry)
+    (none : position (is_entry n) xs ≡ None)
     (number : e.number ≡ n) where
   push_put : xs ++ e ∷ [] ≡ put never (is_entry n) e xs
   push_put = sym (put_last (is_entry n) e xs (unplaced (is_entry n) xs none))
 
-  pub seen_added : {V : Type 0} (see : Option Entry → V) (change : V → V) (a : List ℕ) →
+  pub seen_added : {V : Type 0} (see : Option AccountEntry → V) (change : V → V) (a : List ℕ) →
       see (Some e) ≡ change (see None) → see (entry_in a (xs ++ e ∷ [])) ≡
       (if same_name n a then change (see (entry_in a xs)) else see (entry_in a xs))
   seen_added see change a same = ap (λ ys. see (entry_in a ys)) push_put
@@ -197,13 +202,13 @@ read_at p i (y ∷ ys) None h some same =
     absurd (not_both (some (placed never p y i (y ∷ ys) h).within))
 read_at p i xs (Some x) h some same = ap Some same ∙ sym ((placed never p x.now i xs h).found x.now)
 
-pub place_written : (a : List ℕ) (place : ℕ) (xs : List Entry) (old e : Entry) →
+pub place_written : (a : List ℕ) (place : ℕ) (xs : List AccountEntry) (old e : AccountEntry) →
     old ≡ get_or xs place old → e.number ≡ old.number →
     position (is_entry a) (set xs place e) ≡ position (is_entry a) xs
 place_written a place xs old e is number =
     let same : position_or_len (is_entry a) (set xs place e) ≡ position_or_len (is_entry a) xs =
     position_or_len-set (is_entry a) xs place e old
-    (ap (λ n. same_name n a) number ∙ ap (λ (x : Entry). same_name x.number a) is) in
+    (ap (λ n. same_name n a) number ∙ ap (λ (x : AccountEntry). same_name x.number a) is) in
     let long : length (set xs place e) ≡ length xs = length-set xs place e in
     λ i. cond (nat_lt (same i) (long i)) (Some (same i)) None
 
@@ -235,7 +240,8 @@ added_place p xs x =
     ∙ ap (λ o. first_of o (cond (p x) (Some (length xs)) None)) (sym (position_from-zero p xs))
 
 -- the place of each number, once an account stands behind those that there were
-pub place_added : (n a : List ℕ) (xs : List Entry) (e : Entry) → position (is_entry n) xs ≡ None →
+pub place_added : (n a : List ℕ) (xs : List AccountEntry) (e : AccountEntry) →
+    position (is_entry n) xs ≡ None →
     e.number ≡ n →
     (if same_name n a then Some (length xs) else position (is_entry a) xs) ≡
     position (is_entry a) (xs ++ e ∷ [])

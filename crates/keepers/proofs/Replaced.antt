@@ -4,7 +4,7 @@ use Rattle.std.proofs.Common.{◌≡◌, ℕ, zero, suc, ◌+◌, ◌<◌, ◌�
 use Rattle.std.proofs.Common.{◌++◌, length, take, get_or, sym, ap, subst, ◌∙◌, arith}
 use Rattle.std.specs.Prelude.{not, filter, is_some}
 use Rattle.std.proofs.lemmas.Bool.{not-true}
-use Rattle.buckets.specs.Row.{Row}
+use Rattle.buckets.specs.Row.{BucketRow}
 use Rattle.reserving.specs.declared.session.Session.{Session}
 use Rattle.reserving.specs.declared.session.SessionGroup.{SessionGroup}
 use Rattle.reserving.specs.declared.session.Counter.{Counter}
@@ -36,7 +36,7 @@ both_known P Q R p old live mid more back now then h k e f g =
     (each_with (λ x. p x ≡ true) Q R more now
     (subst (EachIn (λ x. p x ≡ true)) (sym f) (each_passes p live)) k))
 
-pub buckets_known : (w : StoredRows) (was is : Numbers) (old live mid more back : List Row) →
+pub buckets_known : (w : StoredRows) (was is : Numbers) (old live mid more back : List BucketRow) →
     ((n : ℕ) → is_numbered was n ≡ true → is_numbered is n ≡ true) → AreLeftBuckets was old →
     EachIn (λ b. is_numbered is b.number ≡ true) more → mid ≡ old →
     more ≡ filter (leaves_bucket w) live → back ≡ mid ++ more → AreLeftBuckets is back

@@ -13,7 +13,7 @@ use Rattle.shelves.specs.Shelves.{Shelf}
 use Rattle.reserving.specs.Ledger.{Ledger}
 use Rattle.keepers.specs.declared.key.Key.{Key}
 use Rattle.keepers.specs.Keys.{same_key}
-use Rattle.keepers.specs.declared.entries.Entry.{Entry}
+use Rattle.keepers.specs.declared.entries.AccountEntry.{AccountEntry}
 use Rattle.keepers.specs.Change.{AreRowsAt, AreBroughtTo, IsSwept}
 use Rattle.keepers.specs.Memory.{is_entry, entry_in, rows_of_entry, answer_of_entry}
 use Rattle.keepers.specs.Memory.{charges_of_entry, IsSweptEntry, AreSwept, VoucherMap}
@@ -29,7 +29,7 @@ rest_same x y xs ys e = cc
 no_first : {A : Type 0} (x : A) (xs : List A) → x ∷ xs ≡ [] → ⊥
 no_first x xs e = cc
 
-swept_on : (shelf : Shelf) (t i : ℕ) (xs ys : List Entry) (d e : Entry) →
+swept_on : (shelf : Shelf) (t i : ℕ) (xs ys : List AccountEntry) (d e : AccountEntry) →
     AreSwept shelf t (take i xs) (take i ys) → drop i ys ≡ drop i xs → i < length xs →
     IsSweptEntry shelf t (get_or ys i d) e →
     AreSwept shelf t (take (suc i) xs) (take (suc i) (set ys i e)) × drop (suc i) (set ys i e) ≡
@@ -37,7 +37,7 @@ swept_on : (shelf : Shelf) (t i : ℕ) (xs ys : List Entry) (d e : Entry) →
 swept_on shelf t zero [] ys d e h rest less swept = absurd (no_less zero less)
 swept_on shelf t zero (x ∷ xs) [] d e h rest less swept = absurd (no_first x xs (sym rest))
 swept_on shelf t zero (x ∷ xs) (y ∷ ys) d e h rest less swept = (
-  (subst (λ (z : Entry). IsSweptEntry shelf t z e) (first_same y x ys xs rest) swept, tt),
+  (subst (λ (z : AccountEntry). IsSweptEntry shelf t z e) (first_same y x ys xs rest) swept, tt),
   rest_same y x ys xs rest,
 )
 swept_on shelf t (suc i) [] ys d e h rest less swept = absurd (no_less (suc i) less)
@@ -46,7 +46,7 @@ swept_on shelf t (suc i) (x ∷ xs) (y ∷ ys) d e h rest less swept =
     let r = swept_on shelf t i xs ys d e h.1 rest (omega (arith, less)) swept in
     ((h.0, r.0), r.1)
 
-pub swept_next : (shelf : Shelf) (t i : ℕ) (xs ys : List Entry) (d e : Entry) →
+pub swept_next : (shelf : Shelf) (t i : ℕ) (xs ys : List AccountEntry) (d e : AccountEntry) →
     AreSwept shelf t (take i xs) (take i ys) → drop i ys ≡ drop i xs → i < length xs →
     IsSweptEntry shelf t (get_or ys i d) e →
     AreSwept shelf t (take (i + 1) xs) (take (i + 1) (set ys i e)) × drop (i + 1) (set ys i e) ≡
@@ -58,7 +58,7 @@ swept_next shelf t i xs ys d e h rest less swept =
 
 -- ---- tables
 
-record AreSeen (shelf : Shelf) (t : ℕ) (x y : Option Entry) : Type 0 where
+record AreSeen (shelf : Shelf) (t : ℕ) (x y : Option AccountEntry) : Type 0 where
   none : (rows_of_entry x).head ≡ None → rows_of_entry y ≡ rows_of_entry x
   rows : (ledger : Ledger) (u : ℕ) → u ≤ t → AreRowsAt shelf ledger u (rows_of_entry x) →
       AreRowsAt shelf ledger t (rows_of_entry y)
@@ -66,7 +66,7 @@ record AreSeen (shelf : Shelf) (t : ℕ) (x y : Option Entry) : Type 0 where
   answers : (k : Key) → answer_of_entry k y ≡ answer_of_entry k x
   charges : charges_of_entry y ≡ charges_of_entry x
 
-seen_one : (shelf : Shelf) (t : ℕ) (x y : Entry) → IsSweptEntry shelf t x y →
+seen_one : (shelf : Shelf) (t : ℕ) (x y : AccountEntry) → IsSweptEntry shelf t x y →
     AreSeen shelf t (Some x) (Some y)
 seen_one shelf t x y h = record {
   none = λ e. absurd (no_some _ (sym e));
@@ -76,7 +76,8 @@ seen_one shelf t x y h = record {
   charges = ap (λ c. c.items) h.charges;
 }
 
-all_seen : (shelf : Shelf) (t : ℕ) (xs ys : List Entry) (a : List ℕ) → AreSwept shelf t xs ys →
+all_seen : (shelf : Shelf) (t : ℕ) (xs ys : List AccountEntry) (a : List ℕ) →
+    AreSwept shelf t xs ys →
     AreSeen shelf t (entry_in a xs) (entry_in a ys)
 all_seen shelf t [] [] a h =
     record {
@@ -98,14 +99,15 @@ all_seen shelf t (x ∷ xs) (y ∷ ys) a h =
     at true rest = seen_one shelf t x y h.0
     at false rest = rest
 
-pub swept_length : (shelf : Shelf) (t : ℕ) (xs ys : List Entry) → AreSwept shelf t xs ys →
+pub swept_length : (shelf : Shelf) (t : ℕ) (xs ys : List AccountEntry) → AreSwept shelf t xs ys →
     length ys ≡ length xs
 swept_length shelf t [] [] h = refl
 swept_length shelf t [] (y ∷ ys) h = absurd h
 swept_length shelf t (x ∷ xs) [] h = absurd h
 swept_length shelf t (x ∷ xs) (y ∷ ys) h = ap suc (swept_length shelf t xs ys h.1)
 
-pub swept_tables : (shelf : Shelf) (t last : ℕ) (vouchers : VoucherMap) (xs ys : List Entry) →
+pub swept_tables : (shelf : Shelf) (t last : ℕ) (vouchers : VoucherMap)
+    (xs ys : List AccountEntry) →
     AreSwept shelf t xs ys →
     IsSwept shelf t (memory_tables last xs vouchers) (memory_tables t ys vouchers)
 swept_tables shelf t last vouchers xs ys h = record {
@@ -121,7 +123,7 @@ swept_tables shelf t last vouchers xs ys h = record {
 
 -- ---- places
 
-swept_from : (shelf : Shelf) (t : ℕ) (a : List ℕ) (k : ℕ) (xs ys : List Entry) →
+swept_from : (shelf : Shelf) (t : ℕ) (a : List ℕ) (k : ℕ) (xs ys : List AccountEntry) →
     AreSwept shelf t xs ys → position_from (is_entry a) k ys ≡ position_from (is_entry a) k xs
 swept_from shelf t a k [] [] h = refl
 swept_from shelf t a k [] (y ∷ ys) h = absurd h
@@ -130,7 +132,7 @@ swept_from shelf t a k (x ∷ xs) (y ∷ ys) h = λ i.
     cond (same_name (h.0.number i) a) (Some k) (swept_from shelf t a (k + 1) xs ys h.1 i)
 
 -- each account stands where it stood
-pub swept_place : (shelf : Shelf) (t : ℕ) (a : List ℕ) (xs ys : List Entry) →
+pub swept_place : (shelf : Shelf) (t : ℕ) (a : List ℕ) (xs ys : List AccountEntry) →
     AreSwept shelf t xs ys →
     position (is_entry a) xs ≡ position (is_entry a) ys
 swept_place shelf t a xs ys h = position_from-zero (is_entry a) xs

@@ -4,7 +4,7 @@ use Rattle.std.proofs.Common.{◌≡◌, ℕ, ◌+◌, ◌-◌, ◌≤◌, Bool,
 use Rattle.std.proofs.Common.{refl, sym, ap, subst, ◌∙◌, arith, Option, Some, None}
 use Rattle.std.specs.Prelude.{if◌then◌else◌, ◌==◌, ◌&&◌, ◌*◌, not, nat_lt, option_map}
 use Rattle.shelves.specs.Shelves.{Shelf, IsShelf}
-use Rattle.buckets.specs.Row.{Row, with_end, with_release}
+use Rattle.buckets.specs.Row.{BucketRow, with_end, with_release}
 use Rattle.buckets.specs.Spend.{Each}
 use Rattle.buckets.specs.Holding.{held_in}
 use Rattle.reserving.specs.declared.session.Session.{Session}
@@ -35,13 +35,13 @@ use Rattle.keepers.proofs.HeldWithin.{held_found, AreWithin, held_within}
 
 -- ---- a bucket, brought to a moment
 
-abbrev end_at : ℕ → (List ℕ → Bool) → List SessionGroup → Row → Row
+abbrev end_at : ℕ → (List ℕ → Bool) → List SessionGroup → BucketRow → BucketRow
 end_at t keeps groups b = with_end t (with_release t b (lapsed_in keeps groups b))
 
-end_number : (t : ℕ) (b : Row) (n : ℕ) → (with_end t (with_release t b n)).number ≡ b.number
+end_number : (t : ℕ) (b : BucketRow) (n : ℕ) → (with_end t (with_release t b n)).number ≡ b.number
 end_number t b n = at (nat_lt t b.until)
   where
-    ended : (u : Bool) (x : Row) →
+    ended : (u : Bool) (x : BucketRow) →
         (if u then x else record x { available = 0; expired = x.expired + x.available }).number
         ≡ x.number
     ended true x = refl
@@ -55,14 +55,15 @@ end_number t b n = at (nat_lt t b.until)
     at false = ended (nat_lt t b.until)
         (record b { reserved = b.reserved - n; expired = b.expired + n })
 
-found_end : (t n : ℕ) (keeps : List ℕ → Bool) (groups : List SessionGroup) (rows : List Row) →
+found_end : (t n : ℕ) (keeps : List ℕ → Bool) (groups : List SessionGroup) (rows : List BucketRow) →
     bucket_in n (map (end_at t keeps groups) rows)
     ≡ option_map (end_at t keeps groups) (bucket_in n rows)
 found_end t n keeps groups rows =
     find-map (λ b. b.number == n) (end_at t keeps groups) rows
     (λ b. ap (λ m. m == n) (end_number t b (lapsed_in keeps groups b)))
 
-each_found : (P : Row → Type 0) (n : ℕ) (rows : List Row) (x : Row) → Each P rows →
+each_found : (P : BucketRow → Type 0) (n : ℕ) (rows : List BucketRow) (x : BucketRow) →
+    Each P rows →
     bucket_in n rows ≡ Some x → P x
 each_found P n [] x h e = absurd (no_some x e)
 each_found P n (y ∷ ys) x h e = at (y.number == n) e (λ k. each_found P n ys x h.1 k)
@@ -171,7 +172,7 @@ module _ (shelf : Shelf) (t : ℕ) (before w : StoredRows) (r : Rows)
   keeps_same = λ i s. live_same s i
 
   -- a group's row among what may change holds what is held there
-  held_here : (q : List ℕ → Bool) (b : Row) (x : SessionGroup) →
+  held_here : (q : List ℕ → Bool) (b : BucketRow) (x : SessionGroup) →
       group_in x.session x.group before.groups ≡ Some x →
       held_found q b (Some x) ≤ held_found q b (group_in x.session x.group w.groups)
   held_here q b x e =
@@ -198,18 +199,19 @@ module _ (shelf : Shelf) (t : ℕ) (before w : StoredRows) (r : Rows)
           (same_if (q x.session) (held_in (holds_in x.reservation) b)
           (held_in (holds_in y.reservation) b) h)
 
-  each_here : (q : List ℕ → Bool) (b : Row) (rows : List SessionGroup) →
+  each_here : (q : List ℕ → Bool) (b : BucketRow) (rows : List SessionGroup) →
       EachIn (λ x. group_in x.session x.group before.groups ≡ Some x) rows →
       AreWithin q b rows w.groups
   each_here q b [] h = tt
   each_here q b (x ∷ xs) h = (held_here q b x h.0, each_here q b xs h.1)
 
-  held_less : (q : List ℕ → Bool) (b : Row) → held_by q before.groups b ≤ held_by q w.groups b
+  held_less : (q : List ℕ → Bool) (b : BucketRow) → held_by q before.groups b ≤ held_by q w.groups b
   held_less q b = held_within q b before.groups w.groups own.groups
       (each_here q b before.groups (found_own before.groups own.groups))
 
   -- of a bucket that may change all that is held is held among what may change
-  held_same : (q : List ℕ → Bool) (b : Row) → held_by (λ s. true) before.groups b ≡ b.reserved →
+  held_same : (q : List ℕ → Bool) (b : BucketRow) → held_by (λ s. true) before.groups b ≡
+      b.reserved →
       held_by (λ s. true) w.groups b ≡ b.reserved →
       held_by q before.groups b ≡ held_by q w.groups b
   held_same q b e k =
@@ -224,7 +226,7 @@ module _ (shelf : Shelf) (t : ℕ) (before w : StoredRows) (r : Rows)
       )
 
   -- a bucket that isn't among what may change stays
-  dead_stays : (y : Row) → held_by (λ s. true) w.groups y ≡ y.reserved → IsDead y →
+  dead_stays : (y : BucketRow) → held_by (λ s. true) w.groups y ≡ y.reserved → IsDead y →
       end_at t live_all w.groups y ≡ y
   dead_stays y e d =
       let none : lapsed_in live_all w.groups y ≡ 0 =
@@ -237,7 +239,7 @@ module _ (shelf : Shelf) (t : ℕ) (before w : StoredRows) (r : Rows)
       ≡ option_map (end_at t live_all w.groups) (bucket_in n w.buckets)
   bucket_found n = at (bucket_in n before.buckets) (bucket_in n w.buckets) refl refl
     where
-      at : (o p : Option Row) → bucket_in n before.buckets ≡ o → bucket_in n w.buckets ≡ p →
+      at : (o p : Option BucketRow) → bucket_in n before.buckets ≡ o → bucket_in n w.buckets ≡ p →
           first_of (option_map (end_at t live before.groups) o) p
           ≡ option_map (end_at t live_all w.groups) p
       at None None e k = refl

@@ -4,7 +4,7 @@ use Rattle.std.proofs.Common.{◌∙◌, Option, Some, None}
 use Rattle.std.specs.Prelude.{◌==◌, ◌||◌, not, filter, is_some}
 use Rattle.std.specs.List.{find, list_any}
 use Rattle.std.proofs.lemmas.Bool.{not_from_false}
-use Rattle.buckets.specs.Row.{Row}
+use Rattle.buckets.specs.Row.{BucketRow}
 use Rattle.reserving.specs.declared.session.Session.{Session}
 use Rattle.reserving.specs.declared.session.SessionGroup.{SessionGroup}
 use Rattle.reserving.specs.declared.session.Counter.{Counter}
@@ -51,8 +51,9 @@ none_found {A} q p xs none is = at (find q xs) refl
     at None e = refl
     at (Some x) e = absurd (not_both (sym none ∙ any_found q p xs x e (is x e)))
 
-pub buckets_stay : (w : StoredRows) (numbers : Numbers) (rows : List Row) →
-    AreLeftBuckets numbers rows → list_any (λ (b : Row). is_numbered numbers b.number) w.buckets ≡
+pub buckets_stay : (w : StoredRows) (numbers : Numbers) (rows : List BucketRow) →
+    AreLeftBuckets numbers rows → list_any (λ (b : BucketRow). is_numbered numbers b.number)
+    w.buckets ≡
     false → rows ≡ filter (leaves_bucket w) rows
 buckets_stay w numbers rows h none =
     all_pass (leaves_bucket w) rows

@@ -5,7 +5,7 @@ use Rattle.std.specs.Prelude.{if◌then◌else◌, ◌==◌, ◌&&◌, not, filt
 use Rattle.std.specs.List.{find, list_any}
 use Rattle.std.specs.List.Sorted.{IsPermutation}
 use Rattle.std.proofs.lemmas.Bool.{and_parts, not-true}
-use Rattle.buckets.specs.Row.{Row}
+use Rattle.buckets.specs.Row.{BucketRow}
 use Rattle.reserving.specs.declared.session.Session.{Session}
 use Rattle.reserving.specs.declared.session.SessionGroup.{SessionGroup}
 use Rattle.reserving.specs.declared.session.Counter.{Counter}
@@ -33,7 +33,7 @@ use Rattle.keepers.specs.declared.store.LeftStore.{LeftStore}
 use Rattle.keepers.specs.declared.store.Known.{Known}
 use Rattle.keepers.specs.Tables.{head_of, group_row, held_of}
 use Rattle.keepers.specs.Change.{over}
-use Rattle.keepers.specs.Parts.{Parts, AreParts, rows_of}
+use Rattle.keepers.specs.Parts.{Parts, AreParts, rows_of_parts}
 use Rattle.keepers.specs.Named.{Names, Numbers, is_named, is_numbered}
 use Rattle.keepers.specs.Named.{AreLeftCounters, AreLeftSessions, AreLeftGroups}
 use Rattle.keepers.specs.Inside.{parts_by, AreKeptBy}
@@ -111,20 +111,20 @@ written_is q left named live new e k =
     ∙ ap (first_of (find q named)) (sym (find_both q left live))
 
 -- of buckets none is new or gone
-bucket_is : (l n v p : Option Row) (stays : Row → Bool) →
+bucket_is : (l n v p : Option BucketRow) (stays : BucketRow → Bool) →
     p ≡ first_of n (only stays v) → is_some v ≡ is_some p →
-    ((y : Row) → l ≡ Some y → v ≡ None) →
+    ((y : BucketRow) → l ≡ Some y → v ≡ None) →
     first_of l p ≡ first_of n (first_of l v)
 bucket_is (Some y) n v p stays e there apart = gone n (sym (ap is_some e)
     ∙ sym there ∙ ap is_some (apart y refl))
   where
-    gone : (m : Option Row) → is_some (first_of m (only stays v)) ≡ false →
+    gone : (m : Option BucketRow) → is_some (first_of m (only stays v)) ≡ false →
         Some y ≡ first_of m (Some y)
     gone None f = refl
     gone (Some z) f = absurd (not_both (sym f))
 bucket_is None n v p stays e there apart = e ∙ at n v (there ∙ ap is_some e)
   where
-    at : (m w : Option Row) → is_some w ≡ is_some (first_of m (only stays w)) →
+    at : (m w : Option BucketRow) → is_some w ≡ is_some (first_of m (only stays w)) →
         first_of m (only stays w) ≡ first_of m w
     at (Some z) w f = refl
     at None None f = refl
@@ -137,7 +137,7 @@ bucket_is None n v p stays e there apart = e ∙ at n v (there ∙ ap is_some e)
 
 -- ---- all of them
 
-module _ (names : Names) (cycles : Numbers) (w : StoredRows) (bs : List Row) (p : Parts)
+module _ (names : Names) (cycles : Numbers) (w : StoredRows) (bs : List BucketRow) (p : Parts)
     (h : AreParts p) (live : IsStored p.live) (new : IsStored (rows_written w p.live))
     (held : are_held_on w.groups p.live.groups p.live.buckets w.buckets ≡ true)
     (all : IsPermutation (filter (stays_bucket bs) p.live.buckets ++ bs) w.buckets)
@@ -199,10 +199,12 @@ module _ (names : Names) (cycles : Numbers) (w : StoredRows) (bs : List Row) (p 
   live_buckets : AreApart same_bucket p.live.buckets
   live_buckets = apart_rest same_bucket p.left.buckets p.live.buckets h.buckets
 
-  number_of : (n : ℕ) (rows : List Row) (y : Row) → bucket_in n rows ≡ Some y → y.number ≡ n
+  number_of : (n : ℕ) (rows : List BucketRow) (y : BucketRow) → bucket_in n rows ≡ Some y →
+      y.number ≡ n
   number_of n rows y e = same_number y.number n (find-passes (λ b. b.number == n) rows y e)
 
-  hides : (n : ℕ) (y z : Row) → bucket_in n p.live.buckets ≡ Some y → bucket_in n bs ≡ Some z →
+  hides : (n : ℕ) (y z : BucketRow) → bucket_in n p.live.buckets ≡ Some y →
+      bucket_in n bs ≡ Some z →
       stays_bucket bs y ≡ false
   hides n y z e f =
       hidden (not (is_dead y)) (is_some (bucket_in y.number bs))
@@ -228,7 +230,7 @@ module _ (names : Names) (cycles : Numbers) (w : StoredRows) (bs : List Row) (p 
   there : (n : ℕ) → is_some (bucket_in n p.live.buckets) ≡ is_some (bucket_in n w.buckets)
   there n = number_there n w.groups p.live.groups p.live.buckets w.buckets held
 
-  none_live : (n : ℕ) (y : Row) → bucket_in n p.left.buckets ≡ Some y →
+  none_live : (n : ℕ) (y : BucketRow) → bucket_in n p.left.buckets ≡ Some y →
       bucket_in n p.live.buckets ≡ None
   none_live n y e = apart_none same_bucket (λ b. b.number == n) (one_bucket n) p.left.buckets
       p.live.buckets y h.buckets e
@@ -316,7 +318,7 @@ module _ (names : Names) (cycles : Numbers) (w : StoredRows) (bs : List Row) (p 
     counted = h.counted;
   }
 
-  pub written_rows : rows_of after ≡ over (record w { buckets = bs }) (rows_of p)
+  pub written_rows : rows_of_parts after ≡ over (record w { buckets = bs }) (rows_of_parts p)
   written_rows = λ i. record {
     head = Some (head_of w);
     buckets = λ n. bucket_over n i;
@@ -360,12 +362,12 @@ module _ (names : Names) (cycles : Numbers) (named : StoredRows) (rows : GivenRo
       of.buckets is.apart.buckets sessions groups counters fresh known_sessions known_groups
       known_counters
 
-  pub put_rows : rows_of (record { live = rows_written (given rows) p.live; left = p.left }) ≡
-      over named (rows_of p)
+  pub put_rows : rows_of_parts (record { live = rows_written (given rows) p.live; left = p.left }) ≡
+      over named (rows_of_parts p)
   put_rows = written_rows names cycles (given rows) named.buckets p h live kept.stored held
       of.buckets is.apart.buckets sessions groups counters fresh known_sessions known_groups
       known_counters
-      ∙ ap (λ (w : StoredRows). over w (rows_of p)) of.same
+      ∙ ap (λ (w : StoredRows). over w (rows_of_parts p)) of.same
 
   -- what a store keeps of them
   pub put_kept : (left : LeftStore) (known : Known) (after : StoredRows) →

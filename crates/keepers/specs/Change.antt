@@ -8,7 +8,7 @@ use Rattle.identifiers.specs.Words.{SessionName, AccountName, VoucherCode}
 use Rattle.buckets.specs.Words.{BucketNumber, BucketAmount}
 use Rattle.reserving.specs.Words.{ChargeNumber}
 use Rattle.identifiers.specs.Texts.{same_name}
-use Rattle.buckets.specs.Row.{Row}
+use Rattle.buckets.specs.Row.{BucketRow}
 use Rattle.shelves.specs.Shelves.{Shelf}
 use Rattle.reserving.specs.declared.session.Session.{Session}
 use Rattle.reserving.specs.declared.session.SessionGroup.{SessionGroup}
@@ -71,7 +71,7 @@ IsView shelf t r None = r.head ≡ None
 IsView shelf t r (Some a) = IsLoadedFrom shelf t r a
 
 -- the buckets that can't be used any more, each once, in the order of their numbers
-pub record AreDeadOf (r : Rows) (rows : List Row) : Type 0 where
+pub record AreDeadOf (r : Rows) (rows : List BucketRow) : Type 0 where
   pub found : (n : BucketNumber) → bucket_in n rows ≡ only is_dead (r.buckets n)
   pub apart : AreApart same_bucket rows
   pub order : IsNonDecreasingBy (λ b. b.number) rows

@@ -1,13 +1,13 @@
 -- Rows that differ from those before: a change names them alone.
 -- Source: profile.
 use Rattle.std.specs.Prelude.{◌≡◌, ◌==◌, ◌&&◌, Bool, true, false, Option, Some}
-use Rattle.std.specs.Prelude.{None}
+use Rattle.std.specs.Prelude.{None, List, [], ◌∷◌, not, if◌then◌else◌}
 use Rattle.std.specs.Cmp.Lexicographic.{pointwise}
 use Rattle.units.specs.Words.{GroupId, CycleNumber}
 use Rattle.identifiers.specs.Words.{SessionName}
 use Rattle.buckets.specs.Words.{BucketNumber}
-use Rattle.buckets.specs.declared.holds.Hold.{Hold}
-use Rattle.buckets.specs.Row.{Row}
+use Rattle.buckets.specs.declared.holds.HeldAmount.{HeldAmount}
+use Rattle.buckets.specs.Row.{BucketRow}
 use Rattle.rating.specs.declared.grant.Periods.{Periods}
 use Rattle.buckets.specs.declared.kind.BucketKind.{BucketKind}
 use Rattle.buckets.specs.declared.kind.BucketKind.TheVariants.{Money, Blocks}
@@ -21,6 +21,7 @@ use Rattle.reserving.specs.declared.session.Counter.{Counter}
 use Rattle.reserving.specs.Ledger.{is_same}
 use Rattle.reserving.specs.Sessions.{session_in, group_in}
 use Rattle.reserving.specs.Sessions.{counter_in}
+use Rattle.reserving.specs.Others.{own_sessions, own_groups}
 use Rattle.reserving.specs.Stored.{StoredRows}
 use Rattle.reserving.specs.Left.{bucket_in, differing}
 use Rattle.keepers.specs.Tables.{Rows, group_row, held_of}
@@ -39,7 +40,7 @@ same_kind Money Money = true
 same_kind Blocks Blocks = true
 same_kind x y = false
 
-abbrev pub equal_bucket : Row → Row → Bool
+abbrev pub equal_bucket : BucketRow → BucketRow → Bool
 equal_bucket x y =
     x.number == y.number && (same_kind x.kind y.kind && (x.from == y.from &&
     (x.until == y.until && (same_scope x.scope y.scope && (x.credited == y.credited
@@ -65,7 +66,7 @@ equal_periods x y = x.before.0 == y.before.0 && x.after.0 == y.after.0
 abbrev pub equal_terms : Terms → Terms → Bool
 equal_terms x y = x.book == y.book && equal_periods x.periods y.periods
 
-abbrev pub equal_hold : Hold → Hold → Bool
+abbrev pub equal_hold : HeldAmount → HeldAmount → Bool
 equal_hold x y = x.bucket == y.bucket && x.amount == y.amount
 
 abbrev pub equal_reservation : Option Reservation → Option Reservation → Bool
@@ -89,9 +90,33 @@ named_rows before after = record after {
   groups = differing equal_group before.groups after.groups;
 }
 
+-- the same of one session's rows alone
+abbrev pub named_rows_of : SessionName → StoredRows → StoredRows → StoredRows
+named_rows_of s before after = record after {
+  buckets = differing equal_bucket before.buckets after.buckets;
+  counters = differing equal_counter before.counters after.counters;
+  sessions = differing equal_session (own_sessions s before.sessions)
+      (own_sessions s after.sessions);
+  groups = differing equal_group (own_groups s before.groups) (own_groups s after.groups);
+}
+
+-- the rows of all sessions, or of one alone where no other may have changed
+abbrev pub named_for : Option SessionName → StoredRows → StoredRows → StoredRows
+named_for None = named_rows
+named_for (Some s) = named_rows_of s
+
+-- the row of a session, where it differs from what it was
+abbrev pub is_changed : Option Session → Session → Bool
+is_changed None x = true
+is_changed (Some y) x = not (equal_session x y)
+
+abbrev pub changed_session : Option Session → Option Session → List Session
+changed_session before None = []
+changed_session before (Some x) = if is_changed before x then x ∷ [] else []
+
 -- rows that were loaded are there
 pub record AreThere (before : StoredRows) (r : Rows) : Type 0 where
-  pub buckets : (n : BucketNumber) (x : Row) → bucket_in n before.buckets ≡ Some x →
+  pub buckets : (n : BucketNumber) (x : BucketRow) → bucket_in n before.buckets ≡ Some x →
       r.buckets n ≡ Some x
   pub counters : (g : GroupId) (c : CycleNumber) (x : Counter) →
       counter_in g c before.counters ≡ Some x →

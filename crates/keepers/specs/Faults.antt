@@ -4,9 +4,9 @@ use Rattle.std.specs.Prelude.{ℕ, ◌+◌, ◌≤◌, min, IsErrOf, Result}
 use Rattle.keepers.specs.declared.fault.StoreFault.{StoreFault}
 use Rattle.keepers.specs.declared.fault.StoreFault.TheVariants.{Memory, Store}
 
-abbrev pub fault_number : StoreFault → ℕ
-fault_number Memory = 1
-fault_number Store = 2
+abbrev pub store_fault_number : StoreFault → ℕ
+store_fault_number Memory = 1
+store_fault_number Store = 2
 
 -- the count of failed calls stays here
 abbrev pub max_failures : ℕ

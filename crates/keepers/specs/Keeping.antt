@@ -8,7 +8,8 @@ use Rattle.keepers.specs.Tables.{Tables}
 
 -- a call that reads: what it finds is in the tables, they are as before, and so is what a stop
 -- leaves; it answers only from a store that can still be asked
-pub record Reads {K T : Type 0} (content : K → Tables) (failed : K → ℕ) (honest clean : K → Type 0)
+pub record KeeperReads {K T : Type 0} (content : K → Tables) (failed : K → ℕ)
+    (honest clean : K → Type 0)
     (leaves : K → Tables → Type 0) (old new : K) (Found : T → Type 0) (result : Result T StoreFault)
     : Type 0 where
   pub found : clean new → IfOk result Found

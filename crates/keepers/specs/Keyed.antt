@@ -1,12 +1,12 @@
 -- Whether a row has the key of another.
 use Rattle.std.specs.Prelude.{◌==◌, Bool}
-use Rattle.buckets.specs.Row.{Row}
+use Rattle.buckets.specs.Row.{BucketRow}
 use Rattle.reserving.specs.declared.session.Session.{Session}
 use Rattle.reserving.specs.declared.session.SessionGroup.{SessionGroup}
 use Rattle.reserving.specs.declared.session.Counter.{Counter}
 use Rattle.reserving.specs.Sessions.{is_session, is_of, is_counter}
 
-abbrev pub same_bucket : Row → Row → Bool
+abbrev pub same_bucket : BucketRow → BucketRow → Bool
 same_bucket x y = y.number == x.number
 
 abbrev pub same_session : Session → Session → Bool

@@ -16,32 +16,32 @@ use Rattle.voucher_rules.specs.declared.voucher.Voucher.{Voucher}
 use Rattle.keepers.specs.declared.key.Key.{Key}
 use Rattle.keepers.specs.declared.key.KeptAnswer.{KeptAnswer}
 use Rattle.keepers.specs.Keys.{same_key}
-use Rattle.keepers.specs.declared.entries.Entry.{Entry}
+use Rattle.keepers.specs.declared.entries.AccountEntry.{AccountEntry}
 use Rattle.keepers.specs.Tables.{Rows, Tables, no_rows, charge_in}
-use Rattle.keepers.specs.Parts.{rows_of}
+use Rattle.keepers.specs.Parts.{rows_of_parts}
 use Rattle.keepers.specs.Change.{AreRowsAt, AreBroughtTo, kept_after, over}
 use Rattle.reserving.specs.Ledger.{Ledger}
 use Rattle.reserving.specs.Stored.{StoredRows}
 
 -- whether it is the account of this number
-abbrev pub is_entry : AccountName → Entry → Bool
+abbrev pub is_entry : AccountName → AccountEntry → Bool
 is_entry a e = same_name e.number a
 
-abbrev pub entry_in : AccountName → List Entry → Option Entry
+abbrev pub entry_in : AccountName → List AccountEntry → Option AccountEntry
 entry_in a entries = find (is_entry a) entries
 
-abbrev pub rows_of_entry : Option Entry → Rows
+abbrev pub rows_of_entry : Option AccountEntry → Rows
 rows_of_entry None = no_rows
-rows_of_entry (Some e) = rows_of e.rows
+rows_of_entry (Some e) = rows_of_parts e.rows
 
-abbrev pub session_of_entry : SessionName → Option Entry → Option Session
+abbrev pub session_of_entry : SessionName → Option AccountEntry → Option Session
 session_of_entry s o = (rows_of_entry o).sessions s
 
-abbrev pub answer_of_entry : Key → Option Entry → Option KeptAnswer
+abbrev pub answer_of_entry : Key → Option AccountEntry → Option KeptAnswer
 answer_of_entry k None = None
 answer_of_entry k (Some e) = get same_key e.answers k
 
-abbrev pub charges_of_entry : Option Entry → List ChargeRow
+abbrev pub charges_of_entry : Option AccountEntry → List ChargeRow
 charges_of_entry None = []
 charges_of_entry (Some e) = e.charges.items
 
@@ -51,7 +51,7 @@ abbrev pub Places : Type 0
 Places = HashMap (List ℕ) ℕ (BuildHasherDefault FoldHasher)
 
 -- each number is found at the place of its account
-abbrev pub ArePlaced : Places → List Entry → Type 0
+abbrev pub ArePlaced : Places → List AccountEntry → Type 0
 ArePlaced places entries = (a : AccountName) →
     get same_name places a ≡ position (is_entry a) entries
 
@@ -59,7 +59,7 @@ ArePlaced places entries = (a : AccountName) →
 
 -- each account, once rows are put over those of one, with its further charges and an answer
 pub record ArePut (number : AccountName) (named : StoredRows) (more : List ChargeRow)
-    (kept : Option KeptAnswer) (old new : List Entry) : Type 0 where
+    (kept : Option KeptAnswer) (old new : List AccountEntry) : Type 0 where
   pub rows : (a : AccountName) → rows_of_entry (entry_in a new) ≡
       (if same_name number a then over named (rows_of_entry (entry_in a old))
       else rows_of_entry (entry_in a old))
@@ -72,7 +72,7 @@ pub record ArePut (number : AccountName) (named : StoredRows) (more : List Charg
   pub count : length new ≡ (if is_some (entry_in number old) then length old else length old + 1)
 
 -- nothing is written
-pub record AreUnchanged (old new : List Entry) : Type 0 where
+pub record AreUnchanged (old new : List AccountEntry) : Type 0 where
   pub rows : (a : AccountName) → rows_of_entry (entry_in a new) ≡ rows_of_entry (entry_in a old)
   pub answers : (a : AccountName) (k : Key) →
       answer_of_entry k (entry_in a new) ≡ answer_of_entry k (entry_in a old)
@@ -83,15 +83,16 @@ pub record AreUnchanged (old new : List Entry) : Type 0 where
 -- ---- a sweep
 
 -- an account as a sweep leaves it
-pub record IsSweptEntry (shelf : Shelf) (t : Moment) (old new : Entry) : Type 0 where
+pub record IsSweptEntry (shelf : Shelf) (t : Moment) (old new : AccountEntry) : Type 0 where
   pub number : new.number ≡ old.number
-  pub rows : (ledger : Ledger) (u : Moment) → u ≤ t → AreRowsAt shelf ledger u (rows_of old.rows) →
-      AreRowsAt shelf ledger t (rows_of new.rows)
-  pub listed : AreBroughtTo shelf t (rows_of old.rows) (rows_of new.rows)
+  pub rows : (ledger : Ledger) (u : Moment) → u ≤ t → AreRowsAt shelf ledger u
+      (rows_of_parts old.rows) →
+      AreRowsAt shelf ledger t (rows_of_parts new.rows)
+  pub listed : AreBroughtTo shelf t (rows_of_parts old.rows) (rows_of_parts new.rows)
   pub charges : new.charges ≡ old.charges
   pub answers : new.answers ≡ old.answers
 
-abbrev pub AreSwept : Shelf → Moment → List Entry → List Entry → Type 0
+abbrev pub AreSwept : Shelf → Moment → List AccountEntry → List AccountEntry → Type 0
 AreSwept shelf t [] [] = Unit {0}
 AreSwept shelf t (x ∷ xs) (y ∷ ys) = IsSweptEntry shelf t x y × AreSwept shelf t xs ys
 AreSwept shelf t xs ys = ⊥
@@ -100,7 +101,7 @@ AreSwept shelf t xs ys = ⊥
 abbrev pub VoucherMap : Type 0
 VoucherMap = HashMap (List ℕ) Voucher (BuildHasherDefault FoldHasher)
 
-abbrev pub memory_tables : Moment → List Entry → VoucherMap → Tables
+abbrev pub memory_tables : Moment → List AccountEntry → VoucherMap → Tables
 memory_tables last entries vouchers = record {
   last = last;
   rows = λ a. rows_of_entry (entry_in a entries);

@@ -6,7 +6,7 @@ use Rattle.std.specs.declared.hash.FoldHasher.{FoldHasher}
 use Rattle.std.specs.declared.hash.BuildHasherDefault.{BuildHasherDefault}
 use Rattle.units.specs.Words.{Moment}
 use Rattle.identifiers.specs.Words.{SessionName}
-use Rattle.buckets.specs.Row.{Row}
+use Rattle.buckets.specs.Row.{BucketRow}
 use Rattle.calendar.specs.declared.cycle.Cycle.{Cycle}
 use Rattle.calendar.specs.declared.cycle.Cycle.TheVariants as Each
 use Rattle.calendar.specs.Timetable.{cycle_of}
@@ -33,7 +33,7 @@ abbrev pub is_named : Names → SessionName → Bool
 is_named names s = is_some (get same_name names s)
 
 -- each that was left can't change, and is known by its number or name
-abbrev pub AreLeftBuckets : Numbers → List Row → Type 0
+abbrev pub AreLeftBuckets : Numbers → List BucketRow → Type 0
 AreLeftBuckets numbers rows =
     EachIn (λ b. (is_dead b ≡ true) × (is_numbered numbers b.number ≡ true)) rows
 

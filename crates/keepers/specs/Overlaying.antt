@@ -7,7 +7,7 @@ use Rattle.std.specs.List.Sorted.{IsPermutation}
 use Rattle.units.specs.Words.{GroupId, CycleNumber}
 use Rattle.identifiers.specs.Words.{SessionName}
 use Rattle.buckets.specs.Words.{BucketNumber}
-use Rattle.buckets.specs.Row.{Row}
+use Rattle.buckets.specs.Row.{BucketRow}
 use Rattle.reserving.specs.declared.session.Session.{Session}
 use Rattle.reserving.specs.declared.session.SessionGroup.{SessionGroup}
 use Rattle.reserving.specs.declared.session.Counter.{Counter}
@@ -23,7 +23,7 @@ use Rattle.keepers.specs.Keyed.{same_bucket}
 
 -- ---- of the rows that stand, those that stay live beside the ones that are named
 
-abbrev pub stays_bucket : List Row → Row → Bool
+abbrev pub stays_bucket : List BucketRow → BucketRow → Bool
 stays_bucket named b = not (is_dead b) && not (is_some (bucket_in b.number named))
 
 -- the counter of the group that isn't named is one of a past cycle
@@ -62,7 +62,8 @@ rows_over named back live = record named {
 }
 
 -- the rows are those of a change, and their buckets all that are live after it
-pub record IsGivenOver (named : StoredRows) (live : List Row) (rows : GivenRows) : Type 0 where
+pub record IsGivenOver (named : StoredRows) (live : List BucketRow) (rows : GivenRows)
+    : Type 0 where
   pub same : record (given rows) { buckets = named.buckets } ≡ named
   pub buckets : IsPermutation (filter (stays_bucket named.buckets) live ++ named.buckets) rows.purse
 
@@ -84,7 +85,7 @@ pub record IsAccountOf (w v : StoredRows) : Type 0 where
 
 -- it can't change any more
 pub record IsRestDead (after : StoredRows) (r : Rows) : Type 0 where
-  pub dead : (n : BucketNumber) (x : Row) → r.buckets n ≡ Some x →
+  pub dead : (n : BucketNumber) (x : BucketRow) → r.buckets n ≡ Some x →
       bucket_in n after.buckets ≡ None → IsDead x
   pub ended : (s : SessionName) (x : Session) → r.sessions s ≡ Some x →
       session_in s after.sessions ≡ None → is_open x.state ≡ false
@@ -95,7 +96,7 @@ pub record IsRestDead (after : StoredRows) (r : Rows) : Type 0 where
 
 -- the rows before are there, and what isn't among those after it can't change any more
 pub record IsMadeFrom (before after : StoredRows) (r : Rows) : Type 0 where
-  pub buckets : (n : BucketNumber) (x : Row) → bucket_in n before.buckets ≡ Some x →
+  pub buckets : (n : BucketNumber) (x : BucketRow) → bucket_in n before.buckets ≡ Some x →
       r.buckets n ≡ Some x
   pub counters : (g : GroupId) (c : CycleNumber) (x : Counter) →
       counter_in g c before.counters ≡ Some x →
@@ -108,7 +109,7 @@ pub record IsMadeFrom (before after : StoredRows) (r : Rows) : Type 0 where
   pub holds : (s : SessionName) (g : GroupId) (n : BucketNumber) (x : SessionGroup) →
       group_in s g before.groups ≡ Some x →
       r.holds s g n ≡ held_of n (Some x)
-  pub dead : (n : BucketNumber) (x : Row) → r.buckets n ≡ Some x →
+  pub dead : (n : BucketNumber) (x : BucketRow) → r.buckets n ≡ Some x →
       bucket_in n after.buckets ≡ None → IsDead x
   pub ended : (s : SessionName) (x : Session) → r.sessions s ≡ Some x →
       session_in s after.sessions ≡ None → is_open x.state ≡ false

@@ -4,7 +4,7 @@
 use Rattle.std.specs.Prelude.{◌≡◌, ◌&&◌, ◌++◌, ◌≤◌, Bool, true, false, not}
 use Rattle.std.specs.Prelude.{Some, is_some, option_map, filter}
 use Rattle.units.specs.Words.{Moment, most_used, most_counted}
-use Rattle.buckets.specs.Row.{Row, IsBalanced}
+use Rattle.buckets.specs.Row.{BucketRow, IsBalanced}
 use Rattle.shelves.specs.Shelves.{Shelf}
 use Rattle.reserving.specs.declared.session.Session.{Session}
 use Rattle.reserving.specs.declared.session.SessionGroup.{SessionGroup}
@@ -22,8 +22,8 @@ pub record Parts : Type 0 where
   pub left : LeftRows
 
 -- the rows of both
-abbrev pub rows_of : Parts → Rows
-rows_of p = record {
+abbrev pub rows_of_parts : Parts → Rows
+rows_of_parts p = record {
   head = Some (head_of p.live);
   buckets = λ n. bucket_in n (p.left.buckets ++ p.live.buckets);
   counters = λ g c. counter_in g c (p.left.counters ++ p.live.counters);
@@ -48,7 +48,7 @@ pub record AreParts (p : Parts) : Type 0 where
 
 -- ---- what is left once the rows are others
 
-abbrev pub leaves_bucket : StoredRows → Row → Bool
+abbrev pub leaves_bucket : StoredRows → BucketRow → Bool
 leaves_bucket w b = is_dead b && not (is_some (bucket_in b.number w.buckets))
 
 abbrev pub leaves_counter : StoredRows → Counter → Bool

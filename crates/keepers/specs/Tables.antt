@@ -7,8 +7,8 @@ use Rattle.units.specs.Words.{Moment, UnitCount, GroupId, CycleNumber}
 use Rattle.identifiers.specs.Words.{SessionName, AccountName, VoucherCode}
 use Rattle.buckets.specs.Words.{BucketNumber, BucketAmount}
 use Rattle.reserving.specs.Words.{ChargeNumber}
-use Rattle.buckets.specs.declared.holds.Hold.{Hold}
-use Rattle.buckets.specs.Row.{Row}
+use Rattle.buckets.specs.declared.holds.HeldAmount.{HeldAmount}
+use Rattle.buckets.specs.Row.{BucketRow}
 use Rattle.reserving.specs.declared.session.Terms.{Terms}
 use Rattle.reserving.specs.declared.charge.ChargeRow.{ChargeRow}
 use Rattle.reserving.specs.declared.session.Session.{Session}
@@ -38,7 +38,7 @@ pub record GroupRow : Type 0 where
 -- bucket's number too, 0 where it holds nothing
 pub record Rows : Type 0 where
   pub head : Option Head
-  pub buckets : BucketNumber → Option Row
+  pub buckets : BucketNumber → Option BucketRow
   pub counters : GroupId → CycleNumber → Option Counter
   pub sessions : SessionName → Option Session
   pub groups : SessionName → GroupId → Option GroupRow
@@ -96,7 +96,7 @@ head_of w = record {
 abbrev pub group_row : SessionGroup → GroupRow
 group_row r = record { used = r.used; terms = option_map (λ x. x.terms) r.reservation }
 
-abbrev pub held_at : BucketNumber → List Hold → BucketAmount
+abbrev pub held_at : BucketNumber → List HeldAmount → BucketAmount
 held_at n holds = sum_by (λ h. if h.bucket == n then h.amount else 0) holds
 
 -- what is held of a bucket

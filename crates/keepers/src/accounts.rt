@@ -4,7 +4,7 @@ ghost use Rattle.std.specs.Prelude.{◌≡◌, [], length, OnOk, OnErr};
 ghost use Rattle.std.specs.Option.{option_copied};
 ghost use Rattle.keepers.specs.Memory.{entry_in, AreSwept, ArePlaced, ArePut, AreUnchanged};
 
-use crate::entries::{Entry, advance_entries, place_of, put_entry};
+use crate::entries::{AccountEntry, advance_entries, place_of, put_entry};
 use crate::key::KeptAnswer;
 use crate::named_rows::NamedRows;
 use identifiers::AccountNumber;
@@ -17,7 +17,7 @@ use units::Moment;
 /// Accounts in the order in which they were opened, and the place of each number among them.
 #[derive(Drop)]
 pub(crate) struct Accounts {
-    entries: Vec<Entry>,
+    entries: Vec<AccountEntry>,
     places: HashMap<AccountNumber, usize>,
     alloc: Global,
     /// Each number is found at the place of its account.
@@ -37,7 +37,7 @@ impl Accounts {
     }
 
     /// The account of this number.
-    pub(crate) fn find(&self, number: &AccountNumber) -> Option<&Entry>
+    pub(crate) fn find(&self, number: &AccountNumber) -> Option<&AccountEntry>
         ensures { option_copied result ≡ entry_in number.now self.now.entries.items }
     {
         match place_of(&self.places, number) {

@@ -10,7 +10,7 @@ ghost use Rattle.keepers.specs.Differing.{equal_session, equal_hold, equal_perio
 ghost use Rattle.keepers.specs.Differing.{same_kind, equal_terms};
 ghost use Rattle.keepers.specs.Differing.{equal_reservation, equal_group};
 
-use buckets::{Bucket, BucketKind, Hold};
+use buckets::{Bucket, BucketKind, HeldAmount};
 use rating::Periods;
 use reserving::{Counter, Reservation, Session, SessionGroup, SessionState, StoredAccount, Terms};
 
@@ -124,7 +124,7 @@ fn any_session(rows: &[Session], row: &Session) -> bool
     rows.iter().any(|old| equal_session(row, old))
 }
 
-fn any_group(rows: &[SessionGroup], row: &SessionGroup) -> bool
+pub(crate) fn any_group(rows: &[SessionGroup], row: &SessionGroup) -> bool
     ensures { result ≡ list_any (equal_group row.now) rows.now }
 {
     rows.iter().any(|old| equal_group(row, old))
@@ -206,7 +206,7 @@ fn same_state(x: SessionState, y: SessionState) -> bool
     }
 }
 
-fn equal_session(x: &Session, y: &Session) -> bool
+pub(crate) fn equal_session(x: &Session, y: &Session) -> bool
     ensures { result ≡ equal_session x.now y.now }
 {
     x.id == y.id
@@ -226,7 +226,7 @@ fn equal_terms(x: &Terms, y: &Terms) -> bool
     x.book == y.book && equal_periods(&x.periods, &y.periods)
 }
 
-fn equal_holds(x: &[Hold], y: &[Hold]) -> bool
+fn equal_holds(x: &[HeldAmount], y: &[HeldAmount]) -> bool
     ensures { result ≡ pointwise equal_hold x.now y.now }
 {
     x == y

@@ -10,7 +10,7 @@ ghost use Rattle.keepers.specs.Change.{kept_after, AreDeadOf};
 ghost use Rattle.keepers.specs.Tables.{no_rows};
 ghost use Rattle.keepers.specs.Whole.{AreWhole};
 ghost use Rattle.keepers.specs.Change.{IsLoad, IsView, over};
-ghost use Rattle.keepers.specs.Parts.{rows_of};
+ghost use Rattle.keepers.specs.Parts.{rows_of_parts};
 ghost use Rattle.keepers.specs.Memory.{entry_in, rows_of_entry, answer_of_entry, charges_of_entry};
 ghost use Rattle.keepers.specs.Memory.{session_of_entry, IsSweptEntry, AreSwept, ArePlaced, ArePut};
 ghost use Rattle.keepers.specs.Memory.{AreUnchanged};
@@ -31,7 +31,7 @@ use std::mem;
 use units::Moment;
 
 /// An account as it is kept in memory.
-pub(crate) struct Entry {
+pub(crate) struct AccountEntry {
     pub(crate) number: AccountNumber,
     pub(crate) rows: Store,
     pub(crate) charges: Vec<ChargeRow>,
@@ -39,9 +39,9 @@ pub(crate) struct Entry {
 }
 
 // It is written out, so that a caller doesn't prove again how each part is dropped.
-impl Drop for Entry {
+impl Drop for AccountEntry {
     fn drop(self) {
-        let Entry {
+        let AccountEntry {
             number: _,
             rows: _,
             charges: _,
@@ -214,13 +214,14 @@ fn first_answers(
 /// Puts the rows of a change over those of an account that is there, with its further charges and
 /// an answer, which are taken. The room is taken first: at a fault nothing has changed.
 fn write_entry(
-    entry: &mut Entry,
+    entry: &mut AccountEntry,
     rows: NamedRows,
     charges: &mut Vec<ChargeRow>,
     kept: &mut Option<KeptAnswer>,
 ) -> Result<(), AllocError>
     ensures number { entry.new.number ≡ entry.old.number }
-    ensures rows { OnOk result (rows_of entry.new.rows ≡ over rows (rows_of entry.old.rows)) }
+    ensures rows { OnOk result (rows_of_parts entry.new.rows ≡ over rows
+        (rows_of_parts entry.old.rows)) }
     ensures answers { OnOk result ((k : Key) →
         get same_key entry.new.answers k ≡ kept_after kept.old k
         (get same_key entry.old.answers k)) }
@@ -246,16 +247,16 @@ fn new_entry(
     rows: NamedRows,
     charges: &mut Vec<ChargeRow>,
     kept: &mut Option<KeptAnswer>,
-) -> Result<Entry, AllocError>
+) -> Result<AccountEntry, AllocError>
     ensures number { IfOk result (λ e. e.number ≡ number) }
-    ensures rows { IfOk result (λ e. rows_of e.rows ≡ over rows no_rows) }
+    ensures rows { IfOk result (λ e. rows_of_parts e.rows ≡ over rows no_rows) }
     ensures answers { IfOk result (λ e. (k : Key) →
         get same_key e.answers k ≡ kept_after kept.old k None) }
     ensures charges { IfOk result (λ e. e.charges.items ≡ charges.old.items) }
 {
     let answers = first_answers(alloc, kept)?;
     let rows = Store::first(alloc, rows)?;
-    Ok(Entry {
+    Ok(AccountEntry {
         number,
         rows,
         charges: mem::replace(charges, Vec::new(alloc)),
@@ -293,7 +294,7 @@ fn put_place(
 /// changed.
 pub(crate) fn put_entry(
     alloc: Global,
-    entries: &mut Vec<Entry>,
+    entries: &mut Vec<AccountEntry>,
     places: &mut HashMap<AccountNumber, usize>,
     number: AccountNumber,
     rows: NamedRows,
@@ -329,7 +330,7 @@ pub(crate) fn charges_in<'e>(accounts: &'e Accounts, number: &AccountNumber) -> 
 }
 
 /// Brings each account to the moment.
-pub(crate) fn advance_entries(entries: &mut Vec<Entry>, shelf: &TariffShelf, moment: Moment)
+pub(crate) fn advance_entries(entries: &mut Vec<AccountEntry>, shelf: &TariffShelf, moment: Moment)
     ensures rows { AreSwept shelf.now moment entries.old.items entries.new.items }
 {
     for entry in entries.iter_mut() {
@@ -338,7 +339,7 @@ pub(crate) fn advance_entries(entries: &mut Vec<Entry>, shelf: &TariffShelf, mom
 }
 
 /// Brings an account to the moment.
-fn advance_entry(entry: &mut Entry, shelf: &TariffShelf, moment: Moment)
+fn advance_entry(entry: &mut AccountEntry, shelf: &TariffShelf, moment: Moment)
     ensures { IsSweptEntry shelf.now moment entry.old entry.new }
 {
     entry.rows.advance(shelf, moment);

@@ -16,11 +16,11 @@ pub enum StoreFault {
 
 impl StoreFault {
     ghost use Rattle.std.specs.Prelude.{◌≡◌};
-    ghost use Rattle.keepers.specs.Faults.{fault_number};
+    ghost use Rattle.keepers.specs.Faults.{store_fault_number};
 
     /// The number of the fault, 1 or 2.
     pub fn number(self) -> u8
-        ensures { result ≡ fault_number self }
+        ensures { result ≡ store_fault_number self }
     {
         match self {
             StoreFault::Memory => 1,

@@ -2,7 +2,7 @@
 
 ghost use Rattle.std.specs.Prelude.{◌≡◌, ◌≤◌, ℕ, IfOk, OnOk, is_some};
 ghost use Rattle.keepers.specs.Faults.{max_failures};
-ghost use Rattle.keepers.specs.Keeping.{Reads, Keeps};
+ghost use Rattle.keepers.specs.Keeping.{KeeperReads, Keeps};
 ghost use Rattle.keepers.specs.Tables.{Tables};
 ghost use Rattle.keepers.specs.Change.{IsLoad, IsView, AreDeadOf, changed};
 ghost use Rattle.keepers.specs.Change.{with_voucher, IsSwept};
@@ -46,7 +46,7 @@ pub trait Keeper {
 
     /// The moment of the last accepted command.
     fn last(&mut self) -> Result<Moment, StoreFault>
-        ensures { Reads content failed honest clean left self.old self.new
+        ensures { KeeperReads content failed honest clean left self.old self.new
             (λ t. t ≡ (content self.old).last) result };
 
     /// What may still change of the account of this number at the moment, priced by the shelf; None
@@ -57,7 +57,7 @@ pub trait Keeper {
         account: &AccountNumber,
         moment: Moment,
     ) -> Result<Option<Loaded<'b>>, StoreFault>
-        ensures { Reads content failed honest clean left self.old self.new
+        ensures { KeeperReads content failed honest clean left self.old self.new
             (λ found. IsLoad shelf.now moment account.now
             ((content self.old).rows account.now) found) result };
 
@@ -69,12 +69,12 @@ pub trait Keeper {
         account: &AccountNumber,
         moment: Moment,
     ) -> Result<Option<Account<'b>>, StoreFault>
-        ensures { Reads content failed honest clean left self.old self.new
+        ensures { KeeperReads content failed honest clean left self.old self.new
             (λ found. IsView shelf.now moment ((content self.old).rows account.now) found) result };
 
     /// Whether there is an account of this number.
     fn has_account(&mut self, account: &AccountNumber) -> Result<bool, StoreFault>
-        ensures { Reads content failed honest clean left self.old self.new
+        ensures { KeeperReads content failed honest clean left self.old self.new
             (λ there. there ≡ is_some ((content self.old).rows account.now).head) result };
 
     /// Whether an account has a row of this session, which may be over.
@@ -83,14 +83,14 @@ pub trait Keeper {
         account: &AccountNumber,
         session: &SessionId,
     ) -> Result<bool, StoreFault>
-        ensures { Reads content failed honest clean left self.old self.new
+        ensures { KeeperReads content failed honest clean left self.old self.new
             (λ known. known ≡ is_some (((content self.old).rows account.now).sessions session.now))
             result };
 
     /// The buckets of an account that can't be used any more, which `load` leaves, in the order of
     /// their numbers; none where there is no account.
     fn dead_buckets(&mut self, account: &AccountNumber) -> Result<Vec<Bucket>, StoreFault>
-        ensures { Reads content failed honest clean left self.old self.new
+        ensures { KeeperReads content failed honest clean left self.old self.new
             (λ found. AreDeadOf ((content self.old).rows account.now) found.items) result };
 
     /// What is kept under a key of an account; None where nothing is.
@@ -99,12 +99,12 @@ pub trait Keeper {
         account: &AccountNumber,
         key: &Key,
     ) -> Result<Option<KeptAnswer>, StoreFault>
-        ensures { Reads content failed honest clean left self.old self.new
+        ensures { KeeperReads content failed honest clean left self.old self.new
             (λ found. found ≡ (content self.old).answers account.now key.now) result };
 
     /// What stands under the code of a voucher; None where nothing does.
     fn find_voucher(&mut self, code: &VoucherCode) -> Result<Option<Voucher>, StoreFault>
-        ensures { Reads content failed honest clean left self.old self.new
+        ensures { KeeperReads content failed honest clean left self.old self.new
             (λ found. found ≡ (content self.old).vouchers code.now) result };
 
     /// Makes the change, in one transaction, and nothing else. At a fault nothing has changed.

@@ -1,12 +1,12 @@
 //! What is loaded of an account, and the change made of it.
 
-ghost use Rattle.std.specs.Prelude.{◌≡◌, IfOk};
+ghost use Rattle.std.specs.Prelude.{◌≡◌, IfOk, option_copied};
 ghost use Rattle.reserving.specs.Stored.{stored};
-ghost use Rattle.keepers.specs.Differing.{named_rows};
+ghost use Rattle.keepers.specs.Differing.{named_for};
 
 use crate::key::KeptAnswer;
 use crate::named_rows::NamedRows;
-use identifiers::{AccountNumber, VoucherCode};
+use identifiers::{AccountNumber, SessionId, VoucherCode};
 use reserving::{Account, ChargeRow, StoredAccount};
 use std::alloc::{AllocError, Global};
 use units::Moment;
@@ -50,23 +50,40 @@ pub struct Change {
     pub redeemed: Option<Redeemed>,
 }
 
+/// The rows that differ: of one session alone, or of all.
+fn named_for(
+    alloc: Global,
+    own: Option<&SessionId>,
+    before: &StoredAccount,
+    after: &StoredAccount,
+) -> Result<NamedRows, AllocError>
+    ensures { IfOk result
+        (λ named. named ≡ named_for (option_copied own.entry) before.now after.now) }
+{
+    match own {
+        Some(session) => NamedRows::differing_of(alloc, session, before, after),
+        None => NamedRows::differing(alloc, before, after),
+    }
+}
+
 impl Loaded<'_> {
-    /// What changes, once a command made its call on the account.
+    /// What changes, once a command made its call on the account. Where the rows of one session
+    /// alone may have changed, no other session's row is looked at.
     ///
     /// # Errors
     /// Out of memory; the account is given up then, and nothing has changed.
     pub fn into_change(
         self,
         alloc: Global,
-        moment: Moment,
+        own: Option<&SessionId>,
         charges: Vec<ChargeRow>,
         kept: Option<KeptAnswer>,
         redeemed: Option<Redeemed>,
     ) -> Result<Change, AllocError>
         ensures { IfOk result (λ change. change ≡ record {
-          moment = moment;
+          moment = self.entry.account.as_of;
           number = self.entry.number;
-          rows = named_rows self.entry.before (stored self.entry.account);
+          rows = named_for (option_copied own.entry) self.entry.before (stored self.entry.account);
           charges = charges;
           kept = kept;
           redeemed = redeemed;
@@ -77,8 +94,9 @@ impl Loaded<'_> {
             account,
             before,
         } = self;
+        let moment = account.as_of();
         let after = account.into_stored();
-        let rows = NamedRows::differing(alloc, &before, &after)?;
+        let rows = named_for(alloc, own, &before, &after)?;
         Ok(Change {
             moment,
             number,

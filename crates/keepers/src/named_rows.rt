@@ -1,13 +1,17 @@
 //! The rows that a change names: those that differ from the ones that were loaded.
 
-ghost use Rattle.std.specs.Prelude.{◌≡◌, IfOk};
+ghost use Rattle.std.specs.Prelude.{◌≡◌, IfOk, not, option_copied};
+ghost use Rattle.std.specs.List.{list_any};
 ghost use Rattle.reserving.specs.Left.{differing};
 ghost use Rattle.keepers.specs.Differing.{equal_bucket, equal_counter, equal_session, equal_group};
-ghost use Rattle.keepers.specs.Differing.{named_rows};
+ghost use Rattle.keepers.specs.Differing.{named_rows, named_rows_of, is_changed, changed_session};
 ghost use Rattle.keepers.specs.Naming.{IsNamed};
 
-use crate::differing::{is_new_bucket, is_new_counter, is_new_group, is_new_session};
+use crate::differing::{
+    any_group, equal_session, is_new_bucket, is_new_counter, is_new_group, is_new_session,
+};
 use buckets::Bucket;
+use identifiers::SessionId;
 use reserving::{Counter, Session, SessionGroup, StoredAccount};
 use std::alloc::{AllocError, Global};
 use std::marker::Model;
@@ -63,6 +67,34 @@ impl NamedRows {
             counters: new_counters(alloc, before, after.counters())?,
             sessions: new_sessions(alloc, before, after.sessions())?,
             groups: new_groups(alloc, before, after.groups())?,
+        })
+    }
+
+    /// The rows of one session that differ from what they were, beside buckets and counters: no row
+    /// of another session is looked at.
+    ///
+    /// # Errors
+    /// Out of memory.
+    pub fn differing_of(
+        alloc: Global,
+        session: &SessionId,
+        before: &StoredAccount,
+        after: &StoredAccount,
+    ) -> Result<NamedRows, AllocError>
+        ensures { IfOk result (λ named. named ≡ named_rows_of session.now before.now after.now) }
+    {
+        // For the prover alone: looking at the values makes known here what their types keep.
+        let _before = before.as_of();
+        let _kept = after.as_of();
+        Ok(NamedRows {
+            as_of: after.as_of(),
+            barred: after.is_barred(),
+            next_bucket: after.next_bucket(),
+            next_charge: after.next_charge(),
+            buckets: new_buckets(alloc, before, after.purse().buckets())?,
+            counters: new_counters(alloc, before, after.counters())?,
+            sessions: changed_session(alloc, before.session(session), after.session(session))?,
+            groups: changed_groups(alloc, before.groups_of(session), after.groups_of(session))?,
         })
     }
 
@@ -212,6 +244,60 @@ fn new_groups(
     let mut cursor = 0;
     'rows: for row in rows {
         if is_new_group(before, &mut cursor, row) {
+            new.push(copy_of_group(row)?)?;
+        }
+    }
+    Ok(new)
+}
+
+/// Whether the row of a session differs from what it was.
+fn is_changed(before: Option<&Session>, row: &Session) -> bool
+    ensures { result ≡ is_changed (option_copied before.entry) row.now }
+{
+    match before {
+        Some(old) => !equal_session(row, old),
+        None => true,
+    }
+}
+
+/// The row of a session, where it differs from what it was.
+fn changed_session(
+    alloc: Global,
+    before: Option<&Session>,
+    after: Option<&Session>,
+) -> Result<Vec<Session>, AllocError>
+    ensures { IfOk result (λ new. new.items
+        ≡ changed_session (option_copied before.entry) (option_copied after.entry)) }
+{
+    let mut new = Vec::new(alloc);
+    let Some(row) = after else {
+        return Ok(new);
+    };
+    if !is_changed(before, row) {
+        return Ok(new);
+    }
+    new.push(copy_of_session(row)?)?;
+    Ok(new)
+}
+
+/// Whether what a session has of a group differs from all of these.
+fn is_other_group(before: &[SessionGroup], row: &SessionGroup) -> bool
+    ensures { result ≡ not (list_any (equal_group row.now) before.now) }
+{
+    !any_group(before, row)
+}
+
+/// What a session has of groups that differs from all that it had.
+fn changed_groups(
+    alloc: Global,
+    before: &[SessionGroup],
+    rows: &[SessionGroup],
+) -> Result<Vec<SessionGroup>, AllocError>
+    ensures { IfOk result (λ new. new.items ≡ differing equal_group before.now rows.now) }
+{
+    let mut new = Vec::new(alloc);
+    'rows: for row in rows {
+        if is_other_group(before, row) {
             new.push(copy_of_group(row)?)?;
         }
     }

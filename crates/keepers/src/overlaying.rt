@@ -5,7 +5,7 @@ ghost use Rattle.std.specs.List.{list_any};
 ghost use Rattle.std.specs.List.Sorted.{IsPermutation};
 ghost use Rattle.reserving.specs.Restored.{given};
 ghost use Rattle.keepers.specs.Overlaying.{stays_bucket, stays_counter, stays_session};
-ghost use Rattle.buckets.specs.Row.{Row};
+ghost use Rattle.buckets.specs.Row.{BucketRow};
 ghost use Rattle.keepers.specs.Overlaying.{stays_group, rows_over, IsAccountOf, IsGivenOver};
 
 use crate::named_rows::{NamedRows, copy_of_group};
@@ -111,7 +111,7 @@ pub(crate) fn rows_over(
     back: &[SessionGroup],
     live: &StoredAccount,
 ) -> Result<StoredAccount, AllocError>
-    ensures { IfOk result (λ v. (buckets : List Row) →
+    ensures { IfOk result (λ v. (buckets : List BucketRow) →
         IsPermutation (filter (stays_bucket buckets) live.now.buckets ++ buckets) rows.purse →
         IsAccountOf (rows_over (record (given rows) { buckets = buckets }) back.now live.now) v) }
 {
@@ -191,8 +191,8 @@ fn sessions_over(
     Ok(rows)
 }
 
-/// Whether a group's row stays beside those that are named: it isn't named, and has a reservation or
-/// is of one of these sessions. The session's row is looked for from this place on.
+/// Whether a group's row stays beside those that are named: it isn't named, and has a reservation
+/// or is of one of these sessions. The session's row is looked for from this place on.
 fn stays_group(
     named: &[SessionGroup],
     sessions: &[Session],

@@ -1,7 +1,7 @@
 //! Charges that a keeper gives some at a time.
 
 ghost use Rattle.std.specs.Prelude.{◌≡◌, ℕ, List, None, OnErr};
-ghost use Rattle.keepers.specs.Keeping.{Reads};
+ghost use Rattle.keepers.specs.Keeping.{KeeperReads};
 ghost use Rattle.keepers.specs.Pages.{IsPage};
 ghost use Rattle.keepers.specs.Visits.{SeesCharges, SeesBeginning, IsShown};
 
@@ -29,7 +29,8 @@ pub trait ChargePages: Keeper {
     /// The charges of an account beyond this number, as many as a page has; none where there is no
     /// account.
     fn page(&mut self, account: &AccountNumber, after: u32) -> Result<ChargePage, StoreFault>
-        ensures { Reads Self.content Self.failed Self.honest Self.clean Self.left self.old self.new
+        ensures { KeeperReads Self.content Self.failed Self.honest Self.clean Self.left self.old
+            self.new
             (λ page. IsPage ((Self.content self.old).charges account.now) after page) result };
 
     /// Charges are numbered from 1.
@@ -48,7 +49,7 @@ pub fn show_pages<K: ChargePages, V: ChargeVisitor>(
     until: Moment,
     visitor: &mut V,
 ) -> Result<(), StoreFault>
-    ensures reads { Reads K.content K.failed K.honest K.clean K.left keeper.old keeper.new
+    ensures reads { KeeperReads K.content K.failed K.honest K.clean K.left keeper.old keeper.new
         (λ _. SeesCharges V.sees from until ((K.content keeper.old).charges account.now)
         visitor.old visitor.new) result }
     ensures beginning { K.clean keeper.new →

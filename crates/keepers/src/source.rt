@@ -1,7 +1,7 @@
 //! What gives an account's charges, and what is shown them.
 
 ghost use Rattle.std.specs.Prelude.{◌≡◌, Bool, OnErr};
-ghost use Rattle.keepers.specs.Keeping.{Reads};
+ghost use Rattle.keepers.specs.Keeping.{KeeperReads};
 ghost use Rattle.reserving.specs.ChargeColumns.{ChargeColumns};
 ghost use Rattle.keepers.specs.Visits.{SeesCharges, SeesBeginning, IsShown};
 
@@ -36,7 +36,8 @@ pub trait ChargeSource: Keeper {
         until: Moment,
         visitor: &mut V,
     ) -> Result<(), StoreFault>
-        ensures reads { Reads Self.content Self.failed Self.honest Self.clean Self.left self.old
+        ensures reads { KeeperReads Self.content Self.failed Self.honest Self.clean Self.left
+            self.old
             self.new (λ _. SeesCharges V.sees from until
             ((Self.content self.old).charges account.now) visitor.old visitor.new) result }
         ensures beginning { Self.clean self.new →

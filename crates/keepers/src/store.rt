@@ -14,7 +14,7 @@ ghost use Rattle.reserving.specs.Ledger.{Ledger};
 ghost use Rattle.keepers.specs.Tables.{no_rows};
 ghost use Rattle.keepers.specs.Whole.{AreWhole};
 ghost use Rattle.reserving.specs.Rows.{EachIn};
-ghost use Rattle.keepers.specs.Parts.{rows_of, with_live, advanced_parts, leaves_bucket};
+ghost use Rattle.keepers.specs.Parts.{rows_of_parts, with_live, advanced_parts, leaves_bucket};
 ghost use Rattle.keepers.specs.Parts.{leaves_counter, leaves_session, leaves_group};
 ghost use Rattle.keepers.specs.Named.{is_numbered, is_named, is_left_now, may_go_on};
 ghost use Rattle.keepers.specs.Named.{AreLeftBuckets, AreLeftCounters, AreLeftSessions};
@@ -96,7 +96,7 @@ impl Model for Store {
 impl Store {
     /// A new account's rows: those of a change.
     pub(crate) fn first(alloc: Global, named: NamedRows) -> Result<Store, AllocError>
-        ensures { IfOk result (λ store. rows_of store ≡ over named no_rows) }
+        ensures { IfOk result (λ store. rows_of_parts store ≡ over named no_rows) }
     {
         // For the prover alone: looking at the value makes known here what its type keeps.
         let _named = named.as_of();
@@ -110,7 +110,7 @@ impl Store {
           live = live;
           left = record { buckets = []; counters = []; sessions = []; groups = [] };
         } }
-        ensures over { rows_of result ≡ over live no_rows }
+        ensures over { rows_of_parts result ≡ over live no_rows }
     {
         // For the prover alone: looking at the value makes known here what its type keeps.
         let _kept = live.as_of();
@@ -141,7 +141,7 @@ impl Store {
         moment: Moment,
     ) -> Result<Account<'b>, LoadFault>
         ensures { IfOk result (λ account. IsLoadedFrom shelf.now moment
-            (rows_of self.now) account) }
+            (rows_of_parts self.now) account) }
     {
         let _kept = self.live.as_of();
         let others = going_on(&self.known.cycles, &self.left.counters, shelf, moment);
@@ -150,14 +150,14 @@ impl Store {
 
     /// A copy of the buckets that can't be used any more.
     pub(crate) fn dead_buckets(&self) -> Result<Vec<Bucket>, AllocError>
-        ensures { IfOk result (λ found. AreDeadOf (rows_of self.now) found.items) }
+        ensures { IfOk result (λ found. AreDeadOf (rows_of_parts self.now) found.items) }
     {
         dead_rows(&self.left.buckets, &self.live)
     }
 
     /// A copy of every row.
     pub(crate) fn whole(&self) -> Result<WholeAccount, AllocError>
-        ensures { IfOk result (AreWhole (rows_of self.now)) }
+        ensures { IfOk result (AreWhole (rows_of_parts self.now)) }
     {
         Ok(WholeAccount {
             buckets: all_buckets(&self.left.buckets, &self.live)?,
@@ -179,7 +179,7 @@ impl Store {
     /// Puts the rows of a change over those that stand. At a fault nothing has changed, as where
     /// they would be no rows of an account.
     pub(crate) fn put(&mut self, named: NamedRows) -> Result<(), AllocError>
-        ensures over { OnOk result (rows_of self.new ≡ over named (rows_of self.old)) }
+        ensures over { OnOk result (rows_of_parts self.new ≡ over named (rows_of_parts self.old)) }
         ensures err { OnErr result (self.new ≡ self.old) }
     {
         let _named = named.as_of();
@@ -201,8 +201,8 @@ impl Store {
     /// Puts these rows in the place of those that were live. At a fault nothing has changed.
     fn replace(&mut self, after: StoredAccount) -> Result<(), AllocError>
         ensures parts { OnOk result (self.new ≡ with_live after self.old) }
-        ensures over { OnOk result (IsRestDead after (rows_of self.old) →
-            rows_of self.new ≡ over after (rows_of self.old)) }
+        ensures over { OnOk result (IsRestDead after (rows_of_parts self.old) →
+            rows_of_parts self.new ≡ over after (rows_of_parts self.old)) }
         ensures err { OnErr result (self.new ≡ self.old) }
     {
         let _kept = after.as_of();
@@ -221,9 +221,10 @@ impl Store {
     pub(crate) fn advance(&mut self, shelf: &TariffShelf, moment: Moment)
         ensures parts { self.new ≡ advanced_parts shelf.now moment self.old }
         ensures rows { (ledger : Ledger) (u : ℕ) → u ≤ moment →
-            AreRowsAt shelf.now ledger u (rows_of self.old) →
-            AreRowsAt shelf.now ledger moment (rows_of self.new) }
-        ensures listed { AreBroughtTo shelf.now moment (rows_of self.old) (rows_of self.new) }
+            AreRowsAt shelf.now ledger u (rows_of_parts self.old) →
+            AreRowsAt shelf.now ledger moment (rows_of_parts self.new) }
+        ensures listed { AreBroughtTo shelf.now moment (rows_of_parts self.old)
+            (rows_of_parts self.new) }
     {
         let _kept = self.live.as_of();
         let _ranges = shelf.first();
@@ -273,9 +274,9 @@ fn stands_at(rows: &[Session], place: usize, session: &SessionId) -> bool
     false
 }
 
-/// Whether there is a row of this session, for a walk that asks for sessions in their order: the row
-/// mostly stands at the place of the last one or at the next one, and is searched for only where it
-/// doesn't. The place is then that of the row.
+/// Whether there is a row of this session, for a walk that asks for sessions in their order: the
+/// row mostly stands at the place of the last one or at the next one, and is searched for only
+/// where it doesn't. The place is then that of the row.
 pub(crate) fn has_session_near(rows: &[Session], place: &mut usize, session: &SessionId) -> bool
     ensures { result ≡ is_some (session_in session.now rows.now) }
 {
@@ -723,8 +724,8 @@ fn any_named(names: &HashMap<SessionId, bool>, rows: &[Session]) -> bool
     rows.iter().any(|row| names.contains_key(&row.id))
 }
 
-/// Whether a session is known. None of these sessions is; its row is looked for among them from this
-/// place on.
+/// Whether a session is known. None of these sessions is; its row is looked for among them from
+/// this place on.
 fn is_known(
     names: &HashMap<SessionId, bool>,
     sessions: &[Session],

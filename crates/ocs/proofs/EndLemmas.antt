@@ -1,5 +1,5 @@
 -- How the program ends, by what its words say and by why they weren't read.
-use Rattle.std.proofs.Common.{◌≡◌, ℕ, ◌≤◌, ◌+◌, ◌++◌, ◌∷◌, ◌⊎◌, Bool, true, false, List, [], take}
+use Rattle.std.proofs.Common.{◌≡◌, ℕ, ◌≤◌, ◌+◌, ◌++◌, ◌∷◌, ◌⊎◌, Bool, true, false, List, []}
 use Rattle.std.proofs.Common.{sym, ap, subst, ◌∙◌, refl, inl, inr, Option, Some, None, Result, Ok}
 use Rattle.std.proofs.Common.{Err}
 use Rattle.std.specs.Prelude.{IfErr, IfSome, OnErr, min}
@@ -12,15 +12,13 @@ use Rattle.clap.specs.Words.{IsAmong, Kinds, Text, fault_of}
 use Rattle.clap.specs.declared.error.kind.ErrorKind.{ErrorKind}
 use Rattle.keepers.specs.Faults.{max_failures}
 use Rattle.keepers.specs.declared.fault.StoreFault.TheVariants as store
-use Rattle.vouchers.specs.declared.fault.VoucherFault.{VoucherFault}
 use Rattle.commands.specs.declared.answer.Answer.{Answer}
 use Rattle.commands.specs.declared.answer.Answer.TheVariants as answer
 use Rattle.operations.specs.Months.{unknown_line}
 use Rattle.operations.specs.Printed.{IsEnded, PrintsAnswer}
 use Rattle.operations.specs.Told.{status_of}
 use Rattle.operations.specs.Written.{WritesBeginning}
-use Rattle.operations.proofs.Beginnings.{all_written, beginning_before, nothing_written}
-use Rattle.operations.proofs.Beginnings.{some_written}
+use Rattle.operations.proofs.Beginnings.{all_written, nothing_written}
 use Rattle.operations.specs.declared.status.Status.{Status}
 use Rattle.operations.specs.declared.status.Status.TheVariants.{Done, Failed, Unread}
 use Rattle.operator.specs.Program.{program_app}
@@ -33,11 +31,10 @@ use Rattle.operator.specs.declared.parsed.ProgramWords.TheVariants as words
 use Rattle.service.specs.declared.fault.DatabaseFault.{DatabaseFault}
 use Rattle.ocs.specs.Ends.{HasPrinted, IfOnce, IsEnd, IsEndBy, IsEndOf, IsMemory, IsRefused}
 use Rattle.ocs.specs.Ends.{HasBegun, Says}
-use Rattle.ocs.specs.Faults.{IsFaultIn, IsFaultOf, IsFaultTold, IsMemoryFault, IsReachedByLines}
+use Rattle.ocs.specs.Faults.{IsFaultIn, IsFaultOf, IsMemoryFault, IsReachedByLines}
 use Rattle.ocs.specs.Faults.{IsWriteFault, OnlyDone}
-use Rattle.ocs.specs.Told.{AreUnread, IsSilent, IsTextTold, IsTold}
+use Rattle.ocs.specs.Told.{AreUnread, IsTextTold, IsTold}
 use Rattle.ocs.specs.Told.{IsToldAtEnd, IsToldBy, IsToldOf, LeavesOutput, ServesConnections}
-use Rattle.ocs.specs.Told.{TellsAs}
 use Rattle.ocs.specs.Told.{TellsFault, fault_line, line_of}
 use Rattle.request_lines.specs.declared.fault.LinesFault.{LinesFault}
 use Rattle.request_lines.specs.declared.fault.LinesFault.TheVariants.{Read, Store, Both, Write}
@@ -133,16 +130,15 @@ done_said texts (words.Serve serve) old new h told =
 done_said texts _ old new h told = inl (keeps_of old new told)
 
 told_in : (texts : List Text) (said : ProgramWords) → IsSaid texts said → (f : ProgramFault) →
-    IsFaultTold said f → IsFaultIn texts f
-told_in texts said h f (inl of) = inl (record { said = said; says = h; is = of })
-told_in texts said h f (inr memory) = inr (inl memory)
+    IsFaultOf said f → IsFaultIn texts f
+told_in texts said h f of = inl (record { said = said; says = h; is = of })
 
 pub told_said : (texts : List Text) (said : ProgramWords) (before after : Option (List ℕ))
     (status : Status) (old new : Option (List ℕ)) → IsSaid texts said →
     IsToldBy said before after status old new → IsTold texts before after status old new
 told_said texts said before after Done old new h told = done_said texts said old new h told
 told_said texts said before after Failed old new h (inl told) =
-    inl (tells_from (IsFaultTold said) (IsFaultIn texts) (LeavesOutput said before after)
+    inl (tells_from (IsFaultOf said) (IsFaultIn texts) (LeavesOutput said before after)
     (λ f. (other : ProgramWords) → IsSaid texts other → LeavesOutput other before after f) old new
     (told_in texts said h)
     (λ f leaves other k. subst (λ (s : ProgramWords). LeavesOutput s before after f)
@@ -237,39 +233,20 @@ answered_ends Done old new printed = tt
 answered_ends Failed old new printed = printed
 answered_ends Unread old new printed = subst IsRead (sym printed.is) (is_read printed.answer)
 
--- nothing is printed before a fault of a file of vouchers
-silent_vouchers : (said : ProgramWords) (f : VoucherFault) → IsSilent said (program.Vouchers f)
-silent_vouchers (words.Once once) f = tt
-silent_vouchers _ f = tt
-
--- a fault by its line, or want of memory for that
-tells_as : (said : ProgramWords) (before after : Option (List ℕ)) (f : ProgramFault)
-    (old new : Option (List ℕ)) → IsFaultOf said f →
-    LeavesOutput said before after f → TellsAs f old new →
-    TellsFault (IsFaultTold said) (LeavesOutput said before after) old new
-tells_as said before after (program.Lines f) old new reached leaves told =
-    record { fault = program.Lines f; reached = inl reached; silent = leaves; written = told }
-tells_as said before after (program.Stream f) old new reached leaves told =
-    record { fault = program.Stream f; reached = inl reached; silent = leaves; written = told }
-tells_as said before after (program.Database f) old new reached leaves told =
-    record { fault = program.Database f; reached = inl reached; silent = leaves; written = told }
-tells_as said before after (program.Vouchers f) old new reached leaves (inl told) =
-    record { fault = program.Vouchers f; reached = inl reached; silent = leaves; written = told }
-tells_as said before after (program.Vouchers f) old new reached leaves (inr told) = record {
-  fault = program.Stream stream.Memory;
-  reached = inr refl;
-  silent = λ silent. leaves (silent_vouchers said f);
-  written = told;
-}
-
+-- a fault is told by its line
 pub fault_told : (said : ProgramWords) (before after : Option (List ℕ)) (f : ProgramFault)
     (status : Status) (old mid new : Option (List ℕ)) → status ≡ Failed →
     IsFaultOf said f → LeavesOutput said before after f → mid ≡ old →
-    TellsAs f mid new → IsToldBy said before after status old new
+    WritesBeginning mid new (fault_line f ++ 10 ∷ []) → IsToldBy said before after status old new
 fault_told said before after f status old mid new is reached leaves same told =
     subst (λ (s : Status). IsToldBy said before after s old new) (sym is)
-    (inl (tells_as said before after f old new reached leaves
-    (subst (λ (w : Option (List ℕ)). TellsAs f w new) same told)))
+    (inl (record {
+      fault = f;
+      reached = reached;
+      silent = leaves;
+      written = subst (λ (w : Option (List ℕ)). WritesBeginning w new (fault_line f ++ 10 ∷ []))
+          same told;
+    }))
 
 pub fault_end : (status : Status) → status ≡ Failed → IsEndBy status
 fault_end status is = subst IsEndBy (sym is) tt
@@ -407,11 +384,6 @@ not_done fault.Invalid status memory end e = memory
 not_done fault.Memory status memory end e = subst (IsEndOf fault.Memory) e end
 
 -- ---- lines
-
--- a beginning of a line is one of the line with more
-pub part_told : (a b : Option (List ℕ)) (line more : List ℕ) → (n : ℕ) × Appends a b (take n line) →
-    WritesBeginning a b (line ++ more)
-part_told a b line more h = beginning_before a b line more (some_written a b line h.0 h.1)
 
 -- nothing is a beginning of each text
 pub unwritten_begins : (r old new : Option (List ℕ)) (text : List ℕ → List ℕ) → new ≡ old →

@@ -12,7 +12,7 @@ use Rattle.charging.specs.Outcomes.{book_days, outcome}
 use Rattle.charging.specs.Continued.{ForEachList}
 use Rattle.charging.specs.Served.{AreTables}
 use Rattle.operations.specs.Written.{WritesBeginning}
-use Rattle.request_lines.specs.Served.{IsAnswered, IsBegun, text_of}
+use Rattle.request_lines.specs.Served.{IsAnswered, AreLinesBegun, text_of}
 use Rattle.request_lines.proofs.Answered.{begins}
 use Rattle.ocs.specs.Once.{once_text}
 
@@ -30,12 +30,12 @@ once-answered (Ok x) b c credit (Some stream) w0 w1 old new same none h =
 pub once-begun : {A E : Type 0} (result : Result A E) (b : Shelf) (c : Book) (credit : ℕ)
     (r w0 w1 : Option (List ℕ)) (old new : Tables) → b ≡ one_book c → old ≡ no_tables →
     OnErr result
-    (IfSome r (λ stream. ForEachList b old (IsBegun b (Some credit) stream w0 w1 new))) →
+    (IfSome r (λ stream. ForEachList b old (AreLinesBegun b (Some credit) stream w0 w1 new))) →
     OnErr result (IfSome r (λ stream. WritesBeginning w0 w1 (once_text c credit stream)))
 once-begun (Ok x) b c credit r w0 w1 old new same none h = tt
 once-begun (Err e) b c credit None w0 w1 old new same none h = tt
 once-begun (Err e) b c credit (Some stream) w0 w1 old new same none h =
-    let begun : IsBegun b (Some credit) stream w0 w1 new [] =
+    let begun : AreLinesBegun b (Some credit) stream w0 w1 new [] =
     h [] tt (subst (AreTables b []) (sym none) (tables_none (book_days b) (outcome b) b)) in
     subst (λ (shelf : Shelf). WritesBeginning w0 w1 (text_of shelf [] (Some credit) stream)) same
     (begins b [] (Some credit) stream begun.count w0 w1 begun.written)

@@ -81,10 +81,6 @@ IsMemoryFault fault = fault ≡ program.Stream stream.Memory
 abbrev pub IsWriteFault : ProgramFault → Type 0
 IsWriteFault fault = fault ≡ program.Stream stream.Write
 
--- what the words say comes to the fault, or memory was refused for its line
-abbrev pub IsFaultTold : ProgramWords → ProgramFault → Type 0
-IsFaultTold said fault = IsFaultOf said fault ⊎ IsMemoryFault fault
-
 -- so it is of what these words say; or memory was refused to read them; or they say no command, and
 -- the text that they ask for wasn't written
 abbrev pub IsFaultIn : List Text → ProgramFault → Type 0

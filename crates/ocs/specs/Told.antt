@@ -1,13 +1,11 @@
 -- What the program tells on standard error.
 -- Source: profile.
 use Rattle.std.specs.Prelude.{◌≡◌, ◌≤◌, ◌⊎◌, ◌++◌, ◌∷◌, ℕ, List, [], Option, Some, None, codes}
-use Rattle.std.specs.Fmt.{decimal}
 use Rattle.std.specs.Io.KnownBytes.{Keeps}
 use Rattle.texts.specs.StreamWords.{Bytes}
 use Rattle.texts.specs.declared.streams.StreamFault.{StreamFault}
-use Rattle.texts.specs.declared.streams.StreamFault.TheVariants as stream
 use Rattle.clap.specs.Words.{Text}
-use Rattle.operations.specs.Told.{stream_line}
+use Rattle.operations.specs.Told.{FaultWords, about_stream, numbered_words, place_told, told_line}
 use Rattle.operations.specs.Written.{WritesBeginning}
 use Rattle.operations.specs.declared.status.Status.{Status}
 use Rattle.operations.specs.declared.status.Status.TheVariants.{Done, Failed, Unread}
@@ -18,14 +16,13 @@ use Rattle.operator.specs.declared.parsed.ProgramWords.{ProgramWords}
 use Rattle.operator.specs.declared.parsed.ProgramWords.TheVariants as words
 use Rattle.operator.specs.declared.parsed.ServeWords.{ServeWords}
 use Rattle.service.specs.Opening.{IsUnanswered, IsUnasked}
-use Rattle.service.specs.Told.{fault_line as database_line}
+use Rattle.service.specs.Told.{about_database}
 use Rattle.service.specs.declared.fault.DatabaseFault.{DatabaseFault}
 use Rattle.service.specs.ServingTold.{IsUnlistened, TellsFaults, listening_line}
-use Rattle.request_lines.specs.Told.{lines_line}
-use Rattle.vouchers.specs.Faults.{number_of}
-use Rattle.vouchers.specs.declared.fault.VoucherFault.{VoucherFault}
+use Rattle.request_lines.specs.Told.{about_lines}
+use Rattle.vouchers.specs.Faults.{voucher_fault_number}
 use Rattle.ocs.specs.Ends.{IsRefused, Says}
-use Rattle.ocs.specs.Faults.{IsFaultIn, IsFaultTold, IsMemoryFault, IsWriteFault}
+use Rattle.ocs.specs.Faults.{IsFaultIn, IsFaultOf, IsMemoryFault, IsWriteFault}
 use Rattle.request_lines.specs.declared.fault.LinesFault.{LinesFault}
 use Rattle.request_lines.specs.declared.fault.LinesFault.TheVariants.{Read, Store, Both, Write}
 use Rattle.ocs.specs.declared.fault.ProgramFault.{ProgramFault}
@@ -33,17 +30,21 @@ use Rattle.ocs.specs.declared.fault.ProgramFault.TheVariants as program
 
 -- ---- lines, without their line feeds
 
--- a fault of a file of vouchers
-abbrev pub voucher_line : VoucherFault → Bytes
-voucher_line fault = codes "ocs: voucher fault " ++ (decimal (number_of fault.kind)
-    ++ (codes " at record " ++ decimal fault.record_number))
+-- what a fault is told by: what failed, and its number where it has one
+abbrev pub about_fault : ProgramFault → FaultWords
+about_fault (program.Lines fault) = about_lines fault
+about_fault (program.Stream fault) = about_stream fault
+about_fault (program.Database fault) = about_database fault
+about_fault (program.Vouchers fault) =
+    numbered_words (codes "ocs: voucher fault") (voucher_fault_number fault.kind)
 
--- and of the program
+-- the record that one of a file of vouchers is at
+abbrev pub fault_place : ProgramFault → Option ℕ
+fault_place (program.Vouchers fault) = Some fault.record_number
+fault_place _ = None
+
 abbrev pub fault_line : ProgramFault → Bytes
-fault_line (program.Lines fault) = lines_line fault
-fault_line (program.Stream fault) = stream_line fault
-fault_line (program.Database fault) = database_line fault
-fault_line (program.Vouchers fault) = voucher_line fault
+fault_line fault = told_line (about_fault fault) ++ place_told (fault_place fault)
 
 -- a word isn't what its place takes
 abbrev pub invalid_line : Bytes
@@ -84,9 +85,9 @@ IfDatabase (program.Database fault) says = says fault
 IfDatabase _ says = Unit {0}
 
 -- nothing is printed before this fault: of `once` and `replay` the lines weren't read, of `init`,
--- `migrate` and `book` the database isn't made or changed, of `serve` the port isn't listened to, of a
--- statement the office isn't asked, of others there is no answer; so it is of each fault that the
--- words don't come to
+-- `migrate` and `book` the database isn't made or changed, of `serve` the port isn't listened to,
+-- of a statement the office isn't asked, of others there is no answer; so it is of each fault that
+-- the words don't come to
 abbrev pub IsSilent : ProgramWords → ProgramFault → Type 0
 IsSilent (words.Once once) fault = IfLines fault AreUnread
 IsSilent (words.Serve serve) fault = IfDatabase fault IsUnlistened
@@ -110,14 +111,6 @@ pub record TellsFault (Reached Silent : ProgramFault → Type 0) (old new : Opti
   pub silent : Silent fault
   pub written : WritesBeginning old new (fault_line fault ++ 10 ∷ [])
 
--- this fault is, or, where it is one of a file of vouchers, want of memory for its line
-abbrev pub TellsAs : ProgramFault → Option Bytes → Option Bytes → Type 0
-TellsAs (program.Lines fault) old new = WritesBeginning old new (lines_line fault ++ 10 ∷ [])
-TellsAs (program.Stream fault) old new = WritesBeginning old new (stream_line fault ++ 10 ∷ [])
-TellsAs (program.Database fault) old new = WritesBeginning old new (database_line fault ++ 10 ∷ [])
-TellsAs (program.Vouchers fault) old new = WritesBeginning old new (voucher_line fault ++ 10 ∷ [])
-    ⊎ WritesBeginning old new (stream_line stream.Memory ++ 10 ∷ [])
-
 -- connections were served: the faults of some of them, each by its line
 pub record ConnectionsTold (connections : ℕ) (old new : Option Bytes) : Type 0 where
   pub failed : ℕ
@@ -132,7 +125,8 @@ pub record ServesConnections (texts : List Text) (old new : Option Bytes) : Type
 
 -- nothing where all is done, but faults of connections that were served, or where an operator's
 -- command or a statement is refused, which is printed; a fault by its line, which leaves the output
--- as it was where the words print nothing before it; of words that aren't read the text is `clap`'s, and where `clap` takes them a line
+-- as it was where the words print nothing before it; of words that aren't read the text is
+-- `clap`'s, and where `clap` takes them a line
 abbrev pub IsTold : List Text → Option Bytes → Option Bytes → Status → Option Bytes → Option Bytes →
     Type 0
 IsTold texts before after Done old new = Keeps old new ⊎ ServesConnections texts old new
@@ -167,6 +161,6 @@ abbrev pub IsToldBy : ProgramWords → Option Bytes → Option Bytes → Status 
     Option Bytes → Type 0
 IsToldBy said before after Done old new = IsToldAtEnd said old new
 IsToldBy said before after Failed old new =
-    TellsFault (IsFaultTold said) (LeavesOutput said before after) old new
+    TellsFault (IsFaultOf said) (LeavesOutput said before after) old new
     ⊎ (IsRefused said before after × Keeps old new)
 IsToldBy said before after Unread old new = ⊥

@@ -1,9 +1,7 @@
 //! What the words ask for, done.
 
-ghost use Rattle.std.specs.Prelude.{◌≡◌, ◌≢◌, ◌≤◌, ◌++◌, ◌∷◌, [], codes, Err, IfErr, IfOk, IfSome};
-ghost use Rattle.std.specs.Prelude.{OnOk, OnErr};
+ghost use Rattle.std.specs.Prelude.{◌≡◌, ◌≤◌, Err, IfErr, IfOk, IfSome, OnOk, OnErr};
 ghost use Rattle.std.specs.Io.KnownBytes.{Appends};
-ghost use Rattle.keepers.specs.declared.fault.StoreFault.TheVariants.{Store as StoreFailed};
 ghost use Rattle.operations.specs.Printed.{IsEnded};
 ghost use Rattle.operations.specs.Written.{WritesBeginning};
 ghost use Rattle.tariffs.specs.OnceBook.{once_book};
@@ -35,8 +33,8 @@ use tariffs::once_book;
 /// # Errors
 /// Each word has its own: `once` one of lines over memory, `init`, `migrate` and `book` one of the
 /// database or of the writer, `serve` one before the first connection, `import` one of the file or
-/// of its command, an operator's command and a statement their command's, `replay` one of a file, of
-/// the database or of the lines.
+/// of its command, an operator's command and a statement their command's, `replay` one of a file,
+/// of the database or of the lines.
 pub(crate) fn do_said<F: Files, I: Read, O: Write, E: Write>(
     rt: &HostRuntime,
     files: &F,

@@ -1,5 +1,9 @@
 //! Why the program ends with status 1.
 
+ghost use Rattle.std.specs.Prelude.{◌≡◌};
+ghost use Rattle.ocs.specs.Told.{about_fault, fault_place};
+
+use operations::stream_line;
 use request_lines::LinesFault;
 use service::DatabaseFault;
 use texts::StreamFault;
@@ -21,4 +25,42 @@ pub enum ProgramFault {
     /// A file of vouchers has a fault, or wasn't read to its end: nothing is added.
     #[error("voucher fault {} at record {}", .0.kind.number(), .0.record_number)]
     Vouchers(VoucherFault),
+}
+
+impl ProgramFault {
+    /// The line that tells it on standard error, without its number.
+    pub(crate) fn line(self) -> &'static str
+        ensures { result.now ≡ (about_fault self).line }
+    {
+        match self {
+            ProgramFault::Lines(fault) => fault.line(),
+            ProgramFault::Stream(fault) => stream_line(fault),
+            ProgramFault::Database(fault) => fault.line(),
+            ProgramFault::Vouchers(_) => "ocs: voucher fault",
+        }
+    }
+
+    /// Its number, where it has one.
+    pub(crate) fn number(self) -> Option<u8>
+        ensures { result ≡ (about_fault self).number }
+    {
+        match self {
+            ProgramFault::Lines(fault) => fault.number(),
+            ProgramFault::Stream(_) => None,
+            ProgramFault::Database(fault) => fault.number(),
+            ProgramFault::Vouchers(fault) => Some(fault.kind.number()),
+        }
+    }
+
+    /// The record that one of a file of vouchers is at.
+    pub(crate) fn place(self) -> Option<u64>
+        ensures { result ≡ fault_place self }
+    {
+        match self {
+            ProgramFault::Lines(_) => None,
+            ProgramFault::Stream(_) => None,
+            ProgramFault::Database(_) => None,
+            ProgramFault::Vouchers(fault) => Some(fault.record_number),
+        }
+    }
 }

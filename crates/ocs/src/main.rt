@@ -12,7 +12,7 @@ mod telling;
 ghost use Rattle.std.specs.Prelude.{◌≡◌, IfSome};
 ghost use Rattle.std.specs.Io.KnownBytes.{Appends};
 ghost use Rattle.operations.specs.Written.{WritesBeginning};
-ghost use Rattle.operations.specs.declared.status.Status.TheVariants.{Done, Failed, Unread};
+ghost use Rattle.operations.specs.declared.status.Status.TheVariants.{Done, Failed};
 ghost use Rattle.tariffs.specs.OnceBook.{once_book};
 ghost use Rattle.operator.specs.Read.{IsInRange, texts_of};
 ghost use Rattle.operator.specs.declared.parsed.ProgramWords.{ProgramWords};
@@ -56,9 +56,9 @@ fn run_own_words(rt: &HostRuntime) -> io::Result<Status> {
     ))
 }
 
-/// Runs the program's words; the lines of a file are read of `files`. `Done` where what they say was
-/// done, or a text that they ask for was written: the help or the version; of connections that were
-/// served, each one's fault is one line on `errors`. `Failed` where an operator's command or a
+/// Runs the program's words; the lines of a file are read of `files`. `Done` where what they say
+/// was done, or a text that they ask for was written: the help or the version; of connections that
+/// were served, each one's fault is one line on `errors`. `Failed` where an operator's command or a
 /// statement is refused, and at a fault, which is one line on `errors`. `Unread` where they aren't
 /// words of the program: then `output` gets nothing, and `errors` a text that says why.
 pub fn run_words<'a, F: Files, I: Read, O: Write, E: Write>(
@@ -110,6 +110,6 @@ fn run_said<F: Files, I: Read, O: Write, E: Write>(
 {
     match do_said(rt, files, said, input, output, errors) {
         Ok(status) => status,
-        Err(fault) => tell_fault(rt.alloc(), errors, fault),
+        Err(fault) => tell_fault(errors, fault),
     }
 }

@@ -72,7 +72,8 @@ module _ {K : Type 0} (content : K → Tables) (honest clean : K → Type 0)
     (honesty : honest new → honest mid) where
   -- whatever a stop leaves after a voucher more
   pub left-more : (row : VoucherAddition) →
-      Leaves honest leaves mid new (λ held. clean mid × Writes b (AddVoucher row) t (content mid) held) →
+      Leaves honest leaves mid new
+      (λ held. clean mid × Writes b (AddVoucher row) t (content mid) held) →
       Leaves honest leaves old new
       (HoldsBeginning b (additions t (rows ++ row ∷ [])) (content old))
   left-more row left = λ h held l. at held h (left h held l)

@@ -1,16 +1,16 @@
 -- What is told of an account's month is its ledger's.
-use Rattle.std.proofs.Common.{◌≡◌, ℕ, Bool, true, false, List, Option, None, Some, refl, sym, ap}
+use Rattle.std.proofs.Common.{◌≡◌, ℕ, true, false, List, Option, None, Some, refl, sym, ap}
 use Rattle.std.proofs.Common.{subst, ◌∙◌, ◌≤◌, Result, Ok, Err, arith, inl, inr}
 use Rattle.std.specs.Prelude.{if◌then◌else◌, IfOk, OnErr, OnOk}
 use Rattle.std.specs.Io.KnownBytes.{Appends}
-use Rattle.buckets.specs.Row.{Row}
+use Rattle.buckets.specs.Row.{BucketRow}
 use Rattle.tariffs.specs.Books.{Book}
 use Rattle.shelves.specs.Shelves.{Shelf}
 use Rattle.reserving.specs.ChargeColumns.{ChargeColumns}
 use Rattle.reserving.specs.Charges.{charge_rows}
 use Rattle.keepers.specs.Tables.{Tables}
 use Rattle.keepers.specs.declared.fault.StoreFault.TheVariants as store
-use Rattle.charging.specs.Accepted.{Accepted, IsInTime}
+use Rattle.charging.specs.Accepted.{Accepted}
 use Rattle.charging.specs.Histories.{History}
 use Rattle.charging.specs.Served.{AreTables, history, moment_of}
 use Rattle.charging.specs.States.{IsState, IsStateAt, TellsState}
@@ -43,7 +43,7 @@ are_charges b a list tables h =
     record { rising = charges_rise (history b a list).ledger; listed = λ n. sym (h.charges a n) }
 
 -- one form of the text or the other
-pub as_csv : (b : Shelf) (first : Book) (q : MonthQuery) (t : ℕ) (buckets : List Row)
+pub as_csv : (b : Shelf) (first : Book) (q : MonthQuery) (t : ℕ) (buckets : List BucketRow)
     (charges : List ChargeColumns) → first ≡ b.first → q.csv ≡ true →
     export_text first q.month charges ≡ rows_text b q t charges buckets
 as_csv b first q t buckets charges of_shelf is =
@@ -51,7 +51,7 @@ as_csv b first q t buckets charges of_shelf is =
     ∙ sym (ap (λ v. if v then export_text b.first q.month charges
     else statement_text b.first q.account q.month t charges buckets) is)
 
-pub as_lines : (b : Shelf) (first : Book) (q : MonthQuery) (t : ℕ) (shown buckets : List Row)
+pub as_lines : (b : Shelf) (first : Book) (q : MonthQuery) (t : ℕ) (shown buckets : List BucketRow)
     (charges : List ChargeColumns) → first ≡ b.first → q.csv ≡ false → shown ≡ buckets →
     statement_text first q.account q.month t charges shown ≡ rows_text b q t charges buckets
 as_lines b first q t shown buckets charges of_shelf is same =
@@ -114,7 +114,8 @@ ended_done r result Refused is =
 
 -- ---- what is written, whatever a keeper holds
 
-module _ (b : Shelf) (q : MonthQuery) (t : ℕ) (buckets : List Row) (old new : Option (List ℕ)) where
+module _ (b : Shelf) (q : MonthQuery) (t : ℕ) (buckets : List BucketRow)
+    (old new : Option (List ℕ)) where
   abbrev Text : List ChargeColumns → List ℕ
   Text rows = rows_text b q t rows buckets
 

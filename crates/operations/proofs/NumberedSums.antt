@@ -1,12 +1,11 @@
 -- Sums over buckets, put in the order of their numbers.
-use Rattle.std.proofs.Common.{◌≡◌, ℕ, ◌+◌, Bool, true, false, List, [], ◌∷◌, refl, sym, ap, ◌∙◌}
-use Rattle.std.proofs.Common.{arith}
+use Rattle.std.proofs.Common.{◌≡◌, ℕ, ◌+◌, true, false, List, [], ◌∷◌, refl, sym, ap, ◌∙◌, arith}
 use Rattle.std.specs.Prelude.{if◌then◌else◌, nat_lt, sum_by}
 use Rattle.std.proofs.lemmas.List.Sums.{sum_by-cons}
-use Rattle.buckets.specs.Row.{Row}
+use Rattle.buckets.specs.Row.{BucketRow}
 use Rattle.charging.specs.Balances.{by_number, numbered}
 
-sum_by-numbered : (f : Row → ℕ) (b : Row) (rows : List Row) →
+sum_by-numbered : (f : BucketRow → ℕ) (b : BucketRow) (rows : List BucketRow) →
     sum_by f (numbered b rows) ≡ f b + sum_by f rows
 sum_by-numbered f b [] = sum_by-cons f b []
 sum_by-numbered f b (x ∷ xs) =
@@ -21,7 +20,8 @@ sum_by-numbered f b (x ∷ xs) =
       )
     ]
 
-pub sum_by-by_number : (f : Row → ℕ) (rows : List Row) → sum_by f (by_number rows) ≡ sum_by f rows
+pub sum_by-by_number : (f : BucketRow → ℕ) (rows : List BucketRow) →
+    sum_by f (by_number rows) ≡ sum_by f rows
 sum_by-by_number f [] = refl
 sum_by-by_number f (b ∷ bs) =
     sum_by-numbered f b (by_number bs)

@@ -16,5 +16,6 @@ use Rattle.charging.specs.Served.{history}
 -- its buckets of a kind show as charged what all charges of the account took of them
 abbrev pub StatementShowsCharged : BucketKind → Type 0
 StatementShowsCharged kind = (b : Shelf) (a : AccountName) (list : List Accepted) (t : Moment) →
-    sum_in kind (λ x. x.charged) (by_number (buckets_at (validity_of b) t (history b a list).ledger))
+    sum_in kind (λ x. x.charged)
+    (by_number (buckets_at (validity_of b) t (history b a list).ledger))
     ≡ taken_to_date kind (history b a list).ledger

@@ -7,7 +7,7 @@ use Rattle.units.specs.Words.{Moment}
 use Rattle.texts.specs.StreamWords.{Bytes}
 use Rattle.texts.specs.declared.streams.StreamFault.{StreamFault}
 use Rattle.texts.specs.declared.streams.StreamFault.TheVariants as stream
-use Rattle.buckets.specs.Row.{Row}
+use Rattle.buckets.specs.Row.{BucketRow}
 use Rattle.commands.specs.declared.answer.Answer.TheVariants.{Refused}
 use Rattle.commands.specs.declared.answer.Refusal.TheVariants.{AccountUnknown}
 use Rattle.shelves.specs.Shelves.{Shelf}
@@ -39,7 +39,7 @@ use Rattle.operations.specs.declared.status.Status.TheVariants.{Done, Failed, Un
 
 -- the text of these charges and buckets, as of a moment; the month is civil in the zone of the
 -- first book, which all books of a shelf have
-abbrev pub rows_text : Shelf → MonthQuery → Moment → List ChargeColumns → List Row → Bytes
+abbrev pub rows_text : Shelf → MonthQuery → Moment → List ChargeColumns → List BucketRow → Bytes
 rows_text b q t charges buckets =
     if q.csv then export_text b.first q.month charges
     else statement_text b.first q.account q.month t charges buckets
@@ -83,7 +83,7 @@ IsMonthTold b q t tables old new result =
 pub record WritesMonth (b : Shelf) (q : MonthQuery) (Writes : Bytes → Type 0) : Type 0 where
   pub moment : Moment
   pub charges : List ChargeColumns
-  pub buckets : List Row
+  pub buckets : List BucketRow
   pub written : Writes (rows_text b q moment charges buckets)
 
 -- it is written where all is done; where it is refused, that the account isn't there

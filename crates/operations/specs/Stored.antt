@@ -1,4 +1,5 @@
--- What a call that carries something out over a keeper and tells it leaves of both at a store fault.
+-- What a call that carries something out over a keeper and tells it leaves of both at a store
+-- fault.
 -- Source: profile.
 use Rattle.std.specs.Prelude.{◌≡◌, ◌+◌, ◌≤◌, ℕ, Err, Result, min}
 use Rattle.keepers.specs.Faults.{max_failures}

@@ -1,7 +1,6 @@
 //! What becomes of vouchers that are added, counted.
 
-ghost use Rattle.std.specs.Prelude.{◌≡◌, ◌++◌, ◌<◌, codes, string_bytes, IfOk};
-ghost use Rattle.std.specs.Fmt.{decimal};
+ghost use Rattle.std.specs.Prelude.{◌≡◌, ◌<◌, string_bytes, IfOk};
 ghost use Rattle.operations.specs.Counts.{counted_as, counts_text, no_counts, total};
 
 use std::alloc::{AllocError, Global};

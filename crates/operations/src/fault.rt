@@ -1,14 +1,14 @@
 //! Why an operator's command wasn't done or answered.
 
 ghost use Rattle.std.specs.Prelude.{◌≡◌};
-ghost use Rattle.operations.specs.Told.{fault_line, store_line, stream_line};
+ghost use Rattle.operations.specs.Told.{about_office, store_line, stream_line};
 
 use keepers::StoreFault;
 use texts::StreamFault;
 use thiserror::Error;
 
 /// Why an operator's command wasn't done, or its answer not told.
-#[derive(Clone, Copy, Debug, Drop, Error)]
+#[derive(Clone, Copy, Debug, Drop, Error, PartialEq, Eq)]
 pub enum OfficeFault {
     /// The keeper didn't do what it was asked: nothing has changed, but of vouchers a beginning was
     /// added.
@@ -20,28 +20,35 @@ pub enum OfficeFault {
 }
 
 impl OfficeFault {
-    /// The line that tells it on standard error, without its line feed.
+    /// The line that tells it on standard error, without its number and its line feed.
     pub fn line(self) -> &'static str
-        ensures { result.now ≡ fault_line self }
+        ensures { result.now ≡ (about_office self).line }
     {
         match self {
-            OfficeFault::Store(fault) => store_line(fault),
+            OfficeFault::Store(_) => store_line(),
             OfficeFault::Write(fault) => stream_line(fault),
+        }
+    }
+
+    /// Its number, where it has one.
+    pub fn number(self) -> Option<u8>
+        ensures { result ≡ (about_office self).number }
+    {
+        match self {
+            OfficeFault::Store(fault) => Some(fault.number()),
+            OfficeFault::Write(_) => None,
         }
     }
 }
 
-/// The line that tells a fault of a store, without its line feed.
-pub fn store_line(fault: StoreFault) -> &'static str
-    ensures { result.now ≡ store_line fault }
+/// The line that tells a fault of a store, without its number and its line feed.
+pub fn store_line() -> &'static str
+    ensures { result.now ≡ store_line }
 {
-    match fault {
-        StoreFault::Memory => "ocs: store fault 1",
-        StoreFault::Store => "ocs: store fault 2",
-    }
+    "ocs: store fault"
 }
 
-/// The line that tells a fault of a stream, without its line feed.
+/// The line that tells a fault of a stream, without its line feed. It has no number.
 pub fn stream_line(fault: StreamFault) -> &'static str
     ensures { result.now ≡ stream_line fault }
 {

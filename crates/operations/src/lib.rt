@@ -9,6 +9,7 @@ mod laws;
 mod serving;
 mod stating;
 mod status;
+mod telling;
 mod writing;
 
 pub use crate::counts::Counts;
@@ -18,4 +19,5 @@ pub use crate::laws::{statement_collects, statement_covers};
 pub use crate::serving::serve_office;
 pub use crate::stating::{MonthQuery, serve_statement};
 pub use crate::status::Status;
+pub use crate::telling::{tell_fault, tell_line};
 pub use crate::writing::write_line;

@@ -1,7 +1,6 @@
 //! An operator's command over a keeper.
 
 ghost use Rattle.operations.specs.Carried.{ServesOffice};
-ghost use Rattle.operations.specs.Told.{status_of};
 ghost use Rattle.operations.specs.declared.fault.OfficeFault.TheVariants.{Store, Write};
 ghost use Rattle.operator.specs.Office.{command_of};
 

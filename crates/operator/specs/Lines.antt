@@ -12,14 +12,14 @@ abbrev pub as_command : Moment → Option Moment
 as_command seconds = if nat_lt seconds no_end then Some seconds else None
 
 -- 1 to 10 digits say it
-abbrev pub moment_of : List ℕ → Option Moment
-moment_of digits =
+abbrev pub moment_said : List ℕ → Option Moment
+moment_said digits =
     if nat_le (length digits) 10 then option_and_then as_command (number_of digits) else None
 
 -- the line is read as its moment and what follows the first space; or it isn't a dated line
 abbrev pub IsDated : List ℕ → Option DatedLine → Type 0
 IsDated line (Some d) = (position_or_len (λ b. b == 32) line < length line)
-    × (moment_of (before_first (λ b. b == 32) line) ≡ Some d.moment)
+    × (moment_said (before_first (λ b. b == 32) line) ≡ Some d.moment)
     × (d.body.now ≡ after_first (λ b. b == 32) line)
 IsDated line None = position_or_len (λ b. b == 32) line < length line →
-    moment_of (before_first (λ b. b == 32) line) ≡ None
+    moment_said (before_first (λ b. b == 32) line) ≡ None

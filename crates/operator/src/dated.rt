@@ -1,7 +1,7 @@
 //! A line with a moment in front.
 
-ghost use Rattle.std.specs.Prelude.{◌≡◌, IfSome, IfNone, ◌≢◌};
-ghost use Rattle.operator.specs.Lines.{moment_of, IsDated};
+ghost use Rattle.std.specs.Prelude.{◌≡◌};
+ghost use Rattle.operator.specs.Lines.{moment_said, IsDated};
 
 use texts::number;
 use units::Moment;
@@ -27,7 +27,7 @@ pub fn dated_line<'a>(line: &'a str) -> Option<DatedLine<'a>>
 
 /// The moment of a command that 1 to 10 digits say.
 fn moment(digits: &str) -> Option<Moment>
-    ensures { result ≡ moment_of digits.now }
+    ensures { result ≡ moment_said digits.now }
 {
     if digits.len() > 10 {
         return None;

@@ -1,6 +1,6 @@
 //! What the words of each command say.
 
-ghost use Rattle.std.specs.Prelude.{◌≡◌, ◌≤◌, IfOk};
+ghost use Rattle.std.specs.Prelude.{◌≤◌, IfOk};
 ghost use Rattle.clap.specs.Words.{found_of, rows_of};
 ghost use Rattle.texts.specs.Steps.{GivesUnless, Says};
 ghost use Rattle.operator.specs.Read.{IsBookInRange, IsImportInRange, IsOfficeCommandInRange};

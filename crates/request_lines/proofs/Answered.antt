@@ -21,9 +21,8 @@ use Rattle.charging.proofs.RunLemmas.{commands_after}
 use Rattle.request_lines.specs.declared.input.Input.{Input}
 use Rattle.request_lines.specs.Lines.{line_request}
 use Rattle.request_lines.specs.Served.{requests_in, opening_for, opening_in, commands_of, faults_in}
-use Rattle.request_lines.specs.Served.{texts_of}
-use Rattle.request_lines.specs.Served.{text_of, text_to, IsAnswered}
-use Rattle.request_lines.specs.Served.{IsShort, IsBegun, IsRunOpened, IsUntold}
+use Rattle.request_lines.specs.Served.{answer_texts, text_of, text_to, IsAnswered}
+use Rattle.request_lines.specs.Served.{IsShort, AreLinesBegun, IsRunOpened, IsUntold}
 use Rattle.request_lines.specs.Input.{told_fault, IsInput}
 use Rattle.operations.specs.Written.{WritesBeginning}
 use Rattle.operations.proofs.Beginnings.{nothing_written, beginning_before}
@@ -174,7 +173,7 @@ continued-run b opening requests old new given fault runs = λ list time tables.
 module _ (b : Shelf) (amount : Option ℕ) (w0 w1 : Option (List ℕ)) where
   -- before the lines are read
   pub begun-none : (r : Option (List ℕ)) (tables : Tables) →
-      IfSome r (λ stream. ForEachList b tables (IsBegun b amount stream w0 w0 tables))
+      IfSome r (λ stream. ForEachList b tables (AreLinesBegun b amount stream w0 w0 tables))
   begun-none None tables = tt
   begun-none (Some stream) tables = λ list time h. record {
     count = 0;
@@ -199,16 +198,17 @@ module _ (b : Shelf) (amount : Option ℕ) (w0 w1 : Option (List ℕ)) where
     text_is : (stream : List ℕ) (list : List Accepted) →
         IsInput (map line_request (lines_of stream)) input →
         (run : IsRunOpened b (opening_in amount stream) (requests_in stream) new given fault list) →
-        texts_of (map told_fault input.lines.items) given ≡ text_to run.count b list amount stream
-    text_is stream list h run = λ i. texts_of (h.lines i) (run.answers i)
+        answer_texts (map told_fault input.lines.items) given ≡ text_to run.count b list amount
+        stream
+    text_is stream list h run = λ i. answer_texts (h.lines i) (run.answers i)
 
     -- what is answered isn't written whole
     pub begun-run : (r : Option (List ℕ)) →
         IfSome r (λ stream. IsInput (map line_request (lines_of stream)) input) →
         opening ≡ opening_for amount input.requests.items →
         ForEachList b old (IsRunOpened b opening input.requests.items new given fault) →
-        WritesBeginning w0 w1 (texts_of (map told_fault input.lines.items) given) →
-        IfSome r (λ stream. ForEachList b old (IsBegun b amount stream w0 w1 new))
+        WritesBeginning w0 w1 (answer_texts (map told_fault input.lines.items) given) →
+        IfSome r (λ stream. ForEachList b old (AreLinesBegun b amount stream w0 w1 new))
     begun-run None h opened runs written = tt
     begun-run (Some stream) h opened runs written = λ list time tables.
         let run : IsRunOpened b (opening_in amount stream)
@@ -226,7 +226,7 @@ module _ (b : Shelf) (amount : Option ℕ) (w0 w1 : Option (List ℕ)) where
       IfSome r (λ stream. IsInput (map line_request (lines_of stream)) input) →
       opening ≡ opening_for amount input.requests.items →
       ForEachList b old (IsRunOpened b opening input.requests.items new given (Some f)) →
-      Writes (texts_of (map told_fault input.lines.items) given) →
+      Writes (answer_texts (map told_fault input.lines.items) given) →
       IfSome r (λ stream. ForEachList b old (IsShort b amount stream Writes new))
   short-run Writes input opening given old new f None h opened runs written = tt
   short-run {F = F} Writes input opening given old new f (Some stream) h opened runs written =
@@ -238,7 +238,8 @@ module _ (b : Shelf) (amount : Option ℕ) (w0 w1 : Option (List ℕ)) where
         count = run.count;
         few = run.few;
         tables = run.tables;
-        written = subst Writes (text_is input opening given fault old new stream list h run) written;
+        written =
+            subst Writes (text_is input opening given fault old new stream list h run) written;
       }
 
   -- all commands were run, and what is answered isn't written whole
@@ -248,7 +249,7 @@ module _ (b : Shelf) (amount : Option ℕ) (w0 w1 : Option (List ℕ)) where
       IfSome r (λ stream. IsInput (map line_request (lines_of stream)) input) →
       opening ≡ opening_for amount input.requests.items →
       ForEachList b old (IsRunOpened b opening input.requests.items new given fault) →
-      WritesBeginning w0 w1 (texts_of (map told_fault input.lines.items) given) →
+      WritesBeginning w0 w1 (answer_texts (map told_fault input.lines.items) given) →
       IfSome r (λ stream. ForEachList b old (IsUntold b amount stream w0 w1 new))
   untold-run input opening given (Some f) old new r none h opened runs written =
       absurd (none-some f (sym none))
@@ -262,7 +263,7 @@ module _ (b : Shelf) (amount : Option ℕ) (w0 w1 : Option (List ℕ)) where
         tables = subst (λ (cs : List DatedCommand). AreTables b (after_commands b list cs) new)
             run.whole run.tables;
         written = subst (WritesBeginning w0 w1)
-            (λ i. texts_of (h.lines i) ((run.answers ∙ ap (λ (cs : List DatedCommand).
+            (λ i. answer_texts (h.lines i) ((run.answers ∙ ap (λ (cs : List DatedCommand).
             drop (length (opening_in amount stream)) (answers_to b list cs)) run.whole) i)) written;
       }
 
@@ -273,7 +274,7 @@ module _ (b : Shelf) (amount : Option ℕ) (w0 w1 : Option (List ℕ)) where
       IfSome r (λ stream. IsInput (map line_request (lines_of stream)) input) →
       opening ≡ opening_for amount input.requests.items →
       ForEachList b old (IsRunOpened b opening input.requests.items new given fault) →
-      Appends w0 w1 (texts_of (map told_fault input.lines.items) given) →
+      Appends w0 w1 (answer_texts (map told_fault input.lines.items) given) →
       IfSome r (λ stream. ForEachList b old (IsAnswered b amount stream w0 w1 new))
   answered-run input opening given (Some f) old new r none h opened runs written =
       absurd (none-some f (sym none))
@@ -285,7 +286,7 @@ module _ (b : Shelf) (amount : Option ℕ) (w0 w1 : Option (List ℕ)) where
       run_in input opening given fault old new stream h opened runs list time tables in
       record {
         written = subst (Appends w0 w1)
-            (λ i. texts_of (h.lines i) ((run.answers ∙ ap (λ (cs : List DatedCommand).
+            (λ i. answer_texts (h.lines i) ((run.answers ∙ ap (λ (cs : List DatedCommand).
             drop (length (opening_in amount stream)) (answers_to b list cs)) run.whole) i)) written;
         tables = subst (λ (cs : List DatedCommand). AreTables b (after_commands b list cs) new)
             run.whole run.tables;
@@ -301,5 +302,5 @@ begins b list amount stream count w0 w1 h =
     let rest = texts_taken (faults_in stream) k count all in
     subst (WritesBeginning w0 w1) (sym rest.1)
     (beginning_before w0 w1 _ rest.0 (subst (λ (answers : List Answer).
-    WritesBeginning w0 w1 (texts_of (faults_in stream) (drop k answers)))
+    WritesBeginning w0 w1 (answer_texts (faults_in stream) (drop k answers)))
     (answers_taken b list (commands_of amount stream) count) h))

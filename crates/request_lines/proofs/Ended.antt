@@ -20,8 +20,9 @@ use Rattle.request_lines.specs.declared.input.Input.{Input}
 use Rattle.request_lines.specs.Faults.{ended_as}
 use Rattle.request_lines.specs.Input.{told_fault, IsInput}
 use Rattle.request_lines.specs.Lines.{line_request}
-use Rattle.request_lines.specs.Served.{opening_for, texts_of, faults_in, AnswersLines, IsAnswered}
-use Rattle.request_lines.specs.Served.{BeginsLines, IsBegun, IsCut, TellsLines}
+use Rattle.request_lines.specs.Served.{opening_for, answer_texts, faults_in, AnswersLines}
+use Rattle.request_lines.specs.Served.{IsAnswered}
+use Rattle.request_lines.specs.Served.{BeginsLines, AreLinesBegun, IsCut, TellsLines}
 use Rattle.request_lines.specs.Served.{IsRunOpened, IsStopped, IsUntold}
 use Rattle.request_lines.proofs.Answered.{answered-run, begun-none, begun-run, continued-same}
 use Rattle.request_lines.proofs.Answered.{short-run}
@@ -111,9 +112,9 @@ pub record IsWritten {A : Type 0} (b : Shelf) (amount : Option ℕ) (w0 w1 r : O
   pub read : IfSome r (λ stream. IsInput (map line_request (lines_of stream)) input)
   pub opened : opening ≡ opening_for amount input.requests.items
   pub runs : ForEachList b old (IsRunOpened b opening input.requests.items new given fault)
-  pub whole : OnOk written (Appends w0 w1 (texts_of (map told_fault input.lines.items) given))
+  pub whole : OnOk written (Appends w0 w1 (answer_texts (map told_fault input.lines.items) given))
   pub part : OnErr written
-      (WritesBeginning w0 w1 (texts_of (map told_fault input.lines.items) given))
+      (WritesBeginning w0 w1 (answer_texts (map told_fault input.lines.items) given))
 
 module _ {A : Type 0} (b : Shelf) (amount : Option ℕ) (w0 w1 r : Option (List ℕ))
     (old new : Tables) where
@@ -138,10 +139,10 @@ module _ {A : Type 0} (b : Shelf) (amount : Option ℕ) (w0 w1 r : Option (List 
 
   pub ended-begun : (fault : Option StoreFault) (written : Result A StreamFault) →
       IsWritten b amount w0 w1 r old new fault written →
-      IfSome r (λ stream. ForEachList b old (IsBegun b amount stream w0 w1 new))
+      IfSome r (λ stream. ForEachList b old (AreLinesBegun b amount stream w0 w1 new))
   ended-begun fault written h =
       begun-run b amount w0 w1 h.input h.opening h.given fault old new r h.read h.opened h.runs
-      (whole_or_begun written w0 w1 (texts_of (map told_fault h.input.lines.items) h.given)
+      (whole_or_begun written w0 w1 (answer_texts (map told_fault h.input.lines.items) h.given)
       h.whole h.part)
 
   stopped : (fault : Option StoreFault) (written : Result A StreamFault) (f : StoreFault) →
@@ -251,30 +252,31 @@ module _ (w0 w1 : Option (List ℕ)) (input : Input) (given : List Answer) where
   told_in : (r : Option (List ℕ)) →
       IfSome r (λ stream. IsInput (map line_request (lines_of stream)) input) →
       length given ≡ length input.requests.items →
-      Appends w0 w1 (texts_of (map told_fault input.lines.items) given) →
+      Appends w0 w1 (answer_texts (map told_fault input.lines.items) given) →
       IfSome r (TellsLines w0 w1)
   told_in None read all written = tt
   told_in (Some stream) read all written = record {
     answers = given;
     all = all ∙ ap length read.requests;
-    written = subst (λ faults. Appends w0 w1 (texts_of faults given)) read.lines written;
+    written = subst (λ faults. Appends w0 w1 (answer_texts faults given)) read.lines written;
   }
 
   pub begun_in : (r : Option (List ℕ)) →
       IfSome r (λ stream. IsInput (map line_request (lines_of stream)) input) →
-      WritesBeginning w0 w1 (texts_of (map told_fault input.lines.items) given) →
+      WritesBeginning w0 w1 (answer_texts (map told_fault input.lines.items) given) →
       IfSome r (BeginsLines w0 w1)
   begun_in None read written = tt
   begun_in (Some stream) read written = record {
     answers = given;
-    written = subst (λ faults. WritesBeginning w0 w1 (texts_of faults given)) read.lines written;
+    written = subst (λ faults. WritesBeginning w0 w1 (answer_texts faults given)) read.lines
+        written;
   }
 
   told : {A : Type 0} (fault : Option StoreFault) (written : Result A StreamFault)
       (r : Option (List ℕ)) →
       IfSome r (λ stream. IsInput (map line_request (lines_of stream)) input) →
       IfNone fault (length given ≡ length input.requests.items) →
-      OnOk written (Appends w0 w1 (texts_of (map told_fault input.lines.items) given)) →
+      OnOk written (Appends w0 w1 (answer_texts (map told_fault input.lines.items) given)) →
       OnOk (ended_as fault written) (IfSome r (TellsLines w0 w1))
   told None (Ok x) r read all whole = told_in r read all whole
   told None (Err g) r read all whole = tt
@@ -285,7 +287,7 @@ module _ (w0 w1 : Option (List ℕ)) (input : Input) (given : List Answer) where
       (result : Result A LinesFault) (r : Option (List ℕ)) → result ≡ ended_as fault written →
       IfSome r (λ stream. IsInput (map line_request (lines_of stream)) input) →
       IfNone fault (length given ≡ length input.requests.items) →
-      OnOk written (Appends w0 w1 (texts_of (map told_fault input.lines.items) given)) →
+      OnOk written (Appends w0 w1 (answer_texts (map told_fault input.lines.items) given)) →
       OnOk result (IfSome r (TellsLines w0 w1))
   ended-told {A = A} fault written result r e read all whole =
       subst (λ (res : Result A LinesFault). OnOk res (IfSome r (TellsLines w0 w1))) (sym e)
@@ -296,7 +298,7 @@ module _ (w0 w1 : Option (List ℕ)) (input : Input) (given : List Answer) where
 pub none_begun : (w r : Option (List ℕ)) → IfSome r (BeginsLines w w)
 none_begun w None = tt
 none_begun w (Some stream) =
-    record { answers = []; written = nothing_written w (texts_of (faults_in stream) []) }
+    record { answers = []; written = nothing_written w (answer_texts (faults_in stream) []) }
 
 -- nothing was run and nothing was written
 pub none_answered : {A K : Type 0} (b : Shelf) (amount : Option ℕ) (r w : Option (List ℕ))

@@ -7,7 +7,7 @@ use Rattle.std.specs.Str.{is_utf8, IsUtf8}
 use Rattle.std.proofs.lemmas.Str.{IsUtf8-from_is_utf8, is_utf8-from_IsUtf8}
 use Rattle.std.proofs.lemmas.Bool.Decides.{nat_tests}
 use Rattle.operator.specs.declared.dated.DatedLine.{DatedLine}
-use Rattle.operator.specs.Lines.{moment_of, IsDated}
+use Rattle.operator.specs.Lines.{moment_said, IsDated}
 use Rattle.request_lines.specs.Lines.{line_moment}
 
 -- bytes that aren't UTF-8 have none
@@ -16,7 +16,7 @@ unread line not_utf8 = at (is_utf8 line) refl
   where
     at : (b : Bool) → is_utf8 line ≡ b →
         None ≡ (if b && nat_lt (position_or_len (λ c. c == 32) line) (length line)
-        then moment_of (before_first (λ c. c == 32) line) else None)
+        then moment_said (before_first (λ c. c == 32) line) else None)
     at true e = absurd (not_utf8 (IsUtf8-from_is_utf8 line e))
     at false e = refl
 
@@ -37,6 +37,6 @@ dated line None u h = rw (is_utf8-from_IsUtf8 line u)
     (at (nat_lt (position_or_len (λ c. c == 32) line) (length line)) refl)
   where
     at : (b : Bool) → nat_lt (position_or_len (λ c. c == 32) line) (length line) ≡ b →
-        None ≡ (if b then moment_of (before_first (λ c. c == 32) line) else None)
+        None ≡ (if b then moment_said (before_first (λ c. c == 32) line) else None)
     at true e = sym (h (lt_from (position_or_len (λ c. c == 32) line) (length line) e))
     at false e = refl

@@ -11,7 +11,7 @@ use Rattle.std.proofs.lemmas.Option.{slice_get_past, slice_get_read, same_Some}
 use Rattle.commands.specs.declared.answer.Answer.{Answer}
 use Rattle.json_fields.specs.declared.fault.WireFault.{WireFault}
 use Rattle.wire.specs.Spelled.{answer_text, fault_text}
-use Rattle.request_lines.specs.Served.{texts_of}
+use Rattle.request_lines.specs.Served.{answer_texts}
 use Rattle.request_lines.specs.declared.input.Line.{Line}
 use Rattle.request_lines.specs.Input.{told_fault}
 use Rattle.request_lines.specs.Output.{line_text}
@@ -22,11 +22,12 @@ IsThere (Some t) = Unit {0}
 
 next_answer : (answers : List Answer) (n : ℕ) (faults : List (Option WireFault)) (text : List ℕ) →
     Some text ≡ line_text None (slice_get answers n) →
-    texts_of (None ∷ faults) (drop n answers) ≡ text ++ 10 ∷ texts_of faults (drop (suc n) answers)
+    answer_texts (None ∷ faults) (drop n answers) ≡ text ++ 10 ∷ answer_texts faults
+    (drop (suc n) answers)
 next_answer [] zero faults text h = absurd (subst IsThere h tt)
 next_answer [] (suc n) faults text h = absurd (subst IsThere h tt)
 next_answer (a ∷ answers) zero faults text h =
-    ap (λ t. t ++ 10 ∷ texts_of faults answers) (sym (same_Some text (answer_text a) h))
+    ap (λ t. t ++ 10 ∷ answer_texts faults answers) (sym (same_Some text (answer_text a) h))
 next_answer (a ∷ answers) (suc n) faults text h = next_answer answers n faults text h
 
 plus_one : (n : ℕ) → suc n ≡ n + 1
@@ -36,19 +37,20 @@ plus_one n = omega arith
 pub next_text : (fault : Option WireFault)
     (faults : List (Option WireFault)) (answers : List Answer) (n : ℕ) (text : List ℕ) →
     Some text ≡ line_text fault (slice_get answers n) →
-    texts_of (fault ∷ faults) (drop n answers)
-    ≡ (text ++ 10 ∷ []) ++ texts_of faults (drop (if is_some fault then n else n + 1) answers)
+    answer_texts (fault ∷ faults) (drop n answers)
+    ≡ (text ++ 10 ∷ []) ++ answer_texts faults (drop (if is_some fault then n else n + 1) answers)
 next_text (Some fault) faults answers n text h =
-    ap (λ t. t ++ 10 ∷ texts_of faults (drop n answers)) (sym (same_Some text (fault_text fault) h))
-    ∙ sym (append_assoc text (10 ∷ []) (texts_of faults (drop n answers)))
+    ap (λ t. t ++ 10 ∷ answer_texts faults (drop n answers)) (sym
+    (same_Some text (fault_text fault) h))
+    ∙ sym (append_assoc text (10 ∷ []) (answer_texts faults (drop n answers)))
 next_text None faults answers n text h =
     next_answer answers n faults text h
-    ∙ ap (λ m. text ++ 10 ∷ texts_of faults (drop m answers)) (plus_one n)
-    ∙ sym (append_assoc text (10 ∷ []) (texts_of faults (drop (n + 1) answers)))
+    ∙ ap (λ m. text ++ 10 ∷ answer_texts faults (drop m answers)) (plus_one n)
+    ∙ sym (append_assoc text (10 ∷ []) (answer_texts faults (drop (n + 1) answers)))
 
 -- and none
 no_answer : (answers : List Answer) (n : ℕ) (faults : List (Option WireFault)) →
-    None ≡ line_text None (slice_get answers n) → texts_of (None ∷ faults) (drop n answers) ≡ []
+    None ≡ line_text None (slice_get answers n) → answer_texts (None ∷ faults) (drop n answers) ≡ []
 no_answer [] zero faults h = refl
 no_answer [] (suc n) faults h = refl
 no_answer (a ∷ answers) zero faults h = absurd (subst IsThere (sym h) tt)
@@ -56,7 +58,7 @@ no_answer (a ∷ answers) (suc n) faults h = no_answer answers n faults h
 
 pub no_text : (fault : Option WireFault) (faults : List (Option WireFault)) (answers : List Answer)
     (n : ℕ) → None ≡ line_text fault (slice_get answers n) →
-    texts_of (fault ∷ faults) (drop n answers) ≡ []
+    answer_texts (fault ∷ faults) (drop n answers) ≡ []
 no_text (Some fault) faults answers n h = absurd (subst IsThere (sym h) tt)
 no_text None faults answers n h = no_answer answers n faults h
 
@@ -70,20 +72,20 @@ answer_at answers n (Some a) h =
 -- ---- a beginning of the answers
 
 pub texts_begin : (faults : List (Option WireFault)) (xs ys : List Answer) →
-    (rest : List ℕ) × (texts_of faults (xs ++ ys) ≡ texts_of faults xs ++ rest)
+    (rest : List ℕ) × (answer_texts faults (xs ++ ys) ≡ answer_texts faults xs ++ rest)
 texts_begin [] xs ys = ([], refl)
 texts_begin (Some fault ∷ faults) xs ys =
     let h = texts_begin faults xs ys in (
       h.0,
       ap (λ t. fault_text fault ++ 10 ∷ t) h.1
-          ∙ sym (append_assoc (fault_text fault) (10 ∷ texts_of faults xs) h.0),
+          ∙ sym (append_assoc (fault_text fault) (10 ∷ answer_texts faults xs) h.0),
     )
-texts_begin (None ∷ faults) [] ys = (texts_of (None ∷ faults) ys, refl)
+texts_begin (None ∷ faults) [] ys = (answer_texts (None ∷ faults) ys, refl)
 texts_begin (None ∷ faults) (a ∷ xs) ys =
     let h = texts_begin faults xs ys in (
       h.0,
       ap (λ t. answer_text a ++ 10 ∷ t) h.1
-          ∙ sym (append_assoc (answer_text a) (10 ∷ texts_of faults xs) h.0),
+          ∙ sym (append_assoc (answer_text a) (10 ∷ answer_texts faults xs) h.0),
     )
 
 drop_begin : (k : ℕ) (xs ys : List Answer) →
@@ -94,13 +96,14 @@ drop_begin (suc k) (x ∷ xs) ys = drop_begin k xs ys
 
 -- the texts with the answers to a beginning of the commands are a beginning of the texts
 pub texts_taken : (faults : List (Option WireFault)) (k n : ℕ) (all : List Answer) →
-    (rest : List ℕ) × (texts_of faults (drop k all) ≡ texts_of faults (drop k (take n all)) ++ rest)
+    (rest : List ℕ) × (answer_texts faults (drop k all) ≡ answer_texts faults (drop k (take n all))
+    ++ rest)
 texts_taken faults k n all =
     let d = drop_begin k (take n all) (drop n all) in
     let t = texts_begin faults (drop k (take n all)) d.0 in (
       t.0,
-      ap (λ l. texts_of faults (drop k l)) (sym (take-append-drop n all))
-          ∙ ap (texts_of faults) d.1
+      ap (λ l. answer_texts faults (drop k l)) (sym (take-append-drop n all))
+          ∙ ap (answer_texts faults) d.1
           ∙ t.1,
     )
 
@@ -110,14 +113,14 @@ texts_taken faults k n all =
 pub texts_first : (lines : List Line) (answers : List Answer) (d : Line) (i n : ℕ)
     (o : Option (Bor Answer)) (text : List ℕ) → i < length lines → IsItemAt answers n o →
     Some text ≡ line_text (told_fault (get_or lines i d)) (option_map (λ a. a.now) o) →
-    texts_of (map told_fault (drop i lines)) (drop n answers)
-    ≡ (text ++ 10 ∷ []) ++ texts_of (map told_fault (drop (i + 1) lines))
+    answer_texts (map told_fault (drop i lines)) (drop n answers)
+    ≡ (text ++ 10 ∷ []) ++ answer_texts (map told_fault (drop (i + 1) lines))
     (drop (if is_some (told_fault (get_or lines i d)) then n else n + 1) answers)
 texts_first lines answers d i n o text lt item told =
     let fault = told_fault (get_or lines i d) in
     let here : drop i lines ≡ get_or lines i d ∷ drop (i + 1) lines =
     rw (add-one, drop-cons lines i d lt) refl in
-    ap (λ l. texts_of (map told_fault l) (drop n answers)) here
+    ap (λ l. answer_texts (map told_fault l) (drop n answers)) here
     ∙ next_text fault (map told_fault (drop (i + 1) lines)) answers n text
     (told ∙ ap (line_text fault) (answer_at answers n o item))
 
@@ -127,11 +130,12 @@ pub texts_next : (lines : List Line) (answers : List Answer) (d : Line) (i n nex
     IsItemAt answers n o →
     Some text ≡ line_text (told_fault (get_or lines i d)) (option_map (λ a. a.now) o) →
     is_some (told_fault (get_or lines i d)) ≡ not request → next ≡ (if request then n + 1 else n) →
-    texts_of (map told_fault (drop i lines)) (drop n answers)
-    ≡ (text ++ 10 ∷ []) ++ texts_of (map told_fault (drop (i + 1) lines)) (drop next answers)
+    answer_texts (map told_fault (drop i lines)) (drop n answers)
+    ≡ (text ++ 10 ∷ []) ++ answer_texts (map told_fault (drop (i + 1) lines)) (drop next answers)
 texts_next lines answers d i n next o request text lt item told is moved =
     texts_first lines answers d i n o text lt item told
-    ∙ ap (λ m. (text ++ 10 ∷ []) ++ texts_of (map told_fault (drop (i + 1) lines)) (drop m answers))
+    ∙ ap (λ m. (text ++ 10 ∷ []) ++ answer_texts (map told_fault (drop (i + 1) lines))
+    (drop m answers))
     (ap (λ t. if t then n else n + 1) is ∙ turned request ∙ sym moved)
   where
     turned : (b : Bool) → (if not b then n else n + 1) ≡ (if b then n + 1 else n)
@@ -142,17 +146,18 @@ texts_next lines answers d i n next o request text lt item told is moved =
 pub texts_none : (lines : List Line) (answers : List Answer) (d : Line) (i n : ℕ)
     (o : Option (Bor Answer)) → i < length lines → IsItemAt answers n o →
     None ≡ line_text (told_fault (get_or lines i d)) (option_map (λ a. a.now) o) →
-    texts_of (map told_fault (drop i lines)) (drop n answers) ≡ []
+    answer_texts (map told_fault (drop i lines)) (drop n answers) ≡ []
 texts_none lines answers d i n o lt item told =
     let fault = told_fault (get_or lines i d) in
     let here : drop i lines ≡ get_or lines i d ∷ drop (i + 1) lines =
     rw (add-one, drop-cons lines i d lt) refl in
     let same : None ≡ line_text fault (slice_get answers n) = told
     ∙ ap (line_text fault) (answer_at answers n o item) in
-    ap (λ l. texts_of (map told_fault l) (drop n answers)) here
+    ap (λ l. answer_texts (map told_fault l) (drop n answers)) here
     ∙ no_text fault (map told_fault (drop (i + 1) lines)) answers n same
 
 -- no line is left
 pub texts_ended : (lines : List Line) (answers : List Answer) (i : ℕ) → length lines ≤ i →
-    texts_of (map told_fault (drop i lines)) answers ≡ []
-texts_ended lines answers i le = ap (λ l. texts_of (map told_fault l) answers) (drop_all i lines le)
+    answer_texts (map told_fault (drop i lines)) answers ≡ []
+texts_ended lines answers i le = ap (λ l. answer_texts (map told_fault l) answers)
+    (drop_all i lines le)

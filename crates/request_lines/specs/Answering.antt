@@ -13,8 +13,8 @@ use Rattle.request_lines.specs.Served.{AnswersLines, BeginsLines, TellsLines, co
 use Rattle.request_lines.specs.declared.fault.LinesFault.{LinesFault}
 use Rattle.request_lines.specs.declared.fault.LinesFault.TheVariants.{Read, Write}
 
--- each line is answered, or a beginning of them is, and the fault says which; a stop leaves what was
--- there, or that with a beginning of the requests
+-- each line is answered, or a beginning of them is, and the fault says which; a stop leaves what
+-- was there, or that with a beginning of the requests
 pub record LinesOver {A K W : Type 0} (content : K → Tables) (failed : K → ℕ)
     (honest clean : K → Type 0) (leaves : K → Tables → Type 0) (contents : W → Option Bytes)
     (b : Shelf) (opening : Option Micros) (bytes : Option Bytes) (old new : K) (before after : W)

@@ -10,7 +10,7 @@ use Rattle.texts.specs.StreamWords.{Bytes}
 use Rattle.json_fields.specs.declared.fault.WireFault.{WireFault}
 use Rattle.json_fields.specs.declared.fault.WireFault.TheVariants.{NotRequest}
 use Rattle.json_fields.specs.Gives.{◌>>=◌, or_fault}
-use Rattle.operator.specs.Lines.{moment_of}
+use Rattle.operator.specs.Lines.{moment_said}
 use Rattle.wire.specs.Requests.{command_of}
 use Rattle.charging.specs.declared.running.DatedCommand.{DatedCommand}
 
@@ -20,7 +20,7 @@ is_parted line = is_utf8 line && nat_lt (position_or_len (λ b. b == 32) line) (
 
 -- the moment before the first space
 abbrev pub line_moment : Bytes → Option Moment
-line_moment line = if is_parted line then moment_of (before_first (λ b. b == 32) line) else None
+line_moment line = if is_parted line then moment_said (before_first (λ b. b == 32) line) else None
 
 -- what follows the first space
 abbrev pub line_rest : Bytes → Bytes

@@ -89,16 +89,16 @@ faults_in stream = map fault_of (map line_request (lines_of stream))
 
 -- each line is told its fault, or the next answer, with a line feed after it, up to a request that
 -- has no answer
-abbrev pub texts_of : List (Option WireFault) → List Answer → Bytes
-texts_of [] answers = []
-texts_of (Some fault ∷ lines) answers = fault_text fault ++ 10 ∷ texts_of lines answers
-texts_of (None ∷ lines) [] = []
-texts_of (None ∷ lines) (a ∷ answers) = answer_text a ++ 10 ∷ texts_of lines answers
+abbrev pub answer_texts : List (Option WireFault) → List Answer → Bytes
+answer_texts [] answers = []
+answer_texts (Some fault ∷ lines) answers = fault_text fault ++ 10 ∷ answer_texts lines answers
+answer_texts (None ∷ lines) [] = []
+answer_texts (None ∷ lines) (a ∷ answers) = answer_text a ++ 10 ∷ answer_texts lines answers
 
 -- the text of a stream with these answers to its commands: those of the opening aren't written
 abbrev pub told_text : Option Micros → Bytes → List Answer → Bytes
 told_text amount stream answers =
-    texts_of (faults_in stream) (drop (length (opening_in amount stream)) answers)
+    answer_texts (faults_in stream) (drop (length (opening_in amount stream)) answers)
 
 -- the text of a stream, after a list of accepted commands
 abbrev pub text_of : Shelf → List Accepted → Option Micros → Bytes → Bytes
@@ -146,7 +146,8 @@ IsCut b opening stream old new content list =
     IsShort b opening stream (WritesBeginning old new) content list
 
 -- the same, where all commands may have been run
-pub record IsBegun (b : Shelf) (opening : Option Micros) (stream : Bytes) (old new : Option Bytes)
+pub record AreLinesBegun (b : Shelf) (opening : Option Micros) (stream : Bytes)
+    (old new : Option Bytes)
     (content : Tables) (list : List Accepted) : Type 0 where
   pub count : ℕ
   pub tables : AreTables b (after_commands b list (take count (commands_of opening stream))) content
@@ -176,7 +177,7 @@ pub record AnswersLines {A K : Type 0} (b : Shelf) (opening : Option Micros)
   pub answered : clean new → OnOk result (IfSome bytes (λ stream. ForEachList b (content old)
       (IsAnswered b opening stream empty full (content new))))
   pub begun : clean new → OnErr result (IfSome bytes (λ stream. ForEachList b (content old)
-      (IsBegun b opening stream empty full (content new))))
+      (AreLinesBegun b opening stream empty full (content new))))
   pub stopped : (fault : StoreFault) → result ≡ Err (Store fault) → clean new →
       IfSome bytes (λ stream. ForEachList b (content old)
       (IsStopped b opening stream empty full (content new)))
@@ -199,9 +200,9 @@ pub record AnswersLines {A K : Type 0} (b : Shelf) (opening : Option Micros)
 pub record TellsLines (old new : Option Bytes) (stream : Bytes) : Type 0 where
   pub answers : List Answer
   pub all : length answers ≡ length (requests_in stream)
-  pub written : Appends old new (texts_of (faults_in stream) answers)
+  pub written : Appends old new (answer_texts (faults_in stream) answers)
 
 -- or a beginning of that is written
 pub record BeginsLines (old new : Option Bytes) (stream : Bytes) : Type 0 where
   pub answers : List Answer
-  pub written : WritesBeginning old new (texts_of (faults_in stream) answers)
+  pub written : WritesBeginning old new (answer_texts (faults_in stream) answers)

@@ -1,7 +1,7 @@
 //! Why lines weren't answered to their end.
 
 ghost use Rattle.std.specs.Prelude.{◌≡◌};
-ghost use Rattle.request_lines.specs.Told.{lines_line};
+ghost use Rattle.request_lines.specs.Told.{about_lines};
 
 use keepers::StoreFault;
 use operations::{store_line, stream_line};
@@ -28,15 +28,27 @@ pub enum LinesFault {
 }
 
 impl LinesFault {
-    /// The line that tells it on standard error, without its line feed.
+    /// The line that tells it on standard error, without its number and its line feed.
     pub fn line(self) -> &'static str
-        ensures { result.now ≡ lines_line self }
+        ensures { result.now ≡ (about_lines self).line }
     {
         match self {
             LinesFault::Read(fault) => stream_line(fault),
-            LinesFault::Store(fault) => store_line(fault),
-            LinesFault::Both(fault) => store_line(fault),
+            LinesFault::Store(_) => store_line(),
+            LinesFault::Both(_) => store_line(),
             LinesFault::Write(fault) => stream_line(fault),
+        }
+    }
+
+    /// Its number, where it has one.
+    pub fn number(self) -> Option<u8>
+        ensures { result ≡ (about_lines self).number }
+    {
+        match self {
+            LinesFault::Read(_) => None,
+            LinesFault::Store(fault) => Some(fault.number()),
+            LinesFault::Both(fault) => Some(fault.number()),
+            LinesFault::Write(_) => None,
         }
     }
 }

@@ -4,7 +4,7 @@ ghost use Rattle.std.specs.Prelude.{◌≡◌, ◌≢◌, map, option_map, strin
 ghost use Rattle.std.specs.Prelude.{OnOk};
 ghost use Rattle.std.specs.Io.KnownBytes.{Appends};
 ghost use Rattle.texts.specs.declared.streams.StreamFault.TheVariants.{Read as ReadFailed};
-ghost use Rattle.request_lines.specs.Served.{texts_of};
+ghost use Rattle.request_lines.specs.Served.{answer_texts};
 ghost use Rattle.request_lines.specs.Input.{told_fault};
 ghost use Rattle.request_lines.specs.Output.{line_text};
 ghost use Rattle.operations.specs.Written.{WritesBeginning};
@@ -25,9 +25,9 @@ pub(crate) fn write_output<W: Write>(
     answers: &[WrittenAnswer],
 ) -> Result<(), StreamFault>
     ensures written { OnOk result (Appends (W.contents writer.old) (W.contents writer.new)
-        (texts_of (map told_fault lines.now) answers.now)) }
+        (answer_texts (map told_fault lines.now) answers.now)) }
     ensures err { OnErr result (WritesBeginning (W.contents writer.old) (W.contents writer.new)
-        (texts_of (map told_fault lines.now) answers.now)) }
+        (answer_texts (map told_fault lines.now) answers.now)) }
     ensures fault { IfErr result (λ fault. fault ≢ ReadFailed) }
 {
     let mut next = 0;

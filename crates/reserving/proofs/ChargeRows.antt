@@ -6,26 +6,25 @@ use Rattle.std.proofs.lemmas.Bool.Decides.{nat_tests}
 use Rattle.std.proofs.lemmas.List.{append-nil}
 use Rattle.units.specs.declared.blocks.UsedPart.{UsedPart}
 use Rattle.shelves.specs.Shelves.{Shelf}
-use Rattle.buckets.specs.declared.holds.Hold.{Hold}
-use Rattle.buckets.specs.Row.{Row}
+use Rattle.buckets.specs.declared.holds.HeldAmount.{HeldAmount}
+use Rattle.buckets.specs.Row.{BucketRow}
 use Rattle.buckets.specs.Share.{parts}
 use Rattle.buckets.specs.Holding.{paid, uncollected, holds_of}
 use Rattle.reserving.specs.declared.charge.ChargeRow.{ChargeRow}
 use Rattle.reserving.specs.declared.settle.Settled.{Settled}
-use Rattle.reserving.specs.Ledger.{Ledger, uses_in, counter, next_charge}
+use Rattle.reserving.specs.Ledger.{Ledger, uses_in, next_charge}
 use Rattle.reserving.specs.Ledger.Fact.{Grant, End, Use}
 use Rattle.reserving.specs.Charges.{charge_of, charge_rows}
 use Rattle.reserving.specs.Requests.{recorded, touched, closed, credited, with_bar}
-use Rattle.reserving.specs.Pricing.{cycle_at, terms_at, validity_of}
+use Rattle.reserving.specs.Pricing.{validity_of}
 use Rattle.reserving.specs.Balance.{buckets_at}
 use Rattle.reserving.specs.Sessions.{holds_at}
-use Rattle.reserving.specs.Settlement.{due_of}
 use Rattle.rating.specs.declared.report.Rated.{Rated}
 use Rattle.buckets.specs.declared.kind.BucketKind.{BucketKind}
 use Rattle.buckets.specs.declared.kind.Due.{Due}
-use Rattle.reserving.specs.Settlement.{reported, report_price, charge_facts, settled, settled_by}
-use Rattle.reserving.specs.Settlement.{missing, passes}
-use Rattle.reserving.specs.Reservation.{hold_facts, reserved}
+use Rattle.reserving.specs.Settlement.{due_of, use_of, reported, report_price, charge_facts}
+use Rattle.reserving.specs.Settlement.{settled, settled_by, missing, passes}
+use Rattle.reserving.specs.Reservation.{grant_at, hold_facts, reserved}
 use Rattle.reserving.specs.Debiting.{rest_price, charged_use, debited}
 use Rattle.reserving.specs.Results.{IsSettlementOf, IsDebitOf}
 use Rattle.reserving.specs.Rows.{AccountRows, EachIn}
@@ -71,14 +70,10 @@ pub charge_rows-reserved : (b : Shelf) (t : ℕ) (s : List ℕ) (g units : ℕ) 
     (ledger : Ledger) →
     charge_rows (reserved b t s g units due ledger) ≡ charge_rows ledger
 charge_rows-reserved b t s g units due ledger =
-    let hs : List Hold = holds_of g t due (buckets_at (validity_of b) t ledger) in
+    let hs : List HeldAmount = holds_of g t due (buckets_at (validity_of b) t ledger) in
     let before : Ledger =
-    record {
-      at = t;
-      fact = Grant s g (terms_at b t) units (counter (cycle_at b g) g (cycle_at b g t) ledger);
-    }
-    ∷ ledger in
-    charge_rows-front (hold_facts t s g hs) before (each_hold _ t s g hs (λ k n m. refl))
+    record { at = t; fact = Grant (grant_at b t s g units ledger) } ∷ ledger in
+    charge_rows-front (hold_facts t s g hs) before (each_hold _ t s g hs (λ x n. refl))
     ∙ append-nil (charge_rows ledger)
 
 -- ---- a use
@@ -99,10 +94,10 @@ charge_row n t s g blocks due uncollected = record {
 }
 
 -- a use in front of what the buckets paid for it
-used_row : (t : ℕ) (hs : List Hold) (s : List ℕ) (g units blocks : ℕ) (due : Due) (left : ℕ)
+used_row : (t : ℕ) (hs : List HeldAmount) (s : List ℕ) (g units blocks : ℕ) (due : Due) (left : ℕ)
     (ledger : Ledger) →
     charge_rows
-    (record { at = t; fact = Use s g units blocks due.blocks due.money left }
+    (record { at = t; fact = Use (use_of s g units blocks due left) }
     ∷ charge_facts t hs ++ ledger)
     ≡ charge_rows ledger ++ charge_row (next_charge ledger) t s g blocks due left ∷ []
 used_row t hs s g units blocks due left ledger =
@@ -121,15 +116,14 @@ pub charge_rows-settled : (v : ℕ → ℕ) (t : ℕ) (s : List ℕ) (g units bl
     ++ charge_row (next_charge ledger) t s g blocks due
     (uncollected (holds_at v t s g ledger) g t due.money (buckets_at v t ledger)) ∷ []
 charge_rows-settled v t s g units blocks due ledger =
-    let rows : List Row = buckets_at v t ledger in
-    let holds : List Hold = holds_at v t s g ledger in
-    let hs : List Hold = parts (paid holds g t due rows) rows in
+    let rows : List BucketRow = buckets_at v t ledger in
+    let holds : List HeldAmount = holds_at v t s g ledger in
+    let hs : List HeldAmount = parts (paid holds g t due rows) rows in
     append-nil
     (charge_rows
     (record {
       at = t;
-      fact = Use s g units blocks due.blocks due.money
-          (uncollected holds g t due.money rows);
+      fact = Use (use_of s g units blocks due (uncollected holds g t due.money rows));
     }
     ∷ charge_facts t hs ++ ledger))
     ∙ used_row t hs s g units blocks due (uncollected holds g t due.money rows) ledger
@@ -139,7 +133,7 @@ pub charge_rows-charged_use : (v : ℕ → ℕ) (t : ℕ) (s : List ℕ) (g unit
     charge_rows (charged_use v t s g units blocks due ledger)
     ≡ charge_rows ledger ++ charge_row (next_charge ledger) t s g blocks due 0 ∷ []
 charge_rows-charged_use v t s g units blocks due ledger =
-    let rows : List Row = buckets_at v t ledger in
+    let rows : List BucketRow = buckets_at v t ledger in
     used_row t (parts (paid [] g t due rows) rows) s g units blocks due 0 ledger
 
 -- ---- reports

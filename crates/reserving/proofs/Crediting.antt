@@ -2,7 +2,7 @@
 use Rattle.std.proofs.Common.{◌≡◌, ℕ, ◌+◌, ◌-◌, ◌<◌, ◌≤◌, Bool, true, false, List, [], ◌∷◌, map}
 use Rattle.std.proofs.Common.{refl, sym, ap, ◌∙◌, arith, Option, Some, None}
 use Rattle.std.specs.Prelude.{if◌then◌else◌, ◌==◌, nat_lt}
-use Rattle.buckets.specs.Row.{Row, new_row}
+use Rattle.buckets.specs.Row.{BucketRow, new_row}
 use Rattle.buckets.specs.Spend.{IsBelow, inserted}
 use Rattle.buckets.specs.Share.{parts}
 use Rattle.buckets.proofs.Kept.{IsSound-inserted, Each-inserted}
@@ -28,7 +28,8 @@ use Rattle.reserving.proofs.Advancing.{held_by-split, IsRowsOf-advanced}
 
 -- ---- at its place
 
-map-inserted : (f : Row → Row) (b : Row) (rows : List Row) → ((x : Row) → (f x).until ≡ x.until) →
+map-inserted : (f : BucketRow → BucketRow) (b : BucketRow) (rows : List BucketRow) →
+    ((x : BucketRow) → (f x).until ≡ x.until) →
     map f (inserted b rows) ≡ inserted (f b) (map f rows)
 map-inserted f b [] k = refl
 map-inserted f b (x ∷ xs) k = at (nat_lt b.until x.until) refl (map-inserted f b xs k)
@@ -47,7 +48,7 @@ map-inserted f b (x ∷ xs) k = at (nat_lt b.until x.until) refl (map-inserted f
         ∙ sym (ap (λ t. if t then f b ∷ f x ∷ map f xs else f x ∷ inserted (f b) (map f xs))
         (test ∙ e))
 
-pub IsBelow-inserted : (next : ℕ) (b : Row) (rows : List Row) → b.number < next + 1 →
+pub IsBelow-inserted : (next : ℕ) (b : BucketRow) (rows : List BucketRow) → b.number < next + 1 →
     IsBelow next rows → IsBelow (next + 1) (inserted b rows)
 IsBelow-inserted next b [] lt h = (lt, tt)
 IsBelow-inserted next b (x ∷ xs) lt h =
@@ -61,7 +62,7 @@ IsBelow-inserted next b (x ∷ xs) lt h =
       )
     ]
   where
-    more : (ys : List Row) → IsBelow next ys → IsBelow (next + 1) ys
+    more : (ys : List BucketRow) → IsBelow next ys → IsBelow (next + 1) ys
     more [] q = tt
     more (y ∷ ys) q = (let less : y.number < next = q.0 in omega arith, more ys q.1)
 
@@ -72,7 +73,7 @@ pub IsAccount-credited : (a : AccountRows) (kind : BucketKind) (from until : ℕ
     a.next_bucket ≤ 4294967295 → amount ≤ most_of kind → IsScopeOf kind scope → IsAccount a →
     IsAccount (credited_account kind from until scope amount a)
 IsAccount-credited a kind from until scope amount le most scoped is =
-    let b : Row = new_row kind a.next_bucket from until scope amount in
+    let b : BucketRow = new_row kind a.next_bucket from until scope amount in
     record {
       shelf = is.shelf;
       sound = IsSound-inserted b a.buckets is.below
@@ -94,7 +95,7 @@ IsAccount-credited a kind from until scope amount le most scoped is =
 
 -- ---- the ledger
 
-abbrev later_row : AccountRows → ℕ → Row → Row
+abbrev later_row : AccountRows → ℕ → BucketRow → BucketRow
 later_row a t b =
     with_end t (with_release t b (lapsed_in (is_live_in (validity_of a.shelf) t a.sessions) a.groups
     b))
@@ -107,7 +108,7 @@ new_later : (t n : ℕ) (kind : BucketKind) (from until : ℕ) (scope : Option �
 new_later t n kind from until scope amount lapsed ch h el ec eh =
     rw (el, ec, eh) (at (nat_lt t until) refl)
   where
-    b : Row
+    b : BucketRow
     b = new_row kind n from until scope amount
 
     at : (e : Bool) → nat_lt t until ≡ e →
@@ -166,10 +167,10 @@ IsRowsOf-credited ledger a t kind from until scope amount is rows le = record {
     more : Ledger
     more = credited t kind from until scope amount ledger
 
-    b : Row
+    b : BucketRow
     b = new_row kind a.next_bucket from until scope amount
 
-    b' : Row
+    b' : BucketRow
     b' = new_row kind (next_bucket ledger) from until scope amount
 
     later : IsRowsOf ledger (advanced t a)
@@ -198,7 +199,7 @@ IsRowsOf-credited ledger a t kind from until scope amount is rows le = record {
         (charged (next_bucket ledger) more)
         (held (λ s g. is_live v t more s) (next_bucket ledger) more)) rows.next_bucket
 
-    others : (cs : List Row) → map (bucket_at v t ledger) cs ≡ map (bucket_at v t more) cs
+    others : (cs : List BucketRow) → map (bucket_at v t ledger) cs ≡ map (bucket_at v t more) cs
     others [] = refl
     others (c ∷ cs) =
         let ch : charged c.number ledger ≡ charged c.number more = omega arith in

@@ -4,7 +4,7 @@ use Rattle.std.proofs.Common.{set, refl, sym, ap, subst, ◌∙◌, arith, Optio
 use Rattle.std.specs.Prelude.{if◌then◌else◌, is_some, unwrap_or, option_map, position, not, ◌&&◌}
 use Rattle.std.specs.List.{find, list_any, insert}
 use Rattle.std.proofs.lemmas.Iterator.Adapters.{position_from-zero}
-use Rattle.buckets.specs.declared.holds.Hold.{Hold}
+use Rattle.buckets.specs.declared.holds.HeldAmount.{HeldAmount}
 use Rattle.reserving.specs.declared.session.Session.{Session}
 use Rattle.reserving.specs.declared.session.SessionGroup.{SessionGroup}
 use Rattle.reserving.specs.declared.session.Reservation.{Reservation}
@@ -155,7 +155,7 @@ found_none s g {rows} r e is = not_there s g rows (place_is s g r e is)
 
 -- what was reserved in a row, where the row's reservation is taken
 pub taken_is : (s : List ℕ) (g place : ℕ) (rows : List SessionGroup) (now : SessionGroup)
-    (taken : Option Reservation) (holds : List Hold) →
+    (taken : Option Reservation) (holds : List HeldAmount) →
     position (is_of s g) rows ≡ Some place → now ≡ get_or rows place now →
     taken ≡ now.reservation → holds ≡ holds_in taken → holds ≡ reserved_in s g rows
 taken_is s g place rows now taken holds at is t h =

@@ -2,15 +2,13 @@
 use Rattle.std.proofs.Common.{◌≡◌, ℕ, ◌+◌, ◌*◌, ◌<◌, Bool, true, false, List, [], ◌∷◌, refl, sym}
 use Rattle.std.proofs.Common.{ap, subst, ◌∙◌, Option, Some, None}
 use Rattle.std.specs.Prelude.{◌==◌, ◌&&◌, ◌||◌, not, nat_lt, if◌then◌else◌, is_some, map}
-use Rattle.reserving.specs.Ledger.{Fact, Dated, Ledger, is_same, last_touch, touch_in, is_closed}
-use Rattle.reserving.specs.Ledger.{is_within, is_live, or_else, charged, held, counter}
-use Rattle.reserving.specs.Ledger.{blocks_in, has_counter, counts_group, last_recording, has_group}
+use Rattle.reserving.specs.Ledger.{Ledger, UseOf, counts, test_of, is_same, last_touch, touched_at}
+use Rattle.reserving.specs.Ledger.{is_closed, is_within, is_live, or_else, charged, held, counter}
+use Rattle.reserving.specs.Ledger.{blocks_in, has_counter, is_use_in, last_recording, has_group}
 use Rattle.reserving.specs.Ledger.{only, open_grant, used}
-use Rattle.reserving.specs.Ledger.Fact.{Credit, Grant, Hold, End, Use, Charge, Touch, Close}
-use Rattle.reserving.specs.Ledger.Fact.{Recorded, Barred}
 use Rattle.reserving.specs.Balance.{buckets_at, balance_of, credits}
 use Rattle.buckets.specs.Share.{parts}
-use Rattle.buckets.specs.Row.{Row}
+use Rattle.buckets.specs.Row.{BucketRow}
 use Rattle.reserving.specs.declared.session.SessionState.TheVariants.{Open, Ended, NeverOpened}
 use Rattle.reserving.specs.Sessions.{session_at, session_row, group_at, reservation_of}
 use Rattle.shelves.specs.Shelves.{Shelf}
@@ -34,26 +32,18 @@ AgreeBefore from v w = (x : ℕ) → x < from → v x ≡ w x
 touch_before : (from : ℕ) (s : List ℕ) (ledger : Ledger) (x : ℕ) → IsBefore from ledger →
     last_touch s ledger ≡ Some x → x < from
 touch_before from s [] x h e = absurd (no_some x e)
-touch_before from s (d ∷ older) x h e = by_fact d.fact (touch_before from s older x h.1) e
+touch_before from s (d ∷ older) x h e =
+    by_touch (counts d.fact).touch (touch_before from s older x h.1) e
   where
     at : (b : Bool) → (last_touch s older ≡ Some x → x < from) →
         or_else (if b then Some d.at else None) (last_touch s older) ≡ Some x → x < from
     at true rest e = subst (λ n. n < from) (some_of d.at x e) h.0
     at false rest e = rest e
 
-    by_fact : (f : Fact) → (last_touch s older ≡ Some x → x < from) →
-        or_else (touch_in s (record { at = d.at; fact = f })) (last_touch s older) ≡ Some x →
-        x < from
-    by_fact (Touch session) rest e = at (is_same session s) rest e
-    by_fact (Credit kind number start until scope amount) rest e = rest e
-    by_fact (Grant session group terms units place) rest e = rest e
-    by_fact (Hold session group bucket amount) rest e = rest e
-    by_fact (End session group) rest e = rest e
-    by_fact (Use session group units blocks covered rated uncollected) rest e = rest e
-    by_fact (Charge bucket amount) rest e = rest e
-    by_fact (Close session) rest e = rest e
-    by_fact (Recorded session number) rest e = rest e
-    by_fact (Barred barred) rest e = rest e
+    by_touch : (o : Option (List ℕ)) → (last_touch s older ≡ Some x → x < from) →
+        or_else (touched_at s d.at o) (last_touch s older) ≡ Some x → x < from
+    by_touch None rest e = rest e
+    by_touch (Some session) rest e = at (is_same session s) rest e
 
 within_same : (from : ℕ) (v w : ℕ → ℕ) (t : ℕ) (o : Option ℕ) → AgreeBefore from v w →
     ((x : ℕ) → o ≡ Some x → x < from) → is_within v t o ≡ is_within w t o
@@ -89,7 +79,7 @@ module _ (from : ℕ) (v w : ℕ → ℕ) (t : ℕ) (ledger : Ledger) (agree : A
         used = used s g ledger;
         reservation = if live_same i s
             then reservation_of
-            (parts (λ (b : Row). held (only s g) b.number ledger) (buckets_same i))
+            (parts (λ (b : BucketRow). held (only s g) b.number ledger) (buckets_same i))
             (open_grant s g ledger)
             else None;
       })
@@ -104,27 +94,16 @@ count_same from f h g c (d ∷ older) agree before =
     λ i. (if agree d.at before.0 i == c then blocks_in g d.fact else 0)
     + count_same from f h g c older agree before.1 i
 
-counts_same : (from : ℕ) (f h : ℕ → ℕ) (g c : ℕ) (d : Dated) → AgreeBefore from f h →
-    d.at < from → (x : Fact) → d.fact ≡ x →
-    counts_group f g c (record { at = d.at; fact = x })
-    ≡ counts_group h g c (record { at = d.at; fact = x })
-counts_same from f h g c d agree lt (Use session group units blocks covered rated uncollected) e =
-    λ i. group == g && agree d.at lt i == c
-counts_same from f h g c d agree lt (Touch session) e = refl
-counts_same from f h g c d agree lt (Credit kind number start until scope amount) e = refl
-counts_same from f h g c d agree lt (Grant session group terms units place) e = refl
-counts_same from f h g c d agree lt (Hold session group bucket amount) e = refl
-counts_same from f h g c d agree lt (End session group) e = refl
-counts_same from f h g c d agree lt (Charge bucket amount) e = refl
-counts_same from f h g c d agree lt (Close session) e = refl
-counts_same from f h g c d agree lt (Recorded session number) e = refl
-counts_same from f h g c d agree lt (Barred barred) e = refl
+counts_same : (f h : ℕ → ℕ) (g c t : ℕ) → f t ≡ h t → (o : Option UseOf) →
+    test_of (is_use_in f g c t) o ≡ test_of (is_use_in h g c t) o
+counts_same f h g c t same None = refl
+counts_same f h g c t same (Some u) = λ i. u.group == g && same i == c
 
-has_same : (from : ℕ) (f h : ℕ → ℕ) (g c : ℕ) (ledger : Ledger) → AgreeBefore from f h →
+pub has_same : (from : ℕ) (f h : ℕ → ℕ) (g c : ℕ) (ledger : Ledger) → AgreeBefore from f h →
     IsBefore from ledger → has_counter f g c ledger ≡ has_counter h g c ledger
 has_same from f h g c [] agree before = refl
 has_same from f h g c (d ∷ older) agree before =
-    λ i. counts_same from f h g c d agree before.0 d.fact refl i
+    λ i. counts_same f h g c d.at (agree d.at before.0) (counts d.fact).usage i
     || has_same from f h g c older agree before.1 i
 
 -- ---- the rows of a ledger

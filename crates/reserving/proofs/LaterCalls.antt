@@ -3,12 +3,13 @@
 use Rattle.std.proofs.Common.{◌≡◌, ℕ, ◌+◌, ◌<◌, ◌≤◌, Bool, true, false, List, [], ◌∷◌, ◌++◌, refl}
 use Rattle.std.proofs.Common.{sym, ap, subst, ◌∙◌, arith, Option, Some, None}
 use Rattle.std.specs.Prelude.{◌==◌, ◌&&◌, if◌then◌else◌, unwrap_or, option_and_then, nat_le}
+use Rattle.std.specs.Prelude.{IfSome}
 use Rattle.units.specs.declared.blocks.UsedPart.{UsedPart}
 use Rattle.calendar.specs.Timetable.{period_at}
 use Rattle.tariffs.specs.Books.{Book}
 use Rattle.tariffs.specs.Tariffs.{GroupTariff}
 use Rattle.rating.specs.declared.report.Rated.{Rated}
-use Rattle.buckets.specs.Row.{Row}
+use Rattle.buckets.specs.Row.{BucketRow}
 use Rattle.buckets.specs.Share.{parts}
 use Rattle.buckets.specs.declared.kind.Due.{Due}
 use Rattle.buckets.specs.declared.kind.BucketKind.TheVariants.{Blocks}
@@ -18,14 +19,14 @@ use Rattle.shelves.specs.Shelves.{Shelf, book_at, number_at, tariff_in, count}
 use Rattle.shelves.specs.Laws.{GoesOnFrom}
 use Rattle.shelves.proofs.Begun.{begun_few}
 use Rattle.reserving.specs.declared.session.Terms.{Terms}
-use Rattle.reserving.specs.Ledger.{Fact, Ledger, is_same, grant_in, newest, or_else, inner}
-use Rattle.reserving.specs.Ledger.{open_grant, used, counter, held, only}
-use Rattle.reserving.specs.Ledger.Fact.{Credit, Grant, Hold, End, Use, Charge, Touch, Close}
-use Rattle.reserving.specs.Ledger.Fact.{Recorded, Barred}
+use Rattle.reserving.specs.Ledger.{Fact, Ledger, GrantOf, EndOf, counts, is_same, grant_in, told_of}
+use Rattle.reserving.specs.Ledger.{telling, newest, or_else, inner, open_grant, used, counter, held}
+use Rattle.reserving.specs.Ledger.{only}
+use Rattle.reserving.specs.Ledger.Fact.{Grant, End, Use}
 use Rattle.reserving.specs.Pricing.{validity_of, cycle_at, cycle_with, tariff_of, one_period}
 use Rattle.reserving.specs.Pricing.{terms_now, periods_by, rated_with, grant_with}
 use Rattle.reserving.specs.Balance.{buckets_at}
-use Rattle.reserving.specs.Settlement.{reported, report_price, charge_facts, settled_by}
+use Rattle.reserving.specs.Settlement.{reported, report_price, charge_facts, use_of, settled_by}
 use Rattle.reserving.specs.Settlement.{passes, passes_limit, coverable, due_of}
 use Rattle.reserving.specs.Ledger.{next_charge}
 use Rattle.reserving.specs.Reservation.{reserved, grant_for, hold_facts}
@@ -36,8 +37,7 @@ use Rattle.reserving.proofs.LaterBooks.{IsBefore, AgreeBefore, buckets_same, cou
 -- ---- the books of a ledger's grants
 
 abbrev pub IsNumbered : ℕ → Fact → Type 0
-IsNumbered n (Grant session group terms units place) = terms.book ≤ n
-IsNumbered n _ = Unit {0}
+IsNumbered n f = IfSome (counts f).grant (λ x. x.terms.book ≤ n)
 
 -- each grant's book has a number up to this one
 abbrev pub AreNumbered : ℕ → Ledger → Type 0
@@ -48,7 +48,7 @@ told_numbered : (n : ℕ) (s : List ℕ) (g : ℕ) (ledger : Ledger) (x : Terms)
     newest (grant_in s g) ledger ≡ Some (Some x) → x.book ≤ n
 told_numbered n s g [] x h e = absurd (no_some (Some x) e)
 told_numbered n s g (d ∷ older) x h e =
-    by_fact d.fact h.0 (told_numbered n s g older x h.1) e
+    by_grant (counts d.fact).grant (counts d.fact).end h.0 (told_numbered n s g older x h.1) e
   where
     told : (b : Bool) (o : Option Terms) → ((y : Terms) → o ≡ Some y → y.book ≤ n) →
         (newest (grant_in s g) older ≡ Some (Some x) → x.book ≤ n) →
@@ -57,23 +57,16 @@ told_numbered n s g (d ∷ older) x h e =
     told true o own rest e = own x (some_of o (Some x) e)
     told false o own rest e = rest e
 
-    by_fact : (f : Fact) → IsNumbered n f →
+    by_grant : (a : Option GrantOf) (z : Option EndOf) → IfSome a (λ y. y.terms.book ≤ n) →
         (newest (grant_in s g) older ≡ Some (Some x) → x.book ≤ n) →
-        or_else (grant_in s g (record { at = d.at; fact = f })) (newest (grant_in s g) older)
+        or_else (told_of (λ y. y.terms) s g (telling a z)) (newest (grant_in s g) older)
         ≡ Some (Some x) → x.book ≤ n
-    by_fact (Grant session group terms units place) own rest e =
-        told (is_same session s && group == g) (Some terms)
-        (λ y k. subst (λ (z : Terms). z.book ≤ n) (some_of terms y k) own) rest e
-    by_fact (End session group) own rest e =
-        told (is_same session s && group == g) None (λ y k. absurd (no_some y k)) rest e
-    by_fact (Credit kind number start until scope amount) own rest e = rest e
-    by_fact (Hold session group bucket amount) own rest e = rest e
-    by_fact (Use session group units blocks covered rated uncollected) own rest e = rest e
-    by_fact (Charge bucket amount) own rest e = rest e
-    by_fact (Touch session) own rest e = rest e
-    by_fact (Close session) own rest e = rest e
-    by_fact (Recorded session number) own rest e = rest e
-    by_fact (Barred barred) own rest e = rest e
+    by_grant (Some a) z own rest e =
+        told (is_same a.session s && a.group == g) (Some a.terms)
+        (λ y k. subst (λ (w : Terms). w.book ≤ n) (some_of a.terms y k) own) rest e
+    by_grant None (Some z) own rest e =
+        told (is_same z.session s && z.group == g) None (λ y k. absurd (no_some y k)) rest e
+    by_grant None None own rest e = rest e
 
 inner_told : (o : Option (Option Terms)) (x : Terms) → inner o ≡ Some x → o ≡ Some (Some x)
 inner_told None x e = absurd (no_some x e)
@@ -138,7 +131,8 @@ module _ (from : ℕ) (b u : Shelf) (on : GoesOnFrom from b u) (t : ℕ) (early 
         coverable (validity_of b) t session g ledger ≡ coverable (validity_of u) t session g ledger
     coverable_same session g =
         λ i. held_sum Blocks
-        (parts (λ (x : Row). held (only session g) x.number ledger) (rows_same i)) (rows_same i)
+        (parts (λ (x : BucketRow). held (only session g) x.number ledger) (rows_same i))
+        (rows_same i)
         + allowance g t (rows_same i)
 
     -- a report has one price
@@ -155,17 +149,18 @@ module _ (from : ℕ) (b u : Shelf) (on : GoesOnFrom from b u) (t : ℕ) (early 
         (unwrap_or (open_grant session g ledger) (terms_same i)).periods (used session g ledger)
         (place_same g i) (coverable_same session g i) used_parts)
 
-    abbrev settled_with : List ℕ → ℕ → ℕ → List Row → Rated → Ledger
+    abbrev settled_with : List ℕ → ℕ → ℕ → List BucketRow → Rated → Ledger
     settled_with session g units rows r =
         record { at = t; fact = End session g }
         ∷ record {
           at = t;
-          fact = Use session g units r.blocks r.covered.0 r.amount.0
-              (uncollected (parts (λ (x : Row). held (only session g) x.number ledger) rows) g t
-              r.amount.0 rows);
+          fact = Use (use_of session g units r.blocks (due_of r)
+              (uncollected (parts (λ (x : BucketRow). held (only session g) x.number ledger) rows) g
+              t
+              r.amount.0 rows));
         }
         ∷ charge_facts t
-        (parts (paid (parts (λ (x : Row). held (only session g) x.number ledger) rows) g t
+        (parts (paid (parts (λ (x : BucketRow). held (only session g) x.number ledger) rows) g t
         (due_of r) rows) rows) ++ ledger
 
     -- and one settlement
@@ -196,9 +191,13 @@ module _ (from : ℕ) (b u : Shelf) (on : GoesOnFrom from b u) (t : ℕ) (early 
         λ i. hold_facts t session g (holds_of g t due (rows_same i))
         ++ (record {
           at = t;
-          fact = Grant session g
-              (record { book = number_same i; periods = periods_by (book_same i) t }) units
-              (place_same g i);
+          fact = Grant (record {
+            session = session;
+            group = g;
+            terms = record { book = number_same i; periods = periods_by (book_same i) t };
+            units = units;
+            counter = place_same g i;
+          });
         } ∷ ledger)
 
     -- an event has one price, and is covered alike
@@ -215,7 +214,8 @@ module _ (from : ℕ) (b u : Shelf) (on : GoesOnFrom from b u) (t : ℕ) (early 
     pub rest_same : (g units : ℕ) → rest_price b t g units ledger ≡ rest_price u t g units ledger
     rest_same g units =
         event_same g (allowance g t (buckets_at (validity_of b) t ledger)) units
-        ∙ ap (λ (rows : List Row). event_price u t g (allowance g t rows) units ledger) rows_same
+        ∙ ap (λ (rows : List BucketRow). event_price u t g (allowance g t rows) units ledger)
+        rows_same
 
     pub covered_same : (g units : ℕ) → is_covered b t g units ledger ≡ is_covered u t g units ledger
     covered_same g units =

@@ -5,8 +5,8 @@ use Rattle.std.specs.Prelude.{if◌then◌else◌, ◌==◌, ◌&&◌, not, unwr
 use Rattle.std.specs.List.Sorted.{IsPermutation}
 use Rattle.std.proofs.lemmas.List.Sorted.{IsPermutation-refl}
 use Rattle.units.specs.declared.blocks.UsedPart.{UsedPart}
-use Rattle.buckets.specs.declared.holds.Hold.{Hold}
-use Rattle.buckets.specs.Row.{Row, with_release, with_end}
+use Rattle.buckets.specs.declared.holds.HeldAmount.{HeldAmount}
+use Rattle.buckets.specs.Row.{BucketRow, with_release, with_end}
 use Rattle.buckets.specs.Spend.{Each, allowance}
 use Rattle.buckets.specs.Holding.{held_in, settled_rows, released_rows, held_sum}
 use Rattle.buckets.proofs.SharesAlong.{KeepsPlace, with_end_keeps, with_release_number}
@@ -118,10 +118,10 @@ module _ (left : LeftRows) (a : AccountRows) (h : IsLeft left a) where
     abbrev whole_keeps : List ℕ → Bool
     whole_keeps = is_live_in (validity_of a.shelf) t (left.sessions ++ a.sessions)
 
-    abbrev later : Row → Row
+    abbrev later : BucketRow → BucketRow
     later b = with_end t (with_release t b (lapsed_in keeps a.groups b))
 
-    lapsed_same : (b : Row) →
+    lapsed_same : (b : BucketRow) →
         lapsed_in whole_keeps (left.groups ++ a.groups) b ≡ lapsed_in keeps a.groups b
     lapsed_same b =
         (λ i. held_by (λ s. not (live t s i)) (left.groups ++ a.groups) b)
@@ -135,7 +135,7 @@ module _ (left : LeftRows) (a : AccountRows) (h : IsLeft left a) where
           ∙ with_release_until t b (lapsed_in keeps a.groups b);
     }
 
-    later_dead : (b : Row) → held_by (λ s. true) a.groups b ≡ 0 → IsDead b → later b ≡ b
+    later_dead : (b : BucketRow) → held_by (λ s. true) a.groups b ≡ 0 → IsDead b → later b ≡ b
     later_dead b e d =
         let none : lapsed_in keeps a.groups b ≡ 0 =
         omega (arith, e, held_by-split keeps b a.groups) in
@@ -201,13 +201,13 @@ module _ (left : LeftRows) (a : AccountRows) (h : IsLeft left a) where
         subst (λ xs. IsPermutation xs (left.groups ++ with_use s g units a.groups)) (sym same)
         (put_behind group_before (is_of s g) row left.groups a.groups not_of)
 
-    abbrev holds : List Hold
+    abbrev holds : List HeldAmount
     holds = reserved_in s g a.groups
 
     pub holds_same : reserved_in s g (left.groups ++ a.groups) ≡ holds
     holds_same = ap (λ (r : SessionGroup). holds_in r.reservation) row_same
 
-    one_held : (rows : List SessionGroup) (b : Row) →
+    one_held : (rows : List SessionGroup) (b : BucketRow) →
         held_in (reserved_in s g rows) b ≤ held_by (λ x. true) rows b
     one_held [] b = omega arith
     one_held (r ∷ rs) b = at (is_of s g r) (one_held rs b)

@@ -3,8 +3,8 @@ use Rattle.std.proofs.Common.{◌≡◌, ℕ, ◌+◌, ◌-◌, Bool, true, fals
 use Rattle.std.proofs.Common.{ap, ◌∙◌, arith}
 use Rattle.std.specs.Prelude.{if◌then◌else◌, nat_lt, sum_by, min}
 use Rattle.std.proofs.lemmas.List.Sums.{sum_by-cons}
-use Rattle.buckets.specs.declared.holds.Hold.{Hold}
-use Rattle.buckets.specs.Row.{Row, precedes, eligible_amount, is_eligible, with_charge}
+use Rattle.buckets.specs.declared.holds.HeldAmount.{HeldAmount}
+use Rattle.buckets.specs.Row.{BucketRow, precedes, eligible_amount, is_eligible, with_charge}
 use Rattle.buckets.specs.Row.{with_charge_of_hold, with_release, with_end, is_paid_before}
 use Rattle.buckets.specs.Share.{share, sum_before, sum_in, left_over}
 use Rattle.buckets.specs.Spend.{Each, funds, allowance}
@@ -20,10 +20,11 @@ use Rattle.reserving.specs.Left.{placed, merged, IsDead}
 
 -- ---- a change that keeps places
 
-precedes_same : (f : Row → Row) → KeepsPlace f → (a b : Row) → precedes (f a) (f b) ≡ precedes a b
+precedes_same : (f : BucketRow → BucketRow) → KeepsPlace f → (a b : BucketRow) →
+    precedes (f a) (f b) ≡ precedes a b
 precedes_same f k a b = rw (k.number a, k.until a, k.number b, k.until b) refl
 
-map_placed : (f : Row → Row) → KeepsPlace f → (b : Row) (xs : List Row) →
+map_placed : (f : BucketRow → BucketRow) → KeepsPlace f → (b : BucketRow) (xs : List BucketRow) →
     map f (placed b xs) ≡ placed (f b) (map f xs)
 map_placed f k b [] = refl
 map_placed f k b (x ∷ xs) =
@@ -35,7 +36,7 @@ map_placed f k b (x ∷ xs) =
     (sym (precedes_same f k b x))
 
 -- what keeps places and leaves dead buckets as they are is done to the loaded ones alone
-pub map_merged : (f : Row → Row) → KeepsPlace f → (left rows : List Row) →
+pub map_merged : (f : BucketRow → BucketRow) → KeepsPlace f → (left rows : List BucketRow) →
     Each (λ b. f b ≡ b) left → map f (merged left rows) ≡ merged left (map f rows)
 map_merged f k [] rows h = refl
 map_merged f k (b ∷ bs) rows h =
@@ -43,7 +44,8 @@ map_merged f k (b ∷ bs) rows h =
 
 -- ---- sums
 
-sum_placed : (f : Row → ℕ) (b : Row) (xs : List Row) → sum_by f (placed b xs) ≡ f b + sum_by f xs
+sum_placed : (f : BucketRow → ℕ) (b : BucketRow) (xs : List BucketRow) →
+    sum_by f (placed b xs) ≡ f b + sum_by f xs
 sum_placed f b [] = sum_by-cons f b []
 sum_placed f b (x ∷ xs) =
     elim (precedes b x) as
@@ -52,18 +54,20 @@ sum_placed f b (x ∷ xs) =
       | false ↦ omega (arith, sum_by-cons f x (placed b xs), sum_placed f b xs, sum_by-cons f x xs)
     ]
 
-pub sum_merged : (f : Row → ℕ) (left rows : List Row) → Each (λ b. f b ≡ 0) left →
+pub sum_merged : (f : BucketRow → ℕ) (left rows : List BucketRow) → Each (λ b. f b ≡ 0) left →
     sum_by f (merged left rows) ≡ sum_by f rows
 sum_merged f [] rows h = refl
 sum_merged f (b ∷ bs) rows h =
     omega (arith, sum_placed f b (merged bs rows), sum_merged f bs rows h.1, h.0)
 
-pub each_map : (P Q : Row → Type 0) (xs : List Row) → ((b : Row) → P b → Q b) → Each P xs →
+pub each_map : (P Q : BucketRow → Type 0) (xs : List BucketRow) → ((b : BucketRow) → P b → Q b) →
+    Each P xs →
     Each Q xs
 each_map P Q [] k h = tt
 each_map P Q (x ∷ xs) k h = (k x h.0, each_map P Q xs k h.1)
 
-pub each_both : (P Q R : Row → Type 0) (xs : List Row) → ((b : Row) → P b → Q b → R b) → Each P xs →
+pub each_both : (P Q R : BucketRow → Type 0) (xs : List BucketRow) →
+    ((b : BucketRow) → P b → Q b → R b) → Each P xs →
     Each Q xs → Each R xs
 each_both P Q R [] k h g = tt
 each_both P Q R (x ∷ xs) k h g = (k x h.0 g.0, each_both P Q R xs k h.1 g.1)
@@ -73,28 +77,29 @@ if_zero true n e = e
 if_zero false n e = refl
 
 -- dead buckets stand before none, as far as money goes
-pub before_merged : (f : Row → ℕ) (left rows : List Row) (b : Row) → Each (λ x. f x ≡ 0) left →
+pub before_merged : (f : BucketRow → ℕ) (left rows : List BucketRow) (b : BucketRow) →
+    Each (λ x. f x ≡ 0) left →
     sum_before f b (merged left rows) ≡ sum_before f b rows
 before_merged f left rows b h =
     sum_merged (λ x. if is_paid_before x b then f x else 0) left rows
     (each_map (λ x. f x ≡ 0) (λ x. (if is_paid_before x b then f x else 0) ≡ 0) left
     (λ x e. if_zero (is_paid_before x b) (f x) e) h)
 
-pub share_merged : (f : Row → ℕ) (left rows : List Row) (due : Due) (b : Row) →
+pub share_merged : (f : BucketRow → ℕ) (left rows : List BucketRow) (due : Due) (b : BucketRow) →
     Each (λ x. f x ≡ 0) left → share f (merged left rows) due b ≡ share f rows due b
 share_merged f left rows due b h =
     ap (λ n. min (f b) (due_in b.kind due - n)) (before_merged f left rows b h)
 
 -- ---- dead buckets
 
-pub dead_amount : (group at : ℕ) (left : List Row) → Each IsDead left →
+pub dead_amount : (group at : ℕ) (left : List BucketRow) → Each IsDead left →
     Each (λ b. eligible_amount group at b ≡ 0) left
 dead_amount group at left h =
     each_map IsDead (λ b. eligible_amount group at b ≡ 0) left
     (λ b d. if_zero (is_eligible group at b) b.available d.available) h
 
 -- the sum of a kind doesn't know of buckets that have nothing
-pub sum_in-merged : (kind : BucketKind) (f : Row → ℕ) (left rows : List Row) →
+pub sum_in-merged : (kind : BucketKind) (f : BucketRow → ℕ) (left rows : List BucketRow) →
     Each (λ b. f b ≡ 0) left → sum_in kind f (merged left rows) ≡ sum_in kind f rows
 sum_in-merged kind f left rows h =
     sum_merged (λ b. if is_alike b.kind kind then f b else 0) left rows
@@ -102,24 +107,24 @@ sum_in-merged kind f left rows h =
     (λ b e. if_zero (is_alike b.kind kind) (f b) e) h)
 
 -- nor does what is left of what is due
-pub left_over-merged : (f : Row → ℕ) (left rows : List Row) (due : Due) →
+pub left_over-merged : (f : BucketRow → ℕ) (left rows : List BucketRow) (due : Due) →
     Each (λ b. f b ≡ 0) left → left_over f (merged left rows) due ≡ left_over f rows due
 left_over-merged f left rows due h = λ i. record {
   money = due.money - sum_in-merged Money f left rows h i;
   blocks = due.blocks - sum_in-merged Blocks f left rows h i;
 }
 
-pub funds_merged : (group at : ℕ) (left rows : List Row) → Each IsDead left →
+pub funds_merged : (group at : ℕ) (left rows : List BucketRow) → Each IsDead left →
     funds group at (merged left rows) ≡ funds group at rows
 funds_merged group at left rows h =
     sum_in-merged Money (eligible_amount group at) left rows (dead_amount group at left h)
 
-pub allowance_merged : (group at : ℕ) (left rows : List Row) → Each IsDead left →
+pub allowance_merged : (group at : ℕ) (left rows : List BucketRow) → Each IsDead left →
     allowance group at (merged left rows) ≡ allowance group at rows
 allowance_merged group at left rows h =
     sum_in-merged Blocks (eligible_amount group at) left rows (dead_amount group at left h)
 
-pub release_none : (at : ℕ) (b : Row) (n : ℕ) → n ≡ 0 → with_release at b n ≡ b
+pub release_none : (at : ℕ) (b : BucketRow) (n : ℕ) → n ≡ 0 → with_release at b n ≡ b
 release_none at b n e = ap (with_release at b) e ∙ by_end (nat_lt at b.until)
   where
     r : b.reserved - 0 ≡ b.reserved
@@ -137,7 +142,7 @@ release_none at b n e = ap (with_release at b) e ∙ by_end (nat_lt at b.until)
     by_end true = λ i. record b { reserved = r i; available = a i }
     by_end false = λ i. record b { reserved = r i; expired = x i }
 
-pub end_dead : (at : ℕ) (b : Row) → IsDead b → with_end at b ≡ b
+pub end_dead : (at : ℕ) (b : BucketRow) → IsDead b → with_end at b ≡ b
 end_dead at b d = by_end (nat_lt at b.until)
   where
     x : b.expired + b.available ≡ b.expired
@@ -148,7 +153,7 @@ end_dead at b d = by_end (nat_lt at b.until)
     by_end true = refl
     by_end false = λ i. record b { available = sym d.available i; expired = x i }
 
-settled_keeps : (holds : List Hold) (group at : ℕ) (due : Due) (rows : List Row) →
+settled_keeps : (holds : List HeldAmount) (group at : ℕ) (due : Due) (rows : List BucketRow) →
     KeepsPlace (settled_row holds group at due rows)
 settled_keeps holds group at due rows = record {
   number = λ b. with_release_number at
@@ -163,8 +168,9 @@ settled_keeps holds group at due rows = record {
 
 -- ---- what calls do to buckets
 
-settled_row_merged : (holds : List Hold) (group at : ℕ) (due : Due) (left rows : List Row) →
-    Each IsDead left → Each (λ b. held_in holds b ≡ 0) left → (b : Row) →
+settled_row_merged : (holds : List HeldAmount) (group at : ℕ) (due : Due)
+    (left rows : List BucketRow) →
+    Each IsDead left → Each (λ b. held_in holds b ≡ 0) left → (b : BucketRow) →
     settled_row holds group at due (merged left rows) b
     ≡ settled_row holds group at due rows b
 settled_row_merged holds group at due left rows dead none b =
@@ -183,7 +189,8 @@ pub min_none : (m n : ℕ) → m ≡ 0 → min m n ≡ 0
 min_none m n e = omega (arith, e)
 
 -- a dead bucket pays nothing
-pub settled_dead : (holds : List Hold) (group at : ℕ) (due : Due) (rows : List Row) (b : Row) →
+pub settled_dead : (holds : List HeldAmount) (group at : ℕ) (due : Due) (rows : List BucketRow)
+    (b : BucketRow) →
     IsDead b → held_in holds b ≡ 0 → settled_row holds group at due rows b ≡ b
 settled_dead holds group at due rows b dead none =
     let p : paid_of_hold holds due rows b ≡ 0 = min_none (held_in holds b) _ none in
@@ -198,7 +205,8 @@ settled_dead holds group at due rows b dead none =
     ∙ release_none at (with_charge (with_charge_of_hold b 0) 0) 0 refl
     ∙ (λ i. record b { reserved = r0 i; available = a0 i; charged = c0 i })
 
-pub settled_merged : (holds : List Hold) (group at : ℕ) (due : Due) (left rows : List Row) →
+pub settled_merged : (holds : List HeldAmount) (group at : ℕ) (due : Due)
+    (left rows : List BucketRow) →
     Each IsDead left → Each (λ b. held_in holds b ≡ 0) left →
     settled_rows holds group at due (merged left rows)
     ≡ merged left (settled_rows holds group at due rows)
@@ -210,7 +218,7 @@ settled_merged holds group at due left rows dead none =
     (each_both IsDead (λ b. held_in holds b ≡ 0) (λ b. settled_row holds group at due rows b ≡ b)
     left (λ b d n. settled_dead holds group at due rows b d n) dead none)
 
-pub released_merged : (holds : List Hold) (at : ℕ) (left rows : List Row) →
+pub released_merged : (holds : List HeldAmount) (at : ℕ) (left rows : List BucketRow) →
     Each (λ b. held_in holds b ≡ 0) left →
     released_rows holds at (merged left rows) ≡ merged left (released_rows holds at rows)
 released_merged holds at left rows none =
@@ -220,7 +228,8 @@ released_merged holds at left rows none =
 
 -- ---- what each bucket is
 
-each_placed : (P : Row → Type 0) (b : Row) (xs : List Row) → Each P (placed b xs) → P b × Each P xs
+each_placed : (P : BucketRow → Type 0) (b : BucketRow) (xs : List BucketRow) →
+    Each P (placed b xs) → P b × Each P xs
 each_placed P b [] h = h
 each_placed P b (x ∷ xs) h = at (precedes b x) h (each_placed P b xs)
   where
@@ -229,7 +238,8 @@ each_placed P b (x ∷ xs) h = at (precedes b x) h (each_placed P b xs)
     at true k rest = k
     at false k rest = let r : P b × Each P xs = rest k.1 in (r.0, (k.0, r.1))
 
-pub each_left : (P : Row → Type 0) (left rows : List Row) → Each P (merged left rows) → Each P left
+pub each_left : (P : BucketRow → Type 0) (left rows : List BucketRow) → Each P (merged left rows) →
+    Each P left
 each_left P [] rows h = tt
 each_left P (b ∷ bs) rows h = let r : P b × Each P (merged bs rows) =
     each_placed P b (merged bs rows) h in (r.0, each_left P bs rows r.1)

@@ -3,8 +3,8 @@ use Rattle.std.proofs.Common.{◌≡◌, ℕ, ◌+◌, ◌-◌, arith, ◌≤◌
 use Rattle.std.proofs.Common.{subst, ◌∙◌, Option, None}
 use Rattle.std.specs.Prelude.{option_map}
 use Rattle.units.specs.declared.blocks.UsedPart.{UsedPart}
-use Rattle.buckets.specs.declared.holds.Hold.{Hold}
-use Rattle.buckets.specs.Row.{Row}
+use Rattle.buckets.specs.declared.holds.HeldAmount.{HeldAmount}
+use Rattle.buckets.specs.Row.{BucketRow}
 use Rattle.buckets.specs.Spend.{Each, funds, allowance}
 use Rattle.buckets.specs.Holding.{held_in, uncollected}
 use Rattle.rating.specs.declared.grant.Grant.{Grant}
@@ -164,7 +164,8 @@ passes_told ledger left t a s g used_parts le h alive some =
     (count_in g (cycle_at a.shelf g t) a.counters) (price_in s g t used_parts a).blocks) next
 
 -- what is collected of an amount doesn't know of dead buckets
-pub uncollected_merged : (holds : List Hold) (g t : ℕ) (due : Due) (left rows : List Row) →
+pub uncollected_merged : (holds : List HeldAmount) (g t : ℕ) (due : Due)
+    (left rows : List BucketRow) →
     Each IsDead left → Each (λ b. held_in holds b ≡ 0) left →
     uncollected holds g t due.money (merged left rows) ≡ uncollected holds g t due.money rows
 uncollected_merged holds g t due left rows dead none =

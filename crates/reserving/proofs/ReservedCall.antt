@@ -8,8 +8,8 @@ use Rattle.std.proofs.Common.{◌≡◌, ℕ, ◌<◌, ◌≤◌, Bool, true, fa
 use Rattle.std.proofs.Common.{◌∙◌, arith, Option, Some, None}
 use Rattle.std.specs.Prelude.{if◌then◌else◌, is_some, unwrap_or, option_map, not, nat_lt}
 use Rattle.units.specs.Blocks.{started}
-use Rattle.buckets.specs.declared.holds.Hold.{Hold}
-use Rattle.buckets.specs.Row.{Row, with_release, with_end}
+use Rattle.buckets.specs.declared.holds.HeldAmount.{HeldAmount}
+use Rattle.buckets.specs.Row.{BucketRow, with_release, with_end}
 use Rattle.buckets.specs.Spend.{funds, held_rows}
 use Rattle.buckets.specs.Holding.{holds_of}
 use Rattle.reserving.specs.declared.session.SessionGroup.{SessionGroup}
@@ -48,7 +48,7 @@ use Rattle.reserving.proofs.calls.RowParts.{held_by-with_group}
 use Rattle.reserving.proofs.rows.Reserved.{IsRowsOf-reserved}
 
 pub reserved_parts : (a : AccountRows) (s : List ℕ) (g : ℕ) (due : Due) (terms : Terms)
-    (holds : List Hold) (buckets : List Row) (groups : List SessionGroup) →
+    (holds : List HeldAmount) (buckets : List BucketRow) (groups : List SessionGroup) →
     terms ≡ terms_at a.shelf a.as_of → buckets ≡ held_rows g a.as_of due a.buckets →
     holds ≡ holds_of g a.as_of due a.buckets →
     groups ≡ with_reservation s g terms holds a.groups →
@@ -66,7 +66,7 @@ buckets_later : (a : AccountRows) (s : List ℕ) (g t : ℕ) →
     (advanced t (with_group_row s g a)).buckets ≡ (advanced t a).buckets
 buckets_later a s g t =
     let keeps : List ℕ → Bool = is_live_in (validity_of a.shelf) t a.sessions in
-    let given : (y : Row) →
+    let given : (y : BucketRow) →
     lapsed_in keeps (with_group s g a.groups) y ≡ lapsed_in keeps a.groups y =
     λ y. held_by-with_group (λ z. not (keeps z)) s g a.groups y in
     λ i. map (λ y. with_end t (with_release t y (given y i))) a.buckets

@@ -12,8 +12,8 @@ use Rattle.std.specs.Prelude.{if◌then◌else◌, ◌==◌, ◌&&◌, ◌||◌,
 use Rattle.std.proofs.lemmas.Bool.{or_parts}
 use Rattle.units.specs.declared.blocks.UsedPart.{UsedPart}
 use Rattle.shelves.specs.Shelves.{Shelf}
-use Rattle.buckets.specs.declared.holds.Hold.{Hold}
-use Rattle.buckets.specs.Row.{Row, with_release}
+use Rattle.buckets.specs.declared.holds.HeldAmount.{HeldAmount}
+use Rattle.buckets.specs.Row.{BucketRow, with_release}
 use Rattle.buckets.specs.Share.{parts}
 use Rattle.buckets.specs.Spend.{IsSound, IsBelow, DiffersFromAll}
 use Rattle.buckets.specs.Holding.{held_in, paid, settled_row}
@@ -24,12 +24,13 @@ use Rattle.reserving.specs.declared.session.SessionGroup.{SessionGroup}
 use Rattle.reserving.specs.declared.session.Reservation.{Reservation}
 use Rattle.reserving.specs.declared.session.Counter.{Counter}
 use Rattle.reserving.specs.declared.session.Terms.{Terms}
-use Rattle.reserving.specs.Ledger.{Fact, Dated, Ledger, or_else, open_grant, held, only, used}
+use Rattle.reserving.specs.Ledger.{Dated, Ledger, or_else, open_grant, held, only, used}
 use Rattle.reserving.specs.Ledger.{counter, has_group, has_counter, inner, is_live, is_same}
+use Rattle.reserving.specs.Ledger.{UseOf, GrantOf, EndOf, counts as counts_of, number_of, test_of}
+use Rattle.reserving.specs.Ledger.{blocks_by, is_use_in, told_of, telling}
 use Rattle.reserving.specs.Ledger.{units_in, names_group, grant_in, counts_group, blocks_in}
 use Rattle.reserving.specs.Ledger.{uses_in, credits_in, newest, total, next_bucket, next_charge}
-use Rattle.reserving.specs.Ledger.Fact.{End, Use, Charge, Credit, Grant, Hold as HoldFact, Touch}
-use Rattle.reserving.specs.Ledger.Fact.{Close, Recorded, Barred}
+use Rattle.reserving.specs.Ledger.Fact.{Charge}
 use Rattle.reserving.specs.Pricing.{cycle_at, validity_of}
 use Rattle.reserving.specs.Keyed.{put}
 use Rattle.reserving.specs.Balance.{buckets_at}
@@ -49,6 +50,7 @@ use Rattle.reserving.proofs.Keys.{is_key, own_key, key_session, key_group, key_o
 use Rattle.reserving.proofs.Keys.{is_cycle, own_cycle, cycle_group, cycle_cycle, other_counter}
 use Rattle.reserving.proofs.Keys.{same_tests, not_true}
 use Rattle.reserving.proofs.Holds.{one_if, held_split, held_same}
+use Rattle.reserving.proofs.Counted.{is_named, unnamed_grant, none_units}
 use Rattle.reserving.proofs.SettledFacts.{is_barred-front, total-front, newest-front, any-front}
 use Rattle.reserving.proofs.SettledFacts.{any_dated-front, each_charge, held-charge_facts}
 use Rattle.reserving.proofs.SettledFacts.{charged-charge_facts, IsMoved, SameSessions, SameGroup}
@@ -60,19 +62,7 @@ use Rattle.reserving.proofs.kept.Settled.{settled_number}
 
 -- ---- what wasn't named is 0
 
-none_units : (s : List ℕ) (g : ℕ) (f : Fact) → names_group s g f ≡ false → units_in s g f ≡ 0
-none_units s g (Use a b c d covered e f) h = rw h refl
-none_units s g (HoldFact a b c d) h = refl
-none_units s g (Credit k a b c d e) h = refl
-none_units s g (Grant a b c d e) h = refl
-none_units s g (End a b) h = refl
-none_units s g (Charge a b) h = refl
-none_units s g (Touch a) h = refl
-none_units s g (Close a) h = refl
-none_units s g (Recorded a b) h = refl
-none_units s g (Barred a) h = refl
-
-used_none : (s : List ℕ) (g : ℕ) (ledger : Ledger) → has_group s g ledger ≡ false →
+pub used_none : (s : List ℕ) (g : ℕ) (ledger : Ledger) → has_group s g ledger ≡ false →
     used s g ledger ≡ 0
 used_none s g [] h = refl
 used_none s g (d ∷ older) h =
@@ -111,27 +101,24 @@ pub open_none : (s : List ℕ) (g : ℕ) (ledger : Ledger) → has_group s g led
     open_grant s g ledger ≡ None
 open_none s g [] h = refl
 open_none s g (d ∷ older) h =
-    by_fact d.at d.fact (or_parts (names_group s g d.fact) (has_group s g older) h).0
+    by_grant (counts_of d.fact).usage (counts_of d.fact).grant (counts_of d.fact).end
+    (or_parts (names_group s g d.fact) (has_group s g older) h).0
     (open_none s g older (or_parts (names_group s g d.fact) (has_group s g older) h).1)
   where
-    by_fact : (at : ℕ) (fact : Fact) → names_group s g fact ≡ false →
-        inner (newest (grant_in s g) older) ≡ None →
-        inner (or_else (grant_in s g (record { at = at; fact = fact }))
-        (newest (grant_in s g) older)) ≡ None
-    by_fact at (Grant a b p c e) k r =
-        (λ i. inner (or_else (if k i then Some (Some p) else None) (newest (grant_in s g) older)))
+    by_grant : (u : Option UseOf) (x : Option GrantOf) (e : Option EndOf) →
+        is_named s g u x ≡ false → inner (newest (grant_in s g) older) ≡ None →
+        inner (or_else (told_of (λ y. y.terms) s g (telling x e)) (newest (grant_in s g) older))
+        ≡ None
+    by_grant u (Some x) e k r =
+        (λ i. inner (or_else (if unnamed_grant s g u x k i then Some (Some x.terms) else None)
+        (newest (grant_in s g) older)))
         ∙ r
-    by_fact at (End a b) k r = grant_ended (is_same a s && b == g) (newest (grant_in s g) older) r
-    by_fact at (Use a b c e covered x y) k r = r
-    by_fact at (HoldFact a b c e) k r = r
-    by_fact at (Credit kind a b c e x) k r = r
-    by_fact at (Charge a b) k r = r
-    by_fact at (Touch a) k r = r
-    by_fact at (Close a) k r = r
-    by_fact at (Recorded a b) k r = r
-    by_fact at (Barred a) k r = r
+    by_grant u None (Some e) k r =
+        grant_ended (is_same e.session s && e.group == g) (newest (grant_in s g) older) r
+    by_grant u None None k r = r
 
-either_periods : (h l : Bool) (hs : List Hold) (p : Option Terms) (used : ℕ) (s : List ℕ) (g : ℕ)
+either_periods : (h l : Bool) (hs : List HeldAmount) (p : Option Terms) (used : ℕ) (s : List ℕ)
+    (g : ℕ)
     → l ≡ true → (h ≡ false → p ≡ None) →
     (let x : SessionGroup = row_with s g used (if l then reservation_of hs p else None) in
     option_map (λ (r : Reservation). r.terms)
@@ -159,26 +146,17 @@ if_none false = refl
 
 none_blocks : (f : ℕ → ℕ) (g c : ℕ) (d : Dated) → counts_group f g c d ≡ false →
     (if f d.at == c then blocks_in g d.fact else 0) ≡ 0
-none_blocks f g c d h = by_fact d.at d.fact h
+none_blocks f g c d h = by_use d.at (counts_of d.fact).usage h
   where
     both : (t u : Bool) (n : ℕ) → (u && t) ≡ false → (if t then (if u then n else 0) else 0) ≡ 0
     both true true n e = cc
     both true false n e = refl
     both false u n e = refl
 
-    by_fact : (at : ℕ) (fact : Fact) →
-        counts_group f g c (record { at = at; fact = fact }) ≡ false →
-        (if f at == c then blocks_in g fact else 0) ≡ 0
-    by_fact at (Use s' g' u b covered r x) e = both (f at == c) (g' == g) b e
-    by_fact at (HoldFact s' g' b n) e = if_none (f at == c)
-    by_fact at (Credit k n a b x y) e = if_none (f at == c)
-    by_fact at (Grant s' g' x y z) e = if_none (f at == c)
-    by_fact at (End s' g') e = if_none (f at == c)
-    by_fact at (Charge b n) e = if_none (f at == c)
-    by_fact at (Touch s') e = if_none (f at == c)
-    by_fact at (Close s') e = if_none (f at == c)
-    by_fact at (Recorded s' n) e = if_none (f at == c)
-    by_fact at (Barred b) e = if_none (f at == c)
+    by_use : (at : ℕ) (o : Option UseOf) → test_of (is_use_in f g c at) o ≡ false →
+        (if f at == c then number_of (blocks_by g) o else 0) ≡ 0
+    by_use at None e = if_none (f at == c)
+    by_use at (Some u) e = both (f at == c) (u.group == g) u.blocks e
 
 counter_none : (f : ℕ → ℕ) (g c : ℕ) (ledger : Ledger) → has_counter f g c ledger ≡ false →
     counter f g c ledger ≡ 0
@@ -206,18 +184,18 @@ count_in_is ledger a g c rows =
 
 -- ---- charges, and a use in front of them
 
-charges_first : (f : Dated → ℕ) (t : ℕ) (hs : List Hold) (ledger : Ledger) →
+charges_first : (f : Dated → ℕ) (t : ℕ) (hs : List HeldAmount) (ledger : Ledger) →
     ((b n : ℕ) → f (record { at = t; fact = Charge b n }) ≡ 0) →
     total f (charge_facts t hs ++ ledger) ≡ total f ledger
 charges_first f t hs ledger none =
     total-front f (charge_facts t hs) ledger (each_charge (λ d. f d ≡ 0) t hs none)
 
-pub next_bucket-charges : (t : ℕ) (hs : List Hold) (ledger : Ledger) →
+pub next_bucket-charges : (t : ℕ) (hs : List HeldAmount) (ledger : Ledger) →
     next_bucket (charge_facts t hs ++ ledger) ≡ next_bucket ledger
 next_bucket-charges t hs ledger =
     ap (λ n. n + 1) (charges_first (λ d. credits_in d.fact) t hs ledger (λ b n. refl))
 
-pub next_charge-charges : (t : ℕ) (hs : List Hold) (ledger : Ledger) →
+pub next_charge-charges : (t : ℕ) (hs : List HeldAmount) (ledger : Ledger) →
     next_charge (charge_facts t hs ++ ledger) ≡ next_charge ledger
 next_charge-charges t hs ledger =
     ap (λ n. n + 1) (charges_first (λ d. uses_in d.fact) t hs ledger (λ b n. refl))
@@ -227,7 +205,7 @@ pub own_named : (s : List ℕ) (g : ℕ) (ledger : Ledger) →
     (is_key s g s g || has_group s g ledger) ≡ true
 own_named s g ledger = λ i. own_key s g i || has_group s g ledger
 
-pub own_used : (s : List ℕ) (g units t : ℕ) (hs : List Hold) (ledger : Ledger) →
+pub own_used : (s : List ℕ) (g units t : ℕ) (hs : List HeldAmount) (ledger : Ledger) →
     (if is_key s g s g then units else 0) + used s g (charge_facts t hs ++ ledger)
     ≡ used s g ledger + units
 own_used s g units t hs ledger =
@@ -235,14 +213,14 @@ own_used s g units t hs ledger =
     omega (arith, charges_first (λ d. units_in s g d.fact) t hs ledger (λ b n. refl))
 
 -- the use is another session's or another group's
-pub other_named : (session : List ℕ) (group : ℕ) (s : List ℕ) (g t : ℕ) (hs : List Hold)
+pub other_named : (session : List ℕ) (group : ℕ) (s : List ℕ) (g t : ℕ) (hs : List HeldAmount)
     (ledger : Ledger) → is_key session group s g ≡ false →
     (is_key session group s g || has_group s g (charge_facts t hs ++ ledger)) ≡ has_group s g ledger
 other_named session group s g t hs ledger h =
     (λ i. h i || has_group s g (charge_facts t hs ++ ledger))
     ∙ any-front (names_group s g) (charge_facts t hs) ledger (each_charge _ t hs (λ b n. refl))
 
-pub other_used : (session : List ℕ) (group units : ℕ) (s : List ℕ) (g t : ℕ) (hs : List Hold)
+pub other_used : (session : List ℕ) (group units : ℕ) (s : List ℕ) (g t : ℕ) (hs : List HeldAmount)
     (ledger : Ledger) → is_key session group s g ≡ false →
     (if is_key session group s g then units else 0) + used s g (charge_facts t hs ++ ledger)
     ≡ used s g ledger
@@ -280,7 +258,7 @@ and_not : (x : Bool) → (x && not x) ≡ false
 and_not true = refl
 and_not false = refl
 
-abbrev pub parts_paid : (ℕ → ℕ) → ℕ → List ℕ → ℕ → Due → Ledger → List Hold
+abbrev pub parts_paid : (ℕ → ℕ) → ℕ → List ℕ → ℕ → Due → Ledger → List HeldAmount
 parts_paid v t session group due ledger =
     parts (paid (holds_at v t session group ledger) group t due (buckets_at v t ledger))
     (buckets_at v t ledger)
@@ -290,7 +268,7 @@ pub other_settled : (v : ℕ → ℕ) (t : ℕ) (session : List ℕ) (group unit
     (s : List ℕ) (g : ℕ) → is_key session group s g ≡ false →
     SameGroup s g ledger (settled v t session group units blocks due ledger)
 other_settled v t session group units blocks due ledger s g h =
-    let hs : List Hold = parts_paid v t session group due ledger in
+    let hs : List HeldAmount = parts_paid v t session group due ledger in
     record {
       named = other_named session group s g t hs ledger h;
       used = omega (arith, other_used session group units s g t hs ledger h);
@@ -308,7 +286,7 @@ other_settled v t session group units blocks due ledger s g h =
       );
     }
 
-either_none : (l : Bool) (hs : List Hold) (p : Option (Option _)) → p ≡ Some None →
+either_none : (l : Bool) (hs : List HeldAmount) (p : Option (Option _)) → p ≡ Some None →
     (if l then reservation_of hs (inner p) else None) ≡ None
 either_none true hs p e = ap (λ x. reservation_of hs (inner x)) e
 either_none false hs p e = refl
@@ -329,7 +307,7 @@ own_settled : (v : ℕ → ℕ) (t : ℕ) (session : List ℕ) (group units bloc
     })
 own_settled v t session group units blocks due ledger =
     let after : Ledger = settled v t session group units blocks due ledger in
-    let hs : List Hold = parts_paid v t session group due ledger in
+    let hs : List HeldAmount = parts_paid v t session group due ledger in
     let named : has_group session group after ≡ true =
     own_named session group (charge_facts t hs ++ ledger) in
     let so_far : used session group after ≡ used session group ledger + units =
@@ -343,7 +321,7 @@ own_settled v t session group units blocks due ledger =
 
 groups-settled : (v : ℕ → ℕ) (t : ℕ) (session : List ℕ) (group units blocks : ℕ)
     (due : Due) (ledger : Ledger)
-    (does : Row → Row) (rows : List SessionGroup) →
+    (does : BucketRow → BucketRow) (rows : List SessionGroup) →
     IsMoved does v t ledger (settled v t session group units blocks due ledger) →
     used_in session group rows ≡ used session group ledger →
     ((s : List ℕ) (g : ℕ) → group_in s g rows ≡ group_at v t ledger s g) →
@@ -538,7 +516,7 @@ counters-settled cycle_of v t session group units blocks due ledger rows so_far 
 
 -- ---- the buckets' numbers
 
-pub differs_above : (next n : ℕ) (rows : List Row) → IsBelow next rows → next ≤ n →
+pub differs_above : (next n : ℕ) (rows : List BucketRow) → IsBelow next rows → next ≤ n →
     DiffersFromAll n rows
 differs_above next n [] h le = tt
 differs_above next n (b ∷ bs) h le = let less : b.number < next = h.0 in
@@ -565,7 +543,7 @@ unknown-settled : (v : ℕ → ℕ) (t : ℕ) (session : List ℕ) (group units 
     (s : List ℕ) → IsUnknown s ledger →
     IsUnknown s (settled v t session group units blocks due ledger)
 unknown-settled v t session group units blocks due ledger s h =
-    let hs : List Hold = parts_paid v t session group due ledger in
+    let hs : List HeldAmount = parts_paid v t session group due ledger in
     let p : List ℕ → ℕ → Bool = λ x g. is_same x s in
     let k : List ℕ → ℕ → Bool = λ x g. is_same x session && g == group in
     record {
@@ -610,9 +588,9 @@ pub IsSoundLedger-settled : (v : ℕ → ℕ) (t : ℕ) (session : List ℕ)
     (ledger : Ledger) → IsBelow (next_bucket ledger) (buckets_at v t ledger) →
     IsSoundLedger ledger → IsSoundLedger (settled v t session group units blocks due ledger)
 IsSoundLedger-settled v t session group units blocks due ledger below sound =
-    let now : List Row = buckets_at v t ledger in
-    let holds : List Hold = holds_at v t session group ledger in
-    let hs : List Hold = parts (paid holds group t due now) now in
+    let now : List BucketRow = buckets_at v t ledger in
+    let holds : List HeldAmount = holds_at v t session group ledger in
+    let hs : List HeldAmount = parts (paid holds group t due now) now in
     let after : Ledger = settled v t session group units blocks due ledger in
     let same : SameSessions ledger after =
     same_sessions-settled v t session group units blocks due ledger in
@@ -665,9 +643,9 @@ IsRowsOf-settled ledger a session group units blocks due account rows live =
     let v : ℕ → ℕ = (validity_of a.shelf) in
     let t : ℕ = a.as_of in
     let after : Ledger = settled v t session group units blocks due ledger in
-    let now : List Row = buckets_at v t ledger in
-    let holds : List Hold = holds_at v t session group ledger in
-    let hs : List Hold = parts (paid holds group t due now) now in
+    let now : List BucketRow = buckets_at v t ledger in
+    let holds : List HeldAmount = holds_at v t session group ledger in
+    let hs : List HeldAmount = parts (paid holds group t due now) now in
     let sound : IsSound now = subst IsSound rows.buckets account.sound in
     let same : SameSessions ledger after =
     same_sessions-settled v t session group units blocks due ledger in
@@ -704,7 +682,7 @@ ended_key true r s g = refl
 ended_key false r s g = refl
 
 groups-ended : (v : ℕ → ℕ) (t : ℕ) (session : List ℕ) (group : ℕ) (ledger : Ledger)
-    (does : Row → Row)
+    (does : BucketRow → BucketRow)
     (rows : List SessionGroup) →
     IsMoved does v t ledger (with_end t session group ledger) →
     ((s : List ℕ) (g : ℕ) → group_in s g rows ≡ group_at v t ledger s g) →
@@ -796,8 +774,8 @@ IsRowsOf-ended ledger a session group account rows live =
     let v : ℕ → ℕ = (validity_of a.shelf) in
     let t : ℕ = a.as_of in
     let after : Ledger = with_end t session group ledger in
-    let now : List Row = buckets_at v t ledger in
-    let holds : List Hold = holds_at v t session group ledger in
+    let now : List BucketRow = buckets_at v t ledger in
+    let holds : List HeldAmount = holds_at v t session group ledger in
     let sound : IsSound now = subst IsSound rows.buckets account.sound in
     let same : SameSessions ledger after = same_sessions-ended t session group ledger in
     let moved : buckets_at v t after ≡ released_rows holds t now =

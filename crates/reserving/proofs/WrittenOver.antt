@@ -7,8 +7,8 @@ use Rattle.std.specs.Prelude.{if◌then◌else◌, filter, map, unwrap_or, sum_b
 use Rattle.std.specs.Prelude.{Err, OnErr}
 use Rattle.std.specs.List.{list_all, find}
 use Rattle.std.proofs.lemmas.Bool.{and_parts}
-use Rattle.buckets.specs.declared.holds.Hold.{Hold}
-use Rattle.buckets.specs.Row.{Row}
+use Rattle.buckets.specs.declared.holds.HeldAmount.{HeldAmount}
+use Rattle.buckets.specs.Row.{BucketRow}
 use Rattle.buckets.specs.Share.{parts}
 use Rattle.buckets.specs.Holding.{held_in}
 use Rattle.buckets.specs.Spend.{Each, IsSound, IsBelow}
@@ -135,7 +135,7 @@ other_kept r x rows e =
     find-put_other group_before (is_of r.session r.group) (is_of x.session x.group) r rows away
     (other_row r.session r.group x.session x.group away)
 
-held_same : (r : SessionGroup) (xs rows : List SessionGroup) (b : Row) →
+held_same : (r : SessionGroup) (xs rows : List SessionGroup) (b : BucketRow) →
     EachIn (λ x. is_of r.session r.group x ≡ false) xs →
     held_before xs (put group_before (is_of r.session r.group) r rows) b
     ≡ held_before xs rows b
@@ -148,7 +148,7 @@ held_same r (x ∷ xs) rows b h =
     (other_kept r x rows h.0) in
     omega (arith, one, held_same r xs rows b h.1)
 
-pub held_written : (named rows : List SessionGroup) (b : Row) →
+pub held_written : (named rows : List SessionGroup) (b : BucketRow) →
     AreApart (λ x y. is_of x.session x.group y) named →
     held_by (λ s. true) (groups_written named rows) b + held_before named rows b
     ≡ held_by (λ s. true) rows b + held_by (λ s. true) named b
@@ -170,7 +170,7 @@ held_written (x ∷ xs) rows b h =
 
 -- ---- the buckets, of which none is new or gone
 
-held_there : (named rows : List SessionGroup) (old new : List Row) →
+held_there : (named rows : List SessionGroup) (old new : List BucketRow) →
     AreApart (λ x y. is_of x.session x.group y) named →
     are_held_on named rows old new ≡ true →
     Each (λ b. held_by (λ s. true) rows b ≡ b.reserved) old →
@@ -196,7 +196,7 @@ held_there named rows (x ∷ xs) (y ∷ ys) apart e h =
     (omega (arith, sum, was, now), held_there named rows xs ys apart both.1 h.1)
 
 -- the same numbers are there
-pub number_there : (n : ℕ) (named rows : List SessionGroup) (old new : List Row) →
+pub number_there : (n : ℕ) (named rows : List SessionGroup) (old new : List BucketRow) →
     are_held_on named rows old new ≡ true →
     is_some (bucket_in n old) ≡ is_some (bucket_in n new)
 number_there n named rows [] [] e = refl
@@ -217,17 +217,17 @@ number_there n named rows (x ∷ xs) (y ∷ ys) e =
     at false k = k
 
 -- so holds go along them as along those before
-abbrev hold_of : List Hold → Row → Hold
+abbrev hold_of : List HeldAmount → BucketRow → HeldAmount
 hold_of holds b = record { bucket = b.number; amount = held_in holds b }
 
-same_hold : (holds : List Hold) (x y : Row) → x.number ≡ y.number →
+same_hold : (holds : List HeldAmount) (x y : BucketRow) → x.number ≡ y.number →
     hold_of holds x ≡ hold_of holds y
 same_hold holds x y number = λ i. record {
   bucket = number i;
   amount = sum_by (λ h. if h.bucket == number i then h.amount else 0) holds;
 }
 
-same_parts : (holds : List Hold) (named rows : List SessionGroup) (old new : List Row) →
+same_parts : (holds : List HeldAmount) (named rows : List SessionGroup) (old new : List BucketRow) →
     are_held_on named rows old new ≡ true → map (hold_of holds) old ≡ map (hold_of holds) new
 same_parts holds named rows [] [] e = refl
 same_parts holds named rows [] (y ∷ ys) e = absurd (cc)
@@ -240,13 +240,13 @@ same_parts holds named rows (x ∷ xs) (y ∷ ys) e =
     λ i. same_hold holds x y (eqb-true x.number y.number here.0) i
     ∷ same_parts holds named rows xs ys both.1 i
 
-order_there : (named rows : List SessionGroup) (old new : List Row) →
+order_there : (named rows : List SessionGroup) (old new : List BucketRow) →
     are_held_on named rows old new ≡ true → (groups : List SessionGroup) →
     AreInOrderOf old groups → AreInOrderOf new groups
 order_there named rows old new e groups h =
     EachIn-weaker (λ (r : SessionGroup). IsInOrderOf old (holds_in r.reservation))
     (λ (r : SessionGroup). IsInOrderOf new (holds_in r.reservation)) groups
-    (λ r is. is ∙ ap (filter (λ (h : Hold). nat_lt 0 h.amount))
+    (λ r is. is ∙ ap (filter (λ (h : HeldAmount). nat_lt 0 h.amount))
     (same_parts (holds_in r.reservation) named rows old new e)) h
 
 -- ---- all of it
@@ -325,6 +325,18 @@ writable_told w v sound kept e =
     } in
     record { stored = stored; keys = keys }
 
+-- no two sessions that are written have one name
+pub sessions_ascend : (w : StoredRows) → are_keys_ascending w ≡ true →
+    AreApart (λ x y. is_session x.id y) w.sessions
+sessions_ascend w e =
+    let k1 = and_parts
+    (are_ascending session_before w.sessions && are_ascending group_before w.groups)
+    (are_ascending counter_before w.counters) e in
+    let k2 = and_parts (are_ascending session_before w.sessions)
+    (are_ascending group_before w.groups) k1.0 in
+    apart_of_ascending session_before (λ x y. is_session x.id y) sessions_parted w.sessions
+    (ascending_told session_before (λ x. (session_key x).chain) w.sessions k2.0)
+
 -- ---- the writes, and the tests
 
 pub no_rows : {A : Type 0} (xs : List A) → length xs ≡ 0 → xs ≡ []
@@ -335,13 +347,14 @@ pub on_err : {T E P : Type 0} (r : Result T E) → P → OnErr r P
 on_err (Ok x) p = tt
 on_err (Err e) p = p
 
-pub each_at : (P : Row → Type 0) (xs : List Row) (i : ℕ) (d : Row) → Each P xs → i < length xs →
+pub each_at : (P : BucketRow → Type 0) (xs : List BucketRow) (i : ℕ) (d : BucketRow) → Each P xs →
+    i < length xs →
     P (get_or xs i d)
 each_at P [] i d h lt = absurd (omega (arith, lt))
 each_at P (x ∷ xs) zero d h lt = h.0
 each_at P (x ∷ xs) (suc i) d h lt = each_at P xs i d h.1 (omega (arith, lt))
 
 -- what is held of a bucket of the same number
-pub held_now : (rows : List SessionGroup) (x y : Row) (n : ℕ) → x.number ≡ y.number →
+pub held_now : (rows : List SessionGroup) (x y : BucketRow) (n : ℕ) → x.number ≡ y.number →
     n ≡ x.reserved → held_by (λ s. true) rows x ≡ x.reserved → held_by (λ s. true) rows y ≡ n
 held_now rows x y n e r h = held_by_number rows x y (sym e) ∙ h ∙ sym r

@@ -1,25 +1,27 @@
 -- The balance: each bucket at a moment, as sums over the ledger.
 -- Source: TS 32.296, account balance management function; the ledger: profile.
-use Rattle.std.specs.Prelude.{◌-◌, nat_lt, if◌then◌else◌, List, [], ◌∷◌, map}
+use Rattle.std.specs.Prelude.{◌-◌, nat_lt, if◌then◌else◌, List, [], ◌∷◌, map, Option, Some, None}
 use Rattle.units.specs.Words.{Moment, Seconds}
 use Rattle.buckets.specs.Words.{BucketAmount}
-use Rattle.buckets.specs.Row.{Row, new_row}
+use Rattle.buckets.specs.Row.{BucketRow, new_row}
 use Rattle.buckets.specs.Spend.{inserted}
-use Rattle.reserving.specs.Ledger.{Fact, Ledger, charged, held, is_live}
-use Rattle.reserving.specs.Ledger.Fact.{Credit}
+use Rattle.reserving.specs.Ledger.{Fact, Ledger, CreditOf, counts, charged, held, is_live}
 
 -- the buckets as they were credited, by end and then by number
-abbrev pub credited_by : Fact → List Row → List Row
-credited_by (Credit kind number from until scope amount) rows =
-    inserted (new_row kind number from until scope amount) rows
-credited_by _ rows = rows
+abbrev pub with_credit : Option CreditOf → List BucketRow → List BucketRow
+with_credit None rows = rows
+with_credit (Some c) rows =
+    inserted (new_row c.kind c.number c.from c.until c.scope c.amount) rows
 
-abbrev pub credits : Ledger → List Row
+abbrev pub credited_by : Fact → List BucketRow → List BucketRow
+credited_by f rows = with_credit (counts f).credit rows
+
+abbrev pub credits : Ledger → List BucketRow
 credits [] = []
 credits (d ∷ older) = credited_by d.fact (credits older)
 
 -- a bucket with what is charged and held of it; the rest is available, from its end on expired
-abbrev pub balance_of : Moment → Row → BucketAmount → BucketAmount → Row
+abbrev pub balance_of : Moment → BucketRow → BucketAmount → BucketAmount → BucketRow
 balance_of t c charged held = record c {
   available = (if nat_lt t c.until then c.credited - charged - held else 0);
   reserved = held;
@@ -28,9 +30,9 @@ balance_of t c charged held = record c {
 }
 
 -- a bucket's position at a moment: what live sessions' reservations hold is reserved
-abbrev pub bucket_at : (Moment → Seconds) → Moment → Ledger → Row → Row
+abbrev pub bucket_at : (Moment → Seconds) → Moment → Ledger → BucketRow → BucketRow
 bucket_at v t ledger c =
     balance_of t c (charged c.number ledger) (held (λ s g. is_live v t ledger s) c.number ledger)
 
-abbrev pub buckets_at : (Moment → Seconds) → Moment → Ledger → List Row
+abbrev pub buckets_at : (Moment → Seconds) → Moment → Ledger → List BucketRow
 buckets_at v t ledger = map (bucket_at v t ledger) (credits ledger)

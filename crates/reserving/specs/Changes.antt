@@ -8,8 +8,8 @@ use Rattle.units.specs.Words.{CcRequestNumber}
 use Rattle.identifiers.specs.Words.{SessionName}
 use Rattle.buckets.specs.Words.{BucketAmount}
 use Rattle.units.specs.declared.blocks.UsedPart.{UsedPart}
-use Rattle.buckets.specs.declared.holds.Hold.{Hold}
-use Rattle.buckets.specs.Row.{Row, is_eligible, with_end, with_release, new_row}
+use Rattle.buckets.specs.declared.holds.HeldAmount.{HeldAmount}
+use Rattle.buckets.specs.Row.{BucketRow, is_eligible, with_end, with_release, new_row}
 use Rattle.buckets.specs.declared.kind.BucketKind.{BucketKind}
 use Rattle.buckets.specs.declared.kind.BucketKind.TheVariants.{Blocks}
 use Rattle.buckets.specs.declared.kind.Due.{Due}
@@ -49,7 +49,7 @@ abbrev pub lapse_group : (SessionName → Bool) → SessionGroup → SessionGrou
 lapse_group keeps r = if keeps r.session then r else record r { reservation = None }
 
 -- what the reservations of sessions that don't keep them hold of a bucket
-abbrev pub lapsed_in : (SessionName → Bool) → List SessionGroup → Row → BucketAmount
+abbrev pub lapsed_in : (SessionName → Bool) → List SessionGroup → BucketRow → BucketAmount
 lapsed_in keeps groups b = held_by (λ s. not (keeps s)) groups b
 
 abbrev pub advanced : Moment → AccountRows → AccountRows
@@ -94,7 +94,7 @@ group_or_new s g rows = unwrap_or (group_in s g rows) (new_group s g)
 abbrev pub used_in : SessionName → GroupId → List SessionGroup → UnitCount
 used_in s g rows = (group_or_new s g rows).used
 
-abbrev pub reserved_in : SessionName → GroupId → List SessionGroup → List Hold
+abbrev pub reserved_in : SessionName → GroupId → List SessionGroup → List HeldAmount
 reserved_in s g rows = holds_in (group_or_new s g rows).reservation
 
 abbrev pub count_in : GroupId → CycleNumber → List Counter → Place
@@ -212,7 +212,7 @@ granted_in s g t requested a =
     (count_in g (cycle_at a.shelf g t) a.counters) requested (funds g t (advanced t a).buckets)
     (allowance g t (advanced t a).buckets)
 
-abbrev pub with_reservation : SessionName → GroupId → Terms → List Hold → List SessionGroup →
+abbrev pub with_reservation : SessionName → GroupId → Terms → List HeldAmount → List SessionGroup →
     List SessionGroup
 with_reservation s g terms holds rows =
     put group_before (is_of s g)
@@ -257,28 +257,29 @@ closed_account s a = record a {
 
 -- ---- the same, one reservation after another
 
-abbrev pub lapse_from : Bool → Moment → Option Reservation → List Row → List Row
+abbrev pub lapse_from : Bool → Moment → Option Reservation → List BucketRow → List BucketRow
 lapse_from live t reservation rows =
     if live then rows else released_rows (holds_in reservation) t rows
 
-abbrev pub lapsed_rows : (SessionName → Bool) → Moment → List SessionGroup → List Row → List Row
+abbrev pub lapsed_rows : (SessionName → Bool) → Moment → List SessionGroup → List BucketRow →
+    List BucketRow
 lapsed_rows keeps t [] rows = rows
 lapsed_rows keeps t (r ∷ rs) rows =
     lapsed_rows keeps t rs (lapse_from (keeps r.session) t r.reservation rows)
 
 -- what the remaining reservations hold is within what is reserved
-abbrev pub AreLapsable : (SessionName → Bool) → List SessionGroup → List Row → Type 0
+abbrev pub AreLapsable : (SessionName → Bool) → List SessionGroup → List BucketRow → Type 0
 AreLapsable p groups rows = Each (λ b. held_by p groups b ≤ b.reserved) rows
 
 -- ---- funds at a later moment
 
 -- what a bucket has available for a group at a later moment, with what ended sessions held of it
 abbrev pub amount_later : GroupId → (Moment → Seconds) → Moment → List Session → List SessionGroup →
-    Row → BucketAmount
+    BucketRow → BucketAmount
 amount_later group v t sessions groups b =
     if is_eligible group t b then b.available + lapsed_in (is_live_in v t sessions) groups b else 0
 
 abbrev pub funds_later : BucketKind → GroupId → (Moment → Seconds) → Moment → List Session →
-    List SessionGroup → List Row → BucketAmount
+    List SessionGroup → List BucketRow → BucketAmount
 funds_later kind group v t sessions groups rows =
     sum_in kind (amount_later group v t sessions groups) rows

@@ -6,7 +6,7 @@ use Rattle.identifiers.specs.Words.{SessionName}
 use Rattle.units.specs.declared.blocks.UsedPart.{UsedPart}
 use Rattle.shelves.specs.Shelves.{Shelf}
 use Rattle.rating.specs.declared.report.Rated.{Rated}
-use Rattle.buckets.specs.Row.{Row}
+use Rattle.buckets.specs.Row.{BucketRow}
 use Rattle.buckets.specs.Share.{parts}
 use Rattle.buckets.specs.declared.kind.Due.{Due}
 use Rattle.buckets.specs.Kinds.{due}
@@ -16,7 +16,7 @@ use Rattle.reserving.specs.Ledger.{Ledger, used, counter, next_charge}
 use Rattle.reserving.specs.Ledger.Fact.{Use}
 use Rattle.reserving.specs.Pricing.{cycle_at, validity_of}
 use Rattle.reserving.specs.Balance.{buckets_at}
-use Rattle.reserving.specs.Settlement.{price_of, due_of, charge_facts, passes}
+use Rattle.reserving.specs.Settlement.{price_of, due_of, charge_facts, use_of, passes}
 
 abbrev pub untagged : UnitCount → List UsedPart
 untagged units = record { units = record { 0 = units }; change = None } ∷ []
@@ -42,10 +42,10 @@ is_covered b t group units ledger =
 abbrev pub charged_use : (Moment → Seconds) → Moment → SessionName → GroupId → UnitCount →
     BlockCount → Due → Ledger → Ledger
 charged_use v t session group units blocks due ledger =
-    record { at = t; fact = Use session group units blocks due.blocks due.money 0 }
+    record { at = t; fact = Use (use_of session group units blocks due 0) }
     ∷ charge_facts t (parts (paid [] group t due rows) rows) ++ ledger
   where
-    rows : List Row
+    rows : List BucketRow
     rows = buckets_at v t ledger
 
 -- the ledger with a debit that is covered

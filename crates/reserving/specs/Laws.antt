@@ -1,13 +1,13 @@
 -- Laws over the definitions alone.
 -- Source: profile.
-use Rattle.std.specs.Prelude.{◌≡◌, ◌≤◌, ◌+◌, ◌&&◌, ◌==◌, Bool, true, false, not, List, [], ◌∷◌}
+use Rattle.std.specs.Prelude.{◌≡◌, ◌≤◌, ◌+◌, ◌&&◌, Bool, true, not, List, [], ◌∷◌}
 use Rattle.units.specs.Words.{Moment, Seconds, UnitCount, BlockCount, GroupId}
 use Rattle.identifiers.specs.Words.{SessionName}
 use Rattle.buckets.specs.Words.{BucketNumber, BucketAmount}
 use Rattle.buckets.specs.declared.kind.Due.{Due}
-use Rattle.buckets.specs.Row.{Row, IsBalanced, with_end, with_release}
-use Rattle.reserving.specs.Ledger.{Fact, Ledger, is_same, is_live, any, hold_of, held}
-use Rattle.reserving.specs.Ledger.Fact.{End}
+use Rattle.buckets.specs.Row.{BucketRow, IsBalanced, with_end, with_release}
+use Rattle.reserving.specs.Ledger.{Fact, Ledger, counts as counts_of, test_of, ends_of, is_live}
+use Rattle.reserving.specs.Ledger.{any, hold_of, held}
 use Rattle.buckets.specs.Spend.{Each, AreDistinct}
 use Rattle.reserving.specs.Balance.{bucket_at, buckets_at}
 use Rattle.reserving.specs.Settlement.{settled}
@@ -22,20 +22,21 @@ ended_between v t1 t2 ledger s g = is_live v t1 ledger s && not (is_live v t2 le
 
 -- a bucket that is brought from a moment to a later one: what sessions that ended between them held
 -- is given up, and from its end on what is left is expired
-abbrev pub brought : (Moment → Seconds) → Moment → Moment → Ledger → Row → Row
+abbrev pub brought : (Moment → Seconds) → Moment → Moment → Ledger → BucketRow → BucketRow
 brought v t1 t2 ledger b =
     with_end t2 (with_release t2 b (held (ended_between v t1 t2 ledger) b.number ledger))
 
 -- a bucket's position, brought to a later moment, is its position then
 abbrev pub IsBroughtOn : Type 0
-IsBroughtOn = (v : Moment → Seconds) (t1 t2 : Moment) (ledger : Ledger) (c : Row) → t1 ≤ t2 →
+IsBroughtOn = (v : Moment → Seconds) (t1 t2 : Moment) (ledger : Ledger) (c : BucketRow) → t1 ≤ t2 →
     IsBalanced (bucket_at v t1 ledger c) →
     brought v t1 t2 ledger (bucket_at v t1 ledger c) ≡ bucket_at v t2 ledger c
 
 -- and in two steps it is brought to where one step brings it
 abbrev pub IsBroughtAlike : Type 0
 IsBroughtAlike =
-    (v : Moment → Seconds) (t1 t2 t3 : Moment) (ledger : Ledger) (c : Row) → t1 ≤ t2 → t2 ≤ t3 →
+    (v : Moment → Seconds) (t1 t2 t3 : Moment) (ledger : Ledger) (c : BucketRow) → t1 ≤ t2 →
+    t2 ≤ t3 →
     IsBalanced (bucket_at v t1 ledger c) →
     brought v t2 t3 ledger (brought v t1 t2 ledger (bucket_at v t1 ledger c))
     ≡ brought v t1 t3 ledger (bucket_at v t1 ledger c)
@@ -48,7 +49,7 @@ IsAdvancedAlike = (a : AccountRows) (t u : Moment) → t ≤ u →
 
 -- ---- a dead bucket never changes again: a law of the ledger
 
-abbrev pub AreDeadKept : List Row → List Row → Type 0
+abbrev pub AreDeadKept : List BucketRow → List BucketRow → Type 0
 AreDeadKept [] [] = Unit {0}
 AreDeadKept [] (y ∷ ys) = Unit {0}
 AreDeadKept (x ∷ xs) [] = ⊥
@@ -74,8 +75,7 @@ IsDeadSettled =
 
 -- the fact ends this reservation
 abbrev pub is_end_of : SessionName → GroupId → Fact → Bool
-is_end_of s g (End session group) = is_same s session && g == group
-is_end_of s g _ = false
+is_end_of s g f = test_of (ends_of s g) (counts_of f).end
 
 -- the sum of a bucket's holds that count, of reservations that no fact after the hold ended
 abbrev pub held_unended : (SessionName → GroupId → Bool) → BucketNumber → Ledger → Ledger →
@@ -93,6 +93,6 @@ IsHeldUnended = (counts : SessionName → GroupId → Bool) (n : BucketNumber) (
 -- so what is reserved of it is the sum of its holds whose session is live and whose reservation
 -- hasn't ended
 abbrev pub IsReservedUnended : Type 0
-IsReservedUnended = (v : Moment → Seconds) (t : Moment) (ledger : Ledger) (c : Row) →
+IsReservedUnended = (v : Moment → Seconds) (t : Moment) (ledger : Ledger) (c : BucketRow) →
     (bucket_at v t ledger c).reserved
     ≡ held_unended (λ s g. is_live v t ledger s) c.number [] ledger

@@ -4,34 +4,44 @@
 use Rattle.std.specs.Prelude.{List, [], ◌∷◌, ◌++◌, Option}
 use Rattle.units.specs.Words.{Moment, UnitCount, GroupId}
 use Rattle.identifiers.specs.Words.{SessionName}
-use Rattle.buckets.specs.declared.holds.Hold.{Hold}
+use Rattle.buckets.specs.declared.holds.HeldAmount.{HeldAmount}
 use Rattle.buckets.specs.declared.kind.Due.{Due}
 use Rattle.buckets.specs.Kinds.{due}
 use Rattle.buckets.specs.Spend.{funds, allowance}
 use Rattle.buckets.specs.Holding.{holds_of}
-use Rattle.reserving.specs.Ledger.{Ledger, counter}
-use Rattle.reserving.specs.Ledger.Fact.{Grant, Hold as HoldFact}
+use Rattle.reserving.specs.Ledger.{Ledger, HoldOf, GrantOf, counter}
+use Rattle.reserving.specs.Ledger.Fact.{Grant, Hold}
 use Rattle.shelves.specs.Shelves.{Shelf}
 use Rattle.rating.specs.declared.grant.Grant.{Grant as RatedGrant}
 use Rattle.reserving.specs.Pricing.{tariff_at, cycle_at, periods_at, terms_at, grant_with}
 use Rattle.reserving.specs.Pricing.{validity_of}
 use Rattle.reserving.specs.Balance.{buckets_at}
 
-abbrev pub hold_facts : Moment → SessionName → GroupId → List Hold → Ledger
+-- what a bucket holds for a session's group
+abbrev pub hold_for : SessionName → GroupId → HeldAmount → HoldOf
+hold_for session group h =
+    record { session = session; group = group; bucket = h.bucket; amount = h.amount }
+
+abbrev pub hold_facts : Moment → SessionName → GroupId → List HeldAmount → Ledger
 hold_facts t session group [] = []
 hold_facts t session group (h ∷ hs) =
-    record { at = t; fact = HoldFact session group h.bucket h.amount }
-    ∷ hold_facts t session group hs
+    record { at = t; fact = Hold (hold_for session group h) } ∷ hold_facts t session group hs
+
+-- a grant at a moment: by its terms, from where the group's counter in the cycle stands on
+abbrev pub grant_at : Shelf → Moment → SessionName → GroupId → UnitCount → Ledger → GrantOf
+grant_at b t session group units ledger = record {
+  session = session;
+  group = group;
+  terms = terms_at b t;
+  units = units;
+  counter = counter (cycle_at b group) group (cycle_at b group t) ledger;
+}
 
 -- the ledger with a grant
 abbrev pub reserved : Shelf → Moment → SessionName → GroupId → UnitCount → Due → Ledger → Ledger
 reserved b t session group units due ledger =
     hold_facts t session group (holds_of group t due (buckets_at (validity_of b) t ledger))
-    ++ (record {
-      at = t;
-      fact = Grant session group (terms_at b t) units
-          (counter (cycle_at b group) group (cycle_at b group t) ledger);
-    } ∷ ledger)
+    ++ (record { at = t; fact = Grant (grant_at b t session group units ledger) } ∷ ledger)
 
 -- what a grant holds: its price, and its blocks of the allowance
 abbrev pub held_due : RatedGrant → Due

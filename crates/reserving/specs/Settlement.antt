@@ -11,15 +11,15 @@ use Rattle.units.specs.declared.blocks.UsedPart.{UsedPart}
 use Rattle.shelves.specs.Shelves.{Shelf, tariff_in}
 use Rattle.reserving.specs.declared.session.Terms.{Terms}
 use Rattle.rating.specs.declared.report.Rated.{Rated}
-use Rattle.buckets.specs.declared.holds.Hold.{Hold}
-use Rattle.buckets.specs.Row.{Row}
+use Rattle.buckets.specs.declared.holds.HeldAmount.{HeldAmount}
+use Rattle.buckets.specs.Row.{BucketRow}
 use Rattle.buckets.specs.Share.{parts}
 use Rattle.buckets.specs.declared.kind.Due.{Due}
 use Rattle.buckets.specs.Kinds.{due}
 use Rattle.buckets.specs.declared.kind.BucketKind.TheVariants.{Blocks}
 use Rattle.buckets.specs.Spend.{allowance}
 use Rattle.buckets.specs.Holding.{held_sum, paid, uncollected}
-use Rattle.reserving.specs.Ledger.{Ledger, used, counter, open_grant, next_charge}
+use Rattle.reserving.specs.Ledger.{Ledger, UseOf, used, counter, open_grant, next_charge}
 use Rattle.reserving.specs.Ledger.Fact.{Use, Charge, End}
 use Rattle.reserving.specs.Pricing.{cycle_at, terms_now, rated_with, validity_of}
 use Rattle.reserving.specs.Balance.{buckets_at}
@@ -61,9 +61,21 @@ report_price b t session group used_parts ledger =
     (counter (cycle_at b group) group (cycle_at b group t) ledger)
     (coverable (validity_of b) t session group ledger) used_parts
 
-abbrev pub charge_facts : Moment → List Hold → Ledger
+abbrev pub charge_facts : Moment → List HeldAmount → Ledger
 charge_facts t [] = []
 charge_facts t (h ∷ hs) = record { at = t; fact = Charge h.bucket h.amount } ∷ charge_facts t hs
+
+-- a use of units that start blocks, for which this is due and that is left uncollected
+abbrev pub use_of : SessionName → GroupId → UnitCount → BlockCount → Due → Micros → UseOf
+use_of session group units blocks due uncollected = record {
+  session = session;
+  group = group;
+  units = units;
+  blocks = blocks;
+  covered = due.blocks;
+  rated = due.money;
+  uncollected = uncollected;
+}
 
 -- the ledger with a settlement
 abbrev pub settled : (Moment → Seconds) → Moment → SessionName → GroupId → UnitCount → BlockCount →
@@ -72,15 +84,15 @@ settled v t session group units blocks due ledger =
     record { at = t; fact = End session group }
     ∷ record {
       at = t;
-      fact = Use session group units blocks due.blocks due.money
-          (uncollected holds group t due.money rows);
+      fact = Use (use_of session group units blocks due
+          (uncollected holds group t due.money rows));
     }
     ∷ charge_facts t (parts (paid holds group t due rows) rows) ++ ledger
   where
-    rows : List Row
+    rows : List BucketRow
     rows = buckets_at v t ledger
 
-    holds : List Hold
+    holds : List HeldAmount
     holds = holds_at v t session group ledger
 
 -- the ledger with a reported group's settlement; a group that is named without a report only ends

@@ -4,7 +4,7 @@
 use Rattle.std.specs.Prelude.{◌+◌, ◌==◌, ◌&&◌, Bool, true, false, List, [], ◌∷◌}
 use Rattle.std.specs.List.{list_all}
 use Rattle.buckets.specs.Words.{BucketAmount}
-use Rattle.buckets.specs.Row.{Row}
+use Rattle.buckets.specs.Row.{BucketRow}
 use Rattle.buckets.specs.Holding.{held_in}
 use Rattle.reserving.specs.declared.session.Session.{Session}
 use Rattle.reserving.specs.declared.session.SessionGroup.{SessionGroup}
@@ -41,19 +41,20 @@ rows_written w v = record w {
 -- ---- what is tested of them, so that they are an account's again
 
 -- what the rows that are written over hold of a bucket
-abbrev pub held_before : List SessionGroup → List SessionGroup → Row → BucketAmount
+abbrev pub held_before : List SessionGroup → List SessionGroup → BucketRow → BucketAmount
 held_before [] rows b = 0
 held_before (r ∷ rs) rows b =
     held_in (reserved_in r.session r.group rows) b + held_before rs rows b
 
 -- of a bucket no more and no less is reserved than what is held of it from now on
-abbrev pub is_held_on : List SessionGroup → List SessionGroup → Row → Row → Bool
+abbrev pub is_held_on : List SessionGroup → List SessionGroup → BucketRow → BucketRow → Bool
 is_held_on named rows old new =
     old.number == new.number &&
     (held_by (λ s. true) named new + old.reserved) == (new.reserved + held_before named rows new)
 
 -- so it is of each, and none is new or gone
-abbrev pub are_held_on : List SessionGroup → List SessionGroup → List Row → List Row → Bool
+abbrev pub are_held_on : List SessionGroup → List SessionGroup → List BucketRow → List BucketRow →
+    Bool
 are_held_on named rows [] [] = true
 are_held_on named rows [] (y ∷ ys) = false
 are_held_on named rows (x ∷ xs) [] = false

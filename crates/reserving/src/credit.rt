@@ -85,6 +85,7 @@ impl<'b> Account<'b> {
             .add(number, kind, from, until, scope, amount)?;
         self.rows.next_bucket += 1;
         self.calm = false;
+        self.quiet = None;
         Ok(number)
     }
 }

@@ -152,6 +152,7 @@ impl<'b> Account<'b> {
         );
         grouping::count_blocks(&mut self.rows.counters, group, cycle, rated.blocks.0);
         self.rows.next_charge += 1;
+        self.quiet = None;
         charged
     }
 }

@@ -60,6 +60,9 @@ impl<'b> Account<'b> {
         if self.calm && self.rows.as_of == moment {
             return free;
         }
+        if self.is_quiet(moment) {
+            return free;
+        }
         let given_up = lapsed_funds(
             buckets,
             &self.rows.groups,

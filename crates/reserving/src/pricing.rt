@@ -26,7 +26,7 @@ const LAST_MOMENT: u64 = 4_102_488_000;
 
 /// For how long, and by which periods, a grant of a moment is valid.
 #[derive(Clone, Copy)]
-pub(crate) struct Window {
+pub(crate) struct GrantWindow {
     /// The periods at the grant and at its tariff switch.
     pub(crate) periods: Periods,
     /// The tariff switch within the validity.
@@ -36,7 +36,7 @@ pub(crate) struct Window {
 }
 
 /// The validity of a grant of this moment.
-pub(crate) fn window_at(book: &TariffBook, moment: Moment) -> Window
+pub(crate) fn window_at(book: &TariffBook, moment: Moment) -> GrantWindow
     ensures periods { result.periods ≡ periods_by book.now moment }
     ensures of_book { AreOfBook book.now result.periods }
     ensures switch { result.switch ≡ switch_by book.now moment }
@@ -46,7 +46,7 @@ pub(crate) fn window_at(book: &TariffBook, moment: Moment) -> Window
     let found = book.window_from(moment, reach(book, moment));
     let validity = found.validity;
     match switch_moment(found.switch) {
-        Some(switch) => Window {
+        Some(switch) => GrantWindow {
             periods: Periods {
                 before,
                 after: book.period_at(switch),
@@ -54,7 +54,7 @@ pub(crate) fn window_at(book: &TariffBook, moment: Moment) -> Window
             switch: Some(switch),
             validity,
         },
-        None => Window {
+        None => GrantWindow {
             periods: Periods {
                 before,
                 after: before,

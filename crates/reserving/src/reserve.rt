@@ -203,6 +203,7 @@ impl<'b> Account<'b> {
             .purse
             .hold_in(room, group, self.rows.as_of, grant.amount, grant.allowed);
         grouping::reserve_group(&mut self.rows.groups, session, group, terms, holds);
+        self.quiet = None;
     }
 }
 

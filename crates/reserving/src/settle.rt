@@ -359,6 +359,7 @@ impl<'b> Account<'b> {
             .settle(holds, group, self.rows.as_of, rated.amount, rated.covered);
         grouping::count_blocks(&mut self.rows.counters, group, cycle, rated.blocks.0);
         self.rows.next_charge += 1;
+        self.quiet = None;
         charged
     }
 
@@ -369,5 +370,6 @@ impl<'b> Account<'b> {
     {
         let holds = grouping::end_group(self.rows.alloc, &mut self.rows.groups, session, group);
         self.rows.purse.release(holds, self.rows.as_of);
+        self.quiet = None;
     }
 }

@@ -1,7 +1,7 @@
 //! Rows that are written over those of an account.
 
-ghost use Rattle.std.specs.Prelude.{◌≡◌, ◌==◌, ◌+◌, ◌*◌, ◌≤◌, ◌<◌, true, OnOk, OnErr};
-ghost use Rattle.std.specs.Prelude.{length, vec_len, vec_capacity};
+ghost use Rattle.std.specs.Prelude.{◌≡◌, ◌==◌, ◌+◌, ◌*◌, ◌≤◌, ◌<◌, ◌&&◌, true, OnOk, OnErr};
+ghost use Rattle.std.specs.Prelude.{length, vec_len, vec_capacity, option_copied};
 ghost use Rattle.buckets.specs.Spend.{Each};
 ghost use Rattle.buckets.specs.Holding.{held_in};
 ghost use Rattle.reserving.specs.Sessions.{held_by, is_session, is_of, is_counter};
@@ -10,26 +10,32 @@ ghost use Rattle.reserving.specs.Keyed.{put};
 ghost use Rattle.reserving.specs.Rows.{AreAscending};
 ghost use Rattle.reserving.specs.Changes.{reserved_in};
 ghost use Rattle.reserving.specs.Restored.{given};
+ghost use Rattle.reserving.specs.Left.{is_open_row};
+ghost use Rattle.reserving.specs.Calm.{is_opened, is_group_quiet, are_groups_quiet};
+ghost use Rattle.reserving.specs.Sessions.{session_in};
+ghost use Rattle.std.specs.List.{list_all};
 ghost use Rattle.reserving.specs.Stored.{IsStoredInOrder};
 ghost use Rattle.reserving.specs.Written.{sessions_written, groups_written, counters_written};
 ghost use Rattle.reserving.specs.Written.{rows_written, held_before, is_held_on, are_held_on};
 ghost use Rattle.reserving.specs.Written.{is_writable};
 
 use crate::kept_rows::KeptRows;
+use crate::quiet::are_groups_bound;
 use crate::restoring::{
     GivenRows, are_all_along, are_in_range, are_keys_ascending, held_of, hold_of, later,
 };
-use crate::searching::{group_row, seek_counter, seek_group, seek_session};
-use crate::session::{Counter, Session, SessionGroup};
+use crate::searching::{group_row, seek_counter, seek_group, seek_session, session_row};
+use crate::session::{Counter, Session, SessionGroup, SessionState};
 use crate::stored::StoredAccount;
 use buckets::Bucket;
+use identifiers::SessionId;
 use std::alloc::AllocError;
 
 impl StoredAccount {
     /// Whether these rows can be written over the account's own: each stands before the next, each
     /// number is in its range, no bucket is new or gone, and of each as much is reserved as is held
-    /// of it from then on. They are an account's rows then. Rows that are named aren't compared with
-    /// any other.
+    /// of it from then on. They are an account's rows then. Rows that are named aren't compared
+    /// with any other.
     pub fn is_writable(&self, rows: &GivenRows) -> bool
         ensures value { result ≡ is_writable (given rows.now) self.now }
         ensures kept { result ≡ true → IsStoredInOrder (rows_written (given rows.now) self.now) }
@@ -39,8 +45,8 @@ impl StoredAccount {
         self.rows.admits(rows)
     }
 
-    /// Writes these rows over the account's own: each in the place of the one with its key, or among
-    /// them where it has none. The buckets are those given.
+    /// Writes these rows over the account's own: each in the place of the one with its key, or
+    /// among them where it has none. The buckets are those given.
     ///
     /// # Errors
     /// A growth was refused. Then the account is unchanged.
@@ -49,9 +55,76 @@ impl StoredAccount {
         ensures ok { OnOk result (self.new ≡ rows_written (given rows) self.old) }
         ensures err { OnErr result (self.new ≡ self.old) }
     {
+        let stays = self.stays_bound(&rows);
         self.rows.write(rows)?;
+        let bound = self.rows.is_bound(stays);
+        self.bound = bound;
         Ok(())
     }
+
+    /// Whether it is marked that each reservation is of an open session, and it is so once these
+    /// rows are written.
+    fn stays_bound(&self, rows: &GivenRows) -> bool
+        ensures { result ≡ true → are_groups_quiet
+            (sessions_written (given rows.now).sessions self.now.sessions)
+            (groups_written (given rows.now).groups self.now.groups) ≡ true }
+    {
+        let bound = self.bound;
+        if bound && are_keys_ascending(rows) && self.rows.fits(rows) {
+            return true;
+        }
+        false
+    }
+}
+
+/// Whether a session's row is open, or has none among those before.
+fn is_opened(row: &Session, before: &[Session]) -> bool
+    requires { AreAscending session_before before.now }
+    ensures { result ≡ is_opened before.now row.now }
+{
+    row.state == SessionState::Open || session_row(before, &row.id).is_none()
+}
+
+fn are_opened(named: &[Session], before: &[Session]) -> bool
+    requires { AreAscending session_before before.now }
+    ensures { result ≡ list_all (is_opened before.now) named.now }
+{
+    for row in named {
+        if !is_opened(row, before) {
+            return false;
+        }
+    }
+    true
+}
+
+/// The row of a session among a few, in no order.
+fn session_among<'a>(sessions: &'a [Session], id: &SessionId) -> Option<&'a Session>
+    ensures { option_copied result ≡ session_in id.now sessions.now }
+{
+    sessions.iter().find(|row| row.id == *id)
+}
+
+/// Whether a session is open among a few rows.
+fn is_open_among(sessions: &[Session], id: &SessionId) -> bool
+    ensures { result ≡ is_open_row (session_in id.now sessions.now) }
+{
+    match session_among(sessions, id) {
+        Some(row) => row.state == SessionState::Open,
+        None => false,
+    }
+}
+
+/// Whether a group has no reservation, or its session is open among a few rows.
+fn is_group_among(row: &SessionGroup, sessions: &[Session]) -> bool
+    ensures { result ≡ is_group_quiet sessions.now row.now }
+{
+    row.reservation.is_none() || is_open_among(sessions, &row.session)
+}
+
+fn are_groups_among(rows: &[SessionGroup], sessions: &[Session]) -> bool
+    ensures { result ≡ are_groups_quiet sessions.now rows.now }
+{
+    rows.iter().all(|row| is_group_among(row, sessions))
 }
 
 impl KeptRows {
@@ -71,6 +144,28 @@ impl KeptRows {
                 self.purse.buckets(),
                 rows.purse.buckets(),
             )
+    }
+
+    /// Whether each session that is named is open or new, and each reservation that is named is of
+    /// an open one of them.
+    fn fits(&self, rows: &GivenRows) -> bool
+        requires { AreAscending session_before (stored_of self.now).sessions }
+        ensures { result ≡ (list_all (is_opened (stored_of self.now).sessions)
+            (given rows.now).sessions
+            && are_groups_quiet (given rows.now).sessions (given rows.now).groups) }
+    {
+        are_opened(&rows.sessions, &self.sessions) && are_groups_among(&rows.groups, &rows.sessions)
+    }
+
+    /// Whether each reservation is of an open session, where it may be known that it is so.
+    fn is_bound(&self, known: bool) -> bool
+        requires order { AreAscending session_before (stored_of self.now).sessions }
+        requires bound { known ≡ true →
+            are_groups_quiet (stored_of self.now).sessions (stored_of self.now).groups ≡ true }
+        ensures { result
+            ≡ are_groups_quiet (stored_of self.now).sessions (stored_of self.now).groups }
+    {
+        are_groups_bound(&self.groups, &self.sessions, known)
     }
 
     /// Writes rows over these. At a fault nothing has changed.

@@ -1,10 +1,10 @@
 -- Faults of connections, told one after another; a port that is told.
-use Rattle.std.proofs.Common.{◌≡◌, ℕ, ◌+◌, List, [], ◌∷◌, ◌++◌, length, length-append, refl, sym}
+use Rattle.std.proofs.Common.{ℕ, ◌+◌, List, [], ◌∷◌, ◌++◌, length, length-append, refl}
 use Rattle.std.proofs.Common.{ap, subst, ◌∙◌, Option, Some, None}
 use Rattle.std.specs.Io.KnownBytes.{Appends, Keeps}
 use Rattle.operations.specs.Written.{WritesBeginning}
 use Rattle.http_api.specs.declared.fault.ServeFault.{ServeFault}
-use Rattle.service.specs.ServingTold.{TellsFaults, WritesFaults, fault_line}
+use Rattle.service.specs.ServingTold.{TellsFaults, WritesFaults, connection_line}
 
 -- none
 pub faults_none : (a : Option (List ℕ)) → TellsFaults 0 a a
@@ -12,7 +12,7 @@ faults_none a = record { faults = []; count_is = refl; written = refl }
 
 -- one
 pub faults_one : (fault : ServeFault) (a b : Option (List ℕ)) →
-    WritesBeginning a b (fault_line fault) → TellsFaults 1 a b
+    WritesBeginning a b (connection_line fault) → TellsFaults 1 a b
 faults_one fault a b h = record { faults = fault ∷ []; count_is = refl; written = (b, h, refl) }
 
 writes_more : (xs ys : List ServeFault) (a b c : Option (List ℕ)) → WritesFaults xs a b →

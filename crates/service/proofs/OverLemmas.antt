@@ -17,10 +17,9 @@ use Rattle.sqlite_schema.specs.declared.schema.Schema.{Schema}
 use Rattle.shelves.specs.Shelves.{Shelf}
 use Rattle.keepers.specs.Tables.{Tables}
 use Rattle.sql_tables.specs.Texts.{stage}
-use Rattle.sql_rows.specs.Content.{content_of}
+use Rattle.sql_rows.specs.Content.{tables_content}
 use Rattle.sql_keeper.specs.Content.{shelf_names, tables_of, Names}
 use Rattle.sql_keeper.specs.Inside.{IsClean, KeeperState, tables_in}
-use Rattle.sql_keeper.specs.Creates.{IsNewBook}
 use Rattle.sql_keeper.specs.Migrates.{BecomesLatest, IsMigrated}
 use Rattle.sql_keeper.specs.Opened.{IsCreated, IsKept, IsLeft, IsOpened}
 use Rattle.sql_keeper.specs.Shelves.{IsShelfOf}
@@ -112,19 +111,19 @@ migrated_in image c k shelf new found migrated clean =
 pub same_office : {D : Type 0} {g : disk.Ghosts D} (image : Image)
     (k : KeeperState (FileStore D g)) (s : Shelf) → IsOpenedIn image k s →
     HasCleanDisk (file_state k.connection) → (db : Trees) (text : List ℕ) (shelf : Shelf) →
-    HoldsDatabase image db → IsLeft text db → IsShelfOf text (content_of db).books shelf →
-    (s ≡ shelf) × (tables_in over_files k ≡ tables_of (shelf_names shelf) (content_of db))
+    HoldsDatabase image db → IsLeft text db → IsShelfOf text (tables_content db).books shelf →
+    (s ≡ shelf) × (tables_in over_files k ≡ tables_of (shelf_names shelf) (tables_content db))
 same_office image k s opened clean db text shelf held left is =
     let rows : trees_in over_files k ≡ db = opened.holds clean db held in
     let one : s ≡ shelf =
     one_shelf db k.text text s shelf
     (subst (λ (t : Trees). IsKept t k.text) rows (opened.left clean).kept) left.kept
-    (subst (λ (t : Trees). IsShelfOf k.text (content_of t).books s) rows (opened.books clean))
+    (subst (λ (t : Trees). IsShelfOf k.text (tables_content t).books s) rows (opened.books clean))
     is in (
       one,
-      ap (λ (n : Names). tables_of n (content_of (trees_in over_files k)))
+      ap (λ (n : Names). tables_of n (tables_content (trees_in over_files k)))
           (ap shelf_names (opened.fresh.own ∙ one))
-          ∙ ap (λ (t : Trees). tables_of (shelf_names shelf) (content_of t)) rows,
+          ∙ ap (λ (t : Trees). tables_of (shelf_names shelf) (tables_content t)) rows,
     )
 
 -- and what is so of a keeper's shelf and tables is so of those of the database
@@ -135,7 +134,8 @@ pub comes_from : {D : Type 0} {g : disk.Ghosts D} (image : Image)
 comes_from image old new s says opened clean done db text shelf held left is =
     let same = same_office image old s opened clean db text shelf held left is in
     subst (λ (t : Tables). says shelf t (tables_in over_files new)) same.1
-    (subst (λ (x : Shelf). says x (tables_in over_files old) (tables_in over_files new)) same.0 done)
+    (subst (λ (x : Shelf). says x (tables_in over_files old) (tables_in over_files new)) same.0
+    done)
 
 -- so it is of what a call answers
 pub over_from : {D A E : Type 0} {g : disk.Ghosts D} (image : Image)

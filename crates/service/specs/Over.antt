@@ -13,13 +13,12 @@ use Rattle.sqlite_trees.specs.Tree.{Trees}
 use Rattle.sqlite.specs.Effect.{IsDatabase}
 use Rattle.sqlite.specs.Files.{HoldsDatabase, file_state, over_files}
 use Rattle.sqlite.specs.State.{HasCleanDisk}
-use Rattle.commands.specs.declared.answer.Answer.{Answer}
 use Rattle.shelves.specs.Shelves.{Shelf}
 use Rattle.keepers.specs.Tables.{Tables}
 use Rattle.sql_tables.specs.Schema.{latest}
 use Rattle.sql_tables.specs.Texts.{stage}
 use Rattle.sql_tables.specs.Opens.{IsVersion}
-use Rattle.sql_rows.specs.Content.{content_of}
+use Rattle.sql_rows.specs.Content.{tables_content}
 use Rattle.sql_keeper.specs.Content.{shelf_names, tables_of}
 use Rattle.sql_keeper.specs.Creates.{IsNewBook}
 use Rattle.sql_keeper.specs.Inside.{KeeperState, IsClean, tables_in}
@@ -54,7 +53,7 @@ pub record IsOpenedIn {D : Type 0} {g : disk.Ghosts D} (image : Image)
     pub clean : HasCleanDisk (file_state k.connection) → IsClean (file_state k.connection)
     pub left : HasCleanDisk (file_state k.connection) → IsLeft k.text (trees_in over_files k)
     pub books : HasCleanDisk (file_state k.connection) →
-        IsShelfOf k.text (content_of (trees_in over_files k)).books shelf
+        IsShelfOf k.text (tables_content (trees_in over_files k)).books shelf
     pub holds : HasCleanDisk (file_state k.connection) → (db : Trees) → HoldsDatabase image db →
         trees_in over_files k ≡ db
 
@@ -73,7 +72,7 @@ pub record IsMigratedIn {D : Type 0} {g : disk.Ghosts D} (image : Image)
     (k : KeeperState (FileStore D g)) (shelf : Shelf) : Type 0
   where
     pub left : IsLeft k.text (trees_in over_files k)
-    pub books : IsShelfOf k.text (content_of (trees_in over_files k)).books shelf
+    pub books : IsShelfOf k.text (tables_content (trees_in over_files k)).books shelf
     pub version : ℕ
     pub known : IsVersion version
     pub becomes : version < latest → (db : Trees) → HoldsDatabase image db →
@@ -85,8 +84,8 @@ pub record IsMigratedIn {D : Type 0} {g : disk.Ghosts D} (image : Image)
 -- and of the tables of its rows
 abbrev pub ForLeft : Image → (Shelf → Tables → Type 0) → Type 0
 ForLeft image says = (db : Trees) (text : BookText) (shelf : Shelf) → HoldsDatabase image db →
-    IsLeft text db → IsShelfOf text (content_of db).books shelf →
-    says shelf (tables_of (shelf_names shelf) (content_of db))
+    IsLeft text db → IsShelfOf text (tables_content db).books shelf →
+    says shelf (tables_of (shelf_names shelf) (tables_content db))
 
 -- so it is of the tables that were found and of those that the keeper has then
 abbrev pub Comes : {D : Type 0} → {g : disk.Ghosts D} → Image → KeeperState (FileStore D g) →

@@ -28,10 +28,10 @@ abbrev pub listening_line : ℕ → Bytes
 listening_line port = codes "listening 127.0.0.1:" ++ (decimal port ++ codes "\n")
 
 -- a connection's fault: a socket's is the network's
-abbrev pub fault_line : ServeFault → Bytes
-fault_line Memory = codes "ocs: memory fault\n"
-fault_line Read = codes "ocs: net fault\n"
-fault_line Write = codes "ocs: net fault\n"
+abbrev pub connection_line : ServeFault → Bytes
+connection_line Memory = codes "ocs: memory fault\n"
+connection_line Read = codes "ocs: net fault\n"
+connection_line Write = codes "ocs: net fault\n"
 
 -- ---- connections
 
@@ -39,7 +39,7 @@ fault_line Write = codes "ocs: net fault\n"
 abbrev pub WritesFaults : List ServeFault → Option Bytes → Option Bytes → Type 0
 WritesFaults [] old new = new ≡ old
 WritesFaults (fault ∷ faults) old new =
-    (between : Option (List ℕ)) × WritesBeginning old between (fault_line fault)
+    (between : Option (List ℕ)) × WritesBeginning old between (connection_line fault)
     × WritesFaults faults between new
 
 -- so many faults are

@@ -3,8 +3,7 @@
 ghost use Rattle.std.specs.Prelude.{◌≡◌};
 ghost use Rattle.service.specs.Adding.{IsAddingFault};
 ghost use Rattle.service.specs.Opening.{IsUnopened};
-ghost use Rattle.service.specs.Told.{adding_fault, book_line, fault_line, making_fault};
-ghost use Rattle.service.specs.Told.{open_line, shelf_line};
+ghost use Rattle.service.specs.Told.{about_database, adding_fault, making_fault};
 
 use operations::OfficeFault;
 use shelves::ShelfFault;
@@ -46,65 +45,36 @@ pub enum DatabaseFault {
 }
 
 impl DatabaseFault {
-    /// The line that tells it on standard error, without its line feed.
+    /// The line that tells it on standard error, without its number and its line feed.
     pub fn line(self) -> &'static str
-        ensures { result.now ≡ fault_line self }
+        ensures { result.now ≡ (about_database self).line }
     {
         match self {
             DatabaseFault::File => "ocs: file fault",
             DatabaseFault::Clock => "ocs: clock fault",
-            DatabaseFault::Book(fault) => book_line(fault),
-            DatabaseFault::Open(fault) => open_line(fault),
-            DatabaseFault::Shelf(fault) => shelf_line(fault),
+            DatabaseFault::Book(_) => "ocs: book fault",
+            DatabaseFault::Open(_) => "ocs: open fault",
+            DatabaseFault::Shelf(_) => "ocs: shelf fault",
             DatabaseFault::Net => "ocs: net fault",
             DatabaseFault::Memory => "ocs: memory fault",
             DatabaseFault::Office(fault) => fault.line(),
         }
     }
-}
 
-/// The line that tells a fault of a tariff book.
-fn book_line(fault: BookFault) -> &'static str
-    ensures { result.now ≡ book_line fault }
-{
-    match fault {
-        BookFault::NotToml => "ocs: book fault 1",
-        BookFault::Missing => "ocs: book fault 2",
-        BookFault::WrongKind => "ocs: book fault 3",
-        BookFault::OutOfRange => "ocs: book fault 4",
-        BookFault::UnknownPeriod => "ocs: book fault 5",
-        BookFault::WeekNotCovered => "ocs: book fault 6",
-        BookFault::TiersNotRising => "ocs: book fault 7",
-        BookFault::TooMany => "ocs: book fault 8",
-        BookFault::Memory => "ocs: book fault 9",
-    }
-}
-
-/// The line that tells a fault of opening.
-fn open_line(fault: OpenFault) -> &'static str
-    ensures { result.now ≡ open_line fault }
-{
-    match fault {
-        OpenFault::Foreign => "ocs: open fault 1",
-        OpenFault::Version => "ocs: open fault 2",
-        OpenFault::Rules => "ocs: open fault 3",
-        OpenFault::Store => "ocs: open fault 4",
-        OpenFault::Memory => "ocs: open fault 5",
-        OpenFault::Older => "ocs: open fault 6",
-    }
-}
-
-/// The line that tells a fault of a shelf.
-fn shelf_line(fault: ShelfFault) -> &'static str
-    ensures { result.now ≡ shelf_line fault }
-{
-    match fault {
-        ShelfFault::Memory => "ocs: shelf fault 1",
-        ShelfFault::Full => "ocs: shelf fault 2",
-        ShelfFault::TooEarly => "ocs: shelf fault 3",
-        ShelfFault::OtherZone => "ocs: shelf fault 4",
-        ShelfFault::GroupMissing => "ocs: shelf fault 5",
-        ShelfFault::GroupDiffers => "ocs: shelf fault 6",
+    /// Its number, where it has one.
+    pub fn number(self) -> Option<u8>
+        ensures { result ≡ (about_database self).number }
+    {
+        match self {
+            DatabaseFault::File => None,
+            DatabaseFault::Clock => None,
+            DatabaseFault::Book(fault) => Some(fault.number()),
+            DatabaseFault::Open(fault) => Some(fault.number()),
+            DatabaseFault::Shelf(fault) => Some(fault.number()),
+            DatabaseFault::Net => None,
+            DatabaseFault::Memory => None,
+            DatabaseFault::Office(fault) => fault.number(),
+        }
     }
 }
 

@@ -37,12 +37,12 @@ pub fn make_database(
     make_over(rt, &words.database, &bytes, Wary)
 }
 
-/// Makes the database of a tariff book at a path as `make_database` does of a file's bytes, whatever
-/// the database's files held (`start`).
+/// Makes the database of a tariff book at a path as `make_database` does of a file's bytes,
+/// whatever the database's files held (`start`).
 ///
 /// # Errors
-/// In this order: as `book_text`; `File` or `Memory` where the database can't be opened as one; then
-/// as `make_tables`.
+/// In this order: as `book_text`; `File` or `Memory` where the database can't be opened as one;
+/// then as `make_tables`.
 pub fn make_over<S: Start>(
     rt: &HostRuntime,
     path: &FilePath,

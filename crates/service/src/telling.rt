@@ -2,7 +2,7 @@
 
 ghost use Rattle.std.specs.Prelude.{◌≡◌};
 ghost use Rattle.operations.specs.Written.{WritesBeginning};
-ghost use Rattle.service.specs.ServingTold.{fault_line};
+ghost use Rattle.service.specs.ServingTold.{connection_line};
 
 use http_api::ServeFault;
 use std::io::Write;
@@ -10,7 +10,7 @@ use texts::write_whole;
 
 /// The line that tells a connection's fault, with its line feed.
 fn fault_line(fault: ServeFault) -> &'static str
-    ensures { result.now ≡ fault_line fault }
+    ensures { result.now ≡ connection_line fault }
 {
     match fault {
         ServeFault::Memory => "ocs: memory fault\n",
@@ -21,7 +21,8 @@ fn fault_line(fault: ServeFault) -> &'static str
 
 /// Tells a connection's fault by its line, as far as it can be written.
 pub(crate) fn tell_fault<E: Write>(errors: &mut E, fault: ServeFault)
-    ensures { WritesBeginning (E.contents errors.old) (E.contents errors.new) (fault_line fault) }
+    ensures { WritesBeginning (E.contents errors.old) (E.contents errors.new)
+        (connection_line fault) }
 {
     let _ = write_whole(errors, fault_line(fault).as_bytes());
 }

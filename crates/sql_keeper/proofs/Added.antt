@@ -7,8 +7,8 @@ use Rattle.voucher_rules.specs.Standing.{unspent}
 use Rattle.sqlite.specs.State.{State, Survives}
 use Rattle.sqlite.proofs.StateLemmas.{survives_weaker}
 use Rattle.sqlite_trees.specs.Tree.{Trees}
-use Rattle.keepers.specs.Change.{with_voucher as with_added}
-use Rattle.sql_rows.specs.Content.{Content, content_of}
+use Rattle.keepers.specs.Change.{with_voucher}
+use Rattle.sql_rows.specs.Content.{TablesContent, tables_content}
 use Rattle.sql_rows.specs.Makes.{Turns}
 use Rattle.sql_rules.specs.Ruled.{IsInRules}
 use Rattle.sql_keeper.specs.RuledRows.{is_ruled_addition}
@@ -17,7 +17,7 @@ use Rattle.sql_keeper.specs.Additions.{BecomesAdded, with_addition}
 use Rattle.sql_keeper.specs.Commits.{CommitsWhole, Transacts}
 use Rattle.sql_keeper.specs.Content.{tables_of, voucher_in, Names}
 use Rattle.sql_keeper.specs.Tidy.{IsTidy}
-use Rattle.sql_keeper.specs.Writes.{row_of}
+use Rattle.sql_keeper.specs.Writes.{voucher_row}
 use Rattle.sql_tables.specs.Statements.{HasIdleBook}
 use Rattle.sql_keeper.proofs.InTurn.{none_read}
 use Rattle.sql_keeper.proofs.Redeemed.{told_over}
@@ -27,13 +27,13 @@ use Rattle.sql_keeper.proofs.Whole.{refused}
 -- ---- a voucher that is added
 
 addition_read : (names : Names) (text code : List ℕ) (terms : VoucherTerms)
-    (t : ℕ) (c : Content)
+    (t : ℕ) (c : TablesContent)
     → tables_of names (with_addition text code terms t c)
-    ≡ with_added code terms t (tables_of names c)
+    ≡ with_voucher code terms t (tables_of names c)
 addition_read names text code terms t c =
-    λ i. record (with_added code terms t (tables_of names c)) {
+    λ i. record (with_voucher code terms t (tables_of names c)) {
       vouchers = λ k.
-          told_over voucher_in (same_name code k) (row_of (unspent terms)) (c.vouchers k) i;
+          told_over voucher_in (same_name code k) (voucher_row (unspent terms)) (c.vouchers k) i;
     }
 
 pub become_added : (text code : List ℕ) (terms : VoucherTerms) (t : ℕ) → t ≤ 4_102_488_000
@@ -42,22 +42,23 @@ pub become_added : (text code : List ℕ) (terms : VoucherTerms) (t : ℕ) → t
     → BecomesAdded text code terms t old new
 become_added text code terms t last ruled old new turns = record {
   tables = λ names. ap (tables_of names) turns.content
-      ∙ addition_read names text code terms t (content_of old);
+      ∙ addition_read names text code terms t (tables_content old);
   tidy = λ names tidy. subst (IsTidy names) (sym turns.content)
-      (tidy_addition names text code terms t (content_of old) tidy);
+      (tidy_addition names text code terms t (tables_content old) tidy);
   rules = λ shelf there in'. subst (IsInRules shelf) (sym turns.content)
-      (addition_kept shelf text code terms t (content_of old) ruled there in');
+      (addition_kept shelf text code terms t (tables_content old) ruled there in');
   plain = turns.plain;
-  meta = ap (λ (c : Content). c.meta) turns.content;
+  meta = ap (λ (c : TablesContent). c.meta) turns.content;
   last = last;
-  books = ap (λ (c : Content). c.books) turns.content;
+  books = ap (λ (c : TablesContent). c.books) turns.content;
   catalog = turns.catalog;
   stored = turns.stored;
 }
 
 -- ---- what is written at once, with nothing read before
 
-module _ (change : Content → Content) (Become : Trees → Trees → Type 0) (old new : State)
+module _ (change : TablesContent → TablesContent) (Become : Trees → Trees → Type 0)
+    (old new : State)
     (become : (db : Trees) → Turns change old.now.trees db → Become old.now.trees db) where
   survives_at_once : Survives old new (λ db. IsTrue old.is_open × Turns change old.now.trees db)
       → Survives old new (λ db. IsTrue old.is_open → Become old.now.trees db)

@@ -1,5 +1,5 @@
 -- A book that is added to two shelves and to the tables, or to none of them.
-use Rattle.std.proofs.Common.{◌≡◌, ◌≤◌, ◌<◌, ◌+◌, ◌∙◌, ◌++◌, ℕ, suc, List, [], ◌∷◌, Option, Some, None}
+use Rattle.std.proofs.Common.{◌≡◌, ◌≤◌, ◌<◌, ◌+◌, ◌∙◌, ℕ, suc, List, [], ◌∷◌, Option, Some, None}
 use Rattle.std.proofs.Common.{refl, sym, ap, subst, arith, length, length-append, IsTrue, false}
 use Rattle.std.proofs.Common.{◌⊎◌, inl, inr}
 use Rattle.std.specs.Prelude.{Result, Ok, Err, IfErr, IfSome, OnErr, OnOk}
@@ -20,8 +20,7 @@ use Rattle.keepers.specs.declared.fault.StoreFault.TheVariants.{Memory as NoMemo
 use Rattle.sql_tables.specs.Statements.{OnlyReads}
 use Rattle.sql_keeper.specs.AddsBook.{AddsBook, AddsToAll, BecomesDated, IsAddFault}
 use Rattle.sql_keeper.specs.AddsBook.{IsAdded, IsBehind, IsOnBoth, IsTextFault}
-use Rattle.sql_keeper.specs.AddsBook.{AreTakenBack, LeavesDated}
-use Rattle.sql_keeper.specs.AddsBook.{add_told, last_at, was_added}
+use Rattle.sql_keeper.specs.AddsBook.{AreTakenBack, LeavesDated, add_told, last_at, was_added}
 use Rattle.sql_keeper.specs.Asks.{IsHanded}
 use Rattle.sql_keeper.specs.Books.{IsBookOf}
 use Rattle.sql_keeper.specs.Commits.{CommitsWhole}

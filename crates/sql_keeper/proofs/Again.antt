@@ -1,46 +1,35 @@
 -- What was left of a book's tables is found again.
-use Rattle.std.proofs.Common.{◌≡◌, ◌≤◌, ◌<◌, inl, inr, ◌∙◌, arith, List, ℕ, suc, Option, Some, None}
+use Rattle.std.proofs.Common.{◌≡◌, ◌≤◌, ◌<◌, ◌∙◌, arith, List, ℕ, Option, Some, None}
 use Rattle.std.proofs.Common.{sym, ap, subst, refl}
 use Rattle.std.specs.Prelude.{◌^◌}
-use Rattle.tariffs.specs.Books.{Book}
-use Rattle.shelves.specs.Shelves.{IsShelf, Shelf, count, one_book, with_book}
+use Rattle.shelves.specs.Shelves.{IsShelf, Shelf, one_book, with_book}
 use Rattle.std.specs.Str.{IsUtf8}
 use Rattle.sqlite_trees.specs.Tree.{Trees}
 use Rattle.sqlite_trees.specs.Objects.{catalog_tree}
-use Rattle.sqlite_trees.specs.declared.store.Store.{Ghosts}
 use Rattle.sqlite_catalog.specs.Listing.{Lists}
-use Rattle.sqlite_catalog.proofs.ReadLemmas.{lists_once}
 use Rattle.sqlite.specs.Effect.{Database}
-use Rattle.sqlite.specs.Held.{Held, state}
 use Rattle.sql_tables.specs.Schema.{book_schema, latest}
 use Rattle.sql_tables.specs.Stages.{AreStoredAt}
 use Rattle.sql_tables.specs.Statements.{AreStored}
-use Rattle.sql_rows.specs.Values.{DatedBook as DatedText, Meta}
-use Rattle.sql_rows.specs.Content.{content_of}
+use Rattle.sql_rows.specs.Values.{BookRow, Meta}
+use Rattle.sql_rows.specs.Content.{tables_content}
 use Rattle.sql_tables.specs.declared.fault.OpenFault.{OpenFault}
 use Rattle.sql_tables.specs.declared.fault.OpenFault.TheVariants.{Foreign, Version, Rules, Store}
 use Rattle.sql_tables.specs.declared.fault.OpenFault.TheVariants.{Memory, Older}
-use Rattle.keepers.specs.declared.loaded.Change.{Change}
-use Rattle.voucher_rules.specs.declared.terms.VoucherTerms.{VoucherTerms}
-use Rattle.sql_keeper.specs.AddsBook.{BecomesDated}
-use Rattle.sql_keeper.specs.Additions.{BecomesAdded}
 use Rattle.sql_keeper.specs.Again.{AreLeftAgain}
 use Rattle.sql_keeper.specs.Books.{IsBookOf}
 use Rattle.sql_keeper.specs.Causes.{HasFault}
-use Rattle.sql_keeper.specs.Commits.{Becomes}
-use Rattle.sql_keeper.specs.Content.{Names}
 use Rattle.sql_keeper.specs.Creates.{first_meta}
 use Rattle.sql_keeper.specs.Opened.{IsLeft}
 use Rattle.sql_keeper.specs.Shelves.{AreLater, HasShelf, IsShelfOf}
-use Rattle.sql_keeper.specs.Sweeps.{BecomesSwept}
 use Rattle.sql_keeper.specs.Writes.{meta_at, meta_with}
 use Rattle.sql_keeper.proofs.Causes.{latest_known, same_version}
 use Rattle.sql_keeper.proofs.Shelving.{dated_shelf}
 
 left_by : (text : List ℕ) (old new : Trees) (row : Meta) → IsLeft text old
     → new catalog_tree ≡ old catalog_tree
-    → AreStored new → (content_of new).meta ≡ Some row → row.version ≡ latest → row.book ≡ text
-    → row.last ≤ 4_102_488_000 → HasShelf text (content_of new).books → IsLeft text new
+    → AreStored new → (tables_content new).meta ≡ Some row → row.version ≡ latest → row.book ≡ text
+    → row.last ≤ 4_102_488_000 → HasShelf text (tables_content new).books → IsLeft text new
 left_by text old new row left catalog stored is version book last shelf = record {
   lists = subst (λ rows. Lists rows book_schema) (sym catalog) left.lists;
   stored = stored;
@@ -50,13 +39,14 @@ left_by text old new row left catalog stored is version book last shelf = record
 }
 
 -- the shelf of the same rows
-same_shelf : (text : List ℕ) (old new : Trees) → (content_of new).books ≡ (content_of old).books
-    → HasShelf text (content_of old).books → HasShelf text (content_of new).books
+same_shelf : (text : List ℕ) (old new : Trees) → (tables_content new).books ≡
+    (tables_content old).books
+    → HasShelf text (tables_content old).books → HasShelf text (tables_content new).books
 same_shelf text old new same has =
     (has.0, subst (λ rows. IsShelfOf text rows has.0) (sym same) has.1)
 
 -- a book alone is a shelf
-pub alone_shelf : (text : List ℕ) (rows : ℕ → Option DatedText) (s : Shelf) → IsShelf s
+pub alone_shelf : (text : List ℕ) (rows : ℕ → Option BookRow) (s : Shelf) → IsShelf s
     → s ≡ one_book s.first → IsBookOf text s.first → ((n : ℕ) → rows n ≡ None)
     → IsShelfOf text rows s
 alone_shelf text rows s is alone read none = record {
@@ -81,7 +71,7 @@ left_again = record {
     utf8 = utf8;
     shelf = (
       shelf.0,
-      alone_shelf text (content_of new).books shelf.0 shelf.1.is shelf.1.alone
+      alone_shelf text (tables_content new).books shelf.0 shelf.1.is shelf.1.alone
           shelf.1.first b.books,
     );
   };
@@ -99,7 +89,8 @@ left_again = record {
       left.kept.version left.kept.book left.kept.last (
         with_book may.shelf from may.book,
         subst (λ rows. IsShelfOf text rows (with_book may.shelf from may.book)) (sym b.books)
-            (dated_shelf text more (content_of old).books n from may.shelf may.book may.is may.read
+            (dated_shelf text more (tables_content old).books n from may.shelf may.book may.is
+            may.read
             may.number may.range may.behind),
       );
 }
@@ -123,7 +114,7 @@ no_fault text db Rules left same h =
       book = subst IsUtf8 (sym left.kept.book) left.utf8;
       last = left.kept.last;
     }) in
-    told.2 (subst (λ t. HasShelf t (content_of db.trees).books) (sym left.kept.book) left.shelf)
+    told.2 (subst (λ t. HasShelf t (tables_content db.trees).books) (sym left.kept.book) left.shelf)
 no_fault text db Store left same h = h
 no_fault text db Memory left same h = h
 no_fault text db Older left same h =

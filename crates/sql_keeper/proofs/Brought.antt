@@ -21,7 +21,7 @@ use Rattle.sql_tables.specs.Statements.{ReadsWithin}
 use Rattle.sql_tables.specs.declared.reading.ReadFault.{ReadFault}
 use Rattle.sql_tables.specs.declared.reading.ReadFault.TheVariants as reading
 use Rattle.sql_tables.proofs.Keeps.{sound_fits}
-use Rattle.sql_rows.specs.Content.{Content, content_of}
+use Rattle.sql_rows.specs.Content.{TablesContent, tables_content}
 use Rattle.sql_rows.specs.Lists.{AreBooks}
 use Rattle.sql_rows.specs.Makes.{Makes}
 use Rattle.sql_rows.specs.Ruled.{AreRuledBooks, AreRuledReserved}
@@ -30,13 +30,13 @@ use Rattle.sql_rows.specs.Values.{Meta}
 use Rattle.sql_rules.specs.Ruled.{IsInRules}
 use Rattle.sql_rules.specs.Tables.{AreRuled}
 use Rattle.sql_rows.specs.declared.book_rows.BookColumns.{BookColumns}
-use Rattle.sql_rows.specs.declared.meta_rows.Meta.{Meta as MetaRow}
+use Rattle.sql_rows.specs.declared.meta_rows.MetaColumns.{MetaColumns}
 use Rattle.sql_tables.specs.Opens.{IsNoVersion, IsVersion}
 use Rattle.sql_tables.specs.declared.fault.OpenFault.{OpenFault}
 use Rattle.sql_tables.specs.declared.fault.OpenFault.TheVariants.{Foreign, Version, Rules, Older}
 use Rattle.sql_tables.specs.declared.fault.OpenFault.TheVariants.{Store, Memory}
 use Rattle.sql_keeper.specs.Books.{IsBookOf}
-use Rattle.sql_keeper.specs.Migrates.{AreUnruledReserved, BringsToLatest, HasAt, IsRuledAt}
+use Rattle.sql_keeper.specs.Migrates.{AreUnruledReserved, BringsToLatest, HasAt, IsRuledVersion}
 use Rattle.sql_keeper.specs.Migrates.{HasRuledRows, ReadsShelf, content_at}
 use Rattle.sql_keeper.specs.OlderVersions.{AsksVersion}
 use Rattle.sql_keeper.specs.Causes.{IsOtherThan, IsUnruledMeta}
@@ -123,7 +123,7 @@ module _ (v : ℕ) (old mid : State) (has : HasMade v old mid) where
 
   -- what the tables hold
   pub made_content : IsVersion v → v < latest → HasCleanDisk mid →
-      content_of mid.now.trees ≡ content_at v old.now.trees
+      tables_content mid.now.trees ≡ content_at v old.now.trees
   made_content known less clean =
       let m = has.made clean in
       kept_content v old.now.trees mid.now.trees known less (m.rows, m.empty)
@@ -143,7 +143,7 @@ IsNeither e = (¬ (e ≡ Foreign)) × (¬ (e ≡ Older))
 ends_brought : (v : ℕ) (old new : State) (e : OpenFault) → (HasCleanDisk new → KeepsCommit old new)
     → Survives old new (λ _. ⊥)
     → (HasCleanDisk new → e ≡ Version → IsOtherThan v old.now.trees)
-    → (HasCleanDisk new → e ≡ Rules → ¬ IsRuledAt v old.now.trees) → IsNeither e
+    → (HasCleanDisk new → e ≡ Rules → ¬ IsRuledVersion v old.now.trees) → IsNeither e
     → BringsToLatest v old new (Err e)
 ends_brought v old new e kept survives version rules other = record {
   brings = record { done = λ clean. tt; kept = kept; survives = survives };
@@ -157,7 +157,8 @@ ends_brought v old new e kept survives version rules other = record {
 
 module _ (v : ℕ) (old mid new : State) (e : OpenFault) (has : HasMade v old mid)
     (version : HasCleanDisk new → e ≡ Version → IsOtherThan v old.now.trees)
-    (rules : HasCleanDisk new → e ≡ Rules → ¬ IsRuledAt v old.now.trees) (other : IsNeither e) where
+    (rules : HasCleanDisk new → e ≡ Rules → ¬ IsRuledVersion v old.now.trees)
+    (other : IsNeither e) where
   -- what was made before keeps what was committed
   kept_since : HasCleanDisk mid → KeepsCommit mid new → KeepsCommit old new
   kept_since clean kept =
@@ -178,7 +179,7 @@ module _ (v : ℕ) (old mid new : State) (e : OpenFault) (has : HasMade v old mi
 -- a fault without a call
 ends_here : (v : ℕ) (old mid : State) (e : OpenFault) → HasMade v old mid
     → (HasCleanDisk mid → e ≡ Version → IsOtherThan v old.now.trees)
-    → (HasCleanDisk mid → e ≡ Rules → ¬ IsRuledAt v old.now.trees) → IsNeither e
+    → (HasCleanDisk mid → e ≡ Rules → ¬ IsRuledVersion v old.now.trees) → IsNeither e
     → BringsToLatest v old mid (Err e)
 ends_here v old mid e has version rules other =
     ends_brought v old mid e
@@ -209,22 +210,22 @@ not_made v old new e f (inr is) failed =
 module _ (v : ℕ) (known : IsVersion v) (less : v < latest) (old mid : State)
     (has : HasMade v old mid) where
   -- what is kept once, as it stood before
-  meta_before : HasCleanDisk mid → (row : Meta) → (content_of old.now.trees).meta ≡ Some row
-      → (content_of mid.now.trees).meta ≡ Some row
+  meta_before : HasCleanDisk mid → (row : Meta) → (tables_content old.now.trees).meta ≡ Some row
+      → (tables_content mid.now.trees).meta ≡ Some row
   meta_before clean row is =
-      ap (λ (c : Content). c.meta) (made_content v old mid has known less clean)
+      ap (λ (c : TablesContent). c.meta) (made_content v old mid has known less clean)
       ∙ meta_at v old.now.trees ∙ is
 
-  meta_since : HasCleanDisk mid → (row : Meta) → (content_of mid.now.trees).meta ≡ Some row
-      → (content_of old.now.trees).meta ≡ Some row
+  meta_since : HasCleanDisk mid → (row : Meta) → (tables_content mid.now.trees).meta ≡ Some row
+      → (tables_content old.now.trees).meta ≡ Some row
   meta_since clean row is =
       sym (meta_at v old.now.trees)
-      ∙ sym (ap (λ (c : Content). c.meta) (made_content v old mid has known less clean)) ∙ is
+      ∙ sym (ap (λ (c : TablesContent). c.meta) (made_content v old mid has known less clean)) ∙ is
 
   -- what is kept once wasn't read
   pub no_meta : (new : State) (e : OpenFault)
-      → ReadsWithin {A = MetaRow} {E = OpenFault}
-      (λ trees m. (content_of trees).meta ≡ Some (meta_of m)) mid new (Err e) → IsNoVersion e
+      → ReadsWithin {A = MetaColumns} {E = OpenFault}
+      (λ trees m. (tables_content trees).meta ≡ Some (meta_of m)) mid new (Err e) → IsNoVersion e
       → ¬ (e ≡ Foreign)
       → (HasCleanDisk new → e ≡ Rules → IsUnruledMeta mid.now.trees)
       → BringsToLatest v old new (Err e)
@@ -236,13 +237,14 @@ module _ (v : ℕ) (known : IsVersion v) (less : v < latest) (old mid : State)
       (ours, told.1) IsUnchanged e reads.still
 
 -- what is kept once is read
-pub record HasMeta (v : ℕ) (old mid : State) (m : MetaRow) : Type 0 where
+pub record HasMeta (v : ℕ) (old mid : State) (m : MetaColumns) : Type 0 where
   pub has : HasMade v old mid
-  pub is : HasCleanDisk mid → (content_of old.now.trees).meta ≡ Some (meta_of m)
+  pub is : HasCleanDisk mid → (tables_content old.now.trees).meta ≡ Some (meta_of m)
 
 pub meta_read : {E : Type 0} (v : ℕ) → IsVersion v → v < latest → (old mid new : State)
-    (m : MetaRow) → HasMade v old mid
-    → ReadsWithin {A = MetaRow} {E = E} (λ trees m. (content_of trees).meta ≡ Some (meta_of m))
+    (m : MetaColumns) → HasMade v old mid
+    → ReadsWithin {A = MetaColumns} {E = E} (λ trees m. (tables_content trees).meta ≡ Some
+    (meta_of m))
     mid new (Ok m) → HasMeta v old new m
 meta_read v known less old mid new m has reads = record {
   has = made_still v old mid new m has reads.still;
@@ -250,7 +252,7 @@ meta_read v known less old mid new m has reads = record {
       (omega (arith, reads.still.survives.clean, clean)) (meta_of m) (reads.found clean);
 }
 
-module _ (v : ℕ) (known : IsVersion v) (less : v < latest) (old mid : State) (m : MetaRow)
+module _ (v : ℕ) (known : IsVersion v) (less : v < latest) (old mid : State) (m : MetaColumns)
     (read : HasMeta v old mid m) where
   -- it is of another version
   pub other_version : (e : OpenFault) → (e ≡ Version) × (¬ (m.version ≡ v))
@@ -269,12 +271,12 @@ module _ (v : ℕ) (known : IsVersion v) (less : v < latest) (old mid : State) (
       )
 
   -- the row in the rules is the one that was read
-  same_row : HasCleanDisk mid → (ruled : IsRuledAt v old.now.trees) → ruled.row ≡ meta_of m
+  same_row : HasCleanDisk mid → (ruled : IsRuledVersion v old.now.trees) → ruled.row ≡ meta_of m
   same_row clean ruled =
       let one : Some ruled.row ≡ Some (meta_of m) = sym ruled.is ∙ read.is clean in
       same_Some ruled.row (meta_of m) one
 
-  shelf_before : HasCleanDisk mid → m.version ≡ v → (ruled : IsRuledAt v old.now.trees)
+  shelf_before : HasCleanDisk mid → m.version ≡ v → (ruled : IsRuledVersion v old.now.trees)
       → HasShelf (string_bytes m.book) (content_at v old.now.trees).books
   shelf_before clean version ruled =
       let row = same_row clean ruled in
@@ -282,15 +284,15 @@ module _ (v : ℕ) (known : IsVersion v) (less : v < latest) (old mid : State) (
       (ap (λ (x : Meta). x.book) row) (ruled.shelf (ap (λ (x : Meta). x.version) row ∙ version))
 
   books_at : HasCleanDisk mid →
-      (content_of mid.now.trees).books ≡ (content_at v old.now.trees).books
+      (tables_content mid.now.trees).books ≡ (content_at v old.now.trees).books
   books_at clean =
-      ap (λ (c : Content). c.books) (made_content v old mid read.has known less clean)
+      ap (λ (c : TablesContent). c.books) (made_content v old mid read.has known less clean)
 
   -- the later books weren't read
   pub no_rows : {A : Type 0} (told : Trees → A → Type 0) (new : State) (e : OpenFault)
       → ReadsWithin {A = A} {E = OpenFault} told mid new (Err e) → IsNoVersion e → ¬ (e ≡ Foreign)
       → m.version ≡ v
-      → (HasCleanDisk new → e ≡ Rules → ¬ AreRuledBooks (content_of mid.now.trees).books)
+      → (HasCleanDisk new → e ≡ Rules → ¬ AreRuledBooks (tables_content mid.now.trees).books)
       → BringsToLatest v old new (Err e)
   no_rows told new e reads of_rows ours version rules =
       ends_after v old mid new e read.has (λ clean is. absurd (of_rows.0 is))
@@ -302,16 +304,16 @@ module _ (v : ℕ) (known : IsVersion v) (less : v < latest) (old mid : State) (
       (ours, of_rows.1) IsUnchanged e reads.still
 
 -- the rows of the later books are read
-pub record HasRows (v : ℕ) (old mid : State) (m : MetaRow) (items : List BookColumns) : Type 0
+pub record HasRows (v : ℕ) (old mid : State) (m : MetaColumns) (items : List BookColumns) : Type 0
   where
     pub meta : HasMeta v old mid m
     pub books : HasCleanDisk mid → (n : ℕ) →
         row_numbered n (map book_at items) ≡ (content_at v old.now.trees).books n
 
 pub rows_read : {E : Type 0} (v : ℕ) → IsVersion v → v < latest → (old mid new : State)
-    (m : MetaRow) (rows : Vec BookColumns Global) → HasMeta v old mid m
+    (m : MetaColumns) (rows : Vec BookColumns Global) → HasMeta v old mid m
     → ReadsWithin {A = Vec BookColumns Global} {E = E}
-    (λ trees xs. AreBooks (content_of trees) (map book_at xs.items)) mid new (Ok rows)
+    (λ trees xs. AreBooks (tables_content trees) (map book_at xs.items)) mid new (Ok rows)
     → HasRows v old new m rows.items
 rows_read v known less old mid new m rows read reads = record {
   meta = record {
@@ -323,7 +325,7 @@ rows_read v known less old mid new m rows read reads = record {
       (omega (arith, reads.still.survives.clean, clean)));
 }
 
-module _ (v : ℕ) (known : IsVersion v) (less : v < latest) (old mid : State) (m : MetaRow)
+module _ (v : ℕ) (known : IsVersion v) (less : v < latest) (old mid : State) (m : MetaColumns)
     (items : List BookColumns) (read : HasRows v old mid m items) (version : m.version ≡ v)
     (text : List ℕ) (text_is : text ≡ string_bytes m.book) where
   -- there is no shelf of them
@@ -365,9 +367,9 @@ module _ (v : ℕ) (known : IsVersion v) (less : v < latest) (old mid : State) (
         (ruled (omega (arith, read.meta.has.survives.clean, before)) made.shows.was_open
         (meta_of m) b.own (read.meta.is before) (shelf_at b.own shelf before))
 
-    meta_made : HasCleanDisk mid → (content_of mid.now.trees).meta ≡ Some (meta_of m)
+    meta_made : HasCleanDisk mid → (tables_content mid.now.trees).meta ≡ Some (meta_of m)
     meta_made before =
-        ap (λ (c : Content). c.meta) (made_content v old mid read.meta.has known less before)
+        ap (λ (c : TablesContent). c.meta) (made_content v old mid read.meta.has known less before)
         ∙ meta_at v old.now.trees ∙ read.meta.is before
 
     -- all is put
@@ -411,13 +413,14 @@ module _ (v : ℕ) (known : IsVersion v) (less : v < latest) (old mid : State) (
             left = subst (λ t. IsLeftRuled t new.now.trees) same (record {
               left = left_latest v known less old.now.trees mid.now.trees new.now.trees (meta_of m)
                   kept (read.meta.is before) made.sound.lists turns b.own last utf8 at;
-              rules = λ s is. subst (λ x. IsInRules x (content_of new.now.trees))
-                  (same_shelf (string_bytes m.book) (content_of new.now.trees).books b.own s books
+              rules = λ s is. subst (λ x. IsInRules x (tables_content new.now.trees))
+                  (same_shelf (string_bytes m.book) (tables_content new.now.trees).books b.own s
+                  books
                   is) rules;
               plain = latest_plain b.own v mid.now.trees new.now.trees (meta_of m)
                   (rows_made before) (meta_made before) turns;
             });
-            books = subst (λ t. IsShelfOf t (content_of new.now.trees).books b.own) same books;
+            books = subst (λ t. IsShelfOf t (tables_content new.now.trees).books b.own) same books;
             moment = since ∙ sym (moment_latest v known less old.now.trees mid.now.trees
                 new.now.trees (meta_of m) kept (read.meta.is before) made.sound.lists turns);
           };
@@ -477,8 +480,8 @@ asks_not_made v old new e f store failed =
 module _ (v : ℕ) (known : IsVersion v) (less : v < latest) (old mid : State) where
   -- what is kept once wasn't read
   pub asks_no_meta : {A : Type 0} → HasMade v old mid → (new : State) (e : OpenFault)
-      → ReadsWithin {A = MetaRow} {E = OpenFault}
-      (λ trees m. (content_of trees).meta ≡ Some (meta_of m)) mid new (Err e) → IsNoVersion e
+      → ReadsWithin {A = MetaColumns} {E = OpenFault}
+      (λ trees m. (tables_content trees).meta ≡ Some (meta_of m)) mid new (Err e) → IsNoVersion e
       → ¬ (e ≡ Foreign) → (HasCleanDisk new → e ≡ Rules → IsUnruledMeta mid.now.trees)
       → AsksVersion {A = A} v old new (Err e)
   asks_no_meta has new e reads told ours rules =
@@ -487,7 +490,7 @@ module _ (v : ℕ) (known : IsVersion v) (less : v < latest) (old mid : State) w
       (omega (arith, reads.still.survives.clean, clean)) row at))
 
   -- it was
-  pub asks_meta : {A : Type 0} (m : MetaRow) → HasMeta v old mid m → (r : Result A OpenFault)
+  pub asks_meta : {A : Type 0} (m : MetaColumns) → HasMeta v old mid m → (r : Result A OpenFault)
       → OnOk r (m.version ≡ v) → IfErr r (λ e. (e ≡ Version) × (¬ (m.version ≡ v)))
       → m.version < 2 ^ 32 → m.last ≤ 4_102_488_000 → AsksVersion {A = A} v old mid r
   asks_meta m read (Ok u) version told number last = record {
@@ -525,7 +528,7 @@ pub shelf_err : (v : ℕ) (old new : State) (r : Result ReadBooks OpenFault) (f 
 shelf_err v old new r f e is same b =
     subst (λ x. ReadsShelf v old new x) (sym (is ∙ ap Err same)) (reads_err v old new e b)
 
-module _ (v : ℕ) (known : IsVersion v) (less : v < latest) (old mid : State) (m : MetaRow)
+module _ (v : ℕ) (known : IsVersion v) (less : v < latest) (old mid : State) (m : MetaColumns)
     (items : List BookColumns) (read : HasRows v old mid m items) (version : m.version ≡ v)
     (text : List ℕ) (text_is : text ≡ string_bytes m.book) where
   pub shelf_read : (r : Result ReadBooks OpenFault)

@@ -10,7 +10,7 @@ use Rattle.sql_tables.specs.Stages.{AreStoredAt}
 use Rattle.sql_rows.specs.Ruled.{IsRuledMeta}
 use Rattle.sql_rows.specs.Texts.{meta_of}
 use Rattle.sql_rows.specs.Values.{Meta}
-use Rattle.sql_rows.specs.declared.meta_rows.Meta.{Meta as MetaRow}
+use Rattle.sql_rows.specs.declared.meta_rows.MetaColumns.{MetaColumns}
 use Rattle.sql_tables.specs.Opens.{IsVersion}
 use Rattle.sql_tables.specs.declared.fault.OpenFault.{OpenFault}
 use Rattle.sql_tables.specs.declared.fault.OpenFault.TheVariants.{Foreign, Version, Rules, Store}
@@ -45,7 +45,7 @@ same_version v w first second is =
 -- ---- the row that is kept once
 
 -- one that was read is in its rules
-pub ruled_row : (m : MetaRow) → m.version < 2 ^ 32 → m.last ≤ 4_102_488_000 →
+pub ruled_row : (m : MetaColumns) → m.version < 2 ^ 32 → m.last ≤ 4_102_488_000 →
     IsRuledMeta (meta_of m)
 ruled_row m number last =
     record { version = number; book = IsUtf8-string_bytes m.book; last = last }

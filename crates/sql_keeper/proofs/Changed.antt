@@ -30,28 +30,26 @@ use Rattle.keepers.specs.Keys.{same_key, key_of}
 use Rattle.keepers.specs.Tables.{GroupRow, group_row, charge_in}
 use Rattle.keepers.specs.Tables as tables
 use Rattle.keepers.specs.Change.{over, held_over, kept_after, redeemed_over, changed}
-use Rattle.keepers.specs.Naming.{IsNamed as AreRowsNamed}
+use Rattle.keepers.specs.Naming.{IsNamed}
 use Rattle.sql_tables.proofs.Found.{is_some_map}
 use Rattle.sql_tables.proofs.Steps.{and_true}
 use Rattle.sql_rows.specs.Values.{Meta, Group, Kept, request_kind, reference_kind}
-use Rattle.sql_rows.specs.Content.{Rows as Stored, Content, with_rows, with_meta, with_account}
+use Rattle.sql_rows.specs.Content.{TableRows, TablesContent, with_rows, with_meta, with_account}
 use Rattle.sql_rows.specs.Content.{with_head, with_answer}
 use Rattle.sql_rows.specs.Each.{with_counters, with_sessions}
-use Rattle.sql_keeper.specs.Content.{periods_in, terms_in, group_in as stored_group, is_reserved}
+use Rattle.sql_keeper.specs.Content.{periods_in, terms_in, stored_group_in, is_reserved}
 use Rattle.sql_keeper.specs.Content.{held_in, Names}
-use Rattle.sql_keeper.specs.Content.{rows_of, is_numbered, charge_of, kept_in, answer_in}
-use Rattle.sql_keeper.specs.Content.{voucher_in, tables_of, names_numbered}
-use Rattle.sql_keeper.specs.Content.{told_charge}
+use Rattle.sql_keeper.specs.Content.{told_rows, is_numbered, charge_of, kept_in, answer_in}
+use Rattle.sql_keeper.specs.Content.{voucher_in, tables_of, names_numbered, told_charge}
 use Rattle.sql_keeper.specs.Content as content
-use Rattle.sql_keeper.specs.Writes.{name_at, names_at, names_held, columns_of, head_of}
+use Rattle.sql_keeper.specs.Writes.{name_at, names_at, names_held, columns_of, head_columns_of}
 use Rattle.sql_keeper.specs.Writes.{with_all_counted, with_stored, with_texts}
 use Rattle.sql_keeper.specs.Writes.{with_kept, with_redeemed, AreTexts, with_change}
-use Rattle.sql_keeper.specs.Tests.{IsNamed, MayStand, AreNumbered, AreWritable}
+use Rattle.sql_keeper.specs.Tests.{IsPeriodNamed, MayStand, AreNumbered, AreWritable}
 use Rattle.sql_keeper.specs.Tests.{first_number, is_open_over, IsSettled, AreSettled, MayBeMade}
 use Rattle.sql_keeper.specs.Laws.{AreChangesRead}
 use Rattle.sql_keeper.proofs.CountedPuts.{AreScoped, scoped, over_counted, counted_over}
-use Rattle.sql_keeper.proofs.CountedPuts.{counted_told}
-use Rattle.sql_keeper.proofs.CountedPuts.{over_paid, paid_over, paid_told}
+use Rattle.sql_keeper.proofs.CountedPuts.{counted_told, over_paid, paid_over, paid_told}
 use Rattle.sql_keeper.proofs.Overlays.{name_from, not_both, with_opened, opened, over_counters}
 use Rattle.sql_keeper.proofs.Overlays.{over_sessions, counters_over, sessions_over}
 use Rattle.sql_keeper.proofs.Groups.{amount_at, amount_in, book_over, book_put, over_groups}
@@ -61,9 +59,9 @@ use Rattle.sql_keeper.proofs.Redeemed.{redeemed_read}
 
 -- ---- the rows of an account
 
-abbrev pub over_stored : Names → StoredRows → Stored → Stored
+abbrev pub over_stored : Names → StoredRows → TableRows → TableRows
 over_stored names w r = over_groups names w.groups (over_sessions w.sessions
-    (over_counters w.counters (over_counted w.buckets (with_head (head_of w) r))))
+    (over_counters w.counters (over_counted w.buckets (with_head (head_columns_of w) r))))
 
 -- no two rows have one key, and each allowance is of one rating group
 pub record AreKeyed (w : StoredRows) : Type 0 where
@@ -83,14 +81,14 @@ keyed w h = record {
 }
 
 pub stored_over : (a : List ℕ) (names : Names) (sessions : List Session) (w : StoredRows)
-    (c : Content) → AreKeyed w → AreWritable names sessions w.groups
+    (c : TablesContent) → AreKeyed w → AreWritable names sessions w.groups
     → with_stored a names w c ≡ opened a (over_stored names w) c
 stored_over a names among w c h may =
-    let head = with_head (head_of w) in
-    let first = λ (r : Stored). over_counted w.buckets (head r) in
-    let second = λ (r : Stored). over_counters w.counters (first r) in
-    let third = λ (r : Stored). over_sessions w.sessions (second r) in
-    let opening = with_account a (head_of w) c in
+    let head = with_head (head_columns_of w) in
+    let first = λ (r : TableRows). over_counted w.buckets (head r) in
+    let second = λ (r : TableRows). over_counters w.counters (first r) in
+    let third = λ (r : TableRows). over_sessions w.sessions (second r) in
+    let opening = with_account a (head_columns_of w) c in
     let buckets = with_all_counted a w.buckets opening in
     let counters = with_counters a w.counters buckets in
     let sessions = with_sessions a w.sessions counters in
@@ -105,17 +103,18 @@ stored_over a names among w c h may =
 
 -- ---- periods
 
-period_back : (names : List (List ℕ)) (p : Period) → IsNamed names p →
+period_back : (names : List (List ℕ)) (p : Period) → IsPeriodNamed names p →
     content.period_in names (name_at names p) ≡ p
 period_back names p e = ap (λ o. unwrap_or o (record { 0 = 0 })) e
 
-periods_back : (names : List (List ℕ)) (p : Periods) → IsNamed names p.before →
-    IsNamed names p.after → periods_in names (names_at names p) ≡ p
+periods_back : (names : List (List ℕ)) (p : Periods) → IsPeriodNamed names p.before →
+    IsPeriodNamed names p.after → periods_in names (names_at names p) ≡ p
 periods_back names p e f =
     λ i. record { before = period_back names p.before e i; after = period_back names p.after f i }
 
-terms_back : (names : Names) (x : Terms) → IsNamed (names_numbered names x.book) x.periods.before
-    → IsNamed (names_numbered names x.book) x.periods.after
+terms_back : (names : Names) (x : Terms) → IsPeriodNamed (names_numbered names x.book)
+    x.periods.before
+    → IsPeriodNamed (names_numbered names x.book) x.periods.after
     → terms_in names x.book (names_at (names_numbered names x.book) x.periods) ≡ x
 terms_back names x e f = λ i. record {
   book = x.book;
@@ -132,7 +131,7 @@ none_reserved names false book = refl
 -- one that isn't written is told as before, whether its session is open or not, where it has no
 -- reservation
 free_told : (names : Names) (b c : Bool) (book : Option ℕ) (y : Group) → y.periods ≡ None →
-    stored_group names b book y ≡ stored_group names c book y
+    stored_group_in names b book y ≡ stored_group_in names c book y
 free_told names b c book y none = λ i. record {
   used = y.used;
   terms = (ap (content.reserved_in names b book) none ∙ none_reserved names b book
@@ -140,17 +139,18 @@ free_told names b c book y none = λ i. record {
 }
 
 -- a session that is open among those that are named is open over those that are stored
-pub open_named : (sessions : List Session) (r : Stored) (s : List ℕ) →
+pub open_named : (sessions : List Session) (r : TableRows) (s : List ℕ) →
     is_open_row (session_in s sessions) ≡ true → is_open_over sessions r s ≡ true
 open_named sessions r s = at (session_in s sessions)
   where
-    at : (o : Option Session) → is_open_row o ≡ true → is_open_row (first_of o (r.sessions s)) ≡ true
+    at : (o : Option Session) → is_open_row o ≡ true →
+        is_open_row (first_of o (r.sessions s)) ≡ true
     at None e = not_both (sym e)
     at (Some x) e = e
 
 -- a group that isn't written stands in a session that is open as before, or has no reservation; one
 -- that is written stands in one of the sessions among which it was tested
-module _ (names : Names) (among : List Session) (w : StoredRows) (r : Stored)
+module _ (names : Names) (among : List Session) (w : StoredRows) (r : TableRows)
     (settled : AreSettled w.sessions w.groups r)
     (opens : (s : List ℕ) → is_open_row (session_in s among) ≡ true →
     is_open_over w.sessions r s ≡ true)
@@ -171,15 +171,15 @@ module _ (names : Names) (among : List Session) (w : StoredRows) (r : Stored)
 
   pub groups_read : (s : List ℕ) (g : ℕ)
       → option_map
-      (stored_group names (open_after s) (book_over (group_in s g w.groups) (r.grant_books s g)))
+      (stored_group_in names (open_after s) (book_over (group_in s g w.groups) (r.grant_books s g)))
       (first_of (option_map (columns_of names) (group_in s g w.groups)) (r.groups s g))
       ≡ first_of (option_map group_row (group_in s g w.groups))
-      (option_map (stored_group names (is_open_row (r.sessions s)) (r.grant_books s g))
+      (option_map (stored_group_in names (is_open_row (r.sessions s)) (r.grant_books s g))
       (r.groups s g))
   groups_read s g = at (group_in s g w.groups) (r.groups s g) refl refl
     where
       back : (o : Option Reservation) (used : ℕ) → MayStand names among s o
-          → stored_group names (open_after s) (book_put o)
+          → stored_group_in names (open_after s) (book_put o)
           (record { used = used; periods = option_map (names_held names) o })
           ≡ record { used = used; terms = option_map (λ (x : Reservation). x.terms) o }
       back None used m =
@@ -191,18 +191,18 @@ module _ (names : Names) (among : List Session) (w : StoredRows) (r : Stored)
 
       at : (o : Option SessionGroup) (p : Option Group) → group_in s g w.groups ≡ o
           → r.groups s g ≡ p
-          → option_map (stored_group names (open_after s) (book_over o (r.grant_books s g)))
+          → option_map (stored_group_in names (open_after s) (book_over o (r.grant_books s g)))
           (first_of (option_map (columns_of names) o) p)
           ≡ first_of (option_map group_row o)
-          (option_map (stored_group names (is_open_row (r.sessions s)) (r.grant_books s g)) p)
+          (option_map (stored_group_in names (is_open_row (r.sessions s)) (r.grant_books s g)) p)
       at (Some x) p e f = ap Some (back x.reservation x.used (may s g x e))
       at None None e f = refl
       at None (Some y) e f = ap Some (beside (told_beside s g y f e))
         where
           beside : (open_after s ≡ is_open_row (r.sessions s)) ⊎ (y.periods ≡ None) →
-              stored_group names (open_after s) (r.grant_books s g) y ≡
-              stored_group names (is_open_row (r.sessions s)) (r.grant_books s g) y
-          beside (inl same) = λ i. stored_group names (same i) (r.grant_books s g) y
+              stored_group_in names (open_after s) (r.grant_books s g) y ≡
+              stored_group_in names (is_open_row (r.sessions s)) (r.grant_books s g) y
+          beside (inl same) = λ i. stored_group_in names (same i) (r.grant_books s g) y
           beside (inr none) =
               free_told names (open_after s) (is_open_row (r.sessions s)) (r.grant_books s g) y none
 
@@ -247,9 +247,9 @@ module _ (names : Names) (among : List Session) (w : StoredRows) (r : Stored)
               (sym none)
 
   pub rows_read : AreScoped w.buckets →
-      rows_of names (over_stored names w r) ≡ over w (rows_of names r)
+      told_rows names (over_stored names w r) ≡ over w (told_rows names r)
   unfolding open_after
-  rows_read each = λ i. record (over w (rows_of names r)) {
+  rows_read each = λ i. record (over w (told_rows names r)) {
     buckets = λ n. counted_told n w.buckets r each i;
     groups = λ s g. groups_read s g i;
     holds = λ s g n. holds_read s g n i;
@@ -257,18 +257,18 @@ module _ (names : Names) (among : List Session) (w : StoredRows) (r : Stored)
 
 -- a session that is named by no group of those that are stored: what was loaded and isn't written
 -- has no reservation, and its session isn't written either
-pub free_settled : (names : Names) (w : StoredRows) (r : Stored) →
-    ((s : List ℕ) (g : ℕ) (x : GroupRow) → (rows_of names r).groups s g ≡ Some x →
+pub free_settled : (names : Names) (w : StoredRows) (r : TableRows) →
+    ((s : List ℕ) (g : ℕ) (x : GroupRow) → (told_rows names r).groups s g ≡ Some x →
     group_in s g w.groups ≡ None → (x.terms ≡ None) × (session_in s w.sessions ≡ None)) →
     AreSettled w.sessions w.groups r
 free_settled names w r free s g y there none = inl
     (ap (λ o. is_open_row (first_of o (r.sessions s)))
-    (free s g (stored_group names (is_open_row (r.sessions s)) (r.grant_books s g) y)
-    (ap (option_map (stored_group names (is_open_row (r.sessions s)) (r.grant_books s g))) there)
+    (free s g (stored_group_in names (is_open_row (r.sessions s)) (r.grant_books s g) y)
+    (ap (option_map (stored_group_in names (is_open_row (r.sessions s)) (r.grant_books s g))) there)
     none).1)
 
 -- so of each session that is named by itself
-pub settled_each : (sessions : List Session) (groups : List SessionGroup) (r : Stored) →
+pub settled_each : (sessions : List Session) (groups : List SessionGroup) (r : TableRows) →
     EachIn (IsSettled groups r) sessions → AreSettled sessions groups r
 settled_each sessions groups r each s g y there none = at (session_in s sessions) refl
   where
@@ -291,7 +291,7 @@ settled_each sessions groups r each s g y there none = at (session_in s sessions
         by (inr free) = inr (free g y there none)
 
 -- the rows of a change have different keys
-pub keyed_named : (w : StoredRows) → AreRowsNamed w → AreKeyed w
+pub keyed_named : (w : StoredRows) → IsNamed w → AreKeyed w
 keyed_named w h = record {
   buckets = h.apart.buckets;
   scoped = EachIn-weaker IsBalanced (λ b. IsScopeOf b.kind b.scope) w.buckets
@@ -321,48 +321,49 @@ may_at names sessions (y ∷ ys) h s g x e =
 
 -- ---- what is kept of a command
 
-put_texts : Key → Kept → Stored → Stored
+put_texts : Key → Kept → TableRows → TableRows
 put_texts (Request s n) t r = with_answer request_kind s n t r
 put_texts (Reference x) t r = with_answer reference_kind x 0 t r
 
-put_kept : Option KeptAnswer → Option Kept → Stored → Stored
+put_kept : Option KeptAnswer → Option Kept → TableRows → TableRows
 put_kept None t r = r
 put_kept (Some k) None r = r
 put_kept (Some k) (Some t) r = put_texts (key_of k.content) t r
 
-texts_over : (a : List ℕ) (key : Key) (t : Kept) (g : Stored → Stored) (c : Content) →
+texts_over : (a : List ℕ) (key : Key) (t : Kept) (g : TableRows → TableRows) (c : TablesContent) →
     with_texts a key t (opened a g c) ≡ opened a (λ r. put_texts key t (g r)) c
 unfolding put_texts
 texts_over a (Request s n) t g c = with_opened a (with_answer request_kind s n t) g c
 texts_over a (Reference x) t g c = with_opened a (with_answer reference_kind x 0 t) g c
 
-kept_over : (a : List ℕ) (kept : Option KeptAnswer) (t : Option Kept) (g : Stored → Stored)
-    (c : Content) → with_kept a kept t (opened a g c) ≡ opened a (λ r. put_kept kept t (g r)) c
+kept_over : (a : List ℕ) (kept : Option KeptAnswer) (t : Option Kept) (g : TableRows → TableRows)
+    (c : TablesContent) → with_kept a kept t (opened a g c) ≡ opened a (λ r. put_kept kept t (g r))
+    c
 unfolding put_kept
 kept_over a None t g c = refl
 kept_over a (Some k) None g c = refl
 kept_over a (Some k) (Some t) g c = texts_over a (key_of k.content) t g c
 
-texts_rows : (names : Names) (key : Key) (t : Kept) (r : Stored) →
-    rows_of names (put_texts key t r) ≡ rows_of names r
+texts_rows : (names : Names) (key : Key) (t : Kept) (r : TableRows) →
+    told_rows names (put_texts key t r) ≡ told_rows names r
 unfolding put_texts
 texts_rows names (Request s n) t r = refl
 texts_rows names (Reference x) t r = refl
 
-kept_rows : (names : Names) (kept : Option KeptAnswer) (t : Option Kept) (r : Stored) →
-    rows_of names (put_kept kept t r) ≡ rows_of names r
+kept_rows : (names : Names) (kept : Option KeptAnswer) (t : Option Kept) (r : TableRows) →
+    told_rows names (put_kept kept t r) ≡ told_rows names r
 unfolding put_kept
 kept_rows names None t r = refl
 kept_rows names (Some k) None r = refl
 kept_rows names (Some k) (Some t) r = texts_rows names (key_of k.content) t r
 
-texts_charges : (n : ℕ) (key : Key) (t : Kept) (r : Stored) →
+texts_charges : (n : ℕ) (key : Key) (t : Kept) (r : TableRows) →
     charge_of n (put_texts key t r) ≡ charge_of n r
 unfolding put_texts
 texts_charges n (Request s m) t r = refl
 texts_charges n (Reference x) t r = refl
 
-kept_charges : (n : ℕ) (kept : Option KeptAnswer) (t : Option Kept) (r : Stored) →
+kept_charges : (n : ℕ) (kept : Option KeptAnswer) (t : Option Kept) (r : TableRows) →
     charge_of n (put_kept kept t r) ≡ charge_of n r
 unfolding put_kept
 kept_charges n None t r = refl
@@ -375,7 +376,7 @@ told_if : {A B : Type 0} (f : A → Option B) (b : Bool) (x : A) (y : B) (o : Op
 told_if f true x y o e = e
 told_if f false x y o e = refl
 
-texts_answer : (a : List ℕ) (key k : Key) (t : Kept) (kept : KeptAnswer) (r : Stored)
+texts_answer : (a : List ℕ) (key k : Key) (t : Kept) (kept : KeptAnswer) (r : TableRows)
     → kept_in a t ≡ Some kept
     → answer_in a k (put_texts key t r) ≡ (if same_key key k then Some kept else answer_in a k r)
 unfolding put_texts
@@ -388,7 +389,7 @@ texts_answer a (Reference x) (Reference q) t kept r e =
     (and_true (same_name x q))
     ∙ told_if (kept_in a) (same_name x q) t kept (r.answers reference_kind q 0) e
 
-kept_answer : (a : List ℕ) (k : Key) (kept : Option KeptAnswer) (t : Option Kept) (r : Stored)
+kept_answer : (a : List ℕ) (k : Key) (kept : Option KeptAnswer) (t : Option Kept) (r : TableRows)
     → AreTexts a kept t → answer_in a k (put_kept kept t r) ≡ kept_after kept k (answer_in a k r)
 unfolding put_kept
 kept_answer a k None t r h = refl
@@ -396,17 +397,17 @@ kept_answer a k (Some x) None r h = absurd h
 kept_answer a k (Some x) (Some t) r h = texts_answer a (key_of x.content) k t x r h
 
 pub same_texts : (a : List ℕ) (k : Key)
-    (names : Names) (w : StoredRows) (cs : List ChargeRow) (r : Stored) →
+    (names : Names) (w : StoredRows) (cs : List ChargeRow) (r : TableRows) →
     answer_in a k (over_paid cs (over_stored names w r)) ≡ answer_in a k r
 same_texts a (Request s n) names w cs r = refl
 same_texts a (Reference x) names w cs r = refl
 
 -- ---- all of it
 
-module _ (names : Names) (m : Meta) (change : Change) (texts : Option Kept) (c : Content)
-    (named : AreRowsNamed change.rows) (may : MayBeMade names change (c.rows change.number))
+module _ (names : Names) (m : Meta) (change : Change) (texts : Option Kept) (c : TablesContent)
+    (named : IsNamed change.rows) (may : MayBeMade names change (c.rows change.number))
     (told : AreTexts change.number change.kept texts) where
-  row_after : Stored → Stored
+  row_after : TableRows → TableRows
   row_after r = put_kept change.kept texts
       (over_paid change.charges.items (over_stored names change.rows r))
 
@@ -428,8 +429,8 @@ module _ (names : Names) (m : Meta) (change : Change) (texts : Option Kept) (c :
 
   module _ (last : m.last ≡ change.moment) where
     rows_at : (x : List ℕ) (t : Bool) → same_name change.number x ≡ t
-        → rows_of names (if t then row_after (c.rows x) else c.rows x)
-        ≡ (if t then over change.rows (rows_of names (c.rows x)) else rows_of names (c.rows x))
+        → told_rows names (if t then row_after (c.rows x) else c.rows x)
+        ≡ (if t then over change.rows (told_rows names (c.rows x)) else told_rows names (c.rows x))
     unfolding row_after
     rows_at x true e =
         kept_rows names change.kept texts

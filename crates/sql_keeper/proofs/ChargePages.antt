@@ -10,14 +10,14 @@ use Rattle.std.proofs.lemmas.Bool.Decides.{nat_tests}
 use Rattle.reserving.specs.declared.charge.ChargeRow.{ChargeRow}
 use Rattle.reserving.specs.Left.{only}
 use Rattle.keepers.specs.Tables.{charge_in}
-use Rattle.keepers.specs.Rows.{are_rising, AreCharges as AreAll}
-use Rattle.keepers.specs.Pages.{IsPage, is_within as lies_within}
+use Rattle.keepers.specs.Rows.{are_rising, AreCharges}
+use Rattle.keepers.specs.Pages.{IsPage, is_number_within}
 use Rattle.keepers.specs.declared.pages.ChargePage.{ChargePage}
 use Rattle.keepers.proofs.Parted.{page_is}
-use Rattle.sql_tables.specs.Selects.{only as those}
-use Rattle.sql_rows.specs.declared.head.Head.{Head}
-use Rattle.sql_rows.specs.Content.{Rows as Stored}
-use Rattle.sql_rows.specs.Lists.{AreCharges, AreCovered, NumbersRise, is_within}
+use Rattle.sql_tables.specs.Selects.{passing}
+use Rattle.sql_rows.specs.declared.head.HeadColumns.{HeadColumns}
+use Rattle.sql_rows.specs.Content.{TableRows}
+use Rattle.sql_rows.specs.Lists.{AreChargeRows, AreCovered, NumbersRise, is_row_within}
 use Rattle.sql_rows.specs.Texts.{covered_row}
 use Rattle.sql_rows.specs.Values.{CoveredRow}
 use Rattle.sql_rows.specs.declared.covered_rows.CoveredColumns.{CoveredColumns}
@@ -27,7 +27,8 @@ use Rattle.sql_keeper.specs.Content as content
 use Rattle.sql_keeper.specs.Covered.{blocks_under, covered_charge}
 
 -- numbers up to the last are those that are seen
-numbered_is : (n : ℕ) (o : Option Head) → is_numbered n o ≡ (nat_lt 0 n && nat_le n (last_number o))
+numbered_is : (n : ℕ) (o : Option HeadColumns) → is_numbered n o ≡
+    (nat_lt 0 n && nat_le n (last_number o))
 numbered_is n None = at (nat_lt 0 n) (nat_le n 0) refl refl
   where
     at : (t u : Bool) → nat_lt 0 n ≡ t → nat_le n 0 ≡ u → false ≡ (t && u)
@@ -91,10 +92,11 @@ under_read n (c ∷ cs) = go (under_read n cs) (nat_eq c.number n)
     go later true = refl
     go later false = later
 
-module _ (r : Stored) (after last : ℕ) (xs : List ChargeRow) (cs : List CoveredColumns)
-    (charges : AreCharges (is_within after last) r xs)
+module _ (r : TableRows) (after last : ℕ) (xs : List ChargeRow) (cs : List CoveredColumns)
+    (charges : AreChargeRows (is_row_within after last) r xs)
     (covered : AreCovered after last r (map covered_row cs)) where
-  blocks_are : (n : ℕ) (x : ChargeRow) → is_within after last x ≡ true → charge_in n xs ≡ Some x →
+  blocks_are : (n : ℕ) (x : ChargeRow) → is_row_within after last x ≡ true →
+      charge_in n xs ≡ Some x →
       blocks_under x.number cs ≡ r.covered n
   blocks_are n x within found =
       let is = found_number n xs x found in
@@ -104,13 +106,15 @@ module _ (r : Stored) (after last : ℕ) (xs : List ChargeRow) (cs : List Covere
       ∙ ap (λ t. if t then r.covered n else None)
       (ap (λ m. nat_lt after m && nat_le m last) (sym is) ∙ within)
 
-  told_under : (n : ℕ) (o : Option ChargeRow) → charge_in n xs ≡ those (is_within after last) o
+  told_under : (n : ℕ) (o : Option ChargeRow) → charge_in n xs ≡ passing (is_row_within after last)
+      o
       → option_map (covered_charge cs) (charge_in n xs)
-      ≡ those (is_within after last) (option_map (content.charge_in (r.covered n)) o)
+      ≡ passing (is_row_within after last) (option_map (content.charge_in (r.covered n)) o)
   told_under n None e = ap (option_map (covered_charge cs)) e
-  told_under n (Some x) e = at (is_within after last x) refl e
+  told_under n (Some x) e = at (is_row_within after last x) refl e
     where
-      at : (t : Bool) → is_within after last x ≡ t → charge_in n xs ≡ (if t then Some x else None)
+      at : (t : Bool) → is_row_within after last x ≡ t → charge_in n xs ≡
+          (if t then Some x else None)
           → option_map (covered_charge cs) (charge_in n xs)
           ≡ (if t then Some (content.charge_in (r.covered n) x) else None)
       at true k f = ap (option_map (covered_charge cs)) f
@@ -118,12 +122,12 @@ module _ (r : Stored) (after last : ℕ) (xs : List ChargeRow) (cs : List Covere
       at false k f = ap (option_map (covered_charge cs)) f
 
   -- the charges that were read, with their covered blocks, are those of the tables
-  covered_told : AreTold (is_within after last) r (map (covered_charge cs) xs)
+  covered_told : AreTold (is_row_within after last) r (map (covered_charge cs) xs)
   covered_told n = covered_found cs n xs ∙ told_under n (r.charges n) (charges n)
 
   pub told_with : (ys : List ChargeRow) → ys ≡ map (covered_charge cs) xs →
-      AreTold (is_within after last) r ys
-  told_with ys is = subst (AreTold (is_within after last) r) (sym is) covered_told
+      AreTold (is_row_within after last) r ys
+  told_with ys is = subst (AreTold (is_row_within after last) r) (sym is) covered_told
 
 -- the numbers stay
 rise_covered : (cs : List CoveredColumns) (xs : List ChargeRow) → NumbersRise xs →
@@ -171,9 +175,9 @@ narrowed n m last low = at (nat_le n (min last m)) (nat_le n last) refl refl
         let both : n ≤ min last m = le-min high low in
         absurd (grind (arith, nat_tests, both, e))
 
-module _ (r : Stored) (after last : ℕ) (items all : List ChargeRow)
-    (are : AreAll (λ n. charge_of n r) all)
-    (read : AreTold (is_within after (min last (last_number r.head))) r items) where
+module _ (r : TableRows) (after last : ℕ) (items all : List ChargeRow)
+    (are : AreCharges (λ n. charge_of n r) all)
+    (read : AreTold (is_row_within after (min last (last_number r.head))) r items) where
   numbered_below : (n : ℕ) → is_numbered n r.head ≡ true → n ≤ last_number r.head
   numbered_below n e =
       let both =
@@ -187,18 +191,18 @@ module _ (r : Stored) (after last : ℕ) (items all : List ChargeRow)
       (grind (arith, nat_tests, low))
 
   same_test : (n : ℕ) (x : ChargeRow) → x.number ≡ n → is_numbered n r.head ≡ true →
-      is_within after (min last (last_number r.head)) x ≡ lies_within after last x
+      is_row_within after (min last (last_number r.head)) x ≡ is_number_within after last x
   same_test n x is e =
       ap (λ t. nat_lt after x.number && t)
       (narrowed x.number (last_number r.head) last
       (subst (λ k. k ≤ last_number r.head) (sym is) (numbered_below n e)))
 
   none_other : (n : ℕ) (x : ChargeRow) → is_numbered n r.head ≡ false →
-      charge_in n items ≡ those (is_within after (min last (last_number r.head))) (Some x) →
+      charge_in n items ≡ passing (is_row_within after (min last (last_number r.head))) (Some x) →
       charge_in n items ≡ None
-  none_other n x e found = at (is_within after (min last (last_number r.head)) x) refl found
+  none_other n x e found = at (is_row_within after (min last (last_number r.head)) x) refl found
     where
-      at : (t : Bool) → is_within after (min last (last_number r.head)) x ≡ t →
+      at : (t : Bool) → is_row_within after (min last (last_number r.head)) x ≡ t →
           charge_in n items ≡ (if t then Some x else None) → charge_in n items ≡ None
       at false f g = g
       at true f g =
@@ -212,27 +216,27 @@ module _ (r : Stored) (after last : ℕ) (items all : List ChargeRow)
           let low : n ≤ last_number r.head = grind (arith, nat_tests, is, up, least) in
           absurd (true≢false (sym (below_numbered n some low) ∙ e))
 
-  tells : (n : ℕ) → charge_in n items ≡ only (lies_within after last) (charge_in n all)
+  tells : (n : ℕ) → charge_in n items ≡ only (is_number_within after last) (charge_in n all)
   tells n = at (is_numbered n r.head) refl (told_charge r n) (read n) (are.listed n)
     where
       at : (t : Bool) → is_numbered n r.head ≡ t → (o : Option ChargeRow) →
-          charge_in n items ≡ those (is_within after (min last (last_number r.head))) o →
+          charge_in n items ≡ passing (is_row_within after (min last (last_number r.head))) o →
           charge_in n all ≡ (if t then o else None) →
-          charge_in n items ≡ only (lies_within after last) (charge_in n all)
-      at true e None f g = f ∙ sym (ap (only (lies_within after last)) g)
+          charge_in n items ≡ only (is_number_within after last) (charge_in n all)
+      at true e None f g = f ∙ sym (ap (only (is_number_within after last)) g)
       at true e (Some x) f g =
           f ∙ ap (λ b. if b then Some x else None) (same_test n x (found_number n all x g) e)
-          ∙ sym (ap (only (lies_within after last)) g)
-      at false e None f g = f ∙ sym (ap (only (lies_within after last)) g)
-      at false e (Some x) f g = none_other n x e f ∙ sym (ap (only (lies_within after last)) g)
+          ∙ sym (ap (only (is_number_within after last)) g)
+      at false e None f g = f ∙ sym (ap (only (is_number_within after last)) g)
+      at false e (Some x) f g = none_other n x e f ∙ sym (ap (only (is_number_within after last)) g)
 
-  pub rows_are : NumbersRise items → items ≡ filter (lies_within after last) all
+  pub rows_are : NumbersRise items → items ≡ filter (is_number_within after last) all
   rows_are rise =
       page_is after last items are (rises_from 0 items rise (begin_anywhere items)) tells
 
 -- ---- a page
 
-pub page_made : (r : Stored) (after : ℕ) (page : ChargePage) → after ≤ 4294967295 →
+pub page_made : (r : TableRows) (after : ℕ) (page : ChargePage) → after ≤ 4294967295 →
     IsPageRead r after page →
     IsPage (λ n. charge_of n r) after page
 page_made r after page small read = record {
@@ -280,18 +284,18 @@ page_made r after page small read = record {
     none n e = ap (λ t. if t then told_charge r n else None) e
 
 -- of what was read in turn
-pub page_told : (r : Stored) (after number up_to : ℕ) (page : ChargePage) → after ≤ 4294967295
+pub page_told : (r : TableRows) (after number up_to : ℕ) (page : ChargePage) → after ≤ 4294967295
     → number ≤ 4294967295 → page.last ≡ end_of_page after
     → page.is_last ≡ nat_le number page.last → up_to ≡ min page.last number
     → NumbersRise page.rows.items → number ≡ last_number r.head
-    → AreTold (is_within after up_to) r page.rows.items
+    → AreTold (is_row_within after up_to) r page.rows.items
     → IsPage (λ n. charge_of n r) after page
 page_told r after number up_to page small low last is_last least order is told =
     page_made r after page small (record {
       last = last;
       small = subst (λ m. m ≤ 4294967295) is low;
       is_last = is_last ∙ ap (λ m. nat_le m page.last) is;
-      rows = subst (λ m. AreTold (is_within after m) r page.rows.items)
+      rows = subst (λ m. AreTold (is_row_within after m) r page.rows.items)
           (least ∙ ap (min page.last) is) told;
       order = order;
     })

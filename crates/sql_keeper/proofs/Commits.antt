@@ -8,9 +8,9 @@ use Rattle.keepers.specs.declared.loaded.Change.{Change}
 use Rattle.keepers.specs.declared.loaded.Redeemed.{Redeemed}
 use Rattle.keepers.specs.Keys.{key_of}
 use Rattle.keepers.specs.Naming.{IsNamed}
-use Rattle.buckets.specs.Row.{Row as Bucket}
+use Rattle.buckets.specs.Row.{BucketRow}
 use Rattle.buckets.specs.declared.kind.BucketKind.{BucketKind}
-use Rattle.buckets.specs.declared.holds.Hold.{Hold}
+use Rattle.buckets.specs.declared.holds.HeldAmount.{HeldAmount}
 use Rattle.reserving.specs.declared.session.SessionGroup.{SessionGroup}
 use Rattle.reserving.specs.Sessions.{holds_in}
 use Rattle.reserving.specs.Stored.{StoredRows}
@@ -18,9 +18,11 @@ use Rattle.sqlite.specs.Effect.{Database}
 use Rattle.sqlite.specs.State.{State, HasCleanDisk}
 use Rattle.sqlite_trees.specs.Tree.{Trees}
 use Rattle.sql_tables.specs.Statements.{OnlyReads}
-use Rattle.sql_rows.specs.Values.{DatedBook, Meta, Kept}
-use Rattle.sql_rows.specs.Content.{Content, content_of, rows_in, with_rows, with_meta, with_account}
-use Rattle.sql_rows.specs.Content.{with_counter, with_session, with_group, with_hold}
+use Rattle.sql_rows.specs.Values.{BookRow, Meta, Kept}
+use Rattle.sql_rows.specs.Content.{TablesContent, tables_content, rows_in, with_rows, with_meta}
+use Rattle.sql_rows.specs.Content.{with_account}
+use Rattle.sql_rows.specs.Content.{with_counter_row, with_session_row, with_group_row}
+use Rattle.sql_rows.specs.Content.{with_hold_row}
 use Rattle.sql_rows.specs.Content.{with_bucket, without_holds}
 use Rattle.sql_rows.specs.Values.{plain_bucket}
 use Rattle.sql_rows.specs.Each.{with_each, with_counters, with_sessions}
@@ -32,7 +34,7 @@ use Rattle.sql_keeper.specs.RuledRows.{are_ruled_texts, is_ruled_change}
 use Rattle.sql_keeper.specs.Seen.{AreSeen, Sees}
 use Rattle.sql_keeper.specs.Tests.{AreWritable, IsTested, MayBeMade}
 use Rattle.sql_keeper.specs.Tidy.{IsTidy}
-use Rattle.sql_keeper.specs.Writes.{AreTexts, columns_of, head_of, meta_with, with_change}
+use Rattle.sql_keeper.specs.Writes.{AreTexts, columns_of, head_columns_of, meta_with, with_change}
 use Rattle.sql_keeper.specs.Writes.{with_all_counted, with_all_paid, with_book_of, with_counted}
 use Rattle.sql_keeper.specs.Writes.{with_held_group, with_kept, with_paid, with_redeemed}
 use Rattle.sql_keeper.specs.Writes.{with_change_put, with_scoped, with_stored, with_texts}
@@ -48,64 +50,65 @@ use Rattle.sql_keeper.proofs.RuledRows.{change_kept}
 -- what is kept beside the rows of accounts
 pub record Beside : Type 0 where
   pub meta : Option Meta
-  pub books : ℕ → Option DatedBook
+  pub books : ℕ → Option BookRow
 
-abbrev pub beside : Content → Beside
+abbrev pub beside : TablesContent → Beside
 beside c = record { meta = c.meta; books = c.books }
 
-each_meta : {X : Type 0} (change : X → Content → Content)
-    → ((x : X) (c : Content) → beside (change x c) ≡ beside c)
-    → (xs : List X) (c : Content) → beside (with_each change xs c) ≡ beside c
+each_meta : {X : Type 0} (change : X → TablesContent → TablesContent)
+    → ((x : X) (c : TablesContent) → beside (change x c) ≡ beside c)
+    → (xs : List X) (c : TablesContent) → beside (with_each change xs c) ≡ beside c
 each_meta change same [] c = refl
 each_meta change same (x ∷ xs) c = each_meta change same xs (change x c) ∙ same x c
 
-texts_meta : (a : List ℕ) (k : Key) (t : Kept) (c : Content) →
+texts_meta : (a : List ℕ) (k : Key) (t : Kept) (c : TablesContent) →
     beside (with_texts a k t c) ≡ beside c
 texts_meta a (Request s n) t c = refl
 texts_meta a (Reference x) t c = refl
 
-kept_meta : (a : List ℕ) (kept : Option KeptAnswer) (t : Option Kept) (c : Content)
+kept_meta : (a : List ℕ) (kept : Option KeptAnswer) (t : Option Kept) (c : TablesContent)
     → beside (with_kept a kept t c) ≡ beside c
 kept_meta a None t c = refl
 kept_meta a (Some k) None c = refl
 kept_meta a (Some k) (Some t) c = texts_meta a (key_of k.content) t c
 
-redeemed_meta : (redeemed : Option Redeemed) (c : Content) →
+redeemed_meta : (redeemed : Option Redeemed) (c : TablesContent) →
     beside (with_redeemed redeemed c) ≡ beside c
 redeemed_meta None c = refl
 redeemed_meta (Some r) c = refl
 
-held_meta : (a : List ℕ) (names : Names) (r : SessionGroup) (c : Content)
+held_meta : (a : List ℕ) (names : Names) (r : SessionGroup) (c : TablesContent)
     → beside (with_held_group a names r c) ≡ beside c
 held_meta a names r c =
-    each_meta (λ (x : Hold).
-    with_rows a (with_hold r.session r.group x.bucket x.amount)) (λ x c. refl)
+    each_meta (λ (x : HeldAmount).
+    with_rows a (with_hold_row r.session r.group x.bucket x.amount)) (λ x c. refl)
     (holds_in r.reservation) (with_rows a (without_holds r.session r.group)
     (with_rows a (with_book_of r.session r.group r.reservation)
-    (with_rows a (with_group r.session r.group (columns_of names r)) c)))
+    (with_rows a (with_group_row r.session r.group (columns_of names r)) c)))
 
-scoped_meta : (a : List ℕ) (o : Option ℕ) (k : BucketKind) (n : ℕ) (c : Content) →
+scoped_meta : (a : List ℕ) (o : Option ℕ) (k : BucketKind) (n : ℕ) (c : TablesContent) →
     beside (with_scoped a o k n c) ≡ beside c
 scoped_meta a None k n c = refl
 scoped_meta a (Some g) k n c = refl
 
-counted_meta : (a : List ℕ) (b : Bucket) (c : Content) → beside (with_counted a b c) ≡ beside c
+counted_meta : (a : List ℕ) (b : BucketRow) (c : TablesContent) →
+    beside (with_counted a b c) ≡ beside c
 counted_meta a b c =
     scoped_meta a b.scope b.kind b.number (with_rows a (with_bucket (plain_bucket b)) c)
 
-stored_meta : (a : List ℕ) (names : Names) (w : StoredRows) (c : Content)
+stored_meta : (a : List ℕ) (names : Names) (w : StoredRows) (c : TablesContent)
     → beside (with_stored a names w c) ≡ beside c
 stored_meta a names w c =
-    let opening = with_account a (head_of w) c in
+    let opening = with_account a (head_columns_of w) c in
     let money = with_all_counted a w.buckets opening in
     let counted = with_counters a w.counters money in
     each_meta (with_held_group a names) (held_meta a names) w.groups
     (with_sessions a w.sessions counted)
-    ∙ each_meta (λ x. with_rows a (with_session x)) (λ x c. refl) w.sessions counted
-    ∙ each_meta (λ x. with_rows a (with_counter x)) (λ x c. refl) w.counters money
+    ∙ each_meta (λ x. with_rows a (with_session_row x)) (λ x c. refl) w.sessions counted
+    ∙ each_meta (λ x. with_rows a (with_counter_row x)) (λ x c. refl) w.counters money
     ∙ each_meta (with_counted a) (counted_meta a) w.buckets opening
 
-change_meta : (names : Names) (m : Meta) (change : Change) (texts : Option Kept) (c : Content)
+change_meta : (names : Names) (m : Meta) (change : Change) (texts : Option Kept) (c : TablesContent)
     → beside (with_change names m change texts c) ≡ beside (with_meta m c)
 change_meta names m change texts c =
     let stored = with_stored change.number names change.rows (with_meta m c) in
@@ -126,24 +129,26 @@ module _ (names : Names) (text : List ℕ) (change : Change) (texts : Option Kep
       → Becomes names text change old new
   become old new may turns = record {
     tables = ap (tables_of names) turns.content
-        ∙ changes_read names (meta_with text change) change texts (content_of old) named may told
+        ∙ changes_read names (meta_with text change) change texts (tables_content old) named may
+        told
         refl;
     tidy = λ t. subst (IsTidy names) (sym turns.content)
-        (tidy_change names (meta_with text change) change texts (content_of old) named may told t);
+        (tidy_change names (meta_with text change) change texts (tables_content old) named may told
+        t);
     rules = λ shelf is there in'. subst (IsInRules shelf) (sym turns.content)
         (subst (λ n.
-        IsInRules shelf (with_change n (meta_with text change) change texts (content_of old)))
+        IsInRules shelf (with_change n (meta_with text change) change texts (tables_content old)))
         (sym is)
-        (change_kept shelf (meta_with text change) change texts (content_of old) refl
+        (change_kept shelf (meta_with text change) change texts (tables_content old) refl
         (subst (λ n. is_ruled_change n change ≡ true) is may.ruled) texts_ruled
         (subst (λ n. AreWritable n change.rows.sessions change.rows.groups) is may.reservations)
         there in'));
     plain = turns.plain;
-    meta = ap (λ (c : Content). c.meta) turns.content ∙ ap (λ (b : Beside). b.meta)
-        (change_meta names (meta_with text change) change texts (content_of old));
+    meta = ap (λ (c : TablesContent). c.meta) turns.content ∙ ap (λ (b : Beside). b.meta)
+        (change_meta names (meta_with text change) change texts (tables_content old));
     last = last;
-    books = ap (λ (c : Content). c.books) turns.content ∙ ap (λ (b : Beside). b.books)
-        (change_meta names (meta_with text change) change texts (content_of old));
+    books = ap (λ (c : TablesContent). c.books) turns.content ∙ ap (λ (b : Beside). b.books)
+        (change_meta names (meta_with text change) change texts (tables_content old));
     catalog = turns.catalog;
     stored = turns.stored;
   }
@@ -155,7 +160,8 @@ module _ (names : Names) (text : List ℕ) (change : Change) (texts : Option Kep
       Turns (with_change names (meta_with text change) change texts) old db
   turned new seen old db found sees turns = record {
     content = turns.content
-        ∙ put_is names new seen (meta_with text change) change texts (content_of old) named found
+        ∙ put_is names new seen (meta_with text change) change texts (tables_content old) named
+        found
         (λ x e. sees_kept seen old change.number x sees e);
     catalog = turns.catalog;
     stored = turns.stored;

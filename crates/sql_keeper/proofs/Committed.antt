@@ -8,11 +8,11 @@ use Rattle.sqlite_trees.specs.declared.store.Store.{Ghosts}
 use Rattle.sqlite.specs.Effect.{Database}
 use Rattle.sqlite.specs.Held.{Held, state}
 use Rattle.sqlite.specs.State.{State, HasCleanDisk, Survives}
-use Rattle.sql_rows.specs.Content.{content_of}
+use Rattle.sql_rows.specs.Content.{tables_content}
 use Rattle.keepers.specs.declared.fault.StoreFault.{StoreFault}
 use Rattle.keepers.specs.declared.loaded.Change.{Change}
 use Rattle.keepers.specs.Change.{IsSwept, changed}
-use Rattle.keepers.specs.Change.{with_voucher as with_added}
+use Rattle.keepers.specs.Change.{with_voucher}
 use Rattle.voucher_rules.specs.declared.terms.VoucherTerms.{VoucherTerms}
 use Rattle.keepers.specs.Faults.{max_failures}
 use Rattle.shelves.specs.Shelves.{Shelf}
@@ -21,7 +21,7 @@ use Rattle.sql_keeper.specs.Commits.{CommitsChange, CommitsWhole}
 use Rattle.sql_keeper.specs.Content.{shelf_names, tables_of}
 use Rattle.sql_keeper.specs.Inside.{KeeperState, IsClean, StaysOpen, IsKeeper, names_in, tables_in}
 use Rattle.sql_keeper.specs.Left.{IsHeld, IsLeftRuled}
-use Rattle.sql_keeper.specs.Stops.{IsWhole, trees_in}
+use Rattle.sql_keeper.specs.Stops.{IsCommitWhole, trees_in}
 use Rattle.sql_keeper.specs.Sweeps.{BecomesSwept}
 use Rattle.sql_keeper.proofs.Asked.{held_as, none_more, open_of}
 
@@ -42,7 +42,7 @@ pub committed : {S A : Type 0} (g : Ghosts S) (old : KeeperState S) (conn : Held
     → IsKeeper g old → (r : Result A StoreFault)
     → CommitsChange (names_in old) text change (state g old.connection) (state g conn) r
     → IsClean (state g conn)
-    → OnOk r (tables_of (names_in old) (content_of (state g conn).now.trees)
+    → OnOk r (tables_of (names_in old) (tables_content (state g conn).now.trees)
     ≡ changed change (tables_in g old))
 committed g old conn text change keeper (Ok x) commits clean = (commits.done clean.disk).2.tables
 committed g old conn text change keeper (Err e) commits clean = tt
@@ -52,8 +52,8 @@ pub added_law : {S A : Type 0} (g : Ghosts S) (old : KeeperState S) (conn : Held
     (text code : List ℕ) (terms : VoucherTerms) (t : ℕ) → IsKeeper g old → (r : Result A StoreFault)
     → CommitsWhole (BecomesAdded text code terms t) (state g old.connection) (state g conn) r
     → IsClean (state g conn)
-    → OnOk r (tables_of (names_in old) (content_of (state g conn).now.trees)
-    ≡ with_added code terms t (tables_in g old))
+    → OnOk r (tables_of (names_in old) (tables_content (state g conn).now.trees)
+    ≡ with_voucher code terms t (tables_in g old))
 added_law g old conn text code terms t keeper (Ok x) commits clean =
     (commits.done clean.disk).2.tables (names_in old)
 added_law g old conn text code terms t keeper (Err e) commits clean = tt
@@ -66,7 +66,7 @@ pub swept_law : {S A : Type 0} (g : Ghosts S) (old : KeeperState S) (conn : Held
     → IsClean (state g conn)
     → OnOk r
     (IsSwept shelf t (tables_in g old)
-    (tables_of (names_in old) (content_of (state g conn).now.trees)))
+    (tables_of (names_in old) (tables_content (state g conn).now.trees)))
 swept_law g old conn text shelf t keeper (Ok x) commits clean = (commits.done clean.disk).2.tables
 swept_law g old conn text shelf t keeper (Err e) commits clean = tt
 
@@ -107,7 +107,7 @@ module _ {S A : Type 0} (g : Ghosts S) (old new : KeeperState S)
   same_tables (Ok x) commits shelf clean on = tt
   same_tables (Err e) commits shelf clean on =
       let still = commits.err clean.disk on in
-      λ i. tables_of (shelf_names (shelf i)) (content_of ((still.now_is i).trees))
+      λ i. tables_of (shelf_names (shelf i)) (tables_content ((still.now_is i).trees))
 
   -- it is one still, whatever becomes of its shelf
   pub becomes_keeper : (r : Result A StoreFault) → CommitsIn r
@@ -188,7 +188,7 @@ module _ {S A : Type 0} (g : Ghosts S) (old new : KeeperState S)
 module _ {S : Type 0} (g : Ghosts S) (old new : KeeperState S)
     (Become : List ℕ → Trees → Trees → Type 0) (text : List ℕ) (keeper : IsKeeper g old) where
   pub whole : Leaves g old new (Become text) → text ≡ old.text
-      → IsWhole g old new (Become old.text (trees_in g old))
+      → IsCommitWhole g old new (Become old.text (trees_in g old))
   whole leaves is = record {
     left = λ clean db may. elim (leaves clean db may) [
       | inl before ↦ inl before

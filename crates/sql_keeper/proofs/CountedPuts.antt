@@ -3,7 +3,7 @@ use Rattle.std.proofs.Common.{◌≡◌, ℕ, Bool, true, false, cond, List, [],
 use Rattle.std.proofs.Common.{◌∙◌, sym, Option, Some, None}
 use Rattle.std.specs.Prelude.{if◌then◌else◌, ◌==◌, ◌&&◌, nat_eq, option_map, is_some}
 use Rattle.std.specs.List.{find}
-use Rattle.buckets.specs.Row.{Row as Bucket, IsBalanced}
+use Rattle.buckets.specs.Row.{BucketRow, IsBalanced}
 use Rattle.buckets.specs.Kinds.{IsScopeOf}
 use Rattle.buckets.specs.Spend.{Each}
 use Rattle.buckets.specs.declared.kind.BucketKind.{BucketKind}
@@ -16,7 +16,8 @@ use Rattle.reserving.proofs.LeftTests.{none_more}
 use Rattle.keepers.specs.Tables.{charge_in}
 use Rattle.keepers.specs.Keyed.{same_bucket}
 use Rattle.keepers.proofs.Found.{one_bucket}
-use Rattle.sql_rows.specs.Content.{Rows, Content, with_rows, with_bucket, with_charge}
+use Rattle.sql_rows.specs.Content.{TableRows, TablesContent, with_rows, with_bucket}
+use Rattle.sql_rows.specs.Content.{with_charge_row}
 use Rattle.sql_rows.specs.Content.{with_covered, without_covered}
 use Rattle.sql_rows.specs.Values.{plain_bucket, plain_charge}
 use Rattle.sql_keeper.specs.Content as content
@@ -54,7 +55,7 @@ kind_back : (k : BucketKind) → kind_in (counts_blocks k) ≡ k
 kind_back Money = refl
 kind_back Blocks = refl
 
-kind_put : (k : BucketKind) (n : ℕ) (r : Rows) → with_kind k n r
+kind_put : (k : BucketKind) (n : ℕ) (r : TableRows) → with_kind k n r
     ≡ record r { allowances = λ m. if nat_eq n m then counts_blocks k else r.allowances m }
 kind_put Money n r = refl
 kind_put Blocks n r = refl
@@ -64,13 +65,14 @@ abbrev pub counts_scoped : Option ℕ → BucketKind → Bool → Bool
 counts_scoped None k before = before
 counts_scoped (Some g) k before = counts_blocks k
 
-abbrev scoped_rows : Option ℕ → BucketKind → ℕ → Rows → Rows
+abbrev scoped_rows : Option ℕ → BucketKind → ℕ → TableRows → TableRows
 scoped_rows None k n r = r
 scoped_rows (Some g) k n r = with_kind k n r
 
-scoped_put : (o : Option ℕ) (k : BucketKind) (n : ℕ) (r : Rows) → scoped_rows o k n r ≡ record r {
-  allowances = λ m. if nat_eq n m then counts_scoped o k (r.allowances m) else r.allowances m;
-}
+scoped_put : (o : Option ℕ) (k : BucketKind) (n : ℕ) (r : TableRows) →
+    scoped_rows o k n r ≡ record r {
+      allowances = λ m. if nat_eq n m then counts_scoped o k (r.allowances m) else r.allowances m;
+    }
 scoped_put None k n r = λ i. record r {
   allowances = λ m. either (nat_eq n m) (r.allowances m) i;
 }
@@ -80,30 +82,31 @@ scoped_put None k n r = λ i. record r {
     either false b = refl
 scoped_put (Some g) k n r = kind_put k n r
 
-abbrev put_counted : Bucket → Rows → Rows
+abbrev put_counted : BucketRow → TableRows → TableRows
 put_counted b r = scoped_rows b.scope b.kind b.number (with_bucket (plain_bucket b) r)
 
-counted_one : (a : List ℕ) (o : Option ℕ) (k : BucketKind) (n : ℕ) (f : Rows → Rows) (c : Content)
+counted_one : (a : List ℕ) (o : Option ℕ) (k : BucketKind) (n : ℕ) (f : TableRows → TableRows)
+    (c : TablesContent)
     → with_scoped a o k n (with_rows a f c) ≡ with_rows a (λ r. scoped_rows o k n (f r)) c
 counted_one a None k n f c = refl
 counted_one a (Some g) k n f c = with_twice a (with_kind k n) f c
 
-abbrev pub counted_in : Option Bucket → Option Bucket → Option Bucket
+abbrev pub counted_in : Option BucketRow → Option BucketRow → Option BucketRow
 counted_in None before = before
 counted_in (Some b) before = Some (plain_bucket b)
 
-abbrev pub counts_in : Option Bucket → Bool → Bool
+abbrev pub counts_in : Option BucketRow → Bool → Bool
 counts_in None before = before
 counts_in (Some b) before = counts_scoped b.scope b.kind before
 
 -- what stands under each number once the buckets are put
-abbrev pub over_counted : List Bucket → Rows → Rows
+abbrev pub over_counted : List BucketRow → TableRows → TableRows
 over_counted xs r = record r {
   buckets = λ n. counted_in (bucket_in n xs) (r.buckets n);
   allowances = λ n. counts_in (bucket_in n xs) (r.allowances n);
 }
 
-counted_each : (a : List ℕ) (xs : List Bucket) (c : Content) →
+counted_each : (a : List ℕ) (xs : List BucketRow) (c : TablesContent) →
     with_all_counted a xs c ≡ each a put_counted xs c
 unfolding each
 counted_each a [] c = refl
@@ -112,7 +115,8 @@ counted_each a (x ∷ xs) c =
     ∙ ap (each a put_counted xs)
     (counted_one a x.scope x.kind x.number (with_bucket (plain_bucket x)) c)
 
-counted_step : (x : Bucket) (xs : List Bucket) (r : Rows) → EachIn (λ y. same_bucket x y ≡ false) xs
+counted_step : (x : BucketRow) (xs : List BucketRow) (r : TableRows) →
+    EachIn (λ y. same_bucket x y ≡ false) xs
     → over_counted xs (put_counted x r) ≡ over_counted (x ∷ xs) r
 counted_step x xs r apart =
     ap (over_counted xs) (scoped_put x.scope x.kind x.number (with_bucket (plain_bucket x) r))
@@ -124,17 +128,18 @@ counted_step x xs r apart =
           apart i;
     })
 
-pub counted_over : (a : List ℕ) (xs : List Bucket) (c : Content) → AreApart same_bucket xs →
+pub counted_over : (a : List ℕ) (xs : List BucketRow) (c : TablesContent) →
+    AreApart same_bucket xs →
     with_all_counted a xs c ≡ with_rows a (over_counted xs) c
 counted_over a xs c h =
     counted_each a xs c
     ∙ each_over a same_bucket put_counted over_counted (λ r. refl) counted_step xs c h
 
 -- each allowance is of one rating group
-abbrev pub AreScoped : List Bucket → Type 0
-AreScoped xs = EachIn (λ (b : Bucket). IsScopeOf b.kind b.scope) xs
+abbrev pub AreScoped : List BucketRow → Type 0
+AreScoped xs = EachIn (λ (b : BucketRow). IsScopeOf b.kind b.scope) xs
 
-pub scoped : (xs : List Bucket) → Each IsBalanced xs → AreScoped xs
+pub scoped : (xs : List BucketRow) → Each IsBalanced xs → AreScoped xs
 scoped [] h = tt
 scoped (x ∷ xs) h = (h.0.scope, scoped xs h.1)
 
@@ -145,14 +150,14 @@ scoped_back Money None before h = refl
 scoped_back Blocks None before h = not_both (sym h)
 
 -- they read as they were put
-pub counted_told : (n : ℕ) (xs : List Bucket) (r : Rows) → AreScoped xs
+pub counted_told : (n : ℕ) (xs : List BucketRow) (r : TableRows) → AreScoped xs
     → told_buckets (over_counted xs r) n ≡ first_of (bucket_in n xs) (told_buckets r n)
 counted_told n xs r each = at (bucket_in n xs) (λ b e.
-    EachIn-found (λ (b : Bucket). IsScopeOf b.kind b.scope) (λ b. nat_eq b.number n) xs b each e)
+    EachIn-found (λ (b : BucketRow). IsScopeOf b.kind b.scope) (λ b. nat_eq b.number n) xs b each e)
     refl
   where
-    at : (o : Option Bucket)
-        → ((b : Bucket) → bucket_in n xs ≡ Some b → IsScopeOf b.kind b.scope)
+    at : (o : Option BucketRow)
+        → ((b : BucketRow) → bucket_in n xs ≡ Some b → IsScopeOf b.kind b.scope)
         → bucket_in n xs ≡ o
         → option_map (content.bucket_in (counts_in o (r.allowances n))) (counted_in o (r.buckets n))
         ≡ first_of o (told_buckets r n)
@@ -173,7 +178,7 @@ blocks_back m = at (m == 0) refl
     at true e = sym (number_from m 0 e)
     at false e = refl
 
-blocks_put : (n m : ℕ) (r : Rows) → with_blocks n m r
+blocks_put : (n m : ℕ) (r : TableRows) → with_blocks n m r
     ≡ record r { covered = λ k. if nat_eq n k then row_of_blocks m else r.covered k }
 blocks_put n m r = at (m == 0)
   where
@@ -186,8 +191,8 @@ blocks_put n m r = at (m == 0)
     at true = refl
     at false = refl
 
-abbrev put_paid : ChargeRow → Rows → Rows
-put_paid x r = with_blocks x.number x.covered.0 (with_charge (plain_charge x) r)
+abbrev put_paid : ChargeRow → TableRows → TableRows
+put_paid x r = with_blocks x.number x.covered.0 (with_charge_row (plain_charge x) r)
 
 abbrev pub paid_in : Option ChargeRow → Option ChargeRow → Option ChargeRow
 paid_in None before = before
@@ -197,26 +202,26 @@ abbrev pub blocks_in : Option ChargeRow → Option ℕ → Option ℕ
 blocks_in None before = before
 blocks_in (Some x) before = row_of_blocks x.covered.0
 
-abbrev pub over_paid : List ChargeRow → Rows → Rows
+abbrev pub over_paid : List ChargeRow → TableRows → TableRows
 over_paid xs r = record r {
   charges = λ n. paid_in (charge_in n xs) (r.charges n);
   covered = λ n. blocks_in (charge_in n xs) (r.covered n);
 }
 
-paid_each : (a : List ℕ) (xs : List ChargeRow) (c : Content) →
+paid_each : (a : List ℕ) (xs : List ChargeRow) (c : TablesContent) →
     with_all_paid a xs c ≡ each a put_paid xs c
 unfolding each
 paid_each a [] c = refl
 paid_each a (x ∷ xs) c =
     paid_each a xs (with_paid a x c)
     ∙ ap (each a put_paid xs)
-    (with_twice a (with_blocks x.number x.covered.0) (with_charge (plain_charge x)) c)
+    (with_twice a (with_blocks x.number x.covered.0) (with_charge_row (plain_charge x)) c)
 
-paid_step : (x : ChargeRow) (xs : List ChargeRow) (r : Rows)
+paid_step : (x : ChargeRow) (xs : List ChargeRow) (r : TableRows)
     → EachIn (λ y. same_charge x y ≡ false) xs
     → over_paid xs (put_paid x r) ≡ over_paid (x ∷ xs) r
 paid_step x xs r apart =
-    ap (over_paid xs) (blocks_put x.number x.covered.0 (with_charge (plain_charge x) r))
+    ap (over_paid xs) (blocks_put x.number x.covered.0 (with_charge_row (plain_charge x) r))
     ∙ (λ i. record r {
       charges = λ n. told_over same_charge (λ b. nat_eq b.number n) (one_charge n) paid_in
           (λ y. refl) (λ b y. Some (plain_charge b)) (λ b y. refl) x xs (r.charges n) apart i;
@@ -225,12 +230,12 @@ paid_step x xs r apart =
           apart i;
     })
 
-pub paid_over : (a : List ℕ) (xs : List ChargeRow) (c : Content) → AreApart same_charge xs →
+pub paid_over : (a : List ℕ) (xs : List ChargeRow) (c : TablesContent) → AreApart same_charge xs →
     with_all_paid a xs c ≡ with_rows a (over_paid xs) c
 paid_over a xs c h =
     paid_each a xs c ∙ each_over a same_charge put_paid over_paid (λ r. refl) paid_step xs c h
 
-pub paid_told : (n : ℕ) (xs : List ChargeRow) (r : Rows)
+pub paid_told : (n : ℕ) (xs : List ChargeRow) (r : TableRows)
     → told_charge (over_paid xs r) n ≡ first_of (charge_in n xs) (told_charge r n)
 paid_told n xs r = at (charge_in n xs)
   where

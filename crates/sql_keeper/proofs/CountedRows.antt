@@ -5,13 +5,13 @@ use Rattle.std.specs.Prelude.{if◌then◌else◌, ◌&&◌, ◌||◌, nat_eq, o
 use Rattle.std.specs.List.{find, list_any}
 use Rattle.std.proofs.Common.{◌+◌, length, get_or, take}
 use Rattle.std.proofs.lemmas.List.{map_more}
-use Rattle.buckets.specs.Row.{Row}
+use Rattle.buckets.specs.Row.{BucketRow}
 use Rattle.buckets.specs.declared.bucket.columns.Columns.{Columns}
 use Rattle.reserving.specs.Left.{is_dead, only, bucket_in}
 use Rattle.reserving.proofs.Lists.{no_some}
-use Rattle.sql_tables.specs.Selects.{only as those}
-use Rattle.sql_rows.specs.Content.{Rows as Stored}
-use Rattle.sql_rows.specs.Lists.{AreAllowances, AreBuckets, BucketsRise, is_live}
+use Rattle.sql_tables.specs.Selects.{passing}
+use Rattle.sql_rows.specs.Content.{TableRows}
+use Rattle.sql_rows.specs.Lists.{AreAllowances, AreBuckets, BucketsRise, is_live_bucket}
 use Rattle.sql_rows.specs.Lists as lists
 use Rattle.sql_rows.specs.Texts.{bucket_row}
 use Rattle.sql_keeper.specs.Content as content
@@ -30,15 +30,15 @@ pub not_scoped : (there : Bool) (scope : Option ℕ) (is : Bool) → scope ≡ N
 not_scoped there None is e = tt
 not_scoped there (Some g) is e = absurd (no_some g (sym e))
 
-told_alike : (b : Row) (there is : Bool) (scope : Option ℕ) → IsScoped there scope is
+told_alike : (b : BucketRow) (there is : Bool) (scope : Option ℕ) → IsScoped there scope is
     → record b { scope = scope; kind = content.kind_in (is_some scope && is) }
     ≡ record b { scope = scope; kind = content.kind_in (is_some scope && there) }
 told_alike b there is None h = refl
 told_alike b there is (Some g) h =
     λ i. record b { scope = Some g; kind = content.kind_in (h i) }
 
-pub counted_made : {E : Type 0} (rows : Stored) (x : Columns) (is_allowance : Bool)
-    (r : Result Row E) → IsScoped (rows.allowances x.number) x.scope is_allowance
+pub counted_made : {E : Type 0} (rows : TableRows) (x : Columns) (is_allowance : Bool)
+    (r : Result BucketRow E) → IsScoped (rows.allowances x.number) x.scope is_allowance
     → IfOk r (λ b. b ≡ content.bucket_in is_allowance (bucket_row x))
     → IfOk r (λ b. b ≡ counted_row rows x)
 counted_made rows x is_allowance (Ok b) is made =
@@ -47,7 +47,7 @@ counted_made rows x is_allowance (Err e) is made = tt
 
 -- ---- found by its number
 
-counted_found : (rows : Stored) (n : ℕ) (xs : List Columns)
+counted_found : (rows : TableRows) (n : ℕ) (xs : List Columns)
     → bucket_in n (counted_rows rows xs)
     ≡ option_map (content.bucket_in (rows.allowances n)) (bucket_in n (map bucket_row xs))
 counted_found rows n [] = refl
@@ -65,10 +65,11 @@ counted_found rows n (x ∷ xs) = at (nat_eq x.number n) refl (counted_found row
     at false e rest = rest
 
 -- of those that pass a test, which asks nothing of what is counted
-module _ (p q : Row → Bool) (same : (k : Bool) (b : Row) → p b ≡ q (content.bucket_in k b))
-    (rows : Stored) (xs : List Columns) (found : AreBuckets p rows (map bucket_row xs)) where
-  passed : (k : Bool) (o : Option Row)
-      → option_map (content.bucket_in k) (those p o) ≡ only q (option_map (content.bucket_in k) o)
+module _ (p q : BucketRow → Bool) (same : (k : Bool) (b : BucketRow) →
+    p b ≡ q (content.bucket_in k b))
+    (rows : TableRows) (xs : List Columns) (found : AreBuckets p rows (map bucket_row xs)) where
+  passed : (k : Bool) (o : Option BucketRow)
+      → option_map (content.bucket_in k) (passing p o) ≡ only q (option_map (content.bucket_in k) o)
   passed k None = refl
   passed k (Some b) =
       at (p b) ∙ ap (λ t. if t then Some (content.bucket_in k b) else None) (same k b)
@@ -86,22 +87,22 @@ module _ (p q : Row → Bool) (same : (k : Bool) (b : Row) → p b ≡ q (conten
 
 -- ---- live ones
 
-live_is : (k : Bool) (b : Row) → is_live b ≡ not (is_dead (content.bucket_in k b))
-live_is k b = sym (twice (is_live b)) ∙ ap not (spent_is_dead b)
+live_is : (k : Bool) (b : BucketRow) → is_live_bucket b ≡ not (is_dead (content.bucket_in k b))
+live_is k b = sym (twice (is_live_bucket b)) ∙ ap not (spent_is_dead b)
   where
     twice : (t : Bool) → not (not t) ≡ t
     twice true = refl
     twice false = refl
 
-live_told : (rows : Stored) (xs : List Columns) (bs : List Row)
-    → AreBuckets is_live rows (map bucket_row xs) → bs ≡ counted_rows rows xs
+live_told : (rows : TableRows) (xs : List Columns) (bs : List BucketRow)
+    → AreBuckets is_live_bucket rows (map bucket_row xs) → bs ≡ counted_rows rows xs
     → AreLiveBuckets rows bs
 live_told rows xs bs found is n =
-    ap (bucket_in n) is ∙ counted_told is_live (λ b. not (is_dead b)) live_is rows xs found n
+    ap (bucket_in n) is ∙ counted_told is_live_bucket (λ b. not (is_dead b)) live_is rows xs found n
 
 -- as a purse
-pub purse_told : {E : Type 0} (rows : Stored) (xs : List Columns) (bs : List Row)
-    (r : Result (List Row) E) → AreBuckets is_live rows (map bucket_row xs)
+pub purse_told : {E : Type 0} (rows : TableRows) (xs : List Columns) (bs : List BucketRow)
+    (r : Result (List BucketRow) E) → AreBuckets is_live_bucket rows (map bucket_row xs)
     → bs ≡ counted_rows rows xs → IfOk r (λ ps. ps ≡ bs) → IfOk r (AreLiveBuckets rows)
 purse_told rows xs bs (Ok ps) found made is = live_told rows xs ps found (is ∙ made)
 purse_told rows xs bs (Err e) found made is = tt
@@ -117,35 +118,37 @@ any_found p (x ∷ xs) = at (p x) (any_found p xs)
     at true rest = refl
     at false rest = rest
 
-by_numbers : (rows : Stored) (numbers : List ℕ) → AreAllowances rows numbers → (xs : List Columns)
+by_numbers : (rows : TableRows) (numbers : List ℕ) → AreAllowances rows numbers →
+    (xs : List Columns)
     → map (counted_by numbers) xs ≡ counted_rows rows xs
 by_numbers rows numbers are [] = refl
 by_numbers rows numbers are (x ∷ xs) = λ i.
     content.bucket_in ((any_found (λ n. nat_eq n x.number) numbers ∙ are x.number) i) (bucket_row x)
     ∷ by_numbers rows numbers are xs i
 
-rise_counted : (rows : Stored) (xs : List Columns) → BucketsRise (map bucket_row xs) →
+rise_counted : (rows : TableRows) (xs : List Columns) → BucketsRise (map bucket_row xs) →
     BucketsRise (counted_rows rows xs)
 rise_counted rows [] rise = tt
 rise_counted rows (x ∷ []) rise = tt
 rise_counted rows (x ∷ y ∷ zs) rise = (rise.0, rise_counted rows (y ∷ zs) rise.1)
 
-dead_told : (rows : Stored) (xs : List Columns) (numbers : List ℕ) (bs : List Row)
-    → AreBuckets lists.is_dead rows (map bucket_row xs) → BucketsRise (map bucket_row xs)
+dead_told : (rows : TableRows) (xs : List Columns) (numbers : List ℕ) (bs : List BucketRow)
+    → AreBuckets lists.is_dead_bucket rows (map bucket_row xs) → BucketsRise (map bucket_row xs)
     → AreAllowances rows numbers → bs ≡ map (counted_by numbers) xs
     → AreDead (told_buckets rows) bs
 dead_told rows xs numbers bs found rise are made =
     let is : bs ≡ counted_rows rows xs = made ∙ by_numbers rows numbers are xs in
     subst (AreDead (told_buckets rows)) (sym is) (record {
-      found = counted_told lists.is_dead is_dead (λ k b. spent_is_dead b) rows xs found;
+      found = counted_told lists.is_dead_bucket is_dead (λ k b. spent_is_dead b) rows xs found;
       apart = apart (counted_rows rows xs) (rise_counted rows xs rise);
       order = in_order (counted_rows rows xs) (rise_counted rows xs rise);
     })
 
 -- of rows and numbers that are handed on
-pub dead_made : {V E : Type 0} (items : V → List Row) (rows : Stored) (xs ys : List Columns)
+pub dead_made : {V E : Type 0} (items : V → List BucketRow) (rows : TableRows)
+    (xs ys : List Columns)
     (numbers others : List ℕ) (r : Result V E) → ys ≡ xs → others ≡ numbers
-    → AreBuckets lists.is_dead rows (map bucket_row xs) → BucketsRise (map bucket_row xs)
+    → AreBuckets lists.is_dead_bucket rows (map bucket_row xs) → BucketsRise (map bucket_row xs)
     → AreAllowances rows numbers → IfOk r (λ v. items v ≡ map (counted_by others) ys)
     → IfOk r (λ v. AreDead (told_buckets rows) (items v))
 dead_made items rows xs ys numbers others (Ok v) is same found rise are made =
@@ -155,7 +158,8 @@ dead_made items rows xs ys numbers others (Err e) is same found rise are made = 
 
 -- the next of them
 pub next_counted : (numbers : List ℕ) (rows : List Columns) (i : ℕ) (x : Columns)
-    (is_allowance : Bool) (bs cs : List Row) (b : Row) → i < length rows → x ≡ get_or rows i x
+    (is_allowance : Bool) (bs cs : List BucketRow) (b : BucketRow) → i < length rows →
+    x ≡ get_or rows i x
     → cs ≡ bs ++ b ∷ [] → bs ≡ map (counted_by numbers) (take i rows)
     → is_allowance ≡ list_any (λ n. nat_eq n x.number) numbers
     → b ≡ content.bucket_in is_allowance (bucket_row x)

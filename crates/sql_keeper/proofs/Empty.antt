@@ -20,7 +20,7 @@ use Rattle.sql_tables.specs.Statements.{Attempts}
 use Rattle.sql_tables.specs.Schema as table
 use Rattle.sql_rows.specs.Values as values
 use Rattle.sql_rows.specs.Values.{Meta}
-use Rattle.sql_rows.specs.Content.{Rows as Stored, Content, content_of, with_meta}
+use Rattle.sql_rows.specs.Content.{TableRows, TablesContent, tables_content, with_meta}
 use Rattle.sql_rows.specs.Makes.{Makes, Turns}
 use Rattle.sql_rows.specs.Plain.{AreAll, ArePlain, is_plain_group, is_plain_head}
 use Rattle.sql_rows.specs.Plain.{is_plain_session}
@@ -36,7 +36,7 @@ pub none_stored : (t : Table) (trees : Trees) → trees t.tree ≡ [] → (key :
     look t trees key ≡ None
 none_stored t trees e key = ap (λ rows. get (table_of t.primary rows) key) e ∙ get-empty row_cmp key
 
-abbrev nothing : Stored
+abbrev nothing : TableRows
 nothing = record {
   head = None;
   buckets = λ n. None;
@@ -51,7 +51,7 @@ nothing = record {
   covered = λ n. None;
 }
 
-abbrev no_content : Content
+abbrev no_content : TablesContent
 no_content = record {
   meta = None;
   kept = 0;
@@ -61,7 +61,8 @@ no_content = record {
   count = 0;
 }
 
-empty_content : (trees : Trees) → AreEmpty book_schema.tables trees → content_of trees ≡ no_content
+empty_content : (trees : Trees) → AreEmpty book_schema.tables trees →
+    tables_content trees ≡ no_content
 empty_content trees e =
     let at_meta = e.0 in
     let at_accounts = e.1.0 in
@@ -83,30 +84,30 @@ empty_content trees e =
       rows = λ a. record {
         head = option_map values.head_in
             (none_stored table.accounts trees at_accounts (values.head_key a) i);
-        buckets = λ n. option_map values.bucket_in
+        buckets = λ n. option_map values.bucket_in_row
             (none_stored table.buckets trees at_buckets (values.bucket_key a n) i);
-        counters = λ g c. option_map values.counter_in
+        counters = λ g c. option_map values.counter_in_row
             (none_stored table.counters trees at_counters (values.counter_key a g c) i);
-        sessions = λ s. option_map values.session_in
+        sessions = λ s. option_map values.session_in_row
             (none_stored table.sessions trees at_sessions (values.session_key a s) i);
-        groups = λ s g. option_map values.group_in
+        groups = λ s g. option_map values.group_in_row
             (none_stored table.session_groups trees at_groups (values.group_key a s g) i);
         holds = λ s g n. option_map values.hold_in
             (none_stored table.holds trees at_holds (values.hold_key a s g n) i);
-        answers = λ kind name number. option_map values.answer_in
+        answers = λ kind name number. option_map values.answer_in_row
             (none_stored table.answers trees at_answers (values.answer_key a kind name number) i);
-        charges = λ n. option_map values.charge_in
+        charges = λ n. option_map values.charge_in_row
             (none_stored table.charges trees at_charges (values.charge_key a n) i);
         grant_books = λ s g. option_map values.grant_book_in
             (none_stored table.grant_books trees at_grants (values.group_key a s g) i);
         allowances = λ n. is_some (option_map values.allowance_in
             (none_stored table.allowance_buckets trees at_allowances (values.bucket_key a n) i));
-        covered = λ n. option_map values.covered_in
+        covered = λ n. option_map values.covered_in_row
             (none_stored table.covered trees at_covered (values.charge_key a n) i);
       };
-      vouchers = λ code. option_map values.voucher_in
+      vouchers = λ code. option_map values.voucher_in_row
           (none_stored table.vouchers trees at_vouchers (values.voucher_key code) i);
-      books = λ n. option_map values.book_in
+      books = λ n. option_map values.book_in_row
           (none_stored table.books trees at_books (values.book_key n) i);
       count = length (at_accounts i);
     }
@@ -215,13 +216,13 @@ new_book : (text : List ℕ) (old new : Trees) → AreEmpty book_schema.tables o
 new_book text old new e lists turns = record {
   lists = subst (λ rows. Lists rows book_schema) (sym turns.catalog) lists;
   stored = turns.stored;
-  meta = ap (λ (c : Content). c.meta) turns.content;
+  meta = ap (λ (c : TablesContent). c.meta) turns.content;
   tables = λ names.
       ap (tables_of names) (turns.content ∙ ap (with_meta (first_meta text)) (empty_content old e))
       ∙ (λ i. record (tables_of names (with_meta (first_meta text) no_content)) {
         answers = λ a k. none_kept a k i;
       });
-  books = λ n. ap (λ (c : Content). c.books n)
+  books = λ n. ap (λ (c : TablesContent). c.books n)
       (turns.content ∙ ap (with_meta (first_meta text)) (empty_content old e));
   tidy = λ names. subst (IsTidy names)
       (sym (turns.content ∙ ap (with_meta (first_meta text)) (empty_content old e)))

@@ -18,7 +18,8 @@ use Rattle.sql_tables.specs.Schema.{latest}
 use Rattle.sql_tables.specs.Statements.{AreStored, Attempts, HasBook, IsInside, ReadsWithin}
 use Rattle.sql_rows.specs.Makes.{Makes, MakesIfOpen}
 use Rattle.sql_tables.specs.declared.reading.ReadFault.{ReadFault}
-use Rattle.sql_rows.specs.Content.{Content, Rows, content_of, with_grant_book, with_meta}
+use Rattle.sql_rows.specs.Content.{TablesContent, TableRows, tables_content, with_grant_book}
+use Rattle.sql_rows.specs.Content.{with_meta}
 use Rattle.sql_rows.specs.Content.{with_rows}
 use Rattle.sql_rows.specs.Plain.{ArePlain}
 use Rattle.sql_rows.specs.Lists.{AreReserved, ReservedAt, has_reservation}
@@ -39,10 +40,10 @@ abbrev has_it : List ReservedColumns → List ℕ → List ℕ → ℕ → Bool
 has_it xs a s g = is_some (find (is_of a s g) (map reserved_at xs))
 
 -- the first book's number where the test passes
-abbrev granted_by : (List ℕ → ℕ → Bool) → Rows → Rows
+abbrev granted_by : (List ℕ → ℕ → Bool) → TableRows → TableRows
 granted_by test r = record r { grant_books = λ s g. if test s g then Some 1 else r.grant_books s g }
 
-abbrev granted_where : (List ℕ → List ℕ → ℕ → Bool) → Content → Content
+abbrev granted_where : (List ℕ → List ℕ → ℕ → Bool) → TablesContent → TablesContent
 granted_where test c = record c { rows = λ a. granted_by (test a) (c.rows a) }
 
 -- one more row, under its key
@@ -53,7 +54,7 @@ one_more x None true before = refl
 one_more x (Some y) true before = refl
 one_more x o false before = refl
 
-row_more : (x : ReservedAt) (o : List ℕ → ℕ → Option ReservedAt) (of_account : Bool) (r : Rows)
+row_more : (x : ReservedAt) (o : List ℕ → ℕ → Option ReservedAt) (of_account : Bool) (r : TableRows)
     → granted_by (λ s g. is_some (o s g))
     (if of_account then with_grant_book x.session x.group 1 r else r)
     ≡ granted_by (λ s g. is_some (cond (of_account && (same_name x.session s && nat_eq x.group g))
@@ -64,7 +65,7 @@ row_more x o true r = λ i. record r {
 }
 row_more x o false r = refl
 
-put_first : (xs : List ReservedColumns) (c : Content) →
+put_first : (xs : List ReservedColumns) (c : TablesContent) →
     with_first_books xs c ≡ granted_where (has_it xs) c
 put_first [] c = refl
 put_first (x ∷ xs) c =
@@ -78,7 +79,7 @@ same_test : (o : Option Group) → has_reservation o ≡ is_reserved o
 same_test None = refl
 same_test (Some x) = refl
 
-pub first_granted : (xs : List ReservedColumns) (c : Content)
+pub first_granted : (xs : List ReservedColumns) (c : TablesContent)
     → AreReserved c (map reserved_at xs) → with_first_books xs c ≡ with_granted 1 c
 first_granted xs c are =
     put_first xs c
@@ -87,7 +88,7 @@ first_granted xs c are =
 -- ---- put within a transaction
 
 -- nothing is to be put where the version has these numbers
-granted_already : (v : ℕ) (c : Content) → 2 ≤ v → c ≡ with_granted v c
+granted_already : (v : ℕ) (c : TablesContent) → 2 ≤ v → c ≡ with_granted v c
 granted_already v c low =
     subst (λ b. c ≡ (if b then c else record c { rows = λ a. granted_in (c.rows a) }))
     (sym (le-leb 2 v low)) refl
@@ -99,7 +100,7 @@ grants_none v s u low inside book = record {
     was_open = λ on. on;
     made = λ on. record {
       turns = record {
-        content = granted_already v (content_of s.now.trees) low;
+        content = granted_already v (tables_content s.now.trees) low;
         catalog = refl;
         stored = (book clean on).stored;
         plain = λ p. p;
@@ -135,10 +136,11 @@ unruled_at v low high old new r h =
     subst (λ n. HasCleanDisk new → IfErr r (AreUnruledReserved n old.now.trees)) is h
 
 module _ (xs : List ReservedColumns) (old mid new : State) where
-  same_content : IsUnchanged old mid → content_of mid.now.trees ≡ content_of old.now.trees
-  same_content same = ap (λ (d : Database). content_of d.trees) same.0.now_is
+  same_content : IsUnchanged old mid → tables_content mid.now.trees ≡ tables_content old.now.trees
+  same_content same = ap (λ (d : Database). tables_content d.trees) same.0.now_is
 
-  grants_made : AreReserved (content_of old.now.trees) (map reserved_at xs) → IsUnchanged old mid
+  grants_made : AreReserved (tables_content old.now.trees) (map reserved_at xs) →
+      IsUnchanged old mid
       → MakesIfOpen (with_first_books xs) mid new → MakesIfOpen (with_granted 1) old new
   grants_made are same puts = record {
     was_open = λ on. same.0.was_open;
@@ -147,7 +149,7 @@ module _ (xs : List ReservedColumns) (old mid new : State) where
         record {
           turns = record {
             content = m.turns.content ∙ ap (with_first_books xs) (same_content same)
-                ∙ first_granted xs (content_of old.now.trees) are;
+                ∙ first_granted xs (tables_content old.now.trees) are;
             catalog = m.turns.catalog
                 ∙ ap (λ (d : Database). d.trees catalog_tree) same.0.now_is;
             stored = m.turns.stored;
@@ -168,7 +170,7 @@ module _ (xs : List ReservedColumns) (old mid new : State) where
   -- each reservation that was read has its number
   pub grants : {W A B E F G : Type 0} (told : Trees → W → Type 0) (w : W) (u : A) (v : B)
       → ReadsWithin {A = W} {E = E} told old mid (Ok w)
-      → (told old.now.trees w → AreReserved (content_of old.now.trees) (map reserved_at xs))
+      → (told old.now.trees w → AreReserved (tables_content old.now.trees) (map reserved_at xs))
       → Attempts {A = A} {E = F} (MakesIfOpen (with_first_books xs)) mid new (Ok u)
       → Attempts {A = B} {E = G} (MakesIfOpen (with_granted 1)) old new (Ok v)
   grants told w u v reads are puts = record {
@@ -202,14 +204,15 @@ module _ (xs : List ReservedColumns) (old mid new : State) where
 pub grants_rows : {A B E F G : Type 0} (xs : List ReservedColumns) (old mid new : State)
     (w : Vec ReservedColumns Global) (u : A) (v : B) → xs ≡ w.items
     → ReadsWithin {A = Vec ReservedColumns Global} {E = E}
-    (λ trees ys. AreReserved (content_of trees) (map reserved_at ys.items)) old mid (Ok w)
+    (λ trees ys. AreReserved (tables_content trees) (map reserved_at ys.items)) old mid (Ok w)
     → Attempts {A = A} {E = F} (MakesIfOpen (with_first_books xs)) mid new (Ok u)
     → Attempts {A = B} {E = G} (MakesIfOpen (with_granted 1)) old new (Ok v)
 grants_rows xs old mid new w u v same reads puts =
     grants xs old mid new
-    (λ trees (ys : Vec ReservedColumns Global). AreReserved (content_of trees)
+    (λ trees (ys : Vec ReservedColumns Global). AreReserved (tables_content trees)
     (map reserved_at ys.items)) w u v reads
-    (λ are. subst (λ l. AreReserved (content_of old.now.trees) (map reserved_at l)) (sym same) are)
+    (λ are. subst (λ l. AreReserved (tables_content old.now.trees) (map reserved_at l)) (sym same)
+    are)
     puts
 
 -- the tables after what was only read
@@ -251,7 +254,7 @@ no_grants does tells old new e a =
 
 -- ---- those of a list, then one statement
 
-module _ (f g : Content → Content) (a b c : State) where
+module _ (f g : TablesContent → TablesContent) (a b c : State) where
   kept_all_then : MakesIfOpen f a b → KeepsCommit b c → KeepsCommit a c
   kept_all_then one two = record {
     was_open = λ on. one.was_open (two.was_open on);

@@ -9,7 +9,7 @@ use Rattle.std.proofs.lemmas.Bool.{and_parts}
 use Rattle.std.proofs.lemmas.List.{map_more}
 use Rattle.std.proofs.lemmas.Slice.Zip.{all_zipped_more}
 use Rattle.rating.specs.declared.grant.Periods.{Periods}
-use Rattle.buckets.specs.Row.{Row}
+use Rattle.buckets.specs.Row.{BucketRow}
 use Rattle.buckets.specs.Spend.{AreDistinct}
 use Rattle.reserving.specs.declared.session.SessionGroup.{SessionGroup}
 use Rattle.reserving.specs.declared.session.Reservation.{Reservation}
@@ -23,12 +23,12 @@ use Rattle.sql_rows.specs.declared.hold_rows.HeldColumns.{HeldColumns}
 use Rattle.sql_rows.specs.declared.open_group_rows.OpenGroup.{OpenGroup}
 use Rattle.sql_rows.specs.declared.session_book_rows.SessionBook.{SessionBook}
 use Rattle.sql_rows.specs.declared.session_hold_rows.SessionHold.{SessionHold}
-use Rattle.sql_rows.specs.Content.{Rows as Stored}
+use Rattle.sql_rows.specs.Content.{TableRows}
 use Rattle.sql_rows.specs.Lists.{AreAllGrantBooks, AreAllHolds, AreOpenGroups, OpenGroupAt}
 use Rattle.sql_rows.specs.Lists.{SessionBookAt, SessionHoldAt, is_book_of, is_group_of, is_hold_of}
 use Rattle.sql_rows.specs.Texts.{open_group_at, session_book_at, session_hold_at}
 use Rattle.sql_rows.specs.Values.{Group, PeriodNames}
-use Rattle.sql_keeper.specs.Content.{group_in as group_told, is_reserved, held_in, periods_in}
+use Rattle.sql_keeper.specs.Content.{stored_group_in, is_reserved, held_in, periods_in}
 use Rattle.sql_keeper.specs.Content.{book_in, names_numbered, terms_in, Names}
 use Rattle.sql_keeper.specs.GroupRows.{amount_of, book_of, held_for, ArePeriodsOf, AreTermsOf}
 use Rattle.sql_keeper.specs.GroupRows.{AreHoldsOf, IsReservationOf, are_held_of, is_held_of}
@@ -106,7 +106,8 @@ are_held_for s g n (x ∷ xs) = of_it (are_held_for s g n xs) (same_name x.sessi
 
 -- ---- one reservation
 
-module _ (names : Names) (buckets : List Row) (held : List HeldColumns) (number : Option ℕ) where
+module _ (names : Names) (buckets : List BucketRow) (held : List HeldColumns)
+    (number : Option ℕ) where
   reserved_is : (g : ℕ) (o : Option PeriodNames) (r : Option Reservation)
       → IsReservationOf names buckets held number g o r
       → option_map (λ (x : Reservation). x.terms) r
@@ -125,12 +126,13 @@ module _ (names : Names) (buckets : List Row) (held : List HeldColumns) (number 
   holds_are distinct g n (Some p) (Some r) h =
       ap (held_at n) h.1.order ∙ held_along buckets g n held distinct h.1.all
 
-module _ (names : Names) (buckets : List Row) (held : List SessionHold) (books : List SessionBook)
+module _ (names : Names) (buckets : List BucketRow) (held : List SessionHold)
+    (books : List SessionBook)
   where
     -- ---- one row
 
     row_is : (c : OpenGroupAt) (x : SessionGroup) → IsGroupOf names buckets held books c x
-        → group_row x ≡ group_told names true (book_of c.session c.group books) c.row
+        → group_row x ≡ stored_group_in names true (book_of c.session c.group books) c.row
     row_is c x h = λ i. record {
       used = h.used i;
       terms = reserved_is names buckets (held_for c.session held)
@@ -172,13 +174,13 @@ module _ (names : Names) (buckets : List Row) (held : List SessionHold) (books :
     row_told : (s : List ℕ) (g : ℕ) (c : Option OpenGroupAt) (x : Option SessionGroup)
         → IsFound s g c x
         → option_map group_row x
-        ≡ option_map (group_told names true (book_of s g books))
+        ≡ option_map (stored_group_in names true (book_of s g books))
         (option_map (λ (y : OpenGroupAt). y.row) c)
     row_told s g None None h = refl
     row_told s g None (Some x) h = absurd h
     row_told s g (Some c) None h = absurd h
     row_told s g (Some c) (Some x) h = ap Some (row_is c x h.2)
-        ∙ ap₂ (λ n k. Some (group_told names true (book_of n k books) c.row)) h.0 h.1
+        ∙ ap₂ (λ n k. Some (stored_group_in names true (book_of n k books) c.row)) h.0 h.1
 
     held_told : AreDistinct buckets
         → (s : List ℕ) (g n : ℕ) (c : Option OpenGroupAt) (x : Option SessionGroup)
@@ -221,7 +223,7 @@ module _ (names : Names) (buckets : List Row) (held : List SessionHold) (books :
             subst (IsGranted c.session c.group) (some_of r w i) (k.0.book, k.1)
 
 -- no row of a rating group says that nothing is held
-none_empty : (buckets : List Row) (g n : ℕ) (held : List HeldColumns)
+none_empty : (buckets : List BucketRow) (g n : ℕ) (held : List HeldColumns)
     → are_held_of buckets g held ≡ true
     → ¬ (option_map (λ (x : HeldColumns). x.amount)
     (find (λ x. x.group == g && x.bucket == n) held) ≡ Some 0)
@@ -242,7 +244,7 @@ none_empty buckets g n (x ∷ xs) all =
         → ¬ (option_map (λ (y : HeldColumns). y.amount)
         (cond (t && u) (Some x) (find (λ y. y.group == g && y.bucket == n) xs)) ≡ Some 0)
     at true true here passes later e =
-        none x.amount (list_any (λ (b : Row). b.number == x.bucket) buckets)
+        none x.amount (list_any (λ (b : BucketRow). b.number == x.bucket) buckets)
         (sym (ap (λ b. not b || is_held_of buckets x) here) ∙ passes) (some_of x.amount 0 e)
     at true false here passes later e = later e
     at false u here passes later e = later e
@@ -263,24 +265,28 @@ held_if true o amount = refl
 held_if false o amount = refl
 
 -- all that the open sessions have
-pub live_groups : (names : Names) (rows : Stored) (buckets : List Row) (held : List SessionHold)
+pub live_groups : (names : Names) (rows : TableRows) (buckets : List BucketRow)
+    (held : List SessionHold)
     (books : List SessionBook) (cs : List OpenGroupAt) (xs : List SessionGroup)
     → AreDistinct buckets → AreOpenGroups rows cs → AreAllHolds rows (map session_hold_at held)
     → AreAllGrantBooks rows (map session_book_at books)
     → AreGroupsOf names buckets held books cs xs → AreLiveGroups names rows xs
 live_groups names rows buckets held books cs xs distinct groups holds numbers all = record {
-  groups = λ s g.
-      row_told names buckets held books s g (find (is_group_of s g) cs) (group_in s g xs)
-      (found names buckets held books s g cs xs all)
-      ∙ ap₂ (λ b o. option_map (group_told names true b) o)
-      (sym (books_are s g books) ∙ numbers s g) (groups s g)
-      ∙ rows_if (group_told names true (rows.grant_books s g)) (is_open_row (rows.sessions s))
-      (rows.groups s g);
-  holds = λ s g n.
-      held_told names buckets held books distinct s g n (find (is_group_of s g) cs)
-      (group_in s g xs) (found names buckets held books s g cs xs all)
-      ∙ ap₂ (λ o a. if is_reserved o then a else 0) (groups s g) (amount_is s g n)
-      ∙ held_if (is_open_row (rows.sessions s)) (rows.groups s g) (rows.holds s g n);
+  told = record {
+    groups = λ s g.
+        row_told names buckets held books s g (find (is_group_of s g) cs) (group_in s g xs)
+        (found names buckets held books s g cs xs all)
+        ∙ ap₂ (λ b o. option_map (stored_group_in names true b) o)
+        (sym (books_are s g books) ∙ numbers s g) (groups s g)
+        ∙ rows_if (stored_group_in names true (rows.grant_books s g))
+        (is_open_row (rows.sessions s))
+        (rows.groups s g);
+    holds = λ s g n.
+        held_told names buckets held books distinct s g n (find (is_group_of s g) cs)
+        (group_in s g xs) (found names buckets held books s g cs xs all)
+        ∙ ap₂ (λ o a. if is_reserved o then a else 0) (groups s g) (amount_is s g n)
+        ∙ held_if (is_open_row (rows.sessions s)) (rows.groups s g) (rows.holds s g n);
+  };
   grants = λ s g x v e f.
       let own = granted_in names buckets held books s g (find (is_group_of s g) cs)
       (group_in s g xs) (found names buckets held books s g cs xs all) x v e f in

@@ -1,8 +1,7 @@
 -- What the commands leave is in its rules, and is found again: it is refused for no row.
-use Rattle.std.proofs.Common.{◌≡◌, ◌≤◌, ◌<◌, ◌⊎◌, inl, inr, ◌∙◌, ◌++◌, ◌+◌, ℕ, suc, List, [], ◌∷◌, Some}
-use Rattle.std.proofs.Common.{refl, sym, ap, subst, arith, length, length-append, true, IsTrue}
+use Rattle.std.proofs.Common.{◌≡◌, ◌≤◌, ◌<◌, inl, inr, ◌∙◌, ◌++◌, ◌+◌, ℕ, suc, List, [], ◌∷◌, Some}
+use Rattle.std.proofs.Common.{refl, sym, ap, subst, arith, length, length-append, true}
 use Rattle.std.specs.Prelude.{is_some}
-use Rattle.std.specs.Str.{IsUtf8}
 use Rattle.std.proofs.lemmas.Bool.{and_from}
 use Rattle.std.proofs.lemmas.Bool.Decides.{nat_tests}
 use Rattle.units.specs.Words.{no_end}
@@ -16,15 +15,14 @@ use Rattle.sqlite_catalog.specs.Listing.{IsSound}
 use Rattle.sqlite_catalog.proofs.ReadLemmas.{lists_once}
 use Rattle.sqlite.specs.Effect.{Database}
 use Rattle.sqlite.specs.Held.{Held, state}
-use Rattle.sqlite.specs.State.{HasCleanDisk}
 use Rattle.sql_tables.specs.Schema.{book_schema}
 use Rattle.keepers.specs.declared.loaded.Change.{Change}
 use Rattle.voucher_rules.specs.declared.terms.VoucherTerms.{VoucherTerms}
 use Rattle.sql_tables.specs.declared.fault.OpenFault.{OpenFault}
 use Rattle.sql_tables.proofs.Keeps.{sound_fits}
-use Rattle.sql_rows.specs.Content.{content_of}
+use Rattle.sql_rows.specs.Content.{tables_content}
 use Rattle.sql_rows.specs.Values.{Meta}
-use Rattle.sql_rules.specs.Columns.{is_within}
+use Rattle.sql_rules.specs.Columns.{is_in_bounds}
 use Rattle.sql_rules.specs.Ruled.{IsInRules, is_book}
 use Rattle.sql_rules.proofs.Written.{rows_ruled}
 use Rattle.sql_keeper.specs.AddsBook.{BecomesDated}
@@ -43,7 +41,7 @@ use Rattle.sql_keeper.proofs.Shelving.{dated_shelf}
 
 -- ---- the row of a book that may follow
 
-within : (low high n : ℕ) → low ≤ n → n ≤ high → is_within low high n ≡ true
+within : (low high n : ℕ) → low ≤ n → n ≤ high → is_in_bounds low high n ≡ true
 within low high n least most = grind (arith, nat_tests, least, most)
 
 -- the last of books in their sequence begins after the first moment
@@ -71,16 +69,16 @@ book_ruled shelf b n from text number soon behind =
 
 -- where the books are those of the same rows
 ruled_by : (text : List ℕ) (shelf : Shelf) (old new : Trees)
-    → (content_of new).books ≡ (content_of old).books
-    → IsShelfOf text (content_of old).books shelf → IsInRules shelf (content_of new)
-    → (s : Shelf) → IsShelfOf text (content_of new).books s → IsInRules s (content_of new)
+    → (tables_content new).books ≡ (tables_content old).books
+    → IsShelfOf text (tables_content old).books shelf → IsInRules shelf (tables_content new)
+    → (s : Shelf) → IsShelfOf text (tables_content new).books s → IsInRules s (tables_content new)
 ruled_by text shelf old new same is in' s so =
-    subst (λ x. IsInRules x (content_of new))
-    (same_shelf text (content_of old).books shelf s is
+    subst (λ x. IsInRules x (tables_content new))
+    (same_shelf text (tables_content old).books shelf s is
     (subst (λ rows. IsShelfOf text rows s) same so)) in'
 
 there : (text : List ℕ) (trees : Trees) → IsLeftRuled text trees →
-    is_some (content_of trees).meta ≡ true
+    is_some (tables_content trees).meta ≡ true
 there text trees left = ap is_some left.left.kept.is
 
 pub left_ruled_again : AreLeftRuledAgain
@@ -110,10 +108,10 @@ left_ruled_again = record {
   };
   dated = λ text more n from old new left may soon b. record {
     left = left_again.dated text more n from old new left.left may b;
-    rules = λ s is. subst (λ x. IsInRules x (content_of new))
-        (same_shelf text (content_of new).books (with_book may.shelf from may.book) s
+    rules = λ s is. subst (λ x. IsInRules x (tables_content new))
+        (same_shelf text (tables_content new).books (with_book may.shelf from may.book) s
         (subst (λ rows. IsShelfOf text rows (with_book may.shelf from may.book)) (sym b.books)
-        (dated_shelf text more (content_of old).books n from may.shelf may.book may.is may.read
+        (dated_shelf text more (tables_content old).books n from may.shelf may.book may.is may.read
         may.number may.range may.behind)) is)
         (b.rules may.shelf may.book
         (book_ruled may.shelf may.book n from more may.number soon may.behind)
@@ -131,8 +129,8 @@ no_row text db left fits h =
     let row : h.kept.row ≡ left.left.kept.row = cc one in
     let book : h.kept.row.book ≡ text =
     ap (λ (m : Meta). m.book) row ∙ left.left.kept.book in
-    let is : IsShelfOf text (content_of db.trees).books h.shelf =
-    subst (λ t. IsShelfOf t (content_of db.trees).books h.shelf) book h.books in
+    let is : IsShelfOf text (tables_content db.trees).books h.shelf =
+    subst (λ t. IsShelfOf t (tables_content db.trees).books h.shelf) book h.books in
     h.unruled (rows_ruled h.shelf db.trees fits left.left.stored (left.rules h.shelf is) left.plain
     (there text db.trees left))
 
@@ -197,7 +195,7 @@ held_dated text more from shelf last b old new held read soon behind become = re
     behind = behind;
   }) soon become;
   books = subst (λ rows. IsShelfOf text rows (with_book shelf from b)) (sym become.books)
-      (dated_shelf text more (content_of old).books (suc (count shelf)) from shelf b held.books
+      (dated_shelf text more (tables_content old).books (suc (count shelf)) from shelf b held.books
       read refl (range_of from soon) behind);
   moment = held.moment ∙ sym (ap last_in become.meta);
 }

@@ -5,9 +5,9 @@ use Rattle.std.specs.Prelude.{if◌then◌else◌, ◌==◌, ◌&&◌, ◌||◌,
 use Rattle.std.specs.Prelude.{unwrap_or}
 use Rattle.std.specs.List.{find, list_any}
 use Rattle.std.proofs.lemmas.Bool.{and_parts}
-use Rattle.buckets.specs.declared.holds.Hold.{Hold}
+use Rattle.buckets.specs.declared.holds.HeldAmount.{HeldAmount}
 use Rattle.buckets.specs.declared.kind.BucketKind.TheVariants.{Money}
-use Rattle.buckets.specs.Row.{Row, new_row}
+use Rattle.buckets.specs.Row.{BucketRow, new_row}
 use Rattle.buckets.specs.Share.{parts}
 use Rattle.buckets.specs.Spend.{Each, AreDistinct}
 use Rattle.buckets.proofs.Parts.{sum_at, sum_at-parts, held_in-sum_at}
@@ -16,24 +16,25 @@ use Rattle.sql_rows.specs.declared.hold_rows.HeldColumns.{HeldColumns}
 use Rattle.sql_keeper.specs.GroupRows.{amount_of, is_held_of, are_held_of, holds_along}
 use Rattle.sql_keeper.proofs.Overlays.{number_from}
 
-held_as_sum : (n : ℕ) (hs : List Hold) → held_at n hs ≡ sum_at n hs
+held_as_sum : (n : ℕ) (hs : List HeldAmount) → held_at n hs ≡ sum_at n hs
 held_as_sum n hs = held_in-sum_at hs (new_row Money n 0 0 None 0)
 
 -- ---- a number that is there, and one that isn't
 
-present : (amount : ℕ → ℕ) (n : ℕ) (hs : List Hold) (bs : List Row)
+present : (amount : ℕ → ℕ) (n : ℕ) (hs : List HeldAmount) (bs : List BucketRow)
     → Each (λ b. sum_at b.number hs ≡ amount b.number) bs → list_any (λ b. b.number == n) bs ≡ true
     → sum_at n hs ≡ amount n
 present amount n hs [] each e = absurd (true≢false (sym e))
 present amount n hs (b ∷ bs) each e = go (present amount n hs bs each.1) (b.number == n) refl
   where
-    go : (list_any (λ (x : Row). x.number == n) bs ≡ true → sum_at n hs ≡ amount n) → (t : Bool)
+    go : (list_any (λ (x : BucketRow). x.number == n) bs ≡ true → sum_at n hs ≡ amount n) →
+        (t : Bool)
         → (b.number == n) ≡ t → sum_at n hs ≡ amount n
     go later true k = subst (λ m. sum_at m hs ≡ amount m) (number_from b.number n k) each.0
     go later false k =
-        later (subst (λ t. (t || list_any (λ (x : Row). x.number == n) bs) ≡ true) k e)
+        later (subst (λ t. (t || list_any (λ (x : BucketRow). x.number == n) bs) ≡ true) k e)
 
-of_another : (n : ℕ) (p : Bool) (h : Hold) (hs : List Hold) → (h.bucket == n) ≡ false
+of_another : (n : ℕ) (p : Bool) (h : HeldAmount) (hs : List HeldAmount) → (h.bucket == n) ≡ false
     → sum_at n hs ≡ 0 → sum_at n (cond p (h ∷ hs) hs) ≡ 0
 of_another n true h hs k rest =
     let here : (if h.bucket == n then h.amount else 0) ≡ 0 =
@@ -41,19 +42,22 @@ of_another n true h hs k rest =
     omega (arith, here, rest)
 of_another n false h hs k rest = rest
 
-absent : (f : Row → ℕ) (n : ℕ) (bs : List Row) → list_any (λ b. b.number == n) bs ≡ false
+absent : (f : BucketRow → ℕ) (n : ℕ) (bs : List BucketRow) → list_any (λ b. b.number == n) bs ≡
+    false
     → sum_at n (parts f bs) ≡ 0
 absent f n [] e = refl
 absent f n (b ∷ bs) e = go (absent f n bs) (b.number == n) refl
   where
-    go : (list_any (λ (x : Row). x.number == n) bs ≡ false → sum_at n (parts f bs) ≡ 0) → (t : Bool)
+    go : (list_any (λ (x : BucketRow). x.number == n) bs ≡ false → sum_at n (parts f bs) ≡ 0) →
+        (t : Bool)
         → (b.number == n) ≡ t → sum_at n (parts f (b ∷ bs)) ≡ 0
     go later true k =
         absurd
-        (true≢false (subst (λ t. (t || list_any (λ (x : Row). x.number == n) bs) ≡ false) k e))
+        (true≢false (subst (λ t. (t || list_any (λ (x : BucketRow). x.number == n) bs) ≡ false) k
+        e))
     go later false k =
         of_another n (nat_lt 0 (f b)) (record { bucket = b.number; amount = f b }) (parts f bs) k
-        (later (subst (λ t. (t || list_any (λ (x : Row). x.number == n) bs) ≡ false) k e))
+        (later (subst (λ t. (t || list_any (λ (x : BucketRow). x.number == n) bs) ≡ false) k e))
 
 -- ---- what is held
 
@@ -61,7 +65,7 @@ is_there : (a p q : Bool) → a ≡ true → (not a || (p && q)) ≡ true → q 
 is_there true p q e k = (and_parts p q k).1
 is_there false p q e k = absurd (true≢false (sym e))
 
-none_held : (buckets : List Row) (g n : ℕ) (held : List HeldColumns)
+none_held : (buckets : List BucketRow) (g n : ℕ) (held : List HeldColumns)
     → list_any (λ b. b.number == n) buckets ≡ false → are_held_of buckets g held ≡ true
     → amount_of g held n ≡ 0
 none_held buckets g n [] missing all = refl
@@ -78,22 +82,24 @@ none_held buckets g n (x ∷ xs) missing all =
         (cond t (Some x) (find (λ y. y.group == g && y.bucket == n) xs))) 0 ≡ 0
     go later true e =
         let key = and_parts (x.group == g) (x.bucket == n) e in
-        let there : list_any (λ (b : Row). b.number == x.bucket) buckets ≡ true =
+        let there : list_any (λ (b : BucketRow). b.number == x.bucket) buckets ≡ true =
         is_there (x.group == g) (nat_lt 0 x.amount)
-        (list_any (λ (b : Row). b.number == x.bucket) buckets) key.0 split.0 in
-        absurd (true≢false (sym (subst (λ m. list_any (λ (b : Row). b.number == m) buckets ≡ true)
+        (list_any (λ (b : BucketRow). b.number == x.bucket) buckets) key.0 split.0 in
+        absurd (true≢false (sym (subst (λ m. list_any (λ (b : BucketRow). b.number == m) buckets ≡
+        true)
         (number_from x.bucket n key.1) there) ∙ missing))
     go later false e = later split.1
 
 -- of each bucket what is held of it
-pub held_along : (buckets : List Row) (g n : ℕ) (held : List HeldColumns) → AreDistinct buckets
+pub held_along : (buckets : List BucketRow) (g n : ℕ) (held : List HeldColumns) →
+    AreDistinct buckets
     → are_held_of buckets g held ≡ true
     → held_at n (holds_along buckets g held) ≡ amount_of g held n
 held_along buckets g n held distinct all =
     held_as_sum n (holds_along buckets g held)
-    ∙ go (list_any (λ (b : Row). b.number == n) buckets) refl
+    ∙ go (list_any (λ (b : BucketRow). b.number == n) buckets) refl
   where
-    go : (t : Bool) → list_any (λ (b : Row). b.number == n) buckets ≡ t
+    go : (t : Bool) → list_any (λ (b : BucketRow). b.number == n) buckets ≡ t
         → sum_at n (holds_along buckets g held) ≡ amount_of g held n
     go true e =
         present (amount_of g held) n (holds_along buckets g held) buckets

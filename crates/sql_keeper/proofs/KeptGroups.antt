@@ -8,7 +8,7 @@ use Rattle.sqlite_trees.specs.Tree.{Trees}
 use Rattle.sql_tables.specs.Statements.{Attempts}
 use Rattle.identifiers.specs.Texts.{same_name}
 use Rattle.buckets.specs.Holding.{AreHolds}
-use Rattle.buckets.specs.declared.holds.Hold.{Hold}
+use Rattle.buckets.specs.declared.holds.HeldAmount.{HeldAmount}
 use Rattle.reserving.specs.declared.session.Session.{Session}
 use Rattle.reserving.specs.declared.session.SessionGroup.{SessionGroup}
 use Rattle.reserving.specs.declared.session.Reservation.{Reservation}
@@ -20,11 +20,11 @@ use Rattle.reserving.proofs.LeftParted.{one_group}
 use Rattle.reserving.proofs.LeftTests.{none_more}
 use Rattle.reserving.proofs.Lists.{find-passes, no_some, not_both, some_of}
 use Rattle.keepers.specs.Keyed.{same_group}
-use Rattle.sql_rows.specs.Content.{Rows, Content, rows_in, with_group, with_rows}
+use Rattle.sql_rows.specs.Content.{TableRows, TablesContent, rows_in, with_group_row, with_rows}
 use Rattle.sql_rows.specs.Makes.{Makes}
 use Rattle.sql_keeper.specs.Content.{Names}
 use Rattle.sql_keeper.specs.Grants.{is_grant, is_kept, is_name, only_bucket, same_grant, grant_with}
-use Rattle.sql_keeper.specs.Seen.{IsSeen, Sees}
+use Rattle.sql_keeper.specs.Seen.{Sees}
 use Rattle.sql_keeper.specs.Tests.{AreWritable}
 use Rattle.sql_keeper.specs.Writes.{columns_of, with_group_over, with_groups_over, with_held_group}
 use Rattle.sql_keeper.specs.Writes.{with_kept_group, with_named, with_stored}
@@ -45,14 +45,14 @@ module _ {B E : Type 0} (a : List ℕ) (names : Names) (seen : Option SeenAccoun
       → Attempts {A = B} {E = E} (Makes (with_kept_group a names r)) old new z
       → Attempts {A = B} {E = E} (Makes (with_group_over a names seen r)) old new z
   over_kept e =
-      subst (λ (f : Content → Content). Attempts {A = B} {E = E} (Makes f) old new z)
+      subst (λ (f : TablesContent → TablesContent). Attempts {A = B} {E = E} (Makes f) old new z)
       (λ i c. if sym e i then with_kept_group a names r c else with_held_group a names r c)
 
   pub over_held : is_kept seen a r ≡ false
       → Attempts {A = B} {E = E} (Makes (with_held_group a names r)) old new z
       → Attempts {A = B} {E = E} (Makes (with_group_over a names seen r)) old new z
   over_held e =
-      subst (λ (f : Content → Content). Attempts {A = B} {E = E} (Makes f) old new z)
+      subst (λ (f : TablesContent → TablesContent). Attempts {A = B} {E = E} (Makes f) old new z)
       (λ i c. if sym e i then with_kept_group a names r c else with_held_group a names r c)
 
 -- ---- what is put, some of it over what stays
@@ -65,7 +65,7 @@ module _ (names : Names) (k : SessionGroup → Bool) where
   amount_mixed n r before = if k r then first_of (amount_at n (holds_in r.reservation)) before
       else amount_at n (holds_in r.reservation)
 
-  abbrev put_mixed : SessionGroup → Rows → Rows
+  abbrev put_mixed : SessionGroup → TableRows → TableRows
   put_mixed r x = record x {
     groups = λ t h. if same_name r.session t && nat_eq r.group h then Some (columns_of names r)
         else x.groups t h;
@@ -83,7 +83,7 @@ module _ (names : Names) (k : SessionGroup → Bool) where
   held_in n None before = before
   held_in n (Some r) before = amount_mixed n r before
 
-  abbrev over_mixed : List SessionGroup → Rows → Rows
+  abbrev over_mixed : List SessionGroup → TableRows → TableRows
   over_mixed gs x = record x {
     groups = λ s g. first_of (option_map (columns_of names) (group_in s g gs)) (x.groups s g);
     grant_books = λ s g. book_in (group_in s g gs) (x.grant_books s g);
@@ -117,11 +117,11 @@ module _ (names : Names) (k : SessionGroup → Bool) where
       at false e = refl
 
   -- where what stays is what would be put, all is put
-  record Stays (r : Rows) (s : List ℕ) (g : ℕ) (x : SessionGroup) : Type 0 where
+  record Stays (r : TableRows) (s : List ℕ) (g : ℕ) (x : SessionGroup) : Type 0 where
     book : r.grant_books s g ≡ book_put x.reservation
     held : (n : ℕ) → amount_at n (holds_in x.reservation) ≡ None → r.holds s g n ≡ None
 
-  module _ (gs : List SessionGroup) (r : Rows)
+  module _ (gs : List SessionGroup) (r : TableRows)
       (stays : (s : List ℕ) (g : ℕ) (x : SessionGroup) → group_in s g gs ≡ Some x → k x ≡ true
       → Stays r s g x) where
     book_same : (s : List ℕ) (g : ℕ) (o : Option SessionGroup) → group_in s g gs ≡ o →
@@ -167,10 +167,10 @@ module _ (a : List ℕ) (names : Names) (seen : Option SeenAccount) where
   same_book true o = refl
   same_book false o = refl
 
-  kept_put : (r : SessionGroup) (c : Content) → AreHolds (holds_in r.reservation) →
+  kept_put : (r : SessionGroup) (c : TablesContent) → AreHolds (holds_in r.reservation) →
       kept r ≡ true → with_kept_group a names r c ≡ with_rows a (put_mixed names kept r) c
   kept_put r c h e =
-      let one = with_group r.session r.group (columns_of names r) in
+      let one = with_group_row r.session r.group (columns_of names r) in
       holds_over a r.session r.group (holds_in r.reservation) (with_rows a one c) h
       ∙ with_twice a (over_holds r.session r.group (holds_in r.reservation)) one c
       ∙ (λ i. with_rows a (λ x. record (over_holds r.session r.group (holds_in r.reservation)
@@ -187,7 +187,7 @@ module _ (a : List ℕ) (names : Names) (seen : Option SeenAccount) where
             else amount_at n (holds_in r.reservation)) else x.holds t h n;
       }) c)
 
-  held_put : (r : SessionGroup) (c : Content) → AreHolds (holds_in r.reservation) →
+  held_put : (r : SessionGroup) (c : TablesContent) → AreHolds (holds_in r.reservation) →
       kept r ≡ false → with_held_group a names r c ≡ with_rows a (put_mixed names kept r) c
   held_put r c h e =
       group_put a names r c h
@@ -200,7 +200,7 @@ module _ (a : List ℕ) (names : Names) (seen : Option SeenAccount) where
             else amount_at n (holds_in r.reservation)) else x.holds t h n;
       }) c)
 
-  one_put : (r : SessionGroup) (c : Content) → AreHolds (holds_in r.reservation) →
+  one_put : (r : SessionGroup) (c : TablesContent) → AreHolds (holds_in r.reservation) →
       with_group_over a names seen r c ≡ with_rows a (put_mixed names kept r) c
   one_put r c h = at (kept r) refl
     where
@@ -211,7 +211,7 @@ module _ (a : List ℕ) (names : Names) (seen : Option SeenAccount) where
       at false e = held_put r c h e
 
   mixed_each : (sessions : List Session) (gs : List SessionGroup)
-      (c : Content) → AreWritable names sessions gs →
+      (c : TablesContent) → AreWritable names sessions gs →
       with_groups_over a names seen gs c ≡ each a (put_mixed names kept) gs c
   unfolding each
   mixed_each sessions [] c h = refl
@@ -221,7 +221,7 @@ module _ (a : List ℕ) (names : Names) (seen : Option SeenAccount) where
       (one_put r c (may_hold names sessions r.session r.reservation h.0))
 
   mixed_over : (sessions : List Session) (gs : List SessionGroup)
-      (c : Content) → AreApart same_group gs → AreWritable names sessions gs →
+      (c : TablesContent) → AreApart same_group gs → AreWritable names sessions gs →
       with_groups_over a names seen gs c ≡ with_rows a (over_mixed names kept gs) c
   mixed_over sessions gs c apart h =
       mixed_each sessions gs c h
@@ -235,12 +235,13 @@ module _ (a : List ℕ) (names : Names) (seen : Option SeenAccount) where
 -- ---- the rows of an account
 
 -- a row whose reservation was seen is stored so
-pub record IsKeptIn (r : Rows) (x : SessionGroup) : Type 0 where
+pub record IsKeptIn (r : TableRows) (x : SessionGroup) : Type 0 where
   pub book : r.grant_books x.session x.group ≡ book_put x.reservation
   pub held : (n : ℕ) → amount_at n (holds_in x.reservation) ≡ None
       → r.holds x.session x.group n ≡ None
 
-opened_same : (a : List ℕ) (f g : Rows → Rows) (c : Content) → f (c.rows a) ≡ g (c.rows a) →
+opened_same : (a : List ℕ) (f g : TableRows → TableRows) (c : TablesContent) →
+    f (c.rows a) ≡ g (c.rows a) →
     opened a f c ≡ opened a g c
 opened_same a f g c same = λ i. record (opened a f c) {
   rows = λ x. at x (same_name a x) refl i;
@@ -251,7 +252,7 @@ opened_same a f g c same = λ i. record (opened a f c) {
     at x true e = subst (λ y. f (c.rows y) ≡ g (c.rows y)) (name_from a x e) same
     at x false e = refl
 
-module _ (a : List ℕ) (names : Names) (sessions : List Session) (w : StoredRows) (c : Content)
+module _ (a : List ℕ) (names : Names) (sessions : List Session) (w : StoredRows) (c : TablesContent)
     (keyed : AreKeyed w) (may : AreWritable names sessions w.groups) (seen : Option SeenAccount)
     (stand : (x : SessionGroup) → is_kept seen a x ≡ true → IsKeptIn (c.rows a) x) where
   -- all but the groups
@@ -303,12 +304,12 @@ module _ (a : List ℕ) (names : Names) (sessions : List Session) (w : StoredRow
 -- ---- what was seen
 
 -- the bucket is one of those of which something is held
-bucket_there : (b : ℕ) (hs : List Hold) → only_bucket hs ≡ Some b → ¬ (amount_at b hs ≡ None)
+bucket_there : (b : ℕ) (hs : List HeldAmount) → only_bucket hs ≡ Some b → ¬ (amount_at b hs ≡ None)
 bucket_there b [] e none = no_some b e
 bucket_there b (h ∷ l ∷ hs) e none = no_some b e
 bucket_there b (h ∷ []) e none =
     no_some h.amount (sym none
-    ∙ ap (λ t. option_map (λ (x : Hold). x.amount) (cond t (Some h) None))
+    ∙ ap (λ t. option_map (λ (x : HeldAmount). x.amount) (cond t (Some h) None))
     (ap (nat_eq h.bucket) (sym (some_of h.bucket b e)) ∙ number_itself h.bucket))
 
 -- the same reservation

@@ -6,7 +6,7 @@ use Rattle.std.proofs.lemmas.Result.{IfOk-weaker}
 use Rattle.sqlite_trees.specs.Tree.{Trees}
 use Rattle.sqlite.specs.Effect.{Database}
 use Rattle.sqlite.specs.State.{State, HasCleanDisk}
-use Rattle.buckets.specs.Row.{Row}
+use Rattle.buckets.specs.Row.{BucketRow}
 use Rattle.buckets.specs.Spend.{AreDistinct}
 use Rattle.reserving.specs.declared.session.Session.{Session}
 use Rattle.reserving.specs.declared.session.SessionGroup.{SessionGroup}
@@ -14,16 +14,16 @@ use Rattle.reserving.specs.Left.{is_open_row}
 use Rattle.reserving.proofs.Lists.{no_some}
 use Rattle.reserving.specs.Sessions.{is_open}
 use Rattle.keepers.specs.Change.{has_reservation}
-use Rattle.sql_tables.specs.Selects.{only}
+use Rattle.sql_tables.specs.Selects.{passing}
 use Rattle.sql_tables.specs.Statements.{OnlyReads}
 use Rattle.sql_rows.specs.declared.open_group_rows.OpenGroup.{OpenGroup}
 use Rattle.sql_rows.specs.declared.session_book_rows.SessionBook.{SessionBook}
 use Rattle.sql_rows.specs.declared.session_hold_rows.SessionHold.{SessionHold}
-use Rattle.sql_rows.specs.Content.{Rows as Stored, rows_in}
+use Rattle.sql_rows.specs.Content.{TableRows, rows_in}
 use Rattle.sql_rows.specs.Lists.{AreAllGrantBooks, AreAllHolds, AreOpenGroups, AreSessions}
 use Rattle.sql_rows.specs.Texts.{open_group_at, session_book_at, session_hold_at}
 use Rattle.sql_rows.specs.Values.{Group}
-use Rattle.sql_keeper.specs.Content.{group_in as group_told, is_reserved, held_in, Names}
+use Rattle.sql_keeper.specs.Content.{stored_group_in, is_reserved, held_in, Names}
 use Rattle.sql_keeper.specs.GroupRows.{AreGroupsOf}
 use Rattle.sql_keeper.specs.LiveGroups.{Gathers, AreLiveGroups, AreOpenGroupsLoaded}
 use Rattle.sql_keeper.specs.LiveGroups.{AreOpenSessions}
@@ -32,7 +32,7 @@ use Rattle.sql_keeper.proofs.InTurn.{HaveRead, have_read_then, gathers_from}
 
 -- ---- the open sessions
 
-among_open : (x y : Option Session) → x ≡ only (λ (r : Session). is_open r.state) y
+among_open : (x y : Option Session) → x ≡ passing (λ (r : Session). is_open r.state) y
     → is_some x ≡ is_open_row y
 among_open x None e = ap is_some e
 among_open x (Some r) e = ap is_some e ∙ go (is_open r.state)
@@ -42,19 +42,21 @@ among_open x (Some r) e = ap is_some e ∙ go (is_open r.state)
     go false = refl
 
 -- where there is none, they have nothing
-pub none_open : (names : Names) (rows : Stored) (ss : List Session) (xs : List SessionGroup)
+pub none_open : (names : Names) (rows : TableRows) (ss : List Session) (xs : List SessionGroup)
     → ss ≡ [] → xs ≡ [] → AreSessions (λ x. is_open x.state) rows ss
     → AreOpenSessions names rows ss xs
 none_open names rows ss xs no_sessions nothing open_ones = record {
   sessions = open_ones;
   groups = subst (AreLiveGroups names rows) (sym nothing) (record {
-    groups = λ s g.
-        ap (λ t. if t then option_map (group_told names true (rows.grant_books s g))
-        (rows.groups s g)
-        else None) (shut s);
-    holds = λ s g n.
-        ap (λ t. if t then held_in (is_reserved (rows.groups s g)) (rows.holds s g n) else 0)
-        (shut s);
+    told = record {
+      groups = λ s g.
+          ap (λ t. if t then option_map (stored_group_in names true (rows.grant_books s g))
+          (rows.groups s g)
+          else None) (shut s);
+      holds = λ s g n.
+          ap (λ t. if t then held_in (is_reserved (rows.groups s g)) (rows.holds s g n) else 0)
+          (shut s);
+    };
     grants = λ s g x v e f. absurd (no_some x e);
   });
 }
@@ -64,23 +66,23 @@ none_open names rows ss xs no_sessions nothing open_ones = record {
         (subst (AreSessions (λ x. is_open x.state) rows) no_sessions open_ones s)
 
 none_reserved : (names : Names) (book : Option ℕ) (o : Option Group)
-    → has_reservation (option_map (group_told names false book) o) ≡ false
+    → has_reservation (option_map (stored_group_in names false book) o) ≡ false
 none_reserved names book None = refl
 none_reserved names book (Some x) = refl
 
 loaded_rows : (names : Names) (open_is : Bool) (book : Option ℕ) (o : Option Group)
-    → (if open_is then option_map (group_told names true book) o else None)
-    ≡ (if open_is || has_reservation (option_map (group_told names open_is book) o)
-    then option_map (group_told names open_is book) o else None)
+    → (if open_is then option_map (stored_group_in names true book) o else None)
+    ≡ (if open_is || has_reservation (option_map (stored_group_in names open_is book) o)
+    then option_map (stored_group_in names open_is book) o else None)
 loaded_rows names true book o = refl
 loaded_rows names false book o =
-    ap (λ t. if t then option_map (group_told names false book) o else None)
+    ap (λ t. if t then option_map (stored_group_in names false book) o else None)
     (sym (none_reserved names book o))
 
 loaded_holds : (names : Names) (open_is : Bool) (book : Option ℕ) (o : Option Group)
     (amount : Option ℕ)
     → (if open_is then held_in (is_reserved o) amount else 0)
-    ≡ (if open_is || has_reservation (option_map (group_told names open_is book) o)
+    ≡ (if open_is || has_reservation (option_map (stored_group_in names open_is book) o)
     then held_in (open_is && is_reserved o) amount else 0)
 loaded_holds names true book o amount = refl
 loaded_holds names false book o amount =
@@ -110,7 +112,8 @@ told_before P old mid new first second clean on =
 
 -- the rows of the open sessions, and what is held for sessions, read one after the other
 pub gathered : {V E : Type 0} (items : V → List SessionGroup) (names : Names) (a : List ℕ)
-    (buckets : List Row) (cs : List OpenGroup) (held : List SessionHold) (books : List SessionBook)
+    (buckets : List BucketRow) (cs : List OpenGroup) (held : List SessionHold)
+    (books : List SessionBook)
     (old mid late new : State) (r : Result V E) → AreDistinct buckets → HaveRead old mid
     → HaveRead mid late → HaveRead late new
     → (HasCleanDisk mid → AreOpenGroups (rows_in old.now.trees a) (map open_group_at cs))

@@ -13,19 +13,19 @@ use Rattle.reserving.specs.Stored.{StoredRows, stored}
 use Rattle.reserving.specs.Restored.{in_key_order, FindsSame}
 use Rattle.keepers.specs.Tables.{group_row, held_of}
 use Rattle.reserving.proofs.LeftParted.{either_none}
-use Rattle.sql_rows.specs.Content.{Rows as Stored}
+use Rattle.sql_rows.specs.Content.{TableRows}
 use Rattle.keepers.specs.declared.loaded.Loaded.{Loaded}
 use Rattle.keepers.specs.declared.fault.StoreFault.{StoreFault}
 use Rattle.keepers.specs.declared.fault.StoreFault.TheVariants.{Store}
 use Rattle.keepers.specs.Tables.{Rows, Tables}
 use Rattle.keepers.specs.Change.{IsLoadedFrom, IsLoad, IsView}
-use Rattle.keepers.specs.Keeping.{Reads}
-use Rattle.sql_keeper.specs.Content.{head_in, rows_of, Names}
+use Rattle.keepers.specs.Keeping.{KeeperReads}
+use Rattle.sql_keeper.specs.Content.{head_in, told_rows, Names}
 use Rattle.sql_keeper.specs.LiveRows.{AreLiveBuckets, AreLiveRows, AreLiveRowsLoaded, IsAccountOf}
 use Rattle.sql_keeper.specs.LiveRows.{IsLiveAccount, IsLoadOf, IsReadAccount, IsReadUncounted}
-use Rattle.sql_keeper.specs.LiveRows.{IsLoadStored, account_with}
-use Rattle.sql_keeper.specs.LiveGroups.{AreLiveGroups}
-use Rattle.sql_keeper.specs.Writes.{head_of}
+use Rattle.sql_keeper.specs.LiveRows.{IsLoadStored, IsToldAccount, account_with}
+use Rattle.sql_keeper.specs.LiveGroups.{AreToldGroups}
+use Rattle.sql_keeper.specs.Writes.{head_columns_of}
 use Rattle.sql_keeper.specs.declared.live_rows.ReadRows.{ReadRows}
 use Rattle.sql_keeper.proofs.DeadRows.{those_are}
 use Rattle.sql_keeper.proofs.LiveGroups.{open_loaded}
@@ -52,29 +52,29 @@ find_kept q p b same (x ∷ xs) = at b (p x) (q x) refl refl (same x) (find_kept
 -- ---- all of it
 
 -- an account that finds under each key what was read
-pub live_read : (names : Names) (shelf : Shelf) (t : ℕ) (told : Stored) (x : ReadRows)
+pub live_read : (names : Names) (shelf : Shelf) (t : ℕ) (told : TableRows) (x : ReadRows)
     (w : StoredRows) → IsReadAccount names shelf t told (Some x)
     → w ≡ in_key_order (account_with x.head x.rows x.counters.items)
     → FindsSame (account_with x.head x.rows x.counters.items) w
     → IsLiveAccount names shelf t told (Some w)
 live_read names shelf t told x w (head, live, counters) is found =
-    let groups : AreLiveGroups names told w.groups = record {
+    let groups : AreToldGroups names told w.groups = record {
       groups = λ s g.
-          ap (option_map group_row) (found.groups s g) ∙ live.groups.groups s g;
+          ap (option_map group_row) (found.groups s g) ∙ live.told.groups.groups s g;
       holds = λ s g n.
-          ap (held_of n) (found.groups s g) ∙ live.groups.holds s g n;
-      grants = λ s g y v e f.
-          live.groups.grants s g y v (sym (found.groups s g) ∙ e) f;
-    } in (
-      head ∙ ap Some (sym (ap head_of is)),
+          ap (held_of n) (found.groups s g) ∙ live.told.groups.holds s g n;
+    } in
+    let account : IsToldAccount names shelf t told w = (
+      head ∙ ap Some (sym (ap head_columns_of is)),
       record {
         buckets = subst (AreLiveBuckets told)
-            (sym (ap (λ (v : StoredRows). v.buckets) is)) live.buckets;
-        sessions = λ s. found.sessions s ∙ live.sessions s;
+            (sym (ap (λ (v : StoredRows). v.buckets) is)) live.told.buckets;
+        sessions = λ s. found.sessions s ∙ live.told.sessions s;
         groups = groups;
       },
       (λ g c. found.counters g c ∙ counters g c),
-    )
+    ) in
+    (account, (λ s g y v e f. live.grants s g y v (sym (found.groups s g) ∙ e) f))
 
 -- what is told whatever the shelf and the moment
 pub for_each : {A E : Type 0} (P : Shelf → ℕ → A → Type 0) (r : Result A E)
@@ -84,34 +84,33 @@ for_each P (Ok x) each = each
 for_each P (Err e) each = tt
 
 -- a head and what may still change whatever the moment, without a counter
-pub uncounted : (names : Names) (rows : Stored) (x : ReadRows) → Some x.head ≡ rows.head
+pub uncounted : (names : Names) (rows : TableRows) (x : ReadRows) → Some x.head ≡ rows.head
     → AreLiveRows names rows x.rows.purse x.rows.sessions.items x.rows.groups.items
     → x.counters.items ≡ [] → IsReadUncounted names rows (Some x)
 uncounted names rows x head live none shelf t = (
   sym head,
   record {
-    buckets = live.buckets;
-    sessions = live.sessions;
-    groups = record {
-      groups = live.groups.groups;
-      holds = live.groups.holds;
-      grants = λ s g y v e f. record {
-        book = (live.groups.grants s g y v e f).book;
-        held = (live.groups.grants s g y v e f).held;
-      };
+    told = record {
+      buckets = live.told.buckets;
+      sessions = live.told.sessions;
+      groups = record { groups = live.told.groups.groups; holds = live.told.groups.holds };
+    };
+    grants = λ s g y v e f. record {
+      book = (live.grants s g y v e f).book;
+      held = (live.grants s g y v e f).held;
     };
   },
   (λ g c. ap (counter_in g c) none ∙ either_none (c == cycle_at shelf g t) None refl),
 )
 
 pub live_loaded : AreLiveRowsLoaded
-live_loaded names shelf t rows w (head, live, counters) =
-    let groups = open_loaded names rows w.groups live.groups in
+live_loaded names shelf t rows w (head, told, counters) =
+    let groups = open_loaded names rows w.groups told.groups in
     record {
       priced_by = refl;
       head = ap (option_map head_in) head;
-      buckets = live.buckets;
-      sessions = λ s. live.sessions s
+      buckets = told.buckets;
+      sessions = λ s. told.sessions s
           ∙ those_are (λ (x : Session). is_open x.state) (λ x. is_open x.state) (λ x. refl)
           (rows.sessions s);
       groups = groups.groups;
@@ -120,7 +119,7 @@ live_loaded names shelf t rows w (head, live, counters) =
     }
 
 pub load_made : {E : Type 0} (names : Names) (shelf : Shelf) (t : ℕ) (a : List ℕ)
-    (rows : Stored) (o : Option StoredRows) (r : Result (Option Loaded) E)
+    (rows : TableRows) (o : Option StoredRows) (r : Result (Option Loaded) E)
     → IfOk r (IsLoadOf shelf a o) → IsLiveAccount names shelf t rows o
     → IfOk r (IsLoadStored names shelf t a rows)
 load_made names shelf t a rows None (Ok None) made live =
@@ -130,12 +129,12 @@ load_made names shelf t a rows (Some w) (Ok None) made live = absurd made
 load_made names shelf t a rows (Some w) (Ok (Some l)) (number, account, before) live = record {
   load = (
     number,
-    subst (IsLoadedFrom shelf t (rows_of names rows)) (sym account)
-        (live_loaded names shelf t rows w live),
+    subst (IsLoadedFrom shelf t (told_rows names rows)) (sym account)
+        (live_loaded names shelf t rows w live.0),
     before ∙ ap stored (sym account),
   );
-  grants = λ s g x v e f. live.1.groups.grants s g x v
-      (ap (λ (y : StoredRows). group_in s g y.groups) (sym before) ∙ e) f;
+  grants = λ s g x v e f.
+      live.1 s g x v (ap (λ (y : StoredRows). group_in s g y.groups) (sym before) ∙ e) f;
 }
 load_made names shelf t a rows o (Err e) made live = tt
 
@@ -152,8 +151,8 @@ pub viewed : {K : Type 0} (content : K → Tables) (failed : K → ℕ) (honest 
     (leaves : K → Tables → Type 0) (old new : K)
     (shelf : Shelf) (t : ℕ) (a : List ℕ) (rows : Rows) (r : Result (Option Loaded) StoreFault)
     (q : Result (Option AccountRows) StoreFault) → IsAccountOf r q
-    → Reads content failed honest clean leaves old new (IsLoad shelf t a rows) r
-    → Reads content failed honest clean leaves old new (IsView shelf t rows) q
+    → KeeperReads content failed honest clean leaves old new (IsLoad shelf t a rows) r
+    → KeeperReads content failed honest clean leaves old new (IsView shelf t rows) q
 viewed content failed honest clean leaves old new shelf t a rows r q is h = record {
   found = λ now. found r q is (h.found now);
   same = h.same;

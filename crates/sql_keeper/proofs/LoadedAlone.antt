@@ -4,7 +4,7 @@ use Rattle.std.proofs.Common.{◌≡◌, ℕ, Bool, true, false, List, refl, sym
 use Rattle.std.proofs.Common.{None}
 use Rattle.std.specs.Prelude.{if◌then◌else◌, ◌==◌, ◌||◌, not, option_map}
 use Rattle.shelves.specs.Shelves.{Shelf}
-use Rattle.buckets.specs.Row.{Row}
+use Rattle.buckets.specs.Row.{BucketRow}
 use Rattle.reserving.specs.declared.session.Session.{Session}
 use Rattle.reserving.specs.Pricing.{cycle_at}
 use Rattle.reserving.specs.Sessions.{is_open, session_in, group_in}
@@ -54,7 +54,7 @@ neither true p e = absurd (not_so e)
     not_so e = cc
 neither false p e = (refl, e)
 
-alive : (b : Row) → not (is_dead b) ≡ false → is_dead b ≡ true
+alive : (b : BucketRow) → not (is_dead b) ≡ false → is_dead b ≡ true
 alive b e = at (is_dead b) e
   where
     at : (u : Bool) → not u ≡ false → u ≡ true

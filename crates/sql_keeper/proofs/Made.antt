@@ -11,7 +11,7 @@ use Rattle.sqlite.specs.Held.{Held, state}
 use Rattle.sqlite.specs.State.{HasCleanDisk, IsLive, State}
 use Rattle.sql_tables.specs.Statements.{HasIdleBook}
 use Rattle.sql_tables.proofs.Keeps.{fits_of}
-use Rattle.sql_rows.specs.Content.{content_of}
+use Rattle.sql_rows.specs.Content.{tables_content}
 use Rattle.sql_rules.specs.Ruled.{IsInRules}
 use Rattle.sql_rules.specs.Tables.{AreRuled}
 use Rattle.sql_rules.proofs.Contents.{content_ruled}
@@ -50,8 +50,9 @@ module _ {S : Type 0} (g : Ghosts S) (law : AreSettled g) (h : Held S) (r : Read
             utf8 = IsUtf8-string_bytes r.text;
             shelf = (r.own, it.read.books);
           };
-          rules = λ s is. subst (λ x. IsInRules x (content_of trees))
-              (same_shelf (string_bytes r.text) (content_of trees).books r.own s it.read.books is)
+          rules = λ s is. subst (λ x. IsInRules x (tables_content trees))
+              (same_shelf (string_bytes r.text) (tables_content trees).books r.own s it.read.books
+              is)
               (it.rules (fits_of (state g h) (on clean) book live));
           plain = it.plain;
         };
@@ -92,8 +93,8 @@ created_read text old new u r c alone same last clean =
           book = sym same;
           last = omega arith;
         };
-        books = subst (λ t. IsShelfOf t (content_of new.now.trees).books r.own) (sym same)
-            (alone_shelf text (content_of new.now.trees).books r.own alone.is alone.alone
+        books = subst (λ t. IsShelfOf t (tables_content new.now.trees).books r.own) (sym same)
+            (alone_shelf text (tables_content new.now.trees).books r.own alone.is alone.alone
             alone.first made.books);
         last = last ∙ sym (ap last_in made.meta);
       };

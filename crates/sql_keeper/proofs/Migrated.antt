@@ -1,5 +1,5 @@
 -- What a migration leaves of what the tables held.
-use Rattle.std.proofs.Common.{◌≡◌, ◌≤◌, ◌<◌, ◌∙◌, ℕ, zero, suc, Bool, true, false, List, [], Option}
+use Rattle.std.proofs.Common.{◌≡◌, ◌≤◌, ◌<◌, ◌∙◌, ℕ, zero, suc, Bool, true, false, List, Option}
 use Rattle.std.proofs.Common.{Some, None, refl, sym, ap, subst, arith, length, nat_le}
 use Rattle.std.proofs.lemmas.Option.{same_Some}
 use Rattle.std.specs.Prelude.{if◌then◌else◌, is_some, option_map}
@@ -19,12 +19,12 @@ use Rattle.sql_tables.specs.Keyed.{look, table_of}
 use Rattle.sql_tables.specs.Schema.{book_schema, latest, pieces_to, schema_at}
 use Rattle.sql_tables.specs.Schema as table
 use Rattle.sql_tables.specs.Stages.{AreEmpty, tables_between}
-use Rattle.sql_rows.specs.Content.{Content, Rows as Stored, content_of, with_meta}
+use Rattle.sql_rows.specs.Content.{TablesContent, TableRows, tables_content, with_meta}
 use Rattle.sql_rows.specs.Makes.{Turns}
 use Rattle.sql_rows.specs.Values as values
 use Rattle.sql_rows.specs.Values.{Group, Meta, PeriodNames}
 use Rattle.sql_tables.specs.Opens.{IsVersion}
-use Rattle.sql_keeper.specs.Content.{Names, group_in, is_reserved, last_in, rows_of}
+use Rattle.sql_keeper.specs.Content.{Names, stored_group_in, is_reserved, last_in, told_rows}
 use Rattle.sql_keeper.specs.Content.{answer_in, tables_of}
 use Rattle.sql_keeper.specs.Migrates.{AreGranted, BecomesLatest, before_2, before_3, content_at}
 use Rattle.sql_keeper.specs.Migrates.{granted_in, with_granted}
@@ -46,82 +46,82 @@ abbrev pub AreKept : ℕ → Trees → Trees → Type 0
 AreKept v old new = KeepsRows (schema_at v).tables old new
     × AreEmpty (tables_between (length (pieces_to v)) (length (pieces_to latest))) new
 
-kept_1 : (old new : Trees) → AreKept 1 old new → content_of new ≡ content_at 1 old
+kept_1 : (old new : Trees) → AreKept 1 old new → tables_content new ≡ content_at 1 old
 kept_1 old new (k, e) = λ i. record {
   meta = option_map values.meta_in (looked_still table.meta old new k.0 values.meta_key i);
   kept = length (k.0 i);
   rows = λ a. record {
     head = option_map values.head_in
         (looked_still table.accounts old new k.1.0 (values.head_key a) i);
-    buckets = λ n. option_map values.bucket_in
+    buckets = λ n. option_map values.bucket_in_row
         (looked_still table.buckets old new k.1.1.0 (values.bucket_key a n) i);
-    counters = λ g c. option_map values.counter_in
+    counters = λ g c. option_map values.counter_in_row
         (looked_still table.counters old new k.1.1.1.0 (values.counter_key a g c) i);
-    sessions = λ s. option_map values.session_in
+    sessions = λ s. option_map values.session_in_row
         (looked_still table.sessions old new k.1.1.1.1.0 (values.session_key a s) i);
-    groups = λ s g. option_map values.group_in
+    groups = λ s g. option_map values.group_in_row
         (looked_still table.session_groups old new k.1.1.1.1.1.0 (values.group_key a s g) i);
     holds = λ s g n. option_map values.hold_in
         (looked_still table.holds old new k.1.1.1.1.1.1.0 (values.hold_key a s g n) i);
-    answers = λ kind name number. option_map values.answer_in
+    answers = λ kind name number. option_map values.answer_in_row
         (looked_still table.answers old new k.1.1.1.1.1.1.1.0
         (values.answer_key a kind name number) i);
-    charges = λ n. option_map values.charge_in
+    charges = λ n. option_map values.charge_in_row
         (looked_still table.charges old new k.1.1.1.1.1.1.1.1.1.0 (values.charge_key a n) i);
     grant_books = λ s g. option_map values.grant_book_in
         (none_stored table.grant_books new e.1.0 (values.group_key a s g) i);
     allowances = λ n. is_some (option_map values.allowance_in
         (none_stored table.allowance_buckets new e.1.1.0 (values.bucket_key a n) i));
-    covered = λ n. option_map values.covered_in
+    covered = λ n. option_map values.covered_in_row
         (none_stored table.covered new e.1.1.1.0 (values.charge_key a n) i);
   };
-  vouchers = λ code. option_map values.voucher_in
+  vouchers = λ code. option_map values.voucher_in_row
       (looked_still table.vouchers old new k.1.1.1.1.1.1.1.1.0 (values.voucher_key code) i);
-  books = λ n. option_map values.book_in
+  books = λ n. option_map values.book_in_row
       (none_stored table.books new e.0 (values.book_key n) i);
   count = length (k.1.0 i);
 }
 
-kept_2 : (old new : Trees) → AreKept 2 old new → content_of new ≡ content_at 2 old
+kept_2 : (old new : Trees) → AreKept 2 old new → tables_content new ≡ content_at 2 old
 kept_2 old new (k, e) = λ i. record {
   meta = option_map values.meta_in (looked_still table.meta old new k.0 values.meta_key i);
   kept = length (k.0 i);
   rows = λ a. record {
     head = option_map values.head_in
         (looked_still table.accounts old new k.1.0 (values.head_key a) i);
-    buckets = λ n. option_map values.bucket_in
+    buckets = λ n. option_map values.bucket_in_row
         (looked_still table.buckets old new k.1.1.0 (values.bucket_key a n) i);
-    counters = λ g c. option_map values.counter_in
+    counters = λ g c. option_map values.counter_in_row
         (looked_still table.counters old new k.1.1.1.0 (values.counter_key a g c) i);
-    sessions = λ s. option_map values.session_in
+    sessions = λ s. option_map values.session_in_row
         (looked_still table.sessions old new k.1.1.1.1.0 (values.session_key a s) i);
-    groups = λ s g. option_map values.group_in
+    groups = λ s g. option_map values.group_in_row
         (looked_still table.session_groups old new k.1.1.1.1.1.0 (values.group_key a s g) i);
     holds = λ s g n. option_map values.hold_in
         (looked_still table.holds old new k.1.1.1.1.1.1.0 (values.hold_key a s g n) i);
-    answers = λ kind name number. option_map values.answer_in
+    answers = λ kind name number. option_map values.answer_in_row
         (looked_still table.answers old new k.1.1.1.1.1.1.1.0
         (values.answer_key a kind name number) i);
-    charges = λ n. option_map values.charge_in
+    charges = λ n. option_map values.charge_in_row
         (looked_still table.charges old new k.1.1.1.1.1.1.1.1.1.0 (values.charge_key a n) i);
     grant_books = λ s g. option_map values.grant_book_in
         (looked_still table.grant_books old new k.1.1.1.1.1.1.1.1.1.1.1.0
         (values.group_key a s g) i);
     allowances = λ n. is_some (option_map values.allowance_in
         (none_stored table.allowance_buckets new e.0 (values.bucket_key a n) i));
-    covered = λ n. option_map values.covered_in
+    covered = λ n. option_map values.covered_in_row
         (none_stored table.covered new e.1.0 (values.charge_key a n) i);
   };
-  vouchers = λ code. option_map values.voucher_in
+  vouchers = λ code. option_map values.voucher_in_row
       (looked_still table.vouchers old new k.1.1.1.1.1.1.1.1.0 (values.voucher_key code) i);
-  books = λ n. option_map values.book_in
+  books = λ n. option_map values.book_in_row
       (looked_still table.books old new k.1.1.1.1.1.1.1.1.1.1.0 (values.book_key n) i);
   count = length (k.1.0 i);
 }
 
 -- what the tables hold once those that a version hasn't are made
 pub kept_content : (v : ℕ) (old new : Trees) → IsVersion v → v < latest → AreKept v old new →
-    content_of new ≡ content_at v old
+    tables_content new ≡ content_at v old
 kept_content zero old new known less kept = absurd (omega (arith, known.0))
 kept_content (suc zero) old new known less kept = kept_1 old new kept
 kept_content (suc (suc zero)) old new known less kept = kept_2 old new kept
@@ -131,19 +131,19 @@ kept_content (suc (suc (suc n))) old new known less kept =
 -- ---- the number of the first book, where no row said one
 
 granted_group : (names : Names) (is_open : Bool) (o : Option Group)
-    → option_map (group_in names is_open (if is_reserved o then Some 1 else None)) o
-    ≡ option_map (group_in names is_open None) o
+    → option_map (stored_group_in names is_open (if is_reserved o then Some 1 else None)) o
+    ≡ option_map (stored_group_in names is_open None) o
 granted_group names is_open None = refl
 granted_group names is_open (Some x) = at x.periods
   where
     at : (p : Option PeriodNames)
-        → Some (group_in names is_open (if is_some p then Some 1 else None)
+        → Some (stored_group_in names is_open (if is_some p then Some 1 else None)
         (record { used = x.used; periods = p }))
-        ≡ Some (group_in names is_open None (record { used = x.used; periods = p }))
+        ≡ Some (stored_group_in names is_open None (record { used = x.used; periods = p }))
     at None = refl
     at (Some q) = refl
 
-granted_answer : (a : List ℕ) (k : Key) (r : Stored) →
+granted_answer : (a : List ℕ) (k : Key) (r : TableRows) →
     answer_in a k (granted_in r) ≡ answer_in a k r
 granted_answer a (Request s n) r = refl
 granted_answer a (Reference x) r = refl
@@ -152,7 +152,7 @@ granted_answer a (Reference x) r = refl
 pub granted_1 : (names : Names) (trees : Trees)
     → tables_of names (with_granted 1 (content_at 1 trees)) ≡ tables_of names (content_at 1 trees)
 granted_1 names trees = λ i. record (tables_of names (content_at 1 trees)) {
-  rows = λ a. record (rows_of names ((content_at 1 trees).rows a)) {
+  rows = λ a. record (told_rows names ((content_at 1 trees).rows a)) {
     groups = λ s g. granted_group names (is_open_row (((content_at 1 trees).rows a).sessions s))
         (((content_at 1 trees).rows a).groups s g) i;
   };
@@ -161,7 +161,7 @@ granted_1 names trees = λ i. record (tables_of names (content_at 1 trees)) {
 
 -- ---- what a migration makes of what the tables held
 
-meta_through : (p q : Bool) (w : Content)
+meta_through : (p q : Bool) (w : TablesContent)
     → (let second = if q then w else before_3 w in if p then second else before_2 second).meta
     ≡ w.meta
 meta_through true true w = refl
@@ -170,11 +170,11 @@ meta_through false true w = refl
 meta_through false false w = refl
 
 -- what is kept once is read as it stands
-pub meta_at : (v : ℕ) (trees : Trees) → (content_at v trees).meta ≡ (content_of trees).meta
-meta_at v trees = meta_through (nat_le 2 v) (nat_le 3 v) (content_of trees)
+pub meta_at : (v : ℕ) (trees : Trees) → (content_at v trees).meta ≡ (tables_content trees).meta
+meta_at v trees = meta_through (nat_le 2 v) (nat_le 3 v) (tables_content trees)
 
 -- the tables without what is kept once but for the moment
-same_last : (names : Names) (m : Meta) (c : Content) → c.meta ≡ Some m
+same_last : (names : Names) (m : Meta) (c : TablesContent) → c.meta ≡ Some m
     → tables_of names (with_meta (record m { version = latest }) c) ≡ tables_of names c
 same_last names m c is =
     λ i. record (tables_of names c) { last = last_in (sym is i) }
@@ -195,13 +195,13 @@ granted_rows (suc (suc zero)) known less trees a s g = refl
 granted_rows (suc (suc (suc n))) known less trees a s g =
     let low : suc (suc (suc n)) < 3 = less in absurd (omega (arith, low))
 
-granted_beside : (b : Bool) (c : Content) → (if b then c else record c {
+granted_beside : (b : Bool) (c : TablesContent) → (if b then c else record c {
   rows = λ a. granted_in (c.rows a);
 }).meta ≡ c.meta
 granted_beside true c = refl
 granted_beside false c = refl
 
-granted_books : (b : Bool) (c : Content) → (if b then c else record c {
+granted_books : (b : Bool) (c : TablesContent) → (if b then c else record c {
   rows = λ a. granted_in (c.rows a);
 }).books ≡ c.books
 granted_books true c = refl
@@ -255,24 +255,24 @@ tidy_granted (suc (suc (suc n))) known less names trees t =
     let low : suc (suc (suc n)) < 3 = less in absurd (omega (arith, low))
 
 -- what is put last, over what the tables held
-abbrev pub with_latest : ℕ → Meta → Content → Content
+abbrev pub with_latest : ℕ → Meta → TablesContent → TablesContent
 with_latest v m c = with_meta (record m { version = latest }) (with_granted v c)
 
 module _ (v : ℕ) (known : IsVersion v) (less : v < latest) (old mid new : Trees) (m : Meta)
-    (kept : content_of mid ≡ content_at v old) (is : (content_of old).meta ≡ Some m)
+    (kept : tables_content mid ≡ content_at v old) (is : (tables_content old).meta ≡ Some m)
     (lists : Lists (mid catalog_tree) book_schema) (turns : Turns (with_latest v m) mid new) where
-  after : content_of new ≡ with_latest v m (content_at v old)
+  after : tables_content new ≡ with_latest v m (content_at v old)
   after = turns.content ∙ ap (with_latest v m) kept
 
   catalogued : Lists (new catalog_tree) book_schema
   catalogued = subst (λ rows. Lists rows book_schema) (sym turns.catalog) lists
 
-  books_stay : (content_of new).books ≡ (content_at v old).books
-  books_stay = ap (λ (c : Content). c.books) after
+  books_stay : (tables_content new).books ≡ (content_at v old).books
+  books_stay = ap (λ (c : TablesContent). c.books) after
       ∙ granted_books (nat_le 2 v) (content_at v old)
 
-  meta_after : (content_of new).meta ≡ Some (record m { version = latest })
-  meta_after = ap (λ (c : Content). c.meta) after
+  meta_after : (tables_content new).meta ≡ Some (record m { version = latest })
+  meta_after = ap (λ (c : TablesContent). c.meta) after
 
   pub becomes_latest : BecomesLatest v old new
   becomes_latest = record {
@@ -280,7 +280,7 @@ module _ (v : ℕ) (known : IsVersion v) (less : v < latest) (old mid new : Tree
         ∙ same_last names m (with_granted v (content_at v old))
         (granted_beside (nat_le 2 v) (content_at v old) ∙ meta_at v old ∙ is)
         ∙ granted_tables v known less names old;
-    granted = λ a s g. ap (λ (c : Content). (c.rows a).grant_books s g) after
+    granted = λ a s g. ap (λ (c : TablesContent). (c.rows a).grant_books s g) after
         ∙ granted_rows v known less old a s g;
     tidy = λ names t. subst (IsTidy names) (sym after)
         (tidy_meta names (record m { version = latest }) (with_granted v (content_at v old))
@@ -314,9 +314,9 @@ module _ (v : ℕ) (known : IsVersion v) (less : v < latest) (old mid new : Tree
     shelf = (own, subst (λ rows. IsShelfOf m.book rows own) (sym books_stay) shelf);
   }
 
-  pub moment_latest : last_in (content_of new).meta ≡ m.last
+  pub moment_latest : last_in (tables_content new).meta ≡ m.last
   moment_latest = ap last_in meta_after
 
   pub shelf_latest : (own : Shelf) → IsShelfOf m.book (content_at v old).books own
-      → IsShelfOf m.book (content_of new).books own
+      → IsShelfOf m.book (tables_content new).books own
   shelf_latest own shelf = subst (λ rows. IsShelfOf m.book rows own) (sym books_stay) shelf

@@ -17,17 +17,17 @@ use Rattle.sqlite.specs.Steps.{FailsToCommit}
 use Rattle.sqlite.proofs.StateLemmas.{survives_then, survives_weaker}
 use Rattle.sql_tables.specs.Schema.{latest, schema_at}
 use Rattle.sql_tables.specs.Statements.{AreStored, HasIdleBook, IsStill}
-use Rattle.sql_rows.specs.Content.{content_of}
+use Rattle.sql_rows.specs.Content.{tables_content}
 use Rattle.sql_rows.specs.Values.{Meta}
 use Rattle.sql_rules.specs.Tables.{AreRuled, Tells}
-use Rattle.sql_tables.specs.Opens.{IsFound, IsNoVersion, IsTold, IsVersion}
+use Rattle.sql_tables.specs.Opens.{IsFound, IsNoVersion, IsOpenFaultTold, IsVersion}
 use Rattle.sql_tables.specs.declared.fault.OpenFault.{OpenFault}
 use Rattle.sql_tables.specs.declared.fault.OpenFault.TheVariants.{Foreign, Version, Rules, Older}
 use Rattle.sql_tables.specs.declared.fault.OpenFault.TheVariants.{Store, Memory}
 use Rattle.sql_keeper.specs.Finds.{FindsBooks, IsReadRuled, ReadsBooks}
 use Rattle.sql_keeper.specs.Inside.{IsClean, IsKeeper, KeeperState}
 use Rattle.sql_keeper.specs.Migrates.{BecomesLatest, BringsToLatest, FindsAny, FindsNone, HasAt}
-use Rattle.sql_keeper.specs.Migrates.{HasIdleAt, IsLeftLatest, IsMigrated, IsRuledAt}
+use Rattle.sql_keeper.specs.Migrates.{HasIdleAt, IsLeftLatest, IsMigrated, IsRuledVersion}
 use Rattle.sql_keeper.specs.Migrates.{FindsShelf, HasRuledRows, IsHeldBy, IsShelfAt, MigratesRuled}
 use Rattle.sql_keeper.specs.Migrates.{MigratesTables, ReadsShelf}
 use Rattle.sql_keeper.specs.Causes.{IsOtherThan, IsUnruledMeta, KeepsVersion}
@@ -70,7 +70,8 @@ module _ {S : Type 0} (g : Ghosts S) (old begun : Held S)
       let it = (idle clean on).0 in record { schema = it.schema; stored = it.stored })
 
   pub begun_ruled : (v : ℕ) → HasRuledRows v (state g old) → HasRuledRows v (state g begun)
-  begun_ruled v ruled = subst (λ h. HasRuledRows v (state g h)) (sym is) (λ clean on. ruled clean on)
+  begun_ruled v ruled =
+      subst (λ h. HasRuledRows v (state g h)) (sym is) (λ clean on. ruled clean on)
 
   module _ (v : ℕ) (idle : HasIdleAt v (state g old)) (mid new : State) where
     -- what was written within it is undone
@@ -119,7 +120,7 @@ module _ {S : Type 0} (g : Ghosts S) (old begun : Held S)
       version = λ clean k. subst (λ (d : Database). IsOtherThan v d.trees) same_now
           (b.version (mid_clean ends clean) (same ∙ k));
       rules = λ clean k ruled. b.rules (mid_clean ends clean) (same ∙ k)
-          (subst (λ (d : Database). IsRuledAt v d.trees) (sym same_now) ruled);
+          (subst (λ (d : Database). IsRuledVersion v d.trees) (sym same_now) ruled);
       other = ((λ k. b.other.0 (same ∙ k)), (λ k. b.other.1 (same ∙ k)));
       survives = survives_weaker (state g old) new (λ _. ⊥)
           (IsLeftLatest v (state g old).now.trees) (λ clean db no. absurd no)
@@ -152,7 +153,7 @@ module _ {S : Type 0} (g : Ghosts S) (old begun : Held S)
       version = λ clean is. subst (λ (d : Database). IsOtherThan v d.trees) same_now
           (s.version (mid_clean ends clean) is);
       rules = λ clean is ruled. s.rules (mid_clean ends clean) is
-          (subst (λ (d : Database). IsRuledAt v d.trees) (sym same_now) ruled);
+          (subst (λ (d : Database). IsRuledVersion v d.trees) (sym same_now) ruled);
       other = s.other;
       survives = survives_to s.survives ends;
     }
@@ -303,7 +304,7 @@ module _ (v : ℕ) (old mid new : State) (found : HasCleanDisk mid → IsFound v
 
   none_from : (e : OpenFault) → (HasCleanDisk new → HasCleanDisk mid)
       → (HasCleanDisk new → e ≡ Version → IsOtherThan v mid.now.trees)
-      → (HasCleanDisk new → e ≡ Rules → ¬ IsRuledAt v mid.now.trees)
+      → (HasCleanDisk new → e ≡ Rules → ¬ IsRuledVersion v mid.now.trees)
       → (¬ (e ≡ Foreign)) × (¬ (e ≡ Older))
       → Survives old new (λ db. (n : ℕ) × IsVersion n × IsLeftLatest n old.now.trees db)
       → FindsNone old new e
@@ -320,7 +321,7 @@ module _ (v : ℕ) (old mid new : State) (found : HasCleanDisk mid → IsFound v
       v,
       known,
       schema_was (was clean),
-      λ ruled. rules clean is (subst (λ (d : Database). IsRuledAt v d.trees)
+      λ ruled. rules clean is (subst (λ (d : Database). IsRuledVersion v d.trees)
           (sym (same_at (was clean))) ruled),
     );
     newer = other.1;
@@ -392,7 +393,7 @@ module _ (v : ℕ) (old mid new : State) (same : v ≡ latest)
         other = λ e. it.other (e ∙ same);
       })
       (λ clean is ruled.
-      let r = subst (λ n. IsRuledAt n mid.now.trees) same ruled in
+      let r = subst (λ n. IsRuledVersion n mid.now.trees) same ruled in
       let told = reads.rules clean is r.row r.is r.ruled in
       told.2 (r.shelf told.0))
       reads.ours
@@ -436,14 +437,14 @@ module _ (v : ℕ) (old mid new : State) (same : v ≡ latest)
             known,
             schema_was v old mid new found one known (reads.only.cleanness before),
             λ ruled.
-                let so = subst (λ n. IsRuledAt n old.now.trees) same ruled in
-                let at = subst (λ (d : Database). IsRuledAt latest d.trees) (sym now) so in
+                let so = subst (λ n. IsRuledVersion n old.now.trees) same ruled in
+                let at = subst (λ (d : Database). IsRuledVersion latest d.trees) (sym now) so in
                 let kept : Some at.row ≡ Some it.0.kept.row = sym at.is ∙ it.0.kept.is in
                 let row : at.row ≡ it.0.kept.row = same_Some at.row it.0.kept.row kept in
                 let text : at.row.book ≡ string_bytes r.text =
                 ap (λ (m : Meta). m.book) row ∙ it.0.kept.book in
                 tells.means clean is (at.rows r.own
-                (subst (λ t. IsShelfOf t (content_of new.now.trees).books r.own) (sym text)
+                (subst (λ t. IsShelfOf t (tables_content new.now.trees).books r.own) (sym text)
                 it.0.books)),
           );
       newer = tells.told.latest;
@@ -460,16 +461,16 @@ any_err old new r f e is same b = subst (λ x. FindsAny old new x) (sym (is ∙ 
 
 -- no tables were found
 pub any_none : (old new : State) (e : OpenFault) → IsNoVersion e
-    → (HasCleanDisk new → IsTold old.now e) → Survives old new (λ _. ⊥)
+    → (HasCleanDisk new → IsOpenFaultTold old.now e) → Survives old new (λ _. ⊥)
     → FindsAny old new (Err e)
 any_none old new e told means survives = record {
   survives = survives_weaker old new (λ _. ⊥)
       (λ db. (n : ℕ) × IsVersion n × IsLeftLatest n old.now.trees db) (λ clean db no. absurd no)
       survives;
-  foreign = λ clean is. subst (IsTold old.now) is (means clean);
+  foreign = λ clean is. subst (IsOpenFaultTold old.now) is (means clean);
   version = λ clean is. absurd (told.0 is);
   rules = λ clean is.
-      let it = subst (IsTold old.now) is (means clean) in
+      let it = subst (IsOpenFaultTold old.now) is (means clean) in
       (it.0, it.1, it.2, λ ruled. it.3 ruled.stored);
   newer = told.1;
 }
@@ -552,10 +553,10 @@ module _ {S : Type 0} (g : Ghosts S) (k : KeeperState S) (conn old : Held S) (sh
         fresh = fresh g k conn shelf r.given r.own (string_bytes r.text) (string_bytes r.text)
             connection is m.given owned told none m.first refl live utf8;
         books = subst (λ h. HasCleanDisk (state g h) →
-            IsShelfOf k.text (content_of (state g h).now.trees).books shelf) (sym connection)
-            (λ clean. subst (λ t. IsShelfOf t (content_of (state g conn).now.trees).books shelf)
+            IsShelfOf k.text (tables_content (state g h).now.trees).books shelf) (sym connection)
+            (λ clean. subst (λ t. IsShelfOf t (tables_content (state g conn).now.trees).books shelf)
             (sym told) (subst (IsShelfOf (string_bytes r.text)
-            (content_of (state g conn).now.trees).books) own_is (m.done clean).2.books));
+            (tables_content (state g conn).now.trees).books) own_is (m.done clean).2.books));
         left = subst (λ h. HasCleanDisk (state g h) → IsLeftRuled k.text (state g h).now.trees)
             (sym connection)
             (λ clean. subst (λ t. IsLeftRuled t (state g conn).now.trees) (sym told)

@@ -1,9 +1,7 @@
 -- A migration whose rows are tested before: what is known of them at each step.
-use Rattle.std.proofs.Common.{◌≡◌, ◌≤◌, ◌<◌, ◌⊎◌, inl, inr, ◌∙◌, ap, refl, sym, subst, ℕ, Some}
-use Rattle.std.proofs.Common.{arith, IsTrue}
+use Rattle.std.proofs.Common.{◌≡◌, inl, inr, ◌∙◌, ap, sym, subst, ℕ, Some, arith}
 use Rattle.std.proofs.lemmas.Option.{same_Some}
 use Rattle.std.specs.Prelude.{Ok, Err, Result}
-use Rattle.shelves.specs.Shelves.{Shelf}
 use Rattle.sqlite_trees.specs.Tree.{Trees}
 use Rattle.sqlite.specs.Effect.{Database}
 use Rattle.sqlite.specs.State.{State, HasCleanDisk, IsUnchanged, Survives}
@@ -14,12 +12,12 @@ use Rattle.sql_tables.specs.Statements.{IsStill}
 use Rattle.sql_tables.specs.declared.fault.OpenFault.{OpenFault}
 use Rattle.sql_tables.specs.declared.fault.OpenFault.TheVariants.{Foreign, Version, Rules, Older}
 use Rattle.sql_tables.specs.declared.fault.OpenFault.TheVariants.{Memory, Store}
-use Rattle.sql_rows.specs.Content.{content_of}
+use Rattle.sql_rows.specs.Content.{tables_content}
 use Rattle.sql_rows.specs.Values.{Meta}
 use Rattle.sql_rules.specs.Tables.{AreRuled, Tells}
 use Rattle.sql_keeper.specs.Causes.{IsOtherThan, IsStores}
 use Rattle.sql_keeper.specs.Migrates.{AreRowsRuled, BecomesLatest, FindsShelf, HasIdleAt}
-use Rattle.sql_keeper.specs.Migrates.{HasRuledRows, IsLeftLatest, IsRuledAt, IsShelfAt}
+use Rattle.sql_keeper.specs.Migrates.{HasRuledRows, IsLeftLatest, IsRuledVersion, IsShelfAt}
 use Rattle.sql_keeper.specs.Migrates.{MigratesRuled, MigratesTables, content_at}
 use Rattle.sql_keeper.specs.Shelves.{IsShelfOf}
 use Rattle.sql_keeper.specs.declared.books.ReadBooks.{ReadBooks}
@@ -78,8 +76,8 @@ tested v old mid new r u has tells = record {
       let before : HasCleanDisk mid = omega (arith, tells.survives.clean, clean) in
       let at = has.shelf before in
       let now : new.now ≡ old.now = (still_now clean).now_is in
-      let was : (content_of old.now.trees).meta ≡ Some row =
-      subst (λ (d : Database). (content_of d.trees).meta ≡ Some row) now is in
+      let was : (tables_content old.now.trees).meta ≡ Some row =
+      subst (λ (d : Database). (tables_content d.trees).meta ≡ Some row) now is in
       let so : IsShelfOf row.book (content_at v old.now.trees).books s =
       subst (λ (d : Database). IsShelfOf row.book (content_at v d.trees).books s) now shelf in
       let one : Some at.row ≡ Some row = sym at.is ∙ was in
@@ -218,7 +216,7 @@ module _ (v : ℕ) (old mid new : State) (has : HasTested v old mid) where
     moved = tt;
     version = λ clean is. subst (λ (d : Database). IsOtherThan v d.trees)
         (now_since (omega (arith, m.survives.clean, clean))) (m.version clean is);
-    rules = λ clean is ruled. m.rules clean is (subst (λ (d : Database). IsRuledAt v d.trees)
+    rules = λ clean is ruled. m.rules clean is (subst (λ (d : Database). IsRuledVersion v d.trees)
         (sym (now_since (omega (arith, m.survives.clean, clean)))) ruled);
     other = m.other;
     survives = left_since m.survives;

@@ -19,7 +19,7 @@ use Rattle.keepers.specs.Keyed.{same_group}
 use Rattle.keepers.specs.declared.loaded.Change.{Change}
 use Rattle.keepers.specs.Naming.{IsNamed}
 use Rattle.sql_rows.specs.Values.{Kept, Meta}
-use Rattle.sql_rows.specs.Content.{Rows, Content, with_group, with_meta, with_rows}
+use Rattle.sql_rows.specs.Content.{TableRows, TablesContent, with_group_row, with_meta, with_rows}
 use Rattle.sql_rows.specs.Lists.{AreCoveredBeside, HasNoGroups}
 use Rattle.sql_keeper.specs.Content.{Names}
 use Rattle.sql_keeper.specs.Tests.{AreNewGroups, AreWritable, IsTested}
@@ -38,7 +38,7 @@ use Rattle.sql_keeper.proofs.Overlays.{with_twice}
 
 -- ---- one group
 
-abbrev new_booked : List ℕ → ℕ → Option Reservation → Rows → Rows
+abbrev new_booked : List ℕ → ℕ → Option Reservation → TableRows → TableRows
 new_booked s g o r = record r {
   grant_books = λ t h. if same_name s t && nat_eq g h then first_of (book_put o) (r.grant_books t h)
       else r.grant_books t h;
@@ -48,7 +48,7 @@ either : {A : Type 0} (p : Bool) (o : Option A) → o ≡ (if p then o else o)
 either true o = refl
 either false o = refl
 
-new_book_is : (a s : List ℕ) (g : ℕ) (o : Option Reservation) (c : Content) →
+new_book_is : (a s : List ℕ) (g : ℕ) (o : Option Reservation) (c : TablesContent) →
     with_new_book a s g o c ≡ with_rows a (new_booked s g o) c
 new_book_is a s g None c = with_none a c ∙ (λ i. with_rows a (λ r. record r {
   grant_books = λ t h. either (same_name s t && nat_eq g h) (r.grant_books t h) i;
@@ -56,7 +56,7 @@ new_book_is a s g None c = with_none a c ∙ (λ i. with_rows a (λ r. record r 
 new_book_is a s g (Some x) c = refl
 
 -- what is put of it, over what was there
-abbrev put_new : Names → SessionGroup → Rows → Rows
+abbrev put_new : Names → SessionGroup → TableRows → TableRows
 put_new names r x = record x {
   groups = λ t h. if same_name r.session t && nat_eq r.group h then Some (columns_of names r)
       else x.groups t h;
@@ -66,11 +66,11 @@ put_new names r x = record x {
       then first_of (amount_at n (holds_in r.reservation)) (x.holds t h n) else x.holds t h n;
 }
 
-new_put : (a : List ℕ) (names : Names) (r : SessionGroup) (c : Content) →
+new_put : (a : List ℕ) (names : Names) (r : SessionGroup) (c : TablesContent) →
     AreHolds (holds_in r.reservation) →
     with_new_group a names r c ≡ with_rows a (put_new names r) c
 new_put a names r c h =
-    let one = with_group r.session r.group (columns_of names r) in
+    let one = with_group_row r.session r.group (columns_of names r) in
     let book = new_booked r.session r.group r.reservation in
     let three = over_holds r.session r.group (holds_in r.reservation) in
     holds_over a r.session r.group (holds_in r.reservation)
@@ -90,7 +90,7 @@ abbrev new_book : Option SessionGroup → Option ℕ → Option ℕ
 new_book None before = before
 new_book (Some r) before = first_of (book_put r.reservation) before
 
-abbrev over_new : Names → List SessionGroup → Rows → Rows
+abbrev over_new : Names → List SessionGroup → TableRows → TableRows
 over_new names gs x = record x {
   groups = λ s g. first_of (option_map (columns_of names) (group_in s g gs)) (x.groups s g);
   grant_books = λ s g. new_book (group_in s g gs) (x.grant_books s g);
@@ -98,7 +98,7 @@ over_new names gs x = record x {
 }
 
 new_each : (a : List ℕ) (names : Names) (sessions : List Session) (gs : List SessionGroup)
-    (c : Content) → AreWritable names sessions gs →
+    (c : TablesContent) → AreWritable names sessions gs →
     with_new_groups a names gs c ≡ each a (put_new names) gs c
 unfolding each
 new_each a names sessions [] c h = refl
@@ -136,7 +136,7 @@ new_books s g x xs before h = at (is_of s g x) refl
     at false e = refl
 
 new_over : (a : List ℕ) (names : Names) (sessions : List Session) (gs : List SessionGroup)
-    (c : Content) → AreApart same_group gs → AreWritable names sessions gs →
+    (c : TablesContent) → AreApart same_group gs → AreWritable names sessions gs →
     with_new_groups a names gs c ≡ with_rows a (over_new names gs) c
 new_over a names sessions gs c apart h =
     new_each a names sessions gs c h
@@ -148,7 +148,7 @@ new_over a names sessions gs c apart h =
     }) gs c apart
 
 -- over rows in which nothing was there of them, it is as if what was there were replaced
-module _ (names : Names) (gs : List SessionGroup) (r : Rows) (new : AreNewGroups r gs) where
+module _ (names : Names) (gs : List SessionGroup) (r : TableRows) (new : AreNewGroups r gs) where
   nothing : (s : List ℕ) (g : ℕ) (x : SessionGroup) → group_in s g gs ≡ Some x → HasNoGroups r s
   nothing s g x e = subst (HasNoGroups r) (found_session s g gs x e)
       (EachIn-found (λ (y : SessionGroup). HasNoGroups r y.session) (is_of s g) gs x new e)
@@ -175,7 +175,8 @@ module _ (names : Names) (gs : List SessionGroup) (r : Rows) (new : AreNewGroups
 
 -- ---- the rows of an account
 
-opened_same : (a : List ℕ) (f g : Rows → Rows) (c : Content) → f (c.rows a) ≡ g (c.rows a) →
+opened_same : (a : List ℕ) (f g : TableRows → TableRows) (c : TablesContent) →
+    f (c.rows a) ≡ g (c.rows a) →
     opened a f c ≡ opened a g c
 opened_same a f g c same = λ i. record (opened a f c) {
   rows = λ x. at x (same_name a x) refl i;
@@ -186,7 +187,7 @@ opened_same a f g c same = λ i. record (opened a f c) {
     at x true e = subst (λ y. f (c.rows y) ≡ g (c.rows y)) (name_from a x e) same
     at x false e = refl
 
-module _ (a : List ℕ) (names : Names) (sessions : List Session) (w : StoredRows) (c : Content)
+module _ (a : List ℕ) (names : Names) (sessions : List Session) (w : StoredRows) (c : TablesContent)
     (keyed : AreKeyed w) (may : AreWritable names sessions w.groups)
     (new : AreNewGroups (c.rows a) w.groups) where
   -- all but the groups
@@ -223,7 +224,7 @@ module _ (a : List ℕ) (names : Names) (sessions : List Session) (w : StoredRow
 
 -- its rows, put over what stays
 named_is : (names : Names) (new : Bool) (seen : Option SeenAccount) (m : Meta) (change : Change)
-    (c : Content) → IsNamed change.rows → IsTested names change (c.rows change.number) new →
+    (c : TablesContent) → IsNamed change.rows → IsTested names change (c.rows change.number) new →
     ((x : SessionGroup) → is_kept seen change.number x ≡ true → IsKeptIn (c.rows change.number) x)
     → with_named change.number names new seen change.rows (with_meta m c)
     ≡ with_stored change.number names change.rows (with_meta m c)
@@ -235,8 +236,9 @@ named_is names true seen m change c named t kept =
     (keyed_named change.rows named) t.made.reservations (t.new refl) seen
 
 -- rows that change beside the charges and their covered blocks
-opened_beside : (a : List ℕ) (f : Rows → Rows) (c : Content) → AreCoveredBeside (c.rows a)
-    → ((r : Rows) → AreCoveredBeside r → AreCoveredBeside (f r))
+opened_beside : (a : List ℕ) (f : TableRows → TableRows) (c : TablesContent) →
+    AreCoveredBeside (c.rows a)
+    → ((r : TableRows) → AreCoveredBeside r → AreCoveredBeside (f r))
     → AreCoveredBeside ((opened a f c).rows a)
 opened_beside a f c h to = at (same_name a a)
   where
@@ -245,25 +247,27 @@ opened_beside a f c h to = at (same_name a a)
     at false = h
 
 -- the rows of an account are put beside its charges and their covered blocks
-stored_beside : (names : Names) (m : Meta) (change : Change) (c : Content) → IsNamed change.rows
+stored_beside : (names : Names) (m : Meta) (change : Change) (c : TablesContent) →
+    IsNamed change.rows
     → AreWritable names change.rows.sessions change.rows.groups
     → AreCoveredBeside (c.rows change.number)
     → AreCoveredBeside ((with_stored change.number names change.rows (with_meta m c)).rows
     change.number)
 stored_beside names m change c named may beside =
-    subst (λ (d : Content). AreCoveredBeside (d.rows change.number))
+    subst (λ (d : TablesContent). AreCoveredBeside (d.rows change.number))
     (sym (stored_over change.number names change.rows.sessions change.rows (with_meta m c)
     (keyed_named change.rows named) may))
     (opened_beside change.number (over_stored names change.rows) (with_meta m c) beside
     (λ r h. h))
 
 pub put_is : (names : Names) (new : Bool) (seen : Option SeenAccount) (m : Meta) (change : Change)
-    (texts : Option Kept) (c : Content) → IsNamed change.rows
+    (texts : Option Kept) (c : TablesContent) → IsNamed change.rows
     → IsTested names change (c.rows change.number) new →
     ((x : SessionGroup) → is_kept seen change.number x ≡ true → IsKeptIn (c.rows change.number) x)
     → with_change_put names new seen m change texts c ≡ with_change names m change texts c
 put_is names new seen m change texts c named t kept =
-    ap (λ (d : Content). with_redeemed change.redeemed (with_kept change.number change.kept texts
+    ap (λ (d : TablesContent). with_redeemed change.redeemed (with_kept change.number change.kept
+    texts
     d)) (ap (with_all_charged change.number change.charges.items)
     (named_is names new seen m change c named t kept)
     ∙ all_charged_are change.number change.charges.items

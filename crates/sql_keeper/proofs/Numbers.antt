@@ -7,7 +7,7 @@ use Rattle.reserving.specs.Rows.{EachIn, AreApart}
 use Rattle.reserving.specs.Left.{first_of}
 use Rattle.reserving.proofs.LeftTests.{first_alone}
 use Rattle.keepers.specs.Tables.{charge_in}
-use Rattle.sql_rows.specs.declared.head.Head.{Head}
+use Rattle.sql_rows.specs.declared.head.HeadColumns.{HeadColumns}
 use Rattle.sql_keeper.specs.Content.{is_numbered}
 use Rattle.sql_keeper.specs.Tests.{AreNumbered, first_number}
 use Rattle.sql_keeper.proofs.Overlays.{number_from, number_itself, not_both, same_charge}
@@ -155,7 +155,7 @@ module _ (n from next : ℕ) (cs : List ChargeRow) (seen : Bool) (h : AreNumbere
   unfolding after old
   seen_after = at (nat_lt 0 n) (nat_lt n next) refl refl
 
-pub begins : (n : ℕ) (o : Option Head) → Begins (is_numbered n o) n (first_number o)
+pub begins : (n : ℕ) (o : Option HeadColumns) → Begins (is_numbered n o) n (first_number o)
 begins n None = record {
   first = omega arith;
   below = λ some low. absurd (omega (arith, some, low));

@@ -6,8 +6,8 @@ use Rattle.std.specs.Prelude.{Ok}
 use Rattle.tariffs.specs.Books.{Book, book_of}
 use Rattle.shelves.specs.Shelves.{Shelf}
 use Rattle.shelves.specs.declared.dated.DatedBook.{DatedBook}
-use Rattle.sql_rows.specs.Content.{content_of}
-use Rattle.sql_rows.specs.Values.{DatedBook as DatedText, Meta}
+use Rattle.sql_rows.specs.Content.{tables_content}
+use Rattle.sql_rows.specs.Values.{BookRow, Meta}
 use Rattle.sql_keeper.specs.Again.{AreShelvesOne}
 use Rattle.sql_keeper.specs.Books.{IsBookOf}
 use Rattle.sql_keeper.specs.Shelves.{AreLater, IsDatedAt, IsShelfOf}
@@ -19,18 +19,18 @@ one_text text b c (t, d, is) (u, e, so) =
     let both : Ok b ≡ Ok c = sym is ∙ ap book_of same ∙ so in
     cc both
 
-one_dated : (o : Option DatedText) (d e : DatedBook) → IsDatedAt o d → IsDatedAt o e → d ≡ e
+one_dated : (o : Option BookRow) (d e : DatedBook) → IsDatedAt o d → IsDatedAt o e → d ≡ e
 one_dated None d e h k = absurd h
 one_dated (Some x) d e h k =
     let from : d.from ≡ e.from = sym h.starts ∙ k.starts in
     let book : d.book ≡ e.book = one_text x.content d.book e.book h.book k.book in
     λ i. record { from = from i; book = book i }
 
-none_here : (rows : ℕ → Option DatedText) (n k : ℕ) (d : DatedBook) → k ≡ n → rows k ≡ None
+none_here : (rows : ℕ → Option BookRow) (n k : ℕ) (d : DatedBook) → k ≡ n → rows k ≡ None
     → IsDatedAt (rows n) d → ⊥
 none_here rows n k d is none h = subst (λ o. IsDatedAt o d) (ap rows (sym is) ∙ none) h
 
-one_later : (rows : ℕ → Option DatedText) (n : ℕ) (ds es : List DatedBook) → AreLater rows n ds
+one_later : (rows : ℕ → Option BookRow) (n : ℕ) (ds es : List DatedBook) → AreLater rows n ds
     → AreLater rows n es → rows (n + length ds) ≡ None → rows (n + length es) ≡ None → ds ≡ es
 one_later rows n [] [] h k last end = refl
 one_later rows n [] (e ∷ es) h k last end =
@@ -44,13 +44,13 @@ one_later rows n (d ∷ ds) (e ∷ es) h k last end =
     (one_later rows (n + 1) ds es h.1 k.1 (ap rows (sym after) ∙ last)
     (ap rows (sym beyond) ∙ end))
 
-ends : (text : List ℕ) (rows : ℕ → Option DatedText) (s : Shelf) → IsShelfOf text rows s
+ends : (text : List ℕ) (rows : ℕ → Option BookRow) (s : Shelf) → IsShelfOf text rows s
     → rows (2 + length s.later) ≡ None
 ends text rows s h =
     let high : suc (length s.later) < 2 + length s.later = omega arith in
     h.none (2 + length s.later) (inr high)
 
-pub same_shelf : (text : List ℕ) (rows : ℕ → Option DatedText) (s t : Shelf)
+pub same_shelf : (text : List ℕ) (rows : ℕ → Option BookRow) (s t : Shelf)
     → IsShelfOf text rows s → IsShelfOf text rows t → s ≡ t
 same_shelf text rows s t h k =
     let first : s.first ≡ t.first = one_text text s.first t.first h.first k.first in
@@ -63,5 +63,5 @@ one_shelf trees text more s t kept again h k =
     let row : kept.row ≡ again.row =
     same_Some kept.row again.row (sym kept.is ∙ again.is) in
     let same : more ≡ text = sym again.book ∙ sym (ap (λ (m : Meta). m.book) row) ∙ kept.book in
-    same_shelf text (content_of trees).books s t h
-    (subst (λ x. IsShelfOf x (content_of trees).books t) same k)
+    same_shelf text (tables_content trees).books s t h
+    (subst (λ x. IsShelfOf x (tables_content trees).books t) same k)

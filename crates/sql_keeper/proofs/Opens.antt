@@ -21,15 +21,15 @@ use Rattle.sql_tables.specs.Statements.{HasIdleBook, IsStill, OnlyReads, Reads}
 use Rattle.sql_tables.proofs.Keeps.{only_reads_then}
 use Rattle.sql_tables.proofs.Telling.{survive_then}
 use Rattle.sql_tables.specs.Texts.{stage}
-use Rattle.sql_rows.specs.Content.{content_of}
+use Rattle.sql_rows.specs.Content.{tables_content}
 use Rattle.sql_rules.specs.Tables.{AreRuled}
 use Rattle.sql_rows.specs.Ruled.{AreRuledBooks}
 use Rattle.sql_rows.specs.Lists.{AreBooks}
 use Rattle.sql_rows.specs.Texts.{book_at, meta_of}
 use Rattle.sql_rows.specs.declared.book_rows.BookColumns.{BookColumns}
 use Rattle.sql_rows.specs.Values.{Meta}
-use Rattle.sql_rows.specs.declared.meta_rows.Meta.{Meta as MetaRow}
-use Rattle.sql_tables.specs.Opens.{IsFound, IsNoVersion, IsTold}
+use Rattle.sql_rows.specs.declared.meta_rows.MetaColumns.{MetaColumns}
+use Rattle.sql_tables.specs.Opens.{IsFound, IsNoVersion, IsOpenFaultTold}
 use Rattle.sql_tables.specs.declared.fault.OpenFault.{OpenFault}
 use Rattle.sql_tables.specs.declared.fault.OpenFault.TheVariants.{Foreign, Version, Rules, Older}
 use Rattle.sql_tables.specs.declared.fault.OpenFault.TheVariants.{Memory as Memory'}
@@ -130,7 +130,7 @@ module _ {S : Type 0} (g : Ghosts S) (k : KeeperState S) (conn : Held S) (shelf 
         utf8 = subst IsUtf8 kept utf8;
         shelf = (
           own,
-          alone_shelf text (content_of (state g conn).now.trees).books own alone.is
+          alone_shelf text (tables_content (state g conn).now.trees).books own alone.is
               alone.alone alone.first made.2.books,
         );
       }
@@ -150,7 +150,7 @@ module _ {S : Type 0} (g : Ghosts S) (k : KeeperState S) (conn : Held S) (shelf 
     made = subst (λ h. HasCleanDisk (state g h) → IsNewBook text (state g h).now.trees)
         (sym connection) (λ clean. (c.done clean).2);
     tables = subst (λ h. HasCleanDisk (state g h) →
-        tables_of (names_in k) (content_of (state g h).now.trees) ≡ no_tables)
+        tables_of (names_in k) (tables_content (state g h).now.trees) ≡ no_tables)
         (sym connection) (λ clean. (c.done clean).2.tables (names_in k));
     left = subst (λ h. HasCleanDisk (state g h) → IsLeft text (state g h).now.trees)
         (sym connection) (left_made alone c);
@@ -165,7 +165,7 @@ module _ {S : Type 0} (g : Ghosts S) (k : KeeperState S) (conn : Held S) (shelf 
   }
 
   pub opened : (old : Held S) → (HasCleanDisk (state g conn) → IsKept (state g conn).now.trees bytes
-      × IsShelfOf bytes (content_of (state g conn).now.trees).books own
+      × IsShelfOf bytes (tables_content (state g conn).now.trees).books own
       × IsStill (state g old) (state g conn) × IsTrue (state g conn).is_open)
       → Survives (state g old) (state g conn) (λ _. ⊥)
       → (HasCleanDisk (state g conn) → AreRuled own latest (state g conn).now.trees)
@@ -174,9 +174,9 @@ module _ {S : Type 0} (g : Ghosts S) (k : KeeperState S) (conn : Held S) (shelf 
     fresh = fresh;
     keeper = keeper;
     books = subst (λ h. HasCleanDisk (state g h) →
-        IsShelfOf k.text (content_of (state g h).now.trees).books shelf) (sym connection)
-        (λ clean. subst (λ t. IsShelfOf t (content_of (state g conn).now.trees).books shelf)
-        (sym told) (subst (IsShelfOf bytes (content_of (state g conn).now.trees).books) own_is
+        IsShelfOf k.text (tables_content (state g h).now.trees).books shelf) (sym connection)
+        (λ clean. subst (λ t. IsShelfOf t (tables_content (state g conn).now.trees).books shelf)
+        (sym told) (subst (IsShelfOf bytes (tables_content (state g conn).now.trees).books) own_is
         (found clean).1));
     left = λ clean. (keeper.held clean (is_open clean)).left;
     ruled = subst (λ h. HasCleanDisk (state g h) → AreRuled shelf latest (state g h).now.trees)
@@ -281,16 +281,16 @@ idle_book v old mid same found clean on =
 
 -- no table was found
 pub finds_none : (old new : State) (e : OpenFault) → IsNoVersion e
-    → (HasCleanDisk new → IsTold old.now e) → Survives old new (λ _. ⊥)
+    → (HasCleanDisk new → IsOpenFaultTold old.now e) → Survives old new (λ _. ⊥)
     → FindsBooks old new (Err e)
 finds_none old new e told means survives = record {
   found = λ clean. tt;
   given = tt;
   read = tt;
   idle = tt;
-  cause = λ clean. caused e old.now (λ is. subst (IsTold old.now) is (means clean))
+  cause = λ clean. caused e old.now (λ is. subst (IsOpenFaultTold old.now) is (means clean))
       (λ is. absurd (told.0 is)) (λ is.
-      let it = subst (IsTold old.now) is (means clean) in
+      let it = subst (IsOpenFaultTold old.now) is (means clean) in
       record {
         version = it.0;
         known = it.1;
@@ -361,9 +361,9 @@ reads_no_meta told old new e reads no_version ours rules = record {
   survives = reads.survives;
 }
 
-module _ {E : Type 0} (old mid : State) (m : MetaRow)
-    (meta : Reads {A = MetaRow} {E = E}
-    (λ trees m. (content_of trees).meta ≡ Some (meta_of m)) old mid (Ok m)) where
+module _ {E : Type 0} (old mid : State) (m : MetaColumns)
+    (meta : Reads {A = MetaColumns} {E = E}
+    (λ trees m. (tables_content trees).meta ≡ Some (meta_of m)) old mid (Ok m)) where
   -- it is of another version
   pub reads_other : (e : OpenFault) → (e ≡ Version) × (¬ (m.version ≡ latest))
       → m.version < 2 ^ 32 → m.last ≤ 4_102_488_000 → ReadsBooks old mid (Err e)
@@ -399,10 +399,11 @@ module _ {E : Type 0} (old mid : State) (m : MetaRow)
   pub reads_no_books : {A : Type 0} (told : Trees → A → Type 0) (new : State) (e : OpenFault)
       → Reads {A = A} {E = OpenFault} told mid new (Err e) → IsNoVersion e
       → ¬ (e ≡ Foreign) → m.version ≡ latest
-      → (HasCleanDisk new → e ≡ Rules → ¬ AreRuledBooks (content_of mid.now.trees).books)
+      → (HasCleanDisk new → e ≡ Rules → ¬ AreRuledBooks (tables_content mid.now.trees).books)
       → ReadsBooks old new (Err e)
   reads_no_books told new e reads no_version ours version rules =
-      let read = have_read (λ trees m. (content_of trees).meta ≡ Some (meta_of m)) old mid m meta in
+      let read = have_read (λ trees m. (tables_content trees).meta ≡ Some (meta_of m)) old mid m
+      meta in
       record {
         found = λ clean. tt;
         given = tt;
@@ -415,8 +416,8 @@ module _ {E : Type 0} (old mid : State) (m : MetaRow)
               ap (λ (x : Meta). x.version) same ∙ version,
               refl,
               λ has. rules clean is
-                  (told_last (λ trees. AreRuledBooks (content_of trees).books) before
-                  (shelf_ruled row.book (content_of old.now.trees).books has.0 has.1)),
+                  (told_last (λ trees. AreRuledBooks (tables_content trees).books) before
+                  (shelf_ruled row.book (tables_content old.now.trees).books has.0 has.1)),
             );
         ours = (ours, no_version.1);
         survives = survive_then old mid new read.stays read.survives reads.survives;
@@ -427,7 +428,7 @@ module _ {E : Type 0} (old mid : State) (m : MetaRow)
       → items ≡ rows.items → (text : List ℕ) → text ≡ string_bytes m.book
       → m.version ≡ latest → m.last ≤ 4_102_488_000
       → Reads {A = Vec BookColumns Global} {E = OpenFault}
-      (λ trees xs. AreBooks (content_of trees) (map book_at xs.items)) mid new (Ok rows)
+      (λ trees xs. AreBooks (tables_content trees) (map book_at xs.items)) mid new (Ok rows)
       → (r : Result ReadBooks OpenFault)
       → IfOk r (λ b. IsShelfRead text (map book_at items) b.own)
       → IfOk r (λ b. b.given ≡ b.own) → IfOk r (λ b. string_bytes b.text ≡ text)
@@ -436,7 +437,8 @@ module _ {E : Type 0} (old mid : State) (m : MetaRow)
       → IfErr r (λ fault. ¬ (fault ≡ Rules) → fault ≡ Memory') → ReadsBooks old new r
   reads_books new rows items same text is version last reads (Ok b) shelf given told at rules
       either =
-      let read = have_read (λ trees m. (content_of trees).meta ≡ Some (meta_of m)) old mid m meta in
+      let read = have_read (λ trees m. (tables_content trees).meta ≡ Some (meta_of m)) old mid m
+      meta in
       let both = have_read_then old mid new read
       (have_read {E = OpenFault} _ mid new rows reads) in
       record {
@@ -450,9 +452,9 @@ module _ {E : Type 0} (old mid : State) (m : MetaRow)
                   book = sym is ∙ sym told;
                   last = last;
                 };
-                books = subst (λ t. IsShelfOf t (content_of old.now.trees).books b.own)
+                books = subst (λ t. IsShelfOf t (tables_content old.now.trees).books b.own)
                     (sym told)
-                    (told_first (λ trees. IsShelfOf text (content_of trees).books b.own) before
+                    (told_first (λ trees. IsShelfOf text (tables_content trees).books b.own) before
                     (subst (λ f. IsShelfOf text f b.own)
                     (λ i n. reads.found clean n i)
                     (subst (λ l. IsShelfRead text (map book_at l) b.own) same shelf)));
@@ -470,7 +472,8 @@ module _ {E : Type 0} (old mid : State) (m : MetaRow)
       }
   reads_books new rows items same text is version last reads (Err e) shelf given told at rules
       either =
-      let read = have_read (λ trees m. (content_of trees).meta ≡ Some (meta_of m)) old mid m meta in
+      let read = have_read (λ trees m. (tables_content trees).meta ≡ Some (meta_of m)) old mid m
+      meta in
       let both = have_read_then old mid new read
       (have_read {E = OpenFault} _ mid new rows reads) in
       record {
@@ -486,11 +489,11 @@ module _ {E : Type 0} (old mid : State) (m : MetaRow)
               ap (λ (x : Meta). x.version) kept ∙ version,
               refl,
               λ has.
-                  let of_text : HasShelf text (content_of old.now.trees).books =
-                  subst (λ t. HasShelf t (content_of old.now.trees).books)
+                  let of_text : HasShelf text (tables_content old.now.trees).books =
+                  subst (λ t. HasShelf t (tables_content old.now.trees).books)
                   (ap (λ (x : Meta). x.book) kept ∙ sym is) has in
                   let at_mid =
-                  told_last (λ trees. HasShelf text (content_of trees).books) before of_text in
+                  told_last (λ trees. HasShelf text (tables_content trees).books) before of_text in
                   subst (λ l. IsNoShelf text (map book_at l)) same (rules rule)
                   (subst (λ f. HasShelf text f) (λ i n. sym (reads.found clean n) i) at_mid),
             );

@@ -8,7 +8,7 @@ use Rattle.commands.specs.declared.command.Content.{Content}
 use Rattle.reserving.proofs.Holds.{same_itself}
 use Rattle.wire.specs.Contents.{account_of, content_of, content_text, is_content_text, is_own_text}
 use Rattle.wire.specs.ReadingAnswers.{answer_of, is_answer_text}
-use Rattle.wire.specs.ReadingAnswers.{is_own_text as is_own_answer}
+use Rattle.wire.specs.ReadingAnswers.{is_own_answer}
 use Rattle.wire.specs.Spelled.{answer_text}
 use Rattle.sql_rules.specs.Rules.{are_kept_texts}
 

@@ -1,5 +1,5 @@
 -- Rows in their rules are as the statements write them.
-use Rattle.std.proofs.Common.{◌≡◌, ◌<◌, ◌&&◌, ◌||◌, ℕ, Bool, true, false, [], ◌∷◌, Some, refl, sym}
+use Rattle.std.proofs.Common.{◌≡◌, ◌&&◌, ◌||◌, Bool, true, false, [], ◌∷◌, refl, sym}
 use Rattle.std.proofs.Common.{subst, ap, arith, drop, nat_eq, nat_le}
 use Rattle.std.specs.Prelude.{option_map}
 use Rattle.std.proofs.lemmas.Bool.{and_parts}
@@ -8,11 +8,10 @@ use Rattle.sqlite_sql.specs.Ops.{is_null}
 use Rattle.sqlite_value.specs.declared.value.Value.{Value}
 use Rattle.sqlite_value.specs.Order.{Row, column}
 use Rattle.sqlite_trees.specs.Tree.{Trees}
-use Rattle.sql_tables.specs.Keyed.{look}
 use Rattle.sql_tables.specs.Schema.{accounts, latest, session_groups, sessions}
 use Rattle.sql_rows.specs.Plain.{ArePlain, is_plain_group, is_plain_head, is_plain_session}
 use Rattle.sql_rows.specs.Values.{nat_in}
-use Rattle.sql_rules.specs.Columns.{is_within, number_at}
+use Rattle.sql_rules.specs.Columns.{is_in_bounds, number_at}
 use Rattle.sql_rules.specs.Rules.{are_periods, is_period, is_ruled_account, is_ruled_group}
 use Rattle.sql_rules.specs.Rules.{is_ruled_session}
 use Rattle.sql_rules.specs.Tables.{AreRuled}
@@ -53,8 +52,8 @@ plain_head r h = subst (λ v. nat_le (nat_in v) 1 ≡ true) (sym (second_of r))
     (second_of_five _ (nat_le (number_at r 2) 1) _ _ _ h)
 
 plain_session : (r : Row) → is_ruled_session r ≡ true → is_plain_session (drop 1 r) ≡ true
-plain_session r h = subst (λ v. is_within 1 3 (nat_in v) ≡ true) (sym (fifth_of r))
-    (and_parts _ (is_within 1 3 (number_at r 5)) h).1
+plain_session r h = subst (λ v. is_in_bounds 1 3 (nat_in v) ≡ true) (sym (fifth_of r))
+    (and_parts _ (is_in_bounds 1 3 (number_at r 5)) h).1
 
 abbrev plain_by : Value → Value → Value → Bool
 plain_by reserved before after =

@@ -7,7 +7,7 @@ use Rattle.sqlite.specs.Effect.{Database}
 use Rattle.sqlite.specs.State.{State, IsUnchanged, KeepsCommit}
 use Rattle.sqlite.proofs.StateLemmas.{survives_then}
 use Rattle.sql_tables.specs.Statements.{Attempts}
-use Rattle.buckets.specs.Row.{Row as Bucket}
+use Rattle.buckets.specs.Row.{BucketRow}
 use Rattle.reserving.specs.Stored.{StoredRows}
 use Rattle.reserving.specs.declared.charge.ChargeRow.{ChargeRow}
 use Rattle.reserving.specs.declared.session.Counter.{Counter}
@@ -15,20 +15,21 @@ use Rattle.reserving.specs.declared.session.Session.{Session}
 use Rattle.reserving.specs.declared.session.SessionGroup.{SessionGroup}
 use Rattle.voucher_rules.specs.Standing.{unspent}
 use Rattle.voucher_rules.specs.declared.terms.VoucherTerms.{VoucherTerms}
-use Rattle.sql_rows.specs.declared.head.Head.{Head}
-use Rattle.sql_rows.specs.Content.{Content, Rows, with_account, with_meta, with_rows, with_covered}
-use Rattle.sql_rows.specs.Content.{with_voucher, without_covered}
+use Rattle.sql_rows.specs.declared.head.HeadColumns.{HeadColumns}
+use Rattle.sql_rows.specs.Content.{TablesContent, TableRows, with_account, with_meta, with_rows}
+use Rattle.sql_rows.specs.Content.{with_covered}
+use Rattle.sql_rows.specs.Content.{with_voucher_row, without_covered}
 use Rattle.sql_rows.specs.Each.{with_counters, with_sessions}
 use Rattle.sql_rows.specs.Makes.{Makes, MakesIfOpen, Turns}
-use Rattle.sql_rows.specs.Values.{Voucher as VoucherRow}
+use Rattle.sql_rows.specs.Values.{VoucherRow}
 use Rattle.sql_keeper.specs.Additions.{with_addition}
 use Rattle.sql_keeper.specs.Commits.{with_money}
 use Rattle.sql_keeper.specs.Content.{Names}
-use Rattle.sql_keeper.specs.Writes.{head_of, meta_at, row_of, with_all_charged}
+use Rattle.sql_keeper.specs.Writes.{head_columns_of, meta_at, voucher_row, with_all_charged}
 use Rattle.sql_keeper.specs.Writes.{with_all_counted, with_blocks, with_groups}
 use Rattle.sql_keeper.proofs.Overlays.{number_from}
 
-pub made_then : (f g : Content → Content) (a b c : State) → Makes f a b → Makes g b c →
+pub made_then : (f g : TablesContent → TablesContent) (a b c : State) → Makes f a b → Makes g b c →
     Makes (λ x. g (f x)) a c
 made_then f g a b c one two = record {
   turns = record {
@@ -48,7 +49,8 @@ made_then f g a b c one two = record {
 }
 
 -- what is made after what was only read
-pub made_since : (f : Content → Content) (a b c : State) → IsUnchanged a b → Makes f b c →
+pub made_since : (f : TablesContent → TablesContent) (a b c : State) → IsUnchanged a b →
+    Makes f b c →
     Makes f a c
 made_since f a b c same m = record {
   turns = subst (λ (d : Database). Turns f d.trees c.now.trees) same.0.now_is m.turns;
@@ -63,19 +65,21 @@ made_since f a b c same m = record {
 }
 
 -- an error after what was made keeps what was committed
-kept_then : (f : Content → Content) (a b c : State) → Makes f a b → KeepsCommit b c →
+kept_then : (f : TablesContent → TablesContent) (a b c : State) → Makes f a b → KeepsCommit b c →
     KeepsCommit a c
 kept_then f a b c one two = record {
   was_open = λ on. one.shows.was_open;
   committed = λ on. two.committed on ∙ one.shows.committed_is;
 }
 
-on_err_then : {A E : Type 0} (f : Content → Content) (a b c : State) (r : Result A E) → Makes f a b
+on_err_then : {A E : Type 0} (f : TablesContent → TablesContent) (a b c : State) (r : Result A E) →
+    Makes f a b
     → OnErr r (KeepsCommit b c) → OnErr r (KeepsCommit a c)
 on_err_then f a b c (Ok x) one two = tt
 on_err_then f a b c (Err e) one two = kept_then f a b c one two
 
-module _ {A B E : Type 0} (f g : Content → Content) (a b c : State) (u : A) (r : Result B E) where
+module _ {A B E : Type 0} (f g : TablesContent → TablesContent) (a b c : State) (u : A)
+    (r : Result B E) where
   -- one statement, then another
   pub makes_then : Attempts {A = A} {E = E} (Makes f) a b (Ok u)
       → Attempts {A = B} {E = E} (Makes g) b c r
@@ -106,7 +110,8 @@ module _ {A B E : Type 0} (f g : Content → Content) (a b c : State) (u : A) (r
   }
 
 -- those of a list, then what follows
-if_open_then : (f g : Content → Content) (a b c : State) → MakesIfOpen f a b → MakesIfOpen g b c →
+if_open_then : (f g : TablesContent → TablesContent) (a b c : State) → MakesIfOpen f a b →
+    MakesIfOpen g b c →
     MakesIfOpen (λ x. g (f x)) a c
 if_open_then f g a b c one two = record {
   was_open = λ on. one.was_open (two.was_open on);
@@ -115,7 +120,8 @@ if_open_then f g a b c one two = record {
       made_then f g a b c m (two.made m.shows.is_open);
 }
 
-kept_if_open : (f : Content → Content) (a b c : State) → MakesIfOpen f a b → KeepsCommit b c →
+kept_if_open : (f : TablesContent → TablesContent) (a b c : State) → MakesIfOpen f a b →
+    KeepsCommit b c →
     KeepsCommit a c
 kept_if_open f a b c one two = record {
   was_open = λ on. one.was_open (two.was_open on);
@@ -124,12 +130,13 @@ kept_if_open f a b c one two = record {
       two.committed on ∙ m.shows.committed_is;
 }
 
-err_if_open : {A E : Type 0} (f : Content → Content) (a b c : State) (r : Result A E)
+err_if_open : {A E : Type 0} (f : TablesContent → TablesContent) (a b c : State) (r : Result A E)
     → MakesIfOpen f a b → OnErr r (KeepsCommit b c) → OnErr r (KeepsCommit a c)
 err_if_open f a b c (Ok x) one two = tt
 err_if_open f a b c (Err e) one two = kept_if_open f a b c one two
 
-module _ {A B E : Type 0} (f g : Content → Content) (a b c : State) (u : A) (r : Result B E)
+module _ {A B E : Type 0} (f g : TablesContent → TablesContent) (a b c : State) (u : A)
+    (r : Result B E)
     (one : Attempts {A = A} {E = E} (MakesIfOpen f) a b (Ok u)) where
   -- those of another list
   pub lists_then : Attempts {A = B} {E = E} (MakesIfOpen g) b c r
@@ -159,7 +166,7 @@ module _ {A B E : Type 0} (f g : Content → Content) (a b c : State) (u : A) (r
   }
 
 -- those of a list, and another that failed
-pub list_failed : {A B C E F G : Type 0} (f h : Content → Content)
+pub list_failed : {A B C E F G : Type 0} (f h : TablesContent → TablesContent)
     (does : State → State → Type 0) (a b c : State) (u : A) (e : F) (d : G)
     → Attempts {A = A} {E = E} (MakesIfOpen f) a b (Ok u)
     → Attempts {A = B} {E = F} does b c (Err e) → Attempts {A = C} {E = G} (Makes h) a c (Err d)
@@ -172,7 +179,8 @@ list_failed f h does a b c u e d one two = record {
 }
 
 -- one statement, and another that failed
-pub makes_failed : {A B C E F G : Type 0} (f h : Content → Content) (does : State → State → Type 0)
+pub makes_failed : {A B C E F G : Type 0} (f h : TablesContent → TablesContent)
+    (does : State → State → Type 0)
     (a b c : State) (u : A) (e : F) (d : G) → Attempts {A = A} {E = E} (Makes f) a b (Ok u)
     → Attempts {A = B} {E = F} does b c (Err e) → Attempts {A = C} {E = G} (Makes h) a c (Err d)
 makes_failed f h does a b c u e d one two = record {
@@ -185,14 +193,14 @@ makes_failed f h does a b c u e d one two = record {
 
 module _ {A B C E : Type 0} (a : List ℕ) (p q r s : State) (x : A) (y : B) (z : Result C E) where
   -- an account, its buckets and its counters
-  pub puts_money : (w : StoredRows) (h : Head) (bs : List Bucket) (cs : List Counter)
-      → h ≡ head_of w → bs ≡ w.buckets → cs ≡ w.counters
+  pub puts_money : (w : StoredRows) (h : HeadColumns) (bs : List BucketRow) (cs : List Counter)
+      → h ≡ head_columns_of w → bs ≡ w.buckets → cs ≡ w.counters
       → Attempts {A = A} {E = E} (Makes (with_account a h)) p q (Ok x)
       → Attempts {A = B} {E = E} (MakesIfOpen (with_all_counted a bs)) q r (Ok y)
       → Attempts {A = C} {E = E} (MakesIfOpen (with_counters a cs)) r s z
       → Attempts {A = C} {E = E} (Makes (with_money a w)) p s z
   puts_money w h bs cs head buckets counters one two three =
-      subst (λ (f : Content → Content). Attempts {A = C} {E = E} (Makes f) p s z)
+      subst (λ (f : TablesContent → TablesContent). Attempts {A = C} {E = E} (Makes f) p s z)
       (λ i c. with_counters a (counters i) (with_all_counted a (buckets i)
       (with_account a (head i) c)))
       (makes_all_then (λ c. with_all_counted a bs (with_account a h c)) (with_counters a cs) p r s
@@ -200,14 +208,15 @@ module _ {A B C E : Type 0} (a : List ℕ) (p q r s : State) (x : A) (y : B) (z 
       (makes_all_then (with_account a h) (with_all_counted a bs) p q r x (Ok y) one two) three)
 
   -- and its sessions and groups
-  pub puts_groups : (money : Content → Content) (groups : List SessionGroup → Content → Content)
+  pub puts_groups : (money : TablesContent → TablesContent) (groups : List SessionGroup →
+      TablesContent → TablesContent)
       (xs ys : List Session) (gs hs : List SessionGroup) → xs ≡ ys → gs ≡ hs
       → Attempts {A = A} {E = E} (Makes money) p q (Ok x)
       → Attempts {A = B} {E = E} (MakesIfOpen (with_sessions a xs)) q r (Ok y)
       → Attempts {A = C} {E = E} (MakesIfOpen (groups gs)) r s z
       → Attempts {A = C} {E = E} (Makes (λ c. groups hs (with_sessions a ys (money c)))) p s z
   puts_groups money groups xs ys gs hs same_xs same_gs one two three =
-      subst (λ (f : Content → Content). Attempts {A = C} {E = E} (Makes f) p s z)
+      subst (λ (f : TablesContent → TablesContent). Attempts {A = C} {E = E} (Makes f) p s z)
       (λ i c. groups (same_gs i) (with_sessions a (same_xs i) (money c)))
       (makes_all_then (λ c. with_sessions a xs (money c)) (groups gs) p r s y z
       (makes_all_then money (with_sessions a xs) p q r x (Ok y) one two) three)
@@ -215,14 +224,14 @@ module _ {A B C E : Type 0} (a : List ℕ) (p q r s : State) (x : A) (y : B) (z 
 -- the moment, and a voucher that no account has redeemed
 pub puts_addition : {A B E : Type 0} (text code k : List ℕ) (terms : VoucherTerms) (t : ℕ)
     (v : VoucherRow) (a b c : State) (x : A) (r : Result B E) → k ≡ code
-    → v ≡ row_of (unspent terms)
+    → v ≡ voucher_row (unspent terms)
     → Attempts {A = A} {E = E} (Makes (with_meta (meta_at text t))) a b (Ok x)
-    → Attempts {A = B} {E = E} (Makes (with_voucher k v)) b c r
+    → Attempts {A = B} {E = E} (Makes (with_voucher_row k v)) b c r
     → Attempts {A = B} {E = E} (Makes (with_addition text code terms t)) a c r
 puts_addition {A} {B} {E} text code k terms t v a b c x r same row one two =
-    subst (λ (f : Content → Content). Attempts {A = B} {E = E} (Makes f) a c r)
-    (λ i d. with_voucher (same i) (row i) (with_meta (meta_at text t) d))
-    (makes_then (with_meta (meta_at text t)) (with_voucher k v) a b c x r one two)
+    subst (λ (f : TablesContent → TablesContent). Attempts {A = B} {E = E} (Makes f) a c r)
+    (λ i d. with_voucher_row (same i) (row i) (with_meta (meta_at text t) d))
+    (makes_then (with_meta (meta_at text t)) (with_voucher_row k v) a b c x r one two)
 
 -- the charges of the same list
 pub puts_paid : {A E : Type 0} (a : List ℕ) (xs ys : List ChargeRow) → ys ≡ xs
@@ -239,7 +248,8 @@ pub puts_none : {A E : Type 0} (a : List ℕ) (n m k l : ℕ) (old new : State) 
     → Attempts {A = A} {E = E} (Makes (with_rows a (with_blocks k l))) old new r
 puts_none {A} {E} a n m k l old new r number same none =
     let zero : (l == 0) ≡ true = ap (λ v. v == 0) (sym same ∙ none) in
-    subst (λ (f : Rows → Rows). Attempts {A = A} {E = E} (Makes (with_rows a f)) old new r)
+    subst (λ (f : TableRows → TableRows). Attempts {A = A} {E = E} (Makes (with_rows a f)) old new
+    r)
     (ap without_covered number ∙ (λ i x. if sym zero i then without_covered k x
     else with_covered (record { number = k; blocks = l }) x))
 
@@ -248,7 +258,8 @@ pub puts_some : {A E : Type 0} (a : List ℕ) (n m k l : ℕ) (old new : State) 
     (Makes (with_rows a (with_covered (record { number = n; blocks = m })))) old new r
     → Attempts {A = A} {E = E} (Makes (with_rows a (with_blocks k l))) old new r
 puts_some {A} {E} a n m k l old new r number same some =
-    subst (λ (f : Rows → Rows). Attempts {A = A} {E = E} (Makes (with_rows a f)) old new r)
+    subst (λ (f : TableRows → TableRows). Attempts {A = A} {E = E} (Makes (with_rows a f)) old new
+    r)
     ((λ i. with_covered (record { number = number i; blocks = same i }))
     ∙ (λ i x. if sym (at (l == 0) refl) i then without_covered k x
     else with_covered (record { number = k; blocks = l }) x))
@@ -259,7 +270,7 @@ puts_some {A} {E} a n m k l old new r number same some =
 
 -- what differs of an account, and at last its head
 module _ {A B C D E : Type 0} (a : List ℕ) (names : Names) (p q r s t : State) (x : A) (y : B)
-    (z : C) (v : D) (bs : List Bucket) (cs : List Counter) (ss : List Session)
+    (z : C) (v : D) (bs : List BucketRow) (cs : List Counter) (ss : List Session)
     (gs : List SessionGroup)
     (one : Attempts {A = A} {E = E} (MakesIfOpen (with_all_counted a bs)) p q (Ok x)) where
   pub two_lists : Attempts {A = B} {E = E} (MakesIfOpen (with_counters a cs)) q r (Ok y)
@@ -284,15 +295,17 @@ module _ {A B C D E : Type 0} (a : List ℕ) (names : Names) (p q r s t : State)
           lists_then (λ c. with_sessions a ss (with_counters a cs (with_all_counted a bs c)))
           (with_groups a names gs) p s t z (Ok v) (three_lists three) four
 
-      pub puts_swept : {F G : Type 0} (w : StoredRows) (h : Head) (u : State) (n : F) (d : G)
-          → bs ≡ w.buckets → cs ≡ w.counters → ss ≡ w.sessions → gs ≡ w.groups → h ≡ head_of w
+      pub puts_swept : {F G : Type 0} (w : StoredRows) (h : HeadColumns) (u : State) (n : F) (d : G)
+          → bs ≡ w.buckets → cs ≡ w.counters → ss ≡ w.sessions → gs ≡ w.groups →
+          h ≡ head_columns_of w
           → Attempts {A = D} {E = E} (MakesIfOpen (with_groups a names gs)) s t (Ok v)
           → Attempts {A = F} {E = E} (Makes (with_account a h)) t u (Ok n)
-          → Attempts {A = G} {E = E} (Makes (λ c. with_account a (head_of w)
+          → Attempts {A = G} {E = E} (Makes (λ c. with_account a (head_columns_of w)
           (with_groups a names w.groups (with_sessions a w.sessions
           (with_counters a w.counters (with_all_counted a w.buckets c)))))) p u (Ok d)
       puts_swept {F} {G} w h u n d buckets counters sessions groups head four five =
-          subst (λ (f : Content → Content). Attempts {A = G} {E = E} (Makes f) p u (Ok d))
+          subst (λ (f : TablesContent → TablesContent). Attempts {A = G} {E = E} (Makes f) p u
+          (Ok d))
           (λ i c. with_account a (head i) (with_groups a names (groups i)
           (with_sessions a (sessions i) (with_counters a (counters i)
           (with_all_counted a (buckets i) c)))))

@@ -11,7 +11,7 @@ use Rattle.keepers.specs.Change.{changed}
 use Rattle.keepers.specs.declared.fault.StoreFault.{StoreFault}
 use Rattle.keepers.specs.declared.loaded.Change.{Change}
 use Rattle.sql_tables.specs.declared.fault.OpenFault.{OpenFault}
-use Rattle.sql_rows.specs.Content.{content_of}
+use Rattle.sql_rows.specs.Content.{tables_content}
 use Rattle.sql_keeper.specs.Again.{IsChangedWhole, IsFoundAfter, IsLeftFresh, IsShownBy}
 use Rattle.sql_keeper.specs.Again.{ShowsStopped}
 use Rattle.sql_keeper.specs.Causes.{IsStores}
@@ -21,7 +21,7 @@ use Rattle.sql_keeper.specs.Inside.{IsClean, IsKeeper, KeeperState, names_in, ta
 use Rattle.sql_keeper.specs.Left.{IsHeld, IsLeftRuled}
 use Rattle.sql_keeper.specs.Opened.{IsNotOpened, IsOpened}
 use Rattle.sql_keeper.specs.Shelves.{IsShelfOf}
-use Rattle.sql_keeper.specs.Stops.{IsWhole, trees_in}
+use Rattle.sql_keeper.specs.Stops.{IsCommitWhole, trees_in}
 use Rattle.sql_keeper.proofs.Held.{held_committed}
 use Rattle.sql_keeper.proofs.Asked.{open_of}
 use Rattle.sql_keeper.proofs.OneShelf.{same_shelf}
@@ -99,7 +99,7 @@ module _ {S : Type 0} (g : Ghosts S) (law : AreSettled g) (old : KeeperState S)
 module _ {S : Type 0} (g : Ghosts S) (law : AreSettled g) (change : Change)
     (old mid new : KeeperState S) (shelf : Shelf) (keeper : IsKeeper g old)
     (rest : IsClean (state g old.connection))
-    (whole : IsWhole g old mid (Becomes (names_in old) old.text change (trees_in g old)))
+    (whole : IsCommitWhole g old mid (Becomes (names_in old) old.text change (trees_in g old)))
     (found : IsFoundAfter g g mid new shelf) (honest : HasCleanDisk (state g mid.connection)) where
   held : IsHeld old.text old.shelf old.last (trees_in g old)
   held = keeper.held rest.disk (open_of (state g old.connection) keeper.stays rest)
@@ -117,9 +117,9 @@ module _ {S : Type 0} (g : Ghosts S) (law : AreSettled g) (change : Change)
         (trees_in g new) held w).left
   ]
 
-  kept_books : (content_of (trees_in g new)).books ≡ (content_of (trees_in g old)).books
+  kept_books : (tables_content (trees_in g new)).books ≡ (tables_content (trees_in g old)).books
   kept_books = elim either [
-    | inl same ↦ ap (λ d. (content_of d).books) same
+    | inl same ↦ ap (λ d. (tables_content d).books) same
     | inr w ↦ w.books
   ]
 
@@ -127,9 +127,10 @@ module _ {S : Type 0} (g : Ghosts S) (law : AreSettled g) (change : Change)
   text_stays = one_kept (trees_in g new) old.text new.text kept_left.left.kept found.left.left.kept
 
   shelf_stays : new.shelf ≡ old.shelf
-  shelf_stays = found.own ∙ same_shelf old.text (content_of (trees_in g old)).books shelf old.shelf
+  shelf_stays = found.own ∙ same_shelf old.text (tables_content (trees_in g old)).books shelf
+      old.shelf
       (subst (λ rows. IsShelfOf old.text rows shelf) kept_books
-      (subst (λ t. IsShelfOf t (content_of (trees_in g new)).books shelf)
+      (subst (λ t. IsShelfOf t (tables_content (trees_in g new)).books shelf)
       (sym found.text ∙ text_stays) found.books)) held.books
 
   pub changed_whole : {A : Type 0} (r : Result A StoreFault)
@@ -150,14 +151,14 @@ module _ {S : Type 0} (g : Ghosts S) (law : AreSettled g) (change : Change)
           → OnOk q (tables_in g new ≡ changed change (tables_in g old))
       told (Ok x) clean to =
           let it = found.rests clean in
-          ap (λ s. tables_of (shelf_names s) (content_of (trees_in g new))) (found.own ∙ it.1)
-          ∙ ap (λ d. tables_of (names_in mid) (content_of d)) it.0 ∙ to clean
+          ap (λ s. tables_of (shelf_names s) (tables_content (trees_in g new))) (found.own ∙ it.1)
+          ∙ ap (λ d. tables_of (names_in mid) (tables_content d)) it.0 ∙ to clean
       told (Err e) clean to = tt
 
 -- so it is of what is opened again, if it is
 pub changed_after : {S A E : Type 0} (g : Ghosts S) → AreSettled g → (change : Change)
     (old mid : KeeperState S) → IsKeeper g old → IsClean (state g old.connection)
-    → IsWhole g old mid (Becomes (names_in old) old.text change (trees_in g old))
+    → IsCommitWhole g old mid (Becomes (names_in old) old.text change (trees_in g old))
     → (r : Result A StoreFault) → (HasCleanDisk (state g mid.connection)
     → OnOk r (IsClean (state g mid.connection)))
     → (IsClean (state g mid.connection)

@@ -18,7 +18,7 @@ use Rattle.reserving.specs.Pricing.{cycle_with, tariff_of}
 use Rattle.reserving.specs.Sessions.{is_counter, counter_in}
 use Rattle.reserving.proofs.Keys.{first_true, same_number}
 use Rattle.reserving.proofs.Lists.{no_some, not_both, some_of}
-use Rattle.sql_rows.specs.Content.{Rows as Stored}
+use Rattle.sql_rows.specs.Content.{TableRows}
 use Rattle.sql_rows.specs.Lists.{AreCountersIn}
 use Rattle.sql_keeper.specs.LiveRows.{AreCountersAt}
 use Rattle.sql_keeper.specs.Repeating.{AreEachCycle, AreRepeating, repeats_in, repeats_with}
@@ -26,7 +26,7 @@ use Rattle.sql_keeper.specs.Repeating.{has_repeating, may_repeat}
 use Rattle.sql_keeper.proofs.LiveRows.{find_kept}
 
 -- those of the groups whose counters begin again so often, among all of the cycle
-pub repeating_among : (b : Book) (repeats : Cycle) (t cycle : ℕ) (rows : Stored)
+pub repeating_among : (b : Book) (repeats : Cycle) (t cycle : ℕ) (rows : TableRows)
     (all cs : List Counter)
     → cycle ≡ cycle_of b.calendar.zone repeats t → AreCountersIn cycle rows all
     → cs ≡ filter (λ r. cycles.eq (repeats_in b r.group) repeats) all
@@ -72,7 +72,7 @@ none_repeats b often.Day none g = none_with b often.Day refl none g
 none_repeats b often.Month none g = none_with b often.Month refl none g
 
 -- so none is to be read
-pub none_repeating : (b : Book) (repeats : Cycle) (t : ℕ) (rows : Stored) (cs : List Counter) →
+pub none_repeating : (b : Book) (repeats : Cycle) (t : ℕ) (rows : TableRows) (cs : List Counter) →
     false ≡ may_repeat b repeats → cs ≡ [] → AreRepeating b repeats t rows cs
 none_repeating b repeats t rows cs none is g c =
     ap (counter_in g c) is
@@ -106,7 +106,7 @@ module _ (zone : ZoneRule) (t c : ℕ) (o never daily monthly : Option Counter) 
   one_of_three often.Month e f h = λ i. option_or (option_or (e i) (f i)) (h i)
 
 -- all of them, by the book at the moment
-pub counters_joined : (s : Shelf) (b : Book) (t : ℕ) (rows : Stored)
+pub counters_joined : (s : Shelf) (b : Book) (t : ℕ) (rows : TableRows)
     (never daily monthly all : List Counter) → b ≡ book_at s t
     → AreRepeating b often.None t rows never → AreEachCycle b t rows daily monthly
     → all ≡ (never ++ daily) ++ monthly → AreCountersAt s t rows all

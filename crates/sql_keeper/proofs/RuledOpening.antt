@@ -1,25 +1,23 @@
 -- A database whose rows were read when it was opened, each once.
-use Rattle.std.proofs.Common.{◌≡◌, ◌≤◌, ◌<◌, ◌⊎◌, inl, inr, ◌∙◌, ap, refl, sym, subst, ℕ, Some}
-use Rattle.std.proofs.Common.{arith, List, IsTrue, false}
+use Rattle.std.proofs.Common.{◌≡◌, ◌<◌, inl, inr, ◌∙◌, ap, refl, sym, subst, ℕ, Some, arith, List}
 use Rattle.std.proofs.lemmas.Str.{IsUtf8-string_bytes}
-use Rattle.std.specs.Prelude.{◌^◌, Ok, Err}
+use Rattle.std.specs.Prelude.{Ok, Err}
 use Rattle.std.specs.Str.{IsUtf8}
 use Rattle.std.specs.String.{string_bytes}
-use Rattle.shelves.specs.Shelves.{Shelf}
 use Rattle.sqlite_trees.specs.Tree.{Trees}
 use Rattle.sqlite.specs.Effect.{Database}
 use Rattle.sqlite.specs.State.{State, HasCleanDisk, IsUnchanged, Survives}
 use Rattle.sqlite.proofs.StateLemmas.{survives_then}
-use Rattle.sql_tables.specs.Schema.{book_schema, latest, schema_at}
+use Rattle.sql_tables.specs.Schema.{latest, schema_at}
 use Rattle.sql_tables.specs.Stages.{AreStoredAt}
-use Rattle.sql_tables.specs.Statements.{AreStored, HasIdleBook, IsStill}
-use Rattle.sql_rows.specs.Content.{content_of}
+use Rattle.sql_tables.specs.Statements.{AreStored}
+use Rattle.sql_rows.specs.Content.{tables_content}
 use Rattle.sql_rows.specs.Values.{Meta}
 use Rattle.sql_tables.specs.declared.fault.OpenFault.{OpenFault}
 use Rattle.sql_tables.specs.declared.fault.OpenFault.TheVariants.{Foreign, Version, Rules, Store}
 use Rattle.sql_tables.specs.declared.fault.OpenFault.TheVariants.{Memory, Older}
 use Rattle.sql_rules.specs.Tables.{AreRuled, IsOfRows, Tells}
-use Rattle.sql_keeper.specs.Causes.{HasFault, IsStores, KeepsVersion}
+use Rattle.sql_keeper.specs.Causes.{KeepsVersion}
 use Rattle.sql_keeper.specs.Finds.{FindsBooks, IsReadOf}
 use Rattle.sql_keeper.specs.Left.{IsKept}
 use Rattle.sql_keeper.specs.RuledOpening.{AreRowsApart, FindsRuled, HasUnruledRow, IsRowFault}
@@ -67,7 +65,7 @@ module _ (old mid new : State) (r : ReadBooks) (finds : FindsBooks old mid (Ok r
         kept = kept_latest mid.now.trees (string_bytes r.text) (IsUtf8-string_bytes r.text)
             it.0.kept;
         shelf = r.own;
-        books = subst (λ t. IsShelfOf t (content_of mid.now.trees).books r.own)
+        books = subst (λ t. IsShelfOf t (tables_content mid.now.trees).books r.own)
             (sym it.0.kept.book) it.0.books;
         unruled = not_ruled;
       })

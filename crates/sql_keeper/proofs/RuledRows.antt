@@ -1,15 +1,14 @@
 -- What is written of rows in their rules leaves content in its rules.
 use Rattle.std.proofs.Common.{◌≡◌, ℕ, zero, suc, List, [], ◌∷◌, Bool, true, false, ◌&&◌, ◌||◌, Some}
 use Rattle.std.proofs.Common.{None, Option, refl, subst, sym, ap, length, map, arith, ◌+◌, ◌++◌}
-use Rattle.std.proofs.Common.{◌<◌}
-use Rattle.std.proofs.Common.{◌≤◌}
+use Rattle.std.proofs.Common.{◌<◌, ◌≤◌}
 use Rattle.std.specs.Prelude.{is_some, option_map, slice_get, unwrap_or, nat_le, ◌==◌}
 use Rattle.std.specs.Prelude.{if◌then◌else◌}
 use Rattle.std.specs.List.{list_all, list_any}
 use Rattle.std.proofs.lemmas.Bool.{and_from, and_parts}
 use Rattle.std.proofs.lemmas.Bool.Decides.{nat_tests}
 use Rattle.std.proofs.lemmas.List.{length-append, length-map}
-use Rattle.identifiers.specs.Texts.{is_account_number, is_reference, is_session_id}
+use Rattle.identifiers.specs.Texts.{is_account_number, is_session_id}
 use Rattle.tariffs.specs.Books.{Book}
 use Rattle.voucher_rules.specs.declared.terms.VoucherTerms.{VoucherTerms}
 use Rattle.voucher_rules.specs.Standing.{unspent}
@@ -17,8 +16,8 @@ use Rattle.shelves.specs.Shelves.{Shelf, count, dated_books, with_book}
 use Rattle.shelves.specs.declared.dated.DatedBook.{DatedBook}
 use Rattle.tariffs.specs.Names.{period_named}
 use Rattle.calendar.specs.declared.week.Period.{Period}
-use Rattle.buckets.specs.Row.{Row as Bucket}
-use Rattle.buckets.specs.declared.holds.Hold.{Hold}
+use Rattle.buckets.specs.Row.{BucketRow}
+use Rattle.buckets.specs.declared.holds.HeldAmount.{HeldAmount}
 use Rattle.buckets.specs.declared.kind.BucketKind.{BucketKind}
 use Rattle.buckets.specs.declared.kind.BucketKind.TheVariants.{Blocks, Money}
 use Rattle.reserving.specs.Rows.{EachIn}
@@ -34,37 +33,36 @@ use Rattle.keepers.specs.declared.key.Key.TheVariants.{Reference, Request}
 use Rattle.keepers.specs.declared.key.KeptAnswer.{KeptAnswer}
 use Rattle.keepers.specs.declared.loaded.Change.{Change}
 use Rattle.keepers.specs.declared.loaded.Redeemed.{Redeemed}
-use Rattle.sql_rows.specs.Content.{Content, Rows, with_account, with_bucket, with_charge}
-use Rattle.sql_rows.specs.Content.{with_counter}
-use Rattle.sql_rows.specs.Content.{with_group, with_hold, with_meta, with_rows, with_session}
+use Rattle.sql_rows.specs.Content.{TablesContent, TableRows, with_account, with_bucket}
+use Rattle.sql_rows.specs.Content.{with_charge_row}
+use Rattle.sql_rows.specs.Content.{with_counter_row}
+use Rattle.sql_rows.specs.Content.{with_group_row, with_hold_row, with_meta, with_rows}
+use Rattle.sql_rows.specs.Content.{with_session_row}
 use Rattle.sql_rows.specs.Content.{with_answer, with_covered, without_covered, without_holds}
 use Rattle.sql_rows.specs.Each.{with_counters, with_each, with_sessions}
 use Rattle.sql_rows.specs.Values.{Group, Kept, Meta, PeriodNames, plain_bucket, plain_charge}
-use Rattle.sql_rows.specs.Values.{reference_kind}
-use Rattle.sql_rows.specs.Values.{request_kind}
-use Rattle.sql_rules.specs.Columns.{is_moment, is_numbering, is_small, is_within}
+use Rattle.sql_rows.specs.Values.{reference_kind, request_kind}
+use Rattle.sql_rules.specs.Columns.{is_moment, is_numbering, is_small, is_in_bounds}
 use Rattle.sql_rules.specs.Rules.{are_kept_texts, has_period, is_answer_key, is_period_name}
 use Rattle.sql_rules.specs.Ruled.{AreInRules, IsInRules, are_named, is_book, is_bucket, is_charge}
-use Rattle.sql_rules.specs.Ruled.{is_counter}
-use Rattle.sql_rules.specs.Ruled.{is_group, is_head, is_session, is_voucher}
+use Rattle.sql_rules.specs.Ruled.{is_counter, is_group, is_head, is_session, is_voucher}
 use Rattle.sql_rules.proofs.KeptRules.{account_kept, allowance_gone, allowance_kept, answer_kept}
 use Rattle.sql_rules.proofs.KeptRules.{book_kept, bucket_kept, charge_kept, counter_kept}
 use Rattle.sql_rules.proofs.KeptRules.{covered_gone}
 use Rattle.sql_rules.proofs.KeptRules.{covered_kept, grant_book_gone, grant_book_kept, group_kept}
 use Rattle.sql_rules.proofs.KeptRules.{hold_kept, holds_gone, meta_kept, rows_kept, session_kept}
 use Rattle.sql_rules.proofs.KeptRules.{voucher_kept}
-use Rattle.sql_keeper.specs.Content.{Names, names_numbered, shelf_names}
+use Rattle.sql_keeper.specs.Content.{names_numbered, shelf_names}
 use Rattle.sql_keeper.specs.RuledRows.{are_ruled_rows, are_ruled_texts, is_ruled_addition}
 use Rattle.sql_keeper.specs.RuledRows.{is_ruled_change, is_ruled_sweep, is_ruled_swept}
 use Rattle.sql_keeper.specs.RuledRows.{is_ruled_group, is_ruled_hold, is_ruled_key}
 use Rattle.sql_keeper.specs.RuledRows.{is_ruled_kept, is_ruled_redeemed, is_ruled_reservation}
-use Rattle.sql_keeper.specs.Tests.{AreWritable, IsNamed, MayStand}
+use Rattle.sql_keeper.specs.Tests.{AreWritable, MayStand}
 use Rattle.sql_keeper.specs.AddsBook.{with_dated}
 use Rattle.sql_keeper.specs.Additions.{with_addition}
 use Rattle.sql_keeper.specs.Sweeps.{with_sweep, with_swept}
 use Rattle.sql_keeper.specs.declared.swept_rows.SweptAccount.{SweptAccount}
-use Rattle.sql_keeper.specs.Writes.{columns_of, head_of, meta_at, name_at, names_at, names_held}
-use Rattle.sql_keeper.specs.Writes.{row_of}
+use Rattle.sql_keeper.specs.Writes.{columns_of, head_columns_of, meta_at, names_held, voucher_row}
 use Rattle.sql_keeper.specs.Writes.{with_all_counted, with_all_paid, with_blocks, with_book_of}
 use Rattle.sql_keeper.specs.Writes.{with_change, with_counted, with_groups, with_held_group}
 use Rattle.sql_keeper.specs.Writes.{with_kept, with_kind, with_paid, with_redeemed, with_scoped}
@@ -78,19 +76,22 @@ names_count shelf =
     length-map (dated_books shelf) (λ (d : DatedBook). d.book.periods)
 
 module _ (shelf : Shelf) where
-  all_kept : {X : Type 0} (change : X → Content → Content) (test : X → Bool)
-      → ((x : X) (c : Content) → test x ≡ true → IsInRules shelf c → IsInRules shelf (change x c))
-      → (xs : List X) (c : Content) → list_all test xs ≡ true → IsInRules shelf c
+  all_kept : {X : Type 0} (change : X → TablesContent → TablesContent) (test : X → Bool)
+      → ((x : X) (c : TablesContent) → test x ≡ true → IsInRules shelf c →
+      IsInRules shelf (change x c))
+      → (xs : List X) (c : TablesContent) → list_all test xs ≡ true → IsInRules shelf c
       → IsInRules shelf (with_each change xs c)
   all_kept change test one [] c all in' = in'
   all_kept change test one (x ∷ xs) c all in' =
       let parts = and_parts (test x) (list_all test xs) all in
       all_kept change test one xs (change x c) parts.1 (one x c parts.0 in')
 
-  each_kept : {X : Type 0} (change : X → Content → Content) (test : X → Bool) (P : X → Type 0)
-      → ((x : X) (c : Content) → test x ≡ true → P x → IsInRules shelf c
+  each_kept : {X : Type 0} (change : X → TablesContent → TablesContent) (test : X → Bool)
+      (P : X → Type 0)
+      → ((x : X) (c : TablesContent) → test x ≡ true → P x → IsInRules shelf c
       → IsInRules shelf (change x c))
-      → (xs : List X) (c : Content) → list_all test xs ≡ true → EachIn P xs → IsInRules shelf c
+      → (xs : List X) (c : TablesContent) → list_all test xs ≡ true → EachIn P xs →
+      IsInRules shelf c
       → IsInRules shelf (with_each change xs c)
   each_kept change test P one [] c all each in' = in'
   each_kept change test P one (x ∷ xs) c all each in' =
@@ -128,7 +129,8 @@ module _ (shelf : Shelf) where
   -- ---- the rows of an account
 
   module _ (a : List ℕ) where
-    scoped_kept : (o : Option ℕ) (k : BucketKind) (n : ℕ) (c : Content) → is_numbering n ≡ true
+    scoped_kept : (o : Option ℕ) (k : BucketKind) (n : ℕ) (c : TablesContent) →
+        is_numbering n ≡ true
         → IsInRules shelf c → IsInRules shelf (with_scoped a o k n c)
     scoped_kept None k n c rule in' = in'
     scoped_kept (Some g) Money n c rule in' =
@@ -142,7 +144,7 @@ module _ (shelf : Shelf) where
     first_of_five true q r s t h = refl
     first_of_five false q r s t h = absurd (cc h)
 
-    counted_kept : (b : Bucket) (c : Content) → is_bucket b ≡ true → IsInRules shelf c
+    counted_kept : (b : BucketRow) (c : TablesContent) → is_bucket b ≡ true → IsInRules shelf c
         → IsInRules shelf (with_counted a b c)
     counted_kept b c rule in' =
         scoped_kept b.scope b.kind b.number (with_rows a (with_bucket (plain_bucket b)) c)
@@ -150,7 +152,7 @@ module _ (shelf : Shelf) where
         (rows_kept shelf c in' a (with_bucket (plain_bucket b))
         (bucket_kept shelf a (c.rows a) (in'.rows a) (plain_bucket b) rule))
 
-    book_of_kept : (s : List ℕ) (g : ℕ) (o : Option Reservation) (c : Content)
+    book_of_kept : (s : List ℕ) (g : ℕ) (o : Option Reservation) (c : TablesContent)
         → is_ruled_reservation (shelf_names shelf) o ≡ true → IsInRules shelf c
         → IsInRules shelf (with_rows a (with_book_of s g o) c)
     book_of_kept s g None c rule in' =
@@ -159,18 +161,18 @@ module _ (shelf : Shelf) where
     book_of_kept s g (Some x) c rule in' =
         rows_kept shelf c in' a (with_book_of s g (Some x))
         (grant_book_kept shelf a (c.rows a) (in'.rows a) s g x.terms.book
-        (subst (λ n. is_within 1 n x.terms.book ≡ true) (names_count shelf)
-        (and_parts (is_within 1 (length (shelf_names shelf)) x.terms.book)
+        (subst (λ n. is_in_bounds 1 n x.terms.book ≡ true) (names_count shelf)
+        (and_parts (is_in_bounds 1 (length (shelf_names shelf)) x.terms.book)
         (list_all is_ruled_hold x.holds) rule).0))
 
     holds_ruled : (o : Option Reservation) → is_ruled_reservation (shelf_names shelf) o ≡ true →
         list_all is_ruled_hold (holds_in o) ≡ true
     holds_ruled None rule = refl
     holds_ruled (Some x) rule =
-        (and_parts (is_within 1 (length (shelf_names shelf)) x.terms.book)
+        (and_parts (is_in_bounds 1 (length (shelf_names shelf)) x.terms.book)
         (list_all is_ruled_hold x.holds) rule).1
 
-    held_kept : (sessions : List Session) (x : SessionGroup) (c : Content)
+    held_kept : (sessions : List Session) (x : SessionGroup) (c : TablesContent)
         → is_ruled_group (shelf_names shelf) x ≡ true
         → MayStand (shelf_names shelf) sessions x.session x.reservation → IsInRules shelf c
         → IsInRules shelf (with_held_group a (shelf_names shelf) x c)
@@ -180,8 +182,8 @@ module _ (shelf : Shelf) where
         let parts = and_parts (is_small g && nat_le x.used 1_000_000_000_000_000_000)
         (is_ruled_reservation (shelf_names shelf) x.reservation) rule in
         let row = columns_of (shelf_names shelf) x in
-        let grouped = with_rows a (with_group s g row) c in
-        let one : IsInRules shelf grouped = rows_kept shelf c in' a (with_group s g row)
+        let grouped = with_rows a (with_group_row s g row) c in
+        let one : IsInRules shelf grouped = rows_kept shelf c in' a (with_group_row s g row)
         (group_kept shelf a (c.rows a) (in'.rows a) s g row
         (and_from _ _ parts.0 (names_known sessions s x.reservation may))) in
         let booked = with_rows a (with_book_of s g x.reservation) grouped in
@@ -189,12 +191,13 @@ module _ (shelf : Shelf) where
         let freed = with_rows a (without_holds s g) booked in
         let three : IsInRules shelf freed = rows_kept shelf booked two a (without_holds s g)
         (holds_gone shelf a (booked.rows a) (two.rows a) s g) in
-        all_kept (λ (h : Hold). with_rows a (with_hold s g h.bucket h.amount)) is_ruled_hold
-        (λ h d some so. rows_kept shelf d so a (with_hold s g h.bucket h.amount)
+        all_kept (λ (h : HeldAmount). with_rows a (with_hold_row s g h.bucket h.amount))
+        is_ruled_hold
+        (λ h d some so. rows_kept shelf d so a (with_hold_row s g h.bucket h.amount)
         (hold_kept shelf a (d.rows a) (so.rows a) s g h.bucket h.amount some))
         (holds_in x.reservation) freed (holds_ruled x.reservation parts.1) three
 
-    stored_kept : (among : List Session) (w : StoredRows) (c : Content)
+    stored_kept : (among : List Session) (w : StoredRows) (c : TablesContent)
         → are_ruled_rows (shelf_names shelf) a w ≡ true
         → AreWritable (shelf_names shelf) among w.groups → IsInRules shelf c
         → IsInRules shelf (with_stored a (shelf_names shelf) w c)
@@ -203,25 +206,26 @@ module _ (shelf : Shelf) where
         let sessions = and_parts _ (list_all is_session w.sessions) groups.0 in
         let counters = and_parts _ (list_all is_counter w.counters) sessions.0 in
         let buckets = and_parts _ (list_all is_bucket w.buckets) counters.0 in
-        let head = and_parts (is_account_number a) (is_head (head_of w)) buckets.0 in
+        let head = and_parts (is_account_number a) (is_head (head_columns_of w)) buckets.0 in
         each_kept (with_held_group a (shelf_names shelf)) (is_ruled_group (shelf_names shelf))
         (λ (x : SessionGroup).
         MayStand (shelf_names shelf) among x.session x.reservation)
         (held_kept among) w.groups _ groups.1 may
-        (all_kept (λ x. with_rows a (with_session x)) is_session
-        (λ x d some so. rows_kept shelf d so a (with_session x)
+        (all_kept (λ x. with_rows a (with_session_row x)) is_session
+        (λ x d some so. rows_kept shelf d so a (with_session_row x)
         (session_kept shelf a (d.rows a) (so.rows a) x some)) w.sessions _ sessions.1
-        (all_kept (λ x. with_rows a (with_counter x)) is_counter
-        (λ x d some so. rows_kept shelf d so a (with_counter x)
+        (all_kept (λ x. with_rows a (with_counter_row x)) is_counter
+        (λ x d some so. rows_kept shelf d so a (with_counter_row x)
         (counter_kept shelf a (d.rows a) (so.rows a) x some)) w.counters _ counters.1
         (all_kept (with_counted a) is_bucket counted_kept w.buckets _ buckets.1
-        (account_kept shelf c in' a (head_of w) head.0 head.1))))
+        (account_kept shelf c in' a (head_columns_of w) head.0 head.1))))
 
     -- the same with the head put last
-    swept_kept : (among : List Session) (w : StoredRows) (c : Content)
+    swept_kept : (among : List Session) (w : StoredRows) (c : TablesContent)
         → are_ruled_rows (shelf_names shelf) a w ≡ true
         → AreWritable (shelf_names shelf) among w.groups → IsInRules shelf c
-        → IsInRules shelf (with_account a (head_of w) (with_groups a (shelf_names shelf) w.groups
+        → IsInRules shelf (with_account a (head_columns_of w)
+        (with_groups a (shelf_names shelf) w.groups
         (with_sessions a w.sessions (with_counters a w.counters
         (with_all_counted a w.buckets c)))))
     swept_kept among w c rule may in' =
@@ -229,27 +233,27 @@ module _ (shelf : Shelf) where
         let sessions = and_parts _ (list_all is_session w.sessions) groups.0 in
         let counters = and_parts _ (list_all is_counter w.counters) sessions.0 in
         let buckets = and_parts _ (list_all is_bucket w.buckets) counters.0 in
-        let head = and_parts (is_account_number a) (is_head (head_of w)) buckets.0 in
+        let head = and_parts (is_account_number a) (is_head (head_columns_of w)) buckets.0 in
         account_kept shelf _ (each_kept (with_held_group a (shelf_names shelf))
         (is_ruled_group (shelf_names shelf))
         (λ (x : SessionGroup).
         MayStand (shelf_names shelf) among x.session x.reservation)
         (held_kept among) w.groups _ groups.1 may
-        (all_kept (λ x. with_rows a (with_session x)) is_session
-        (λ x d some so. rows_kept shelf d so a (with_session x)
+        (all_kept (λ x. with_rows a (with_session_row x)) is_session
+        (λ x d some so. rows_kept shelf d so a (with_session_row x)
         (session_kept shelf a (d.rows a) (so.rows a) x some)) w.sessions _ sessions.1
-        (all_kept (λ x. with_rows a (with_counter x)) is_counter
-        (λ x d some so. rows_kept shelf d so a (with_counter x)
+        (all_kept (λ x. with_rows a (with_counter_row x)) is_counter
+        (λ x d some so. rows_kept shelf d so a (with_counter_row x)
         (counter_kept shelf a (d.rows a) (so.rows a) x some)) w.counters _ counters.1
         (all_kept (with_counted a) is_bucket counted_kept w.buckets c buckets.1 in'))))
-        a (head_of w) head.0 head.1
+        a (head_columns_of w) head.0 head.1
 
     -- ---- charges, texts, vouchers
 
     some_blocks : (m : ℕ) → (m == 0) ≡ false → 0 < m
     some_blocks m e = grind (arith, nat_tests, e)
 
-    blocks_kept : (n m : ℕ) (c : Content) → IsInRules shelf c →
+    blocks_kept : (n m : ℕ) (c : TablesContent) → IsInRules shelf c →
         IsInRules shelf (with_rows a (with_blocks n m) c)
     blocks_kept n m c in' = at (m == 0) refl
       where
@@ -262,18 +266,18 @@ module _ (shelf : Shelf) where
             (covered_kept shelf a (c.rows a) (in'.rows a) (record { number = n; blocks = m })
             (some_blocks m e))
 
-    paid_kept : (x : ChargeRow) (c : Content) → is_charge x ≡ true → IsInRules shelf c
+    paid_kept : (x : ChargeRow) (c : TablesContent) → is_charge x ≡ true → IsInRules shelf c
         → IsInRules shelf (with_paid a x c)
     paid_kept x c rule in' =
-        blocks_kept x.number x.covered.0 (with_rows a (with_charge (plain_charge x)) c)
-        (rows_kept shelf c in' a (with_charge (plain_charge x))
+        blocks_kept x.number x.covered.0 (with_rows a (with_charge_row (plain_charge x)) c)
+        (rows_kept shelf c in' a (with_charge_row (plain_charge x))
         (charge_kept shelf a (c.rows a) (in'.rows a) (plain_charge x) rule))
 
-    all_paid_kept : (xs : List ChargeRow) (c : Content) → list_all is_charge xs ≡ true
+    all_paid_kept : (xs : List ChargeRow) (c : TablesContent) → list_all is_charge xs ≡ true
         → IsInRules shelf c → IsInRules shelf (with_all_paid a xs c)
     all_paid_kept = all_kept (with_paid a) is_charge paid_kept
 
-    texts_kept : (key : Key) (t : Kept) (c : Content) → is_ruled_key key ≡ true
+    texts_kept : (key : Key) (t : Kept) (c : TablesContent) → is_ruled_key key ≡ true
         → are_kept_texts a t.content t.answer ≡ true → IsInRules shelf c
         → IsInRules shelf (with_texts a key t c)
     texts_kept (Request s n) t c key texts in' =
@@ -291,7 +295,7 @@ module _ (shelf : Shelf) where
         (and_from (is_answer_key reference_kind x 0) (are_kept_texts a t.content t.answer)
         (ap (λ b. b && true) key) texts))
 
-    kept_kept : (kept : Option KeptAnswer) (texts : Option Kept) (c : Content)
+    kept_kept : (kept : Option KeptAnswer) (texts : Option Kept) (c : TablesContent)
         → is_ruled_kept kept ≡ true → are_ruled_texts a texts ≡ true → IsInRules shelf c
         → IsInRules shelf (with_kept a kept texts c)
     kept_kept None texts c key rule in' = in'
@@ -299,10 +303,10 @@ module _ (shelf : Shelf) where
     kept_kept (Some k) (Some t) c key rule in' =
         texts_kept (key_of k.content) t c key rule in'
 
-  redeemed_kept : (o : Option Redeemed) (c : Content) → is_ruled_redeemed o ≡ true
+  redeemed_kept : (o : Option Redeemed) (c : TablesContent) → is_ruled_redeemed o ≡ true
       → IsInRules shelf c → IsInRules shelf (with_redeemed o c)
   redeemed_kept None c rule in' = in'
-  redeemed_kept (Some r) c rule in' = voucher_kept shelf c in' r.code (row_of r.voucher) rule
+  redeemed_kept (Some r) c rule in' = voucher_kept shelf c in' r.code (voucher_row r.voucher) rule
 
   -- ---- all of a change
 
@@ -310,7 +314,7 @@ module _ (shelf : Shelf) where
   none_there true e f = absurd (cc f)
   none_there false e f = absurd (cc e)
 
-  pub change_kept : (m : Meta) (change : Change) (texts : Option Kept) (c : Content)
+  pub change_kept : (m : Meta) (change : Change) (texts : Option Kept) (c : TablesContent)
       → m.last ≡ change.moment → is_ruled_change (shelf_names shelf) change ≡ true
       → are_ruled_texts change.number texts ≡ true
       → AreWritable (shelf_names shelf) change.rows.sessions change.rows.groups
@@ -331,16 +335,16 @@ module _ (shelf : Shelf) where
 
   -- ---- a voucher, a sweep
 
-  pub addition_kept : (text code : List ℕ) (terms : VoucherTerms) (t : ℕ) (c : Content)
+  pub addition_kept : (text code : List ℕ) (terms : VoucherTerms) (t : ℕ) (c : TablesContent)
       → is_ruled_addition code terms t ≡ true → is_some c.meta ≡ true → IsInRules shelf c
       → IsInRules shelf (with_addition text code terms t c)
   addition_kept text code terms t c rule there in' =
-      let parts = and_parts (is_moment t) (is_voucher code (row_of (unspent terms))) rule in
+      let parts = and_parts (is_moment t) (is_voucher code (voucher_row (unspent terms))) rule in
       voucher_kept shelf (with_meta (meta_at text t) c)
       (meta_kept shelf c in' (meta_at text t) parts.0
-      (λ none. none_there (is_some c.meta) there none)) code (row_of (unspent terms)) parts.1
+      (λ none. none_there (is_some c.meta) there none)) code (voucher_row (unspent terms)) parts.1
 
-  pub sweep_kept : (text : List ℕ) (t : ℕ) (xs : List SweptAccount) (c : Content)
+  pub sweep_kept : (text : List ℕ) (t : ℕ) (xs : List SweptAccount) (c : TablesContent)
       → is_ruled_sweep (shelf_names shelf) t xs ≡ true
       → EachIn (MayBePut (shelf_names shelf)) xs → is_some c.meta ≡ true → IsInRules shelf c
       → IsInRules shelf (with_sweep (shelf_names shelf) text t xs c)
@@ -393,10 +397,10 @@ module _ (shelf : Shelf) (from : ℕ) (b : Book) where
       length-append shelf.later more in
       omega (arith, is)
 
-  within_more : (low m n k : ℕ) → m ≤ n → is_within low m k ≡ true → is_within low n k ≡ true
+  within_more : (low m n k : ℕ) → m ≤ n → is_in_bounds low m k ≡ true → is_in_bounds low n k ≡ true
   within_more low m n k less e = grind (arith, nat_tests, less, e)
 
-  more_rows : (a : List ℕ) (r : Rows) → AreInRules shelf a r →
+  more_rows : (a : List ℕ) (r : TableRows) → AreInRules shelf a r →
       AreInRules (with_book shelf from b) a r
   more_rows a r in' = record {
     head = in'.head;
@@ -414,7 +418,7 @@ module _ (shelf : Shelf) (from : ℕ) (b : Book) where
     covered = in'.covered;
   }
 
-  pub dated_kept : (n : ℕ) (text : List ℕ) (c : Content)
+  pub dated_kept : (n : ℕ) (text : List ℕ) (c : TablesContent)
       → is_book n (record { starts = from; content = text }) ≡ true → IsInRules shelf c
       → IsInRules (with_book shelf from b) (with_dated n from text c)
   dated_kept n text c rule in' =

@@ -1,12 +1,12 @@
 -- What a keeper has seen of an account, and what reads of its tables leave of it.
-use Rattle.std.proofs.Common.{◌≡◌, ℕ, Bool, true, false, List, Option, Some, None, Result, Ok, Err}
-use Rattle.std.proofs.Common.{[], ◌∷◌, cond, IfOk, IsTrue, refl, sym, ap, subst, ◌∙◌}
+use Rattle.std.proofs.Common.{◌≡◌, ℕ, Bool, true, false, List, Option, Some, None, Result, Ok}
+use Rattle.std.proofs.Common.{[], ◌∷◌, cond, IfOk, refl, sym, ap, subst, ◌∙◌}
 use Rattle.std.specs.Prelude.{if◌then◌else◌, ◌&&◌, nat_eq, option_map, is_some, slice_get, IfSome}
 use Rattle.sqlite_trees.specs.Tree.{Trees}
 use Rattle.sqlite.specs.Effect.{Database}
 use Rattle.sqlite.specs.State.{State, HasCleanDisk}
 use Rattle.shelves.specs.Shelves.{Shelf}
-use Rattle.buckets.specs.declared.holds.Hold.{Hold}
+use Rattle.buckets.specs.declared.holds.HeldAmount.{HeldAmount}
 use Rattle.reserving.specs.declared.session.Session.{Session}
 use Rattle.reserving.specs.declared.session.SessionGroup.{SessionGroup}
 use Rattle.reserving.specs.declared.session.Reservation.{Reservation}
@@ -18,22 +18,22 @@ use Rattle.reserving.proofs.Holds.{same_itself}
 use Rattle.reserving.proofs.Lists.{no_some, not_both, some_of}
 use Rattle.reserving.proofs.KeysFound.{is_none_is}
 use Rattle.keepers.specs.declared.loaded.Loaded.{Loaded}
-use Rattle.keepers.specs.Tables.{Head as ToldHead, head_of as told_head, held_at}
+use Rattle.keepers.specs.Tables.{Head, head_of, held_at}
 use Rattle.sql_tables.specs.Keyed.{same_name}
 use Rattle.sql_tables.specs.Statements.{HasIdleBook, OnlyReads, Reads}
 use Rattle.sql_tables.specs.declared.reading.ReadFault.{ReadFault}
-use Rattle.sql_rows.specs.declared.head.Head.{Head}
-use Rattle.sql_rows.specs.Content.{Rows as Stored, rows_in}
+use Rattle.sql_rows.specs.declared.head.HeadColumns.{HeadColumns}
+use Rattle.sql_rows.specs.Content.{TableRows, rows_in}
 use Rattle.sql_rows.specs.Lists.{HasNoGroups}
 use Rattle.sql_keeper.specs.Asks.{Asks}
 use Rattle.sql_keeper.specs.Content.{Names, head_in}
 use Rattle.sql_keeper.specs.Grants.{IsGrantIn, IsGrantSeen, grant_with, is_name, only_bucket}
-use Rattle.sql_keeper.specs.LiveRows.{AreGrantsStored, IsLoadStored}
+use Rattle.sql_keeper.specs.LiveRows.{AreLoadedGrants, IsLoadStored}
 use Rattle.sql_keeper.specs.LiveGroups.{Gathers}
 use Rattle.sql_keeper.specs.Seen.{AreSeen, IsJoined, IsKnown, IsSeen, IsSeenOf, IsSeenWith}
 use Rattle.sql_keeper.specs.Seen.{IsStanding, IsUnknown, IsUnknownAlone, Sees}
 use Rattle.sql_keeper.specs.Seen.{standing_in, standing_of}
-use Rattle.sql_keeper.specs.Writes.{head_of}
+use Rattle.sql_keeper.specs.Writes.{head_columns_of}
 use Rattle.sql_keeper.specs.declared.seen.SeenAccount.{SeenAccount}
 use Rattle.sql_keeper.specs.declared.seen.SeenGrant.{SeenGrant}
 use Rattle.sql_keeper.specs.declared.seen.Standing.{Standing}
@@ -71,16 +71,16 @@ told_seen {A} {E} told o x s idle seen to =
 
 -- ---- what a load sees
 
-head_back : (o : Option Head) (w : StoredRows) → option_map head_in o ≡ Some (told_head w)
-    → o ≡ Some (head_of w)
-head_back None w e = absurd (no_some (told_head w) e)
+head_back : (o : Option HeadColumns) (w : StoredRows) → option_map head_in o ≡ Some (head_of w)
+    → o ≡ Some (head_columns_of w)
+head_back None w e = absurd (no_some (head_of w) e)
 head_back (Some h) w e =
-    ap (λ (k : ToldHead). Some (record {
+    ap (λ (k : Head). Some (record {
       barred = k.barred;
       as_of = k.as_of;
       next_bucket = k.next_bucket;
       next_charge = k.next_charge;
-    })) (some_of (head_in h) (told_head w) e)
+    })) (some_of (head_in h) (head_of w) e)
 
 only_open : (o : Option Session) → is_open_row (only (λ (x : Session). is_open x.state) o) ≡ true
     → is_open_row o ≡ true
@@ -184,7 +184,7 @@ pub grant_of_live : (gs hs : List SessionGroup) (live : Option (List ℕ)) (o : 
 grant_of_live gs hs live o same h s y e f =
     subst (λ l. IsGrantIn l s y) same (subst (λ p. IfSome p (IsGrantIn gs s)) f (h s e))
 
-one_held : (n b : ℕ) (hs : List Hold) → only_bucket hs ≡ Some b → ¬ (n ≡ b) → held_at n hs ≡ 0
+one_held : (n b : ℕ) (hs : List HeldAmount) → only_bucket hs ≡ Some b → ¬ (n ≡ b) → held_at n hs ≡ 0
 one_held n b [] e apart = absurd (no_some b e)
 one_held n b (h ∷ k ∷ hs) e apart = absurd (no_some b e)
 one_held n b (h ∷ []) e apart = none_at n (h ∷ []) (at (nat_eq h.bucket n) refl, tt)
@@ -193,8 +193,8 @@ one_held n b (h ∷ []) e apart = none_at n (h ∷ []) (at (nat_eq h.bucket n) r
     at true k = absurd (apart (sym (number_from h.bucket n k) ∙ some_of h.bucket b e))
     at false k = k
 
-grant_stored : (r : Stored) (l : Loaded) (s : List ℕ) (y : SeenGrant)
-    → AreGrantsStored r (Some l) → IsGrantIn l.before.groups s y → IsGrantSeen r s y
+grant_stored : (r : TableRows) (l : Loaded) (s : List ℕ) (y : SeenGrant)
+    → AreLoadedGrants r (Some l) → IsGrantIn l.before.groups s y → IsGrantSeen r s y
 grant_stored r l s y grants there =
     let told = told_grant y.group there.row.reservation y there.grant in
     let is = grants s y.group there.row told.reservation there.found told.is in
@@ -214,7 +214,7 @@ load_seen names shelf t a trees l (Some x) h stored =
     let from = stored.load.1 in
     subst (λ b. IsSeen (rows_in trees b) x) (sym (h.account ∙ number)) (record {
       head = λ k e. head_back (rows_in trees a).head (stored_rows l.account) from.head
-          ∙ ap (λ w. Some (head_of w)) (sym before) ∙ sym h.head ∙ e;
+          ∙ ap (λ w. Some (head_columns_of w)) (sym before) ∙ sym h.head ∙ e;
       live = λ s e. only_open ((rows_in trees a).sessions s)
           (ap is_open_row (sym (from.sessions s))
           ∙ ap (λ (w : StoredRows). is_open_row (session_in s w.sessions)) (sym before)
@@ -242,7 +242,7 @@ known_read {E} a s o known old new reads none is = record {
   survives = reads.survives;
 }
 
-unknown_of : (r : Stored) (s : List ℕ) (k : Bool) → k ≡ false → IsKnown r s k → IsUnknown r s
+unknown_of : (r : TableRows) (s : List ℕ) (k : Bool) → k ≡ false → IsKnown r s k → IsUnknown r s
 unknown_of r s k e h = record {
   row = is_none_is (r.sessions s) (sym h.row ∙ e);
   groups = h.groups e;
@@ -301,7 +301,7 @@ pub name_is : (s : List ℕ) (o : Option (List ℕ)) → is_name s o ≡ true �
 name_is s None e = absurd (not_both e)
 name_is s (Some z) e = ap Some (name_from z s e)
 
-pub standing_told : (r : Stored) (x : SeenAccount) (s : List ℕ) → IsSeen r x
+pub standing_told : (r : TableRows) (x : SeenAccount) (s : List ℕ) → IsSeen r x
     → IfSome (standing_in x s) (IsStanding r s)
 standing_told r x s seen = go (is_name s x.unknown) (is_name s x.live) refl refl
   where
@@ -311,11 +311,11 @@ standing_told r x s seen = go (is_name s x.unknown) (is_name s x.live) refl refl
     go false true e f = seen.live s (name_is s x.live f)
     go false false e f = tt
 
-pub head_told : (r : Stored) (x : SeenAccount) → IsSeen r x
-    → IfSome x.head (λ (h : Head). r.head ≡ Some h)
+pub head_told : (r : TableRows) (x : SeenAccount) → IsSeen r x
+    → IfSome x.head (λ (h : HeadColumns). r.head ≡ Some h)
 head_told r x seen = go x.head refl
   where
-    go : (o : Option Head) → x.head ≡ o → IfSome o (λ (h : Head). r.head ≡ Some h)
+    go : (o : Option HeadColumns) → x.head ≡ o → IfSome o (λ (h : HeadColumns). r.head ≡ Some h)
     go None e = tt
     go (Some h) e = seen.head h e
 
@@ -325,12 +325,12 @@ of_account a b same P = subst P (name_from a b (sym same))
 
 -- ---- what is read of a session
 
-by_row : (r : Stored) (s : List ℕ) (x : Session) → Some x ≡ r.sessions s → (t : Bool)
+by_row : (r : TableRows) (s : List ℕ) (x : Session) → Some x ≡ r.sessions s → (t : Bool)
     → is_open x.state ≡ t → IsStanding r s (if t then Open else Over)
 by_row r s x e true k = ap is_open_row (sym e) ∙ k
 by_row r s x e false k = ap is_open_row (sym e) ∙ k
 
-stands : (r : Stored) (s : List ℕ) (p : Option Session) → p ≡ r.sessions s
+stands : (r : TableRows) (s : List ℕ) (p : Option Session) → p ≡ r.sessions s
     → (p ≡ None → HasNoGroups r s) → IsStanding r s (standing_of p)
 stands r s None e gone = record { row = sym e; groups = gone refl }
 stands r s (Some x) e gone = by_row r s x e (is_open x.state) refl

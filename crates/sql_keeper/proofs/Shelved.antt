@@ -6,17 +6,17 @@ use Rattle.std.proofs.lemmas.Bool.{eqb-false}
 use Rattle.shelves.specs.Shelves.{Shelf, count}
 use Rattle.shelves.specs.declared.dated.DatedBook.{DatedBook}
 use Rattle.sql_rows.specs.Ruled.{AreRuledBooks, IsRuledBook}
-use Rattle.sql_rows.specs.Values.{DatedBook as DatedText}
+use Rattle.sql_rows.specs.Values.{BookRow}
 use Rattle.sql_keeper.specs.Shelves.{AreLater, IsDatedAt, IsDatedOf, IsShelfOf}
 use Rattle.sql_keeper.proofs.Overlays.{number_from}
 
 -- the book of the row under a number
-pub record IsLaterBook (x : DatedText) : Type 0 where
+pub record IsLaterBook (x : BookRow) : Type 0 where
   pub book : DatedBook
   pub is : IsDatedOf x book
 
-later_at : (rows : ℕ → Option DatedText) (m : ℕ) (ds : List DatedBook) → AreLater rows m ds
-    → (n : ℕ) (x : DatedText) → rows n ≡ Some x → m ≤ n → n < m + length ds → IsLaterBook x
+later_at : (rows : ℕ → Option BookRow) (m : ℕ) (ds : List DatedBook) → AreLater rows m ds
+    → (n : ℕ) (x : BookRow) → rows n ≡ Some x → m ≤ n → n < m + length ds → IsLaterBook x
 later_at rows m [] h n x there low high = absurd (omega (arith, low, high))
 later_at rows m (d ∷ ds) h n x there low high =
     go (later_at rows (m + 1) ds h.1 n x there) (nat_eq m n) refl
@@ -37,7 +37,7 @@ later_at rows m (d ∷ ds) h n x there low high =
 some_is_not : {A : Type 0} (o : Option A) (x : A) → o ≡ Some x → o ≡ None → ⊥
 some_is_not o x some none = let no : Some x ≡ None = sym some ∙ none in cc
 
-pub shelf_ruled : (text : List ℕ) (rows : ℕ → Option DatedText) (s : Shelf)
+pub shelf_ruled : (text : List ℕ) (rows : ℕ → Option BookRow) (s : Shelf)
     → IsShelfOf text rows s → AreRuledBooks rows
 shelf_ruled text rows s h n x there = at (nat_lt n 2) (nat_lt (count s) n) refl refl
   where

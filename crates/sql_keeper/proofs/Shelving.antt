@@ -22,7 +22,7 @@ use Rattle.shelves.specs.declared.fault.ShelfFault.TheVariants.{Memory as NoMemo
 use Rattle.shelves.proofs.Begun.{unbegun_test}
 use Rattle.sql_rows.specs.Lists.{BookAt}
 use Rattle.sql_rows.specs.Texts.{book_at}
-use Rattle.sql_rows.specs.Values.{DatedBook as DatedText}
+use Rattle.sql_rows.specs.Values.{BookRow}
 use Rattle.sql_rows.specs.declared.book_rows.BookColumns.{BookColumns}
 use Rattle.sql_keeper.specs.Books.{IsBookFault, IsBookOf}
 use Rattle.sql_keeper.specs.Shelves.{AreLater, AreOnly, AreShelved, HasShelf, IsDatedAt, IsDatedOf}
@@ -90,18 +90,18 @@ no_fault s from b few late follows =
 
 -- ---- the books of rows
 
-only_dated : (o : Option DatedText) (d : DatedBook) → IsOnlyAt o d → IsDatedAt o d
+only_dated : (o : Option BookRow) (d : DatedBook) → IsOnlyAt o d → IsDatedAt o d
 only_dated None d only = only
 only_dated (Some x) d only = only.dated
 
-same_book : (o : Option DatedText) (d e : DatedBook) → IsOnlyAt o d → IsDatedAt o e → e ≡ d
+same_book : (o : Option BookRow) (d e : DatedBook) → IsOnlyAt o d → IsDatedAt o e → e ≡ d
 same_book None d e only dated = absurd only
 same_book (Some x) d e only dated =
     let from : e.from ≡ d.from = sym dated.starts ∙ only.dated.starts in
     let book : e.book ≡ d.book = only.only e.book dated.book in
     λ i. record { from = from i; book = book i }
 
-no_row : (o : Option DatedText) (d : DatedBook) → IsDatedAt o d → o ≡ None → ⊥
+no_row : (o : Option BookRow) (d : DatedBook) → IsDatedAt o d → o ≡ None → ⊥
 no_row None d dated none = dated
 no_row (Some x) d dated none = cc
 
@@ -114,7 +114,7 @@ none_after n = omega arith
 two_after : (k : ℕ) → 2 + k ≡ suc (suc k)
 two_after k = omega arith
 
-module _ (rows : ℕ → Option DatedText) where
+module _ (rows : ℕ → Option BookRow) where
   only_more : (n : ℕ) (ds : List DatedBook) (d : DatedBook) → AreOnly rows n ds
       → IsOnlyAt (rows (n + length ds)) d → AreOnly rows n (ds ++ d ∷ [])
   only_more n [] d h last =
@@ -165,7 +165,7 @@ module _ (rows : ℕ → Option DatedText) where
     long rest is = ap length is ∙ length-append s.later rest
 
     -- the row behind those of the first is refused
-    pub none_more : (x : DatedText) → rows (suc (count s)) ≡ Some x → IsRefusedRow x s → ⊥
+    pub none_more : (x : BookRow) → rows (suc (count s)) ≡ Some x → IsRefusedRow x s → ⊥
     none_more x there refused = at goes_on.rest goes_on.is goes_on.follow
       where
         at : (rest : List DatedBook) → t.later ≡ s.later ++ rest
@@ -280,13 +280,13 @@ up_told n [] = refl
 up_told n (x ∷ xs) = ap (λ b. (nat_le 2 x.number && nat_le x.number n) && b) (up_told n xs)
 
 -- what is found of a row that was looked for
-pub none_numbered : {R : Type 0} (f : R → DatedText) (o : Option R) (n : ℕ)
+pub none_numbered : {R : Type 0} (f : R → BookRow) (o : Option R) (n : ℕ)
     (rows : List BookColumns) → option_map f o
     ≡ option_map (λ (x : BookColumns). (book_at x).row) (find (λ x. x.number == n) rows)
     → o ≡ None → None ≡ row_numbered n (map book_at rows)
 none_numbered f o n rows told is = sym (ap (option_map f) is) ∙ told ∙ row_told n rows
 
-pub some_numbered : {R : Type 0} (f : R → DatedText) (o : Option R) (n : ℕ)
+pub some_numbered : {R : Type 0} (f : R → BookRow) (o : Option R) (n : ℕ)
     (rows : List BookColumns) (x : R) → option_map f o
     ≡ option_map (λ (x : BookColumns). (book_at x).row) (find (λ x. x.number == n) rows)
     → o ≡ Some x → Some (f x) ≡ row_numbered n (map book_at rows)
@@ -322,10 +322,10 @@ none_shelved xs own other alone same =
 module _ (b : Book) (xs : List BookAt) (n : ℕ) (own other : Shelf)
     (so : AreShelvedTo b xs n own other) where
   -- the row of the number, if there is one
-  at_number : (o : Option DatedText) → o ≡ row_numbered n xs → row_numbered (suc (count own)) xs ≡ o
+  at_number : (o : Option BookRow) → o ≡ row_numbered n xs → row_numbered (suc (count own)) xs ≡ o
   at_number o is = ap (λ m. row_numbered m xs) (sym so.number) ∙ sym is
 
-  pub one_shelved : (x : DatedText) (own' other' : Shelf) → Some x ≡ row_numbered n xs
+  pub one_shelved : (x : BookRow) (own' other' : Shelf) → Some x ≡ row_numbered n xs
       → IsShelved x own own' → IsShelved x other other'
       → AreShelvedTo b xs (n + 1) own' other'
   one_shelved x own' other' there one two =
@@ -360,13 +360,13 @@ module _ (b : Book) (xs : List BookAt) (n : ℕ) (own other : Shelf)
     last = inr (omega (arith, high, so.number));
   }
 
-  pub own_refused : (x : DatedText) → Some x ≡ row_numbered n xs → IsRefusedRow x own
+  pub own_refused : (x : BookRow) → Some x ≡ row_numbered n xs → IsRefusedRow x own
       → IsNoneBehind b xs
   own_refused x there refused text only shelf =
       none_more (λ m. row_numbered m xs) own so.later text shelf.0
       (so.first ∙ only shelf.0.first shelf.1.first) shelf.1 x (at_number (Some x) there) refused
 
-  pub other_refused : (x : DatedText) → Some x ≡ row_numbered n xs → IsRefusedRow x other
+  pub other_refused : (x : BookRow) → Some x ≡ row_numbered n xs → IsRefusedRow x other
       → IsNoneBehind b xs
   other_refused x there refused = own_refused x there (subst (IsRefusedRow x) so.same refused)
 
@@ -396,7 +396,7 @@ no_shelf_read text b xs s only all out shelf =
 
 -- the text has no book
 pub no_first : (text : List ℕ) (f : BookFault) → ¬ (f ≡ Memory) → IsBookFault text f
-    → (rows : ℕ → Option DatedText) → HasShelf text rows → ⊥
+    → (rows : ℕ → Option BookRow) → HasShelf text rows → ⊥
 no_first text f other fault rows shelf =
     let read = shelf.1.first in
     let refused = fault.document read.0 read.1 other in
@@ -412,8 +412,8 @@ other_number n m other = at (nat_eq n m) refl
     at true e = absurd (other (eqb-true n m e))
     at false e = e
 
-module _ (rows : ℕ → Option DatedText) (n : ℕ) (x : DatedText) where
-  abbrev more_rows : ℕ → Option DatedText
+module _ (rows : ℕ → Option BookRow) (n : ℕ) (x : BookRow) where
+  abbrev more_rows : ℕ → Option BookRow
   more_rows m = if nat_eq n m then Some x else rows m
 
   row_still : (m : ℕ) → ¬ (n ≡ m) → more_rows m ≡ rows m
@@ -434,7 +434,7 @@ module _ (rows : ℕ → Option DatedText) (n : ℕ) (x : DatedText) where
     later_more (m + 1) es d h.1 (omega (arith, is)) dated,
   )
 
-pub dated_shelf : (text more : List ℕ) (rows : ℕ → Option DatedText) (n from : ℕ) (s : Shelf)
+pub dated_shelf : (text more : List ℕ) (rows : ℕ → Option BookRow) (n from : ℕ) (s : Shelf)
     (b : Book) → IsShelfOf text rows s → IsBookOf more b → n ≡ suc (count s)
     → from ≤ 4_102_488_000 → IsShelf (with_book s from b)
     → IsShelfOf text (more_rows rows n (record { starts = from; content = more }))

@@ -1,5 +1,5 @@
 -- The laws of keepers, of a call over a connection that may be shut.
-use Rattle.std.proofs.Common.{◌≡◌, ◌≤◌, ◌⊎◌, inl, inr, ℕ, List, Result, Ok, Err, OnOk, OnErr}
+use Rattle.std.proofs.Common.{◌≡◌, ◌≤◌, inl, inr, ℕ, List, Result, Ok, Err, OnOk, OnErr}
 use Rattle.std.proofs.Common.{IsTrue, ap, sym, ◌∙◌, subst, arith, false}
 use Rattle.sqlite_trees.specs.Tree.{Trees}
 use Rattle.sqlite_trees.specs.declared.store.Store.{Ghosts}
@@ -7,10 +7,10 @@ use Rattle.sqlite.specs.Held.{state}
 use Rattle.sqlite.specs.State.{State, HasCleanDisk}
 use Rattle.sql_tables.specs.declared.reading.ReadFault.{ReadFault}
 use Rattle.sql_tables.specs.Statements.{IsStill}
-use Rattle.sql_rows.specs.Content.{content_of}
+use Rattle.sql_rows.specs.Content.{tables_content}
 use Rattle.keepers.specs.declared.fault.StoreFault.{StoreFault}
 use Rattle.keepers.specs.Faults.{HasCause, max_failures}
-use Rattle.keepers.specs.Keeping.{Keeps, Reads}
+use Rattle.keepers.specs.Keeping.{Keeps, KeeperReads}
 use Rattle.keepers.specs.Tables.{Tables}
 use Rattle.sql_keeper.specs.Asks.{Asks, IsHanded}
 use Rattle.sql_keeper.specs.Commits.{CommitsStanding, CommitsWhole}
@@ -18,7 +18,7 @@ use Rattle.sql_keeper.specs.Content.{shelf_names, tables_of}
 use Rattle.sql_keeper.specs.Inside.{KeeperState, IsKeeper, StaysOpen, names_in, tables_in}
 use Rattle.sql_keeper.specs.Inside.{clean_in, failed_in}
 use Rattle.sql_keeper.specs.Left.{IsHeld}
-use Rattle.sql_keeper.specs.Stops.{IsWhole, LeavesIn, MayLeave, honest_in, trees_in}
+use Rattle.sql_keeper.specs.Stops.{IsCommitWhole, LeavesIn, MayLeave, honest_in, trees_in}
 use Rattle.sql_keeper.proofs.Asked.{cause_at_most, handed, open_of, stays_open, was_clean}
 use Rattle.sql_keeper.proofs.Committed.{committed_keeper, same_tables, stays_in, whole}
 use Rattle.sql_keeper.proofs.Committed.{was_clean as was_clean_before}
@@ -55,12 +55,12 @@ module _ {S : Type 0} (g : Ghosts S) (old new : KeeperState S) (keeper : IsKeepe
   is_clean : HasCleanDisk after → IsTrue after.is_open → clean_in g new
   is_clean disk on = record { disk = disk; open_still = inr on }
 
-  named_before : (t : Tables) (db : Trees) → t ≡ tables_of (names_in new) (content_of db)
-      → t ≡ tables_of (names_in old) (content_of db)
-  named_before t db is = is ∙ ap (λ s. tables_of (shelf_names s) (content_of db)) shelf
+  named_before : (t : Tables) (db : Trees) → t ≡ tables_of (names_in new) (tables_content db)
+      → t ≡ tables_of (names_in old) (tables_content db)
+  named_before t db is = is ∙ ap (λ s. tables_of (shelf_names s) (tables_content db)) shelf
 
   left_before : (t : Tables) (db : Trees) → MayLeave g old db
-      → t ≡ tables_of (names_in new) (content_of db) → LeavesIn g old t
+      → t ≡ tables_of (names_in new) (tables_content db) → LeavesIn g old t
   left_before t db may is =
       record { keeper = keeper; db = db; may = may; is = named_before t db is }
 
@@ -69,12 +69,13 @@ module _ {S : Type 0} (g : Ghosts S) (old new : KeeperState S) (keeper : IsKeepe
       (read : Result T ReadFault) (result : Result T StoreFault) → Asks told before after read
       → IsHanded read result → HasCause old.failures new.failures result
       → (HasCleanDisk before → IsTrue before.is_open → (x : T) → told before.now.trees x → Found x)
-      → Reads (tables_in g) failed_in (honest_in g) (clean_in g) (LeavesIn g) old new Found result
+      → KeeperReads (tables_in g) failed_in (honest_in g) (clean_in g) (LeavesIn g) old new Found
+      result
   asked told Found read result asks e cause to = record {
     found = λ clean. handed (told before.now.trees) Found read result e
         (to (asks.only.cleanness clean.disk) (still clean).was_open) (asks.found clean.disk);
     same = λ clean i. tables_of (shelf_names (shelf i))
-        (content_of (((still clean).now_is i).trees));
+        (tables_content (((still clean).now_is i).trees));
     cleanness = was_clean before after stays asks.only;
     honesty = asks.only.cleanness;
     stands = λ honest. ok_handed (clean_in g new) read result e
@@ -94,7 +95,7 @@ module _ {S : Type 0} (g : Ghosts S) (old new : KeeperState S) (keeper : IsKeepe
 
   -- a stop leaves what it left before
   pub asked_whole : {T : Type 0} (told : Trees → T → Type 0) (read : Result T ReadFault)
-      → Asks told before after read → IsWhole g old new (λ _. ⊥)
+      → Asks told before after read → IsCommitWhole g old new (λ _. ⊥)
   asked_whole told read asks = record { left = asks.survives.crash }
 
   module _ {A : Type 0} (Become : List ℕ → Trees → Trees → Type 0) (text : List ℕ)
@@ -106,7 +107,7 @@ module _ {S : Type 0} (g : Ghosts S) (old new : KeeperState S) (keeper : IsKeepe
     -- a call that writes
     pub keeps : (Written : Tables → Type 0) → HasCause old.failures new.failures r
         → ((db : Trees) → Become text (trees_in g old) db
-        → Written (tables_of (names_in old) (content_of db)))
+        → Written (tables_of (names_in old) (tables_content db)))
         → Keeps (tables_in g) failed_in (honest_in g) (clean_in g) (LeavesIn g) old new Written r
     keeps Written cause to = record {
       err = λ clean. same_tables g old new Become text keeper r commits shelf clean
@@ -135,6 +136,7 @@ module _ {S : Type 0} (g : Ghosts S) (old new : KeeperState S) (keeper : IsKeepe
         (err_handed (new.last ≡ old.last) made r e last) shelf same plain bounded
 
     -- a stop leaves what it left before, or all that is written
-    pub standing_whole : text ≡ old.text → IsWhole g old new (Become old.text (trees_in g old))
+    pub standing_whole : text ≡ old.text → IsCommitWhole g old new
+        (Become old.text (trees_in g old))
     standing_whole of_text =
         whole g old new Become text keeper standing.survives.crash of_text

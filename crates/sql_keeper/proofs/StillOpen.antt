@@ -1,6 +1,6 @@
 -- What a connection is after it was tested whether it can still be asked.
 use Rattle.std.proofs.Common.{◌≡◌, ◌∙◌, inl, inr, ℕ, List, Ok, Err, Result, IsTrue, OnOk, false, []}
-use Rattle.std.proofs.Common.{sym, ap, subst, arith, ◌⊎◌, true≢false, IfOk}
+use Rattle.std.proofs.Common.{sym, ap, subst, arith, true≢false, IfOk}
 use Rattle.std.specs.Result.{IsErr}
 use Rattle.sqlite_value.specs.Order.{Row}
 use Rattle.sqlite_trees.specs.Tree.{Trees}

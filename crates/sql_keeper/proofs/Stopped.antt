@@ -1,5 +1,5 @@
 -- A keeper that was stopped, and its database opened again.
-use Rattle.std.proofs.Common.{◌≡◌, ◌⊎◌, inl, inr, ◌∙◌, ap, sym, subst, List, ℕ}
+use Rattle.std.proofs.Common.{◌≡◌, inl, inr, ◌∙◌, ap, sym, subst, List, ℕ}
 use Rattle.std.proofs.lemmas.Option.{same_Some}
 use Rattle.sqlite_trees.specs.Tree.{Trees}
 use Rattle.sqlite_trees.specs.declared.store.Store.{Ghosts}
@@ -7,7 +7,7 @@ use Rattle.sqlite.specs.Effect.{Database}
 use Rattle.sqlite.specs.Held.{Held, state}
 use Rattle.sqlite.specs.State.{HasCleanDisk}
 use Rattle.shelves.specs.Shelves.{Shelf}
-use Rattle.sql_rows.specs.Content.{content_of}
+use Rattle.sql_rows.specs.Content.{tables_content}
 use Rattle.sql_rows.specs.Values.{Meta}
 use Rattle.sql_keeper.specs.AddsBook.{BecomesDated}
 use Rattle.sql_keeper.specs.Additions.{BecomesAdded}
@@ -48,8 +48,8 @@ module _ {S T : Type 0} (g : Ghosts S) (e : Ghosts T) (law : AreSettled g) (old 
     text_is = one_kept (trees_in e new) old.text new.text
         (keeper.found clean (trees_in e new) may_now).left.kept (o.left after).left.kept
 
-    books_are : IsShelfOf old.text (content_of (trees_in e new)).books shelf
-    books_are = subst (λ t. IsShelfOf t (content_of (trees_in e new)).books shelf) text_is
+    books_are : IsShelfOf old.text (tables_content (trees_in e new)).books shelf
+    books_are = subst (λ t. IsShelfOf t (tables_content (trees_in e new)).books shelf) text_is
         (o.books after)
 
     at_rest_now : IsClean (state g old.connection) → (trees_in e new ≡ trees_in g old)
@@ -59,11 +59,11 @@ module _ {S T : Type 0} (g : Ghosts S) (e : Ghosts T) (law : AreSettled g) (old 
         let held = keeper.held rest.disk (open_of (state g old.connection) keeper.stays rest) in
         let open_now = open_of (state e new.connection) o.keeper.stays (o.clean after) in (
           same,
-          same_shelf old.text (content_of (trees_in g old)).books shelf old.shelf
-              (subst (λ d. IsShelfOf old.text (content_of d).books shelf) same books_are)
+          same_shelf old.text (tables_content (trees_in g old)).books shelf old.shelf
+              (subst (λ d. IsShelfOf old.text (tables_content d).books shelf) same books_are)
               held.books,
           (o.keeper.held after open_now).moment
-              ∙ ap (λ d. last_in (content_of d).meta) same ∙ sym held.moment,
+              ∙ ap (λ d. last_in (tables_content d).meta) same ∙ sym held.moment,
         )
 
     found_after : IsFoundAfter g e old new shelf

@@ -13,32 +13,32 @@ use Rattle.reserving.specs.Stored.{StoredRows, advanced_stored}
 use Rattle.reserving.proofs.Lists.{no_some, some_of, EachIn-weaker}
 use Rattle.reserving.proofs.LeftTests.{none_more}
 use Rattle.keepers.specs.declared.key.Key.{Key}
-use Rattle.keepers.specs.Tables.{Head, head_of as kept_head, AreListed}
+use Rattle.keepers.specs.Tables.{Head, head_of, AreListed}
 use Rattle.keepers.specs.Change.{AreRowsAt, AreBroughtTo, IsSwept, over}
 use Rattle.keepers.proofs.SweptRows.{brought_over, rows_brought}
-use Rattle.sql_rows.specs.declared.head.Head.{Head as HeadColumns}
-use Rattle.sql_rows.specs.Content.{Rows as Stored, Content, with_account, with_head, with_meta}
+use Rattle.sql_rows.specs.declared.head.HeadColumns.{HeadColumns}
+use Rattle.sql_rows.specs.Content.{TableRows, TablesContent, with_account, with_head, with_meta}
 use Rattle.sql_rows.specs.Content.{with_rows}
 use Rattle.sql_rows.specs.Each.{with_counters, with_sessions}
-use Rattle.sql_keeper.specs.Content.{head_in, rows_of, is_numbered, charge_of, answer_in, last_in}
+use Rattle.sql_keeper.specs.Content.{head_in, told_rows, is_numbered, charge_of, answer_in, last_in}
 use Rattle.sql_keeper.specs.Content.{voucher_in, tables_of, Names}
 use Rattle.sql_keeper.specs.Laws.{AreSweepsRead}
 use Rattle.sql_keeper.specs.Sweeps.{rows_at, AreSweptRows, IsSweptOf, AreAllSwept, with_accounts}
 use Rattle.sql_keeper.specs.Sweeps.{with_swept, with_sweep}
 use Rattle.sql_keeper.specs.Tests.{AreWritable}
-use Rattle.sql_keeper.specs.Writes.{head_of, meta_at, with_all_counted, with_groups}
+use Rattle.sql_keeper.specs.Writes.{head_columns_of, meta_at, with_all_counted, with_groups}
 use Rattle.sql_keeper.specs.declared.swept_rows.SweptAccount.{SweptAccount}
 use Rattle.sql_keeper.proofs.Changed.{AreKeyed, over_stored, same_texts}
 use Rattle.sql_keeper.proofs.CountedPuts.{counted_over, over_counted}
 use Rattle.sql_keeper.proofs.Groups.{groups_over, over_groups}
 use Rattle.sql_keeper.specs.Content.{told_charge}
-use Rattle.sql_keeper.proofs.Overlays.{chosen_twice, counters_over, name_from, opened, over_counters}
-use Rattle.sql_keeper.proofs.Overlays.{over_sessions, sessions_over, with_twice}
+use Rattle.sql_keeper.proofs.Overlays.{chosen_twice, counters_over, name_from, opened}
+use Rattle.sql_keeper.proofs.Overlays.{over_counters, over_sessions, sessions_over, with_twice}
 use Rattle.sql_keeper.proofs.SweptNamed.{after, keyed_swept, loads, made, may_swept, read_swept}
 
 -- ---- one account
 
-module _ (names : Names) (shelf : Shelf) (t : ℕ) (rows : Stored) where
+module _ (names : Names) (shelf : Shelf) (t : ℕ) (rows : TableRows) where
   -- rows that aren't of a later moment are brought on
   swept_is : (before : StoredRows) → before.as_of ≤ t →
       rows_at shelf t before ≡ advanced_stored shelf t before
@@ -55,18 +55,18 @@ module _ (names : Names) (shelf : Shelf) (t : ℕ) (rows : Stored) where
 
   -- what was loaded and brought on, where it differs, written over what was there
   listed_one : (w : StoredRows) → AreSweptRows names shelf t rows w
-      → AreBroughtTo shelf t (rows_of names rows) (rows_of names (over_stored names w rows))
+      → AreBroughtTo shelf t (told_rows names rows) (told_rows names (over_stored names w rows))
   listed_one w s v are kept early =
       let head = (loads names shelf t rows w s).head in
-      let same : kept_head s.before ≡ kept_head v =
-      some_of (kept_head s.before) (kept_head v) (sym head ∙ are.head) in
+      let same : head_of s.before ≡ head_of v =
+      some_of (head_of s.before) (head_of v) (sym head ∙ are.head) in
       let no_later : s.before.as_of ≤ t =
       subst (λ n. n ≤ t) (sym (ap (λ (x : Head). x.as_of) same)) early in
       subst (AreListed (advanced_stored shelf t v))
       (sym (read_swept names shelf t rows w s))
-      (subst (λ x. AreListed (advanced_stored shelf t v) (over x (rows_of names rows)))
+      (subst (λ x. AreListed (advanced_stored shelf t v) (over x (told_rows names rows)))
       (sym (swept_is s.before no_later))
-      (brought_over shelf t s.before v (rows_of names rows) (made names shelf t rows w s)
+      (brought_over shelf t s.before v (told_rows names rows) (made names shelf t rows w s)
       head s.kept.kept are kept))
 
 pub next_is : (shelf : Shelf) (t : ℕ) (w : StoredRows) →
@@ -78,7 +78,7 @@ next_is shelf t w = at (nat_le w.as_of t)
     at false = refl
 
 -- the same charges are numbered
-numbered_still : (n : ℕ) (h k : HeadColumns) (rows : Stored) → k.next_charge ≡ h.next_charge
+numbered_still : (n : ℕ) (h k : HeadColumns) (rows : TableRows) → k.next_charge ≡ h.next_charge
     → rows.head ≡ Some h → charge_of n (record rows { head = Some k }) ≡ charge_of n rows
 numbered_still n h k rows same there =
     let tests : is_numbered n (Some k) ≡ is_numbered n rows.head =
@@ -88,8 +88,8 @@ numbered_still n h k rows same there =
 -- ---- what is written of one account
 
 -- the head is put last, which an account that is there has
-headed : (a : List ℕ) (h : HeadColumns) (f : Stored → Stored) (c : Content)
-    → ((r : Stored) → (f r).head ≡ r.head)
+headed : (a : List ℕ) (h : HeadColumns) (f : TableRows → TableRows) (c : TablesContent)
+    → ((r : TableRows) → (f r).head ≡ r.head)
     → with_account a h (with_rows a f c) ≡ opened a (λ r. with_head h (f r)) c
 headed a h f c keeps = λ i. record c {
   rows = λ x. chosen_twice (same_name a x) (c.rows x) (with_head h) f i;
@@ -100,18 +100,20 @@ headed a h f c keeps = λ i. record c {
     own true = keeps (c.rows a)
     own false = refl
 
-swept_over : (a : List ℕ) (names : Names) (among : List Session) (w : StoredRows) (c : Content)
+swept_over : (a : List ℕ) (names : Names) (among : List Session) (w : StoredRows)
+    (c : TablesContent)
     → AreKeyed w → AreWritable names among w.groups
-    → with_account a (head_of w) (with_groups a names w.groups (with_sessions a w.sessions
-    (with_counters a w.counters (with_all_counted a w.buckets c)))) ≡ opened a (over_stored names w) c
+    → with_account a (head_columns_of w) (with_groups a names w.groups (with_sessions a w.sessions
+    (with_counters a w.counters (with_all_counted a w.buckets c))))
+    ≡ opened a (over_stored names w) c
 swept_over a names among w c h may =
-    let first = λ (r : Stored). over_counted w.buckets r in
-    let second = λ (r : Stored). over_counters w.counters (first r) in
-    let third = λ (r : Stored). over_sessions w.sessions (second r) in
+    let first = λ (r : TableRows). over_counted w.buckets r in
+    let second = λ (r : TableRows). over_counters w.counters (first r) in
+    let third = λ (r : TableRows). over_sessions w.sessions (second r) in
     let buckets = with_all_counted a w.buckets c in
     let counters = with_counters a w.counters buckets in
     let sessions = with_sessions a w.sessions counters in
-    ap (with_account a (head_of w))
+    ap (with_account a (head_columns_of w))
     (groups_over a names among w.groups sessions h.groups may
     ∙ ap (with_rows a (over_groups names w.groups)) (sessions_over a w.sessions counters h.sessions
     ∙ ap (with_rows a (over_sessions w.sessions)) (counters_over a w.counters buckets h.counters
@@ -119,7 +121,7 @@ swept_over a names among w c h may =
     ∙ with_twice a (over_counters w.counters) first c)
     ∙ with_twice a (over_sessions w.sessions) second c)
     ∙ with_twice a (over_groups names w.groups) third c)
-    ∙ headed a (head_of w) (λ r. over_groups names w.groups (third r)) c (λ r. refl)
+    ∙ headed a (head_columns_of w) (λ r. over_groups names w.groups (third r)) c (λ r. refl)
 
 -- ---- an account after all of a list are written
 
@@ -129,7 +131,7 @@ swept_at a xs = find (λ x. same_name x.number a) xs
 abbrev same_account : SweptAccount → SweptAccount → Bool
 same_account x y = same_name y.number x.number
 
-abbrev pub row_after : Names → Option SweptAccount → Stored → Stored
+abbrev pub row_after : Names → Option SweptAccount → TableRows → TableRows
 row_after names None r = r
 row_after names (Some x) r = over_stored names x.rows r
 
@@ -140,46 +142,47 @@ pub record MayBePut (names : Names) (x : SweptAccount) : Type 0 where
   pub may : AreWritable names among x.rows.groups
 
 -- the account is there
-abbrev IsThere : Content → SweptAccount → Type 0
+abbrev IsThere : TablesContent → SweptAccount → Type 0
 IsThere c x = is_some (c.rows x.number).head ≡ true
 
 module _ (names : Names) where
-  abbrev one_after : SweptAccount → Content → Content
+  abbrev one_after : SweptAccount → TablesContent → TablesContent
   one_after x c = opened x.number (over_stored names x.rows) c
 
-  pub step : (x : SweptAccount) (c : Content) → MayBePut names x →
+  pub step : (x : SweptAccount) (c : TablesContent) → MayBePut names x →
       with_swept names x c ≡ one_after x c
   step x c may = swept_over x.number names may.among x.rows c may.keyed may.may
 
-  meta_after : (xs : List SweptAccount) (c : Content) → EachIn (MayBePut names) xs →
+  meta_after : (xs : List SweptAccount) (c : TablesContent) → EachIn (MayBePut names) xs →
       (with_accounts names xs c).meta ≡ c.meta
   meta_after [] c may = refl
   meta_after (x ∷ xs) c may =
       ap (λ d. (with_accounts names xs d).meta) (step x c may.0)
       ∙ meta_after xs (one_after x c) may.1
 
-  books_after : (xs : List SweptAccount) (c : Content) → EachIn (MayBePut names) xs →
+  books_after : (xs : List SweptAccount) (c : TablesContent) → EachIn (MayBePut names) xs →
       (with_accounts names xs c).books ≡ c.books
   books_after [] c may = refl
   books_after (x ∷ xs) c may =
       ap (λ d. (with_accounts names xs d).books) (step x c may.0)
       ∙ books_after xs (one_after x c) may.1
 
-  kept_after : (xs : List SweptAccount) (c : Content) → EachIn (MayBePut names) xs →
+  kept_after : (xs : List SweptAccount) (c : TablesContent) → EachIn (MayBePut names) xs →
       (with_accounts names xs c).kept ≡ c.kept
   kept_after [] c may = refl
   kept_after (x ∷ xs) c may =
       ap (λ d. (with_accounts names xs d).kept) (step x c may.0)
       ∙ kept_after xs (one_after x c) may.1
 
-  vouchers_after : (xs : List SweptAccount) (c : Content) → EachIn (MayBePut names) xs
+  vouchers_after : (xs : List SweptAccount) (c : TablesContent) → EachIn (MayBePut names) xs
       → (with_accounts names xs c).vouchers ≡ c.vouchers
   vouchers_after [] c may = refl
   vouchers_after (x ∷ xs) c may =
       ap (λ d. (with_accounts names xs d).vouchers) (step x c may.0)
       ∙ vouchers_after xs (one_after x c) may.1
 
-  there_still : (x : SweptAccount) (c : Content) (ys : List SweptAccount) → EachIn (IsThere c) ys
+  there_still : (x : SweptAccount) (c : TablesContent) (ys : List SweptAccount) →
+      EachIn (IsThere c) ys
       → EachIn (IsThere (one_after x c)) ys
   there_still x c [] h = tt
   there_still x c (y ∷ ys) h = (at (same_name x.number y.number) h.0, there_still x c ys h.1)
@@ -190,7 +193,7 @@ module _ (names : Names) where
       at true e = refl
       at false e = e
 
-  count_after : (xs : List SweptAccount) (c : Content) → EachIn (MayBePut names) xs
+  count_after : (xs : List SweptAccount) (c : TablesContent) → EachIn (MayBePut names) xs
       → EachIn (IsThere c) xs → (with_accounts names xs c).count ≡ c.count
   count_after [] c may there = refl
   count_after (x ∷ xs) c may there =
@@ -198,7 +201,8 @@ module _ (names : Names) where
       ∙ count_after xs (one_after x c) may.1 (there_still x c xs there.1)
       ∙ ap (λ b. if b then c.count else c.count + 1) there.0
 
-  pub rows_after : (a : List ℕ) (xs : List SweptAccount) (c : Content) → EachIn (MayBePut names) xs
+  pub rows_after : (a : List ℕ) (xs : List SweptAccount) (c : TablesContent) →
+      EachIn (MayBePut names) xs
       → AreApart same_account xs
       → (with_accounts names xs c).rows a ≡ row_after names (swept_at a xs) (c.rows a)
   rows_after a [] c may apart = refl
@@ -260,7 +264,7 @@ found_one P a (y ∷ ys) x h e = at (same_name y.number a) refl e (found_one P a
         subst (λ z. P z × (z.number ≡ a)) is (h.0, name_from y.number a k)
     at false k f rest = rest f
 
-pub may_each : (names : Names) (shelf : Shelf) (t : ℕ) (c : Content) (xs : List SweptAccount)
+pub may_each : (names : Names) (shelf : Shelf) (t : ℕ) (c : TablesContent) (xs : List SweptAccount)
     → EachIn (IsSweptOf names shelf t c) xs → EachIn (MayBePut names) xs
 may_each names shelf t c xs each =
     EachIn-weaker (IsSweptOf names shelf t c) (MayBePut names) xs (λ x h. record {
@@ -269,7 +273,7 @@ may_each names shelf t c xs each =
       may = may_swept names shelf t (c.rows x.number) x.rows h;
     }) each
 
-module _ (names : Names) (text : List ℕ) (shelf : Shelf) (t : ℕ) (c : Content)
+module _ (names : Names) (text : List ℕ) (shelf : Shelf) (t : ℕ) (c : TablesContent)
     (xs : List SweptAccount) (ranges : IsShelf shelf) (all : AreAllSwept names shelf t c xs) where
   pub may : EachIn (MayBePut names) xs
   may = may_each names shelf t c xs all.each
@@ -283,11 +287,11 @@ module _ (names : Names) (text : List ℕ) (shelf : Shelf) (t : ℕ) (c : Conten
   rows_are a = rows_after names a xs (with_meta (meta_at text t) c) may (apart_of xs all.all.apart)
 
   -- what is seen of an account's rows, before and after
-  record AreSeen (a : List ℕ) (r : Stored) : Type 0 where
-    none : (rows_of names (c.rows a)).head ≡ None → rows_of names r ≡ rows_of names (c.rows a)
-    rows : (ledger : Ledger) (u : ℕ) → u ≤ t → AreRowsAt shelf ledger u (rows_of names (c.rows a))
-        → AreRowsAt shelf ledger t (rows_of names r)
-    listed : AreBroughtTo shelf t (rows_of names (c.rows a)) (rows_of names r)
+  record AreSeen (a : List ℕ) (r : TableRows) : Type 0 where
+    none : (told_rows names (c.rows a)).head ≡ None → told_rows names r ≡ told_rows names (c.rows a)
+    rows : (ledger : Ledger) (u : ℕ) → u ≤ t → AreRowsAt shelf ledger u (told_rows names (c.rows a))
+        → AreRowsAt shelf ledger t (told_rows names r)
+    listed : AreBroughtTo shelf t (told_rows names (c.rows a)) (told_rows names r)
     answers : (k : Key) → answer_in a k r ≡ answer_in a k (c.rows a)
     charges : (n : ℕ) → charge_of n r ≡ charge_of n (c.rows a)
 
@@ -295,11 +299,12 @@ module _ (names : Names) (text : List ℕ) (shelf : Shelf) (t : ℕ) (c : Conten
       → AreSeen a (over_stored names x.rows (c.rows a))
   seen_of a x one is = record {
     none = λ e. absurd (no_some _ (sym e ∙ ap (option_map head_in) (here.live shelf t).0));
-    rows = rows_brought shelf t (rows_of names (c.rows a)) _ ranges
+    rows = rows_brought shelf t (told_rows names (c.rows a)) _ ranges
         (listed_one names shelf t (c.rows a) x.rows here);
     listed = listed_one names shelf t (c.rows a) x.rows here;
     answers = λ k. same_texts a k names x.rows [] (c.rows a);
-    charges = λ n. numbered_still n (head_of here.before) (head_of x.rows) (c.rows a)
+    charges = λ n. numbered_still n (head_columns_of here.before) (head_columns_of x.rows)
+        (c.rows a)
         (ap (λ (w : StoredRows). w.next_charge) here.is ∙ next_is shelf t here.before)
         (here.live shelf t).0;
   }

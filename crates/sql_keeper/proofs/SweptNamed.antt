@@ -24,8 +24,8 @@ use Rattle.keepers.proofs.Equal.{session_from}
 use Rattle.keepers.proofs.GroupsOverlaid.{rows_overlaid}
 use Rattle.keepers.proofs.NamedOver.{apart_stored, named_kept, named_over}
 use Rattle.sql_rows.specs.Values.{Group, PeriodNames}
-use Rattle.sql_rows.specs.Content.{Rows as Stored}
-use Rattle.sql_keeper.specs.Content.{Names, group_in as stored_group, reserved_in, rows_of}
+use Rattle.sql_rows.specs.Content.{TableRows}
+use Rattle.sql_keeper.specs.Content.{Names, stored_group_in, reserved_in, told_rows}
 use Rattle.sql_keeper.specs.LiveRows.{without_counters}
 use Rattle.sql_keeper.specs.Sweeps.{AreSweptRows, differing_at, rows_at}
 use Rattle.sql_keeper.specs.Tests.{AreSettled, AreWritable, MayStand, is_open_over}
@@ -36,13 +36,15 @@ use Rattle.sql_keeper.proofs.LoadedAlone.{free_later, loaded_may_change, no_open
 use Rattle.sql_keeper.proofs.Overlays.{not_both}
 
 -- what isn't among the rows has no reservation, and its session isn't among them
-abbrev pub IsFreeBeside : Names → Stored → StoredRows → Type 0
-IsFreeBeside names r x = (s : List ℕ) (g : ℕ) (y : GroupRow) → (rows_of names r).groups s g ≡ Some y
+abbrev pub IsFreeBeside : Names → TableRows → StoredRows → Type 0
+IsFreeBeside names r x = (s : List ℕ) (g : ℕ) (y : GroupRow) →
+    (told_rows names r).groups s g ≡ Some y
     → group_in s g x.groups ≡ None → (y.terms ≡ None) × (session_in s x.sessions ≡ None)
 
 -- a session that isn't open isn't among them
-abbrev pub AreOpenAlone : Stored → StoredRows → Type 0
-AreOpenAlone r x = (s : List ℕ) → is_open_row (r.sessions s) ≡ false → session_in s x.sessions ≡ None
+abbrev pub AreOpenAlone : TableRows → StoredRows → Type 0
+AreOpenAlone r x =
+    (s : List ℕ) → is_open_row (r.sessions s) ≡ false → session_in s x.sessions ≡ None
 
 -- a group that is told in an open session, and without terms, has no reservation
 no_periods : (names : Names) (on : Bool) (book : Option ℕ) (p : Option PeriodNames) → on ≡ true
@@ -53,8 +55,8 @@ no_periods names false book p opened none = not_both (sym opened)
 
 -- ---- rows that differ, and all of them
 
-module _ (names : Names) (before after : StoredRows) (r : Stored)
-    (there : AreThere before (rows_of names r)) (own : AreRowsApart before)
+module _ (names : Names) (before after : StoredRows) (r : TableRows)
+    (there : AreThere before (told_rows names r)) (own : AreRowsApart before)
     (apart : AreRowsApart after) (may : AreWritable names after.sessions after.groups)
     (free : IsFreeBeside names r after) (alone : AreOpenAlone r after) where
   abbrev named : StoredRows
@@ -84,9 +86,9 @@ module _ (names : Names) (before after : StoredRows) (r : Stored)
 
   -- a group that is among the rows and isn't named stands as it is there
   group_there : (s : List ℕ) (g : ℕ) (x : SessionGroup) → group_in s g named.groups ≡ None
-      → group_in s g after.groups ≡ Some x → (rows_of names r).groups s g ≡ Some (group_row x)
+      → group_in s g after.groups ≡ Some x → (told_rows names r).groups s g ≡ Some (group_row x)
   group_there s g x none e =
-      let stands : Option GroupRow = (rows_of names r).groups s g in
+      let stands : Option GroupRow = (told_rows names r).groups s g in
       sym (ap (λ o. first_of (option_map group_row o) stands) none)
       ∙ rows_overlaid before.groups after.groups stands s g own.groups apart.groups
       (there.groups s g)
@@ -101,8 +103,8 @@ module _ (names : Names) (before after : StoredRows) (r : Stored)
     abbrev IsSettled : Type 0
     IsSettled = (is_open_over named.sessions r s ≡ on) ⊎ (y.periods ≡ None)
 
-    told : (rows_of names r).groups s g ≡ Some (stored_group names on (r.grant_books s g) y)
-    told = ap (option_map (stored_group names on (r.grant_books s g))) is
+    told : (told_rows names r).groups s g ≡ Some (stored_group_in names on (r.grant_books s g) y)
+    told = ap (option_map (stored_group_in names on (r.grant_books s g))) is
 
     -- of a session that is open there
     at_open : (x : SessionGroup) (o : Option Reservation) → x.reservation ≡ o
@@ -113,7 +115,7 @@ module _ (names : Names) (before after : StoredRows) (r : Stored)
         (may_at names after.sessions after.groups may s g x e) in
         inl (opens_named s stands.live ∙ sym opened)
     at_open x None has e opened =
-        let row : stored_group names on (r.grant_books s g) y ≡ group_row x =
+        let row : stored_group_in names on (r.grant_books s g) y ≡ group_row x =
         some_of _ _ (sym told ∙ group_there s g x none e) in
         inr (no_periods names on (r.grant_books s g) y.periods opened
         (ap (λ (z : GroupRow). z.terms) row
@@ -126,7 +128,7 @@ module _ (names : Names) (before after : StoredRows) (r : Stored)
 
     settled_at : (o : Option SessionGroup) → group_in s g after.groups ≡ o → IsSettled
     settled_at None e = inl (open_same s ∙ ap (λ o. is_open_row (first_of o (r.sessions s)))
-        (free s g (stored_group names on (r.grant_books s g) y) told e).1)
+        (free s g (stored_group_in names on (r.grant_books s g) y) told e).1)
     settled_at (Some x) e = by_open on x refl e
 
   pub settled_named : AreSettled named.sessions named.groups r
@@ -134,7 +136,7 @@ module _ (names : Names) (before after : StoredRows) (r : Stored)
 
 -- ---- what a sweep writes of an account
 
-module _ (names : Names) (shelf : Shelf) (t : ℕ) (r : Stored) (w : StoredRows)
+module _ (names : Names) (shelf : Shelf) (t : ℕ) (r : TableRows) (w : StoredRows)
     (swept : AreSweptRows names shelf t r w) where
   abbrev before : StoredRows
   before = swept.before
@@ -142,12 +144,12 @@ module _ (names : Names) (shelf : Shelf) (t : ℕ) (r : Stored) (w : StoredRows)
   abbrev pub after : StoredRows
   after = rows_at shelf t before
 
-  pub loads : IsLoadedFrom shelf t (rows_of names (without_counters r)) (priced shelf before)
+  pub loads : IsLoadedFrom shelf t (told_rows names (without_counters r)) (priced shelf before)
   loads = live_loaded names shelf t (without_counters r) before (swept.live shelf t)
 
-  pub made : IsMadeFrom before before (rows_of names r)
+  pub made : IsMadeFrom before before (told_rows names r)
   made =
-      let m = loaded_may_change shelf t (rows_of names (without_counters r)) (priced shelf before)
+      let m = loaded_may_change shelf t (told_rows names (without_counters r)) (priced shelf before)
       loads in
       record {
         buckets = m.buckets;
@@ -160,7 +162,7 @@ module _ (names : Names) (shelf : Shelf) (t : ℕ) (r : Stored) (w : StoredRows)
         free = m.free;
       }
 
-  there : AreThere before (rows_of names r)
+  there : AreThere before (told_rows names r)
   there = record {
     buckets = made.buckets;
     counters = made.counters;
@@ -174,7 +176,7 @@ module _ (names : Names) (shelf : Shelf) (t : ℕ) (r : Stored) (w : StoredRows)
     where
       at : (b : Bool) →
           IsFreeBeside names r (if b then advanced_stored shelf t before else before)
-      at true = free_later shelf t before (rows_of names r) made
+      at true = free_later shelf t before (told_rows names r) made
       at false = made.free
 
   alone : AreOpenAlone r after
@@ -215,9 +217,9 @@ module _ (names : Names) (shelf : Shelf) (t : ℕ) (r : Stored) (w : StoredRows)
       (settled_named names before after r there own apart swept.kept.may free alone)
 
   -- it reads as if all were written
-  pub read_swept : rows_of names (over_stored names w r) ≡ over after (rows_of names r)
+  pub read_swept : told_rows names (over_stored names w r) ≡ over after (told_rows names r)
   read_swept =
       rows_read names after.sessions w r settled_swept opens_swept
       (may_at names after.sessions w.groups may_swept) keyed_swept.scoped
-      ∙ ap (λ x. over x (rows_of names r)) swept.is
-      ∙ named_over before after (rows_of names r) own apart there
+      ∙ ap (λ x. over x (told_rows names r)) swept.is
+      ∙ named_over before after (told_rows names r) own apart there

@@ -19,7 +19,7 @@ use Rattle.reserving.proofs.Holds.{same_itself as name_itself}
 use Rattle.reserving.proofs.LeftTests.{each_append}
 use Rattle.keepers.specs.Change.{IsSwept}
 use Rattle.sql_tables.specs.Statements.{Attempts, HasBook, HasRules, IsInside, OnlyReads}
-use Rattle.sql_rows.specs.Content.{Content, Rows as Stored, content_of, rows_in, with_meta}
+use Rattle.sql_rows.specs.Content.{TablesContent, TableRows, tables_content, rows_in, with_meta}
 use Rattle.sql_rows.specs.Each.{with_each}
 use Rattle.sql_rows.specs.Lists.{AreAccounts}
 use Rattle.sql_rows.specs.Makes.{Makes, Turns}
@@ -47,7 +47,7 @@ use Rattle.sql_keeper.proofs.Whole.{not_shut}
 -- ---- one account
 
 pub swept_made : {E : Type 0} (names : Names) (shelf : Shelf) (t : ℕ)
-    (c : Content) (a : List ℕ) (o : Option StoredRows) (r : Result SweptAccount E)
+    (c : TablesContent) (a : List ℕ) (o : Option StoredRows) (r : Result SweptAccount E)
     → IfOk r (IsSweptFrom names shelf t a o)
     → IsLiveUncounted names (c.rows a) o → IfOk r (IsSweptAs names shelf t c a)
 swept_made names shelf t c a None (Ok x) made live = absurd made
@@ -55,7 +55,7 @@ swept_made names shelf t c a (Some w) (Ok x) made live = record {
   number_is = made.number_is;
   swept = subst (λ n. AreSweptRows names shelf t (c.rows n) x.rows) (sym made.number_is) (record {
     before = w;
-    live = live;
+    live = λ s u. (live s u).0;
     kept = made.kept;
     is = made.is;
   });
@@ -71,7 +71,8 @@ numbers_more [] x = refl
 numbers_more (y ∷ ys) x = ap (λ l. y.number ∷ l) (numbers_more ys x)
 
 module _ (names : Names) (shelf : Shelf) (t : ℕ) where
-  pub more_swept : (c : Content) (numbers : List (List ℕ)) (a : List ℕ) (xs : List SweptAccount)
+  pub more_swept : (c : TablesContent) (numbers : List (List ℕ)) (a : List ℕ)
+      (xs : List SweptAccount)
       (x : SweptAccount)
       → AreSweptOf names shelf t c numbers xs → IsSweptAs names shelf t c a x
       → AreSweptOf names shelf t c (numbers ++ a ∷ []) (xs ++ x ∷ [])
@@ -95,7 +96,7 @@ one_swept {B} {C} {E} names shelf t a old mid new o x u v have live made ruled p
       let before : HasCleanDisk mid = omega (arith, put.survives.clean, clean) in
       record {
         account = x;
-        swept = swept_made {E = E} names shelf t (content_of old.now.trees) a o (Ok x) made
+        swept = swept_made {E = E} names shelf t (tables_content old.now.trees) a o (Ok x) made
             (live before);
         ruled = ruled;
         makes = made_since (with_swept names x) old mid new (have.same before) (put.done clean);
@@ -146,7 +147,8 @@ all_ruled f (y ∷ ys) x all one =
     let parts = and_parts (f y) (list_all f ys) all in
     and_from (f y) (list_all f (ys ++ x ∷ [])) parts.0 (all_ruled f ys x parts.1 one)
 
-each_more : {X : Type 0} (change : X → Content → Content) (xs : List X) (x : X) (c : Content)
+each_more : {X : Type 0} (change : X → TablesContent → TablesContent) (xs : List X) (x : X)
+    (c : TablesContent)
     → with_each change (xs ++ x ∷ []) c ≡ change x (with_each change xs c)
 each_more change [] x c = refl
 each_more change (y ∷ ys) x c = each_more change ys x (change y c)
@@ -181,12 +183,12 @@ module _ (names : Names) (text : List ℕ) (shelf : Shelf) (t : ℕ) where
 
   -- an account that is brought on after others was read as it stood before them
   as_before : (numbers : List (List ℕ)) (a : List ℕ) (xs : List SweptAccount) (x : SweptAccount)
-      (c d : Content) → d ≡ with_sweep names text t xs c
+      (c d : TablesContent) → d ≡ with_sweep names text t xs c
       → AreApart (λ x y. same_name y x) (numbers ++ a ∷ []) → AreSweptOf names shelf t c numbers xs
       → IsSweptAs names shelf t d a x → IsSweptAs names shelf t c a x
   as_before numbers a xs x c d is apart swept one = record {
     number_is = one.number_is;
-    swept = subst (λ (r : Stored). AreSweptRows names shelf t r x.rows) rows one.swept;
+    swept = subst (λ (r : TableRows). AreSweptRows names shelf t r x.rows) rows one.swept;
   }
     where
       among : AreApart (λ x y. same_name y x)
@@ -195,7 +197,7 @@ module _ (names : Names) (text : List ℕ) (shelf : Shelf) (t : ℕ) where
           apart
 
       at_a : d.rows a ≡ c.rows a
-      at_a = ap (λ (e : Content). e.rows a) is
+      at_a = ap (λ (e : TablesContent). e.rows a) is
           ∙ rows_after names a xs (with_meta (meta_at text t) c)
           (may_each names shelf t c xs swept.each)
           (apart_of xs (apart_first (λ x y. same_name y x) (map (λ (y : SweptAccount). y.number) xs)
@@ -224,13 +226,14 @@ module _ (names : Names) (text : List ℕ) (shelf : Shelf) (t : ℕ) where
             swept = λ apart.
                 let before = m.turns.swept
                 (apart_first (λ x y. same_name y x) numbers (a ∷ []) apart) in
-                more_swept names shelf t (content_of old.now.trees) numbers a xs next.account before
-                (as_before numbers a xs next.account (content_of old.now.trees)
-                (content_of mid.now.trees) m.turns.turns.content apart before next.swept);
+                more_swept names shelf t (tables_content old.now.trees) numbers a xs next.account
+                before
+                (as_before numbers a xs next.account (tables_content old.now.trees)
+                (tables_content mid.now.trees) m.turns.turns.content apart before next.swept);
             ruled = all_ruled (is_ruled_swept names) xs next.account m.turns.ruled next.ruled;
             turns = record {
               content = both.turns.content ∙ sym (each_more (with_swept names) xs next.account
-                  (with_meta (meta_at text t) (content_of old.now.trees)));
+                  (with_meta (meta_at text t) (tables_content old.now.trees)));
               catalog = both.turns.catalog;
               stored = both.turns.stored;
               plain = both.turns.plain;
@@ -295,27 +298,27 @@ module _ (names : Names) (text : List ℕ) (shelf : Shelf) (t : ℕ) where
 
 become : (names : Names) (text : List ℕ) (shelf : Shelf) (t : ℕ) (xs : List SweptAccount)
     → IsShelf shelf → t ≤ 4_102_488_000 → (old new : Trees)
-    → AreAllSwept names shelf t (content_of old) xs → is_ruled_sweep names t xs ≡ true
+    → AreAllSwept names shelf t (tables_content old) xs → is_ruled_sweep names t xs ≡ true
     → Turns (with_sweep names text t xs) old new → BecomesSwept names text shelf t old new
 become names text shelf t xs ranges last old new all ruled turns = record {
   tables =
-      subst (λ (c : Content). IsSwept shelf t (tables_of names (content_of old))
+      subst (λ (c : TablesContent). IsSwept shelf t (tables_of names (tables_content old))
       (tables_of names c))
-      (sym turns.content) (sweeps_read names text shelf t (content_of old) xs ranges all);
+      (sym turns.content) (sweeps_read names text shelf t (tables_content old) xs ranges all);
   tidy = λ tidy. subst (IsTidy names) (sym turns.content)
-      (tidy_sweep names text shelf t (content_of old) xs ranges all tidy);
+      (tidy_sweep names text shelf t (tables_content old) xs ranges all tidy);
   rules = λ own is there in'. subst (IsInRules own) (sym turns.content)
-      (subst (λ n. IsInRules own (with_sweep n text t xs (content_of old))) (sym is)
-      (sweep_kept own text t xs (content_of old)
+      (subst (λ n. IsInRules own (with_sweep n text t xs (tables_content old))) (sym is)
+      (sweep_kept own text t xs (tables_content old)
       (subst (λ n. is_ruled_sweep n t xs ≡ true) is ruled)
       (subst (λ n. EachIn (MayBePut n) xs) is
-      (may names text shelf t (content_of old) xs ranges all)) there in'));
+      (may names text shelf t (tables_content old) xs ranges all)) there in'));
   plain = turns.plain;
-  meta = ap (λ (c : Content). c.meta) turns.content
-      ∙ swept_meta names text shelf t (content_of old) xs ranges all;
+  meta = ap (λ (c : TablesContent). c.meta) turns.content
+      ∙ swept_meta names text shelf t (tables_content old) xs ranges all;
   last = last;
-  books = ap (λ (c : Content). c.books) turns.content
-      ∙ swept_books names text shelf t (content_of old) xs ranges all;
+  books = ap (λ (c : TablesContent). c.books) turns.content
+      ∙ swept_books names text shelf t (tables_content old) xs ranges all;
   catalog = turns.catalog;
   stored = turns.stored;
 }
@@ -323,12 +326,12 @@ become names text shelf t xs ranges last old new all ruled turns = record {
 -- the accounts of all numbers, one after another
 swept_whole : (names : Names) (text : List ℕ) (shelf : Shelf) (t : ℕ) (numbers : List (List ℕ))
     → IsShelf shelf → t ≤ 4_102_488_000 → is_moment t ≡ true → (old db : Trees)
-    → AreAccounts (content_of old) numbers → SweepsEach names text shelf t numbers old db
+    → AreAccounts (tables_content old) numbers → SweepsEach names text shelf t numbers old db
     → BecomesSwept names text shelf t old db
 swept_whole names text shelf t numbers ranges last ruled old db accounts each =
     let s = each.swept accounts.apart in
     become names text shelf t each.accounts ranges last old db (record {
-      all = subst (AreAccounts (content_of old)) (sym s.numbers_are) accounts;
+      all = subst (AreAccounts (tables_content old)) (sym s.numbers_are) accounts;
       each = s.each;
     }) (and_from (is_moment t) (list_all (is_ruled_swept names) each.accounts) ruled each.ruled)
     each.turns
@@ -337,7 +340,7 @@ module _ (names : Names) (text : List ℕ) (shelf : Shelf) (t : ℕ) (numbers : 
     (ranges : IsShelf shelf) (last : t ≤ 4_102_488_000) (ruled : is_moment t ≡ true)
     (old mid new : State) (only : OnlyReads old mid)
     (stops : Survives old mid (λ _. old.is_open ≡ false))
-    (accounts : HasCleanDisk mid → AreAccounts (content_of old.now.trees) numbers) where
+    (accounts : HasCleanDisk mid → AreAccounts (tables_content old.now.trees) numbers) where
   become_swept : HasCleanDisk mid → IsTrue mid.is_open → (db : Trees)
       → SweepsEach names text shelf t numbers mid.now.trees db
       → BecomesSwept names text shelf t old.now.trees db
@@ -348,7 +351,8 @@ module _ (names : Names) (text : List ℕ) (shelf : Shelf) (t : ℕ) (numbers : 
 
   survives_both : Survives mid new
       (λ db. IsTrue mid.is_open × SweepsEach names text shelf t numbers mid.now.trees db)
-      → Survives old new (λ db. IsTrue old.is_open → BecomesSwept names text shelf t old.now.trees db)
+      → Survives old new
+      (λ db. IsTrue old.is_open → BecomesSwept names text shelf t old.now.trees db)
   survives_both s =
       survives_then old mid new (λ _. old.is_open ≡ false)
       (λ db. IsTrue mid.is_open × SweepsEach names text shelf t numbers mid.now.trees db)

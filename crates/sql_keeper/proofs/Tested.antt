@@ -19,8 +19,8 @@ use Rattle.reserving.proofs.KeysFound.{is_none_is}
 use Rattle.reserving.proofs.LeftTests.{each_append}
 use Rattle.keepers.specs.declared.loaded.Change.{Change}
 use Rattle.sql_tables.specs.Statements.{HasIdleBook, Reads}
-use Rattle.sql_rows.specs.declared.head.Head.{Head}
-use Rattle.sql_rows.specs.Content.{Rows as Stored, rows_in}
+use Rattle.sql_rows.specs.declared.head.HeadColumns.{HeadColumns}
+use Rattle.sql_rows.specs.Content.{TableRows, rows_in}
 use Rattle.sql_rows.specs.Lists.{AreCoveredBeside, AreGroups, GroupAt, HasNoGroups}
 use Rattle.sql_rows.specs.Values.{Group}
 use Rattle.sql_rows.proofs.ChargeBlocks.{covered_beside}
@@ -36,7 +36,7 @@ use Rattle.sql_keeper.specs.declared.seen.Standing.TheVariants.{Unknown, Open, O
 use Rattle.sql_keeper.specs.declared.settling.NamedSessions.{NamedSessions}
 use Rattle.sql_keeper.proofs.Changed.{settled_each}
 use Rattle.sql_keeper.proofs.InTurn.{HaveRead, none_read, have_read, have_gathered, have_read_then}
-use Rattle.sql_keeper.proofs.InTurn.{gathers_from, gathers_made}
+use Rattle.sql_keeper.proofs.InTurn.{gathers_from}
 use Rattle.sql_keeper.proofs.LiveGroups.{told_before}
 use Rattle.sql_keeper.proofs.Overlays.{name_from, number_from}
 
@@ -63,7 +63,7 @@ not_reserved groups s g x y number row none passes =
     (ap (λ b. b || not (is_some x.row.periods))
     (sym (ap (λ n. is_some (group_in s n groups)) number ∙ ap is_some none)) ∙ passes)))
 
-pub free_beside : (groups : List SessionGroup) (s : List ℕ) (xs : List GroupAt) (r : Stored) →
+pub free_beside : (groups : List SessionGroup) (s : List ℕ) (xs : List GroupAt) (r : TableRows) →
     AreGroups r s xs → are_beside groups s xs ≡ true → (g : ℕ) (y : Group) →
     r.groups s g ≡ Some y → group_in s g groups ≡ None → y.periods ≡ None
 free_beside groups s xs r are all g y there none =
@@ -107,14 +107,14 @@ found_new {E} a groups x y old new stands gone =
       new = λ t. nothing;
     })
   where
-    of_none : (r : Stored) (s : List ℕ) (z : Standing) → IsStanding r s z → true ≡ is_unknown z →
+    of_none : (r : TableRows) (s : List ℕ) (z : Standing) → IsStanding r s z → true ≡ is_unknown z →
         IsUnknown r s
     of_none r s Unknown h e = h
     of_none r s Open h e = absurd (not_both (sym e))
     of_none r s Over h e = absurd (not_both (sym e))
 
 -- whether it is open by how it stands
-pub open_as : (r : Stored) (s : List ℕ) (y : Standing) → IsStanding r s y →
+pub open_as : (r : TableRows) (s : List ℕ) (y : Standing) → IsStanding r s y →
     stands_open y ≡ is_open_row (r.sessions s)
 open_as r s Unknown h = ap is_open_row (sym h.row)
 open_as r s Open h = sym h
@@ -256,7 +256,7 @@ sessions_found {E} groups a xs i are old new end h =
 -- ---- a change
 
 -- groups of new sessions are new
-new_groups : (r : Stored) (sessions : List Session) (groups : List SessionGroup) →
+new_groups : (r : TableRows) (sessions : List Session) (groups : List SessionGroup) →
     EachIn (λ (x : Session). HasNoGroups r x.id) sessions → are_among sessions groups ≡ true →
     AreNewGroups r groups
 new_groups r sessions [] each among = tt
@@ -273,15 +273,16 @@ new_groups r sessions (g ∷ gs) each among =
         (EachIn-found (λ (y : Session). HasNoGroups r y.id) (is_session g.session) sessions x each
         e)
 
-pub change_unsettled : {E : Type 0} (names : Names) (change : Change) (o : Option Head)
-    (z : NamedSessions) (old new : State) → IsUnsettled z → Gathers {A = Option Head} {E = E}
+pub change_unsettled : {E : Type 0} (names : Names) (change : Change) (o : Option HeadColumns)
+    (z : NamedSessions) (old new : State) → IsUnsettled z → Gathers {A = Option HeadColumns} {E = E}
     (λ trees p. p ≡ (rows_in trees change.number).head) old new (Ok o) →
     Gathers {A = NamedSessions} {E = E}
     (λ trees w. IsChangeFound names change (rows_in trees change.number) w) old new (Ok z)
 change_unsettled {E} names change o z old new is reads =
     gathers_from {A = NamedSessions} {E = E}
     (λ trees w. IsChangeFound names change (rows_in trees change.number) w) old new (Ok z)
-    (have_gathered {A = Option Head} {E = E} (λ trees p. p ≡ (rows_in trees change.number).head)
+    (have_gathered {A = Option HeadColumns} {E = E} (λ trees p. p ≡
+    (rows_in trees change.number).head)
     old new o reads)
     (λ clean on. record {
       made = λ t. absurd (not_so z is t);
@@ -289,11 +290,11 @@ change_unsettled {E} names change o z old new is reads =
     })
 
 -- the sessions and groups are those of the change
-pub change_found : {E : Type 0} (names : Names) (change : Change) (o : Option Head)
+pub change_found : {E : Type 0} (names : Names) (change : Change) (o : Option HeadColumns)
     (xs : List Session) (ys : List SessionGroup) (y z : NamedSessions) (old mid new : State) →
     xs ≡ change.rows.sessions → ys ≡ change.rows.groups →
     z ≡ record { are_settled = y.are_settled; are_new = are_among xs ys && y.are_new } →
-    Gathers {A = Option Head} {E = E}
+    Gathers {A = Option HeadColumns} {E = E}
     (λ trees p. p ≡ (rows_in trees change.number).head) old mid (Ok o) →
     AreWritable names change.rows.sessions change.rows.groups →
     AreNumbered (first_number o) change.rows.next_charge change.charges.items →
@@ -307,7 +308,8 @@ change_found {E} names change o xs ys y z old mid new same_xs same_ys is one wri
     gathers_from {A = NamedSessions} {E = E}
     (λ trees w. IsChangeFound names change (rows_in trees change.number) w) old new (Ok z)
     (have_read_then old mid new
-    (have_gathered {A = Option Head} {E = E} (λ trees p. p ≡ (rows_in trees change.number).head)
+    (have_gathered {A = Option HeadColumns} {E = E} (λ trees p. p ≡
+    (rows_in trees change.number).head)
     old mid o one)
     (have_gathered {A = NamedSessions} {E = E}
     (λ trees w. AreFound xs ys (rows_in trees change.number) w) mid new y two))
@@ -362,7 +364,7 @@ tested {E} names change y r old new passes idle live h =
     (h.only.still clean on).was_open))
   where
     so : (q : Result Bool E) → IfOk q (λ b. IsTrue y.are_settled × (b ≡ y.are_new)) →
-        (s : Stored) → IsChangeFound names change s y → AreCoveredBeside s →
+        (s : TableRows) → IsChangeFound names change s y → AreCoveredBeside s →
         IfOk q (λ b. IsTested names change s b)
     so (Ok b) t s found beside = record {
       made = found.made t.0;

@@ -3,7 +3,7 @@ use Rattle.std.proofs.Common.{◌≡◌, ◌∙◌, ℕ, Bool, true, false, List
 use Rattle.std.proofs.Common.{Option, Some, None}
 use Rattle.std.specs.Prelude.{if◌then◌else◌, ◌&&◌, ◌+◌, nat_eq, is_some, option_map}
 use Rattle.identifiers.specs.Texts.{same_name}
-use Rattle.buckets.specs.Row.{Row as Bucket}
+use Rattle.buckets.specs.Row.{BucketRow}
 use Rattle.reserving.specs.declared.charge.ChargeRow.{ChargeRow}
 use Rattle.reserving.specs.declared.session.Reservation.{Reservation}
 use Rattle.reserving.specs.declared.session.Session.{Session}
@@ -19,12 +19,12 @@ use Rattle.keepers.specs.declared.loaded.Redeemed.{Redeemed}
 use Rattle.keepers.specs.Keys.{key_of}
 use Rattle.keepers.specs.Tables.{charge_in}
 use Rattle.sql_rows.specs.Values.{Kept, Meta, reference_kind, request_kind}
-use Rattle.sql_rows.specs.Content.{Content, Rows as Stored, with_answer, with_meta, with_rows}
+use Rattle.sql_rows.specs.Content.{TablesContent, TableRows, with_answer, with_meta, with_rows}
 use Rattle.sql_keeper.specs.Content.{Names, is_numbered, is_reserved, kept_in, names_numbered}
-use Rattle.sql_keeper.specs.Tests.{AreNumbered, AreWritable, IsNamed, IsWritable, MayStand}
+use Rattle.sql_keeper.specs.Tests.{AreNumbered, AreWritable, IsPeriodNamed, IsWritable, MayStand}
 use Rattle.sql_keeper.specs.Tests.{first_number}
 use Rattle.sql_keeper.specs.Tidy.{AreTidyRows, EndsTidy, IsTidy, are_terms, has_terms, is_key}
-use Rattle.sql_keeper.specs.Writes.{AreTexts, columns_of, head_of, names_held, with_kept}
+use Rattle.sql_keeper.specs.Writes.{AreTexts, columns_of, head_columns_of, names_held, with_kept}
 use Rattle.sql_keeper.specs.Writes.{with_all_paid, with_redeemed, with_stored, with_texts}
 use Rattle.sql_keeper.proofs.Changed.{AreKeyed, may_at, over_stored, stored_over}
 use Rattle.sql_keeper.proofs.CountedPuts.{blocks_in, counted_in, counts_in, over_paid}
@@ -37,19 +37,20 @@ use Rattle.sql_keeper.proofs.Overlays.{name_from, not_both, number_from, opened}
 
 -- the rows may be put over those: a reservation stands in an open session with the names of its
 -- book's periods, and a charge that is numbered stays so
-pub record MayBeOver (names : Names) (w : StoredRows) (r : Stored) : Type 0 where
+pub record MayBeOver (names : Names) (w : StoredRows) (r : TableRows) : Type 0 where
   pub live : (s : List ℕ) (g : ℕ) (x : SessionGroup) (y : Reservation)
       → group_in s g w.groups ≡ Some x → x.reservation ≡ Some y
       → is_open_row (first_of (session_in s w.sessions) (r.sessions s)) ≡ true
   pub before : (s : List ℕ) (g : ℕ) (x : SessionGroup) (y : Reservation)
       → group_in s g w.groups ≡ Some x → x.reservation ≡ Some y
-      → IsNamed (names_numbered names y.terms.book) y.terms.periods.before
+      → IsPeriodNamed (names_numbered names y.terms.book) y.terms.periods.before
   pub after : (s : List ℕ) (g : ℕ) (x : SessionGroup) (y : Reservation)
       → group_in s g w.groups ≡ Some x → x.reservation ≡ Some y
-      → IsNamed (names_numbered names y.terms.book) y.terms.periods.after
-  pub numbers : (n : ℕ) → is_numbered n r.head ≡ true → is_numbered n (Some (head_of w)) ≡ true
+      → IsPeriodNamed (names_numbered names y.terms.book) y.terms.periods.after
+  pub numbers : (n : ℕ) → is_numbered n r.head ≡ true → is_numbered n (Some (head_columns_of w)) ≡
+      true
 
-module _ (names : Names) (a : List ℕ) (w : StoredRows) (r : Stored) (t : AreTidyRows names a r)
+module _ (names : Names) (a : List ℕ) (w : StoredRows) (r : TableRows) (t : AreTidyRows names a r)
     (ends : EndsTidy w r) (may : MayBeOver names w r) where
   live_after : (s : List ℕ) (g : ℕ)
       → is_reserved
@@ -122,7 +123,7 @@ module _ (names : Names) (a : List ℕ) (w : StoredRows) (r : Stored) (t : AreTi
       is_some (counted_in (bucket_in n w.buckets) (r.buckets n)) ≡ true
   kinds_after n = at (bucket_in n w.buckets)
     where
-      at : (o : Option Bucket) → counts_in o (r.allowances n) ≡ true →
+      at : (o : Option BucketRow) → counts_in o (r.allowances n) ≡ true →
           is_some (counted_in o (r.buckets n)) ≡ true
       at None k = t.kinds n k
       at (Some b) k = refl
@@ -139,7 +140,7 @@ module _ (names : Names) (a : List ℕ) (w : StoredRows) (r : Stored) (t : AreTi
     texts = t.texts;
   }
 
-module _ (names : Names) (a : List ℕ) (cs : List ChargeRow) (r : Stored)
+module _ (names : Names) (a : List ℕ) (cs : List ChargeRow) (r : TableRows)
     (t : AreTidyRows names a r)
     (numbered : (n : ℕ) (x : ChargeRow) → charge_in n cs ≡ Some x → is_numbered n r.head ≡ true)
   where
@@ -176,7 +177,7 @@ module _ (names : Names) (a : List ℕ) (cs : List ChargeRow) (r : Stored)
 -- ---- texts that are kept
 
 tidy_answer : (names : Names) (a : List ℕ) (kind : ℕ) (name : List ℕ) (number : ℕ) (k : Kept)
-    (r : Stored) → is_key kind number ≡ true → is_some (kept_in a k) ≡ true
+    (r : TableRows) → is_key kind number ≡ true → is_some (kept_in a k) ≡ true
     → AreTidyRows names a r → AreTidyRows names a (with_answer kind name number k r)
 tidy_answer names a kind name number k r key told t = record {
   live = t.live;
@@ -206,7 +207,7 @@ tidy_answer names a kind name number k r key told t = record {
 
 -- ---- all accounts
 
-module _ (names : Names) (a : List ℕ) (f : Stored → Stored) (c : Content)
+module _ (names : Names) (a : List ℕ) (f : TableRows → TableRows) (c : TablesContent)
     (own : AreTidyRows names a (c.rows a) → AreTidyRows names a (f (c.rows a)))
     (t : (x : List ℕ) → AreTidyRows names x (c.rows x)) where
   pub tidy_at : (x : List ℕ) →
@@ -218,7 +219,7 @@ module _ (names : Names) (a : List ℕ) (f : Stored → Stored) (c : Content)
       at true e = subst (λ y. AreTidyRows names y (f (c.rows y))) (name_from a x e) (own (t a))
       at false e = t x
 
-pub tidy_texts : (names : Names) (a : List ℕ) (key : Key) (k : Kept) (c : Content)
+pub tidy_texts : (names : Names) (a : List ℕ) (key : Key) (k : Kept) (c : TablesContent)
     → is_some (kept_in a k) ≡ true → IsTidy names c → IsTidy names (with_texts a key k c)
 tidy_texts names a (Request s n) k c told t = record {
   there = t.there;
@@ -234,19 +235,20 @@ tidy_texts names a (Reference x) k c told t = record {
 }
 
 pub tidy_kept : (names : Names) (a : List ℕ) (kept : Option KeptAnswer) (texts : Option Kept)
-    (c : Content) → AreTexts a kept texts → IsTidy names c →
+    (c : TablesContent) → AreTexts a kept texts → IsTidy names c →
     IsTidy names (with_kept a kept texts c)
 tidy_kept names a None texts c told t = t
 tidy_kept names a (Some k) None c told t = t
 tidy_kept names a (Some k) (Some x) c told t =
     tidy_texts names a (key_of k.content) x c (ap is_some told) t
 
-pub tidy_redeemed : (names : Names) (redeemed : Option Redeemed) (c : Content) → IsTidy names c →
+pub tidy_redeemed : (names : Names) (redeemed : Option Redeemed) (c : TablesContent) →
+    IsTidy names c →
     IsTidy names (with_redeemed redeemed c)
 tidy_redeemed names None c t = t
 tidy_redeemed names (Some x) c t = record { there = t.there; once = t.once; rows = t.rows }
 
-pub tidy_meta : (names : Names) (m : Meta) (c : Content) → IsTidy names c →
+pub tidy_meta : (names : Names) (m : Meta) (c : TablesContent) → IsTidy names c →
     IsTidy names (with_meta m c)
 tidy_meta names m c t = record {
   there = refl;
@@ -254,7 +256,7 @@ tidy_meta names m c t = record {
   rows = t.rows;
 }
 
-pub tidy_opened : (names : Names) (a : List ℕ) (w : StoredRows) (c : Content)
+pub tidy_opened : (names : Names) (a : List ℕ) (w : StoredRows) (c : TablesContent)
     → EndsTidy w (c.rows a) → MayBeOver names w (c.rows a) → IsTidy names c
     → IsTidy names (opened a (over_stored names w) c)
 tidy_opened names a w c ends may t = record {
@@ -264,7 +266,7 @@ tidy_opened names a w c ends may t = record {
       (λ own. tidy_stored names a w (c.rows a) own ends may) t.rows;
 }
 
-pub tidy_charges : (names : Names) (a : List ℕ) (cs : List ChargeRow) (c : Content)
+pub tidy_charges : (names : Names) (a : List ℕ) (cs : List ChargeRow) (c : TablesContent)
     → ((n : ℕ) (x : ChargeRow) → charge_in n cs ≡ Some x → is_numbered n (c.rows a).head ≡ true)
     → IsTidy names c → IsTidy names (with_rows a (over_paid cs) c)
 tidy_charges names a cs c numbered t = record {
@@ -278,7 +280,7 @@ tidy_charges names a cs c numbered t = record {
 
 module _ (names : Names) (a : List ℕ) (w : StoredRows) (cs : List ChargeRow)
     (kept : Option KeptAnswer) (texts : Option Kept) (redeemed : Option Redeemed) (m : Meta)
-    (c : Content) (sessions : List Session) (keyed : AreKeyed w)
+    (c : TablesContent) (sessions : List Session) (keyed : AreKeyed w)
     (may : AreWritable names sessions w.groups)
     (numbers : AreNumbered (first_number (c.rows a).head) w.next_charge cs)
     (told : AreTexts a kept texts) where
@@ -301,7 +303,7 @@ module _ (names : Names) (a : List ℕ) (w : StoredRows) (cs : List ChargeRow)
       stands s g x y is has = subst (MayStand names sessions s) has
           (may_at names sessions w.groups may s g x is)
 
-  abbrev after_rows : Content
+  abbrev after_rows : TablesContent
   after_rows = opened a (over_stored names w) (with_meta m c)
 
   -- the head of the account is the one that was put
@@ -314,7 +316,7 @@ module _ (names : Names) (a : List ℕ) (w : StoredRows) (cs : List ChargeRow)
   tidy_written ends put t =
       let rows = tidy_opened names a w (with_meta m c) ends put (tidy_meta names m c t) in
       let paid = tidy_charges names a cs after_rows (λ n x is.
-      subst (λ (r : Stored). is_numbered n r.head ≡ true) (sym head_is)
+      subst (λ (r : TableRows). is_numbered n r.head ≡ true) (sym head_is)
       (numbered_among n (first_number (c.rows a).head) w.next_charge cs x numbers
       (begins n (c.rows a).head).first is)) rows in
       tidy_redeemed names redeemed _ (tidy_kept names a kept texts _ told

@@ -11,7 +11,7 @@ use Rattle.reserving.specs.Stored.{StoredRows}
 use Rattle.keepers.specs.declared.loaded.Change.{Change}
 use Rattle.keepers.specs.Naming.{IsNamed}
 use Rattle.sql_rows.specs.Values.{Group, Kept, Meta, PeriodNames}
-use Rattle.sql_rows.specs.Content.{Content, Rows as Stored}
+use Rattle.sql_rows.specs.Content.{TablesContent, TableRows}
 use Rattle.sql_keeper.specs.AddsBook.{with_dated}
 use Rattle.sql_keeper.specs.Additions.{with_addition}
 use Rattle.sql_keeper.specs.Content.{Names, book_in, is_reserved, names_numbered}
@@ -26,7 +26,8 @@ use Rattle.sql_keeper.proofs.Tidy.{may_be_over, tidy_meta, tidy_written}
 -- ---- a change
 
 -- of a session that is ended each group is written that has a reservation
-pub ends_settled : (w : StoredRows) (r : Stored) → AreSettled w.sessions w.groups r → EndsTidy w r
+pub ends_settled : (w : StoredRows) (r : TableRows) → AreSettled w.sessions w.groups r →
+    EndsTidy w r
 ends_settled w r settled s g none = at (r.groups s g) refl
   where
     at : (o : Option Group) → r.groups s g ≡ o → is_reserved o ≡ true
@@ -38,7 +39,8 @@ ends_settled w r settled s g none = at (r.groups s g) refl
       | inr free ↦ not_both (sym reserved ∙ ap is_some free)
     ]
 
-pub tidy_change : (names : Names) (m : Meta) (change : Change) (texts : Option Kept) (c : Content)
+pub tidy_change : (names : Names) (m : Meta) (change : Change) (texts : Option Kept)
+    (c : TablesContent)
     → IsNamed change.rows → MayBeMade names change (c.rows change.number)
     → AreTexts change.number change.kept texts → IsTidy names c
     → IsTidy names (with_change names m change texts c)
@@ -54,7 +56,7 @@ tidy_change names m change texts c named may told t =
 -- ---- a voucher
 
 pub tidy_addition : (names : Names) (text code : List ℕ) (terms : VoucherTerms) (t : ℕ)
-    (c : Content) → IsTidy names c → IsTidy names (with_addition text code terms t c)
+    (c : TablesContent) → IsTidy names c → IsTidy names (with_addition text code terms t c)
 tidy_addition names text code terms t c tidy =
     let m = tidy_meta names (meta_at text t) c tidy in
     record { there = m.there; once = m.once; rows = m.rows }
@@ -94,7 +96,8 @@ terms_still names more book (Some x) k = at x.periods k
         and_parts (is_some (period_named own p.before)) (is_some (period_named own p.after)) k in
         rw (named p.before parts.0, named p.after parts.1) refl
 
-pub tidy_dated : (names : Names) (more : List (List ℕ)) (n from : ℕ) (text : List ℕ) (c : Content)
+pub tidy_dated : (names : Names) (more : List (List ℕ)) (n from : ℕ) (text : List ℕ)
+    (c : TablesContent)
     → IsTidy names c → IsTidy (names ++ more ∷ []) (with_dated n from text c)
 tidy_dated names more n from text c t = record {
   there = t.there;

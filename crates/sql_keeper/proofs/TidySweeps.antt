@@ -7,12 +7,12 @@ use Rattle.reserving.specs.declared.session.Session.{Session}
 use Rattle.reserving.specs.declared.session.SessionGroup.{SessionGroup}
 use Rattle.reserving.specs.Sessions.{group_in}
 use Rattle.reserving.specs.Stored.{StoredRows}
-use Rattle.sql_rows.specs.Content.{Content, Rows as Stored}
+use Rattle.sql_rows.specs.Content.{TablesContent, TableRows}
 use Rattle.sql_keeper.specs.Content.{Names, is_numbered}
 use Rattle.sql_keeper.specs.Sweeps.{AreAllSwept, AreSweptRows, IsSweptOf, with_sweep}
 use Rattle.sql_keeper.specs.Tests.{IsWritable, MayStand}
 use Rattle.sql_keeper.specs.Tidy.{AreTidyRows, IsTidy}
-use Rattle.sql_keeper.specs.Writes.{head_of, meta_at}
+use Rattle.sql_keeper.specs.Writes.{head_columns_of, meta_at}
 use Rattle.sql_keeper.specs.declared.swept_rows.SweptAccount.{SweptAccount}
 use Rattle.sql_keeper.proofs.Changed.{may_at, over_stored}
 use Rattle.sql_keeper.proofs.Swept.{found_one, next_is, row_after, rows_are, swept_at, swept_kept}
@@ -23,7 +23,7 @@ use Rattle.sql_keeper.proofs.TidyChanges.{ends_settled}
 
 -- ---- what is written of an account
 
-module _ (names : Names) (shelf : Shelf) (t : ℕ) (a : List ℕ) (r : Stored)
+module _ (names : Names) (shelf : Shelf) (t : ℕ) (a : List ℕ) (r : TableRows)
     (tidy : AreTidyRows names a r) (w : StoredRows) (swept : AreSweptRows names shelf t r w) where
   abbrev among : List Session
   among = (after names shelf t r w swept).sessions
@@ -35,7 +35,7 @@ module _ (names : Names) (shelf : Shelf) (t : ℕ) (a : List ℕ) (r : Stored)
         before = λ s g x y is has. (stands s g x y is has).before;
         after = λ s g x y is has. (stands s g x y is has).after;
         numbers = λ n is. sym (ap (is_numbered n) ((swept.live shelf t).0 ∙ ap (λ m. Some (record
-            (head_of swept.before) { next_charge = m })) next_same)) ∙ is;
+            (head_columns_of swept.before) { next_charge = m })) next_same)) ∙ is;
       })
     where
       next_same : swept.before.next_charge ≡ w.next_charge
@@ -49,7 +49,7 @@ module _ (names : Names) (shelf : Shelf) (t : ℕ) (a : List ℕ) (r : Stored)
 
 -- ---- all accounts
 
-pub tidy_sweep : (names : Names) (text : List ℕ) (shelf : Shelf) (t : ℕ) (c : Content)
+pub tidy_sweep : (names : Names) (text : List ℕ) (shelf : Shelf) (t : ℕ) (c : TablesContent)
     (xs : List SweptAccount) → IsShelf shelf → AreAllSwept names shelf t c xs → IsTidy names c
     → IsTidy names (with_sweep names text t xs c)
 tidy_sweep names text shelf t c xs ranges all tidy =

@@ -6,7 +6,7 @@ use Rattle.sqlite.specs.State.{State, HasCleanDisk, Survives}
 use Rattle.sqlite.proofs.StateLemmas.{survives_then, survives_weaker}
 use Rattle.sqlite_trees.specs.Tree.{Trees}
 use Rattle.sql_tables.specs.Statements.{HasIdleBook, IsStill, OnlyReads}
-use Rattle.sql_rows.specs.Content.{Content}
+use Rattle.sql_rows.specs.Content.{TablesContent}
 use Rattle.sql_rows.specs.Makes.{Turns}
 use Rattle.sql_keeper.specs.Asks.{IsHanded}
 use Rattle.sql_keeper.specs.Commits.{CommitsWhole, Transacts}
@@ -28,7 +28,8 @@ survives_self s P = record {
 
 -- ---- after what was only read, what is written
 
-module _ (change : Content → Content) (Become : Trees → Trees → Type 0) (old mid new : State)
+module _ (change : TablesContent → TablesContent) (Become : Trees → Trees → Type 0)
+    (old mid new : State)
     (only : OnlyReads old mid) (stops : Survives old mid (λ _. old.is_open ≡ false))
     (become : HasCleanDisk mid → IsTrue mid.is_open → (db : Trees) → Turns change mid.now.trees db
     → Become old.now.trees db) where

@@ -9,35 +9,36 @@ use Rattle.sqlite_trees.specs.Tree.{Trees}
 use Rattle.sqlite_trees.specs.Objects.{catalog_tree}
 use Rattle.voucher_rules.specs.declared.terms.VoucherTerms.{VoucherTerms}
 use Rattle.voucher_rules.specs.Standing.{unspent}
-use Rattle.keepers.specs.Change.{with_voucher as with_added}
+use Rattle.keepers.specs.Change.{with_voucher}
 use Rattle.sql_tables.specs.Statements.{AreStored}
-use Rattle.sql_rows.specs.Content.{Content, content_of, with_meta, with_voucher}
+use Rattle.sql_rows.specs.Content.{TablesContent, tables_content, with_meta, with_voucher_row}
 use Rattle.sql_rows.specs.Plain.{ArePlain}
 use Rattle.sql_rules.specs.Ruled.{IsInRules}
 use Rattle.sql_keeper.specs.Content.{tables_of, Names}
 use Rattle.sql_keeper.specs.Tidy.{IsTidy}
-use Rattle.sql_keeper.specs.Writes.{meta_at, row_of}
+use Rattle.sql_keeper.specs.Writes.{meta_at, voucher_row}
 
 -- what is written: the moment, and a voucher that no account has redeemed
-abbrev pub with_addition : BookText → VoucherCode → VoucherTerms → Moment → Content → Content
+abbrev pub with_addition : BookText → VoucherCode → VoucherTerms → Moment → TablesContent →
+    TablesContent
 with_addition text code terms t c =
-    with_voucher code (row_of (unspent terms)) (with_meta (meta_at text t) c)
+    with_voucher_row code (voucher_row (unspent terms)) (with_meta (meta_at text t) c)
 
 -- the tables hold the voucher; they would be found again: the catalog is the same, and so are the
 -- version and the books, no rowid stands twice, and the moment is in the range of moments
 pub record BecomesAdded (text : BookText) (code : VoucherCode) (terms : VoucherTerms) (t : Moment)
     (old new : Trees) : Type 0 where
   pub tables : (names : Names)
-      → tables_of names (content_of new)
-      ≡ with_added code terms t (tables_of names (content_of old))
+      → tables_of names (tables_content new)
+      ≡ with_voucher code terms t (tables_of names (tables_content old))
   -- where nothing stood that isn't told, nothing does
-  pub tidy : (names : Names) → IsTidy names (content_of old) → IsTidy names (content_of new)
+  pub tidy : (names : Names) → IsTidy names (tables_content old) → IsTidy names (tables_content new)
   -- where all was in its rules, all is
-  pub rules : (shelf : Shelf) → IsTrue (is_some (content_of old).meta)
-      → IsInRules shelf (content_of old) → IsInRules shelf (content_of new)
+  pub rules : (shelf : Shelf) → IsTrue (is_some (tables_content old).meta)
+      → IsInRules shelf (tables_content old) → IsInRules shelf (tables_content new)
   pub plain : ArePlain old → ArePlain new
-  pub meta : (content_of new).meta ≡ Some (meta_at text t)
+  pub meta : (tables_content new).meta ≡ Some (meta_at text t)
   pub last : t ≤ 4_102_488_000
-  pub books : (content_of new).books ≡ (content_of old).books
+  pub books : (tables_content new).books ≡ (tables_content old).books
   pub catalog : new catalog_tree ≡ old catalog_tree
   pub stored : AreStored new

@@ -1,7 +1,7 @@
 -- A book that is added behind those of a shelf, committed whole or not at all.
 -- Source: profile.
-use Rattle.std.specs.Prelude.{◌≡◌, ◌≤◌, ◌<◌, ℕ, suc, ◌++◌, List, [], ◌∷◌, Some, None, length, Result}
-use Rattle.std.specs.Prelude.{◌⊎◌, Ok, Err, IfErr, IsTrue, OnErr, OnOk}
+use Rattle.std.specs.Prelude.{◌≡◌, ◌≤◌, ◌<◌, ℕ, suc, ◌++◌, List, [], ◌∷◌, Some, None, length}
+use Rattle.std.specs.Prelude.{Result, ◌⊎◌, Ok, Err, IfErr, IsTrue, OnErr, OnOk}
 use Rattle.units.specs.Words.{Moment, GroupId, BookNumber, no_end}
 use Rattle.identifiers.specs.Words.{SessionName, AccountName}
 use Rattle.shelves.specs.Words.{BookText}
@@ -17,7 +17,7 @@ use Rattle.shelves.specs.declared.fault.ShelfFault.TheVariants.{Memory}
 use Rattle.keepers.specs.declared.fault.StoreFault.{StoreFault}
 use Rattle.keepers.specs.declared.fault.StoreFault.TheVariants.{Memory as NoMemory}
 use Rattle.sql_tables.specs.Statements.{AreStored}
-use Rattle.sql_rows.specs.Content.{Content, content_of, with_book as with_row}
+use Rattle.sql_rows.specs.Content.{TablesContent, tables_content, with_book_row}
 use Rattle.sql_rows.specs.Plain.{ArePlain}
 use Rattle.sql_rules.specs.Ruled.{IsInRules, is_book}
 use Rattle.sql_keeper.specs.Books.{IsBookFault, IsBookOf}
@@ -26,7 +26,7 @@ use Rattle.sql_keeper.specs.Content.{Names, last_in, tables_of}
 use Rattle.sql_keeper.specs.Inside.{KeeperState, clean_in, failed_in, tables_in}
 use Rattle.sql_keeper.specs.Shelves.{IsShelfOf}
 use Rattle.sql_keeper.specs.Tidy.{IsTidy}
-use Rattle.sql_keeper.specs.Stops.{IsWhole, trees_in}
+use Rattle.sql_keeper.specs.Stops.{IsCommitWhole, trees_in}
 use Rattle.sql_keeper.specs.declared.add_fault.AddFault.{AddFault}
 use Rattle.sql_keeper.specs.declared.add_fault.AddFault.TheVariants.{Book as OfBook}
 use Rattle.sql_keeper.specs.declared.add_fault.AddFault.TheVariants.{Shelf as OfShelf}
@@ -35,11 +35,11 @@ use Rattle.sql_keeper.specs.declared.add_fault.AddFault.TheVariants.{Store as Of
 -- ---- what is written
 
 -- a row more: the number of the book, its first moment and its text
-abbrev pub with_dated : BookNumber → Moment → BookText → Content → Content
-with_dated n from text c = with_row n (record { starts = from; content = text }) c
+abbrev pub with_dated : BookNumber → Moment → BookText → TablesContent → TablesContent
+with_dated n from text c = with_book_row n (record { starts = from; content = text }) c
 
 -- each reservation goes by a book of a number up to this one
-abbrev pub AreBooksKnown : BookNumber → Content → Type 0
+abbrev pub AreBooksKnown : BookNumber → TablesContent → Type 0
 AreBooksKnown n c = (a : AccountName) (s : SessionName) (g : GroupId) (m : BookNumber) →
     (c.rows a).grant_books s g ≡ Some m → m ≤ n
 
@@ -49,19 +49,19 @@ AreBooksKnown n c = (a : AccountName) (s : SessionName) (g : GroupId) (m : BookN
 pub record BecomesDated (n : BookNumber) (from : Moment) (text : BookText) (old new : Trees)
     : Type 0 where
   pub tables : (names : Names) (more : List (List ℕ)) → 1 ≤ length names
-      → n ≡ suc (length names) → AreBooksKnown (length names) (content_of old)
-      → tables_of (names ++ more ∷ []) (content_of new) ≡ tables_of names (content_of old)
+      → n ≡ suc (length names) → AreBooksKnown (length names) (tables_content old)
+      → tables_of (names ++ more ∷ []) (tables_content new) ≡ tables_of names (tables_content old)
   -- where nothing stood that isn't told, nothing does
-  pub tidy : (names : Names) (more : List (List ℕ)) → IsTidy names (content_of old) →
-      IsTidy (names ++ more ∷ []) (content_of new)
+  pub tidy : (names : Names) (more : List (List ℕ)) → IsTidy names (tables_content old) →
+      IsTidy (names ++ more ∷ []) (tables_content new)
   -- where all was in its rules, all is, by the books with one of the new text: if the row of it is
   pub rules : (shelf : Shelf) (b : Book)
       → IsTrue (is_book n (record { starts = from; content = text }))
-      → IsInRules shelf (content_of old)
-      → IsInRules (with_book shelf from b) (content_of new)
+      → IsInRules shelf (tables_content old)
+      → IsInRules (with_book shelf from b) (tables_content new)
   pub plain : ArePlain old → ArePlain new
-  pub books : (content_of new).books ≡ (with_dated n from text (content_of old)).books
-  pub meta : (content_of new).meta ≡ (content_of old).meta
+  pub books : (tables_content new).books ≡ (with_dated n from text (tables_content old)).books
+  pub meta : (tables_content new).meta ≡ (tables_content old).meta
   pub catalog : new catalog_tree ≡ old catalog_tree
   pub stored : AreStored new
 
@@ -70,7 +70,7 @@ pub record BecomesDated (n : BookNumber) (from : Moment) (text : BookText) (old 
 pub record MayFollow (text more : BookText) (n : BookNumber) (from : Moment) (trees : Trees)
     : Type 0 where
   pub shelf : Shelf
-  pub is : IsShelfOf text (content_of trees).books shelf
+  pub is : IsShelfOf text (tables_content trees).books shelf
   pub book : Book
   pub read : IsBookOf more book
   pub number : n ≡ suc (count shelf)
@@ -155,7 +155,7 @@ add_told (Err fault) = Err (OfStore fault)
 
 -- the moment of the last accepted command
 abbrev pub last_at : State → Moment
-last_at s = last_in (content_of s.now.trees).meta
+last_at s = last_in (tables_content s.now.trees).meta
 
 -- the tables with the book, which may follow the keeper's and begins before the end of all moments;
 -- the keeper has as many as the shelf before
@@ -209,5 +209,5 @@ pub record AddsBook {S A : Type 0} (g : Ghosts S) (text : BookText) (from : Mome
       IfErr result (IsAddFault text from before (tables_in g old).last)
   pub cleanness : clean_in g new → clean_in g old
   pub counts : failed_in old ≤ failed_in new
-  pub whole : IsWhole g old new (BecomesDated (suc (count before)) from text (trees_in g old))
-  pub follows : IsWhole g old new (BecomesBehind old.shelf before from text (trees_in g old))
+  pub whole : IsCommitWhole g old new (BecomesDated (suc (count before)) from text (trees_in g old))
+  pub follows : IsCommitWhole g old new (BecomesBehind old.shelf before from text (trees_in g old))

@@ -13,7 +13,7 @@ use Rattle.sqlite.specs.Effect.{IsDatabase}
 use Rattle.sqlite.specs.Held.{Held, state}
 use Rattle.sqlite.specs.State.{HasCleanDisk}
 use Rattle.sqlite.specs.Steps.{IsFresh}
-use Rattle.sql_rows.specs.Content.{content_of}
+use Rattle.sql_rows.specs.Content.{tables_content}
 use Rattle.sql_tables.specs.declared.fault.OpenFault.{OpenFault}
 use Rattle.keepers.specs.Change.{changed}
 use Rattle.keepers.specs.declared.fault.StoreFault.{StoreFault}
@@ -28,7 +28,7 @@ use Rattle.sql_keeper.specs.Creates.{IsNewBook}
 use Rattle.sql_keeper.specs.Inside.{KeeperState, IsClean, IsKeeper, names_in, tables_in}
 use Rattle.sql_keeper.specs.Opened.{IsKept, IsLeft, IsLeftRuled, IsNotOpened, IsOpened}
 use Rattle.sql_keeper.specs.Shelves.{HasOneBook, IsShelfOf}
-use Rattle.sql_keeper.specs.Stops.{IsWhole, MayLeave, trees_in}
+use Rattle.sql_keeper.specs.Stops.{IsCommitWhole, MayLeave, trees_in}
 use Rattle.sql_keeper.specs.Sweeps.{BecomesSwept}
 
 -- a new book is left, and what a commit, an addition or a sweep makes of tables that are left is
@@ -54,13 +54,13 @@ pub record AreLeftRuledAgain : Type 0 where
   pub made : (text : BookText) (new : Trees) → IsUtf8 text → HasOneBook text → IsNewBook text new →
       IsLeftRuled text new
   pub committed : (text : BookText) (shelf : Shelf) (change : Change) (old new : Trees)
-      → IsLeftRuled text old → IsShelfOf text (content_of old).books shelf
+      → IsLeftRuled text old → IsShelfOf text (tables_content old).books shelf
       → Becomes (shelf_names shelf) text change old new → IsLeftRuled text new
   pub added : (text : BookText) (code : VoucherCode) (terms : VoucherTerms) (t : Moment)
       (old new : Trees)
       → IsLeftRuled text old → BecomesAdded text code terms t old new → IsLeftRuled text new
   pub swept : (text : BookText) (shelf prices : Shelf) (t : Moment) (old new : Trees)
-      → IsLeftRuled text old → IsShelfOf text (content_of old).books shelf
+      → IsLeftRuled text old → IsShelfOf text (tables_content old).books shelf
       → BecomesSwept (shelf_names shelf) text prices t old new → IsLeftRuled text new
   pub dated : (text more : BookText) (n : BookNumber) (from : Moment) (old new : Trees)
       → IsLeftRuled text old → MayFollow text more n from old → from < no_end
@@ -70,11 +70,11 @@ pub record AreLeftRuledAgain : Type 0 where
 -- answered before
 abbrev pub AreShelvesOne : Type 0
 AreShelvesOne = (trees : Trees) (text more : BookText) (s t : Shelf) → IsKept trees text
-    → IsKept trees more → IsShelfOf text (content_of trees).books s
-    → IsShelfOf more (content_of trees).books t → s ≡ t
+    → IsKept trees more → IsShelfOf text (tables_content trees).books s
+    → IsShelfOf more (tables_content trees).books t → s ≡ t
 
--- the connection that was opened shows what was left, and each row in its rules, so no fault is told
--- of it but the store's or memory's
+-- the connection that was opened shows what was left, and each row in its rules, so no fault is
+-- told of it but the store's or memory's
 abbrev pub IsFoundAgain : {S : Type 0} → Ghosts S → Held S → Held S → BookText → OpenFault → Type 0
 IsFoundAgain g old new text fault = IsLeftRuled text (state g old).now.trees
     → IsDatabase (state g old).now → HasCleanDisk (state g new) → IsNotOpened g old new fault
@@ -91,7 +91,7 @@ pub record IsFoundAfter {S T : Type 0} (g : Ghosts S) (e : Ghosts T) (old : Keep
   pub left : IsLeftRuled new.text (trees_in e new)
   pub text : new.text ≡ old.text
   pub own : new.shelf ≡ shelf
-  pub books : IsShelfOf old.text (content_of (trees_in e new)).books shelf
+  pub books : IsShelfOf old.text (tables_content (trees_in e new)).books shelf
   pub rests : IsClean (state g old.connection) → (trees_in e new ≡ trees_in g old)
       × (shelf ≡ old.shelf) × (new.last ≡ old.last)
 
@@ -112,7 +112,7 @@ abbrev pub IsStoppedWhole : {S T : Type 0} → Ghosts S → Ghosts T → KeeperS
     KeeperState T → Shelf → (Trees → Type 0) → Type 0
 IsStoppedWhole g e old mid new shelf Written =
     IsKeeper g old → IsClean (state g old.connection) → HasCleanDisk (state g mid.connection)
-    → IsWhole g old mid Written → IsFoundAfter g e mid new shelf
+    → IsCommitWhole g old mid Written → IsFoundAfter g e mid new shelf
     → (trees_in e new ≡ trees_in g old) ⊎ Written (trees_in e new)
 
 -- so is a change, a voucher, a sweep and a book

@@ -1,4 +1,5 @@
--- What the calls of a keeper over a database leave of it: of its tables, and of its rows after a stop.
+-- What the calls of a keeper over a database leave of it: of its tables, and of its rows after a
+-- stop.
 -- Source: profile.
 use Rattle.std.specs.Prelude.{◌≡◌, ℕ, IfOk, OnOk, Result}
 use Rattle.units.specs.Words.{Moment}
@@ -6,29 +7,29 @@ use Rattle.shelves.specs.Shelves.{Shelf}
 use Rattle.sqlite_trees.specs.declared.store.Store.{Ghosts}
 use Rattle.sqlite_trees.specs.Tree.{Trees}
 use Rattle.keepers.specs.Change.{IsSwept}
-use Rattle.keepers.specs.Keeping.{Keeps, Reads}
+use Rattle.keepers.specs.Keeping.{Keeps, KeeperReads}
 use Rattle.keepers.specs.Tables.{Tables}
 use Rattle.keepers.specs.declared.fault.StoreFault.{StoreFault}
 use Rattle.sql_keeper.specs.Inside.{KeeperState, clean_in, failed_in, names_in, tables_in}
-use Rattle.sql_keeper.specs.Stops.{IsWhole, LeavesIn, honest_in, trees_in}
+use Rattle.sql_keeper.specs.Stops.{IsCommitWhole, LeavesIn, honest_in, trees_in}
 use Rattle.sql_keeper.specs.Sweeps.{BecomesSwept}
 
 -- a call that reads: what it finds is in the tables, and a stop leaves the rows that there were
 pub record AsksTables {S T : Type 0} (g : Ghosts S) (Found : Tables → T → Type 0)
     (old new : KeeperState S) (result : Result T StoreFault) : Type 0 where
-  pub reads : Reads (tables_in g) failed_in (honest_in g) (clean_in g) (LeavesIn g) old new
+  pub reads : KeeperReads (tables_in g) failed_in (honest_in g) (clean_in g) (LeavesIn g) old new
       (Found (tables_in g old)) result
-  pub whole : IsWhole g old new (λ _. ⊥)
+  pub whole : IsCommitWhole g old new (λ _. ⊥)
 
--- a call that writes: the tables are changed so, and a stop leaves the rows that there were or those
--- that they become
+-- a call that writes: the tables are changed so, and a stop leaves the rows that there were or
+-- those that they become
 pub record StoresChange {S T : Type 0} (g : Ghosts S) (change : Tables → Tables)
     (becomes : Trees → Type 0) (old new : KeeperState S) (result : Result T StoreFault)
     : Type 0 where
   pub done : clean_in g new → OnOk result (tables_in g new ≡ change (tables_in g old))
   pub kept : Keeps (tables_in g) failed_in (honest_in g) (clean_in g) (LeavesIn g) old new
       (λ t. t ≡ change (tables_in g old)) result
-  pub whole : IsWhole g old new becomes
+  pub whole : IsCommitWhole g old new becomes
 
 -- a sweep of all accounts, which are counted
 pub record SweepsAll {S : Type 0} (g : Ghosts S) (b : Shelf) (moment : Moment)
@@ -37,4 +38,5 @@ pub record SweepsAll {S : Type 0} (g : Ghosts S) (b : Shelf) (moment : Moment)
   pub done : clean_in g new → OnOk result (IsSwept b moment (tables_in g old) (tables_in g new))
   pub kept : Keeps (tables_in g) failed_in (honest_in g) (clean_in g) (LeavesIn g) old new
       (IsSwept b moment (tables_in g old)) result
-  pub whole : IsWhole g old new (BecomesSwept (names_in old) old.text b moment (trees_in g old))
+  pub whole : IsCommitWhole g old new (BecomesSwept (names_in old) old.text b moment
+      (trees_in g old))

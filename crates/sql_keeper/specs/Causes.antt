@@ -6,7 +6,7 @@ use Rattle.sqlite_trees.specs.Tree.{Trees}
 use Rattle.sqlite.specs.Effect.{Database}
 use Rattle.sql_tables.specs.Schema.{latest, schema_at}
 use Rattle.sql_tables.specs.Stages.{AreStoredAt}
-use Rattle.sql_rows.specs.Content.{content_of}
+use Rattle.sql_rows.specs.Content.{tables_content}
 use Rattle.sql_rows.specs.Ruled.{IsRuledMeta}
 use Rattle.sql_rows.specs.Values.{Meta}
 use Rattle.sql_tables.specs.Opens.{IsVersion}
@@ -20,26 +20,26 @@ use Rattle.sql_keeper.specs.Shelves.{HasShelf}
 -- it is there in its rules, and tells this version
 pub record KeepsVersion (v : TablesVersion) (trees : Trees) : Type 0 where
   pub row : Meta
-  pub is : (content_of trees).meta ≡ Some row
+  pub is : (tables_content trees).meta ≡ Some row
   pub ruled : IsRuledMeta row
   pub version : row.version ≡ v
 
 -- it is there in its rules, and tells another version than this
 pub record IsOtherThan (v : TablesVersion) (trees : Trees) : Type 0 where
   pub row : Meta
-  pub is : (content_of trees).meta ≡ Some row
+  pub is : (tables_content trees).meta ≡ Some row
   pub ruled : IsRuledMeta row
   pub other : ¬ (row.version ≡ v)
 
 -- a row of it, if there is one, is out of its rules
 abbrev pub IsUnruledMeta : Trees → Type 0
-IsUnruledMeta trees = (row : Meta) → (content_of trees).meta ≡ Some row → ¬ IsRuledMeta row
+IsUnruledMeta trees = (row : Meta) → (tables_content trees).meta ≡ Some row → ¬ IsRuledMeta row
 
 -- it isn't there or is out of its rules; or it tells this version, the latest, and the texts that
 -- are kept aren't those of a shelf
 abbrev pub AreUnruled : TablesVersion → Trees → Type 0
-AreUnruled v trees = (row : Meta) → (content_of trees).meta ≡ Some row → IsRuledMeta row
-    → (row.version ≡ v) × (v ≡ latest) × ¬ HasShelf row.book (content_of trees).books
+AreUnruled v trees = (row : Meta) → (tables_content trees).meta ≡ Some row → IsRuledMeta row
+    → (row.version ≡ v) × (v ≡ latest) × ¬ HasShelf row.book (tables_content trees).books
 
 -- ---- causes
 

@@ -5,16 +5,16 @@ use Rattle.std.specs.Prelude.{nat_eq, nat_le, Bool, List}
 use Rattle.std.specs.List.{find}
 use Rattle.units.specs.Words.{greatest_number}
 use Rattle.reserving.specs.Words.{ChargeNumber}
-use Rattle.sql_rows.specs.declared.head.Head.{Head}
-use Rattle.sql_rows.specs.Content.{Rows as Stored}
-use Rattle.sql_rows.specs.Lists.{NumbersRise, is_within}
-use Rattle.sql_tables.specs.Selects.{only as those}
+use Rattle.sql_rows.specs.declared.head.HeadColumns.{HeadColumns}
+use Rattle.sql_rows.specs.Content.{TableRows}
+use Rattle.sql_rows.specs.Lists.{NumbersRise, is_row_within}
+use Rattle.sql_tables.specs.Selects.{passing}
 use Rattle.sql_keeper.specs.Content.{is_numbered, told_charge}
 use Rattle.reserving.specs.declared.charge.ChargeRow.{ChargeRow}
 use Rattle.keepers.specs.declared.pages.ChargePage.{ChargePage}
 
 -- the number of an account's last charge; 0 where it has none
-abbrev pub last_number : Option Head → ChargeNumber
+abbrev pub last_number : Option HeadColumns → ChargeNumber
 last_number None = 0
 last_number (Some h) = h.next_charge - 1
 
@@ -23,20 +23,20 @@ abbrev pub end_of_page : ChargeNumber → ChargeNumber
 end_of_page after = min (after + 256) greatest_number
 
 -- the charges that pass the test, with the blocks that were covered
-abbrev pub AreTold : (ChargeRow → Bool) → Stored → List ChargeRow → Type 0
+abbrev pub AreTold : (ChargeRow → Bool) → TableRows → List ChargeRow → Type 0
 AreTold test r xs = (n : ChargeNumber) →
-    find (λ x. nat_eq x.number n) xs ≡ those test (told_charge r n)
+    find (λ x. nat_eq x.number n) xs ≡ passing test (told_charge r n)
 
 -- what is read for a page
-pub record IsPageRead (r : Stored) (after : ChargeNumber) (page : ChargePage) : Type 0 where
+pub record IsPageRead (r : TableRows) (after : ChargeNumber) (page : ChargePage) : Type 0 where
   pub last : page.last ≡ end_of_page after
   pub small : last_number r.head ≤ greatest_number
   pub is_last : page.is_last ≡ nat_le (last_number r.head) page.last
-  pub rows : AreTold (is_within after (min page.last (last_number r.head))) r page.rows.items
+  pub rows : AreTold (is_row_within after (min page.last (last_number r.head))) r page.rows.items
   pub order : NumbersRise page.rows.items
 
 -- no charge has the number 0
-pub none_first : (head : Option Head) (row : Option ChargeRow) →
+pub none_first : (head : Option HeadColumns) (row : Option ChargeRow) →
     (if is_numbered 0 head then row else None) ≡ None
 none_first None row = refl
 none_first (Some h) row = refl

@@ -11,23 +11,23 @@ use Rattle.reserving.specs.Stored.{StoredRows}
 use Rattle.keepers.specs.declared.loaded.Change.{Change}
 use Rattle.keepers.specs.Change.{changed}
 use Rattle.sql_tables.specs.Statements.{AreStored, HasIdleBook, IsStill}
-use Rattle.sql_rows.specs.Content.{Content, content_of, with_account}
+use Rattle.sql_rows.specs.Content.{TablesContent, tables_content, with_account}
 use Rattle.sql_rows.specs.Each.{with_counters}
 use Rattle.sql_rows.specs.Makes.{Commits, Turns}
 use Rattle.sql_rows.specs.Plain.{ArePlain}
 use Rattle.sql_rules.specs.Ruled.{IsInRules}
 use Rattle.sql_keeper.specs.Content.{shelf_names, tables_of, Names}
 use Rattle.sql_keeper.specs.Tidy.{IsTidy}
-use Rattle.sql_keeper.specs.Writes.{head_of, meta_with, with_all_counted}
+use Rattle.sql_keeper.specs.Writes.{head_columns_of, meta_with, with_all_counted}
 
 -- an account, its buckets and its counters as they become
-abbrev pub with_money : AccountName → StoredRows → Content → Content
+abbrev pub with_money : AccountName → StoredRows → TablesContent → TablesContent
 with_money a w c =
-    with_counters a w.counters (with_all_counted a w.buckets (with_account a (head_of w) c))
+    with_counters a w.counters (with_all_counted a w.buckets (with_account a (head_columns_of w) c))
 
 -- outside a transaction: the change is committed, or nothing is changed, and a stop leaves what was
 -- left before or the change
-pub record Transacts {A E : Type 0} (change : Content → Content) (old new : State)
+pub record Transacts {A E : Type 0} (change : TablesContent → TablesContent) (old new : State)
     (result : Result A E) : Type 0
   where
     pub done : HasCleanDisk new →
@@ -41,18 +41,18 @@ pub record Transacts {A E : Type 0} (change : Content → Content) (old new : St
 -- moments
 pub record Becomes (names : Names) (text : BookText) (change : Change) (old new : Trees)
     : Type 0 where
-  pub tables : tables_of names (content_of new) ≡
-      changed change (tables_of names (content_of old))
+  pub tables : tables_of names (tables_content new) ≡
+      changed change (tables_of names (tables_content old))
   -- where nothing stood that isn't told, nothing does
-  pub tidy : IsTidy names (content_of old) → IsTidy names (content_of new)
+  pub tidy : IsTidy names (tables_content old) → IsTidy names (tables_content new)
   -- where all was in its rules, by the books of these names, all is
   pub rules : (shelf : Shelf) → names ≡ shelf_names shelf
-      → IsTrue (is_some (content_of old).meta) → IsInRules shelf (content_of old)
-      → IsInRules shelf (content_of new)
+      → IsTrue (is_some (tables_content old).meta) → IsInRules shelf (tables_content old)
+      → IsInRules shelf (tables_content new)
   pub plain : ArePlain old → ArePlain new
-  pub meta : (content_of new).meta ≡ Some (meta_with text change)
+  pub meta : (tables_content new).meta ≡ Some (meta_with text change)
   pub last : change.moment ≤ 4_102_488_000
-  pub books : (content_of new).books ≡ (content_of old).books
+  pub books : (tables_content new).books ≡ (tables_content old).books
   pub catalog : new catalog_tree ≡ old catalog_tree
   pub stored : AreStored new
 

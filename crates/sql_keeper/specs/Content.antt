@@ -11,26 +11,26 @@ use Rattle.calendar.specs.declared.week.Period.{Period}
 use Rattle.rating.specs.declared.grant.Periods.{Periods}
 use Rattle.tariffs.specs.Names.{period_named}
 use Rattle.shelves.specs.Shelves.{Shelf, dated_books}
-use Rattle.buckets.specs.Row.{Row as Bucket}
+use Rattle.buckets.specs.Row.{BucketRow}
 use Rattle.buckets.specs.declared.kind.BucketKind.{BucketKind}
 use Rattle.buckets.specs.declared.kind.BucketKind.TheVariants.{Money, Blocks}
 use Rattle.reserving.specs.declared.charge.ChargeRow.{ChargeRow}
 use Rattle.reserving.specs.declared.session.Terms.{Terms}
 use Rattle.reserving.specs.Left.{is_open_row}
-use Rattle.commands.specs.declared.command.Content.{Content as Command}
+use Rattle.commands.specs.declared.command.Content.{Content}
 use Rattle.commands.specs.declared.answer.Answer.{Answer}
 use Rattle.json_fields.specs.declared.fault.WireFault.{WireFault}
-use Rattle.wire.specs.Contents.{content_of as command_of}
+use Rattle.wire.specs.Contents.{content_of}
 use Rattle.wire.specs.ReadingAnswers.{answer_of}
 use Rattle.voucher_rules.specs.declared.voucher.Voucher.{Voucher}
 use Rattle.keepers.specs.declared.key.Key.{Key}
 use Rattle.keepers.specs.declared.key.Key.TheVariants.{Request, Reference}
 use Rattle.keepers.specs.declared.key.KeptAnswer.{KeptAnswer}
 use Rattle.keepers.specs.Tables.{Head, GroupRow, Rows, Tables}
-use Rattle.sql_rows.specs.declared.head.Head.{Head as HeadColumns}
-use Rattle.sql_rows.specs.Values.{Meta, Group, PeriodNames, Kept, Voucher as VoucherRow}
+use Rattle.sql_rows.specs.declared.head.HeadColumns.{HeadColumns}
+use Rattle.sql_rows.specs.Values.{Meta, Group, PeriodNames, Kept, VoucherRow}
 use Rattle.sql_rows.specs.Values.{request_kind, reference_kind}
-use Rattle.sql_rows.specs.Content.{Rows as Stored, Content}
+use Rattle.sql_rows.specs.Content.{TableRows, TablesContent}
 
 -- ---- periods, which stand by their names
 
@@ -77,8 +77,8 @@ abbrev pub reserved_in : Names → Bool → Option BookNumber → Option PeriodN
 reserved_in names is_open book periods =
     if is_open then option_map (terms_in names (book_in book)) periods else None
 
-abbrev pub group_in : Names → Bool → Option BookNumber → Group → GroupRow
-group_in names is_open book x =
+abbrev pub stored_group_in : Names → Bool → Option BookNumber → Group → GroupRow
+stored_group_in names is_open book x =
     record { used = x.used; terms = reserved_in names is_open book x.periods }
 
 abbrev pub is_reserved : Option Group → Bool
@@ -94,20 +94,21 @@ held_in has_reservation amount = if has_reservation then unwrap_or amount 0 else
 abbrev pub kind_in : Bool → BucketKind
 kind_in is_allowance = if is_allowance then Blocks else Money
 
-abbrev pub bucket_in : Bool → Bucket → Bucket
+abbrev pub bucket_in : Bool → BucketRow → BucketRow
 bucket_in is_allowance b = record b { kind = kind_in (is_some b.scope && is_allowance) }
 
-abbrev pub told_buckets : Stored → BucketNumber → Option Bucket
+abbrev pub told_buckets : TableRows → BucketNumber → Option BucketRow
 told_buckets r n = option_map (bucket_in (r.allowances n)) (r.buckets n)
 
-abbrev pub rows_of : Names → Stored → Rows
-rows_of names r = record {
+abbrev pub told_rows : Names → TableRows → Rows
+told_rows names r = record {
   head = option_map head_in r.head;
   buckets = told_buckets r;
   counters = r.counters;
   sessions = r.sessions;
   groups = λ s g.
-      option_map (group_in names (is_open_row (r.sessions s)) (r.grant_books s g)) (r.groups s g);
+      option_map (stored_group_in names (is_open_row (r.sessions s)) (r.grant_books s g))
+      (r.groups s g);
   holds = λ s g n.
       held_in (is_open_row (r.sessions s) && is_reserved (r.groups s g)) (r.holds s g n);
 }
@@ -125,30 +126,30 @@ covered_in blocks = unwrap_or blocks 0
 abbrev pub charge_in : Option BlockCount → ChargeRow → ChargeRow
 charge_in covered x = record x { covered = record { 0 = covered_in covered } }
 
-abbrev pub told_charge : Stored → ChargeNumber → Option ChargeRow
+abbrev pub told_charge : TableRows → ChargeNumber → Option ChargeRow
 told_charge r n = option_map (charge_in (r.covered n)) (r.charges n)
 
-abbrev pub charge_of : ChargeNumber → Stored → Option ChargeRow
+abbrev pub charge_of : ChargeNumber → TableRows → Option ChargeRow
 charge_of n r = if is_numbered n r.head then told_charge r n else None
 
 -- ---- kept answers, which stand as texts
 
-abbrev pub kept_told : Result Command WireFault → Result Answer WireFault → Option KeptAnswer
+abbrev pub kept_told : Result Content WireFault → Result Answer WireFault → Option KeptAnswer
 kept_told (Ok c) (Ok x) = Some (record { content = c; answer = x })
 kept_told (Ok c) (Err e) = None
 kept_told (Err e) x = None
 
 -- what texts under an account are; nothing where they are no texts of a command and an answer
 abbrev pub kept_in : AccountName → Kept → Option KeptAnswer
-kept_in a k = kept_told (command_of a k.content) (answer_of k.answer)
+kept_in a k = kept_told (content_of a k.content) (answer_of k.answer)
 
 -- the texts under a key
-abbrev pub texts_of : Key → Stored → Option Kept
-texts_of (Request s n) r = r.answers request_kind s n
-texts_of (Reference x) r = r.answers reference_kind x 0
+abbrev pub texts_of_key : Key → TableRows → Option Kept
+texts_of_key (Request s n) r = r.answers request_kind s n
+texts_of_key (Reference x) r = r.answers reference_kind x 0
 
-abbrev pub answer_in : AccountName → Key → Stored → Option KeptAnswer
-answer_in a k r = option_and_then (kept_in a) (texts_of k r)
+abbrev pub answer_in : AccountName → Key → TableRows → Option KeptAnswer
+answer_in a k r = option_and_then (kept_in a) (texts_of_key k r)
 
 -- ---- vouchers
 
@@ -166,10 +167,10 @@ abbrev pub last_in : Option Meta → Moment
 last_in None = 0
 last_in (Some m) = m.last
 
-abbrev pub tables_of : Names → Content → Tables
+abbrev pub tables_of : Names → TablesContent → Tables
 tables_of names c = record {
   last = last_in c.meta;
-  rows = λ a. rows_of names (c.rows a);
+  rows = λ a. told_rows names (c.rows a);
   answers = λ a k. answer_in a k (c.rows a);
   charges = λ a n. charge_of n (c.rows a);
   vouchers = λ code. option_map voucher_in (c.vouchers code);

@@ -12,7 +12,7 @@ use Rattle.keepers.specs.Tables.{no_tables}
 use Rattle.sql_tables.specs.Schema.{book_schema, latest}
 use Rattle.sql_tables.specs.Statements.{AreStored, HasIdleBook, IsBook, IsStill}
 use Rattle.sql_rows.specs.Values.{Meta}
-use Rattle.sql_rows.specs.Content.{content_of}
+use Rattle.sql_rows.specs.Content.{tables_content}
 use Rattle.sql_rows.specs.Plain.{ArePlain}
 use Rattle.sql_rules.specs.Ruled.{IsInRules}
 use Rattle.sql_keeper.specs.Content.{tables_of, Names}
@@ -27,13 +27,13 @@ first_meta text = record { version = latest; book = text; last = 0 }
 pub record IsNewBook (text : BookText) (trees : Trees) : Type 0 where
   pub lists : Lists (trees catalog_tree) book_schema
   pub stored : AreStored trees
-  pub meta : (content_of trees).meta ≡ Some (first_meta text)
-  pub tables : (names : Names) → tables_of names (content_of trees) ≡ no_tables
-  pub books : (n : BookNumber) → (content_of trees).books n ≡ None
+  pub meta : (tables_content trees).meta ≡ Some (first_meta text)
+  pub tables : (names : Names) → tables_of names (tables_content trees) ≡ no_tables
+  pub books : (n : BookNumber) → (tables_content trees).books n ≡ None
   -- nothing stands there that isn't told
-  pub tidy : (names : Names) → IsTidy names (content_of trees)
+  pub tidy : (names : Names) → IsTidy names (tables_content trees)
   -- what stands there is in its rules, by any books
-  pub rules : (shelf : Shelf) → IsInRules shelf (content_of trees)
+  pub rules : (shelf : Shelf) → IsInRules shelf (tables_content trees)
   pub plain : ArePlain trees
 
 -- inside a transaction

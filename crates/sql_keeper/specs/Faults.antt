@@ -2,7 +2,7 @@
 -- Source: profile.
 use Rattle.std.specs.Prelude.{◌≡◌, ℕ, true, false}
 use Rattle.shelves.specs.Words.{BookText}
-use Rattle.tariffs.specs.Faults.{number_of}
+use Rattle.tariffs.specs.Faults.{book_fault_number}
 use Rattle.sqlite_schema.specs.declared.schema.Schema.{Schema}
 use Rattle.sql_tables.specs.Ours.{has_ours}
 use Rattle.sql_keeper.specs.Books.{IsBookFault, IsBookText}
@@ -11,11 +11,11 @@ use Rattle.sql_keeper.specs.declared.create_fault.CreateFault.TheVariants.{Book,
 use Rattle.sql_keeper.specs.declared.create_fault.CreateFault.TheVariants.{Memory}
 
 -- the number under which a fault is told: that of the book's fault, or that of an opening
-abbrev pub fault_number : CreateFault → ℕ
-fault_number (Book fault) = number_of fault
-fault_number Present = 1
-fault_number Store = 4
-fault_number Memory = 5
+abbrev pub create_fault_number : CreateFault → ℕ
+create_fault_number (Book fault) = book_fault_number fault
+create_fault_number Present = 1
+create_fault_number Store = 4
+create_fault_number Memory = 5
 
 -- when a fault is told of a text and a database: first the book's, then that a table is there
 abbrev pub IsCreateFault : BookText → Schema → CreateFault → Type 0

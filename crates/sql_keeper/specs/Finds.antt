@@ -7,7 +7,7 @@ use Rattle.sqlite.specs.State.{State, HasCleanDisk, Survives}
 use Rattle.sqlite_schema.specs.Rules.{Fits}
 use Rattle.sql_tables.specs.Schema.{book_schema, latest}
 use Rattle.sql_tables.specs.Statements.{HasIdleBook, IsStill, OnlyReads}
-use Rattle.sql_rows.specs.Content.{content_of}
+use Rattle.sql_rows.specs.Content.{tables_content}
 use Rattle.sql_rows.specs.Plain.{ArePlain}
 use Rattle.sql_rules.specs.Ruled.{IsInRules}
 use Rattle.sql_tables.specs.declared.fault.OpenFault.{OpenFault}
@@ -22,13 +22,13 @@ use Rattle.sql_keeper.specs.declared.books.ReadBooks.{ReadBooks}
 -- what was read is what the tables keep
 pub record IsReadOf (r : ReadBooks) (trees : Trees) : Type 0 where
   pub kept : IsKept trees (string_bytes r.text)
-  pub books : IsShelfOf (string_bytes r.text) (content_of trees).books r.own
-  pub last : r.last ≡ last_in (content_of trees).meta
+  pub books : IsShelfOf (string_bytes r.text) (tables_content trees).books r.own
+  pub last : r.last ≡ last_in (tables_content trees).meta
 
 -- and each row is in its rules, as the statements write it
 pub record IsReadRuled (r : ReadBooks) (trees : Trees) : Type 0 where
   pub read : IsReadOf r trees
-  pub rules : Fits book_schema trees → IsInRules r.own (content_of trees)
+  pub rules : Fits book_schema trees → IsInRules r.own (tables_content trees)
   pub plain : ArePlain trees
 
 -- several reads of tables of the latest version: what is kept once there, and the shelf of the

@@ -1,23 +1,23 @@
 -- What was seen of a reservation, and a row that leaves its book and its one hold where they stand.
 -- Source: profile.
-use Rattle.std.specs.Prelude.{◌≡◌, ◌==◌, ◌&&◌, Bool, true, false, List, [], ◌∷◌, Option, Some, None}
+use Rattle.std.specs.Prelude.{◌≡◌, ◌==◌, ◌&&◌, Bool, false, List, [], ◌∷◌, Option, Some, None}
 use Rattle.std.specs.Prelude.{option_map}
 use Rattle.units.specs.Words.{GroupId}
 use Rattle.identifiers.specs.Words.{AccountName, SessionName}
 use Rattle.buckets.specs.Words.{BucketNumber}
-use Rattle.buckets.specs.declared.holds.Hold.{Hold}
+use Rattle.buckets.specs.declared.holds.HeldAmount.{HeldAmount}
 use Rattle.reserving.specs.declared.session.SessionGroup.{SessionGroup}
 use Rattle.reserving.specs.declared.session.Reservation.{Reservation}
 use Rattle.reserving.specs.Sessions.{group_in}
 use Rattle.sql_tables.specs.Keyed.{same_name}
-use Rattle.sql_rows.specs.Content.{Rows as Stored}
+use Rattle.sql_rows.specs.Content.{TableRows}
 use Rattle.sql_keeper.specs.declared.seen.SeenAccount.{SeenAccount}
 use Rattle.sql_keeper.specs.declared.seen.SeenGrant.{SeenGrant}
 
 -- ---- a reservation that holds of one bucket alone
 
 -- the bucket
-abbrev pub only_bucket : List Hold → Option BucketNumber
+abbrev pub only_bucket : List HeldAmount → Option BucketNumber
 only_bucket [] = None
 only_bucket (h ∷ []) = Some h.bucket
 only_bucket (h ∷ k ∷ hs) = None
@@ -35,7 +35,7 @@ pub record IsGrantIn (groups : List SessionGroup) (s : SessionName) (y : SeenGra
   pub grant : grant_with y.group row.reservation ≡ Some y
 
 -- how it is stored: the number of its book has a row, and nothing is held of another bucket
-pub record IsGrantSeen (r : Stored) (s : SessionName) (y : SeenGrant) : Type 0 where
+pub record IsGrantSeen (r : TableRows) (s : SessionName) (y : SeenGrant) : Type 0 where
   pub book : r.grant_books s y.group ≡ Some y.book
   pub held : (n : BucketNumber) → ¬ (n ≡ y.bucket) → r.holds s y.group n ≡ None
 

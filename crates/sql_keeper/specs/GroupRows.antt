@@ -10,8 +10,8 @@ use Rattle.std.specs.Cmp.Lexicographic.{slice_cmp}
 use Rattle.units.specs.Words.{GroupId, BookNumber}
 use Rattle.identifiers.specs.Words.{SessionName}
 use Rattle.buckets.specs.Words.{BucketNumber, BucketAmount}
-use Rattle.buckets.specs.declared.holds.Hold.{Hold}
-use Rattle.buckets.specs.Row.{Row}
+use Rattle.buckets.specs.declared.holds.HeldAmount.{HeldAmount}
+use Rattle.buckets.specs.Row.{BucketRow}
 use Rattle.buckets.specs.Share.{parts}
 use Rattle.rating.specs.declared.grant.Periods.{Periods}
 use Rattle.tariffs.specs.Names.{period_named}
@@ -59,15 +59,15 @@ amount_of g held n =
     (find (λ x. x.group == g && x.bucket == n) held)) 0
 
 -- what is held is above 0, and of one of the buckets
-abbrev pub is_held_of : List Row → HeldColumns → Bool
+abbrev pub is_held_of : List BucketRow → HeldColumns → Bool
 is_held_of buckets x = nat_lt 0 x.amount && list_any (λ b. b.number == x.bucket) buckets
 
 -- so is all that is held for a rating group
-abbrev pub are_held_of : List Row → GroupId → List HeldColumns → Bool
+abbrev pub are_held_of : List BucketRow → GroupId → List HeldColumns → Bool
 are_held_of buckets g held = list_all (λ x. not (x.group == g) || is_held_of buckets x) held
 
 -- what is held for a rating group, in the order of the buckets
-abbrev pub holds_along : List Row → GroupId → List HeldColumns → List Hold
+abbrev pub holds_along : List BucketRow → GroupId → List HeldColumns → List HeldAmount
 holds_along buckets g held = parts (λ b. amount_of g held b.number) buckets
 
 -- ---- a row with its reservation
@@ -101,13 +101,14 @@ pub record AreTermsOf (names : Names) (number : Option BookNumber) (p : PeriodNa
   pub periods : ArePeriodsOf (names_numbered names x.book) p x.periods
 
 -- the holds of a rating group stand in the order of the buckets, and there is no other hold of it
-pub record AreHoldsOf (buckets : List Row) (held : List HeldColumns) (g : GroupId)
-    (holds : List Hold) : Type 0 where
+pub record AreHoldsOf (buckets : List BucketRow) (held : List HeldColumns) (g : GroupId)
+    (holds : List HeldAmount) : Type 0 where
   pub order : holds ≡ holds_along buckets g held
   pub all : are_held_of buckets g held ≡ true
 
 -- a reservation is there where it has names of periods; it goes by the book of the number
-abbrev pub IsReservationOf : Names → List Row → List HeldColumns → Option BookNumber → GroupId →
+abbrev pub IsReservationOf : Names → List BucketRow → List HeldColumns → Option BookNumber →
+    GroupId →
     Option PeriodNames → Option Reservation → Type 0
 IsReservationOf names buckets held number g None None = Unit {0}
 IsReservationOf names buckets held number g None (Some r) = ⊥
@@ -116,7 +117,7 @@ IsReservationOf names buckets held number g (Some p) (Some r) =
     AreTermsOf names number p r.terms × AreHoldsOf buckets held g r.holds
 
 -- what a session has of a rating group is that of the row
-pub record IsGroupOf (names : Names) (buckets : List Row) (held : List SessionHold)
+pub record IsGroupOf (names : Names) (buckets : List BucketRow) (held : List SessionHold)
     (books : List SessionBook) (c : OpenGroupAt) (x : SessionGroup) : Type 0 where
   pub session : x.session ≡ c.session
   pub group : x.group ≡ c.group
@@ -125,6 +126,6 @@ pub record IsGroupOf (names : Names) (buckets : List Row) (held : List SessionHo
       (book_of c.session c.group books) c.group c.row.periods x.reservation
 
 -- so is each of a list
-abbrev pub AreGroupsOf : Names → List Row → List SessionHold → List SessionBook →
+abbrev pub AreGroupsOf : Names → List BucketRow → List SessionHold → List SessionBook →
     List OpenGroupAt → List SessionGroup → Type 0
 AreGroupsOf names buckets held books cs xs = AllZip (IsGroupOf names buckets held books) cs xs

@@ -9,7 +9,7 @@ use Rattle.sqlite.specs.State.{State, HasCleanDisk}
 use Rattle.shelves.specs.Shelves.{Shelf}
 use Rattle.shelves.specs.contracts.shelf.TariffShelf as tariff_shelf
 use Rattle.sql_tables.specs.Statements.{HasIdleBook}
-use Rattle.sql_rows.specs.Content.{content_of}
+use Rattle.sql_rows.specs.Content.{tables_content}
 use Rattle.keepers.specs.Faults.{max_failures}
 use Rattle.keepers.specs.Tables.{Tables}
 use Rattle.sql_keeper.specs.Content.{tables_of, shelf_names, Names}
@@ -70,7 +70,7 @@ abbrev pub names_in : {S : Type 0} → KeeperState S → Names
 names_in k = shelf_names k.shelf
 
 abbrev pub tables_in : {S : Type 0} → Ghosts S → KeeperState S → Tables
-tables_in g k = tables_of (names_in k) (content_of (state g k.connection).now.trees)
+tables_in g k = tables_of (names_in k) (tables_content (state g k.connection).now.trees)
 
 -- a keeper's count isn't above the highest
 abbrev pub failed_in : {S : Type 0} → KeeperState S → ℕ

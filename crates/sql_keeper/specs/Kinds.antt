@@ -4,9 +4,9 @@ use Rattle.std.specs.Prelude.{◌≡◌, Bool, List, Option, Some, None, map, na
 use Rattle.std.specs.List.{list_any}
 use Rattle.units.specs.Words.{GroupId}
 use Rattle.buckets.specs.Words.{BucketNumber}
-use Rattle.buckets.specs.Row.{Row}
+use Rattle.buckets.specs.Row.{BucketRow}
 use Rattle.buckets.specs.declared.bucket.columns.Columns.{Columns}
-use Rattle.sql_rows.specs.Content.{Rows as Stored}
+use Rattle.sql_rows.specs.Content.{TableRows}
 use Rattle.sql_rows.specs.Texts.{bucket_row}
 use Rattle.sql_keeper.specs.Content.{bucket_in}
 
@@ -16,12 +16,12 @@ IsScoped there None is = Unit {0}
 IsScoped there (Some g) is = is ≡ there
 
 -- as the row under its key tells
-abbrev pub counted_row : Stored → Columns → Row
+abbrev pub counted_row : TableRows → Columns → BucketRow
 counted_row rows x = bucket_in (rows.allowances x.number) (bucket_row x)
 
-abbrev pub counted_rows : Stored → List Columns → List Row
+abbrev pub counted_rows : TableRows → List Columns → List BucketRow
 counted_rows rows xs = map (counted_row rows) xs
 
 -- as the numbers of all buckets of blocks tell
-abbrev pub counted_by : List BucketNumber → Columns → Row
+abbrev pub counted_by : List BucketNumber → Columns → BucketRow
 counted_by numbers x = bucket_in (list_any (λ n. nat_eq n x.number) numbers) (bucket_row x)

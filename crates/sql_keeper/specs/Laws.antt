@@ -9,7 +9,7 @@ use Rattle.keepers.specs.Tables.{no_tables}
 use Rattle.keepers.specs.Change.{IsSwept, changed}
 use Rattle.keepers.specs.Naming.{IsNamed}
 use Rattle.sql_rows.specs.Values.{Meta, Kept}
-use Rattle.sql_rows.specs.Content.{Content, content_of}
+use Rattle.sql_rows.specs.Content.{TablesContent, tables_content}
 use Rattle.sql_keeper.specs.Content.{tables_of, Names}
 use Rattle.sql_keeper.specs.Sweeps.{AreAllSwept, with_sweep}
 use Rattle.sql_keeper.specs.Writes.{AreTexts, with_change}
@@ -20,7 +20,7 @@ use Rattle.sql_keeper.specs.declared.swept_rows.SweptAccount.{SweptAccount}
 -- were there
 abbrev pub AreChangesRead : Type 0
 AreChangesRead =
-    (names : Names) (m : Meta) (change : Change) (texts : Option Kept) (c : Content)
+    (names : Names) (m : Meta) (change : Change) (texts : Option Kept) (c : TablesContent)
     → IsNamed change.rows → MayBeMade names change (c.rows change.number)
     → AreTexts change.number change.kept texts → m.last ≡ change.moment
     → tables_of names (with_change names m change texts c) ≡ changed change (tables_of names c)
@@ -29,11 +29,11 @@ AreChangesRead =
 -- there
 abbrev pub AreSweepsRead : Type 0
 AreSweepsRead =
-    (names : Names) (text : BookText) (shelf : Shelf) (t : Moment) (c : Content)
+    (names : Names) (text : BookText) (shelf : Shelf) (t : Moment) (c : TablesContent)
     (xs : List SweptAccount)
     → IsShelf shelf → AreAllSwept names shelf t c xs
     → IsSwept shelf t (tables_of names c) (tables_of names (with_sweep names text t xs c))
 
 -- tables without rows hold nothing
 abbrev pub AreNewTablesEmpty : Type 0
-AreNewTablesEmpty = (names : Names) → tables_of names (content_of (λ t. [])) ≡ no_tables
+AreNewTablesEmpty = (names : Names) → tables_of names (tables_content (λ t. [])) ≡ no_tables

@@ -11,7 +11,7 @@ use Rattle.shelves.specs.Shelves.{Shelf}
 use Rattle.sql_tables.specs.Schema.{book_schema, latest}
 use Rattle.sql_tables.specs.Statements.{AreStored}
 use Rattle.sql_rows.specs.Values.{Meta}
-use Rattle.sql_rows.specs.Content.{content_of}
+use Rattle.sql_rows.specs.Content.{tables_content}
 use Rattle.sql_rows.specs.Plain.{ArePlain}
 use Rattle.sql_rules.specs.Ruled.{IsInRules}
 use Rattle.sql_keeper.specs.Content.{last_in}
@@ -20,7 +20,7 @@ use Rattle.sql_keeper.specs.Shelves.{HasShelf, IsShelfOf}
 -- what is kept once: the version of the tables, the text of the book, and a moment
 pub record IsKept (trees : Trees) (text : BookText) : Type 0 where
   pub row : Meta
-  pub is : (content_of trees).meta ≡ Some row
+  pub is : (tables_content trees).meta ≡ Some row
   pub version : row.version ≡ latest
   pub book : row.book ≡ text
   pub last : row.last ≤ 4_102_488_000
@@ -33,18 +33,18 @@ pub record IsLeft (text : BookText) (trees : Trees) : Type 0 where
   pub stored : AreStored trees
   pub kept : IsKept trees text
   pub utf8 : IsUtf8 text
-  pub shelf : HasShelf text (content_of trees).books
+  pub shelf : HasShelf text (tables_content trees).books
 
 -- and as the commands of this system leave them: each row is in its rules, by the books of the
 -- text, and as the statements write it
 pub record IsLeftRuled (text : BookText) (trees : Trees) : Type 0 where
   pub left : IsLeft text trees
-  pub rules : (shelf : Shelf) → IsShelfOf text (content_of trees).books shelf
-      → IsInRules shelf (content_of trees)
+  pub rules : (shelf : Shelf) → IsShelfOf text (tables_content trees).books shelf
+      → IsInRules shelf (tables_content trees)
   pub plain : ArePlain trees
 
 -- the tables would be found again with this text, with this shelf and with this last moment
 pub record IsHeld (text : BookText) (shelf : Shelf) (last : Moment) (trees : Trees) : Type 0 where
   pub left : IsLeftRuled text trees
-  pub books : IsShelfOf text (content_of trees).books shelf
-  pub moment : last ≡ last_in (content_of trees).meta
+  pub books : IsShelfOf text (tables_content trees).books shelf
+  pub moment : last ≡ last_in (tables_content trees).meta

@@ -15,9 +15,9 @@ use Rattle.reserving.specs.Sessions.{group_in, is_open}
 use Rattle.keepers.specs.Change.{is_loaded}
 use Rattle.keepers.specs.Tables.{Rows, group_row, held_at, held_of}
 use Rattle.sql_tables.specs.Statements.{OnlyReads}
-use Rattle.sql_rows.specs.Content.{Rows as Stored}
+use Rattle.sql_rows.specs.Content.{TableRows}
 use Rattle.sql_rows.specs.Lists.{AreSessions}
-use Rattle.sql_keeper.specs.Content.{group_in as group_told, is_reserved, held_in, rows_of, Names}
+use Rattle.sql_keeper.specs.Content.{stored_group_in, is_reserved, held_in, told_rows, Names}
 
 -- outside a transaction, several reads in turn, or none: while the connection stays open, what they
 -- answer is told by the tables; whether they answer or not, they change nothing
@@ -33,25 +33,36 @@ pub record Gathers {A E : Type 0} (told : Trees → A → Type 0) (old new : Sta
 
 -- how a session's reservation in a rating group is stored: the number of its book has a row, and no
 -- other bucket has one than those of which it holds
-pub record IsGrantStored (rows : Stored) (s : SessionName) (g : GroupId) (v : Reservation) : Type 0
+pub record IsGrantStored (rows : TableRows) (s : SessionName) (g : GroupId) (v : Reservation)
+    : Type 0
   where
     pub book : rows.grant_books s g ≡ Some v.terms.book
     pub held : (n : BucketNumber) → held_at n v.holds ≡ 0 → rows.holds s g n ≡ None
 
+-- how the reservations that sessions have in rating groups are stored
+abbrev pub AreGrantsStored : TableRows → List SessionGroup → Type 0
+AreGrantsStored rows xs =
+    (s : SessionName) (g : GroupId) (x : SessionGroup) (v : Reservation)
+    → group_in s g xs ≡ Some x → x.reservation ≡ Some v → IsGrantStored rows s g v
+
 -- what the open sessions have of rating groups, and what their reservations hold: all of it, and of
 -- no other session
-pub record AreLiveGroups (names : Names) (rows : Stored) (xs : List SessionGroup) : Type 0 where
+pub record AreToldGroups (names : Names) (rows : TableRows) (xs : List SessionGroup) : Type 0 where
   pub groups : (s : SessionName) (g : GroupId) → option_map group_row (group_in s g xs) ≡
       (if is_open_row (rows.sessions s)
-      then option_map (group_told names true (rows.grant_books s g)) (rows.groups s g) else None)
+      then option_map (stored_group_in names true (rows.grant_books s g)) (rows.groups s g) else
+      None)
   pub holds : (s : SessionName) (g : GroupId) (n : BucketNumber) → held_of n (group_in s g xs) ≡
       (if is_open_row (rows.sessions s)
       then held_in (is_reserved (rows.groups s g)) (rows.holds s g n) else 0)
-  pub grants : (s : SessionName) (g : GroupId) (x : SessionGroup) (v : Reservation)
-      → group_in s g xs ≡ Some x → x.reservation ≡ Some v → IsGrantStored rows s g v
+
+-- and how their reservations are stored
+pub record AreLiveGroups (names : Names) (rows : TableRows) (xs : List SessionGroup) : Type 0 where
+  pub told : AreToldGroups names rows xs
+  pub grants : AreGrantsStored rows xs
 
 -- the open sessions, and what they have of rating groups
-pub record AreOpenSessions (names : Names) (rows : Stored) (ss : List Session)
+pub record AreOpenSessions (names : Names) (rows : TableRows) (ss : List Session)
     (xs : List SessionGroup) : Type 0 where
   pub sessions : AreSessions (λ x. is_open x.state) rows ss
   pub groups : AreLiveGroups names rows xs
@@ -66,5 +77,5 @@ pub record AreLoadedGroups (r : Rows) (xs : List SessionGroup) : Type 0 where
 -- what the open sessions have is what is loaded
 abbrev pub AreOpenGroupsLoaded : Type 0
 AreOpenGroupsLoaded =
-    (names : Names) (rows : Stored) (xs : List SessionGroup) → AreLiveGroups names rows xs
-    → AreLoadedGroups (rows_of names rows) xs
+    (names : Names) (rows : TableRows) (xs : List SessionGroup) → AreToldGroups names rows xs
+    → AreLoadedGroups (told_rows names rows) xs

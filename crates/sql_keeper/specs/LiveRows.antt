@@ -3,47 +3,52 @@
 use Rattle.std.specs.Prelude.{◌≡◌, ◌==◌, not, List, Option, Some, None, Result, Ok, Err}
 use Rattle.std.specs.Prelude.{if◌then◌else◌}
 use Rattle.units.specs.Words.{Moment, GroupId, CycleNumber}
-use Rattle.identifiers.specs.Words.{AccountName, SessionName}
+use Rattle.identifiers.specs.Words.{AccountName}
 use Rattle.buckets.specs.Words.{BucketNumber}
-use Rattle.buckets.specs.Row.{Row}
+use Rattle.buckets.specs.Row.{BucketRow}
 use Rattle.shelves.specs.Shelves.{Shelf}
 use Rattle.reserving.specs.declared.session.Session.{Session}
 use Rattle.reserving.specs.declared.session.SessionGroup.{SessionGroup}
 use Rattle.reserving.specs.declared.session.Counter.{Counter}
 use Rattle.reserving.specs.Left.{is_dead, only, bucket_in}
 use Rattle.reserving.specs.Pricing.{cycle_at}
-use Rattle.reserving.specs.declared.session.Reservation.{Reservation}
-use Rattle.reserving.specs.Sessions.{group_in, is_open, counter_in}
+use Rattle.reserving.specs.Sessions.{is_open, counter_in}
 use Rattle.reserving.specs.Stored.{StoredRows, priced}
 use Rattle.keepers.specs.Change.{IsLoad, IsLoadedFrom}
 use Rattle.keepers.specs.declared.loaded.Loaded.{Loaded}
 use Rattle.reserving.specs.Rows.{AccountRows}
-use Rattle.sql_rows.specs.Content.{Rows as Stored}
+use Rattle.sql_rows.specs.Content.{TableRows}
 use Rattle.sql_rows.specs.Lists.{AreSessions}
-use Rattle.sql_rows.specs.declared.head.Head.{Head as HeadColumns}
-use Rattle.sql_keeper.specs.Content.{told_buckets, rows_of, Names}
-use Rattle.sql_keeper.specs.LiveGroups.{AreLiveGroups, IsGrantStored}
-use Rattle.sql_keeper.specs.Writes.{head_of}
+use Rattle.sql_rows.specs.declared.head.HeadColumns.{HeadColumns}
+use Rattle.sql_keeper.specs.Content.{told_buckets, told_rows, Names}
+use Rattle.sql_keeper.specs.LiveGroups.{AreGrantsStored, AreToldGroups}
+use Rattle.sql_keeper.specs.Writes.{head_columns_of}
 use Rattle.sql_keeper.specs.declared.live_rows.LiveRows.{LiveRows}
 use Rattle.sql_keeper.specs.declared.live_rows.ReadRows.{ReadRows}
 
 -- the buckets that aren't dead, with what they count: each by its number, and no other
-abbrev pub AreLiveBuckets : Stored → List Row → Type 0
+abbrev pub AreLiveBuckets : TableRows → List BucketRow → Type 0
 AreLiveBuckets rows bs = (n : BucketNumber) → bucket_in n bs
     ≡ only (λ b. not (is_dead b)) (told_buckets rows n)
 
 -- the counters of the cycles at the moment: each by its rating group and cycle, and no other
-abbrev pub AreCountersAt : Shelf → Moment → Stored → List Counter → Type 0
+abbrev pub AreCountersAt : Shelf → Moment → TableRows → List Counter → Type 0
 AreCountersAt shelf t rows cs = (g : GroupId) (c : CycleNumber) →
     counter_in g c cs ≡ (if c == cycle_at shelf g t then rows.counters g c else None)
 
 -- all that may still change whatever the moment: the buckets that aren't dead, the open sessions,
 -- and what they have of rating groups; the names are those of the periods of reservations
-pub record AreLiveRows (names : Names) (rows : Stored) (bs : List Row) (ss : List Session)
+pub record AreToldRows (names : Names) (rows : TableRows) (bs : List BucketRow) (ss : List Session)
     (xs : List SessionGroup) : Type 0 where
   pub buckets : AreLiveBuckets rows bs
   pub sessions : AreSessions (λ x. is_open x.state) rows ss
-  pub groups : AreLiveGroups names rows xs
+  pub groups : AreToldGroups names rows xs
+
+-- and how the reservations among them are stored
+pub record AreLiveRows (names : Names) (rows : TableRows) (bs : List BucketRow) (ss : List Session)
+    (xs : List SessionGroup) : Type 0 where
+  pub told : AreToldRows names rows bs ss xs
+  pub grants : AreGrantsStored rows xs
 
 -- the rows of an account with this head
 abbrev pub account_with : HeadColumns → LiveRows → List Counter → StoredRows
@@ -60,41 +65,50 @@ account_with h x cs = record {
 
 -- what is read of an account: its head, and all of it that may still change at the moment; there is
 -- none where it has no head
-abbrev pub IsReadAccount : Names → Shelf → Moment → Stored → Option ReadRows → Type 0
+abbrev pub IsReadAccount : Names → Shelf → Moment → TableRows → Option ReadRows → Type 0
 IsReadAccount names shelf t rows None = rows.head ≡ None
 IsReadAccount names shelf t rows (Some x) =
     (rows.head ≡ Some x.head)
     × AreLiveRows names rows x.rows.purse x.rows.sessions.items x.rows.groups.items
     × AreCountersAt shelf t rows x.counters.items
 
--- the account, with all of it that may still change at the moment; there is none where it has no
--- head
-abbrev pub IsLiveAccount : Names → Shelf → Moment → Stored → Option StoredRows → Type 0
-IsLiveAccount names shelf t rows None = rows.head ≡ None
-IsLiveAccount names shelf t rows (Some w) =
-    (rows.head ≡ Some (head_of w)) × AreLiveRows names rows w.buckets w.sessions w.groups
+-- the account, with all of it that may still change at the moment
+abbrev pub IsToldAccount : Names → Shelf → Moment → TableRows → StoredRows → Type 0
+IsToldAccount names shelf t rows w =
+    (rows.head ≡ Some (head_columns_of w)) × AreToldRows names rows w.buckets w.sessions w.groups
     × AreCountersAt shelf t rows w.counters
 
+-- and how its reservations are stored; there is none where it has no head
+abbrev pub IsLiveAccount : Names → Shelf → Moment → TableRows → Option StoredRows → Type 0
+IsLiveAccount names shelf t rows None = rows.head ≡ None
+IsLiveAccount names shelf t rows (Some w) =
+    IsToldAccount names shelf t rows w × AreGrantsStored rows w.groups
+
 -- an account's rows without its counters, which a sweep neither reads nor changes
-abbrev pub without_counters : Stored → Stored
+abbrev pub without_counters : TableRows → TableRows
 without_counters rows = record rows { counters = λ g c. None }
 
 -- what is read of an account without its counters, whatever the shelf and the moment
-abbrev pub IsReadUncounted : Names → Stored → Option ReadRows → Type 0
+abbrev pub IsReadUncounted : Names → TableRows → Option ReadRows → Type 0
 IsReadUncounted names rows o =
     (shelf : Shelf) (t : Moment) → IsReadAccount names shelf t (without_counters rows) o
 
 -- the account without its counters
-abbrev pub IsLiveUncounted : Names → Stored → Option StoredRows → Type 0
+abbrev pub IsToldUncounted : Names → TableRows → StoredRows → Type 0
+IsToldUncounted names rows w =
+    (shelf : Shelf) (t : Moment) → IsToldAccount names shelf t (without_counters rows) w
+
+-- and how its reservations are stored
+abbrev pub IsLiveUncounted : Names → TableRows → Option StoredRows → Type 0
 IsLiveUncounted names rows o =
     (shelf : Shelf) (t : Moment) → IsLiveAccount names shelf t (without_counters rows) o
 
 -- it is what a load asks of the account's rows, once the shelf prices it
 abbrev pub AreLiveRowsLoaded : Type 0
 AreLiveRowsLoaded =
-    (names : Names) (shelf : Shelf) (t : Moment) (rows : Stored) (w : StoredRows)
-    → IsLiveAccount names shelf t rows (Some w)
-    → IsLoadedFrom shelf t (rows_of names rows) (priced shelf w)
+    (names : Names) (shelf : Shelf) (t : Moment) (rows : TableRows) (w : StoredRows)
+    → IsToldAccount names shelf t rows w
+    → IsLoadedFrom shelf t (told_rows names rows) (priced shelf w)
 
 -- ---- once they are read
 
@@ -117,13 +131,12 @@ IsAccountOf (Err e) (Ok o) = ⊥
 IsAccountOf (Err e) (Err f) = f ≡ e
 
 -- what is loaded, and how the reservations of it are stored
-abbrev pub AreGrantsStored : Stored → Option Loaded → Type 0
-AreGrantsStored r None = Unit {0}
-AreGrantsStored r (Some l) =
-    (s : SessionName) (g : GroupId) (x : SessionGroup) (v : Reservation)
-    → group_in s g l.before.groups ≡ Some x → x.reservation ≡ Some v → IsGrantStored r s g v
+abbrev pub AreLoadedGrants : TableRows → Option Loaded → Type 0
+AreLoadedGrants r None = Unit {0}
+AreLoadedGrants r (Some l) = AreGrantsStored r l.before.groups
 
-pub record IsLoadStored (names : Names) (shelf : Shelf) (t : Moment) (a : AccountName) (r : Stored)
+pub record IsLoadStored (names : Names) (shelf : Shelf) (t : Moment) (a : AccountName)
+    (r : TableRows)
     (o : Option Loaded) : Type 0 where
-  pub load : IsLoad shelf t a (rows_of names r) o
-  pub grants : AreGrantsStored r o
+  pub load : IsLoad shelf t a (told_rows names r) o
+  pub grants : AreLoadedGrants r o

@@ -19,7 +19,8 @@ use Rattle.sql_tables.specs.Stages.{AreStoredAt}
 use Rattle.sql_tables.specs.Statements.{AreStored, Attempts, HasIdleBook, IsBook, IsStill}
 use Rattle.sql_tables.specs.declared.reading.ReadFault.{ReadFault}
 use Rattle.sql_tables.specs.declared.reading.ReadFault.TheVariants as reading
-use Rattle.sql_rows.specs.Content.{Content, Rows, content_of, with_grant_book, with_rows}
+use Rattle.sql_rows.specs.Content.{TablesContent, TableRows, tables_content, with_grant_book}
+use Rattle.sql_rows.specs.Content.{with_rows}
 use Rattle.sql_rows.specs.Each.{with_each}
 use Rattle.sql_rows.specs.declared.reserved_rows.ReservedColumns.{ReservedColumns}
 use Rattle.sql_rows.specs.Ruled.{AreRuledReserved, IsRuledMeta}
@@ -28,7 +29,6 @@ use Rattle.sql_rules.specs.Tables.{AreRuled}
 use Rattle.sql_tables.specs.Opens.{IsVersion}
 use Rattle.sql_tables.specs.declared.fault.OpenFault.{OpenFault}
 use Rattle.sql_tables.specs.declared.fault.OpenFault.TheVariants.{Foreign, Version, Rules, Older}
-use Rattle.sql_tables.specs.declared.fault.OpenFault.TheVariants.{Store}
 use Rattle.sql_keeper.specs.Books.{IsBookOf}
 use Rattle.sql_keeper.specs.Causes.{IsOtherThan}
 use Rattle.sql_keeper.specs.Content.{Names, is_reserved, tables_of}
@@ -44,29 +44,29 @@ use Rattle.sql_keeper.specs.declared.books.ReadBooks.{ReadBooks}
 -- ---- what a database of a version holds
 
 -- rows of an account without what version 2 adds, and without what version 3 does
-abbrev pub rows_before_2 : Rows → Rows
+abbrev pub rows_before_2 : TableRows → TableRows
 rows_before_2 r = record r { grant_books = λ s g. None }
 
-abbrev pub rows_before_3 : Rows → Rows
+abbrev pub rows_before_3 : TableRows → TableRows
 rows_before_3 r = record r { allowances = λ n. false; covered = λ n. None }
 
-abbrev pub before_2 : Content → Content
+abbrev pub before_2 : TablesContent → TablesContent
 before_2 c = record c { books = λ n. None; rows = λ a. rows_before_2 (c.rows a) }
 
-abbrev pub before_3 : Content → Content
+abbrev pub before_3 : TablesContent → TablesContent
 before_3 c = record c { rows = λ a. rows_before_3 (c.rows a) }
 
 -- the tables that a version hasn't are read as empty ones
-abbrev pub content_at : TablesVersion → Trees → Content
+abbrev pub content_at : TablesVersion → Trees → TablesContent
 content_at v trees =
-    let whole = content_of trees in
+    let whole = tables_content trees in
     let second = if nat_le 3 v then whole else before_3 whole in
     if nat_le 2 v then second else before_2 second
 
 -- ---- what a migration leaves
 
 -- each reservation has the number of its book; before version 2 that is the first
-abbrev pub AreGranted : TablesVersion → Content → Content → Type 0
+abbrev pub AreGranted : TablesVersion → TablesContent → TablesContent → Type 0
 AreGranted v old new = (a : AccountName) (s : SessionName) (g : GroupId)
     → (new.rows a).grant_books s g ≡ (if nat_le 2 v then (old.rows a).grant_books s g
     else (if is_reserved ((old.rows a).groups s g) then Some 1 else None))
@@ -75,13 +75,13 @@ AreGranted v old new = (a : AccountName) (s : SessionName) (g : GroupId)
 -- lost, the books are the same, and each reservation has its book
 pub record BecomesLatest (v : TablesVersion) (old new : Trees) : Type 0 where
   pub tables : (names : Names) →
-      tables_of names (content_of new) ≡ tables_of names (content_at v old)
+      tables_of names (tables_content new) ≡ tables_of names (content_at v old)
   -- where nothing stood that isn't told, nothing does
-  pub tidy : (names : Names) → IsTidy names (content_at v old) → IsTidy names (content_of new)
-  pub granted : AreGranted v (content_at v old) (content_of new)
-  pub books : (content_of new).books ≡ (content_at v old).books
-  pub left : (text : BookText) (row : Meta) → (content_of old).meta ≡ Some row → row.book ≡ text
-      → (content_of new).meta ≡ Some (record { version = latest; book = text; last = row.last })
+  pub tidy : (names : Names) → IsTidy names (content_at v old) → IsTidy names (tables_content new)
+  pub granted : AreGranted v (content_at v old) (tables_content new)
+  pub books : (tables_content new).books ≡ (content_at v old).books
+  pub left : (text : BookText) (row : Meta) → (tables_content old).meta ≡ Some row → row.book ≡ text
+      → (tables_content new).meta ≡ Some (record { version = latest; book = text; last = row.last })
   pub lists : Lists (new catalog_tree) book_schema
   pub stored : AreStored new
 
@@ -94,33 +94,33 @@ pub record IsLeftLatest (v : TablesVersion) (old new : Trees) : Type 0 where
 -- a database of a version in the rules of who migrates it: no rowid stands twice, what is kept once
 -- is there and in its rules, with the texts of a shelf where it tells that version, each
 -- reservation that gets a row of its book is in its rules, and so is each row, by that shelf
-pub record IsRuledAt (v : TablesVersion) (trees : Trees) : Type 0 where
+pub record IsRuledVersion (v : TablesVersion) (trees : Trees) : Type 0 where
   pub stored : AreStoredAt v trees
   pub row : Meta
-  pub is : (content_of trees).meta ≡ Some row
+  pub is : (tables_content trees).meta ≡ Some row
   pub ruled : IsRuledMeta row
   pub shelf : row.version ≡ v → HasShelf row.book (content_at v trees).books
   pub reserved : v < 2 → AreRuledReserved (content_at v trees)
   pub rows : (s : Shelf) → IsShelfOf row.book (content_at v trees).books s → AreRuled s v trees
 
 -- the first book's number for each of these reservations
-abbrev pub with_first_books : List ReservedColumns → Content → Content
+abbrev pub with_first_books : List ReservedColumns → TablesContent → TablesContent
 with_first_books = with_each (λ x. with_rows x.account (with_grant_book x.session x.group 1))
 
 -- the first book's number for each reservation, where the version had no such numbers
-abbrev pub granted_in : Rows → Rows
+abbrev pub granted_in : TableRows → TableRows
 granted_in r = record r {
   grant_books = λ s g. if is_reserved (r.groups s g) then Some 1 else r.grant_books s g;
 }
 
-abbrev pub with_granted : TablesVersion → Content → Content
+abbrev pub with_granted : TablesVersion → TablesContent → TablesContent
 with_granted v c =
     if nat_le 2 v then c else record c { rows = λ a. granted_in (c.rows a) }
 
 -- the rules are told only of a reservation that is out of them, before version 2
 abbrev pub AreUnruledReserved : TablesVersion → Trees → ReadFault → Type 0
 AreUnruledReserved v trees e =
-    e ≡ reading.Rules → (v < 2) × ¬ AreRuledReserved (content_of trees)
+    e ≡ reading.Rules → (v < 2) × ¬ AreRuledReserved (tables_content trees)
 
 -- ---- states of the connection
 
@@ -139,7 +139,7 @@ HasIdleAt v s = HasCleanDisk s → IsTrue s.is_open → IsAt v s × (s.now ≡ s
 
 -- each row of a version is in its rules, by the shelf of the texts that are kept
 abbrev pub AreRowsRuled : TablesVersion → Trees → Type 0
-AreRowsRuled v trees = (row : Meta) (s : Shelf) → (content_of trees).meta ≡ Some row
+AreRowsRuled v trees = (row : Meta) (s : Shelf) → (tables_content trees).meta ≡ Some row
     → IsShelfOf row.book (content_at v trees).books s → AreRuled s v trees
 
 abbrev pub HasRuledRows : TablesVersion → State → Type 0
@@ -150,7 +150,7 @@ HasRuledRows v s = HasCleanDisk s → IsTrue s.is_open → AreRowsRuled v s.now.
 -- it is that of the texts that are kept
 pub record IsShelfAt (v : TablesVersion) (trees : Trees) (r : ReadBooks) : Type 0 where
   pub row : Meta
-  pub is : (content_of trees).meta ≡ Some row
+  pub is : (tables_content trees).meta ≡ Some row
   pub shelf : IsShelfOf row.book (content_at v trees).books r.own
 
 -- inside a transaction that isn't committed: the shelf of what is kept is read, or a fault says why
@@ -160,7 +160,7 @@ pub record ReadsShelf (v : TablesVersion) (old new : State) (result : Result Rea
   pub shelf : HasCleanDisk new → IfOk result (IsShelfAt v old.now.trees)
   pub kept : HasCleanDisk new → KeepsCommit old new
   pub version : HasCleanDisk new → IfErr result (λ e. e ≡ Version → IsOtherThan v old.now.trees)
-  pub rules : HasCleanDisk new → IfErr result (λ e. e ≡ Rules → ¬ IsRuledAt v old.now.trees)
+  pub rules : HasCleanDisk new → IfErr result (λ e. e ≡ Rules → ¬ IsRuledVersion v old.now.trees)
   pub other : IfErr result (λ e. (¬ (e ≡ Foreign)) × (¬ (e ≡ Older)))
   pub survives : Survives old new (λ _. ⊥)
 
@@ -170,7 +170,7 @@ pub record FindsShelf (v : TablesVersion) (old new : State) (result : Result Rea
   pub shelf : HasCleanDisk new → IfOk result (IsShelfAt v old.now.trees)
   pub still : HasCleanDisk new → IsTrue new.is_open → IsStill old new
   pub version : HasCleanDisk new → IfErr result (λ e. e ≡ Version → IsOtherThan v old.now.trees)
-  pub rules : HasCleanDisk new → IfErr result (λ e. e ≡ Rules → ¬ IsRuledAt v old.now.trees)
+  pub rules : HasCleanDisk new → IfErr result (λ e. e ≡ Rules → ¬ IsRuledVersion v old.now.trees)
   pub other : IfErr result (λ e. (¬ (e ≡ Foreign)) × (¬ (e ≡ Older)))
   pub survives : Survives old new (λ _. ⊥)
 
@@ -190,7 +190,7 @@ pub record BringsToLatest (v : TablesVersion) (old new : State)
   pub given : IfOk result (λ r. r.given ≡ r.own)
   pub first : IfOk result (λ r. IsBookOf (string_bytes r.text) r.own.first)
   pub version : HasCleanDisk new → IfErr result (λ e. e ≡ Version → IsOtherThan v old.now.trees)
-  pub rules : HasCleanDisk new → IfErr result (λ e. e ≡ Rules → ¬ IsRuledAt v old.now.trees)
+  pub rules : HasCleanDisk new → IfErr result (λ e. e ≡ Rules → ¬ IsRuledVersion v old.now.trees)
   pub other : IfErr result (λ e. (¬ (e ≡ Foreign)) × (¬ (e ≡ Older)))
 
 -- outside a transaction: the tables are those of the latest version, or nothing is changed, and a
@@ -204,7 +204,7 @@ pub record MigratesTables (v : TablesVersion) (old new : State)
   pub kept : HasCleanDisk new → IsTrue new.is_open → OnErr result (IsStill old new)
   pub idle : OnOk result (HasIdleBook new)
   pub version : HasCleanDisk new → IfErr result (λ e. e ≡ Version → IsOtherThan v old.now.trees)
-  pub rules : HasCleanDisk new → IfErr result (λ e. e ≡ Rules → ¬ IsRuledAt v old.now.trees)
+  pub rules : HasCleanDisk new → IfErr result (λ e. e ≡ Rules → ¬ IsRuledVersion v old.now.trees)
   pub other : IfErr result (λ e. (¬ (e ≡ Foreign)) × (¬ (e ≡ Older)))
   pub survives : Survives old new (IsLeftLatest v old.now.trees)
 
@@ -213,7 +213,7 @@ pub record MigratesRuled (v : TablesVersion) (old new : State)
     (result : Result ReadBooks OpenFault) : Type 0 where
   pub moved : IfOk result (λ r. MigratesTables v old new (Ok r))
   pub version : HasCleanDisk new → IfErr result (λ e. e ≡ Version → IsOtherThan v old.now.trees)
-  pub rules : HasCleanDisk new → IfErr result (λ e. e ≡ Rules → ¬ IsRuledAt v old.now.trees)
+  pub rules : HasCleanDisk new → IfErr result (λ e. e ≡ Rules → ¬ IsRuledVersion v old.now.trees)
   pub other : IfErr result (λ e. (¬ (e ≡ Foreign)) × (¬ (e ≡ Older)))
   pub survives : Survives old new (IsLeftLatest v old.now.trees)
 
@@ -226,7 +226,7 @@ pub record IsMigrated {S : Type 0} (g : Ghosts S) (old : Held S) (k : KeeperStat
   where
     pub fresh : IsFresh k shelf
     pub books : HasCleanDisk (state g k.connection) →
-        IsShelfOf k.text (content_of (trees_in g k)).books shelf
+        IsShelfOf k.text (tables_content (trees_in g k)).books shelf
     pub left : HasCleanDisk (state g k.connection) → IsLeftRuled k.text (trees_in g k)
     pub clean : HasCleanDisk (state g k.connection) → IsClean (state g k.connection)
     pub version : ℕ
@@ -250,7 +250,7 @@ pub record FindsNone (old new : State) (fault : OpenFault) : Type 0 where
       × IsOtherThan v old.now.trees
   pub rules : HasCleanDisk new → fault ≡ Rules →
       (v : TablesVersion) × IsVersion v × (old.now.schema ≡ schema_at v)
-      × ¬ IsRuledAt v old.now.trees
+      × ¬ IsRuledVersion v old.now.trees
   pub newer : ¬ (fault ≡ Older)
 
 abbrev pub IsNotMigrated : {S : Type 0} → Ghosts S → Held S → Held S → OpenFault → Type 0

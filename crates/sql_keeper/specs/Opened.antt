@@ -1,6 +1,6 @@
 -- A keeper that was just made over a database, and what is left where none was made.
 -- Source: profile.
-use Rattle.std.specs.Prelude.{◌≡◌, ◌≤◌, ◌⊎◌, false, [], IsTrue}
+use Rattle.std.specs.Prelude.{◌≡◌, false, [], IsTrue}
 use Rattle.shelves.specs.Words.{BookText}
 use Rattle.shelves.specs.Shelves.{Shelf}
 use Rattle.sqlite_trees.specs.declared.store.Store.{Ghosts}
@@ -9,7 +9,7 @@ use Rattle.sqlite.specs.State.{HasCleanDisk, Survives}
 use Rattle.sql_tables.specs.Statements.{IsStill}
 use Rattle.sql_tables.specs.Schema.{latest}
 use Rattle.sql_tables.specs.Texts.{stage}
-use Rattle.sql_rows.specs.Content.{content_of}
+use Rattle.sql_rows.specs.Content.{tables_content}
 use Rattle.sql_tables.specs.declared.fault.OpenFault.{OpenFault}
 use Rattle.sql_rules.specs.Tables.{AreRuled}
 use Rattle.keepers.specs.Tables.{no_tables}
@@ -66,7 +66,7 @@ pub record IsOpened {S : Type 0} (g : Ghosts S) (old : Held S) (k : KeeperState 
     pub fresh : IsFresh k shelf
     pub keeper : IsKeeper g k
     pub books : HasCleanDisk (state g k.connection) →
-        IsShelfOf k.text (content_of (trees_in g k)).books shelf
+        IsShelfOf k.text (tables_content (trees_in g k)).books shelf
     pub left : HasCleanDisk (state g k.connection) → IsLeftRuled k.text (trees_in g k)
     pub ruled : HasCleanDisk (state g k.connection) → AreRuled shelf latest (trees_in g k)
     pub clean : HasCleanDisk (state g k.connection) → IsClean (state g k.connection)

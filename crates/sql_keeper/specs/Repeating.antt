@@ -12,8 +12,8 @@ use Rattle.tariffs.specs.Tariffs.{GroupTariff}
 use Rattle.reserving.specs.declared.session.Counter.{Counter}
 use Rattle.reserving.specs.Pricing.{tariff_of}
 use Rattle.reserving.specs.Sessions.{counter_in}
-use Rattle.sql_rows.specs.declared.head.Head.{Head}
-use Rattle.sql_rows.specs.Content.{Rows as Stored}
+use Rattle.sql_rows.specs.declared.head.HeadColumns.{HeadColumns}
+use Rattle.sql_rows.specs.Content.{TableRows}
 
 abbrev pub repeats_with : Option GroupTariff → Cycle
 repeats_with None = often.None
@@ -34,19 +34,19 @@ may_repeat b often.Day = has_repeating b often.Day
 may_repeat b often.Month = has_repeating b often.Month
 
 -- the counters of the groups whose counters begin again so often, each of the cycle at the moment
-abbrev pub AreRepeating : Book → Cycle → Moment → Stored → List Counter → Type 0
+abbrev pub AreRepeating : Book → Cycle → Moment → TableRows → List Counter → Type 0
 AreRepeating b repeats t rows cs = (g : GroupId) (c : CycleNumber) → counter_in g c cs
     ≡ (if cycles.eq (repeats_in b g) repeats
     then (if c == cycle_of b.calendar.zone repeats t then rows.counters g c else None) else None)
 
 -- what is kept of an account once, and its counters of the groups whose counters never begin again
-pub record IsFirst (b : Book) (t : Moment) (rows : Stored) (head : Option Head)
+pub record IsFirst (b : Book) (t : Moment) (rows : TableRows) (head : Option HeadColumns)
     (never : List Counter) : Type 0 where
   pub head_is : head ≡ rows.head
   pub never_are : AreRepeating b often.None t rows never
 
 -- those of the others
-pub record AreEachCycle (b : Book) (t : Moment) (rows : Stored) (daily monthly : List Counter)
+pub record AreEachCycle (b : Book) (t : Moment) (rows : TableRows) (daily monthly : List Counter)
     : Type 0 where
   pub daily_are : AreRepeating b often.Day t rows daily
   pub monthly_are : AreRepeating b often.Month t rows monthly

@@ -8,7 +8,7 @@ use Rattle.sqlite.specs.State.{State, HasCleanDisk, Survives}
 use Rattle.sql_tables.specs.Schema.{latest, schema_at}
 use Rattle.sql_tables.specs.Stages.{AreStoredAt}
 use Rattle.sql_tables.specs.Statements.{HasIdleBook, IsStill}
-use Rattle.sql_rows.specs.Content.{content_of}
+use Rattle.sql_rows.specs.Content.{tables_content}
 use Rattle.sql_tables.specs.declared.fault.OpenFault.{OpenFault}
 use Rattle.sql_tables.specs.declared.fault.OpenFault.TheVariants.{Rules}
 use Rattle.sql_rules.specs.Tables.{AreRuled}
@@ -27,7 +27,7 @@ pub record HasUnruledRow (db : Database) : Type 0 where
   pub stored : AreStoredAt latest db.trees
   pub kept : KeepsVersion latest db.trees
   pub shelf : Shelf
-  pub books : IsShelfOf kept.row.book (content_of db.trees).books shelf
+  pub books : IsShelfOf kept.row.book (tables_content db.trees).books shelf
   pub unruled : ¬ AreRuled shelf latest db.trees
 
 -- the fault is the store's or memory's, or the database has it, or a row of the database

@@ -5,7 +5,7 @@ use Rattle.std.specs.List.{list_all}
 use Rattle.units.specs.Words.{Moment}
 use Rattle.identifiers.specs.Words.{AccountName, VoucherCode}
 use Rattle.identifiers.specs.Texts.{is_account_number, is_reference, is_session_id}
-use Rattle.buckets.specs.declared.holds.Hold.{Hold}
+use Rattle.buckets.specs.declared.holds.HeldAmount.{HeldAmount}
 use Rattle.reserving.specs.Stored.{StoredRows}
 use Rattle.reserving.specs.declared.session.Reservation.{Reservation}
 use Rattle.reserving.specs.declared.session.SessionGroup.{SessionGroup}
@@ -18,21 +18,21 @@ use Rattle.keepers.specs.declared.loaded.Redeemed.{Redeemed}
 use Rattle.voucher_rules.specs.Standing.{unspent}
 use Rattle.voucher_rules.specs.declared.terms.VoucherTerms.{VoucherTerms}
 use Rattle.sql_rows.specs.Values.{Kept}
-use Rattle.sql_rules.specs.Columns.{is_moment, is_small, is_some_money, is_within}
+use Rattle.sql_rules.specs.Columns.{is_moment, is_small, is_some_money, is_in_bounds}
 use Rattle.sql_rules.specs.Rules.{are_kept_texts}
 use Rattle.sql_rules.specs.Ruled.{is_bucket, is_charge, is_counter, is_head, is_session, is_voucher}
 use Rattle.sql_keeper.specs.Content.{Names}
-use Rattle.sql_keeper.specs.Writes.{head_of, row_of}
+use Rattle.sql_keeper.specs.Writes.{head_columns_of, voucher_row}
 use Rattle.sql_keeper.specs.declared.swept_rows.SweptAccount.{SweptAccount}
 
-abbrev pub is_ruled_hold : Hold → Bool
+abbrev pub is_ruled_hold : HeldAmount → Bool
 is_ruled_hold x = is_some_money x.amount
 
 -- a reservation goes by one of the books, and holds something of each of its buckets
 abbrev pub is_ruled_reservation : Names → Option Reservation → Bool
 is_ruled_reservation names None = true
 is_ruled_reservation names (Some x) =
-    is_within 1 (length names) x.terms.book && list_all is_ruled_hold x.holds
+    is_in_bounds 1 (length names) x.terms.book && list_all is_ruled_hold x.holds
 
 abbrev pub is_ruled_group : Names → SessionGroup → Bool
 is_ruled_group names x =
@@ -42,14 +42,14 @@ is_ruled_group names x =
 -- the rows of an account
 abbrev pub are_ruled_rows : Names → AccountName → StoredRows → Bool
 are_ruled_rows names a w =
-    is_account_number a && is_head (head_of w) && list_all is_bucket w.buckets
+    is_account_number a && is_head (head_columns_of w) && list_all is_bucket w.buckets
     && list_all is_counter w.counters && list_all is_session w.sessions
     && list_all (is_ruled_group names) w.groups
 
 -- a voucher as it is left
 abbrev pub is_ruled_redeemed : Option Redeemed → Bool
 is_ruled_redeemed None = true
-is_ruled_redeemed (Some r) = is_voucher r.code (row_of r.voucher)
+is_ruled_redeemed (Some r) = is_voucher r.code (voucher_row r.voucher)
 
 -- a key of what is kept
 abbrev pub is_ruled_key : Key → Bool
@@ -74,7 +74,7 @@ is_ruled_change names change =
 
 -- a voucher that is added, at a moment
 abbrev pub is_ruled_addition : VoucherCode → VoucherTerms → Moment → Bool
-is_ruled_addition code terms t = is_moment t && is_voucher code (row_of (unspent terms))
+is_ruled_addition code terms t = is_moment t && is_voucher code (voucher_row (unspent terms))
 
 -- an account as a sweep leaves it
 abbrev pub is_ruled_swept : Names → SweptAccount → Bool

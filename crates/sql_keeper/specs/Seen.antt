@@ -11,12 +11,12 @@ use Rattle.reserving.specs.Left.{is_open_row}
 use Rattle.reserving.specs.declared.session.Session.{Session}
 use Rattle.reserving.specs.Sessions.{is_open, session_in}
 use Rattle.reserving.specs.Stored.{StoredRows}
-use Rattle.sql_rows.specs.Content.{Rows as Stored, rows_in}
+use Rattle.sql_rows.specs.Content.{TableRows, rows_in}
 use Rattle.sql_rows.specs.Lists.{HasNoGroups}
-use Rattle.sql_rows.specs.declared.head.Head.{Head as HeadColumns}
+use Rattle.sql_rows.specs.declared.head.HeadColumns.{HeadColumns}
 use Rattle.sql_keeper.specs.Grants.{IsGrantIn, IsGrantSeen, is_name}
 use Rattle.sql_keeper.specs.Inside.{IsKeeper, KeeperState}
-use Rattle.sql_keeper.specs.Writes.{head_of}
+use Rattle.sql_keeper.specs.Writes.{head_columns_of}
 use Rattle.sql_keeper.specs.declared.seen.SeenAccount.{SeenAccount}
 use Rattle.sql_keeper.specs.declared.seen.SeenGrant.{SeenGrant}
 use Rattle.sql_keeper.specs.declared.seen.Standing.{Standing}
@@ -25,11 +25,11 @@ use Rattle.sql_keeper.specs.declared.seen.Standing.TheVariants.{Unknown, Open, O
 -- ---- how a session stands
 
 -- it has no row, and nothing of rating groups
-pub record IsUnknown (r : Stored) (s : SessionName) : Type 0 where
+pub record IsUnknown (r : TableRows) (s : SessionName) : Type 0 where
   pub row : r.sessions s ≡ None
   pub groups : HasNoGroups r s
 
-abbrev pub IsStanding : Stored → SessionName → Standing → Type 0
+abbrev pub IsStanding : TableRows → SessionName → Standing → Type 0
 IsStanding r s Unknown = IsUnknown r s
 IsStanding r s Open = is_open_row (r.sessions s) ≡ true
 IsStanding r s Over = is_open_row (r.sessions s) ≡ false
@@ -51,7 +51,7 @@ standing_of None = Unknown
 standing_of (Some x) = if is_open x.state then Open else Over
 
 -- whether it has a row; where it has none, it has nothing of rating groups
-pub record IsKnown (r : Stored) (s : SessionName) (known : Bool) : Type 0 where
+pub record IsKnown (r : TableRows) (s : SessionName) (known : Bool) : Type 0 where
   pub row : known ≡ is_some (r.sessions s)
   pub groups : known ≡ false → HasNoGroups r s
 
@@ -60,7 +60,7 @@ pub record IsKnown (r : Stored) (s : SessionName) (known : Bool) : Type 0 where
 -- of the rows of an account
 pub record IsSeenOf (a : AccountName) (w : StoredRows) (x : SeenAccount) : Type 0 where
   pub account : x.account ≡ a
-  pub head : x.head ≡ Some (head_of w)
+  pub head : x.head ≡ Some (head_columns_of w)
   pub live : (s : SessionName) → x.live ≡ Some s → is_open_row (session_in s w.sessions) ≡ true
   pub grant : (s : SessionName) (y : SeenGrant) → x.live ≡ Some s → x.grant ≡ Some y
       → IsGrantIn w.groups s y
@@ -96,7 +96,7 @@ standing_in x s =
     if is_name s x.unknown then Some Unknown else (if is_name s x.live then Some Open else None)
 
 -- it is what the account's rows are
-pub record IsSeen (r : Stored) (x : SeenAccount) : Type 0 where
+pub record IsSeen (r : TableRows) (x : SeenAccount) : Type 0 where
   pub head : (h : HeadColumns) → x.head ≡ Some h → r.head ≡ Some h
   pub live : (s : SessionName) → x.live ≡ Some s → is_open_row (r.sessions s) ≡ true
   pub grant : (s : SessionName) (y : SeenGrant) → x.live ≡ Some s → x.grant ≡ Some y

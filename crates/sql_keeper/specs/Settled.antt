@@ -8,7 +8,7 @@ use Rattle.sqlite.specs.Effect.{Database}
 use Rattle.sqlite.specs.Held.{state}
 use Rattle.sqlite.specs.State.{State}
 use Rattle.keepers.specs.Tables.{Tables}
-use Rattle.sql_rows.specs.Content.{content_of}
+use Rattle.sql_rows.specs.Content.{tables_content}
 use Rattle.sql_keeper.specs.Content.{tables_of}
 use Rattle.sql_keeper.specs.Inside.{IsClean, KeeperState, StaysOpen, clean_in, names_in, tables_in}
 use Rattle.sql_keeper.specs.Stops.{IsAtRest, LeavesIn}
@@ -35,5 +35,5 @@ at_rest g law k keeper clean db may =
 pub settled_in : {S : Type 0} (g : Ghosts S) → AreSettled g → (k : KeeperState S) (t : Tables)
     → clean_in g k → LeavesIn g k t → t ≡ tables_in g k
 settled_in g law k t clean left = left.is
-    ∙ ap (λ d. tables_of (names_in k) (content_of d))
+    ∙ ap (λ d. tables_of (names_in k) (tables_content d))
     (at_rest g law k left.keeper clean left.db left.may)

@@ -12,28 +12,28 @@ use Rattle.shelves.specs.Shelves.{Shelf, IsShelf, count, one_book, with_book}
 use Rattle.shelves.specs.Succession.{shelf_fault}
 use Rattle.shelves.specs.declared.dated.DatedBook.{DatedBook}
 use Rattle.sql_rows.specs.Lists.{BookAt}
-use Rattle.sql_rows.specs.Values.{DatedBook as DatedText}
+use Rattle.sql_rows.specs.Values.{BookRow}
 use Rattle.sql_keeper.specs.Books.{IsBookOf}
 
 -- the row has the text of the book, one of characters, and its first moment, in the range of
 -- moments
-pub record IsDatedOf (x : DatedText) (d : DatedBook) : Type 0 where
+pub record IsDatedOf (x : BookRow) (d : DatedBook) : Type 0 where
   pub starts : x.starts ≡ d.from
   pub range : x.starts ≤ 4_102_488_000
   pub utf8 : IsUtf8 x.content
   pub book : IsBookOf x.content d.book
 
-abbrev pub IsDatedAt : Option DatedText → DatedBook → Type 0
+abbrev pub IsDatedAt : Option BookRow → DatedBook → Type 0
 IsDatedAt None d = ⊥
 IsDatedAt (Some x) d = IsDatedOf x d
 
 -- the books are those of the rows of one number after another
-abbrev pub AreLater : (BookNumber → Option DatedText) → BookNumber → List DatedBook → Type 0
+abbrev pub AreLater : (BookNumber → Option BookRow) → BookNumber → List DatedBook → Type 0
 AreLater rows n [] = Unit {0}
 AreLater rows n (d ∷ ds) = IsDatedAt (rows n) d × AreLater rows (n + 1) ds
 
 -- the shelf of a text and of these rows, which begin with number 2; there are no other rows
-pub record IsShelfOf (text : BookText) (rows : BookNumber → Option DatedText) (s : Shelf)
+pub record IsShelfOf (text : BookText) (rows : BookNumber → Option BookRow) (s : Shelf)
     : Type 0 where
   pub is : IsShelf s
   pub first : IsBookOf text s.first
@@ -41,7 +41,7 @@ pub record IsShelfOf (text : BookText) (rows : BookNumber → Option DatedText) 
   pub none : (n : BookNumber) → (n < 2) ⊎ (count s < n) → rows n ≡ None
 
 -- there is a shelf of them
-abbrev pub HasShelf : BookText → (BookNumber → Option DatedText) → Type 0
+abbrev pub HasShelf : BookText → (BookNumber → Option BookRow) → Type 0
 HasShelf text rows = (s : Shelf) × IsShelfOf text rows s
 
 -- the shelf on which the book of a text stands alone
@@ -56,31 +56,31 @@ HasOneBook text = (s : Shelf) × IsAlone text s
 -- ---- as it is read
 
 -- the row of a number
-abbrev pub row_numbered : BookNumber → List BookAt → Option DatedText
+abbrev pub row_numbered : BookNumber → List BookAt → Option BookRow
 row_numbered n xs = option_map (λ (x : BookAt). x.row) (find (λ x. nat_eq x.number n) xs)
 
 -- the row has the text of the book, and it is the only one of this text
-pub record IsOnlyOf (x : DatedText) (d : DatedBook) : Type 0 where
+pub record IsOnlyOf (x : BookRow) (d : DatedBook) : Type 0 where
   pub dated : IsDatedOf x d
   pub only : (b : Book) → IsBookOf x.content b → b ≡ d.book
 
-abbrev pub IsOnlyAt : Option DatedText → DatedBook → Type 0
+abbrev pub IsOnlyAt : Option BookRow → DatedBook → Type 0
 IsOnlyAt None d = ⊥
 IsOnlyAt (Some x) d = IsOnlyOf x d
 
 -- the books are the only ones of the rows of one number after another
-abbrev pub AreOnly : (BookNumber → Option DatedText) → BookNumber → List DatedBook → Type 0
+abbrev pub AreOnly : (BookNumber → Option BookRow) → BookNumber → List DatedBook → Type 0
 AreOnly rows n [] = Unit {0}
 AreOnly rows n (d ∷ ds) = IsOnlyAt (rows n) d × AreOnly rows (n + 1) ds
 
 -- the only book of a row was added behind those of a shelf
-pub record IsShelved (x : DatedText) (old new : Shelf) : Type 0 where
+pub record IsShelved (x : BookRow) (old new : Shelf) : Type 0 where
   pub book : Book
   pub row : IsOnlyOf x (record { from = x.starts; book = book })
   pub new_is : new ≡ with_book old x.starts book
 
 -- no book of the row's text may follow those of the shelf
-abbrev pub IsRefusedRow : DatedText → Shelf → Type 0
+abbrev pub IsRefusedRow : BookRow → Shelf → Type 0
 IsRefusedRow x s = (b : Book) → IsBookOf x.content b → ¬ (shelf_fault s x.starts b 0 ≡ None)
 
 -- whether each row has a number from 2 on, up to this one

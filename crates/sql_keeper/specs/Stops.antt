@@ -6,7 +6,7 @@ use Rattle.sqlite_trees.specs.Tree.{Trees}
 use Rattle.sqlite.specs.Held.{state}
 use Rattle.sqlite.specs.State.{HasCleanDisk}
 use Rattle.keepers.specs.Tables.{Tables}
-use Rattle.sql_rows.specs.Content.{content_of}
+use Rattle.sql_rows.specs.Content.{tables_content}
 use Rattle.sql_keeper.specs.Content.{tables_of}
 use Rattle.sql_keeper.specs.Inside.{KeeperState, IsClean, IsKeeper, names_in}
 
@@ -27,11 +27,11 @@ pub record LeavesIn {S : Type 0} (g : Ghosts S) (k : KeeperState S) (t : Tables)
   pub keeper : IsKeeper g k
   pub db : Trees
   pub may : MayLeave g k db
-  pub is : t ≡ tables_of (names_in k) (content_of db)
+  pub is : t ≡ tables_of (names_in k) (tables_content db)
 
 -- a stop at the exit of a call leaves what it left before the call, or all that the call writes,
 -- also where the connection is shut
-pub record IsWhole {S : Type 0} (g : Ghosts S) (old new : KeeperState S)
+pub record IsCommitWhole {S : Type 0} (g : Ghosts S) (old new : KeeperState S)
     (Written : Trees → Type 0) : Type 0
   where
     pub left : HasCleanDisk (state g new.connection) → (db : Trees) → MayLeave g new db

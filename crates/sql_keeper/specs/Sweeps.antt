@@ -17,18 +17,19 @@ use Rattle.reserving.specs.Rows.{AreApart, EachIn}
 use Rattle.reserving.specs.Stored.{StoredRows, IsStored, advanced_stored}
 use Rattle.keepers.specs.Change.{IsSwept}
 use Rattle.keepers.specs.Differing.{named_rows}
-use Rattle.sql_rows.specs.Content.{Rows as Stored, Content, content_of, with_account, with_meta}
+use Rattle.sql_rows.specs.Content.{TableRows, TablesContent, tables_content, with_account}
+use Rattle.sql_rows.specs.Content.{with_meta}
 use Rattle.sql_rows.specs.Each.{with_counters, with_each, with_sessions}
 use Rattle.sql_rows.specs.Lists.{AreAccounts}
 use Rattle.sql_rows.specs.Makes.{Makes, Turns}
 use Rattle.sql_rows.specs.Plain.{ArePlain}
 use Rattle.sql_rules.specs.Ruled.{IsInRules}
 use Rattle.sql_keeper.specs.Content.{shelf_names, tables_of, Names}
-use Rattle.sql_keeper.specs.LiveRows.{IsLiveUncounted}
+use Rattle.sql_keeper.specs.LiveRows.{IsToldUncounted}
 use Rattle.sql_keeper.specs.RuledRows.{is_ruled_swept}
 use Rattle.sql_keeper.specs.Tests.{AreWritable}
 use Rattle.sql_keeper.specs.Tidy.{IsTidy}
-use Rattle.sql_keeper.specs.Writes.{head_of, meta_at, with_all_counted, with_groups}
+use Rattle.sql_keeper.specs.Writes.{head_columns_of, meta_at, with_all_counted, with_groups}
 use Rattle.sql_keeper.specs.declared.swept_rows.SweptAccount.{SweptAccount}
 
 -- ---- what is read
@@ -50,18 +51,18 @@ pub record MayBeKept (names : Names) (shelf : Shelf) (t : Moment) (before : Stor
 
 -- these are what differs at the moment of what may still change of an account, which may be kept;
 -- a sweep reads and changes no counter
-pub record AreSweptRows (names : Names) (shelf : Shelf) (t : Moment) (rows : Stored)
+pub record AreSweptRows (names : Names) (shelf : Shelf) (t : Moment) (rows : TableRows)
     (w : StoredRows) : Type 0 where
   pub before : StoredRows
-  pub live : IsLiveUncounted names rows (Some before)
+  pub live : IsToldUncounted names rows before
   pub kept : MayBeKept names shelf t before
   pub is : w ≡ differing_at shelf t before
 
-abbrev pub IsSweptOf : Names → Shelf → Moment → Content → SweptAccount → Type 0
+abbrev pub IsSweptOf : Names → Shelf → Moment → TablesContent → SweptAccount → Type 0
 IsSweptOf names shelf t c x = AreSweptRows names shelf t (c.rows x.number) x.rows
 
 -- the account of this number
-pub record IsSweptAs (names : Names) (shelf : Shelf) (t : Moment) (c : Content)
+pub record IsSweptAs (names : Names) (shelf : Shelf) (t : Moment) (c : TablesContent)
     (number : AccountName) (x : SweptAccount) : Type 0 where
   pub number_is : x.number ≡ number
   pub swept : IsSweptOf names shelf t c x
@@ -79,13 +80,13 @@ IsSweptFrom names shelf t number None x = ⊥
 IsSweptFrom names shelf t number (Some before) x = IsSweptOfRows names shelf t number before x
 
 -- the accounts of these numbers, in turn
-pub record AreSweptOf (names : Names) (shelf : Shelf) (t : Moment) (c : Content)
+pub record AreSweptOf (names : Names) (shelf : Shelf) (t : Moment) (c : TablesContent)
     (numbers : List AccountName) (xs : List SweptAccount) : Type 0 where
   pub numbers_are : map (λ (x : SweptAccount). x.number) xs ≡ numbers
   pub each : EachIn (IsSweptOf names shelf t c) xs
 
 -- all accounts, each once
-pub record AreAllSwept (names : Names) (shelf : Shelf) (t : Moment) (c : Content)
+pub record AreAllSwept (names : Names) (shelf : Shelf) (t : Moment) (c : TablesContent)
     (xs : List SweptAccount) : Type 0 where
   pub all : AreAccounts c (map (λ (x : SweptAccount). x.number) xs)
   pub each : EachIn (IsSweptOf names shelf t c) xs
@@ -93,18 +94,19 @@ pub record AreAllSwept (names : Names) (shelf : Shelf) (t : Moment) (c : Content
 -- ---- what is written
 
 -- what differs of an account, and at last what is kept of it once
-abbrev pub with_swept : Names → SweptAccount → Content → Content
+abbrev pub with_swept : Names → SweptAccount → TablesContent → TablesContent
 with_swept names x c =
-    with_account x.number (head_of x.rows) (with_groups x.number names x.rows.groups
+    with_account x.number (head_columns_of x.rows) (with_groups x.number names x.rows.groups
     (with_sessions x.number x.rows.sessions (with_counters x.number x.rows.counters
     (with_all_counted x.number x.rows.buckets c))))
 
 -- of each account
-abbrev pub with_accounts : Names → List SweptAccount → Content → Content
+abbrev pub with_accounts : Names → List SweptAccount → TablesContent → TablesContent
 with_accounts names = with_each (with_swept names)
 
 -- and the moment
-abbrev pub with_sweep : Names → BookText → Moment → List SweptAccount → Content → Content
+abbrev pub with_sweep : Names → BookText → Moment → List SweptAccount → TablesContent →
+    TablesContent
 with_sweep names text t xs c = with_accounts names xs (with_meta (meta_at text t) c)
 
 -- ---- one account after another, within a transaction
@@ -113,7 +115,7 @@ with_sweep names text t xs c = with_accounts names xs (with_meta (meta_at text t
 pub record SweepsOne (names : Names) (shelf : Shelf) (t : Moment) (number : AccountName)
     (old new : State) : Type 0 where
   pub account : SweptAccount
-  pub swept : IsSweptAs names shelf t (content_of old.now.trees) number account
+  pub swept : IsSweptAs names shelf t (tables_content old.now.trees) number account
   pub ruled : IsTrue (is_ruled_swept names account)
   pub makes : Makes (with_swept names account) old new
 
@@ -122,7 +124,7 @@ pub record SweepsEach (names : Names) (text : BookText) (shelf : Shelf) (t : Mom
     (numbers : List AccountName) (old new : Trees) : Type 0 where
   pub accounts : List SweptAccount
   pub swept : AreApart (λ x y. same_name y x) numbers →
-      AreSweptOf names shelf t (content_of old) numbers accounts
+      AreSweptOf names shelf t (tables_content old) numbers accounts
   pub ruled : IsTrue (list_all (is_ruled_swept names) accounts)
   pub turns : Turns (with_sweep names text t accounts) old new
 
@@ -157,15 +159,16 @@ pub record TransactsSweep {A E : Type 0} (names : Names) (text : BookText) (shel
 -- moments
 pub record BecomesSwept (names : Names) (text : BookText) (shelf : Shelf) (t : Moment)
     (old new : Trees) : Type 0 where
-  pub tables : IsSwept shelf t (tables_of names (content_of old)) (tables_of names (content_of new))
+  pub tables : IsSwept shelf t (tables_of names (tables_content old))
+      (tables_of names (tables_content new))
   -- where nothing stood that isn't told, nothing does
-  pub tidy : IsTidy names (content_of old) → IsTidy names (content_of new)
+  pub tidy : IsTidy names (tables_content old) → IsTidy names (tables_content new)
   -- where all was in its rules, by the books of these names, all is
-  pub rules : (own : Shelf) → names ≡ shelf_names own → IsTrue (is_some (content_of old).meta)
-      → IsInRules own (content_of old) → IsInRules own (content_of new)
+  pub rules : (own : Shelf) → names ≡ shelf_names own → IsTrue (is_some (tables_content old).meta)
+      → IsInRules own (tables_content old) → IsInRules own (tables_content new)
   pub plain : ArePlain old → ArePlain new
-  pub meta : (content_of new).meta ≡ Some (meta_at text t)
+  pub meta : (tables_content new).meta ≡ Some (meta_at text t)
   pub last : t ≤ 4_102_488_000
-  pub books : (content_of new).books ≡ (content_of old).books
+  pub books : (tables_content new).books ≡ (tables_content old).books
   pub catalog : new catalog_tree ≡ old catalog_tree
   pub stored : AreStored new

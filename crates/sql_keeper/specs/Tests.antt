@@ -18,26 +18,26 @@ use Rattle.reserving.specs.Sessions.{is_open, session_in, group_in}
 use Rattle.reserving.specs.Rows.{EachIn}
 use Rattle.reserving.specs.Left.{first_of, is_open_row}
 use Rattle.keepers.specs.declared.loaded.Change.{Change}
-use Rattle.sql_rows.specs.declared.head.Head.{Head as HeadColumns}
+use Rattle.sql_rows.specs.declared.head.HeadColumns.{HeadColumns}
 use Rattle.sql_rows.specs.Values.{Group}
 use Rattle.sql_rows.specs.Lists.{AreCoveredBeside, GroupAt, HasNoGroups}
-use Rattle.sql_rows.specs.Content.{Rows as Stored}
+use Rattle.sql_rows.specs.Content.{TableRows}
 use Rattle.sql_keeper.specs.Content.{Names, names_numbered}
 use Rattle.sql_keeper.specs.RuledRows.{is_ruled_change}
 use Rattle.sql_keeper.specs.Writes.{name_at}
 use Rattle.sql_keeper.specs.declared.settling.NamedSessions.{NamedSessions}
 
 -- the name at the period's place is its own
-abbrev pub IsNamed : List (List ℕ) → Period → Type 0
-IsNamed names p = period_named names (name_at names p) ≡ Some p
+abbrev pub IsPeriodNamed : List (List ℕ) → Period → Type 0
+IsPeriodNamed names p = period_named names (name_at names p) ≡ Some p
 
 -- a reservation stands in an open session, its periods have names in its book, and it holds of each
 -- bucket once
 pub record IsWritable (names : Names) (sessions : List Session) (s : SessionName) (r : Reservation)
     : Type 0 where
   pub live : is_open_row (session_in s sessions) ≡ true
-  pub before : IsNamed (names_numbered names r.terms.book) r.terms.periods.before
-  pub after : IsNamed (names_numbered names r.terms.book) r.terms.periods.after
+  pub before : IsPeriodNamed (names_numbered names r.terms.book) r.terms.periods.before
+  pub after : IsPeriodNamed (names_numbered names r.terms.book) r.terms.periods.after
   pub holds : AreHolds r.holds
 
 abbrev pub MayStand : Names → List Session → SessionName → Option Reservation → Type 0
@@ -61,7 +61,7 @@ first_number (Some h) = if h.next_charge == 0 then 1 else h.next_charge
 -- ---- sessions that a change opens or ends
 
 -- whether a session is open by the rows of a change over those that are stored
-abbrev pub is_open_over : List Session → Stored → SessionName → Bool
+abbrev pub is_open_over : List Session → TableRows → SessionName → Bool
 is_open_over sessions r s = is_open_row (first_of (session_in s sessions) (r.sessions s))
 
 -- whether a session is open by its row as it was before
@@ -69,14 +69,14 @@ abbrev pub is_as : Session → Bool → Bool
 is_as x before = if is_open x.state then before else not before
 
 -- of a session that is opened or ended no group that isn't named has a reservation
-abbrev pub AreSettled : List Session → List SessionGroup → Stored → Type 0
+abbrev pub AreSettled : List Session → List SessionGroup → TableRows → Type 0
 AreSettled sessions groups r =
     (s : SessionName) (g : GroupId) (y : Group) → r.groups s g ≡ Some y →
     group_in s g groups ≡ None →
     (is_open_over sessions r s ≡ is_open_row (r.sessions s)) ⊎ (y.periods ≡ None)
 
 -- the same of one session that is named
-abbrev pub IsSettled : List SessionGroup → Stored → Session → Type 0
+abbrev pub IsSettled : List SessionGroup → TableRows → Session → Type 0
 IsSettled groups r x =
     (is_open x.state ≡ is_open_row (r.sessions x.id))
     ⊎ ((g : GroupId) (y : Group) → r.groups x.id g ≡ Some y → group_in x.id g groups ≡ None →
@@ -90,13 +90,13 @@ abbrev pub are_beside : List SessionGroup → SessionName → List GroupAt → B
 are_beside groups s xs = list_all (is_beside groups s) xs
 
 -- what is found of a session that is named: whether it is settled, and whether it is new
-pub record IsFound (groups : List SessionGroup) (r : Stored) (x : Session)
+pub record IsFound (groups : List SessionGroup) (r : TableRows) (x : Session)
     (y : NamedSessions) : Type 0 where
   pub settled : IsTrue y.are_settled → IsSettled groups r x
   pub new : IsTrue y.are_new → HasNoGroups r x.id
 
 -- and of all of them
-pub record AreFound (sessions : List Session) (groups : List SessionGroup) (r : Stored)
+pub record AreFound (sessions : List Session) (groups : List SessionGroup) (r : TableRows)
     (y : NamedSessions) : Type 0 where
   pub settled : IsTrue y.are_settled → AreSettled sessions groups r
   pub new : IsTrue y.are_new → EachIn (λ (x : Session). HasNoGroups r x.id) sessions
@@ -107,26 +107,28 @@ are_among sessions groups =
     list_all (λ (x : SessionGroup). is_some (session_in x.session sessions)) groups
 
 -- nothing is there of the groups' sessions
-abbrev pub AreNewGroups : Stored → List SessionGroup → Type 0
+abbrev pub AreNewGroups : TableRows → List SessionGroup → Type 0
 AreNewGroups r groups = EachIn (λ (x : SessionGroup). HasNoGroups r x.session) groups
 
 -- ---- all that is tested
 
 -- a change may be made of what is stored of its account
-pub record MayBeMade (names : Names) (change : Change) (r : Stored) : Type 0 where
+pub record MayBeMade (names : Names) (change : Change) (r : TableRows) : Type 0 where
   pub reservations : AreWritable names change.rows.sessions change.rows.groups
   pub numbers : AreNumbered (first_number r.head) change.rows.next_charge change.charges.items
   pub settled : AreSettled change.rows.sessions change.rows.groups r
   pub ruled : IsTrue (is_ruled_change names change)
 
 -- what is found of a change: whether it may be made, and whether its groups are new
-pub record IsChangeFound (names : Names) (change : Change) (r : Stored) (y : NamedSessions) : Type 0
+pub record IsChangeFound (names : Names) (change : Change) (r : TableRows) (y : NamedSessions)
+    : Type 0
   where
     pub made : IsTrue y.are_settled → MayBeMade names change r
     pub new : IsTrue y.are_new → AreNewGroups r change.rows.groups
 
 -- it may be made, and whether its groups are new; covered blocks stand beside a charge
-pub record IsTested (names : Names) (change : Change) (r : Stored) (are_new : Bool) : Type 0 where
+pub record IsTested (names : Names) (change : Change) (r : TableRows) (are_new : Bool)
+    : Type 0 where
   pub made : MayBeMade names change r
   pub new : IsTrue are_new → AreNewGroups r change.rows.groups
   pub covered : AreCoveredBeside r

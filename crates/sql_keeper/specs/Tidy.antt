@@ -13,7 +13,7 @@ use Rattle.reserving.specs.Left.{first_of, is_open_row}
 use Rattle.reserving.specs.Sessions.{group_in, session_in}
 use Rattle.reserving.specs.Stored.{StoredRows}
 use Rattle.sql_rows.specs.Values.{Group, Kept, PeriodNames, reference_kind, request_kind}
-use Rattle.sql_rows.specs.Content.{Content, Rows as Stored}
+use Rattle.sql_rows.specs.Content.{TablesContent, TableRows}
 use Rattle.sql_keeper.specs.Content.{Names, book_in, is_numbered, is_reserved, kept_in}
 use Rattle.sql_keeper.specs.Content.{names_numbered}
 
@@ -38,7 +38,7 @@ is_key kind number =
     nat_eq request_kind kind || (nat_eq reference_kind kind && nat_eq 0 number)
 
 -- of an account
-pub record AreTidyRows (names : Names) (a : AccountName) (r : Stored) : Type 0 where
+pub record AreTidyRows (names : Names) (a : AccountName) (r : TableRows) : Type 0 where
   -- a reservation stands in an open session, and its periods have the names of its book
   pub live : (s : SessionName) (g : GroupId) → is_reserved (r.groups s g) ≡ true →
       is_open_row (r.sessions s) ≡ true
@@ -59,7 +59,7 @@ pub record AreTidyRows (names : Names) (a : AccountName) (r : Stored) : Type 0 w
       → r.answers kind name number ≡ Some k
       → (is_key kind number ≡ true) × (is_some (kept_in a k) ≡ true)
 
-pub record IsTidy (names : Names) (c : Content) : Type 0 where
+pub record IsTidy (names : Names) (c : TablesContent) : Type 0 where
   -- what is kept once is there, and stands once
   pub there : is_some c.meta ≡ true
   pub once : c.kept ≡ 1
@@ -67,7 +67,7 @@ pub record IsTidy (names : Names) (c : Content) : Type 0 where
 
 -- rows that are written over those that stand end no session with a reservation that isn't among
 -- them
-abbrev pub EndsTidy : StoredRows → Stored → Type 0
+abbrev pub EndsTidy : StoredRows → TableRows → Type 0
 EndsTidy w r = (s : SessionName) (g : GroupId) → group_in s g w.groups ≡ None
     → is_reserved (r.groups s g) ≡ true → is_open_row (r.sessions s) ≡ true
     → is_open_row (first_of (session_in s w.sessions) (r.sessions s)) ≡ true

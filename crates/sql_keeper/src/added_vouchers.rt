@@ -1,7 +1,7 @@
 //! A voucher that is added, in one transaction: all of it or nothing, also over a stop.
 
 ghost use Rattle.std.specs.Prelude.{◌≡◌, false};
-ghost use Rattle.keepers.specs.Change.{with_voucher as with_added};
+ghost use Rattle.keepers.specs.Change.{with_voucher};
 ghost use Rattle.sql_rows.specs.Makes.{Makes};
 ghost use Rattle.sql_tables.specs.Statements.{Attempts, HasBook, HasIdleBook};
 ghost use Rattle.sql_keeper.specs.Additions.{BecomesAdded, with_addition};
@@ -115,7 +115,7 @@ impl<S: Alter> SqlKeeper<S> {
         terms: VoucherTerms,
         moment: Moment,
     ) -> Result<(), StoreFault>
-        ensures { StoresChange S.Store (with_added code terms moment)
+        ensures { StoresChange S.Store (with_voucher code terms moment)
             (BecomesAdded self.old.text code terms moment (trees_in S.Store self.old))
             self.old self.new result }
     {

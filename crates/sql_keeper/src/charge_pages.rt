@@ -7,7 +7,7 @@ ghost use Rattle.sql_keeper.specs.ChargePages.{AreTold, end_of_page, last_number
 ghost use Rattle.sql_keeper.specs.Content.{charge_of};
 ghost use Rattle.sql_keeper.specs.LiveGroups.{Gathers};
 ghost use Rattle.sql_rows.specs.Content.{rows_in};
-ghost use Rattle.sql_rows.specs.Lists.{NumbersRise, is_within};
+ghost use Rattle.sql_rows.specs.Lists.{NumbersRise, is_row_within};
 ghost use Rattle.sql_tables.specs.Statements.{HasIdleBook, Reads};
 ghost use Rattle.sqlite.specs.Held.{state};
 
@@ -18,7 +18,7 @@ use crate::still_open::still_open;
 use identifiers::AccountNumber;
 use keepers::{ChargePage, ChargePages, ChargeSource, ChargeVisitor, StoreFault, show_pages};
 use reserving::ChargeRow;
-use sql_rows::{Head, read_account, read_charges_within, read_covered_within};
+use sql_rows::{HeadColumns, read_account, read_charges_within, read_covered_within};
 use sql_tables::ReadFault;
 use sqlite::{Alter, Connection};
 use std::alloc::Global;
@@ -26,7 +26,7 @@ use units::Moment;
 
 /// The number of an account's last charge; 0 where it has none. A next number that no charge can
 /// have is out of the rules.
-fn last_number(head: &Option<Head>) -> Result<u32, ReadFault>
+fn last_number(head: &Option<HeadColumns>) -> Result<u32, ReadFault>
     ensures { IfOk result (λ n. n ≡ last_number head.now) }
 {
     let Some(head) = head else {
@@ -75,7 +75,7 @@ fn read_told_within<S: Alter>(
 ) -> Result<Vec<ChargeRow>, ReadFault>
     requires idle { HasIdleBook (state S.Store conn.old) }
     ensures reads { Gathers (λ trees rows.
-        AreTold (is_within after last) (rows_in trees account.now) rows.items)
+        AreTold (is_row_within after last) (rows_in trees account.now) rows.items)
         (state S.Store conn.old) (state S.Store conn.new) result }
     ensures order { IfOk result (λ rows. NumbersRise rows.items) }
 {

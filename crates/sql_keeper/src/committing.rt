@@ -23,7 +23,7 @@ use crate::still_open::still_open;
 use crate::stored_texts::kept_texts;
 use keepers::{Change, StoreFault};
 use shelves::TariffShelf;
-use sql_rows::Kept;
+use sql_rows::KeptTexts;
 use sql_tables::ReadFault;
 use sqlite::{Alter, Connection, Error};
 use std::alloc::Global;
@@ -36,7 +36,7 @@ fn write_change<S: Alter>(
     seen: &Option<SeenAccount>,
     text: &str,
     change: &Change,
-    texts: &Option<Kept>,
+    texts: &Option<KeptTexts>,
 ) -> Result<(), Error>
     requires plain { conn.old.in_transaction ≡ false }
     requires idle { HasIdleBook (state S.Store conn.old) }

@@ -1,7 +1,7 @@
 //! Why the database of a book isn't made.
 
 ghost use Rattle.std.specs.Prelude.{◌≡◌};
-ghost use Rattle.sql_keeper.specs.Faults.{fault_number};
+ghost use Rattle.sql_keeper.specs.Faults.{create_fault_number};
 
 use tariffs::BookFault;
 use thiserror::Error;
@@ -27,7 +27,7 @@ impl CreateFault {
     /// Its number: that of the book's fault, as programs print it in `book fault 6`; else that of
     /// the fault of an opening, as in `open fault 1`.
     pub fn number(self) -> u8
-        ensures { result ≡ fault_number self }
+        ensures { result ≡ create_fault_number self }
     {
         match self {
             CreateFault::Book(fault) => fault.number(),

@@ -2,10 +2,10 @@
 
 ghost use Rattle.std.specs.Prelude.{◌≡◌, Ok, Some, IfOk, option_map, option_and_then};
 ghost use Rattle.std.specs.Prelude.{string_bytes};
-ghost use Rattle.wire.specs.Contents.{content_of as command_of};
+ghost use Rattle.wire.specs.Contents.{content_of};
 ghost use Rattle.wire.specs.ReadingAnswers.{answer_of};
 ghost use Rattle.sql_keeper.specs.Asks.{Asks};
-ghost use Rattle.sql_keeper.specs.Content.{answer_in, kept_in, texts_of};
+ghost use Rattle.sql_keeper.specs.Content.{answer_in, kept_in, texts_of_key};
 ghost use Rattle.sql_rows.specs.Content.{rows_in};
 ghost use Rattle.sql_rows.specs.Texts.{kept_of};
 ghost use Rattle.sql_tables.specs.Statements.{HasIdleBook, Reads};
@@ -19,7 +19,7 @@ use commands::Content;
 use identifiers::AccountNumber;
 use json_fields::WireFault;
 use keepers::{KeptAnswer, Key, StoreFault};
-use sql_rows::{Kept, read_answer};
+use sql_rows::{KeptTexts, read_answer};
 use sql_tables::ReadFault;
 use sqlite::{Alter, Connection};
 use std::alloc::Global;
@@ -35,7 +35,7 @@ fn fault_of(fault: WireFault) -> ReadFault {
 
 /// The command that a text kept under an account says.
 fn content_said(alloc: Global, account: &AccountNumber, text: &str) -> Result<Content, ReadFault>
-    ensures { IfOk result (λ c. command_of account.now text.now ≡ Ok c) }
+    ensures { IfOk result (λ c. content_of account.now text.now ≡ Ok c) }
 {
     let account = account.clone()?;
     let bytes = text.as_bytes();
@@ -56,10 +56,14 @@ fn answer_said(alloc: Global, text: String) -> Result<WrittenAnswer, ReadFault>
 }
 
 /// What texts that are kept under an account say; texts that say nothing are out of the rules.
-fn kept_said(alloc: Global, account: &AccountNumber, texts: Kept) -> Result<KeptAnswer, ReadFault>
+fn kept_said(
+    alloc: Global,
+    account: &AccountNumber,
+    texts: KeptTexts,
+) -> Result<KeptAnswer, ReadFault>
     ensures { IfOk result (λ k. kept_in account.now (kept_of texts) ≡ Some k) }
 {
-    let Kept {
+    let KeptTexts {
         content: command,
         answer,
     } = texts;
@@ -73,10 +77,10 @@ fn texts_under<S: Alter>(
     conn: &mut Connection<S>,
     account: &AccountNumber,
     key: &Key,
-) -> Result<Option<Kept>, ReadFault>
+) -> Result<Option<KeptTexts>, ReadFault>
     requires idle { HasIdleBook (state S.Store conn.old) }
     ensures { Reads (λ trees o. option_map kept_of o ≡
-        texts_of key.now (rows_in trees account.now))
+        texts_of_key key.now (rows_in trees account.now))
         (state S.Store conn.old) (state S.Store conn.new) result }
 {
     match key {
@@ -91,7 +95,7 @@ fn texts_under<S: Alter>(
 fn kept_where(
     alloc: Global,
     account: &AccountNumber,
-    texts: Option<Kept>,
+    texts: Option<KeptTexts>,
 ) -> Result<Option<KeptAnswer>, ReadFault>
     ensures { IfOk result (λ o. o ≡
         option_and_then (kept_in account.now) (option_map kept_of texts)) }

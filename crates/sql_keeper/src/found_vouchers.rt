@@ -3,7 +3,7 @@
 ghost use Rattle.std.specs.Prelude.{◌≡◌, IfOk, option_map};
 ghost use Rattle.sql_keeper.specs.Asks.{Asks};
 ghost use Rattle.sql_keeper.specs.Content.{voucher_in};
-ghost use Rattle.sql_rows.specs.Content.{content_of};
+ghost use Rattle.sql_rows.specs.Content.{tables_content};
 ghost use Rattle.sql_rows.specs.Texts.{voucher_of};
 ghost use Rattle.sql_tables.specs.Statements.{HasIdleBook, Reads};
 ghost use Rattle.sqlite.specs.Held.{state};
@@ -68,7 +68,7 @@ fn voucher_under<S: Alter>(
 ) -> Result<Option<Voucher>, ReadFault>
     requires idle { HasIdleBook (state S.Store conn.old) }
     ensures { Reads (λ trees found. found ≡
-        option_map voucher_in ((content_of trees).vouchers code.now))
+        option_map voucher_in ((tables_content trees).vouchers code.now))
         (state S.Store conn.old) (state S.Store conn.new) result }
 {
     let row = read_voucher(conn, alloc, code.as_str())?;
@@ -82,7 +82,7 @@ fn ask_for_voucher<S: Alter>(
 ) -> Result<Option<Voucher>, ReadFault>
     requires idle { HasIdleBook (state S.Store conn.old) }
     ensures { Asks (λ trees found. found ≡
-        option_map voucher_in ((content_of trees).vouchers code.now))
+        option_map voucher_in ((tables_content trees).vouchers code.now))
         (state S.Store conn.old) (state S.Store conn.new) result }
 {
     still_open(conn)?;

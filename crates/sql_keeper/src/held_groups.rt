@@ -3,7 +3,7 @@
 ghost use Rattle.std.specs.Prelude.{◌≡◌};
 ghost use Rattle.reserving.specs.Sessions.{holds_in};
 ghost use Rattle.sql_tables.specs.Statements.{Attempts, HasBook, IsInside};
-ghost use Rattle.sql_rows.specs.Content.{with_group, with_rows};
+ghost use Rattle.sql_rows.specs.Content.{with_group_row, with_rows};
 ghost use Rattle.sql_rows.specs.Each.{with_holds};
 ghost use Rattle.sql_rows.specs.Makes.{Makes, MakesIfOpen};
 ghost use Rattle.sql_rows.specs.Texts.{names_put};
@@ -58,7 +58,8 @@ fn put_columns<S: Alter>(
     requires book { HasBook (state S.Store tx.old.conn.now) }
     ensures same_reference { tx.new.conn.ghost_name ≡ tx.old.conn.ghost_name }
     ensures makes { Attempts (Makes (with_rows account.now
-        (with_group row.now.session row.now.group (columns_of (shelf_names books.now) row.now))))
+        (with_group_row row.now.session row.now.group (columns_of (shelf_names books.now)
+        row.now))))
         (state S.Store tx.old.conn.now) (state S.Store tx.new.conn.now) result }
 {
     match &row.reservation {

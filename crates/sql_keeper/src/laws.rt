@@ -75,8 +75,8 @@ pub fn ruled_tables_are_left_again()
     ensures { AreLeftRuledAgain }
 {}
 
-/// Where the connection shows what was left, each row in its rules, no fault is told but the store's
-/// or memory's.
+/// Where the connection shows what was left, each row in its rules, no fault is told but the
+/// store's or memory's.
 pub fn left_tables_are_found<S: Alter>()
     ensures { (old new : Held S) (text : List ℕ) (fault : OpenFault) →
         IsFoundAgain S.Store old new text fault }

@@ -9,7 +9,7 @@ ghost use Rattle.sql_keeper.specs.Repeating.{has_repeating, may_repeat};
 ghost use Rattle.sql_keeper.specs.LiveRows.{account_with, AreCountersAt, AreLiveBuckets};
 ghost use Rattle.sql_keeper.specs.LiveRows.{AreLiveRows, IsReadAccount, IsLiveAccount};
 ghost use Rattle.reserving.specs.Restored.{in_key_order, FindsSame};
-ghost use Rattle.sql_rows.specs.Content.{Rows as Stored, rows_in};
+ghost use Rattle.sql_rows.specs.Content.{TableRows, rows_in};
 ghost use Rattle.sql_tables.specs.Statements.{HasIdleBook, Reads};
 ghost use Rattle.sqlite.specs.Held.{state};
 ghost use Rattle.shelves.specs.Shelves.{Shelf, book_at};
@@ -21,7 +21,9 @@ use calendar::Cycle;
 use identifiers::AccountNumber;
 use reserving::{Counter, GivenRows, Session, SessionGroup, StoredAccount};
 use shelves::TariffShelf;
-use sql_rows::{Head, HeadCounters, read_buckets_live, read_counters_in, read_head_counters};
+use sql_rows::{
+    HeadColumns, HeadCounters, read_buckets_live, read_counters_in, read_head_counters,
+};
 use sql_tables::ReadFault;
 use sqlite::{Alter, Connection};
 use std::alloc::Global;
@@ -43,7 +45,7 @@ pub(crate) struct LiveRows {
 #[derive(Drop)]
 pub(crate) struct ReadRows {
     /// The account itself.
-    pub head: Head,
+    pub head: HeadColumns,
     /// What may still change whatever the moment.
     pub rows: LiveRows,
     /// The counters of the cycles at the moment.
@@ -164,7 +166,7 @@ fn read_if_any<S: Alter>(
 /// What is kept of an account once, with its counters that never begin again.
 #[derive(Drop)]
 struct FirstRows {
-    head: Option<Head>,
+    head: Option<HeadColumns>,
     never: Vec<Counter>,
 }
 
@@ -304,7 +306,7 @@ fn read_rows_at<S: Alter>(
 /// The account of a head and these rows; rows that are no account's are out of the rules.
 fn account_of(
     alloc: Global,
-    head: &Head,
+    head: &HeadColumns,
     rows: LiveRows,
     counters: Vec<Counter>,
 ) -> Result<StoredAccount, ReadFault>
@@ -330,7 +332,7 @@ pub(crate) fn live_account_of(
     alloc: Global,
     read: Option<ReadRows>,
 ) -> Result<Option<StoredAccount>, ReadFault>
-    ensures { (names : Names) (shelf : Shelf) (t : ℕ) (rows : Stored) →
+    ensures { (names : Names) (shelf : Shelf) (t : ℕ) (rows : TableRows) →
         IsReadAccount names shelf t rows read → IfOk result (IsLiveAccount names shelf t rows) }
 {
     let Some(read) = read else {

@@ -3,18 +3,16 @@
 
 ghost use Rattle.std.specs.Prelude.{◌≡◌, ◌<◌, ◌≤◌, ◌^◌, ◌⊎◌, false, map, nat_lt, Some, IfErr};
 ghost use Rattle.std.specs.Prelude.{IfOk, OnOk};
-ghost use Rattle.std.specs.String.{string_bytes};
 ghost use Rattle.sql_tables.specs.Opens.{IsNoVersion, IsVersion};
 ghost use Rattle.sql_tables.specs.declared.fault.OpenFault.TheVariants.{Foreign, Rules, Version};
-ghost use Rattle.sql_rows.specs.Content.{content_of, with_meta};
+ghost use Rattle.sql_rows.specs.Content.{tables_content, with_meta};
 ghost use Rattle.sql_rows.specs.Lists.{AreBooks};
 ghost use Rattle.sql_rows.specs.Makes.{Makes, MakesIfOpen};
 ghost use Rattle.sql_rows.specs.Ruled.{AreRuledBooks};
 ghost use Rattle.sql_rows.specs.Texts.{book_at, meta_of};
 ghost use Rattle.sql_tables.specs.Schema.{latest};
 ghost use Rattle.sql_tables.specs.Stages.{HasVersion, Migrates};
-ghost use Rattle.sql_tables.specs.Statements.{Attempts, HasBook, HasRules, IsInside};
-ghost use Rattle.sql_tables.specs.Statements.{ReadsWithin};
+ghost use Rattle.sql_tables.specs.Statements.{Attempts, HasBook, HasRules, IsInside, ReadsWithin};
 ghost use Rattle.sql_keeper.specs.Causes.{IsUnruledMeta};
 ghost use Rattle.sql_keeper.specs.Migrates.{AreUnruledReserved, BringsToLatest, FindsAny, HasAt};
 ghost use Rattle.sql_keeper.specs.Migrates.{HasIdleAt, HasRuledRows, IsMigrated, IsNotMigrated};
@@ -30,7 +28,7 @@ use crate::opening::{is_version, keeper_of, latest_books, open_fault, read_fault
 use crate::ruled_opening::test_rows;
 use shelves::TariffShelf;
 use sql_rows::{
-    BookColumns, Meta, ReservedColumns, put_grant_book, put_meta, read_books_within,
+    BookColumns, MetaColumns, ReservedColumns, put_grant_book, put_meta, read_books_within,
     read_meta_within, read_reserved_within,
 };
 use sql_tables::{LATEST, OpenFault, ReadFault, create_since, find_tables};
@@ -118,11 +116,11 @@ pub(crate) fn make_later<S: Alter>(
 }
 
 /// What is kept once.
-pub(crate) fn kept_within<S: Alter>(tx: &mut Transaction<'_, S>) -> Result<Meta, OpenFault>
+pub(crate) fn kept_within<S: Alter>(tx: &mut Transaction<'_, S>) -> Result<MetaColumns, OpenFault>
     requires book { HasBook (state S.Store tx.old.conn.now) }
     requires rules { HasRules (state S.Store tx.old.conn.now) }
     ensures same_reference { tx.new.conn.ghost_name ≡ tx.old.conn.ghost_name }
-    ensures reads { ReadsWithin (λ trees m. (content_of trees).meta ≡ Some (meta_of m))
+    ensures reads { ReadsWithin (λ trees m. (tables_content trees).meta ≡ Some (meta_of m))
         (state S.Store tx.old.conn.now) (state S.Store tx.new.conn.now) result }
     ensures told { IfErr result IsNoVersion }
     ensures ours { IfErr result (λ fault. ¬ (fault ≡ Foreign)) }
@@ -137,7 +135,7 @@ pub(crate) fn kept_within<S: Alter>(tx: &mut Transaction<'_, S>) -> Result<Meta,
 }
 
 /// The version that is kept is that of the tables, and the moment in the range of moments.
-pub(crate) fn is_of_version(meta: &Meta, version: u32) -> Result<(), OpenFault>
+pub(crate) fn is_of_version(meta: &MetaColumns, version: u32) -> Result<(), OpenFault>
     ensures version { OnOk result (meta.now.version ≡ version) }
     ensures told { IfErr result (λ fault. (fault ≡ Version) × (¬ (meta.now.version ≡ version))) }
     ensures number { meta.now.version < 2 ^ 32 }
@@ -155,13 +153,13 @@ pub(crate) fn books_within<S: Alter>(
     requires book { HasBook (state S.Store tx.old.conn.now) }
     requires rules { HasRules (state S.Store tx.old.conn.now) }
     ensures same_reference { tx.new.conn.ghost_name ≡ tx.old.conn.ghost_name }
-    ensures reads { ReadsWithin (λ trees xs. AreBooks (content_of trees) (map book_at xs.items))
+    ensures reads { ReadsWithin (λ trees xs. AreBooks (tables_content trees) (map book_at xs.items))
         (state S.Store tx.old.conn.now) (state S.Store tx.new.conn.now) result }
     ensures told { IfErr result IsNoVersion }
     ensures ours { IfErr result (λ fault. ¬ (fault ≡ Foreign)) }
     ensures rules { HasCleanDisk (state S.Store tx.new.conn.now) → IfErr result (λ fault.
         fault ≡ Rules →
-        ¬ AreRuledBooks (content_of (state S.Store tx.old.conn.now).now.trees).books) }
+        ¬ AreRuledBooks (tables_content (state S.Store tx.old.conn.now).now.trees).books) }
 {
     match read_books_within(tx, alloc) {
         Ok(books) => Ok(books),
@@ -175,7 +173,7 @@ fn put_latest<S: Alter>(
     tx: &mut Transaction<'_, S>,
     alloc: Global,
     version: u32,
-    meta: &Meta,
+    meta: &MetaColumns,
 ) -> Result<(), ReadFault>
     requires known { 1 ≤ version }
     requires open { IsInside (state S.Store tx.old.conn.now) }

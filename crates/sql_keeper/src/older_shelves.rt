@@ -1,5 +1,5 @@
-//! The shelf of a database of an older version, by which its rows are tested before it is brought to
-//! the latest. Nothing is written.
+//! The shelf of a database of an older version, by which its rows are tested before it is brought
+//! to the latest. Nothing is written.
 
 ghost use Rattle.std.specs.Prelude.{◌≡◌, ◌<◌, false, IfErr, OnOk};
 ghost use Rattle.sql_tables.specs.Opens.{IsVersion};

@@ -6,7 +6,7 @@ ghost use Rattle.std.specs.String.{string_bytes};
 ghost use Rattle.sql_tables.specs.Opens.{IsNoVersion};
 ghost use Rattle.sql_tables.specs.declared.fault.OpenFault.TheVariants.{Foreign, Rules};
 ghost use Rattle.sql_tables.specs.declared.fault.OpenFault.TheVariants.{Version};
-ghost use Rattle.sql_rows.specs.Content.{content_of};
+ghost use Rattle.sql_rows.specs.Content.{tables_content};
 ghost use Rattle.sql_rows.specs.Lists.{AreBooks};
 ghost use Rattle.sql_rows.specs.Ruled.{AreRuledBooks};
 ghost use Rattle.sql_rows.specs.Texts.{book_at, meta_of};
@@ -30,7 +30,7 @@ use crate::keeper::SqlKeeper;
 use crate::older_versions::older_fault;
 use crate::ruled_opening::ruled_books_in;
 use shelves::TariffShelf;
-use sql_rows::{BookColumns, Meta, read_books, read_meta};
+use sql_rows::{BookColumns, MetaColumns, read_books, read_meta};
 use sql_tables::{LATEST, OpenFault, ReadFault, find_tables, has_ours, is_blank};
 use sqlite::{Alter, Connection, Error, ErrorCode};
 use std::alloc::Global;
@@ -126,9 +126,9 @@ pub(crate) fn read_fault(fault: ReadFault) -> OpenFault
 }
 
 /// What is kept once.
-fn find_meta<S: Alter>(conn: &mut Connection<S>) -> Result<Meta, OpenFault>
+fn find_meta<S: Alter>(conn: &mut Connection<S>) -> Result<MetaColumns, OpenFault>
     requires idle { HasIdleBook (state S.Store conn.old) }
-    ensures reads { Reads (λ trees m. (content_of trees).meta ≡ Some (meta_of m))
+    ensures reads { Reads (λ trees m. (tables_content trees).meta ≡ Some (meta_of m))
         (state S.Store conn.old) (state S.Store conn.new) result }
     ensures told { IfErr result IsNoVersion }
     ensures ours { IfErr result (λ fault. ¬ (fault ≡ Foreign)) }
@@ -148,12 +148,12 @@ fn find_books<S: Alter>(
     alloc: Global,
 ) -> Result<Vec<BookColumns>, OpenFault>
     requires idle { HasIdleBook (state S.Store conn.old) }
-    ensures reads { Reads (λ trees xs. AreBooks (content_of trees) (map book_at xs.items))
+    ensures reads { Reads (λ trees xs. AreBooks (tables_content trees) (map book_at xs.items))
         (state S.Store conn.old) (state S.Store conn.new) result }
     ensures told { IfErr result IsNoVersion }
     ensures ours { IfErr result (λ fault. ¬ (fault ≡ Foreign)) }
     ensures rules { HasCleanDisk (state S.Store conn.new) → IfErr result (λ fault. fault ≡ Rules →
-        ¬ AreRuledBooks (content_of (state S.Store conn.old).now.trees).books) }
+        ¬ AreRuledBooks (tables_content (state S.Store conn.old).now.trees).books) }
 {
     read_books(conn, alloc).map_err(read_fault)
 }
@@ -171,7 +171,7 @@ pub(crate) fn is_version(kept: u32, version: u32) -> Result<(), OpenFault>
 }
 
 /// The version is that of the tables, and the moment in the range of moments.
-fn is_of_latest(meta: &Meta) -> Result<(), OpenFault>
+fn is_of_latest(meta: &MetaColumns) -> Result<(), OpenFault>
     ensures version { OnOk result (meta.now.version ≡ latest) }
     ensures told { IfErr result (λ fault. (fault ≡ Version) × (¬ (meta.now.version ≡ latest))) }
     ensures number { meta.now.version < 2 ^ 32 }

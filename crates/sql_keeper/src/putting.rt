@@ -7,7 +7,7 @@ ghost use Rattle.sql_rows.specs.Makes.{Makes, MakesIfOpen};
 ghost use Rattle.sql_rows.specs.Texts.{kept_of};
 ghost use Rattle.sql_keeper.specs.Content.{shelf_names};
 ghost use Rattle.sql_keeper.specs.Commits.{with_money};
-ghost use Rattle.sql_keeper.specs.Writes.{head_of, meta_with, with_change_put, with_kept};
+ghost use Rattle.sql_keeper.specs.Writes.{head_columns_of, meta_with, with_change_put, with_kept};
 ghost use Rattle.sql_keeper.specs.Writes.{with_changed_rows, with_named, with_texts};
 ghost use Rattle.sqlite.specs.Held.{state};
 
@@ -21,15 +21,17 @@ use identifiers::AccountNumber;
 use keepers::{Change, KeptAnswer, NamedRows};
 use reserving::StoredAccount;
 use shelves::TariffShelf;
-use sql_rows::{Head, Kept, put_account, put_answer, put_counters, put_meta, put_sessions};
+use sql_rows::{
+    HeadColumns, KeptTexts, put_account, put_answer, put_counters, put_meta, put_sessions,
+};
 use sql_tables::LATEST;
 use sqlite::{Alter, Error, Transaction};
 
 /// What is kept of an account once.
-pub(crate) fn head_of(rows: &StoredAccount) -> Head
-    ensures { result ≡ head_of rows.now }
+pub(crate) fn head_of(rows: &StoredAccount) -> HeadColumns
+    ensures { result ≡ head_columns_of rows.now }
 {
-    Head {
+    HeadColumns {
         barred: rows.is_barred(),
         as_of: rows.as_of(),
         next_bucket: rows.next_bucket(),
@@ -38,10 +40,10 @@ pub(crate) fn head_of(rows: &StoredAccount) -> Head
 }
 
 /// What a change leaves of an account once.
-pub(crate) fn head_named(rows: &NamedRows) -> Head
-    ensures { result ≡ head_of rows.now }
+pub(crate) fn head_named(rows: &NamedRows) -> HeadColumns
+    ensures { result ≡ head_columns_of rows.now }
 {
-    Head {
+    HeadColumns {
         barred: rows.is_barred(),
         as_of: rows.as_of(),
         next_bucket: rows.next_bucket(),
@@ -91,7 +93,7 @@ fn put_texts<S: Alter>(
     tx: &mut Transaction<'_, S>,
     account: &AccountNumber,
     content: &Content,
-    texts: &Kept,
+    texts: &KeptTexts,
 ) -> Result<usize, Error>
     requires book { HasBook (state S.Store tx.old.conn.now) }
     ensures same_reference { tx.new.conn.ghost_name ≡ tx.old.conn.ghost_name }
@@ -126,7 +128,7 @@ fn put_kept<S: Alter>(
     tx: &mut Transaction<'_, S>,
     account: &AccountNumber,
     kept: &Option<KeptAnswer>,
-    texts: &Option<Kept>,
+    texts: &Option<KeptTexts>,
 ) -> Result<(), Error>
     requires open { IsInside (state S.Store tx.old.conn.now) }
     requires book { HasBook (state S.Store tx.old.conn.now) }
@@ -175,7 +177,7 @@ pub(crate) fn put_change<S: Alter>(
     seen: &Option<SeenAccount>,
     text: &str,
     change: &Change,
-    texts: &Option<Kept>,
+    texts: &Option<KeptTexts>,
 ) -> Result<(), Error>
     requires book { HasBook (state S.Store tx.old.conn.now) }
     ensures same_reference { tx.new.conn.ghost_name ≡ tx.old.conn.ghost_name }

@@ -11,12 +11,12 @@ ghost use Rattle.sql_rows.specs.Texts.{names_of, open_group_at};
 ghost use Rattle.tariffs.specs.Names.{period_named};
 
 use crate::own_rows::{held_for, number_of};
-use buckets::{Bucket, Hold, Holds, Purse};
+use buckets::{Bucket, HeldAmount, Holds};
 use calendar::Period;
 use rating::Periods;
 use reserving::{Reservation, SessionGroup, Terms};
 use shelves::TariffShelf;
-use sql_rows::{HeldColumns, OpenGroup, PeriodNames, SessionBook, SessionHold};
+use sql_rows::{HeldColumns, OpenGroup, PeriodTexts, SessionBook, SessionHold};
 use sql_tables::ReadFault;
 use std::alloc::Global;
 use tariffs::TariffBook;
@@ -28,7 +28,7 @@ fn period_of(book: &TariffBook, name: &str) -> Result<Period, ReadFault>
     book.period_named(name).ok_or(ReadFault::Rules)
 }
 
-fn periods_of(book: &TariffBook, names: &PeriodNames) -> Result<Periods, ReadFault>
+fn periods_of(book: &TariffBook, names: &PeriodTexts) -> Result<Periods, ReadFault>
     ensures { IfOk result (λ p. ArePeriodsOf book.now.periods (names_of names.now) p) }
 {
     let before = period_of(book, names.before.as_str())?;
@@ -52,7 +52,7 @@ fn small_number(number: Option<u32>) -> Result<u8, ReadFault>
 fn terms_of(
     books: &TariffShelf,
     number: Option<u32>,
-    names: &PeriodNames,
+    names: &PeriodTexts,
 ) -> Result<Terms, ReadFault>
     ensures { IfOk result (λ x. AreTermsOf (shelf_names books.now) number (names_of names.now) x) }
 {
@@ -105,7 +105,7 @@ fn holds_along(
     buckets: &[Bucket],
     group: u32,
     held: &[HeldColumns],
-) -> Result<Vec<Hold>, ReadFault>
+) -> Result<Vec<HeldAmount>, ReadFault>
     ensures { IfOk result (λ holds. holds.items ≡ holds_along buckets.now group held.now) }
 {
     let mut holds = Vec::new(alloc);
@@ -113,7 +113,7 @@ fn holds_along(
         let number = bucket.number();
         let amount = amount_of(held, group, number);
         if amount > 0 {
-            let hold = Hold {
+            let hold = HeldAmount {
                 bucket: number,
                 amount,
             };

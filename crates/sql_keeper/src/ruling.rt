@@ -10,13 +10,13 @@ ghost use Rattle.sql_keeper.specs.RuledRows.{is_ruled_group, is_ruled_swept};
 ghost use Rattle.keepers.specs.Keys.{key_of};
 ghost use Rattle.sql_keeper.specs.RuledRows.{is_ruled_hold, is_ruled_kept, is_ruled_key};
 ghost use Rattle.sql_keeper.specs.RuledRows.{is_ruled_redeemed, is_ruled_reservation};
-ghost use Rattle.sql_keeper.specs.Writes.{head_of, row_of};
-ghost use Rattle.sql_rules.specs.Columns.{is_moment, is_small, is_within};
+ghost use Rattle.sql_keeper.specs.Writes.{head_columns_of, voucher_row};
+ghost use Rattle.sql_rules.specs.Columns.{is_moment, is_small, is_in_bounds};
 ghost use Rattle.sql_rules.specs.Ruled.{is_bucket, is_charge, is_counter, is_head};
 ghost use Rattle.sql_rules.specs.Ruled.{is_none_or_within, is_session, is_voucher};
 
 use crate::swept_rows::SweptAccount;
-use buckets::{Bucket, Hold};
+use buckets::{Bucket, HeldAmount};
 use commands::Content;
 use identifiers::{AccountNumber, Reference, SessionId, VoucherCode};
 use keepers::{Change, KeptAnswer, NamedRows, Redeemed};
@@ -40,7 +40,7 @@ fn is_small(number: u32) -> bool
 }
 
 fn is_within(number: u64, low: u64, high: u64) -> bool
-    ensures { result ≡ is_within low high number }
+    ensures { result ≡ is_in_bounds low high number }
 {
     low <= number && number <= high
 }
@@ -81,7 +81,7 @@ fn is_reference(reference: &Reference) -> bool
 // ---- the rows of an account
 
 fn is_head(rows: &NamedRows) -> bool
-    ensures { result ≡ is_head (head_of rows.now) }
+    ensures { result ≡ is_head (head_columns_of rows.now) }
 {
     is_moment(rows.as_of())
         && is_within(rows.next_bucket(), 1, 4_294_967_296)
@@ -112,13 +112,13 @@ fn is_session(session: &Session) -> bool
     is_name(&session.id) && is_small(session.last_number) && is_moment(session.touched)
 }
 
-fn is_hold(hold: &Hold) -> bool
+fn is_hold(hold: &HeldAmount) -> bool
     ensures { result ≡ is_ruled_hold hold.now }
 {
     is_within(hold.amount, 1, 1_000_000_000_000_000)
 }
 
-fn are_holds(holds: &[Hold]) -> bool
+fn are_holds(holds: &[HeldAmount]) -> bool
     ensures { result ≡ list_all is_ruled_hold holds.now }
 {
     holds.iter().all(|hold| is_hold(hold))
@@ -126,7 +126,7 @@ fn are_holds(holds: &[Hold]) -> bool
 
 /// Whether a book of this number is on the shelf.
 fn is_on_shelf(books: &TariffShelf, number: u8) -> bool
-    ensures { result ≡ is_within 1 (length (shelf_names books.now)) number }
+    ensures { result ≡ is_in_bounds 1 (length (shelf_names books.now)) number }
 {
     is_within(u64::from(number), 1, u64::from(books.count()))
 }
@@ -204,7 +204,7 @@ fn are_charges(charges: &[ChargeRow]) -> bool
 }
 
 fn are_terms(code: &VoucherCode, terms: VoucherTerms) -> bool
-    ensures { result ≡ is_voucher code.now (row_of (unspent terms)) }
+    ensures { result ≡ is_voucher code.now (voucher_row (unspent terms)) }
 {
     // For the prover alone: looking at the value makes known here what its type keeps.
     let _text = code.as_str();
@@ -243,8 +243,8 @@ fn is_kept(kept: &Option<KeptAnswer>) -> bool
     }
 }
 
-/// Whether the rows that a change writes, but for its texts, are in the rules of their tables, where
-/// the tariff books are those of the shelf.
+/// Whether the rows that a change writes, but for its texts, are in the rules of their tables,
+/// where the tariff books are those of the shelf.
 pub(crate) fn is_ruled_change(books: &TariffShelf, change: &Change) -> bool
     ensures { result ≡ is_ruled_change (shelf_names books.now) change.now }
 {

@@ -17,11 +17,11 @@ ghost use Rattle.sql_keeper.specs.Seen.{IsStanding, IsUnknownAlone, Sees, is_unk
 ghost use Rattle.sql_keeper.specs.Seen.{standing_in, stands_open};
 
 use crate::putting::head_of;
-use buckets::Hold;
+use buckets::HeldAmount;
 use identifiers::{AccountNumber, SessionId};
 use keepers::Loaded;
 use reserving::{Reservation, Session, SessionGroup, SessionState, StoredAccount};
-use sql_rows::Head;
+use sql_rows::HeadColumns;
 use sql_tables::ReadFault;
 
 /// What was read last of an account, while nothing has been written since.
@@ -30,7 +30,7 @@ pub(crate) struct SeenAccount {
     /// The account.
     pub account: AccountNumber,
     /// What is kept of it once, where it was read.
-    pub head: Option<Head>,
+    pub head: Option<HeadColumns>,
     /// A session of it that is open.
     pub live: Option<SessionId>,
     /// The reservation of that session's first rating group, if it holds of one bucket alone.
@@ -121,7 +121,7 @@ fn first_open(sessions: &[Session]) -> Option<SessionId>
 }
 
 /// The bucket of which something is held, if it is one alone.
-fn only_bucket(holds: &[Hold]) -> Option<u32>
+fn only_bucket(holds: &[HeldAmount]) -> Option<u32>
     ensures { result ≡ only_bucket holds.now }
 {
     match holds {
@@ -392,7 +392,7 @@ pub(crate) fn seen_later(
 }
 
 /// What is kept once of an account, if it is the one that was seen.
-fn head_of_seen(seen: &SeenAccount, account: &AccountNumber) -> Option<Head>
+fn head_of_seen(seen: &SeenAccount, account: &AccountNumber) -> Option<HeadColumns>
     ensures { (trees : Trees) → IsSeen (rows_in trees seen.now.account) seen.now →
         IfSome result (λ h. (rows_in trees account.now).head ≡ Some h) }
 {
@@ -403,7 +403,7 @@ fn head_of_seen(seen: &SeenAccount, account: &AccountNumber) -> Option<Head>
 }
 
 /// What is kept once of an account that was seen.
-pub(crate) fn head_seen(seen: &Option<SeenAccount>, account: &AccountNumber) -> Option<Head>
+pub(crate) fn head_seen(seen: &Option<SeenAccount>, account: &AccountNumber) -> Option<HeadColumns>
     ensures { (trees : Trees) → Sees seen.now trees →
         IfSome result (λ h. (rows_in trees account.now).head ≡ Some h) }
 {

@@ -21,7 +21,7 @@ use identifiers::{AccountNumber, SessionId};
 use keepers::Change;
 use reserving::{Session, SessionGroup};
 use shelves::TariffShelf;
-use sql_rows::{GroupColumns, Head, read_account, read_groups, read_session};
+use sql_rows::{GroupColumns, HeadColumns, read_account, read_groups, read_session};
 use sql_tables::ReadFault;
 use sqlite::{Alter, Connection};
 use std::alloc::Global;
@@ -91,7 +91,7 @@ fn find_standing<S: Alter>(
 fn read_head<S: Alter>(
     conn: &mut Connection<S>,
     account: &AccountNumber,
-) -> Result<Option<Head>, ReadFault>
+) -> Result<Option<HeadColumns>, ReadFault>
     requires idle { HasIdleBook (state S.Store conn.old) }
     ensures { Gathers (λ trees o. o ≡ (rows_in trees account.now).head)
         (state S.Store conn.old) (state S.Store conn.new) result }
@@ -104,7 +104,7 @@ fn find_head<S: Alter>(
     conn: &mut Connection<S>,
     seen: &Option<SeenAccount>,
     account: &AccountNumber,
-) -> Result<Option<Head>, ReadFault>
+) -> Result<Option<HeadColumns>, ReadFault>
     requires idle { HasIdleBook (state S.Store conn.old) }
     requires seen { AreSeen seen.now (state S.Store conn.old) }
     ensures { Gathers (λ trees o. o ≡ (rows_in trees account.now).head)

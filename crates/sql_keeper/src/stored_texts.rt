@@ -11,7 +11,7 @@ ghost use Rattle.sql_keeper.specs.Writes.{AreTexts};
 use commands::Content;
 use identifiers::AccountNumber;
 use keepers::KeptAnswer;
-use sql_rows::Kept;
+use sql_rows::KeptTexts;
 use sql_tables::ReadFault;
 use std::alloc::Global;
 use wire::write_content;
@@ -31,7 +31,11 @@ fn account_of(content: &Content) -> &AccountNumber
 /// The texts that stand for what is kept of a command of this account. What is of another account
 /// wouldn't be read again as what it is: it is out of the rules.
 #[tactic(auto, using(crate::proofs::OwnTexts::own_texts))]
-fn texts_of(alloc: Global, account: &AccountNumber, kept: &KeptAnswer) -> Result<Kept, ReadFault>
+fn texts_of(
+    alloc: Global,
+    account: &AccountNumber,
+    kept: &KeptAnswer,
+) -> Result<KeptTexts, ReadFault>
     ensures told { IfOk result (λ t. kept_in account.now (kept_of t) ≡ Some kept.now) }
     ensures rules { IfOk result (λ t. are_kept_texts account.now (kept_of t).content
         (kept_of t).answer ≡ true) }
@@ -43,7 +47,7 @@ fn texts_of(alloc: Global, account: &AccountNumber, kept: &KeptAnswer) -> Result
     }
     let content = write_content(alloc, &kept.content)?;
     let answer = kept.answer.to_text()?;
-    Ok(Kept { content, answer })
+    Ok(KeptTexts { content, answer })
 }
 
 /// The texts that stand for what is kept of a command of this account, where something is kept.
@@ -54,7 +58,7 @@ pub fn kept_texts(
     alloc: Global,
     account: &AccountNumber,
     kept: &Option<KeptAnswer>,
-) -> Result<Option<Kept>, ReadFault>
+) -> Result<Option<KeptTexts>, ReadFault>
     ensures told { IfOk result (λ t. AreTexts account.now kept.now (option_map kept_of t)) }
     ensures rules { IfOk result (λ t.
         are_ruled_texts account.now (option_map kept_of t) ≡ true) }

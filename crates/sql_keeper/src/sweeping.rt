@@ -1,18 +1,14 @@
 //! A sweep in one transaction: each account at the moment, or nothing is changed, also over a stop.
 
-ghost use Rattle.std.specs.Prelude.{◌≡◌, false, IfOk, IsTrue, OnOk};
-ghost use Rattle.keepers.specs.Change.{IsSwept};
-ghost use Rattle.keepers.specs.Keeping.{Keeps};
-ghost use Rattle.sql_rows.specs.Content.{content_of};
+ghost use Rattle.std.specs.Prelude.{◌≡◌, false, IfOk, OnOk};
+ghost use Rattle.sql_rows.specs.Content.{tables_content};
 ghost use Rattle.sql_rows.specs.Makes.{Makes};
 ghost use Rattle.sql_rules.specs.Columns.{is_moment};
 ghost use Rattle.sql_tables.specs.Statements.{Attempts, HasBook, HasIdleBook, HasRules, IsInside};
 ghost use Rattle.sql_keeper.specs.Content.{shelf_names};
-ghost use Rattle.sql_keeper.specs.Commits.{CommitsStanding, CommitsWhole, Transacts};
-ghost use Rattle.sql_keeper.specs.Inside.{clean_in, failed_in, names_in, tables_in};
-ghost use Rattle.sql_keeper.specs.Stops.{IsWhole, LeavesIn, honest_in, trees_in};
+ghost use Rattle.sql_keeper.specs.Commits.{CommitsStanding, CommitsWhole};
 ghost use Rattle.sql_keeper.specs.Sweeps.{BecomesSwept, MakesSweep, SweepsOne, TransactsSweep};
-ghost use Rattle.sql_keeper.specs.Sweeps.{with_swept, with_accounts, with_sweep};
+ghost use Rattle.sql_keeper.specs.Sweeps.{with_swept};
 ghost use Rattle.sqlite.specs.Held.{state};
 ghost use Rattle.sqlite.specs.State.{HasCleanDisk};
 ghost use Rattle.sql_keeper.specs.Calls.{SweepsAll};
@@ -147,7 +143,7 @@ fn make_sweep<S: Alter>(
     ensures commits { CommitsWhole (BecomesSwept (shelf_names names.now) text.now shelf.now moment)
         (state S.Store conn.old) (state S.Store conn.new) result }
     ensures count { HasCleanDisk (state S.Store conn.new) →
-        IfOk result (λ n. n ≡ (content_of (state S.Store conn.old).now.trees).count) }
+        IfOk result (λ n. n ≡ (tables_content (state S.Store conn.old).now.trees).count) }
 {
     // For the prover alone: looking at the value makes known here what its type keeps.
     let _ranges = shelf.first();
@@ -176,7 +172,7 @@ fn ask_to_sweep<S: Alter>(
         (BecomesSwept (shelf_names names.now) text.now shelf.now moment)
         (state S.Store conn.old) (state S.Store conn.new) result }
     ensures count { HasCleanDisk (state S.Store conn.new) →
-        IfOk result (λ n. n ≡ (content_of (state S.Store conn.old).now.trees).count) }
+        IfOk result (λ n. n ≡ (tables_content (state S.Store conn.old).now.trees).count) }
 {
     still_open(conn)?;
     make_sweep(conn, alloc, names, text, shelf, moment)
@@ -186,9 +182,9 @@ impl<S: Alter> SqlKeeper<S> {
     /// Brings each account to the moment, in one transaction, and answers how many there are: of
     /// each what may still change is read, sessions whose supervision time is over end, what their
     /// reservations held is given up, and what is left of buckets that ended is expired. An account
-    /// of a later moment stays. Of an account's rows those alone are written that differ. At a fault
-    /// nothing has changed, and whatever a stop leaves is the rows before the sweep or with all of
-    /// it.
+    /// of a later moment stays. Of an account's rows those alone are written that differ. At a
+    /// fault nothing has changed, and whatever a stop leaves is the rows before the sweep or with
+    /// all of it.
     ///
     /// One account after another is read and written within the transaction, so that what stands in
     /// memory of all of them are their numbers alone.

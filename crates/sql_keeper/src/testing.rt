@@ -1,11 +1,12 @@
 //! What is tested of a change before it is written, so that what is written reads as the change.
 
-ghost use Rattle.std.specs.Prelude.{◌≡◌, IsTrue, option_map};
+ghost use Rattle.std.specs.Prelude.{◌≡◌, IsTrue};
 ghost use Rattle.reserving.specs.Sessions.{session_in};
 ghost use Rattle.reserving.specs.Left.{is_open_row};
 ghost use Rattle.sql_keeper.specs.Content.{names_numbered, shelf_names};
 ghost use Rattle.sql_keeper.specs.RuledRows.{is_ruled_change};
-ghost use Rattle.sql_keeper.specs.Tests.{AreNumbered, AreWritable, IsNamed, IsWritable, MayStand};
+ghost use Rattle.sql_keeper.specs.Tests.{AreNumbered, AreWritable, IsPeriodNamed, IsWritable};
+ghost use Rattle.sql_keeper.specs.Tests.{MayStand};
 ghost use Rattle.sql_keeper.specs.Tests.{first_number};
 
 use crate::ruling::is_ruled_change;
@@ -14,10 +15,10 @@ use identifiers::SessionId;
 use keepers::Change;
 use reserving::{ChargeRow, Reservation, Session, SessionGroup, SessionState, Terms};
 use shelves::TariffShelf;
-use sql_rows::Head;
+use sql_rows::HeadColumns;
 
 /// The number of the next charge of an account; of the first one where it isn't there yet.
-fn first_number(head: &Option<Head>) -> u64
+fn first_number(head: &Option<HeadColumns>) -> u64
     ensures { result ≡ first_number head.now }
 {
     match head {
@@ -60,7 +61,7 @@ fn is_open(sessions: &[Session], id: &SessionId) -> bool
 
 /// Whether the book of a number has a name for a period.
 fn is_named(books: &TariffShelf, number: u8, period: Period) -> bool
-    ensures { IsTrue result → IsNamed (names_numbered (shelf_names books.now) number) period }
+    ensures { IsTrue result → IsPeriodNamed (names_numbered (shelf_names books.now) number) period }
 {
     match books.book(number) {
         None => false,
@@ -116,7 +117,7 @@ pub(crate) fn are_writable(
 /// Whether a change may be written over an account with this head, so that what is written reads as
 /// the change: each reservation stands in an open session that is named with it, with periods that
 /// have names in its book, the charges are numbered on, and each row is in the rules of its table.
-pub fn may_be_written(books: &TariffShelf, head: &Option<Head>, change: &Change) -> bool
+pub fn may_be_written(books: &TariffShelf, head: &Option<HeadColumns>, change: &Change) -> bool
     ensures reservations { IsTrue result →
         AreWritable (shelf_names books.now) change.now.rows.sessions change.now.rows.groups }
     ensures numbers { IsTrue result →

@@ -2,8 +2,8 @@
 
 ghost use Rattle.std.specs.Prelude.{◌≡◌};
 ghost use Rattle.sql_tables.specs.Statements.{Attempts, HasBook, IsInside};
-ghost use Rattle.sql_keeper.specs.Writes.{row_of, with_redeemed};
-ghost use Rattle.sql_rows.specs.Content.{with_voucher};
+ghost use Rattle.sql_keeper.specs.Writes.{voucher_row, with_redeemed};
+ghost use Rattle.sql_rows.specs.Content.{with_voucher_row};
 ghost use Rattle.sql_rows.specs.Makes.{Makes, MakesIfOpen};
 ghost use Rattle.sqlite.specs.Held.{state};
 
@@ -20,7 +20,7 @@ pub(crate) fn put_voucher<S: Alter>(
 ) -> Result<usize, Error>
     requires book { HasBook (state S.Store tx.old.conn.now) }
     ensures same_reference { tx.new.conn.ghost_name ≡ tx.old.conn.ghost_name }
-    ensures makes { Attempts (Makes (with_voucher code.now (row_of voucher.now)))
+    ensures makes { Attempts (Makes (with_voucher_row code.now (voucher_row voucher.now)))
         (state S.Store tx.old.conn.now) (state S.Store tx.new.conn.now) result }
 {
     let code = code.as_str();

@@ -1,10 +1,10 @@
 -- What the text of `add_charge` does.
 use Rattle.std.specs.Prelude.{codes, is_some, if◌then◌else◌, ◌==◌, not, IfOk}
-use Rattle.std.proofs.Common.{◌≡◌, ◌⊎◌, inl, inr, ℕ, ℤ, List, [], ◌∷◌, ◌++◌, Bool, true, false, ◌&&◌}
-use Rattle.std.proofs.Common.{Some, None, Option, Ok, Err, Result, OnOk, IsTrue, refl, sym, ap, subst}
-use Rattle.std.proofs.Common.{◌∙◌, arith, option_map}
+use Rattle.std.proofs.Common.{◌≡◌, ◌⊎◌, inl, inr, ℕ, ℤ, List, [], ◌∷◌, ◌++◌, Bool, true, false}
+use Rattle.std.proofs.Common.{Some, None, Ok, Result, OnOk, IsTrue, refl, sym, ap, subst}
+use Rattle.std.proofs.Common.{◌∙◌, arith}
 use Rattle.std.specs.Ordering.{eq_by_cmp}
-use Rattle.sqlite_value.specs.declared.value.Value.TheVariants.{Null, Int, Text}
+use Rattle.sqlite_value.specs.declared.value.Value.TheVariants.{Null, Int}
 use Rattle.sqlite_value.specs.Keys.{plain}
 use Rattle.sqlite_value.specs.Order.{Row, row_cmp}
 use Rattle.sqlite_trees.specs.Objects.{catalog_tree}
@@ -29,9 +29,9 @@ use Rattle.sql_tables.proofs.Casts.{cast_int, cast_null}
 use Rattle.sql_tables.proofs.Found.{is_some_map}
 use Rattle.sql_tables.proofs.Steps.{or_false}
 use Rattle.sql_tables.proofs.Ties.{agree_ties}
-use Rattle.sql_rows.specs.Values.{charge_values, charge_in}
-use Rattle.sql_rows.specs.Content.{Content, content_of, has_charge, rows_in}
-use Rattle.sql_rows.specs.Content.{with_charge, with_rows}
+use Rattle.sql_rows.specs.Values.{charge_values, charge_in_row}
+use Rattle.sql_rows.specs.Content.{TablesContent, tables_content, has_charge, with_charge_row}
+use Rattle.sql_rows.specs.Content.{with_rows}
 use Rattle.sql_rows.specs.Makes.{AddsIfNone, Makes}
 use Rattle.sql_rows.specs.Plain.{ArePlain}
 use Rattle.sql_rows.proofs.Adds.{AddsRow, IsAdded, IsThere, adds_table}
@@ -86,25 +86,25 @@ module _ (a : List ℕ) (row : ChargeRow) (none : row.covered.0 ≡ 0) where
       add_charge_text terms 10 add_is add_plain values again unset
       refl (λ v. refl) (λ id. (refl, (refl, tt))) meets
 
-  abbrev stands : Content → Bool
+  abbrev stands : TablesContent → Bool
   stands c = has_charge a row.number c
 
-  abbrev change : Content → Content
-  change c = if stands c then c else with_rows a (with_charge row) c
+  abbrev change : TablesContent → TablesContent
+  change c = if stands c then c else with_rows a (with_charge_row row) c
 
   -- whether there is a charge of its number
-  there : (trees : Trees) → stands (content_of trees)
+  there : (trees : Trees) → stands (tables_content trees)
       ≡ is_some (look charges trees (key_of places (Null ∷ values)))
-  there trees = is_some_map charge_in (look charges trees (key_of places (Null ∷ values)))
+  there trees = is_some_map charge_in_row (look charges trees (key_of places (Null ∷ values)))
 
   -- it is added where there was none
   record IsCharged (old new : State) (count : ℕ) : Type 0 where
     made : Makes change old new
-    told : (count == 1) ≡ not (stands (content_of old.now.trees))
+    told : (count == 1) ≡ not (stands (tables_content old.now.trees))
 
-  chosen : (t : Bool) (c : Content) → stands c ≡ t
-      → change c ≡ (if t then c else with_rows a (with_charge row) c)
-  chosen t c e = ap (λ b. if b then c else with_rows a (with_charge row) c) e
+  chosen : (t : Bool) (c : TablesContent) → stands c ≡ t
+      → change c ≡ (if t then c else with_rows a (with_charge_row row) c)
+  chosen t c e = ap (λ b. if b then c else with_rows a (with_charge_row row) c) e
 
   charged : (old new : State) (count : ℕ) → AddsRow charges values old new count
       → IsCharged old new count
@@ -113,23 +113,24 @@ module _ (a : List ℕ) (row : ChargeRow) (none : row.covered.0 ≡ 0) where
       at : IsAdded charges values old.now.trees new.now.trees count
           ⊎ IsThere charges values old.now.trees new.now.trees count → IsCharged old new count
       at (inl x) =
-          let missing : stands (content_of old.now.trees) ≡ false =
+          let missing : stands (tables_content old.now.trees) ≡ false =
           there old.now.trees ∙ ap is_some x.none in
           record {
             made = makes_turned change old new
                 (charge_turns a row none old.now.trees new.now.trees x.changes
-                ∙ sym (chosen false (content_of old.now.trees) missing))
+                ∙ sym (chosen false (tables_content old.now.trees) missing))
                 x.changes.catalog
                 (plain_beside charges values (omega arith) (omega arith) (omega arith)
                 old.now.trees new.now.trees x.changes) h.book h.shows;
             told = ap (λ n. n == 1) x.one ∙ ap not (sym missing);
           }
       at (inr x) =
-          let standing : stands (content_of old.now.trees) ≡ true =
+          let standing : stands (tables_content old.now.trees) ≡ true =
           there old.now.trees ∙ x.there in
           record {
             made = makes_turned change old new
-                (ap content_of x.same ∙ sym (chosen true (content_of old.now.trees) standing))
+                (ap tables_content x.same ∙ sym (chosen true (tables_content old.now.trees)
+                standing))
                 (ap (λ (t : Trees). t catalog_tree) x.same)
                 (subst ArePlain (sym x.same)) h.book h.shows;
             told = ap (λ n. n == 1) x.none ∙ ap not (sym standing);
@@ -139,7 +140,7 @@ module _ (a : List ℕ) (row : ChargeRow) (none : row.covered.0 ≡ 0) where
       → HasBook old
       → Attempts {A = ℕ} {E = Error}
       (λ old new. ExecutesInside 0 add_charge_text params old new (Ok count)) old new (Ok count)
-      → AddsIfNone {E = Error} stands (with_rows a (with_charge row)) old new (Ok (count == 1))
+      → AddsIfNone {E = Error} stands (with_rows a (with_charge_row row)) old new (Ok (count == 1))
   adds_charge params same old new count has ran = record {
     makes = record {
       done = λ clean. (is clean).made;

@@ -1,7 +1,7 @@
 -- What INSERT .. ON CONFLICT (key) DO NOTHING of one row makes of its table.
 use Rattle.std.proofs.Common.{◌≡◌, ◌≢◌, ◌⊎◌, inl, inr, ℕ, ℤ, List, [], ◌∷◌, length, slice_get}
-use Rattle.std.proofs.Common.{true, false, not, ◌/◌, if◌then◌else◌, Some, None, Option, Ok, Err, Result}
-use Rattle.std.proofs.Common.{OnOk, IsTrue, refl, sym, ap, subst, ◌∙◌, is_eq}
+use Rattle.std.proofs.Common.{true, false, not, ◌/◌, if◌then◌else◌, Some, None, Option, Ok, Err}
+use Rattle.std.proofs.Common.{Result, OnOk, IsTrue, refl, sym, ap, subst, ◌∙◌, is_eq}
 use Rattle.std.specs.Prelude.{IfOk, is_some, unwrap_or}
 use Rattle.std.proofs.lemmas.Bool.{and_parts, not-true}
 use Rattle.std.proofs.lemmas.Cmp.{tied_back}

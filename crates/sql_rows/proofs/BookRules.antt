@@ -1,8 +1,7 @@
 -- The books after the first, as they are read: where each is in its rules, no fault of the rules is
 -- told of them.
-use Rattle.std.proofs.Common.{◌≡◌, inl, inr, ℕ, zero, suc, ◌<◌, List, [], ◌∷◌, map, drop, Bool, true}
-use Rattle.std.proofs.Common.{false, ◌&&◌, Some, None, Option, is_eq, refl, ap, ap₂, ◌∙◌, length}
-use Rattle.std.proofs.Common.{get_or, arith}
+use Rattle.std.proofs.Common.{◌≡◌, inl, inr, ℕ, List, [], ◌∷◌, map, drop, true}
+use Rattle.std.proofs.Common.{false, ◌&&◌, Some, None, Option, is_eq, refl, ap, ap₂, ◌∙◌}
 use Rattle.std.specs.Prelude.{option_map}
 use Rattle.std.specs.List.{AllByRecursion}
 use Rattle.std.proofs.lemmas.Bool.{and_parts}
@@ -25,8 +24,8 @@ use Rattle.sql_tables.proofs.Keys.{keys_split}
 use Rattle.sql_tables.proofs.Selected.{selected_from}
 use Rattle.sql_tables.proofs.Selections.{full_key, meets, met_has, met_some, one_row}
 use Rattle.sql_tables.proofs.Steps.{and_true}
-use Rattle.sql_rows.specs.Values.{nat, nat_in, DatedBook, book_key, book_in}
-use Rattle.sql_rows.specs.Content.{content_of}
+use Rattle.sql_rows.specs.Values.{nat, BookRow, book_key, book_in_row}
+use Rattle.sql_rows.specs.Content.{tables_content}
 use Rattle.sql_rows.specs.Lists.{BookAt, book_at_cells}
 use Rattle.sql_rows.specs.Ruled.{AreRuledBooks, IsRuledBook}
 use Rattle.sql_rows.proofs.MetaRules.{full_at, right_at, text_of, whole_in}
@@ -84,7 +83,8 @@ fitting trees fits row has =
 
 -- it is the row under its number
 under_number : (trees : Trees) → Fits book_schema trees → IsStored (trees 22) → (r : Row)
-    → Has (trees 22) r → (n : ℕ) → column r 1 ≡ nat n → look books trees (book_key n) ≡ Some (drop 1 r)
+    → Has (trees 22) r → (n : ℕ) → column r 1 ≡ nat n
+    → look books trees (book_key n) ≡ Some (drop 1 r)
 under_number trees fits stored r h n is =
     let met : meets (1 ∷ []) (book_key n) r ≡ true =
     keys_split (nat n) (column r 1) [] [] ∙ and_true _
@@ -96,14 +96,14 @@ under_number trees fits stored r h n is =
     ∙ it.1
     ∙ ap Some (back.3 ∙ ap (drop 1) (one_row (1 ∷ []) book_schema books
     (inr (inr (inr (inr (inr (inr (inr (inr (inr (inr (inl refl))))))))))) (key_index books)
-    (inr (inr (inr (inr (inr (inr (inr (inr (inr (inr (inr (inr (inl refl))))))))))))) refl refl refl
-    trees fits stored (book_key n) (λ x m. full_key (1 ∷ []) (book_key n) x (refl, tt) m)
+    (inr (inr (inr (inr (inr (inr (inr (inr (inr (inr (inr (inr (inl refl))))))))))))) refl refl
+    refl trees fits stored (book_key n) (λ x m. full_key (1 ∷ []) (book_key n) x (refl, tt) m)
     back.0 r back.1 h back.2 met))
 
 -- ---- the rows that are read
 
 abbrev StandsIn : Trees → BookAt → Type 0
-StandsIn trees x = (content_of trees).books x.number ≡ Some x.row
+StandsIn trees x = (tables_content trees).books x.number ≡ Some x.row
 
 book_row : (trees : Trees) → Fits book_schema trees → IsStored (trees 22) → (r : Row)
     → Has (trees 22) r → (w : Row) → w ≡ columns r
@@ -113,11 +113,12 @@ book_row trees fits stored r h w same =
     record {
       at = at_in (drop 1 r);
       is = same ∙ is;
-      stands = ap (option_map book_in) (under_number trees fits stored r h (at_in (drop 1 r)).number
+      stands = ap (option_map book_in_row) (under_number trees fits stored r h
+          (at_in (drop 1 r)).number
           (ap (λ (v : Row). column v 0) is));
     }
 
-all_ruled : (books : ℕ → Option DatedBook) → AreRuledBooks books → (xs : List BookAt)
+all_ruled : (books : ℕ → Option BookRow) → AreRuledBooks books → (xs : List BookAt)
     → AllByRecursion (λ (x : BookAt). books x.number ≡ Some x.row) xs
     → AllByRecursion IsRuledBook xs
 all_ruled books ruled [] h = tt
@@ -126,11 +127,11 @@ all_ruled books ruled (x ∷ xs) h = (ruled x.number x.row h.0, all_ruled books 
 -- what was refused of the rows that were read is refused of the tables
 pub books_refused : (old new : State) (rows : List Row) → Answers read_books_text [] old new rows
     → ((xs : List BookAt) → rows ≡ map book_at_cells xs → ¬ AllByRecursion IsRuledBook xs)
-    → ¬ AreRuledBooks (content_of old.now.trees).books
+    → ¬ AreRuledBooks (tables_content old.now.trees).books
 books_refused old new rows got refused ruled =
     let stored = got.book.stored.1.1.1.1.1.1.1.1.1.1.0 in
     let selects = books_selected old new rows got in
     let it = listed book_at_cells (StandsIn old.now.trees) rows (λ w h.
     let from = selected_from (λ r. true) columns (old.now.trees 22) rows selects w h in
     book_row old.now.trees got.fits stored from.0 from.1 w from.3) in
-    refused it.xs it.are (all_ruled (content_of old.now.trees).books ruled it.xs it.stand)
+    refused it.xs it.are (all_ruled (tables_content old.now.trees).books ruled it.xs it.stand)

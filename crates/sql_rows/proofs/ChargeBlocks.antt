@@ -1,6 +1,6 @@
 -- Covered blocks stand beside a charge.
-use Rattle.std.specs.Prelude.{codes, is_some, pos, ◌||◌}
-use Rattle.std.proofs.Common.{◌≡◌, inl, inr, ℕ, List, [], ◌∷◌, Bool, true, Some, None, Option}
+use Rattle.std.specs.Prelude.{codes, is_some}
+use Rattle.std.proofs.Common.{◌≡◌, inl, inr, ℕ, List, [], ◌∷◌, true, Some, None, Option}
 use Rattle.std.proofs.Common.{refl, sym, ap, ◌∙◌, option_map}
 use Rattle.sqlite_value.specs.Keys.{plain, joined}
 use Rattle.sqlite_value.specs.Order.{Row}
@@ -15,7 +15,7 @@ use Rattle.sql_tables.specs.Schema.{belongs, book_schema, charges, covered}
 use Rattle.sql_tables.proofs.Found.{is_some_map}
 use Rattle.sql_tables.proofs.Parents.{parent_there}
 use Rattle.sql_tables.proofs.Selections.{full_key}
-use Rattle.sql_rows.specs.Values.{charge_in, charge_key, covered_in}
+use Rattle.sql_rows.specs.Values.{charge_in_row, charge_key, covered_in_row}
 use Rattle.sql_rows.specs.Content.{rows_in}
 use Rattle.sql_rows.specs.Lists.{AreCoveredBeside}
 
@@ -40,8 +40,8 @@ module _ (trees : Trees) (keys : Keeps ForeignKey book_schema trees) (a : List �
   covered_beside n none = at (look covered trees (charge_key a n)) refl
     where
       at : (o : Option Row) → look covered trees (charge_key a n) ≡ o →
-          option_map covered_in o ≡ None
+          option_map covered_in_row o ≡ None
       at None e = refl
       at (Some v) e = absurd (not_both (sym (ap is_some none)
-          ∙ is_some_map charge_in (look charges trees (charge_key a n))
+          ∙ is_some_map charge_in_row (look charges trees (charge_key a n))
           ∙ charge_of_covered n v e))

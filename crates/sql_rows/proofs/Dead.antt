@@ -1,30 +1,30 @@
 -- Those of buckets whose numbers rise that pass a test.
-use Rattle.std.proofs.Common.{◌≡◌, ℕ, ◌<◌, ◌≤◌, List, [], ◌∷◌, Bool, true, false, Some, None}
-use Rattle.std.proofs.Common.{Option, refl, sym, ap, ◌∙◌, arith, nat_eq, eqb-true, map, subst, Ok}
+use Rattle.std.proofs.Common.{◌≡◌, ℕ, ◌<◌, ◌≤◌, List, [], ◌∷◌, Bool, true, false, None}
+use Rattle.std.proofs.Common.{refl, sym, ap, ◌∙◌, arith, nat_eq, eqb-true, map, subst, Ok}
 use Rattle.std.proofs.Common.{Err, Result, OnOk}
 use Rattle.std.specs.Prelude.{filter, IfOk}
 use Rattle.std.specs.List.{find}
-use Rattle.buckets.specs.Row.{Row as Bucket}
-use Rattle.sql_tables.specs.Selects.{only}
+use Rattle.buckets.specs.Row.{BucketRow}
+use Rattle.sql_tables.specs.Selects.{passing}
 use Rattle.sql_tables.proofs.ByKey.{only_all}
-use Rattle.sql_rows.specs.Content.{Rows}
-use Rattle.sql_rows.specs.Lists.{AreBuckets, BucketsRise, is_dead}
+use Rattle.sql_rows.specs.Content.{TableRows}
+use Rattle.sql_rows.specs.Lists.{AreBuckets, BucketsRise, is_dead_bucket}
 
-abbrev has : ℕ → Bucket → Bool
+abbrev has : ℕ → BucketRow → Bool
 has n b = nat_eq b.number n
 
-rise_tail : (b : Bucket) (bs : List Bucket) → BucketsRise (b ∷ bs) → BucketsRise bs
+rise_tail : (b : BucketRow) (bs : List BucketRow) → BucketsRise (b ∷ bs) → BucketsRise bs
 rise_tail b [] rise = tt
 rise_tail b (x ∷ xs) rise = rise.1
 
-rise_over : (l m : Bucket) (bs : List Bucket) → l.number < m.number → BucketsRise (m ∷ bs) →
+rise_over : (l m : BucketRow) (bs : List BucketRow) → l.number < m.number → BucketsRise (m ∷ bs) →
     BucketsRise (l ∷ bs)
 rise_over l m [] less rise = tt
 rise_over l m (b ∷ bs) less rise = (omega (arith, less, rise.0), rise.1)
 
-module _ (test : Bucket → Bool) where
+module _ (test : BucketRow → Bool) where
   -- a number that isn't above the first isn't among the others
-  none_later : (n : ℕ) (m : Bucket) (bs : List Bucket) → n ≤ m.number → BucketsRise (m ∷ bs)
+  none_later : (n : ℕ) (m : BucketRow) (bs : List BucketRow) → n ≤ m.number → BucketsRise (m ∷ bs)
       → find (has n) (filter test bs) ≡ None
   none_later n m [] less rise = refl
   none_later n m (b ∷ bs) less rise =
@@ -39,15 +39,15 @@ module _ (test : Bucket → Bool) where
       go false e false k none = rw e none
 
   -- under each number the bucket that was there, if it passes the test
-  pub found_among : (n : ℕ) (bs : List Bucket) → BucketsRise bs
-      → find (has n) (filter test bs) ≡ only test (find (has n) bs)
+  pub found_among : (n : ℕ) (bs : List BucketRow) → BucketsRise bs
+      → find (has n) (filter test bs) ≡ passing test (find (has n) bs)
   found_among n [] rise = refl
   found_among n (b ∷ bs) rise =
       go (test b) refl (nat_eq b.number n) refl (found_among n bs (rise_tail b bs rise))
     where
       go : (p : Bool) → test b ≡ p → (q : Bool) → nat_eq b.number n ≡ q
-          → find (has n) (filter test bs) ≡ only test (find (has n) bs)
-          → find (has n) (filter test (b ∷ bs)) ≡ only test (find (has n) (b ∷ bs))
+          → find (has n) (filter test bs) ≡ passing test (find (has n) bs)
+          → find (has n) (filter test (b ∷ bs)) ≡ passing test (find (has n) (b ∷ bs))
       go true e true k same = rw (e, k, e) refl
       go true e false k same = rw (e, k) same
       go false e true k same =
@@ -56,7 +56,7 @@ module _ (test : Bucket → Bool) where
           rw (e, k, e) later
       go false e false k same = rw (e, k) same
 
-  rise_after : (m : Bucket) (bs : List Bucket) → BucketsRise (m ∷ bs) →
+  rise_after : (m : BucketRow) (bs : List BucketRow) → BucketsRise (m ∷ bs) →
       BucketsRise (m ∷ filter test bs)
   rise_after m [] rise = tt
   rise_after m (b ∷ bs) rise =
@@ -67,7 +67,7 @@ module _ (test : Bucket → Bool) where
       go true e taken left = rw e (rise.0, taken)
       go false e taken left = rw e left
 
-  pub rise_among : (bs : List Bucket) → BucketsRise bs → BucketsRise (filter test bs)
+  pub rise_among : (bs : List BucketRow) → BucketsRise bs → BucketsRise (filter test bs)
   rise_among [] rise = tt
   rise_among (b ∷ bs) rise =
       go (test b) refl (rise_after b bs rise) (rise_among bs (rise_tail b bs rise))
@@ -77,26 +77,29 @@ module _ (test : Bucket → Bool) where
       go true e taken left = rw e taken
       go false e taken left = rw e left
 
-pub filter_rows : {X : Type 0} (f : X → Bucket) (xs : List X)
-    → map f (filter (λ x. is_dead (f x)) xs) ≡ filter is_dead (map f xs)
+pub filter_rows : {X : Type 0} (f : X → BucketRow) (xs : List X)
+    → map f (filter (λ x. is_dead_bucket (f x)) xs) ≡ filter is_dead_bucket (map f xs)
 filter_rows f [] = refl
-filter_rows f (x ∷ xs) = go (is_dead (f x)) refl (filter_rows f xs)
+filter_rows f (x ∷ xs) = go (is_dead_bucket (f x)) refl (filter_rows f xs)
   where
-    go : (p : Bool) → is_dead (f x) ≡ p
-        → map f (filter (λ x. is_dead (f x)) xs) ≡ filter is_dead (map f xs)
-        → map f (filter (λ x. is_dead (f x)) (x ∷ xs)) ≡ filter is_dead (map f (x ∷ xs))
+    go : (p : Bool) → is_dead_bucket (f x) ≡ p
+        → map f (filter (λ x. is_dead_bucket (f x)) xs) ≡ filter is_dead_bucket (map f xs)
+        → map f (filter (λ x. is_dead_bucket (f x)) (x ∷ xs)) ≡ filter is_dead_bucket
+        (map f (x ∷ xs))
     go true e same = rw e (ap (λ bs. f x ∷ bs) same)
     go false e same = rw e same
 
-module _ {V E : Type 0} (row : V → List Bucket) (all : List Bucket) where
-  pub dead_told : (rows : Rows) (r : Result V E) → IfOk r (λ v. row v ≡ filter is_dead all)
+module _ {V E : Type 0} (row : V → List BucketRow) (all : List BucketRow) where
+  pub dead_told : (rows : TableRows) (r : Result V E) → IfOk r
+      (λ v. row v ≡ filter is_dead_bucket all)
       → OnOk r (BucketsRise all) → AreBuckets (λ b. true) rows all
-      → IfOk r (λ v. AreBuckets is_dead rows (row v))
-  dead_told rows (Ok v) is rise found = λ n. ap (find (has n)) is ∙ found_among is_dead n all rise
-      ∙ ap (only is_dead) (found n ∙ only_all _)
+      → IfOk r (λ v. AreBuckets is_dead_bucket rows (row v))
+  dead_told rows (Ok v) is rise found = λ n. ap (find (has n)) is ∙ found_among is_dead_bucket n all
+      rise
+      ∙ ap (passing is_dead_bucket) (found n ∙ only_all _)
   dead_told rows (Err e) is rise found = tt
 
-  pub dead_rise : (r : Result V E) → IfOk r (λ v. row v ≡ filter is_dead all)
+  pub dead_rise : (r : Result V E) → IfOk r (λ v. row v ≡ filter is_dead_bucket all)
       → OnOk r (BucketsRise all) → IfOk r (λ v. BucketsRise (row v))
-  dead_rise (Ok v) is rise = subst BucketsRise (sym is) (rise_among is_dead all rise)
+  dead_rise (Ok v) is rise = subst BucketsRise (sym is) (rise_among is_dead_bucket all rise)
   dead_rise (Err e) is rise = tt

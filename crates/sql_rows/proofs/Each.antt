@@ -1,24 +1,24 @@
 -- A loop that puts each row of a list.
 use Rattle.std.proofs.Common.{◌≡◌, ◌∙◌, ap, subst, sym, refl, arith, List, ◌∷◌, IsTrue, true, ℕ}
-use Rattle.std.proofs.Common.{◌+◌, ◌<◌, ◌≤◌, Ok, Result, OnOk, OnErr, drop, length, get_or}
+use Rattle.std.proofs.Common.{◌+◌, ◌<◌, ◌≤◌, Ok, drop, length, get_or}
 use Rattle.std.proofs.lemmas.List.{drop_all, drop_more}
-use Rattle.sqlite.specs.State.{State, HasCleanDisk, Survives, Shows, KeepsCommit}
+use Rattle.sqlite.specs.State.{State, HasCleanDisk, Survives, Shows}
 use Rattle.sqlite.proofs.StateLemmas.{survives_then}
 use Rattle.sqlite_trees.specs.Objects.{catalog_tree}
 use Rattle.sql_tables.specs.Statements.{Attempts, IsBook}
-use Rattle.sql_rows.specs.Content.{Content, content_of}
+use Rattle.sql_rows.specs.Content.{TablesContent, tables_content}
 use Rattle.sql_rows.specs.Each.{with_each}
 use Rattle.sql_rows.specs.Makes.{Makes, MakesIfOpen}
 use Rattle.sql_rows.specs.Plain.{ArePlain}
 
-module _ {X : Type 0} (change : X → Content → Content) (all : List X) where
+module _ {X : Type 0} (change : X → TablesContent → TablesContent) (all : List X) where
   pub record IsPut (rest : List X) (old now : State) : Type 0 where
     pub book : IsBook now
     pub shows : Shows old now now.now old.committed true
     pub catalog : now.now.trees catalog_tree ≡ old.now.trees catalog_tree
     pub plain : ArePlain old.now.trees → ArePlain now.now.trees
-    pub content : with_each change rest (content_of now.now.trees)
-        ≡ with_each change all (content_of old.now.trees)
+    pub content : with_each change rest (tables_content now.now.trees)
+        ≡ with_each change all (tables_content old.now.trees)
 
   -- what is done once all but the rest are put
   pub record HasPut (rest : List X) (old now : State) : Type 0 where
@@ -82,7 +82,7 @@ module _ {X : Type 0} (change : X → Content → Content) (all : List X) where
           let s = h.sofar clean on in
           record {
             turns = record {
-              content = ap (λ xs. with_each change xs (content_of now.now.trees))
+              content = ap (λ xs. with_each change xs (tables_content now.now.trees))
                   (sym (drop_all i all end)) ∙ s.content;
               catalog = s.catalog;
               stored = s.book.stored;

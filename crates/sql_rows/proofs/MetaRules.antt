@@ -1,5 +1,5 @@
 -- What is kept once, as it is read: where it is in its rules, no fault of the rules is told of it.
-use Rattle.std.proofs.Common.{◌≡◌, inl, inr, ℕ, ℤ, pos, negsuc, List, [], ◌∷◌, map, drop, Bool}
+use Rattle.std.proofs.Common.{◌≡◌, inl, inr, ℕ, pos, negsuc, List, [], ◌∷◌, map, drop, Bool}
 use Rattle.std.proofs.Common.{true, false, not, ◌&&◌, Some, None, Option, refl, sym, ap, ap₂, subst}
 use Rattle.std.proofs.Common.{◌∙◌}
 use Rattle.std.specs.Prelude.{slice_index_or, Result, Ok, Err, IfErr, IfOk, MatchResult}
@@ -13,7 +13,6 @@ use Rattle.sqlite_value.proofs.OrderLemmas.{value_cmp-Int}
 use Rattle.sqlite_sql.specs.declared.ops.BinaryOp.TheVariants.{Compare}
 use Rattle.sqlite_sql.specs.declared.ops.CompareOp.TheVariants.{Ge}
 use Rattle.sqlite_sql.specs.Ops.{binary, from_truth, is_false, is_null}
-use Rattle.sqlite_schema.specs.declared.schema.Kind.{Kind}
 use Rattle.sqlite_schema.specs.declared.schema.Kind.TheVariants as kind
 use Rattle.sqlite_schema.specs.declared.schema.Constraint.TheVariants.{Datatype, NotNull, Check}
 use Rattle.sqlite_schema.specs.Rules.{Fits, are_present, are_typed, is_of, passes_checks}
@@ -25,10 +24,9 @@ use Rattle.sql_tables.specs.Keyed.{key_of}
 use Rattle.sql_tables.specs.Schema.{meta, book_schema}
 use Rattle.sql_tables.specs.Selects.{one_or_none}
 use Rattle.sql_tables.specs.Statements.{Answers}
-use Rattle.sql_tables.proofs.Selected.{told}
 use Rattle.sql_tables.proofs.Single.{one_selected}
 use Rattle.sql_rows.specs.Values.{nat, nat_in, text_in, Meta, meta_key, meta_in, meta_cells}
-use Rattle.sql_rows.specs.Content.{content_of}
+use Rattle.sql_rows.specs.Content.{tables_content}
 use Rattle.sql_rows.specs.Ruled.{IsRefusedMeta, IsRuledMeta}
 use Rattle.sql_rows.proofs.ReadMeta.{read_meta_text, columns, meta_read, meta_selected}
 
@@ -151,7 +149,7 @@ several_refused rows several (Some m) some = absurd (several (Some (meta_cells m
 -- what was refused of the rows that were read is refused of the tables
 pub meta_refused : (old new : State) (rows : List Row) → Answers read_meta_text [] old new rows
     → ((o : Option Meta) → rows ≡ map meta_cells (one_or_none o) → IsRefusedMeta o)
-    → IsRefusedMeta (content_of old.now.trees).meta
+    → IsRefusedMeta (tables_content old.now.trees).meta
 meta_refused old new rows got refused =
     let it = there old new rows got in
     subst IsRefusedMeta (meta_read old new rows it.0 got it.1) (refused it.0 it.1)

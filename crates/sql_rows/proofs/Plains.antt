@@ -1,6 +1,6 @@
 -- What is put and what is removed leave rows that are as the statements write them.
-use Rattle.std.proofs.Common.{◌≡◌, ◌≢◌, ℕ, List, [], ◌∷◌, Bool, true, false, cond, Some, None, Option}
-use Rattle.std.proofs.Common.{IsTrue, refl, sym, subst, ◌∙◌, take, length, arith}
+use Rattle.std.proofs.Common.{◌≡◌, ◌≢◌, ℕ, List, ◌∷◌, Bool, true, false, cond, Some, None, Option}
+use Rattle.std.proofs.Common.{refl, sym, subst, ◌∙◌, arith}
 use Rattle.std.specs.Ordering.{eq_by_cmp}
 use Rattle.std.specs.FinMap.{get}
 use Rattle.sqlite_value.specs.declared.value.Value.TheVariants.{Null}
@@ -16,7 +16,7 @@ use Rattle.sql_tables.specs.Statements.{Changes, Ends}
 use Rattle.sql_tables.proofs.Found.{found}
 use Rattle.sql_rows.specs.Plain.{AreAll, ArePlain, is_plain_group, is_plain_head, is_plain_session}
 use Rattle.sql_rows.specs.Values.{Group, PeriodNames, group_values, head_values, session_values}
-use Rattle.sql_rows.specs.declared.head.Head.{Head}
+use Rattle.sql_rows.specs.declared.head.HeadColumns.{HeadColumns}
 
 module _ (test : Row → Bool) where
   either : (values : Row) → test values ≡ true → (before : Option Row)
@@ -72,7 +72,7 @@ plain_without table wanted a s g old new c =
 
 -- ---- the rows of the three
 
-head_plain : (a : List ℕ) (h : Head) → is_plain_head (head_values a h) ≡ true
+head_plain : (a : List ℕ) (h : HeadColumns) → is_plain_head (head_values a h) ≡ true
 head_plain a h = at h.barred
   where
     at : (b : Bool) → is_plain_head (head_values a (record h { barred = b })) ≡ true
@@ -95,7 +95,7 @@ group_plain a s g x = at x.periods
     at None = refl
     at (Some p) = refl
 
-pub plain_account : (a : List ℕ) (h : Head) (old new : Trees)
+pub plain_account : (a : List ℕ) (h : HeadColumns) (old new : Trees)
     → Changes accounts (head_values a h) old new → ArePlain old → ArePlain new
 plain_account a h old new c p = record {
   heads = put_passes is_plain_head accounts (head_values a h) old new c (head_plain a h) p.heads;

@@ -31,9 +31,9 @@ use Rattle.sql_tables.proofs.Steps.{or_false}
 use Rattle.sql_tables.proofs.Tabled.{puts_table}
 use Rattle.sql_tables.proofs.Ties.{agree_ties}
 use Rattle.sql_tables.proofs.Upserts.{pick}
-use Rattle.sql_rows.specs.declared.head.Head.{Head}
+use Rattle.sql_rows.specs.declared.head.HeadColumns.{HeadColumns}
 use Rattle.sql_rows.specs.Values.{nat, head_cells, head_values, head_key, head_in, flag_number}
-use Rattle.sql_rows.specs.Content.{with_account, with_head, rows_in, content_of}
+use Rattle.sql_rows.specs.Content.{with_account, with_head, rows_in, tables_content}
 use Rattle.sql_rows.specs.Makes.{Makes}
 use Rattle.sql_rows.proofs.Plains.{plain_account}
 use Rattle.sql_rows.proofs.Stays.{only_changed, rows_turn}
@@ -69,14 +69,14 @@ put_plain : IsPlain (understood book_schema put_account_text)
 unfolding understood everything
 put_plain = (refl, refl)
 
-pub head_told : (v : Value) (h : Head) → head_in (v ∷ head_cells h) ≡ h
+pub head_told : (v : Value) (h : HeadColumns) → head_in (v ∷ head_cells h) ≡ h
 head_told v h = go h.barred refl
   where
     go : (b : Bool) → h.barred ≡ b → head_in (v ∷ head_cells h) ≡ h
     go true e = rw e refl
     go false e = rw e refl
 
-module _ (a : List ℕ) (h : Head) where
+module _ (a : List ℕ) (h : HeadColumns) where
   abbrev values : Row
   values = head_values a h
 
@@ -106,10 +106,11 @@ module _ (a : List ℕ) (h : Head) where
       else length (old 2) + 1
 
   turns : (old new : Trees) → Changes accounts values old new → length (new 2) ≡ grown old
-      → content_of new ≡ with_account a h (content_of old)
+      → tables_content new ≡ with_account a h (tables_content old)
   turns old new c more =
       only_changed 2 old new c.others
-      ∙ (λ i. record (rows_turn a (content_of old) (with_head h) (λ r. r.head) (λ r f. record r {
+      ∙ (λ i. record (rows_turn a (tables_content old) (with_head h) (λ r. r.head)
+      (λ r f. record r {
         head = f;
       }) (λ r. refl) (λ r. refl) (rows_in new)
       (λ x. put_tells head_in accounts values old new c h (head_told (Text a) h) (head_key x)
@@ -133,7 +134,8 @@ module _ (a : List ℕ) (h : Head) where
       → Attempts (λ old new. ExecutesInside 0 put_account_text params old new r) old new r
       → OnOk r (HasRules new)
   rules_account =
-      rules_after put_account_text values (Puts accounts values) put_is put_plain puts (λ old new p. p.book)
+      rules_after put_account_text values (Puts accounts values) put_is put_plain puts
+      (λ old new p. p.book)
 
   -- the parameters, as they are bound
   pub bound_account : (v1 v2 v3 v4 v5 : Value)

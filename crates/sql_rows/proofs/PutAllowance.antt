@@ -1,7 +1,8 @@
 -- What the text of `put_allowance` does.
 use Rattle.std.specs.Prelude.{codes, if◌then◌else◌, is_some}
-use Rattle.std.proofs.Common.{◌≡◌, inl, inr, ℕ, ℤ, List, [], ◌∷◌, ◌++◌, map, Bool, true, false, ◌&&◌, Option, Some, Result}
-use Rattle.std.proofs.Common.{OnOk, IsTrue, refl, ap, ◌∙◌, arith, nat_eq}
+use Rattle.std.proofs.Common.{◌≡◌, inl, inr, ℕ, ℤ, List, [], ◌∷◌, ◌++◌, map, Bool, true, false}
+use Rattle.std.proofs.Common.{◌&&◌, Option, Some, Result, OnOk, IsTrue, refl, ap, ◌∙◌, arith}
+use Rattle.std.proofs.Common.{nat_eq}
 use Rattle.std.specs.Ordering.{eq_by_cmp}
 use Rattle.sqlite_value.specs.declared.value.Value.{Value}
 use Rattle.sqlite_value.specs.declared.value.Value.TheVariants.{Null, Int, Text}
@@ -32,7 +33,7 @@ use Rattle.sql_tables.proofs.Tabled.{puts_table}
 use Rattle.sql_tables.proofs.Ties.{agree_ties}
 use Rattle.sql_tables.proofs.Upserts.{pick}
 use Rattle.sql_rows.specs.Values.{nat, bucket_key, allowance_in}
-use Rattle.sql_rows.specs.Content.{with_rows, with_allowance, rows_in, content_of}
+use Rattle.sql_rows.specs.Content.{with_rows, with_allowance, rows_in, tables_content}
 use Rattle.sql_rows.specs.Makes.{Makes}
 use Rattle.sql_rows.proofs.Plains.{plain_beside}
 use Rattle.sql_rows.proofs.Stays.{only_changed, rows_turn, at_each}
@@ -92,17 +93,18 @@ module _ (a : List ℕ) (n : ℕ) where
       → OnOk r (Puts allowance_buckets values old new)
   puts =
       puts_table 12 allowance_buckets refl
-      (inr (inr (inr (inr (inr (inr (inr (inr (inr (inr (inr (inr (inl refl))))))))))))) (key_index allowance_buckets)
-      (inr (inr (inr (inr (inr (inr (inr (inr (inr (inr (inr (inr (inr (inr (inr (inl refl))))))))))))))))
-      refl refl refl (λ e. omega arith) refl
+      (inr (inr (inr (inr (inr (inr (inr (inr (inr (inr (inr (inr (inl refl)))))))))))))
+      (key_index allowance_buckets)
+      (inr (inr (inr (inr (inr (inr (inr (inr (inr
+      (inr (inr (inr (inr (inr (inr (inl refl)))))))))))))))) refl refl refl (λ e. omega arith) refl
       put_allowance_text terms project 3 2 put_is put_plain values (λ olds new. refl) again unset
       (λ id met r. refl) (λ id met. refl) refl (λ v. refl) (λ id. (refl, (refl, tt))) meets
 
   turns : (old new : Trees) → Changes allowance_buckets values old new
-      → content_of new ≡ with_rows a (with_allowance n) (content_of old)
+      → tables_content new ≡ with_rows a (with_allowance n) (tables_content old)
   turns old new c =
       only_changed 27 old new c.others
-      ∙ rows_turn a (content_of old) (with_allowance n) (λ r. r.allowances)
+      ∙ rows_turn a (tables_content old) (with_allowance n) (λ r. r.allowances)
       (λ r f. record r { allowances = f }) (λ r. refl)
       (λ r. refl) (rows_in new) (λ x. at_each (same_name a x) _ _ _ (λ m.
       ap is_some (put_tells allowance_in allowance_buckets values old new c n refl (bucket_key x m)
@@ -115,7 +117,8 @@ module _ (a : List ℕ) (n : ℕ) where
       → Attempts (λ old new. ExecutesInside 0 put_allowance_text params old new r) old new r
       → Attempts (Makes (with_rows a (with_allowance n))) old new r
   makes_allowance =
-      writes put_allowance_text values (Puts allowance_buckets values) (with_rows a (with_allowance n)) puts
+      writes put_allowance_text values (Puts allowance_buckets values)
+      (with_rows a (with_allowance n)) puts
       (puts_make allowance_buckets values (with_rows a (with_allowance n)) turns
       (plain_beside allowance_buckets values (omega arith) (omega arith) (omega arith)))
 

@@ -1,8 +1,7 @@
 -- What the text of `put_answer` does.
-use Rattle.std.specs.Prelude.{codes, option_map, is_some, length, if◌then◌else◌}
-use Rattle.std.proofs.Common.{◌≡◌, ◌≢◌, inl, inr, ℕ, ℤ, pos, ◌+◌, List, [], ◌∷◌, ◌++◌, map, Bool}
-use Rattle.std.proofs.Common.{true, false, ◌&&◌, Some, None, Option, Ok, Err, Result, OnOk, IsTrue}
-use Rattle.std.proofs.Common.{refl, sym, ap, ◌∙◌, arith, nat_eq}
+use Rattle.std.specs.Prelude.{codes}
+use Rattle.std.proofs.Common.{◌≡◌, inl, inr, ℕ, ℤ, ◌+◌, List, [], ◌∷◌, ◌++◌, map}
+use Rattle.std.proofs.Common.{◌&&◌, Some, Result, OnOk, IsTrue, refl, ◌∙◌, arith, nat_eq}
 use Rattle.std.specs.Ordering.{eq_by_cmp}
 use Rattle.sqlite_value.specs.declared.value.Value.{Value}
 use Rattle.sqlite_value.specs.declared.value.Value.TheVariants.{Null, Int, Text}
@@ -17,24 +16,23 @@ use Rattle.sqlite_schema.specs.Rules.{agree}
 use Rattle.sqlite_rules.specs.Cast.{cast_row}
 use Rattle.sqlite_rules.specs.Keys.{conflicts}
 use Rattle.sqlite_tied.specs.Compute.{everything}
-use Rattle.sqlite.specs.Values.{bound_value, or_null}
+use Rattle.sqlite.specs.Values.{bound_value}
 use Rattle.sqlite.specs.declared.error.Error.{Error}
 use Rattle.sqlite.specs.Listing.{understood}
 use Rattle.sqlite.specs.State.{State, ExecutesInside}
 use Rattle.sqlite.proofs.Callers.{IsPlain, command_of}
-use Rattle.sql_tables.specs.Keyed.{key_of, look, same_name}
-use Rattle.sql_tables.specs.Schema.{answers, accounts, book_schema, key_index}
+use Rattle.sql_tables.specs.Keyed.{key_of, same_name}
+use Rattle.sql_tables.specs.Schema.{answers, book_schema, key_index}
 use Rattle.sql_tables.specs.Statements.{Attempts, Changes, HasBook, IsBook, Puts}
-use Rattle.sql_tables.proofs.Casts.{cast_int, cast_null, cast_or_null, cast_or_text}
-use Rattle.sql_tables.proofs.Counted.{counted}
-use Rattle.sql_tables.proofs.Found.{put_tells, is_some_map, apart_if, same_if}
+use Rattle.sql_tables.proofs.Casts.{cast_int, cast_null}
+use Rattle.sql_tables.proofs.Found.{put_tells, apart_if}
 use Rattle.sql_tables.proofs.Keys.{text_number_text_number}
 use Rattle.sql_tables.proofs.Steps.{or_false}
 use Rattle.sql_tables.proofs.Tabled.{puts_table}
 use Rattle.sql_tables.proofs.Ties.{agree_ties}
 use Rattle.sql_tables.proofs.Upserts.{pick}
-use Rattle.sql_rows.specs.Values.{nat, Kept, answer_values, answer_key, answer_in}
-use Rattle.sql_rows.specs.Content.{Rows, Content, with_rows, with_answer, rows_in, content_of}
+use Rattle.sql_rows.specs.Values.{nat, Kept, answer_values, answer_key, answer_in_row}
+use Rattle.sql_rows.specs.Content.{with_rows, with_answer, rows_in, tables_content}
 use Rattle.sql_rows.specs.Makes.{Makes}
 use Rattle.sql_rows.proofs.Plains.{plain_beside}
 use Rattle.sql_rows.proofs.Stays.{only_changed, rows_turn, at_each}
@@ -97,14 +95,14 @@ module _ (a : List ℕ) (kind : ℕ) (name : List ℕ) (number : ℕ) (k : Kept)
       (λ id. (refl, (refl, (refl, (refl, tt))))) meets
 
   turns : (old new : Trees) → Changes answers values old new
-      → content_of new ≡ with_rows a (with_answer kind name number k) (content_of old)
+      → tables_content new ≡ with_rows a (with_answer kind name number k) (tables_content old)
   turns old new c =
       only_changed 14 old new c.others
-      ∙ rows_turn a (content_of old) (with_answer kind name number k) (λ r. r.answers)
+      ∙ rows_turn a (tables_content old) (with_answer kind name number k) (λ r. r.answers)
       (λ r f. record r { answers = f }) (λ r. refl)
       (λ r. refl) (rows_in new) (λ x. at_each (same_name a x) _ _ _
       (λ l. at_each (same_name a x) _ _ _ (λ t. at_each (same_name a x) _ _ _ (λ m.
-      put_tells answer_in answers values old new c k refl (answer_key x l t m)
+      put_tells answer_in_row answers values old new c k refl (answer_key x l t m)
       (same_name a x && (nat_eq kind l && (same_name name t && nat_eq number m)))
       (text_number_text_number a x kind l name t number m)
       ∙ apart_if (same_name a x) (nat_eq kind l && (same_name name t && nat_eq number m)) _ _))))

@@ -1,6 +1,6 @@
 -- What the text of `put_book` does.
 use Rattle.std.specs.Prelude.{codes}
-use Rattle.std.proofs.Common.{◌≡◌, inl, inr, ℕ, ℤ, List, [], ◌∷◌, ◌++◌, map, ◌&&◌, Some, Result}
+use Rattle.std.proofs.Common.{◌≡◌, inl, inr, ℕ, ℤ, List, [], ◌∷◌, ◌++◌, map, Some, Result}
 use Rattle.std.proofs.Common.{OnOk, IsTrue, refl, ◌∙◌, arith, nat_eq}
 use Rattle.std.specs.Ordering.{eq_by_cmp}
 use Rattle.sqlite_value.specs.declared.value.Value.{Value}
@@ -21,7 +21,7 @@ use Rattle.sqlite.specs.declared.error.Error.{Error}
 use Rattle.sqlite.specs.Listing.{understood}
 use Rattle.sqlite.specs.State.{State, ExecutesInside}
 use Rattle.sqlite.proofs.Callers.{IsPlain, command_of}
-use Rattle.sql_tables.specs.Keyed.{key_of, same_name}
+use Rattle.sql_tables.specs.Keyed.{key_of}
 use Rattle.sql_tables.specs.Schema.{books, book_schema, key_index}
 use Rattle.sql_tables.specs.Statements.{Attempts, Changes, HasBook, IsBook, Puts}
 use Rattle.sql_tables.proofs.Casts.{cast_int, cast_null}
@@ -31,8 +31,8 @@ use Rattle.sql_tables.proofs.Steps.{or_false}
 use Rattle.sql_tables.proofs.Tabled.{puts_table}
 use Rattle.sql_tables.proofs.Ties.{agree_ties}
 use Rattle.sql_tables.proofs.Upserts.{pick}
-use Rattle.sql_rows.specs.Values.{nat, DatedBook, book_values, book_key, book_in}
-use Rattle.sql_rows.specs.Content.{with_book, content_of}
+use Rattle.sql_rows.specs.Values.{nat, BookRow, book_values, book_key, book_in_row}
+use Rattle.sql_rows.specs.Content.{with_book_row, tables_content}
 use Rattle.sql_rows.specs.Makes.{Makes}
 use Rattle.sql_rows.proofs.Plains.{plain_beside}
 use Rattle.sql_rows.proofs.Stays.{only_changed}
@@ -66,7 +66,7 @@ put_plain : IsPlain (understood book_schema put_book_text)
 unfolding understood everything
 put_plain = (refl, refl)
 
-module _ (n : ℕ) (x : DatedBook) where
+module _ (n : ℕ) (x : BookRow) where
   abbrev values : Row
   values = book_values n x
 
@@ -94,19 +94,20 @@ module _ (n : ℕ) (x : DatedBook) where
       (λ id met r. refl) (λ id met. refl) refl (λ v. refl) (λ id. (refl, tt)) meets
 
   turns : (old new : Trees) → Changes books values old new
-      → content_of new ≡ with_book n x (content_of old)
-  turns old new c = only_changed 22 old new c.others ∙ (λ i. record (content_of old) {
+      → tables_content new ≡ with_book_row n x (tables_content old)
+  turns old new c = only_changed 22 old new c.others ∙ (λ i. record (tables_content old) {
     books = λ m.
-        put_tells book_in books values old new c x refl (book_key m) (nat_eq n m) (number_last n m) i;
+        put_tells book_in_row books values old new c x refl (book_key m) (nat_eq n m)
+        (number_last n m) i;
   })
 
   pub makes_book : (params : Row) → params ≡ values
       → (old new : State) (r : Result ℕ Error) → HasBook old
       → Attempts (λ old new. ExecutesInside 0 put_book_text params old new r) old new r
-      → Attempts (Makes (with_book n x)) old new r
+      → Attempts (Makes (with_book_row n x)) old new r
   makes_book =
-      writes put_book_text values (Puts books values) (with_book n x) puts
-      (puts_make books values (with_book n x) turns
+      writes put_book_text values (Puts books values) (with_book_row n x) puts
+      (puts_make books values (with_book_row n x) turns
       (plain_beside books values (omega arith) (omega arith) (omega arith)))
 
   -- the parameters, as they are bound

@@ -1,7 +1,7 @@
 -- What the text of `put_bucket` does.
-use Rattle.std.specs.Prelude.{codes, option_map, is_some, length, if◌then◌else◌}
-use Rattle.std.proofs.Common.{◌≡◌, ◌≢◌, inl, inr, ℕ, ℤ, pos, ◌+◌, List, [], ◌∷◌, ◌++◌, map, Bool}
-use Rattle.std.proofs.Common.{true, false, ◌&&◌, Some, None, Option, Ok, Err, Result, OnOk, IsTrue}
+use Rattle.std.specs.Prelude.{codes}
+use Rattle.std.proofs.Common.{◌≡◌, inl, inr, ℕ, ℤ, ◌+◌, List, [], ◌∷◌, ◌++◌, map}
+use Rattle.std.proofs.Common.{◌&&◌, Some, None, Option, Result, OnOk, IsTrue}
 use Rattle.std.proofs.Common.{refl, sym, ap, ◌∙◌, arith, nat_eq}
 use Rattle.std.specs.Ordering.{eq_by_cmp}
 use Rattle.sqlite_value.specs.declared.value.Value.{Value}
@@ -23,20 +23,19 @@ use Rattle.sqlite.specs.Listing.{understood}
 use Rattle.sqlite.specs.State.{State, ExecutesInside}
 use Rattle.sqlite.proofs.Callers.{IsPlain, command_of}
 use Rattle.buckets.specs.declared.kind.BucketKind.TheVariants.{Money}
-use Rattle.buckets.specs.Row.{Row as Bucket}
-use Rattle.sql_tables.specs.Keyed.{key_of, look, same_name}
-use Rattle.sql_tables.specs.Schema.{buckets, accounts, book_schema, key_index}
+use Rattle.buckets.specs.Row.{BucketRow}
+use Rattle.sql_tables.specs.Keyed.{key_of, same_name}
+use Rattle.sql_tables.specs.Schema.{buckets, book_schema, key_index}
 use Rattle.sql_tables.specs.Statements.{Attempts, Changes, HasBook, IsBook, Puts}
-use Rattle.sql_tables.proofs.Casts.{cast_int, cast_null, cast_or_null, cast_or_text}
-use Rattle.sql_tables.proofs.Counted.{counted}
-use Rattle.sql_tables.proofs.Found.{put_tells, is_some_map, apart_if, same_if}
+use Rattle.sql_tables.proofs.Casts.{cast_int, cast_null, cast_or_null}
+use Rattle.sql_tables.proofs.Found.{put_tells, apart_if}
 use Rattle.sql_tables.proofs.Keys.{text_number}
 use Rattle.sql_tables.proofs.Steps.{or_false}
 use Rattle.sql_tables.proofs.Tabled.{puts_table}
 use Rattle.sql_tables.proofs.Ties.{agree_ties}
 use Rattle.sql_tables.proofs.Upserts.{pick}
-use Rattle.sql_rows.specs.Values.{nat, money_cells, bucket_values, bucket_key, bucket_in}
-use Rattle.sql_rows.specs.Content.{Rows, Content, with_rows, with_bucket, rows_in, content_of}
+use Rattle.sql_rows.specs.Values.{nat, money_cells, bucket_values, bucket_key, bucket_in_row}
+use Rattle.sql_rows.specs.Content.{with_rows, with_bucket, rows_in, tables_content}
 use Rattle.sql_rows.specs.Makes.{Makes}
 use Rattle.sql_rows.proofs.Plains.{plain_beside}
 use Rattle.sql_rows.proofs.Stays.{only_changed, rows_turn, at_each}
@@ -77,15 +76,17 @@ put_plain : IsPlain (understood book_schema put_bucket_text)
 unfolding understood everything
 put_plain = (refl, refl)
 
-pub bucket_told : (v : Value) (b : Bucket) → b.kind ≡ Money → bucket_in (v ∷ money_cells b) ≡ b
+pub bucket_told : (v : Value) (b : BucketRow) → b.kind ≡ Money →
+    bucket_in_row (v ∷ money_cells b) ≡ b
 bucket_told v b counts = go b.scope refl ∙ ap (λ k. record b { kind = k }) (sym counts)
   where
-    go : (o : Option ℕ) → b.scope ≡ o → bucket_in (v ∷ money_cells b) ≡ record b { kind = Money }
+    go : (o : Option ℕ) → b.scope ≡ o → bucket_in_row (v ∷ money_cells b) ≡
+        record b { kind = Money }
     go None e = rw e refl
     go (Some n) e = rw e refl
 
 -- a bucket of money
-module _ (a : List ℕ) (b : Bucket) (counts : b.kind ≡ Money) where
+module _ (a : List ℕ) (b : BucketRow) (counts : b.kind ≡ Money) where
   abbrev values : Row
   values = bucket_values a b
 
@@ -111,13 +112,13 @@ module _ (a : List ℕ) (b : Bucket) (counts : b.kind ≡ Money) where
       (λ id met r. refl) (λ id met. refl) refl (λ v. refl) (λ id. (refl, (refl, tt))) meets
 
   turns : (old new : Trees) → Changes buckets values old new
-      → content_of new ≡ with_rows a (with_bucket b) (content_of old)
+      → tables_content new ≡ with_rows a (with_bucket b) (tables_content old)
   turns old new c =
       only_changed 4 old new c.others
-      ∙ rows_turn a (content_of old) (with_bucket b) (λ r. r.buckets)
+      ∙ rows_turn a (tables_content old) (with_bucket b) (λ r. r.buckets)
       (λ r f. record r { buckets = f }) (λ r. refl)
       (λ r. refl) (rows_in new) (λ x. at_each (same_name a x) _ _ _ (λ n.
-      put_tells bucket_in buckets values old new c b (bucket_told (Text a) b counts)
+      put_tells bucket_in_row buckets values old new c b (bucket_told (Text a) b counts)
       (bucket_key x n)
       (same_name a x && (nat_eq b.number n))
       (text_number a x b.number n) ∙ apart_if (same_name a x) (nat_eq b.number n) _ _))

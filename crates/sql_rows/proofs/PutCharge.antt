@@ -1,8 +1,7 @@
 -- What the text of `put_charge` does.
-use Rattle.std.specs.Prelude.{codes, option_map, is_some, length, if◌then◌else◌}
-use Rattle.std.proofs.Common.{◌≡◌, ◌≢◌, inl, inr, ℕ, ℤ, pos, ◌+◌, List, [], ◌∷◌, ◌++◌, map, Bool}
-use Rattle.std.proofs.Common.{true, false, ◌&&◌, Some, None, Option, Ok, Err, Result, OnOk, IsTrue}
-use Rattle.std.proofs.Common.{refl, sym, ap, ◌∙◌, arith, nat_eq}
+use Rattle.std.specs.Prelude.{codes}
+use Rattle.std.proofs.Common.{◌≡◌, inl, inr, ℕ, ℤ, ◌+◌, List, [], ◌∷◌, ◌++◌, map}
+use Rattle.std.proofs.Common.{◌&&◌, Some, Result, OnOk, IsTrue, refl, sym, ap, ◌∙◌, arith, nat_eq}
 use Rattle.std.specs.Ordering.{eq_by_cmp}
 use Rattle.sqlite_value.specs.declared.value.Value.{Value}
 use Rattle.sqlite_value.specs.declared.value.Value.TheVariants.{Null, Int, Text}
@@ -17,25 +16,24 @@ use Rattle.sqlite_schema.specs.Rules.{agree}
 use Rattle.sqlite_rules.specs.Cast.{cast_row}
 use Rattle.sqlite_rules.specs.Keys.{conflicts}
 use Rattle.sqlite_tied.specs.Compute.{everything}
-use Rattle.sqlite.specs.Values.{bound_value, or_null}
+use Rattle.sqlite.specs.Values.{bound_value}
 use Rattle.sqlite.specs.declared.error.Error.{Error}
 use Rattle.sqlite.specs.Listing.{understood}
 use Rattle.sqlite.specs.State.{State, ExecutesInside}
 use Rattle.sqlite.proofs.Callers.{IsPlain, command_of}
 use Rattle.reserving.specs.declared.charge.ChargeRow.{ChargeRow}
-use Rattle.sql_tables.specs.Keyed.{key_of, look, same_name}
-use Rattle.sql_tables.specs.Schema.{charges, accounts, book_schema, key_index}
+use Rattle.sql_tables.specs.Keyed.{key_of, same_name}
+use Rattle.sql_tables.specs.Schema.{charges, book_schema, key_index}
 use Rattle.sql_tables.specs.Statements.{Attempts, Changes, HasBook, IsBook, Puts}
-use Rattle.sql_tables.proofs.Casts.{cast_int, cast_null, cast_or_null, cast_or_text}
-use Rattle.sql_tables.proofs.Counted.{counted}
-use Rattle.sql_tables.proofs.Found.{put_tells, is_some_map, apart_if, same_if}
+use Rattle.sql_tables.proofs.Casts.{cast_int, cast_null}
+use Rattle.sql_tables.proofs.Found.{put_tells, apart_if}
 use Rattle.sql_tables.proofs.Keys.{text_number}
 use Rattle.sql_tables.proofs.Steps.{or_false}
 use Rattle.sql_tables.proofs.Tabled.{puts_table}
 use Rattle.sql_tables.proofs.Ties.{agree_ties}
 use Rattle.sql_tables.proofs.Upserts.{pick}
-use Rattle.sql_rows.specs.Values.{nat, priced_cells, charge_values, charge_key, charge_in}
-use Rattle.sql_rows.specs.Content.{Rows, Content, with_rows, with_charge, rows_in, content_of}
+use Rattle.sql_rows.specs.Values.{nat, priced_cells, charge_values, charge_key, charge_in_row}
+use Rattle.sql_rows.specs.Content.{with_rows, with_charge_row, rows_in, tables_content}
 use Rattle.sql_rows.specs.Makes.{Makes}
 use Rattle.sql_rows.proofs.Plains.{plain_beside}
 use Rattle.sql_rows.proofs.Stays.{only_changed, rows_turn, at_each}
@@ -77,7 +75,7 @@ put_plain = (refl, refl)
 
 -- a charge without covered blocks
 pub charge_told : (v : Value) (row : ChargeRow) → row.covered.0 ≡ 0 →
-    charge_in (v ∷ priced_cells row) ≡ row
+    charge_in_row (v ∷ priced_cells row) ≡ row
 charge_told v row none = ap (λ n. record row { covered = record { 0 = n } }) (sym none)
 
 module _ (a : List ℕ) (row : ChargeRow) (none : row.covered.0 ≡ 0) where
@@ -107,13 +105,13 @@ module _ (a : List ℕ) (row : ChargeRow) (none : row.covered.0 ≡ 0) where
       (λ id met r. refl) (λ id met. refl) refl (λ v. refl) (λ id. (refl, (refl, tt))) meets
 
   pub charge_turns : (old new : Trees) → Changes charges values old new
-      → content_of new ≡ with_rows a (with_charge row) (content_of old)
+      → tables_content new ≡ with_rows a (with_charge_row row) (tables_content old)
   charge_turns old new c =
       only_changed 18 old new c.others
-      ∙ rows_turn a (content_of old) (with_charge row) (λ r. r.charges)
+      ∙ rows_turn a (tables_content old) (with_charge_row row) (λ r. r.charges)
       (λ r f. record r { charges = f }) (λ r. refl)
       (λ r. refl) (rows_in new) (λ x. at_each (same_name a x) _ _ _ (λ n.
-      put_tells charge_in charges values old new c row (charge_told (Text a) row none)
+      put_tells charge_in_row charges values old new c row (charge_told (Text a) row none)
       (charge_key x n)
       (same_name a x && (nat_eq row.number n))
       (text_number a x row.number n) ∙ apart_if (same_name a x) (nat_eq row.number n) _ _))
@@ -121,10 +119,10 @@ module _ (a : List ℕ) (row : ChargeRow) (none : row.covered.0 ≡ 0) where
   pub makes_charge : (params : Row) → params ≡ values
       → (old new : State) (r : Result ℕ Error) → HasBook old
       → Attempts (λ old new. ExecutesInside 0 put_charge_text params old new r) old new r
-      → Attempts (Makes (with_rows a (with_charge row))) old new r
+      → Attempts (Makes (with_rows a (with_charge_row row))) old new r
   makes_charge =
-      writes put_charge_text values (Puts charges values) (with_rows a (with_charge row)) puts
-      (puts_make charges values (with_rows a (with_charge row)) charge_turns
+      writes put_charge_text values (Puts charges values) (with_rows a (with_charge_row row)) puts
+      (puts_make charges values (with_rows a (with_charge_row row)) charge_turns
       (plain_beside charges values (omega arith) (omega arith) (omega arith)))
 
   -- the parameters, as they are bound

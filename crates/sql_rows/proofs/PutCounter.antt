@@ -1,8 +1,7 @@
 -- What the text of `put_counter` does.
-use Rattle.std.specs.Prelude.{codes, option_map, is_some, length, if◌then◌else◌}
-use Rattle.std.proofs.Common.{◌≡◌, ◌≢◌, inl, inr, ℕ, ℤ, pos, ◌+◌, List, [], ◌∷◌, ◌++◌, map, Bool}
-use Rattle.std.proofs.Common.{true, false, ◌&&◌, Some, None, Option, Ok, Err, Result, OnOk, IsTrue}
-use Rattle.std.proofs.Common.{refl, sym, ap, ◌∙◌, arith, nat_eq}
+use Rattle.std.specs.Prelude.{codes}
+use Rattle.std.proofs.Common.{◌≡◌, inl, inr, ℕ, ℤ, ◌+◌, List, [], ◌∷◌, ◌++◌, map}
+use Rattle.std.proofs.Common.{◌&&◌, Some, Result, OnOk, IsTrue, refl, ◌∙◌, arith, nat_eq}
 use Rattle.std.specs.Ordering.{eq_by_cmp}
 use Rattle.sqlite_value.specs.declared.value.Value.{Value}
 use Rattle.sqlite_value.specs.declared.value.Value.TheVariants.{Null, Int, Text}
@@ -17,25 +16,24 @@ use Rattle.sqlite_schema.specs.Rules.{agree}
 use Rattle.sqlite_rules.specs.Cast.{cast_row}
 use Rattle.sqlite_rules.specs.Keys.{conflicts}
 use Rattle.sqlite_tied.specs.Compute.{everything}
-use Rattle.sqlite.specs.Values.{bound_value, or_null}
+use Rattle.sqlite.specs.Values.{bound_value}
 use Rattle.sqlite.specs.declared.error.Error.{Error}
 use Rattle.sqlite.specs.Listing.{understood}
 use Rattle.sqlite.specs.State.{State, ExecutesInside}
 use Rattle.sqlite.proofs.Callers.{IsPlain, command_of}
 use Rattle.reserving.specs.declared.session.Counter.{Counter}
-use Rattle.sql_tables.specs.Keyed.{key_of, look, same_name}
-use Rattle.sql_tables.specs.Schema.{counters, accounts, book_schema, key_index}
+use Rattle.sql_tables.specs.Keyed.{key_of, same_name}
+use Rattle.sql_tables.specs.Schema.{counters, book_schema, key_index}
 use Rattle.sql_tables.specs.Statements.{Attempts, Changes, HasBook, IsBook, Puts}
-use Rattle.sql_tables.proofs.Casts.{cast_int, cast_null, cast_or_null, cast_or_text}
-use Rattle.sql_tables.proofs.Counted.{counted}
-use Rattle.sql_tables.proofs.Found.{put_tells, is_some_map, apart_if, same_if}
+use Rattle.sql_tables.proofs.Casts.{cast_int, cast_null}
+use Rattle.sql_tables.proofs.Found.{put_tells, apart_if}
 use Rattle.sql_tables.proofs.Keys.{text_number_number}
 use Rattle.sql_tables.proofs.Steps.{or_false}
 use Rattle.sql_tables.proofs.Tabled.{puts_table}
 use Rattle.sql_tables.proofs.Ties.{agree_ties}
 use Rattle.sql_tables.proofs.Upserts.{pick}
-use Rattle.sql_rows.specs.Values.{nat, counter_values, counter_key, counter_in}
-use Rattle.sql_rows.specs.Content.{Rows, Content, with_rows, with_counter, rows_in, content_of}
+use Rattle.sql_rows.specs.Values.{nat, counter_values, counter_key, counter_in_row}
+use Rattle.sql_rows.specs.Content.{with_rows, with_counter_row, rows_in, tables_content}
 use Rattle.sql_rows.specs.Makes.{Makes}
 use Rattle.sql_rows.proofs.Plains.{plain_beside}
 use Rattle.sql_rows.proofs.Stays.{only_changed, rows_turn, at_each}
@@ -96,23 +94,23 @@ module _ (a : List ℕ) (k : Counter) where
       (λ id met r. refl) (λ id met. refl) refl (λ v. refl) (λ id. (refl, (refl, (refl, tt)))) meets
 
   turns : (old new : Trees) → Changes counters values old new
-      → content_of new ≡ with_rows a (with_counter k) (content_of old)
+      → tables_content new ≡ with_rows a (with_counter_row k) (tables_content old)
   turns old new c =
       only_changed 6 old new c.others
-      ∙ rows_turn a (content_of old) (with_counter k) (λ r. r.counters)
+      ∙ rows_turn a (tables_content old) (with_counter_row k) (λ r. r.counters)
       (λ r f. record r { counters = f }) (λ r. refl) (λ r. refl) (rows_in new)
       (λ x. at_each (same_name a x) _ _ _ (λ g. at_each (same_name a x) _ _ _ (λ y.
-      put_tells counter_in counters values old new c k refl (counter_key x g y)
+      put_tells counter_in_row counters values old new c k refl (counter_key x g y)
       (same_name a x && (nat_eq k.group g && nat_eq k.cycle y)) (text_number_number a x k.group g
       k.cycle y) ∙ apart_if (same_name a x) (nat_eq k.group g && nat_eq k.cycle y) _ _)))
 
   pub makes_counter : (params : Row) → params ≡ values
       → (old new : State) (r : Result ℕ Error) → HasBook old
       → Attempts (λ old new. ExecutesInside 0 put_counter_text params old new r) old new r
-      → Attempts (Makes (with_rows a (with_counter k))) old new r
+      → Attempts (Makes (with_rows a (with_counter_row k))) old new r
   makes_counter =
-      writes put_counter_text values (Puts counters values) (with_rows a (with_counter k)) puts
-      (puts_make counters values (with_rows a (with_counter k)) turns
+      writes put_counter_text values (Puts counters values) (with_rows a (with_counter_row k)) puts
+      (puts_make counters values (with_rows a (with_counter_row k)) turns
       (plain_beside counters values (omega arith) (omega arith) (omega arith)))
 
   -- the parameters, as they are bound

@@ -31,8 +31,8 @@ use Rattle.sql_tables.proofs.Steps.{or_false}
 use Rattle.sql_tables.proofs.Tabled.{puts_table}
 use Rattle.sql_tables.proofs.Ties.{agree_ties}
 use Rattle.sql_tables.proofs.Upserts.{pick}
-use Rattle.sql_rows.specs.Values.{nat, CoveredRow, covered_values, covered_in, charge_key}
-use Rattle.sql_rows.specs.Content.{with_rows, with_covered, rows_in, content_of}
+use Rattle.sql_rows.specs.Values.{nat, CoveredRow, covered_values, covered_in_row, charge_key}
+use Rattle.sql_rows.specs.Content.{with_rows, with_covered, rows_in, tables_content}
 use Rattle.sql_rows.specs.Makes.{Makes}
 use Rattle.sql_rows.proofs.Plains.{plain_beside}
 use Rattle.sql_rows.proofs.Stays.{only_changed, rows_turn, at_each}
@@ -87,20 +87,22 @@ module _ (a : List ℕ) (x : CoveredRow) where
       → OnOk r (Puts covered values old new)
   puts =
       puts_table 13 covered refl
-      (inr (inr (inr (inr (inr (inr (inr (inr (inr (inr (inr (inr (inr (inl refl)))))))))))))) (key_index covered)
-      (inr (inr (inr (inr (inr (inr (inr (inr (inr (inr (inr (inr (inr (inr (inr (inr (inl refl)))))))))))))))))
+      (inr (inr (inr (inr (inr (inr (inr (inr (inr (inr (inr (inr (inr (inl refl))))))))))))))
+      (key_index covered)
+      (inr (inr (inr (inr (inr (inr (inr (inr
+      (inr (inr (inr (inr (inr (inr (inr (inr (inl refl)))))))))))))))))
       refl refl refl (λ e. omega arith) refl
       put_covered_text terms project 4 3 put_is put_plain values (λ olds new. refl) again unset
       (λ id met r. refl) (λ id met. refl) refl (λ v. refl) (λ id. (refl, (refl, tt))) meets
 
   turns : (old new : Trees) → Changes covered values old new
-      → content_of new ≡ with_rows a (with_covered x) (content_of old)
+      → tables_content new ≡ with_rows a (with_covered x) (tables_content old)
   turns old new c =
       only_changed 29 old new c.others
-      ∙ rows_turn a (content_of old) (with_covered x) (λ r. r.covered)
+      ∙ rows_turn a (tables_content old) (with_covered x) (λ r. r.covered)
       (λ r f. record r { covered = f }) (λ r. refl)
       (λ r. refl) (rows_in new) (λ y. at_each (same_name a y) _ _ _ (λ m.
-      put_tells covered_in covered values old new c x.blocks refl (charge_key y m)
+      put_tells covered_in_row covered values old new c x.blocks refl (charge_key y m)
       (same_name a y && nat_eq x.number m) (text_number a y x.number m)
       ∙ apart_if (same_name a y) (nat_eq x.number m) _ _))
 

@@ -32,7 +32,7 @@ use Rattle.sql_tables.proofs.Tabled.{puts_table}
 use Rattle.sql_tables.proofs.Ties.{agree_ties}
 use Rattle.sql_tables.proofs.Upserts.{pick}
 use Rattle.sql_rows.specs.Values.{nat, grant_book_values, grant_book_in, group_key}
-use Rattle.sql_rows.specs.Content.{with_rows, with_grant_book, rows_in, content_of}
+use Rattle.sql_rows.specs.Content.{with_rows, with_grant_book, rows_in, tables_content}
 use Rattle.sql_rows.specs.Makes.{Makes}
 use Rattle.sql_rows.proofs.Plains.{plain_beside}
 use Rattle.sql_rows.proofs.Stays.{only_changed, rows_turn, at_each}
@@ -88,17 +88,18 @@ module _ (a s : List ℕ) (g n : ℕ) where
       → OnOk r (Puts grant_books values old new)
   puts =
       puts_table 11 grant_books refl
-      (inr (inr (inr (inr (inr (inr (inr (inr (inr (inr (inr (inl refl)))))))))))) (key_index grant_books)
+      (inr (inr (inr (inr (inr (inr (inr (inr (inr (inr (inr (inl refl))))))))))))
+      (key_index grant_books)
       (inr (inr (inr (inr (inr (inr (inr (inr (inr (inr (inr (inr (inr (inl refl))))))))))))))
       refl refl refl (λ e. omega arith) refl
       put_grant_book_text terms project 5 4 put_is put_plain values (λ olds new. refl) again unset
       (λ id met r. refl) (λ id met. refl) refl (λ v. refl) (λ id. (refl, (refl, (refl, tt)))) meets
 
   turns : (old new : Trees) → Changes grant_books values old new
-      → content_of new ≡ with_rows a (with_grant_book s g n) (content_of old)
+      → tables_content new ≡ with_rows a (with_grant_book s g n) (tables_content old)
   turns old new c =
       only_changed 24 old new c.others
-      ∙ rows_turn a (content_of old) (with_grant_book s g n) (λ r. r.grant_books)
+      ∙ rows_turn a (tables_content old) (with_grant_book s g n) (λ r. r.grant_books)
       (λ r f. record r { grant_books = f }) (λ r. refl)
       (λ r. refl) (rows_in new) (λ x. at_each (same_name a x) _ _ _
       (λ t. at_each (same_name a x) _ _ _ (λ h.
@@ -111,7 +112,8 @@ module _ (a s : List ℕ) (g n : ℕ) where
       → Attempts (λ old new. ExecutesInside 0 put_grant_book_text params old new r) old new r
       → Attempts (Makes (with_rows a (with_grant_book s g n))) old new r
   makes_grant_book =
-      writes put_grant_book_text values (Puts grant_books values) (with_rows a (with_grant_book s g n)) puts
+      writes put_grant_book_text values (Puts grant_books values)
+      (with_rows a (with_grant_book s g n)) puts
       (puts_make grant_books values (with_rows a (with_grant_book s g n)) turns
       (plain_beside grant_books values (omega arith) (omega arith) (omega arith)))
 

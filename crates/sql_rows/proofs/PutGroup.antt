@@ -1,8 +1,8 @@
 -- What the text of `put_group` does.
-use Rattle.std.specs.Prelude.{codes, option_map, is_some, length, if◌then◌else◌}
-use Rattle.std.proofs.Common.{◌≡◌, ◌≢◌, inl, inr, ℕ, ℤ, pos, ◌+◌, List, [], ◌∷◌, ◌++◌, map, Bool}
-use Rattle.std.proofs.Common.{true, false, ◌&&◌, Some, None, Option, Ok, Err, Result, OnOk, IsTrue}
-use Rattle.std.proofs.Common.{refl, sym, ap, ◌∙◌, arith, nat_eq}
+use Rattle.std.specs.Prelude.{codes, is_some}
+use Rattle.std.proofs.Common.{◌≡◌, inl, inr, ℕ, ℤ, ◌+◌, List, [], ◌∷◌, ◌++◌, map}
+use Rattle.std.proofs.Common.{◌&&◌, Some, None, Option, Result, OnOk, IsTrue}
+use Rattle.std.proofs.Common.{refl, ◌∙◌, arith, nat_eq}
 use Rattle.std.specs.Ordering.{eq_by_cmp}
 use Rattle.sqlite_value.specs.declared.value.Value.{Value}
 use Rattle.sqlite_value.specs.declared.value.Value.TheVariants.{Null, Int, Text}
@@ -22,20 +22,19 @@ use Rattle.sqlite.specs.declared.error.Error.{Error}
 use Rattle.sqlite.specs.Listing.{understood}
 use Rattle.sqlite.specs.State.{State, ExecutesInside}
 use Rattle.sqlite.proofs.Callers.{IsPlain, command_of}
-use Rattle.sql_tables.specs.Keyed.{key_of, look, same_name}
-use Rattle.sql_tables.specs.Schema.{session_groups, accounts, book_schema, key_index}
+use Rattle.sql_tables.specs.Keyed.{key_of, same_name}
+use Rattle.sql_tables.specs.Schema.{session_groups, book_schema, key_index}
 use Rattle.sql_tables.specs.Statements.{Attempts, Changes, HasBook, IsBook, Puts}
-use Rattle.sql_tables.proofs.Casts.{cast_int, cast_null, cast_or_null, cast_or_text}
-use Rattle.sql_tables.proofs.Counted.{counted}
-use Rattle.sql_tables.proofs.Found.{put_tells, is_some_map, apart_if, same_if}
+use Rattle.sql_tables.proofs.Casts.{cast_int, cast_null, cast_or_text}
+use Rattle.sql_tables.proofs.Found.{put_tells, apart_if}
 use Rattle.sql_tables.proofs.Keys.{text_text_number}
 use Rattle.sql_tables.proofs.Steps.{or_false}
 use Rattle.sql_tables.proofs.Tabled.{puts_table}
 use Rattle.sql_tables.proofs.Ties.{agree_ties}
 use Rattle.sql_tables.proofs.Upserts.{pick}
 use Rattle.sql_rows.specs.Values.{nat, Group, PeriodNames, group_cells, group_values, group_key}
-use Rattle.sql_rows.specs.Values.{group_in, flag_number}
-use Rattle.sql_rows.specs.Content.{Rows, Content, with_rows, with_group, rows_in, content_of}
+use Rattle.sql_rows.specs.Values.{group_in_row, flag_number}
+use Rattle.sql_rows.specs.Content.{with_rows, with_group_row, rows_in, tables_content}
 use Rattle.sql_rows.specs.Makes.{Makes}
 use Rattle.sql_rows.proofs.Plains.{plain_group}
 use Rattle.sql_rows.proofs.Stays.{only_changed, rows_turn, at_each}
@@ -73,10 +72,11 @@ put_plain : IsPlain (understood book_schema put_group_text)
 unfolding understood everything
 put_plain = (refl, refl)
 
-pub group_told : (v w : Value) (g : ℕ) (row : Group) → group_in (v ∷ w ∷ group_cells g row) ≡ row
+pub group_told : (v w : Value) (g : ℕ) (row : Group) → group_in_row (v ∷ w ∷ group_cells g row) ≡
+    row
 group_told v w g row = go row.periods refl
   where
-    go : (o : Option PeriodNames) → row.periods ≡ o → group_in (v ∷ w ∷ group_cells g row) ≡ row
+    go : (o : Option PeriodNames) → row.periods ≡ o → group_in_row (v ∷ w ∷ group_cells g row) ≡ row
     go None e = rw e refl
     go (Some p) e = rw e refl
 
@@ -107,23 +107,24 @@ module _ (a s : List ℕ) (g : ℕ) (row : Group) where
       (λ id met r. refl) (λ id met. refl) refl (λ v. refl) (λ id. (refl, (refl, (refl, tt)))) meets
 
   turns : (old new : Trees) → Changes session_groups values old new
-      → content_of new ≡ with_rows a (with_group s g row) (content_of old)
+      → tables_content new ≡ with_rows a (with_group_row s g row) (tables_content old)
   turns old new c =
       only_changed 10 old new c.others
-      ∙ rows_turn a (content_of old) (with_group s g row) (λ r. r.groups)
+      ∙ rows_turn a (tables_content old) (with_group_row s g row) (λ r. r.groups)
       (λ r f. record r { groups = f }) (λ r. refl) (λ r. refl) (rows_in new)
       (λ x. at_each (same_name a x) _ _ _ (λ t. at_each (same_name a x) _ _ _ (λ h.
-      put_tells group_in session_groups values old new c row (group_told (Text a) (Text s) g row)
+      put_tells group_in_row session_groups values old new c row
+      (group_told (Text a) (Text s) g row)
       (group_key x t h) (same_name a x && (same_name s t && nat_eq g h))
       (text_text_number a x s t g h) ∙ apart_if (same_name a x) (same_name s t && nat_eq g h) _ _)))
 
   pub makes_group : (params : Row) → params ≡ values
       → (old new : State) (r : Result ℕ Error) → HasBook old
       → Attempts (λ old new. ExecutesInside 0 put_group_text params old new r) old new r
-      → Attempts (Makes (with_rows a (with_group s g row))) old new r
+      → Attempts (Makes (with_rows a (with_group_row s g row))) old new r
   makes_group = writes put_group_text values (Puts session_groups values)
-      (with_rows a (with_group s g row)) puts
-      (puts_make session_groups values (with_rows a (with_group s g row)) turns
+      (with_rows a (with_group_row s g row)) puts
+      (puts_make session_groups values (with_rows a (with_group_row s g row)) turns
       (plain_group a s g row))
 
   -- the parameters, as they are bound

@@ -1,8 +1,7 @@
 -- What the text of `put_hold` does.
-use Rattle.std.specs.Prelude.{codes, option_map, is_some, length, if◌then◌else◌}
-use Rattle.std.proofs.Common.{◌≡◌, ◌≢◌, inl, inr, ℕ, ℤ, pos, ◌+◌, List, [], ◌∷◌, ◌++◌, map, Bool}
-use Rattle.std.proofs.Common.{true, false, ◌&&◌, Some, None, Option, Ok, Err, Result, OnOk, IsTrue}
-use Rattle.std.proofs.Common.{refl, sym, ap, ◌∙◌, arith, nat_eq}
+use Rattle.std.specs.Prelude.{codes}
+use Rattle.std.proofs.Common.{◌≡◌, inl, inr, ℕ, ℤ, ◌+◌, List, [], ◌∷◌, ◌++◌, map}
+use Rattle.std.proofs.Common.{◌&&◌, Some, Result, OnOk, IsTrue, refl, ◌∙◌, arith, nat_eq}
 use Rattle.std.specs.Ordering.{eq_by_cmp}
 use Rattle.sqlite_value.specs.declared.value.Value.{Value}
 use Rattle.sqlite_value.specs.declared.value.Value.TheVariants.{Null, Int, Text}
@@ -17,24 +16,23 @@ use Rattle.sqlite_schema.specs.Rules.{agree}
 use Rattle.sqlite_rules.specs.Cast.{cast_row}
 use Rattle.sqlite_rules.specs.Keys.{conflicts}
 use Rattle.sqlite_tied.specs.Compute.{everything}
-use Rattle.sqlite.specs.Values.{bound_value, or_null}
+use Rattle.sqlite.specs.Values.{bound_value}
 use Rattle.sqlite.specs.declared.error.Error.{Error}
 use Rattle.sqlite.specs.Listing.{understood}
 use Rattle.sqlite.specs.State.{State, ExecutesInside}
 use Rattle.sqlite.proofs.Callers.{IsPlain, command_of}
-use Rattle.sql_tables.specs.Keyed.{key_of, look, same_name}
-use Rattle.sql_tables.specs.Schema.{holds, accounts, book_schema, key_index}
+use Rattle.sql_tables.specs.Keyed.{key_of, same_name}
+use Rattle.sql_tables.specs.Schema.{holds, book_schema, key_index}
 use Rattle.sql_tables.specs.Statements.{Attempts, Changes, HasBook, IsBook, Puts}
-use Rattle.sql_tables.proofs.Casts.{cast_int, cast_null, cast_or_null, cast_or_text}
-use Rattle.sql_tables.proofs.Counted.{counted}
-use Rattle.sql_tables.proofs.Found.{put_tells, is_some_map, apart_if, same_if}
+use Rattle.sql_tables.proofs.Casts.{cast_int, cast_null}
+use Rattle.sql_tables.proofs.Found.{put_tells, apart_if}
 use Rattle.sql_tables.proofs.Keys.{text_text_number_number}
 use Rattle.sql_tables.proofs.Steps.{or_false}
 use Rattle.sql_tables.proofs.Tabled.{puts_table}
 use Rattle.sql_tables.proofs.Ties.{agree_ties}
 use Rattle.sql_tables.proofs.Upserts.{pick}
 use Rattle.sql_rows.specs.Values.{nat, hold_values, hold_key, hold_in}
-use Rattle.sql_rows.specs.Content.{Rows, Content, with_rows, with_hold, rows_in, content_of}
+use Rattle.sql_rows.specs.Content.{with_rows, with_hold_row, rows_in, tables_content}
 use Rattle.sql_rows.specs.Makes.{Makes}
 use Rattle.sql_rows.proofs.Plains.{plain_beside}
 use Rattle.sql_rows.proofs.Stays.{only_changed, rows_turn, at_each}
@@ -98,10 +96,10 @@ module _ (a s : List ℕ) (g n amount : ℕ) where
       (λ id. (refl, (refl, (refl, (refl, tt))))) meets
 
   turns : (old new : Trees) → Changes holds values old new
-      → content_of new ≡ with_rows a (with_hold s g n amount) (content_of old)
+      → tables_content new ≡ with_rows a (with_hold_row s g n amount) (tables_content old)
   turns old new c =
       only_changed 12 old new c.others
-      ∙ rows_turn a (content_of old) (with_hold s g n amount) (λ r. r.holds)
+      ∙ rows_turn a (tables_content old) (with_hold_row s g n amount) (λ r. r.holds)
       (λ r f. record r { holds = f }) (λ r. refl)
       (λ r. refl) (rows_in new) (λ x. at_each (same_name a x) _ _ _
       (λ t. at_each (same_name a x) _ _ _ (λ h. at_each (same_name a x) _ _ _ (λ m.
@@ -113,10 +111,11 @@ module _ (a s : List ℕ) (g n amount : ℕ) where
   pub makes_hold : (params : Row) → params ≡ values
       → (old new : State) (r : Result ℕ Error) → HasBook old
       → Attempts (λ old new. ExecutesInside 0 put_hold_text params old new r) old new r
-      → Attempts (Makes (with_rows a (with_hold s g n amount))) old new r
+      → Attempts (Makes (with_rows a (with_hold_row s g n amount))) old new r
   makes_hold =
-      writes put_hold_text values (Puts holds values) (with_rows a (with_hold s g n amount)) puts
-      (puts_make holds values (with_rows a (with_hold s g n amount)) turns
+      writes put_hold_text values (Puts holds values) (with_rows a (with_hold_row s g n amount))
+      puts
+      (puts_make holds values (with_rows a (with_hold_row s g n amount)) turns
       (plain_beside holds values (omega arith) (omega arith) (omega arith)))
 
   -- the parameters, as they are bound

@@ -1,8 +1,7 @@
 -- What the text of `put_meta` does.
-use Rattle.std.specs.Prelude.{codes, option_map, is_some, length, if◌then◌else◌}
-use Rattle.std.proofs.Common.{◌≡◌, ◌≢◌, inl, inr, ℕ, ℤ, pos, ◌+◌, List, [], ◌∷◌, ◌++◌, map, Bool}
-use Rattle.std.proofs.Common.{true, false, ◌&&◌, Some, None, Option, Ok, Err, Result, OnOk, IsTrue}
-use Rattle.std.proofs.Common.{refl, sym, ap, ◌∙◌, arith, nat_eq}
+use Rattle.std.specs.Prelude.{codes, is_some, length, if◌then◌else◌}
+use Rattle.std.proofs.Common.{◌≡◌, inl, ℕ, ℤ, ◌+◌, List, [], ◌∷◌, ◌++◌, map}
+use Rattle.std.proofs.Common.{true, Some, Result, OnOk, IsTrue, refl, sym, ap, ◌∙◌, arith}
 use Rattle.std.specs.Ordering.{eq_by_cmp}
 use Rattle.sqlite_value.specs.declared.value.Value.{Value}
 use Rattle.sqlite_value.specs.declared.value.Value.TheVariants.{Null, Int, Text}
@@ -17,24 +16,23 @@ use Rattle.sqlite_schema.specs.Rules.{agree}
 use Rattle.sqlite_rules.specs.Cast.{cast_row}
 use Rattle.sqlite_rules.specs.Keys.{conflicts}
 use Rattle.sqlite_tied.specs.Compute.{everything}
-use Rattle.sqlite.specs.Values.{bound_value, or_null}
+use Rattle.sqlite.specs.Values.{bound_value}
 use Rattle.sqlite.specs.declared.error.Error.{Error}
 use Rattle.sqlite.specs.Listing.{understood}
 use Rattle.sqlite.specs.State.{State, ExecutesInside}
 use Rattle.sqlite.proofs.Callers.{IsPlain, command_of}
-use Rattle.sql_tables.specs.Keyed.{key_of, look, same_name}
-use Rattle.sql_tables.specs.Schema.{meta, accounts, book_schema, key_index}
+use Rattle.sql_tables.specs.Keyed.{key_of, look}
+use Rattle.sql_tables.specs.Schema.{meta, book_schema, key_index}
 use Rattle.sql_tables.specs.Statements.{Attempts, Changes, HasBook, HasRules, IsBook, Puts}
-use Rattle.sql_tables.proofs.Casts.{cast_int, cast_null, cast_or_null, cast_or_text}
-use Rattle.sql_tables.proofs.Counted.{counted}
-use Rattle.sql_tables.proofs.Found.{put_tells, is_some_map, apart_if, same_if}
+use Rattle.sql_tables.proofs.Casts.{cast_int, cast_null}
+use Rattle.sql_tables.proofs.Found.{put_tells, is_some_map}
 use Rattle.sql_tables.proofs.Keys.{number_last}
 use Rattle.sql_tables.proofs.Steps.{or_false}
 use Rattle.sql_tables.proofs.Tabled.{puts_table}
 use Rattle.sql_tables.proofs.Ties.{agree_ties}
 use Rattle.sql_tables.proofs.Upserts.{pick}
 use Rattle.sql_rows.specs.Values.{nat, Meta, meta_values, meta_key, meta_in}
-use Rattle.sql_rows.specs.Content.{Rows, Content, with_meta, rows_in, content_of}
+use Rattle.sql_rows.specs.Content.{with_meta, tables_content}
 use Rattle.sql_rows.specs.Makes.{Makes}
 use Rattle.sql_rows.proofs.Plains.{plain_beside}
 use Rattle.sql_rows.proofs.Stays.{only_changed}
@@ -97,8 +95,8 @@ module _ (m : Meta) where
   grown old = if is_some (look meta old meta_key) then length (old 0) else length (old 0) + 1
 
   turns : (old new : Trees) → Changes meta values old new → length (new 0) ≡ grown old
-      → content_of new ≡ with_meta m (content_of old)
-  turns old new c more = only_changed 0 old new c.others ∙ (λ i. record (content_of old) {
+      → tables_content new ≡ with_meta m (tables_content old)
+  turns old new c more = only_changed 0 old new c.others ∙ (λ i. record (tables_content old) {
     meta = put_tells meta_in meta values old new c m refl meta_key true (number_last 1 1) i;
     kept = (more ∙ ap (λ b. if b then length (old 0) else length (old 0) + 1)
         (sym (is_some_map meta_in (look meta old meta_key)))) i;
@@ -120,7 +118,8 @@ module _ (m : Meta) where
       → Attempts (λ old new. ExecutesInside 0 put_meta_text params old new r) old new r
       → OnOk r (HasRules new)
   rules_meta =
-      rules_after put_meta_text values (Puts meta values) put_is put_plain puts (λ old new p. p.book)
+      rules_after put_meta_text values (Puts meta values) put_is put_plain puts
+      (λ old new p. p.book)
 
   -- the parameters, as they are bound
   pub bound_meta : (v1 v2 v3 v4 : Value)

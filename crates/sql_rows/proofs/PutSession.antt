@@ -1,8 +1,7 @@
 -- What the text of `put_session` does.
-use Rattle.std.specs.Prelude.{codes, option_map, is_some, length, if◌then◌else◌}
-use Rattle.std.proofs.Common.{◌≡◌, ◌≢◌, inl, inr, ℕ, ℤ, pos, ◌+◌, List, [], ◌∷◌, ◌++◌, map, Bool}
-use Rattle.std.proofs.Common.{true, false, ◌&&◌, Some, None, Option, Ok, Err, Result, OnOk, IsTrue}
-use Rattle.std.proofs.Common.{refl, sym, ap, ◌∙◌, arith, nat_eq}
+use Rattle.std.specs.Prelude.{codes}
+use Rattle.std.proofs.Common.{◌≡◌, inl, inr, ℕ, ℤ, ◌+◌, List, [], ◌∷◌, ◌++◌, map}
+use Rattle.std.proofs.Common.{◌&&◌, Some, Result, OnOk, IsTrue, refl, ◌∙◌, arith}
 use Rattle.std.specs.Ordering.{eq_by_cmp}
 use Rattle.sqlite_value.specs.declared.value.Value.{Value}
 use Rattle.sqlite_value.specs.declared.value.Value.TheVariants.{Null, Int, Text}
@@ -17,7 +16,7 @@ use Rattle.sqlite_schema.specs.Rules.{agree}
 use Rattle.sqlite_rules.specs.Cast.{cast_row}
 use Rattle.sqlite_rules.specs.Keys.{conflicts}
 use Rattle.sqlite_tied.specs.Compute.{everything}
-use Rattle.sqlite.specs.Values.{bound_value, or_null}
+use Rattle.sqlite.specs.Values.{bound_value}
 use Rattle.sqlite.specs.declared.error.Error.{Error}
 use Rattle.sqlite.specs.Listing.{understood}
 use Rattle.sqlite.specs.State.{State, ExecutesInside}
@@ -25,20 +24,19 @@ use Rattle.sqlite.proofs.Callers.{IsPlain, command_of}
 use Rattle.reserving.specs.declared.session.Session.{Session}
 use Rattle.reserving.specs.declared.session.SessionState.{SessionState}
 use Rattle.reserving.specs.declared.session.SessionState.TheVariants.{Open, Ended, NeverOpened}
-use Rattle.sql_tables.specs.Keyed.{key_of, look, same_name}
-use Rattle.sql_tables.specs.Schema.{sessions, accounts, book_schema, key_index}
+use Rattle.sql_tables.specs.Keyed.{key_of, same_name}
+use Rattle.sql_tables.specs.Schema.{sessions, book_schema, key_index}
 use Rattle.sql_tables.specs.Statements.{Attempts, Changes, HasBook, IsBook, Puts}
-use Rattle.sql_tables.proofs.Casts.{cast_int, cast_null, cast_or_null, cast_or_text}
-use Rattle.sql_tables.proofs.Counted.{counted}
-use Rattle.sql_tables.proofs.Found.{put_tells, is_some_map, apart_if, same_if}
+use Rattle.sql_tables.proofs.Casts.{cast_int, cast_null}
+use Rattle.sql_tables.proofs.Found.{put_tells, apart_if}
 use Rattle.sql_tables.proofs.Keys.{text_text}
 use Rattle.sql_tables.proofs.Steps.{or_false}
 use Rattle.sql_tables.proofs.Tabled.{puts_table}
 use Rattle.sql_tables.proofs.Ties.{agree_ties}
 use Rattle.sql_tables.proofs.Upserts.{pick}
-use Rattle.sql_rows.specs.Values.{nat, session_cells, session_values, session_key, session_in}
+use Rattle.sql_rows.specs.Values.{nat, session_cells, session_values, session_key, session_in_row}
 use Rattle.sql_rows.specs.Values.{state_number}
-use Rattle.sql_rows.specs.Content.{Rows, Content, with_rows, with_session, rows_in, content_of}
+use Rattle.sql_rows.specs.Content.{with_rows, with_session_row, rows_in, tables_content}
 use Rattle.sql_rows.specs.Makes.{Makes}
 use Rattle.sql_rows.proofs.Plains.{plain_session}
 use Rattle.sql_rows.proofs.Stays.{only_changed, rows_turn, at_each}
@@ -74,10 +72,10 @@ put_plain : IsPlain (understood book_schema put_session_text)
 unfolding understood everything
 put_plain = (refl, refl)
 
-pub session_told : (v : Value) (row : Session) → session_in (v ∷ session_cells row) ≡ row
+pub session_told : (v : Value) (row : Session) → session_in_row (v ∷ session_cells row) ≡ row
 session_told v row = go row.state refl
   where
-    go : (o : SessionState) → row.state ≡ o → session_in (v ∷ session_cells row) ≡ row
+    go : (o : SessionState) → row.state ≡ o → session_in_row (v ∷ session_cells row) ≡ row
     go Open e = rw e refl
     go Ended e = rw e refl
     go NeverOpened e = rw e refl
@@ -109,23 +107,24 @@ module _ (a : List ℕ) (row : Session) where
       (λ id met r. refl) (λ id met. refl) refl (λ v. refl) (λ id. (refl, (refl, tt))) meets
 
   turns : (old new : Trees) → Changes sessions values old new
-      → content_of new ≡ with_rows a (with_session row) (content_of old)
+      → tables_content new ≡ with_rows a (with_session_row row) (tables_content old)
   turns old new c =
       only_changed 8 old new c.others
-      ∙ rows_turn a (content_of old) (with_session row) (λ r. r.sessions)
+      ∙ rows_turn a (tables_content old) (with_session_row row) (λ r. r.sessions)
       (λ r f. record r { sessions = f }) (λ r. refl)
       (λ r. refl) (rows_in new) (λ x. at_each (same_name a x) _ _ _ (λ s.
-      put_tells session_in sessions values old new c row (session_told (Text a) row)
+      put_tells session_in_row sessions values old new c row (session_told (Text a) row)
       (session_key x s) (same_name a x && (same_name row.id s))
       (text_text a x row.id s) ∙ apart_if (same_name a x) (same_name row.id s) _ _))
 
   pub makes_session : (params : Row) → params ≡ values
       → (old new : State) (r : Result ℕ Error) → HasBook old
       → Attempts (λ old new. ExecutesInside 0 put_session_text params old new r) old new r
-      → Attempts (Makes (with_rows a (with_session row))) old new r
+      → Attempts (Makes (with_rows a (with_session_row row))) old new r
   makes_session =
-      writes put_session_text values (Puts sessions values) (with_rows a (with_session row)) puts
-      (puts_make sessions values (with_rows a (with_session row)) turns
+      writes put_session_text values (Puts sessions values) (with_rows a (with_session_row row))
+      puts
+      (puts_make sessions values (with_rows a (with_session_row row)) turns
       (plain_session a row))
 
   -- the parameters, as they are bound

@@ -30,9 +30,9 @@ use Rattle.sql_tables.proofs.Steps.{or_false}
 use Rattle.sql_tables.proofs.Tabled.{puts_table}
 use Rattle.sql_tables.proofs.Ties.{agree_ties}
 use Rattle.sql_tables.proofs.Upserts.{pick}
-use Rattle.sql_rows.specs.Values.{nat, Voucher, voucher_cells, voucher_values, voucher_key}
-use Rattle.sql_rows.specs.Values.{voucher_in, optional_in, optional_text_in}
-use Rattle.sql_rows.specs.Content.{with_voucher, content_of}
+use Rattle.sql_rows.specs.Values.{nat, VoucherRow, voucher_cells, voucher_values, voucher_key}
+use Rattle.sql_rows.specs.Values.{voucher_in_row, optional_in, optional_text_in}
+use Rattle.sql_rows.specs.Content.{with_voucher_row, tables_content}
 use Rattle.sql_rows.specs.Makes.{Makes}
 use Rattle.sql_rows.proofs.Plains.{plain_beside}
 use Rattle.sql_rows.proofs.Stays.{only_changed}
@@ -59,7 +59,7 @@ put_plain : IsPlain (understood book_schema put_voucher_text)
 unfolding understood everything
 put_plain = (refl, refl)
 
-pub voucher_told : (v : Value) (row : Voucher) → voucher_in (v ∷ voucher_cells row) ≡ row
+pub voucher_told : (v : Value) (row : VoucherRow) → voucher_in_row (v ∷ voucher_cells row) ≡ row
 voucher_told v row = λ i. record {
   amount = row.amount;
   days = number_told row.days i;
@@ -75,7 +75,7 @@ voucher_told v row = λ i. record {
     text_told None = refl
     text_told (Some t) = refl
 
-module _ (code : List ℕ) (row : Voucher) where
+module _ (code : List ℕ) (row : VoucherRow) where
   abbrev values : Row
   values = voucher_values code row
 
@@ -102,18 +102,19 @@ module _ (code : List ℕ) (row : Voucher) where
       (λ id met r. refl) (λ id met. refl) refl (λ v. refl) (λ id. (refl, tt)) meets
 
   turns : (old new : Trees) → Changes vouchers values old new →
-      content_of new ≡ with_voucher code row (content_of old)
-  turns old new c = only_changed 16 old new c.others ∙ (λ i. record (content_of old) {
-    vouchers = λ k. put_tells voucher_in vouchers values old new c row
+      tables_content new ≡ with_voucher_row code row (tables_content old)
+  turns old new c = only_changed 16 old new c.others ∙ (λ i. record (tables_content old) {
+    vouchers = λ k. put_tells voucher_in_row vouchers values old new c row
         (voucher_told (Text code) row) (voucher_key k) (same_name code k) (text_last code k) i;
   })
 
   pub makes_voucher : (params : Row) → params ≡ values
       → (old new : State) (r : Result ℕ Error) → HasBook old
       → Attempts (λ old new. ExecutesInside 0 put_voucher_text params old new r) old new r
-      → Attempts (Makes (with_voucher code row)) old new r
-  makes_voucher = writes put_voucher_text values (Puts vouchers values) (with_voucher code row) puts
-      (puts_make vouchers values (with_voucher code row) turns
+      → Attempts (Makes (with_voucher_row code row)) old new r
+  makes_voucher = writes put_voucher_text values (Puts vouchers values) (with_voucher_row code row)
+      puts
+      (puts_make vouchers values (with_voucher_row code row) turns
       (plain_beside vouchers values (omega arith) (omega arith) (omega arith)))
 
   -- the parameters, as they are bound

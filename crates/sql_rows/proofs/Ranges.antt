@@ -1,10 +1,10 @@
 -- What SQL's tests say of numbers that lie beyond one and up to another.
-use Rattle.std.proofs.Common.{◌≡◌, ℕ, pos, negsuc, Bool, true, false, not, ◌&&◌, cond, Less, Equal}
+use Rattle.std.proofs.Common.{◌≡◌, ℕ, pos, negsuc, Bool, true, false, ◌&&◌, cond, Less, Equal}
 use Rattle.std.proofs.Common.{Ordering}
 use Rattle.std.proofs.Common.{Greater, Some, is_eq, refl, sym, ap, ap₂, ◌∙◌, arith, nat_lt}
 use Rattle.std.specs.Prelude.{nat_le}
-use Rattle.std.specs.Ordering.{int_cmp, is_gt, is_le}
-use Rattle.std.proofs.lemmas.Bool.{and_parts, and_from}
+use Rattle.std.specs.Ordering.{is_gt, is_le}
+use Rattle.std.proofs.lemmas.Bool.{and_parts}
 use Rattle.std.proofs.lemmas.Bool.Decides.{nat_tests}
 use Rattle.sqlite_value.specs.declared.value.Value.{Value}
 use Rattle.sqlite_value.specs.declared.value.Value.TheVariants.{Null, Int, Real, Text, Blob}

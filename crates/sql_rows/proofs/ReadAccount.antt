@@ -1,18 +1,17 @@
 -- What the text of `read_account` answers.
 use Rattle.std.specs.Prelude.{codes}
-use Rattle.std.proofs.Common.{◌≡◌, inl, inr, ℕ, pos, List, [], ◌∷◌, ◌++◌, map, drop, Bool, true}
-use Rattle.std.proofs.Common.{false, ◌&&◌, Some, None, Option, Equal, refl, sym, ap, subst, ◌∙◌}
+use Rattle.std.proofs.Common.{◌≡◌, inl, inr, ℕ, List, [], ◌∷◌, ◌++◌, map, drop}
+use Rattle.std.proofs.Common.{false, Option, refl, sym, ap, subst, ◌∙◌}
 use Rattle.std.specs.List.{list_all}
 use Rattle.std.specs.Ordering.{eq_by_cmp}
-use Rattle.sqlite_value.specs.declared.value.Value.TheVariants.{Null, Int, Text}
+use Rattle.sqlite_value.specs.declared.value.Value.TheVariants.{Null}
 use Rattle.sqlite_value.specs.declared.keys.Collation.TheVariants.{Binary}
 use Rattle.sqlite_value.specs.Keys.{first_key}
-use Rattle.sqlite_value.specs.Order.{Row, column, row_cmp, value_cmp}
+use Rattle.sqlite_value.specs.Order.{Row, column, row_cmp}
 use Rattle.sqlite_sql.specs.declared.ops.BinaryOp.TheVariants.{Compare}
 use Rattle.sqlite_sql.specs.declared.ops.CompareOp.TheVariants.{Eq}
-use Rattle.sqlite_sql.specs.Term.{Term, lit, col, op2, holds as holds_in}
+use Rattle.sqlite_sql.specs.Term.{Term, col, op2, holds as holds_in}
 use Rattle.sqlite_schema.specs.declared.command.Command.TheVariants.{Select}
-use Rattle.sqlite_schema.specs.Rules.{equal}
 use Rattle.sqlite_tied.specs.Compute.{everything}
 use Rattle.sqlite.specs.Given.{IsPlain}
 use Rattle.sqlite.specs.Listing.{understood, reads_listing}
@@ -24,11 +23,10 @@ use Rattle.sql_tables.specs.Selects.{Selects, one_or_none}
 use Rattle.sql_tables.specs.Statements.{Answers}
 use Rattle.sql_tables.proofs.ByKey.{one_told}
 use Rattle.sql_tables.proofs.Selected.{select_from, told}
-use Rattle.sql_tables.proofs.Steps.{and_true}
-use Rattle.sql_tables.proofs.Ties.{agree_ties_at, equal_present, tie_parts}
-use Rattle.sql_rows.specs.declared.head.Head.{Head}
+use Rattle.sql_tables.proofs.Ties.{agree_ties_at}
+use Rattle.sql_rows.specs.declared.head.HeadColumns.{HeadColumns}
 use Rattle.sql_rows.proofs.PutAccount.{head_told}
-use Rattle.sql_rows.specs.Values.{nat, head_key, head_in, head_cells}
+use Rattle.sql_rows.specs.Values.{head_key, head_in, head_cells}
 use Rattle.sql_rows.specs.Content.{rows_in}
 
 abbrev pub read_account_text : List ℕ
@@ -65,7 +63,7 @@ same_columns : (r : Row) → head_in (drop 1 r) ≡ head_in (Null ∷ columns r)
 same_columns [] = refl
 same_columns (v ∷ vs) = refl
 
-pub back : (x : Head) (r : Row) → head_cells x ≡ columns r → head_in (drop 1 r) ≡ x
+pub back : (x : HeadColumns) (r : Row) → head_cells x ≡ columns r → head_in (drop 1 r) ≡ x
 back x r is = same_columns r ∙ ap (λ w. head_in (Null ∷ w)) (sym is) ∙ head_told Null x
 
 module _ (a : List ℕ) where
@@ -74,7 +72,7 @@ module _ (a : List ℕ) where
   unfolding first_key
   means r = agree_ties_at places r (0 ∷ []) (head_key a) (refl, tt)
 
-  pub account_read : (old new : State) (rows : List Row) (o : Option Head) →
+  pub account_read : (old new : State) (rows : List Row) (o : Option HeadColumns) →
       Answers read_account_text (head_key a) old new rows
       → rows ≡ map head_cells (one_or_none o) → o ≡ (rows_in old.now.trees a).head
   account_read old new rows o got is =

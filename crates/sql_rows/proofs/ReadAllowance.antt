@@ -81,8 +81,10 @@ module _ (a : List ℕ) (n : ℕ) where
   number_read old new rows o got is =
       ap is_some (one_told allowance_buckets
       (inr (inr (inr (inr (inr (inr (inr (inr (inr (inr (inr (inr (inl refl)))))))))))))
-      (inr (inr (inr (inr (inr (inr (inr (inr (inr (inr (inr (inr (inr (inr (inr (inl refl))))))))))))))))
-      refl old.now.trees got.fits (got.book.stored.1.1.1.1.1.1.1.1.1.1.1.1.0) allowance_in number_cells
+      (inr (inr (inr (inr (inr (inr (inr (inr
+      (inr (inr (inr (inr (inr (inr (inr (inl refl))))))))))))))))
+      refl old.now.trees got.fits (got.book.stored.1.1.1.1.1.1.1.1.1.1.1.1.0) allowance_in
+      number_cells
       columns test (bucket_key a n) (refl, (refl, tt)) (λ x r m. back x r) (λ r. refl) o
       (subst (Selects test columns (old.now.trees 27)) is
       (told read_allowance_text names 27 terms project [] text_is read_allowance_plain

@@ -1,6 +1,6 @@
 -- What the text of `read_allowances` answers.
 use Rattle.std.specs.Prelude.{codes, is_some}
-use Rattle.std.proofs.Common.{◌≡◌, inl, inr, ℕ, List, [], ◌∷◌, ◌++◌, map, drop, Bool, true, false}
+use Rattle.std.proofs.Common.{◌≡◌, inl, inr, ℕ, List, [], ◌∷◌, map, drop, Bool, true, false}
 use Rattle.std.proofs.Common.{◌&&◌, is_eq, nat_eq, ap₂, refl, sym, ap, subst, ◌∙◌}
 use Rattle.sqlite_value.specs.declared.value.Value.TheVariants.{Null, Text}
 use Rattle.sqlite_value.specs.declared.keys.Collation.TheVariants.{Binary}
@@ -89,9 +89,10 @@ module _ (a : List ℕ) where
       ap is_some
       (listed_told allowance_buckets
       (inr (inr (inr (inr (inr (inr (inr (inr (inr (inr (inr (inr (inl refl)))))))))))))
-      (inr (inr (inr (inr (inr (inr (inr (inr (inr (inr (inr (inr (inr (inr (inr (inl refl))))))))))))))))
-      refl old.now.trees got.fits (got.book.stored.1.1.1.1.1.1.1.1.1.1.1.1.0) allowance_in number_cells
-      columns (λ r. front r && true) (bucket_key a n) (refl, (refl, tt))
+      (inr (inr (inr (inr (inr (inr (inr (inr
+      (inr (inr (inr (inr (inr (inr (inr (inl refl))))))))))))))))
+      refl old.now.trees got.fits (got.book.stored.1.1.1.1.1.1.1.1.1.1.1.1.0) allowance_in
+      number_cells columns (λ r. front r && true) (bucket_key a n) (refl, (refl, tt))
       (λ x r m. back x r) (λ x. nat_eq x n) (λ x. true) front (rest n)
       (λ r. true) (λ r. refl) (splits n) (wanted n) (λ r m h. refl) (λ x r e same. refl) xs
       (subst (Selects (λ r. front r && true) columns (old.now.trees 27)) (sym is)

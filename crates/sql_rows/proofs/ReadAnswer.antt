@@ -1,18 +1,17 @@
 -- What the text of `read_answer` answers.
 use Rattle.std.specs.Prelude.{codes}
-use Rattle.std.proofs.Common.{◌≡◌, inl, inr, ℕ, pos, List, [], ◌∷◌, ◌++◌, map, drop, Bool, true}
-use Rattle.std.proofs.Common.{false, ◌&&◌, Some, None, Option, Equal, refl, sym, ap, subst, ◌∙◌}
+use Rattle.std.proofs.Common.{◌≡◌, inl, inr, ℕ, List, [], ◌∷◌, ◌++◌, map, drop}
+use Rattle.std.proofs.Common.{false, Option, refl, sym, ap, subst, ◌∙◌}
 use Rattle.std.specs.List.{list_all}
 use Rattle.std.specs.Ordering.{eq_by_cmp}
-use Rattle.sqlite_value.specs.declared.value.Value.TheVariants.{Null, Int, Text}
+use Rattle.sqlite_value.specs.declared.value.Value.TheVariants.{Null}
 use Rattle.sqlite_value.specs.declared.keys.Collation.TheVariants.{Binary}
 use Rattle.sqlite_value.specs.Keys.{first_key}
-use Rattle.sqlite_value.specs.Order.{Row, column, row_cmp, value_cmp}
+use Rattle.sqlite_value.specs.Order.{Row, column, row_cmp}
 use Rattle.sqlite_sql.specs.declared.ops.BinaryOp.TheVariants.{Compare}
 use Rattle.sqlite_sql.specs.declared.ops.CompareOp.TheVariants.{Eq}
-use Rattle.sqlite_sql.specs.Term.{Term, lit, col, op2, holds as holds_in}
+use Rattle.sqlite_sql.specs.Term.{Term, col, op2, holds as holds_in}
 use Rattle.sqlite_schema.specs.declared.command.Command.TheVariants.{Select}
-use Rattle.sqlite_schema.specs.Rules.{equal}
 use Rattle.sqlite_tied.specs.Compute.{everything}
 use Rattle.sqlite.specs.Given.{IsPlain}
 use Rattle.sqlite.specs.Listing.{understood, reads_listing}
@@ -24,9 +23,8 @@ use Rattle.sql_tables.specs.Selects.{Selects, one_or_none}
 use Rattle.sql_tables.specs.Statements.{Answers}
 use Rattle.sql_tables.proofs.ByKey.{one_told}
 use Rattle.sql_tables.proofs.Selected.{select_from, told}
-use Rattle.sql_tables.proofs.Steps.{and_true}
-use Rattle.sql_tables.proofs.Ties.{agree_ties_at, equal_present, tie_parts}
-use Rattle.sql_rows.specs.Values.{nat, Kept, answer_key, answer_in, answer_cells}
+use Rattle.sql_tables.proofs.Ties.{agree_ties_at}
+use Rattle.sql_rows.specs.Values.{Kept, answer_key, answer_in_row, answer_cells}
 use Rattle.sql_rows.specs.Content.{rows_in}
 
 abbrev pub read_answer_text : List ℕ
@@ -62,12 +60,14 @@ read_answer_plain = (refl, refl)
 abbrev columns : Row → Row
 columns r = column r 5 ∷ column r 6 ∷ []
 
-same_columns : (r : Row) → answer_in (drop 1 r) ≡ answer_in (Null ∷ Null ∷ Null ∷ Null ∷ columns r)
+same_columns : (r : Row) → answer_in_row (drop 1 r) ≡ answer_in_row
+    (Null ∷ Null ∷ Null ∷ Null ∷ columns r)
 same_columns [] = refl
 same_columns (v ∷ vs) = refl
 
-back : (x : Kept) (r : Row) → answer_cells x ≡ columns r → answer_in (drop 1 r) ≡ x
-back x r is = same_columns r ∙ ap (λ w. answer_in (Null ∷ Null ∷ Null ∷ Null ∷ w)) (sym is) ∙ refl
+back : (x : Kept) (r : Row) → answer_cells x ≡ columns r → answer_in_row (drop 1 r) ≡ x
+back x r is = same_columns r ∙ ap (λ w. answer_in_row (Null ∷ Null ∷ Null ∷ Null ∷ w)) (sym is) ∙
+    refl
 
 module _ (a : List ℕ) (kind : ℕ) (name : List ℕ) (number : ℕ) where
   means : (r : Row) →
@@ -84,7 +84,7 @@ module _ (a : List ℕ) (kind : ℕ) (name : List ℕ) (number : ℕ) where
   answer_read old new rows o got is =
       one_told answers (inr (inr (inr (inr (inr (inr (inr (inl refl))))))))
       (inr (inr (inr (inr (inr (inr (inr (inl refl)))))))) refl old.now.trees got.fits
-      (got.book.stored.1.1.1.1.1.1.1.0) answer_in answer_cells columns
+      (got.book.stored.1.1.1.1.1.1.1.0) answer_in_row answer_cells columns
       (λ r. eq_by_cmp row_cmp (key_of places r) (answer_key a kind name number))
       (answer_key a kind name number) (refl, (refl, (refl, (refl, tt))))
       (λ x r m. back x r) (λ r. refl) o

@@ -1,8 +1,7 @@
 -- What the text of `read_books` answers.
 use Rattle.std.specs.Prelude.{codes, option_map}
-use Rattle.std.proofs.Common.{◌≡◌, inl, inr, ℕ, List, [], ◌∷◌, ◌++◌, map, drop, Bool, true, false}
+use Rattle.std.proofs.Common.{◌≡◌, inl, inr, ℕ, List, [], ◌∷◌, map, drop, Bool, true, false}
 use Rattle.std.proofs.Common.{Some, None, Option, is_eq, nat_eq, refl, sym, ap, subst, ◌∙◌}
-use Rattle.sqlite_value.specs.declared.value.Value.TheVariants.{Null}
 use Rattle.sqlite_value.specs.declared.keys.Collation.TheVariants.{Binary}
 use Rattle.sqlite_value.specs.declared.keys.Key.{Key}
 use Rattle.sqlite_value.specs.Order.{Row, column, value_cmp}
@@ -21,13 +20,13 @@ use Rattle.sql_tables.proofs.Keys.{keys_split, int_tie}
 use Rattle.sql_tables.proofs.Selected.{select_from, told}
 use Rattle.sql_tables.proofs.Selections.{meets}
 use Rattle.sql_tables.proofs.Steps.{and_true}
-use Rattle.sql_rows.specs.Values.{nat, nat_in, DatedBook, book_key, book_in}
-use Rattle.sql_rows.specs.Content.{content_of}
+use Rattle.sql_rows.specs.Values.{nat, nat_in, book_key, book_in_row}
+use Rattle.sql_rows.specs.Content.{tables_content}
 use Rattle.sql_rows.specs.Lists.{BookAt, book_at_cells, AreBooks}
 
 -- a stored row as one of the list
 abbrev pub at_in : Row → BookAt
-at_in v = record { number = nat_in (column v 0); row = book_in v }
+at_in v = record { number = nat_in (column v 0); row = book_in_row v }
 
 abbrev project : List Term
 project = col 1 1 ∷ col 1 2 ∷ col 1 3 ∷ []
@@ -62,7 +61,7 @@ unfolding understood everything
 read_books_plain = (refl, refl)
 
 rows_only : (o : Option Row) →
-    option_map (λ (x : BookAt). x.row) (option_map at_in o) ≡ option_map book_in o
+    option_map (λ (x : BookAt). x.row) (option_map at_in o) ≡ option_map book_in_row o
 rows_only None = refl
 rows_only (Some v) = refl
 
@@ -85,12 +84,13 @@ books_selected old new rows got =
 
 pub books_read : (old new : State) (rows : List Row) (xs : List BookAt)
     → Answers read_books_text [] old new rows
-    → map book_at_cells xs ≡ rows → AreBooks (content_of old.now.trees) xs
+    → map book_at_cells xs ≡ rows → AreBooks (tables_content old.now.trees) xs
 books_read old new rows xs got is n =
     ap (option_map (λ (x : BookAt). x.row))
     (listed_told books (inr (inr (inr (inr (inr (inr (inr (inr (inr (inr (inl refl)))))))))))
     (inr (inr (inr (inr (inr (inr (inr (inr (inr (inr (inr (inr (inl refl))))))))))))) refl
-    old.now.trees got.fits (got.book.stored.1.1.1.1.1.1.1.1.1.1.0) at_in book_at_cells columns (λ r. true)
+    old.now.trees got.fits (got.book.stored.1.1.1.1.1.1.1.1.1.1.0) at_in book_at_cells columns
+    (λ r. true)
     (book_key n) (refl, tt) (λ x r m. back x r) (λ x. nat_eq x.number n) (λ x. true) (λ r. true)
     (rest n) (λ r. true) (λ r. refl) (splits n) (wanted n) (λ r m h. refl)
     (λ x r e same. refl) xs

@@ -27,8 +27,9 @@ use Rattle.sql_tables.proofs.Selections.{meets}
 use Rattle.sql_tables.proofs.Steps.{and_true}
 use Rattle.buckets.specs.declared.kind.BucketKind.{BucketKind}
 use Rattle.buckets.specs.declared.kind.BucketKind.TheVariants.{Money, Blocks}
-use Rattle.buckets.specs.Row.{Row as Bucket}
-use Rattle.sql_rows.specs.Values.{nat, bucket_key, bucket_in, bucket_cells, cells_of, money_cells}
+use Rattle.buckets.specs.Row.{BucketRow}
+use Rattle.sql_rows.specs.Values.{nat, bucket_key, bucket_in_row, bucket_cells, cells_of}
+use Rattle.sql_rows.specs.Values.{money_cells}
 use Rattle.sql_rows.specs.Content.{rows_in}
 use Rattle.sql_rows.specs.Lists.{AreBuckets}
 use Rattle.sql_rows.proofs.PutBucket.{bucket_told}
@@ -47,23 +48,23 @@ columns r = column r 2 ∷ column r 3 ∷ column r 4 ∷ column r 5 ∷ column r
     ∷ column r 9 ∷
     column r 10 ∷ []
 
-same_columns : (r : Row) → bucket_in (drop 1 r) ≡ bucket_in (Null ∷ columns r)
+same_columns : (r : Row) → bucket_in_row (drop 1 r) ≡ bucket_in_row (Null ∷ columns r)
 same_columns [] = refl
 same_columns (v ∷ vs) = refl
 
 -- a bucket that is read counts money
-counted : (x : Bucket) (r : Row) → bucket_cells x ≡ columns r → x.kind ≡ Money
+counted : (x : BucketRow) (r : Row) → bucket_cells x ≡ columns r → x.kind ≡ Money
 counted x r is = go x.kind refl is
   where
     go : (k : BucketKind) → x.kind ≡ k → cells_of k (money_cells x) ≡ columns r → x.kind ≡ Money
     go Money e is = e
     go Blocks e is = absurd (let none : [] ≡ columns r = is in cc)
 
-money_read : (x : Bucket) (r : Row) → bucket_cells x ≡ columns r → money_cells x ≡ columns r
+money_read : (x : BucketRow) (r : Row) → bucket_cells x ≡ columns r → money_cells x ≡ columns r
 money_read x r is = ap (λ k. cells_of k (money_cells x)) (sym (counted x r is)) ∙ is
 
-pub back : (x : Bucket) (r : Row) → bucket_cells x ≡ columns r → bucket_in (drop 1 r) ≡ x
-back x r is = same_columns r ∙ ap (λ w. bucket_in (Null ∷ w)) (sym (money_read x r is))
+pub back : (x : BucketRow) (r : Row) → bucket_cells x ≡ columns r → bucket_in_row (drop 1 r) ≡ x
+back x r is = same_columns r ∙ ap (λ w. bucket_in_row (Null ∷ w)) (sym (money_read x r is))
     ∙ bucket_told Null x (counted x r is)
 
 abbrev pub read_buckets_all_text : List ℕ
@@ -104,18 +105,18 @@ module _ (a : List ℕ) where
       ∙ ap₂ ◌&&◌ (sym (equal_turned (column r 1) (Text a) refl))
       (keys_split (nat n) (column r 2) [] [] ∙ and_true _)
 
-  pub wanted : (n : ℕ) (x : Bucket) (r : Row) → bucket_cells x ≡ columns r →
+  pub wanted : (n : ℕ) (x : BucketRow) (r : Row) → bucket_cells x ≡ columns r →
       rest n r ≡ nat_eq x.number n
   wanted n x r is =
       ap (λ (w : Row). is_eq (value_cmp (nat n) (column w 0))) (sym (money_read x r is))
       ∙ int_tie x.number n
 
-  pub all_read : (old new : State) (rows : List Row) (bs : List Bucket) →
+  pub all_read : (old new : State) (rows : List Row) (bs : List BucketRow) →
       Answers read_buckets_all_text (Text a ∷ []) old new rows
       → map bucket_cells bs ≡ rows → AreBuckets (λ b. true) (rows_in old.now.trees a) bs
   all_read old new rows bs got is n =
       listed_told buckets (inr (inr (inl refl))) (inr (inr (inl refl))) refl old.now.trees got.fits
-      (got.book.stored.1.1.0) bucket_in bucket_cells columns
+      (got.book.stored.1.1.0) bucket_in_row bucket_cells columns
       (λ r. front r && true) (bucket_key a n) (refl, (refl, tt)) (λ x r m. back x r)
       (λ x. nat_eq x.number n) (λ b. true) front (rest n) (λ r. true) (λ r. refl)
       (splits n) (wanted n) (λ r m h. refl) (λ x r e same. refl) bs

@@ -1,21 +1,15 @@
 -- What the text of `read_charges_within` answers.
-use Rattle.std.specs.Prelude.{codes, option_map}
-use Rattle.std.proofs.Common.{◌≡◌, inl, inr, ℕ, zero, suc, pos, List, [], ◌∷◌, ◌++◌, map, drop}
-use Rattle.std.proofs.Common.{Bool, true}
-use Rattle.std.proofs.Common.{false, ◌&&◌, ◌||◌, Some, None, Option, is_eq, refl, sym, ap, ap₂}
-use Rattle.std.proofs.Common.{subst, ◌∙◌, nat_eq, nat_lt}
-use Rattle.std.specs.Prelude.{nat_le}
-use Rattle.std.proofs.lemmas.Bool.{and_parts, and_from}
-use Rattle.std.specs.List.{list_all, find}
-use Rattle.std.specs.Ordering.{eq_by_cmp}
-use Rattle.sqlite_value.specs.declared.value.Value.TheVariants.{Null, Int, Text}
+use Rattle.std.specs.Prelude.{codes}
+use Rattle.std.proofs.Common.{◌≡◌, inl, inr, ℕ, zero, suc, List, [], ◌∷◌, ◌++◌, map, drop}
+use Rattle.std.proofs.Common.{Bool, true, false, ◌&&◌, is_eq, refl, sym, ap, ap₂}
+use Rattle.std.proofs.Common.{subst, ◌∙◌, nat_eq}
+use Rattle.sqlite_value.specs.declared.value.Value.TheVariants.{Null, Text}
 use Rattle.sqlite_value.specs.declared.keys.Collation.TheVariants.{Binary}
 use Rattle.sqlite_value.specs.declared.keys.Key.{Key}
-use Rattle.sqlite_value.specs.Order.{Row, column, row_cmp, value_cmp}
-use Rattle.sqlite_trees.specs.Tree.{Trees}
-use Rattle.sqlite_sql.specs.declared.ops.BinaryOp.TheVariants.{Compare, Or}
+use Rattle.sqlite_value.specs.Order.{Row, column, value_cmp}
+use Rattle.sqlite_sql.specs.declared.ops.BinaryOp.TheVariants.{Compare}
 use Rattle.sqlite_sql.specs.declared.ops.CompareOp.TheVariants.{Eq, Gt, Le}
-use Rattle.sqlite_sql.specs.Term.{Term, lit, col, op2, holds as holds_in}
+use Rattle.sqlite_sql.specs.Term.{Term, col, op2}
 use Rattle.sqlite_schema.specs.declared.command.Command.TheVariants.{Select}
 use Rattle.sqlite_schema.specs.Rules.{equal}
 use Rattle.sqlite_tied.specs.Compute.{everything}
@@ -23,21 +17,20 @@ use Rattle.sqlite.specs.Given.{IsPlain}
 use Rattle.sqlite.specs.Listing.{understood, reads_listing}
 use Rattle.sqlite.specs.State.{State}
 use Rattle.sqlite.proofs.Callers.{command_of}
-use Rattle.sql_tables.specs.Keyed.{key_of, same_name}
 use Rattle.sql_tables.specs.Schema.{charges, book_schema}
-use Rattle.sql_tables.specs.Selects.{Selects, only}
+use Rattle.sql_tables.specs.Selects.{Selects}
 use Rattle.sql_tables.specs.Statements.{Answers}
-use Rattle.sql_tables.proofs.ByKey.{listed_told, only_all}
+use Rattle.sql_tables.proofs.ByKey.{listed_told}
 use Rattle.sql_tables.proofs.Columns.{equal_turned}
-use Rattle.sql_tables.proofs.Keys.{keys_split, int_tie, text_tie}
+use Rattle.sql_tables.proofs.Keys.{keys_split, int_tie}
 use Rattle.sql_tables.proofs.Selected.{select_from, told}
 use Rattle.sql_tables.proofs.Selections.{meets}
-use Rattle.sql_tables.proofs.Steps.{and_apart, and_last, and_true}
+use Rattle.sql_tables.proofs.Steps.{and_last, and_true}
 use Rattle.reserving.specs.declared.charge.ChargeRow.{ChargeRow}
-use Rattle.sql_rows.specs.Values.{nat, charge_key, charge_in, charge_cells, cells_beside}
+use Rattle.sql_rows.specs.Values.{nat, charge_key, charge_in_row, charge_cells, cells_beside}
 use Rattle.sql_rows.specs.Values.{priced_cells}
 use Rattle.sql_rows.specs.Content.{rows_in}
-use Rattle.sql_rows.specs.Lists.{AreCharges, is_within}
+use Rattle.sql_rows.specs.Lists.{AreChargeRows, is_row_within}
 use Rattle.sql_rows.proofs.PutCharge.{charge_told}
 use Rattle.sql_rows.proofs.Ranges.{is_beyond, is_up_to, lies_within, within_told, number_within}
 
@@ -53,7 +46,7 @@ abbrev columns : Row → Row
 columns r = column r 2 ∷ column r 3 ∷ column r 4 ∷ column r 5 ∷ column r 6 ∷ column r 7 ∷ column r 8
     ∷ column r 9 ∷ []
 
-same_columns : (r : Row) → charge_in (drop 1 r) ≡ charge_in (Null ∷ columns r)
+same_columns : (r : Row) → charge_in_row (drop 1 r) ≡ charge_in_row (Null ∷ columns r)
 same_columns [] = refl
 same_columns (v ∷ vs) = refl
 
@@ -70,8 +63,8 @@ priced_read : (x : ChargeRow) (r : Row) → charge_cells x ≡ columns r →
     priced_cells x ≡ columns r
 priced_read x r is = ap (λ n. cells_beside n (priced_cells x)) (sym (uncovered x r is)) ∙ is
 
-back : (x : ChargeRow) (r : Row) → charge_cells x ≡ columns r → charge_in (drop 1 r) ≡ x
-back x r is = same_columns r ∙ ap (λ w. charge_in (Null ∷ w)) (sym (priced_read x r is))
+back : (x : ChargeRow) (r : Row) → charge_cells x ≡ columns r → charge_in_row (drop 1 r) ≡ x
+back x r is = same_columns r ∙ ap (λ w. charge_in_row (Null ∷ w)) (sym (priced_read x r is))
     ∙ charge_told Null x (uncovered x r is)
 
 abbrev pub read_charges_within_text : List ℕ
@@ -123,25 +116,26 @@ module _ (a : List ℕ) (after last : ℕ) where
       ap (λ (w : Row). is_eq (value_cmp (nat n) (column w 0))) (sym (priced_read x r is))
       ∙ int_tie x.number n
 
-  lies : (r : Row) → is_within after last (charge_in (drop 1 r)) ≡ true → extra r ≡ true
+  lies : (r : Row) → is_row_within after last (charge_in_row (drop 1 r)) ≡ true → extra r ≡ true
   lies [] h = number_within after last Null h
   lies (v ∷ vs) h = number_within after last (column vs 1) h
 
   lies_told : (x : ChargeRow) (r : Row) → extra r ≡ true → charge_cells x ≡ columns r →
-      is_within after last x ≡ true
+      is_row_within after last x ≡ true
   lies_told x r e is =
       sym (within_told after last x.number)
       ∙ ap (λ (w : Row). lies_within after last (column w 0)) (priced_read x r is) ∙ e
 
   pub charges_read : (old new : State) (rows : List Row) (xs : List ChargeRow) →
       Answers read_charges_within_text (Text a ∷ nat after ∷ nat last ∷ []) old new rows
-      → map charge_cells xs ≡ rows → AreCharges (is_within after last) (rows_in old.now.trees a) xs
+      → map charge_cells xs ≡ rows → AreChargeRows (is_row_within after last)
+      (rows_in old.now.trees a) xs
   charges_read old new rows xs got is n =
       listed_told charges (inr (inr (inr (inr (inr (inr (inr (inr (inr (inl refl))))))))))
       (inr (inr (inr (inr (inr (inr (inr (inr (inr (inl refl)))))))))) refl old.now.trees got.fits
-      (got.book.stored.1.1.1.1.1.1.1.1.1.0) charge_in charge_cells columns
+      (got.book.stored.1.1.1.1.1.1.1.1.1.0) charge_in_row charge_cells columns
       (λ r. front r && extra r) (charge_key a n) (refl, (refl, tt)) (λ x r m. back x r)
-      (λ x. nat_eq x.number n) (is_within after last) front (rest n) extra (λ r. refl)
+      (λ x. nat_eq x.number n) (is_row_within after last) front (rest n) extra (λ r. refl)
       (splits n) (wanted n) (λ r m. lies r) lies_told xs
       (subst (Selects (λ r. front r && extra r) columns (old.now.trees 18)) (sym is)
       (told read_charges_within_text names 18 charges_terms project charges_order charges_is

@@ -1,18 +1,17 @@
 -- What the text of `read_counter` answers.
 use Rattle.std.specs.Prelude.{codes}
-use Rattle.std.proofs.Common.{◌≡◌, inl, inr, ℕ, pos, List, [], ◌∷◌, ◌++◌, map, drop, Bool, true}
-use Rattle.std.proofs.Common.{false, ◌&&◌, Some, None, Option, Equal, refl, sym, ap, subst, ◌∙◌}
+use Rattle.std.proofs.Common.{◌≡◌, inl, inr, ℕ, List, [], ◌∷◌, ◌++◌, map, drop}
+use Rattle.std.proofs.Common.{false, Option, refl, sym, ap, subst, ◌∙◌}
 use Rattle.std.specs.List.{list_all}
 use Rattle.std.specs.Ordering.{eq_by_cmp}
-use Rattle.sqlite_value.specs.declared.value.Value.TheVariants.{Null, Int, Text}
+use Rattle.sqlite_value.specs.declared.value.Value.TheVariants.{Null}
 use Rattle.sqlite_value.specs.declared.keys.Collation.TheVariants.{Binary}
 use Rattle.sqlite_value.specs.Keys.{first_key}
-use Rattle.sqlite_value.specs.Order.{Row, column, row_cmp, value_cmp}
+use Rattle.sqlite_value.specs.Order.{Row, column, row_cmp}
 use Rattle.sqlite_sql.specs.declared.ops.BinaryOp.TheVariants.{Compare}
 use Rattle.sqlite_sql.specs.declared.ops.CompareOp.TheVariants.{Eq}
-use Rattle.sqlite_sql.specs.Term.{Term, lit, col, op2, holds as holds_in}
+use Rattle.sqlite_sql.specs.Term.{Term, col, op2, holds as holds_in}
 use Rattle.sqlite_schema.specs.declared.command.Command.TheVariants.{Select}
-use Rattle.sqlite_schema.specs.Rules.{equal}
 use Rattle.sqlite_tied.specs.Compute.{everything}
 use Rattle.sqlite.specs.Given.{IsPlain}
 use Rattle.sqlite.specs.Listing.{understood, reads_listing}
@@ -24,10 +23,9 @@ use Rattle.sql_tables.specs.Selects.{Selects, one_or_none}
 use Rattle.sql_tables.specs.Statements.{Answers}
 use Rattle.sql_tables.proofs.ByKey.{one_told}
 use Rattle.sql_tables.proofs.Selected.{select_from, told}
-use Rattle.sql_tables.proofs.Steps.{and_true}
-use Rattle.sql_tables.proofs.Ties.{agree_ties_at, equal_present, tie_parts}
+use Rattle.sql_tables.proofs.Ties.{agree_ties_at}
 use Rattle.reserving.specs.declared.session.Counter.{Counter}
-use Rattle.sql_rows.specs.Values.{nat, counter_key, counter_in, counter_cells}
+use Rattle.sql_rows.specs.Values.{counter_key, counter_in_row, counter_cells}
 use Rattle.sql_rows.specs.Content.{rows_in}
 
 abbrev pub read_counter_text : List ℕ
@@ -62,12 +60,12 @@ read_counter_plain = (refl, refl)
 abbrev pub columns : Row → Row
 columns r = column r 2 ∷ column r 3 ∷ column r 4 ∷ []
 
-same_columns : (r : Row) → counter_in (drop 1 r) ≡ counter_in (Null ∷ columns r)
+same_columns : (r : Row) → counter_in_row (drop 1 r) ≡ counter_in_row (Null ∷ columns r)
 same_columns [] = refl
 same_columns (v ∷ vs) = refl
 
-pub back : (x : Counter) (r : Row) → counter_cells x ≡ columns r → counter_in (drop 1 r) ≡ x
-back x r is = same_columns r ∙ ap (λ w. counter_in (Null ∷ w)) (sym is) ∙ refl
+pub back : (x : Counter) (r : Row) → counter_cells x ≡ columns r → counter_in_row (drop 1 r) ≡ x
+back x r is = same_columns r ∙ ap (λ w. counter_in_row (Null ∷ w)) (sym is) ∙ refl
 
 module _ (a : List ℕ) (g y : ℕ) where
   means : (r : Row) →
@@ -82,7 +80,7 @@ module _ (a : List ℕ) (g y : ℕ) where
   counter_read old new rows o got is =
       one_told counters (inr (inr (inr (inl refl))))
       (inr (inr (inr (inl refl)))) refl old.now.trees got.fits
-      (got.book.stored.1.1.1.0) counter_in counter_cells columns
+      (got.book.stored.1.1.1.0) counter_in_row counter_cells columns
       (λ r. eq_by_cmp row_cmp (key_of places r) (counter_key a g y)) (counter_key a g y)
       (refl, (refl, (refl, tt)))
       (λ x r m. back x r) (λ r. refl) o

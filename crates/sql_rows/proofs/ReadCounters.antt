@@ -1,12 +1,12 @@
 -- What the text of `read_counters_in` answers.
-use Rattle.std.specs.Prelude.{codes, if◌then◌else◌}
-use Rattle.std.proofs.Common.{◌≡◌, inl, inr, ℕ, pos, List, [], ◌∷◌, ◌++◌, map, Bool, true, false}
+use Rattle.std.specs.Prelude.{codes}
+use Rattle.std.proofs.Common.{◌≡◌, inl, inr, ℕ, List, [], ◌∷◌, ◌++◌, map, Bool, true, false}
 use Rattle.std.proofs.Common.{◌&&◌, Some, None, Option, is_eq, refl, sym, ap, ap₂, subst, ◌∙◌}
 use Rattle.std.proofs.Common.{nat_eq}
 use Rattle.std.proofs.lemmas.Bool.{and_parts, cases_Bool}
 use Rattle.std.specs.Cmp.{unsigned_Decides}
 use Rattle.std.specs.List.{find}
-use Rattle.sqlite_value.specs.declared.value.Value.TheVariants.{Int, Text}
+use Rattle.sqlite_value.specs.declared.value.Value.TheVariants.{Text}
 use Rattle.sqlite_value.specs.declared.keys.Collation.TheVariants.{Binary}
 use Rattle.sqlite_value.specs.declared.keys.Key.{Key}
 use Rattle.sqlite_value.specs.Order.{Row, column, value_cmp}
@@ -33,7 +33,7 @@ use Rattle.sql_tables.proofs.Selected.{AreAnswered, select_from, selected, told}
 use Rattle.sql_tables.proofs.Selections.{meets}
 use Rattle.sql_tables.proofs.Steps.{and_last, and_true, mapped_to}
 use Rattle.reserving.specs.declared.session.Counter.{Counter}
-use Rattle.sql_rows.specs.Values.{nat, counter_key, counter_in, counter_cells}
+use Rattle.sql_rows.specs.Values.{nat, counter_key, counter_in_row, counter_cells}
 use Rattle.sql_rows.specs.Content.{rows_in}
 use Rattle.sql_rows.specs.Lists.{AreCountersIn}
 use Rattle.sql_rows.proofs.ReadCounter.{columns, back}
@@ -142,7 +142,7 @@ module _ (a : List ℕ) (cycle : ℕ) where
           ≡ (rows_in trees a).counters g cycle
       at =
           answered_told counters (inr (inr (inr (inl refl))))
-          (inr (inr (inr (inl refl)))) refl trees fits stored counter_in counter_cells columns
+          (inr (inr (inr (inl refl)))) refl trees fits stored counter_in_row counter_cells columns
           (λ r. front a r && extra r) (counter_key a g cycle) (refl, (refl, (refl, tt)))
           (λ x r m. back x r) (λ x. nat_eq x.group g && nat_eq x.cycle cycle) (λ x. true) (front a)
           (rest a g cycle) extra (λ r. refl) (splits a g cycle) (wanted a g cycle)

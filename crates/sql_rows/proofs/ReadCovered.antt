@@ -1,7 +1,8 @@
 -- What the text of `read_covered_within` answers.
-use Rattle.std.specs.Prelude.{codes, nat_le, option_map, if◌then◌else◌}
+use Rattle.std.specs.Prelude.{codes, nat_le, option_map}
 use Rattle.std.proofs.Common.{◌≡◌, inl, inr, ℕ, List, [], ◌∷◌, ◌++◌, map, drop, Bool, true, false}
-use Rattle.std.proofs.Common.{◌&&◌, Some, None, Option, is_eq, nat_eq, nat_lt, ap₂, refl, sym, ap, subst, ◌∙◌}
+use Rattle.std.proofs.Common.{◌&&◌, Some, None, Option, is_eq, nat_eq, nat_lt, ap₂, refl, sym, ap}
+use Rattle.std.proofs.Common.{subst, ◌∙◌}
 use Rattle.std.proofs.lemmas.Bool.{and_parts, cases_Bool}
 use Rattle.std.specs.Cmp.{unsigned_Decides}
 use Rattle.std.specs.List.{find}
@@ -30,7 +31,8 @@ use Rattle.sql_tables.proofs.Keys.{keys_split, int_tie}
 use Rattle.sql_tables.proofs.Selected.{select_from, selected_from, told}
 use Rattle.sql_tables.proofs.Selections.{meets}
 use Rattle.sql_tables.proofs.Steps.{and_last, and_true, mapped_to}
-use Rattle.sql_rows.specs.Values.{nat, nat_in, CoveredRow, charge_key, covered_cells, covered_in}
+use Rattle.sql_rows.specs.Values.{nat, nat_in, CoveredRow, charge_key, covered_cells}
+use Rattle.sql_rows.specs.Values.{covered_in_row}
 use Rattle.sql_rows.specs.Content.{rows_in}
 use Rattle.sql_rows.specs.Lists.{AreCovered}
 use Rattle.sql_rows.proofs.Ranges.{is_beyond, is_up_to, lies_within, within_told, tied_within}
@@ -46,7 +48,7 @@ columns r = column r 2 ∷ column r 3 ∷ []
 
 -- a stored row as one of the list
 abbrev at_in : Row → CoveredRow
-at_in v = record { number = nat_in (column v 1); blocks = covered_in v }
+at_in v = record { number = nat_in (column v 1); blocks = covered_in_row v }
 
 same_columns : (r : Row) → at_in (drop 1 r) ≡ at_in (Null ∷ columns r)
 same_columns [] = refl
@@ -56,7 +58,7 @@ back : (x : CoveredRow) (r : Row) → covered_cells x ≡ columns r → at_in (d
 back x r is = same_columns r ∙ ap (λ w. at_in (Null ∷ w)) (sym is) ∙ refl
 
 blocks_only : (o : Option Row) →
-    option_map (λ (x : CoveredRow). x.blocks) (option_map at_in o) ≡ option_map covered_in o
+    option_map (λ (x : CoveredRow). x.blocks) (option_map at_in o) ≡ option_map covered_in_row o
 blocks_only None = refl
 blocks_only (Some v) = refl
 
@@ -165,7 +167,8 @@ module _ (a : List ℕ) (after last : ℕ) where
       at here =
           listed_told covered
           (inr (inr (inr (inr (inr (inr (inr (inr (inr (inr (inr (inr (inr (inl refl))))))))))))))
-          (inr (inr (inr (inr (inr (inr (inr (inr (inr (inr (inr (inr (inr (inr (inr (inr (inl refl)))))))))))))))))
+          (inr (inr (inr (inr (inr (inr (inr (inr
+          (inr (inr (inr (inr (inr (inr (inr (inr (inl refl)))))))))))))))))
           refl old.now.trees got.fits (got.book.stored.1.1.1.1.1.1.1.1.1.1.1.1.1.0) at_in
           covered_cells columns (λ r. front r && extra r) (charge_key a n) (refl, (refl, tt))
           (λ x r m. back x r) (λ x. nat_eq x.number n) (λ x. true) front (rest n) extra

@@ -1,7 +1,8 @@
 -- What the text of `read_grant_books` answers.
 use Rattle.std.specs.Prelude.{codes, option_map}
 use Rattle.std.proofs.Common.{◌≡◌, inl, inr, ℕ, List, [], ◌∷◌, ◌++◌, map, drop, Bool, true, false}
-use Rattle.std.proofs.Common.{◌&&◌, Some, None, Option, is_eq, nat_eq, ap₂, refl, sym, ap, subst, ◌∙◌}
+use Rattle.std.proofs.Common.{◌&&◌, Some, None, Option, is_eq, nat_eq, ap₂, refl, sym, ap, subst}
+use Rattle.std.proofs.Common.{◌∙◌}
 use Rattle.sqlite_value.specs.declared.value.Value.TheVariants.{Null, Text}
 use Rattle.sqlite_value.specs.declared.keys.Collation.TheVariants.{Binary}
 use Rattle.sqlite_value.specs.declared.keys.Key.{Key}
@@ -104,7 +105,8 @@ module _ (a s : List ℕ) where
       → map grant_book_cells xs ≡ rows → AreGrantBooks (rows_in old.now.trees a) s xs
   grant_books_read old new rows xs got is g =
       ap (option_map (λ (x : GrantBookAt). x.book))
-      (listed_told grant_books (inr (inr (inr (inr (inr (inr (inr (inr (inr (inr (inr (inl refl))))))))))))
+      (listed_told grant_books
+      (inr (inr (inr (inr (inr (inr (inr (inr (inr (inr (inr (inl refl))))))))))))
       (inr (inr (inr (inr (inr (inr (inr (inr (inr (inr (inr (inr (inr (inl refl))))))))))))))
       refl old.now.trees got.fits (got.book.stored.1.1.1.1.1.1.1.1.1.1.1.0) at_in grant_book_cells
       columns (λ r. front r && true) (group_key a s g) (refl, (refl, (refl, tt)))

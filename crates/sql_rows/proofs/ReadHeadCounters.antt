@@ -1,7 +1,7 @@
 -- What the text of `read_head_counters` answers.
 use Rattle.std.specs.Prelude.{codes}
-use Rattle.std.proofs.Common.{◌≡◌, inl, inr, ℕ, pos, List, [], ◌∷◌, ◌++◌, map, drop, take, Bool, true}
-use Rattle.std.proofs.Common.{false, ◌&&◌, Some, None, Option, refl, sym, ap, subst, ◌∙◌}
+use Rattle.std.proofs.Common.{◌≡◌, inl, inr, ℕ, pos, List, [], ◌∷◌, ◌++◌, map, drop, take, Bool}
+use Rattle.std.proofs.Common.{true, false, ◌&&◌, Some, None, Option, refl, sym, ap, subst, ◌∙◌}
 use Rattle.std.specs.List.{find}
 use Rattle.sqlite_value.specs.declared.value.Value.TheVariants.{Int, Text}
 use Rattle.sqlite_value.specs.declared.keys.Collation.{Collation}
@@ -22,9 +22,9 @@ use Rattle.sqlite.specs.Listing.{understood, reads_listing}
 use Rattle.sqlite.specs.State.{State}
 use Rattle.sqlite.proofs.Callers.{command_of}
 use Rattle.reserving.specs.declared.session.Counter.{Counter}
-use Rattle.sql_tables.specs.Keyed.{IsStored, look}
+use Rattle.sql_tables.specs.Keyed.{IsStored}
 use Rattle.sql_tables.specs.Schema.{accounts, book_schema}
-use Rattle.sql_tables.specs.Selects.{one_or_none, only}
+use Rattle.sql_tables.specs.Selects.{one_or_none}
 use Rattle.sql_tables.specs.Statements.{Answers}
 use Rattle.sql_tables.proofs.ByKey.{answered_told, only_all}
 use Rattle.sql_tables.proofs.Columns.{equal_turned}
@@ -32,7 +32,7 @@ use Rattle.sql_tables.proofs.Keys.{keys_split}
 use Rattle.sql_tables.proofs.Selected.{AreAnswered}
 use Rattle.sql_tables.proofs.Selections.{meets}
 use Rattle.sql_tables.proofs.Steps.{and_last, and_true, mapped_from, mapped_to}
-use Rattle.sql_rows.specs.declared.head.Head.{Head}
+use Rattle.sql_rows.specs.declared.head.HeadColumns.{HeadColumns}
 use Rattle.sql_rows.specs.Values.{counter_cells, head_cells, head_in, head_key, nat}
 use Rattle.sql_rows.specs.Content.{rows_in}
 use Rattle.sql_rows.specs.Lists.{AreCountersIn, counter_part, head_part}
@@ -99,7 +99,7 @@ not_both v w e = cc
 
 module _ (test_one test_two : Row → Bool) (ones twos out : List Row)
     (united : AreUnited test_one test_two head_columns counter_columns ones twos out)
-    (hs : List Head) (ks : List Counter)
+    (hs : List HeadColumns) (ks : List Counter)
     (is : map head_part hs ++ map counter_part ks ≡ out) where
   heads : AreAnswered test_one account.columns ones (map head_cells hs)
   heads = record {
@@ -155,7 +155,8 @@ module _ (a : List ℕ) where
   splits r = keys_split (Text a) (column r 1) [] []
       ∙ ap (λ t. t && true) (sym (equal_turned (column r 1) (Text a) refl))
 
-  head_answered : (trees : Trees) → Fits book_schema trees → IsStored (trees 2) → (o : Option Head)
+  head_answered : (trees : Trees) → Fits book_schema trees → IsStored (trees 2) →
+      (o : Option HeadColumns)
       → AreAnswered (front a) account.columns (trees 2) (map head_cells (one_or_none o))
       → o ≡ (rows_in trees a).head
   head_answered trees fits stored o answered =
@@ -166,7 +167,7 @@ module _ (a : List ℕ) where
       splits (λ x r e. refl) (λ r m l. refl) (λ x r e same. refl) (one_or_none o) answered
       ∙ only_all _
 
-  pub head_counters_read : (cycle : ℕ) (old new : State) (rows : List Row) (o : Option Head)
+  pub head_counters_read : (cycle : ℕ) (old new : State) (rows : List Row) (o : Option HeadColumns)
       (ks : List Counter)
       → Answers read_head_counters_text (Text a ∷ nat cycle ∷ []) old new rows
       → map head_part (one_or_none o) ++ map counter_part ks ≡ rows

@@ -1,19 +1,15 @@
 -- What the text of `read_holds` answers.
 use Rattle.std.specs.Prelude.{codes, option_map}
-use Rattle.std.proofs.Common.{◌≡◌, inl, inr, ℕ, pos, List, [], ◌∷◌, ◌++◌, map, drop, Bool, true}
-use Rattle.std.proofs.Common.{false, ◌&&◌, ◌||◌, Some, None, Option, is_eq, refl, sym, ap, ap₂}
-use Rattle.std.proofs.Common.{subst, ◌∙◌, nat_eq, nat_lt}
-use Rattle.std.proofs.lemmas.Bool.{and_parts, and_from}
-use Rattle.std.specs.List.{list_all, find}
-use Rattle.std.specs.Ordering.{eq_by_cmp}
-use Rattle.sqlite_value.specs.declared.value.Value.TheVariants.{Null, Int, Text}
+use Rattle.std.proofs.Common.{◌≡◌, inl, inr, ℕ, List, [], ◌∷◌, ◌++◌, map, drop, Bool, true}
+use Rattle.std.proofs.Common.{false, ◌&&◌, Some, None, Option, is_eq, refl, sym, ap, ap₂}
+use Rattle.std.proofs.Common.{subst, ◌∙◌, nat_eq}
+use Rattle.sqlite_value.specs.declared.value.Value.TheVariants.{Null, Text}
 use Rattle.sqlite_value.specs.declared.keys.Collation.TheVariants.{Binary}
 use Rattle.sqlite_value.specs.declared.keys.Key.{Key}
-use Rattle.sqlite_value.specs.Order.{Row, column, row_cmp, value_cmp}
-use Rattle.sqlite_trees.specs.Tree.{Trees}
-use Rattle.sqlite_sql.specs.declared.ops.BinaryOp.TheVariants.{Compare, Or}
-use Rattle.sqlite_sql.specs.declared.ops.CompareOp.TheVariants.{Eq, Gt}
-use Rattle.sqlite_sql.specs.Term.{Term, lit, col, op2, holds as holds_in}
+use Rattle.sqlite_value.specs.Order.{Row, column, value_cmp}
+use Rattle.sqlite_sql.specs.declared.ops.BinaryOp.TheVariants.{Compare}
+use Rattle.sqlite_sql.specs.declared.ops.CompareOp.TheVariants.{Eq}
+use Rattle.sqlite_sql.specs.Term.{Term, col, op2}
 use Rattle.sqlite_schema.specs.declared.command.Command.TheVariants.{Select}
 use Rattle.sqlite_schema.specs.Rules.{equal}
 use Rattle.sqlite_tied.specs.Compute.{everything}
@@ -21,16 +17,15 @@ use Rattle.sqlite.specs.Given.{IsPlain}
 use Rattle.sqlite.specs.Listing.{understood, reads_listing}
 use Rattle.sqlite.specs.State.{State}
 use Rattle.sqlite.proofs.Callers.{command_of}
-use Rattle.sql_tables.specs.Keyed.{key_of, same_name}
 use Rattle.sql_tables.specs.Schema.{holds, book_schema}
-use Rattle.sql_tables.specs.Selects.{Selects, only}
+use Rattle.sql_tables.specs.Selects.{Selects}
 use Rattle.sql_tables.specs.Statements.{Answers}
 use Rattle.sql_tables.proofs.ByKey.{listed_told, only_all}
 use Rattle.sql_tables.proofs.Columns.{equal_turned}
-use Rattle.sql_tables.proofs.Keys.{keys_split, int_tie, text_tie}
+use Rattle.sql_tables.proofs.Keys.{keys_split, int_tie}
 use Rattle.sql_tables.proofs.Selected.{select_from, told}
 use Rattle.sql_tables.proofs.Selections.{meets}
-use Rattle.sql_tables.proofs.Steps.{and_apart, and_last, and_true}
+use Rattle.sql_tables.proofs.Steps.{and_apart, and_true}
 use Rattle.sql_rows.specs.Values.{nat, nat_in, hold_key, hold_in}
 use Rattle.sql_rows.specs.Content.{rows_in}
 use Rattle.sql_rows.specs.Lists.{HoldAt, hold_cells, AreHolds}

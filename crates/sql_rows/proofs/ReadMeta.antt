@@ -1,10 +1,10 @@
 -- What the text of `read_meta` answers.
 use Rattle.std.specs.Prelude.{codes}
-use Rattle.std.proofs.Common.{◌≡◌, inl, inr, ℕ, pos, List, [], ◌∷◌, ◌++◌, map, drop, Bool, true}
-use Rattle.std.proofs.Common.{false, ◌&&◌, Some, None, Option, Equal, refl, sym, ap, subst, ◌∙◌}
+use Rattle.std.proofs.Common.{◌≡◌, inl, ℕ, pos, List, [], ◌∷◌, map, drop}
+use Rattle.std.proofs.Common.{false, Option, Equal, refl, sym, ap, subst, ◌∙◌}
 use Rattle.std.specs.List.{list_all}
 use Rattle.std.specs.Ordering.{eq_by_cmp}
-use Rattle.sqlite_value.specs.declared.value.Value.TheVariants.{Null, Int, Text}
+use Rattle.sqlite_value.specs.declared.value.Value.TheVariants.{Null, Int}
 use Rattle.sqlite_value.specs.declared.keys.Collation.TheVariants.{Binary}
 use Rattle.sqlite_value.specs.Keys.{first_key}
 use Rattle.sqlite_value.specs.Order.{Row, column, row_cmp, value_cmp}
@@ -25,9 +25,9 @@ use Rattle.sql_tables.specs.Statements.{Answers}
 use Rattle.sql_tables.proofs.ByKey.{one_told}
 use Rattle.sql_tables.proofs.Selected.{select_from, told}
 use Rattle.sql_tables.proofs.Steps.{and_true}
-use Rattle.sql_tables.proofs.Ties.{agree_ties_at, equal_present, tie_parts}
+use Rattle.sql_tables.proofs.Ties.{equal_present, tie_parts}
 use Rattle.sql_rows.specs.Values.{nat, Meta, meta_key, meta_in, meta_cells}
-use Rattle.sql_rows.specs.Content.{content_of}
+use Rattle.sql_rows.specs.Content.{tables_content}
 
 abbrev pub read_meta_text : List ℕ
 read_meta_text = codes "SELECT version, book, last_moment FROM meta WHERE id = 1"
@@ -81,7 +81,7 @@ meta_selected old new rows got =
 
 pub meta_read : (old new : State) (rows : List Row) (o : Option Meta)
     → Answers read_meta_text [] old new rows
-    → rows ≡ map meta_cells (one_or_none o) → o ≡ (content_of old.now.trees).meta
+    → rows ≡ map meta_cells (one_or_none o) → o ≡ (tables_content old.now.trees).meta
 meta_read old new rows o got is =
     one_told meta (inl refl) (inl refl) refl old.now.trees got.fits
     (got.book.stored.0) meta_in meta_cells columns

@@ -28,7 +28,7 @@ use Rattle.sql_tables.proofs.Selections.{meets}
 use Rattle.sql_tables.proofs.Steps.{and_last, and_true}
 use Rattle.reserving.specs.declared.session.Session.{Session}
 use Rattle.reserving.specs.Sessions.{is_open}
-use Rattle.sql_rows.specs.Values.{nat, session_key, session_in, session_cells}
+use Rattle.sql_rows.specs.Values.{nat, session_key, session_in_row, session_cells}
 use Rattle.sql_rows.specs.Content.{rows_in}
 use Rattle.sql_rows.specs.Lists.{AreSessions}
 use Rattle.sql_rows.proofs.ReadSession.{project, names, columns, back}
@@ -80,7 +80,7 @@ module _ (a : List ℕ) where
   wanted s x r is = ap (λ (w : Row). is_eq (value_cmp (Text s) (column w 0))) (sym is)
       ∙ text_tie x.id s
 
-  lives : (r : Row) → is_open (session_in (drop 1 r)).state ≡ true → extra r ≡ true
+  lives : (r : Row) → is_open (session_in_row (drop 1 r)).state ≡ true → extra r ≡ true
   lives [] h = absurd (cc)
   lives (v ∷ vs) h = open_tested (column vs 4) h
 
@@ -96,7 +96,7 @@ module _ (a : List ℕ) where
   open_read old new rows xs got is s =
       listed_told sessions (inr (inr (inr (inr (inl refl)))))
       (inr (inr (inr (inr (inl refl))))) refl old.now.trees
-      got.fits (got.book.stored.1.1.1.1.0) session_in session_cells columns
+      got.fits (got.book.stored.1.1.1.1.0) session_in_row session_cells columns
       (λ r. front r && extra r) (session_key a s) (refl, (refl, tt)) (λ x r m. back x r)
       (λ x. same_name x.id s) (λ x. is_open x.state) front (rest s) extra (λ r. refl)
       (splits s) (wanted s) (λ r m. lives r) open_told xs

@@ -31,7 +31,7 @@ use Rattle.reserving.specs.Left.{is_open_row}
 use Rattle.reserving.specs.Sessions.{is_open}
 use Rattle.sql_tables.specs.Keyed.{IsStored, look}
 use Rattle.sql_tables.specs.Schema.{book_schema, key_index, session_groups, sessions}
-use Rattle.sql_tables.specs.Selects.{only}
+use Rattle.sql_tables.specs.Selects.{passing}
 use Rattle.sql_tables.specs.Statements.{Answers}
 use Rattle.sql_tables.proofs.ByKey.{answered_told}
 use Rattle.sql_tables.proofs.Columns.{equal_turned}
@@ -41,7 +41,8 @@ use Rattle.sql_tables.proofs.Selected.{AreAnswered}
 use Rattle.sql_tables.proofs.Selections.{full_key, meets, stands_under, under_stands}
 use Rattle.sql_tables.proofs.Steps.{and_true}
 use Rattle.sql_tables.proofs.Ties.{equal_present, same_ints}
-use Rattle.sql_rows.specs.Values.{Group, group_in, group_key, nat, nat_in, session_in, session_key}
+use Rattle.sql_rows.specs.Values.{Group, group_in_row, group_key, nat, nat_in, session_in_row}
+use Rattle.sql_rows.specs.Values.{session_key}
 use Rattle.sql_rows.specs.Values.{state_in, text_in}
 use Rattle.sql_rows.specs.Content.{rows_in}
 use Rattle.sql_rows.specs.Lists.{AreOpenGroups, OpenGroupAt, is_group_of, open_group_cells}
@@ -53,7 +54,7 @@ abbrev at_in : Row → OpenGroupAt
 at_in v = record {
   session = text_in (column v 1);
   group = nat_in (column v 2);
-  row = group_in v;
+  row = group_in_row v;
 }
 
 -- the columns that are read as one of the list
@@ -61,7 +62,7 @@ abbrev from_cells : Row → OpenGroupAt
 from_cells w = record {
   session = text_in (column w 5);
   group = nat_in (column w 0);
-  row = group_in (Null ∷ Null ∷ w);
+  row = group_in_row (Null ∷ Null ∷ w);
 }
 
 cells_told : (x : OpenGroupAt) → from_cells (open_group_cells x) ≡ x
@@ -155,7 +156,7 @@ state_told (Blob b) typed e = absurd (cc)
 
 state_typed : (row : Row) → are_typed None 0 sessions.columns (drop 1 row) ≡ true
     → equal Binary (column row 5) (nat 1) ≡ true
-    → is_open (session_in (drop 1 row)).state ≡ true
+    → is_open (session_in_row (drop 1 row)).state ≡ true
 unfolding binary
 state_typed [] typed e = absurd (cc)
 state_typed (x ∷ []) typed e = absurd (cc)
@@ -182,12 +183,12 @@ implied true q h = sym (and_true q ∙ h refl)
 implied false true h = refl
 implied false false h = refl
 
-opened : (o : Option Row) → is_open_row (option_map session_in o) ≡ true →
-    (v : Row) × (o ≡ Some v) × (is_open (session_in v).state ≡ true)
+opened : (o : Option Row) → is_open_row (option_map session_in_row o) ≡ true →
+    (v : Row) × (o ≡ Some v) × (is_open (session_in_row v).state ≡ true)
 opened None e = absurd (cc)
 opened (Some v) e = (v, refl, e)
 
-state_of : (row : Row) → is_open (session_in (drop 1 row)).state ≡ true →
+state_of : (row : Row) → is_open (session_in_row (drop 1 row)).state ≡ true →
     equal Binary (column row 5) (nat 1) ≡ true
 state_of [] e = absurd (cc)
 state_of (v ∷ vs) e = open_tested (column vs 4) e
@@ -260,7 +261,8 @@ module _ (a : List ℕ) (trees : Trees) (fits : Fits book_schema trees)
       let one = and_parts (front t) (equal Binary (column t 5) (nat 1)
       && (equal Binary (column r 1) (column t 1)
       && (equal Binary (column r 2) (column t 2) && true))) it.2 in
-      let two = and_parts (equal Binary (column t 5) (nat 1)) (equal Binary (column r 1) (column t 1)
+      let two = and_parts (equal Binary (column t 5) (nat 1))
+      (equal Binary (column r 1) (column t 1)
       && (equal Binary (column r 2) (column t 2) && true)) one.1 in
       let three = and_parts (equal Binary (column r 1) (column t 1))
       (equal Binary (column r 2) (column t 2) && true) two.1 in
@@ -302,7 +304,7 @@ module _ (a : List ℕ) (trees : Trees) (fits : Fits book_schema trees)
       let key = and_parts (front t) (is_eq (value_cmp (Text s) (column t 2)))
       (sym (session_splits s t) ∙ stands.2) in
       let state : equal Binary (column t 5) (nat 1) ≡ true =
-      state_of t (subst (λ w. is_open (session_in w).state ≡ true) stands.3 it.2) in
+      state_of t (subst (λ w. is_open (session_in_row w).state ≡ true) stands.3 it.2) in
       let own = and_parts (front r) (rest s g r) (sym (splits s g r) ∙ m) in
       let same : equal Binary (column r 2) (column t 2) ≡ true =
       ap₂ (equal Binary) name (text_only s (column t 2) key.1) ∙ text_ties s in
@@ -331,15 +333,15 @@ module _ (a : List ℕ) (trees : Trees) (fits : Fits book_schema trees)
       stands_under book_schema sessions (inr (inr (inr (inr (inl refl)))))
       (key_index sessions) (inr (inr (inr (inr (inl refl))))) refl refl refl trees fits stored
       (session_key a x.session) (full_session a x.session) t it.1.there key in
-      ap (λ o. is_open_row (option_map session_in o)) found
+      ap (λ o. is_open_row (option_map session_in_row o)) found
       ∙ state_typed t (and_parts (are_typed None 0 sessions.columns (drop 1 t)) true
       (all_has _ (trees 8) t (fits.rules Datatype (λ e. cc)).1.1.1.1.0 it.1.there)).0 it.1.state
 
   -- the row under a key, if its session is open
   closing : (s : List ℕ) (g : ℕ) (o : Option Row)
       → ((v : Row) → o ≡ Some v → text_in (column v 1) ≡ s)
-      → option_map (λ (x : OpenGroupAt). x.row) (only live (option_map at_in o))
-      ≡ (if is_open_row ((rows_in trees a).sessions s) then option_map group_in o else None)
+      → option_map (λ (x : OpenGroupAt). x.row) (passing live (option_map at_in o))
+      ≡ (if is_open_row ((rows_in trees a).sessions s) then option_map group_in_row o else None)
   closing s g None name = none (is_open_row ((rows_in trees a).sessions s))
     where
       none : (b : Bool) → ◌≡◌ {A = Option Group} None (if b then None else None)
@@ -353,7 +355,7 @@ module _ (a : List ℕ) (trees : Trees) (fits : Fits book_schema trees)
     where
       at : (b : Bool)
           → option_map (λ (x : OpenGroupAt). x.row) (if b then Some (at_in v) else None)
-          ≡ (if b then Some (group_in v) else None)
+          ≡ (if b then Some (group_in_row v) else None)
       at true = refl
       at false = refl
 

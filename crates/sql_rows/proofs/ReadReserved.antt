@@ -1,6 +1,6 @@
 -- What the text of `read_reserved_within` answers.
 use Rattle.std.specs.Prelude.{codes, negsuc, option_map, is_some, if◌then◌else◌}
-use Rattle.std.proofs.Common.{◌≡◌, inl, inr, ℕ, pos, List, [], ◌∷◌, ◌++◌, map, drop, Bool, true}
+use Rattle.std.proofs.Common.{◌≡◌, inl, inr, ℕ, pos, List, [], ◌∷◌, map, drop, Bool, true}
 use Rattle.std.proofs.Common.{false, ◌&&◌, Some, None, Option, is_eq, nat_eq, refl, sym, ap, ap₂}
 use Rattle.std.proofs.Common.{subst, ◌∙◌, eqb-true}
 use Rattle.sqlite_value.specs.declared.value.Value.{Value}
@@ -19,7 +19,7 @@ use Rattle.sqlite.specs.State.{State}
 use Rattle.sqlite.proofs.Callers.{command_of}
 use Rattle.sql_tables.specs.Keyed.{look, same_name}
 use Rattle.sql_tables.specs.Schema.{session_groups, book_schema}
-use Rattle.sql_tables.specs.Selects.{Selects, only}
+use Rattle.sql_tables.specs.Selects.{Selects, passing}
 use Rattle.sql_tables.specs.Statements.{Answers}
 use Rattle.sql_tables.proofs.ByKey.{listed_told}
 use Rattle.sql_tables.proofs.Keys.{keys_split, int_tie, text_tie}
@@ -27,9 +27,10 @@ use Rattle.sql_tables.proofs.Selected.{select_from, told}
 use Rattle.sql_tables.proofs.Selections.{meets}
 use Rattle.sql_tables.proofs.Steps.{and_true}
 use Rattle.sql_tables.proofs.Ties.{equal_present}
-use Rattle.sql_rows.specs.Values.{nat, nat_in, text_in, flag_in, flag_number, group_key, group_in}
+use Rattle.sql_rows.specs.Values.{nat, nat_in, text_in, flag_in, flag_number, group_key}
+use Rattle.sql_rows.specs.Values.{group_in_row}
 use Rattle.sql_rows.specs.Values.{PeriodNames}
-use Rattle.sql_rows.specs.Content.{content_of}
+use Rattle.sql_rows.specs.Content.{tables_content}
 use Rattle.sql_rows.specs.Lists.{ReservedAt, reserved_cells, has_reservation, AreReserved}
 
 -- a stored row as one of the list
@@ -109,8 +110,9 @@ same_flag : {A B : Type 0} (b : Bool) (x : A) (y : B)
 same_flag true x y = refl
 same_flag false x y = refl
 
-reserved_is : (o : Option Row) → is_some (only (λ (x : ReservedAt). x.reserved) (option_map at_in o))
-    ≡ has_reservation (option_map group_in o)
+reserved_is : (o : Option Row)
+    → is_some (passing (λ (x : ReservedAt). x.reserved) (option_map at_in o))
+    ≡ has_reservation (option_map group_in_row o)
 reserved_is None = refl
 reserved_is (Some v) =
     let periods : PeriodNames =
@@ -161,7 +163,7 @@ reserved_selected old new rows got =
 
 pub reserved_read : (old new : State) (rows : List Row) (xs : List ReservedAt)
     → Answers read_reserved_text [] old new rows
-    → map reserved_cells xs ≡ rows → AreReserved (content_of old.now.trees) xs
+    → map reserved_cells xs ≡ rows → AreReserved (tables_content old.now.trees) xs
 reserved_read old new rows xs got is a s g =
     ap is_some
     (listed_told session_groups (inr (inr (inr (inr (inr (inl refl))))))

@@ -33,7 +33,8 @@ use Rattle.sql_tables.proofs.Selected.{select_from, told}
 use Rattle.sql_tables.proofs.Ties.{agree_ties_at}
 use Rattle.reserving.specs.declared.session.Session.{Session}
 use Rattle.sql_rows.proofs.PutSession.{session_told}
-use Rattle.sql_rows.specs.Values.{session_key, session_in, session_cells, group_key, group_in}
+use Rattle.sql_rows.specs.Values.{session_key, session_in_row, session_cells, group_key}
+use Rattle.sql_rows.specs.Values.{group_in_row}
 use Rattle.sql_rows.specs.Values.{grant_book_in, hold_key, hold_in}
 use Rattle.sql_rows.specs.Content.{rows_in}
 use Rattle.sql_rows.specs.Lists.{HasNoGroups}
@@ -69,12 +70,12 @@ read_session_plain = (refl, refl)
 abbrev pub columns : Row → Row
 columns r = column r 2 ∷ column r 3 ∷ column r 4 ∷ column r 5 ∷ []
 
-same_columns : (r : Row) → session_in (drop 1 r) ≡ session_in (Null ∷ columns r)
+same_columns : (r : Row) → session_in_row (drop 1 r) ≡ session_in_row (Null ∷ columns r)
 same_columns [] = refl
 same_columns (v ∷ vs) = refl
 
-pub back : (x : Session) (r : Row) → session_cells x ≡ columns r → session_in (drop 1 r) ≡ x
-back x r is = same_columns r ∙ ap (λ w. session_in (Null ∷ w)) (sym is) ∙ session_told Null x
+pub back : (x : Session) (r : Row) → session_cells x ≡ columns r → session_in_row (drop 1 r) ≡ x
+back x r is = same_columns r ∙ ap (λ w. session_in_row (Null ∷ w)) (sym is) ∙ session_told Null x
 
 module _ (a s : List ℕ) where
   means : (r : Row) →
@@ -89,7 +90,7 @@ module _ (a s : List ℕ) where
   session_read old new rows o got is =
       one_told sessions (inr (inr (inr (inr (inl refl)))))
       (inr (inr (inr (inr (inl refl))))) refl old.now.trees got.fits
-      (got.book.stored.1.1.1.1.0) session_in session_cells columns
+      (got.book.stored.1.1.1.1.0) session_in_row session_cells columns
       (λ r. eq_by_cmp row_cmp (key_of places r) (session_key a s)) (session_key a s)
       (refl, (refl, tt)) (λ x r m. back x r) (λ r. refl) o
       (subst (Selects (λ r. eq_by_cmp row_cmp (key_of places r) (session_key a s)) columns
@@ -104,7 +105,7 @@ module _ (a s : List ℕ) (trees : Trees) (keys : Keeps ForeignKey book_schema t
     (none : (rows_in trees a).sessions s ≡ None) where
   not_there : {A : Type 0} → is_some (look sessions trees (session_key a s)) ≡ true → A
   not_there there = absurd (not_both (sym (ap is_some none)
-      ∙ is_some_map session_in (look sessions trees (session_key a s)) ∙ there))
+      ∙ is_some_map session_in_row (look sessions trees (session_key a s)) ∙ there))
 
   no_group : {A : Type 0} (g : ℕ) →
       is_some (look session_groups trees (group_key a s g)) ≡ true → A
@@ -124,7 +125,7 @@ module _ (a s : List ℕ) (trees : Trees) (keys : Keeps ForeignKey book_schema t
   }
     where
       group : (g : ℕ) (o : Option Row) → look session_groups trees (group_key a s g) ≡ o →
-          option_map group_in o ≡ None
+          option_map group_in_row o ≡ None
       group g None e = refl
       group g (Some v) e = not_there (session_of_group trees keys a s g v e)
 

@@ -1,18 +1,17 @@
 -- What the text of `read_voucher` answers.
 use Rattle.std.specs.Prelude.{codes}
-use Rattle.std.proofs.Common.{◌≡◌, inl, inr, ℕ, pos, List, [], ◌∷◌, ◌++◌, map, drop, Bool, true}
-use Rattle.std.proofs.Common.{false, ◌&&◌, Some, None, Option, Equal, refl, sym, ap, subst, ◌∙◌}
+use Rattle.std.proofs.Common.{◌≡◌, inl, inr, ℕ, List, [], ◌∷◌, map, drop, Bool}
+use Rattle.std.proofs.Common.{false, Option, refl, sym, ap, subst, ◌∙◌}
 use Rattle.std.specs.List.{list_all}
 use Rattle.std.specs.Ordering.{eq_by_cmp}
-use Rattle.sqlite_value.specs.declared.value.Value.TheVariants.{Null, Int, Text}
+use Rattle.sqlite_value.specs.declared.value.Value.TheVariants.{Null}
 use Rattle.sqlite_value.specs.declared.keys.Collation.TheVariants.{Binary}
 use Rattle.sqlite_value.specs.Keys.{first_key}
-use Rattle.sqlite_value.specs.Order.{Row, column, row_cmp, value_cmp}
+use Rattle.sqlite_value.specs.Order.{Row, column, row_cmp}
 use Rattle.sqlite_sql.specs.declared.ops.BinaryOp.TheVariants.{Compare}
 use Rattle.sqlite_sql.specs.declared.ops.CompareOp.TheVariants.{Eq}
-use Rattle.sqlite_sql.specs.Term.{Term, lit, col, op2, holds as holds_in}
+use Rattle.sqlite_sql.specs.Term.{Term, col, op2, holds as holds_in}
 use Rattle.sqlite_schema.specs.declared.command.Command.TheVariants.{Select}
-use Rattle.sqlite_schema.specs.Rules.{equal}
 use Rattle.sqlite_tied.specs.Compute.{everything}
 use Rattle.sqlite.specs.Given.{IsPlain}
 use Rattle.sqlite.specs.Listing.{understood, reads_listing}
@@ -24,10 +23,9 @@ use Rattle.sql_tables.specs.Selects.{Selects, one_or_none}
 use Rattle.sql_tables.specs.Statements.{Answers}
 use Rattle.sql_tables.proofs.ByKey.{one_told}
 use Rattle.sql_tables.proofs.Selected.{select_from, told}
-use Rattle.sql_tables.proofs.Steps.{and_true}
-use Rattle.sql_tables.proofs.Ties.{agree_ties_at, equal_present, tie_parts}
-use Rattle.sql_rows.specs.Values.{Voucher, voucher_key, voucher_in, voucher_cells}
-use Rattle.sql_rows.specs.Content.{content_of}
+use Rattle.sql_tables.proofs.Ties.{agree_ties_at}
+use Rattle.sql_rows.specs.Values.{VoucherRow, voucher_key, voucher_in_row, voucher_cells}
+use Rattle.sql_rows.specs.Content.{tables_content}
 use Rattle.sql_rows.proofs.PutVoucher.{voucher_told}
 
 abbrev pub read_voucher_text : List ℕ
@@ -58,12 +56,12 @@ read_voucher_plain = (refl, refl)
 abbrev columns : Row → Row
 columns r = column r 2 ∷ column r 3 ∷ column r 4 ∷ column r 5 ∷ []
 
-same_columns : (r : Row) → voucher_in (drop 1 r) ≡ voucher_in (Null ∷ columns r)
+same_columns : (r : Row) → voucher_in_row (drop 1 r) ≡ voucher_in_row (Null ∷ columns r)
 same_columns [] = refl
 same_columns (v ∷ vs) = refl
 
-back : (x : Voucher) (r : Row) → voucher_cells x ≡ columns r → voucher_in (drop 1 r) ≡ x
-back x r is = same_columns r ∙ ap (λ w. voucher_in (Null ∷ w)) (sym is) ∙ voucher_told Null x
+back : (x : VoucherRow) (r : Row) → voucher_cells x ≡ columns r → voucher_in_row (drop 1 r) ≡ x
+back x r is = same_columns r ∙ ap (λ w. voucher_in_row (Null ∷ w)) (sym is) ∙ voucher_told Null x
 
 module _ (code : List ℕ) where
   means : (r : Row) → list_all (holds_in (voucher_key code ∷ r ∷ [])) terms
@@ -74,13 +72,13 @@ module _ (code : List ℕ) where
   abbrev test : Row → Bool
   test r = eq_by_cmp row_cmp (key_of places r) (voucher_key code)
 
-  pub voucher_read : (old new : State) (rows : List Row) (o : Option Voucher)
+  pub voucher_read : (old new : State) (rows : List Row) (o : Option VoucherRow)
       → Answers read_voucher_text (voucher_key code) old new rows
-      → rows ≡ map voucher_cells (one_or_none o) → o ≡ (content_of old.now.trees).vouchers code
+      → rows ≡ map voucher_cells (one_or_none o) → o ≡ (tables_content old.now.trees).vouchers code
   voucher_read old new rows o got is =
       one_told vouchers (inr (inr (inr (inr (inr (inr (inr (inr (inl refl)))))))))
       (inr (inr (inr (inr (inr (inr (inr (inr (inl refl))))))))) refl old.now.trees got.fits
-      (got.book.stored.1.1.1.1.1.1.1.1.0) voucher_in voucher_cells columns test
+      (got.book.stored.1.1.1.1.1.1.1.1.0) voucher_in_row voucher_cells columns test
       (voucher_key code) (refl, tt) (λ x r m. back x r) (λ r. refl) o
       (subst (Selects test columns (old.now.trees 16)) is
       (told read_voucher_text names 16 terms project [] text_is read_voucher_plain

@@ -1,7 +1,7 @@
 -- What the text of `remove_allowance` does.
 use Rattle.std.specs.Prelude.{codes, if◌then◌else◌, is_some}
-use Rattle.std.proofs.Common.{◌≡◌, ℕ, List, [], ◌∷◌, map, take, Bool, true, false, Option, None, ◌&&◌, Ok, Err, Result, OnOk, IsTrue}
-use Rattle.std.proofs.Common.{refl, ap, ◌∙◌, arith, nat_eq}
+use Rattle.std.proofs.Common.{◌≡◌, ℕ, List, [], ◌∷◌, map, take, Bool, true, false, Option, None}
+use Rattle.std.proofs.Common.{◌&&◌, Ok, Err, Result, OnOk, IsTrue, refl, ap, ◌∙◌, arith, nat_eq}
 use Rattle.std.specs.List.{list_all}
 use Rattle.std.specs.Ordering.{eq_by_cmp}
 use Rattle.sqlite_value.specs.declared.value.Value.{Value}
@@ -31,7 +31,7 @@ use Rattle.sql_tables.proofs.Keys.{text_number}
 use Rattle.sql_tables.proofs.Removes.{RemovesRows, rowids_where, removes_rows, removes_key}
 use Rattle.sql_tables.proofs.Ties.{agree_ties_at}
 use Rattle.sql_rows.specs.Values.{nat, bucket_key, allowance_in}
-use Rattle.sql_rows.specs.Content.{with_rows, without_allowance, rows_in, content_of}
+use Rattle.sql_rows.specs.Content.{with_rows, without_allowance, rows_in, tables_content}
 use Rattle.sql_rows.specs.Makes.{Makes}
 use Rattle.sql_rows.proofs.Plains.{plain_without}
 use Rattle.sql_rows.proofs.Stays.{only_changed, rows_turn, at_each}
@@ -87,7 +87,8 @@ module _ (a : List ℕ) (n : ℕ) where
       let command = Delete 12 (record { lets = []; body = rowids_where 27 of_key }) in
       let w = runs_as remove_allowance_text wanted old new book_schema book.schema command remove_is
       remove_plain count h.0 in
-      let done = removes_rows book_schema 12 allowance_buckets refl wanted of_key test gone (λ x. refl) old new
+      let done = removes_rows book_schema 12 allowance_buckets refl wanted of_key test gone
+      (λ x. refl) old new
       (statement_of remove_allowance_text (understood book_schema remove_allowance_text)) count
       book.schema stored w in
       let p : RemovesRows places book_schema allowance_buckets wanted old.now.trees new.now.trees =
@@ -98,21 +99,23 @@ module _ (a : List ℕ) (n : ℕ) where
           rows = p.rows;
           others = others allowance_buckets old.now.trees new.now.trees p.stored p.others;
           catalog =
-              catalog_stays allowance_buckets old.now.trees new.now.trees p.stored p.others (omega arith);
+              catalog_stays allowance_buckets old.now.trees new.now.trees p.stored p.others
+              (omega arith);
         };
         book = record {
           schema = done.0;
           stored =
-              stays_stored allowance_buckets old.now.trees new.now.trees p.stored p.others book.stored;
+              stays_stored allowance_buckets old.now.trees new.now.trees p.stored p.others
+              book.stored;
         };
         shows = h.1;
       }
 
   turns : (old new : Trees) → Ends allowance_buckets wanted old new
-      → content_of new ≡ with_rows a (without_allowance n) (content_of old)
+      → tables_content new ≡ with_rows a (without_allowance n) (tables_content old)
   turns old new c =
       only_changed 27 old new c.others
-      ∙ rows_turn a (content_of old) (without_allowance n) (λ r. r.allowances)
+      ∙ rows_turn a (tables_content old) (without_allowance n) (λ r. r.allowances)
       (λ r f. record r { allowances = f }) (λ r. refl) (λ r. refl) (rows_in new)
       (λ x. at_each (same_name a x) _ _ _ (λ m.
       ap is_some (end_tells allowance_in allowance_buckets wanted old new c (bucket_key x m)
@@ -128,8 +131,8 @@ module _ (a : List ℕ) (n : ℕ) where
       (with_rows a (without_allowance n)) removes
       (λ old new p. makes_turned (with_rows a (without_allowance n)) old new
       (turns old.now.trees new.now.trees p.changes) p.changes.catalog
-      (plain_without allowance_buckets wanted (omega arith) (omega arith) (omega arith) old.now.trees
-      new.now.trees p.changes)
+      (plain_without allowance_buckets wanted (omega arith) (omega arith) (omega arith)
+      old.now.trees new.now.trees p.changes)
       p.book p.shows)
 
   -- the parameters, as they are bound

@@ -1,7 +1,7 @@
 -- What the text of `remove_covered` does.
 use Rattle.std.specs.Prelude.{codes}
-use Rattle.std.proofs.Common.{◌≡◌, ℕ, List, [], ◌∷◌, map, take, Bool, ◌&&◌, Ok, Err, Result, OnOk, IsTrue}
-use Rattle.std.proofs.Common.{refl, ◌∙◌, arith, nat_eq}
+use Rattle.std.proofs.Common.{◌≡◌, ℕ, List, [], ◌∷◌, map, take, Bool, ◌&&◌, Ok, Err, Result, OnOk}
+use Rattle.std.proofs.Common.{IsTrue, refl, ◌∙◌, arith, nat_eq}
 use Rattle.std.specs.List.{list_all}
 use Rattle.std.specs.Ordering.{eq_by_cmp}
 use Rattle.sqlite_value.specs.declared.value.Value.{Value}
@@ -30,8 +30,8 @@ use Rattle.sql_tables.proofs.Found.{end_tells, apart_if}
 use Rattle.sql_tables.proofs.Keys.{text_number}
 use Rattle.sql_tables.proofs.Removes.{RemovesRows, rowids_where, removes_rows, removes_key}
 use Rattle.sql_tables.proofs.Ties.{agree_ties_at}
-use Rattle.sql_rows.specs.Values.{nat, charge_key, covered_in}
-use Rattle.sql_rows.specs.Content.{with_rows, without_covered, rows_in, content_of}
+use Rattle.sql_rows.specs.Values.{nat, charge_key, covered_in_row}
+use Rattle.sql_rows.specs.Content.{with_rows, without_covered, rows_in, tables_content}
 use Rattle.sql_rows.specs.Makes.{Makes}
 use Rattle.sql_rows.proofs.Plains.{plain_without}
 use Rattle.sql_rows.proofs.Stays.{only_changed, rows_turn, at_each}
@@ -82,8 +82,8 @@ module _ (a : List ℕ) (n : ℕ) where
       let command = Delete 13 (record { lets = []; body = rowids_where 29 of_key }) in
       let w = runs_as remove_covered_text wanted old new book_schema book.schema command remove_is
       remove_plain count h.0 in
-      let done = removes_rows book_schema 13 covered refl wanted of_key test gone (λ x. refl) old new
-      (statement_of remove_covered_text (understood book_schema remove_covered_text)) count
+      let done = removes_rows book_schema 13 covered refl wanted of_key test gone (λ x. refl) old
+      new (statement_of remove_covered_text (understood book_schema remove_covered_text)) count
       book.schema stored w in
       let p : RemovesRows places book_schema covered wanted old.now.trees new.now.trees =
       removes_key places book_schema covered wanted test old.now.trees new.now.trees means
@@ -104,13 +104,13 @@ module _ (a : List ℕ) (n : ℕ) where
       }
 
   turns : (old new : Trees) → Ends covered wanted old new
-      → content_of new ≡ with_rows a (without_covered n) (content_of old)
+      → tables_content new ≡ with_rows a (without_covered n) (tables_content old)
   turns old new c =
       only_changed 29 old new c.others
-      ∙ rows_turn a (content_of old) (without_covered n) (λ r. r.covered)
+      ∙ rows_turn a (tables_content old) (without_covered n) (λ r. r.covered)
       (λ r f. record r { covered = f }) (λ r. refl) (λ r. refl) (rows_in new)
       (λ x. at_each (same_name a x) _ _ _ (λ m.
-      end_tells covered_in covered wanted old new c (charge_key x m)
+      end_tells covered_in_row covered wanted old new c (charge_key x m)
       (same_name a x && nat_eq n m) (text_number a x n m)
       ∙ apart_if (same_name a x) (nat_eq n m) _ _))
 

@@ -1,7 +1,7 @@
 -- What the text of `remove_grant_book` does.
 use Rattle.std.specs.Prelude.{codes}
-use Rattle.std.proofs.Common.{◌≡◌, ℕ, List, [], ◌∷◌, map, take, Bool, ◌&&◌, Ok, Err, Result, OnOk, IsTrue}
-use Rattle.std.proofs.Common.{refl, ◌∙◌, arith, nat_eq}
+use Rattle.std.proofs.Common.{◌≡◌, ℕ, List, [], ◌∷◌, map, take, Bool, ◌&&◌, Ok, Err, Result, OnOk}
+use Rattle.std.proofs.Common.{IsTrue, refl, ◌∙◌, arith, nat_eq}
 use Rattle.std.specs.List.{list_all}
 use Rattle.std.specs.Ordering.{eq_by_cmp}
 use Rattle.sqlite_value.specs.declared.value.Value.{Value}
@@ -31,7 +31,7 @@ use Rattle.sql_tables.proofs.Keys.{text_text_number}
 use Rattle.sql_tables.proofs.Removes.{RemovesRows, rowids_where, removes_rows, removes_key}
 use Rattle.sql_tables.proofs.Ties.{agree_ties_at}
 use Rattle.sql_rows.specs.Values.{nat, group_key, grant_book_in}
-use Rattle.sql_rows.specs.Content.{with_rows, without_grant_book, rows_in, content_of}
+use Rattle.sql_rows.specs.Content.{with_rows, without_grant_book, rows_in, tables_content}
 use Rattle.sql_rows.specs.Makes.{Makes}
 use Rattle.sql_rows.proofs.Plains.{plain_without}
 use Rattle.sql_rows.proofs.Stays.{only_changed, rows_turn, at_each}
@@ -81,9 +81,10 @@ module _ (a s : List ℕ) (g : ℕ) where
       let book = has h.1.was_open in
       let stored = book.stored.1.1.1.1.1.1.1.1.1.1.1.0 in
       let command = Delete 11 (record { lets = []; body = rowids_where 24 of_key }) in
-      let w = runs_as remove_grant_book_text wanted old new book_schema book.schema command remove_is
-      remove_plain count h.0 in
-      let done = removes_rows book_schema 11 grant_books refl wanted of_key test gone (λ x. refl) old new
+      let w = runs_as remove_grant_book_text wanted old new book_schema book.schema command
+      remove_is remove_plain count h.0 in
+      let done = removes_rows book_schema 11 grant_books refl wanted of_key test gone (λ x. refl)
+      old new
       (statement_of remove_grant_book_text (understood book_schema remove_grant_book_text)) count
       book.schema stored w in
       let p : RemovesRows places book_schema grant_books wanted old.now.trees new.now.trees =
@@ -105,10 +106,10 @@ module _ (a s : List ℕ) (g : ℕ) where
       }
 
   turns : (old new : Trees) → Ends grant_books wanted old new
-      → content_of new ≡ with_rows a (without_grant_book s g) (content_of old)
+      → tables_content new ≡ with_rows a (without_grant_book s g) (tables_content old)
   turns old new c =
       only_changed 24 old new c.others
-      ∙ rows_turn a (content_of old) (without_grant_book s g) (λ r. r.grant_books)
+      ∙ rows_turn a (tables_content old) (without_grant_book s g) (λ r. r.grant_books)
       (λ r f. record r { grant_books = f }) (λ r. refl) (λ r. refl) (rows_in new)
       (λ x. at_each (same_name a x) _ _ _ (λ t. at_each (same_name a x) _ _ _ (λ h.
       end_tells grant_book_in grant_books wanted old new c (group_key x t h)

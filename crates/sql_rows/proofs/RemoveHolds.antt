@@ -1,8 +1,7 @@
 -- What the text of `remove_holds` does.
-use Rattle.std.specs.Prelude.{codes, option_map, length, if◌then◌else◌}
-use Rattle.std.proofs.Common.{◌≡◌, ◌≢◌, inl, inr, ℕ, ℤ, pos, List, [], ◌∷◌, ◌++◌, map, take, Bool}
-use Rattle.std.proofs.Common.{true, false, ◌&&◌, Some, None, Ok, Err, Result, OnOk, IsTrue, refl}
-use Rattle.std.proofs.Common.{◌∙◌, arith, nat_eq}
+use Rattle.std.specs.Prelude.{codes}
+use Rattle.std.proofs.Common.{◌≡◌, ℕ, List, [], ◌∷◌, map, take, Bool}
+use Rattle.std.proofs.Common.{◌&&◌, Ok, Err, Result, OnOk, IsTrue, refl, ◌∙◌, arith, nat_eq}
 use Rattle.std.specs.List.{list_all}
 use Rattle.std.specs.Ordering.{eq_by_cmp}
 use Rattle.sqlite_value.specs.declared.value.Value.{Value}
@@ -23,16 +22,16 @@ use Rattle.sqlite.specs.declared.error.Error.{Error}
 use Rattle.sqlite.specs.Listing.{understood}
 use Rattle.sqlite.specs.State.{State, ExecutesInside}
 use Rattle.sqlite.proofs.Callers.{IsPlain, command_of, statement_of, runs_as}
-use Rattle.sql_tables.specs.Keyed.{key_of, look, same_name}
+use Rattle.sql_tables.specs.Keyed.{key_of, same_name}
 use Rattle.sql_tables.specs.Schema.{holds, book_schema}
 use Rattle.sql_tables.specs.Statements.{Attempts, Ends, HasBook, IsBook, Removes}
 use Rattle.sql_tables.proofs.Books.{others, stays_stored, catalog_stays}
-use Rattle.sql_tables.proofs.Found.{end_tells, apart_if, same_if}
+use Rattle.sql_tables.proofs.Found.{end_tells, apart_if}
 use Rattle.sql_tables.proofs.Keys.{text_text_number}
 use Rattle.sql_tables.proofs.Removes.{RemovesRows, rowids_where, removes_rows, removes_key}
 use Rattle.sql_tables.proofs.Ties.{agree_ties_at}
 use Rattle.sql_rows.specs.Values.{nat, group_key, hold_key, hold_in}
-use Rattle.sql_rows.specs.Content.{Rows, Content, with_rows, without_holds, rows_in, content_of}
+use Rattle.sql_rows.specs.Content.{with_rows, without_holds, rows_in, tables_content}
 use Rattle.sql_rows.specs.Makes.{Makes}
 use Rattle.sql_rows.proofs.Plains.{plain_without}
 use Rattle.sql_rows.proofs.Stays.{only_changed, rows_turn, at_each}
@@ -103,10 +102,10 @@ module _ (a s : List ℕ) (g : ℕ) where
       }
 
   turns : (old new : Trees) → Ends holds wanted old new
-      → content_of new ≡ with_rows a (without_holds s g) (content_of old)
+      → tables_content new ≡ with_rows a (without_holds s g) (tables_content old)
   turns old new c =
       only_changed 12 old new c.others
-      ∙ rows_turn a (content_of old) (without_holds s g) (λ r. r.holds)
+      ∙ rows_turn a (tables_content old) (without_holds s g) (λ r. r.holds)
       (λ r f. record r { holds = f }) (λ r. refl) (λ r. refl) (rows_in new)
       (λ x. at_each (same_name a x) _ _ _ (λ t. at_each (same_name a x) _ _ _ (λ h. at_each
       (same_name a x) _ _ _ (λ m.

@@ -1,18 +1,18 @@
 -- Reservations as they are read: where each is in its rules, no fault of the rules is told of them.
 use Rattle.std.proofs.Common.{◌≡◌, inl, inr, ℕ, List, [], ◌∷◌, map, drop, Bool, true, false, ◌&&◌}
 use Rattle.std.proofs.Common.{Some, None, is_eq, refl, sym, ap, ap₂, subst, ◌∙◌, arith, eqb-true}
-use Rattle.std.proofs.Common.{IsTrue, length, nat_eq, nat_le, ◌<◌, ◌≤◌, zero, suc, get_or}
+use Rattle.std.proofs.Common.{IsTrue, length, nat_eq, nat_le, ◌<◌, zero, suc}
 use Rattle.std.proofs.lemmas.Bool.{and_parts, and_from, leb-true}
 use Rattle.std.proofs.lemmas.Cmp.{tied_itself}
 use Rattle.std.proofs.lemmas.Str.{IsUtf8-from_ascii}
-use Rattle.std.specs.Prelude.{option_map, is_some, if◌then◌else◌, slice_index}
+use Rattle.std.specs.Prelude.{option_map, is_some, if◌then◌else◌}
 use Rattle.std.specs.List.{AllByRecursion, list_all}
 use Rattle.std.specs.Str.{IsAscii, IsUtf8}
 use Rattle.std.specs.FinMap.{get-from_entries}
 use Rattle.sqlite_value.specs.declared.value.Value.{Value}
 use Rattle.sqlite_value.specs.declared.value.Value.TheVariants.{Text}
 use Rattle.sqlite_value.specs.declared.keys.Collation.TheVariants.{Binary}
-use Rattle.sqlite_value.specs.Order.{Row, column, value_cmp, row_cmp}
+use Rattle.sqlite_value.specs.Order.{Row, column, value_cmp}
 use Rattle.sqlite_value.proofs.OrderLemmas.{row_cmp_total, value_cmp_total}
 use Rattle.sqlite_schema.specs.declared.schema.Kind.TheVariants as kind
 use Rattle.sqlite_schema.specs.declared.schema.Constraint.TheVariants.{Datatype, NotNull, Check}
@@ -29,9 +29,9 @@ use Rattle.sql_tables.proofs.Keys.{int_tie}
 use Rattle.sql_tables.proofs.Selected.{selected_from}
 use Rattle.sql_tables.proofs.Selections.{full_key, meets, met_has, met_some, one_row}
 use Rattle.sql_tables.proofs.Ties.{equal_present}
-use Rattle.sql_rows.specs.Values.{PeriodNames, flag_in, flag_number, group_in, group_key, nat, nat_in}
-use Rattle.sql_rows.specs.Values.{text_in}
-use Rattle.sql_rows.specs.Content.{Content, content_of}
+use Rattle.sql_rows.specs.Values.{PeriodNames, flag_in, flag_number, group_in_row, group_key, nat}
+use Rattle.sql_rows.specs.Values.{nat_in, text_in}
+use Rattle.sql_rows.specs.Content.{tables_content}
 use Rattle.sql_rows.specs.Lists.{ReservedAt, has_reservation, reserved_cells}
 use Rattle.sql_rows.specs.Ruled.{AreRuledReserved, IsRuledReserved}
 use Rattle.sql_rows.proofs.MetaRules.{full_at, right_at, text_of, whole_in}
@@ -51,8 +51,8 @@ full : (row : Row) → are_present None 0 session_groups.columns row ≡ true �
 full row p =
     let one = and_parts (full_at row 1) (full_at row 2 && (full_at row 3 && (full_at row 4
     && (full_at row 5 && true)))) p in
-    let two = and_parts (full_at row 2) (full_at row 3 && (full_at row 4 && (full_at row 5 && true)))
-    one.1 in
+    let two = and_parts (full_at row 2) (full_at row 3
+    && (full_at row 4 && (full_at row 5 && true))) one.1 in
     let three = and_parts (full_at row 3) (full_at row 4 && (full_at row 5 && true)) two.1 in
     let four = and_parts (full_at row 4) (full_at row 5 && true) three.1 in
     let five = and_parts (full_at row 5) true four.1 in
@@ -148,7 +148,7 @@ under_key trees fits stored r h a s g of_account of_session of_group =
 
 -- the reservation stands in the tables
 record StandsIn (trees : Trees) (x : ReservedAt) : Type 0 where
-  there : has_reservation (((content_of trees).rows x.account).groups x.session x.group) ≡ true
+  there : has_reservation (((tables_content trees).rows x.account).groups x.session x.group) ≡ true
   reserved : x.reserved ≡ true
 
 flag_at : (r : Row) → (at_in (drop 1 r)).reserved ≡ true → flag_in (column (drop 1 r) 4) ≡ true
@@ -169,7 +169,7 @@ reserved_row trees fits stored r h one w same =
       at = x;
       is = same ∙ is;
       stands = record {
-        there = ap (λ o. has_reservation (option_map group_in o))
+        there = ap (λ o. has_reservation (option_map group_in_row o))
             (under_key trees fits stored r h x.account x.session x.group
             (ap (λ (v : Row). column v 0) is) (ap (λ (v : Row). column v 1) is)
             (ap (λ (v : Row). column v 2) is))
@@ -178,7 +178,7 @@ reserved_row trees fits stored r h one w same =
       };
     }
 
-all_ruled : (trees : Trees) → AreRuledReserved (content_of trees) → (xs : List ReservedAt)
+all_ruled : (trees : Trees) → AreRuledReserved (tables_content trees) → (xs : List ReservedAt)
     → AllByRecursion (StandsIn trees) xs → AllByRecursion IsRuledReserved xs
 all_ruled trees ruled [] h = tt
 all_ruled trees ruled (x ∷ xs) h =
@@ -190,7 +190,7 @@ all_ruled trees ruled (x ∷ xs) h =
 -- what was refused of the rows that were read is refused of the tables
 pub all_refused : (old new : State) (rows : List Row) → Answers read_reserved_text [] old new rows
     → ((xs : List ReservedAt) → rows ≡ map reserved_cells xs
-    → ¬ AllByRecursion IsRuledReserved xs) → ¬ AreRuledReserved (content_of old.now.trees)
+    → ¬ AllByRecursion IsRuledReserved xs) → ¬ AreRuledReserved (tables_content old.now.trees)
 all_refused old new rows got refused ruled =
     let stored = got.book.stored.1.1.1.1.1.0 in
     let selects = reserved_selected old new rows got in

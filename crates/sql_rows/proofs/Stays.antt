@@ -1,5 +1,5 @@
 -- What of the content stays where a table stays.
-use Rattle.std.proofs.Common.{◌≡◌, ◌≢◌, ℕ, List, [], ◌∷◌, Bool, true, false, Some, None, Option}
+use Rattle.std.proofs.Common.{◌≡◌, ◌≢◌, ℕ, List, Bool, true, false}
 use Rattle.std.proofs.Common.{length, refl, sym, ap, ◌∙◌, eq-eqb}
 use Rattle.std.specs.List.{AllByRecursion}
 use Rattle.std.specs.Prelude.{if◌then◌else◌, is_some, ◌==◌}
@@ -12,18 +12,20 @@ use Rattle.sql_tables.specs.Schema.{allowance_buckets, covered, book_schema}
 use Rattle.sql_tables.proofs.Found.{kept_tells}
 use Rattle.sql_rows.specs.Values.{meta_key, head_key, bucket_key, counter_key, session_key}
 use Rattle.sql_rows.specs.Values.{group_key, hold_key, answer_key, voucher_key, charge_key, meta_in}
-use Rattle.sql_rows.specs.Values.{head_in, bucket_in, counter_in, session_in, group_in, hold_in}
-use Rattle.sql_rows.specs.Values.{answer_in, voucher_in, charge_in, book_key, book_in}
-use Rattle.sql_rows.specs.Values.{grant_book_in, allowance_in, covered_in}
-use Rattle.sql_rows.specs.Content.{Rows, Content, rows_in, content_of, with_rows}
+use Rattle.sql_rows.specs.Values.{head_in, bucket_in_row, counter_in_row, session_in_row}
+use Rattle.sql_rows.specs.Values.{group_in_row, hold_in}
+use Rattle.sql_rows.specs.Values.{answer_in_row, voucher_in_row, charge_in_row, book_key}
+use Rattle.sql_rows.specs.Values.{book_in_row}
+use Rattle.sql_rows.specs.Values.{grant_book_in, allowance_in, covered_in_row}
+use Rattle.sql_rows.specs.Content.{TableRows, TablesContent, rows_in, tables_content, with_rows}
 
 pub meta_kept : (old new : Trees) → new meta.tree ≡ old meta.tree →
-    (content_of new).meta ≡ (content_of old).meta
+    (tables_content new).meta ≡ (tables_content old).meta
 meta_kept old new e = kept_tells meta_in meta old new e meta_key
 
 pub vouchers_kept : (old new : Trees) → new vouchers.tree ≡ old vouchers.tree → (code : List ℕ)
-    → (content_of new).vouchers code ≡ (content_of old).vouchers code
-vouchers_kept old new e code = kept_tells voucher_in vouchers old new e (voucher_key code)
+    → (tables_content new).vouchers code ≡ (tables_content old).vouchers code
+vouchers_kept old new e code = kept_tells voucher_in_row vouchers old new e (voucher_key code)
 
 pub head_kept : (old new : Trees) → new accounts.tree ≡ old accounts.tree → (x : List ℕ) →
     (rows_in new x).head ≡
@@ -32,21 +34,21 @@ head_kept old new e x = kept_tells head_in accounts old new e (head_key x)
 
 pub buckets_kept : (old new : Trees) → new buckets.tree ≡ old buckets.tree → (x : List ℕ) (n : ℕ) →
     (rows_in new x).buckets n ≡ (rows_in old x).buckets n
-buckets_kept old new e x n = kept_tells bucket_in buckets old new e (bucket_key x n)
+buckets_kept old new e x n = kept_tells bucket_in_row buckets old new e (bucket_key x n)
 
 pub counters_kept : (old new : Trees) → new counters.tree ≡ old counters.tree →
     (x : List ℕ) (g c : ℕ) →
     (rows_in new x).counters g c ≡ (rows_in old x).counters g c
-counters_kept old new e x g c = kept_tells counter_in counters old new e (counter_key x g c)
+counters_kept old new e x g c = kept_tells counter_in_row counters old new e (counter_key x g c)
 
 pub sessions_kept : (old new : Trees) → new sessions.tree ≡ old sessions.tree →
     (x : List ℕ) (s : List ℕ) →
     (rows_in new x).sessions s ≡ (rows_in old x).sessions s
-sessions_kept old new e x s = kept_tells session_in sessions old new e (session_key x s)
+sessions_kept old new e x s = kept_tells session_in_row sessions old new e (session_key x s)
 
 pub groups_kept : (old new : Trees) → new session_groups.tree ≡ old session_groups.tree →
     (x : List ℕ) (s : List ℕ) (g : ℕ) → (rows_in new x).groups s g ≡ (rows_in old x).groups s g
-groups_kept old new e x s g = kept_tells group_in session_groups old new e (group_key x s g)
+groups_kept old new e x s g = kept_tells group_in_row session_groups old new e (group_key x s g)
 
 pub holds_kept : (old new : Trees) → new holds.tree ≡ old holds.tree →
     (x : List ℕ) (s : List ℕ) (g n : ℕ) →
@@ -57,11 +59,11 @@ pub answers_kept : (old new : Trees) → new answers.tree ≡ old answers.tree �
     (x : List ℕ) (kind : ℕ) (name : List ℕ) (number : ℕ) →
     (rows_in new x).answers kind name number ≡ (rows_in old x).answers kind name number
 answers_kept old new e x kind name number =
-    kept_tells answer_in answers old new e (answer_key x kind name number)
+    kept_tells answer_in_row answers old new e (answer_key x kind name number)
 
 pub charges_kept : (old new : Trees) → new charges.tree ≡ old charges.tree → (x : List ℕ) (n : ℕ) →
     (rows_in new x).charges n ≡ (rows_in old x).charges n
-charges_kept old new e x n = kept_tells charge_in charges old new e (charge_key x n)
+charges_kept old new e x n = kept_tells charge_in_row charges old new e (charge_key x n)
 
 pub grant_books_kept : (old new : Trees) → new grant_books.tree ≡ old grant_books.tree →
     (x : List ℕ) (s : List ℕ) (g : ℕ) →
@@ -76,11 +78,11 @@ allowances_kept old new e x n =
 
 pub covered_kept : (old new : Trees) → new covered.tree ≡ old covered.tree → (x : List ℕ) (n : ℕ) →
     (rows_in new x).covered n ≡ (rows_in old x).covered n
-covered_kept old new e x n = kept_tells covered_in covered old new e (charge_key x n)
+covered_kept old new e x n = kept_tells covered_in_row covered old new e (charge_key x n)
 
 pub books_kept : (old new : Trees) → new books.tree ≡ old books.tree → (n : ℕ) →
-    (content_of new).books n ≡ (content_of old).books n
-books_kept old new e n = kept_tells book_in books old new e (book_key n)
+    (tables_content new).books n ≡ (tables_content old).books n
+books_kept old new e n = kept_tells book_in_row books old new e (book_key n)
 
 -- the trees, but one of them new
 abbrev pub swapped : ℕ → Trees → Trees → Trees
@@ -97,7 +99,7 @@ is_swapped at t old new same = go (t == at) refl
 -- where the other tables stay, the content is that of the one that is new
 pub only_changed : (at : ℕ) (old new : Trees)
     → AllByRecursion (λ (t : Table). t.tree ≢ at → new t.tree ≡ old t.tree) book_schema.tables
-    → content_of new ≡ content_of (swapped at old new)
+    → tables_content new ≡ tables_content (swapped at old new)
 only_changed at old new same = λ i. record {
   meta = meta_kept mix new (is meta same.0) i;
   kept = length (is meta same.0 i);
@@ -134,9 +136,10 @@ at_each true f g h e = λ i x. e x i
 at_each false f g h e = λ i x. e x i
 
 -- a field of one account's rows changes, and no other account's
-pub rows_turn : {F : Type 0} (a : List ℕ) (c : Content) (change : Rows → Rows) (field : Rows → F)
-    (set : Rows → F → Rows) → ((r : Rows) → set r (field r) ≡ r)
-    → ((r : Rows) → set r (field (change r)) ≡ change r) → (rows : List ℕ → Rows)
+pub rows_turn : {F : Type 0} (a : List ℕ) (c : TablesContent) (change : TableRows → TableRows)
+    (field : TableRows → F)
+    (set : TableRows → F → TableRows) → ((r : TableRows) → set r (field r) ≡ r)
+    → ((r : TableRows) → set r (field (change r)) ≡ change r) → (rows : List ℕ → TableRows)
     → ((x : List ℕ) →
     field (rows x) ≡ (if same_name a x then field (change (c.rows x)) else field (c.rows x)))
     → record c { rows = λ x. set (c.rows x) (field (rows x)) } ≡ with_rows a change c
@@ -144,7 +147,7 @@ rows_turn a c change field set stays changes rows told = λ i. record c {
   rows = λ x. (ap (set (c.rows x)) (told x) ∙ choose (same_name a x) (c.rows x)) i;
 }
   where
-    choose : (p : Bool) (r : Rows)
+    choose : (p : Bool) (r : TableRows)
         → set r (if p then field (change r) else field r) ≡ (if p then change r else r)
     choose true r = changes r
     choose false r = stays r

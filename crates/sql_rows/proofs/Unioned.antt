@@ -1,22 +1,21 @@
 -- What a UNION ALL of two selections, each from one table, answers.
-use Rattle.std.proofs.Common.{◌≡◌, ◌⊎◌, ℕ, ℤ, pos, negsuc, List, [], ◌∷◌, ◌++◌, map, filter, flat_map}
-use Rattle.std.proofs.Common.{Bool, true, false, ◌&&◌, ◌||◌, cond, None, refl, sym, ap, subst, ◌∙◌}
-use Rattle.std.proofs.Common.{inl, inr}
+use Rattle.std.proofs.Common.{◌≡◌, ◌⊎◌, ℕ, List, [], ◌∷◌, ◌++◌, map, filter, flat_map}
+use Rattle.std.proofs.Common.{Bool, true, false, cond, refl, sym, ap, subst, ◌∙◌, inl, inr}
 use Rattle.std.specs.List.{list_all}
 use Rattle.std.specs.List.Sorted.{IsPermutation}
 use Rattle.std.proofs.lemmas.List.Sorted.{IsPermutation-map}
 use Rattle.std.proofs.lemmas.Bool.{cases_Bool}
 use Rattle.std.specs.Prelude.{nat_le, ◌^◌, ◌+◌}
-use Rattle.sqlite_value.specs.declared.value.Value.TheVariants.{Null, Int}
+use Rattle.sqlite_value.specs.declared.value.Value.TheVariants.{Null}
 use Rattle.sqlite_value.specs.declared.keys.Collation.{Collation}
 use Rattle.sqlite_value.specs.declared.keys.Collation.TheVariants.{Binary}
 use Rattle.sqlite_value.specs.declared.keys.Key.{Key}
-use Rattle.sqlite_value.specs.Order.{Row, column}
+use Rattle.sqlite_value.specs.Order.{Row}
 use Rattle.sqlite_trees.specs.Tree.{Trees}
 use Rattle.sqlite_sql.specs.declared.query.SetOp.TheVariants.{UnionAll}
-use Rattle.sqlite_sql.specs.Term.{Term, Env, lit, holds, eval_all}
+use Rattle.sqlite_sql.specs.Term.{Term, lit, holds, eval_all}
 use Rattle.sqlite_sql.specs.Program.{IsProgramAnswer, overlay}
-use Rattle.sqlite_sql.specs.Query.{Query, inner, end, IsAnswer, Output, output}
+use Rattle.sqlite_sql.specs.Query.{Query, IsAnswer, Output, output}
 use Rattle.sqlite_schema.specs.Program.{lets_of}
 use Rattle.sqlite_schema.specs.declared.program.Program.{Program}
 use Rattle.sqlite_schema.specs.declared.program.Table.TheVariants.{Selected, Combined}
@@ -115,9 +114,11 @@ module _ (first second : ℕ) (low_first : nat_le (2 ^ 31) first ≡ false)
     from = λ v h.
         let it = selected_from (λ r. true) cut all out cuts v h in
         elim (has_either made_one made_two it.0 (subst (λ l. Has l it.0) both it.1)) [
-          | inl k ↦ let x = selected_from test_one (λ r. Null ∷ one r) stored_one made_one s it.0 k in
+          | inl k ↦
+              let x = selected_from test_one (λ r. Null ∷ one r) stored_one made_one s it.0 k in
               inl (x.0, x.1, x.2, it.3 ∙ ap cut x.3 ∙ cuts_one x.0)
-          | inr k ↦ let x = selected_from test_two (λ r. Null ∷ two r) stored_two made_two t it.0 k in
+          | inr k ↦
+              let x = selected_from test_two (λ r. Null ∷ two r) stored_two made_two t it.0 k in
               inr (x.0, x.1, x.2, it.3 ∙ ap cut x.3 ∙ cuts_two x.0)
         ];
     to_one = λ r h e.
@@ -128,8 +129,8 @@ module _ (first second : ℕ) (low_first : nat_le (2 ^ 31) first ≡ false)
     to_two = λ r h e.
         let k = selected_to test_two (λ r. Null ∷ two r) stored_two made_two t r h e in
         subst (Has out) (cuts_two r) (selected_to (λ r. true) cut all out cuts (Null ∷ two r)
-        (subst (λ l. Has l (Null ∷ two r)) (sym both) (has_right made_one made_two (Null ∷ two r) k))
-        refl);
+        (subst (λ l. Has l (Null ∷ two r)) (sym both)
+        (has_right made_one made_two (Null ∷ two r) k)) refl);
   }
 
   low : (t : ℕ) → nat_le (2 ^ 31) t ≡ false → (db : Trees) (tables : List (List Row))

@@ -1,5 +1,5 @@
 -- Selections within a transaction, one after another, and what is made of what they answer.
-use Rattle.std.proofs.Common.{◌≡◌, ◌∙◌, Result, Ok, Err, IfOk, OnErr, ap, refl, subst, sym}
+use Rattle.std.proofs.Common.{◌∙◌, Result, Ok, Err, IfOk, OnErr, ap, refl, subst, sym}
 use Rattle.std.proofs.Common.{IsTrue, arith, inl, true≢false}
 use Rattle.std.specs.Result.{IsErr}
 use Rattle.sqlite_trees.specs.Tree.{Trees}

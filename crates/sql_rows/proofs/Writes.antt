@@ -16,13 +16,13 @@ use Rattle.sqlite.proofs.Callers.{IsPlain, command_of, runs_as}
 use Rattle.sql_tables.specs.Schema.{book_schema}
 use Rattle.sql_tables.specs.Statements.{Attempts, Changes, HasBook, HasRules, IsBook, Puts}
 use Rattle.sql_tables.proofs.Keeps.{done_as, sound_fits}
-use Rattle.sql_rows.specs.Content.{Content, content_of}
+use Rattle.sql_rows.specs.Content.{TablesContent, tables_content}
 use Rattle.sql_rows.specs.Makes.{Makes}
 use Rattle.sql_rows.specs.Plain.{ArePlain}
 
 -- the parameters are the values that the text was read with
 pub writes : (text : List ℕ) (values : Row) (does : State → State → Type 0)
-    (change : Content → Content)
+    (change : TablesContent → TablesContent)
     → ((old new : State) (r : Result ℕ Error) → (IsTrue old.is_open → IsBook old)
     → OnOk r (ExecutesInside 0 text values old new r) → OnOk r (does old new))
     → ((old new : State) → does old new → Makes change old new)
@@ -60,8 +60,8 @@ rules_after {at} {how} {from} {clauses} text values does is plain runs books par
 rules_after text values does is plain runs books params same old new (Err e) has a = tt
 
 -- the content is turned, the rest is left
-pub makes_turned : (change : Content → Content) (old new : State)
-    → content_of new.now.trees ≡ change (content_of old.now.trees)
+pub makes_turned : (change : TablesContent → TablesContent) (old new : State)
+    → tables_content new.now.trees ≡ change (tables_content old.now.trees)
     → new.now.trees catalog_tree ≡ old.now.trees catalog_tree
     → (ArePlain old.now.trees → ArePlain new.now.trees) → IsBook new
     → Shows old new new.now old.committed true → Makes change old new
@@ -71,8 +71,9 @@ makes_turned change old new content catalog plain book shows = record {
   shows = shows;
 }
 
-pub puts_make : (table : Table) (values : Row) (change : Content → Content)
-    → ((old new : Trees) → Changes table values old new → content_of new ≡ change (content_of old))
+pub puts_make : (table : Table) (values : Row) (change : TablesContent → TablesContent)
+    → ((old new : Trees) → Changes table values old new → tables_content new ≡ change
+    (tables_content old))
     → ((old new : Trees) → Changes table values old new → ArePlain old → ArePlain new)
     → (old new : State) → Puts table values old new → Makes change old new
 puts_make table values change turns plain old new p =

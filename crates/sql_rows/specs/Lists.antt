@@ -13,32 +13,32 @@ use Rattle.buckets.specs.Words.{BucketNumber, BucketAmount}
 use Rattle.reserving.specs.Words.{ChargeNumber}
 use Rattle.sqlite_value.specs.declared.value.Value.TheVariants.{Text}
 use Rattle.sqlite_value.specs.Order.{Row as Values}
-use Rattle.buckets.specs.Row.{Row as Bucket}
+use Rattle.buckets.specs.Row.{BucketRow}
 use Rattle.reserving.specs.declared.session.Session.{Session}
 use Rattle.reserving.specs.declared.session.Counter.{Counter}
 use Rattle.reserving.specs.declared.charge.ChargeRow.{ChargeRow}
 use Rattle.reserving.specs.Left.{is_open_row}
 use Rattle.reserving.specs.Rows.{AreApart}
 use Rattle.sql_tables.specs.Keyed.{same_name}
-use Rattle.sql_tables.specs.Selects.{only}
-use Rattle.sql_rows.specs.Values.{CoveredRow, DatedBook, Group, book_values, flag_number}
+use Rattle.sql_tables.specs.Selects.{passing}
+use Rattle.sql_rows.specs.Values.{CoveredRow, BookRow, Group, book_values, flag_number}
 use Rattle.sql_rows.specs.Values.{counter_cells, group_cells, head_cells, nat}
-use Rattle.sql_rows.specs.Content.{Content, Rows}
-use Rattle.sql_rows.specs.declared.head.Head.{Head as HeadColumns}
+use Rattle.sql_rows.specs.Content.{TablesContent, TableRows}
+use Rattle.sql_rows.specs.declared.head.HeadColumns.{HeadColumns}
 
-abbrev pub is_live : Bucket → Bool
-is_live b = nat_lt 0 b.available || nat_lt 0 b.reserved
+abbrev pub is_live_bucket : BucketRow → Bool
+is_live_bucket b = nat_lt 0 b.available || nat_lt 0 b.reserved
 
 -- something of it is available
-abbrev pub is_left : Bucket → Bool
+abbrev pub is_left : BucketRow → Bool
 is_left b = nat_lt 0 b.available
 
 -- nothing of it is available, and something reserved
-abbrev pub is_held : Bucket → Bool
+abbrev pub is_held : BucketRow → Bool
 is_held b = nat_eq 0 b.available && nat_lt 0 b.reserved
 
-abbrev pub is_dead : Bucket → Bool
-is_dead b = not (is_live b)
+abbrev pub is_dead_bucket : BucketRow → Bool
+is_dead_bucket b = not (is_live_bucket b)
 
 -- each number is above the one before it
 abbrev pub Rises : {X : Type 0} → (X → ℕ) → List X → Type 0
@@ -57,21 +57,21 @@ abbrev pub name_before : AccountName → AccountName → Bool
 name_before x y = is_lt (slice_cmp nat_cmp x y)
 
 -- all accounts, each once
-pub record AreAccounts (content : Content) (xs : List AccountName) : Type 0 where
+pub record AreAccounts (content : TablesContent) (xs : List AccountName) : Type 0 where
   pub found : (a : AccountName) →
       is_some (find (λ x. same_name x a) xs) ≡ is_some (content.rows a).head
   pub count : length xs ≡ content.count
   pub apart : AreApart (λ x y. same_name y x) xs
 
 -- the buckets that pass the test: each by its number, and no other
-abbrev pub AreBuckets : (Bucket → Bool) → Rows → List Bucket → Type 0
+abbrev pub AreBuckets : (BucketRow → Bool) → TableRows → List BucketRow → Type 0
 AreBuckets test rows bs = (n : BucketNumber) →
-    find (λ b. nat_eq b.number n) bs ≡ only test (rows.buckets n)
+    find (λ b. nat_eq b.number n) bs ≡ passing test (rows.buckets n)
 
 -- the sessions that pass the test
-abbrev pub AreSessions : (Session → Bool) → Rows → List Session → Type 0
+abbrev pub AreSessions : (Session → Bool) → TableRows → List Session → Type 0
 AreSessions test rows xs = (s : SessionName) →
-    find (λ x. same_name x.id s) xs ≡ only test (rows.sessions s)
+    find (λ x. same_name x.id s) xs ≡ passing test (rows.sessions s)
 
 -- what a session has of a rating group
 pub record GroupAt : Type 0 where
@@ -79,7 +79,7 @@ pub record GroupAt : Type 0 where
   pub row : Group
 
 -- of a session: nothing of rating groups, no book of a reservation, and nothing is held
-pub record HasNoGroups (rows : Rows) (s : List ℕ) : Type 0 where
+pub record HasNoGroups (rows : TableRows) (s : List ℕ) : Type 0 where
   pub groups : (g : ℕ) → rows.groups s g ≡ None
   pub books : (g : ℕ) → rows.grant_books s g ≡ None
   pub holds : (g n : ℕ) → rows.holds s g n ≡ None
@@ -106,7 +106,7 @@ abbrev pub is_group_of : List ℕ → ℕ → OpenGroupAt → Bool
 is_group_of s g x = same_name x.session s && nat_eq x.group g
 
 -- all that open sessions have of rating groups
-abbrev pub AreOpenGroups : Rows → List OpenGroupAt → Type 0
+abbrev pub AreOpenGroups : TableRows → List OpenGroupAt → Type 0
 AreOpenGroups rows xs = (s : List ℕ) (g : ℕ) →
     option_map (λ (x : OpenGroupAt). x.row) (find (is_group_of s g) xs)
     ≡ (if is_open_row (rows.sessions s) then rows.groups s g else None)
@@ -116,7 +116,7 @@ abbrev pub group_at_cells : GroupAt → Values
 group_at_cells x = group_cells x.group x.row
 
 -- all that the session has
-abbrev pub AreGroups : Rows → SessionName → List GroupAt → Type 0
+abbrev pub AreGroups : TableRows → SessionName → List GroupAt → Type 0
 AreGroups rows s xs = (g : GroupId) →
     option_map (λ (x : GroupAt). x.row) (find (λ x. nat_eq x.group g) xs) ≡ rows.groups s g
 
@@ -135,7 +135,7 @@ abbrev pub hold_cells : HoldAt → Values
 hold_cells h = nat h.group ∷ nat h.bucket ∷ nat h.amount ∷ []
 
 -- all that is held for the session
-abbrev pub AreHolds : Rows → SessionName → List HoldAt → Type 0
+abbrev pub AreHolds : TableRows → SessionName → List HoldAt → Type 0
 AreHolds rows s xs = (g : GroupId) (n : BucketNumber) →
     option_map (λ (x : HoldAt). x.amount) (find (λ x. nat_eq x.group g && nat_eq x.bucket n) xs)
     ≡ rows.holds s g n
@@ -162,7 +162,7 @@ abbrev pub is_hold_of : List ℕ → ℕ → ℕ → SessionHoldAt → Bool
 is_hold_of s g n x = same_name x.session s && (nat_eq x.group g && nat_eq x.bucket n)
 
 -- all that is held for sessions of the account
-abbrev pub AreAllHolds : Rows → List SessionHoldAt → Type 0
+abbrev pub AreAllHolds : TableRows → List SessionHoldAt → Type 0
 AreAllHolds rows xs = (s : List ℕ) (g n : ℕ) →
     option_map (λ (x : SessionHoldAt). x.amount) (find (is_hold_of s g n) xs) ≡ rows.holds s g n
 
@@ -183,7 +183,7 @@ abbrev pub is_book_of : List ℕ → ℕ → SessionBookAt → Bool
 is_book_of s g x = same_name x.session s && nat_eq x.group g
 
 -- those of all reservations of the account
-abbrev pub AreAllGrantBooks : Rows → List SessionBookAt → Type 0
+abbrev pub AreAllGrantBooks : TableRows → List SessionBookAt → Type 0
 AreAllGrantBooks rows xs = (s : List ℕ) (g : ℕ) →
     option_map (λ (x : SessionBookAt). x.book) (find (is_book_of s g) xs) ≡ rows.grant_books s g
 
@@ -200,7 +200,7 @@ abbrev pub grant_book_before : GrantBookAt → GrantBookAt → Bool
 grant_book_before x y = nat_lt x.group y.group
 
 -- those of all reservations of the session
-abbrev pub AreGrantBooks : Rows → SessionName → List GrantBookAt → Type 0
+abbrev pub AreGrantBooks : TableRows → SessionName → List GrantBookAt → Type 0
 AreGrantBooks rows s xs = (g : GroupId) →
     option_map (λ (x : GrantBookAt). x.book) (find (λ x. nat_eq x.group g) xs)
     ≡ rows.grant_books s g
@@ -208,18 +208,18 @@ AreGrantBooks rows s xs = (g : GroupId) →
 -- a book after the first under its number
 pub record BookAt : Type 0 where
   pub number : BookNumber
-  pub row : DatedBook
+  pub row : BookRow
 
 abbrev pub book_at_cells : BookAt → Values
 book_at_cells x = book_values x.number x.row
 
 -- all books after the first
-abbrev pub AreBooks : Content → List BookAt → Type 0
+abbrev pub AreBooks : TablesContent → List BookAt → Type 0
 AreBooks content xs = (n : BookNumber) →
     option_map (λ (x : BookAt). x.row) (find (λ x. nat_eq x.number n) xs) ≡ content.books n
 
 -- the numbers of all buckets that count blocks
-abbrev pub AreAllowances : Rows → List BucketNumber → Type 0
+abbrev pub AreAllowances : TableRows → List BucketNumber → Type 0
 AreAllowances rows xs = (n : BucketNumber) → is_some (find (λ x. nat_eq x n) xs) ≡ rows.allowances n
 
 -- a rating group of a session that has a reservation
@@ -238,19 +238,19 @@ has_reservation None = false
 has_reservation (Some x) = is_some x.periods
 
 -- the rating groups of all sessions that have a reservation
-abbrev pub AreReserved : Content → List ReservedAt → Type 0
+abbrev pub AreReserved : TablesContent → List ReservedAt → Type 0
 AreReserved content xs = (a : AccountName) (s : SessionName) (g : GroupId) →
     is_some (find (λ x. same_name x.account a && (same_name x.session s && nat_eq x.group g)) xs)
     ≡ has_reservation ((content.rows a).groups s g)
 
 -- the covered blocks of the charges beyond a number, and up to another
-abbrev pub AreCovered : ChargeNumber → ChargeNumber → Rows → List CoveredRow → Type 0
+abbrev pub AreCovered : ChargeNumber → ChargeNumber → TableRows → List CoveredRow → Type 0
 AreCovered after last rows xs = (n : ChargeNumber) →
     option_map (λ (x : CoveredRow). x.blocks) (find (λ x. nat_eq x.number n) xs)
     ≡ (if nat_lt after n && nat_le n last then rows.covered n else None)
 
 -- covered blocks stand beside a charge
-abbrev pub AreCoveredBeside : Rows → Type 0
+abbrev pub AreCoveredBeside : TableRows → Type 0
 AreCoveredBeside r = (n : ChargeNumber) → r.charges n ≡ None → r.covered n ≡ None
 
 -- by the charge's number
@@ -258,22 +258,22 @@ abbrev pub covered_before : CoveredRow → CoveredRow → Bool
 covered_before x y = nat_lt x.number y.number
 
 -- whether a charge lies beyond a number, and up to another
-abbrev pub is_within : ChargeNumber → ChargeNumber → ChargeRow → Bool
-is_within after last x = nat_lt after x.number && nat_le x.number last
+abbrev pub is_row_within : ChargeNumber → ChargeNumber → ChargeRow → Bool
+is_row_within after last x = nat_lt after x.number && nat_le x.number last
 
 -- the charges of the account that pass the test
-abbrev pub AreCharges : (ChargeRow → Bool) → Rows → List ChargeRow → Type 0
-AreCharges test rows xs = (n : ChargeNumber) →
-    find (λ x. nat_eq x.number n) xs ≡ only test (rows.charges n)
+abbrev pub AreChargeRows : (ChargeRow → Bool) → TableRows → List ChargeRow → Type 0
+AreChargeRows test rows xs = (n : ChargeNumber) →
+    find (λ x. nat_eq x.number n) xs ≡ passing test (rows.charges n)
 
 abbrev pub NumbersRise : List ChargeRow → Type 0
 NumbersRise xs = Rises (λ x. x.number) xs
 
-abbrev pub BucketsRise : List Bucket → Type 0
+abbrev pub BucketsRise : List BucketRow → Type 0
 BucketsRise bs = Rises (λ b. b.number) bs
 
 -- the counters of one cycle
-abbrev pub AreCountersIn : CycleNumber → Rows → List Counter → Type 0
+abbrev pub AreCountersIn : CycleNumber → TableRows → List Counter → Type 0
 AreCountersIn cycle rows xs = (g : GroupId) (c : CycleNumber) →
     find (λ x. nat_eq x.group g && nat_eq x.cycle c) xs
     ≡ (if nat_eq c cycle then rows.counters g c else None)

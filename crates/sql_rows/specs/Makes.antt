@@ -5,37 +5,38 @@ use Rattle.sqlite_trees.specs.Objects.{catalog_tree}
 use Rattle.sqlite_trees.specs.Tree.{Trees}
 use Rattle.sqlite.specs.State.{State, HasCleanDisk, Shows}
 use Rattle.sql_tables.specs.Statements.{AreStored, Attempts, IsBook, IsIdle}
-use Rattle.sql_rows.specs.Content.{Content, content_of}
+use Rattle.sql_rows.specs.Content.{TablesContent, tables_content}
 use Rattle.sql_rows.specs.Plain.{ArePlain}
 
 -- the trees after have the content that the change makes of that before, and the same catalog; no
 -- rowid stands twice there, and rows are as the statements write them if they were
-pub record Turns (change : Content → Content) (old new : Trees) : Type 0 where
-  pub content : content_of new ≡ change (content_of old)
+pub record Turns (change : TablesContent → TablesContent) (old new : Trees) : Type 0 where
+  pub content : tables_content new ≡ change (tables_content old)
   pub catalog : new catalog_tree ≡ old catalog_tree
   pub stored : AreStored new
   pub plain : ArePlain old → ArePlain new
 
 -- inside a transaction
-pub record Makes (change : Content → Content) (old new : State) : Type 0 where
+pub record Makes (change : TablesContent → TablesContent) (old new : State) : Type 0 where
   pub turns : Turns change old.now.trees new.now.trees
   pub book : IsBook new
   pub shows : Shows old new new.now old.committed true
 
 -- the connection was open if it is, and if it was, the change is made: a list of no rows asks
 -- nothing of it
-pub record MakesIfOpen (change : Content → Content) (old new : State) : Type 0 where
+pub record MakesIfOpen (change : TablesContent → TablesContent) (old new : State) : Type 0 where
   pub was_open : IsTrue new.is_open → IsTrue old.is_open
   pub made : IsTrue old.is_open → Makes change old new
 
 -- the change is made where nothing stood in its place, and it is told whether anything did
-pub record AddsIfNone {E : Type 0} (stands : Content → Bool) (change : Content → Content)
+pub record AddsIfNone {E : Type 0} (stands : TablesContent → Bool)
+    (change : TablesContent → TablesContent)
     (old new : State) (result : Result Bool E) : Type 0 where
   pub makes : Attempts (Makes (λ c. if stands c then c else change c)) old new result
   pub told : HasCleanDisk new
-      → IfOk result (λ added. added ≡ not (stands (content_of old.now.trees)))
+      → IfOk result (λ added. added ≡ not (stands (tables_content old.now.trees)))
 
 -- the change is committed
-pub record Commits (change : Content → Content) (old new : State) : Type 0 where
+pub record Commits (change : TablesContent → TablesContent) (old new : State) : Type 0 where
   pub turns : Turns change old.now.trees new.now.trees
   pub idle : IsIdle new

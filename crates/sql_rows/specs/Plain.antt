@@ -1,4 +1,5 @@
--- Rows as the statements write them, in the tables whose columns can hold more than is read of them.
+-- Rows as the statements write them, in the tables whose columns can hold more than is read of
+-- them.
 -- Source: profile.
 use Rattle.std.specs.Prelude.{◌≡◌, ◌&&◌, ◌||◌, Bool, Some, IsTrue, nat_eq, nat_le}
 use Rattle.sqlite_sql.specs.Ops.{is_null}

@@ -6,9 +6,9 @@ use Rattle.std.specs.Str.{IsUtf8}
 use Rattle.units.specs.Words.{GroupId, BookNumber}
 use Rattle.identifiers.specs.Words.{SessionName, AccountName}
 use Rattle.identifiers.specs.Texts.{is_account_number, is_session_id}
-use Rattle.sql_rows.specs.Content.{Content}
+use Rattle.sql_rows.specs.Content.{TablesContent}
 use Rattle.sql_rows.specs.Lists.{BookAt, ReservedAt, has_reservation}
-use Rattle.sql_rows.specs.Values.{DatedBook, Meta}
+use Rattle.sql_rows.specs.Values.{BookRow, Meta}
 
 -- the version is below 2^32, the text is one of characters, and the moment is in the range of
 -- moments
@@ -30,8 +30,8 @@ pub record IsRuledBook (x : BookAt) : Type 0 where
   pub content : IsUtf8 x.row.content
 
 -- each book that is there is in the rules
-abbrev pub AreRuledBooks : (BookNumber → Option DatedBook) → Type 0
-AreRuledBooks books = (n : BookNumber) (x : DatedBook) → books n ≡ Some x
+abbrev pub AreRuledBooks : (BookNumber → Option BookRow) → Type 0
+AreRuledBooks books = (n : BookNumber) (x : BookRow) → books n ≡ Some x
     → IsRuledBook (record { number = n; row = x })
 
 -- a reservation is told: its account's number and its session's name are such texts, and its rating
@@ -43,7 +43,7 @@ pub record IsRuledReserved (x : ReservedAt) : Type 0 where
   pub is_reserved : IsTrue x.reserved
 
 -- each reservation is in the rules
-abbrev pub AreRuledReserved : Content → Type 0
+abbrev pub AreRuledReserved : TablesContent → Type 0
 AreRuledReserved c = (a : AccountName) (s : SessionName) (g : GroupId) →
     IsTrue (has_reservation ((c.rows a).groups s g))
     → IsTrue (is_account_number a) × IsTrue (is_session_id s) × (g < 2 ^ 32)

@@ -8,18 +8,18 @@ use Rattle.sqlite_value.specs.Order.{Row as Values, column}
 use Rattle.sqlite_value.specs.declared.value.Value.TheVariants.{Text}
 use Rattle.sqlite.specs.State.{State}
 use Rattle.sqlite.specs.Values.{or_null}
-use Rattle.buckets.specs.Row.{Row as Bucket}
+use Rattle.buckets.specs.Row.{BucketRow}
 use Rattle.buckets.specs.declared.bucket.columns.Columns.{Columns as BucketColumns}
-pub use Rattle.buckets.specs.Columns.{row_of as bucket_row}
-use Rattle.sql_rows.specs.declared.answer_rows.Kept.{Kept as KeptTexts}
+pub use Rattle.buckets.specs.Columns.{row_of_columns as bucket_row}
+use Rattle.sql_rows.specs.declared.answer_rows.KeptTexts.{KeptTexts}
 use Rattle.sql_rows.specs.declared.book_rows.BookColumns.{BookColumns}
 use Rattle.sql_rows.specs.declared.covered_rows.CoveredColumns.{CoveredColumns}
 use Rattle.sql_rows.specs.declared.grant_book_rows.GrantBook.{GrantBook}
 use Rattle.sql_rows.specs.declared.group_rows.GroupColumns.{GroupColumns}
-use Rattle.sql_rows.specs.declared.group_rows.PeriodNames.{PeriodNames as ReadNames}
+use Rattle.sql_rows.specs.declared.group_rows.PeriodTexts.{PeriodTexts}
 use Rattle.sql_rows.specs.declared.group_rows.PutNames.{PutNames}
 use Rattle.sql_rows.specs.declared.hold_rows.HeldColumns.{HeldColumns}
-use Rattle.sql_rows.specs.declared.meta_rows.Meta.{Meta as MetaRow}
+use Rattle.sql_rows.specs.declared.meta_rows.MetaColumns.{MetaColumns}
 use Rattle.sql_rows.specs.declared.open_group_rows.OpenGroup.{OpenGroup}
 use Rattle.sql_rows.specs.declared.reserved_rows.ReservedColumns.{ReservedColumns}
 use Rattle.sql_rows.specs.declared.session_book_rows.SessionBook.{SessionBook}
@@ -29,30 +29,30 @@ use Rattle.sql_tables.specs.Statements.{Reads, ReadsWithin}
 use Rattle.sql_rows.specs.Content.{rows_in}
 use Rattle.sql_rows.specs.Lists.{AreBuckets, BookAt, GrantBookAt, GroupAt, HoldAt, OpenGroupAt}
 use Rattle.sql_rows.specs.Lists.{ReservedAt, SessionBookAt, SessionHoldAt}
-use Rattle.sql_rows.specs.Values.{CoveredRow, Kept, Meta, PeriodNames, Voucher}
+use Rattle.sql_rows.specs.Values.{CoveredRow, Kept, Meta, PeriodNames, VoucherRow}
 
 abbrev pub kept_of : KeptTexts → Kept
 kept_of k = record { content = string_bytes k.content; answer = string_bytes k.answer }
 
-abbrev pub meta_of : MetaRow → Meta
+abbrev pub meta_of : MetaColumns → Meta
 meta_of m = record { version = m.version; book = string_bytes m.book; last = m.last }
 
 -- a selection tells the buckets of the account that pass the test
-abbrev pub ReadsBuckets : {E : Type 0} → (Bucket → Bool) → AccountName → State → State →
+abbrev pub ReadsBuckets : {E : Type 0} → (BucketRow → Bool) → AccountName → State → State →
     Result (Vec BucketColumns Global) E → Type 0
 ReadsBuckets test account =
     Reads (λ trees bs. AreBuckets test (rows_in trees account) (map bucket_row bs.items))
 
 -- the same within a transaction
-abbrev pub ReadsBucketsWithin : {E : Type 0} → (Bucket → Bool) → AccountName → State → State →
+abbrev pub ReadsBucketsWithin : {E : Type 0} → (BucketRow → Bool) → AccountName → State → State →
     Result (Vec BucketColumns Global) E → Type 0
 ReadsBucketsWithin test account =
     ReadsWithin (λ trees bs. AreBuckets test (rows_in trees account) (map bucket_row bs.items))
 
-abbrev pub voucher_of : VoucherColumns → Voucher
+abbrev pub voucher_of : VoucherColumns → VoucherRow
 voucher_of v = record { amount = v.amount; days = v.days; scope = v.scope; account = v.account }
 
-abbrev pub names_of : ReadNames → PeriodNames
+abbrev pub names_of : PeriodTexts → PeriodNames
 names_of p = record { before = string_bytes p.before; after = string_bytes p.after }
 
 -- the names as they are put
@@ -111,7 +111,7 @@ abbrev pub covered_row : CoveredColumns → CoveredRow
 covered_row x = record { number = x.number; blocks = x.blocks }
 
 -- the names stand in their columns, and are there exactly where the group has a reservation
-pub record ArePeriods (row : Values) (is_reserved : Bool) (o : Option ReadNames) : Type 0 where
+pub record ArePeriods (row : Values) (is_reserved : Bool) (o : Option PeriodTexts) : Type 0 where
   pub there : is_some o ≡ is_reserved
   pub before : column row 3 ≡ or_null (λ p. Text (string_bytes p.before)) o
   pub after : column row 4 ≡ or_null (λ p. Text (string_bytes p.after)) o

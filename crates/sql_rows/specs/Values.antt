@@ -1,7 +1,6 @@
 -- The values of a row, and the row that values are.
 -- Source: profile.
-use Rattle.std.specs.Prelude.{ℕ, zero, suc, pos, negsuc, Bool, true, false, List, [], ◌∷◌, Option}
-use Rattle.std.specs.Prelude.{Some, None}
+use Rattle.std.specs.Prelude.{ℕ, zero, suc, pos, negsuc, Bool, List, [], ◌∷◌, Option, Some, None}
 use Rattle.std.specs.Prelude.{is_some, if◌then◌else◌, ◌==◌}
 use Rattle.units.specs.Words.{Moment, DayCount, Micros, UnitCount, BlockCount, GroupId, CycleNumber}
 use Rattle.units.specs.Words.{BookNumber, CcRequestNumber}
@@ -16,13 +15,13 @@ use Rattle.sqlite_value.specs.Order.{Row as Values, column}
 use Rattle.sqlite.specs.Values.{or_null}
 use Rattle.buckets.specs.declared.kind.BucketKind.{BucketKind}
 use Rattle.buckets.specs.declared.kind.BucketKind.TheVariants.{Money, Blocks}
-use Rattle.buckets.specs.Row.{Row as Bucket}
+use Rattle.buckets.specs.Row.{BucketRow}
 use Rattle.reserving.specs.declared.session.Session.{Session}
 use Rattle.reserving.specs.declared.session.SessionState.{SessionState}
 use Rattle.reserving.specs.declared.session.SessionState.TheVariants.{Open, Ended, NeverOpened}
 use Rattle.reserving.specs.declared.session.Counter.{Counter}
 use Rattle.reserving.specs.declared.charge.ChargeRow.{ChargeRow}
-use Rattle.sql_rows.specs.declared.head.Head.{Head}
+use Rattle.sql_rows.specs.declared.head.HeadColumns.{HeadColumns}
 
 -- ---- one value; what isn't of its kind reads as nothing
 
@@ -105,13 +104,13 @@ abbrev pub head_key : AccountName → Values
 head_key a = Text a ∷ []
 
 -- the columns after the key
-abbrev pub head_cells : Head → Values
+abbrev pub head_cells : HeadColumns → Values
 head_cells h = nat (flag_number h.barred) ∷ nat h.as_of ∷ nat h.next_bucket ∷ nat h.next_charge ∷ []
 
-abbrev pub head_values : AccountName → Head → Values
+abbrev pub head_values : AccountName → HeadColumns → Values
 head_values a h = Text a ∷ head_cells h
 
-abbrev pub head_in : Values → Head
+abbrev pub head_in : Values → HeadColumns
 head_in v = record {
   barred = flag_in (column v 1);
   as_of = nat_in (column v 2);
@@ -126,7 +125,7 @@ bucket_key a n = Text a ∷ nat n ∷ []
 
 -- the columns after the account's; whether they count money or blocks stands in
 -- `allowance_buckets`
-abbrev pub money_cells : Bucket → Values
+abbrev pub money_cells : BucketRow → Values
 money_cells b =
     nat b.number ∷ nat b.from ∷ nat b.until ∷ or_null nat b.scope ∷ nat b.credited
     ∷ nat b.available ∷ nat b.reserved ∷ nat b.charged ∷ nat b.expired ∷ []
@@ -136,18 +135,18 @@ abbrev pub cells_of : BucketKind → Values → Values
 cells_of Money cells = cells
 cells_of Blocks cells = []
 
-abbrev pub bucket_cells : Bucket → Values
+abbrev pub bucket_cells : BucketRow → Values
 bucket_cells b = cells_of b.kind (money_cells b)
 
 -- as the columns tell it: not whether it counts money or blocks
-abbrev pub plain_bucket : Bucket → Bucket
+abbrev pub plain_bucket : BucketRow → BucketRow
 plain_bucket b = record b { kind = Money }
 
-abbrev pub bucket_values : AccountName → Bucket → Values
+abbrev pub bucket_values : AccountName → BucketRow → Values
 bucket_values a b = Text a ∷ money_cells b
 
-abbrev pub bucket_in : Values → Bucket
-bucket_in v = record {
+abbrev pub bucket_in_row : Values → BucketRow
+bucket_in_row v = record {
   number = nat_in (column v 1);
   kind = Money;
   from = nat_in (column v 2);
@@ -171,8 +170,8 @@ counter_cells r = nat r.group ∷ nat r.cycle ∷ nat r.blocks ∷ []
 abbrev pub counter_values : AccountName → Counter → Values
 counter_values a r = Text a ∷ counter_cells r
 
-abbrev pub counter_in : Values → Counter
-counter_in v = record {
+abbrev pub counter_in_row : Values → Counter
+counter_in_row v = record {
   group = nat_in (column v 1);
   cycle = nat_in (column v 2);
   blocks = nat_in (column v 3);
@@ -189,8 +188,8 @@ session_cells r = Text r.id ∷ nat r.last_number ∷ nat r.touched ∷ nat (sta
 abbrev pub session_values : AccountName → Session → Values
 session_values a r = Text a ∷ session_cells r
 
-abbrev pub session_in : Values → Session
-session_in v = record {
+abbrev pub session_in_row : Values → Session
+session_in_row v = record {
   id = text_in (column v 1);
   last_number = nat_in (column v 2);
   touched = nat_in (column v 3);
@@ -221,8 +220,8 @@ group_cells g r =
 abbrev pub group_values : AccountName → SessionName → GroupId → Group → Values
 group_values a s g r = Text a ∷ Text s ∷ group_cells g r
 
-abbrev pub group_in : Values → Group
-group_in v = record {
+abbrev pub group_in_row : Values → Group
+group_in_row v = record {
   used = nat_in (column v 3);
   periods = if flag_in (column v 4)
       then Some (record { before = text_in (column v 5); after = text_in (column v 6) })
@@ -264,12 +263,12 @@ answer_cells k = Text k.content ∷ Text k.answer ∷ []
 abbrev pub answer_values : AccountName → KeyKind → KeyName → CcRequestNumber → Kept → Values
 answer_values a kind name number k = Text a ∷ nat kind ∷ Text name ∷ nat number ∷ answer_cells k
 
-abbrev pub answer_in : Values → Kept
-answer_in v = record { content = text_in (column v 4); answer = text_in (column v 5) }
+abbrev pub answer_in_row : Values → Kept
+answer_in_row v = record { content = text_in (column v 4); answer = text_in (column v 5) }
 
 -- ---- `vouchers`
 
-pub record Voucher : Type 0 where
+pub record VoucherRow : Type 0 where
   pub amount : Micros
   pub days : Option DayCount
   pub scope : Option GroupId
@@ -280,15 +279,15 @@ abbrev pub voucher_key : VoucherCode → Values
 voucher_key code = Text code ∷ []
 
 -- the columns after the key
-abbrev pub voucher_cells : Voucher → Values
+abbrev pub voucher_cells : VoucherRow → Values
 voucher_cells r =
     nat r.amount ∷ or_null nat r.days ∷ or_null nat r.scope ∷ or_null Text r.account ∷ []
 
-abbrev pub voucher_values : VoucherCode → Voucher → Values
+abbrev pub voucher_values : VoucherCode → VoucherRow → Values
 voucher_values code r = Text code ∷ voucher_cells r
 
-abbrev pub voucher_in : Values → Voucher
-voucher_in v = record {
+abbrev pub voucher_in_row : Values → VoucherRow
+voucher_in_row v = record {
   amount = nat_in (column v 1);
   days = optional_in (column v 2);
   scope = optional_in (column v 3);
@@ -321,8 +320,8 @@ plain_charge x = record x { covered = record { 0 = 0 } }
 abbrev pub charge_values : AccountName → ChargeRow → Values
 charge_values a r = Text a ∷ priced_cells r
 
-abbrev pub charge_in : Values → ChargeRow
-charge_in v = record {
+abbrev pub charge_in_row : Values → ChargeRow
+charge_in_row v = record {
   number = nat_in (column v 1);
   moment = nat_in (column v 2);
   session = text_in (column v 3);
@@ -337,7 +336,7 @@ charge_in v = record {
 -- ---- `books`
 
 -- a tariff book after the first, from its moment on
-pub record DatedBook : Type 0 where
+pub record BookRow : Type 0 where
   pub starts : Moment
   pub content : List ℕ
 
@@ -345,14 +344,14 @@ abbrev pub book_key : BookNumber → Values
 book_key n = nat n ∷ []
 
 -- the columns after the key
-abbrev pub book_cells : DatedBook → Values
+abbrev pub book_cells : BookRow → Values
 book_cells x = nat x.starts ∷ Text x.content ∷ []
 
-abbrev pub book_values : BookNumber → DatedBook → Values
+abbrev pub book_values : BookNumber → BookRow → Values
 book_values n x = nat n ∷ book_cells x
 
-abbrev pub book_in : Values → DatedBook
-book_in v = record { starts = nat_in (column v 1); content = text_in (column v 2) }
+abbrev pub book_in_row : Values → BookRow
+book_in_row v = record { starts = nat_in (column v 1); content = text_in (column v 2) }
 
 -- ---- `grant_books`, under the keys of `session_groups`
 
@@ -383,5 +382,5 @@ covered_cells x = nat x.number ∷ nat x.blocks ∷ []
 abbrev pub covered_values : AccountName → CoveredRow → Values
 covered_values a x = Text a ∷ covered_cells x
 
-abbrev pub covered_in : Values → BlockCount
-covered_in v = nat_in (column v 2)
+abbrev pub covered_in_row : Values → BlockCount
+covered_in_row v = nat_in (column v 2)

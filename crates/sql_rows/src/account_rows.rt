@@ -1,7 +1,7 @@
 //! Rows of accounts.
 
 ghost use Rattle.std.specs.Prelude.{◌≡◌, map, IfOk, OnOk};
-ghost use Rattle.sql_rows.specs.Content.{content_of, rows_in, with_account};
+ghost use Rattle.sql_rows.specs.Content.{tables_content, rows_in, with_account};
 ghost use Rattle.sql_rows.specs.Values.{head_cells, head_key};
 ghost use Rattle.sql_rows.specs.Lists.{AreAccounts, Ascends, name_before};
 ghost use Rattle.sql_rows.specs.Makes.{Makes};
@@ -12,7 +12,7 @@ ghost use Rattle.sqlite.specs.Held.{state};
 
 use crate::ascending::{InOrder, do_ascend};
 use crate::decoding::{account_at, flag_at, moment_at};
-use crate::head::Head;
+use crate::head::HeadColumns;
 use identifiers::AccountNumber;
 use sql_tables::{
     ReadFault, checked, flag, has_columns, large, number_at, one_of, read, read_within, text, write,
@@ -28,7 +28,7 @@ use std::alloc::Global;
 pub fn put_account<S: Alter>(
     tx: &mut Transaction<'_, S>,
     account: &AccountNumber,
-    head: &Head,
+    head: &HeadColumns,
 ) -> Result<usize, Error>
     requires book { HasBook (state S.Store tx.old.conn.now) }
     ensures same_reference { tx.new.conn.ghost_name ≡ tx.old.conn.ghost_name }
@@ -60,7 +60,7 @@ pub fn put_account<S: Alter>(
 pub fn read_account<S: Alter>(
     conn: &mut Connection<S>,
     account: &AccountNumber,
-) -> Result<Option<Head>, ReadFault>
+) -> Result<Option<HeadColumns>, ReadFault>
     requires idle { HasIdleBook (state S.Store conn.old) }
     ensures reads { Reads (λ trees o. o ≡ (rows_in trees account.now).head)
         (state S.Store conn.old) (state S.Store conn.new) result }
@@ -82,7 +82,7 @@ pub fn read_account<S: Alter>(
 pub fn read_account_within<S: Alter>(
     tx: &mut Transaction<'_, S>,
     account: &AccountNumber,
-) -> Result<Option<Head>, ReadFault>
+) -> Result<Option<HeadColumns>, ReadFault>
     requires book { HasBook (state S.Store tx.old.conn.now) }
     requires rules { HasRules (state S.Store tx.old.conn.now) }
     ensures same_reference { tx.new.conn.ghost_name ≡ tx.old.conn.ghost_name }
@@ -99,7 +99,7 @@ pub fn read_account_within<S: Alter>(
     head_among(&rows)
 }
 
-fn head_among(rows: &[Row]) -> Result<Option<Head>, ReadFault>
+fn head_among(rows: &[Row]) -> Result<Option<HeadColumns>, ReadFault>
     ensures { IfOk result (λ o. rows.now ≡ map head_cells (one_or_none o)) }
 {
     let row = one_of(rows)?;
@@ -109,7 +109,7 @@ fn head_among(rows: &[Row]) -> Result<Option<Head>, ReadFault>
     }
 }
 
-fn head_from(row: &Row) -> Result<Head, ReadFault>
+fn head_from(row: &Row) -> Result<HeadColumns, ReadFault>
     ensures { IfOk result (λ h. row.now ≡ head_cells h) }
 {
     has_columns(row, 4)?;
@@ -117,7 +117,7 @@ fn head_from(row: &Row) -> Result<Head, ReadFault>
     let as_of = moment_at(row, 1)?;
     let next_bucket = number_at(row, 2)?;
     let next_charge = number_at(row, 3)?;
-    Ok(Head {
+    Ok(HeadColumns {
         barred,
         as_of,
         next_bucket,
@@ -143,7 +143,7 @@ pub fn read_accounts<S: Alter>(
     alloc: Global,
 ) -> Result<Vec<AccountNumber>, ReadFault>
     requires idle { HasIdleBook (state S.Store conn.old) }
-    ensures reads { Reads (λ trees xs. AreAccounts (content_of trees) xs.items)
+    ensures reads { Reads (λ trees xs. AreAccounts (tables_content trees) xs.items)
         (state S.Store conn.old) (state S.Store conn.new) result }
     ensures order { IfOk result (λ xs. Ascends name_before xs.items) }
 {

@@ -5,7 +5,7 @@ ghost use Rattle.sql_rows.specs.Content.{rows_in, with_allowance, with_rows, wit
 ghost use Rattle.sql_rows.specs.Lists.{AreAllowances, Ascends};
 ghost use Rattle.sql_rows.specs.Values.{number_cells};
 ghost use Rattle.sql_rows.specs.Makes.{Makes};
-ghost use Rattle.sql_tables.specs.Statements.{Attempts, HasBook, HasIdleBook, HasRules, Reads};
+ghost use Rattle.sql_tables.specs.Statements.{HasBook, HasIdleBook, HasRules, Reads};
 ghost use Rattle.sql_tables.specs.Statements.{ReadsWithin, AttemptsOver};
 ghost use Rattle.sql_tables.specs.Selects.{one_or_none};
 ghost use Rattle.sqlite.specs.Held.{state};

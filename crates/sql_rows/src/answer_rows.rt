@@ -15,7 +15,7 @@ use sqlite::{Alter, Connection, Error, Row, Transaction};
 
 /// The texts that are kept of an accepted command.
 #[derive(Drop)]
-pub struct Kept {
+pub struct KeptTexts {
     /// The command.
     pub content: String,
     /// Its first answer.
@@ -70,7 +70,7 @@ pub fn read_answer<S: Alter>(
     kind: u32,
     name: &str,
     number: u32,
-) -> Result<Option<Kept>, ReadFault>
+) -> Result<Option<KeptTexts>, ReadFault>
     requires idle { HasIdleBook (state S.Store conn.old) }
     ensures reads { Reads (λ trees o.
         option_map kept_of o ≡ (rows_in trees account.now).answers kind name.now number)
@@ -89,7 +89,7 @@ pub fn read_answer<S: Alter>(
     kept_among(&rows)
 }
 
-fn kept_among(rows: &[Row]) -> Result<Option<Kept>, ReadFault>
+fn kept_among(rows: &[Row]) -> Result<Option<KeptTexts>, ReadFault>
     ensures { IfOk result (λ o. rows.now ≡ map answer_cells (one_or_none (option_map kept_of o))) }
 {
     let row = one_of(rows)?;
@@ -99,11 +99,11 @@ fn kept_among(rows: &[Row]) -> Result<Option<Kept>, ReadFault>
     }
 }
 
-fn kept_from(row: &Row) -> Result<Kept, ReadFault>
+fn kept_from(row: &Row) -> Result<KeptTexts, ReadFault>
     ensures { IfOk result (λ k. row.now ≡ answer_cells (kept_of k)) }
 {
     has_columns(row, 2)?;
     let content = text_at(row, 0)?;
     let answer = text_at(row, 1)?;
-    Ok(Kept { content, answer })
+    Ok(KeptTexts { content, answer })
 }

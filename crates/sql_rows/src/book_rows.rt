@@ -2,7 +2,7 @@
 
 ghost use Rattle.std.specs.Prelude.{◌≡◌, List, map, IfErr, MatchResult};
 ghost use Rattle.std.specs.List.{AllByRecursion};
-ghost use Rattle.sql_rows.specs.Content.{content_of, with_book};
+ghost use Rattle.sql_rows.specs.Content.{tables_content, with_book_row};
 ghost use Rattle.sql_rows.specs.Lists.{AreBooks, BookAt, book_at_cells};
 ghost use Rattle.sql_rows.specs.Ruled.{AreRuledBooks, IsRuledBook};
 ghost use Rattle.sql_rows.specs.Texts.{book_at};
@@ -54,7 +54,7 @@ pub fn put_book<S: Alter>(
 ) -> Result<usize, Error>
     requires book { HasBook (state S.Store tx.old.conn.now) }
     ensures { AttemptsOver S.Store
-        (Makes (with_book number (record { starts = starts; content = content.now })))
+        (Makes (with_book_row number (record { starts = starts; content = content.now })))
         tx.old.conn tx.new.conn result }
 {
     let of_number = whole(number);
@@ -79,12 +79,12 @@ pub fn read_books<S: Alter>(
     alloc: Global,
 ) -> Result<Vec<BookColumns>, ReadFault>
     requires idle { HasIdleBook (state S.Store conn.old) }
-    ensures reads { Reads (λ trees xs. AreBooks (content_of trees) (map book_at xs.items))
+    ensures reads { Reads (λ trees xs. AreBooks (tables_content trees) (map book_at xs.items))
         (state S.Store conn.old) (state S.Store conn.new) result }
     // Rows that are in the rules are answered.
     ensures refused { HasCleanDisk (state S.Store conn.new) →
         IfErr result (λ e. e ≡ ReadFault.Rules →
-        ¬ AreRuledBooks (content_of (state S.Store conn.old).now.trees).books) }
+        ¬ AreRuledBooks (tables_content (state S.Store conn.old).now.trees).books) }
 {
     let rows = read(
         conn,
@@ -105,12 +105,12 @@ pub fn read_books_within<S: Alter>(
     requires book { HasBook (state S.Store tx.old.conn.now) }
     requires rules { HasRules (state S.Store tx.old.conn.now) }
     ensures same_reference { tx.new.conn.ghost_name ≡ tx.old.conn.ghost_name }
-    ensures reads { ReadsWithin (λ trees xs. AreBooks (content_of trees) (map book_at xs.items))
+    ensures reads { ReadsWithin (λ trees xs. AreBooks (tables_content trees) (map book_at xs.items))
         (state S.Store tx.old.conn.now) (state S.Store tx.new.conn.now) result }
     // Rows that are in the rules are answered.
     ensures refused { HasCleanDisk (state S.Store tx.new.conn.now) →
         IfErr result (λ e. e ≡ ReadFault.Rules →
-        ¬ AreRuledBooks (content_of (state S.Store tx.old.conn.now).now.trees).books) }
+        ¬ AreRuledBooks (tables_content (state S.Store tx.old.conn.now).now.trees).books) }
 {
     let rows = read_within(
         tx,

@@ -3,7 +3,7 @@
 ghost use Rattle.std.specs.Prelude.{◌≡◌, map, filter, true, IsTrue, IfOk, OnOk};
 ghost use Rattle.sql_rows.specs.Content.{with_bucket, with_rows};
 ghost use Rattle.sql_rows.specs.Values.{bucket_cells, plain_bucket};
-ghost use Rattle.sql_rows.specs.Lists.{BucketsRise, Rises, is_dead};
+ghost use Rattle.sql_rows.specs.Lists.{BucketsRise, Rises, is_dead_bucket};
 ghost use Rattle.sql_rows.specs.Texts.{ReadsBuckets, bucket_row};
 ghost use Rattle.sql_rows.specs.Each.{with_buckets};
 ghost use Rattle.sql_rows.specs.Makes.{Makes, MakesIfOpen};
@@ -110,7 +110,7 @@ pub fn read_buckets_dead<S: Alter>(
     account: &AccountNumber,
 ) -> Result<Vec<BucketColumns>, ReadFault>
     requires idle { HasIdleBook (state S.Store conn.old) }
-    ensures reads { ReadsBuckets is_dead account.now
+    ensures reads { ReadsBuckets is_dead_bucket account.now
         (state S.Store conn.old) (state S.Store conn.new) result }
     ensures order { IfOk result (λ bs. BucketsRise (map bucket_row bs.items)) }
 {
@@ -120,7 +120,7 @@ pub fn read_buckets_dead<S: Alter>(
 
 /// Whether nothing of it is available and nothing reserved.
 fn is_dead(bucket: &BucketColumns) -> bool
-    ensures { result ≡ is_dead (bucket_row bucket.now) }
+    ensures { result ≡ is_dead_bucket (bucket_row bucket.now) }
 {
     !(bucket.available > 0 || bucket.reserved > 0)
 }
@@ -128,7 +128,7 @@ fn is_dead(bucket: &BucketColumns) -> bool
 /// Those that are dead, if each number is above the one before it.
 fn dead_among(buckets: Vec<BucketColumns>) -> Result<Vec<BucketColumns>, ReadFault>
     ensures dead { IfOk result
-        (λ bs. map bucket_row bs.items ≡ filter is_dead (map bucket_row buckets.items)) }
+        (λ bs. map bucket_row bs.items ≡ filter is_dead_bucket (map bucket_row buckets.items)) }
     ensures order { OnOk result (BucketsRise (map bucket_row buckets.items)) }
 {
     if !do_buckets_rise(&buckets) {

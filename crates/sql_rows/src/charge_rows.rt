@@ -1,13 +1,12 @@
 //! Rows of charges.
 
 ghost use Rattle.std.specs.Prelude.{◌≡◌, map, false, IsTrue, IfOk};
-ghost use Rattle.sql_rows.specs.Content.{has_charge, rows_in, with_charge, with_rows};
+ghost use Rattle.sql_rows.specs.Content.{has_charge, rows_in, with_charge_row, with_rows};
 ghost use Rattle.sql_rows.specs.Values.{charge_cells, plain_charge};
-ghost use Rattle.sql_rows.specs.Lists.{AreCharges, NumbersRise, is_within};
+ghost use Rattle.sql_rows.specs.Lists.{AreChargeRows, NumbersRise, is_row_within};
 ghost use Rattle.sql_rows.specs.Each.{with_charges};
 ghost use Rattle.sql_rows.specs.Makes.{AddsIfNone, Makes, MakesIfOpen};
-ghost use Rattle.sql_tables.specs.Statements.{Attempts, HasBook, HasIdleBook, IsInside, Reads};
-ghost use Rattle.sql_tables.specs.Statements.{AttemptsOver};
+ghost use Rattle.sql_tables.specs.Statements.{HasBook, HasIdleBook, IsInside, Reads, AttemptsOver};
 ghost use Rattle.sqlite.specs.Held.{state};
 
 use crate::decoding::{moment_at, session_at};
@@ -32,7 +31,7 @@ pub fn put_charge<S: Alter>(
 ) -> Result<usize, Error>
     requires book { HasBook (state S.Store tx.old.conn.now) }
     ensures { AttemptsOver S.Store
-        (Makes (with_rows account.now (with_charge (plain_charge charge.now))))
+        (Makes (with_rows account.now (with_charge_row (plain_charge charge.now))))
         tx.old.conn tx.new.conn result }
 {
     let of_account = text(account.as_str());
@@ -66,8 +65,8 @@ pub fn put_charge<S: Alter>(
     )
 }
 
-/// Adds the columns of an account's charge, if it has none of its number, and answers whether it had
-/// none; one that it has stays as it is.
+/// Adds the columns of an account's charge, if it has none of its number, and answers whether it
+/// had none; one that it has stays as it is.
 ///
 /// # Errors
 /// As of `put_charge`.
@@ -79,7 +78,7 @@ pub fn add_charge<S: Alter>(
     requires book { HasBook (state S.Store tx.old.conn.now) }
     ensures same_reference { tx.new.conn.ghost_name ≡ tx.old.conn.ghost_name }
     ensures adds { AddsIfNone (has_charge account.now charge.now.number)
-        (with_rows account.now (with_charge (plain_charge charge.now)))
+        (with_rows account.now (with_charge_row (plain_charge charge.now)))
         (state S.Store tx.old.conn.now) (state S.Store tx.new.conn.now) result }
 {
     let of_account = text(account.as_str());
@@ -125,7 +124,7 @@ pub fn read_charges_within<S: Alter>(
 ) -> Result<Vec<ChargeRow>, ReadFault>
     requires idle { HasIdleBook (state S.Store conn.old) }
     ensures reads { Reads (λ trees xs.
-        AreCharges (is_within after last) (rows_in trees account.now) xs.items)
+        AreChargeRows (is_row_within after last) (rows_in trees account.now) xs.items)
         (state S.Store conn.old) (state S.Store conn.new) result }
     ensures order { IfOk result (λ xs. NumbersRise xs.items) }
 {

@@ -1,7 +1,7 @@
 //! Rows of counters.
 
 ghost use Rattle.std.specs.Prelude.{◌≡◌, map, IfOk};
-ghost use Rattle.sql_rows.specs.Content.{rows_in, with_counter, with_rows};
+ghost use Rattle.sql_rows.specs.Content.{rows_in, with_counter_row, with_rows};
 ghost use Rattle.sql_rows.specs.Each.{with_counters};
 ghost use Rattle.sql_rows.specs.Values.{counter_cells};
 ghost use Rattle.sql_rows.specs.Makes.{Makes, MakesIfOpen};
@@ -28,7 +28,7 @@ pub fn put_counter<S: Alter>(
     counter: &Counter,
 ) -> Result<usize, Error>
     requires book { HasBook (state S.Store tx.old.conn.now) }
-    ensures { AttemptsOver S.Store (Makes (with_rows account.now (with_counter counter.now)))
+    ensures { AttemptsOver S.Store (Makes (with_rows account.now (with_counter_row counter.now)))
         tx.old.conn tx.new.conn result }
 {
     let of_account = text(account.as_str());

@@ -1,11 +1,10 @@
 //! Columns read as moments, flags and names.
 
-ghost use Rattle.std.specs.Prelude.{◌≡◌, ◌≤◌, ℕ, List, IfOk, IsTrue, MatchResult, pos};
-ghost use Rattle.std.specs.Prelude.{if◌then◌else◌};
+ghost use Rattle.std.specs.Prelude.{◌≡◌, ◌≤◌, ℕ, List, IfOk, IsTrue, MatchResult};
 ghost use Rattle.identifiers.specs.Texts.{is_account_number, is_session_id};
 ghost use Rattle.sqlite.specs.Values.{or_null};
 ghost use Rattle.sqlite_value.specs.Order.{column};
-ghost use Rattle.sqlite_value.specs.declared.value.Value.TheVariants.{Int, Text};
+ghost use Rattle.sqlite_value.specs.declared.value.Value.TheVariants.{Text};
 ghost use Rattle.sql_rows.specs.Values.{flag_number, nat, state_number};
 
 use identifiers::{AccountNumber, SessionId};

@@ -2,8 +2,7 @@
 
 ghost use Rattle.std.specs.Prelude.{◌≡◌, map, IfOk};
 ghost use Rattle.sql_rows.specs.Content.{rows_in, with_grant_book, with_rows, without_grant_book};
-ghost use Rattle.sql_rows.specs.Lists.{AreGrantBooks, Ascends, grant_book_before};
-ghost use Rattle.sql_rows.specs.Lists.{grant_book_cells};
+ghost use Rattle.sql_rows.specs.Lists.{AreGrantBooks, Ascends, grant_book_before, grant_book_cells};
 ghost use Rattle.sql_rows.specs.Texts.{grant_book_at};
 ghost use Rattle.sql_rows.specs.Makes.{Makes};
 ghost use Rattle.sql_tables.specs.Statements.{HasBook, HasIdleBook, Reads, AttemptsOver};
@@ -90,8 +89,8 @@ impl InOrder for GrantBook {
 /// The books of a session's reservations, in the order of their rating groups, each once.
 ///
 /// # Errors
-/// `Store` where the store failed, `Rules` where a row is out of its rules or the groups don't rise,
-/// `Memory` where a growth was refused. Nothing is changed then either.
+/// `Store` where the store failed, `Rules` where a row is out of its rules or the groups don't
+/// rise, `Memory` where a growth was refused. Nothing is changed then either.
 pub fn read_grant_books<S: Alter>(
     conn: &mut Connection<S>,
     alloc: Global,

@@ -3,7 +3,7 @@
 ghost use Rattle.std.specs.Prelude.{◌≡◌, map, option_map, IfOk};
 ghost use Rattle.sqlite_value.specs.Value.{owned};
 ghost use Rattle.sqlite_value.specs.declared.value.Value.TheVariants.{Text};
-ghost use Rattle.sql_rows.specs.Content.{rows_in, with_group, with_rows};
+ghost use Rattle.sql_rows.specs.Content.{rows_in, with_group_row, with_rows};
 ghost use Rattle.sql_rows.specs.Lists.{AreGroups, Ascends, group_at_before, group_at_cells};
 ghost use Rattle.sql_rows.specs.Texts.{ArePeriods, group_at, names_put};
 ghost use Rattle.sql_rows.specs.Makes.{Makes};
@@ -23,7 +23,7 @@ use sqlite::{Alter, Connection, Error, Row, Transaction};
 use std::alloc::Global;
 
 /// The names of the tariff periods at a grant and at its switch.
-pub struct PeriodNames {
+pub struct PeriodTexts {
     /// The name of the tariff period at the grant.
     pub before: String,
     /// The name of the tariff period at the switch.
@@ -31,9 +31,9 @@ pub struct PeriodNames {
 }
 
 // It is written out, so that a caller doesn't prove again how each part is dropped.
-impl Drop for PeriodNames {
+impl Drop for PeriodTexts {
     fn drop(self) {
-        let PeriodNames {
+        let PeriodTexts {
             before: _,
             after: _,
         } = self;
@@ -47,7 +47,7 @@ pub struct GroupColumns {
     /// Units.
     pub used: u64,
     /// The periods of its reservation; none where it has none.
-    pub periods: Option<PeriodNames>,
+    pub periods: Option<PeriodTexts>,
 }
 
 // It is written out, so that a caller doesn't prove again how each part is dropped.
@@ -114,7 +114,7 @@ pub fn put_group<S: Alter>(
     periods: Option<PutNames<'_>>,
 ) -> Result<usize, Error>
     requires book { HasBook (state S.Store tx.old.conn.now) }
-    ensures { AttemptsOver S.Store (Makes (with_rows account.now (with_group session.now group
+    ensures { AttemptsOver S.Store (Makes (with_rows account.now (with_group_row session.now group
         (record { used = used; periods = option_map names_put periods.entry }))))
         tx.old.conn tx.new.conn result }
 {
@@ -197,7 +197,7 @@ fn group_from(row: &Row) -> Result<GroupColumns, ReadFault>
 }
 
 /// The names of the periods, which are there exactly where the group has a reservation.
-pub(crate) fn periods_from(row: &Row, is_reserved: bool) -> Result<Option<PeriodNames>, ReadFault>
+pub(crate) fn periods_from(row: &Row, is_reserved: bool) -> Result<Option<PeriodTexts>, ReadFault>
     ensures { IfOk result (λ o. ArePeriods row.now is_reserved o) }
 {
     if !is_reserved {
@@ -207,5 +207,5 @@ pub(crate) fn periods_from(row: &Row, is_reserved: bool) -> Result<Option<Period
     }
     let before = text_at(row, 3)?;
     let after = text_at(row, 4)?;
-    Ok(Some(PeriodNames { before, after }))
+    Ok(Some(PeriodTexts { before, after }))
 }

@@ -4,7 +4,7 @@ use units::Moment;
 
 /// What is kept of an account once.
 #[derive(Clone, Copy)]
-pub struct Head {
+pub struct HeadColumns {
     /// Whether it is barred (profile).
     pub barred: bool,
     /// The moment that its rows stand for.

@@ -12,7 +12,7 @@ ghost use Rattle.sqlite_value.specs.Order.{column};
 
 use crate::ascending::do_ascend;
 use crate::decoding::{flag_at, moment_at};
-use crate::head::Head;
+use crate::head::HeadColumns;
 use identifiers::AccountNumber;
 use reserving::Counter;
 use sql_tables::{ReadFault, has_columns, number_at, read, small_at, text, whole};
@@ -23,13 +23,13 @@ use std::alloc::Global;
 #[derive(Drop)]
 pub struct HeadCounters {
     /// What is kept once: none where the account is not opened.
-    pub head: Option<Head>,
+    pub head: Option<HeadColumns>,
     /// The counters, in the order of their rating groups.
     pub counters: Vec<Counter>,
 }
 
-/// What is kept of an account once, and its counters of a cycle in the order of their rating groups,
-/// each once: one selection of two parts.
+/// What is kept of an account once, and its counters of a cycle in the order of their rating
+/// groups, each once: one selection of two parts.
 ///
 /// # Errors
 /// `Store` where the store failed, `Rules` where a row is out of its rules or the keys don't rise,
@@ -91,7 +91,7 @@ fn is_of_part(row: &Row, part: u64) -> Result<(), ReadFault>
     }
 }
 
-fn head_in_part(row: &Row) -> Result<Head, ReadFault>
+fn head_in_part(row: &Row) -> Result<HeadColumns, ReadFault>
     ensures { IfOk result (λ h. row.now ≡ head_part h) }
 {
     has_columns(row, 5)?;
@@ -100,7 +100,7 @@ fn head_in_part(row: &Row) -> Result<Head, ReadFault>
     let as_of = moment_at(row, 2)?;
     let next_bucket = number_at(row, 3)?;
     let next_charge = number_at(row, 4)?;
-    Ok(Head {
+    Ok(HeadColumns {
         barred,
         as_of,
         next_bucket,

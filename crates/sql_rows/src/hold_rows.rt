@@ -1,7 +1,7 @@
 //! Rows of holds.
 
 ghost use Rattle.std.specs.Prelude.{◌≡◌, map, IfOk};
-ghost use Rattle.sql_rows.specs.Content.{rows_in, with_hold, with_rows, without_holds};
+ghost use Rattle.sql_rows.specs.Content.{rows_in, with_hold_row, with_rows, without_holds};
 ghost use Rattle.sql_rows.specs.Each.{with_holds};
 ghost use Rattle.sql_rows.specs.Lists.{AreHolds, Ascends, hold_before, hold_cells};
 ghost use Rattle.sql_rows.specs.Texts.{hold_at};
@@ -11,7 +11,7 @@ ghost use Rattle.sql_tables.specs.Statements.{AttemptsOver};
 ghost use Rattle.sqlite.specs.Held.{state};
 
 use crate::ascending::{InOrder, do_ascend};
-use buckets::Hold;
+use buckets::HeldAmount;
 use identifiers::{AccountNumber, SessionId};
 use sql_tables::{ReadFault, checked, has_columns, number_at, read, small_at, text, whole, write};
 use sqlite::{Alter, Connection, Error, Row, Transaction};
@@ -46,11 +46,11 @@ pub fn put_hold<S: Alter>(
     account: &AccountNumber,
     session: &SessionId,
     group: u32,
-    hold: &Hold,
+    hold: &HeldAmount,
 ) -> Result<usize, Error>
     requires book { HasBook (state S.Store tx.old.conn.now) }
     ensures { AttemptsOver S.Store (Makes (with_rows account.now
-        (with_hold session.now group hold.now.bucket hold.now.amount))) tx.old.conn tx.new.conn
+        (with_hold_row session.now group hold.now.bucket hold.now.amount))) tx.old.conn tx.new.conn
         result }
 {
     let of_account = text(account.as_str());
@@ -156,7 +156,7 @@ pub fn put_holds<S: Alter>(
     account: &AccountNumber,
     session: &SessionId,
     group: u32,
-    rows: &[Hold],
+    rows: &[HeldAmount],
 ) -> Result<(), Error>
     requires open { IsInside (state S.Store tx.old.conn.now) }
     requires book { HasBook (state S.Store tx.old.conn.now) }

@@ -31,7 +31,7 @@ pub use crate::account_rows::{put_account, read_account, read_account_within, re
 pub use crate::allowance_rows::{
     put_allowance, read_allowance, read_allowance_within, read_allowances, remove_allowance,
 };
-pub use crate::answer_rows::{Kept, put_answer, read_answer};
+pub use crate::answer_rows::{KeptTexts, put_answer, read_answer};
 pub use crate::book_rows::{BookColumns, put_book, read_books, read_books_within};
 pub use crate::bucket_rows::{put_bucket, put_buckets, read_buckets_all, read_buckets_dead};
 pub use crate::charge_rows::{add_charge, put_charge, put_charges, read_charges_within};
@@ -39,12 +39,12 @@ pub use crate::counter_lists::read_counters_in;
 pub use crate::counter_rows::{put_counter, put_counters, read_counter};
 pub use crate::covered_rows::{CoveredColumns, put_covered, read_covered_within, remove_covered};
 pub use crate::grant_book_rows::{GrantBook, put_grant_book, read_grant_books, remove_grant_book};
-pub use crate::group_rows::{GroupColumns, PeriodNames, PutNames, put_group, read_groups};
-pub use crate::head::Head;
+pub use crate::group_rows::{GroupColumns, PeriodTexts, PutNames, put_group, read_groups};
+pub use crate::head::HeadColumns;
 pub use crate::head_counter_rows::{HeadCounters, read_head_counters};
 pub use crate::hold_rows::{HeldColumns, put_hold, put_holds, read_holds, remove_holds};
 pub use crate::live_bucket_rows::{read_buckets_live, read_buckets_live_within};
-pub use crate::meta_rows::{Meta, put_meta, read_meta, read_meta_within};
+pub use crate::meta_rows::{MetaColumns, put_meta, read_meta, read_meta_within};
 pub use crate::open_group_rows::{OpenGroup, read_groups_open, read_groups_open_within};
 pub use crate::reserved_rows::{ReservedColumns, read_reserved_within};
 pub use crate::session_book_rows::{

@@ -2,7 +2,7 @@
 
 ghost use Rattle.std.specs.Prelude.{◌≡◌, map, IfOk};
 ghost use Rattle.buckets.specs.Row.{precedes};
-ghost use Rattle.sql_rows.specs.Lists.{Ascends, is_live};
+ghost use Rattle.sql_rows.specs.Lists.{Ascends, is_live_bucket};
 ghost use Rattle.sql_rows.specs.Texts.{ReadsBuckets, ReadsBucketsWithin, bucket_row};
 ghost use Rattle.sql_rows.specs.Values.{bucket_cells};
 ghost use Rattle.sql_tables.specs.Statements.{HasBook, HasIdleBook, HasRules};
@@ -50,7 +50,7 @@ pub fn read_buckets_live<S: Alter>(
     account: &AccountNumber,
 ) -> Result<Vec<BucketColumns>, ReadFault>
     requires idle { HasIdleBook (state S.Store conn.old) }
-    ensures reads { ReadsBuckets is_live account.now
+    ensures reads { ReadsBuckets is_live_bucket account.now
         (state S.Store conn.old) (state S.Store conn.new) result }
     ensures order { IfOk result (λ bs. Ascends precedes (map bucket_row bs.items)) }
 {
@@ -78,7 +78,7 @@ pub fn read_buckets_live_within<S: Alter>(
     requires book { HasBook (state S.Store tx.old.conn.now) }
     requires rules { HasRules (state S.Store tx.old.conn.now) }
     ensures same_reference { tx.new.conn.ghost_name ≡ tx.old.conn.ghost_name }
-    ensures reads { ReadsBucketsWithin is_live account.now
+    ensures reads { ReadsBucketsWithin is_live_bucket account.now
         (state S.Store tx.old.conn.now) (state S.Store tx.new.conn.now) result }
     ensures order { IfOk result (λ bs. Ascends precedes (map bucket_row bs.items)) }
 {

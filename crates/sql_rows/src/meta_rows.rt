@@ -1,9 +1,9 @@
 //! The row that is kept once.
 
 ghost use Rattle.std.specs.Prelude.{◌≡◌, map, option_map, IfErr, MatchResult, OnOk, Option};
-ghost use Rattle.sql_rows.specs.Content.{content_of, with_meta};
+ghost use Rattle.sql_rows.specs.Content.{tables_content, with_meta};
 ghost use Rattle.sql_rows.specs.Ruled.{IsRefusedMeta, IsRuledMeta};
-ghost use Rattle.sql_rows.specs.Values.{Meta as KeptOnce, meta_cells};
+ghost use Rattle.sql_rows.specs.Values.{Meta, meta_cells};
 ghost use Rattle.sql_rows.specs.Texts.{meta_of};
 ghost use Rattle.sql_rows.specs.Makes.{Makes};
 ghost use Rattle.sql_tables.specs.Statements.{Attempts, HasBook, HasIdleBook, HasRules, Reads};
@@ -21,7 +21,7 @@ use units::Moment;
 
 /// What is kept once.
 #[derive(Drop)]
-pub struct Meta {
+pub struct MetaColumns {
     /// The version of the tables.
     pub version: u32,
     /// The text of the tariff book.
@@ -68,14 +68,14 @@ pub fn put_meta<S: Alter>(
 /// # Errors
 /// `Store` where the store failed, `Rules` only where the row is there and out of its rules,
 /// `Memory` where a growth was refused. Nothing is changed then either.
-pub fn read_meta<S: Alter>(conn: &mut Connection<S>) -> Result<Option<Meta>, ReadFault>
+pub fn read_meta<S: Alter>(conn: &mut Connection<S>) -> Result<Option<MetaColumns>, ReadFault>
     requires idle { HasIdleBook (state S.Store conn.old) }
-    ensures reads { Reads (λ trees o. option_map meta_of o ≡ (content_of trees).meta)
+    ensures reads { Reads (λ trees o. option_map meta_of o ≡ (tables_content trees).meta)
         (state S.Store conn.old) (state S.Store conn.new) result }
     // A row that is there and in the rules is answered.
     ensures refused { HasCleanDisk (state S.Store conn.new) →
         IfErr result (λ e. e ≡ ReadFault.Rules →
-        IsRefusedMeta (content_of (state S.Store conn.old).now.trees).meta) }
+        IsRefusedMeta (tables_content (state S.Store conn.old).now.trees).meta) }
 {
     let rows = read(
         conn,
@@ -89,16 +89,18 @@ pub fn read_meta<S: Alter>(conn: &mut Connection<S>) -> Result<Option<Meta>, Rea
 ///
 /// # Errors
 /// As of `read_meta`. Then nothing is committed.
-pub fn read_meta_within<S: Alter>(tx: &mut Transaction<'_, S>) -> Result<Option<Meta>, ReadFault>
+pub fn read_meta_within<S: Alter>(
+    tx: &mut Transaction<'_, S>,
+) -> Result<Option<MetaColumns>, ReadFault>
     requires book { HasBook (state S.Store tx.old.conn.now) }
     requires rules { HasRules (state S.Store tx.old.conn.now) }
     ensures same_reference { tx.new.conn.ghost_name ≡ tx.old.conn.ghost_name }
-    ensures reads { ReadsWithin (λ trees o. option_map meta_of o ≡ (content_of trees).meta)
+    ensures reads { ReadsWithin (λ trees o. option_map meta_of o ≡ (tables_content trees).meta)
         (state S.Store tx.old.conn.now) (state S.Store tx.new.conn.now) result }
     // A row that is there and in the rules is answered.
     ensures refused { HasCleanDisk (state S.Store tx.new.conn.now) →
         IfErr result (λ e. e ≡ ReadFault.Rules →
-        IsRefusedMeta (content_of (state S.Store tx.old.conn.now).now.trees).meta) }
+        IsRefusedMeta (tables_content (state S.Store tx.old.conn.now).now.trees).meta) }
 {
     let rows = read_within(
         tx,
@@ -109,10 +111,10 @@ pub fn read_meta_within<S: Alter>(tx: &mut Transaction<'_, S>) -> Result<Option<
     meta_among(&rows)
 }
 
-fn meta_among(rows: &[Row]) -> Result<Option<Meta>, ReadFault>
+fn meta_among(rows: &[Row]) -> Result<Option<MetaColumns>, ReadFault>
     ensures { MatchResult result
         (λ o. rows.now ≡ map meta_cells (one_or_none (option_map meta_of o)))
-        (λ e. e ≡ ReadFault.Rules → (o : Option KeptOnce) →
+        (λ e. e ≡ ReadFault.Rules → (o : Option Meta) →
         rows.now ≡ map meta_cells (one_or_none o) → IsRefusedMeta o) }
 {
     let row = one_of(rows)?;
@@ -122,15 +124,15 @@ fn meta_among(rows: &[Row]) -> Result<Option<Meta>, ReadFault>
     }
 }
 
-fn meta_from(row: &Row) -> Result<Meta, ReadFault>
+fn meta_from(row: &Row) -> Result<MetaColumns, ReadFault>
     ensures { MatchResult result (λ m. row.now ≡ meta_cells (meta_of m))
-        (λ e. e ≡ ReadFault.Rules → (m : KeptOnce) → row.now ≡ meta_cells m → ¬ IsRuledMeta m) }
+        (λ e. e ≡ ReadFault.Rules → (m : Meta) → row.now ≡ meta_cells m → ¬ IsRuledMeta m) }
 {
     has_columns(row, 3)?;
     let version = small_at(row, 0)?;
     let book = text_at(row, 1)?;
     let last = moment_at(row, 2)?;
-    Ok(Meta {
+    Ok(MetaColumns {
         version,
         book,
         last,

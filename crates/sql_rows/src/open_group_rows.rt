@@ -4,8 +4,7 @@ ghost use Rattle.std.specs.Prelude.{◌≡◌, map, IfOk};
 ghost use Rattle.sql_rows.specs.Content.{rows_in};
 ghost use Rattle.sql_rows.specs.Lists.{AreOpenGroups, Ascends, open_group_before, open_group_cells};
 ghost use Rattle.sql_rows.specs.Texts.{open_group_at};
-ghost use Rattle.sql_tables.specs.Statements.{HasBook, HasIdleBook, HasRules, Reads};
-ghost use Rattle.sql_tables.specs.Statements.{ReadsWithin};
+ghost use Rattle.sql_tables.specs.Statements.{HasBook, HasIdleBook, HasRules, Reads, ReadsWithin};
 ghost use Rattle.sqlite.specs.Held.{state};
 
 use crate::ascending::{InOrder, do_ascend};
@@ -46,8 +45,8 @@ impl InOrder for OpenGroup {
 }
 
 /// What the open sessions of an account have of rating groups, in the order of the sessions and of
-/// each one's groups, each once: one selection for all of them. What their reservations hold is read
-/// by `read_holds`.
+/// each one's groups, each once: one selection for all of them. What their reservations hold is
+/// read by `read_holds`.
 ///
 /// # Errors
 /// `Store` where the store failed, `Rules` where a row is out of its rules or the keys don't rise,

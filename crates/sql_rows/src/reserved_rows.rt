@@ -2,7 +2,7 @@
 
 ghost use Rattle.std.specs.Prelude.{◌≡◌, map, List, IfErr, MatchResult};
 ghost use Rattle.std.specs.List.{AllByRecursion};
-ghost use Rattle.sql_rows.specs.Content.{content_of};
+ghost use Rattle.sql_rows.specs.Content.{tables_content};
 ghost use Rattle.sql_rows.specs.Lists.{AreReserved, ReservedAt, reserved_cells};
 ghost use Rattle.sql_rows.specs.Ruled.{AreRuledReserved, IsRuledReserved};
 ghost use Rattle.sql_rows.specs.Texts.{reserved_at};
@@ -50,12 +50,12 @@ pub fn read_reserved_within<S: Alter>(
     requires rules { HasRules (state S.Store tx.old.conn.now) }
     ensures same_reference { tx.new.conn.ghost_name ≡ tx.old.conn.ghost_name }
     ensures reads { ReadsWithin
-        (λ trees xs. AreReserved (content_of trees) (map reserved_at xs.items))
+        (λ trees xs. AreReserved (tables_content trees) (map reserved_at xs.items))
         (state S.Store tx.old.conn.now) (state S.Store tx.new.conn.now) result }
     // Rows that are in the rules are answered.
     ensures refused { HasCleanDisk (state S.Store tx.new.conn.now) →
         IfErr result (λ e. e ≡ ReadFault.Rules →
-        ¬ AreRuledReserved (content_of (state S.Store tx.old.conn.now).now.trees)) }
+        ¬ AreRuledReserved (tables_content (state S.Store tx.old.conn.now).now.trees)) }
 {
     let rows = read_within(
         tx,

@@ -1,13 +1,13 @@
 //! Rows of sessions.
 
 ghost use Rattle.std.specs.Prelude.{◌≡◌, map, None, IfOk};
-ghost use Rattle.sql_rows.specs.Content.{rows_in, with_rows, with_session};
+ghost use Rattle.sql_rows.specs.Content.{rows_in, with_rows, with_session_row};
 ghost use Rattle.sql_rows.specs.Values.{session_cells, state_number};
 ghost use Rattle.sql_rows.specs.Lists.{AreSessions, Ascends, HasNoGroups};
 ghost use Rattle.reserving.specs.Sessions.{is_open, session_before};
 ghost use Rattle.sql_rows.specs.Each.{with_sessions};
 ghost use Rattle.sql_rows.specs.Makes.{Makes, MakesIfOpen};
-ghost use Rattle.sql_tables.specs.Statements.{Attempts, HasBook, HasIdleBook, HasRules, IsInside};
+ghost use Rattle.sql_tables.specs.Statements.{HasBook, HasIdleBook, HasRules, IsInside};
 ghost use Rattle.sql_tables.specs.Statements.{Reads, ReadsWithin, AttemptsOver};
 ghost use Rattle.sql_tables.specs.Selects.{one_or_none};
 ghost use Rattle.sqlite.specs.Held.{state};
@@ -41,7 +41,7 @@ pub fn put_session<S: Alter>(
     session: &Session,
 ) -> Result<usize, Error>
     requires book { HasBook (state S.Store tx.old.conn.now) }
-    ensures { AttemptsOver S.Store (Makes (with_rows account.now (with_session session.now)))
+    ensures { AttemptsOver S.Store (Makes (with_rows account.now (with_session_row session.now)))
         tx.old.conn tx.new.conn result }
 {
     let of_account = text(account.as_str());
@@ -70,8 +70,8 @@ fn state_number(state: SessionState) -> u32
     }
 }
 
-/// The session with the name, or the recorded event. Where there is none, the tables have nothing of
-/// its rating groups either, since these have its name as a key.
+/// The session with the name, or the recorded event. Where there is none, the tables have nothing
+/// of its rating groups either, since these have its name as a key.
 ///
 /// # Errors
 /// `Store` where the store failed, `Rules` where a row is out of its rules, `Memory` where a growth

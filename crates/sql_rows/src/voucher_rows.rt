@@ -3,7 +3,7 @@
 ghost use Rattle.std.specs.Prelude.{◌≡◌, map, option_copied, option_map, IfOk};
 ghost use Rattle.sqlite_value.specs.Value.{owned};
 ghost use Rattle.sqlite_value.specs.declared.value.Value.TheVariants.{Text};
-ghost use Rattle.sql_rows.specs.Content.{content_of, with_voucher};
+ghost use Rattle.sql_rows.specs.Content.{tables_content, with_voucher_row};
 ghost use Rattle.sql_rows.specs.Texts.{voucher_of};
 ghost use Rattle.sql_rows.specs.Values.{voucher_cells};
 ghost use Rattle.sql_rows.specs.Makes.{Makes};
@@ -61,7 +61,7 @@ pub fn put_voucher<S: Alter>(
     account: Option<&AccountNumber>,
 ) -> Result<usize, Error>
     requires book { HasBook (state S.Store tx.old.conn.now) }
-    ensures { AttemptsOver S.Store (Makes (with_voucher code.now (record {
+    ensures { AttemptsOver S.Store (Makes (with_voucher_row code.now (record {
       amount = amount;
       days = days;
       scope = scope;
@@ -95,7 +95,7 @@ pub fn read_voucher<S: Alter>(
 ) -> Result<Option<VoucherColumns>, ReadFault>
     requires idle { HasIdleBook (state S.Store conn.old) }
     ensures reads { Reads (λ trees o.
-        option_map voucher_of o ≡ (content_of trees).vouchers code.now)
+        option_map voucher_of o ≡ (tables_content trees).vouchers code.now)
         (state S.Store conn.old) (state S.Store conn.new) result }
 {
     let of_code = text(code);

@@ -1,9 +1,8 @@
 -- The content of tables whose rows are in their rules.
-use Rattle.std.proofs.Common.{◌≡◌, ◌≤◌, ◌<◌, ℕ, pos, negsuc, List, [], ◌∷◌, length, Bool, true}
+use Rattle.std.proofs.Common.{◌≡◌, ◌≤◌, ◌<◌, ℕ, pos, negsuc, List, [], ◌∷◌, length, true}
 use Rattle.std.proofs.Common.{eqb-true, false}
-use Rattle.std.proofs.Common.{◌&&◌, Some, None, Option, refl, sym, ap, subst, ◌∙◌, arith, nat_eq}
-use Rattle.std.proofs.Common.{inl, inr, drop, IsTrue}
-use Rattle.std.proofs.Common.{nat_le, nat_lt, is_eq}
+use Rattle.std.proofs.Common.{Some, None, Option, refl, sym, ap, subst, ◌∙◌, arith, nat_eq}
+use Rattle.std.proofs.Common.{inl, inr, drop, IsTrue, nat_le, nat_lt, is_eq}
 use Rattle.std.specs.Prelude.{is_some, option_map}
 use Rattle.std.specs.Cmp.{unsigned_Decides}
 use Rattle.std.specs.Ordering.{eq_by_cmp}
@@ -24,17 +23,18 @@ use Rattle.sql_tables.specs.Keyed.{look}
 use Rattle.sql_tables.specs.Schema.{accounts, allowance_buckets, answers, book_schema, books}
 use Rattle.sql_tables.specs.Schema.{buckets}
 use Rattle.sql_tables.specs.Schema.{charges, counters, covered, grant_books, holds, key_index}
-use Rattle.sql_tables.specs.Schema.{latest}
-use Rattle.sql_tables.specs.Schema.{meta, session_groups, sessions, vouchers}
+use Rattle.sql_tables.specs.Schema.{latest, meta, session_groups, sessions, vouchers}
 use Rattle.sql_tables.proofs.Keys.{int_tie, keys_split, number_last}
 use Rattle.sql_tables.proofs.Selections.{full_key, meets, one_row}
-use Rattle.sql_rows.specs.Content.{content_of, rows_in}
+use Rattle.sql_rows.specs.Content.{tables_content, rows_in}
 use Rattle.sql_rows.specs.Values.{nat, nat_in, text_in, meta_key, head_key, bucket_key, counter_key}
 use Rattle.sql_rows.specs.Values.{session_key, group_key, hold_key, answer_key, voucher_key}
-use Rattle.sql_rows.specs.Values.{charge_key, book_key, meta_in, head_in, bucket_in, counter_in}
-use Rattle.sql_rows.specs.Values.{session_in, group_in, hold_in, answer_in, voucher_in, charge_in}
-use Rattle.sql_rows.specs.Values.{book_in, grant_book_in, allowance_in, covered_in}
-use Rattle.sql_rules.specs.Columns.{is_moment, is_numbering, is_some_money, is_within}
+use Rattle.sql_rows.specs.Values.{charge_key, book_key, meta_in, head_in, bucket_in_row}
+use Rattle.sql_rows.specs.Values.{counter_in_row}
+use Rattle.sql_rows.specs.Values.{session_in_row, group_in_row, hold_in, answer_in_row}
+use Rattle.sql_rows.specs.Values.{voucher_in_row, charge_in_row}
+use Rattle.sql_rows.specs.Values.{book_in_row, grant_book_in, allowance_in, covered_in_row}
+use Rattle.sql_rules.specs.Columns.{is_moment, is_numbering, is_some_money, is_in_bounds}
 use Rattle.sql_rules.specs.Rules.{is_ruled_account, is_ruled_allowance}
 use Rattle.sql_rules.specs.Rules.{is_ruled_answer, is_ruled_book, is_ruled_bucket, is_ruled_charge}
 use Rattle.sql_rules.specs.Rules.{is_ruled_counter, is_ruled_covered, is_ruled_grant_book}
@@ -132,8 +132,8 @@ module _ (shelf : Shelf) (trees : Trees) (fits : Fits book_schema trees)
       → Has (trees answers.tree) r
       → meets (1 ∷ 2 ∷ 3 ∷ 4 ∷ []) (answer_key a kind name number) r ≡ true
       → is_answer (text_in (column r 1)) (nat_in (column r 2)) (text_in (column r 3))
-      (nat_in (column r 4)) (answer_in (drop 1 r)) ≡ true
-      → is_answer a kind name number (answer_in (drop 1 r)) ≡ true
+      (nat_in (column r 4)) (answer_in_row (drop 1 r)) ≡ true
+      → is_answer a kind name number (answer_in_row (drop 1 r)) ≡ true
   answer_is a kind name number r has met in' =
       let b = text_in (column r 1) in
       let k = nat_in (column r 2) in
@@ -151,13 +151,13 @@ module _ (shelf : Shelf) (trees : Trees) (fits : Fits book_schema trees)
       (Text t ∷ nat n ∷ []) after in
       let third = first_key (Text name) (Text t) (nat number ∷ []) (nat n ∷ []) later in
       let last = later_key (Text name) (Text t) (nat number ∷ []) (nat n ∷ []) later in
-      subst (λ x. is_answer x kind name number (answer_in (drop 1 r)) ≡ true)
+      subst (λ x. is_answer x kind name number (answer_in_row (drop 1 r)) ≡ true)
       (text_key a (Text b) first)
-      (subst (λ x. is_answer b x name number (answer_in (drop 1 r)) ≡ true)
+      (subst (λ x. is_answer b x name number (answer_in_row (drop 1 r)) ≡ true)
       (eqb-true k kind (sym (int_tie k kind) ∙ second))
-      (subst (λ x. is_answer b k x number (answer_in (drop 1 r)) ≡ true)
+      (subst (λ x. is_answer b k x number (answer_in_row (drop 1 r)) ≡ true)
       (text_key name (Text t) third)
-      (subst (λ x. is_answer b k t x (answer_in (drop 1 r)) ≡ true)
+      (subst (λ x. is_answer b k t x (answer_in_row (drop 1 r)) ≡ true)
       (eqb-true n number (sym (number_last n number) ∙ last)) in')))
 
   account_rows : (a : List ℕ) → AreInRules shelf a (rows_in trees a)
@@ -171,40 +171,42 @@ module _ (shelf : Shelf) (trees : Trees) (fits : Fits book_schema trees)
           subst (λ x. is_head x ≡ true) it.3 (head_told it.0 it.2),
         );
     buckets = λ n b e.
-        let it = found_in buckets trees is_ruled_bucket (ruled 2 (omega arith)).rows bucket_in
+        let it = found_in buckets trees is_ruled_bucket (ruled 2 (omega arith)).rows bucket_in_row
         (bucket_key a n) b e in
         subst (λ x. is_bucket x ≡ true) it.3 (bucket_told it.0 it.2);
     counters = λ g k x e.
-        let it = found_in counters trees is_ruled_counter (ruled 3 (omega arith)).rows counter_in
+        let it = found_in counters trees is_ruled_counter (ruled 3 (omega arith)).rows
+        counter_in_row
         (counter_key a g k) x e in
         subst (λ y. is_counter y ≡ true) it.3 (counter_told it.0 it.2);
     sessions = λ s x e.
-        let it = found_in sessions trees is_ruled_session (ruled 4 (omega arith)).rows session_in
+        let it = found_in sessions trees is_ruled_session (ruled 4 (omega arith)).rows
+        session_in_row
         (session_key a s) x e in
         subst (λ y. is_session y ≡ true) it.3 (session_told it.0 it.2);
     groups = λ s g x e.
         let it = found_in session_groups trees (is_ruled_group shelf) (ruled 5 (omega arith)).rows
-        group_in (group_key a s g) x e in
+        group_in_row (group_key a s g) x e in
         subst (λ y. is_group shelf g y ≡ true) it.3
-        (subst (λ n. is_group shelf n (group_in (drop 1 it.0)) ≡ true)
+        (subst (λ n. is_group shelf n (group_in_row (drop 1 it.0)) ≡ true)
         (group_is a s g it.0 it.4 it.1) (group_told shelf it.0 it.2));
     holds = λ s g n amount e.
         let it = found_in holds trees is_ruled_hold (ruled 6 (omega arith)).rows hold_in
         (hold_key a s g n) amount e in
         subst (λ y. is_some_money y ≡ true) it.3 (hold_told it.0 it.2);
     answers = λ kind name number k e.
-        let it = found_in answers trees is_ruled_answer (ruled 7 (omega arith)).rows answer_in
+        let it = found_in answers trees is_ruled_answer (ruled 7 (omega arith)).rows answer_in_row
         (answer_key a kind name number) k e in
         subst (λ y. is_answer a kind name number y ≡ true) it.3
         (answer_is a kind name number it.0 it.4 it.1 (answer_told it.0 it.2));
     charges = λ n x e.
-        let it = found_in charges trees is_ruled_charge (ruled 9 (omega arith)).rows charge_in
+        let it = found_in charges trees is_ruled_charge (ruled 9 (omega arith)).rows charge_in_row
         (charge_key a n) x e in
         subst (λ y. is_charge y ≡ true) it.3 (charge_told it.0 it.2);
     grant_books = λ s g n e.
         let it = found_in grant_books trees (is_ruled_grant_book shelf)
         (ruled 11 (omega arith)).rows grant_book_in (group_key a s g) n e in
-        subst (λ y. is_within 1 (count shelf) y ≡ true) it.3 (grant_book_told shelf it.0 it.2);
+        subst (λ y. is_in_bounds 1 (count shelf) y ≡ true) it.3 (grant_book_told shelf it.0 it.2);
     allowances = λ n e.
         let some =
         some_of (option_map allowance_in (look allowance_buckets trees (bucket_key a n))) e in
@@ -217,12 +219,13 @@ module _ (shelf : Shelf) (trees : Trees) (fits : Fits book_schema trees)
         (first_key (nat n) (column it.0 2) [] []
         (later_key (Text a) (column it.0 1) (nat n ∷ []) (column it.0 2 ∷ []) it.1))) it.2;
     covered = λ n blocks e.
-        let it = found_in covered trees is_ruled_covered (ruled 13 (omega arith)).rows covered_in
+        let it = found_in covered trees is_ruled_covered (ruled 13 (omega arith)).rows
+        covered_in_row
         (charge_key a n) blocks e in
         above_zero blocks (subst (λ y. nat_lt 0 y ≡ true) it.3 (covered_told it.0 it.2));
   }
 
-  pub content_ruled : IsInRules shelf (content_of trees)
+  pub content_ruled : IsInRules shelf (tables_content trees)
   content_ruled = record {
     once = one_meta;
     meta = λ m e.
@@ -231,20 +234,21 @@ module _ (shelf : Shelf) (trees : Trees) (fits : Fits book_schema trees)
         subst (λ x. is_moment x.last ≡ true) it.3 (meta_told it.0 it.2);
     rows = account_rows;
     vouchers = λ code x e.
-        let it = found_in vouchers trees is_ruled_voucher (ruled 8 (omega arith)).rows voucher_in
+        let it = found_in vouchers trees is_ruled_voucher (ruled 8 (omega arith)).rows
+        voucher_in_row
         (voucher_key code) x e in
         subst (λ y. is_voucher code y ≡ true) it.3
-        (subst (λ t. is_voucher t (voucher_in (drop 1 it.0)) ≡ true)
+        (subst (λ t. is_voucher t (voucher_in_row (drop 1 it.0)) ≡ true)
         (text_key code (column it.0 1) (first_key (Text code) (column it.0 1) [] [] it.1))
         (voucher_told it.0 it.2));
     books = λ n x e.
-        let it = found_in books trees is_ruled_book (ruled 10 (omega arith)).rows book_in
+        let it = found_in books trees is_ruled_book (ruled 10 (omega arith)).rows book_in_row
         (book_key n) x e in
         let low = and_parts (nat_le 2 (nat_in (column it.0 1))) (nat_le (nat_in (column it.0 1)) 16)
-        (and_parts (is_within 2 16 (nat_in (column it.0 1)))
-        (is_within 1 4_102_444_799 (nat_in (column it.0 2))) it.2).0 in
+        (and_parts (is_in_bounds 2 16 (nat_in (column it.0 1)))
+        (is_in_bounds 1 4_102_444_799 (nat_in (column it.0 2))) it.2).0 in
         subst (λ y. is_book n y ≡ true) it.3
-        (subst (λ m. is_book m (book_in (drop 1 it.0)) ≡ true)
+        (subst (λ m. is_book m (book_in_row (drop 1 it.0)) ≡ true)
         (number_key n (column it.0 1) (from_two (nat_in (column it.0 1)) low.0)
         (first_key (nat n) (column it.0 1) [] [] it.1))
         (book_told it.0 it.2));

@@ -1,7 +1,6 @@
 -- A row that is in its rules is told as a row that is.
 use Rattle.std.proofs.Common.{◌≡◌, ℕ, pos, negsuc, List, [], ◌∷◌, drop, Bool, true, false, ◌&&◌}
-use Rattle.std.proofs.Common.{◌||◌}
-use Rattle.std.proofs.Common.{Some, None, Option, refl, sym, ◌∙◌, nat_le, nat_eq, nat_lt, is_eq}
+use Rattle.std.proofs.Common.{Some, None, refl, sym, ◌∙◌, nat_le, nat_eq, nat_lt, is_eq}
 use Rattle.std.proofs.Common.{arith, subst}
 use Rattle.std.specs.Prelude.{if◌then◌else◌, ◌==◌}
 use Rattle.std.specs.Cmp.{unsigned_Decides}
@@ -14,10 +13,13 @@ use Rattle.sqlite_value.specs.declared.value.Value.{Value}
 use Rattle.sqlite_value.specs.declared.value.Value.TheVariants.{Null, Int, Real, Text, Blob}
 use Rattle.sqlite_value.specs.Order.{Row, column, value_cmp}
 use Rattle.sql_tables.proofs.Keys.{int_tie, text_tie}
-use Rattle.sql_rows.specs.Values.{nat, nat_in, optional_in, text_in, meta_in, head_in, bucket_in}
-use Rattle.sql_rows.specs.Values.{counter_in, session_in, group_in, hold_in, answer_in, voucher_in}
-use Rattle.sql_rows.specs.Values.{charge_in, book_in, grant_book_in, covered_in, PeriodNames}
-use Rattle.sql_rules.specs.Columns.{is_within, is_optional_within, is_moment, is_some_money}
+use Rattle.sql_rows.specs.Values.{nat, nat_in, optional_in, text_in, meta_in, head_in}
+use Rattle.sql_rows.specs.Values.{bucket_in_row}
+use Rattle.sql_rows.specs.Values.{counter_in_row, session_in_row, group_in_row, hold_in}
+use Rattle.sql_rows.specs.Values.{answer_in_row, voucher_in_row}
+use Rattle.sql_rows.specs.Values.{charge_in_row, book_in_row, grant_book_in, covered_in_row}
+use Rattle.sql_rows.specs.Values.{PeriodNames}
+use Rattle.sql_rules.specs.Columns.{is_in_bounds, is_optional_within, is_moment, is_some_money}
 use Rattle.sql_rules.specs.Columns.{is_money, is_next, is_numbering, is_small}
 use Rattle.sql_rules.specs.Rules.{are_periods, is_ruled_answer, is_ruled_book}
 use Rattle.sql_rules.specs.Rules.{is_ruled_grant_book, is_ruled_meta}
@@ -73,38 +75,38 @@ head_told (v ∷ cells) h =
     (is_next (nat_in (column cells 4))) h
 
 pub bucket_told : (row : Row) → is_ruled_bucket row ≡ true
-    → is_bucket (bucket_in (drop 1 row)) ≡ true
+    → is_bucket (bucket_in_row (drop 1 row)) ≡ true
 bucket_told [] h = absurd (cc h)
 bucket_told (v ∷ cells) h =
     fourth (is_numbering (nat_in (column cells 1))) (is_moment (nat_in (column cells 2)))
-    (is_within 1 4_102_444_800 (nat_in (column cells 3)))
+    (is_in_bounds 1 4_102_444_800 (nat_in (column cells 3)))
     (is_optional_within 0 4_294_967_295 (column cells 4)) (is_money (nat_in (column cells 5)))
     (is_none_or_within 0 4_294_967_295 (optional_in (column cells 4)))
     (optional 0 4_294_967_295 (column cells 4)) h
 
 pub counter_told : (row : Row) → is_ruled_counter row ≡ true →
-    is_counter (counter_in (drop 1 row)) ≡ true
+    is_counter (counter_in_row (drop 1 row)) ≡ true
 counter_told [] h = refl
 counter_told (v ∷ cells) h = h
 
 pub session_told : (row : Row) → is_ruled_session row ≡ true →
-    is_session (session_in (drop 1 row)) ≡ true
+    is_session (session_in_row (drop 1 row)) ≡ true
 session_told [] h = absurd (cc h)
 session_told (v ∷ cells) h =
     first_three (is_session_id (text_in (column cells 1))) (is_small (nat_in (column cells 2)))
-    (is_moment (nat_in (column cells 3))) (is_within 1 3 (nat_in (column cells 4))) h
+    (is_moment (nat_in (column cells 3))) (is_in_bounds 1 3 (nat_in (column cells 4))) h
 
 pub hold_told : (row : Row) → is_ruled_hold row ≡ true → is_some_money (hold_in (drop 1 row)) ≡ true
 hold_told [] h = absurd (cc h)
 hold_told (v ∷ cells) h = h
 
 pub charge_told : (row : Row) → is_ruled_charge row ≡ true
-    → is_charge (charge_in (drop 1 row)) ≡ true
+    → is_charge (charge_in_row (drop 1 row)) ≡ true
 charge_told [] h = absurd (cc h)
 charge_told (v ∷ cells) h = h
 
 pub covered_told : (row : Row) → is_ruled_covered row ≡ true →
-    nat_lt 0 (covered_in (drop 1 row)) ≡ true
+    nat_lt 0 (covered_in_row (drop 1 row)) ≡ true
 covered_told [] h = absurd (cc h)
 covered_told (v ∷ cells) h = h
 
@@ -126,7 +128,7 @@ named shelf n before after h =
     subst (λ m. are_periods shelf m before after ≡ true) one h)
 
 pub group_told : (shelf : Shelf) (row : Row) → is_ruled_group shelf row ≡ true →
-    is_group shelf (nat_in (column row 3)) (group_in (drop 1 row)) ≡ true
+    is_group shelf (nat_in (column row 3)) (group_in_row (drop 1 row)) ≡ true
 group_told shelf [] h = refl
 group_told shelf (v ∷ cells) h =
     let rest = and_parts _ (are_periods shelf (nat_in (column cells 4)) (column cells 5)
@@ -135,7 +137,7 @@ group_told shelf (v ∷ cells) h =
     (named shelf (nat_in (column cells 4)) (column cells 5) (column cells 6) rest.1)
 
 pub grant_book_told : (shelf : Shelf) (row : Row) → is_ruled_grant_book shelf row ≡ true →
-    is_within 1 (count shelf) (grant_book_in (drop 1 row)) ≡ true
+    is_in_bounds 1 (count shelf) (grant_book_in (drop 1 row)) ≡ true
 grant_book_told shelf [] h = absurd (cc h)
 grant_book_told shelf (v ∷ cells) h = h
 
@@ -152,7 +154,7 @@ account_told row h =
 
 pub answer_told : (row : Row) → is_ruled_answer row ≡ true
     → is_answer (text_in (column row 1)) (nat_in (column row 2)) (text_in (column row 3))
-    (nat_in (column row 4)) (answer_in (drop 1 row)) ≡ true
+    (nat_in (column row 4)) (answer_in_row (drop 1 row)) ≡ true
 answer_told [] h = absurd (cc h)
 answer_told (v ∷ cells) h = h
 
@@ -165,7 +167,7 @@ third_fourth true false c d e f to too h = absurd (cc h)
 third_fourth false b c d e f to too h = absurd (cc h)
 
 pub voucher_told : (row : Row) → is_ruled_voucher row ≡ true →
-    is_voucher (text_in (column row 1)) (voucher_in (drop 1 row)) ≡ true
+    is_voucher (text_in (column row 1)) (voucher_in_row (drop 1 row)) ≡ true
 voucher_told [] h = absurd (cc h)
 voucher_told (v ∷ cells) h =
     third_fourth (is_voucher_code (text_in (column cells 0)))
@@ -177,7 +179,7 @@ voucher_told (v ∷ cells) h =
     (optional 1 3650 (column cells 2)) (optional 0 4_294_967_295 (column cells 3)) h
 
 pub book_told : (row : Row) → is_ruled_book row ≡ true →
-    is_book (nat_in (column row 1)) (book_in (drop 1 row)) ≡ true
+    is_book (nat_in (column row 1)) (book_in_row (drop 1 row)) ≡ true
 book_told [] h = absurd (cc h)
 book_told (v ∷ cells) h = h
 

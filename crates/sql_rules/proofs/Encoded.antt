@@ -1,10 +1,10 @@
 -- A row whose content is in its rules is in its rules, where it is as the statements write it.
-use Rattle.std.proofs.Common.{◌≡◌, ◌<◌, ℕ, zero, suc, List, [], ◌∷◌, drop, Bool, true, false, ◌&&◌, ◌||◌}
+use Rattle.std.proofs.Common.{◌≡◌, ◌<◌, ℕ, zero, suc, [], ◌∷◌, drop, Bool, true, false, ◌&&◌, ◌||◌}
 use Rattle.std.proofs.Common.{Some, None, refl, nat_eq, nat_le, nat_lt, arith}
 use Rattle.std.specs.Prelude.{if◌then◌else◌, ◌==◌}
 use Rattle.std.proofs.lemmas.Bool.{and_from, and_parts}
 use Rattle.std.proofs.lemmas.Bool.Decides.{nat_tests}
-use Rattle.identifiers.specs.Texts.{is_account_number, is_session_id, is_voucher_code}
+use Rattle.identifiers.specs.Texts.{is_account_number, is_voucher_code}
 use Rattle.shelves.specs.Shelves.{Shelf, count}
 use Rattle.sqlite_sql.specs.Ops.{is_null}
 use Rattle.sqlite_value.specs.declared.value.Value.{Value}
@@ -13,12 +13,14 @@ use Rattle.sqlite_value.specs.Order.{Row, column}
 use Rattle.sqlite_schema.specs.declared.schema.Kind.TheVariants as kind
 use Rattle.sqlite_schema.specs.Rules.{is_of}
 use Rattle.sql_rows.specs.Plain.{is_plain_group, is_plain_head, is_plain_session}
-use Rattle.sql_rows.specs.Values.{nat_in, optional_in, text_in, head_in, bucket_in, counter_in}
-use Rattle.sql_rows.specs.Values.{session_in, group_in, hold_in, answer_in, voucher_in, charge_in}
-use Rattle.sql_rows.specs.Values.{book_in, grant_book_in, covered_in}
-use Rattle.sql_rules.specs.Columns.{is_within, is_optional_within, is_moment, is_some_money}
+use Rattle.sql_rows.specs.Values.{nat_in, optional_in, text_in, head_in, bucket_in_row}
+use Rattle.sql_rows.specs.Values.{counter_in_row}
+use Rattle.sql_rows.specs.Values.{session_in_row, group_in_row, hold_in, answer_in_row}
+use Rattle.sql_rows.specs.Values.{voucher_in_row, charge_in_row}
+use Rattle.sql_rows.specs.Values.{book_in_row, grant_book_in, covered_in_row}
+use Rattle.sql_rules.specs.Columns.{is_in_bounds, is_optional_within, is_moment, is_some_money}
 use Rattle.sql_rules.specs.Columns.{is_money, is_next, is_numbering, is_small}
-use Rattle.sql_rules.specs.Rules.{are_periods, is_period_name, is_ruled_answer, is_ruled_book}
+use Rattle.sql_rules.specs.Rules.{are_periods, is_ruled_answer, is_ruled_book}
 use Rattle.sql_rules.specs.Rules.{is_ruled_account, is_ruled_bucket, is_ruled_counter}
 use Rattle.sql_rules.specs.Rules.{is_ruled_session, is_ruled_group, is_ruled_hold}
 use Rattle.sql_rules.specs.Rules.{is_ruled_charge, is_ruled_covered, is_ruled_grant_book}
@@ -72,22 +74,22 @@ account_back (v ∷ cells) name head plain =
     (is_moment (nat_in (column cells 2))) (is_next (nat_in (column cells 3)))
     (is_next (nat_in (column cells 4))) name plain head
 
-pub bucket_back : (row : Row) → is_bucket (bucket_in (drop 1 row)) ≡ true →
+pub bucket_back : (row : Row) → is_bucket (bucket_in_row (drop 1 row)) ≡ true →
     is_ruled_bucket row ≡ true
 bucket_back [] h = absurd (cc h)
 bucket_back (v ∷ cells) h =
     fourth (is_numbering (nat_in (column cells 1))) (is_moment (nat_in (column cells 2)))
-    (is_within 1 4_102_444_800 (nat_in (column cells 3)))
+    (is_in_bounds 1 4_102_444_800 (nat_in (column cells 3)))
     (is_none_or_within 0 4_294_967_295 (optional_in (column cells 4)))
     (is_money (nat_in (column cells 5)))
     (is_optional_within 0 4_294_967_295 (column cells 4)) (optional_back (column cells 4)) h
 
-pub counter_back : (row : Row) → is_counter (counter_in (drop 1 row)) ≡ true →
+pub counter_back : (row : Row) → is_counter (counter_in_row (drop 1 row)) ≡ true →
     is_ruled_counter row ≡ true
 counter_back [] h = refl
 counter_back (v ∷ cells) h = h
 
-pub session_back : (row : Row) → is_session (session_in (drop 1 row)) ≡ true
+pub session_back : (row : Row) → is_session (session_in_row (drop 1 row)) ≡ true
     → is_plain_session (drop 1 row) ≡ true → is_ruled_session row ≡ true
 session_back [] h plain = absurd (cc plain)
 session_back (v ∷ cells) h plain = and_from _ _ h plain
@@ -106,13 +108,13 @@ periods_back shelf (suc (suc n)) before after plain named =
     (grind (arith, nat_tests)) (grind (arith, nat_tests)) plain
 
 pub group_back : (shelf : Shelf) (row : Row)
-    → is_group shelf (nat_in (column row 3)) (group_in (drop 1 row)) ≡ true
+    → is_group shelf (nat_in (column row 3)) (group_in_row (drop 1 row)) ≡ true
     → is_plain_group (drop 1 row) ≡ true → is_ruled_group shelf row ≡ true
 group_back shelf [] h plain = refl
 group_back shelf (v ∷ cells) h plain =
     let parts = and_parts (is_small (nat_in (column cells 2))
     && nat_le (nat_in (column cells 3)) 1_000_000_000_000_000_000)
-    (are_named shelf (group_in cells).periods) h in
+    (are_named shelf (group_in_row cells).periods) h in
     and_from _ _ parts.0
     (periods_back shelf (nat_in (column cells 4)) (column cells 5) (column cells 6) plain parts.1)
 
@@ -123,13 +125,13 @@ hold_back (v ∷ cells) h = h
 
 pub answer_back : (row : Row)
     → is_answer (text_in (column row 1)) (nat_in (column row 2)) (text_in (column row 3))
-    (nat_in (column row 4)) (answer_in (drop 1 row)) ≡ true
+    (nat_in (column row 4)) (answer_in_row (drop 1 row)) ≡ true
     → is_ruled_answer row ≡ true
 answer_back [] h = absurd (cc h)
 answer_back (v ∷ cells) h = h
 
 pub voucher_back : (row : Row) → is_of kind.Integer (column row 3) ≡ true
-    → is_voucher (text_in (column row 1)) (voucher_in (drop 1 row)) ≡ true
+    → is_voucher (text_in (column row 1)) (voucher_in_row (drop 1 row)) ≡ true
     → is_ruled_voucher row ≡ true
 voucher_back [] is h = absurd (cc h)
 voucher_back (v ∷ cells) is h =
@@ -141,18 +143,18 @@ voucher_back (v ∷ cells) is h =
     (is_optional_within 0 4_294_967_295 (column cells 3))
     (optional_typed 1 3650 (column cells 2) is) (optional_back (column cells 3)) h
 
-pub charge_back : (row : Row) → is_charge (charge_in (drop 1 row)) ≡ true →
+pub charge_back : (row : Row) → is_charge (charge_in_row (drop 1 row)) ≡ true →
     is_ruled_charge row ≡ true
 charge_back [] h = absurd (cc h)
 charge_back (v ∷ cells) h = h
 
-pub book_back : (row : Row) → is_book (nat_in (column row 1)) (book_in (drop 1 row)) ≡ true →
+pub book_back : (row : Row) → is_book (nat_in (column row 1)) (book_in_row (drop 1 row)) ≡ true →
     is_ruled_book row ≡ true
 book_back [] h = absurd (cc h)
 book_back (v ∷ cells) h = h
 
 pub grant_book_back : (shelf : Shelf) (row : Row)
-    → is_within 1 (count shelf) (grant_book_in (drop 1 row)) ≡ true
+    → is_in_bounds 1 (count shelf) (grant_book_in (drop 1 row)) ≡ true
     → is_ruled_grant_book shelf row ≡ true
 grant_book_back shelf [] h = absurd (cc h)
 grant_book_back shelf (v ∷ cells) h = h
@@ -160,6 +162,6 @@ grant_book_back shelf (v ∷ cells) h = h
 some_above : (n : ℕ) → 0 < n → nat_lt 0 n ≡ true
 some_above n h = grind (arith, nat_tests, h)
 
-pub covered_back : (row : Row) → 0 < covered_in (drop 1 row) → is_ruled_covered row ≡ true
+pub covered_back : (row : Row) → 0 < covered_in_row (drop 1 row) → is_ruled_covered row ≡ true
 covered_back [] h = absurd (omega (arith, h))
 covered_back (v ∷ cells) h = some_above (nat_in (column cells 2)) h

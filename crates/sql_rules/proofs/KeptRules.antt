@@ -5,20 +5,22 @@ use Rattle.std.specs.Prelude.{if◌then◌else◌, is_some}
 use Rattle.std.proofs.lemmas.Bool.{and_parts}
 use Rattle.identifiers.specs.Texts.{is_account_number, same_name}
 use Rattle.shelves.specs.Shelves.{Shelf, count}
-use Rattle.buckets.specs.Row.{Row as Bucket}
+use Rattle.buckets.specs.Row.{BucketRow}
 use Rattle.reserving.specs.declared.session.Session.{Session}
 use Rattle.reserving.specs.declared.session.Counter.{Counter}
 use Rattle.reserving.specs.declared.charge.ChargeRow.{ChargeRow}
 use Rattle.reserving.proofs.Holds.{same_from}
-use Rattle.sql_rows.specs.declared.head.Head.{Head}
-use Rattle.sql_rows.specs.Content.{Content, Rows, with_account, with_allowance, with_answer}
-use Rattle.sql_rows.specs.Content.{with_book}
-use Rattle.sql_rows.specs.Content.{with_bucket, with_charge, with_counter, with_covered}
-use Rattle.sql_rows.specs.Content.{with_grant_book, with_group, with_head, with_hold, with_meta}
-use Rattle.sql_rows.specs.Content.{with_rows, with_session, with_voucher, without_allowance}
+use Rattle.sql_rows.specs.declared.head.HeadColumns.{HeadColumns}
+use Rattle.sql_rows.specs.Content.{TablesContent, TableRows, with_account, with_allowance}
+use Rattle.sql_rows.specs.Content.{with_answer}
+use Rattle.sql_rows.specs.Content.{with_book_row}
+use Rattle.sql_rows.specs.Content.{with_bucket, with_charge_row, with_counter_row, with_covered}
+use Rattle.sql_rows.specs.Content.{with_grant_book, with_group_row, with_head, with_hold_row}
+use Rattle.sql_rows.specs.Content.{with_meta}
+use Rattle.sql_rows.specs.Content.{with_rows, with_session_row, with_voucher_row, without_allowance}
 use Rattle.sql_rows.specs.Content.{without_covered, without_grant_book, without_holds}
-use Rattle.sql_rows.specs.Values.{CoveredRow, DatedBook, Group, Kept, Meta, Voucher}
-use Rattle.sql_rules.specs.Columns.{is_moment, is_numbering, is_some_money, is_within}
+use Rattle.sql_rows.specs.Values.{CoveredRow, BookRow, Group, Kept, Meta, VoucherRow}
+use Rattle.sql_rules.specs.Columns.{is_moment, is_numbering, is_some_money, is_in_bounds}
 use Rattle.sql_rules.specs.Ruled.{AreInRules, IsInRules, is_answer, is_book, is_bucket, is_charge}
 use Rattle.sql_rules.specs.Ruled.{is_counter, is_group, is_head, is_session, is_voucher}
 
@@ -50,8 +52,8 @@ unmarked P m false old before h = before h
 
 -- ---- the rows of an account
 
-module _ (shelf : Shelf) (a : List ℕ) (r : Rows) (in' : AreInRules shelf a r) where
-  pub head_kept : (h : Head) → is_account_number a ≡ true → is_head h ≡ true
+module _ (shelf : Shelf) (a : List ℕ) (r : TableRows) (in' : AreInRules shelf a r) where
+  pub head_kept : (h : HeadColumns) → is_account_number a ≡ true → is_head h ≡ true
       → AreInRules shelf a (with_head h r)
   head_kept h name rule = record {
     head = λ g e. let is : h ≡ g = cc e in (name, subst (λ x. is_head x ≡ true) is rule);
@@ -67,7 +69,7 @@ module _ (shelf : Shelf) (a : List ℕ) (r : Rows) (in' : AreInRules shelf a r) 
     covered = in'.covered;
   }
 
-  pub bucket_kept : (b : Bucket) → is_bucket b ≡ true → AreInRules shelf a (with_bucket b r)
+  pub bucket_kept : (b : BucketRow) → is_bucket b ≡ true → AreInRules shelf a (with_bucket b r)
   bucket_kept b rule = record {
     head = in'.head;
     buckets = λ n. chosen (λ x. is_bucket x ≡ true) (nat_eq b.number n) b (r.buckets n) (λ e. rule)
@@ -83,7 +85,7 @@ module _ (shelf : Shelf) (a : List ℕ) (r : Rows) (in' : AreInRules shelf a r) 
     covered = in'.covered;
   }
 
-  pub counter_kept : (k : Counter) → is_counter k ≡ true → AreInRules shelf a (with_counter k r)
+  pub counter_kept : (k : Counter) → is_counter k ≡ true → AreInRules shelf a (with_counter_row k r)
   counter_kept k rule = record {
     head = in'.head;
     buckets = in'.buckets;
@@ -99,7 +101,7 @@ module _ (shelf : Shelf) (a : List ℕ) (r : Rows) (in' : AreInRules shelf a r) 
     covered = in'.covered;
   }
 
-  pub session_kept : (x : Session) → is_session x ≡ true → AreInRules shelf a (with_session x r)
+  pub session_kept : (x : Session) → is_session x ≡ true → AreInRules shelf a (with_session_row x r)
   session_kept x rule = record {
     head = in'.head;
     buckets = in'.buckets;
@@ -116,7 +118,7 @@ module _ (shelf : Shelf) (a : List ℕ) (r : Rows) (in' : AreInRules shelf a r) 
   }
 
   pub group_kept : (s : List ℕ) (g : ℕ) (x : Group) → is_group shelf g x ≡ true
-      → AreInRules shelf a (with_group s g x r)
+      → AreInRules shelf a (with_group_row s g x r)
   group_kept s g x rule = record {
     head = in'.head;
     buckets = in'.buckets;
@@ -136,7 +138,7 @@ module _ (shelf : Shelf) (a : List ℕ) (r : Rows) (in' : AreInRules shelf a r) 
   }
 
   pub hold_kept : (s : List ℕ) (g n amount : ℕ) → is_some_money amount ≡ true
-      → AreInRules shelf a (with_hold s g n amount r)
+      → AreInRules shelf a (with_hold_row s g n amount r)
   hold_kept s g n amount rule = record {
     head = in'.head;
     buckets = in'.buckets;
@@ -194,7 +196,7 @@ module _ (shelf : Shelf) (a : List ℕ) (r : Rows) (in' : AreInRules shelf a r) 
     covered = in'.covered;
   }
 
-  pub charge_kept : (x : ChargeRow) → is_charge x ≡ true → AreInRules shelf a (with_charge x r)
+  pub charge_kept : (x : ChargeRow) → is_charge x ≡ true → AreInRules shelf a (with_charge_row x r)
   charge_kept x rule = record {
     head = in'.head;
     buckets = in'.buckets;
@@ -210,7 +212,7 @@ module _ (shelf : Shelf) (a : List ℕ) (r : Rows) (in' : AreInRules shelf a r) 
     covered = in'.covered;
   }
 
-  pub grant_book_kept : (s : List ℕ) (g n : ℕ) → is_within 1 (count shelf) n ≡ true
+  pub grant_book_kept : (s : List ℕ) (g n : ℕ) → is_in_bounds 1 (count shelf) n ≡ true
       → AreInRules shelf a (with_grant_book s g n r)
   grant_book_kept s g n rule = record {
     head = in'.head;
@@ -221,7 +223,7 @@ module _ (shelf : Shelf) (a : List ℕ) (r : Rows) (in' : AreInRules shelf a r) 
     holds = in'.holds;
     answers = in'.answers;
     charges = in'.charges;
-    grant_books = λ t h. chosen (λ y. is_within 1 (count shelf) y ≡ true)
+    grant_books = λ t h. chosen (λ y. is_in_bounds 1 (count shelf) y ≡ true)
         (same_name s t && nat_eq g h) n (r.grant_books t h) (λ e. rule) (in'.grant_books t h);
     allowances = in'.allowances;
     covered = in'.covered;
@@ -237,7 +239,7 @@ module _ (shelf : Shelf) (a : List ℕ) (r : Rows) (in' : AreInRules shelf a r) 
     holds = in'.holds;
     answers = in'.answers;
     charges = in'.charges;
-    grant_books = λ t h. left_out (λ y. is_within 1 (count shelf) y ≡ true)
+    grant_books = λ t h. left_out (λ y. is_in_bounds 1 (count shelf) y ≡ true)
         (same_name s t && nat_eq g h) (r.grant_books t h) (in'.grant_books t h);
     allowances = in'.allowances;
     covered = in'.covered;
@@ -308,9 +310,10 @@ module _ (shelf : Shelf) (a : List ℕ) (r : Rows) (in' : AreInRules shelf a r) 
 
 -- ---- the content
 
-module _ (shelf : Shelf) (c : Content) (in' : IsInRules shelf c) where
+module _ (shelf : Shelf) (c : TablesContent) (in' : IsInRules shelf c) where
   -- of one account
-  rows_at : (a : List ℕ) (f : Rows → Rows) → AreInRules shelf a (f (c.rows a)) → (x : List ℕ)
+  rows_at : (a : List ℕ) (f : TableRows → TableRows) → AreInRules shelf a (f (c.rows a)) →
+      (x : List ℕ)
       → AreInRules shelf x (if same_name a x then f (c.rows x) else c.rows x)
   rows_at a f own x = at (same_name a x) refl
     where
@@ -319,7 +322,7 @@ module _ (shelf : Shelf) (c : Content) (in' : IsInRules shelf c) where
       at true e = subst (λ y. AreInRules shelf y (f (c.rows y))) (same_from a x e) own
       at false e = in'.rows x
 
-  pub rows_kept : (a : List ℕ) (f : Rows → Rows) → AreInRules shelf a (f (c.rows a))
+  pub rows_kept : (a : List ℕ) (f : TableRows → TableRows) → AreInRules shelf a (f (c.rows a))
       → IsInRules shelf (with_rows a f c)
   rows_kept a f own = record {
     once = in'.once;
@@ -329,7 +332,7 @@ module _ (shelf : Shelf) (c : Content) (in' : IsInRules shelf c) where
     books = in'.books;
   }
 
-  pub account_kept : (a : List ℕ) (h : Head) → is_account_number a ≡ true → is_head h ≡ true
+  pub account_kept : (a : List ℕ) (h : HeadColumns) → is_account_number a ≡ true → is_head h ≡ true
       → IsInRules shelf (with_account a h c)
   account_kept a h name rule = record {
     once = in'.once;
@@ -355,8 +358,8 @@ module _ (shelf : Shelf) (c : Content) (in' : IsInRules shelf c) where
     books = in'.books;
   }
 
-  pub voucher_kept : (code : List ℕ) (x : Voucher) → is_voucher code x ≡ true
-      → IsInRules shelf (with_voucher code x c)
+  pub voucher_kept : (code : List ℕ) (x : VoucherRow) → is_voucher code x ≡ true
+      → IsInRules shelf (with_voucher_row code x c)
   voucher_kept code x rule = record {
     once = in'.once;
     meta = in'.meta;
@@ -366,7 +369,7 @@ module _ (shelf : Shelf) (c : Content) (in' : IsInRules shelf c) where
     books = in'.books;
   }
 
-  pub book_kept : (n : ℕ) (x : DatedBook) → is_book n x ≡ true → IsInRules shelf (with_book n x c)
+  pub book_kept : (n : ℕ) (x : BookRow) → is_book n x ≡ true → IsInRules shelf (with_book_row n x c)
   book_kept n x rule = record {
     once = in'.once;
     meta = in'.meta;

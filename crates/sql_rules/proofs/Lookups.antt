@@ -1,6 +1,5 @@
 -- A row that is found under a key is one of the table.
-use Rattle.std.proofs.Common.{◌≡◌, ℕ, List, true, drop, Option, Some, None, refl, sym, ap, ◌∙◌}
-use Rattle.std.proofs.Common.{IsTrue, Bool}
+use Rattle.std.proofs.Common.{◌≡◌, true, drop, Option, Some, None, refl, sym, ap, ◌∙◌, IsTrue, Bool}
 use Rattle.std.specs.Prelude.{option_map}
 use Rattle.std.specs.FinMap.{get-from_entries}
 use Rattle.std.specs.List.{AllByRecursion}

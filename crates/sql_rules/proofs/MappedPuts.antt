@@ -1,10 +1,8 @@
 -- What is put in its rules leaves each table in its rules, and so does what is removed.
-use Rattle.std.proofs.Common.{◌≡◌, ◌≢◌, ℕ, List, [], ◌∷◌, Bool, true, false, cond, Some, None}
-use Rattle.std.proofs.Common.{Option}
-use Rattle.std.proofs.Common.{IsTrue, refl, sym, subst, ◌∙◌, take, length}
+use Rattle.std.proofs.Common.{◌≡◌, List, ◌∷◌, Bool, true, false, cond, Some, None, Option}
+use Rattle.std.proofs.Common.{sym, subst, ◌∙◌, take, length}
 use Rattle.std.specs.Ordering.{eq_by_cmp}
 use Rattle.std.specs.FinMap.{get}
-use Rattle.std.specs.List.{AllByRecursion}
 use Rattle.sqlite_value.specs.declared.value.Value.TheVariants.{Null}
 use Rattle.sqlite_value.specs.Order.{Row, row_cmp}
 use Rattle.sqlite_trees.specs.Tree.{Trees}

@@ -1,12 +1,10 @@
 -- Rows in their rules, and the same under their keys.
 use Rattle.std.proofs.Common.{◌≡◌, ◌<◌, ◌≤◌, ℕ, zero, suc, ◌+◌, List, [], ◌∷◌, map, drop, take}
-use Rattle.std.proofs.Common.{length}
-use Rattle.std.proofs.Common.{Bool, true, false, not, ◌||◌, ◌&&◌, Some, None, Option, is_eq, IsTrue}
+use Rattle.std.proofs.Common.{length, Bool, true, false, not, ◌||◌, Some, None, is_eq, IsTrue}
 use Rattle.std.proofs.Common.{refl, sym, ap, subst, ◌∙◌, arith, inl, inr}
 use Rattle.std.specs.FinMap.{get-from_entries}
 use Rattle.std.specs.FinMap.Entries.{find as look_in}
 use Rattle.std.specs.List.{AllByRecursion}
-use Rattle.std.specs.Ordering.{eq_by_cmp}
 use Rattle.std.proofs.lemmas.Bool.{and_parts}
 use Rattle.std.proofs.lemmas.Cmp.{tied_itself}
 use Rattle.shelves.specs.Shelves.{Shelf}
@@ -14,7 +12,7 @@ use Rattle.sqlite_value.specs.declared.value.Value.TheVariants.{Null}
 use Rattle.sqlite_value.specs.Order.{Row, column, row_cmp}
 use Rattle.sqlite_value.proofs.OrderLemmas.{row_cmp_total}
 use Rattle.sqlite_trees.specs.Tree.{Trees}
-use Rattle.sqlite_trees.proofs.ListLemmas.{all-map, all_weaker}
+use Rattle.sqlite_trees.proofs.ListLemmas.{all-map}
 use Rattle.sqlite_sql.specs.Ops.{is_null}
 use Rattle.sqlite_schema.specs.declared.schema.Column.{Column}
 use Rattle.sqlite_schema.specs.declared.schema.Table.{Table}
@@ -23,14 +21,12 @@ use Rattle.sqlite_schema.specs.Rules.{Fits, are_present, guards, passes}
 use Rattle.sqlite_rules.specs.Lists.{Has}
 use Rattle.sqlite_rules.proofs.ListLemmas.{all_has}
 use Rattle.sql_tables.specs.Keyed.{entries_of, key_of, look, IsStored}
-use Rattle.sql_tables.specs.Schema.{accounts, allowance_buckets, answers, book_schema, books}
-use Rattle.sql_tables.specs.Schema.{buckets, charges, counters, covered, grant_books, holds}
-use Rattle.sql_tables.specs.Schema.{key_index, latest, meta, session_groups, sessions, vouchers}
+use Rattle.sql_tables.specs.Schema.{book_schema, key_index, latest}
 use Rattle.sql_tables.specs.Statements.{AreStored}
 use Rattle.sql_tables.proofs.Selections.{full_key, meets, met_has, met_some, one_row}
 use Rattle.sql_rules.specs.Mapped.{AreMapped, IsMapped}
 use Rattle.sql_rules.specs.Rules.{rule_at}
-use Rattle.sql_rules.specs.Tables.{AreRuled, IsRuledAt, places_from, table_at}
+use Rattle.sql_rules.specs.Tables.{AreRuled, places_from, table_at}
 
 -- ---- a key has no NULL
 

@@ -1,10 +1,10 @@
 -- One more row that rises and is in its rules, or isn't.
 use Rattle.std.proofs.Common.{◌≡◌, ℤ, List, [], ◌∷◌, ◌++◌, Option, Some, None, is_some, IfSome}
-use Rattle.std.proofs.Common.{Bool, true, false, not, IsTrue, refl, sym, ap, subst, ◌∙◌}
+use Rattle.std.proofs.Common.{Bool, true, false, not, IsTrue, refl, sym, ◌∙◌}
 use Rattle.std.specs.List.{AllByRecursion}
 use Rattle.sqlite_value.specs.Order.{Row}
 use Rattle.sqlite_trees.proofs.ListLemmas.{all-append}
-use Rattle.sql_tables.specs.Rises.{AreRising, Climbs, IsAbove}
+use Rattle.sql_tables.specs.Rises.{IsAbove}
 use Rattle.sql_tables.proofs.Ascents.{all_end, climbs_on, still_falls, up_to}
 use Rattle.sql_rules.specs.Walks.{Pass, Walks}
 

@@ -24,9 +24,8 @@ use Rattle.sqlite.proofs.Callers.{reads_as}
 use Rattle.sql_tables.specs.Keyed.{IsStored}
 use Rattle.sql_tables.specs.Schema.{schema_at}
 use Rattle.sql_tables.proofs.Steps.{bare}
-use Rattle.sql_tables.specs.Rises.{AreRising}
 use Rattle.sql_tables.proofs.Ascents.{rising_stored}
-use Rattle.sql_rules.specs.Tables.{rows_of, IsRows}
+use Rattle.sql_rules.specs.Tables.{rows_query, IsRows}
 use Rattle.sql_rules.specs.Walks.{Pass}
 
 -- ---- rows of which no rowid stands twice, in another order
@@ -120,16 +119,16 @@ module _ (tree : ℕ) (ps : List ℕ) where
   evaluated (p ∷ more) r = ap (λ vs. column r p ∷ vs) (evaluated more r)
 
   all_told : (rs : List Row) →
-      map (output (rows_of tree places)) (flat_map (λ r. ([] ∷ r ∷ []) ∷ []) rs) ≡ map told rs
+      map (output (rows_query tree places)) (flat_map (λ r. ([] ∷ r ∷ []) ∷ []) rs) ≡ map told rs
   all_told [] = refl
   all_told (r ∷ rs) =
       ap₂ ◌∷◌ (ap (λ vs. (rowid r ∷ [], vs)) (evaluated places r)) (all_told rs)
 
   kept_rows : (db : Trees) (rows : List Row)
-      (a : IsAnswer (rows_of tree places) (overlay db []) [] rows)
+      (a : IsAnswer (rows_query tree places) (overlay db []) [] rows)
       → a.kept ≡ map told (db tree)
   kept_rows db rows a =
-      a.distinct ∙ ap (map (output (rows_of tree places)))
+      a.distinct ∙ ap (map (output (rows_query tree places)))
       (a.grouped ∙ ap (λ rs. flat_map (λ r. ([] ∷ r ∷ []) ∷ []) rs) (bare db tree))
       ∙ all_told (db tree)
 
@@ -137,7 +136,7 @@ module _ (tree : ℕ) (ps : List ℕ) where
   twice [] = refl
   twice (r ∷ rs) = ap (λ xs. shown r ∷ xs) (twice rs)
 
-  shown_rows : (db : Trees) (rows : List Row) → IsAnswer (rows_of tree places) (overlay db [])
+  shown_rows : (db : Trees) (rows : List Row) → IsAnswer (rows_query tree places) (overlay db [])
       [] rows → IsPermutation (map shown (db tree)) rows
   shown_rows db rows a =
       let shuffled = IsPermutation-map (λ (o : Output). o.1) a.kept a.ordered a.same in
@@ -162,7 +161,7 @@ module _ (tree : ℕ) (ps : List ℕ) where
   all_twins [] = tt
   all_twins (r ∷ rows) = (refl, all_twins rows)
 
-  sorted_ids : (rows : List Row) → IsSorted (output_cmp (rows_of tree places)) (map both rows)
+  sorted_ids : (rows : List Row) → IsSorted (output_cmp (rows_query tree places)) (map both rows)
       → IsSortedBy (λ a b. is_lt (value_cmp (rowid a) (rowid b))) rows
   sorted_ids rows sorted k d low high =
       let wide : k + 1 < length (map both rows) =
@@ -171,7 +170,7 @@ module _ (tree : ℕ) (ps : List ℕ) where
       let two = get_or-map both rows k d (both d) (omega (arith, high)) in
       sym (ap is_lt (then-Equal (value_cmp (rowid (slice_index_or rows (k + 1) d))
       (rowid (slice_index_or rows k d)))))
-      ∙ sym (ap₂ (λ a b. is_lt (output_cmp (rows_of tree places) a b)) one two)
+      ∙ sym (ap₂ (λ a b. is_lt (output_cmp (rows_query tree places) a b)) one two)
       ∙ sorted k (both d) low wide
 
   -- ---- with a test that sees the same in a row as it is shown
@@ -182,9 +181,9 @@ module _ (tree : ℕ) (ps : List ℕ) where
     abbrev table : List Row
     table = old.now.trees tree
 
-    answer : IsAnswer (rows_of tree places) (overlay old.now.trees []) [] rows
+    answer : IsAnswer (rows_query tree places) (overlay old.now.trees []) [] rows
     answer = (reads_as text [] old new (schema_at v) has
-        (Select (record { lets = []; body = rows_of tree places }) is.names)
+        (Select (record { lets = []; body = rows_query tree places }) is.names)
         is.command is.plain is.listing rows h).answer Null
 
     pub rows_stand : Pass rule rows →
@@ -210,7 +209,7 @@ module _ (tree : ℕ) (ps : List ℕ) where
         let whole : a.ordered ≡ map both rows =
         twins a.ordered twin ∙ ap (map both) (sym a.shown) in
         let sorted = sorted_ids rows
-        (subst (IsSorted (output_cmp (rows_of tree places))) whole a.sorted) in (
+        (subst (IsSorted (output_cmp (rows_query tree places))) whole a.sorted) in (
           (climbs rows sorted apart, ints),
           all-permutation (λ r. IsTrue (rule r)) _ rows p
               (all-map (λ r. IsTrue (rule r)) shown table

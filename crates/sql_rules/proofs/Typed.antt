@@ -1,6 +1,6 @@
 -- The columns of a key are texts, or numbers from 0 on.
 use Rattle.std.proofs.Common.{◌≡◌, ◌<◌, ℕ, zero, suc, ◌+◌, List, [], ◌∷◌, drop, length, Bool, true}
-use Rattle.std.proofs.Common.{None, false, not, ◌&&◌, refl, sym, ap, subst, ◌∙◌, arith, get_or, IsTrue}
+use Rattle.std.proofs.Common.{None, false, not, refl, sym, subst, ◌∙◌, arith, get_or}
 use Rattle.std.specs.List.{AllByRecursion, list_all}
 use Rattle.std.proofs.lemmas.Bool.{and_parts}
 use Rattle.sqlite_sql.specs.Ops.{is_null}
@@ -19,7 +19,7 @@ use Rattle.sqlite_rules.proofs.ListLemmas.{all_has}
 use Rattle.sql_tables.specs.Schema.{book_schema}
 use Rattle.sql_rows.specs.Values.{nat, nat_in, text_in}
 use Rattle.sql_rows.proofs.MetaRules.{right_at, text_of, whole_in}
-use Rattle.sql_rules.proofs.MappedRows.{IsKeyed, full_rows}
+use Rattle.sql_rules.proofs.MappedRows.{IsKeyed}
 
 -- ---- one column
 

@@ -1,6 +1,6 @@
 -- Rows of tables whose content is in its rules, as the statements write them, are in their rules.
 use Rattle.std.proofs.Common.{◌≡◌, ◌≤◌, ◌<◌, ℕ, zero, suc, List, [], ◌∷◌, drop, length, Bool, true}
-use Rattle.std.proofs.Common.{false, not, Some, None, Option, refl, sym, ap, ap₂, subst, ◌∙◌, arith}
+use Rattle.std.proofs.Common.{false, not, Some, None, Option, refl, sym, ap, subst, ◌∙◌, arith}
 use Rattle.std.proofs.Common.{inl, inr, get_or, nat_eq, IsTrue}
 use Rattle.std.specs.Prelude.{option_map, is_some}
 use Rattle.std.specs.FinMap.{get-from_entries}
@@ -23,20 +23,22 @@ use Rattle.sqlite_schema.specs.Rules.{Fits, is_of, passes_checks, suits}
 use Rattle.sqlite_rules.specs.Lists.{Has}
 use Rattle.sqlite_rules.proofs.ListLemmas.{all_has}
 use Rattle.sql_tables.specs.Keyed.{IsStored, entries_of, key_of, look}
-use Rattle.sql_tables.specs.Schema.{accounts, allowance_buckets, answers, at_least_zero}
-use Rattle.sql_tables.specs.Schema.{book_schema}
+use Rattle.sql_tables.specs.Schema.{answers, at_least_zero, book_schema}
 use Rattle.sql_tables.specs.Schema.{books, buckets, charges, counters, covered, grant_books, holds}
-use Rattle.sql_tables.specs.Schema.{latest, meta, number, session_groups, sessions, vouchers}
+use Rattle.sql_tables.specs.Schema.{latest, meta, number, sessions, vouchers}
 use Rattle.sql_tables.specs.Statements.{AreStored}
 use Rattle.sql_tables.proofs.Keys.{number_last}
 use Rattle.sql_tables.proofs.Selections.{met_some}
-use Rattle.sql_rows.specs.Content.{content_of, rows_in}
+use Rattle.sql_rows.specs.Content.{tables_content}
 use Rattle.sql_rows.specs.Plain.{ArePlain}
 use Rattle.sql_rows.specs.Values.{Meta, nat, nat_in, text_in, meta_key, head_key, bucket_key}
 use Rattle.sql_rows.specs.Values.{counter_key, session_key, group_key, hold_key, answer_key}
-use Rattle.sql_rows.specs.Values.{voucher_key, charge_key, book_key, meta_in, head_in, bucket_in}
-use Rattle.sql_rows.specs.Values.{counter_in, session_in, group_in, hold_in, answer_in, voucher_in}
-use Rattle.sql_rows.specs.Values.{charge_in, book_in, grant_book_in, allowance_in, covered_in}
+use Rattle.sql_rows.specs.Values.{voucher_key, charge_key, book_key, meta_in, head_in}
+use Rattle.sql_rows.specs.Values.{bucket_in_row}
+use Rattle.sql_rows.specs.Values.{counter_in_row, session_in_row, group_in_row, hold_in}
+use Rattle.sql_rows.specs.Values.{answer_in_row, voucher_in_row}
+use Rattle.sql_rows.specs.Values.{charge_in_row, book_in_row, grant_book_in, allowance_in}
+use Rattle.sql_rows.specs.Values.{covered_in_row}
 use Rattle.sql_rows.proofs.MetaRules.{right_at}
 use Rattle.sql_rules.specs.Columns.{is_moment}
 use Rattle.sql_rules.specs.Rules.{is_ruled_meta, rule_at}
@@ -46,7 +48,7 @@ use Rattle.sql_rules.proofs.Encoded.{account_back, answer_back, book_back, bucke
 use Rattle.sql_rules.proofs.Encoded.{charge_back, counter_back, covered_back, grant_book_back}
 use Rattle.sql_rules.proofs.Encoded.{group_back, hold_back, session_back, voucher_back}
 use Rattle.sql_rules.proofs.Lookups.{mapped}
-use Rattle.sql_rules.proofs.MappedRows.{IsKeyed, full_rows, keyed, under_key}
+use Rattle.sql_rules.proofs.MappedRows.{full_rows, keyed, under_key}
 use Rattle.sql_rules.proofs.Typed.{check_at, number_column, text_column, typed_column}
 
 -- ---- a row alone
@@ -189,7 +191,8 @@ module _ (shelf : Shelf) (trees : Trees) (fits : Fits book_schema trees) where
 
   pub hold_of : (r : Row) → Stands 6 r
       → key_of (table_at 6).primary r
-      ≡ hold_key (text_in (column r 1)) (text_in (column r 2)) (nat_in (column r 3)) (nat_in (column r 4))
+      ≡ hold_key (text_in (column r 1)) (text_in (column r 2)) (nat_in (column r 3))
+      (nat_in (column r 4))
   hold_of r has =
       let low : 6 < 14 = omega arith in
       let there = full 6 low r has in
@@ -203,7 +206,8 @@ module _ (shelf : Shelf) (trees : Trees) (fits : Fits book_schema trees) where
 
   pub answer_of : (r : Row) → Stands 7 r
       → key_of (table_at 7).primary r
-      ≡ answer_key (text_in (column r 1)) (nat_in (column r 2)) (text_in (column r 3)) (nat_in (column r 4))
+      ≡ answer_key (text_in (column r 1)) (nat_in (column r 2)) (text_in (column r 3))
+      (nat_in (column r 4))
   answer_of r has =
       let low : 7 < 14 = omega arith in
       let there = full 7 low r has in
@@ -290,11 +294,11 @@ module _ (shelf : Shelf) (trees : Trees) (fits : Fits book_schema trees) where
     told at low of r key has is =
         ap (option_map of) (ap (look (table_at at) trees) (sym is) ∙ stands at low r has)
 
-    module _ (in' : IsInRules shelf (content_of trees)) (plain : ArePlain trees)
-        (there : is_some (content_of trees).meta ≡ true) where
+    module _ (in' : IsInRules shelf (tables_content trees)) (plain : ArePlain trees)
+        (there : is_some (tables_content trees).meta ≡ true) where
       meta_row : (r : Row) → Stands 0 r → is_ruled_meta r ≡ true
       meta_row r has =
-          let some = some_of (content_of trees).meta there in
+          let some = some_of (tables_content trees).meta there in
           let it = mapped meta_in (look meta trees meta_key) some.0 some.1 in
           let back = met_some (1 ∷ []) meta_key it.0 (trees 0)
           (sym (get-from_entries row_cmp_total (entries_of (1 ∷ []) (trees 0)) meta_key) ∙ it.1) in
@@ -319,20 +323,20 @@ module _ (shelf : Shelf) (trees : Trees) (fits : Fits book_schema trees) where
           (plain.heads (key_of (1 ∷ []) r) (drop 1 r) (stands 1 low r has))
       row_ruled (suc (suc zero)) low r has =
           bucket_back r ((in'.rows (text_in (column r 1))).buckets (nat_in (column r 2))
-          (bucket_in (drop 1 r)) (told 2 low bucket_in r _ has (bucket_of r has)))
+          (bucket_in_row (drop 1 r)) (told 2 low bucket_in_row r _ has (bucket_of r has)))
       row_ruled (suc (suc (suc zero))) low r has =
           counter_back r ((in'.rows (text_in (column r 1))).counters (nat_in (column r 2))
-          (nat_in (column r 3)) (counter_in (drop 1 r))
-          (told 3 low counter_in r _ has (counter_of r has)))
+          (nat_in (column r 3)) (counter_in_row (drop 1 r))
+          (told 3 low counter_in_row r _ has (counter_of r has)))
       row_ruled (suc (suc (suc (suc zero)))) low r has =
           session_back r
           ((in'.rows (text_in (column r 1))).sessions (text_in (column r 2))
-          (session_in (drop 1 r)) (told 4 low session_in r _ has (session_of r has)))
+          (session_in_row (drop 1 r)) (told 4 low session_in_row r _ has (session_of r has)))
           (plain.of_sessions (key_of (1 ∷ 2 ∷ []) r) (drop 1 r) (stands 4 low r has))
       row_ruled (suc (suc (suc (suc (suc zero))))) low r has =
           group_back shelf r
           ((in'.rows (text_in (column r 1))).groups (text_in (column r 2)) (nat_in (column r 3))
-          (group_in (drop 1 r)) (told 5 low group_in r _ has (group_of r has)))
+          (group_in_row (drop 1 r)) (told 5 low group_in_row r _ has (group_of r has)))
           (plain.of_groups (key_of (1 ∷ 2 ∷ 3 ∷ []) r) (drop 1 r) (stands 5 low r has))
       row_ruled (suc (suc (suc (suc (suc (suc zero)))))) low r has =
           hold_back r ((in'.rows (text_in (column r 1))).holds (text_in (column r 2))
@@ -340,20 +344,20 @@ module _ (shelf : Shelf) (trees : Trees) (fits : Fits book_schema trees) where
           (told 6 low hold_in r _ has (hold_of r has)))
       row_ruled (suc (suc (suc (suc (suc (suc (suc zero))))))) low r has =
           answer_back r ((in'.rows (text_in (column r 1))).answers (nat_in (column r 2))
-          (text_in (column r 3)) (nat_in (column r 4)) (answer_in (drop 1 r))
-          (told 7 low answer_in r _ has (answer_of r has)))
+          (text_in (column r 3)) (nat_in (column r 4)) (answer_in_row (drop 1 r))
+          (told 7 low answer_in_row r _ has (answer_of r has)))
       row_ruled (suc (suc (suc (suc (suc (suc (suc (suc zero)))))))) low r has =
           voucher_back r
-          (typed_or (column r 3) (λ some. typed_column trees fits vouchers (keyed 8 low) r has refl 2
-          none_named (omega arith) some))
-          (in'.vouchers (text_in (column r 1)) (voucher_in (drop 1 r))
-          (told 8 low voucher_in r _ has (voucher_of r has)))
+          (typed_or (column r 3) (λ some. typed_column trees fits vouchers (keyed 8 low) r has refl
+          2 none_named (omega arith) some))
+          (in'.vouchers (text_in (column r 1)) (voucher_in_row (drop 1 r))
+          (told 8 low voucher_in_row r _ has (voucher_of r has)))
       row_ruled (suc (suc (suc (suc (suc (suc (suc (suc (suc zero))))))))) low r has =
           charge_back r ((in'.rows (text_in (column r 1))).charges (nat_in (column r 2))
-          (charge_in (drop 1 r)) (told 9 low charge_in r _ has (charge_of r has)))
+          (charge_in_row (drop 1 r)) (told 9 low charge_in_row r _ has (charge_of r has)))
       row_ruled (suc (suc (suc (suc (suc (suc (suc (suc (suc (suc zero)))))))))) low r has =
-          book_back r (in'.books (nat_in (column r 1)) (book_in (drop 1 r))
-          (told 10 low book_in r _ has (book_of r has)))
+          book_back r (in'.books (nat_in (column r 1)) (book_in_row (drop 1 r))
+          (told 10 low book_in_row r _ has (book_of r has)))
       row_ruled (suc (suc (suc (suc (suc (suc (suc (suc (suc (suc (suc zero))))))))))) low r has =
           grant_book_back shelf r ((in'.rows (text_in (column r 1))).grant_books
           (text_in (column r 2)) (nat_in (column r 3)) (grant_book_in (drop 1 r))
@@ -366,10 +370,10 @@ module _ (shelf : Shelf) (trees : Trees) (fits : Fits book_schema trees) where
           (suc (suc (suc (suc (suc (suc (suc (suc (suc (suc (suc (suc (suc zero))))))))))))) low r
           has =
           covered_back r ((in'.rows (text_in (column r 1))).covered (nat_in (column r 2))
-          (covered_in (drop 1 r)) (told 13 low covered_in r _ has (covered_of r has)))
+          (covered_in_row (drop 1 r)) (told 13 low covered_in_row r _ has (covered_of r has)))
       row_ruled
-          (suc (suc (suc (suc (suc (suc (suc (suc (suc (suc (suc (suc (suc (suc n)))))))))))))) low r
-          has =
+          (suc (suc (suc (suc (suc (suc (suc (suc (suc (suc (suc (suc (suc (suc n)))))))))))))) low
+          r has =
           absurd (omega (arith, low))
 
       pub rows_ruled : AreRuled shelf latest trees

@@ -1,6 +1,6 @@
 -- What a column may hold.
 -- Source: profile.
-use Rattle.std.specs.Prelude.{ℕ, ◌&&◌, ◌||◌, Bool, List, nat_eq, nat_le, nat_lt}
+use Rattle.std.specs.Prelude.{ℕ, ◌&&◌, ◌||◌, Bool, List, nat_le, nat_lt}
 use Rattle.sqlite_sql.specs.Ops.{is_null}
 use Rattle.sqlite_value.specs.declared.value.Value.{Value}
 use Rattle.sqlite_value.specs.Order.{Row, column}
@@ -17,12 +17,12 @@ text_at row at = text_in (column row at)
 -- ---- numbers
 
 -- from the one to the other
-abbrev pub is_within : ℕ → ℕ → ℕ → Bool
-is_within low high n = nat_le low n && nat_le n high
+abbrev pub is_in_bounds : ℕ → ℕ → ℕ → Bool
+is_in_bounds low high n = nat_le low n && nat_le n high
 
 -- NULL, or a number from the one to the other
 abbrev pub is_optional_within : ℕ → ℕ → Value → Bool
-is_optional_within low high v = is_null v || is_within low high (nat_in v)
+is_optional_within low high v = is_null v || is_in_bounds low high (nat_in v)
 
 -- a number of 32 bits, as of a rating group
 abbrev pub is_small : ℕ → Bool
@@ -30,11 +30,11 @@ is_small n = nat_le n 4_294_967_295
 
 -- a number of 32 bits, from 1 on, as of a bucket or a charge
 abbrev pub is_numbering : ℕ → Bool
-is_numbering n = is_within 1 4_294_967_295 n
+is_numbering n = is_in_bounds 1 4_294_967_295 n
 
 -- the next such number, which may be one more than the last
 abbrev pub is_next : ℕ → Bool
-is_next n = is_within 1 4_294_967_296 n
+is_next n = is_in_bounds 1 4_294_967_296 n
 
 -- a moment of commands: before 2100-01-01
 abbrev pub is_moment : ℕ → Bool
@@ -46,4 +46,4 @@ is_money n = nat_le n 1_000_000_000_000_000
 
 -- an amount of money above 0
 abbrev pub is_some_money : ℕ → Bool
-is_some_money n = is_within 1 1_000_000_000_000_000 n
+is_some_money n = is_in_bounds 1 1_000_000_000_000_000 n

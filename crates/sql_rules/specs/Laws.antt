@@ -9,7 +9,7 @@ use Rattle.sqlite_trees.specs.Tree.{Trees}
 use Rattle.shelves.specs.Shelves.{Shelf}
 use Rattle.sql_tables.specs.Schema.{book_schema, latest}
 use Rattle.sql_tables.specs.Statements.{AreStored, Changes, Ends}
-use Rattle.sql_rows.specs.Content.{content_of}
+use Rattle.sql_rows.specs.Content.{tables_content}
 use Rattle.sql_rows.specs.Plain.{ArePlain}
 use Rattle.sql_rules.specs.Mapped.{AreMapped, IsMapped}
 use Rattle.sql_rules.specs.Ruled.{IsInRules}
@@ -18,13 +18,13 @@ use Rattle.sql_rules.specs.Tables.{AreRuled}
 -- where each row is in its rules, so is what the tables hold
 abbrev pub RuledRowsAreTold : Type 0
 RuledRowsAreTold = (shelf : Shelf) (trees : Trees) → Fits book_schema trees
-    → AreRuled shelf latest trees → IsInRules shelf (content_of trees)
+    → AreRuled shelf latest trees → IsInRules shelf (tables_content trees)
 
 -- where what they hold is, so are the rows, if they are as the statements write them
 abbrev pub ContentIsOfRuledRows : Type 0
 ContentIsOfRuledRows = (shelf : Shelf) (trees : Trees) → Fits book_schema trees → AreStored trees
-    → ArePlain trees → IsTrue (is_some (content_of trees).meta)
-    → IsInRules shelf (content_of trees) → AreRuled shelf latest trees
+    → ArePlain trees → IsTrue (is_some (tables_content trees).meta)
+    → IsInRules shelf (tables_content trees) → AreRuled shelf latest trees
 
 -- where each row is in its rules, so is what stands under each key
 abbrev pub RuledRowsAreMapped : Type 0

@@ -17,7 +17,7 @@ use Rattle.wire.specs.Contents.{is_content_text}
 use Rattle.wire.specs.ReadingAnswers.{is_answer_text}
 use Rattle.sql_rows.specs.Words.{KeyKind, KeyName, KeyNumber}
 use Rattle.sql_rows.specs.Values.{text_in}
-use Rattle.sql_rules.specs.Columns.{number_at, text_at, is_within, is_optional_within, is_small}
+use Rattle.sql_rules.specs.Columns.{number_at, text_at, is_in_bounds, is_optional_within, is_small}
 use Rattle.sql_rules.specs.Columns.{is_numbering, is_next, is_moment, is_money, is_some_money}
 
 -- one row alone, at 1; its version and its book are read by who opens the database
@@ -32,7 +32,7 @@ is_ruled_account row =
 abbrev pub is_ruled_bucket : Row → Bool
 is_ruled_bucket row =
     is_numbering (number_at row 2) && is_moment (number_at row 3)
-    && is_within 1 4_102_444_800 (number_at row 4)
+    && is_in_bounds 1 4_102_444_800 (number_at row 4)
     && is_optional_within 0 4_294_967_295 (column row 5) && is_money (number_at row 6)
 
 abbrev pub is_ruled_counter : Row → Bool
@@ -44,7 +44,7 @@ is_ruled_counter row =
 abbrev pub is_ruled_session : Row → Bool
 is_ruled_session row =
     is_session_id (text_at row 2) && is_small (number_at row 3) && is_moment (number_at row 4)
-    && is_within 1 3 (number_at row 5)
+    && is_in_bounds 1 3 (number_at row 5)
 
 -- ---- reservations
 
@@ -74,7 +74,7 @@ is_ruled_hold row = is_some_money (number_at row 5)
 
 -- a reservation's book is on the shelf
 abbrev pub is_ruled_grant_book : Shelf → Row → Bool
-is_ruled_grant_book shelf row = is_within 1 (count shelf) (number_at row 4)
+is_ruled_grant_book shelf row = is_in_bounds 1 (count shelf) (number_at row 4)
 
 -- ---- kept answers
 
@@ -109,7 +109,7 @@ is_ruled_charge row =
 -- a book after the first; its text is read by who opens the database
 abbrev pub is_ruled_book : Row → Bool
 is_ruled_book row =
-    is_within 2 16 (number_at row 1) && is_within 1 4_102_444_799 (number_at row 2)
+    is_in_bounds 2 16 (number_at row 1) && is_in_bounds 1 4_102_444_799 (number_at row 2)
 
 abbrev pub is_ruled_allowance : Row → Bool
 is_ruled_allowance row = is_numbering (number_at row 2)

@@ -59,8 +59,8 @@ pub record Tells {A : Type 0} (are : Trees → Type 0) (old new : State)
   pub survives : Survives old new (λ _. ⊥)
 
 -- the columns at these places of each row of a table, in the order of their rowids
-abbrev pub rows_of : ℕ → List ℕ → Query
-rows_of tree places = record {
+abbrev pub rows_query : ℕ → List ℕ → Query
+rows_query tree places = record {
   from = inner tree end;
   filter = [];
   group = None;
@@ -76,7 +76,7 @@ rows_of tree places = record {
 pub record IsRows (v : ℕ) (text : List ℕ) (tree : ℕ) (places : List ℕ) : Type 0 where
   pub names : List (List ℕ)
   pub command : command_of (understood (schema_at v) text)
-      ≡ Select (record { lets = []; body = rows_of tree places }) names
+      ≡ Select (record { lets = []; body = rows_query tree places }) names
   pub listing : reads_listing (schema_at v) text ≡ false
   pub plain : IsPlain (understood (schema_at v) text)
 

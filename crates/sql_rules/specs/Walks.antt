@@ -1,5 +1,5 @@
 -- A walk over the rows of a selection.
-use Rattle.std.specs.Prelude.{◌≡◌, ℤ, Bool, true, false, List, [], Option, Some, None, IsTrue}
+use Rattle.std.specs.Prelude.{ℤ, Bool, true, false, List, Option, IsTrue}
 use Rattle.std.specs.List.{AllByRecursion}
 use Rattle.sqlite_value.specs.Order.{Row}
 use Rattle.sql_tables.specs.Rises.{AreRising, Climbs}

@@ -5,7 +5,7 @@ ghost use Rattle.sqlite_sql.specs.Ops.{is_null};
 ghost use Rattle.sqlite_value.specs.Order.{column};
 ghost use Rattle.sqlite_value.specs.declared.value.Value.TheVariants.{Int};
 ghost use Rattle.sql_rows.specs.Values.{nat_in};
-ghost use Rattle.sql_rules.specs.Columns.{is_optional_within, is_within, number_at, text_at};
+ghost use Rattle.sql_rules.specs.Columns.{is_optional_within, is_in_bounds, number_at, text_at};
 
 use sqlite::Row;
 use sqlite::types::ValueRef;
@@ -64,7 +64,7 @@ pub(crate) fn is_null_at(row: &Row, at: usize) -> bool
 
 /// Whether a number is from the one to the other.
 pub(crate) fn is_within(number: u64, low: u64, high: u64) -> bool
-    ensures { result ≡ is_within low high number }
+    ensures { result ≡ is_in_bounds low high number }
 {
     low <= number && number <= high
 }

@@ -1,7 +1,7 @@
 //! A walk over all rows of a table, which tests that their rowids rise and that they are in their
 //! rules.
 
-ghost use Rattle.std.specs.Prelude.{◌≡◌, ◌<◌, ℕ, ℤ, Bool, [], ◌∷◌, ◌++◌, List, None, IsTrue, IfOk};
+ghost use Rattle.std.specs.Prelude.{◌≡◌, ◌<◌, ℤ, Bool, [], ◌∷◌, ◌++◌, List, None, IsTrue, IfOk};
 ghost use Rattle.std.specs.Prelude.{IfSome, OnOk, length, slice_index_or};
 ghost use Rattle.sqlite_value.specs.Order.{Row as Values};
 ghost use Rattle.sqlite.specs.Given.{IsPlain};

@@ -1,17 +1,15 @@
 -- What a statement on one table keeps of the others.
-use Rattle.std.proofs.Common.{◌≡◌, ◌≢◌, ◌⊎◌, inl, inr, ℕ, ℤ, List, [], ◌∷◌, Bool, true, false, not}
-use Rattle.std.proofs.Common.{◌&&◌, ◌==◌, refl, sym, ap, subst, ◌∙◌, eq-eqb, eqb-true, true-eqb}
-use Rattle.std.proofs.lemmas.Bool.{cases_Bool, and_parts}
+use Rattle.std.proofs.Common.{◌≡◌, ◌≢◌, ℕ, List, [], ◌∷◌, Bool, true, false, not}
+use Rattle.std.proofs.Common.{◌==◌, refl, sym, ap, subst, ◌∙◌, eq-eqb, true-eqb}
+use Rattle.std.proofs.lemmas.Bool.{and_parts}
 use Rattle.std.specs.List.{AllByRecursion, list_all}
-use Rattle.sqlite_value.specs.Order.{Row}
 use Rattle.sqlite_trees.specs.Tree.{Trees}
 use Rattle.sqlite_trees.specs.Objects.{catalog_tree}
 use Rattle.sqlite_schema.specs.declared.schema.Table.{Table}
 use Rattle.sqlite_schema.specs.declared.schema.Index.{Index}
-use Rattle.sqlite_schema.specs.declared.schema.Schema.{Schema}
 use Rattle.sqlite_rules.specs.Edit.{IsNoIndex}
 use Rattle.sql_tables.specs.Keyed.{IsStored}
-use Rattle.sql_tables.specs.Statements.{AreStored, Changes}
+use Rattle.sql_tables.specs.Statements.{AreStored}
 use Rattle.sql_tables.specs.Schema.{book_schema}
 
 abbrev is_no_index : ℕ → Bool

@@ -1,12 +1,12 @@
 -- What a selection that was decoded tells of the rows under a key.
-use Rattle.std.proofs.Common.{◌≡◌, ℕ, List, [], ◌∷◌, map, drop, Bool, true, false, ◌&&◌, Some, None}
-use Rattle.std.proofs.Common.{Option, is_eq, refl, sym, ap, ◌∙◌}
+use Rattle.std.proofs.Common.{◌≡◌, List, map, drop, Bool, true, false, ◌&&◌, Some, None}
+use Rattle.std.proofs.Common.{Option, refl, sym, ap, ◌∙◌}
 use Rattle.std.specs.Prelude.{option_and_then, option_map}
 use Rattle.std.proofs.lemmas.Bool.{and_parts, and_from}
 use Rattle.std.specs.List.{AllByRecursion, find}
 use Rattle.std.specs.Ordering.{eq_by_cmp}
 use Rattle.std.proofs.lemmas.Option.{same_Some}
-use Rattle.sqlite_value.specs.Order.{Row, column, row_cmp}
+use Rattle.sqlite_value.specs.Order.{Row, row_cmp}
 use Rattle.sqlite_trees.specs.Tree.{Trees}
 use Rattle.sqlite_sql.specs.Ops.{is_null}
 use Rattle.sqlite_schema.specs.declared.schema.Table.{Table}
@@ -14,7 +14,7 @@ use Rattle.sqlite_schema.specs.Rules.{Fits, guards}
 use Rattle.sqlite_rules.specs.Lists.{Has}
 use Rattle.sql_tables.specs.Keyed.{key_of, look, IsStored}
 use Rattle.sql_tables.specs.Schema.{book_schema, key_index}
-use Rattle.sql_tables.specs.Selects.{Selects, only, one_or_none}
+use Rattle.sql_tables.specs.Selects.{Selects, passing, one_or_none}
 use Rattle.sql_tables.proofs.Keys.{keys_back}
 use Rattle.sql_tables.proofs.Selected.{AreAnswered, selected}
 use Rattle.sql_tables.proofs.Selections.{meets, full_key, selection_tells}
@@ -24,7 +24,7 @@ mapped_some : {X : Type 0} (of : Row → X) (o : Option Row) →
 mapped_some of None = refl
 mapped_some of (Some v) = refl
 
-pub only_all : {X : Type 0} (o : Option X) → only (λ x. true) o ≡ o
+pub only_all : {X : Type 0} (o : Option X) → passing (λ x. true) o ≡ o
 only_all None = refl
 only_all (Some x) = refl
 
@@ -65,7 +65,7 @@ module _ (table : Table) (tabled : Has book_schema.tables table)
       extra r ≡ true)
       → ((x : X) (r : Row) → extra r ≡ true → cells x ≡ columns r → live x ≡ true)
       → (xs : List X) → AreAnswered test columns (trees table.tree) (map cells xs)
-      → find is xs ≡ only live (option_map of (look table trees key))
+      → find is xs ≡ passing live (option_map of (look table trees key))
   answered_told is live front rest extra tests splits wanted lives told xs answered =
       selection_tells book_schema table tabled
       (key_index table) listed guarding refl refl trees fits stored
@@ -79,7 +79,7 @@ module _ (table : Table) (tabled : Has book_schema.tables table)
         tests r ∙ and_from _ _ both.0 (lives r m (ap live (same_Some _ _ d) ∙ l)),
         λ y e. sym (wanted y r (sym e)) ∙ both.1,
       ))
-      ∙ ap (only live) (mapped_some of (look table trees key))
+      ∙ ap (passing live) (mapped_some of (look table trees key))
 
   pub listed_told : (is live : X → Bool) (front rest extra : Row → Bool)
       → ((r : Row) → test r ≡ (front r && extra r))
@@ -89,7 +89,7 @@ module _ (table : Table) (tabled : Has book_schema.tables table)
       extra r ≡ true)
       → ((x : X) (r : Row) → extra r ≡ true → cells x ≡ columns r → live x ≡ true)
       → (xs : List X) → Selects test columns (trees table.tree) (map cells xs)
-      → find is xs ≡ only live (option_map of (look table trees key))
+      → find is xs ≡ passing live (option_map of (look table trees key))
   listed_told is live front rest extra tests splits wanted lives told xs selects =
       answered_told is live front rest extra tests splits wanted lives told xs
       (selected test columns (trees table.tree) (map cells xs) selects)

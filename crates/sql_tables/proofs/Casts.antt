@@ -6,7 +6,7 @@ use Rattle.sqlite_value.specs.declared.value.Value.TheVariants.{Null, Int, Text}
 use Rattle.sqlite_sql.specs.Ops.{unary}
 use Rattle.sqlite_schema.specs.declared.schema.Kind.TheVariants.{Integer, Text as TextKind}
 use Rattle.sqlite_rules.specs.Cast.{cast}
-use Rattle.sqlite.specs.Values.{or_null, bound_value}
+use Rattle.sqlite.specs.Values.{or_null}
 
 either : (b : Bool) (x : Value) → cond b x x ≡ x
 either true x = refl

@@ -1,10 +1,10 @@
 -- A row is the list of its columns, and texts and numbers in SQL's tests.
-use Rattle.std.proofs.Common.{◌≡◌, ◌≢◌, ℕ, pos, suc, List, [], ◌∷◌, Bool, true, false, ◌&&◌, length}
-use Rattle.std.proofs.Common.{Some, None, Option, is_eq, refl, sym, ap, ap₂, ◌∙◌, arith}
+use Rattle.std.proofs.Common.{◌≡◌, ◌≢◌, ℕ, pos, suc, [], ◌∷◌, false, length}
+use Rattle.std.proofs.Common.{Some, None, Option, is_eq, refl, ap, ap₂, ◌∙◌, arith}
 use Rattle.std.specs.Prelude.{MatchOption}
 use Rattle.std.proofs.lemmas.Cmp.{tied_back}
 use Rattle.sqlite_value.specs.declared.value.Value.{Value}
-use Rattle.sqlite_value.specs.declared.value.Value.TheVariants.{Null, Int, Text}
+use Rattle.sqlite_value.specs.declared.value.Value.TheVariants.{Null, Int}
 use Rattle.sqlite_value.specs.declared.keys.Collation.TheVariants.{Binary}
 use Rattle.sqlite_value.specs.Order.{Row, column, value_cmp}
 use Rattle.sqlite_value.proofs.OrderLemmas.{value_cmp_total}

@@ -1,15 +1,14 @@
 -- How many rows a table has after an upsert.
-use Rattle.std.proofs.Common.{◌≡◌, ◌⊎◌, inl, inr, ℕ, ℤ, suc, ◌+◌, List, [], ◌∷◌, map, filter}
-use Rattle.std.proofs.Common.{length, Bool, true, false, not, cond, Ordering, Less, Equal, Greater}
-use Rattle.std.proofs.Common.{Some, None, Option, is_eq, is_some, refl, sym, ap, subst, ◌∙◌, arith}
-use Rattle.std.proofs.Common.{add-one}
+use Rattle.std.proofs.Common.{◌≡◌, inl, inr, ℕ, ℤ, suc, ◌+◌, List, [], ◌∷◌}
+use Rattle.std.proofs.Common.{length, Bool, true, false, not, Ordering, Less, Equal, Greater}
+use Rattle.std.proofs.Common.{Some, None, Option, is_eq, is_some, refl, sym, ap, ◌∙◌, add-one}
 use Rattle.std.specs.Prelude.{if◌then◌else◌}
 use Rattle.std.proofs.lemmas.Bool.{cases_Bool, or_parts}
 use Rattle.std.proofs.lemmas.Cmp.{tied_back}
 use Rattle.std.specs.FinMap.{get, get-from_entries}
 use Rattle.std.specs.FinMap.Entries.{find as look_in}
 use Rattle.std.specs.List.{AllByRecursion}
-use Rattle.std.specs.Ordering.{eq_by_cmp, match_ordering}
+use Rattle.std.specs.Ordering.{eq_by_cmp}
 use Rattle.sqlite_value.specs.declared.value.Value.{Value}
 use Rattle.sqlite_value.specs.declared.value.Value.TheVariants.{Null, Int}
 use Rattle.sqlite_value.specs.Order.{Row, row_cmp, value_cmp}
@@ -24,7 +23,7 @@ use Rattle.sqlite_rules.specs.Edit.{id_in, next_rowid, is_taken}
 use Rattle.sqlite_rules.proofs.ListLemmas.{all_has, all_from}
 use Rattle.sqlite_rules.proofs.TableLemmas.{int_is}
 use Rattle.sql_tables.specs.Keyed.{key_of, entries_of, table_of, IsStored}
-use Rattle.sql_tables.proofs.Upserts.{Put, Added, Moved, Upserted}
+use Rattle.sql_tables.proofs.Upserts.{Upserted}
 use Rattle.sql_tables.proofs.Ties.{equal_is}
 use Rattle.sql_tables.proofs.Selections.{meets, met_some, met_has}
 

@@ -1,6 +1,5 @@
 -- What a CREATE TABLE makes of the schema, and each of the tables in turn.
-use Rattle.std.proofs.Common.{◌≡◌, ℕ, List, [], false}
-use Rattle.std.proofs.Common.{None, Ok, refl, sym, ap, subst, ◌∙◌}
+use Rattle.std.proofs.Common.{◌≡◌, ℕ, List, [], false, None, Ok, refl, sym, ap, subst, ◌∙◌}
 use Rattle.sqlite_trees.specs.Tree.{Trees}
 use Rattle.sqlite_schema.specs.declared.schema.Table.{Table}
 use Rattle.sqlite_schema.specs.declared.schema.Schema.{Schema}
@@ -52,7 +51,8 @@ makes stage table text means old new count has h =
     let schema : first.0.schema ≡ created stage table = made.is
     ∙ ap (λ s. created s made.table) has
     ∙ ap (created stage) same in
-    let plain : lacks_sequence first.0.schema ≡ false = ap lacks_sequence schema ∙ means.uncounted in
+    let plain : lacks_sequence first.0.schema ≡ false =
+    ap lacks_sequence schema ∙ means.uncounted in
     let now : new.now ≡ first.0 = ap (λ (p : Tally × Database). p.1) (same_value all.2) ∙ same_value
     (rw plain at first.2) in
     let is : new.now.schema ≡ created stage table = ap (λ (d : Database). d.schema) now ∙ schema in
@@ -179,7 +179,8 @@ grant_books_next = refl
 
 -- ---- version 3
 
-pub allowance_buckets_is : IsText (stage 15) (record allowance_buckets { tree = 0 }) allowance_buckets_text
+pub allowance_buckets_is : IsText (stage 15) (record allowance_buckets { tree = 0 })
+    allowance_buckets_text
 unfolding understood everything
 allowance_buckets_is =
     record { command = refl; whole = refl; plain = (refl, refl); defined = refl; uncounted = refl }

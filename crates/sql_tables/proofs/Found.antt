@@ -1,5 +1,5 @@
 -- What is under a key after a statement.
-use Rattle.std.proofs.Common.{◌≡◌, ℕ, List, [], ◌∷◌, take, length, Bool, true, false, ◌&&◌, cond}
+use Rattle.std.proofs.Common.{◌≡◌, ◌∷◌, take, length, Bool, true, false, ◌&&◌, cond}
 use Rattle.std.proofs.Common.{Some, None, Option, refl, ap, ◌∙◌}
 use Rattle.std.specs.Prelude.{option_map, is_some, if◌then◌else◌}
 use Rattle.std.specs.FinMap.{get, get-insert}

@@ -1,7 +1,7 @@
 -- What a refusal keeps.
-use Rattle.std.proofs.Common.{◌≡◌, ◌⊎◌, inl, inr, ℕ, List, Option, Some, None, Ok, Err, Result, IfOk}
-use Rattle.std.proofs.Common.{OnOk, OnErr, IsTrue, refl, true, false, Bool, sym, subst, ap, ◌∙◌}
-use Rattle.std.proofs.Common.{arith, ◌≤◌}
+use Rattle.std.proofs.Common.{◌≡◌, ◌⊎◌, inl, inr, ℕ, List, Option, Some, None, Ok, Err, Result}
+use Rattle.std.proofs.Common.{IfOk, OnOk, OnErr, IsTrue, refl, true, false, Bool, sym, subst, ap}
+use Rattle.std.proofs.Common.{◌∙◌, arith}
 use Rattle.std.specs.Result.{IfErr}
 use Rattle.sqlite_value.specs.Order.{Row}
 use Rattle.sqlite_schema.specs.declared.command.Returning.{Returning}
@@ -12,10 +12,9 @@ use Rattle.sqlite.specs.Listing.{understood}
 use Rattle.sqlite_catalog.specs.Listing.{IsSound}
 use Rattle.sqlite_schema.specs.declared.schema.Constraint.TheVariants.{ForeignKey}
 use Rattle.sqlite_schema.specs.Rules.{Fits, Keeps}
-use Rattle.sqlite.specs.State.{State, IsLive, ExecutesInside, KeepsCommit, Shows, IsUnchanged}
+use Rattle.sqlite.specs.State.{State, IsLive, ExecutesInside, KeepsCommit, IsUnchanged}
 use Rattle.sqlite.specs.State.{Shown, ShowsRows, FailsToQuery, FailsToShow, IsNotRun, HasCleanDisk}
 use Rattle.sqlite.specs.State.{Survives, CommitsShowing, IsTooLate}
-use Rattle.sqlite_trees.specs.View.{doubt}
 use Rattle.sqlite.proofs.Callers.{IsPlain, never_commits}
 use Rattle.sqlite.proofs.StateLemmas.{survives_weaker}
 use Rattle.sqlite_trees.specs.Tree.{Trees}

@@ -1,7 +1,6 @@
 -- One more table whose rowids differ.
 use Rattle.std.proofs.Common.{◌≡◌, ℕ, zero, suc, ◌+◌, List, [], ◌∷◌, take, length, sym, ap, subst}
-use Rattle.std.proofs.Common.{◌∙◌}
-use Rattle.std.proofs.Common.{refl, arith, Ok, Err, Result}
+use Rattle.std.proofs.Common.{◌∙◌, refl, arith, Ok, Err, Result}
 use Rattle.std.specs.List.{AllByRecursion}
 use Rattle.sqlite_value.specs.Order.{Row}
 use Rattle.sqlite_trees.specs.declared.store.Store.{Ghosts}
@@ -15,7 +14,8 @@ use Rattle.sqlite.proofs.StateLemmas.{survives_then}
 use Rattle.sql_tables.specs.Keyed.{IsStored}
 use Rattle.sql_tables.specs.Schema.{schema_at}
 use Rattle.sql_tables.specs.Stages.{AreStoredAt}
-use Rattle.sql_tables.specs.Opens.{Finds, FindsAll, HasStoredTo, IsNext, IsStoredTo, IsTold}
+use Rattle.sql_tables.specs.Opens.{Finds, FindsAll, HasStoredTo, IsNext, IsStoredTo}
+use Rattle.sql_tables.specs.Opens.{IsOpenFaultTold}
 use Rattle.sql_tables.specs.declared.fault.OpenFault.{OpenFault}
 use Rattle.sql_tables.specs.Rises.{AreRising}
 use Rattle.sql_tables.proofs.Ascents.{all_end}
@@ -57,8 +57,8 @@ told_twice g v text k is old was new rows then' shown falls so all =
     let split =
     subst (AllByRecursion (λ (t : Table). IsStored ((state g old).now.trees t.tree))) is.all all in
     let one : IsStored ((state g old).now.trees is.table.tree) =
-    (all_end (λ (t : Table). IsStored ((state g old).now.trees t.tree)) (take k (schema_at v).tables)
-    (is.table ∷ is.rest) split).0 in
+    (all_end (λ (t : Table). IsStored ((state g old).now.trees t.tree))
+    (take k (schema_at v).tables) (is.table ∷ is.rest) split).0 in
     let here : IsStored ((state g was).now.trees is.table.tree) =
     subst (λ (d : Database). IsStored (d.trees is.table.tree)) (sym at) one in
     falls (rows_rise v text is.table is.rowids (state g was) new rows has shown here)
@@ -97,7 +97,7 @@ found_not v k a b c e r is so f = subst (FindsAll v a c) (sym is) (record {
   told = f.told;
   means = λ clean.
       let here = so.1 (omega (arith, f.survives.clean, clean)) in
-      subst (λ db. IsTold db e) here.0.0.now_is (f.means clean);
+      subst (λ db. IsOpenFaultTold db e) here.0.0.now_is (f.means clean);
   survives = survives_then a b c (λ _. ⊥) (λ _. ⊥) (λ _. ⊥) (λ clean db none. none)
       (λ clean db none. none) so.0 f.survives;
 })

@@ -1,11 +1,9 @@
 -- The texts that select the rowids of each table, over the schema of each version.
-use Rattle.std.proofs.Common.{◌≡◌, refl, codes, ℕ, zero, suc, ◌+◌, ◌<◌, ◌≤◌, List, [], ◌∷◌, ◌++◌}
-use Rattle.std.proofs.Common.{take}
+use Rattle.std.proofs.Common.{◌≡◌, refl, codes, ℕ, zero, suc, ◌+◌, ◌<◌, ◌≤◌, List, [], ◌∷◌}
 use Rattle.std.proofs.Common.{length, slice_index_or, subst, sym, arith}
 use Rattle.std.specs.Prelude.{⊤, drop}
 use Rattle.sqlite_tied.specs.Compute.{everything}
 use Rattle.sqlite.specs.Listing.{understood}
-use Rattle.sqlite_schema.specs.declared.schema.Table.{Table}
 use Rattle.sql_tables.specs.Schema.{meta, accounts, buckets, counters, sessions, session_groups}
 use Rattle.sql_tables.specs.Schema.{holds, answers, vouchers, charges, books, grant_books}
 use Rattle.sql_tables.specs.Schema.{allowance_buckets, covered, schema_at}
@@ -36,7 +34,8 @@ sessions_at_1 : IsRowids 1 (codes "SELECT rowid FROM sessions ORDER BY rowid") s
 unfolding understood everything
 sessions_at_1 = record { command = refl; listing = refl; plain = (refl, refl) }
 
-session_groups_at_1 : IsRowids 1 (codes "SELECT rowid FROM session_groups ORDER BY rowid") session_groups
+session_groups_at_1 : IsRowids 1 (codes "SELECT rowid FROM session_groups ORDER BY rowid")
+    session_groups
 unfolding understood everything
 session_groups_at_1 = record { command = refl; listing = refl; plain = (refl, refl) }
 
@@ -58,25 +57,85 @@ charges_at_1 = record { command = refl; listing = refl; plain = (refl, refl) }
 
 are_next_1 : AreNext 1 0 rowids_texts
 are_next_1 = (
-  (λ low. record { table = meta; rest = drop 1 (schema_at 1).tables; all = refl; next = refl; rowids = meta_at_1 }),
+  (λ low. record {
+    table = meta;
+    rest = drop 1 (schema_at 1).tables;
+    all = refl;
+    next = refl;
+    rowids = meta_at_1;
+  }),
   (
-    (λ low. record { table = accounts; rest = drop 2 (schema_at 1).tables; all = refl; next = refl; rowids = accounts_at_1 }),
+    (λ low. record {
+      table = accounts;
+      rest = drop 2 (schema_at 1).tables;
+      all = refl;
+      next = refl;
+      rowids = accounts_at_1;
+    }),
     (
-      (λ low. record { table = buckets; rest = drop 3 (schema_at 1).tables; all = refl; next = refl; rowids = buckets_at_1 }),
+      (λ low. record {
+        table = buckets;
+        rest = drop 3 (schema_at 1).tables;
+        all = refl;
+        next = refl;
+        rowids = buckets_at_1;
+      }),
       (
-        (λ low. record { table = counters; rest = drop 4 (schema_at 1).tables; all = refl; next = refl; rowids = counters_at_1 }),
+        (λ low. record {
+          table = counters;
+          rest = drop 4 (schema_at 1).tables;
+          all = refl;
+          next = refl;
+          rowids = counters_at_1;
+        }),
         (
-          (λ low. record { table = sessions; rest = drop 5 (schema_at 1).tables; all = refl; next = refl; rowids = sessions_at_1 }),
+          (λ low. record {
+            table = sessions;
+            rest = drop 5 (schema_at 1).tables;
+            all = refl;
+            next = refl;
+            rowids = sessions_at_1;
+          }),
           (
-            (λ low. record { table = session_groups; rest = drop 6 (schema_at 1).tables; all = refl; next = refl; rowids = session_groups_at_1 }),
+            (λ low. record {
+              table = session_groups;
+              rest = drop 6 (schema_at 1).tables;
+              all = refl;
+              next = refl;
+              rowids = session_groups_at_1;
+            }),
             (
-              (λ low. record { table = holds; rest = drop 7 (schema_at 1).tables; all = refl; next = refl; rowids = holds_at_1 }),
+              (λ low. record {
+                table = holds;
+                rest = drop 7 (schema_at 1).tables;
+                all = refl;
+                next = refl;
+                rowids = holds_at_1;
+              }),
               (
-                (λ low. record { table = answers; rest = drop 8 (schema_at 1).tables; all = refl; next = refl; rowids = answers_at_1 }),
+                (λ low. record {
+                  table = answers;
+                  rest = drop 8 (schema_at 1).tables;
+                  all = refl;
+                  next = refl;
+                  rowids = answers_at_1;
+                }),
                 (
-                  (λ low. record { table = vouchers; rest = drop 9 (schema_at 1).tables; all = refl; next = refl; rowids = vouchers_at_1 }),
+                  (λ low. record {
+                    table = vouchers;
+                    rest = drop 9 (schema_at 1).tables;
+                    all = refl;
+                    next = refl;
+                    rowids = vouchers_at_1;
+                  }),
                   (
-                    (λ low. record { table = charges; rest = drop 10 (schema_at 1).tables; all = refl; next = refl; rowids = charges_at_1 }),
+                    (λ low. record {
+                      table = charges;
+                      rest = drop 10 (schema_at 1).tables;
+                      all = refl;
+                      next = refl;
+                      rowids = charges_at_1;
+                    }),
                     (
                       (λ low. let no' : 10 < 10 = low in absurd (omega (arith, no'))),
                       (
@@ -121,7 +180,8 @@ sessions_at_2 : IsRowids 2 (codes "SELECT rowid FROM sessions ORDER BY rowid") s
 unfolding understood everything
 sessions_at_2 = record { command = refl; listing = refl; plain = (refl, refl) }
 
-session_groups_at_2 : IsRowids 2 (codes "SELECT rowid FROM session_groups ORDER BY rowid") session_groups
+session_groups_at_2 : IsRowids 2 (codes "SELECT rowid FROM session_groups ORDER BY rowid")
+    session_groups
 unfolding understood everything
 session_groups_at_2 = record { command = refl; listing = refl; plain = (refl, refl) }
 
@@ -151,29 +211,101 @@ grant_books_at_2 = record { command = refl; listing = refl; plain = (refl, refl)
 
 are_next_2 : AreNext 2 0 rowids_texts
 are_next_2 = (
-  (λ low. record { table = meta; rest = drop 1 (schema_at 2).tables; all = refl; next = refl; rowids = meta_at_2 }),
+  (λ low. record {
+    table = meta;
+    rest = drop 1 (schema_at 2).tables;
+    all = refl;
+    next = refl;
+    rowids = meta_at_2;
+  }),
   (
-    (λ low. record { table = accounts; rest = drop 2 (schema_at 2).tables; all = refl; next = refl; rowids = accounts_at_2 }),
+    (λ low. record {
+      table = accounts;
+      rest = drop 2 (schema_at 2).tables;
+      all = refl;
+      next = refl;
+      rowids = accounts_at_2;
+    }),
     (
-      (λ low. record { table = buckets; rest = drop 3 (schema_at 2).tables; all = refl; next = refl; rowids = buckets_at_2 }),
+      (λ low. record {
+        table = buckets;
+        rest = drop 3 (schema_at 2).tables;
+        all = refl;
+        next = refl;
+        rowids = buckets_at_2;
+      }),
       (
-        (λ low. record { table = counters; rest = drop 4 (schema_at 2).tables; all = refl; next = refl; rowids = counters_at_2 }),
+        (λ low. record {
+          table = counters;
+          rest = drop 4 (schema_at 2).tables;
+          all = refl;
+          next = refl;
+          rowids = counters_at_2;
+        }),
         (
-          (λ low. record { table = sessions; rest = drop 5 (schema_at 2).tables; all = refl; next = refl; rowids = sessions_at_2 }),
+          (λ low. record {
+            table = sessions;
+            rest = drop 5 (schema_at 2).tables;
+            all = refl;
+            next = refl;
+            rowids = sessions_at_2;
+          }),
           (
-            (λ low. record { table = session_groups; rest = drop 6 (schema_at 2).tables; all = refl; next = refl; rowids = session_groups_at_2 }),
+            (λ low. record {
+              table = session_groups;
+              rest = drop 6 (schema_at 2).tables;
+              all = refl;
+              next = refl;
+              rowids = session_groups_at_2;
+            }),
             (
-              (λ low. record { table = holds; rest = drop 7 (schema_at 2).tables; all = refl; next = refl; rowids = holds_at_2 }),
+              (λ low. record {
+                table = holds;
+                rest = drop 7 (schema_at 2).tables;
+                all = refl;
+                next = refl;
+                rowids = holds_at_2;
+              }),
               (
-                (λ low. record { table = answers; rest = drop 8 (schema_at 2).tables; all = refl; next = refl; rowids = answers_at_2 }),
+                (λ low. record {
+                  table = answers;
+                  rest = drop 8 (schema_at 2).tables;
+                  all = refl;
+                  next = refl;
+                  rowids = answers_at_2;
+                }),
                 (
-                  (λ low. record { table = vouchers; rest = drop 9 (schema_at 2).tables; all = refl; next = refl; rowids = vouchers_at_2 }),
+                  (λ low. record {
+                    table = vouchers;
+                    rest = drop 9 (schema_at 2).tables;
+                    all = refl;
+                    next = refl;
+                    rowids = vouchers_at_2;
+                  }),
                   (
-                    (λ low. record { table = charges; rest = drop 10 (schema_at 2).tables; all = refl; next = refl; rowids = charges_at_2 }),
+                    (λ low. record {
+                      table = charges;
+                      rest = drop 10 (schema_at 2).tables;
+                      all = refl;
+                      next = refl;
+                      rowids = charges_at_2;
+                    }),
                     (
-                      (λ low. record { table = books; rest = drop 11 (schema_at 2).tables; all = refl; next = refl; rowids = books_at_2 }),
+                      (λ low. record {
+                        table = books;
+                        rest = drop 11 (schema_at 2).tables;
+                        all = refl;
+                        next = refl;
+                        rowids = books_at_2;
+                      }),
                       (
-                        (λ low. record { table = grant_books; rest = drop 12 (schema_at 2).tables; all = refl; next = refl; rowids = grant_books_at_2 }),
+                        (λ low. record {
+                          table = grant_books;
+                          rest = drop 12 (schema_at 2).tables;
+                          all = refl;
+                          next = refl;
+                          rowids = grant_books_at_2;
+                        }),
                         (
                           (λ low. let no' : 12 < 12 = low in absurd (omega (arith, no'))),
                           (
@@ -214,7 +346,8 @@ sessions_at_3 : IsRowids 3 (codes "SELECT rowid FROM sessions ORDER BY rowid") s
 unfolding understood everything
 sessions_at_3 = record { command = refl; listing = refl; plain = (refl, refl) }
 
-session_groups_at_3 : IsRowids 3 (codes "SELECT rowid FROM session_groups ORDER BY rowid") session_groups
+session_groups_at_3 : IsRowids 3 (codes "SELECT rowid FROM session_groups ORDER BY rowid")
+    session_groups
 unfolding understood everything
 session_groups_at_3 = record { command = refl; listing = refl; plain = (refl, refl) }
 
@@ -242,7 +375,8 @@ grant_books_at_3 : IsRowids 3 (codes "SELECT rowid FROM grant_books ORDER BY row
 unfolding understood everything
 grant_books_at_3 = record { command = refl; listing = refl; plain = (refl, refl) }
 
-allowance_buckets_at_3 : IsRowids 3 (codes "SELECT rowid FROM allowance_buckets ORDER BY rowid") allowance_buckets
+allowance_buckets_at_3 : IsRowids 3 (codes "SELECT rowid FROM allowance_buckets ORDER BY rowid")
+    allowance_buckets
 unfolding understood everything
 allowance_buckets_at_3 = record { command = refl; listing = refl; plain = (refl, refl) }
 
@@ -252,33 +386,117 @@ covered_at_3 = record { command = refl; listing = refl; plain = (refl, refl) }
 
 are_next_3 : AreNext 3 0 rowids_texts
 are_next_3 = (
-  (λ low. record { table = meta; rest = drop 1 (schema_at 3).tables; all = refl; next = refl; rowids = meta_at_3 }),
+  (λ low. record {
+    table = meta;
+    rest = drop 1 (schema_at 3).tables;
+    all = refl;
+    next = refl;
+    rowids = meta_at_3;
+  }),
   (
-    (λ low. record { table = accounts; rest = drop 2 (schema_at 3).tables; all = refl; next = refl; rowids = accounts_at_3 }),
+    (λ low. record {
+      table = accounts;
+      rest = drop 2 (schema_at 3).tables;
+      all = refl;
+      next = refl;
+      rowids = accounts_at_3;
+    }),
     (
-      (λ low. record { table = buckets; rest = drop 3 (schema_at 3).tables; all = refl; next = refl; rowids = buckets_at_3 }),
+      (λ low. record {
+        table = buckets;
+        rest = drop 3 (schema_at 3).tables;
+        all = refl;
+        next = refl;
+        rowids = buckets_at_3;
+      }),
       (
-        (λ low. record { table = counters; rest = drop 4 (schema_at 3).tables; all = refl; next = refl; rowids = counters_at_3 }),
+        (λ low. record {
+          table = counters;
+          rest = drop 4 (schema_at 3).tables;
+          all = refl;
+          next = refl;
+          rowids = counters_at_3;
+        }),
         (
-          (λ low. record { table = sessions; rest = drop 5 (schema_at 3).tables; all = refl; next = refl; rowids = sessions_at_3 }),
+          (λ low. record {
+            table = sessions;
+            rest = drop 5 (schema_at 3).tables;
+            all = refl;
+            next = refl;
+            rowids = sessions_at_3;
+          }),
           (
-            (λ low. record { table = session_groups; rest = drop 6 (schema_at 3).tables; all = refl; next = refl; rowids = session_groups_at_3 }),
+            (λ low. record {
+              table = session_groups;
+              rest = drop 6 (schema_at 3).tables;
+              all = refl;
+              next = refl;
+              rowids = session_groups_at_3;
+            }),
             (
-              (λ low. record { table = holds; rest = drop 7 (schema_at 3).tables; all = refl; next = refl; rowids = holds_at_3 }),
+              (λ low. record {
+                table = holds;
+                rest = drop 7 (schema_at 3).tables;
+                all = refl;
+                next = refl;
+                rowids = holds_at_3;
+              }),
               (
-                (λ low. record { table = answers; rest = drop 8 (schema_at 3).tables; all = refl; next = refl; rowids = answers_at_3 }),
+                (λ low. record {
+                  table = answers;
+                  rest = drop 8 (schema_at 3).tables;
+                  all = refl;
+                  next = refl;
+                  rowids = answers_at_3;
+                }),
                 (
-                  (λ low. record { table = vouchers; rest = drop 9 (schema_at 3).tables; all = refl; next = refl; rowids = vouchers_at_3 }),
+                  (λ low. record {
+                    table = vouchers;
+                    rest = drop 9 (schema_at 3).tables;
+                    all = refl;
+                    next = refl;
+                    rowids = vouchers_at_3;
+                  }),
                   (
-                    (λ low. record { table = charges; rest = drop 10 (schema_at 3).tables; all = refl; next = refl; rowids = charges_at_3 }),
+                    (λ low. record {
+                      table = charges;
+                      rest = drop 10 (schema_at 3).tables;
+                      all = refl;
+                      next = refl;
+                      rowids = charges_at_3;
+                    }),
                     (
-                      (λ low. record { table = books; rest = drop 11 (schema_at 3).tables; all = refl; next = refl; rowids = books_at_3 }),
+                      (λ low. record {
+                        table = books;
+                        rest = drop 11 (schema_at 3).tables;
+                        all = refl;
+                        next = refl;
+                        rowids = books_at_3;
+                      }),
                       (
-                        (λ low. record { table = grant_books; rest = drop 12 (schema_at 3).tables; all = refl; next = refl; rowids = grant_books_at_3 }),
+                        (λ low. record {
+                          table = grant_books;
+                          rest = drop 12 (schema_at 3).tables;
+                          all = refl;
+                          next = refl;
+                          rowids = grant_books_at_3;
+                        }),
                         (
-                          (λ low. record { table = allowance_buckets; rest = drop 13 (schema_at 3).tables; all = refl; next = refl; rowids = allowance_buckets_at_3 }),
+                          (λ low. record {
+                            table = allowance_buckets;
+                            rest = drop 13 (schema_at 3).tables;
+                            all = refl;
+                            next = refl;
+                            rowids = allowance_buckets_at_3;
+                          }),
                           (
-                            (λ low. record { table = covered; rest = drop 14 (schema_at 3).tables; all = refl; next = refl; rowids = covered_at_3 }),
+                            (λ low. record {
+                              table = covered;
+                              rest = drop 14 (schema_at 3).tables;
+                              all = refl;
+                              next = refl;
+                              rowids = covered_at_3;
+                            }),
                             tt,
                           ),
                         ),
@@ -300,7 +518,8 @@ next_in : (v k : ℕ) (texts : List (List ℕ)) → AreNext v k texts → (i : �
 next_in v k [] are i low in' = absurd (omega (arith, low))
 next_in v k (text ∷ texts) are zero low in' =
     let same : k ≡ k + 0 = omega arith in
-    subst (IsNext v text) same (are.0 (subst (λ n. n < length (schema_at v).tables) (omega arith) in'))
+    subst (IsNext v text) same
+    (are.0 (subst (λ n. n < length (schema_at v).tables) (omega arith) in'))
 next_in v k (text ∷ texts) are (suc i) low in' =
     let same : suc k + i ≡ k + suc i = omega arith in
     subst (IsNext v (slice_index_or texts i [])) same

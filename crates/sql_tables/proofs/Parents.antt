@@ -1,12 +1,11 @@
 -- A row whose columns are a key of another table has a row there.
-use Rattle.std.proofs.Common.{◌≡◌, inl, inr, ℕ, List, [], ◌∷◌, Bool, true, false, Ordering, Equal}
-use Rattle.std.proofs.Common.{Some, None, Option, is_eq, refl, sym, ap, subst, ◌∙◌}
+use Rattle.std.proofs.Common.{◌≡◌, inl, inr, ℕ, List, [], ◌∷◌, true, false, Equal}
+use Rattle.std.proofs.Common.{Some, is_eq, refl, sym, ap, ◌∙◌}
 use Rattle.std.specs.Prelude.{◌||◌, codes, is_some, pos}
 use Rattle.std.proofs.lemmas.Cmp.{tied_back}
 use Rattle.std.specs.FinMap.{get-from_entries}
-use Rattle.std.specs.FinMap.Entries.{find as look_in}
-use Rattle.std.specs.List.{AllByRecursion, list_all, list_any}
-use Rattle.std.specs.Ordering.{eq_by_cmp, ordering_then}
+use Rattle.std.specs.List.{AllByRecursion, list_any}
+use Rattle.std.specs.Ordering.{eq_by_cmp}
 use Rattle.sqlite_value.specs.declared.value.Value.{Value}
 use Rattle.sqlite_value.specs.declared.value.Value.TheVariants.{Int, Text}
 use Rattle.sqlite_value.specs.Keys.{plain, joined}
@@ -47,7 +46,8 @@ module _ (schema : Schema) (child : Table) (tabled : Has schema.tables child) (r
       list_any (λ q. agree plain parent.primary q ref.columns r) (db parent.tree) ≡ true
   held r there full =
       let rows = all_has (λ (t : Table). AllByRecursion
-      (λ row. passes ForeignKey schema db t row ≡ true) (db t.tree)) schema.tables child keeps tabled in
+      (λ row. passes ForeignKey schema db t row ≡ true) (db t.tree)) schema.tables child keeps
+      tabled in
       let passed = all_has (λ row. passes ForeignKey schema db child row ≡ true) (db child.tree) r
       rows there in
       let one = test_has (has_parent schema.tables db r) child.references ref passed refers in

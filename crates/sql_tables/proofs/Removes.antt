@@ -1,28 +1,23 @@
 -- What DELETE .. WHERE of some columns makes of its table.
-use Rattle.std.proofs.Common.{◌≡◌, ◌≢◌, ◌⊎◌, inl, inr, ℕ, ℤ, pos, negsuc, List, [], ◌∷◌, ◌++◌, map}
+use Rattle.std.proofs.Common.{◌≡◌, ◌≢◌, inl, inr, ℕ, ℤ, pos, negsuc, List, [], ◌∷◌, map}
 use Rattle.std.proofs.Common.{filter, flat_map, take, length, slice_get, Bool, true, false, not}
-use Rattle.std.proofs.Common.{◌&&◌, cond, Some, None, Option, Ok, Err, Result, Ordering, Less}
-use Rattle.std.proofs.Common.{Equal, Greater, is_eq, IsTrue, refl, sym, ap, ap₂, subst, ◌∙◌}
-use Rattle.std.specs.Prelude.{nat_le, ◌^◌}
-use Rattle.std.proofs.lemmas.Bool.{cases_Bool, and_parts}
-use Rattle.std.proofs.lemmas.List.Sorted.{Contains-permutation, IsPermutation-map}
-use Rattle.std.proofs.lemmas.List.Sorted.{IsPermutation-sym}
+use Rattle.std.proofs.Common.{◌&&◌, cond, Some, None, Option, Ok, Ordering, Less}
+use Rattle.std.proofs.Common.{Equal, Greater, is_eq, refl, sym, ap, subst, ◌∙◌}
+use Rattle.std.proofs.lemmas.Bool.{cases_Bool}
+use Rattle.std.proofs.lemmas.List.Sorted.{IsPermutation-map, IsPermutation-sym}
 use Rattle.std.specs.List.Sorted.{IsPermutation}
-use Rattle.std.specs.FinMap.{FinMap, get, get-from_entries}
+use Rattle.std.specs.FinMap.{get, get-from_entries}
 use Rattle.std.specs.FinMap.Entries.{find, where_key, find-where_key}
-use Rattle.std.specs.List.{AllByRecursion, list_any, list_all}
+use Rattle.std.specs.List.{list_any, list_all}
 use Rattle.std.specs.Ordering.{eq_by_cmp}
-use Rattle.sqlite_value.specs.declared.value.Value.{Value}
-use Rattle.sqlite_value.specs.declared.value.Value.TheVariants.{Null, Int, Text}
-use Rattle.sqlite_value.specs.Order.{Row, column, row_cmp, value_cmp}
+use Rattle.sqlite_value.specs.declared.value.Value.TheVariants.{Null, Int}
+use Rattle.sqlite_value.specs.Order.{Row, row_cmp, value_cmp}
 use Rattle.sqlite_value.proofs.OrderLemmas.{value_cmp_total, row_cmp_total}
 use Rattle.std.proofs.lemmas.Cmp.{tied_itself}
 use Rattle.sqlite_trees.specs.Tree.{Trees, rowid, has_rowid, without_rowid}
-use Rattle.sqlite_trees.specs.View.{is_int}
-use Rattle.sqlite_sql.specs.Term.{Term, Env, lit, col, holds}
+use Rattle.sqlite_sql.specs.Term.{Term, lit, col, holds}
 use Rattle.sqlite_sql.specs.Query.{Query, inner, end, Output, output, IsAnswer}
 use Rattle.sqlite_sql.specs.Program.{overlay}
-use Rattle.sqlite_schema.specs.declared.program.Program.{Program}
 use Rattle.sqlite_schema.specs.declared.schema.Table.{Table}
 use Rattle.sqlite_schema.specs.declared.schema.Schema.{Schema}
 use Rattle.sqlite_schema.specs.declared.schema.Keys.TheVariants.{Enforced}
@@ -30,15 +25,13 @@ use Rattle.sqlite_schema.specs.declared.command.Command.TheVariants.{Delete}
 use Rattle.sqlite_rules.specs.declared.error.Rowids.TheVariants.{Given}
 use Rattle.sqlite_rules.specs.Lists.{Has}
 use Rattle.sqlite_rules.specs.Calls.{ids_of}
-use Rattle.sqlite_rules.specs.Edit.{Edit, edit_of, edited, left_by, id_in, taken_by, Applies}
-use Rattle.sqlite_rules.specs.Edit.{IsNoIndex, without_all}
+use Rattle.sqlite_rules.specs.Edit.{edit_of, id_in, taken_by, IsNoIndex, without_all}
 use Rattle.sqlite_rules.specs.Action.{works}
 use Rattle.sqlite_rules.proofs.ListLemmas.{all_has, some_has, some_from, has_filtered, has_kept}
-use Rattle.sqlite_rules.proofs.ListLemmas.{has_contained, contains_had}
 use Rattle.sqlite_rules.proofs.TableLemmas.{int_is}
 use Rattle.sqlite_rules.proofs.ProbeLemmas.{mapped_has}
 use Rattle.sqlite.specs.Does.{Tally}
-use Rattle.sqlite.specs.Rows.{Written, Task, Then, Deletes}
+use Rattle.sqlite.specs.Rows.{Written, Task, Deletes}
 use Rattle.sqlite.specs.Effect.{Database, Answers}
 use Rattle.sqlite.specs.State.{State, Writes}
 use Rattle.sqlite.proofs.Callers.{one_step}

@@ -1,7 +1,7 @@
 -- A list that a selection answers tells what is under a key.
-use Rattle.std.proofs.Common.{◌≡◌, ◌⊎◌, inl, inr, ℕ, List, [], ◌∷◌, map, drop, Bool, true, false}
-use Rattle.std.proofs.Common.{cond, Ordering, Less, Equal, Greater, Some, None, Option, is_eq}
-use Rattle.std.proofs.Common.{IsTrue, refl, sym, ap, subst, ◌∙◌}
+use Rattle.std.proofs.Common.{◌≡◌, inl, inr, ℕ, List, [], ◌∷◌, map, drop, Bool, true, false}
+use Rattle.std.proofs.Common.{Ordering, Less, Equal, Greater, Some, None, Option, is_eq}
+use Rattle.std.proofs.Common.{refl, sym, ap, ◌∙◌}
 use Rattle.std.specs.Prelude.{option_and_then, if◌then◌else◌}
 use Rattle.std.proofs.lemmas.Bool.{cases_Bool}
 use Rattle.std.specs.FinMap.{get-from_entries}
@@ -26,7 +26,7 @@ use Rattle.sql_tables.proofs.Swaps.{no_clash, differ_ints}
 use Rattle.sql_tables.proofs.Stored.{same_row}
 use Rattle.sql_tables.proofs.Ties.{equal_is, agree_ties}
 use Rattle.sql_tables.specs.Keyed.{look}
-use Rattle.sql_tables.specs.Selects.{only}
+use Rattle.sql_tables.specs.Selects.{passing}
 use Rattle.sql_tables.proofs.Selected.{AreAnswered}
 use Rattle.sql_tables.proofs.Steps.{mapped_to, mapped_from}
 
@@ -185,7 +185,7 @@ module _ (schema : Schema) (table : Table) (tabled : Has schema.tables table) (i
       → ((x : X) (r : Values) → meets table.primary key r ≡ true → of (drop 1 r) ≡ Some x →
       live x ≡ true →
       (test r ≡ true) × ((y : X) → columns r ≡ cells y → is y ≡ true))
-      → find is xs ≡ only live (option_and_then of (look table trees key))
+      → find is xs ≡ passing live (option_and_then of (look table trees key))
   selection_tells key is live full from to = go (find is xs) refl
     where
       there : (r : Values) → Has (trees table.tree) r → meets table.primary key r ≡ true →
@@ -195,16 +195,16 @@ module _ (schema : Schema) (table : Table) (tabled : Has schema.tables table) (i
           stored key full
 
       found : (x : X) → find is xs ≡ Some x →
-          Some x ≡ only live (option_and_then of (look table trees key))
+          Some x ≡ passing live (option_and_then of (look table trees key))
       found x e =
           let h = has_found is xs x e in
           let it = answered.from (cells x) (mapped_to cells xs x h.0) in
           let f = from x it.0 h.1 it.2 it.3 in
-          sym (ap (only live) (ap (option_and_then of) (there it.0 it.1 f.0) ∙ f.1) ∙ ap
+          sym (ap (passing live) (ap (option_and_then of) (there it.0 it.1 f.0) ∙ f.1) ∙ ap
           (λ t. if t then Some x else None) f.2)
 
       missing : (o : Option X) → find is xs ≡ None → option_and_then of (look table trees key) ≡ o →
-          None ≡ only live o
+          None ≡ passing live o
       missing None none e = refl
       missing (Some x) none e = elim (cases_Bool (live x)) [
         | inl lives ↦
@@ -218,6 +218,6 @@ module _ (schema : Schema) (table : Table) (tabled : Has schema.tables table) (i
       ]
 
       go : (o : Option X) → find is xs ≡ o →
-          o ≡ only live (option_and_then of (look table trees key))
+          o ≡ passing live (option_and_then of (look table trees key))
       go None e = missing (option_and_then of (look table trees key)) e refl
       go (Some x) e = found x e

@@ -1,41 +1,37 @@
 -- What an upsert does to the map of its table.
-use Rattle.std.proofs.Common.{◌≡◌, ◌≢◌, ◌⊎◌, inl, inr, ℕ, ℤ, pos, List, [], ◌∷◌, map, filter, drop}
-use Rattle.std.proofs.Common.{Bool, true, false, not, ◌&&◌, ◌||◌, cond, Some, None, Option}
-use Rattle.std.proofs.Common.{Ordering, Less, Equal, Greater, is_eq, IsTrue, refl, sym, ap, ap₂}
+use Rattle.std.proofs.Common.{◌≡◌, ◌≢◌, inl, inr, ℕ, ℤ, List, [], ◌∷◌, filter, drop}
+use Rattle.std.proofs.Common.{Bool, true, false, not, ◌&&◌, cond, Some, None, Option}
+use Rattle.std.proofs.Common.{Ordering, Less, Equal, Greater, is_eq, IsTrue, refl, sym, ap}
 use Rattle.std.proofs.Common.{subst, ◌∙◌}
-use Rattle.std.proofs.lemmas.Bool.{cases_Bool, and_parts, and_from, or_left, or_right, not-true}
-use Rattle.std.proofs.lemmas.Bool.{false_from_ne_true}
-use Rattle.std.specs.FinMap.{FinMap, get, insert, get-from_entries, get-insert}
+use Rattle.std.proofs.lemmas.Bool.{cases_Bool, and_from, not-true, false_from_ne_true}
+use Rattle.std.specs.FinMap.{get, insert, get-from_entries, get-insert}
 use Rattle.std.specs.FinMap.Entries.{find, where_key, find-where_key}
-use Rattle.std.specs.List.{AllByRecursion, list_any, list_all}
+use Rattle.std.specs.List.{AllByRecursion}
 use Rattle.std.specs.Ordering.{eq_by_cmp, match_ordering}
 use Rattle.sqlite_value.specs.declared.value.Value.{Value}
 use Rattle.sqlite_value.specs.declared.value.Value.TheVariants.{Null, Int, Real, Text, Blob}
-use Rattle.sqlite_value.specs.declared.keys.Collation.TheVariants.{Binary}
 use Rattle.sqlite_value.specs.Keys.{plain}
 use Rattle.sqlite_value.specs.Order.{Row, column, row_cmp, value_cmp}
 use Rattle.sqlite_value.proofs.OrderLemmas.{row_cmp_total}
 use Rattle.sqlite_trees.specs.Tree.{Trees, rowid, put_row, has_rowid, without_rowid}
 use Rattle.sqlite_trees.specs.View.{is_int}
 use Rattle.sqlite_trees.proofs.ListLemmas.{filter_all}
-use Rattle.sqlite_sql.specs.declared.ops.BinaryOp.TheVariants.{Compare}
-use Rattle.sqlite_sql.specs.declared.ops.CompareOp.TheVariants.{Eq, Ne}
-use Rattle.sqlite_sql.specs.Ops.{binary, is_null, is_true, from_truth}
+use Rattle.sqlite_sql.specs.Ops.{binary, is_null}
 use Rattle.sqlite_schema.specs.declared.schema.Table.{Table}
 use Rattle.sqlite_schema.specs.declared.schema.Index.{Index}
 use Rattle.sqlite_schema.specs.declared.schema.Schema.{Schema}
-use Rattle.sqlite_schema.specs.declared.schema.Constraint.TheVariants.{Unique, ForeignKey}
+use Rattle.sqlite_schema.specs.declared.schema.Constraint.TheVariants.{Unique}
 use Rattle.sqlite_schema.specs.Rules.{Fits, agree, clashes, differ, guards, passes}
 use Rattle.sqlite_rules.specs.Lists.{Has}
 use Rattle.sqlite_rules.specs.Keys.{conflicts}
-use Rattle.sqlite_rules.specs.Edit.{id_in, next_rowid, is_taken, are_fresh, IsNoIndex}
+use Rattle.sqlite_rules.specs.Edit.{id_in, next_rowid, is_taken, IsNoIndex}
 use Rattle.sqlite_rules.proofs.ListLemmas.{all_has, all_from, some_from, test_has, has_filtered}
 use Rattle.sqlite_rules.proofs.ListLemmas.{has_kept}
 use Rattle.sqlite_rules.proofs.TableLemmas.{int_is, has_put, put_all_keeps}
-use Rattle.sql_tables.specs.Keyed.{key_of, entry_of, entries_of, table_of, Alike, IsStored}
+use Rattle.sql_tables.specs.Keyed.{key_of, entries_of, table_of, Alike, IsStored}
 use Rattle.sql_tables.proofs.Stored.{stored_filter, stored_put, same_row}
 use Rattle.sql_tables.proofs.Ties.{equal_is, agree_ties}
-use Rattle.sql_tables.proofs.Upserts.{Put, Added, Moved, Upserted}
+use Rattle.sql_tables.proofs.Upserts.{Added, Moved, Upserted}
 use Rattle.sql_tables.proofs.Steps.{same_test, turned, truth_told}
 
 swapped : {A : Type 0} (a b : Bool) (x y z : A) → (a ≡ true → b ≡ true → ⊥) →

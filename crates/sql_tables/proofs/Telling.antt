@@ -1,6 +1,6 @@
 -- What a call tells that makes values of the rows of one selection, and of two calls in turn.
 use Rattle.std.proofs.Common.{◌≡◌, ℕ, List, Bool, true, false, true≢false, IsTrue, Result, IfOk}
-use Rattle.std.proofs.Common.{Ok, Err, OnOk, refl, subst, sym, arith}
+use Rattle.std.proofs.Common.{Ok, Err, refl, subst, sym, arith}
 use Rattle.std.proofs.lemmas.Result.{IfOk-weaker}
 use Rattle.sqlite_value.specs.Order.{Row}
 use Rattle.sqlite_trees.specs.Tree.{Trees}

@@ -1,16 +1,15 @@
 -- What INSERT .. ON CONFLICT (key) DO UPDATE of one row makes of its table.
 use Rattle.std.proofs.Common.{◌≡◌, ◌≢◌, ◌⊎◌, inl, inr, ℕ, ℤ, pos, negsuc, List, [], ◌∷◌, ◌++◌, map}
 use Rattle.std.proofs.Common.{flat_map, length, slice_get, drop, true, false, not, ◌&&◌, cond}
-use Rattle.std.proofs.Common.{if◌then◌else◌, ◌/◌, ◌<◌, Some, None, Option, Ok, Err, Result, OnOk}
+use Rattle.std.proofs.Common.{if◌then◌else◌, ◌/◌, ◌<◌, Some, None, Option, Ok}
 use Rattle.std.proofs.Common.{IsTrue, refl, sym, ap, subst, ◌∙◌, arith}
-use Rattle.std.specs.Prelude.{nat_le, ◌^◌}
 use Rattle.std.proofs.lemmas.Bool.{cases_Bool, and_parts, not-true}
 use Rattle.std.proofs.lemmas.Cmp.{tied_itself}
 use Rattle.std.proofs.lemmas.List.Sorted.{length_permutation}
-use Rattle.std.specs.List.{AllByRecursion, list_any, list_all}
+use Rattle.std.specs.List.{AllByRecursion}
 use Rattle.std.specs.Ordering.{is_eq}
 use Rattle.sqlite_value.specs.declared.value.Value.{Value}
-use Rattle.sqlite_value.specs.declared.value.Value.TheVariants.{Null, Int, Text}
+use Rattle.sqlite_value.specs.declared.value.Value.TheVariants.{Null, Int}
 use Rattle.sqlite_value.specs.declared.keys.Collation.TheVariants.{Binary}
 use Rattle.sqlite_value.specs.Order.{Row, column, value_cmp}
 use Rattle.sqlite_value.proofs.OrderLemmas.{value_cmp_total}
@@ -19,18 +18,16 @@ use Rattle.sqlite_trees.specs.View.{is_int}
 use Rattle.sqlite_trees.proofs.ListLemmas.{all-permutation}
 use Rattle.sqlite_sql.specs.declared.ops.BinaryOp.TheVariants.{Compare}
 use Rattle.sqlite_sql.specs.declared.ops.CompareOp.TheVariants.{Eq}
-use Rattle.sqlite_sql.specs.Term.{Term, Env, lit, col, op2, eval, eval_all}
+use Rattle.sqlite_sql.specs.Term.{Term, lit, col, op2, eval_all}
 use Rattle.sqlite_sql.specs.Query.{Query, inner, end, Output, output, IsAnswer}
 use Rattle.sqlite_sql.specs.Program.{overlay}
 use Rattle.sqlite_schema.specs.Rules.{Fits, equal}
-use Rattle.sqlite_schema.specs.declared.program.Program.{Program}
 use Rattle.sqlite_schema.specs.declared.schema.Table.{Table}
 use Rattle.sqlite_schema.specs.declared.schema.Schema.{Schema}
 use Rattle.sqlite_schema.specs.declared.schema.Keys.TheVariants.{Enforced}
 use Rattle.sqlite_schema.specs.declared.command.Source.TheVariants.{Values}
 use Rattle.sqlite_schema.specs.declared.command.Conflict.TheVariants.{Abort}
 use Rattle.sqlite_schema.specs.declared.command.Upsert.{Upsert}
-use Rattle.sqlite_schema.specs.declared.command.Command.{Command}
 use Rattle.sqlite_schema.specs.declared.command.Command.TheVariants.{InsertOr}
 use Rattle.sqlite_rules.specs.declared.error.Rowids.TheVariants.{Chosen, Above, Given}
 use Rattle.sqlite_rules.specs.declared.error.Refusal.{Refusal}
@@ -38,7 +35,7 @@ use Rattle.sqlite_rules.specs.Cast.{cast_row}
 use Rattle.sqlite_rules.specs.Keys.{AreConflicts, conflicts}
 use Rattle.sqlite_rules.specs.Lists.{Has}
 use Rattle.sqlite_rules.specs.Calls.{ids_of}
-use Rattle.sqlite_rules.specs.Edit.{Edit, edit_of, edited, left_by, id_in, next_rowid, is_taken}
+use Rattle.sqlite_rules.specs.Edit.{Edit, edit_of, left_by, id_in, next_rowid, is_taken}
 use Rattle.sqlite_rules.specs.Edit.{are_fresh, taken_by, Applies, IsNoIndex, with_rowid}
 use Rattle.sqlite_rules.specs.Edit.{without_all, put_all}
 use Rattle.sqlite_rules.specs.Action.{works, Writes as Settling}
@@ -47,11 +44,10 @@ use Rattle.sqlite_rules.proofs.ListLemmas.{all_has, some_from}
 use Rattle.sqlite_rules.proofs.TableLemmas.{int_is, has_put}
 use Rattle.sqlite_rules.proofs.PlaceLemmas.{given as given_news}
 use Rattle.sqlite.specs.Does.{Tally}
-use Rattle.sqlite.specs.Rows.{Written, Task, Then, Clears, Puts, Upserts, Meets, Resolves, Updates}
-use Rattle.sqlite.specs.Rows.{Judged, Tries, TriesEach, InsertsOr, Edited, Queried, mended, nothing}
+use Rattle.sqlite.specs.Rows.{Written, Task, Clears, Puts, Upserts, Meets, Resolves}
+use Rattle.sqlite.specs.Rows.{Judged, Tries, TriesEach, InsertsOr, mended, nothing}
 use Rattle.sqlite.specs.Rows.{stamped, count_of, rowids_for, Counts, shown}
-use Rattle.sqlite.specs.Effect.{Database, Answers, value_rows, IsSource}
-use Rattle.sqlite.specs.declared.error.Error.{Error}
+use Rattle.sqlite.specs.Effect.{Database, Answers, value_rows}
 use Rattle.sqlite.specs.State.{State, Writes}
 use Rattle.std.proofs.lemmas.List.{length-map}
 use Rattle.sqlite.proofs.Callers.{one_step}
@@ -293,7 +289,8 @@ module _ (limit : Option ℕ) (schema : Schema) (table : Table) (params values :
       let gone : edit.gone ≡ id ∷ [] = ap ids_of only in
       let done =
       one_step schema Enforced db it.0 edit (subst (λ n. works schema Enforced 0 table.tree
-      (taken_by db edit) n ≡ []) (sym news) (upsert.kept (taken_by db edit) (Int id ∷ values))) it.1 in
+      (taken_by db edit) n ≡ []) (sym news)
+      (upsert.kept (taken_by db edit) (Int id ∷ values))) it.1 in
       let trees : one.trees ≡ it.0 = ap (λ (w : Written). w.trees) (same_value it.2) in
       let left : left_by db edit ≡ without_rowid id (db table.tree) =
       ap (without_all (db table.tree)) gone in
@@ -350,8 +347,9 @@ module _ (limit : Option ℕ) (schema : Schema) (table : Table) (params values :
 
   made : (top : ℤ) → table.is_counted ≡ false → with_rowid (rowids_for table top) (db table.tree)
       (cast_row table (mended Abort table (Null ∷ values))) ≡ new
-  made top uncounted = ap (λ r. with_rowid (rowids_for table top) (db table.tree) r) upsert.plain ∙ ap
-      (λ b. with_rowid (if b then Above top else Chosen) (db table.tree) (Null ∷ values)) uncounted
+  made top uncounted = ap (λ r. with_rowid (rowids_for table top) (db table.tree) r) upsert.plain
+      ∙ ap (λ b. with_rowid (if b then Above top else Chosen) (db table.tree) (Null ∷ values))
+      uncounted
 
   uncounts : (mid next : Trees) (counter : Option Row) (top : ℤ) → table.is_counted ≡ false →
       Counts task mid counter top (Ok next) → next ≡ mid

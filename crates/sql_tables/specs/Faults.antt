@@ -6,10 +6,10 @@ use Rattle.sql_tables.specs.declared.fault.OpenFault.TheVariants.{Foreign, Versi
 use Rattle.sql_tables.specs.declared.fault.OpenFault.TheVariants.{Memory, Older}
 
 -- the number under which a fault is told
-abbrev pub number_of : OpenFault → ℕ
-number_of Foreign = 1
-number_of Version = 2
-number_of Rules = 3
-number_of Store = 4
-number_of Memory = 5
-number_of Older = 6
+abbrev pub open_fault_number : OpenFault → ℕ
+open_fault_number Foreign = 1
+open_fault_number Version = 2
+open_fault_number Rules = 3
+open_fault_number Store = 4
+open_fault_number Memory = 5
+open_fault_number Older = 6

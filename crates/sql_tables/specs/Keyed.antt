@@ -1,8 +1,7 @@
 -- A table as a map from its keys to its rows.
 use Rattle.std.specs.Cmp.Lexicographic.{pointwise}
-use Rattle.std.specs.Prelude.{nat_eq, ◌≡◌, ℕ, Bool, List, [], ◌∷◌, map, drop, Option, Some, None}
-use Rattle.std.specs.Prelude.{cond, IsTrue, false}
-use Rattle.std.specs.FinMap.{FinMap, from_entries, get, insert}
+use Rattle.std.specs.Prelude.{nat_eq, ◌≡◌, ℕ, Bool, List, map, drop, Option, IsTrue, false}
+use Rattle.std.specs.FinMap.{FinMap, from_entries, get}
 use Rattle.std.specs.List.{AllByRecursion}
 use Rattle.std.specs.Ordering.{is_eq}
 use Rattle.sqlite_value.specs.Order.{Row, column, row_cmp, value_cmp}

@@ -45,21 +45,22 @@ IsNoVersion fault = (¬ (fault ≡ Version)) × (¬ (fault ≡ Older))
 
 -- what a fault says of a database that was there: its tables are those of no version, or they are
 -- those of one, and a rowid stands twice; or they are those of a version before the latest
-abbrev pub IsTold : Database → OpenFault → Type 0
-IsTold db Foreign = (v : TablesVersion) → IsVersion v → ¬ (db.schema ≡ schema_at v)
-IsTold db Version = ⊥
-IsTold db Rules = (v : TablesVersion) × IsVersion v × (db.schema ≡ schema_at v) ×
+abbrev pub IsOpenFaultTold : Database → OpenFault → Type 0
+IsOpenFaultTold db Foreign = (v : TablesVersion) → IsVersion v → ¬ (db.schema ≡ schema_at v)
+IsOpenFaultTold db Version = ⊥
+IsOpenFaultTold db Rules = (v : TablesVersion) × IsVersion v × (db.schema ≡ schema_at v) ×
     ¬ AreStoredAt v db.trees
-IsTold db Store = ⊤
-IsTold db Memory = ⊤
-IsTold db Older = (v : TablesVersion) × IsVersion v × (v < latest) × (db.schema ≡ schema_at v)
+IsOpenFaultTold db Store = ⊤
+IsOpenFaultTold db Memory = ⊤
+IsOpenFaultTold db Older = (v : TablesVersion) × IsVersion v × (v < latest) ×
+    (db.schema ≡ schema_at v)
 
 -- where it answers, the first tables have no rowid twice; whatever it answers, nothing is changed
 pub record Finds {A : Type 0} (v : TablesVersion) (k : ℕ) (old new : State)
     (result : Result A OpenFault) : Type 0 where
   pub found : HasCleanDisk new → OnOk result (IsUnchanged old new × IsStoredTo v k new)
   pub told : IfErr result IsNoVersion
-  pub means : HasCleanDisk new → IfErr result (IsTold old.now)
+  pub means : HasCleanDisk new → IfErr result (IsOpenFaultTold old.now)
   pub survives : Survives old new (λ _. ⊥)
 
 -- where it answers, no table of the version has a rowid twice
@@ -68,7 +69,7 @@ pub record FindsAll {A : Type 0} (v : TablesVersion) (old new : State) (result :
   pub found : HasCleanDisk new → OnOk result (IsUnchanged old new
       × (new.now.schema ≡ schema_at v) × AreStoredAt v new.now.trees)
   pub told : IfErr result IsNoVersion
-  pub means : HasCleanDisk new → IfErr result (IsTold old.now)
+  pub means : HasCleanDisk new → IfErr result (IsOpenFaultTold old.now)
   pub survives : Survives old new (λ _. ⊥)
 
 -- the rowids of a table, in order
@@ -133,5 +134,5 @@ pub record FindsVersion {S : Type 0} (g : Ghosts S) (old new : Held S)
   pub version : IfOk result IsVersion
   pub idle : OnOk result (new.in_transaction ≡ false)
   pub told : IfErr result IsNoVersion
-  pub means : HasCleanDisk (state g new) → IfErr result (IsTold (state g old).now)
+  pub means : HasCleanDisk (state g new) → IfErr result (IsOpenFaultTold (state g old).now)
   pub survives : Survives (state g old) (state g new) (λ _. ⊥)

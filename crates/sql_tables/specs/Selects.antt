@@ -7,9 +7,9 @@ use Rattle.sqlite_value.specs.Order.{Row}
 pub record Selects (test : Row → Bool) (columns : Row → Row) (stored out : List Row) : Type 0 where
   pub same : IsPermutation (map columns (filter test stored)) out
 
-abbrev pub only : {A : Type 0} → (A → Bool) → Option A → Option A
-only p None = None
-only p (Some x) = if p x then Some x else None
+abbrev pub passing : {A : Type 0} → (A → Bool) → Option A → Option A
+passing p None = None
+passing p (Some x) = if p x then Some x else None
 
 abbrev pub one_or_none : {A : Type 0} → Option A → List A
 one_or_none None = []

@@ -1,5 +1,5 @@
 -- What statements do to a connection.
-use Rattle.std.specs.Prelude.{◌≡◌, ◌≢◌, ◌⊎◌, ◌≤◌, ℕ, true, List, [], ◌∷◌, Option, None, cond, take}
+use Rattle.std.specs.Prelude.{◌≡◌, ◌≢◌, ◌⊎◌, ◌≤◌, ℕ, true, List, ◌∷◌, None, cond, take}
 use Rattle.std.specs.Prelude.{length, is_some, ◌+◌, if◌then◌else◌, IsTrue, false, Result, IfOk}
 use Rattle.std.specs.Prelude.{OnOk, OnErr}
 use Rattle.std.specs.Borrow.{MutBor}

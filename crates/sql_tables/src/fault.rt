@@ -1,7 +1,7 @@
 //! Why a database isn't opened.
 
 ghost use Rattle.std.specs.Prelude.{◌≡◌};
-ghost use Rattle.sql_tables.specs.Faults.{number_of};
+ghost use Rattle.sql_tables.specs.Faults.{open_fault_number};
 
 use thiserror::Error;
 
@@ -32,7 +32,7 @@ pub enum OpenFault {
 impl OpenFault {
     /// Its number, 1 to 6, as programs print it: `open fault 1`.
     pub fn number(self) -> u8
-        ensures { result ≡ number_of self }
+        ensures { result ≡ open_fault_number self }
     {
         match self {
             OpenFault::Foreign => 1,

@@ -3,7 +3,8 @@
 ghost use Rattle.std.specs.Prelude.{◌≡◌, ◌<◌, [], slice_index_or, IfErr, IfOk, IsTrue};
 ghost use Rattle.sqlite.specs.Held.{state};
 ghost use Rattle.sql_tables.specs.Schema.{schema_at};
-ghost use Rattle.sql_tables.specs.Opens.{FindsAll, FindsVersion, IsNoVersion, IsTold, IsVersion};
+ghost use Rattle.sql_tables.specs.Opens.{FindsAll, FindsVersion, IsNoVersion, IsOpenFaultTold};
+ghost use Rattle.sql_tables.specs.Opens.{IsVersion};
 ghost use Rattle.sql_tables.specs.Opens.{rowids_texts};
 
 use crate::creating::create_in_memory_at;
@@ -23,7 +24,7 @@ fn has_version<S: Alter>(
     ensures has { IfOk result (λ same. IsTrue same → conn.now.schema ≡ schema_at version) }
     ensures all { IfOk result (λ same. conn.now.schema ≡ schema_at version → IsTrue same) }
     ensures told { IfErr result IsNoVersion }
-    ensures means { IfErr result (IsTold (state S.Store conn.now).now) }
+    ensures means { IfErr result (IsOpenFaultTold (state S.Store conn.now).now) }
 {
     let ours = match create_in_memory_at(alloc, version) {
         Ok(ours) => ours,
@@ -37,7 +38,7 @@ fn version_of<S: Alter>(conn: &Connection<S>, alloc: Global) -> Result<u32, Open
     ensures version { IfOk result IsVersion }
     ensures has { IfOk result (λ v. conn.now.schema ≡ schema_at v) }
     ensures told { IfErr result IsNoVersion }
-    ensures means { IfErr result (IsTold (state S.Store conn.now).now) }
+    ensures means { IfErr result (IsOpenFaultTold (state S.Store conn.now).now) }
 {
     let third = has_version(conn, alloc, 3)?;
     if third {

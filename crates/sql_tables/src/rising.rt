@@ -9,7 +9,7 @@ ghost use Rattle.sqlite.specs.Held.{Held, state};
 ghost use Rattle.sqlite.specs.Listing.{understood};
 ghost use Rattle.sqlite.specs.State.{HasCleanDisk, IsUnchanged, Shown, Survives};
 ghost use Rattle.sql_tables.specs.Schema.{schema_at};
-ghost use Rattle.sql_tables.specs.Opens.{Finds, HasStoredTo, IsNext, IsNoVersion, IsTold};
+ghost use Rattle.sql_tables.specs.Opens.{Finds, HasStoredTo, IsNext, IsNoVersion, IsOpenFaultTold};
 ghost use Rattle.sql_tables.specs.Opens.{IsVersion};
 ghost use Rattle.sql_tables.specs.Rises.{AreRising, Climbs, IsAbove};
 
@@ -20,7 +20,7 @@ use sqlite::{Alter, Connection, Error, ErrorCode, Row};
 /// The fault of a call of the store.
 pub(crate) fn fault_of(error: Error) -> OpenFault
     ensures told { IsNoVersion result }
-    ensures means { (db : Database) → IsTold db result }
+    ensures means { (db : Database) → IsOpenFaultTold db result }
 {
     match error {
         Error::SqliteFailure(ErrorCode::OutOfMemory) => OpenFault::Memory,

@@ -10,8 +10,8 @@ ghost use Rattle.sql_tables.specs.Plain.{is_plain_table, is_plain_term, is_plain
 
 use sqlite_items::Items;
 use sqlite_schema::code::{Op, Terms};
-use sqlite_schema::schema::{Action, Column, Index, Kind, Reference, Schema, Stamps, Table, View};
-use sqlite_value::keys::{Collation, Order};
+use sqlite_schema::schema::{Column, Index, Reference, Schema, Stamps, Table, View};
+use sqlite_value::keys::Order;
 use sqlite_value::value::{Bytes, Value};
 
 /// A test that two values are equal. It misses none that are where no number with a fraction

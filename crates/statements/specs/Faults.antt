@@ -8,10 +8,10 @@ use Rattle.keepers.specs.declared.fault.StoreFault.TheVariants as store
 use Rattle.statements.specs.declared.fault.StatementFault.{StatementFault}
 use Rattle.statements.specs.declared.fault.StatementFault.TheVariants.{Memory, Store, Write}
 
-abbrev pub fault_number : StatementFault → ℕ
-fault_number Memory = 1
-fault_number Store = 2
-fault_number Write = 3
+abbrev pub statement_fault_number : StatementFault → ℕ
+statement_fault_number Memory = 1
+statement_fault_number Store = 2
+statement_fault_number Write = 3
 
 abbrev pub of_store : StoreFault → StatementFault
 of_store store.Memory = Memory

@@ -6,7 +6,7 @@ use Rattle.units.specs.Words.{Moment}
 use Rattle.identifiers.specs.Words.{AccountName}
 use Rattle.texts.specs.NumberWords.{MonthNumber}
 use Rattle.texts.specs.StreamWords.{Bytes}
-use Rattle.buckets.specs.Row.{Row}
+use Rattle.buckets.specs.Row.{BucketRow}
 use Rattle.reserving.specs.ChargeColumns.{ChargeColumns}
 use Rattle.statements.specs.Columns.{column_text, columns_text, set}
 use Rattle.statements.specs.declared.columns.Column.{Column}
@@ -39,7 +39,7 @@ abbrev pub amount_names : Bytes
 amount_names =
     codes "         CREDITED        AVAILABLE         RESERVED          CHARGED          EXPIRED\n"
 
-abbrev pub amounts_of : Row → List Column
+abbrev pub amounts_of : BucketRow → List Column
 amounts_of b =
     set 16 b.credited ∷ set 16 b.available ∷ set 16 b.reserved ∷ set 16 b.charged
     ∷ set 16 b.expired ∷ []
@@ -47,14 +47,14 @@ amounts_of b =
 abbrev pub bucket_heading : Bytes
 bucket_heading = codes "    BUCKET" ++ amount_names
 
-abbrev pub bucket_line : Row → Bytes
+abbrev pub bucket_line : BucketRow → Bytes
 bucket_line b = column_text (set 10 b.number) ++ columns_text (amounts_of b)
 
 abbrev pub allowance_heading : Bytes
 allowance_heading = codes " ALLOWANCE      GROUP" ++ amount_names
 
 -- an allowance has a rating group
-abbrev pub allowance_line : Row → Bytes
+abbrev pub allowance_line : BucketRow → Bytes
 allowance_line b =
     column_text (set 10 b.number) ++ columns_text (set 10 (unwrap_or b.scope 0) ∷ amounts_of b)
 

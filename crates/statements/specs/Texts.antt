@@ -11,7 +11,7 @@ use Rattle.texts.specs.StreamWords.{Bytes}
 use Rattle.buckets.specs.declared.kind.BucketKind.{BucketKind}
 use Rattle.buckets.specs.declared.kind.BucketKind.TheVariants.{Money, Blocks}
 use Rattle.buckets.specs.Kinds.{is_alike}
-use Rattle.buckets.specs.Row.{Row}
+use Rattle.buckets.specs.Row.{BucketRow}
 use Rattle.buckets.specs.Share.{sum_in}
 use Rattle.tariffs.specs.Books.{Book}
 use Rattle.reserving.specs.ChargeColumns.{ChargeColumns}
@@ -57,27 +57,27 @@ sums_of rows = record {
 
 -- ---- buckets
 
-abbrev pub line_of : BucketKind → Row → Bytes
+abbrev pub line_of : BucketKind → BucketRow → Bytes
 line_of Money b = bucket_line b
 line_of Blocks b = allowance_line b
 
 -- the lines of the buckets of a kind: another has none
-abbrev pub line_among : BucketKind → Row → Bytes
+abbrev pub line_among : BucketKind → BucketRow → Bytes
 line_among kind b = if is_alike b.kind kind then line_of kind b else []
 
-abbrev pub buckets_text : BucketKind → List Row → Bytes
+abbrev pub buckets_text : BucketKind → List BucketRow → Bytes
 buckets_text kind [] = []
 buckets_text kind (b ∷ rest) = line_among kind b ++ buckets_text kind rest
 
-abbrev pub has_allowance : List Row → Bool
+abbrev pub has_allowance : List BucketRow → Bool
 has_allowance rows = list_any (λ b. is_alike b.kind Blocks) rows
 
 -- of allowances nothing is told where there is none
-abbrev pub allowances_text : List Row → Bytes
+abbrev pub allowances_text : List BucketRow → Bytes
 allowances_text rows =
     if has_allowance rows then allowance_heading ++ buckets_text Blocks rows else []
 
-abbrev pub covered_text : List Row → Bytes
+abbrev pub covered_text : List BucketRow → Bytes
 covered_text rows =
     if has_allowance rows then covered_line (sum_in Blocks (λ b. b.charged) rows) else []
 
@@ -87,7 +87,7 @@ covered_text rows =
 abbrev pub head_text : AccountName → MonthNumber → Moment → Bytes
 head_text account month moment = title_line account month moment ++ heading
 
-abbrev pub foot_text : Sums → List Row → Bytes
+abbrev pub foot_text : Sums → List BucketRow → Bytes
 foot_text sums buckets =
     total_line sums ++ bucket_heading ++ buckets_text Money buckets ++ allowances_text buckets
     ++ date_line (sum_in Money (λ b. b.charged) buckets) ++ covered_text buckets
@@ -95,7 +95,7 @@ foot_text sums buckets =
 -- an account's statement of a month: its charges in the month, their sums, its buckets at the
 -- moment, those of money before its allowances, and what was collected and covered to date
 abbrev pub statement_text : Book → AccountName → MonthNumber → Moment → List ChargeColumns →
-    List Row → Bytes
+    List BucketRow → Bytes
 statement_text book account month moment rows buckets =
     head_text account month moment
     ++ charges_text Lines (of_month book month rows)

@@ -1,7 +1,7 @@
 //! Why a statement wasn't written whole.
 
 ghost use Rattle.std.specs.Prelude.{◌≡◌};
-ghost use Rattle.statements.specs.Faults.{fault_number, of_store, of_stream};
+ghost use Rattle.statements.specs.Faults.{statement_fault_number, of_store, of_stream};
 
 use keepers::StoreFault;
 use texts::StreamFault;
@@ -24,7 +24,7 @@ pub enum StatementFault {
 impl StatementFault {
     /// The number of the fault, 1 to 3.
     pub fn number(self) -> u8
-        ensures { result ≡ fault_number self }
+        ensures { result ≡ statement_fault_number self }
     {
         match self {
             StatementFault::Memory => 1,

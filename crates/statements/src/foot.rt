@@ -2,7 +2,6 @@
 //! what was collected and covered to date.
 
 ghost use Rattle.std.specs.Prelude.{◌≡◌, ◌≤◌, ◌++◌, if◌then◌else◌, string_bytes, OnOk, IfOk};
-ghost use Rattle.std.specs.List.{list_any};
 ghost use Rattle.buckets.specs.Kinds.{is_alike};
 ghost use Rattle.buckets.specs.Share.{sum_in};
 ghost use Rattle.buckets.specs.declared.kind.BucketKind.TheVariants.{Blocks};

@@ -7,16 +7,17 @@ use Rattle.tariffs.specs.declared.fault.BookFault.TheVariants.{NotToml, Missing,
 use Rattle.tariffs.specs.declared.fault.BookFault.TheVariants.{OutOfRange, UnknownPeriod}
 use Rattle.tariffs.specs.declared.fault.BookFault.TheVariants.{WeekNotCovered, TiersNotRising}
 use Rattle.tariffs.specs.declared.fault.BookFault.TheVariants.{TooMany, Memory}
-use Rattle.tariffs.specs.Faults.{Gives, number_of}
+use Rattle.tariffs.specs.Faults.{Gives, book_fault_number}
 
 pub is_answered : {A : Type 0} (r : Result A BookFault) (x : A) → Gives (λ y. y) r (Ok x) →
     IfOk r (λ y. y ≡ x)
 is_answered (Ok y) x h = sym (same_Some _ _ (ap result_ok h))
 is_answered (Err fault) x h = tt
 
-no_fault : {A : Type 0} (fault : BookFault) (x : A) → (number_of fault ≡ 9 → ⊥) →
+no_fault : {A : Type 0} (fault : BookFault) (x : A) → (book_fault_number fault ≡ 9 → ⊥) →
     Gives (λ y. y) (Err fault) (Ok x) → ⊥
-no_fault fault x other h = none-some _ (sym (ap result_ok (h (λ e. other (ap number_of e)))))
+no_fault fault x other h = none-some _ (sym (ap result_ok (h (λ e. other
+    (ap book_fault_number e)))))
 
 pub is_memory : {A : Type 0} (r : Result A BookFault) (x : A) → Gives (λ y. y) r (Ok x) →
     IfErr r (λ fault. fault ≡ Memory)

@@ -10,16 +10,16 @@ use Rattle.texts.specs.Steps.{GivesUnless}
 pub use Rattle.texts.specs.Steps.{◌>>=◌, or_fault, where_holds, Says}
 
 -- the number under which a fault is told
-abbrev pub number_of : BookFault → ℕ
-number_of NotToml = 1
-number_of Missing = 2
-number_of WrongKind = 3
-number_of OutOfRange = 4
-number_of UnknownPeriod = 5
-number_of WeekNotCovered = 6
-number_of TiersNotRising = 7
-number_of TooMany = 8
-number_of Memory = 9
+abbrev pub book_fault_number : BookFault → ℕ
+book_fault_number NotToml = 1
+book_fault_number Missing = 2
+book_fault_number WrongKind = 3
+book_fault_number OutOfRange = 4
+book_fault_number UnknownPeriod = 5
+book_fault_number WeekNotCovered = 6
+book_fault_number TiersNotRising = 7
+book_fault_number TooMany = 8
+book_fault_number Memory = 9
 
 -- what a call returned, seen by `view`, is what reading gives; want of memory may come in place of
 -- it

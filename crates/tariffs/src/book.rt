@@ -6,7 +6,6 @@ ghost use Rattle.std.specs.Prelude.{IfNone, Ok, Err, All};
 ghost use Rattle.toml.specs.View.{table_view};
 ghost use Rattle.calendar.specs.Timetable.{period_at, IsEntryAt, IsSwitch, IsWindow};
 ghost use Rattle.calendar.specs.Timetable.{IsCycleOf, validity_from, day_end};
-ghost use Rattle.calendar.specs.Clock.{day};
 ghost use Rattle.calendar.specs.declared.week.Entry.{Entry};
 ghost use Rattle.tariffs.specs.Faults.{Gives};
 ghost use Rattle.tariffs.specs.Names.{period_named};

@@ -1,6 +1,6 @@
 //! Members of a TOML table, each with its kind and range.
 
-ghost use Rattle.std.specs.Prelude.{◌≡◌, ◌≤◌, ◌<◌, ◌^◌, IfOk, length};
+ghost use Rattle.std.specs.Prelude.{◌≤◌, ◌<◌, ◌^◌, IfOk, length};
 ghost use Rattle.toml.specs.View.{view, table_view, items_view};
 ghost use Rattle.tariffs.specs.Faults.{Says};
 ghost use Rattle.tariffs.specs.Fields.{member_of, text_of, number_in, array_of};

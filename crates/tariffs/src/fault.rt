@@ -1,7 +1,7 @@
 //! Why a tariff book was not read.
 
 ghost use Rattle.std.specs.Prelude.{◌≡◌};
-ghost use Rattle.tariffs.specs.Faults.{number_of};
+ghost use Rattle.tariffs.specs.Faults.{book_fault_number};
 ghost use Rattle.tariffs.specs.declared.fault.BookFault.TheVariants.{Memory};
 
 use std::alloc::{AllocError, AllocFailed};
@@ -42,7 +42,7 @@ pub enum BookFault {
 impl BookFault {
     /// The fault's number, 1 to 9, as programs print it: `book fault 6`.
     pub fn number(self) -> u8
-        ensures { result ≡ number_of self }
+        ensures { result ≡ book_fault_number self }
     {
         match self {
             BookFault::NotToml => 1,

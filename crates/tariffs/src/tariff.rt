@@ -1,6 +1,6 @@
 //! The tariff of a rating group.
 
-ghost use Rattle.std.specs.Prelude.{◌≡◌, ◌≤◌, ◌<◌, ◌/◌};
+ghost use Rattle.std.specs.Prelude.{◌≡◌, ◌<◌};
 ghost use Rattle.tariffs.specs.Prices.{ArePriced};
 ghost use Rattle.tariffs.specs.Tariffs.{IsTariff, tiers_at};
 

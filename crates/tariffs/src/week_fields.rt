@@ -6,7 +6,7 @@ ghost use Rattle.jiff.specs.Words.{IsWithin};
 ghost use Rattle.toml.specs.View.{view, table_view, items_view};
 ghost use Rattle.tariffs.specs.Faults.{Gives};
 ghost use Rattle.tariffs.specs.Fields.{text_of, each, collected};
-ghost use Rattle.tariffs.specs.WeekFields.{minutes_of, signed_minutes, zone_minutes, zone_in};
+ghost use Rattle.tariffs.specs.WeekFields.{minutes_of, zone_minutes, zone_in};
 ghost use Rattle.tariffs.specs.WeekFields.{zone_of, day_of, with_day, days_of, minute_of, entry_of};
 ghost use Rattle.tariffs.specs.WeekFields.{entries_of};
 

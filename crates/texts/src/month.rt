@@ -1,6 +1,6 @@
 //! A civil month.
 
-ghost use Rattle.std.specs.Prelude.{◌≡◌, ◌≤◌, ◌%◌, IsTrue, if◌then◌else◌, Some, None};
+ghost use Rattle.std.specs.Prelude.{◌≡◌, ◌%◌, IsTrue, Some, None};
 ghost use Rattle.texts.specs.Months.{as_month, is_month, month_of};
 
 use crate::numbers::number;

@@ -1,7 +1,7 @@
 //! Streams of bytes: a line or so many bytes taken from any reader, a text written whole to any
 //! writer. A read or a write that is interrupted is tried again, up to 100 times.
 
-ghost use Rattle.std.specs.Prelude.{◌≡◌, ◌≢◌, ◌==◌, ◌≤◌, ◌<◌, ◌-◌, ℕ, List, length, take, All};
+ghost use Rattle.std.specs.Prelude.{◌≡◌, ◌≢◌, ◌==◌, ◌≤◌, ◌<◌, ◌-◌, ℕ, length, take, All};
 ghost use Rattle.std.specs.Prelude.{OnOk, OnErr, IfOk, IsErrOf, IfNone, IfSome, option_to_list};
 ghost use Rattle.std.specs.Io.KnownBytes.{Appends, Consumes, IsAtEnd, Keeps};
 ghost use Rattle.texts.specs.Lines.{IsLineOf};

@@ -1,6 +1,6 @@
 //! Units, blocks, and the blocks that units start.
 
-ghost use Rattle.std.specs.Prelude.{◌≡◌, ◌<◌, ◌≤◌};
+ghost use Rattle.std.specs.Prelude.{◌≡◌, ◌<◌};
 ghost use Rattle.units.specs.Blocks.{started, CutsAlike};
 
 /// What a rating group counts (Granted-Service-Unit, RFC 8506 section 8.17).

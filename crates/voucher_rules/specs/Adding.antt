@@ -2,7 +2,9 @@
 -- Source: profile.
 use Rattle.std.specs.Prelude.{Bool, Option, Some, None, if◌then◌else◌}
 use Rattle.voucher_rules.specs.declared.terms.VoucherTerms.{VoucherTerms}
-use Rattle.voucher_rules.specs.contracts.terms.VoucherTermsPartialEq.TheImpl.{ghosts as voucher_terms}
+use Rattle.voucher_rules.specs.contracts.terms.VoucherTermsPartialEq.TheImpl.{
+  ghosts as voucher_terms,
+}
 use Rattle.voucher_rules.specs.declared.voucher.Voucher.{Voucher}
 use Rattle.voucher_rules.specs.declared.adding.Addition.{Addition}
 use Rattle.voucher_rules.specs.declared.adding.Addition.TheVariants.{New, Present, Conflicting}

@@ -1,6 +1,5 @@
 //! A voucher that is redeemed.
 
-ghost use Rattle.std.specs.Prelude.{None};
 ghost use Rattle.voucher_rules.specs.Redeeming.{Redeems};
 
 use crate::civil_days::CivilDays;

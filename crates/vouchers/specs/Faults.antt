@@ -6,15 +6,15 @@ use Rattle.vouchers.specs.declared.fault.FaultKind.TheVariants.{Header, FieldCou
 use Rattle.vouchers.specs.declared.fault.FaultKind.TheVariants.{Days, Scope, Read, Memory}
 
 -- the number under which a fault is told
-abbrev pub number_of : FaultKind → ℕ
-number_of Header = 1
-number_of FieldCount = 2
-number_of Code = 3
-number_of Amount = 4
-number_of Days = 5
-number_of Scope = 6
-number_of Read = 7
-number_of Memory = 8
+abbrev pub voucher_fault_number : FaultKind → ℕ
+voucher_fault_number Header = 1
+voucher_fault_number FieldCount = 2
+voucher_fault_number Code = 3
+voucher_fault_number Amount = 4
+voucher_fault_number Days = 5
+voucher_fault_number Scope = 6
+voucher_fault_number Read = 7
+voucher_fault_number Memory = 8
 
 -- the fault stands in the file itself; the others are the reader's, and want of memory
 abbrev pub is_in_file : FaultKind → Bool

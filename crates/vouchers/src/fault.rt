@@ -1,7 +1,7 @@
 //! What is wrong with a file of vouchers.
 
 ghost use Rattle.std.specs.Prelude.{◌≡◌};
-ghost use Rattle.vouchers.specs.Faults.{number_of};
+ghost use Rattle.vouchers.specs.Faults.{voucher_fault_number};
 
 use thiserror::Error;
 
@@ -37,7 +37,7 @@ pub enum FaultKind {
 impl FaultKind {
     /// Its number, 1 to 8, as programs print it: `voucher fault 4 at record 7`.
     pub fn number(self) -> u8
-        ensures { result ≡ number_of self }
+        ensures { result ≡ voucher_fault_number self }
     {
         match self {
             FaultKind::Header => 1,

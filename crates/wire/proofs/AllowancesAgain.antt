@@ -1,6 +1,6 @@
 -- What is kept of an allowance is read as that allowance.
-use Rattle.std.proofs.Common.{sym, subst, ◌≡◌, ℕ, ◌≤◌, lit≤, List, true, Option, Some, None}
-use Rattle.std.proofs.Common.{option_map, IfSome, Result, Ok, refl, ap, ◌∙◌, arith}
+use Rattle.std.proofs.Common.{sym, subst, ◌≡◌, ℕ, ◌≤◌, lit≤, List, Option, Some, None}
+use Rattle.std.proofs.Common.{option_map, IfSome, Ok, refl, ap, ◌∙◌, arith}
 use Rattle.serde_json.specs.Data.{Data, string, object, Members, no_members, member}
 use Rattle.serde_json.specs.Find.{get}
 use Rattle.commands.specs.declared.avp.Avp.TheVariants as avp
@@ -8,11 +8,8 @@ use Rattle.commands.specs.Names.{name_of}
 use Rattle.commands.specs.declared.allowance.Allowance.{Allowance}
 use Rattle.commands.specs.declared.command.Content.{Content}
 use Rattle.commands.specs.declared.command.Content.TheVariants as content
-use Rattle.json_fields.specs.declared.fault.WireFault.{WireFault}
-use Rattle.json_fields.specs.Gives.{◌>>=◌}
 use Rattle.json_fields.specs.Fields.{number_at, optional_at}
 use Rattle.json_fields.specs.Spelling.{whole, perhaps}
-use Rattle.json_fields.proofs.Compact.{Above}
 use Rattle.json_fields.proofs.Found.{get_skip, get_here, number_found, from_zero, optional_found}
 use Rattle.json_fields.proofs.Found.{text_found}
 use Rattle.json_fields.proofs.Fit.{Fit, FitMembers, fit_whole, fit_text, fit_object, fit_none}

@@ -1,20 +1,17 @@
 -- What is written for an answer is read as that answer.
-use Rattle.std.proofs.Common.{subst, ◌≡◌, ℕ, suc, ◌≤◌, ◌<◌, ◌^◌, lit<, lit≤, List, [], ◌∷◌, ◌++◌}
-use Rattle.std.proofs.Common.{length, Bool, true, false, ◌&&◌, Option, Some, None, option_map}
+use Rattle.std.proofs.Common.{subst, ◌≡◌, ℕ, ◌≤◌, lit≤, List, [], ◌∷◌, ◌++◌}
+use Rattle.std.proofs.Common.{length, Bool, true, false, Option, Some, None, option_map}
 use Rattle.std.proofs.Common.{IfSome, Result, Ok, Err, refl, sym, ap, ◌∙◌, arith, append_assoc}
-use Rattle.std.proofs.Common.{append-nil, leb-true, nat_le}
-use Rattle.std.specs.Prelude.{◌==◌, nat_eq}
-use Rattle.std.specs.List.{AllByRecursion, list_all, find}
+use Rattle.std.proofs.Common.{append-nil, nat_le}
+use Rattle.std.specs.Prelude.{nat_eq}
+use Rattle.std.specs.List.{AllByRecursion, list_all}
 use Rattle.std.specs.Str.{IsUtf8}
-use Rattle.std.specs.Ordering.{nat_cmp, is_eq}
+use Rattle.std.specs.Ordering.{nat_cmp}
 use Rattle.std.specs.declared.cmp.Ordering.TheVariants.{Greater}
 use Rattle.std.specs.Cmp.Lexicographic.{bytes_decides, pointwise, slice_cmp}
-use Rattle.std.proofs.lemmas.Bool.{and_parts}
 use Rattle.json.proofs.Printed.Utf8.{are_ascii, IsUtf8-are_ascii}
-use Rattle.serde_json.specs.Data.{Data, string, array, object, Items, no_items, item, Members}
-use Rattle.serde_json.specs.Data.{no_members, member}
-use Rattle.serde_json.specs.Find.{get, get_member, as_object}
-use Rattle.serde_json.specs.Written.{compact_text}
+use Rattle.serde_json.specs.Data.{Data, string, array, object, Members, no_members, member}
+use Rattle.serde_json.specs.Find.{get}
 use Rattle.units.specs.declared.blocks.UnitKind.{UnitKind}
 use Rattle.units.specs.declared.blocks.UnitKind.TheVariants as unit
 use Rattle.identifiers.specs.Texts.{is_visible, is_session_id, is_redirect_address}
@@ -26,13 +23,11 @@ use Rattle.commands.specs.Names.{bucket, accounts, result_code, final_unit_actio
 use Rattle.commands.specs.Names.{redirect_server_address}
 use Rattle.commands.specs.Quantities.{most_units, is_quantity}
 use Rattle.commands.specs.Measured.{Measured}
-use Rattle.commands.specs.Codes.{kind_number, service_failure_number, failure_number}
-use Rattle.commands.specs.Codes.{balance_number, refusal_name}
-use Rattle.commands.specs.declared.request.RequestKind.{RequestKind}
+use Rattle.commands.specs.Codes.{kind_number, service_failure_number, balance_number, refusal_name}
 use Rattle.commands.specs.declared.request.RequestKind.TheVariants as kind
 use Rattle.commands.specs.declared.answer.FinalUnit.{FinalUnit}
 use Rattle.commands.specs.declared.answer.FinalUnit.TheVariants.{Terminate, Redirect}
-use Rattle.commands.specs.declared.answer.Granted.{Granted}
+use Rattle.commands.specs.declared.answer.GrantedServiceUnit.{GrantedServiceUnit}
 use Rattle.commands.specs.declared.answer.ServiceFailure.{ServiceFailure}
 use Rattle.commands.specs.declared.answer.ServiceFailure.TheVariants.{EndUserServiceDenied}
 use Rattle.commands.specs.declared.answer.ServiceFailure.TheVariants.{CreditLimitReached}
@@ -60,21 +55,19 @@ use Rattle.commands.specs.declared.answer.Answer.TheVariants as answer
 use Rattle.json_fields.specs.declared.fault.WireFault.{WireFault}
 use Rattle.json_fields.specs.declared.fault.WireFault.TheVariants.{NotRequest, Memory}
 use Rattle.texts.specs.Steps.{each}
-use Rattle.json_fields.specs.Gives.{◌>>=◌, or_fault, where_holds, read_each, Gives}
+use Rattle.json_fields.specs.Gives.{read_each, Gives}
 use Rattle.json_fields.proofs.Kept.{same_value}
 use Rattle.json_fields.proofs.Order.{in_order}
-use Rattle.json_fields.specs.Fields.{whole_in, number_at, optional_in, object_at, array_of}
-use Rattle.json_fields.specs.Fields.{document_at}
-use Rattle.json_fields.specs.Unit.{name_of_unit, lacks_others, kind_told, units_at}
+use Rattle.json_fields.specs.Fields.{optional_in, array_of}
+use Rattle.json_fields.specs.Unit.{name_of_unit, kind_told, units_at}
 use Rattle.json_fields.specs.Spelling.{whole, perhaps, with_members, value_data, money_data}
 use Rattle.json_fields.proofs.Compact.{Above}
 use Rattle.json_fields.proofs.Found.{get_skip, get_here, number_found, from_zero, optional_in_found}
-use Rattle.json_fields.proofs.Found.{text_found, object_found, units_found}
+use Rattle.json_fields.proofs.Found.{object_found, units_found}
 use Rattle.json_fields.proofs.Fit.{Fit, FitItems, FitMembers, fit_whole, fit_text, fit_object}
 use Rattle.json_fields.proofs.Fit.{fit_array, fit_no_items, fit_item, fit_none, fit_member}
 use Rattle.json_fields.proofs.Fit.{fit_perhaps, fit_optional, fit_deeper, fit_money, above_perhaps}
 use Rattle.json_fields.proofs.Fit.{document_again, ascii_text}
-use Rattle.wire_requests.specs.Reading.{session_at, kind_at}
 use Rattle.wire_requests.proofs.RequestsAgain.{and_three, session_utf8, visible_small, quantity_low}
 use Rattle.wire_requests.proofs.RequestsAgain.{quantity_high, session_again, kind_again, unit_ascii}
 use Rattle.wire_requests.proofs.RequestsAgain.{kind_small}
@@ -91,16 +84,13 @@ use Rattle.wire.proofs.BalancesAgain.{account_balance_fit, number_in_found}
 use Rattle.wire.specs.Rules.{IsFinal, IsGrant, IsServiceOutcome, IsServiceAnswer, IsCost}
 use Rattle.wire.specs.Rules.{IsOutcome, IsRequestAnswer, IsAnswer}
 use Rattle.wire.specs.ReadingAnswers.{redirect_at, final_told, final_in, final_when}
-use Rattle.wire.specs.ReadingAnswers.{final_at, quantity_in, granted_when, session_grant_in}
-use Rattle.wire.specs.ReadingAnswers.{granted_in, success_when, service_told}
-use Rattle.wire.specs.ReadingAnswers.{service_answer_at, services_from, services_in}
-use Rattle.wire.specs.ReadingAnswers.{failed_at, failure_told, cost_in, priced_when}
-use Rattle.wire.specs.ReadingAnswers.{checked_when, unserved_in, served_when, outcome_told}
-use Rattle.wire.specs.ReadingAnswers.{request_answer_at, refusal_at, swept_when}
-use Rattle.wire.specs.ReadingAnswers.{bucket_when, done_at, refused_when, balance_when}
-use Rattle.wire.specs.ReadingAnswers.{answer_when, answer_of, AnswersReadAgain}
+use Rattle.wire.specs.ReadingAnswers.{final_at, quantity_in, session_grant_in}
+use Rattle.wire.specs.ReadingAnswers.{granted_in, service_told, service_answer_at, services_in}
+use Rattle.wire.specs.ReadingAnswers.{failed_at, failure_told, cost_in, unserved_in, outcome_told}
+use Rattle.wire.specs.ReadingAnswers.{request_answer_at, refusal_at, done_at}
+use Rattle.wire.specs.ReadingAnswers.{answer_of, AnswersReadAgain}
 use Rattle.wire.specs.ReadingAnswers.{ReadsWritten, AnswersAreInOrder, is_answer_text}
-use Rattle.wire.specs.ReadingAnswers.{is_own_text}
+use Rattle.wire.specs.ReadingAnswers.{is_own_answer}
 
 -- ---- members
 
@@ -227,7 +217,7 @@ module _ (g code : ℕ) (last grant validity : Option Data) where
   grant_is = get_skip granted_unit final_unit last _ refl ∙ get_here granted_unit grant _ refl
       (get_skip granted_unit validity_time validity no_members refl)
 
-granted_again : (n : ℕ) (g : Granted) → IsGrant g → g.validity ≤ 4294967295 →
+granted_again : (n : ℕ) (g : GrantedServiceUnit) → IsGrant g → g.validity ≤ 4294967295 →
     granted_in (service_members n 2001 (option_map final_data g.last)
     (Some (granted_data g.quantity g.switch)) (Some (whole g.validity)))
     (granted_data g.quantity g.switch) ≡ Ok (service.Granted g)
@@ -742,18 +732,18 @@ other_bytes text bytes other = go (pointwise nat_eq text bytes) refl
 pub text_read : (bytes : List ℕ) (a : Answer) → answer_of bytes ≡ Ok a → answer_text a ≡ bytes →
     is_answer_text bytes ≡ true
 text_read bytes a said text =
-    ap (is_own_text bytes) said ∙ same_bytes (answer_text a) bytes text
+    ap (is_own_answer bytes) said ∙ same_bytes (answer_text a) bytes text
 
 pub text_of_other : (bytes : List ℕ) (a : Answer) → answer_of bytes ≡ Ok a →
     (answer_text a ≡ bytes → ⊥) → is_answer_text bytes ≡ false
 text_of_other bytes a said other =
-    ap (is_own_text bytes) said ∙ other_bytes (answer_text a) bytes other
+    ap (is_own_answer bytes) said ∙ other_bytes (answer_text a) bytes other
 
 pub text_refused : (bytes : List ℕ) (fault told : WireFault) →
     Gives (λ (a : Answer). a) (Err fault) (answer_of bytes) → (fault ≡ Memory → told ≡ Memory) →
     ¬ (told ≡ Memory) → is_answer_text bytes ≡ false
 text_refused bytes fault told given keeps more =
-    ap (is_own_text bytes) (given (λ e. more (keeps e)))
+    ap (is_own_answer bytes) (given (λ e. more (keeps e)))
 
 -- ---- the order of members
 

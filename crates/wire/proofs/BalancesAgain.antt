@@ -1,14 +1,13 @@
 -- What is written for a balance is read as that balance.
-use Rattle.std.proofs.Common.{◌≡◌, ℕ, ◌≤◌, lit≤, List, [], ◌∷◌, ◌++◌, length, Bool, true, false}
-use Rattle.std.proofs.Common.{Option, Some, None, option_map, IfSome, Result, Ok, Err, refl, sym}
-use Rattle.std.proofs.Common.{ap, ◌∙◌, arith, append_assoc, append-nil, le-leb, nat_le}
-use Rattle.std.specs.List.{AllByRecursion, list_all}
+use Rattle.std.proofs.Common.{◌≡◌, ℕ, ◌≤◌, lit≤, List, [], ◌∷◌, ◌++◌, Bool, true}
+use Rattle.std.proofs.Common.{Option, Some, option_map, IfSome, Ok, refl, sym}
+use Rattle.std.proofs.Common.{ap, ◌∙◌, arith, append_assoc, append-nil, le-leb}
+use Rattle.std.specs.List.{AllByRecursion}
 use Rattle.std.specs.Ordering.{nat_cmp}
 use Rattle.std.specs.declared.cmp.Ordering.TheVariants.{Greater}
 use Rattle.std.specs.Cmp.Lexicographic.{slice_cmp}
 use Rattle.json.proofs.Printed.Utf8.{IsUtf8-are_ascii}
-use Rattle.serde_json.specs.Data.{Data, boolean, string, array, object, Items, no_items, item}
-use Rattle.serde_json.specs.Data.{Members, no_members, member}
+use Rattle.serde_json.specs.Data.{Data, boolean, string, array, object, Members, no_members, member}
 use Rattle.serde_json.specs.Find.{get}
 use Rattle.identifiers.specs.Texts.{is_account_number}
 use Rattle.commands.specs.declared.avp.Avp.TheVariants as avp
@@ -19,11 +18,9 @@ use Rattle.commands.specs.declared.balance.AccountBalance.{AccountBalance}
 use Rattle.commands.specs.declared.balance.BucketBalance.{BucketBalance}
 use Rattle.commands.specs.declared.balance.BucketUnit.{BucketUnit}
 use Rattle.commands.specs.declared.balance.BucketUnit.TheVariants.{MicroUnits, Blocks}
-use Rattle.json_fields.specs.declared.fault.WireFault.{WireFault}
 use Rattle.json_fields.specs.declared.fault.WireFault.TheVariants.{NotRequest}
 use Rattle.texts.specs.Steps.{each}
-use Rattle.json_fields.specs.Gives.{◌>>=◌, or_fault, where_holds, read_each}
-use Rattle.json_fields.specs.Fields.{optional_in}
+use Rattle.json_fields.specs.Gives.{read_each}
 use Rattle.json_fields.specs.Spelling.{whole, perhaps}
 use Rattle.json_fields.proofs.Compact.{Above}
 use Rattle.json_fields.proofs.Found.{get_skip, get_here, from_zero, optional_in_found}
@@ -32,10 +29,8 @@ use Rattle.json_fields.proofs.Fit.{fit_array, fit_no_items, fit_item, fit_none, 
 use Rattle.json_fields.proofs.Fit.{fit_perhaps, fit_optional, fit_deeper, above_perhaps}
 use Rattle.wire_requests.proofs.RequestsAgain.{account_utf8}
 use Rattle.wire.specs.Members.{number_in, text_in}
-use Rattle.wire.specs.SpelledBalances.{last_members, bucket_data, bucket_items}
-use Rattle.wire.specs.SpelledBalances.{balance_data, unit_data}
-use Rattle.wire.specs.ReadingBalances.{amount_in, moment_in, flag_in, amounts_in, scope_in}
-use Rattle.wire.specs.ReadingBalances.{bucket_with, bucket_at, buckets_from, buckets_in}
+use Rattle.wire.specs.SpelledBalances.{bucket_data, bucket_items, unit_data}
+use Rattle.wire.specs.ReadingBalances.{flag_in, amounts_in, bucket_with, bucket_at, buckets_in}
 use Rattle.wire.specs.ReadingBalances.{account_in, balance_at, unit_when}
 use Rattle.wire.specs.Rules.{IsBucketBalance, IsAccountBalance}
 

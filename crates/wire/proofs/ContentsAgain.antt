@@ -1,16 +1,10 @@
 -- What is kept of a command is read as that content.
-use Rattle.std.proofs.Common.{nat_eq, sym, subst, ◌≡◌, ℕ, ◌≤◌, ◌<◌, lit≤, List, length, Bool, true}
-use Rattle.std.proofs.Common.{◌&&◌, Option, Some, None, option_map, IfSome, Result, Ok, Err, refl}
-use Rattle.std.proofs.Common.{ap, ◌∙◌, arith, nat_le, false}
-use Rattle.std.specs.List.{list_all}
-use Rattle.std.specs.Str.{IsUtf8}
-use Rattle.std.specs.Ordering.{nat_cmp, is_eq}
-use Rattle.std.specs.Cmp.Lexicographic.{slice_cmp, pointwise, bytes_decides}
-use Rattle.json.proofs.Printed.Utf8.{IsUtf8-are_ascii}
+use Rattle.std.proofs.Common.{nat_eq, sym, subst, ◌≡◌, ℕ, ◌≤◌, lit≤, List, Bool, true}
+use Rattle.std.proofs.Common.{Option, Some, None, option_map, Result, Ok, Err, refl}
+use Rattle.std.proofs.Common.{ap, ◌∙◌, arith, false}
+use Rattle.std.specs.Cmp.Lexicographic.{pointwise, bytes_decides}
 use Rattle.serde_json.specs.Data.{Data, string, object, Members, no_members, member}
-use Rattle.serde_json.specs.Find.{get, get_member}
-use Rattle.serde_json.specs.Written.{compact_text}
-use Rattle.identifiers.specs.Texts.{is_visible, is_reference}
+use Rattle.serde_json.specs.Find.{get}
 use Rattle.commands.specs.declared.avp.Avp.TheVariants as avp
 use Rattle.commands.specs.Names.{name_of}
 use Rattle.commands.specs.declared.request.Request.{Request}
@@ -20,24 +14,22 @@ use Rattle.commands.specs.declared.command.Content.{Content}
 use Rattle.commands.specs.declared.command.Content.TheVariants as content
 use Rattle.json_fields.specs.declared.fault.WireFault.{WireFault}
 use Rattle.json_fields.specs.declared.fault.WireFault.TheVariants.{Missing, Invalid, Memory}
-use Rattle.json_fields.specs.Gives.{◌>>=◌, or_fault, where_holds, Gives}
+use Rattle.json_fields.specs.Gives.{or_fault, Gives}
 use Rattle.json_fields.specs.Fields.{member_at, number_at, optional_at, text_at, document_at}
 use Rattle.json_fields.specs.Spelling.{whole, perhaps}
-use Rattle.json_fields.proofs.Compact.{Above}
 use Rattle.json_fields.proofs.Found.{get_skip, get_here, number_found, from_zero, optional_found}
 use Rattle.json_fields.proofs.Found.{text_found}
 use Rattle.json_fields.proofs.Fit.{Fit, FitMembers, fit_whole, fit_text, fit_object, fit_none}
 use Rattle.json_fields.proofs.Fit.{fit_member, fit_perhaps, fit_optional, fit_deeper, above_perhaps}
-use Rattle.json_fields.proofs.Fit.{document_again, ascii_text}
+use Rattle.json_fields.proofs.Fit.{document_again}
 use Rattle.json_fields.proofs.Kept.{same_value, bind_ok, where_ok}
 use Rattle.json_fields.proofs.Order.{in_order}
 use Rattle.wire_requests.proofs.Micros.{number_ok}
 use Rattle.wire_requests.specs.Spelled.{request_text}
 use Rattle.wire_requests.specs.Reading.{session_at, request_in, request_of}
-use Rattle.wire_requests.proofs.RequestsAgain.{and_three, visible_small, requests_again}
+use Rattle.wire_requests.proofs.RequestsAgain.{requests_again}
 use Rattle.wire.specs.Credits.{reference_at, credit_at, credit_data, credit_text, IsCredit}
-use Rattle.wire.proofs.AllowancesAgain.{at_most, allowance_content_again}
-use Rattle.wire.proofs.AllowancesAgain.{allowance_content_account}
+use Rattle.wire.proofs.AllowancesAgain.{at_most, allowance_content_again, allowance_content_account}
 use Rattle.wire.proofs.RedeemedAgain.{reference_utf8, redemption_content_again, redemption_account}
 use Rattle.wire.specs.Contents.{content_text, content_of, request_content_in, credit_content_in}
 use Rattle.wire.specs.Contents.{given_content_when, operator_content_when, content_when}

@@ -1,6 +1,5 @@
 -- What is kept of a redemption is read as that redemption.
-use Rattle.std.proofs.Common.{nat_eq, sym, subst, ◌≡◌, ℕ, lit≤, List, length, Bool, true, ◌&&◌}
-use Rattle.std.proofs.Common.{◌==◌, Option, Some, None, Result, Ok, Err, refl, ap, ◌∙◌}
+use Rattle.std.proofs.Common.{nat_eq, subst, ◌≡◌, ℕ, lit≤, List, length, true, ◌==◌, Ok, refl, ◌∙◌}
 use Rattle.std.proofs.Common.{nat_le}
 use Rattle.std.specs.List.{list_all}
 use Rattle.std.specs.Str.{IsUtf8}
@@ -8,21 +7,17 @@ use Rattle.std.specs.Cmp.Lexicographic.{pointwise, bytes_decides}
 use Rattle.std.proofs.lemmas.Bool.{and_parts}
 use Rattle.json.proofs.Printed.Utf8.{IsUtf8-are_ascii}
 use Rattle.serde_json.specs.Data.{Data, string, object, Members, no_members, member}
-use Rattle.serde_json.specs.Find.{get}
 use Rattle.identifiers.specs.Texts.{is_visible, is_digit, is_reference, is_voucher_code}
 use Rattle.commands.specs.declared.avp.Avp.TheVariants as avp
 use Rattle.commands.specs.Names.{name_of}
 use Rattle.commands.specs.declared.command.Content.{Content}
 use Rattle.commands.specs.declared.command.Content.TheVariants as content
 use Rattle.commands.specs.declared.command.VoucherRedemption.{VoucherRedemption}
-use Rattle.json_fields.specs.declared.fault.WireFault.{WireFault}
 use Rattle.json_fields.specs.declared.fault.WireFault.TheVariants.{Invalid}
-use Rattle.json_fields.specs.Gives.{◌>>=◌, where_holds}
-use Rattle.json_fields.specs.Fields.{text_at}
 use Rattle.json_fields.proofs.Found.{text_found}
 use Rattle.json_fields.proofs.Fit.{Fit, FitMembers, fit_text, fit_object, fit_none, fit_member}
 use Rattle.json_fields.proofs.Fit.{fit_deeper, document_again, ascii_text}
-use Rattle.json_fields.proofs.Kept.{same_value, bind_ok, where_ok}
+use Rattle.json_fields.proofs.Kept.{bind_ok, where_ok}
 use Rattle.json_fields.proofs.Order.{in_order}
 use Rattle.wire_requests.proofs.RequestsAgain.{and_three, visible_small, account_utf8, digit_small}
 use Rattle.wire.specs.Credits.{reference_at}

@@ -38,7 +38,8 @@ optional_said fault low high (Some v) o h =
     let n = bind_ok (whole_in fault low high v) _ o h in
     let m = bind_ok (or_fault fault (option_and_then as_u64 (as_number v))) _ n.0 n.1 in
     let is = where_ok (nat_le low m.0 && nat_le m.0 high) fault m.0 n.0 m.2 in
-    subst (λ (x : Option ℕ). SaysPerhaps IsNumber x (Some v)) (same_value (Some n.0) o n.2) (record {
+    subst (λ (x : Option ℕ). SaysPerhaps IsNumber x (Some v)) (same_value (Some n.0) o n.2)
+    (record {
       value = v;
       stands = refl;
       says = or_found fault (option_and_then as_u64 (as_number v)) m.0 m.1 ∙ ap Some is.1;

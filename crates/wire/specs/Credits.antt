@@ -1,17 +1,16 @@
 -- The body of a credit, and a credit as it is kept.
-use Rattle.std.specs.Prelude.{◌≡◌, ℕ, ◌≤◌, ◌&&◌, List, true, Some, None, option_map, IfSome}
-use Rattle.std.specs.Prelude.{Result, Ok, Err, nat_le, if◌then◌else◌}
+use Rattle.std.specs.Prelude.{◌≡◌, ℕ, ◌≤◌, List, true, option_map, IfSome, Result, Ok}
 use Rattle.units.specs.Words.{no_end, greatest_number}
 use Rattle.identifiers.specs.Words.{AccountName, ReferenceName}
 use Rattle.serde_json.specs.Data.{Data, string, object, no_members, member}
 use Rattle.serde_json.specs.Written.{compact_text}
-use Rattle.identifiers.specs.Texts.{is_account_number, is_reference}
+use Rattle.identifiers.specs.Texts.{is_reference}
 use Rattle.commands.specs.Names.{name_of}
 use Rattle.commands.specs.declared.avp.Avp.TheVariants as avp
 use Rattle.commands.specs.declared.command.Credit.{Credit}
 use Rattle.json_fields.specs.declared.fault.WireFault.{WireFault}
 use Rattle.json_fields.specs.declared.fault.WireFault.TheVariants.{Invalid}
-use Rattle.json_fields.specs.Gives.{◌>>=◌, or_fault, where_holds}
+use Rattle.json_fields.specs.Gives.{◌>>=◌, where_holds}
 use Rattle.json_fields.specs.Fields.{document_at, number_at, optional_at, text_at}
 use Rattle.json_fields.specs.Spelling.{whole, perhaps}
 

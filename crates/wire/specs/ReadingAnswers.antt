@@ -1,12 +1,11 @@
 -- Reading an answer that was written.
-use Rattle.std.specs.Prelude.{◌≡◌, ℕ, ◌==◌, ◌&&◌, List, [], ◌∷◌, Bool, true, false, Option, Some}
-use Rattle.std.specs.Prelude.{None, Result, Ok, Err, MatchResult, nat_le, nat_eq, if◌then◌else◌}
+use Rattle.std.specs.Prelude.{◌≡◌, ℕ, ◌==◌, List, [], Bool, true, false, Option, Some}
+use Rattle.std.specs.Prelude.{None, Result, Ok, Err, MatchResult, nat_eq, if◌then◌else◌}
 use Rattle.std.specs.Cmp.Lexicographic.{pointwise}
 use Rattle.units.specs.Words.{Moment, Seconds, greatest_number}
 use Rattle.serde_json.specs.Data.{Data, Items}
 use Rattle.serde_json.specs.Find.{get}
 use Rattle.identifiers.specs.Texts.{is_redirect_address}
-use Rattle.units.specs.declared.blocks.UnitKind.{UnitKind}
 use Rattle.commands.specs.declared.avp.Avp.TheVariants as avp
 use Rattle.commands.specs.Names.{name_of, account, accounts, bucket, check_balance_result}
 use Rattle.commands.specs.Names.{cost_information, failed_avp, final_unit, final_unit_action}
@@ -14,11 +13,9 @@ use Rattle.commands.specs.Names.{granted_unit, redirect_server, redirect_server_
 use Rattle.commands.specs.Names.{result_code, tariff_time_change, validity_time, avp_named}
 use Rattle.commands.specs.Codes.{service_failure_numbered, balance_numbered, refusal_named}
 use Rattle.commands.specs.Measured.{Measured}
-use Rattle.commands.specs.declared.request.RequestKind.{RequestKind}
 use Rattle.commands.specs.declared.answer.FinalUnit.{FinalUnit}
 use Rattle.commands.specs.declared.answer.FinalUnit.TheVariants.{Terminate, Redirect}
-use Rattle.commands.specs.declared.answer.Granted.{Granted}
-use Rattle.commands.specs.declared.answer.ServiceFailure.{ServiceFailure}
+use Rattle.commands.specs.declared.answer.GrantedServiceUnit.{GrantedServiceUnit}
 use Rattle.commands.specs.declared.answer.ServiceOutcome.{ServiceOutcome}
 use Rattle.commands.specs.declared.answer.ServiceOutcome.TheVariants as service
 use Rattle.commands.specs.declared.answer.ServiceAnswer.{ServiceAnswer}
@@ -232,13 +229,13 @@ ReadsWritten bytes returned =
     (a : Answer) → IsAnswer a → answer_text a ≡ bytes → Gives (λ x. x) returned (Ok a)
 
 -- whether bytes are the text of the answer that they say
-abbrev pub is_own_text : List ℕ → Result Answer WireFault → Bool
-is_own_text bytes (Ok a) = pointwise nat_eq (answer_text a) bytes
-is_own_text bytes (Err e) = false
+abbrev pub is_own_answer : List ℕ → Result Answer WireFault → Bool
+is_own_answer bytes (Ok a) = pointwise nat_eq (answer_text a) bytes
+is_own_answer bytes (Err e) = false
 
 -- whether bytes are the text of an answer, as it is written
 abbrev pub is_answer_text : List ℕ → Bool
-is_answer_text bytes = is_own_text bytes (answer_of bytes)
+is_answer_text bytes = is_own_answer bytes (answer_of bytes)
 
 -- such a text is read, unless memory runs out, and no other is
 abbrev pub ReadsTexts : List ℕ → Result Answer WireFault → Type 0

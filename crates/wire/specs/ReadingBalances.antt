@@ -1,5 +1,5 @@
 -- Reading a balance that was written.
-use Rattle.std.specs.Prelude.{ℕ, List, [], ◌∷◌, Bool, Option, Some, None, Result, Ok}
+use Rattle.std.specs.Prelude.{ℕ, List, [], Bool, Option, Some, None, Result, Ok}
 use Rattle.units.specs.Words.{Moment, GroupId, greatest_number}
 use Rattle.identifiers.specs.Words.{AccountName}
 use Rattle.serde_json.specs.Data.{Data, Items}

@@ -3,11 +3,10 @@ use Rattle.std.specs.Prelude.{◌≡◌, ◌≤◌, true, IfSome, ⊤}
 use Rattle.std.specs.List.{AllByRecursion}
 use Rattle.units.specs.Words.{greatest_number}
 use Rattle.identifiers.specs.Texts.{is_account_number, is_session_id, is_redirect_address}
-use Rattle.commands.specs.Measured.{Measured}
 use Rattle.commands.specs.Quantities.{is_quantity}
 use Rattle.commands.specs.declared.answer.FinalUnit.{FinalUnit}
 use Rattle.commands.specs.declared.answer.FinalUnit.TheVariants.{Terminate, Redirect}
-use Rattle.commands.specs.declared.answer.Granted.{Granted}
+use Rattle.commands.specs.declared.answer.GrantedServiceUnit.{GrantedServiceUnit}
 use Rattle.commands.specs.declared.answer.ServiceOutcome.{ServiceOutcome}
 use Rattle.commands.specs.declared.answer.ServiceOutcome.TheVariants as service
 use Rattle.commands.specs.declared.answer.ServiceAnswer.{ServiceAnswer}
@@ -25,7 +24,7 @@ abbrev pub IsFinal : FinalUnit → Type 0
 IsFinal Terminate = ⊤
 IsFinal (Redirect address) = is_redirect_address address ≡ true
 
-pub record IsGrant (g : Granted) : Type 0 where
+pub record IsGrant (g : GrantedServiceUnit) : Type 0 where
   pub quantity : is_quantity g.quantity.kind g.quantity.units ≡ true
   pub switch : IfSome g.switch (λ m. m ≤ 4102488000)
   pub last : IfSome g.last IsFinal

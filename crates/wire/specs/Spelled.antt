@@ -1,7 +1,7 @@
 -- How an answer is spelled: compact JSON, with the members in the byte order of their names.
-use Rattle.std.specs.Prelude.{ℕ, negsuc, List, [], ◌∷◌, Option, Some, None, option_map}
+use Rattle.std.specs.Prelude.{ℕ, List, [], ◌∷◌, Option, Some, None, option_map}
 use Rattle.units.specs.Words.{Moment, Seconds}
-use Rattle.serde_json.specs.Data.{Data, negative, string, array, object, Items, no_items, item}
+use Rattle.serde_json.specs.Data.{Data, string, array, object, Items, no_items, item}
 use Rattle.serde_json.specs.Data.{Members, no_members, member}
 use Rattle.serde_json.specs.Written.{compact_text}
 use Rattle.commands.specs.declared.avp.Avp.TheVariants as avp
@@ -15,7 +15,7 @@ use Rattle.commands.specs.Codes.{kind_number, service_failure_number, failure_nu
 use Rattle.commands.specs.Codes.{balance_number, refusal_name}
 use Rattle.commands.specs.declared.answer.FinalUnit.{FinalUnit}
 use Rattle.commands.specs.declared.answer.FinalUnit.TheVariants.{Terminate, Redirect}
-use Rattle.commands.specs.declared.answer.Granted.{Granted}
+use Rattle.commands.specs.declared.answer.GrantedServiceUnit.{GrantedServiceUnit}
 use Rattle.commands.specs.declared.answer.ServiceOutcome.{ServiceOutcome}
 use Rattle.commands.specs.declared.answer.ServiceOutcome.TheVariants as service
 use Rattle.commands.specs.declared.answer.ServiceAnswer.{ServiceAnswer}
@@ -23,7 +23,6 @@ use Rattle.commands.specs.declared.answer.Failure.{Failure}
 use Rattle.commands.specs.declared.answer.Failure.TheVariants.{Denied, UnknownSessionId}
 use Rattle.commands.specs.declared.answer.Failure.TheVariants.{InvalidAvpValue, UnableToComply}
 use Rattle.commands.specs.declared.answer.Failure.TheVariants.{UserUnknown}
-use Rattle.commands.specs.declared.answer.Cost.{Cost}
 use Rattle.commands.specs.declared.answer.Outcome.{Outcome}
 use Rattle.commands.specs.declared.answer.Outcome.TheVariants as outcome
 use Rattle.commands.specs.declared.answer.RequestAnswer.{RequestAnswer}

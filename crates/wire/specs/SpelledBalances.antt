@@ -1,5 +1,5 @@
 -- How a balance is spelled: compact JSON, with the members in the byte order of their names.
-use Rattle.std.specs.Prelude.{ℕ, List, [], ◌∷◌, Option, Some, None, option_map}
+use Rattle.std.specs.Prelude.{List, [], ◌∷◌, Option, Some, None, option_map}
 use Rattle.serde_json.specs.Data.{Data, boolean, string, array, object, Items, no_items, item}
 use Rattle.serde_json.specs.Data.{Members, no_members, member}
 use Rattle.commands.specs.declared.avp.Avp.TheVariants as avp

@@ -1,15 +1,13 @@
 //! Balances as JSON.
 
-ghost use Rattle.std.specs.Prelude.{◌≡◌, ◌++◌, ◌≤◌, IfSome, OnOk, true};
+ghost use Rattle.std.specs.Prelude.{◌≡◌, ◌≤◌, IfSome, OnOk};
 ghost use Rattle.std.specs.List.{AllByRecursion};
 ghost use Rattle.serde_json.specs.Data.{array, boolean};
-ghost use Rattle.identifiers.specs.Texts.{is_account_number};
 ghost use Rattle.commands.specs.Names.{buckets, unit};
 ghost use Rattle.json_fields.specs.Spelling.{whole};
 ghost use Rattle.json_fields.specs.Tokens.{Adds, tokens_of, item_tokens, member_tokens};
 ghost use Rattle.json_fields.specs.Tokens.{perhaps_tokens};
-ghost use Rattle.wire.specs.SpelledBalances.{balance_data, bucket_data, bucket_items};
-ghost use Rattle.wire.specs.SpelledBalances.{unit_data};
+ghost use Rattle.wire.specs.SpelledBalances.{balance_data, bucket_data, bucket_items, unit_data};
 ghost use Rattle.wire.specs.Rules.{IsAccountBalance, IsBucketBalance};
 
 use commands::names::{

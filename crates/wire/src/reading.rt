@@ -1,6 +1,6 @@
 //! An answer, read.
 
-ghost use Rattle.std.specs.Prelude.{◌≡◌, ◌≤◌, ◌⊎◌, IfOk, Ok};
+ghost use Rattle.std.specs.Prelude.{◌≡◌, ◌⊎◌, IfOk, Ok};
 ghost use Rattle.serde_json.specs.View.{view};
 ghost use Rattle.serde_json.specs.Find.{get};
 ghost use Rattle.commands.specs.Names.{name_of, account, cost_information, refusal};
@@ -11,8 +11,7 @@ ghost use Rattle.wire.specs.ReadingAnswers.{checked_when, unserved_in, served_wh
 ghost use Rattle.wire.specs.ReadingAnswers.{outcome_told, request_answer_at, refusal_at};
 ghost use Rattle.wire.specs.ReadingAnswers.{done_at, answer_when, balance_when};
 ghost use Rattle.wire.specs.ReadingAnswers.{refused_when, answer_of, AnswersReadAgain};
-ghost use Rattle.wire.specs.ReadingAnswers.{ReadsTexts, ReadsWritten};
-ghost use Rattle.wire.specs.ReadingAnswers.{AnswersAreInOrder};
+ghost use Rattle.wire.specs.ReadingAnswers.{ReadsTexts, ReadsWritten, AnswersAreInOrder};
 
 use crate::members;
 use crate::reading_balances::balance;

@@ -1,9 +1,8 @@
 //! The services of an answer, read.
 
-ghost use Rattle.std.specs.Prelude.{◌≡◌, ◌≤◌};
 ghost use Rattle.serde_json.specs.Find.{get};
 ghost use Rattle.serde_json.specs.View.{view, items_view};
-ghost use Rattle.commands.specs.Names.{name_of, granted_unit};
+ghost use Rattle.commands.specs.Names.{granted_unit};
 ghost use Rattle.json_fields.specs.Gives.{Gives, Says};
 ghost use Rattle.wire.specs.ReadingAnswers.{redirect_at, final_told, final_in, final_at};
 ghost use Rattle.wire.specs.ReadingAnswers.{quantity_in, switch_at, session_grant_in};
@@ -16,7 +15,7 @@ use commands::names::{
     RESULT_CODE, TARIFF_TIME_CHANGE, VALIDITY_TIME,
 };
 use commands::{
-    Avp, FinalUnit, Granted, Quantity, ServiceAnswer, ServiceAnswers, ServiceFailure,
+    Avp, FinalUnit, GrantedServiceUnit, Quantity, ServiceAnswer, ServiceAnswers, ServiceFailure,
     ServiceOutcome,
 };
 use identifiers::RedirectAddress;
@@ -101,7 +100,7 @@ fn session_grant(
 {
     let switch = switch(value)?;
     let last = final_unit(alloc, parent)?;
-    Ok(ServiceOutcome::Granted(Granted {
+    Ok(ServiceOutcome::Granted(GrantedServiceUnit {
         quantity,
         switch,
         validity,

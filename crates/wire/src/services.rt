@@ -4,7 +4,6 @@ ghost use Rattle.std.specs.Prelude.{◌≡◌, ◌++◌, ◌≤◌, IfSome, OnOk
 ghost use Rattle.std.specs.List.{AllByRecursion};
 ghost use Rattle.identifiers.specs.Texts.{is_redirect_address};
 ghost use Rattle.commands.specs.Quantities.{is_quantity};
-ghost use Rattle.json_fields.specs.Spelling.{whole};
 ghost use Rattle.json_fields.specs.Tokens.{Adds, tokens_of, member_tokens, perhaps_tokens};
 ghost use Rattle.json_fields.specs.Tokens.{item_tokens};
 ghost use Rattle.wire.specs.Spelled.{granted_data, server_data, final_data, final_of};
@@ -17,7 +16,7 @@ use commands::names::{
     FINAL_UNIT, FINAL_UNIT_ACTION, GRANTED_UNIT, REDIRECT_ADDRESS_TYPE, REDIRECT_SERVER,
     REDIRECT_SERVER_ADDRESS, RESULT_CODE, TARIFF_TIME_CHANGE, VALIDITY_TIME,
 };
-use commands::{Avp, FinalUnit, Granted, Quantity, ServiceAnswer, ServiceOutcome};
+use commands::{Avp, FinalUnit, GrantedServiceUnit, Quantity, ServiceAnswer, ServiceOutcome};
 use identifiers::RedirectAddress;
 use json::Writer;
 use json_fields::{put_moment, put_number, put_perhaps, put_text, unit_name};
@@ -111,7 +110,7 @@ fn put_units(out: &mut Writer, quantity: Quantity, switch: Option<Moment>) -> Re
     Ok(())
 }
 
-fn put_session_grant(out: &mut Writer, granted: &Granted) -> Result<(), AllocError>
+fn put_session_grant(out: &mut Writer, granted: &GrantedServiceUnit) -> Result<(), AllocError>
     ensures adds { Adds result out.old out.new
         (perhaps_tokens final_unit (option_map final_data granted.now.last)
         ++ member_tokens granted_unit (granted_data granted.now.quantity granted.now.switch)) }

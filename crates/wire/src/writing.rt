@@ -1,6 +1,6 @@
 //! An answer, written.
 
-ghost use Rattle.std.specs.Prelude.{◌≡◌, ◌≤◌, IfOk, OnOk, Ok, string_bytes};
+ghost use Rattle.std.specs.Prelude.{◌≡◌, IfOk, OnOk, Ok, string_bytes};
 ghost use Rattle.std.specs.List.{AllByRecursion};
 ghost use Rattle.serde_json.specs.Data.{string, object, array, member, no_members};
 ghost use Rattle.commands.specs.Names.{name_of, cost_information, failed_avp, refusal};
@@ -9,8 +9,7 @@ ghost use Rattle.json_fields.specs.Tokens.{Adds, tokens_of, member_tokens, named
 ghost use Rattle.wire.specs.Spelled.{service_items, failure_named, outcome_named};
 ghost use Rattle.wire.specs.Spelled.{outcome_code, code_member, request_answer_data};
 ghost use Rattle.wire.specs.Spelled.{answer_data, answer_text, fault_data, fault_text};
-ghost use Rattle.wire.specs.Rules.{IsServiceAnswer, IsCost, IsOutcome, IsRequestAnswer};
-ghost use Rattle.wire.specs.Rules.{IsAnswer};
+ghost use Rattle.wire.specs.Rules.{IsServiceAnswer, IsCost, IsOutcome, IsRequestAnswer, IsAnswer};
 ghost use Rattle.wire.specs.ReadingAnswers.{answer_of};
 
 use crate::balances::put_balance;

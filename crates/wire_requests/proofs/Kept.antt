@@ -10,7 +10,6 @@ use Rattle.serde_json.specs.Data.{Data, Items}
 use Rattle.serde_json.specs.Events.{items_len}
 use Rattle.serde_json.specs.Find.{get, as_object, as_number, as_u64}
 use Rattle.units.specs.declared.blocks.UnitKind.{UnitKind}
-use Rattle.commands.specs.declared.avp.Avp.{Avp}
 use Rattle.commands.specs.declared.avp.Avp.TheVariants as avp
 use Rattle.commands.specs.declared.service.Requested.{Requested}
 use Rattle.units.specs.declared.blocks.UsedPart.{UsedPart}

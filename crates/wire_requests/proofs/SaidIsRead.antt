@@ -1,10 +1,8 @@
 -- What is said of a request is read.
 use Rattle.std.proofs.Common.{◌≡◌, ℕ, zero, suc, ◌≤◌, lit≤, List, [], ◌∷◌, ◌++◌, length, true}
-use Rattle.std.proofs.Common.{false}
-use Rattle.std.proofs.Common.{◌&&◌, Option, Some, None, IfSome, is_some, is_none, Ok, refl}
+use Rattle.std.proofs.Common.{false, ◌&&◌, Option, Some, None, IfSome, is_some, is_none, Ok, refl}
 use Rattle.std.proofs.Common.{sym, ap, subst, ◌∙◌, arith, append_assoc, append-nil, leb-true}
-use Rattle.std.proofs.Common.{le-leb}
-use Rattle.std.proofs.Common.{nat_le, inl, inr}
+use Rattle.std.proofs.Common.{le-leb, nat_le, inl, inr}
 use Rattle.std.specs.Prelude.{ℤ, pos, negsuc, int_le, option_and_then}
 use Rattle.std.specs.List.{AllByRecursion, list_all}
 use Rattle.std.proofs.lemmas.Bool.{and_parts}
@@ -289,7 +287,8 @@ service_read phase done s d is says units f free = rw (
   reported_read phase s.requested s.used s.group d is.used says.used f,
 ) refl
 
-services_read : (phase : Phase) (done ss : List Service) (ds : Items) → AllByRecursion IsService ss →
+services_read : (phase : Phase) (done ss : List Service) (ds : Items) →
+    AllByRecursion IsService ss →
     SaysItems SaysService ss ds → AllByRecursion AsksForUnits (item_list ds) →
     list_all (fits phase) ss ≡ true → groups_differ (done ++ ss) ≡ true →
     read_each (service_at phase) done ds ≡ Ok (done ++ ss)
@@ -343,7 +342,8 @@ own_units : (d v : Data) → get (name_of avp.Services) d ≡ Some v →
 own_units d v stands units =
     subst (λ (o : Option Data). AllByRecursion AsksForUnits (elements o)) stands units
 
-initial_read : (ss : List Service) (d : Data) → are_initial ss ≡ true → AllByRecursion IsService ss →
+initial_read : (ss : List Service) (d : Data) → are_initial ss ≡ true →
+    AllByRecursion IsService ss →
     SaysServices ss d → AllByRecursion AsksForUnits (services_told d) →
     services_at Initial d ≡ Ok ss
 unfolding services_at

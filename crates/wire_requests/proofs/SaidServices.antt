@@ -1,11 +1,8 @@
 -- What is read of a request's services, event or refund is said by its members.
-use Rattle.std.proofs.Common.{◌≡◌, ℕ, List, [], ◌∷◌, ◌++◌, Bool, true, false, Option, Some, None}
+use Rattle.std.proofs.Common.{◌≡◌, ℕ, List, [], ◌∷◌, ◌++◌, true, Option, Some, None}
 use Rattle.std.proofs.Common.{◌&&◌, Result, Ok, refl, sym, ap, ◌∙◌, subst, nat_le, append-nil}
-use Rattle.std.proofs.Common.{append_assoc, ◌≤◌, arith, leb-true, true≢false, inl, inr}
-use Rattle.std.proofs.lemmas.Bool.{and_parts}
-use Rattle.std.specs.Cmp.{unsigned_Decides}
-use Rattle.std.specs.Prelude.{ℤ, pos, negsuc, int_le, is_none, option_and_then, ◌==◌, if◌then◌else◌}
-use Rattle.std.specs.Prelude.{not}
+use Rattle.std.proofs.Common.{append_assoc, inl, inr}
+use Rattle.std.specs.Prelude.{ℤ, pos, negsuc, int_le, is_none, option_and_then, ◌==◌, not}
 use Rattle.serde_json.specs.Data.{Data, Items, no_items, item}
 use Rattle.serde_json.specs.Events.{items_len}
 use Rattle.serde_json.specs.Find.{get, as_number, as_u64, as_i64, as_array, as_object}
@@ -13,16 +10,11 @@ use Rattle.texts.specs.Steps.{each}
 use Rattle.units.specs.declared.blocks.UnitKind.{UnitKind}
 use Rattle.units.specs.declared.blocks.UsedPart.{UsedPart}
 use Rattle.units.specs.declared.blocks.TariffChangeUsage.{TariffChangeUsage}
-use Rattle.units.specs.declared.blocks.TariffChangeUsage.TheVariants.{UnitBeforeTariffChange}
-use Rattle.units.specs.declared.blocks.TariffChangeUsage.TheVariants.{UnitAfterTariffChange}
-use Rattle.units.specs.declared.blocks.TariffChangeUsage.TheVariants.{UnitIndeterminate}
 use Rattle.commands.specs.declared.avp.Avp.{Avp}
 use Rattle.commands.specs.declared.avp.Avp.TheVariants as avp
 use Rattle.commands.specs.declared.request.RequestKind.{RequestKind}
 use Rattle.commands.specs.declared.request.RequestKind.TheVariants as kind
 use Rattle.commands.specs.declared.request.EventAction.{EventAction}
-use Rattle.commands.specs.declared.request.EventAction.TheVariants.{DirectDebiting, CheckBalance}
-use Rattle.commands.specs.declared.request.EventAction.TheVariants.{PriceEnquiry}
 use Rattle.commands.specs.declared.request.Event.{Event}
 use Rattle.commands.specs.declared.request.Ask.{Ask}
 use Rattle.commands.specs.declared.request.Ask.TheVariants as ask

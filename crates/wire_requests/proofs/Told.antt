@@ -18,8 +18,6 @@ use Rattle.commands.specs.declared.avp.Avp.TheVariants as avp
 use Rattle.commands.specs.declared.request.RequestKind.{RequestKind}
 use Rattle.commands.specs.declared.request.RequestKind.TheVariants as kind
 use Rattle.commands.specs.declared.request.EventAction.{EventAction}
-use Rattle.commands.specs.declared.request.EventAction.TheVariants.{DirectDebiting, CheckBalance}
-use Rattle.commands.specs.declared.request.EventAction.TheVariants.{PriceEnquiry}
 use Rattle.commands.specs.declared.service.Service.{Service}
 use Rattle.commands.specs.Names.{name_of, tariff_change_usage}
 use Rattle.commands.specs.Codes.{kind_number, kind_numbered, action_numbered}
@@ -43,8 +41,9 @@ use Rattle.wire_requests.specs.Reading.{session_at, kind_at, account_at, only_it
 use Rattle.wire_requests.specs.Reading.{event_at, action_at, ask_at, request_in}
 use Rattle.wire_requests.specs.Said.{SaysNumber}
 use Rattle.wire_requests.specs.Told.{values, services_told, money_told, amount_told, is_number}
-use Rattle.wire_requests.specs.Told.{asks_refund, holders, IsTold, TellsOf, FaultsAreTold}
-use Rattle.wire_requests.proofs.Said.{or_found, text_said, number_said, kind_at_said, equal}
+use Rattle.wire_requests.specs.Told.{asks_refund, holders, IsRequestFaultTold, TellsOf}
+use Rattle.wire_requests.specs.Told.{FaultsAreTold}
+use Rattle.wire_requests.proofs.Said.{or_found, text_said, number_said, kind_at_said}
 use Rattle.wire_requests.proofs.SaidServices.{object_stands}
 
 -- ---- steps
@@ -55,12 +54,13 @@ module _ (d : Data) where
   then_told (Ok x) f h next = next x refl
   then_told (Err e) f h next = h
 
-  where_told : {A : Type 0} (b : Bool) (e : WireFault) (x : A) → IsTold d e →
+  where_told : {A : Type 0} (b : Bool) (e : WireFault) (x : A) → IsRequestFaultTold d e →
       TellsOf d (where_holds b e x)
   where_told true e x h = tt
   where_told false e x h = h
 
-  or_told : {A : Type 0} (e : WireFault) (o : Option A) → IsTold d e → TellsOf d (or_fault e o)
+  or_told : {A : Type 0} (e : WireFault) (o : Option A) → IsRequestFaultTold d e →
+      TellsOf d (or_fault e o)
   or_told e None h = h
   or_told e (Some x) h = tt
 
@@ -111,10 +111,10 @@ items_hold d pre all (item h ds) is = (
 )
 
 module _ (d : Data) (a : Avp) (h : Data) (hold : Holds (holders a d) h) where
-  is_missing : get (name_of a) h ≡ None → IsTold d (Missing a)
+  is_missing : get (name_of a) h ≡ None → IsRequestFaultTold d (Missing a)
   is_missing e = hold (λ x. is_none (get (name_of a) x)) (ap is_none e)
 
-  is_invalid : (v : Data) → get (name_of a) h ≡ Some v → IsTold d (Invalid a)
+  is_invalid : (v : Data) → get (name_of a) h ≡ Some v → IsRequestFaultTold d (Invalid a)
   is_invalid v e = hold (λ x. is_some (get (name_of a) x)) (ap is_some e)
 
   found_told : (o : Option Data) → get (name_of a) h ≡ o → TellsOf d (or_fault (Missing a) o)
@@ -129,10 +129,10 @@ module _ (d : Data) (a : Avp) (h : Data) (hold : Holds (holders a d) h) where
   unfolding member_at
   stands_by v e = or_found (Missing a) (get (name_of a) h) v e
 
-  member_bad : (v : Data) → member_at a h ≡ Ok v → IsTold d (Invalid a)
+  member_bad : (v : Data) → member_at a h ≡ Ok v → IsRequestFaultTold d (Invalid a)
   member_bad v e = is_invalid v (stands_by v e)
 
-  whole_told : (low high : ℕ) (v : Data) → IsTold d (Invalid a) →
+  whole_told : (low high : ℕ) (v : Data) → IsRequestFaultTold d (Invalid a) →
       TellsOf d (whole_in (Invalid a) low high v)
   whole_told low high v bad = then_told d
       (or_fault (Invalid a) (option_and_then as_u64 (as_number v))) _ (or_told d (Invalid a) _ bad)
@@ -153,10 +153,10 @@ module _ (d : Data) (a : Avp) (h : Data) (hold : Holds (holders a d) h) where
   object_told = then_told d (member_at a h) _ member_told (λ v e. then_told d (or_fault (Invalid a)
       (as_object v)) _ (or_told d (Invalid a) _ (member_bad v e)) (λ m e2. tt))
 
-  text_bad : (s : List ℕ) → text_at a h ≡ Ok s → IsTold d (Invalid a)
+  text_bad : (s : List ℕ) → text_at a h ≡ Ok s → IsRequestFaultTold d (Invalid a)
   text_bad s e = let says = text_said a h s e in is_invalid says.value says.stands
 
-  number_bad : (low high n : ℕ) → number_at a low high h ≡ Ok n → IsTold d (Invalid a)
+  number_bad : (low high n : ℕ) → number_at a low high h ≡ Ok n → IsRequestFaultTold d (Invalid a)
   number_bad low high n e = let says = number_said a low high h n e in
       is_invalid says.value says.stands
 
@@ -168,7 +168,7 @@ module _ (d : Data) (a : Avp) (h : Data) (hold : Holds (holders a d) h) where
 
 -- ---- what is asked and reported
 
-module _ (d : Data) (told : Avp) (bad : IsTold d (Invalid told)) where
+module _ (d : Data) (told : Avp) (bad : IsRequestFaultTold d (Invalid told)) where
   units_told : (low : ℕ) (kind : UnitKind) (v : Data) →
       TellsOf d (units_at (Invalid told) low kind v)
   unfolding units_at
@@ -181,14 +181,16 @@ module _ (d : Data) (told : Avp) (bad : IsTold d (Invalid told)) where
       (λ n e2. where_told d (nat_le low n && nat_le n (most_units kind)) (Invalid told) n bad))
       (λ n e2. where_told d (lacks_others kind v) (Invalid told) n bad))
 
-wanted_told : (d : Data) (k : Option UnitKind) (v : Data) → IsTold d (Invalid avp.RequestedUnit) →
+wanted_told : (d : Data) (k : Option UnitKind) (v : Data) → IsRequestFaultTold d
+    (Invalid avp.RequestedUnit) →
     TellsOf d (wanted_in k v)
 unfolding wanted_in
 wanted_told d None v bad = tt
 wanted_told d (Some k) v bad = then_told d (units_at (Invalid avp.RequestedUnit) 1 k v) _
     (units_told d avp.RequestedUnit bad 1 k v) (λ n e. tt)
 
-requested_told : (d v : Data) → IsTold d (Invalid avp.RequestedUnit) → TellsOf d (requested_of v)
+requested_told : (d v : Data) → IsRequestFaultTold d (Invalid avp.RequestedUnit) →
+    TellsOf d (requested_of v)
 unfolding requested_of
 requested_told d v bad =
     then_told d (or_fault (Invalid avp.RequestedUnit) (as_object v)) _
@@ -197,7 +199,7 @@ requested_told d v bad =
     (where_told d _ (Invalid avp.RequestedUnit) v bad)
     (λ free e2. wanted_told d (kind_told v) v bad))
 
-change_told : (d : Data) (o : Option Data) → IsTold d (Invalid avp.UsedUnit) →
+change_told : (d : Data) (o : Option Data) → IsRequestFaultTold d (Invalid avp.UsedUnit) →
     TellsOf d (usage_when o)
 change_told d None bad = tt
 change_told d (Some v) bad =
@@ -207,7 +209,7 @@ change_told d (Some v) bad =
     (or_told d (Invalid avp.UsedUnit) (usage_numbered n) bad) (λ u e2. tt))
 
 part_told : (d : Data) (k : UnitKind) (done : List UsedPart) (v : Data) →
-    IsTold d (Invalid avp.UsedUnit) → TellsOf d (part_at k done v)
+    IsRequestFaultTold d (Invalid avp.UsedUnit) → TellsOf d (part_at k done v)
 unfolding part_at usage_at
 part_told d k done v bad =
     then_told d (or_fault (Invalid avp.UsedUnit) (as_object v)) _
@@ -218,7 +220,7 @@ part_told d k done v bad =
     then_told d (where_holds (not (tag_is_taken done change)) (Invalid avp.UsedUnit) change) _
     (where_told d _ (Invalid avp.UsedUnit) change bad) (λ free e4. tt))))
 
-used_told : (d v : Data) → IsTold d (Invalid avp.UsedUnit) → TellsOf d (used_of v)
+used_told : (d v : Data) → IsRequestFaultTold d (Invalid avp.UsedUnit) → TellsOf d (used_of v)
 unfolding used_of array_of
 used_told d v bad =
     then_told d (array_of avp.UsedUnit v) _
@@ -303,7 +305,8 @@ services_of_told : (d : Data) (phase : Phase) (v : Data) → get (name_of avp.Se
     asks_refund d ≡ false → TellsOf d (services_of phase v)
 unfolding services_of array_of
 services_of_told d phase v stands other =
-    let bad : IsTold d (Invalid avp.Services) = is_invalid d avp.Services d (alone d) v stands in
+    let bad : IsRequestFaultTold d (Invalid avp.Services) = is_invalid d avp.Services d (alone d) v
+    stands in
     then_told d (array_of avp.Services v) _
     (or_told d (Invalid avp.Services) (as_array v) bad) (λ ds e.
     then_told d (where_holds (nat_le (fewest phase) (items_len ds) && nat_le (items_len ds) 16)
@@ -340,7 +343,8 @@ event_of_told : (d : Data) (action : EventAction) (v : Data) →
     get (name_of avp.Services) d ≡ Some v → asks_refund d ≡ false → TellsOf d (event_of action v)
 unfolding event_of array_of
 event_of_told d action v stands other =
-    let bad : IsTold d (Invalid avp.Services) = is_invalid d avp.Services d (alone d) v stands in
+    let bad : IsRequestFaultTold d (Invalid avp.Services) = is_invalid d avp.Services d (alone d) v
+    stands in
     then_told d (array_of avp.Services v) _
     (or_told d (Invalid avp.Services) (as_array v) bad) (λ ds e.
     then_told d (or_fault (Invalid avp.Services) (only_item ds)) _
@@ -370,7 +374,7 @@ scaled_told : (d v : Data) (o : Option Data) → Holds (holders avp.Exponent d) 
     get (name_of avp.Exponent) v ≡ o → TellsOf d (exponent_when o)
 scaled_told d v None hold e = tt
 scaled_told d v (Some x) hold e =
-    let bad : IsTold d (Invalid avp.Exponent) = is_invalid d avp.Exponent v hold x e in
+    let bad : IsRequestFaultTold d (Invalid avp.Exponent) = is_invalid d avp.Exponent v hold x e in
     then_told d (or_fault (Invalid avp.Exponent) (option_and_then as_i64 (as_number x))) _
     (or_told d (Invalid avp.Exponent) _ bad)
     (λ z e2. where_told d (int_le (negsuc 5) z && int_le z (pos 0)) (Invalid avp.Exponent) z bad)
@@ -419,7 +423,7 @@ event_asks n d kind action =
     ap (λ b. b && is_number avp.RequestedAction 1 d) (number_is avp.RequestType 4 4 d kind)
     ∙ number_is avp.RequestedAction n 1 d action
 
-action_told : (n : ℕ) (d : Data) → IsTold d (Invalid avp.RequestedAction) →
+action_told : (n : ℕ) (d : Data) → IsRequestFaultTold d (Invalid avp.RequestedAction) →
     asks_refund d ≡ nat_eq n 1 → TellsOf d (action_at n d)
 unfolding action_at
 action_told n d bad is =

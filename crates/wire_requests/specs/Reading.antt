@@ -1,6 +1,5 @@
 -- The fields of a request, read in their order: the first fault is the one told.
-use Rattle.std.specs.Prelude.{ℕ, ◌==◌, List, Option, Some, None, is_none, Result, Ok, Err}
-use Rattle.std.specs.Prelude.{if◌then◌else◌}
+use Rattle.std.specs.Prelude.{ℕ, ◌==◌, List, Option, Some, None, is_none, Result, Ok, if◌then◌else◌}
 use Rattle.units.specs.Words.{greatest_number}
 use Rattle.identifiers.specs.Words.{SessionName, AccountName}
 use Rattle.serde_json.specs.Data.{Data, Items, no_items, item}

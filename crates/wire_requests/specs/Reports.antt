@@ -1,7 +1,7 @@
 -- How a request asks for units and reports those used. Each fault inside is one of the whole
 -- member.
-use Rattle.std.specs.Prelude.{ℕ, ◌&&◌, List, [], Bool, not, Option, Some, None, is_none, Result, Ok}
-use Rattle.std.specs.Prelude.{Err, nat_le, option_and_then, unwrap_or}
+use Rattle.std.specs.Prelude.{◌&&◌, List, [], Bool, not, Option, Some, None, is_none, Result, Ok}
+use Rattle.std.specs.Prelude.{nat_le, option_and_then, unwrap_or}
 use Rattle.std.specs.List.{list_any}
 use Rattle.std.specs.Option.{option_eq}
 use Rattle.serde_json.specs.Data.{Data, Items, no_items, item}

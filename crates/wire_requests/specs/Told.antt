@@ -66,15 +66,15 @@ holders a d = d ∷ []
 -- ---- what is told of them
 
 -- of an object neither want of memory nor another document is told
-abbrev pub IsTold : Data → WireFault → Type 0
-IsTold d (Missing a) = list_any (λ h. is_none (get (name_of a) h)) (holders a d) ≡ true
-IsTold d (Invalid a) = list_any (λ h. is_some (get (name_of a) h)) (holders a d) ≡ true
-IsTold d NotRequest = ⊥
-IsTold d Memory = ⊥
+abbrev pub IsRequestFaultTold : Data → WireFault → Type 0
+IsRequestFaultTold d (Missing a) = list_any (λ h. is_none (get (name_of a) h)) (holders a d) ≡ true
+IsRequestFaultTold d (Invalid a) = list_any (λ h. is_some (get (name_of a) h)) (holders a d) ≡ true
+IsRequestFaultTold d NotRequest = ⊥
+IsRequestFaultTold d Memory = ⊥
 
 abbrev pub TellsOf : {A : Type 0} → Data → Result A WireFault → Type 0
 TellsOf d (Ok x) = ⊤
-TellsOf d (Err fault) = IsTold d fault
+TellsOf d (Err fault) = IsRequestFaultTold d fault
 
 -- the fault of a request is told of a member that is missing or stands
 abbrev pub FaultsAreTold : Type 0

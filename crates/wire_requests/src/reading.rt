@@ -1,6 +1,5 @@
 //! A request, read.
 
-ghost use Rattle.std.specs.Prelude.{◌≡◌, IfOk, IsTrue};
 ghost use Rattle.serde_json.specs.View.{view, items_view};
 ghost use Rattle.json_fields.specs.Gives.{Gives, Says, or_fault};
 ghost use Rattle.wire_requests.specs.Reading.{session_at, kind_at, account_at, only_item, event_of};

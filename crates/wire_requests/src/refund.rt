@@ -1,9 +1,9 @@
 //! The money of a refund, read.
 
-ghost use Rattle.std.specs.Prelude.{◌≡◌, ◌≤◌, ◌≤ℤ◌, ℤ, pos, negsuc, IfOk};
+ghost use Rattle.std.specs.Prelude.{◌≤◌, ◌≤ℤ◌, ℤ, pos, negsuc, IfOk};
 ghost use Rattle.serde_json.specs.View.{view};
 ghost use Rattle.json_fields.specs.Gives.{Says};
-ghost use Rattle.wire_requests.specs.Refunds.{exponent_at, micros_told, money_at, refund_at};
+ghost use Rattle.wire_requests.specs.Refunds.{exponent_at, money_at, refund_at};
 
 use commands::{Avp, Refund};
 use json_fields::{WireFault, number, object};

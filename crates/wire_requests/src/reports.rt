@@ -1,6 +1,6 @@
 //! What a service asks for and reports, read.
 
-ghost use Rattle.std.specs.Prelude.{◌≡◌, ◌≤◌, []};
+ghost use Rattle.std.specs.Prelude.{◌≡◌, []};
 ghost use Rattle.serde_json.specs.View.{view, items_view};
 ghost use Rattle.json_fields.specs.Gives.{Gives, Says};
 ghost use Rattle.wire_requests.specs.Reports.{wanted_in, requested_of, required_at, usage_at};

@@ -1,6 +1,6 @@
 //! The services of a request, written.
 
-ghost use Rattle.std.specs.Prelude.{◌≡◌, ◌≤◌, IfSome, OnOk, option_map, true};
+ghost use Rattle.std.specs.Prelude.{◌≡◌, IfSome, OnOk, option_map, true};
 ghost use Rattle.std.specs.List.{AllByRecursion};
 ghost use Rattle.serde_json.specs.Data.{array};
 ghost use Rattle.commands.specs.Quantities.{is_quantity};

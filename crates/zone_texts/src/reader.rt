@@ -1,7 +1,7 @@
 //! The grammar of POSIX's TZ (Base Definitions 8.3), as far as books have it. Each `read_` function
 //! reads the front of a text, and gives the value and the text after it.
 
-ghost use Rattle.std.specs.Prelude.{◌≡◌, ◌<◌, ◌≤◌, ◌%◌, IfSome, drop, length, not};
+ghost use Rattle.std.specs.Prelude.{◌≡◌, ◌<◌, ◌≤◌, ◌%◌, IfSome, length, not};
 ghost use Rattle.std.specs.Char.{is_ascii_alphabetic};
 ghost use Rattle.std.specs.List.{position_from};
 ghost use Rattle.calendar.specs.Summer.{IsYearly, IsSummerTime};

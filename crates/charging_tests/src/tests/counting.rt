@@ -1,7 +1,5 @@
 //! A keeper that counts the rows of the last change that it was handed.
 
-ghost use Rattle.std.specs.Prelude.{◌≡◌};
-
 use buckets::Bucket;
 use identifiers::{AccountNumber, SessionId, VoucherCode};
 use keepers::{Change, Keeper, KeptAnswer, Key, Loaded, NamedRows, StoreFault};

@@ -8,7 +8,7 @@ use commands::{Answer, Content, KeptCredit};
 use keepers::{Change, KeptAnswer};
 use shelves::TariffShelf;
 use sql_keeper::{kept_texts, may_be_written};
-use sql_rows::{Head, Kept};
+use sql_rows::{HeadColumns, KeptTexts};
 use sql_tables::ReadFault;
 use std::alloc::Global;
 use std::process::Abort;
@@ -27,7 +27,7 @@ fn kept_of(rt: &impl Abort, alloc: Global, body: &str) -> KeptAnswer {
 }
 
 /// The content or the answer of what is kept.
-fn texts_told<'a>(kind: &str, texts: &'a Result<Option<Kept>, ReadFault>) -> &'a str {
+fn texts_told<'a>(kind: &str, texts: &'a Result<Option<KeptTexts>, ReadFault>) -> &'a str {
     match texts {
         Ok(Some(texts)) if kind == "answer" => texts.answer.as_str(),
         Ok(Some(texts)) => texts.content.as_str(),
@@ -47,8 +47,8 @@ fn texts_of(rt: &impl Abort, alloc: Global, kind: &str, words: &str) -> String {
 }
 
 /// The head of an account by the number of its next charge.
-fn head_before(rt: &impl Abort, next_charge: u64) -> Head {
-    Head {
+fn head_before(rt: &impl Abort, next_charge: u64) -> HeadColumns {
+    HeadColumns {
         barred: false,
         as_of: moment(rt, 9),
         next_bucket: 1,

@@ -1,14 +1,14 @@
 //! Rows by their words: a row is a line, its kind and then its columns.
 
 use crate::tests::values::{at, large, perhaps, session_id, small, words_of};
-use buckets::{Bucket, BucketKind, Columns, Hold, Holds, Purse};
+use buckets::{Bucket, BucketKind, Columns, HeldAmount, Holds, Purse};
 use calendar::Period;
 use rating::Periods;
 use reserving::{
     ChargeRow, Counter, GivenRows, Reservation, Session, SessionGroup, SessionState, StoredAccount,
     Terms,
 };
-use sql_rows::Head;
+use sql_rows::HeadColumns;
 use std::alloc::Global;
 use std::process::Abort;
 use units::{Amount, Blocks, Moment};
@@ -96,7 +96,7 @@ fn holds(rt: &impl Abort, alloc: Global, words: &[&str]) -> Holds {
             panic!(rt; "a hold")
         };
         let (bucket, amount) = (small(rt, bucket), large(rt, amount));
-        items.push(Hold { bucket, amount }).expect(rt, "room");
+        items.push(HeldAmount { bucket, amount }).expect(rt, "room");
     }
     Holds::from_items(items).expect(rt, "holds")
 }
@@ -206,12 +206,12 @@ impl Given {
 }
 
 /// `BARRED AS-OF NEXT-BUCKET NEXT-CHARGE`.
-pub(crate) fn head(rt: &impl Abort, alloc: Global, text: &str) -> Head {
+pub(crate) fn head(rt: &impl Abort, alloc: Global, text: &str) -> HeadColumns {
     let words = words_of(rt, alloc, text);
     let [barred, as_of, next_bucket, next_charge] = words.as_slice() else {
         panic!(rt; "a head")
     };
-    Head {
+    HeadColumns {
         barred: *barred == "barred",
         as_of: at(rt, as_of),
         next_bucket: large(rt, next_bucket),
@@ -223,7 +223,7 @@ pub(crate) fn head(rt: &impl Abort, alloc: Global, text: &str) -> Head {
 pub(crate) fn stored_rows(
     rt: &impl Abort,
     alloc: Global,
-    head: &Head,
+    head: &HeadColumns,
     text: &str,
 ) -> (StoredAccount, Vec<ChargeRow>) {
     let Given {
@@ -249,7 +249,7 @@ pub(crate) fn stored_rows(
 
 /// An account that isn't barred, of these rows as of a moment; its next bucket is the third.
 pub(crate) fn stored(rt: &impl Abort, alloc: Global, as_of: Moment, text: &str) -> StoredAccount {
-    let head = Head {
+    let head = HeadColumns {
         barred: false,
         as_of,
         next_bucket: 3,

@@ -86,8 +86,8 @@ returns-in-Err g c = record {
   started = λ said says failed.
       nothing_started _ said (g.O.Write.contents c.args.output.now)
       (g.O.Write.contents c.tell_unread.new.output)
-      (ap (g.O.Write.contents) (c.tell_unread.ensures.memory (memory_alone (texts_of c.args.words.now)
-      c.in-Err.fault said c.in-Err.ensures.unread says)));
+      (ap (g.O.Write.contents) (c.tell_unread.ensures.memory
+      (memory_alone (texts_of c.args.words.now) c.in-Err.fault said c.in-Err.ensures.unread says)));
   done = λ once says done.
       absurd (not_done c.in-Err.fault c.tell_unread.result (memory_alone (texts_of c.args.words.now)
       c.in-Err.fault (Once once) c.in-Err.ensures.unread says) c.tell_unread.ensures.end done);
@@ -95,6 +95,6 @@ returns-in-Err g c = record {
       unwritten_begins (g.I.Read.remaining c.args.input.now) (g.O.Write.contents c.args.output.now)
       (g.O.Write.contents c.tell_unread.new.output)
       (λ stream. once_text (once_book once.price once.block) once.credit stream)
-      (ap (g.O.Write.contents) (c.tell_unread.ensures.memory (memory_alone (texts_of c.args.words.now)
-      c.in-Err.fault (Once once) c.in-Err.ensures.unread says)));
+      (ap (g.O.Write.contents) (c.tell_unread.ensures.memory (memory_alone
+      (texts_of c.args.words.now) c.in-Err.fault (Once once) c.in-Err.ensures.unread says)));
 }

@@ -5,8 +5,8 @@ use Rattle.std.specs.Prelude.{nat_le, not}
 use Rattle.std.specs.Ordering.{is_lt, nat_cmp}
 use Rattle.std.proofs.lemmas.Cmp.{ranked, by_ranked}
 use Rattle.std.proofs.lemmas.Bool.Decides.{nat_tests}
-use Rattle.buckets.specs.declared.holds.Hold.{Hold}
-use Rattle.buckets.specs.Row.{Row, with_release, with_end}
+use Rattle.buckets.specs.declared.holds.HeldAmount.{HeldAmount}
+use Rattle.buckets.specs.Row.{BucketRow, with_release, with_end}
 use Rattle.buckets.specs.Spend.{funds, allowance}
 use Rattle.buckets.specs.Holding.{settled_rows, uncollected}
 use Rattle.rating.specs.declared.report.Rated.{Rated}
@@ -90,7 +90,8 @@ covered_is b ledger a group units t paid price account rows le p q h =
 
 -- the rows as the call leaves them, part by part
 pub debited_parts : (a : AccountRows) (s : List ℕ) (g cycle units blocks : ℕ) (due : Due)
-    (holds : List Hold) (buckets : List Row) (counters : List Counter) (groups : List SessionGroup)
+    (holds : List HeldAmount) (buckets : List BucketRow) (counters : List Counter)
+    (groups : List SessionGroup)
     →
     cycle ≡ cycle_at a.shelf g a.as_of →
     holds ≡ [] → buckets ≡ settled_rows holds g a.as_of due a.buckets →
@@ -110,7 +111,7 @@ pub buckets_later : (a : AccountRows) (s : List ℕ) (g c t : ℕ) →
     (advanced t (with_rows s g c a)).buckets ≡ (advanced t a).buckets
 buckets_later a s g c t =
     let keeps : List ℕ → Bool = is_live_in (validity_of a.shelf) t a.sessions in
-    let given : (b : Row) →
+    let given : (b : BucketRow) →
     lapsed_in keeps (with_group s g a.groups) b ≡ lapsed_in keeps a.groups b =
     λ b. held_by-with_group (λ x. not (keeps x)) s g a.groups b in
     λ i. map (λ b. with_end t (with_release t b (given b i))) a.buckets

@@ -2,8 +2,8 @@
 use Rattle.std.proofs.Common.{◌≡◌, ℕ, ◌+◌, Bool, true, false, List, ◌∷◌, map, refl, sym}
 use Rattle.std.proofs.Common.{ap, ◌∙◌, arith, Option, Some, None}
 use Rattle.std.specs.Prelude.{if◌then◌else◌, unwrap_or, option_map, not}
-use Rattle.buckets.specs.declared.holds.Hold.{Hold}
-use Rattle.buckets.specs.Row.{Row, with_release, with_end}
+use Rattle.buckets.specs.declared.holds.HeldAmount.{HeldAmount}
+use Rattle.buckets.specs.Row.{BucketRow, with_release, with_end}
 use Rattle.buckets.specs.Holding.{held_in, settled_rows, released_rows}
 use Rattle.buckets.specs.declared.kind.Due.{Due}
 use Rattle.reserving.specs.declared.session.SessionGroup.{SessionGroup}
@@ -28,7 +28,8 @@ use Rattle.reserving.proofs.kept.Settled.{or_new_key, or_new_cycle}
 
 -- ---- part by part
 
-pub ended_parts : (a : AccountRows) (s : List ℕ) (g : ℕ) (holds : List Hold) (buckets : List Row)
+pub ended_parts : (a : AccountRows) (s : List ℕ) (g : ℕ) (holds : List HeldAmount)
+    (buckets : List BucketRow)
     (groups : List SessionGroup) →
     holds ≡ reserved_in s g a.groups → buckets ≡ released_rows holds a.as_of a.buckets →
     groups ≡ map (ended_group s g) a.groups →
@@ -39,8 +40,9 @@ ended_parts a s g holds buckets groups h b k =
     λ i. record a { buckets = moved i; groups = k i }
 
 -- what a charge leaves: the buckets, the counters, the groups and the next charge's number
-pub charged_parts : (a : AccountRows) (g cycle blocks : ℕ) (due : Due) (holds given : List Hold)
-    (buckets : List Row) (counters : List Counter) (groups leaves : List SessionGroup) →
+pub charged_parts : (a : AccountRows) (g cycle blocks : ℕ) (due : Due)
+    (holds given : List HeldAmount)
+    (buckets : List BucketRow) (counters : List Counter) (groups leaves : List SessionGroup) →
     cycle ≡ cycle_at a.shelf g a.as_of →
     holds ≡ given → buckets ≡ settled_rows holds g a.as_of due a.buckets →
     counters ≡ with_count g cycle blocks a.counters → groups ≡ leaves →
@@ -69,7 +71,8 @@ charged_parts a g cycle blocks due holds given buckets counters groups leaves e 
     }
 
 pub settled_parts : (a : AccountRows) (s : List ℕ) (g cycle units blocks : ℕ) (due : Due)
-    (holds : List Hold) (buckets : List Row) (counters : List Counter) (groups : List SessionGroup)
+    (holds : List HeldAmount) (buckets : List BucketRow) (counters : List Counter)
+    (groups : List SessionGroup)
     →
     cycle ≡ cycle_at a.shelf g a.as_of →
     holds ≡ reserved_in s g a.groups → buckets ≡ settled_rows holds g a.as_of due a.buckets →
@@ -230,7 +233,7 @@ periods_later keeps s g rows h =
     by_row None e = refl
 
 -- an empty row holds nothing
-held_by-new : (q : List ℕ → Bool) (s : List ℕ) (g : ℕ) (rows : List SessionGroup) (b : Row) →
+held_by-new : (q : List ℕ → Bool) (s : List ℕ) (g : ℕ) (rows : List SessionGroup) (b : BucketRow) →
     held_by q (new_group s g ∷ rows) b ≡ held_by q rows b
 held_by-new q s g rows b =
     elim (q s) as
@@ -238,7 +241,7 @@ held_by-new q s g rows b =
     [ true ↦ omega arith | false ↦ omega arith ]
 
 pub held_by-with_group : (q : List ℕ → Bool) (s : List ℕ) (g : ℕ) (rows : List SessionGroup)
-    (b : Row) → held_by q (with_group s g rows) b ≡ held_by q rows b
+    (b : BucketRow) → held_by q (with_group s g rows) b ≡ held_by q rows b
 held_by-with_group q s g rows b = by_row (group_in s g rows) refl
   where
     by_row : (o : Option SessionGroup) → group_in s g rows ≡ o →
@@ -306,7 +309,7 @@ settled_later a s g t units blocks due =
       reservation = None;
     })
     a.groups refl refl in
-    let given : (b : Row) →
+    let given : (b : BucketRow) →
     lapsed_in keeps (with_group s g a.groups) b ≡ lapsed_in keeps a.groups b =
     λ b. held_by-with_group (λ x. not (keeps x)) s g a.groups b in
     let x : AccountRows = settled_account s g units blocks due (advanced t a) in

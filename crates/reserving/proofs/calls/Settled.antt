@@ -9,7 +9,7 @@ use Rattle.std.specs.Prelude.{if◌then◌else◌}
 use Rattle.std.proofs.Common.{◌-◌}
 use Rattle.buckets.specs.declared.kind.BucketKind.{BucketKind}
 use Rattle.buckets.specs.declared.kind.BucketKind.TheVariants.{Blocks}
-use Rattle.buckets.specs.declared.holds.Hold.{Hold}
+use Rattle.buckets.specs.declared.holds.HeldAmount.{HeldAmount}
 use Rattle.buckets.specs.Kinds.{is_alike}
 use Rattle.buckets.specs.Spend.{allowance}
 use Rattle.buckets.specs.Holding.{held_sum, held_in}
@@ -26,7 +26,7 @@ use Rattle.std.proofs.Common.{ap, subst, ◌∙◌, arith, Option, Some, None}
 use Rattle.std.specs.Prelude.{is_some, not}
 use Rattle.std.proofs.lemmas.Bool.Decides.{nat_tests}
 use Rattle.units.specs.declared.blocks.UsedPart.{UsedPart}
-use Rattle.buckets.specs.Row.{Row, with_release, with_end}
+use Rattle.buckets.specs.Row.{BucketRow, with_release, with_end}
 use Rattle.buckets.specs.Holding.{uncollected}
 use Rattle.reserving.specs.declared.session.SessionGroup.{SessionGroup}
 use Rattle.reserving.specs.declared.settle.Settled.{Settled}
@@ -143,7 +143,8 @@ pub within_counted : (before units count blocks charge : ℕ) →
 within_counted before units count blocks charge h = grind (arith, nat_tests)
 
 -- time leaves what holds have of the buckets of a kind
-held_sum-later : (kind : BucketKind) (holds : List Hold) (t : ℕ) (f : Row → ℕ) (rows : List Row) →
+held_sum-later : (kind : BucketKind) (holds : List HeldAmount) (t : ℕ) (f : BucketRow → ℕ)
+    (rows : List BucketRow) →
     held_sum kind holds (map (λ b. with_end t (with_release t b (f b))) rows)
     ≡ held_sum kind holds rows
 held_sum-later kind holds t f [] = refl
@@ -346,7 +347,7 @@ settlement_is ledger a middle s g c t used_parts x account rows le live_in told 
     price_is ledger a s g t used_parts account rows le live_in in
     let rated : x.rated.0 ≡ (report_price a.shelf t s g used_parts ledger).amount.0 =
     told.rated_is ∙ ap (λ (y : Rated). y.amount.0) cost in
-    let given : (y : Row) →
+    let given : (y : BucketRow) →
     lapsed_in keeps (with_group s g a.groups) y ≡ lapsed_in keeps a.groups y =
     λ y. held_by-with_group (λ z. not (keeps z)) s g a.groups y in
     let buckets : (advanced t (with_rows s g c a)).buckets ≡ buckets_at v t ledger =

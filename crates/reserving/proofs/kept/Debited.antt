@@ -1,6 +1,6 @@
 -- What each account keeps is kept by a debit.
 use Rattle.std.proofs.Common.{◌≡◌, ℕ, ◌+◌, ◌<◌, ◌≤◌, List, [], ◌∷◌, map, arith, ◌∙◌, true}
-use Rattle.buckets.specs.Row.{Row}
+use Rattle.buckets.specs.Row.{BucketRow}
 use Rattle.buckets.specs.Spend.{Each}
 use Rattle.buckets.specs.Holding.{held_in, IsWithin, settled_row}
 use Rattle.buckets.specs.declared.kind.Due.{Due}
@@ -20,14 +20,15 @@ use Rattle.reserving.proofs.kept.Settled.{settled_number, held_by_number, held_b
 use Rattle.reserving.proofs.kept.Settled.{AreApart-put_group}
 use Rattle.reserving.proofs.kept.Settled.{AreApart-put_counter}
 
-pub within_none : (rows : List Row) → IsWithin [] rows
+pub within_none : (rows : List BucketRow) → IsWithin [] rows
 within_none [] = tt
 within_none (b ∷ bs) = (omega arith, within_none bs)
 
 -- rows that hold what others hold
-each_same : (rows after : List SessionGroup) (does : Row → Row) (xs : List Row) →
-    ((b : Row) → held_by (λ s. true) after b ≡ held_by (λ s. true) rows b) →
-    ((b : Row) → (does b).number ≡ b.number) → ((b : Row) → (does b).reserved ≡ b.reserved) →
+each_same : (rows after : List SessionGroup) (does : BucketRow → BucketRow) (xs : List BucketRow) →
+    ((b : BucketRow) → held_by (λ s. true) after b ≡ held_by (λ s. true) rows b) →
+    ((b : BucketRow) → (does b).number ≡ b.number) → ((b : BucketRow) →
+    (does b).reserved ≡ b.reserved) →
     Each (λ b. held_by (λ s. true) rows b ≡ b.reserved) xs →
     Each (λ b. held_by (λ s. true) after b ≡ b.reserved) (map does xs)
 each_same rows after does [] e k r h = tt
@@ -38,7 +39,7 @@ each_same rows after does (b ∷ bs) e k r h =
     )
 
 -- an event's use holds what was held
-held_event : (s : List ℕ) (g units : ℕ) (rows : List SessionGroup) (b : Row) →
+held_event : (s : List ℕ) (g units : ℕ) (rows : List SessionGroup) (b : BucketRow) →
     held_by (λ s. true) (with_event s g units rows) b ≡ held_by (λ s. true) rows b
 held_event s g units rows b =
     let row : SessionGroup =
@@ -70,7 +71,7 @@ IsAccount-debited a session group units blocks due used_fits count_fits charge_f
     let count : Counter =
     record { group = group; cycle = cycle; blocks = count_in group cycle a.counters + blocks }
     in
-    let does : Row → Row = settled_row [] group a.as_of due a.buckets in
+    let does : BucketRow → BucketRow = settled_row [] group a.as_of due a.buckets in
     record {
       shelf = h.shelf;
       sound = IsSound-settled [] group a.as_of due a.buckets (within_none a.buckets) h.sound;

@@ -4,8 +4,8 @@ use Rattle.std.proofs.Common.{◌≡◌, ℕ, ◌+◌, ◌-◌, ◌<◌, ◌≤�
 use Rattle.std.proofs.Common.{map, refl, sym, ap, subst, ◌∙◌, arith, Option, Some, None}
 use Rattle.std.specs.Prelude.{if◌then◌else◌, unwrap_or, sum_by, ◌==◌, not, ◌&&◌}
 use Rattle.std.specs.List.{list_any}
-use Rattle.buckets.specs.declared.holds.Hold.{Hold}
-use Rattle.buckets.specs.Row.{Row, with_charge, with_charge_of_hold, with_release}
+use Rattle.buckets.specs.declared.holds.HeldAmount.{HeldAmount}
+use Rattle.buckets.specs.Row.{BucketRow, with_charge, with_charge_of_hold, with_release}
 use Rattle.buckets.specs.Spend.{Each, IsSound}
 use Rattle.buckets.specs.Holding.{held_in, IsWithin, paid_of_hold, paid_of_rest}
 use Rattle.buckets.specs.Holding.{settled_row, settled_rows, unheld}
@@ -35,7 +35,7 @@ pub use Rattle.reserving.proofs.rows.Lapsing.{IsBelow-map, released_reserved}
 
 -- ---- the purse
 
-pub IsSound-settled : (holds : List Hold) (group t : ℕ) (due : Due) (rows : List Row) →
+pub IsSound-settled : (holds : List HeldAmount) (group t : ℕ) (due : Due) (rows : List BucketRow) →
     IsWithin holds rows → IsSound rows → IsSound (settled_rows holds group t due rows)
 IsSound-settled holds group t due rows w h =
     let left : Due = unheld holds due rows in
@@ -43,7 +43,8 @@ IsSound-settled holds group t due rows w h =
     (IsSound-release_rest holds t due _ (left_within holds group t due left rows w)
     (IsSound-charge group t left _ (IsSound-charge_of_hold holds due rows w h)))
 
-pub settled_reserved : (holds : List Hold) (group t : ℕ) (due : Due) (rows : List Row) (b : Row) →
+pub settled_reserved : (holds : List HeldAmount) (group t : ℕ) (due : Due) (rows : List BucketRow)
+    (b : BucketRow) →
     (settled_row holds group t due rows b).reserved ≡ b.reserved - held_in holds b
 settled_reserved holds group t due rows b =
     let part : paid_of_hold holds due rows b ≤ held_in holds b = omega arith in
@@ -52,7 +53,8 @@ settled_reserved holds group t due rows b =
     (paid_of_rest holds group t due rows b))
     (held_in holds b - paid_of_hold holds due rows b) ∙ omega arith
 
-pub settled_number : (holds : List Hold) (group t : ℕ) (due : Due) (rows : List Row) (b : Row) →
+pub settled_number : (holds : List HeldAmount) (group t : ℕ) (due : Due) (rows : List BucketRow)
+    (b : BucketRow) →
     (settled_row holds group t due rows b).number ≡ b.number
 settled_number holds group t due rows b =
     with_release_number t
@@ -61,7 +63,7 @@ settled_number holds group t due rows b =
 
 -- ---- what the rows hold
 
-pub held_by_number : (rows : List SessionGroup) (b x : Row) → x.number ≡ b.number →
+pub held_by_number : (rows : List SessionGroup) (b x : BucketRow) → x.number ≡ b.number →
     held_by (λ s. true) rows x ≡ held_by (λ s. true) rows b
 held_by_number [] b x e = refl
 held_by_number (r ∷ rs) b x e =
@@ -70,7 +72,8 @@ held_by_number (r ∷ rs) b x e =
     omega (arith, held_by_number rs b x e)
 
 -- a row is put in the place of another
-pub held_by-put : (s : List ℕ) (g : ℕ) (r : SessionGroup) (rows : List SessionGroup) (b : Row) →
+pub held_by-put : (s : List ℕ) (g : ℕ) (r : SessionGroup) (rows : List SessionGroup)
+    (b : BucketRow) →
     held_by (λ s. true) (put group_before (is_of s g) r rows) b + held_in (reserved_in s g rows) b
     ≡ held_by (λ s. true) rows b + held_in (holds_in r.reservation) b
 held_by-put s g r [] b = omega arith
@@ -97,7 +100,7 @@ held_by-put s g r (y ∷ ys) b =
     by_test false true true e rest = omega (arith, rest)
     by_test false false a e rest = omega (arith, rest)
 
-pub held_in_le : (s : List ℕ) (g : ℕ) (rows : List SessionGroup) (b : Row) →
+pub held_in_le : (s : List ℕ) (g : ℕ) (rows : List SessionGroup) (b : BucketRow) →
     held_in (reserved_in s g rows) b ≤ held_by (λ s. true) rows b
 held_in_le s g [] b = omega arith
 held_in_le s g (y ∷ ys) b = by_test (is_of s g y) (held_in_le s g ys b)
@@ -110,7 +113,7 @@ held_in_le s g (y ∷ ys) b = by_test (is_of s g y) (held_in_le s g ys b)
     by_test false rest = omega arith
 
 -- what a row has reserved is within what the buckets have
-pub within_of : (s : List ℕ) (g : ℕ) (rows : List SessionGroup) (xs : List Row) →
+pub within_of : (s : List ℕ) (g : ℕ) (rows : List SessionGroup) (xs : List BucketRow) →
     Each (λ b. held_by (λ s. true) rows b ≡ b.reserved) xs → IsWithin (reserved_in s g rows) xs
 within_of s g rows [] h = tt
 within_of s g rows (b ∷ bs) h = (
@@ -120,13 +123,13 @@ within_of s g rows (b ∷ bs) h = (
 
 -- the rows without what one of them held
 pub record IsEnded (s : List ℕ) (g : ℕ) (rows after : List SessionGroup) : Type 0 where
-  pub held : (b : Row) →
+  pub held : (b : BucketRow) →
       held_by (λ s. true) after b + held_in (reserved_in s g rows) b ≡ held_by (λ s. true) rows b
 
-each_ended : (s : List ℕ) (g : ℕ) (rows after : List SessionGroup) (does : Row → Row)
-    (xs : List Row) → IsEnded s g rows after →
-    ((b : Row) → (does b).number ≡ b.number) →
-    ((b : Row) → (does b).reserved ≡ b.reserved - held_in (reserved_in s g rows) b) →
+each_ended : (s : List ℕ) (g : ℕ) (rows after : List SessionGroup) (does : BucketRow → BucketRow)
+    (xs : List BucketRow) → IsEnded s g rows after →
+    ((b : BucketRow) → (does b).number ≡ b.number) →
+    ((b : BucketRow) → (does b).reserved ≡ b.reserved - held_in (reserved_in s g rows) b) →
     Each (λ b. held_by (λ s. true) rows b ≡ b.reserved) xs →
     Each (λ b. held_by (λ s. true) after b ≡ b.reserved) (map does xs)
 each_ended s g rows after does [] e k r h = tt
@@ -187,7 +190,7 @@ pub IsAccount-settled : (a : AccountRows) (session : List ℕ) (group units bloc
     a.next_charge < 4294967296 →
     IsAccount a → IsAccount (settled_account session group units blocks due a)
 IsAccount-settled a session group units blocks due used_fits count_fits charge_fits h =
-    let holds : List Hold = reserved_in session group a.groups in
+    let holds : List HeldAmount = reserved_in session group a.groups in
     let within : IsWithin holds a.buckets = within_of session group a.groups a.buckets h.held in
     let cycle : ℕ = cycle_at a.shelf group a.as_of in
     record {
@@ -300,7 +303,7 @@ held_ended s g rows apart = by_row (group_in s g rows) refl
 pub IsAccount-ended : (a : AccountRows) (session : List ℕ) (group : ℕ) → IsAccount a →
     IsAccount (ended_rows session group a)
 IsAccount-ended a session group h =
-    let holds : List Hold = reserved_in session group a.groups in
+    let holds : List HeldAmount = reserved_in session group a.groups in
     let within : IsWithin holds a.buckets = within_of session group a.groups a.buckets h.held in
     record {
       shelf = h.shelf;
@@ -377,8 +380,8 @@ counted_le g c most (y ∷ ys) h = by_test (is_counter g c y) (counted_le g c mo
     by_test true rest = h.0
     by_test false rest = rest
 
-each_kept : (rows after : List SessionGroup) (xs : List Row) →
-    ((b : Row) → held_by (λ s. true) after b ≡ held_by (λ s. true) rows b) →
+each_kept : (rows after : List SessionGroup) (xs : List BucketRow) →
+    ((b : BucketRow) → held_by (λ s. true) after b ≡ held_by (λ s. true) rows b) →
     Each (λ b. held_by (λ s. true) rows b ≡ b.reserved) xs →
     Each (λ b. held_by (λ s. true) after b ≡ b.reserved) xs
 each_kept rows after [] k h = tt

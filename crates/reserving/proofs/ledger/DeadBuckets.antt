@@ -1,8 +1,8 @@
 -- A dead bucket never changes again.
 use Rattle.std.proofs.Common.{◌≡◌, ℕ, ◌≤◌, true, List, [], ◌∷◌, map, sym, ap, subst, ◌∙◌, arith}
 use Rattle.std.specs.Prelude.{not, ◌&&◌, ◌==◌}
-use Rattle.buckets.specs.declared.holds.Hold.{Hold}
-use Rattle.buckets.specs.Row.{Row, IsBalanced, with_end}
+use Rattle.buckets.specs.declared.holds.HeldAmount.{HeldAmount}
+use Rattle.buckets.specs.Row.{BucketRow, IsBalanced, with_end}
 use Rattle.buckets.specs.Spend.{Each, AreDistinct}
 use Rattle.buckets.specs.Holding.{held_in, settled_row}
 use Rattle.buckets.proofs.Parts.{sum_at, sum_at-parts, held_in-sum_at}
@@ -33,7 +33,7 @@ ended_none v t u n ledger e =
           (split_by (λ s g. is_live v t ledger s) (λ s g. is_live v u ledger s)),
     )
 
-each_later : (v : ℕ → ℕ) (t u : ℕ) (ledger : Ledger) (cs : List Row) → t ≤ u →
+each_later : (v : ℕ → ℕ) (t u : ℕ) (ledger : Ledger) (cs : List BucketRow) → t ≤ u →
     Each IsBalanced (map (bucket_at v t ledger) cs) →
     AreDeadKept (map (bucket_at v t ledger) cs) (map (bucket_at v u ledger) cs)
 each_later v t u ledger [] le h = tt
@@ -41,7 +41,7 @@ each_later v t u ledger (c ∷ cs) le h = (one, each_later v t u ledger cs le h.
   where
     one : IsDead (bucket_at v t ledger c) → bucket_at v u ledger c ≡ bucket_at v t ledger c
     one d =
-        let b : Row = bucket_at v t ledger c in
+        let b : BucketRow = bucket_at v t ledger c in
         let none : held (ended_between v t u ledger) c.number ledger ≡ 0 =
         ended_none v t u c.number ledger d.reserved in
         bucket_at-later v t u ledger c le h.0
@@ -56,7 +56,7 @@ dead_later v t u ledger le h = each_later v t u ledger (credits ledger) le h
 
 -- ---- by a settlement
 
-kept_by : (f : Row → Row) (xs : List Row) → Each (λ b. IsDead b → f b ≡ b) xs →
+kept_by : (f : BucketRow → BucketRow) (xs : List BucketRow) → Each (λ b. IsDead b → f b ≡ b) xs →
     AreDeadKept xs (map f xs)
 kept_by f [] h = tt
 kept_by f (x ∷ xs) h = (h.0, kept_by f xs h.1)
@@ -76,8 +76,8 @@ one_none v t session group n ledger live e =
     )
 
 each_dead : (v : ℕ → ℕ) (t : ℕ) (session : List ℕ) (group : ℕ) (due : Due) (ledger : Ledger)
-    (holds : List Hold)
-    (rows cs : List Row) → is_live v t ledger session ≡ true →
+    (holds : List HeldAmount)
+    (rows cs : List BucketRow) → is_live v t ledger session ≡ true →
     Each (λ b. sum_at b.number holds ≡ held (only session group) b.number ledger)
     (map (bucket_at v t ledger) cs) →
     Each (λ b. IsDead b → settled_row holds group t due rows b ≡ b)
@@ -101,8 +101,8 @@ pub dead_settled : (v : ℕ → ℕ) (t : ℕ) (session : List ℕ) (group units
     AreDeadKept (buckets_at v t ledger)
     (buckets_at v t (settled v t session group units blocks due ledger))
 dead_settled v t session group units blocks due ledger live balanced distinct =
-    let rows : List Row = buckets_at v t ledger in
-    let holds : List Hold = holds_at v t session group ledger in
+    let rows : List BucketRow = buckets_at v t ledger in
+    let holds : List HeldAmount = holds_at v t session group ledger in
     subst (AreDeadKept rows)
     (sym (buckets_at-settled v t session group units blocks due ledger live balanced
     distinct))

@@ -1,11 +1,9 @@
 -- The charges of newer facts go on from the number of the next charge.
 use Rattle.std.proofs.Common.{◌≡◌, ℕ, ◌+◌, List, [], ◌∷◌, ◌++◌, length, refl, sym, ap, ◌∙◌, arith}
-use Rattle.std.proofs.Common.{append-nil, append_assoc, length-append}
+use Rattle.std.proofs.Common.{append-nil, append_assoc, length-append, Option, Some, None}
 use Rattle.reserving.specs.declared.charge.ChargeRow.{ChargeRow}
-use Rattle.reserving.specs.Ledger.{Fact, Dated, Ledger, uses_in, next_charge}
-use Rattle.reserving.specs.Ledger.Fact.{Credit, Grant, Hold, End, Use, Charge, Touch, Close}
-use Rattle.reserving.specs.Ledger.Fact.{Recorded, Barred}
-use Rattle.reserving.specs.Charges.{charge_of, charge_rows}
+use Rattle.reserving.specs.Ledger.{Ledger, UseOf, counts, number_of, next_charge}
+use Rattle.reserving.specs.Charges.{charge_of, charge_by, charge_rows}
 use Rattle.reserving.specs.Owed.{AreNumberedFrom, GoOn}
 
 -- one more at the end
@@ -16,22 +14,13 @@ numbered_more n m (c ∷ cs) ds e h k =
     (h.0, numbered_more (n + 1) m cs ds (omega (arith, e)) h.1 k)
 
 -- a use adds one charge, of the next number, and no other fact any
-record IsOneUse (n : ℕ) (d : Dated) : Type 0 where
-  numbered : AreNumberedFrom n (charge_of n d)
-  count : length (charge_of n d) ≡ uses_in d.fact
+record IsOneUse (n t : ℕ) (o : Option UseOf) : Type 0 where
+  numbered : AreNumberedFrom n (charge_by n t o)
+  count : length (charge_by n t o) ≡ number_of (λ u. 1) o
 
-one_use : (n t : ℕ) (f : Fact) → IsOneUse n (record { at = t; fact = f })
-one_use n t (Use session group units blocks covered rated uncollected) =
-    record { numbered = (refl, tt); count = refl }
-one_use n t (Credit kind number from until scope amount) = record { numbered = tt; count = refl }
-one_use n t (Grant session group terms units counter) = record { numbered = tt; count = refl }
-one_use n t (Hold session group bucket amount) = record { numbered = tt; count = refl }
-one_use n t (End session group) = record { numbered = tt; count = refl }
-one_use n t (Charge bucket amount) = record { numbered = tt; count = refl }
-one_use n t (Touch session) = record { numbered = tt; count = refl }
-one_use n t (Close session) = record { numbered = tt; count = refl }
-one_use n t (Recorded session number) = record { numbered = tt; count = refl }
-one_use n t (Barred barred) = record { numbered = tt; count = refl }
+one_use : (n t : ℕ) (o : Option UseOf) → IsOneUse n t o
+one_use n t None = record { numbered = tt; count = refl }
+one_use n t (Some u) = record { numbered = (refl, tt); count = refl }
 
 pub goes_on : (newer older : Ledger) → GoOn newer older
 goes_on [] older = record {
@@ -43,7 +32,7 @@ goes_on [] older = record {
 goes_on (d ∷ ds) older =
     let rest : GoOn ds older = goes_on ds older in
     let here : ℕ = next_charge (ds ++ older) in
-    let one : IsOneUse here d = one_use here d.at d.fact in
+    let one : IsOneUse here d.at (counts d.fact).usage = one_use here d.at (counts d.fact).usage in
     record {
       added = rest.added ++ charge_of here d;
       are =

@@ -2,8 +2,8 @@
 use Rattle.std.proofs.Common.{◌≡◌, ℕ, ◌+◌, ◌-◌, ◌≤◌, Bool, true, false, List, [], ◌∷◌, ◌++◌, map}
 use Rattle.std.proofs.Common.{refl, sym, ap, ◌∙◌, arith}
 use Rattle.std.specs.Prelude.{if◌then◌else◌, ◌==◌, ◌&&◌, not, nat_lt, min}
-use Rattle.buckets.specs.declared.holds.Hold.{Hold}
-use Rattle.buckets.specs.Row.{Row, IsBalanced, with_charge, with_charge_of_hold, with_release}
+use Rattle.buckets.specs.declared.holds.HeldAmount.{HeldAmount}
+use Rattle.buckets.specs.Row.{BucketRow, IsBalanced, with_charge, with_charge_of_hold, with_release}
 use Rattle.buckets.specs.Share.{parts}
 use Rattle.buckets.specs.Spend.{Each, AreDistinct}
 use Rattle.buckets.specs.Holding.{held_in, paid_of_hold, paid_of_rest, paid, settled_row}
@@ -24,7 +24,7 @@ use Rattle.reserving.proofs.SettledFacts.{charged-charge_facts}
 -- ---- one bucket's columns
 
 -- what is paid, s1 of h and s2 of the rest, and what is given up
-pub balance_by-settled : (b : Bool) (c : Row) (ch h r s1 s2 : ℕ) → ch + (r + h) ≤ c.credited →
+pub balance_by-settled : (b : Bool) (c : BucketRow) (ch h r s1 s2 : ℕ) → ch + (r + h) ≤ c.credited →
     s1 ≤ h → s2 ≤ (if b then c.credited - ch - (r + h) else 0) →
     balance_by b c (s1 + s2 + ch) r
     ≡ release_by b (with_charge (with_charge_of_hold (balance_by b c ch (r + h)) s1) s2) (h - s1)
@@ -33,7 +33,7 @@ balance_by-settled true c ch h r s1 s2 w p q =
 balance_by-settled false c ch h r s1 s2 w p q =
     with_columns c _ _ _ _ _ _ _ _ (omega arith) (omega arith) (omega arith) (omega arith)
 
-balance_by-ended : (b : Bool) (c : Row) (ch h r : ℕ) → ch + (r + h) ≤ c.credited →
+balance_by-ended : (b : Bool) (c : BucketRow) (ch h r : ℕ) → ch + (r + h) ≤ c.credited →
     balance_by b c ch r ≡ release_by b (balance_by b c ch (r + h)) h
 balance_by-ended true c ch h r w =
     with_columns c _ _ _ _ _ _ _ _ (omega arith) (omega arith) refl refl
@@ -51,7 +51,7 @@ pub same_sessions-settled : (v : ℕ → ℕ) (t : ℕ) (session : List ℕ)
     (group units blocks : ℕ) (due : Due)
     (ledger : Ledger) → SameSessions ledger (settled v t session group units blocks due ledger)
 same_sessions-settled v t session group units blocks due ledger =
-    let hs : List Hold =
+    let hs : List HeldAmount =
     parts (paid (holds_at v t session group ledger) group t due (buckets_at v t ledger))
     (buckets_at v t ledger) in
     record {
@@ -81,8 +81,8 @@ split_is v t session group n ledger live =
     n ledger (one_split (λ s. is_live v t ledger s) session group live)
 
 -- what all live sessions hold of a bucket: the others' and the one reservation's
-split_at : (v : ℕ → ℕ) (t : ℕ) (session : List ℕ) (group : ℕ) (ledger : Ledger) (c : Row) →
-    (let holds : List Hold = holds_at v t session group ledger in
+split_at : (v : ℕ → ℕ) (t : ℕ) (session : List ℕ) (group : ℕ) (ledger : Ledger) (c : BucketRow) →
+    (let holds : List HeldAmount = holds_at v t session group ledger in
     is_live v t ledger session ≡ true →
     sum_at c.number holds ≡ held (only session group) c.number ledger →
     held (λ s g. is_live v t ledger s) c.number ledger
@@ -98,9 +98,9 @@ split_at v t session group ledger c live holding =
 
 bucket_at-settled : (v : ℕ → ℕ) (t : ℕ) (session : List ℕ) (group units blocks : ℕ)
     (due : Due) (ledger : Ledger)
-    (c : Row) →
-    (let holds : List Hold = holds_at v t session group ledger in
-    let rows : List Row = buckets_at v t ledger in
+    (c : BucketRow) →
+    (let holds : List HeldAmount = holds_at v t session group ledger in
+    let rows : List BucketRow = buckets_at v t ledger in
     is_live v t ledger session ≡ true →
     IsBalanced (bucket_at v t ledger c) →
     sum_at c.number holds ≡ held (only session group) c.number ledger →
@@ -109,11 +109,11 @@ bucket_at-settled : (v : ℕ → ℕ) (t : ℕ) (session : List ℕ) (group unit
     bucket_at v t (settled v t session group units blocks due ledger) c
     ≡ settled_row holds group t due rows (bucket_at v t ledger c))
 bucket_at-settled v t session group units blocks due ledger c live balanced holding sum =
-    let holds : List Hold = holds_at v t session group ledger in
-    let rows : List Row = buckets_at v t ledger in
+    let holds : List HeldAmount = holds_at v t session group ledger in
+    let rows : List BucketRow = buckets_at v t ledger in
     let after : Ledger = settled v t session group units blocks due ledger in
     let n : ℕ = c.number in
-    let hs : List Hold = parts (paid holds group t due rows) rows in
+    let hs : List HeldAmount = parts (paid holds group t due rows) rows in
     let ch : ℕ = charged n ledger in
     let all : List ℕ → ℕ → Bool = λ s g. is_live v t ledger s in
     let others' : List ℕ → ℕ → Bool =
@@ -144,9 +144,9 @@ bucket_at-settled v t session group units blocks due ledger c live balanced hold
 
 each_settled : (v : ℕ → ℕ) (t : ℕ) (session : List ℕ) (group units blocks : ℕ)
     (due : Due) (ledger : Ledger)
-    (cs : List Row) →
-    (let holds : List Hold = holds_at v t session group ledger in
-    let rows : List Row = buckets_at v t ledger in
+    (cs : List BucketRow) →
+    (let holds : List HeldAmount = holds_at v t session group ledger in
+    let rows : List BucketRow = buckets_at v t ledger in
     is_live v t ledger session ≡ true →
     Each IsBalanced (map (bucket_at v t ledger) cs) →
     Each (λ b. sum_at b.number holds ≡ held (only session group) b.number ledger)
@@ -178,9 +178,9 @@ pub buckets_at-settled : (v : ℕ → ℕ) (t : ℕ) (session : List ℕ) (group
     buckets_at v t (settled v t session group units blocks due ledger)
     ≡ settled_rows (holds_at v t session group ledger) group t due (buckets_at v t ledger)
 buckets_at-settled v t session group units blocks due ledger live balanced distinct =
-    let holds : List Hold = holds_at v t session group ledger in
-    let rows : List Row = buckets_at v t ledger in
-    let hs : List Hold = parts (paid holds group t due rows) rows in
+    let holds : List HeldAmount = holds_at v t session group ledger in
+    let rows : List BucketRow = buckets_at v t ledger in
+    let hs : List HeldAmount = parts (paid holds group t due rows) rows in
     ap (map (bucket_at v t (settled v t session group units blocks due ledger)))
     (credits-charge_facts t hs ledger)
     ∙ each_settled v t session group units blocks due ledger (credits ledger) live balanced
@@ -189,15 +189,16 @@ buckets_at-settled v t session group units blocks due ledger live balanced disti
 
 -- ---- the ledger with the reservation's end alone
 
-bucket_at-ended : (v : ℕ → ℕ) (t : ℕ) (session : List ℕ) (group : ℕ) (ledger : Ledger) (c : Row) →
-    (let holds : List Hold = holds_at v t session group ledger in
+bucket_at-ended : (v : ℕ → ℕ) (t : ℕ) (session : List ℕ) (group : ℕ) (ledger : Ledger)
+    (c : BucketRow) →
+    (let holds : List HeldAmount = holds_at v t session group ledger in
     is_live v t ledger session ≡ true →
     IsBalanced (bucket_at v t ledger c) →
     sum_at c.number holds ≡ held (only session group) c.number ledger →
     bucket_at v t (with_end t session group ledger) c
     ≡ with_release t (bucket_at v t ledger c) (held_in holds (bucket_at v t ledger c)))
 bucket_at-ended v t session group ledger c live balanced holding =
-    let holds : List Hold = holds_at v t session group ledger in
+    let holds : List HeldAmount = holds_at v t session group ledger in
     let n : ℕ = c.number in
     let ch : ℕ = charged n ledger in
     let all : List ℕ → ℕ → Bool = λ s g. is_live v t ledger s in
@@ -212,7 +213,8 @@ bucket_at-ended v t session group ledger c live balanced holding =
     ∙ balance_by-ended (nat_lt t c.until) c ch h r within
     ∙ ap (λ x. with_release t (balance_of t c ch x) h) (sym split)
 
-each_ended : (v : ℕ → ℕ) (t : ℕ) (session : List ℕ) (group : ℕ) (ledger : Ledger) (cs : List Row) →
+each_ended : (v : ℕ → ℕ) (t : ℕ) (session : List ℕ) (group : ℕ) (ledger : Ledger)
+    (cs : List BucketRow) →
     is_live v t ledger session ≡ true →
     Each IsBalanced (map (bucket_at v t ledger) cs) →
     Each (λ b. sum_at b.number (holds_at v t session group ledger)

@@ -1,10 +1,9 @@
 -- What is held of a bucket is the sum of its holds that no later fact ended.
 use Rattle.std.proofs.Common.{◌≡◌, ℕ, ◌+◌, Bool, true, false, List, [], ◌∷◌, refl, ap, ◌∙◌}
-use Rattle.std.specs.Prelude.{◌==◌, ◌&&◌, ◌||◌, not}
-use Rattle.reserving.specs.Ledger.{Fact, Ledger, Dated, is_same, is_live, any, counts_before}
-use Rattle.reserving.specs.Ledger.{hold_of, held}
-use Rattle.reserving.specs.Ledger.Fact.{Credit, Grant, Hold, End, Use, Charge, Touch, Close}
-use Rattle.reserving.specs.Ledger.Fact.{Recorded, Barred}
+use Rattle.std.proofs.Common.{Option, Some, None}
+use Rattle.std.specs.Prelude.{◌&&◌, ◌||◌, not}
+use Rattle.reserving.specs.Ledger.{Ledger, Dated, EndOf, counts as counts_of, test_of, ends_of}
+use Rattle.reserving.specs.Ledger.{is_live, any, counts_before, but_ended, hold_of, held}
 use Rattle.reserving.specs.Laws.{is_end_of, held_unended, IsHeldUnended, IsReservedUnended}
 use Rattle.reserving.proofs.Holds.{held_same}
 
@@ -27,21 +26,12 @@ with_none false = refl
 -- seen from before a fact: none that it ends, nor a newer one
 before_more : (counts : List ℕ → ℕ → Bool) (d : Dated) (newer : Ledger) (s : List ℕ) (g : ℕ) →
     counts_before d.fact (counted counts newer) s g ≡ counted counts (d ∷ newer) s g
-before_more counts d newer s g = at d.fact
+before_more counts d newer s g = at (counts_of d.fact).end
   where
-    at : (f : Fact) → counts_before f (counted counts newer) s g
-        ≡ (counts s g && not (is_end_of s g f || any (is_end_of s g) newer))
-    at (End session group) =
-        one_more (counts s g) (any (is_end_of s g) newer) (is_same s session && g == group)
-    at (Credit k a b c d e) = refl
-    at (Grant a b c d e) = refl
-    at (Hold a b c d) = refl
-    at (Use a b c d e f h) = refl
-    at (Charge a b) = refl
-    at (Touch a) = refl
-    at (Close a) = refl
-    at (Recorded a b) = refl
-    at (Barred a) = refl
+    at : (o : Option EndOf) → but_ended o (counted counts newer) s g
+        ≡ (counts s g && not (test_of (ends_of s g) o || any (is_end_of s g) newer))
+    at None = refl
+    at (Some e) = one_more (counts s g) (any (is_end_of s g) newer) (ends_of s g e)
 
 held_from : (counts : List ℕ → ℕ → Bool) (n : ℕ) (newer ledger : Ledger) →
     held (counted counts newer) n ledger ≡ held_unended counts n newer ledger

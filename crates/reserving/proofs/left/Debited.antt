@@ -3,7 +3,7 @@ use Rattle.std.proofs.Common.{◌≡◌, ℕ, ◌+◌, ◌≤◌, Bool, false, L
 use Rattle.std.proofs.Common.{◌∙◌, arith, None}
 use Rattle.std.specs.Prelude.{not}
 use Rattle.std.specs.Ordering.{is_lt, nat_cmp}
-use Rattle.buckets.specs.Row.{Row}
+use Rattle.buckets.specs.Row.{BucketRow}
 use Rattle.buckets.specs.Spend.{Each, funds}
 use Rattle.buckets.specs.Holding.{held_in, uncollected}
 use Rattle.std.specs.List.Sorted.{IsPermutation}
@@ -45,7 +45,7 @@ use Rattle.reserving.proofs.LeftMore.{with_advanced}
 use Rattle.reserving.proofs.left.Settled.{most_charge}
 use Rattle.reserving.proofs.LeftReadings.{used_joined, rest_price_joined, uncollected_merged}
 
-none_held : (left : List Row) → Each IsDead left → Each (λ b. held_in [] b ≡ 0) left
+none_held : (left : List BucketRow) → Each IsDead left → Each (λ b. held_in [] b ≡ 0) left
 none_held left dead = each_map IsDead (λ b. held_in [] b ≡ 0) left (λ b d. refl) dead
 
 pub debited_joined : (left : LeftRows) (a : AccountRows) (s : List ℕ)

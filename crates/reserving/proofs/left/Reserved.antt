@@ -5,8 +5,8 @@ use Rattle.std.specs.List.Sorted.{IsPermutation}
 use Rattle.std.proofs.lemmas.List.Sorted.{IsPermutation-refl}
 use Rattle.std.specs.Prelude.{◌-◌}
 use Rattle.reserving.specs.declared.session.Terms.{Terms}
-use Rattle.buckets.specs.declared.holds.Hold.{Hold}
-use Rattle.buckets.specs.Row.{Row, eligible_amount, with_hold}
+use Rattle.buckets.specs.declared.holds.HeldAmount.{HeldAmount}
+use Rattle.buckets.specs.Row.{BucketRow, eligible_amount, with_hold}
 use Rattle.buckets.specs.Share.{share, parts}
 use Rattle.buckets.specs.Spend.{Each, held_rows}
 use Rattle.buckets.specs.Holding.{holds_of}
@@ -28,12 +28,12 @@ use Rattle.reserving.proofs.InOrder.{parts_placed}
 
 -- ---- shares as holds
 
-parts_merged : (f : Row → ℕ) (left rows : List Row) → Each (λ b. f b ≡ 0) left →
+parts_merged : (f : BucketRow → ℕ) (left rows : List BucketRow) → Each (λ b. f b ≡ 0) left →
     parts f (merged left rows) ≡ parts f rows
 parts_merged f [] rows h = refl
 parts_merged f (b ∷ bs) rows h = parts_placed f b (merged bs rows) h.0 ∙ parts_merged f bs rows h.1
 
-pub holds_merged : (group at : ℕ) (due : Due) (left rows : List Row) → Each IsDead left →
+pub holds_merged : (group at : ℕ) (due : Due) (left rows : List BucketRow) → Each IsDead left →
     holds_of group at due (merged left rows) ≡ holds_of group at due rows
 holds_merged group at due left rows dead =
     (λ i. parts
@@ -46,16 +46,16 @@ holds_merged group at due left rows dead =
 
 -- ---- buckets
 
-hold_none : (b : Row) (n : ℕ) → n ≡ 0 → with_hold b n ≡ b
+hold_none : (b : BucketRow) (n : ℕ) → n ≡ 0 → with_hold b n ≡ b
 hold_none b n e =
     let a : b.available - n ≡ b.available = omega (arith, e) in
     let r : b.reserved + n ≡ b.reserved = omega (arith, e) in
     λ i. record b { available = a i; reserved = r i }
 
-hold_keeps : (f : Row → ℕ) → KeepsPlace (λ b. with_hold b (f b))
+hold_keeps : (f : BucketRow → ℕ) → KeepsPlace (λ b. with_hold b (f b))
 hold_keeps f = record { number = λ b. refl; until = λ b. refl }
 
-pub held_merged : (group at : ℕ) (due : Due) (left rows : List Row) → Each IsDead left →
+pub held_merged : (group at : ℕ) (due : Due) (left rows : List BucketRow) → Each IsDead left →
     held_rows group at due (merged left rows) ≡ merged left (held_rows group at due rows)
 held_merged group at due left rows dead =
     (λ i. map
@@ -79,7 +79,7 @@ reserved_joined left a s g due h alive =
     let p : Terms = terms_at a.shelf a.as_of in
     let not_of : EachIn (λ r. is_of s g r ≡ false) left.groups =
     not_of_live left a a.as_of s g h alive in
-    let hs : List Hold = holds_of g a.as_of due a.buckets in
+    let hs : List HeldAmount = holds_of g a.as_of due a.buckets in
     let same : holds_of g a.as_of due (merged left.buckets a.buckets) ≡ hs =
     holds_merged g a.as_of due left.buckets a.buckets h.dead in
     let row : SessionGroup =

@@ -1,7 +1,7 @@
 -- What a settlement answers, from a ledger whose rows the account's are together with those left.
 use Rattle.std.proofs.Common.{◌≡◌, ℕ, ◌≤◌, true, false, List, refl, sym, ap, ◌∙◌}
 use Rattle.units.specs.declared.blocks.UsedPart.{UsedPart}
-use Rattle.buckets.specs.declared.holds.Hold.{Hold}
+use Rattle.buckets.specs.declared.holds.HeldAmount.{HeldAmount}
 use Rattle.buckets.specs.Holding.{uncollected}
 use Rattle.rating.specs.declared.report.Rated.{Rated}
 use Rattle.buckets.specs.Kinds.{due}
@@ -44,7 +44,7 @@ settlement_beside ledger left a middle s g c t used_parts x h le alive told =
     let with_later : IsWith ledger left t later = with_advanced ledger left t a le h in
     let cost : price_in s g t used_parts whole ≡ price_in s g t used_parts a =
     price_joined left a s g t used_parts h.apart h.cycles not_of in
-    let holds : List Hold = reserved_in s g later.groups in
+    let holds : List HeldAmount = reserved_in s g later.groups in
     let whole_later : advanced t whole ≡ joined left later = advanced_joined t left a h.apart in
     let held : reserved_in s g (advanced t (with_rows s g c whole)).groups ≡ holds =
     held_later whole s g c t ∙ ap (λ (y : AccountRows). reserved_in s g y.groups) whole_later

@@ -4,7 +4,8 @@ use Rattle.std.proofs.Common.{◌≡◌, ℕ, ◌+◌, ◌*◌, ◌-◌, ◌≤�
 use Rattle.std.proofs.Common.{map, refl, sym, ap, ◌∙◌, subst, arith, Option, Some, None}
 use Rattle.std.specs.Prelude.{if◌then◌else◌, not, nat_lt, unwrap_or, option_map}
 use Rattle.std.proofs.lemmas.Bool.Decides.{nat_tests}
-use Rattle.buckets.specs.Row.{Row, eligible_amount, with_hold, with_charge, with_charge_of_hold}
+use Rattle.buckets.specs.Row.{BucketRow, eligible_amount, with_hold, with_charge}
+use Rattle.buckets.specs.Row.{with_charge_of_hold}
 use Rattle.buckets.specs.Row.{with_release, with_end}
 use Rattle.buckets.specs.Share.{share}
 use Rattle.buckets.specs.Spend.{Each}
@@ -41,13 +42,14 @@ each_made : {A : Type 0} (Q : A → Type 0) (f : A → A) (xs : List A) → ((x 
 each_made Q f [] h = tt
 each_made Q f (x ∷ xs) h = (h x, each_made Q f xs h)
 
-pub rows_map : (P Q : Row → Type 0) (f : Row → Row) (rows : List Row) →
-    ((b : Row) → P b → Q (f b)) →
+pub rows_map : (P Q : BucketRow → Type 0) (f : BucketRow → BucketRow) (rows : List BucketRow) →
+    ((b : BucketRow) → P b → Q (f b)) →
     Each P rows → Each Q (map f rows)
 rows_map P Q f [] h e = tt
 rows_map P Q f (b ∷ bs) h e = (h b e.0, rows_map P Q f bs h e.1)
 
-rows_made : (Q : Row → Type 0) (f : Row → Row) (rows : List Row) → ((b : Row) → Q (f b)) →
+rows_made : (Q : BucketRow → Type 0) (f : BucketRow → BucketRow) (rows : List BucketRow) →
+    ((b : BucketRow) → Q (f b)) →
     Each Q (map f rows)
 rows_made Q f [] h = tt
 rows_made Q f (b ∷ bs) h = (h b, rows_made Q f bs h)
@@ -68,7 +70,7 @@ groups_same : (keeps : List ℕ → Bool) (rs : List SessionGroup) →
 groups_same keeps [] h = refl
 groups_same keeps (r ∷ rs) h = λ i. kept_group keeps r h.0 i ∷ groups_same keeps rs h.1 i
 
-one_lapsed : (keeps : List ℕ → Bool) (r : SessionGroup) (b : Row) →
+one_lapsed : (keeps : List ℕ → Bool) (r : SessionGroup) (b : BucketRow) →
     (keeps r.session ≡ false → r.reservation ≡ None) →
     (if not (keeps r.session) then held_in (holds_in r.reservation) b else 0) ≡ 0
 one_lapsed keeps r b h = at (keeps r.session) refl
@@ -78,13 +80,13 @@ one_lapsed keeps r b h = at (keeps r.session) refl
     at true e = refl
     at false e = ap (λ o. held_in (holds_in o) b) (h e)
 
-none_lapsed : (keeps : List ℕ → Bool) (rs : List SessionGroup) (b : Row) →
+none_lapsed : (keeps : List ℕ → Bool) (rs : List SessionGroup) (b : BucketRow) →
     EachIn (λ r. keeps r.session ≡ false → r.reservation ≡ None) rs → lapsed_in keeps rs b ≡ 0
 none_lapsed keeps [] b h = refl
 none_lapsed keeps (r ∷ rs) b h =
     omega (arith, one_lapsed keeps r b h.0, none_lapsed keeps rs b h.1)
 
-same_bucket : (t n : ℕ) (b : Row) → n ≡ 0 → (nat_lt t b.until ≡ false → b.available ≡ 0) →
+same_bucket : (t n : ℕ) (b : BucketRow) → n ≡ 0 → (nat_lt t b.until ≡ false → b.available ≡ 0) →
     with_end t (with_release t b n) ≡ b
 same_bucket t n b e h =
     ap (λ m. with_end t (with_release t b m)) e ∙ ap (with_end t) (released_none t b)
@@ -98,7 +100,7 @@ same_bucket t n b e h =
         with_columns b 0 b.available b.reserved b.reserved b.charged b.charged
         (b.expired + b.available) b.expired (sym none) refl refl (omega arith)
 
-rows_same : (t : ℕ) (keeps : List ℕ → Bool) (groups : List SessionGroup) (rows : List Row) →
+rows_same : (t : ℕ) (keeps : List ℕ → Bool) (groups : List SessionGroup) (rows : List BucketRow) →
     EachIn (λ r. keeps r.session ≡ false → r.reservation ≡ None) groups →
     Each (λ b. nat_lt t b.until ≡ false → b.available ≡ 0) rows →
     map (λ b. with_end t (with_release t b (lapsed_in keeps groups b))) rows ≡ rows
@@ -130,7 +132,7 @@ lapsed_group keeps now r alike = at (keeps r.session) refl
     at true e k = absurd (not_both (sym k ∙ alike r.session ∙ e))
     at false e k = refl
 
-ended_bucket : (t : ℕ) (b : Row) → nat_lt t (with_end t b).until ≡ false →
+ended_bucket : (t : ℕ) (b : BucketRow) → nat_lt t (with_end t b).until ≡ false →
     (with_end t b).available ≡ 0
 ended_bucket t b = at (nat_lt t b.until) refl
   where
@@ -199,13 +201,14 @@ calm_with_group_row a s g h = record {
 
 -- ---- settlements and grants
 
-released_available : (t : ℕ) (b : Row) (n : ℕ) → nat_lt t b.until ≡ false →
+released_available : (t : ℕ) (b : BucketRow) (n : ℕ) → nat_lt t b.until ≡ false →
     (with_release t b n).available ≡ b.available
 released_available t b n e =
     ap (λ p. (if p then record b { reserved = b.reserved - n; available = b.available + n }
     else record b { reserved = b.reserved - n; expired = b.expired + n }).available) e
 
-pub settled_calm : (t : ℕ) (b : Row) (p q n : ℕ) → (nat_lt t b.until ≡ false → b.available ≡ 0) →
+pub settled_calm : (t : ℕ) (b : BucketRow) (p q n : ℕ) → (nat_lt t b.until ≡ false →
+    b.available ≡ 0) →
     nat_lt t (with_release t (with_charge (with_charge_of_hold b p) q) n).until ≡ false →
     (with_release t (with_charge (with_charge_of_hold b p) q) n).available ≡ 0
 settled_calm t b p q n h k =
@@ -234,7 +237,7 @@ calm_settled a s g units blocks due h = record {
       h.buckets;
 }
 
-released_calm : (t : ℕ) (b : Row) (n : ℕ) → (nat_lt t b.until ≡ false → b.available ≡ 0) →
+released_calm : (t : ℕ) (b : BucketRow) (n : ℕ) → (nat_lt t b.until ≡ false → b.available ≡ 0) →
     nat_lt t (with_release t b n).until ≡ false → (with_release t b n).available ≡ 0
 released_calm t b n h k =
     let ended : nat_lt t b.until ≡ false = ap (nat_lt t) (sym (with_release_until t b n)) ∙ k in

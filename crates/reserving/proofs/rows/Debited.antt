@@ -2,8 +2,8 @@
 use Rattle.std.proofs.Common.{◌≡◌, ℕ, ◌+◌, ◌-◌, ◌≤◌, Bool, true, false, List, [], ◌∷◌, ◌++◌, map}
 use Rattle.std.proofs.Common.{refl, sym, ap, subst, ◌∙◌, arith, Option, Some, None}
 use Rattle.std.specs.Prelude.{if◌then◌else◌, ◌==◌, ◌&&◌, ◌||◌, nat_lt, unwrap_or}
-use Rattle.buckets.specs.declared.holds.Hold.{Hold}
-use Rattle.buckets.specs.Row.{Row, IsBalanced, with_charge, with_charge_of_hold, with_release}
+use Rattle.buckets.specs.declared.holds.HeldAmount.{HeldAmount}
+use Rattle.buckets.specs.Row.{BucketRow, IsBalanced, with_charge, with_charge_of_hold, with_release}
 use Rattle.buckets.specs.Share.{parts}
 use Rattle.buckets.specs.Spend.{Each, AreDistinct, IsSound, IsBelow}
 use Rattle.buckets.specs.Holding.{held_in, paid, paid_of_hold, paid_of_rest, settled_row}
@@ -43,7 +43,7 @@ use Rattle.reserving.proofs.SettledRows.{count_in_is, open_none, if_none, counte
 use Rattle.reserving.proofs.SettledRows.{differs_above, made_in}
 
 -- what each bucket pays of an event's price
-abbrev shares : (ℕ → ℕ) → ℕ → ℕ → Due → Ledger → List Hold
+abbrev shares : (ℕ → ℕ) → ℕ → ℕ → Due → Ledger → List HeldAmount
 shares v t group due ledger =
     parts (paid [] group t due (buckets_at v t ledger)) (buckets_at v t ledger)
 
@@ -52,7 +52,7 @@ same_sessions-debited : (v : ℕ → ℕ) (t : ℕ) (session : List ℕ) (group 
     (ledger : Ledger) →
     SameSessions ledger (charged_use v t session group units blocks due ledger)
 same_sessions-debited v t session group units blocks due ledger =
-    let hs : List Hold = shares v t group due ledger in
+    let hs : List HeldAmount = shares v t group due ledger in
     record {
       touch = λ s. newest-front _ (charge_facts t hs) ledger (each_charge _ t hs (λ b n. refl));
       closed = λ s. any-front _ (charge_facts t hs) ledger (each_charge _ t hs (λ b n. refl));
@@ -63,18 +63,18 @@ same_sessions-debited v t session group units blocks due ledger =
 
 bucket_at-debited : (v : ℕ → ℕ) (t : ℕ) (session : List ℕ) (group units blocks : ℕ)
     (due : Due) (ledger : Ledger)
-    (c : Row) →
-    (let rows : List Row = buckets_at v t ledger in
+    (c : BucketRow) →
+    (let rows : List BucketRow = buckets_at v t ledger in
     IsBalanced (bucket_at v t ledger c) →
     sum_at c.number (parts (paid [] group t due rows) rows)
     ≡ paid [] group t due rows (bucket_at v t ledger c) →
     bucket_at v t (charged_use v t session group units blocks due ledger) c
     ≡ settled_row [] group t due rows (bucket_at v t ledger c))
 bucket_at-debited v t session group units blocks due ledger c balanced sum =
-    let rows : List Row = buckets_at v t ledger in
+    let rows : List BucketRow = buckets_at v t ledger in
     let after : Ledger = charged_use v t session group units blocks due ledger in
     let n : ℕ = c.number in
-    let hs : List Hold = shares v t group due ledger in
+    let hs : List HeldAmount = shares v t group due ledger in
     let ch : ℕ = charged n ledger in
     let all : List ℕ → ℕ → Bool = λ s g. is_live v t ledger s in
     let all' : List ℕ → ℕ → Bool = λ s g. is_live v t after s in
@@ -103,8 +103,8 @@ bucket_at-debited v t session group units blocks due ledger c balanced sum =
 
 each_debited : (v : ℕ → ℕ) (t : ℕ) (session : List ℕ) (group units blocks : ℕ)
     (due : Due) (ledger : Ledger)
-    (cs : List Row) →
-    (let rows : List Row = buckets_at v t ledger in
+    (cs : List BucketRow) →
+    (let rows : List BucketRow = buckets_at v t ledger in
     Each IsBalanced (map (bucket_at v t ledger) cs) →
     Each (λ b. sum_at b.number (parts (paid [] group t due rows) rows)
     ≡ paid [] group t due rows b) (map (bucket_at v t ledger) cs) →
@@ -127,7 +127,7 @@ buckets_at-debited : (v : ℕ → ℕ) (t : ℕ) (session : List ℕ) (group uni
     buckets_at v t (charged_use v t session group units blocks due ledger)
     ≡ settled_rows [] group t due (buckets_at v t ledger)
 buckets_at-debited v t session group units blocks due ledger balanced distinct =
-    let rows : List Row = buckets_at v t ledger in
+    let rows : List BucketRow = buckets_at v t ledger in
     ap (map (bucket_at v t (charged_use v t session group units blocks due ledger)))
     (credits-charge_facts t (shares v t group due ledger) ledger)
     ∙ each_debited v t session group units blocks due ledger (credits ledger) balanced
@@ -155,7 +155,7 @@ other_debited : (v : ℕ → ℕ) (t : ℕ) (session : List ℕ) (group units bl
     (s : List ℕ) (g : ℕ) → is_key session group s g ≡ false →
     SameGroup s g ledger (charged_use v t session group units blocks due ledger)
 other_debited v t session group units blocks due ledger s g h =
-    let hs : List Hold = shares v t group due ledger in
+    let hs : List HeldAmount = shares v t group due ledger in
     record {
       named = other_named session group s g t hs ledger h;
       used = other_used session group units s g t hs ledger h;
@@ -163,7 +163,7 @@ other_debited v t session group units blocks due ledger s g h =
       held = same_held v t session group units blocks due ledger (only s g);
     }
 
-either_reservation : (h l : Bool) (hs : List Hold) (p : Option Terms) (used : ℕ) (s : List ℕ)
+either_reservation : (h l : Bool) (hs : List HeldAmount) (p : Option Terms) (used : ℕ) (s : List ℕ)
     (g : ℕ) → (h ≡ false → p ≡ None) →
     (let x : SessionGroup = row_with s g used (if l then reservation_of hs p else None) in
     (unwrap_or (if h then Some x else None) (new_group s g)).reservation
@@ -185,7 +185,7 @@ reservation_is ledger a s g rows =
 
 own_debited : (v : ℕ → ℕ) (t : ℕ) (session : List ℕ) (group units blocks : ℕ)
     (due : Due) (ledger : Ledger)
-    (does : Row → Row) →
+    (does : BucketRow → BucketRow) →
     IsMoved does v t ledger (charged_use v t session group units blocks due ledger) →
     group_at v t (charged_use v t session group units blocks due ledger) session group
     ≡ Some (record {
@@ -196,7 +196,7 @@ own_debited : (v : ℕ → ℕ) (t : ℕ) (session : List ℕ) (group units bloc
     })
 own_debited v t session group units blocks due ledger does moved =
     let after : Ledger = charged_use v t session group units blocks due ledger in
-    let hs : List Hold = shares v t group due ledger in
+    let hs : List HeldAmount = shares v t group due ledger in
     let named : has_group session group after ≡ true =
     own_named session group (charge_facts t hs ++ ledger) in
     let so_far : used session group after ≡ used session group ledger + units =
@@ -210,7 +210,7 @@ own_debited v t session group units blocks due ledger does moved =
 
 groups-debited : (v : ℕ → ℕ) (t : ℕ) (session : List ℕ) (group units blocks : ℕ)
     (due : Due) (ledger : Ledger)
-    (does : Row → Row) (rows : List SessionGroup) →
+    (does : BucketRow → BucketRow) (rows : List SessionGroup) →
     IsMoved does v t ledger (charged_use v t session group units blocks due ledger) →
     used_in session group rows ≡ used session group ledger →
     (group_or_new session group rows).reservation ≡ reservation_at v t ledger session group →
@@ -272,7 +272,7 @@ counter-debited : (v : ℕ → ℕ) (t : ℕ) (session : List ℕ) (group units 
     counter f g c (charged_use v t session group units blocks due ledger)
     ≡ counter f g c ledger + (if f t == c then (if group == g then blocks else 0) else 0)
 counter-debited v t session group units blocks due ledger f g c =
-    let hs : List Hold = shares v t group due ledger in
+    let hs : List HeldAmount = shares v t group due ledger in
     omega (
       arith,
       total-front (λ d. if f d.at == c then blocks_in g d.fact else 0) (charge_facts t hs) ledger
@@ -285,7 +285,7 @@ has_counter-debited : (v : ℕ → ℕ) (t : ℕ) (session : List ℕ) (group un
     has_counter f g c (charged_use v t session group units blocks due ledger)
     ≡ ((group == g && f t == c) || has_counter f g c ledger)
 has_counter-debited v t session group units blocks due ledger f g c =
-    let hs : List Hold = shares v t group due ledger in
+    let hs : List HeldAmount = shares v t group due ledger in
     ap (λ x. (group == g && f t == c) || x)
     (any_dated-front (counts_group f g c) (charge_facts t hs) ledger
     (each_charge _ t hs (λ b n. refl)))
@@ -309,8 +309,8 @@ pub IsSoundLedger-debited : (v : ℕ → ℕ) (t : ℕ) (session : List ℕ)
     (ledger : Ledger) → IsBelow (next_bucket ledger) (buckets_at v t ledger) →
     IsSoundLedger ledger → IsSoundLedger (charged_use v t session group units blocks due ledger)
 IsSoundLedger-debited v t session group units blocks due ledger below sound =
-    let now : List Row = buckets_at v t ledger in
-    let hs : List Hold = shares v t group due ledger in
+    let now : List BucketRow = buckets_at v t ledger in
+    let hs : List HeldAmount = shares v t group due ledger in
     let after : Ledger = charged_use v t session group units blocks due ledger in
     let same : SameSessions ledger after =
     same_sessions-debited v t session group units blocks due ledger in
@@ -343,8 +343,8 @@ IsRowsOf-debited ledger a session group units blocks due account rows =
     let v : ℕ → ℕ = (validity_of a.shelf) in
     let t : ℕ = a.as_of in
     let after : Ledger = charged_use v t session group units blocks due ledger in
-    let now : List Row = buckets_at v t ledger in
-    let hs : List Hold = shares v t group due ledger in
+    let now : List BucketRow = buckets_at v t ledger in
+    let hs : List HeldAmount = shares v t group due ledger in
     let sound : IsSound now = subst IsSound rows.buckets account.sound in
     let same : SameSessions ledger after =
     same_sessions-debited v t session group units blocks due ledger in

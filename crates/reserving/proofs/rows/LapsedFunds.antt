@@ -5,8 +5,9 @@ use Rattle.std.specs.Prelude.{if◌then◌else◌, not, ◌&&◌}
 use Rattle.std.specs.List.{list_any}
 use Rattle.std.proofs.lemmas.Bool.{or_parts}
 use Rattle.std.proofs.lemmas.List.{drop_more}
-use Rattle.buckets.specs.declared.holds.Hold.{Hold}
-use Rattle.buckets.specs.Row.{Row, IsBalanced, is_eligible, eligible_amount, with_end, with_release}
+use Rattle.buckets.specs.declared.holds.HeldAmount.{HeldAmount}
+use Rattle.buckets.specs.Row.{BucketRow, IsBalanced, is_eligible, eligible_amount, with_end}
+use Rattle.buckets.specs.Row.{with_release}
 use Rattle.buckets.specs.declared.kind.BucketKind.{BucketKind}
 use Rattle.buckets.specs.declared.kind.BucketKind.TheVariants.{Money, Blocks}
 use Rattle.buckets.specs.Kinds.{is_alike, most_of}
@@ -37,7 +38,8 @@ part_le : (t : Bool) (n m : ℕ) → n ≤ m → (if t then n else 0) ≤ m
 part_le true n m h = h
 part_le false n m h = omega arith
 
-sums_none : (kind : BucketKind) (f : Row → ℕ) (rows : List Row) → ((b : Row) → f b ≡ 0) →
+sums_none : (kind : BucketKind) (f : BucketRow → ℕ) (rows : List BucketRow) →
+    ((b : BucketRow) → f b ≡ 0) →
     sum_in kind f rows ≡ 0
 sums_none kind f [] h = refl
 sums_none kind f (b ∷ bs) h =
@@ -48,8 +50,9 @@ sums_none kind f (b ∷ bs) h =
       sums_none kind f bs h,
     )
 
-sums_add : (kind : BucketKind) (f g h : Row → ℕ) (rows : List Row) →
-    ((b : Row) → f b + g b ≡ h b) → sum_in kind f rows + sum_in kind g rows ≡ sum_in kind h rows
+sums_add : (kind : BucketKind) (f g h : BucketRow → ℕ) (rows : List BucketRow) →
+    ((b : BucketRow) → f b + g b ≡ h b) → sum_in kind f rows + sum_in kind g rows ≡ sum_in kind h
+    rows
 sums_add kind f g h [] e = refl
 sums_add kind f g h (b ∷ bs) e =
     omega (
@@ -62,7 +65,7 @@ sums_add kind f g h (b ∷ bs) e =
     )
 
 -- no holds have nothing
-pub nothing_held : (kind : BucketKind) (rows : List Row) → held_sum kind [] rows ≡ 0
+pub nothing_held : (kind : BucketKind) (rows : List BucketRow) → held_sum kind [] rows ≡ 0
 nothing_held kind rows = sums_none kind (held_in []) rows (λ b. refl)
 
 either_way : (e : Bool) (n : ℕ) → (if e then n else n) ≡ n
@@ -71,19 +74,19 @@ either_way false n = refl
 
 -- ---- nothing is given up where nothing is reserved
 
-held_nothing : (kind : BucketKind) (group t : ℕ) (rows : List Row) →
+held_nothing : (kind : BucketKind) (group t : ℕ) (rows : List BucketRow) →
     held_for kind group t [] rows ≡ 0
 held_nothing kind group t rows =
     sums_none kind (λ b. if is_eligible group t b then held_in [] b else 0) rows
     (λ b. either_way (is_eligible group t b) 0)
 
-unheld : (kind : BucketKind) (k : Bool) (group t : ℕ) (rows : List Row) →
+unheld : (kind : BucketKind) (k : Bool) (group t : ℕ) (rows : List BucketRow) →
     (if k then 0 else held_for kind group t [] rows) ≡ 0
 unheld kind true group t rows = refl
 unheld kind false group t rows = held_nothing kind group t rows
 
 pub lapsed_for-none : (keeps : List ℕ → Bool) (kind : BucketKind) (group t : ℕ) (r : SessionGroup)
-    (rows : List Row) →
+    (rows : List BucketRow) →
     r.reservation ≡ None → 0 ≡ lapsed_for keeps kind group t r rows
 lapsed_for-none keeps kind group t r rows e =
     sym (ap (λ o. if keeps r.session then 0 else held_for kind group t (holds_in o) rows) e
@@ -96,7 +99,7 @@ none_of true true n h = cc
 none_of true false n h = refl
 none_of false e n h = refl
 
-held_of_none : (kind : BucketKind) (group t : ℕ) (holds : List Hold) (rows : List Row) →
+held_of_none : (kind : BucketKind) (group t : ℕ) (holds : List HeldAmount) (rows : List BucketRow) →
     list_any (is_eligible_in kind group t) rows ≡ false →
     held_for kind group t holds rows ≡ 0
 held_of_none kind group t holds [] h = refl
@@ -116,7 +119,7 @@ kept_or_none false n h = h
 
 pub lapsed_funds-none : (keeps : List ℕ → Bool) (kind : BucketKind) (group t : ℕ)
     (groups : List SessionGroup)
-    (rows : List Row) → list_any (is_eligible_in kind group t) rows ≡ false →
+    (rows : List BucketRow) → list_any (is_eligible_in kind group t) rows ≡ false →
     lapsed_funds keeps kind group t groups rows ≡ 0
 lapsed_funds-none keeps kind group t [] rows h = refl
 lapsed_funds-none keeps kind group t (r ∷ rs) rows h =
@@ -129,7 +132,7 @@ lapsed_funds-none keeps kind group t (r ∷ rs) rows h =
 
 -- ---- one reservation after another is one bucket after another
 
-abbrev lapsed_amount : (List ℕ → Bool) → ℕ → ℕ → List SessionGroup → Row → ℕ
+abbrev lapsed_amount : (List ℕ → Bool) → ℕ → ℕ → List SessionGroup → BucketRow → ℕ
 lapsed_amount keeps group t groups b =
     if is_eligible group t b then lapsed_in keeps groups b else 0
 
@@ -141,7 +144,8 @@ first_amount true false m n = refl
 first_amount false true m n = refl
 first_amount false false m n = refl
 
-first_held : (kind : BucketKind) (k : Bool) (group t : ℕ) (holds : List Hold) (rows : List Row) →
+first_held : (kind : BucketKind) (k : Bool) (group t : ℕ) (holds : List HeldAmount)
+    (rows : List BucketRow) →
     (if k then 0 else held_for kind group t holds rows)
     ≡ sum_in kind (λ b. if k then 0 else (if is_eligible group t b then held_in holds b else 0))
     rows
@@ -149,7 +153,7 @@ first_held kind true group t holds rows = sym (sums_none kind (λ b. 0) rows (λ
 first_held kind false group t holds rows = refl
 
 lapsed_sum : (keeps : List ℕ → Bool) (kind : BucketKind) (group t : ℕ) (groups : List SessionGroup)
-    (rows : List Row) →
+    (rows : List BucketRow) →
     lapsed_funds keeps kind group t groups rows ≡ sum_in kind
     (lapsed_amount keeps group t groups) rows
 lapsed_sum keeps kind group t [] rows =
@@ -174,7 +178,7 @@ later_amount false m n = refl
 
 pub lapsed_funds-is : (kind : BucketKind) (group : ℕ) (v : ℕ → ℕ) (t : ℕ) (sessions : List Session)
     (groups : List SessionGroup)
-    (rows : List Row) →
+    (rows : List BucketRow) →
     sum_in kind (eligible_amount group t) rows
     + lapsed_funds (is_live_in v t sessions) kind group t groups rows
     ≡ sum_in kind (eligible_amount group t)
@@ -196,7 +200,7 @@ pub most_of-le : (kind : BucketKind) → most_of kind ≤ 1000000000000000
 most_of-le Money = omega arith
 most_of-le Blocks = omega arith
 
-lapsed_most : (keeps : List ℕ → Bool) (group t : ℕ) (groups : List SessionGroup) (b : Row) →
+lapsed_most : (keeps : List ℕ → Bool) (group t : ℕ) (groups : List SessionGroup) (b : BucketRow) →
     IsBalanced b → held_by (λ s. true) groups b ≡ b.reserved →
     lapsed_amount keeps group t groups b ≤ 1000000000000000
 lapsed_most keeps group t groups b balanced held = at (is_eligible group t b)
@@ -216,7 +220,7 @@ lapsed_most keeps group t groups b balanced held = at (is_eligible group t b)
     at false = omega arith
 
 sum_most : (keeps : List ℕ → Bool) (kind : BucketKind) (group t : ℕ) (groups : List SessionGroup)
-    (rows : List Row) →
+    (rows : List BucketRow) →
     Each IsBalanced rows → Each (λ b. held_by (λ s. true) groups b ≡ b.reserved) rows →
     sum_in kind (lapsed_amount keeps group t groups) rows ≤ length rows * 1000000000000000
 sum_most keeps kind group t groups [] balanced held = omega arith
@@ -231,7 +235,7 @@ sum_most keeps kind group t groups (b ∷ bs) balanced held =
 
 pub lapsed_funds-most : (keeps : List ℕ → Bool) (kind : BucketKind) (group t : ℕ)
     (groups : List SessionGroup)
-    (rows : List Row) → length rows < 2 ^ 64 → IsSound rows →
+    (rows : List BucketRow) → length rows < 2 ^ 64 → IsSound rows →
     Each (λ b. held_by (λ s. true) groups b ≡ b.reserved) rows →
     lapsed_funds keeps kind group t groups rows < 2 ^ 126
 lapsed_funds-most keeps kind group t groups rows short sound held =
@@ -245,7 +249,7 @@ lapsed_funds-most keeps kind group t groups rows short sound held =
 -- the next reservation is a part of what is left
 pub lapsed_funds-next : (keeps : List ℕ → Bool) (kind : BucketKind) (group t : ℕ)
     (groups : List SessionGroup)
-    (i : ℕ) (d : SessionGroup) (rows : List Row) → i < length groups →
+    (i : ℕ) (d : SessionGroup) (rows : List BucketRow) → i < length groups →
     lapsed_funds keeps kind group t (drop i groups) rows
     ≡ lapsed_for keeps kind group t (get_or groups i d) rows
     + lapsed_funds keeps kind group t (drop (i + 1) groups) rows

@@ -2,7 +2,8 @@
 use Rattle.std.proofs.Common.{◌≡◌, ℕ, ◌+◌, ◌-◌, Bool, true, false, List, [], ◌∷◌, map, refl, sym}
 use Rattle.std.proofs.Common.{◌∙◌, arith}
 use Rattle.std.specs.Prelude.{if◌then◌else◌, ◌&&◌, nat_lt, nat_le}
-use Rattle.buckets.specs.Row.{Row, is_eligible, eligible_amount, covers, with_end, with_release}
+use Rattle.buckets.specs.Row.{BucketRow, is_eligible, eligible_amount, covers, with_end}
+use Rattle.buckets.specs.Row.{with_release}
 use Rattle.buckets.specs.declared.kind.BucketKind.{BucketKind}
 use Rattle.buckets.specs.Share.{sum_in}
 use Rattle.buckets.proofs.Dues.{sum_in-cons}
@@ -14,7 +15,7 @@ use Rattle.reserving.specs.Changes.{lapsed_in, amount_later, funds_later}
 use Rattle.reserving.proofs.Advancing.{held_by-split}
 
 -- an eligible bucket hasn't ended, so that what is given up is available
-amount_is : (group t n : ℕ) (b : Row) →
+amount_is : (group t n : ℕ) (b : BucketRow) →
     eligible_amount group t (with_end t (with_release t b n))
     ≡ (if is_eligible group t b then b.available + n else 0)
 amount_is group t n b = at (nat_lt t b.until) refl
@@ -33,7 +34,7 @@ amount_is group t n b = at (nat_lt t b.until) refl
     at false e = rw (e, e) (no_end (nat_le b.from t) (covers b.scope group) 0 (b.available + n))
 
 -- time leaves the kind of a bucket
-pub later_kind : (t n : ℕ) (b : Row) → (with_end t (with_release t b n)).kind ≡ b.kind
+pub later_kind : (t n : ℕ) (b : BucketRow) → (with_end t (with_release t b n)).kind ≡ b.kind
 later_kind t n b = at (nat_lt t b.until) refl
   where
     at : (e : Bool) → nat_lt t b.until ≡ e →
@@ -43,7 +44,7 @@ later_kind t n b = at (nat_lt t b.until) refl
     at false e = rw e refl
 
 pub funds_later-is : (kind : BucketKind) (group : ℕ) (v : ℕ → ℕ) (t : ℕ) (sessions : List Session)
-    (groups : List SessionGroup) (rows : List Row) →
+    (groups : List SessionGroup) (rows : List BucketRow) →
     funds_later kind group v t sessions groups rows
     ≡ sum_in kind (eligible_amount group t)
     (map (λ b. with_end t (with_release t b (lapsed_in (is_live_in v t sessions) groups b))) rows)
@@ -60,6 +61,6 @@ funds_later-is kind group v t sessions groups (b ∷ bs) =
     bs))
 
 -- nothing is given up of a bucket of which nothing is held
-pub lapsed_none : (keeps : List ℕ → Bool) (groups : List SessionGroup) (b : Row) →
+pub lapsed_none : (keeps : List ℕ → Bool) (groups : List SessionGroup) (b : BucketRow) →
     held_by (λ s. true) groups b ≡ 0 → lapsed_in keeps groups b ≡ 0
 lapsed_none keeps groups b e = omega (arith, e, held_by-split keeps b groups)

@@ -3,8 +3,8 @@ use Rattle.std.proofs.Common.{◌≡◌, ℕ, ◌+◌, ◌-◌, ◌≤◌, Bool,
 use Rattle.std.proofs.Common.{refl, sym, ap, subst, ◌∙◌, arith, Option, Some, None}
 use Rattle.std.specs.Prelude.{if◌then◌else◌, ◌==◌, ◌&&◌, ◌||◌, not, nat_lt, is_some}
 use Rattle.std.specs.Prelude.{option_map}
-use Rattle.buckets.specs.declared.holds.Hold.{Hold}
-use Rattle.buckets.specs.Row.{Row, eligible_amount, is_eligible, with_hold}
+use Rattle.buckets.specs.declared.holds.HeldAmount.{HeldAmount}
+use Rattle.buckets.specs.Row.{BucketRow, eligible_amount, is_eligible, with_hold}
 use Rattle.buckets.specs.Share.{share, parts}
 use Rattle.buckets.specs.Spend.{Each, AreDistinct, IsSound, IsBelow, held_rows}
 use Rattle.buckets.specs.Holding.{held_in, holds_of}
@@ -28,7 +28,7 @@ use Rattle.reserving.specs.Keyed.{put}
 use Rattle.reserving.specs.Balance.{credits, balance_of, bucket_at, buckets_at}
 use Rattle.reserving.specs.Sessions.{is_of, group_in, group_at, counter_at, holds_at, holds_in}
 use Rattle.reserving.specs.Sessions.{held_by, reservation_of, reservation_at}
-use Rattle.reserving.specs.Reservation.{hold_facts, reserved}
+use Rattle.reserving.specs.Reservation.{grant_at, hold_facts, reserved}
 use Rattle.reserving.specs.Changes.{used_in, reserved_in, with_reservation, reserved_account}
 use Rattle.reserving.specs.Prepared.{reservation_in}
 use Rattle.reserving.specs.SoundLedger.{IsUnknown, IsSoundLedger}
@@ -53,42 +53,39 @@ use Rattle.reserving.proofs.kept.Settled.{IsBelow-map}
 
 -- ---- the buckets
 
-balance_by-held : (b : Bool) (c : Row) (ch h s : ℕ) → s ≤ (if b then c.credited - ch - h else 0) →
+balance_by-held : (b : Bool) (c : BucketRow) (ch h s : ℕ) → s ≤
+    (if b then c.credited - ch - h else 0) →
     balance_by b c ch (s + h) ≡ with_hold (balance_by b c ch h) s
 balance_by-held true c ch h s q =
     with_columns c _ _ _ _ _ _ _ _ (omega arith) (omega arith) refl refl
 balance_by-held false c ch h s q =
     with_columns c _ _ _ _ _ _ _ _ (omega arith) (omega arith) refl (omega arith)
 
-abbrev holds_for : Shelf → ℕ → ℕ → Due → Ledger → List Hold
+abbrev holds_for : Shelf → ℕ → ℕ → Due → Ledger → List HeldAmount
 holds_for shelf t group due ledger = holds_of group t due (buckets_at (validity_of shelf) t ledger)
 
 abbrev granted : Shelf → ℕ → List ℕ → ℕ → ℕ → Ledger → Ledger
 granted shelf t session group units ledger =
-    record {
-      at = t;
-      fact = Grant session group (terms_at shelf t) units
-          (counter (cycle_at shelf group) group (cycle_at shelf group t) ledger);
-    } ∷ ledger
+    record { at = t; fact = Grant (grant_at shelf t session group units ledger) } ∷ ledger
 
 same_sessions-reserved : (shelf : Shelf) (t : ℕ) (session : List ℕ) (group units : ℕ) (due : Due)
     (ledger : Ledger) → SameSessions ledger (reserved shelf t session group units due ledger)
 same_sessions-reserved shelf t session group units due ledger =
-    let hs : List Hold = holds_for shelf t group due ledger in
+    let hs : List HeldAmount = holds_for shelf t group due ledger in
     let before : Ledger = granted shelf t session group units ledger in
     record {
       touch = λ s. newest-front _ (hold_facts t session group hs) before
-          (each_hold _ t session group hs (λ b n. refl));
+          (each_hold _ t session group hs (λ x. refl));
       closed = λ s. any-front _ (hold_facts t session group hs) before
-          (each_hold _ t session group hs (λ b n. refl));
+          (each_hold _ t session group hs (λ x. refl));
       recording =
           λ s. newest-front _ (hold_facts t session group hs) before
-          (each_hold _ t session group hs (λ b n. refl));
+          (each_hold _ t session group hs (λ x. refl));
     }
 
 bucket_at-reserved : (shelf : Shelf) (t : ℕ) (session : List ℕ) (group units : ℕ) (due : Due)
-    (ledger : Ledger) (c : Row) →
-    (let rows : List Row = buckets_at (validity_of shelf) t ledger in
+    (ledger : Ledger) (c : BucketRow) →
+    (let rows : List BucketRow = buckets_at (validity_of shelf) t ledger in
     is_live (validity_of shelf) t ledger session ≡ true →
     sum_at c.number (holds_of group t due rows)
     ≡ share (eligible_amount group t) rows due (bucket_at (validity_of shelf) t ledger c) →
@@ -97,9 +94,9 @@ bucket_at-reserved : (shelf : Shelf) (t : ℕ) (session : List ℕ) (group units
     (share (eligible_amount group t) rows due (bucket_at (validity_of shelf) t ledger c)))
 bucket_at-reserved shelf t session group units due ledger c live sum =
     let v : ℕ → ℕ = (validity_of shelf) in
-    let rows : List Row = buckets_at v t ledger in
+    let rows : List BucketRow = buckets_at v t ledger in
     let n : ℕ = c.number in
-    let hs : List Hold = holds_of group t due rows in
+    let hs : List HeldAmount = holds_of group t due rows in
     let before : Ledger = granted shelf t session group units ledger in
     let after : Ledger = reserved shelf t session group units due ledger in
     let all : List ℕ → ℕ → Bool = λ s g. is_live v t ledger s in
@@ -122,8 +119,8 @@ bucket_at-reserved shelf t session group units due ledger c live sum =
 
 each_reserved : (shelf : Shelf) (t : ℕ) (session : List ℕ) (group units : ℕ)
     (due : Due) (ledger : Ledger)
-    (cs : List Row) →
-    (let rows : List Row = buckets_at (validity_of shelf) t ledger in
+    (cs : List BucketRow) →
+    (let rows : List BucketRow = buckets_at (validity_of shelf) t ledger in
     is_live (validity_of shelf) t ledger session ≡ true →
     Each (λ b. sum_at b.number (holds_of group t due rows)
     ≡ share (eligible_amount group t) rows due b)
@@ -145,8 +142,8 @@ buckets_at-reserved : (shelf : Shelf) (t : ℕ) (session : List ℕ) (group unit
     buckets_at (validity_of shelf) t (reserved shelf t session group units due ledger)
     ≡ held_rows group t due (buckets_at (validity_of shelf) t ledger)
 buckets_at-reserved shelf t session group units due ledger live distinct =
-    let rows : List Row = buckets_at (validity_of shelf) t ledger in
-    let hs : List Hold = holds_of group t due rows in
+    let rows : List BucketRow = buckets_at (validity_of shelf) t ledger in
+    let hs : List HeldAmount = holds_of group t due rows in
     ap (map (bucket_at (validity_of shelf) t (reserved shelf t session group units due ledger)))
     (credits-hold_facts t session group hs (granted shelf t session group units ledger))
     ∙ each_reserved shelf t session group units due ledger (credits ledger) live
@@ -159,41 +156,43 @@ other_reserved : (shelf : Shelf) (t : ℕ) (session : List ℕ) (group units : �
     (s : List ℕ) (g : ℕ) → is_key session group s g ≡ false →
     SameGroup s g ledger (reserved shelf t session group units due ledger)
 other_reserved shelf t session group units due ledger s g h =
-    let hs : List Hold = holds_for shelf t group due ledger in
+    let hs : List HeldAmount = holds_for shelf t group due ledger in
     let before : Ledger = granted shelf t session group units ledger in
     let p : Terms = terms_at shelf t in
     record {
       named = any-front (names_group s g) (hold_facts t session group hs) before
-          (each_hold _ t session group hs (λ b n. refl)) ∙ (λ i. h i || has_group s g ledger);
+          (each_hold _ t session group hs (λ x. refl)) ∙ (λ i. h i || has_group s g ledger);
       used = omega (
         arith,
         total-front (λ d. units_in s g d.fact) (hold_facts t session group hs) before
-            (each_hold _ t session group hs (λ b n. refl)),
+            (each_hold _ t session group hs (λ x. refl)),
       );
       grant = ap inner
           (newest-front (grant_in s g) (hold_facts t session group hs) before
-          (each_hold _ t session group hs (λ b n. refl)))
+          (each_hold _ t session group hs (λ x. refl)))
           ∙ (λ i. inner
           (or_else (if h i then Some (Some p) else None) (newest (grant_in s g) ledger)));
       held = λ n. omega (arith, held-hold_facts_other (only s g) n t session group hs before h);
     }
 
 -- parts by number of changed buckets are other parts of the buckets before
-parts_each : (F : ℕ → ℕ) (G : Row → ℕ) (does : Row → Row) (rows : List Row) →
-    ((b : Row) → (does b).number ≡ b.number) → Each (λ b. F b.number ≡ G b) rows →
+parts_each : (F : ℕ → ℕ) (G : BucketRow → ℕ) (does : BucketRow → BucketRow)
+    (rows : List BucketRow) →
+    ((b : BucketRow) → (does b).number ≡ b.number) → Each (λ b. F b.number ≡ G b) rows →
     parts (λ b. F b.number) (map does rows) ≡ parts G rows
 parts_each F G does [] k e = refl
 parts_each F G does (b ∷ bs) k e =
     let amount : F (does b).number ≡ G b = ap F (k b) ∙ e.0 in
-    let one : (let h : Hold = record { bucket = (does b).number; amount = F (does b).number } in h)
-    ≡ (let h : Hold = record { bucket = b.number; amount = G b } in h) =
+    let one : (let h : HeldAmount = record { bucket = (does b).number; amount = F (does b).number }
+    in h)
+    ≡ (let h : HeldAmount = record { bucket = b.number; amount = G b } in h) =
     λ i. record { bucket = k b i; amount = amount i } in
     λ i. (if nat_lt 0 (amount i) then one i ∷ parts_each F G does bs k e.1 i
     else parts_each F G does bs k e.1 i)
 
 each_own : (shelf : Shelf) (t : ℕ) (session : List ℕ) (group units : ℕ) (due : Due)
     (ledger : Ledger)
-    (G : Row → ℕ) (xs : List Row) →
+    (G : BucketRow → ℕ) (xs : List BucketRow) →
     Each (λ b. held (only session group) b.number ledger ≡ 0) xs →
     Each (λ b. sum_at b.number (holds_for shelf t group due ledger) ≡ G b) xs →
     Each (λ b. held (only session group) b.number
@@ -211,7 +210,7 @@ each_own shelf t session group units due ledger G (b ∷ bs) none h = (
   each_own shelf t session group units due ledger G bs none.1 h.1,
 )
 
-abbrev reservation_for : Shelf → ℕ → List Hold → Reservation
+abbrev reservation_for : Shelf → ℕ → List HeldAmount → Reservation
 reservation_for shelf t holds = record { terms = terms_at shelf t; holds = holds }
 
 own_reserved : (shelf : Shelf) (t : ℕ) (session : List ℕ) (group units : ℕ)
@@ -232,24 +231,24 @@ own_reserved shelf t session group units due ledger live distinct free =
     let v : ℕ → ℕ = (validity_of shelf) in
     let after : Ledger = reserved shelf t session group units due ledger in
     let before : Ledger = granted shelf t session group units ledger in
-    let rows : List Row = buckets_at v t ledger in
-    let hs : List Hold = holds_for shelf t group due ledger in
+    let rows : List BucketRow = buckets_at v t ledger in
+    let hs : List HeldAmount = holds_for shelf t group due ledger in
     let own : is_key session group session group ≡ true = own_key session group in
     let p : Terms = terms_at shelf t in
-    let G : Row → ℕ = share (eligible_amount group t) rows due in
+    let G : BucketRow → ℕ = share (eligible_amount group t) rows due in
     let named : has_group session group after ≡ true =
     any-front (names_group session group) (hold_facts t session group hs) before
-    (each_hold _ t session group hs (λ b n. refl))
+    (each_hold _ t session group hs (λ x. refl))
     ∙ (λ i. own i || has_group session group ledger) in
     let so_far : used session group after ≡ used session group ledger =
     omega (
       arith,
       total-front (λ d. units_in session group d.fact) (hold_facts t session group hs) before
-          (each_hold _ t session group hs (λ b n. refl)),
+          (each_hold _ t session group hs (λ x. refl)),
     ) in
     let grant : open_grant session group after ≡ Some p =
     ap inner (newest-front (grant_in session group) (hold_facts t session group hs) before
-    (each_hold _ t session group hs (λ b n. refl)))
+    (each_hold _ t session group hs (λ x. refl)))
     ∙ (λ i. inner
     (or_else (if own i then Some (Some p) else None) (newest (grant_in session group) ledger)))
     in
@@ -268,7 +267,7 @@ own_reserved shelf t session group units due ledger live distinct free =
     own_row session group _ _ _ _ _ named so_far reservation
 
 groups-reserved : (shelf : Shelf) (t : ℕ) (session : List ℕ) (group units : ℕ) (due : Due)
-    (ledger : Ledger) (rows : List SessionGroup) (holds : List Hold) →
+    (ledger : Ledger) (rows : List SessionGroup) (holds : List HeldAmount) →
     is_live (validity_of shelf) t ledger session ≡ true →
     AreDistinct (buckets_at (validity_of shelf) t ledger) →
     Each (λ b. held (only session group) b.number ledger ≡ 0)
@@ -346,7 +345,7 @@ counter_reserved : (shelf : Shelf) (cycle_of : ℕ → ℕ) (t : ℕ) (session :
     counter_at cycle_of ledger g c
     ≡ counter_at cycle_of (reserved shelf t session group units due ledger) g c
 counter_reserved shelf cycle_of t session group units due ledger g c =
-    let hs : List Hold = holds_for shelf t group due ledger in
+    let hs : List HeldAmount = holds_for shelf t group due ledger in
     let before : Ledger = granted shelf t session group units ledger in
     let after : Ledger = reserved shelf t session group units due ledger in
     let count : counter cycle_of g c ledger ≡ counter cycle_of g c after =
@@ -355,11 +354,11 @@ counter_reserved shelf cycle_of t session group units due ledger g c =
       if_none (cycle_of t == c),
       total-front (λ d. if cycle_of d.at == c then blocks_in g d.fact else 0)
           (hold_facts t session group hs) before
-          (each_hold _ t session group hs (λ b n. if_none (cycle_of t == c))),
+          (each_hold _ t session group hs (λ x. if_none (cycle_of t == c))),
     ) in
     let named : has_counter cycle_of g c after ≡ has_counter cycle_of g c ledger =
     any_dated-front (counts_group cycle_of g c) (hold_facts t session group hs) before
-    (each_hold _ t session group hs (λ b n. refl)) in
+    (each_hold _ t session group hs (λ x. refl)) in
     let same :
     (let r : Counter = record { group = g; cycle = c; blocks = counter cycle_of g c ledger } in
     r) ≡ (let r : Counter =
@@ -386,7 +385,7 @@ unknown-reserved : (shelf : Shelf) (t : ℕ) (session : List ℕ) (group units :
     (ledger : Ledger) (s : List ℕ) → is_same session s ≡ false → IsUnknown s ledger →
     IsUnknown s (reserved shelf t session group units due ledger)
 unknown-reserved shelf t session group units due ledger s other h =
-    let hs : List Hold = holds_for shelf t group due ledger in
+    let hs : List HeldAmount = holds_for shelf t group due ledger in
     let before : Ledger = granted shelf t session group units ledger in
     let p : List ℕ → ℕ → Bool = λ x g. is_same x s in
     record {
@@ -434,8 +433,8 @@ pub IsSoundLedger-reserved : (shelf : Shelf) (t : ℕ) (session : List ℕ)
     (last_recording session ledger ≡ None → ⊥) → IsSoundLedger ledger →
     IsSoundLedger (reserved shelf t session group units due ledger)
 IsSoundLedger-reserved shelf t session group units due ledger below has sound =
-    let now : List Row = buckets_at (validity_of shelf) t ledger in
-    let hs : List Hold = holds_for shelf t group due ledger in
+    let now : List BucketRow = buckets_at (validity_of shelf) t ledger in
+    let hs : List HeldAmount = holds_for shelf t group due ledger in
     let before : Ledger = granted shelf t session group units ledger in
     let after : Ledger = reserved shelf t session group units due ledger in
     let same : SameSessions ledger after =
@@ -444,7 +443,7 @@ IsSoundLedger-reserved shelf t session group units due ledger below has sound =
     omega (
       arith,
       total-front (λ d. credits_in d.fact) (hold_facts t session group hs) before
-          (each_hold _ t session group hs (λ b n. refl)),
+          (each_hold _ t session group hs (λ x. refl)),
     ) in
     record {
       touched = same_touched ledger after same sound.touched;
@@ -480,8 +479,8 @@ IsRowsOf-reserved ledger a session group units due account rows live none =
     let t : ℕ = a.as_of in
     let after : Ledger = reserved shelf t session group units due ledger in
     let before : Ledger = granted shelf t session group units ledger in
-    let now : List Row = buckets_at v t ledger in
-    let hs : List Hold = holds_for shelf t group due ledger in
+    let now : List BucketRow = buckets_at v t ledger in
+    let hs : List HeldAmount = holds_for shelf t group due ledger in
     let sound : IsSound now = subst IsSound rows.buckets account.sound in
     let same : SameSessions ledger after =
     same_sessions-reserved shelf t session group units due ledger in
@@ -490,7 +489,7 @@ IsRowsOf-reserved ledger a session group units due account rows live none =
     record {
       barred = rows.barred
           ∙ sym (is_barred-front (hold_facts t session group hs) before
-          (each_hold _ t session group hs (λ b n. refl)));
+          (each_hold _ t session group hs (λ x. refl)));
       buckets =
           ap (held_rows group t due) rows.buckets
           ∙ sym (buckets_at-reserved shelf t session group units due ledger live sound.distinct);
@@ -507,14 +506,14 @@ IsRowsOf-reserved ledger a session group units due account rows live none =
           ∙ omega (
             arith,
             total-front (λ d. credits_in d.fact) (hold_facts t session group hs) before
-                (each_hold _ t session group hs (λ b n. refl)),
+                (each_hold _ t session group hs (λ x. refl)),
           );
       next_charge =
           rows.next_charge
           ∙ omega (
             arith,
             total-front (λ d. uses_in d.fact) (hold_facts t session group hs) before
-                (each_hold _ t session group hs (λ b n. refl)),
+                (each_hold _ t session group hs (λ x. refl)),
           );
       sound = IsSoundLedger-reserved shelf t session group units due ledger
           (made_in ledger a account rows)
@@ -527,8 +526,9 @@ reserved_none : (s : List ℕ) (g : ℕ) (rows : List SessionGroup) → reservat
     reserved_in s g rows ≡ []
 reserved_none s g rows h = ap holds_in h
 
-each_held : (rows after : List SessionGroup) (hs : List Hold) (G : Row → ℕ) (xs : List Row) →
-    ((b : Row) → held_by (λ s. true) after b ≡ held_by (λ s. true) rows b + held_in hs b) →
+each_held : (rows after : List SessionGroup) (hs : List HeldAmount) (G : BucketRow → ℕ)
+    (xs : List BucketRow) →
+    ((b : BucketRow) → held_by (λ s. true) after b ≡ held_by (λ s. true) rows b + held_in hs b) →
     Each (λ b. sum_at b.number hs ≡ G b) xs →
     Each (λ b. held_by (λ s. true) rows b ≡ b.reserved) xs →
     Each (λ b. held_by (λ s. true) after b ≡ b.reserved) (map (λ b. with_hold b (G b)) xs)
@@ -544,8 +544,8 @@ pub IsAccount-reserved : (a : AccountRows) (session : List ℕ) (group : ℕ) (d
     IsAccount (reserved_account session group due a)
 IsAccount-reserved a session group due none h =
     let t : ℕ = a.as_of in
-    let hs : List Hold = holds_of group t due a.buckets in
-    let G : Row → ℕ = share (eligible_amount group t) a.buckets due in
+    let hs : List HeldAmount = holds_of group t due a.buckets in
+    let G : BucketRow → ℕ = share (eligible_amount group t) a.buckets due in
     let row : SessionGroup =
     record {
       session = session;
@@ -553,7 +553,7 @@ IsAccount-reserved a session group due none h =
       used = used_in session group a.groups;
       reservation = Some (reservation_for a.shelf t hs);
     } in
-    let held : (b : Row) →
+    let held : (b : BucketRow) →
     held_by (λ s. true) (put group_before (is_of session group) row a.groups) b
     ≡ held_by (λ s. true) a.groups b + held_in hs b = λ b.
     (let nothing : held_in (reserved_in session group a.groups) b

@@ -18,9 +18,10 @@ use Rattle.tariffs.specs.declared.final_action.FinalAction.TheVariants.{Terminat
 use Rattle.tariffs.specs.declared.tiers.Tier.{Tier}
 use Rattle.rating.specs.Granted.{dearer, greatest_covered}
 use Rattle.rating.specs.Rated.{rated_amount, report_blocks, report_amount}
-use Rattle.buckets.specs.Row.{Row}
+use Rattle.buckets.specs.Row.{BucketRow}
+use Rattle.buckets.specs.declared.kind.BucketKind.{BucketKind}
 use Rattle.buckets.specs.declared.kind.BucketKind.TheVariants.{Money, Blocks}
-use Rattle.reserving.specs.Ledger.{Ledger, used, is_live}
+use Rattle.reserving.specs.Ledger.{Fact, Ledger, used, is_live}
 use Rattle.reserving.specs.Ledger.Fact.{Credit, Touch}
 use Rattle.reserving.specs.Pricing.{switch_at, validity_at, validity_of}
 use Rattle.reserving.specs.Balance.{buckets_at}
@@ -101,11 +102,22 @@ part change n = record { units = record { 0 = n }; change = change }
 abbrev report : ℕ → List UsedPart
 report n = part None n ∷ []
 
--- credited at 00:00 of a Monday, and opened
+-- a bucket that is made at 00:00 of a Monday
+abbrev made : BucketKind → ℕ → ℕ → Option ℕ → ℕ → Fact
+made kind number until scope amount = Credit (record {
+  kind = kind;
+  number = number;
+  from = 1767571200;
+  until = until;
+  scope = scope;
+  amount = amount;
+})
+
+-- an account with one of money, and opened
 abbrev opened : ℕ → ℕ → Ledger
 opened t credit =
     record { at = t; fact = Touch s }
-    ∷ record { at = 1767571200; fact = Credit Money 1 1767571200 4102444800 None credit } ∷ []
+    ∷ record { at = 1767571200; fact = made Money 1 4102444800 None credit } ∷ []
 
 abbrev units_granted : ℕ → ℕ → ℕ → Ledger → ℕ
 units_granted t g wanted ledger =
@@ -117,7 +129,7 @@ granted t g wanted ledger =
     reserved shelf t s g (units_granted t g wanted ledger)
     (held_due (grant_for shelf t g (used s g ledger) (Some wanted) ledger)) ledger
 
-abbrev bucket : (number from until credited available reserved charged expired : ℕ) → Row
+abbrev bucket : (number from until credited available reserved charged expired : ℕ) → BucketRow
 bucket number from until credited available reserved charged expired =
     record {
       number = number;
@@ -218,8 +230,8 @@ begun_settled = refl
 
 -- two buckets are held in order; what is released after the first one's end is expired
 abbrev two : Ledger
-two = record { at = 1767571200; fact = Credit Money 2 1767571200 4102444800 None 300000 }
-    ∷ record { at = 1767571200; fact = Credit Money 1 1767571200 1767607800 None 150000 } ∷ []
+two = record { at = 1767571200; fact = made Money 2 4102444800 None 300000 }
+    ∷ record { at = 1767571200; fact = made Money 1 1767607800 None 150000 } ∷ []
 
 abbrev two_granted : Ledger
 two_granted = granted 1767607200 10 180 (record { at = 1767607200; fact = Touch s } ∷ two)
@@ -322,7 +334,7 @@ after_settled = refl
 
 -- ---- allowances
 
-abbrev allowance_row : (number until credited available reserved charged expired : ℕ) → Row
+abbrev allowance_row : (number until credited available reserved charged expired : ℕ) → BucketRow
 allowance_row number until credited available reserved charged expired =
     record (bucket number 1767571200 until credited available reserved charged expired)
     { kind = Blocks; scope = Some 10 }
@@ -331,8 +343,8 @@ allowance_row number until credited available reserved charged expired =
 abbrev allowed : Ledger
 allowed =
     record { at = 1767607200; fact = Touch s }
-    ∷ record { at = 1767571200; fact = Credit Blocks 2 1767571200 4102444800 (Some 10) 3 }
-    ∷ record { at = 1767571200; fact = Credit Money 1 1767571200 4102444800 None 1000000 } ∷ []
+    ∷ record { at = 1767571200; fact = made Blocks 2 4102444800 (Some 10) 3 }
+    ∷ record { at = 1767571200; fact = made Money 1 4102444800 None 1000000 } ∷ []
 
 allowed_units : units_granted 1767607200 10 300 allowed ≡ 300
 unfolding switch_within minutes_from dearer greatest_covered
@@ -357,7 +369,7 @@ allowed_settled = refl
 abbrev two_blocks : Ledger
 two_blocks =
     record { at = 1767607200; fact = Touch s }
-    ∷ record { at = 1767571200; fact = Credit Blocks 1 1767571200 1767607800 (Some 10) 2 } ∷ []
+    ∷ record { at = 1767571200; fact = made Blocks 1 1767607800 (Some 10) 2 } ∷ []
 
 two_blocks_units : units_granted 1767607200 10 600 two_blocks ≡ 120
 unfolding switch_within minutes_from dearer greatest_covered

@@ -198,8 +198,8 @@ impl Teller for Clocks {
     }
 }
 
-/// Tries a table of zones, 40 moments each: at changes, at the new year, at the edges of the parts of
-/// days.
+/// Tries a table of zones, 40 moments each: at changes, at the new year, at the edges of the parts
+/// of days.
 fn try_clocks(rt: &impl Abort, alloc: Global, cases: &str) {
     let calendar = calendar_of(rt, alloc, "CET-1CEST,M3.5.0,M10.5.0/3");
     try_table(rt, alloc, &mut Clocks { calendar }, cases);

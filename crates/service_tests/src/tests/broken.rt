@@ -1,6 +1,5 @@
 //! A source whose store fails after so many rows, and at each other call.
 
-ghost use Rattle.std.specs.Prelude.{◌≡◌};
 ghost use Rattle.keepers.specs.Faults.{max_failures};
 ghost use Rattle.keepers.specs.Tables.{no_tables};
 

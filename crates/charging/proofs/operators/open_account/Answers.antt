@@ -1,4 +1,4 @@
-use Rattle.std.proofs.Common.{◌≡◌, ◌∙◌, ap, refl, sym, subst, [], None}
+use Rattle.std.proofs.Common.{◌∙◌, ap, refl, sym, [], None}
 use Rattle.commands.specs.declared.answer.Answer.TheVariants as answer
 use Rattle.commands.specs.declared.command.Command.TheVariants as command
 use Rattle.reserving.specs.Stored.{StoredRows, stored}

@@ -8,7 +8,7 @@ use Rattle.keepers.specs.declared.loaded.Change.{Change}
 use Rattle.keepers.specs.Change.{IsLoad}
 use Rattle.keepers.specs.Tables.{Tables}
 use Rattle.charging.specs.Stepping.{Answers, Commits, is_known, kept_of_request}
-use Rattle.charging.proofs.Operated.{made_change}
+use Rattle.charging.proofs.Operated.{made_for, named_so}
 use Rattle.charging.proofs.Requested.{request-told, request-done}
 use Rattle.charging.proofs.Serving.{left_as, served-by, served-as}
 use Rattle.charging.proofs.Refused.{accepted_given}
@@ -17,7 +17,7 @@ use Rattle.charging.proofs.requests.decide_on.Goals.{After-keep}
 
 -- the change of an accepted request
 abbrev change : (g : _) → After-keep g → Change
-change g c = made_change c.args.loaded c.decide.new.account c.in-Ok.decided.charges
+change g c = made_for c.in-Ok.decided.own c.args.loaded c.decide.new.account c.in-Ok.decided.charges
     (Some (record {
       content = content.Request c.args.request;
       answer = answer.Request c.in-Ok.decided.answer;
@@ -42,7 +42,9 @@ done g c t made = λ b load fresh new list time is le.
     (c.in-Ok.ensures.moment ∙ ap
     (λ v. if v then c.moment_on-moment.result else c.args.loaded.account.as_of)
     c.if-decide.true)
-    c.in-Ok.ensures.rows c.in-Ok.ensures.charges refl refl refl refl refl refl made
+    c.in-Ok.ensures.rows c.in-Ok.ensures.charges refl refl
+    (named_so c.in-Ok.decided.own c.args.request.session c.args.loaded c.decide.new.account load.2
+    c.in-Ok.ensures.others) refl refl refl made
 
 pub returns-in-Ok-clause-served : goal.returns-in-Ok-clause-served
 returns-in-Ok-clause-served g c = λ clean b load fresh new list time is le.

@@ -69,8 +69,8 @@ returns-in-Ok-clause-left g c = λ honest t l.
     (c.in_ok-loaded.ensures.stands honest_load) in
     left_as (c.credit_redeemed.ensures.left honest t l)
     (λ before. c.in_ok-kept.ensures.left (c.in_ok-found.ensures.honesty honest_voucher) t
-    (c.in_ok-found.ensures.left honest_voucher t (c.in_ok-loaded.ensures.left honest_load t before)))
-    (λ writes. subst (λ (x : Tables).
+    (c.in_ok-found.ensures.left honest_voucher t
+    (c.in_ok-loaded.ensures.left honest_load t before))) (λ writes. subst (λ (x : Tables).
     WritesAt c.args.shelf.now (command.Redeem c.args.asked) c.args.moment x t) known.4
     (writes c.args.shelf.now known.0 known.1 known.2 known.3))
 

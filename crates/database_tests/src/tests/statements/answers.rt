@@ -6,7 +6,7 @@ ghost use Rattle.sqlite.specs.Held.{state};
 use crate::tests::row_writers::{push, push_perhaps};
 use crate::tests::values::money;
 use identifiers::{AccountNumber, Reference, SessionId};
-use sql_rows::{Kept, VoucherColumns, put_answer, put_voucher, read_answer, read_voucher};
+use sql_rows::{KeptTexts, VoucherColumns, put_answer, put_voucher, read_answer, read_voucher};
 use sqlite::{Alter, Connection};
 use std::alloc::Global;
 use std::process::Abort;
@@ -36,7 +36,7 @@ pub(crate) fn keep_answers<S: Alter>(
     tx.commit().expect(rt, "a commit");
 }
 
-fn push_kept(rt: &impl Abort, text: &mut String, kept: &Option<Kept>) {
+fn push_kept(rt: &impl Abort, text: &mut String, kept: &Option<KeptTexts>) {
     let Some(kept) = kept else {
         return push(rt, text, "no answer\n");
     };

@@ -4,7 +4,7 @@ ghost use Rattle.database_tests.specs.Ready.{IsReady};
 ghost use Rattle.sqlite.specs.Held.{state};
 
 use crate::tests::row_writers::push;
-use buckets::Hold;
+use buckets::HeldAmount;
 use identifiers::{AccountNumber, SessionId};
 use sql_rows::{
     GroupColumns, HeldColumns, PutNames, put_group, put_hold, put_holds, read_groups, read_holds,
@@ -27,12 +27,12 @@ pub(crate) fn keep_reserved<S: Alter>(
     ensures ready { IsReady (state S.Store conn.new) }
 {
     let (bucket, amount) = (1, 5);
-    let first = Hold { bucket, amount };
-    let second = Hold {
+    let first = HeldAmount { bucket, amount };
+    let second = HeldAmount {
         bucket: 2,
         amount: 7,
     };
-    let again = Hold {
+    let again = HeldAmount {
         bucket: 2,
         amount: 9,
     };

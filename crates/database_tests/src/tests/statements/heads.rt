@@ -5,7 +5,7 @@ ghost use Rattle.sqlite.specs.Held.{state};
 
 use crate::tests::row_writers::push;
 use identifiers::AccountNumber;
-use sql_rows::{Head, put_account, put_meta, read_account, read_accounts, read_meta};
+use sql_rows::{HeadColumns, put_account, put_meta, read_account, read_accounts, read_meta};
 use sqlite::{Alter, Connection};
 use std::alloc::Global;
 use std::process::Abort;
@@ -42,7 +42,7 @@ pub(crate) fn keep_account<S: Alter>(
     rt: &impl Abort,
     conn: &mut Connection<S>,
     account: &AccountNumber,
-    head: &Head,
+    head: &HeadColumns,
 )
     requires ready { IsReady (state S.Store conn.old) }
     ensures ready { IsReady (state S.Store conn.new) }
@@ -52,7 +52,7 @@ pub(crate) fn keep_account<S: Alter>(
     tx.commit().expect(rt, "a commit");
 }
 
-fn push_head(rt: &impl Abort, text: &mut String, head: &Option<Head>) {
+fn push_head(rt: &impl Abort, text: &mut String, head: &Option<HeadColumns>) {
     let Some(head) = head else {
         return push(rt, text, "none, ");
     };

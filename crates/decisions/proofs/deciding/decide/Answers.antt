@@ -1,5 +1,6 @@
 use Rattle.std.proofs.Common.{ap, ◌∙◌}
 use Rattle.decisions.specs.Decisions.{answer_of}
+use Rattle.decisions.proofs.Staying.{stay_alone}
 use Rattle.decisions.proofs.deciding.decide.Goals as goal
 
 pub returns : goal.returns
@@ -21,4 +22,8 @@ returns c = record {
   tariff = c.in_ok-ruling.ensures.tariff;
   same = c.in_ok-ruling.ensures.ruled.stands.same;
   unwritten = c.in_ok-ruling.ensures.ruled.stands.unwritten;
+  others =
+      stay_alone c.in_ok-own.own c.args.request.now.session c.args.moment c.args.account.now
+      c.decide_ask.new.account c.is_quiet.result c.in_ok-own.ensures c.is_quiet.ensures
+      c.in_ok-ruling.ensures.stay;
 }

@@ -1,7 +1,7 @@
 use Rattle.std.proofs.Common.{refl, subst, Ok}
 use Rattle.std.specs.Io.KnownBytes.{Appends}
 use Rattle.http_messages.specs.Asking.{Asking, IsAsked, reads, states}
-use Rattle.http_messages.specs.Refusals.{number_of}
+use Rattle.http_messages.specs.Refusals.{refusal_status}
 use Rattle.http_messages.specs.Texts.{Begins, TellsFault, no_members, response}
 use Rattle.http_api.specs.Replies.{Replies}
 use Rattle.http_api.proofs.RequestReplies.{ok_gives, err_gives, refused_reply, unread_reply}
@@ -60,10 +60,12 @@ returns-in-Refused-clause-shown g c = shows_same
     c.args.clock.now Writes x y) (g.W.Write.contents c.args.writer.now)
     (g.W.Write.contents c.tell_refusal.new.writer) g.K.Keeper.content g.K.Keeper.honest
     g.K.Keeper.clean c.args.keeper.now c.args.keeper.now c.tell_refusal.result
-    (λ Writes. Writes (response (number_of c.in-Refused.refusal) c.args.closes no_members)) (λ clean. clean) (λ clean. refl)
+    (λ Writes. Writes (response (refusal_status c.in-Refused.refusal) c.args.closes no_members))
+    (λ clean. clean) (λ clean. refl)
     (λ Writes t tells asking asked. refused_reply g.C.Clock.gives c.args.shelf.now c.args.closes
     Writes c.in-Refused.refusal c.args.clock.now t tells asking
-    (subst (IsAsked asking) c.in-Refused.is asked)) c.tell_refusal.ensures.ok c.tell_refusal.ensures.err
+    (subst (IsAsked asking) c.in-Refused.is asked)) c.tell_refusal.ensures.ok
+    c.tell_refusal.ensures.err
 
 pub returns-in-Unread-clause-shown : goal.returns-in-Unread-clause-shown
 returns-in-Unread-clause-shown g c = shows_same
@@ -99,6 +101,7 @@ returns-in-States-clause-shown g c = shows_as
     (λ Writes x y. (asking : Asking) → IsAsked asking c.args.asked →
     Replies g.C.Clock.gives c.args.shelf.now asking c.args.closes c.args.clock.now
     c.serve_statement.new.clock Writes x y)
-    (λ Writes x y replies asking asked. statement_reply g.C.Clock.gives c.args.shelf.now c.args.closes
+    (λ Writes x y replies asking asked. statement_reply g.C.Clock.gives c.args.shelf.now
+    c.args.closes
     Writes c.in-States.statement c.args.clock.now c.serve_statement.new.clock x y replies asking
     (subst (IsAsked asking) c.in-States.is asked)) c.serve_statement.ensures.shown

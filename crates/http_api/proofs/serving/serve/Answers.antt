@@ -1,5 +1,4 @@
-use Rattle.std.proofs.Common.{◌≡◌, ◌==◌, ℕ, List, [], ap, subst, ◌∙◌, if◌then◌else◌, Option}
-use Rattle.std.proofs.Common.{None}
+use Rattle.std.proofs.Common.{◌≡◌, ◌==◌, ℕ, List, [], ap, subst, ◌∙◌, if◌then◌else◌, Option, None}
 use Rattle.std.specs.declared.io.buffered.BufReader.{BufReader}
 use Rattle.std.specs.Io.Buffered.{reader_remaining, reader_capacity, reader_buffer, reader_inner}
 use Rattle.std.specs.Io.KnownBytes.{prepend_known}
@@ -42,6 +41,7 @@ returns g c =
     subst (λ (bytes : Option (List ℕ)). ServesConnection g.C.Clock.gives c.args.shelf.now bytes
     c.args.clock.now c.serve_requests.new.clock (g.W.Write.contents c.args.writer.now)
     (g.W.Write.contents c.serve_requests.new.writer) g.K.Keeper.content g.K.Keeper.failed
-    g.K.Keeper.honest g.K.Keeper.clean g.K.Keeper.left c.args.keeper.now c.serve_requests.new.keeper c.serve_requests.result)
+    g.K.Keeper.honest g.K.Keeper.clean g.K.Keeper.left c.args.keeper.now c.serve_requests.new.keeper
+    c.serve_requests.result)
     (unread c.in-Ok-new.buffered _ (λ m. g.R.Read.remaining m.now) c.in-Ok-new.ensures.capacity
     c.in-Ok-new.ensures.empty c.in-Ok-new.ensures.inner) c.serve_requests.ensures

@@ -1,4 +1,4 @@
-use Rattle.std.proofs.Common.{◌≡◌, ◌==◌, ℕ, List, refl, le_refl, arith, Result, Ok, Err, IfOk}
+use Rattle.std.proofs.Common.{◌==◌, ℕ, List, refl, le_refl, arith, Result, Ok, Err, IfOk}
 use Rattle.std.proofs.Common.{IfSome, inl}
 use Rattle.std.specs.Prelude.{IsErrAnd}
 use Rattle.texts.specs.declared.streams.StreamFault.TheVariants as broken
@@ -231,7 +231,8 @@ returns-in_err-answer_request g c = record {
   honesty = λ honest.
       c.loop-served.invariant.honesty (c.answer_request.ensures.goes_on.honesty honest);
   left = left g (goal.at.returns-in_err-answer_request g c).After-answer_request;
-  failures = omega (arith, c.loop-served.invariant.failures, c.answer_request.ensures.goes_on.failures);
+  failures =
+      omega (arith, c.loop-served.invariant.failures, c.answer_request.ensures.goes_on.failures);
 }
 
 pub returns-then-left-eq0 : goal.returns-then-left-eq0
@@ -269,7 +270,8 @@ returns-then-left-eq0 g c = record {
   honesty = λ honest.
       c.loop-served.invariant.honesty (c.answer_request.ensures.goes_on.honesty honest);
   left = left g (goal.at.returns-then-left-eq0 g c).After-answer_request;
-  failures = omega (arith, c.loop-served.invariant.failures, c.answer_request.ensures.goes_on.failures);
+  failures =
+      omega (arith, c.loop-served.invariant.failures, c.answer_request.ensures.goes_on.failures);
 }
 
 pub loop-served-preserved : goal.loop-served-preserved
@@ -298,11 +300,13 @@ loop-served-preserved g c = record {
             told.next had.so_far told.ok);
       };
   continued = continued g (goal.at.loop-served-preserved g c).After-answer_request;
-  cleanness = λ clean. c.loop-served.invariant.cleanness (c.answer_request.ensures.goes_on.cleanness clean);
+  cleanness =
+      λ clean. c.loop-served.invariant.cleanness (c.answer_request.ensures.goes_on.cleanness clean);
   honesty = λ honest.
       c.loop-served.invariant.honesty (c.answer_request.ensures.goes_on.honesty honest);
   left = left g (goal.at.loop-served-preserved g c).After-answer_request;
-  failures = omega (arith, c.loop-served.invariant.failures, c.answer_request.ensures.goes_on.failures);
+  failures =
+      omega (arith, c.loop-served.invariant.failures, c.answer_request.ensures.goes_on.failures);
 }
 
 pub returns : goal.returns

@@ -1,4 +1,4 @@
-use Rattle.std.proofs.Common.{true, List, subst, sym, refl}
+use Rattle.std.proofs.Common.{List, subst, sym, refl}
 use Rattle.std.specs.Prelude.{ℕ, None, Some, OnOk, OnErr}
 use Rattle.std.specs.Io.KnownBytes.{Appends}
 use Rattle.commands.specs.declared.answer.Answer.TheVariants.{Refused}

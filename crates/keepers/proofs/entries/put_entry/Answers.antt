@@ -4,9 +4,9 @@ use Rattle.std.specs.Prelude.{position, if◌then◌else◌}
 use Rattle.std.proofs.lemmas.List.{length-set}
 use Rattle.identifiers.specs.Texts.{same_name}
 use Rattle.keepers.specs.Change.{kept_after}
-use Rattle.keepers.specs.declared.entries.Entry.{Entry}
+use Rattle.keepers.specs.declared.entries.AccountEntry.{AccountEntry}
 use Rattle.keepers.specs.Change.{over}
-use Rattle.keepers.specs.Parts.{rows_of}
+use Rattle.keepers.specs.Parts.{rows_of_parts}
 use Rattle.keepers.specs.Memory.{is_entry, entry_in, rows_of_entry, answer_of_entry}
 use Rattle.keepers.specs.Memory.{charges_of_entry}
 use Rattle.keepers.proofs.Placed.{place_added, on_err, seen_written}
@@ -20,7 +20,7 @@ returns-in_err-write_entry-clause-err c =
     on_err c.from_residual.result (record {
       rows = λ a. seen_left rows_of_entry c.args.number c.in-Some.place c.args.entries.now.items
           c.index_mut.result.now c.write_entry.new.entry at c.index_mut.ensures.value
-          c.write_entry.ensures.number a (ap rows_of c.in_err-write_entry.ensures.err_rows);
+          c.write_entry.ensures.number a (ap rows_of_parts c.in_err-write_entry.ensures.err_rows);
       answers = λ a k. seen_left (answer_of_entry k) c.args.number c.in-Some.place
           c.args.entries.now.items c.index_mut.result.now c.write_entry.new.entry at
           c.index_mut.ensures.value c.write_entry.ensures.number a
@@ -70,8 +70,8 @@ returns-clause-done c = record {
       (over c.args.rows) a c.in_ok-entry.ensures.rows;
   answers = λ a k. ap (λ xs. answer_of_entry k (entry_in a xs)) (added c)
       ∙ seen_added c.args.number c.args.entries.now.items _
-      (none_there c) c.in_ok-entry.ensures.number (answer_of_entry k) (kept_after c.args.kept.now k) a
-      (c.in_ok-entry.ensures.answers k);
+      (none_there c) c.in_ok-entry.ensures.number (answer_of_entry k) (kept_after c.args.kept.now k)
+      a (c.in_ok-entry.ensures.answers k);
   charges = λ a. ap (λ xs. charges_of_entry (entry_in a xs)) (added c)
       ∙ seen_added c.args.number c.args.entries.now.items _
       (none_there c) c.in_ok-entry.ensures.number charges_of_entry

@@ -3,8 +3,7 @@ use Rattle.std.specs.List.{filter}
 use Rattle.keepers.proofs.Placed.{on_err}
 use Rattle.keepers.specs.Rows.{is_between}
 use Rattle.keepers.specs.Visits.{Shows}
-use Rattle.keepers.proofs.Paged.{begun, ended, never, none_shown, page_shown}
-use Rattle.keepers.proofs.Paged.{stopped}
+use Rattle.keepers.proofs.Paged.{begun, ended, never, none_shown, page_shown, stopped}
 use Rattle.keepers.proofs.ShownRows.{goes_ended, goes_further, goes_last, goes_not_yet}
 use Rattle.keepers.proofs.pages.show_pages.Goals as goal
 
@@ -14,7 +13,8 @@ loop-page-init g c = record {
   asked = λ one. absurd (omega (arith, one));
   small = omega arith;
   shown = none_shown g.K.Keeper.content g.K.Keeper.failed g.K.Keeper.honest
-      g.K.Keeper.clean g.K.Keeper.left g.V.ChargeVisitor.sees c.args.account.now c.args.from c.args.until c.args.keeper.now c.args.visitor.now
+      g.K.Keeper.clean g.K.Keeper.left g.V.ChargeVisitor.sees c.args.account.now c.args.from
+      c.args.until c.args.keeper.now c.args.visitor.now
       (g.met.K.ChargePages.numbered c.args.keeper.now c.args.account.now);
   gone = goes_not_yet g.V.ChargeVisitor.sees c.args.from c.args.until c.args.visitor.now;
 }
@@ -82,7 +82,8 @@ loop-page-preserved g c = record {
   asked = λ one honest. c.in_ok-page.ensures.stands honest;
   small = omega arith;
   shown = page_shown g.K.Keeper.content g.K.Keeper.failed g.K.Keeper.honest
-      g.K.Keeper.clean g.K.Keeper.left g.V.ChargeVisitor.sees c.args.account.now c.args.from c.args.until c.loop-page.after c.args.keeper.now
+      g.K.Keeper.clean g.K.Keeper.left g.V.ChargeVisitor.sees c.args.account.now c.args.from
+      c.args.until c.loop-page.after c.args.keeper.now
       c.loop-page.keeper c.page.new.self c.in_ok-page.page c.args.visitor.now c.loop-page.visitor
       c.show.new.visitor c.loop-page.invariant.shown c.in_ok-page.ensures
       (subst (λ l. Shows g.V.ChargeVisitor.sees (filter (is_between c.args.from c.args.until) l) _

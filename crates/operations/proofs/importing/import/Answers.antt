@@ -89,7 +89,8 @@ returns g c =
       stands = search rules;
       left = left-all g.K.Keeper.honest g.K.Keeper.left c.args.shelf.now c.args.moment
           c.loop-row.yielded
-          c.loop-row.row-iterator.rest.items c.args.rows.items (g.K.Keeper.content c.args.keeper.now)
+          c.loop-row.row-iterator.rest.items c.args.rows.items
+          (g.K.Keeper.content c.args.keeper.now)
           c.args.keeper.now c.loop-row.keeper c.loop-row.invariant.all c.loop-row.invariant.left;
       cause = search rules;
     }

@@ -7,7 +7,7 @@ use Rattle.charging.specs.declared.running.DatedCommand.{DatedCommand}
 use Rattle.keepers.specs.declared.fault.StoreFault.TheVariants.{Store as StoreFailed}
 use Rattle.operations.specs.Written.{WritesBeginning}
 use Rattle.request_lines.specs.Input.{told_fault}
-use Rattle.request_lines.specs.Served.{opening_for, texts_of}
+use Rattle.request_lines.specs.Served.{opening_for, answer_texts}
 use Rattle.operations.proofs.Beginnings.{on_err, whole_or_begun}
 use Rattle.request_lines.proofs.Answered.{continued-run}
 use Rattle.request_lines.proofs.Ended.{IsWritten, ended-answered, ended-asked, ended-begun}
@@ -65,14 +65,14 @@ returns g c =
     let is = c.ended_as.ensures in
     let given = c.run_opened-answers.result.answers.items in
     let whole : OnOk written
-    (Appends w0 w1 (texts_of (map told_fault c.in-Ok.input.lines.items) given)) =
+    (Appends w0 w1 (answer_texts (map told_fault c.in-Ok.input.lines.items) given)) =
     subst (λ (t : List ℕ). OnOk written (Appends w0 w1 t))
-    (λ i. texts_of (map told_fault (c.deref-2.ensures.value i)) (c.deref-3.ensures.value i))
+    (λ i. answer_texts (map told_fault (c.deref-2.ensures.value i)) (c.deref-3.ensures.value i))
     c.write_output-written.ensures.written in
     let part : OnErr written
-    (WritesBeginning w0 w1 (texts_of (map told_fault c.in-Ok.input.lines.items) given)) =
+    (WritesBeginning w0 w1 (answer_texts (map told_fault c.in-Ok.input.lines.items) given)) =
     subst (λ (t : List ℕ). OnErr written (WritesBeginning w0 w1 t))
-    (λ i. texts_of (map told_fault (c.deref-2.ensures.value i)) (c.deref-3.ensures.value i))
+    (λ i. answer_texts (map told_fault (c.deref-2.ensures.value i)) (c.deref-3.ensures.value i))
     c.write_output-written.ensures.err in
     let opened : c.in-Ok-open_first.opening.items
     ≡ opening_for opening c.in-Ok.input.requests.items =
@@ -116,7 +116,7 @@ returns g c =
           c.run_opened-answers.ensures.whole whole;
       begun = on_err result (begun_in w0 w1 c.in-Ok.input given r c.in-Ok.ensures
           (whole_or_begun written w0 w1
-          (texts_of (map told_fault c.in-Ok.input.lines.items) given) whole part));
+          (answer_texts (map told_fault c.in-Ok.input.lines.items) given) whole part));
       unread = λ f k. absurd (ended-read fault written result f is k);
       unwritten = λ f k. absurd (ended-read fault written result f is k);
       fault = λ f k. ended-write (λ (e : StreamFault). e ≢ ReadFailed) fault written result f is k
@@ -126,7 +126,8 @@ returns g c =
           ended-stands (g.K.Keeper.clean c.run_opened-answers.new.keeper) fault written result is
           (c.run_opened-answers.ensures.stands honest clean);
       asked = λ f k honest clean.
-          ended-asked fault written result f is k (c.run_opened-answers.ensures.stands honest clean);
+          ended-asked fault written result f is k
+          (c.run_opened-answers.ensures.stands honest clean);
       left = λ clean honest t left. inr (held-stream b old t opening c.in-Ok.input
           c.in-Ok-open_first.opening.items r c.in-Ok.ensures opened
           (c.run_opened-answers.ensures.held honest clean t left));

@@ -4,7 +4,7 @@
 use crate::tests::account::rows::holds_text;
 use crate::tests::tables::{Teller, try_table, try_told};
 use crate::tests::values::{TEN, moment, money, session_id};
-use buckets::{Bucket, Hold, Holds, Purse};
+use buckets::{Bucket, HeldAmount, Holds, Purse};
 use calendar::Period;
 use rating::Periods;
 use reserving::{
@@ -237,7 +237,7 @@ fn turn_holds(rt: &impl Abort, alloc: Global, word: &str, rows: &mut GivenRows) 
         "other" => ((2, 30), (3, 10)),
         _ => return,
     };
-    let holds = [first, second].map(|(bucket, amount)| Hold { bucket, amount });
+    let holds = [first, second].map(|(bucket, amount)| HeldAmount { bucket, amount });
     let holds = holds.to_vec(alloc).expect(rt, "memory");
     let holds = Holds::from_items(holds).expect(rt, "holds");
     rows.groups = only(rt, alloc, group(rt, alloc, holds));

@@ -1,6 +1,6 @@
 //! Rows of an account as texts.
 
-use buckets::{Bucket, Hold};
+use buckets::{Bucket, HeldAmount};
 use std::alloc::Global;
 use std::process::Abort;
 
@@ -22,7 +22,7 @@ pub(crate) fn buckets_text(rt: &impl Abort, alloc: Global, buckets: &[Bucket]) -
 }
 
 /// The bucket and the amount of each hold.
-pub(crate) fn holds_text(rt: &impl Abort, alloc: Global, holds: &[Hold]) -> String {
+pub(crate) fn holds_text(rt: &impl Abort, alloc: Global, holds: &[HeldAmount]) -> String {
     let mut text = String::new(alloc);
     for hold in holds {
         let piece = format!(in alloc; " {}:{}", hold.bucket, hold.amount).expect(rt, "memory");

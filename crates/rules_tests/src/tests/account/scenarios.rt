@@ -538,8 +538,8 @@ const LIMITS: &str = "\
 1767607200 limit s22 10 4294967293 1 => false
 1767607200 limit s22 10 4294967294 1 => true";
 
-/// Nights in Berlin that are halved at 02:30: 50000 micro-units a minute before it, and 100000 after
-/// it.
+/// Nights in Berlin that are halved at 02:30: 50000 micro-units a minute before it, and 100000
+/// after it.
 const NIGHTS: &str = r#"zone = "CET-1CEST,M3.5.0,M10.5.0/3"
 currency = 978
 validity = 3600

@@ -1,5 +1,4 @@
 use Rattle.std.proofs.Common.{Err, ap, ◌∙◌}
-use Rattle.operations.specs.declared.fault.OfficeFault.TheVariants.{Write}
 use Rattle.service.proofs.CommandLemmas.{same_fault}
 use Rattle.service.proofs.commanding.carry_out.Goals as goal
 

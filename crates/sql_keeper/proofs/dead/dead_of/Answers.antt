@@ -1,4 +1,3 @@
-use Rattle.std.proofs.Common.{◌≡◌, ◌∙◌}
 use Rattle.sqlite.specs.Held.{state}
 use Rattle.sql_rows.specs.Content.{rows_in}
 use Rattle.sql_keeper.proofs.CountedRows.{dead_made}

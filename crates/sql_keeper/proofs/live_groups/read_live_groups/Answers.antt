@@ -1,6 +1,6 @@
 use Rattle.std.proofs.Common.{map, sym, subst, List}
 use Rattle.sqlite.specs.Held.{state}
-use Rattle.buckets.specs.Row.{Row}
+use Rattle.buckets.specs.Row.{BucketRow}
 use Rattle.buckets.specs.Spend.{AreDistinct}
 use Rattle.sql_rows.specs.declared.open_group_rows.OpenGroup.{OpenGroup}
 use Rattle.sql_rows.specs.declared.session_book_rows.SessionBook.{SessionBook}
@@ -29,7 +29,7 @@ returns g c =
     (state g.S.Store c.args.conn.now) (state g.S.Store c.read_groups_open.new.conn)
     (state g.S.Store c.read_holds_all.new.conn) (state g.S.Store c.read_grant_books_all.new.conn)
     c.groups_of.result
-    (subst (λ (bs : List Row). AreDistinct bs)
+    (subst (λ (bs : List BucketRow). AreDistinct bs)
     (sym c.buckets.ensures.value) c.buckets.ensures.sound.distinct)
     (have_read _ _ _ _ c.in_ok-rows.ensures.reads) (have_read _ _ _ _ c.in_ok-held.ensures.reads)
     (have_read _ _ _ _ c.in_ok-numbers.ensures.reads)

@@ -1,7 +1,7 @@
 use Rattle.std.proofs.Common.{List, map, subst, sym}
 use Rattle.std.proofs.lemmas.Result.{IfOk-weaker}
 use Rattle.sqlite.specs.Held.{state}
-use Rattle.buckets.specs.Row.{Row}
+use Rattle.buckets.specs.Row.{BucketRow}
 use Rattle.buckets.specs.Spend.{AreDistinct}
 use Rattle.sql_rows.specs.declared.open_group_rows.OpenGroup.{OpenGroup}
 use Rattle.sql_rows.specs.declared.session_book_rows.SessionBook.{SessionBook}
@@ -76,7 +76,7 @@ returns-clause-reads g c =
     IfOk-weaker c.groups_of.result _ _ (λ v all.
     live_groups names (rows_in trees a) c.buckets.result.now c.deref-2.result.now
     c.deref-3.result.now (map open_group_at c.deref.result.now) v.items
-    (subst (λ (bs : List Row). AreDistinct bs)
+    (subst (λ (bs : List BucketRow). AreDistinct bs)
     (sym c.buckets.ensures.value) c.buckets.ensures.sound.distinct)
     (subst (λ (l : List OpenGroup). AreOpenGroups (rows_in trees a) (map open_group_at l))
     (sym c.deref.ensures.value) told.0.0)

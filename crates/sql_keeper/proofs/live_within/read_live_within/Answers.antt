@@ -22,5 +22,7 @@ returns-clause-reads g c =
     (state g.S.Store c.read_purse_within.new.tx.conn.now)
     (state g.S.Store c.read_sessions_within.new.tx.conn.now) c.in_ok-purse.purse
     c.in_ok-sessions.field-0 _ c.in_ok-purse.ensures.reads c.in_ok-sessions.ensures.reads
-    (λ trees first second.
-    record { buckets = first; sessions = second.sessions; groups = second.groups })
+    (λ trees first second. record {
+      told = record { buckets = first; sessions = second.sessions; groups = second.groups.told };
+      grants = second.groups.grants;
+    })

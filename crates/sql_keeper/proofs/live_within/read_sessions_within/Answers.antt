@@ -1,4 +1,4 @@
-use Rattle.std.proofs.Common.{◌∙◌, sym, Ok}
+use Rattle.std.proofs.Common.{◌∙◌, sym}
 use Rattle.sqlite.specs.Held.{state}
 use Rattle.reserving.proofs.Lists.{is_nothing}
 use Rattle.sql_rows.specs.Content.{rows_in}

@@ -6,7 +6,8 @@ use Rattle.sql_keeper.proofs.paid_charges.put_paid.Goals as goal
 pub rows-preserved : goal.rows-preserved
 rows-preserved g c = record {
   same = c.in_ok-put_charged.ensures.same_reference ∙ c.rows.invariant.same;
-  put = put_next (with_charged c.args.account.now) c.args.rows.now c.rows.row-index c.row-item.result
+  put = put_next (with_charged c.args.account.now) c.args.rows.now c.rows.row-index
+      c.row-item.result
       _ _ _ c.in_ok-put_charged.field-0 (omega arith) c.row-item.is c.rows.invariant.put
       c.in_ok-put_charged.ensures.makes;
 }

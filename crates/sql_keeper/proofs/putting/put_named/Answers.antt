@@ -10,7 +10,8 @@ returns-clause-makes g c =
     let a = c.args.account.now in
     puts_groups a _ _ _ _ c.in_ok-put_named_money.field-0 c.in_ok-put_sessions.field-0
     c.put_groups_of.result (with_money a c.args.rows.now)
-    (with_groups_put a (shelf_names c.args.books.now) c.args.are_new c.args.seen.now) c.sessions.result.now
+    (with_groups_put a (shelf_names c.args.books.now) c.args.are_new c.args.seen.now)
+    c.sessions.result.now
     c.args.rows.now.sessions c.groups.result.now c.args.rows.now.groups c.sessions.ensures
     c.groups.ensures c.in_ok-put_named_money.ensures.makes c.in_ok-put_sessions.ensures.makes
     c.put_groups_of.ensures.makes

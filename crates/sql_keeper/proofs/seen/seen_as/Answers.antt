@@ -1,6 +1,4 @@
-use Rattle.std.proofs.Common.{Some, ap, refl, subst}
-use Rattle.std.specs.Prelude.{IfSome}
-use Rattle.sql_keeper.specs.Grants.{IsGrantIn}
+use Rattle.std.proofs.Common.{Some, ap, refl}
 use Rattle.sql_keeper.proofs.SeenRows.{grant_of_live, live_of}
 use Rattle.sql_keeper.proofs.seen.seen_as.Goals as goal
 

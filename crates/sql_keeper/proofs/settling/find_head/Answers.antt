@@ -2,7 +2,7 @@ use Rattle.std.proofs.Common.{◌≡◌, Some, subst, sym}
 use Rattle.std.specs.Prelude.{IfSome}
 use Rattle.sqlite.specs.Held.{state}
 use Rattle.sql_rows.specs.Content.{rows_in}
-use Rattle.sql_rows.specs.declared.head.Head.{Head}
+use Rattle.sql_rows.specs.declared.head.HeadColumns.{HeadColumns}
 use Rattle.sql_keeper.proofs.SeenRows.{told_seen}
 use Rattle.sql_keeper.proofs.settling.find_head.Goals as goal
 
@@ -12,5 +12,5 @@ returns-in-Some g c =
     c.args.seen.now (Some c.in-Some.head) (state g.S.Store c.args.conn.now) c.requires.idle
     c.requires.seen
     (λ trees seen. sym (subst (λ o. IfSome o
-    (λ (h : Head). (rows_in trees c.args.account.now).head ≡ Some h)) c.in-Some.is
+    (λ (h : HeadColumns). (rows_in trees c.args.account.now).head ≡ Some h)) c.in-Some.is
     (c.head_seen.ensures trees seen)))

@@ -1,5 +1,5 @@
 use Rattle.std.proofs.Common.{◌≡◌, arith}
-use Rattle.sql_rows.specs.Content.{content_of}
+use Rattle.sql_rows.specs.Content.{tables_content}
 use Rattle.sqlite.specs.Held.{state}
 use Rattle.sql_keeper.proofs.StillOpen.{committed_standing, standing_shut, told_standing}
 use Rattle.sql_keeper.proofs.sweeping.ask_to_sweep.Goals as goal
@@ -24,7 +24,7 @@ returns-clause-commits g c =
 
 pub returns-clause-count : goal.returns-clause-count
 returns-clause-count g c =
-    told_standing (λ n trees. n ≡ (content_of trees).count) (state g.S.Store c.args.conn.now)
+    told_standing (λ n trees. n ≡ (tables_content trees).count) (state g.S.Store c.args.conn.now)
     (state g.S.Store c.still_open.new.conn) (state g.S.Store c.make_sweep.new.conn) _
     c.make_sweep.result c.in_ok-still_open.ensures
     (λ clean. omega (arith, c.make_sweep.ensures.commits.survives.clean, clean))

@@ -1,6 +1,6 @@
 use Rattle.std.proofs.Common.{◌≡◌, ◌∙◌, List, ℕ, length, arith, subst, sym}
 use Rattle.sqlite.specs.Held.{state}
-use Rattle.sql_rows.specs.Content.{content_of}
+use Rattle.sql_rows.specs.Content.{tables_content}
 use Rattle.sql_rows.specs.Lists.{AreAccounts}
 use Rattle.sql_keeper.specs.Content.{shelf_names}
 use Rattle.sql_keeper.proofs.SweptReads.{sweep_not_written, sweep_written}
@@ -16,7 +16,7 @@ returns-in_err-write_sweep-clause-commits g c =
     (state g.S.Store c.read_accounts.new.conn) (state g.S.Store c.write_sweep.new.conn)
     c.in_ok-accounts.ensures.reads.only c.in_ok-accounts.ensures.reads.survives
     (λ clean. subst (λ (ns : List (List ℕ)).
-    AreAccounts (content_of (state g.S.Store c.args.conn.now).now.trees) ns)
+    AreAccounts (tables_content (state g.S.Store c.args.conn.now).now.trees) ns)
     (sym c.deref.ensures.value) (c.in_ok-accounts.ensures.reads.found clean))
     c.from_residual-in_err-write_sweep.result _ c.from_residual-in_err-write_sweep.ensures.0
     c.in_err-write_sweep.ensures.transacts
@@ -30,7 +30,7 @@ returns-clause-commits g c =
     (state g.S.Store c.read_accounts.new.conn) (state g.S.Store c.write_sweep.new.conn)
     c.in_ok-accounts.ensures.reads.only c.in_ok-accounts.ensures.reads.survives
     (λ clean. subst (λ (ns : List (List ℕ)).
-    AreAccounts (content_of (state g.S.Store c.args.conn.now).now.trees) ns)
+    AreAccounts (tables_content (state g.S.Store c.args.conn.now).now.trees) ns)
     (sym c.deref.ensures.value) (c.in_ok-accounts.ensures.reads.found clean))
     _ _ c.in_ok-write_sweep.ensures.transacts
 

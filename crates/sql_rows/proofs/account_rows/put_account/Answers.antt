@@ -1,10 +1,7 @@
-use Rattle.std.proofs.Common.{rules, ◌≡◌, Some, None, OnOk, OnErr, refl, sym, ◌∙◌, ap, subst, arith}
-use Rattle.sqlite.specs.Held.{state}
-use Rattle.sqlite.specs.State.{ExecutesInside}
-use Rattle.sqlite.specs.Values.{or_null, bound_value}
+use Rattle.std.proofs.Common.{rules, ◌∙◌, ap}
 use Rattle.sqlite_value.specs.declared.value.Value.TheVariants.{Text}
 use Rattle.sql_rows.specs.Values.{nat}
-use Rattle.sql_rows.proofs.PutAccount.{put_account_text, makes_account, rules_account, bound_account}
+use Rattle.sql_rows.proofs.PutAccount.{makes_account, rules_account, bound_account}
 use Rattle.sql_rows.proofs.account_rows.put_account.Goals as goal
 
 pub returns-clause-makes : goal.returns-clause-makes

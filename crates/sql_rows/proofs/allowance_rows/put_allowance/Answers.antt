@@ -6,7 +6,8 @@ use Rattle.sql_rows.proofs.allowance_rows.put_allowance.Goals as goal
 pub returns : goal.returns
 returns g c = record {
   same_reference = search rules;
-  makes = makes_allowance c.args.account.now c.args.bucket _ (bound_allowance c.args.account.now c.args.bucket _ _
+  makes = makes_allowance c.args.account.now c.args.bucket _
+      (bound_allowance c.args.account.now c.args.bucket _ _
       (c.text-of_account.ensures ∙ ap Text c.as_str.ensures.value) c.whole-number.ensures)
       _ _ c.write.result c.requires.book c.write.ensures.runs;
 }

@@ -1,10 +1,6 @@
-use Rattle.std.proofs.Common.{rules, ◌≡◌, Some, None, OnOk, OnErr, refl, sym, ◌∙◌, ap, subst, arith}
-use Rattle.sqlite.specs.Held.{state}
-use Rattle.sqlite.specs.State.{ExecutesInside}
-use Rattle.sqlite.specs.Values.{or_null, bound_value}
+use Rattle.std.proofs.Common.{rules, ◌∙◌, ap}
 use Rattle.sqlite_value.specs.declared.value.Value.TheVariants.{Text}
-use Rattle.sql_rows.specs.Values.{nat}
-use Rattle.sql_rows.proofs.PutAnswer.{put_answer_text, makes_answer, bound_answer}
+use Rattle.sql_rows.proofs.PutAnswer.{makes_answer, bound_answer}
 use Rattle.sql_rows.proofs.answer_rows.put_answer.Goals as goal
 
 pub returns : goal.returns

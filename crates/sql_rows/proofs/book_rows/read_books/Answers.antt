@@ -12,8 +12,8 @@ read-requires-clause-plain g c = read_books_plain
 pub returns : goal.returns
 returns g c = record {
   refused = λ clean. at_err _ _ _ c.books_from.result (λ e refused is. books_refused _ _ _
-      (c.in_ok-rows.ensures.answers clean) (λ xs rows. refused is xs (c.deref.ensures.value ∙ rows)))
-      c.books_from.ensures;
+      (c.in_ok-rows.ensures.answers clean) (λ xs rows. refused is xs
+      (c.deref.ensures.value ∙ rows))) c.books_from.ensures;
   reads = reads_as _ read_books_text _ _ _ _ _ _ c.books_from.result
       c.read.ensures.reads c.read.ensures.stops c.in_ok-rows.ensures.answers
       refl

@@ -1,6 +1,6 @@
 use Rattle.std.proofs.Common.{rules, ap, map, ◌∙◌}
 use Rattle.std.proofs.lemmas.Fn.{filter_same}
-use Rattle.sql_rows.specs.Lists.{is_dead}
+use Rattle.sql_rows.specs.Lists.{is_dead_bucket}
 use Rattle.sql_rows.specs.Texts.{bucket_row}
 use Rattle.sql_rows.proofs.Dead.{filter_rows}
 use Rattle.sql_rows.proofs.Rising.{rises_map}
@@ -9,7 +9,7 @@ use Rattle.sql_rows.proofs.bucket_rows.dead_among.Goals as goal
 pub returns-clause-dead : goal.returns-clause-dead
 returns-clause-dead c =
     ap (map bucket_row)
-    (filter_same _ (λ b. is_dead (bucket_row b)) _ (λ x b f' k. search rules) _ _
+    (filter_same _ (λ b. is_dead_bucket (bucket_row b)) _ (λ x b f' k. search rules) _ _
     c.retain.ensures.filtered)
     ∙ filter_rows bucket_row c.args.buckets.items
 

@@ -1,10 +1,8 @@
-use Rattle.std.proofs.Common.{rules, ◌≡◌, Some, None, OnOk, OnErr, refl, sym, ◌∙◌, ap, subst, arith}
-use Rattle.sqlite.specs.Held.{state}
-use Rattle.sqlite.specs.State.{ExecutesInside}
-use Rattle.sqlite.specs.Values.{or_null, bound_value}
+use Rattle.std.proofs.Common.{rules, refl, ◌∙◌, ap}
+use Rattle.sqlite.specs.Values.{or_null}
 use Rattle.sqlite_value.specs.declared.value.Value.TheVariants.{Text}
 use Rattle.sql_rows.specs.Values.{nat, plain_bucket}
-use Rattle.sql_rows.proofs.PutBucket.{put_bucket_text, makes_bucket, bound_bucket}
+use Rattle.sql_rows.proofs.PutBucket.{makes_bucket, bound_bucket}
 use Rattle.sql_rows.proofs.bucket_rows.put_bucket.Goals as goal
 
 pub returns : goal.returns

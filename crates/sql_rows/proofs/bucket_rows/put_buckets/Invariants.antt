@@ -8,6 +8,6 @@ use Rattle.sql_rows.proofs.bucket_rows.put_buckets.Given as goal
 abbrev pub invariant-rows : goal.invariant-rows
 invariant-rows g l = record {
   same : l.tx.conn.ghost_name ≡ l.initial.tx.conn.ghost_name;
-  put : HasPut (λ x. with_rows l.account (with_bucket (plain_bucket x))) l.rows (drop l.row-index l.rows)
-      (state g.S.Store l.fn.tx.conn.now) (state g.S.Store l.tx.conn.now);
+  put : HasPut (λ x. with_rows l.account (with_bucket (plain_bucket x))) l.rows
+      (drop l.row-index l.rows) (state g.S.Store l.fn.tx.conn.now) (state g.S.Store l.tx.conn.now);
 }

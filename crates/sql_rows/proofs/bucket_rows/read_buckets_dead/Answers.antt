@@ -1,4 +1,4 @@
-use Rattle.std.proofs.Common.{rules, map}
+use Rattle.std.proofs.Common.{map}
 use Rattle.sqlite.specs.Held.{state}
 use Rattle.sql_tables.proofs.Keeps.{on_ok}
 use Rattle.sql_rows.specs.Content.{rows_in}

@@ -1,5 +1,4 @@
-use Rattle.std.proofs.Common.{◌≡◌, ap, refl, ◌∙◌}
-use Rattle.sqlite.specs.Held.{state}
+use Rattle.std.proofs.Common.{ap, refl, ◌∙◌}
 use Rattle.sqlite_value.specs.declared.value.Value.TheVariants.{Text}
 use Rattle.reserving.specs.declared.charge.ChargeRow.{ChargeRow}
 use Rattle.sql_rows.specs.Values.{nat, plain_charge}

@@ -1,11 +1,8 @@
-use Rattle.std.proofs.Common.{rules, ◌≡◌, Some, None, OnOk, OnErr, refl, sym, ◌∙◌, ap, subst, arith}
-use Rattle.sqlite.specs.Held.{state}
-use Rattle.sqlite.specs.State.{ExecutesInside}
-use Rattle.sqlite.specs.Values.{or_null, bound_value}
+use Rattle.std.proofs.Common.{rules, refl, ◌∙◌, ap}
 use Rattle.sqlite_value.specs.declared.value.Value.TheVariants.{Text}
 use Rattle.reserving.specs.declared.charge.ChargeRow.{ChargeRow}
 use Rattle.sql_rows.specs.Values.{nat, plain_charge}
-use Rattle.sql_rows.proofs.PutCharge.{put_charge_text, makes_charge, bound_charge}
+use Rattle.sql_rows.proofs.PutCharge.{makes_charge, bound_charge}
 use Rattle.sql_rows.proofs.charge_rows.put_charge.Goals as goal
 
 pub returns : goal.returns

@@ -1,6 +1,6 @@
 use Rattle.std.proofs.Common.{◌≡◌, drop}
 use Rattle.sqlite.specs.Held.{state}
-use Rattle.sql_rows.specs.Content.{with_rows, with_charge}
+use Rattle.sql_rows.specs.Content.{with_rows, with_charge_row}
 use Rattle.sql_rows.specs.Values.{plain_charge}
 use Rattle.sql_rows.proofs.Each.{HasPut}
 use Rattle.sql_rows.proofs.charge_rows.put_charges.Given as goal
@@ -8,6 +8,6 @@ use Rattle.sql_rows.proofs.charge_rows.put_charges.Given as goal
 abbrev pub invariant-rows : goal.invariant-rows
 invariant-rows g l = record {
   same : l.tx.conn.ghost_name ≡ l.initial.tx.conn.ghost_name;
-  put : HasPut (λ x. with_rows l.account (with_charge (plain_charge x))) l.rows (drop l.row-index l.rows)
-      (state g.S.Store l.fn.tx.conn.now) (state g.S.Store l.tx.conn.now);
+  put : HasPut (λ x. with_rows l.account (with_charge_row (plain_charge x))) l.rows
+      (drop l.row-index l.rows) (state g.S.Store l.fn.tx.conn.now) (state g.S.Store l.tx.conn.now);
 }

@@ -2,7 +2,6 @@ use Rattle.std.proofs.Common.{[], ◌∷◌, map, ap, ◌∙◌}
 use Rattle.sqlite.specs.Values.{bound_value}
 use Rattle.sqlite_value.specs.declared.value.Value.TheVariants.{Text}
 use Rattle.sql_tables.proofs.Telling.{reads_as}
-use Rattle.sql_rows.specs.Values.{nat}
 use Rattle.sql_rows.proofs.ReadCounters.{read_counters_in_text, read_counters_in_plain}
 use Rattle.sql_rows.proofs.ReadCounters.{counters_read}
 use Rattle.sql_rows.proofs.counter_lists.read_counters_in.Goals as goal

@@ -1,4 +1,4 @@
-use Rattle.std.proofs.Common.{rules, ◌≡◌, refl, sym, ◌∙◌, arith}
+use Rattle.std.proofs.Common.{arith}
 use Rattle.sql_tables.proofs.Columns.{row_is}
 use Rattle.sql_rows.proofs.counter_rows.counter_from.Goals as goal
 

@@ -1,10 +1,6 @@
-use Rattle.std.proofs.Common.{rules, ◌≡◌, Some, None, OnOk, OnErr, refl, sym, ◌∙◌, ap, subst, arith}
-use Rattle.sqlite.specs.Held.{state}
-use Rattle.sqlite.specs.State.{ExecutesInside}
-use Rattle.sqlite.specs.Values.{or_null, bound_value}
+use Rattle.std.proofs.Common.{rules, ◌∙◌, ap}
 use Rattle.sqlite_value.specs.declared.value.Value.TheVariants.{Text}
-use Rattle.sql_rows.specs.Values.{nat}
-use Rattle.sql_rows.proofs.PutCounter.{put_counter_text, makes_counter, bound_counter}
+use Rattle.sql_rows.proofs.PutCounter.{makes_counter, bound_counter}
 use Rattle.sql_rows.proofs.counter_rows.put_counter.Goals as goal
 
 pub returns : goal.returns

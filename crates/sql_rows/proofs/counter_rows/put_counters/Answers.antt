@@ -1,6 +1,6 @@
-use Rattle.std.proofs.Common.{rules, ◌∙◌, arith}
+use Rattle.std.proofs.Common.{◌∙◌, arith}
 use Rattle.sqlite.specs.Held.{state}
-use Rattle.sql_rows.specs.Content.{with_rows, with_counter}
+use Rattle.sql_rows.specs.Content.{with_rows, with_counter_row}
 use Rattle.sql_rows.proofs.Each.{put_all, put_at}
 use Rattle.sql_rows.proofs.counter_rows.put_counters.Goals as goal
 
@@ -8,7 +8,8 @@ pub rows-preserved : goal.rows-preserved
 rows-preserved g c = record {
   same = c.in_ok-put_counter.ensures.same_reference ∙ c.rows.invariant.same;
   put =
-      put_at (λ x. with_rows c.args.account.now (with_counter x)) c.args.rows.now c.rows.row-index _
+      put_at (λ x. with_rows c.args.account.now (with_counter_row x)) c.args.rows.now
+      c.rows.row-index _
       _ _ _ c.in_ok-put_counter.field-0
       (omega arith) c.rows.invariant.put c.in_ok-put_counter.ensures.makes;
 }
@@ -16,7 +17,7 @@ rows-preserved g c = record {
 pub returns : goal.returns
 returns g c = record {
   same_reference = c.rows.invariant.same;
-  makes = put_all (λ x. with_rows c.args.account.now (with_counter x)) c.args.rows.now
+  makes = put_all (λ x. with_rows c.args.account.now (with_counter_row x)) c.args.rows.now
       c.rows.row-index (state g.S.Store c.args.tx.now.conn.now)
       (state g.S.Store c.rows.tx.conn.now) _ (omega arith) c.rows.invariant.put;
 }

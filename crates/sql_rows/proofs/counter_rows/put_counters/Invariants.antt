@@ -1,12 +1,12 @@
 use Rattle.std.proofs.Common.{◌≡◌, drop}
 use Rattle.sqlite.specs.Held.{state}
-use Rattle.sql_rows.specs.Content.{with_rows, with_counter}
+use Rattle.sql_rows.specs.Content.{with_rows, with_counter_row}
 use Rattle.sql_rows.proofs.Each.{HasPut}
 use Rattle.sql_rows.proofs.counter_rows.put_counters.Given as goal
 
 abbrev pub invariant-rows : goal.invariant-rows
 invariant-rows g l = record {
   same : l.tx.conn.ghost_name ≡ l.initial.tx.conn.ghost_name;
-  put : HasPut (λ x. with_rows l.account (with_counter x)) l.rows (drop l.row-index l.rows)
+  put : HasPut (λ x. with_rows l.account (with_counter_row x)) l.rows (drop l.row-index l.rows)
       (state g.S.Store l.fn.tx.conn.now) (state g.S.Store l.tx.conn.now);
 }

@@ -6,7 +6,7 @@ use Rattle.sql_rows.proofs.covered_rows.remove_covered.Goals as goal
 pub returns : goal.returns
 returns g c = record {
   same_reference = search rules;
-  makes = makes_none c.args.account.now c.args.charge _ (bound_key c.args.account.now c.args.charge _ _
-      (c.text-of_account.ensures ∙ ap Text c.as_str.ensures.value) c.whole-number.ensures)
+  makes = makes_none c.args.account.now c.args.charge _ (bound_key c.args.account.now c.args.charge
+      _ _ (c.text-of_account.ensures ∙ ap Text c.as_str.ensures.value) c.whole-number.ensures)
       _ _ c.write.result c.requires.book c.write.ensures.runs;
 }

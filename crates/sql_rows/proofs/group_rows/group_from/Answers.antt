@@ -1,4 +1,4 @@
-use Rattle.std.proofs.Common.{rules, ◌≡◌, refl, sym, ap, ◌∙◌, arith}
+use Rattle.std.proofs.Common.{sym, ap, ◌∙◌, arith}
 use Rattle.sql_tables.proofs.Columns.{row_is}
 use Rattle.sql_rows.specs.Values.{nat, flag_number}
 use Rattle.sql_rows.proofs.Periods.{is_some_names, before_names, after_names}

@@ -1,12 +1,9 @@
-use Rattle.std.proofs.Common.{rules, ◌≡◌, Some, None, OnOk, OnErr, refl, sym, ◌∙◌, ap, subst, arith}
+use Rattle.std.proofs.Common.{rules, ◌≡◌, ◌∙◌, ap}
 use Rattle.std.specs.Prelude.{is_some, option_map}
-use Rattle.sqlite.specs.Held.{state}
-use Rattle.sqlite.specs.State.{ExecutesInside}
-use Rattle.sqlite.specs.Values.{or_null, bound_value}
 use Rattle.sqlite_value.specs.declared.value.Value.TheVariants.{Text}
 use Rattle.sql_rows.specs.Texts.{names_put}
 use Rattle.sql_rows.specs.Values.{nat, flag_number}
-use Rattle.sql_rows.proofs.PutGroup.{put_group_text, makes_group, bound_group}
+use Rattle.sql_rows.proofs.PutGroup.{makes_group, bound_group}
 use Rattle.sql_rows.proofs.NamesPut.{before_put, after_put, there_put}
 use Rattle.sql_rows.proofs.group_rows.put_group.Goals as goal
 

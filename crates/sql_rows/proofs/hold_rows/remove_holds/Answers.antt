@@ -1,8 +1,6 @@
-use Rattle.std.proofs.Common.{rules, ◌≡◌, OnOk, sym, ◌∙◌, ap, subst, arith}
-use Rattle.sqlite.specs.Held.{state}
-use Rattle.sqlite.specs.State.{ExecutesInside}
+use Rattle.std.proofs.Common.{rules, ◌∙◌, ap}
 use Rattle.sqlite_value.specs.declared.value.Value.TheVariants.{Text}
-use Rattle.sql_rows.proofs.RemoveHolds.{remove_holds_text, makes_none, bound_group}
+use Rattle.sql_rows.proofs.RemoveHolds.{makes_none, bound_group}
 use Rattle.sql_rows.proofs.hold_rows.remove_holds.Goals as goal
 
 pub returns : goal.returns

@@ -1,10 +1,6 @@
-use Rattle.std.proofs.Common.{rules, ◌≡◌, Some, None, OnOk, OnErr, refl, sym, ◌∙◌, ap, subst, arith}
-use Rattle.sqlite.specs.Held.{state}
-use Rattle.sqlite.specs.State.{ExecutesInside}
-use Rattle.sqlite.specs.Values.{or_null, bound_value}
-use Rattle.sqlite_value.specs.declared.value.Value.TheVariants.{Text}
+use Rattle.std.proofs.Common.{rules, ◌∙◌, ap}
 use Rattle.sql_rows.specs.Values.{nat}
-use Rattle.sql_rows.proofs.PutMeta.{put_meta_text, makes_meta, rules_meta, bound_meta}
+use Rattle.sql_rows.proofs.PutMeta.{makes_meta, rules_meta, bound_meta}
 use Rattle.sql_rows.proofs.meta_rows.put_meta.Goals as goal
 
 pub returns-clause-makes : goal.returns-clause-makes

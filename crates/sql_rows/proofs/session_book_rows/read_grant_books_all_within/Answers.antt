@@ -3,7 +3,8 @@ use Rattle.sqlite.specs.Values.{bound_value}
 use Rattle.sqlite_value.specs.declared.value.Value.TheVariants.{Text}
 use Rattle.sql_rows.specs.Texts.{session_book_at}
 use Rattle.sql_tables.proofs.Telling.{reads_within_as}
-use Rattle.sql_rows.proofs.ReadAllGrantBooks.{grant_books_all_read, read_grant_books_all_plain, read_grant_books_all_text}
+use Rattle.sql_rows.proofs.ReadAllGrantBooks.{grant_books_all_read, read_grant_books_all_plain}
+use Rattle.sql_rows.proofs.ReadAllGrantBooks.{read_grant_books_all_text}
 use Rattle.sql_rows.proofs.session_book_rows.read_grant_books_all_within.Goals as goal
 
 pub read_within-requires-clause-plain : goal.read_within-requires-clause-plain

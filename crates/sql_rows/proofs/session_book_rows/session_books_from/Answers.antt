@@ -5,4 +5,5 @@ use Rattle.sql_rows.proofs.Rising.{ascends_map}
 use Rattle.sql_rows.proofs.session_book_rows.session_books_from.Goals as goal
 
 pub returns-clause-order : goal.returns-clause-order
-returns-clause-order c = ascends_map session_book_before session_book_at c.rows.books.items (search rules)
+returns-clause-order c =
+    ascends_map session_book_before session_book_at c.rows.books.items (search rules)

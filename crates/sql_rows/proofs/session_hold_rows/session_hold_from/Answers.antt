@@ -1,7 +1,12 @@
-use Rattle.std.proofs.Common.{rules, ◌≡◌, refl, sym, ◌∙◌, arith}
+use Rattle.std.proofs.Common.{arith}
 use Rattle.sql_tables.proofs.Columns.{row_is}
 use Rattle.sql_rows.proofs.session_hold_rows.session_hold_from.Goals as goal
 
 pub returns : goal.returns
-returns c = row_is c.args.row.now _ (omega (arith, c.has_columns.ensures))
-    (c.in_ok-group.ensures, (c.in_ok-bucket.ensures, (c.in_ok-amount.ensures, (c.in_ok-session.ensures, tt))))
+returns c = row_is c.args.row.now _ (omega (arith, c.has_columns.ensures)) (
+  c.in_ok-group.ensures,
+  (
+    c.in_ok-bucket.ensures,
+    (c.in_ok-amount.ensures, (c.in_ok-session.ensures, tt)),
+  ),
+)

@@ -5,4 +5,5 @@ use Rattle.sql_rows.proofs.Rising.{ascends_map}
 use Rattle.sql_rows.proofs.session_hold_rows.session_holds_from.Goals as goal
 
 pub returns-clause-order : goal.returns-clause-order
-returns-clause-order c = ascends_map session_hold_before session_hold_at c.rows.holds.items (search rules)
+returns-clause-order c =
+    ascends_map session_hold_before session_hold_at c.rows.holds.items (search rules)

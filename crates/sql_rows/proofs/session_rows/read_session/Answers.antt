@@ -3,7 +3,8 @@ use Rattle.sqlite.specs.Held.{state}
 use Rattle.sqlite.specs.Values.{bound_value}
 use Rattle.sqlite_value.specs.declared.value.Value.TheVariants.{Text}
 use Rattle.sql_tables.proofs.Telling.{reads_as}
-use Rattle.sql_rows.proofs.ReadSession.{read_session_text, read_session_plain, session_read, none_told}
+use Rattle.sql_rows.proofs.ReadSession.{read_session_text, read_session_plain, session_read}
+use Rattle.sql_rows.proofs.ReadSession.{none_told}
 use Rattle.sql_rows.proofs.session_rows.read_session.Goals as goal
 
 pub read-requires-clause-plain : goal.read-requires-clause-plain
@@ -21,4 +22,5 @@ returns-clause-reads g c =
 pub returns-clause-none : goal.returns-clause-none
 returns-clause-none g c clean =
     none_told c.args.account.now c.args.session.now (state g.S.Store c.args.conn.now).now.trees
-    c.session_among.result ((returns-clause-reads g c).found clean) (c.in_ok-rows.ensures.keys clean)
+    c.session_among.result ((returns-clause-reads g c).found clean)
+    (c.in_ok-rows.ensures.keys clean)

@@ -1,10 +1,7 @@
-use Rattle.std.proofs.Common.{rules, ◌≡◌, Some, None, OnOk, OnErr, refl, sym, ◌∙◌, ap, subst, arith}
+use Rattle.std.proofs.Common.{rules, ◌∙◌, ap}
 use Rattle.std.specs.Option.{option_copied}
-use Rattle.sqlite.specs.Held.{state}
-use Rattle.sqlite.specs.State.{ExecutesInside}
-use Rattle.sqlite.specs.Values.{or_null}
 use Rattle.sql_rows.specs.Values.{nat}
-use Rattle.sql_rows.proofs.PutVoucher.{put_voucher_text, makes_voucher, bound_voucher}
+use Rattle.sql_rows.proofs.PutVoucher.{makes_voucher, bound_voucher}
 use Rattle.sql_rows.proofs.voucher_rows.put_voucher.Goals as goal
 
 pub returns : goal.returns

@@ -1,4 +1,4 @@
-use Rattle.std.proofs.Common.{◌≡◌, ◌<◌, ◌≤◌, arith, length, rules, subst}
+use Rattle.std.proofs.Common.{◌≡◌, ◌<◌, arith, length, rules, subst}
 use Rattle.sqlite.specs.Held.{state}
 use Rattle.sql_tables.specs.Schema.{schema_at}
 use Rattle.sql_rules.proofs.Steps.{found_all, found_first, found_next, found_not, none_found_not}

@@ -1,4 +1,4 @@
-use Rattle.std.proofs.Common.{◌≡◌, arith, subst, sym}
+use Rattle.std.proofs.Common.{arith, subst, sym}
 use Rattle.sqlite.specs.Effect.{Database}
 use Rattle.sqlite.specs.Given.{IsPlain}
 use Rattle.sqlite.specs.Held.{state}

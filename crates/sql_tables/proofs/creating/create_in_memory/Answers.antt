@@ -1,4 +1,3 @@
-use Rattle.std.proofs.Common.{rules, refl, arith}
 use Rattle.sql_tables.proofs.Stages.{blank_from}
 use Rattle.sql_tables.proofs.creating.create_in_memory.Goals as goal
 

@@ -1,4 +1,3 @@
-use Rattle.std.proofs.Common.{rules, refl, arith}
 use Rattle.sqlite.specs.Held.{state}
 use Rattle.sql_tables.proofs.Stages.{makes_first}
 use Rattle.sql_tables.proofs.creating.create_sessions_state.Goals as goal

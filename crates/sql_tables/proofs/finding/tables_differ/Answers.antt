@@ -1,4 +1,4 @@
-use Rattle.std.proofs.Common.{rules, refl, sym, subst, ap, arith, ◌≡◌, ◌<◌, ◌∙◌, ℕ, List, length}
+use Rattle.std.proofs.Common.{rules, subst, ap, arith, ◌≡◌, ◌<◌, ◌∙◌, ℕ, List, length}
 use Rattle.sqlite.specs.Held.{state}
 use Rattle.sql_tables.specs.Schema.{schema_at}
 use Rattle.sqlite_schema.specs.declared.schema.Schema.{Schema}
@@ -19,8 +19,8 @@ returns-in_err-rowids_differ g c =
     let next = text_at v 0 c.rowids_text.result.now c.requires.known
     (at_least v c.requires.known) c.rowids_text.ensures in
     let old = state g.S.Store c.args.conn.now in
-    none_found_not v 1 old (state g.S.Store c.rowids_differ.new.conn) c.in_err-rowids_differ.field-0.0
-    c.from_residual.result (search rules)
+    none_found_not v 1 old (state g.S.Store c.rowids_differ.new.conn)
+    c.in_err-rowids_differ.field-0.0 c.from_residual.result (search rules)
     (c.in_err-rowids_differ.ensures 0 next (none_found v old c.requires.has))
 
 pub tables-init : goal.tables-init

@@ -1,4 +1,3 @@
-use Rattle.std.proofs.Common.{refl}
 use Rattle.sql_tables.proofs.Plains.{no_version}
 use Rattle.sql_tables.proofs.finding.version_of.Goals as goal
 

@@ -1,4 +1,4 @@
-use Rattle.std.proofs.Common.{rules, ◌≡◌, arith}
+use Rattle.std.proofs.Common.{rules, arith}
 use Rattle.sqlite.specs.Held.{state}
 use Rattle.sqlite.specs.Values.{bound}
 use Rattle.sql_tables.proofs.Keeps.{answers_from, keys_from, reads_only, reads_survive}
@@ -6,20 +6,20 @@ use Rattle.sql_tables.proofs.reading.read.Goals as goal
 
 pub returns-in-Ok : goal.returns-in-Ok
 returns-in-Ok g c = record {
-  answers = λ clean. answers_from c.args.sql.now (bound c.args.params.now) (state g.S.Store c.args.conn.now)
-      (state g.S.Store c.query_all.new.self) _ c.requires.plain
-      (c.requires.idle (omega (arith, c.query_all.ensures.survives.clean))) c.schema-ours.ensures.live
-      (c.in-Ok.ensures.ok clean);
+  answers = λ clean. answers_from c.args.sql.now (bound c.args.params.now)
+      (state g.S.Store c.args.conn.now) (state g.S.Store c.query_all.new.self) _ c.requires.plain
+      (c.requires.idle (omega (arith, c.query_all.ensures.survives.clean)))
+      c.schema-ours.ensures.live (c.in-Ok.ensures.ok clean);
   reads = reads_only (λ v. v.items) c.args.sql.now _ _ _ c.query_all.result c.requires.plain
       c.requires.idle c.query_all.ensures.survives c.query_all.ensures.mode c.query_all.ensures.ok
       c.query_all.ensures.err;
   stops = reads_survive c.args.sql.now _ _ _ c.requires.plain c.requires.idle
       c.query_all.ensures.survives;
   fault = search rules;
-  keys = λ clean. keys_from c.args.sql.now (bound c.args.params.now) (state g.S.Store c.args.conn.now)
-      (state g.S.Store c.query_all.new.self) _
-      (c.requires.idle (omega (arith, c.query_all.ensures.survives.clean))) c.schema-ours.ensures.live
-      (c.in-Ok.ensures.ok clean);
+  keys = λ clean. keys_from c.args.sql.now (bound c.args.params.now)
+      (state g.S.Store c.args.conn.now) (state g.S.Store c.query_all.new.self) _
+      (c.requires.idle (omega (arith, c.query_all.ensures.survives.clean)))
+      c.schema-ours.ensures.live (c.in-Ok.ensures.ok clean);
 }
 
 pub returns-in-Err : goal.returns-in-Err

@@ -1,4 +1,4 @@
-use Rattle.std.proofs.Common.{rules, ◌≡◌, arith}
+use Rattle.std.proofs.Common.{rules, arith}
 use Rattle.sqlite.specs.Held.{state}
 use Rattle.sqlite.specs.State.{IsUnchanged}
 use Rattle.sqlite.specs.Values.{bound}
@@ -8,7 +8,8 @@ use Rattle.sql_tables.proofs.reading.read_within.Goals as goal
 pub returns-in-Ok : goal.returns-in-Ok
 returns-in-Ok g c = record {
   same_reference = search rules;
-  answers = λ clean. answers_within c.args.sql.now (bound c.args.params.now) (state g.S.Store c.args.tx.now.conn.now)
+  answers = λ clean. answers_within c.args.sql.now (bound c.args.params.now)
+      (state g.S.Store c.args.tx.now.conn.now)
       (state g.S.Store c.query_all.new.self.conn.now) _ c.requires.plain
       (c.requires.book (omega (arith, c.query_all.ensures.survives.clean)))
       (c.requires.rules (omega (arith, c.query_all.ensures.survives.clean)))

@@ -1,4 +1,4 @@
-use Rattle.std.proofs.Common.{rules, inl, inr, OnOk, OnErr, sym, subst, Ok, Err}
+use Rattle.std.proofs.Common.{inl, inr, OnOk, OnErr, sym, subst}
 use Rattle.std.proofs.lemmas.Bool.{cases_Bool}
 use Rattle.sqlite.specs.Held.{state}
 use Rattle.sqlite.specs.State.{ExecutesInside, KeepsCommit}

@@ -11,7 +11,8 @@ pub returns-in_err-write_header : goal.returns-in_err-write_header
 returns-in_err-write_header g c = record {
   writes = λ clean.
       err_writes _ _ _ _ c.from_residual.result c.from_residual.ensures.0 (λ rows are.
-      begun_first (charges_text Records (of_month c.args.asked.now.book.now c.args.asked.now.month rows))
+      begun_first
+      (charges_text Records (of_month c.args.asked.now.book.now c.args.asked.now.month rows))
       c.in_err-write_header.ensures.err);
   some = err_some _ _ _ c.from_residual.result c.from_residual.ensures.0 []
       (begun_first (charges_text Records

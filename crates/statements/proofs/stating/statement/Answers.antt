@@ -29,8 +29,8 @@ returns-in_err-sums g c = record {
       (begun_second (g.W.Write.contents c.args.writer.now)
       (g.W.Write.contents c.write_head.new.writer)
       (g.W.Write.contents c.write_charges.new.writer)
-      (head_text c.args.asked.now.account.now c.args.asked.now.month c.args.moment) (charges_text Lines month)
-      c.in_ok-write_head.ensures.written
+      (head_text c.args.asked.now.account.now c.args.asked.now.month c.args.moment)
+      (charges_text Lines month) c.in_ok-write_head.ensures.written
       ((c.in_err-sums.ensures.writes clean).beginning rows are)));
   some = let some = c.in_err-sums.ensures.some in
       let month = of_month c.args.asked.now.book.now c.args.asked.now.month some.rows in
@@ -51,17 +51,19 @@ returns-in_err-write_foot g c = record {
       err_writes _ _ _ _ c.from_residual-in_err-write_foot.result
       c.from_residual-in_err-write_foot.ensures.0 (λ rows are.
       let month = of_month c.args.asked.now.book.now c.args.asked.now.month rows in
-      three_begun (g.W.Write.contents c.args.writer.now) (g.W.Write.contents c.write_head.new.writer)
+      three_begun (g.W.Write.contents c.args.writer.now)
+      (g.W.Write.contents c.write_head.new.writer)
       (g.W.Write.contents c.write_charges.new.writer) (g.W.Write.contents c.write_foot.new.writer)
-      (head_text c.args.asked.now.account.now c.args.asked.now.month c.args.moment) (charges_text Lines month)
-      (λ s. foot_text s c.args.buckets.now) _ (sums_of month)
+      (head_text c.args.asked.now.account.now c.args.asked.now.month c.args.moment)
+      (charges_text Lines month) (λ s. foot_text s c.args.buckets.now) _ (sums_of month)
       (c.in_ok-sums.ensures.sums clean rows are) c.in_ok-write_head.ensures.written
       ((c.in_ok-sums.ensures.writes clean).whole rows are) c.in_err-write_foot.ensures.err);
   some = let some = c.in_ok-sums.ensures.some in
       let month = of_month c.args.asked.now.book.now c.args.asked.now.month some.rows in
       err_some _ _ _ c.from_residual-in_err-write_foot.result
       c.from_residual-in_err-write_foot.ensures.0 some.rows
-      (three_begun (g.W.Write.contents c.args.writer.now) (g.W.Write.contents c.write_head.new.writer)
+      (three_begun (g.W.Write.contents c.args.writer.now)
+      (g.W.Write.contents c.write_head.new.writer)
       (g.W.Write.contents c.write_charges.new.writer) (g.W.Write.contents c.write_foot.new.writer)
       (head_text c.args.asked.now.account.now c.args.asked.now.month c.args.moment)
       (charges_text Lines month) (λ s. foot_text s c.args.buckets.now) _ (sums_of month)
@@ -77,8 +79,8 @@ returns g c = record {
         three_written (g.W.Write.contents c.args.writer.now)
         (g.W.Write.contents c.write_head.new.writer)
         (g.W.Write.contents c.write_charges.new.writer) (g.W.Write.contents c.write_foot.new.writer)
-        (head_text c.args.asked.now.account.now c.args.asked.now.month c.args.moment) (charges_text Lines month)
-        (λ s. foot_text s c.args.buckets.now) _ (sums_of month)
+        (head_text c.args.asked.now.account.now c.args.asked.now.month c.args.moment)
+        (charges_text Lines month) (λ s. foot_text s c.args.buckets.now) _ (sums_of month)
         (c.in_ok-sums.ensures.sums clean rows are) c.in_ok-write_head.ensures.written
         ((c.in_ok-sums.ensures.writes clean).whole rows are) c.in_ok-write_foot.ensures.written;
     beginning = λ rows are. tt;

@@ -3,7 +3,6 @@ use Rattle.commands.specs.declared.answer.Answer.{Answer}
 use Rattle.json_fields.specs.Gives.{Gives}
 use Rattle.json_fields.specs.declared.fault.WireFault.{WireFault}
 use Rattle.json_fields.specs.declared.fault.WireFault.TheVariants.{NotRequest}
-use Rattle.wire.specs.Spelled.{answer_text}
 use Rattle.wire.specs.ReadingAnswers.{answer_of}
 use Rattle.wire.proofs.AnswersAgain.{reads_written, never_said, never_written}
 use Rattle.wire.proofs.AnswersAgain.{text_of_other, text_read, text_refused}

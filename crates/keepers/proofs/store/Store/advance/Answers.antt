@@ -1,7 +1,7 @@
 use Rattle.std.proofs.Common.{sym, subst}
 use Rattle.reserving.specs.Stored.{StoredRows}
 use Rattle.keepers.specs.Change.{AreBroughtTo}
-use Rattle.keepers.specs.Parts.{Parts, AreParts, rows_of}
+use Rattle.keepers.specs.Parts.{Parts, AreParts, rows_of_parts}
 use Rattle.keepers.proofs.PartsKept.{parts_advanced}
 use Rattle.keepers.proofs.PartsSwept.{parts_brought}
 use Rattle.keepers.proofs.SweptRows.{rows_brought}
@@ -24,14 +24,14 @@ invariant_of-self c =
 pub returns-clause-listed : goal.returns-clause-listed
 returns-clause-listed c =
     let p : Parts = parts_of c.self.inside in
-    subst (λ (q : Parts). AreBroughtTo c.args.shelf.now c.args.moment (rows_of q)
-    (rows_of (record { live = c.advance.new.self; left = p.left }))) c.self.view_is
-    (subst (λ (w : StoredRows). AreBroughtTo c.args.shelf.now c.args.moment (rows_of p)
-    (rows_of (record { live = w; left = p.left }))) (sym c.advance.ensures)
+    subst (λ (q : Parts). AreBroughtTo c.args.shelf.now c.args.moment (rows_of_parts q)
+    (rows_of_parts (record { live = c.advance.new.self; left = p.left }))) c.self.view_is
+    (subst (λ (w : StoredRows). AreBroughtTo c.args.shelf.now c.args.moment (rows_of_parts p)
+    (rows_of_parts (record { live = w; left = p.left }))) (sym c.advance.ensures)
     (parts_brought c.args.shelf.now c.args.moment p c.self.invariant.parts
     c.as_of-kept.ensures.kept))
 
 pub returns-clause-rows : goal.returns-clause-rows
 returns-clause-rows c =
-    rows_brought c.args.shelf.now c.args.moment (rows_of c.args.self.now) _
+    rows_brought c.args.shelf.now c.args.moment (rows_of_parts c.args.self.now) _
     c.first-ranges.ensures.shelf (returns-clause-listed c)

@@ -3,7 +3,7 @@ use Rattle.std.specs.Prelude.{if◌then◌else◌}
 use Rattle.reserving.specs.Rows.{EachIn, AreApart}
 use Rattle.reserving.specs.Live.{live_part}
 use Rattle.keepers.specs.Change.{IsLoadedFrom}
-use Rattle.keepers.specs.Parts.{Parts, rows_of}
+use Rattle.keepers.specs.Parts.{Parts, rows_of_parts}
 use Rattle.keepers.proofs.PartsKept.{if_ok}
 use Rattle.keepers.specs.Keyed.{same_counter}
 use Rattle.keepers.specs.Named.{may_go_on}
@@ -46,9 +46,9 @@ returns c =
     ∙ ap (λ rows. if may_go_on c.args.shelf.now c.args.moment c.self.inside.known.cycles then rows
     else []) c.deref.ensures.value in
     if_ok c.load_at.result c.load_at.ensures.rows (λ account is.
-    subst (λ (q : Parts). IsLoadedFrom c.args.shelf.now c.args.moment (rows_of q) account)
+    subst (λ (q : Parts). IsLoadedFrom c.args.shelf.now c.args.moment (rows_of_parts q) account)
     c.self.view_is
-    (subst (IsLoadedFrom c.args.shelf.now c.args.moment (rows_of p))
+    (subst (IsLoadedFrom c.args.shelf.now c.args.moment (rows_of_parts p))
     (sym (is ∙ (λ i. live_part c.args.shelf.now c.args.moment (others i) p.live)
     ∙ loaded_without c.args.shelf.now c.args.moment c.self.inside.known.cycles
     p.left.counters p.live

@@ -1,9 +1,9 @@
 use Rattle.std.proofs.Common.{◌≡◌, List, subst, sym, ap, ◌∙◌}
-use Rattle.buckets.specs.Row.{Row}
+use Rattle.buckets.specs.Row.{BucketRow}
 use Rattle.reserving.specs.declared.session.Session.{Session}
 use Rattle.reserving.specs.declared.session.SessionGroup.{SessionGroup}
 use Rattle.reserving.specs.declared.session.Counter.{Counter}
-use Rattle.keepers.specs.Parts.{AreParts, rows_of}
+use Rattle.keepers.specs.Parts.{AreParts, rows_of_parts}
 use Rattle.keepers.specs.Named.{AreLeftBuckets, AreLeftCounters, AreLeftSessions, AreLeftGroups}
 use Rattle.keepers.proofs.PartsWritten.{parts_first}
 use Rattle.keepers.proofs.PartsKept.{parts_new}
@@ -27,7 +27,7 @@ invariant_of-result c =
     record {
       parts = subst (λ (l : LeftRows). AreParts (record { live = c.args.live; left = l })) none
           (parts_new c.args.live c.as_of-kept.ensures.kept);
-      buckets = subst (λ (xs : List Row). AreLeftBuckets c.new-5.result xs)
+      buckets = subst (λ (xs : List BucketRow). AreLeftBuckets c.new-5.result xs)
           (sym c.new.ensures.items) tt;
       counters = subst (λ (xs : List Counter). AreLeftCounters c.new-7.result xs)
           (sym c.new-2.ensures.items) tt;
@@ -39,7 +39,7 @@ invariant_of-result c =
 
 pub returns-clause-over : goal.returns-clause-over
 returns-clause-over c =
-    ap rows_of (λ i. record {
+    ap rows_of_parts (λ i. record {
       live = c.args.live;
       left = record {
         buckets = c.new.ensures.items i;

@@ -1,6 +1,6 @@
 use Rattle.std.proofs.Common.{◌≡◌, ◌∙◌, ap, refl, sym, subst, List}
 use Rattle.std.specs.Prelude.{Result, Ok, Err, OnOk}
-use Rattle.buckets.specs.Row.{Row}
+use Rattle.buckets.specs.Row.{BucketRow}
 use Rattle.reserving.specs.declared.session.SessionGroup.{SessionGroup}
 use Rattle.reserving.specs.declared.restoring.GivenRows.{GivenRows}
 use Rattle.reserving.specs.Restored.{given}
@@ -8,7 +8,7 @@ use Rattle.reserving.specs.Stored.{StoredRows}
 use Rattle.keepers.specs.Change.{over}
 use Rattle.keepers.specs.Inside.{parts_of, parts_by, AreKeptBy}
 use Rattle.keepers.specs.Overlaying.{back_from, rows_over, IsAccountOf, IsRestDead, IsGivenOver}
-use Rattle.keepers.specs.Parts.{Parts, rows_of}
+use Rattle.keepers.specs.Parts.{Parts, rows_of_parts}
 use Rattle.keepers.proofs.Overlaid.{rest_dead, overlaid}
 use Rattle.keepers.proofs.Placed.{on_err}
 use Rattle.keepers.proofs.WrittenParts.{put_rows, put_kept}
@@ -30,7 +30,7 @@ invariant_of-self-then-is_writable c =
     let p : Parts = parts_of c.self.inside in
     let rows : GivenRows = c.in_ok-rows.rows in
     let made : IsGivenOver c.args.named p.live.buckets rows =
-    subst (λ (bs : List Row). IsGivenOver c.args.named bs rows) c.purse.ensures
+    subst (λ (bs : List BucketRow). IsGivenOver c.args.named bs rows) c.purse.ensures
     c.in_ok-rows.ensures in
     put_kept c.self.inside.known.names c.self.inside.known.cycles c.args.named rows p
     c.self.invariant.parts c.as_of-kept.ensures.kept c.as_of-named.ensures.named made
@@ -45,9 +45,9 @@ returns-then-is_writable-clause-over c =
     let p : Parts = parts_of c.self.inside in
     let rows : GivenRows = c.in_ok-rows.rows in
     let made : IsGivenOver c.args.named p.live.buckets rows =
-    subst (λ (bs : List Row). IsGivenOver c.args.named bs rows) c.purse.ensures
+    subst (λ (bs : List BucketRow). IsGivenOver c.args.named bs rows) c.purse.ensures
     c.in_ok-rows.ensures in
-    ap (λ (live : StoredRows). rows_of (record { live = live; left = p.left }))
+    ap (λ (live : StoredRows). rows_of_parts (record { live = live; left = p.left }))
     c.in_ok-write.ensures.ok
     ∙ put_rows c.self.inside.known.names c.self.inside.known.cycles c.args.named rows p
     c.self.invariant.parts c.as_of-kept.ensures.kept c.as_of-named.ensures.named made
@@ -55,7 +55,7 @@ returns-then-is_writable-clause-over c =
     (c.is_writable.ensures.kept c.if-is_writable.true)
     (sym c.is_fresh.ensures ∙ c.if-is_fresh.true) c.self.invariant.sessions
     c.self.invariant.groups c.self.invariant.counters
-    ∙ ap (λ (q : Parts). over c.args.named (rows_of q)) c.self.view_is
+    ∙ ap (λ (q : Parts). over c.args.named (rows_of_parts q)) c.self.view_is
 
 pub returns-in_err-write-clause-err : goal.returns-in_err-write-clause-err
 returns-in_err-write-clause-err c =
@@ -70,7 +70,7 @@ returns-clause-over c =
     let names = c.self.inside.known.names in
     let rows : GivenRows = c.in_ok-rows.rows in
     let made : IsGivenOver c.args.named p.live.buckets rows =
-    subst (λ (bs : List Row). IsGivenOver c.args.named bs rows) c.purse.ensures
+    subst (λ (bs : List BucketRow). IsGivenOver c.args.named bs rows) c.purse.ensures
     c.in_ok-rows.ensures in
     let back : c.back_from-back.result.now
     ≡ back_from names c.args.named.sessions c.self.inside.left.groups.items =
@@ -91,8 +91,8 @@ returns-clause-over c =
     let rest = rest_dead c.args.named names p c.in_ok-live.live c.self.invariant.parts
     c.as_of-named.ensures.named c.self.invariant.groups of in
     on_ok c.replace.result c.replace.ensures.over (λ made.
-    made (subst (λ (q : Parts). IsRestDead c.in_ok-live.live (rows_of q)) c.self.view_is rest)
+    made (subst (λ (q : Parts). IsRestDead c.in_ok-live.live (rows_of_parts q)) c.self.view_is rest)
     ∙ subst (λ (q : Parts).
-    over c.in_ok-live.live (rows_of q) ≡ over c.args.named (rows_of q)) c.self.view_is
+    over c.in_ok-live.live (rows_of_parts q) ≡ over c.args.named (rows_of_parts q)) c.self.view_is
     (overlaid c.args.named names p c.in_ok-live.live c.self.invariant.parts
     c.as_of-named.ensures.named c.self.invariant.groups of))

@@ -1,7 +1,7 @@
 use Rattle.std.proofs.Common.{◌∙◌, sym, ap, subst}
 use Rattle.keepers.specs.Change.{over}
 use Rattle.keepers.specs.Overlaying.{IsRestDead}
-use Rattle.keepers.specs.Parts.{Parts, rows_of, with_live}
+use Rattle.keepers.specs.Parts.{Parts, rows_of_parts, with_live}
 use Rattle.keepers.specs.Inside.{parts_of}
 use Rattle.keepers.proofs.PartsWritten.{parts_written}
 use Rattle.keepers.proofs.Kept.{kept_known, kept_roomy, known_behind, replaced_parts, kept_replaced}
@@ -43,12 +43,12 @@ returns-clause-parts c =
 pub returns-clause-over : goal.returns-clause-over
 returns-clause-over c = λ rest.
     let p : Parts = parts_of c.self.inside in
-    ap rows_of (replaced_parts c.args.after c.self.inside.live c.self.inside.left
+    ap rows_of_parts (replaced_parts c.args.after c.self.inside.live c.self.inside.left
     c.make_room.new.left c.append.new.left c.keep.new.left c.in_ok-leaving.leaving
     c.self.inside.known c.note.new.known c.self.invariant c.note.ensures.more
     c.in_ok-leaving.ensures c.in_ok-note.ensures.noted c.make_room.ensures.same
     c.append.ensures.appended c.keep.ensures)
     ∙ parts_written c.args.after p c.self.invariant.parts c.as_of-live.ensures.kept
     c.as_of-kept.ensures.kept
-    (subst (λ (q : Parts). IsRestDead c.args.after (rows_of q)) (sym c.self.view_is) rest)
-    ∙ ap (λ (q : Parts). over c.args.after (rows_of q)) c.self.view_is
+    (subst (λ (q : Parts). IsRestDead c.args.after (rows_of_parts q)) (sym c.self.view_is) rest)
+    ∙ ap (λ (q : Parts). over c.args.after (rows_of_parts q)) c.self.view_is

@@ -8,7 +8,7 @@ use Rattle.reserving.specs.Rows.{AccountRows}
 use Rattle.reserving.specs.Changes.{count_in, debited_account}
 use Rattle.reserving.proofs.kept.Debited.{within_none}
 use Rattle.reserving.proofs.calls.Debited.{debited_parts}
-use Rattle.reserving.specs.Inside.{rows_of}
+use Rattle.reserving.specs.Inside.{rows_inside}
 use Rattle.reserving.specs.Placed.{IsPriced}
 use Rattle.reserving.proofs.kept.Placed.{IsPriced-debited}
 use Rattle.reserving.specs.Calm.{IsCalm}
@@ -22,7 +22,7 @@ settle-charged-requires c =
 
 pub invariant_of-self : goal.invariant_of-self
 invariant_of-self c =
-    let a : AccountRows = rows_of c.self.inside in
+    let a : AccountRows = rows_inside c.self.inside in
     let now : AccountRows = c.args.self.now in
     let is =
     debited_parts a c.args.session.now c.args.group c.args.cycle c.args.rated.units.0
@@ -46,6 +46,7 @@ invariant_of-self c =
           (calm_debited now c.args.session.now c.args.group c.args.rated.units.0
           c.args.rated.blocks.0 (due c.args.rated.amount.0 c.args.rated.covered.0)
           (subst IsCalm c.self.view_is (c.self.invariant.calm e)));
+      quiet = tt;
     }
 
 pub returns-clause-uncollected : goal.returns-clause-uncollected

@@ -7,7 +7,7 @@ use Rattle.reserving.specs.Rows.{AccountRows}
 use Rattle.reserving.specs.Changes.{reserved_account}
 use Rattle.reserving.specs.Prepared.{reservation_in}
 use Rattle.reserving.proofs.ReservedCall.{reserved_parts}
-use Rattle.reserving.specs.Inside.{rows_of}
+use Rattle.reserving.specs.Inside.{rows_inside}
 use Rattle.reserving.specs.Placed.{AreOfBook, IsPriced}
 use Rattle.reserving.proofs.kept.Placed.{IsPriced-reserved}
 use Rattle.reserving.specs.Calm.{IsCalm}
@@ -18,7 +18,7 @@ use Rattle.reserving.proofs.account.Account.hold_quota.Goals as goal
 
 pub invariant_of-self : goal.invariant_of-self
 invariant_of-self c =
-    let a : AccountRows = rows_of c.self.inside in
+    let a : AccountRows = rows_inside c.self.inside in
     let none : reservation_in c.args.session.now c.args.group a.groups ≡ None =
     subst (λ (x : AccountRows). reservation_in c.args.session.now c.args.group x.groups ≡ None)
     (sym c.self.view_is) c.requires.free in
@@ -46,11 +46,12 @@ invariant_of-self c =
           (subst (λ (x : AccountRows). is_live_in (validity_of x.shelf) x.as_of x.sessions
           c.args.session.now ≡ true) (sym c.self.view_is) c.requires.live)
           (c.self.invariant.calm e));
+      quiet = tt;
     }
 
 pub returns : goal.returns
 returns c =
-    let a : AccountRows = rows_of c.self.inside in
+    let a : AccountRows = rows_inside c.self.inside in
     let terms : c.args.terms ≡ terms_at a.shelf a.as_of =
     subst (λ (x : AccountRows). c.args.terms ≡ terms_at x.shelf x.as_of) (sym c.self.view_is)
     c.requires.terms in

@@ -6,7 +6,7 @@ use Rattle.reserving.specs.Rows.{AccountRows}
 use Rattle.reserving.specs.Changes.{count_in, settled_account, reserved_in}
 use Rattle.reserving.proofs.kept.Settled.{within_of}
 use Rattle.reserving.proofs.calls.RowParts.{settled_parts}
-use Rattle.reserving.specs.Inside.{rows_of}
+use Rattle.reserving.specs.Inside.{rows_inside}
 use Rattle.reserving.specs.Placed.{IsPriced}
 use Rattle.reserving.proofs.kept.Placed.{IsPriced-settled}
 use Rattle.reserving.specs.Calm.{IsCalm}
@@ -21,7 +21,7 @@ settle-charged-requires c =
 
 pub invariant_of-self : goal.invariant_of-self
 invariant_of-self c =
-    let a : AccountRows = rows_of c.self.inside in
+    let a : AccountRows = rows_inside c.self.inside in
     let now : AccountRows = c.args.self.now in
     let is =
     settled_parts a c.args.session.now c.args.group c.args.cycle c.args.rated.units.0
@@ -47,6 +47,7 @@ invariant_of-self c =
           (calm_settled now c.args.session.now c.args.group c.args.rated.units.0
           c.args.rated.blocks.0 (due c.args.rated.amount.0 c.args.rated.covered.0)
           (subst IsCalm c.self.view_is (c.self.invariant.calm e)));
+      quiet = tt;
     }
 
 pub returns-clause-uncollected : goal.returns-clause-uncollected

@@ -12,5 +12,5 @@ returns-clause-value c =
 pub returns-clause-kept : goal.returns-clause-kept
 returns-clause-kept c = λ e.
     writable_told (given c.args.rows.now) c.args.self.now c.buckets-sound.ensures.sound
-    (subst IsStoredInOrder c.self.view_is c.self.invariant)
+    (subst IsStoredInOrder c.self.view_is c.self.invariant.rows)
     (sym (returns-clause-value c) ∙ e)

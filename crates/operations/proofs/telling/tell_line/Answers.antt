@@ -1,8 +1,7 @@
 use Rattle.std.proofs.Common.{◌++◌, ◌∷◌, [], subst}
 use Rattle.operations.specs.Written.{WritesBeginning}
-use Rattle.operations.proofs.Beginnings.{beginning_after}
-use Rattle.ocs.proofs.EndLemmas.{part_told}
-use Rattle.ocs.proofs.telling.tell_line.Goals as goal
+use Rattle.operations.proofs.Beginnings.{beginning_after, part_told}
+use Rattle.operations.proofs.telling.tell_line.Goals as goal
 
 pub returns-in-Ok : goal.returns-in-Ok
 returns-in-Ok g c =

@@ -1,6 +1,6 @@
 use Rattle.std.proofs.Common.{◌∷◌, []}
 use Rattle.operations.proofs.Beginnings.{whole_or_part}
-use Rattle.ocs.proofs.telling.end_line.Goals as goal
+use Rattle.operations.proofs.telling.end_line.Goals as goal
 
 pub returns : goal.returns
 returns g c = whole_or_part c.write_whole.result
