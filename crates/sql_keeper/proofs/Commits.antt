@@ -31,7 +31,7 @@ use Rattle.sql_rules.specs.Ruled.{IsInRules}
 use Rattle.sql_keeper.specs.Content.{tables_of, Names}
 use Rattle.sql_keeper.specs.Commits.{Becomes}
 use Rattle.sql_keeper.specs.RuledRows.{are_ruled_texts, is_ruled_change}
-use Rattle.sql_keeper.specs.Seen.{AreSeen, Sees}
+use Rattle.sql_keeper.specs.Seen.{AreSeen, Sees, Stands}
 use Rattle.sql_keeper.specs.Tests.{AreWritable, IsTested, MayBeMade}
 use Rattle.sql_keeper.specs.Tidy.{IsTidy}
 use Rattle.sql_keeper.specs.Writes.{AreTexts, columns_of, head_columns_of, meta_with, with_change}
@@ -42,7 +42,7 @@ use Rattle.sql_keeper.proofs.TidyChanges.{tidy_change}
 use Rattle.sql_keeper.proofs.Changed.{changes_read}
 use Rattle.sql_keeper.specs.declared.seen.SeenAccount.{SeenAccount}
 use Rattle.sql_keeper.proofs.KeptGroups.{sees_kept}
-use Rattle.sql_keeper.proofs.NewGroups.{put_is}
+use Rattle.sql_keeper.proofs.NewGroups.{put_over}
 use Rattle.sql_keeper.proofs.RuledRows.{change_kept}
 
 -- ---- what is kept once, and the later books
@@ -154,29 +154,35 @@ module _ (names : Names) (text : List ℕ) (change : Change) (texts : Option Kep
   }
 
   -- the groups that are new are put without a removal, and so is what stays
-  turned : (new : Bool) (seen : Option SeenAccount) (old db : Trees) →
+  turned : (new : Bool) (seen : Option SeenAccount) (stands : Bool) (old db : Trees) →
       IsTested names change (rows_in old change.number) new → Sees seen old →
-      Turns (with_change_put names new seen (meta_with text change) change texts) old db →
+      (stands ≡ true → (tables_content old).meta ≡ Some (meta_with text change)) →
+      Turns (with_change_put names new seen stands (meta_with text change) change texts) old db →
       Turns (with_change names (meta_with text change) change texts) old db
-  turned new seen old db found sees turns = record {
+  turned new seen stands old db found sees there turns = record {
     content = turns.content
-        ∙ put_is names new seen (meta_with text change) change texts (tables_content old) named
-        found
-        (λ x e. sees_kept seen old change.number x sees e);
+        ∙ put_over names new seen stands (meta_with text change) change texts (tables_content old)
+        named found
+        (λ x e. sees_kept seen old change.number x sees e) there;
     catalog = turns.catalog;
     stored = turns.stored;
     plain = turns.plain;
   }
 
-  pub become_at : (new : Bool) (seen : Option SeenAccount) (old mid : State) → OnlyReads old mid
+  pub become_at : (new : Bool) (seen : Option SeenAccount) (stands : Bool) (old mid : State)
+      → OnlyReads old mid
       → (HasCleanDisk mid → IsTrue mid.is_open
       → IsTested names change (rows_in old.now.trees change.number) new) → AreSeen seen old
+      → Stands stands (meta_with text change) old
       → HasCleanDisk mid → IsTrue mid.is_open → (db : Trees)
-      → Turns (with_change_put names new seen (meta_with text change) change texts) mid.now.trees db
+      → Turns (with_change_put names new seen stands (meta_with text change) change texts)
+      mid.now.trees db
       → Becomes names text change old.now.trees db
-  become_at new seen old mid only may sees clean on db turns =
-      become old.now.trees db (may clean on).made (turned new seen old.now.trees db (may clean on)
-      (sees (only.cleanness clean) (only.still clean on).was_open)
+  become_at new seen stands old mid only may sees there clean on db turns =
+      let was : IsTrue old.is_open = (only.still clean on).was_open in
+      become old.now.trees db (may clean on).made
+      (turned new seen stands old.now.trees db (may clean on) (sees (only.cleanness clean) was)
+      (λ is. there is (only.cleanness clean) was)
       (subst (λ (d : Database).
-      Turns (with_change_put names new seen (meta_with text change) change texts) d.trees db)
+      Turns (with_change_put names new seen stands (meta_with text change) change texts) d.trees db)
       (only.still clean on).now_is turns))

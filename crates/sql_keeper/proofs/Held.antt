@@ -1,7 +1,7 @@
 -- What the commands leave is in its rules, and is found again: it is refused for no row.
 use Rattle.std.proofs.Common.{◌≡◌, ◌≤◌, ◌<◌, inl, inr, ◌∙◌, ◌++◌, ◌+◌, ℕ, suc, List, [], ◌∷◌, Some}
 use Rattle.std.proofs.Common.{refl, sym, ap, subst, arith, length, length-append, true}
-use Rattle.std.specs.Prelude.{is_some}
+use Rattle.std.specs.Prelude.{◌==◌, is_some}
 use Rattle.std.proofs.lemmas.Bool.{and_from}
 use Rattle.std.proofs.lemmas.Bool.Decides.{nat_tests}
 use Rattle.units.specs.Words.{no_end}
@@ -31,12 +31,14 @@ use Rattle.sql_keeper.specs.Again.{AreLeftRuledAgain, IsFoundAgain}
 use Rattle.sql_keeper.specs.Books.{IsBookOf}
 use Rattle.sql_keeper.specs.Commits.{Becomes}
 use Rattle.sql_keeper.specs.Content.{last_in, shelf_names}
-use Rattle.sql_keeper.specs.Left.{IsHeld, IsLeftRuled}
+use Rattle.sql_keeper.specs.Left.{IsHeld, IsKept, IsLeftRuled}
 use Rattle.sql_keeper.specs.RuledOpening.{HasUnruledRow}
 use Rattle.sql_keeper.specs.Shelves.{IsShelfOf}
 use Rattle.sql_keeper.specs.Sweeps.{BecomesSwept}
+use Rattle.sql_keeper.specs.Writes.{meta_with}
 use Rattle.sql_keeper.proofs.Again.{left_again, no_fault}
 use Rattle.sql_keeper.proofs.OneShelf.{same_shelf}
+use Rattle.sql_keeper.proofs.Overlays.{number_from}
 use Rattle.sql_keeper.proofs.Shelving.{dated_shelf}
 
 -- ---- the row of a book that may follow
@@ -161,6 +163,23 @@ held_committed text shelf last change old new held b = record {
   books = subst (λ rows. IsShelfOf text rows shelf) (sym b.books) held.books;
   moment = sym (ap last_in b.meta);
 }
+
+-- what is kept once stands as a change leaves it that is at the last moment
+pub held_stands : (text : List ℕ) (shelf : Shelf) (last : ℕ) (given : List ℕ) (change : Change)
+    (trees : Trees) → given ≡ text → (last == change.moment) ≡ true → IsHeld text shelf last trees
+    → (tables_content trees).meta ≡ Some (meta_with given change)
+held_stands text shelf last given change trees same at_last held =
+    kept.is ∙ (λ i. Some (record {
+      version = kept.version i;
+      book = (kept.book ∙ sym same) i;
+      last = moment i;
+    }))
+  where
+    kept : IsKept trees text
+    kept = held.left.left.kept
+
+    moment : kept.row.last ≡ change.moment
+    moment = sym (held.moment ∙ ap last_in kept.is) ∙ number_from last change.moment at_last
 
 pub held_added : (text : List ℕ) (shelf : Shelf) (last : ℕ) (code : List ℕ) (terms : VoucherTerms)
     (t : ℕ) (old new : Trees) → IsHeld text shelf last old → BecomesAdded text code terms t old new

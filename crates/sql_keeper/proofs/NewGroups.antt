@@ -1,7 +1,7 @@
 -- Groups of which nothing was there, put without a removal.
 use Rattle.std.proofs.Common.{◌≡◌, ℕ, Bool, true, false, cond, List, [], ◌∷◌, refl, sym, ap, subst}
 use Rattle.std.proofs.Common.{◌∙◌, Option, Some, None}
-use Rattle.std.specs.Prelude.{if◌then◌else◌, ◌&&◌, nat_eq, option_map}
+use Rattle.std.specs.Prelude.{if◌then◌else◌, ◌&&◌, ◌+◌, is_some, nat_eq, option_map}
 use Rattle.identifiers.specs.Texts.{same_name}
 use Rattle.buckets.specs.Holding.{AreHolds}
 use Rattle.reserving.specs.declared.session.Session.{Session}
@@ -260,11 +260,11 @@ stored_beside names m change c named may beside =
     (opened_beside change.number (over_stored names change.rows) (with_meta m c) beside
     (λ r h. h))
 
-pub put_is : (names : Names) (new : Bool) (seen : Option SeenAccount) (m : Meta) (change : Change)
+put_is : (names : Names) (new : Bool) (seen : Option SeenAccount) (m : Meta) (change : Change)
     (texts : Option Kept) (c : TablesContent) → IsNamed change.rows
     → IsTested names change (c.rows change.number) new →
     ((x : SessionGroup) → is_kept seen change.number x ≡ true → IsKeptIn (c.rows change.number) x)
-    → with_change_put names new seen m change texts c ≡ with_change names m change texts c
+    → with_change_put names new seen false m change texts c ≡ with_change names m change texts c
 put_is names new seen m change texts c named t kept =
     ap (λ (d : TablesContent). with_redeemed change.redeemed (with_kept change.number change.kept
     texts
@@ -273,3 +273,22 @@ put_is names new seen m change texts c named t kept =
     ∙ all_charged_are change.number change.charges.items
     (with_stored change.number names change.rows (with_meta m c))
     (stored_beside names m change c named t.made.reservations t.covered))
+
+-- so it is where what is kept once stands already, and isn't put
+meta_same : (m : Meta) (c : TablesContent) → c.meta ≡ Some m → c ≡ with_meta m c
+meta_same m c is = λ i. record c { meta = is i; kept = count i }
+  where
+    count : c.kept ≡ (if is_some c.meta then c.kept else c.kept + 1)
+    count = ap (λ (o : Option Meta). if is_some o then c.kept else c.kept + 1) (sym is)
+
+pub put_over : (names : Names) (new : Bool) (seen : Option SeenAccount) (stands : Bool) (m : Meta)
+    (change : Change) (texts : Option Kept) (c : TablesContent) → IsNamed change.rows
+    → IsTested names change (c.rows change.number) new →
+    ((x : SessionGroup) → is_kept seen change.number x ≡ true → IsKeptIn (c.rows change.number) x)
+    → (stands ≡ true → c.meta ≡ Some m)
+    → with_change_put names new seen stands m change texts c ≡ with_change names m change texts c
+put_over names new seen false m change texts c named t kept is =
+    put_is names new seen m change texts c named t kept
+put_over names new seen true m change texts c named t kept is =
+    ap (with_change_put names new seen true m change texts) (meta_same m c (is refl))
+    ∙ put_is names new seen m change texts c named t kept

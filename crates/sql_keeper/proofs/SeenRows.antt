@@ -23,15 +23,16 @@ use Rattle.sql_tables.specs.Keyed.{same_name}
 use Rattle.sql_tables.specs.Statements.{HasIdleBook, OnlyReads, Reads}
 use Rattle.sql_tables.specs.declared.reading.ReadFault.{ReadFault}
 use Rattle.sql_rows.specs.declared.head.HeadColumns.{HeadColumns}
-use Rattle.sql_rows.specs.Content.{TableRows, rows_in}
+use Rattle.sql_rows.specs.Content.{TableRows, rows_in, tables_content}
 use Rattle.sql_rows.specs.Lists.{HasNoGroups}
+use Rattle.sql_rows.specs.Values.{Meta}
 use Rattle.sql_keeper.specs.Asks.{Asks}
 use Rattle.sql_keeper.specs.Content.{Names, head_in}
 use Rattle.sql_keeper.specs.Grants.{IsGrantIn, IsGrantSeen, grant_with, is_name, only_bucket}
 use Rattle.sql_keeper.specs.LiveRows.{AreLoadedGrants, IsLoadStored}
 use Rattle.sql_keeper.specs.LiveGroups.{Gathers}
 use Rattle.sql_keeper.specs.Seen.{AreSeen, IsJoined, IsKnown, IsSeen, IsSeenOf, IsSeenWith}
-use Rattle.sql_keeper.specs.Seen.{IsStanding, IsUnknown, IsUnknownAlone, Sees}
+use Rattle.sql_keeper.specs.Seen.{IsStanding, IsUnknown, IsUnknownAlone, Sees, Stands}
 use Rattle.sql_keeper.specs.Seen.{standing_in, standing_of}
 use Rattle.sql_keeper.specs.Writes.{head_columns_of}
 use Rattle.sql_keeper.specs.declared.seen.SeenAccount.{SeenAccount}
@@ -51,6 +52,14 @@ seen_after o old new seen only clean on =
     let still = only.still clean on in
     subst (λ (d : Database). Sees o d.trees) (sym still.now_is)
     (seen (only.cleanness clean) still.was_open)
+
+-- so what is kept once stands after what was only read
+pub stands_after : (told : Bool) (m : Meta) (old new : State) → Stands told m old
+    → OnlyReads old new → Stands told m new
+stands_after told m old new stands only is clean on =
+    let still = only.still clean on in
+    subst (λ (d : Database). (tables_content d.trees).meta ≡ Some m) (sym still.now_is)
+    (stands is (only.cleanness clean) still.was_open)
 
 -- what is made of an answer
 pub seen_asked : {A E : Type 0} (told : Trees → A → Type 0) (o p : Option SeenAccount)

@@ -11,8 +11,9 @@ use Rattle.reserving.specs.Left.{is_open_row}
 use Rattle.reserving.specs.declared.session.Session.{Session}
 use Rattle.reserving.specs.Sessions.{is_open, session_in}
 use Rattle.reserving.specs.Stored.{StoredRows}
-use Rattle.sql_rows.specs.Content.{TableRows, rows_in}
+use Rattle.sql_rows.specs.Content.{TableRows, rows_in, tables_content}
 use Rattle.sql_rows.specs.Lists.{HasNoGroups}
+use Rattle.sql_rows.specs.Values.{Meta}
 use Rattle.sql_rows.specs.declared.head.HeadColumns.{HeadColumns}
 use Rattle.sql_keeper.specs.Grants.{IsGrantIn, IsGrantSeen, is_name}
 use Rattle.sql_keeper.specs.Inside.{IsKeeper, KeeperState}
@@ -110,6 +111,11 @@ Sees (Some x) trees = IsSeen (rows_in trees x.account) x
 -- while the disk returned what was written and the connection is open
 abbrev pub AreSeen : Option SeenAccount → State → Type 0
 AreSeen o s = HasCleanDisk s → IsTrue s.is_open → Sees o s.now.trees
+
+-- where it is told that what is kept once stands so, it does
+abbrev pub Stands : Bool → Meta → State → Type 0
+Stands told m s = told ≡ true → HasCleanDisk s → IsTrue s.is_open →
+    (tables_content s.now.trees).meta ≡ Some m
 
 -- what a keeper keeps between calls, with what it has seen
 pub record IsSeeing {S : Type 0} (g : Ghosts S) (k : KeeperState S) (o : Option SeenAccount)

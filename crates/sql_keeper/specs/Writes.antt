@@ -230,12 +230,17 @@ with_changed_rows names new seen change c =
     with_all_charged change.number change.charges.items
     (with_named change.number names new seen change.rows c)
 
+-- what is kept once, as it is put: not where it stands so already
+abbrev pub with_meta_put : Bool → Meta → TablesContent → TablesContent
+with_meta_put true m c = c
+with_meta_put false m c = with_meta m c
+
 -- all of a change, as it is put
-abbrev pub with_change_put : Names → Bool → Option SeenAccount → Meta → Change → Option Kept →
-    TablesContent → TablesContent
-with_change_put names new seen m change texts c =
+abbrev pub with_change_put : Names → Bool → Option SeenAccount → Bool → Meta → Change →
+    Option Kept → TablesContent → TablesContent
+with_change_put names new seen stands m change texts c =
     with_redeemed change.redeemed (with_kept change.number change.kept texts
-    (with_changed_rows names new seen change (with_meta m c)))
+    (with_changed_rows names new seen change (with_meta_put stands m c)))
 
 -- all of a change
 abbrev pub with_change : Names → Meta → Change → Option Kept → TablesContent → TablesContent

@@ -7,7 +7,7 @@ ghost use Rattle.sql_tables.specs.Statements.{HasIdleBook};
 ghost use Rattle.sql_keeper.specs.Content.{shelf_names};
 ghost use Rattle.sql_keeper.specs.Commits.{Becomes, CommitsChange, CommitsStanding, Transacts};
 ghost use Rattle.sql_keeper.specs.Inside.{names_in};
-ghost use Rattle.sql_keeper.specs.Seen.{AreSeen};
+ghost use Rattle.sql_keeper.specs.Seen.{AreSeen, Stands};
 ghost use Rattle.sql_keeper.specs.Stops.{trees_in};
 ghost use Rattle.sql_keeper.specs.Writes.{meta_with, with_change_put};
 ghost use Rattle.sqlite.specs.Held.{state};
@@ -15,7 +15,7 @@ ghost use Rattle.sql_keeper.specs.Calls.{StoresChange};
 
 use crate::faults::counted;
 use crate::keeper::SqlKeeper;
-use crate::last_moment::last_after;
+use crate::last_moment::{is_last, last_after};
 use crate::putting::put_change;
 use crate::seen::SeenAccount;
 use crate::settling::test_change;
@@ -28,13 +28,15 @@ use sql_tables::ReadFault;
 use sqlite::{Alter, Connection, Error};
 use std::alloc::Global;
 
-/// Writes a change in one transaction.
+/// Writes a change in one transaction; its moment with the text of the book, unless both stand
+/// already.
 fn write_change<S: Alter>(
     conn: &mut Connection<S>,
     books: &TariffShelf,
     are_new: bool,
     seen: &Option<SeenAccount>,
     text: &str,
+    stands: bool,
     change: &Change,
     texts: &Option<KeptTexts>,
 ) -> Result<(), Error>
@@ -42,11 +44,11 @@ fn write_change<S: Alter>(
     requires idle { HasIdleBook (state S.Store conn.old) }
     ensures plain { conn.new.in_transaction ≡ false }
     ensures transacts { Transacts (with_change_put (shelf_names books.now) are_new seen.now
-        (meta_with text.now change.now) change.now (option_map kept_of texts.now))
+        stands (meta_with text.now change.now) change.now (option_map kept_of texts.now))
         (state S.Store conn.old) (state S.Store conn.new) result }
 {
     let mut tx = conn.transaction();
-    put_change(&mut tx, books, are_new, seen, text, change, texts)?;
+    put_change(&mut tx, books, are_new, seen, text, stands, change, texts)?;
     tx.commit()
 }
 
@@ -59,11 +61,13 @@ fn make_change<S: Alter>(
     books: &TariffShelf,
     seen: &Option<SeenAccount>,
     text: &str,
+    stands: bool,
     change: &Change,
 ) -> Result<(), ReadFault>
     requires plain { conn.old.in_transaction ≡ false }
     requires idle { HasIdleBook (state S.Store conn.old) }
     requires seen { AreSeen seen.now (state S.Store conn.old) }
+    requires stands { Stands stands (meta_with text.now change.now) (state S.Store conn.old) }
     ensures plain { conn.new.in_transaction ≡ false }
     ensures commits { CommitsChange (shelf_names books.now) text.now change.now
         (state S.Store conn.old) (state S.Store conn.new) result }
@@ -73,7 +77,7 @@ fn make_change<S: Alter>(
     let _moment = change.moment.seconds();
     let are_new = test_change(conn, alloc, books, seen, change)?;
     let texts = kept_texts(alloc, &change.number, &change.kept)?;
-    write_change(conn, books, are_new, seen, text, change, &texts)?;
+    write_change(conn, books, are_new, seen, text, stands, change, &texts)?;
     Ok(())
 }
 
@@ -84,17 +88,19 @@ fn ask_to_change<S: Alter>(
     books: &TariffShelf,
     seen: &Option<SeenAccount>,
     text: &str,
+    stands: bool,
     change: &Change,
 ) -> Result<(), ReadFault>
     requires plain { conn.old.in_transaction ≡ false }
     requires idle { HasIdleBook (state S.Store conn.old) }
     requires seen { AreSeen seen.now (state S.Store conn.old) }
+    requires stands { Stands stands (meta_with text.now change.now) (state S.Store conn.old) }
     ensures plain { conn.new.in_transaction ≡ false }
     ensures commits { CommitsStanding (Becomes (shelf_names books.now) text.now change.now)
         (state S.Store conn.old) (state S.Store conn.new) result }
 {
     still_open(conn)?;
-    make_change(conn, alloc, books, seen, text, change)
+    make_change(conn, alloc, books, seen, text, stands, change)
 }
 
 impl<S: Alter> SqlKeeper<S> {
@@ -112,12 +118,14 @@ impl<S: Alter> SqlKeeper<S> {
             self.old self.new result }
     {
         let text = self.text.as_str();
+        let stands = is_last(self.last, change.moment);
         let made = ask_to_change(
             &mut self.connection,
             self.alloc,
             &self.shelf,
             &self.seen,
             text,
+            stands,
             &change,
         );
         self.seen = None;

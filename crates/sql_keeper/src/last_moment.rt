@@ -1,6 +1,6 @@
 //! The last moment that a keeper knows, after a call that writes one.
 
-ghost use Rattle.std.specs.Prelude.{◌≡◌, OnErr, OnOk};
+ghost use Rattle.std.specs.Prelude.{◌≡◌, ◌==◌, OnErr, OnOk};
 
 use sql_tables::ReadFault;
 use units::Moment;
@@ -14,4 +14,11 @@ pub(crate) fn last_after<T>(made: &Result<T, ReadFault>, last: Moment, moment: M
         Ok(_) => moment,
         Err(_) => last,
     }
+}
+
+/// Whether a moment is the last one that a keeper knows.
+pub(crate) fn is_last(last: Moment, moment: Moment) -> bool
+    ensures { result ≡ (last == moment) }
+{
+    last == moment
 }

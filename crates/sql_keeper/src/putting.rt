@@ -8,7 +8,8 @@ ghost use Rattle.sql_rows.specs.Texts.{kept_of};
 ghost use Rattle.sql_keeper.specs.Content.{shelf_names};
 ghost use Rattle.sql_keeper.specs.Commits.{with_money};
 ghost use Rattle.sql_keeper.specs.Writes.{head_columns_of, meta_with, with_change_put, with_kept};
-ghost use Rattle.sql_keeper.specs.Writes.{with_changed_rows, with_named, with_texts};
+ghost use Rattle.sql_keeper.specs.Writes.{meta_at, with_changed_rows, with_meta_put, with_named};
+ghost use Rattle.sql_keeper.specs.Writes.{with_texts};
 ghost use Rattle.sqlite.specs.Held.{state};
 
 use crate::counted_buckets::put_counted;
@@ -26,6 +27,7 @@ use sql_rows::{
 };
 use sql_tables::LATEST;
 use sqlite::{Alter, Error, Transaction};
+use units::Moment;
 
 /// What is kept of an account once.
 pub(crate) fn head_of(rows: &StoredAccount) -> HeadColumns
@@ -167,25 +169,48 @@ fn put_rows<S: Alter>(
     put_paid(tx, &change.number, &change.charges)
 }
 
-/// Puts all that a change names: the moment, the account and its rows, the charges, the texts of
-/// what is kept, and the voucher that is redeemed. Where nothing was there of its groups, nothing
-/// of them is removed, nor where what was seen of them stays.
+/// Puts the moment of the last accepted command, with what else is kept once. Where it stands there
+/// already nothing is written, so that the text of the book isn't written again either.
+fn put_moment<S: Alter>(
+    tx: &mut Transaction<'_, S>,
+    text: &str,
+    moment: Moment,
+    stands: bool,
+) -> Result<(), Error>
+    requires open { IsInside (state S.Store tx.old.conn.now) }
+    requires book { HasBook (state S.Store tx.old.conn.now) }
+    ensures same_reference { tx.new.conn.ghost_name ≡ tx.old.conn.ghost_name }
+    ensures makes { Attempts (MakesIfOpen (with_meta_put stands (meta_at text.now moment)))
+        (state S.Store tx.old.conn.now) (state S.Store tx.new.conn.now) result }
+{
+    if stands {
+        return Ok(());
+    }
+    put_meta(tx, LATEST, text, moment)?;
+    Ok(())
+}
+
+/// Puts all that a change names: the moment unless it stands already, the account and its rows, the
+/// charges, the texts of what is kept, and the voucher that is redeemed. Where nothing was there of
+/// its groups, nothing of them is removed, nor where what was seen of them stays.
 pub(crate) fn put_change<S: Alter>(
     tx: &mut Transaction<'_, S>,
     books: &TariffShelf,
     are_new: bool,
     seen: &Option<SeenAccount>,
     text: &str,
+    stands: bool,
     change: &Change,
     texts: &Option<KeptTexts>,
 ) -> Result<(), Error>
+    requires open { IsInside (state S.Store tx.old.conn.now) }
     requires book { HasBook (state S.Store tx.old.conn.now) }
     ensures same_reference { tx.new.conn.ghost_name ≡ tx.old.conn.ghost_name }
     ensures makes { Attempts (Makes (with_change_put (shelf_names books.now) are_new seen.now
-        (meta_with text.now change.now) change.now (option_map kept_of texts.now)))
+        stands (meta_with text.now change.now) change.now (option_map kept_of texts.now)))
         (state S.Store tx.old.conn.now) (state S.Store tx.new.conn.now) result }
 {
-    put_meta(tx, LATEST, text, change.moment)?;
+    put_moment(tx, text, change.moment, stands)?;
     put_rows(tx, books, are_new, seen, change)?;
     put_kept(tx, &change.number, &change.kept, texts)?;
     put_redeemed(tx, &change.redeemed)

@@ -1,5 +1,5 @@
 use Rattle.sqlite.specs.Held.{state}
-use Rattle.sql_keeper.proofs.SeenRows.{seen_after}
+use Rattle.sql_keeper.proofs.SeenRows.{seen_after, stands_after}
 use Rattle.sql_keeper.proofs.StillOpen.{committed_standing, standing_shut}
 use Rattle.sql_keeper.proofs.committing.ask_to_change.Goals as goal
 
@@ -7,6 +7,11 @@ pub make_change-requires-clause-seen : goal.make_change-requires-clause-seen
 make_change-requires-clause-seen g c =
     seen_after c.args.seen.now (state g.S.Store c.args.conn.now)
     (state g.S.Store c.still_open.new.conn) c.requires.seen c.in_ok-still_open.ensures.only
+
+pub make_change-requires-clause-stands : goal.make_change-requires-clause-stands
+make_change-requires-clause-stands g c =
+    stands_after c.args.stands _ (state g.S.Store c.args.conn.now)
+    (state g.S.Store c.still_open.new.conn) c.requires.stands c.in_ok-still_open.ensures.only
 
 pub make_change-requires-clause-plain : goal.make_change-requires-clause-plain
 make_change-requires-clause-plain g c = c.in_ok-still_open.ensures.only.mode c.requires.plain

@@ -1,16 +1,16 @@
 use Rattle.std.proofs.Common.{option_map, Ok}
 use Rattle.std.proofs.lemmas.Result.{err_from_is_err_and}
-use Rattle.sql_rows.specs.Content.{with_meta}
 use Rattle.sql_rows.specs.Texts.{kept_of}
 use Rattle.sql_keeper.specs.Content.{shelf_names}
-use Rattle.sql_keeper.specs.Writes.{meta_with, with_changed_rows, with_kept, with_redeemed}
-use Rattle.sql_keeper.proofs.Puts.{makes_all_then, makes_failed, makes_then}
+use Rattle.sql_keeper.specs.Writes.{meta_with, with_changed_rows, with_kept, with_meta_put}
+use Rattle.sql_keeper.specs.Writes.{with_redeemed}
+use Rattle.sql_keeper.proofs.Puts.{list_failed, list_makes, makes_all_then, makes_failed}
 use Rattle.sql_keeper.proofs.putting.put_change.Goals as goal
 
 pub returns-clause-makes : goal.returns-clause-makes
 returns-clause-makes g c =
     let change = c.args.change.now in
-    let opened = with_meta (meta_with c.args.text.now change) in
+    let opened = with_meta_put c.args.stands (meta_with c.args.text.now change) in
     let rows = with_changed_rows (shelf_names c.args.books.now) c.args.are_new c.args.seen.now
     change in
     let kept = with_kept change.number change.kept (option_map kept_of c.args.texts.now) in
@@ -19,22 +19,23 @@ returns-clause-makes g c =
     c.put_redeemed.result
     (makes_all_then (λ x. rows (opened x)) kept _ _ _ c.in_ok-put_rows.field-0
     (Ok c.in_ok-put_kept.field-0)
-    (makes_then opened rows _ _ _ c.in_ok-put_meta.field-0 (Ok c.in_ok-put_rows.field-0)
-    c.in_ok-put_meta.ensures.makes c.in_ok-put_rows.ensures.makes) c.in_ok-put_kept.ensures.makes)
+    (list_makes opened rows _ _ _ c.in_ok-put_moment.field-0 (Ok c.in_ok-put_rows.field-0)
+    c.in_ok-put_moment.ensures.makes c.in_ok-put_rows.ensures.makes)
+    c.in_ok-put_kept.ensures.makes)
     c.put_redeemed.ensures.makes
 
 pub returns-in_err-put_rows-clause-makes : goal.returns-in_err-put_rows-clause-makes
 returns-in_err-put_rows-clause-makes g c =
     let p = err_from_is_err_and c.from_residual-in_err-put_rows.result
     c.from_residual-in_err-put_rows.ensures.1 in
-    rw p.1 (makes_failed _ _ _ _ _ _ c.in_ok-put_meta.field-0 _ _ c.in_ok-put_meta.ensures.makes
-    c.in_err-put_rows.ensures.makes)
+    rw p.1 (list_failed _ _ _ _ _ _ c.in_ok-put_moment.field-0 _ _
+    c.in_ok-put_moment.ensures.makes c.in_err-put_rows.ensures.makes)
 
 pub returns-in_err-put_kept-clause-makes : goal.returns-in_err-put_kept-clause-makes
 returns-in_err-put_kept-clause-makes g c =
     let p = err_from_is_err_and c.from_residual-in_err-put_kept.result
     c.from_residual-in_err-put_kept.ensures.1 in
     rw p.1 (makes_failed _ _ _ _ _ _ c.in_ok-put_rows.field-0 _ _
-    (makes_then _ _ _ _ _ c.in_ok-put_meta.field-0 (Ok c.in_ok-put_rows.field-0)
-    c.in_ok-put_meta.ensures.makes c.in_ok-put_rows.ensures.makes)
+    (list_makes _ _ _ _ _ c.in_ok-put_moment.field-0 (Ok c.in_ok-put_rows.field-0)
+    c.in_ok-put_moment.ensures.makes c.in_ok-put_rows.ensures.makes)
     c.in_err-put_kept.ensures.makes)

@@ -1,11 +1,16 @@
-use Rattle.std.proofs.Common.{refl}
+use Rattle.std.proofs.Common.{◌∙◌, refl, sym}
 use Rattle.sql_keeper.specs.Content.{shelf_names}
 use Rattle.sql_keeper.specs.Commits.{Becomes}
-use Rattle.sql_keeper.proofs.Held.{held_committed}
+use Rattle.sql_keeper.proofs.Held.{held_committed, held_stands}
 use Rattle.sql_keeper.proofs.Committed.{committed}
 use Rattle.sql_keeper.proofs.Standing.{keeps, standing_keeper, standing_whole}
 use Rattle.sql_keeper.proofs.Whole.{handed_on}
 use Rattle.sql_keeper.proofs.keeper.SqlKeeper.commit.Goals as goal
+
+pub ask_to_change-made-requires-clause-stands : goal.ask_to_change-made-requires-clause-stands
+ask_to_change-made-requires-clause-stands g c = λ is clean on.
+    held_stands _ c.self.inside.shelf _ _ c.args.change _ c.as_str-text.ensures.value
+    (sym c.is_last-stands.ensures ∙ is) (c.self.invariant.keeper.held clean on)
 
 pub invariant_of-self : goal.invariant_of-self
 invariant_of-self g c = record {
