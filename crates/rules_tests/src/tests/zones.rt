@@ -207,21 +207,42 @@ fn try_clocks(rt: &impl Abort, alloc: Global, cases: &str) {
 
 #[test]
 fn clocks_of_offices(rt: HostRuntime) {
-    try_clocks(&rt, rt.alloc(), offices::ROWS);
+    let alloc = rt.alloc();
+    try_clocks(&rt, alloc, offices::table_1::ROWS);
+    try_clocks(&rt, alloc, offices::table_2::ROWS);
 }
 
 /// Each zone has a change that is in another year on UTC's clock.
 #[test]
 fn clocks_at_new_year(rt: HostRuntime) {
-    try_clocks(&rt, rt.alloc(), at_new_year::ROWS);
+    let alloc = rt.alloc();
+    try_clocks(&rt, alloc, at_new_year::table_1::ROWS);
+    try_clocks(&rt, alloc, at_new_year::table_2::ROWS);
+    try_clocks(&rt, alloc, at_new_year::table_3::ROWS);
+    try_clocks(&rt, alloc, at_new_year::table_4::ROWS);
+    try_clocks(&rt, alloc, at_new_year::table_5::ROWS);
 }
 
 #[test]
 fn clocks_of_northern_zones(rt: HostRuntime) {
-    try_clocks(&rt, rt.alloc(), northern::ROWS);
+    let alloc = rt.alloc();
+    try_clocks(&rt, alloc, northern::table_1::ROWS);
+    try_clocks(&rt, alloc, northern::table_2::ROWS);
+    try_clocks(&rt, alloc, northern::table_3::ROWS);
+    try_clocks(&rt, alloc, northern::table_4::ROWS);
+    try_clocks(&rt, alloc, northern::table_5::ROWS);
+    try_clocks(&rt, alloc, northern::table_6::ROWS);
+    try_clocks(&rt, alloc, northern::table_7::ROWS);
 }
 
 #[test]
 fn clocks_of_southern_zones(rt: HostRuntime) {
-    try_clocks(&rt, rt.alloc(), southern::ROWS);
+    let alloc = rt.alloc();
+    try_clocks(&rt, alloc, southern::table_1::ROWS);
+    try_clocks(&rt, alloc, southern::table_2::ROWS);
+    try_clocks(&rt, alloc, southern::table_3::ROWS);
+    try_clocks(&rt, alloc, southern::table_4::ROWS);
+    try_clocks(&rt, alloc, southern::table_5::ROWS);
+    try_clocks(&rt, alloc, southern::table_6::ROWS);
+    try_clocks(&rt, alloc, southern::table_7::ROWS);
 }
