@@ -6,8 +6,8 @@ use Rattle.reserving.specs.Sessions.{is_open}
 use Rattle.reserving.specs.Left.{is_dead}
 use Rattle.reserving.proofs.Lists.{EachIn-weaker}
 use Rattle.std.specs.Prelude.{is_some}
-use Rattle.keepers.specs.declared.store.LeftStore.{LeftStore}
-use Rattle.keepers.specs.declared.store.Known.{Known}
+use Rattle.keepers.specs.declared.left_rows.LeftStore.{LeftStore}
+use Rattle.keepers.specs.declared.known.Known.{Known}
 use Rattle.keepers.specs.Parts.{AreParts, with_live, leaves_bucket, leaves_counter, leaves_session}
 use Rattle.keepers.specs.Parts.{leaves_group}
 use Rattle.keepers.specs.Named.{is_numbered, is_named, AreLeftBuckets, AreLeftCounters}

@@ -29,8 +29,8 @@ use Rattle.reserving.proofs.LeftMore.{apart_none}
 use Rattle.reserving.proofs.Reordered.{find_reordered}
 use Rattle.reserving.proofs.WrittenOver.{EachIn-written, session_found, group_found, counter_found}
 use Rattle.reserving.proofs.WrittenOver.{number_there}
-use Rattle.keepers.specs.declared.store.LeftStore.{LeftStore}
-use Rattle.keepers.specs.declared.store.Known.{Known}
+use Rattle.keepers.specs.declared.left_rows.LeftStore.{LeftStore}
+use Rattle.keepers.specs.declared.known.Known.{Known}
 use Rattle.keepers.specs.Tables.{head_of, group_row, held_of}
 use Rattle.keepers.specs.Change.{over}
 use Rattle.keepers.specs.Parts.{Parts, AreParts, rows_of_parts}

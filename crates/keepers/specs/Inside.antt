@@ -3,8 +3,8 @@ use Rattle.std.specs.Prelude.{◌≡◌, ◌+◌, ◌≤◌, vec_len, vec_capaci
 use Rattle.keepers.specs.Parts.{Parts, AreParts}
 use Rattle.keepers.specs.Named.{AreLeftBuckets, AreLeftCounters, AreLeftSessions, AreLeftGroups}
 use Rattle.reserving.specs.Stored.{StoredRows}
-use Rattle.keepers.specs.declared.store.LeftStore.{LeftStore}
-use Rattle.keepers.specs.declared.store.Known.{Known}
+use Rattle.keepers.specs.declared.left_rows.LeftStore.{LeftStore}
+use Rattle.keepers.specs.declared.known.Known.{Known}
 use Rattle.keepers.specs.declared.store.Store.TheInside.{Inside as Fields}
 
 abbrev pub parts_by : StoredRows → LeftStore → Parts

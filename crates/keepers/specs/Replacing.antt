@@ -6,8 +6,8 @@ use Rattle.identifiers.specs.Words.{SessionName}
 use Rattle.buckets.specs.Words.{BucketNumber}
 use Rattle.reserving.specs.Rows.{EachIn}
 use Rattle.reserving.specs.Stored.{StoredRows}
-use Rattle.keepers.specs.declared.store.LeftStore.{LeftStore}
-use Rattle.keepers.specs.declared.store.Known.{Known}
+use Rattle.keepers.specs.declared.left_rows.LeftStore.{LeftStore}
+use Rattle.keepers.specs.declared.known.Known.{Known}
 use Rattle.keepers.specs.Parts.{leaves_bucket, leaves_counter, leaves_session, leaves_group}
 use Rattle.keepers.specs.Named.{is_numbered, is_named, AreLeftBuckets, AreLeftCounters}
 use Rattle.keepers.specs.Named.{AreLeftSessions, AreLeftGroups}

@@ -9,7 +9,8 @@ ghost use Rattle.buckets.specs.Row.{BucketRow};
 ghost use Rattle.keepers.specs.Overlaying.{stays_group, rows_over, IsAccountOf, IsGivenOver};
 
 use crate::named_rows::{NamedRows, copy_of_group};
-use crate::store::{has_bucket, has_group, has_session, has_session_near, sessions_of};
+use crate::places::{has_bucket, has_group, has_session, has_session_near};
+use crate::row_copies::sessions_of;
 use buckets::{Bucket, Purse};
 use reserving::{Counter, GivenRows, Session, SessionGroup, SessionState, StoredAccount};
 use std::alloc::{AllocError, Global};

@@ -1,0 +1,8 @@
+use Rattle.std.proofs.Common.{rules}
+use Rattle.std.proofs.lemmas.List.Sorted.{IsNonDecreasingBy-from_sort_by_key}
+use Rattle.buckets.specs.Row.{BucketRow}
+use Rattle.keepers.proofs.row_copies.sort_by_number.Goals as goal
+
+pub returns-clause-order : goal.returns-clause-order
+returns-clause-order c = IsNonDecreasingBy-from_sort_by_key (λ (b : BucketRow). b.number) _
+    c.in_ok-sort_by_key.ensures.sorted (λ a r q k. search rules)
