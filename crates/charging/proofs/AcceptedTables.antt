@@ -13,7 +13,7 @@ use Rattle.voucher_rules.specs.Standing.{unspent}
 use Rattle.voucher_rules.specs.Adding.{addition, after_addition}
 use Rattle.voucher_rules.specs.Redeeming.{DayEnds}
 use Rattle.shelves.specs.Shelves.{Shelf}
-use Rattle.reserving.specs.Charges.{charge_rows}
+use Rattle.ledger.specs.Charges.{charge_rows}
 use Rattle.reserving.specs.Left.{first_of}
 use Rattle.reserving.proofs.LeftParted.{find_both}
 use Rattle.keepers.specs.declared.key.Key.{Key}

@@ -12,9 +12,9 @@ use Rattle.commands.specs.declared.command.Command.TheVariants as command
 use Rattle.commands.specs.declared.command.Content.TheVariants as content
 use Rattle.shelves.specs.Shelves.{Shelf, book_at}
 use Rattle.buckets.specs.declared.kind.BucketKind.TheVariants.{Blocks}
-use Rattle.reserving.specs.Ledger.{Ledger, next_bucket}
-use Rattle.reserving.specs.Charges.{charge_rows}
-use Rattle.reserving.specs.Requests.{credited}
+use Rattle.ledger.specs.Ledger.{Ledger, next_bucket}
+use Rattle.ledger.specs.Charges.{charge_rows}
+use Rattle.ledger.specs.Requests.{credited}
 use Rattle.reserving.specs.Rows.{AccountRows}
 use Rattle.reserving.specs.Stored.{priced}
 use Rattle.reserving.specs.Left.{LeftRows, IsWith, left_of}

@@ -9,17 +9,17 @@ use Rattle.std.proofs.lemmas.Bool.{and_from, or_left, or_right, or_parts}
 use Rattle.shelves.specs.Shelves.{Shelf, IsShelf}
 use Rattle.commands.specs.declared.command.Command.{Command}
 use Rattle.commands.specs.declared.command.Command.TheVariants as command
-use Rattle.reserving.specs.Balance.{buckets_at}
+use Rattle.ledger.specs.Balance.{buckets_at}
 use Rattle.reserving.specs.Sessions.{session_at, group_in, group_at}
-use Rattle.reserving.specs.Charges.{charge_rows}
-use Rattle.reserving.specs.Ledger.{Ledger}
+use Rattle.ledger.specs.Charges.{charge_rows}
+use Rattle.ledger.specs.Ledger.{Ledger}
 use Rattle.reserving.specs.Rows.{IsRowsOf}
 use Rattle.reserving.specs.Left.{bucket_in}
 use Rattle.reserving.specs.Stored.{priced, advanced_stored}
 use Rattle.reserving.proofs.Advancing.{IsRowsOf-advanced}
 use Rattle.reserving.proofs.StoredRows.{IsAccount-priced, IsStored-advanced}
-use Rattle.reserving.proofs.Keys.{is_same-refl}
-use Rattle.reserving.specs.Pricing.{validity_of}
+use Rattle.ledger.proofs.Names.{is_same-refl}
+use Rattle.ledger.specs.Pricing.{validity_of}
 use Rattle.charging.specs.Histories.{History, no_history, kept_under}
 use Rattle.keepers.specs.Tables.{Head, Rows, Tables, head_of, group_row, held_of, charge_in}
 use Rattle.keepers.specs.Change.{AreRowsAt}

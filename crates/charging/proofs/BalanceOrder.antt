@@ -1,9 +1,9 @@
 -- A balance tells each bucket of an account once, in the order of their numbers.
 use Rattle.std.proofs.Common.{List}
 use Rattle.buckets.specs.Row.{BucketRow}
-use Rattle.reserving.specs.Ledger.{Ledger}
-use Rattle.reserving.specs.Balance.{buckets_at}
-use Rattle.reserving.specs.Pricing.{validity_of}
+use Rattle.ledger.specs.Ledger.{Ledger}
+use Rattle.ledger.specs.Balance.{buckets_at}
+use Rattle.ledger.specs.Pricing.{validity_of}
 use Rattle.reserving.specs.Rows.{AreApart}
 use Rattle.keepers.specs.Keyed.{same_bucket}
 use Rattle.keepers.proofs.Found.{distinct_apart}

@@ -28,28 +28,26 @@ use Rattle.buckets.specs.declared.holds.HeldAmount.{HeldAmount}
 use Rattle.buckets.specs.Row.{BucketRow}
 use Rattle.buckets.specs.Share.{parts}
 use Rattle.buckets.specs.Holding.{paid, holds_of}
-use Rattle.reserving.specs.declared.charge.ChargeRow.{ChargeRow}
+use Rattle.ledger.specs.declared.charge.ChargeRow.{ChargeRow}
 use Rattle.reserving.specs.declared.session.Counter.{Counter}
-use Rattle.reserving.specs.declared.session.Terms.{Terms}
-use Rattle.reserving.specs.Ledger.{Fact, Dated, Ledger, counter, used, open_grant, next_charge}
-use Rattle.reserving.specs.Ledger.{uses_in}
-use Rattle.reserving.specs.Ledger.{UseOf, blocks_by, number_of, counts}
-use Rattle.reserving.specs.Charges.{charge_of, charge_rows}
-use Rattle.reserving.specs.Charges.{charge_by}
-use Rattle.reserving.specs.Pricing.{cycle_at, terms_now, prices_by, rated_with, validity_of}
-use Rattle.reserving.specs.Settlement.{charge_facts, due_of, price_of, report_price, settled_by}
-use Rattle.reserving.specs.Settlement.{coverable}
-use Rattle.reserving.specs.Reservation.{grant_for, held_due, hold_facts}
-use Rattle.reserving.specs.Debiting.{rest_price}
-use Rattle.reserving.specs.Balance.{buckets_at}
-use Rattle.reserving.specs.Sessions.{counter_in, holds_at, is_counter}
+use Rattle.ledger.specs.declared.terms.Terms.{Terms}
+use Rattle.ledger.specs.Ledger.{Fact, Dated, Ledger, counter, used, open_grant, next_charge}
+use Rattle.ledger.specs.Ledger.{uses_in, UseOf, blocks_by, number_of, counts}
+use Rattle.ledger.specs.Charges.{charge_of, charge_rows, charge_by}
+use Rattle.ledger.specs.Pricing.{cycle_at, terms_now, prices_by, rated_with, validity_of}
+use Rattle.ledger.specs.Settlement.{charge_facts, due_of, price_of, report_price, settled_by}
+use Rattle.ledger.specs.Settlement.{coverable}
+use Rattle.ledger.specs.Reservation.{grant_for, held_due, hold_facts}
+use Rattle.ledger.specs.Debiting.{rest_price}
+use Rattle.ledger.specs.Balance.{buckets_at, holds_at}
+use Rattle.reserving.specs.Sessions.{counter_in, is_counter}
 use Rattle.reserving.specs.Changes.{count_in}
-use Rattle.reserving.specs.Rows.{EachIn}
+use Rattle.ledger.specs.Lists.{EachIn}
 use Rattle.reserving.specs.Stored.{priced}
-use Rattle.reserving.proofs.Keys.{number_same}
+use Rattle.ledger.proofs.Names.{number_same}
 use Rattle.reserving.proofs.Lists.{EachIn-found}
 use Rattle.reserving.proofs.LeftTests.{each_append}
-use Rattle.reserving.proofs.SettledFacts.{each_charge, each_hold}
+use Rattle.ledger.proofs.Fronts.{each_charge, each_hold}
 use Rattle.reserving.proofs.SettledRows.{count_in_is}
 use Rattle.keepers.specs.Tables.{Head, Rows}
 use Rattle.keepers.specs.Change.{AreRowsAt}

@@ -13,8 +13,8 @@ use Rattle.buckets.specs.Spend.{AreDistinct, Each, inserted}
 use Rattle.buckets.specs.Holding.{held_in, held_sum}
 use Rattle.buckets.proofs.Dues.{sum_in-cons}
 use Rattle.buckets.proofs.Parts.{sum_at, sum_at-parts, held_in-sum_at}
-use Rattle.reserving.specs.Ledger.{Ledger}
-use Rattle.reserving.specs.Balance.{bucket_at}
+use Rattle.ledger.specs.Ledger.{Ledger}
+use Rattle.ledger.specs.Balance.{bucket_at}
 
 -- ---- sums over the buckets of a kind
 

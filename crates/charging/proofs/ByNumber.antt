@@ -13,10 +13,12 @@ use Rattle.std.proofs.lemmas.List.Elements.{All-from_recursion, recursion_from_A
 use Rattle.std.proofs.lemmas.List.Folds.{find-append}
 use Rattle.buckets.specs.Row.{BucketRow}
 use Rattle.buckets.specs.Spend.{AreDistinct, DiffersFromAll}
-use Rattle.reserving.specs.Rows.{EachIn, AreApart}
+use Rattle.ledger.specs.Lists.{EachIn}
+use Rattle.reserving.specs.Rows.{AreApart}
 use Rattle.reserving.specs.Left.{bucket_in, merged, first_of}
 use Rattle.reserving.proofs.Lists.{no_some, some_of, not_both}
-use Rattle.reserving.proofs.Keys.{same_number, number_same}
+use Rattle.ledger.proofs.Names.{number_same}
+use Rattle.reserving.proofs.Keys.{same_number}
 use Rattle.reserving.proofs.LeftMore.{one_by_number}
 use Rattle.keepers.specs.Keyed.{same_bucket}
 use Rattle.keepers.proofs.Found.{bucket_merged, distinct_merged, distinct_placed, distinct_apart}

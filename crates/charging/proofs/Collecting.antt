@@ -18,23 +18,21 @@ use Rattle.buckets.specs.Holding.{paid, holds_of, held_sum, uncollected}
 use Rattle.buckets.proofs.Dues.{sum_in-cons}
 use Rattle.buckets.proofs.Paid.{sum_in-both}
 use Rattle.buckets.proofs.Parts.{sum_at, sum_at-parts}
-use Rattle.reserving.specs.Ledger.{Fact, Ledger, charged, next_bucket, next_charge, counts}
-use Rattle.reserving.specs.Ledger.Fact.{Recorded}
-use Rattle.reserving.specs.SoundLedger.{IsSoundLedger}
-use Rattle.reserving.specs.Balance.{credits, bucket_at, buckets_at}
-use Rattle.reserving.specs.Charges.{charge_rows}
-use Rattle.reserving.specs.Charges.{charge_by}
-use Rattle.reserving.specs.Sessions.{holds_at}
-use Rattle.reserving.specs.Requests.{recorded, touched, credited}
-use Rattle.reserving.specs.Settlement.{charge_facts, reported, report_price, settled, settled_by}
-use Rattle.reserving.specs.Settlement.{due_of}
-use Rattle.reserving.specs.Reservation.{reserved}
-use Rattle.reserving.specs.Debiting.{rest_price, is_covered, debited}
+use Rattle.ledger.specs.Ledger.{Fact, Ledger, charged, next_bucket, next_charge, counts}
+use Rattle.ledger.specs.Ledger.Fact.{Recorded}
+use Rattle.ledger.specs.SoundLedger.{IsSoundLedger}
+use Rattle.ledger.specs.Balance.{credits, bucket_at, buckets_at, holds_at}
+use Rattle.ledger.specs.Charges.{charge_rows, charge_by}
+use Rattle.ledger.specs.Requests.{recorded, touched, credited}
+use Rattle.ledger.specs.Settlement.{charge_facts, reported, report_price, settled, settled_by}
+use Rattle.ledger.specs.Settlement.{due_of}
+use Rattle.ledger.specs.Reservation.{reserved}
+use Rattle.ledger.specs.Debiting.{rest_price, is_covered, debited}
 use Rattle.reserving.proofs.ChargeRows.{charge_rows-touched, charge_rows-credited}
 use Rattle.reserving.proofs.ChargeRows.{charge_rows-reserved, charge_rows-settled}
 use Rattle.reserving.proofs.ChargeRows.{charge_row, charge_rows-charged_use}
-use Rattle.reserving.proofs.SettledFacts.{charged-charge_facts, charged-hold_facts}
-use Rattle.reserving.specs.Pricing.{validity_of}
+use Rattle.ledger.proofs.Fronts.{charged-charge_facts, charged-hold_facts}
+use Rattle.ledger.specs.Pricing.{validity_of}
 use Rattle.charging.specs.Collected.{taken_of, taken_to_date, charged_to_date}
 use Rattle.charging.specs.SessionReports.{Report}
 use Rattle.charging.proofs.BucketSums.{sum_in-each, sum_in-alike, sum_in-inserted, sum_in-moved}

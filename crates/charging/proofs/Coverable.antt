@@ -20,14 +20,13 @@ use Rattle.buckets.specs.Share.{sum_in}
 use Rattle.buckets.specs.Spend.{IsInOrder, allowance}
 use Rattle.buckets.specs.Holding.{held_sum, paid, uncollected}
 use Rattle.buckets.proofs.Paid.{sum_in-paid}
-use Rattle.reserving.specs.declared.session.Terms.{Terms}
-use Rattle.reserving.specs.Ledger.{Ledger, used, counter, open_grant}
-use Rattle.reserving.specs.Pricing.{cycle_at, terms_now, rated_with, rated_parts, prices_by}
-use Rattle.reserving.specs.Pricing.{validity_of}
-use Rattle.reserving.specs.Balance.{buckets_at}
-use Rattle.reserving.specs.Sessions.{holds_at}
-use Rattle.reserving.specs.Settlement.{report_price, coverable}
-use Rattle.reserving.specs.Debiting.{untagged, rest_price}
+use Rattle.ledger.specs.declared.terms.Terms.{Terms}
+use Rattle.ledger.specs.Ledger.{Ledger, used, counter, open_grant}
+use Rattle.ledger.specs.Pricing.{cycle_at, terms_now, rated_with, rated_parts, prices_by}
+use Rattle.ledger.specs.Pricing.{validity_of}
+use Rattle.ledger.specs.Balance.{buckets_at, holds_at}
+use Rattle.ledger.specs.Settlement.{report_price, coverable}
+use Rattle.ledger.specs.Debiting.{untagged, rest_price}
 use Rattle.charging.specs.Allowed.{CoversFirst, ReportsAreCovered, EventsAreCovered}
 
 -- ---- what buckets pay of what is due, in each unit

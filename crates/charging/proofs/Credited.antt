@@ -7,11 +7,11 @@ use Rattle.buckets.specs.Row.{BucketRow, new_row}
 use Rattle.buckets.specs.Spend.{IsInOrder, AreDistinct, IsBelow, inserted}
 use Rattle.buckets.proofs.SharesAlong.{KeepsPlace, IsInOrder-map, IsInOrder-inserted}
 use Rattle.buckets.proofs.Kept.{AreDistinct-map, AreDistinct-inserted}
-use Rattle.reserving.specs.Ledger.{Fact, Ledger, next_bucket}
-use Rattle.reserving.specs.Balance.{credits, bucket_at, buckets_at}
-use Rattle.reserving.specs.Requests.{credited}
-use Rattle.reserving.specs.Settlement.{charge_facts}
-use Rattle.reserving.specs.Reservation.{hold_facts}
+use Rattle.ledger.specs.Ledger.{Fact, Ledger, next_bucket}
+use Rattle.ledger.specs.Balance.{credits, bucket_at, buckets_at}
+use Rattle.ledger.specs.Requests.{credited}
+use Rattle.ledger.specs.Settlement.{charge_facts}
+use Rattle.ledger.specs.Reservation.{hold_facts}
 use Rattle.reserving.proofs.Crediting.{IsBelow-inserted}
 use Rattle.reserving.proofs.rows.Lapsing.{IsBelow-map}
 use Rattle.charging.proofs.Steps.{is_quiet}

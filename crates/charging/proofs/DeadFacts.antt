@@ -16,26 +16,25 @@ use Rattle.buckets.specs.Holding.{held_in, unheld, paid, holds_of}
 use Rattle.buckets.proofs.Kept.{Each-inserted}
 use Rattle.units.specs.declared.blocks.UsedPart.{UsedPart}
 use Rattle.shelves.specs.Shelves.{Shelf}
-use Rattle.reserving.specs.Ledger.{Fact, Ledger, is_same, or_else, touch_in, recording_in, closes}
-use Rattle.reserving.specs.Ledger.{units_in, names_group, charge_to, credits_in, hold_of}
-use Rattle.reserving.specs.Ledger.{counts_before, charged, next_bucket, used, last_touch, is_within}
-use Rattle.reserving.specs.Ledger.{is_closed, is_live, last_recording, held, only, has_group}
-use Rattle.reserving.specs.Ledger.{Counts, GrantOf, HoldOf, EndOf, UseOf, ChargeOf, RequestOf}
-use Rattle.reserving.specs.Ledger.{counts as counts_of, number_of, test_of, paid_by, units_by}
-use Rattle.reserving.specs.Ledger.{holds_by, but_ended, ends_of, touched_at, recorded_at}
-use Rattle.reserving.specs.Ledger.Fact.{Credit, Grant, Hold, End, Use, Charge, Touch}
-use Rattle.reserving.specs.Ledger.Fact.{Close, Recorded, Barred}
-use Rattle.reserving.specs.Balance.{with_credit, credited_by, credits, bucket_at, buckets_at}
-use Rattle.reserving.specs.Sessions.{holds_at}
-use Rattle.reserving.specs.Pricing.{validity_of}
+use Rattle.ledger.specs.Ledger.{Fact, Ledger, is_same, or_else, touch_in, recording_in, closes}
+use Rattle.ledger.specs.Ledger.{units_in, names_group, charge_to, credits_in, hold_of}
+use Rattle.ledger.specs.Ledger.{counts_before, charged, next_bucket, used, last_touch, is_within}
+use Rattle.ledger.specs.Ledger.{is_closed, is_live, last_recording, held, only, has_group, Counts}
+use Rattle.ledger.specs.Ledger.{GrantOf, HoldOf, EndOf, UseOf, ChargeOf, RequestOf}
+use Rattle.ledger.specs.Ledger.{counts as counts_of, number_of, test_of, paid_by, units_by}
+use Rattle.ledger.specs.Ledger.{holds_by, but_ended, ends_of, touched_at, recorded_at}
+use Rattle.ledger.specs.Ledger.Fact.{Credit, Grant, Hold, End, Use, Charge, Touch, Close, Recorded}
+use Rattle.ledger.specs.Ledger.Fact.{Barred}
+use Rattle.ledger.specs.Balance.{with_credit, credited_by, credits, bucket_at, buckets_at, holds_at}
+use Rattle.ledger.specs.Pricing.{validity_of}
 use Rattle.reserving.specs.Left.{bucket_in}
-use Rattle.reserving.specs.Rows.{EachIn}
-use Rattle.reserving.specs.Requests.{credited}
-use Rattle.reserving.specs.Settlement.{charge_facts, use_of, settled_by, report_price, due_of}
-use Rattle.reserving.specs.Reservation.{grant_at, hold_for, hold_facts}
-use Rattle.reserving.specs.Debiting.{debited, rest_price}
+use Rattle.ledger.specs.Lists.{EachIn}
+use Rattle.ledger.specs.Requests.{credited}
+use Rattle.ledger.specs.Settlement.{charge_facts, use_of, settled_by, report_price, due_of}
+use Rattle.ledger.specs.Reservation.{grant_at, hold_for, hold_facts}
+use Rattle.ledger.specs.Debiting.{debited, rest_price}
 use Rattle.reserving.proofs.Keys.{same_number}
-use Rattle.reserving.proofs.Holds.{same_from}
+use Rattle.ledger.proofs.Holds.{same_from}
 use Rattle.reserving.proofs.Counted.{is_named}
 use Rattle.charging.proofs.StepsAt.{KeepsAt}
 

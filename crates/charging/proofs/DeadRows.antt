@@ -9,19 +9,21 @@ use Rattle.buckets.specs.Spend.{Each, AreDistinct, IsBelow}
 use Rattle.shelves.specs.Shelves.{Shelf}
 use Rattle.reserving.specs.declared.session.Session.{Session}
 use Rattle.reserving.specs.declared.session.SessionState.TheVariants.{Open, Ended, NeverOpened}
-use Rattle.reserving.specs.Ledger.{Fact, Ledger, Recording, is_same, counts_before, hold_of, held}
-use Rattle.reserving.specs.Ledger.{charged, only, is_live, last_touch, last_recording, open_grant}
-use Rattle.reserving.specs.Ledger.{next_bucket, HoldOf, EndOf, counts as counts_of, number_of}
-use Rattle.reserving.specs.Ledger.{holds_by, but_ended, ends_of}
-use Rattle.reserving.specs.Balance.{credits, balance_of, bucket_at, buckets_at}
-use Rattle.reserving.specs.Sessions.{is_open, state_at, session_row, session_at, holds_at}
+use Rattle.ledger.specs.Ledger.{Fact, Ledger, Recording, is_same, counts_before, hold_of, held}
+use Rattle.ledger.specs.Ledger.{charged, only, is_live, last_touch, last_recording, open_grant}
+use Rattle.ledger.specs.Ledger.{next_bucket, HoldOf, EndOf, counts as counts_of, number_of}
+use Rattle.ledger.specs.Ledger.{holds_by, but_ended, ends_of}
+use Rattle.ledger.specs.Balance.{credits, balance_of, bucket_at, buckets_at, holds_at}
+use Rattle.reserving.specs.Sessions.{is_open, state_at, session_row, session_at}
 use Rattle.reserving.specs.Sessions.{reservation_of, reservation_at, group_at}
-use Rattle.reserving.specs.Left.{IsDead, bucket_in}
-use Rattle.reserving.specs.SoundLedger.{IsSoundLedger}
-use Rattle.reserving.specs.Pricing.{validity_of}
-use Rattle.reserving.proofs.Keys.{same_number, number_same, is_same-refl}
+use Rattle.ledger.specs.Laws.{IsDead}
+use Rattle.reserving.specs.Left.{bucket_in}
+use Rattle.ledger.specs.SoundLedger.{IsSoundLedger}
+use Rattle.ledger.specs.Pricing.{validity_of}
+use Rattle.ledger.proofs.Names.{number_same, is_same-refl}
+use Rattle.reserving.proofs.Keys.{same_number}
 use Rattle.reserving.proofs.Lists.{no_some, some_of, find-map, find-passes}
-use Rattle.reserving.proofs.Holds.{held_split, held_same, split_less, one_split}
+use Rattle.ledger.proofs.Holds.{held_split, held_same, split_less, one_split}
 use Rattle.charging.specs.Accepted.{Accepted, concerned_by, names, last_moment}
 use Rattle.charging.specs.declared.running.DatedCommand.{DatedCommand}
 use Rattle.charging.specs.Served.{history, standing, moment_of, accepts}

@@ -33,16 +33,15 @@ use Rattle.buckets.specs.Holding.{paid}
 use Rattle.buckets.specs.declared.kind.BucketKind.TheVariants.{Money}
 use Rattle.shelves.specs.Shelves.{Shelf, book_at, count}
 use Rattle.shelves.specs.Laws.{GoesOnFrom}
-use Rattle.reserving.specs.Ledger.{Ledger, is_live, is_barred, last_recording, used, next_charge}
-use Rattle.reserving.specs.Ledger.{next_bucket, or_else}
-use Rattle.reserving.specs.Ledger.Fact.{Use}
-use Rattle.reserving.specs.Pricing.{validity_of, tariff_of, tariff_at, switch_by, validity_by}
-use Rattle.reserving.specs.Pricing.{wanted_units}
-use Rattle.reserving.specs.Requests.{recorded, touched, closed, credited}
-use Rattle.reserving.specs.Settlement.{settled_by, due_of, charge_facts, passes}
-use Rattle.reserving.specs.Settlement.{use_of}
-use Rattle.reserving.specs.Reservation.{reserved, grant_for, held_due}
-use Rattle.reserving.specs.Debiting.{debited, debit_passes, is_covered}
+use Rattle.ledger.specs.Ledger.{Ledger, is_live, is_barred, last_recording, used, next_charge}
+use Rattle.ledger.specs.Ledger.{next_bucket, or_else}
+use Rattle.ledger.specs.Ledger.Fact.{Use}
+use Rattle.ledger.specs.Pricing.{validity_of, tariff_of, tariff_at, switch_by, validity_by}
+use Rattle.ledger.specs.Pricing.{wanted_units}
+use Rattle.ledger.specs.Requests.{recorded, touched, closed, credited}
+use Rattle.ledger.specs.Settlement.{settled_by, due_of, charge_facts, passes, use_of}
+use Rattle.ledger.specs.Reservation.{reserved, grant_for, held_due}
+use Rattle.ledger.specs.Debiting.{debited, debit_passes, is_covered}
 use Rattle.reserving.proofs.LaterBooks.{AgreeBefore, live_same}
 use Rattle.reserving.proofs.LaterCalls.{rows_same, place_same, settled_same, limit_same}
 use Rattle.reserving.proofs.LaterCalls.{grant_same, reserved_same, event_same, rest_same}

@@ -14,8 +14,8 @@ use Rattle.voucher_rules.specs.Redeeming.{after_redemption}
 use Rattle.shelves.specs.Shelves.{Shelf, count}
 use Rattle.shelves.specs.Laws.{GoesOnFrom}
 use Rattle.shelves.proofs.Adding.{addable, nothing_before}
-use Rattle.reserving.specs.Ledger.{Ledger}
-use Rattle.reserving.specs.Charges.{charge_rows}
+use Rattle.ledger.specs.Ledger.{Ledger}
+use Rattle.ledger.specs.Charges.{charge_rows}
 use Rattle.reserving.proofs.LaterBooks.{IsBefore}
 use Rattle.decisions.specs.Known.{is_known}
 use Rattle.decisions.specs.Reports.{parts_of}

@@ -7,11 +7,11 @@ use Rattle.buckets.specs.declared.kind.BucketKind.{BucketKind}
 use Rattle.buckets.specs.declared.kind.Due.{Due}
 use Rattle.shelves.specs.Shelves.{Shelf, count, number_at}
 use Rattle.shelves.proofs.Begun.{begun_few}
-use Rattle.reserving.specs.Ledger.{Ledger}
-use Rattle.reserving.specs.Requests.{recorded, touched, closed, credited, with_bar}
-use Rattle.reserving.specs.Settlement.{settled_by, charge_facts}
-use Rattle.reserving.specs.Reservation.{reserved, hold_facts}
-use Rattle.reserving.specs.Debiting.{debited}
+use Rattle.ledger.specs.Ledger.{Ledger}
+use Rattle.ledger.specs.Requests.{recorded, touched, closed, credited, with_bar}
+use Rattle.ledger.specs.Settlement.{settled_by, charge_facts}
+use Rattle.ledger.specs.Reservation.{reserved, hold_facts}
+use Rattle.ledger.specs.Debiting.{debited}
 use Rattle.reserving.proofs.LaterBooks.{IsBefore}
 use Rattle.reserving.proofs.LaterCalls.{AreNumbered}
 use Rattle.charging.proofs.Steps.{with_grant}

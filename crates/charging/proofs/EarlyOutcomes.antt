@@ -31,7 +31,7 @@ use Rattle.voucher_rules.specs.Redeeming.{moment_in_time, end_after, redemption_
 use Rattle.buckets.specs.declared.kind.BucketKind.TheVariants.{Money, Blocks}
 use Rattle.shelves.specs.Shelves.{Shelf, count}
 use Rattle.shelves.specs.Laws.{GoesOnFrom}
-use Rattle.reserving.specs.Ledger.{is_barred}
+use Rattle.ledger.specs.Ledger.{is_barred}
 use Rattle.reserving.proofs.LaterCalls.{rows_same}
 use Rattle.decisions.specs.Decided.{Decision}
 use Rattle.decisions.specs.Decisions.{decision, answer_of, is_read}

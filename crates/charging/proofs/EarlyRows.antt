@@ -5,8 +5,8 @@ use Rattle.std.specs.Prelude.{if◌then◌else◌}
 use Rattle.tariffs.specs.Books.{Book}
 use Rattle.shelves.specs.Shelves.{Shelf}
 use Rattle.shelves.specs.Laws.{GoesOnFrom}
-use Rattle.reserving.specs.Ledger.{Ledger}
-use Rattle.reserving.specs.Pricing.{validity_of, cycle_at, cycle_with, tariff_of}
+use Rattle.ledger.specs.Ledger.{Ledger}
+use Rattle.ledger.specs.Pricing.{validity_of, cycle_at, cycle_with, tariff_of}
 use Rattle.reserving.specs.Sessions.{counter_at}
 use Rattle.reserving.specs.Rows.{IsRowsOf}
 use Rattle.reserving.specs.Stored.{StoredRows, priced}

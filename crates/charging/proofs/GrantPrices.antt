@@ -19,8 +19,8 @@ use Rattle.rating.specs.Granted.{dearer, greatest_covered, granted_units, block_
 use Rattle.rating.proofs.Sums.{dearer_none}
 use Rattle.rating.proofs.Grants.{starts_to_end}
 use Rattle.rating.proofs.Quotas.{pays_within}
-use Rattle.reserving.specs.Pricing.{prices_by, rated_parts, rated_with, grant_with, wanted_units}
-use Rattle.reserving.specs.Settlement.{reported}
+use Rattle.ledger.specs.Pricing.{prices_by, rated_parts, rated_with, grant_with, wanted_units}
+use Rattle.ledger.specs.Settlement.{reported}
 use Rattle.reserving.proofs.Reported.{reported_is}
 
 -- ---- the blocks that units start

@@ -10,7 +10,7 @@ use Rattle.shelves.specs.Shelves.{Shelf, IsShelf, number_at, tariff_in}
 use Rattle.shelves.specs.declared.dated.DatedBook.{DatedBook}
 use Rattle.shelves.proofs.Begun.{book_within, last_begun_holds}
 use Rattle.tariffs.specs.Books.{Book, IsBook}
-use Rattle.reserving.specs.declared.session.Terms.{Terms}
+use Rattle.ledger.specs.declared.terms.Terms.{Terms}
 use Rattle.tariffs.specs.Tariffs.{GroupTariff, IsTariff}
 use Rattle.rating.specs.declared.grant.Grant.{Grant as RatedGrant}
 use Rattle.units.specs.declared.blocks.UsedPart.{UsedPart}
@@ -24,22 +24,19 @@ use Rattle.buckets.specs.Share.{sum_in, share, parts}
 use Rattle.buckets.specs.Spend.{funds, allowance}
 use Rattle.buckets.specs.Holding.{held_in, held_sum, holds_of, paid}
 use Rattle.buckets.proofs.Parts.{sum_at, held_in-sum_at}
-use Rattle.reserving.specs.Ledger.{Fact, Ledger, or_else, inner, newest, last_recording, used}
-use Rattle.reserving.specs.Ledger.{counter, held, only, open_grant, grant_in, next_bucket}
-use Rattle.reserving.specs.Ledger.{UseOf, test_of, counts}
-use Rattle.reserving.specs.Ledger.Fact.{Grant, End, Use}
-use Rattle.reserving.specs.Pricing.{tariff_of, tariff_at, cycle_at, periods_at, terms_at}
-use Rattle.reserving.specs.Pricing.{validity_of}
-use Rattle.reserving.specs.Balance.{credits, buckets_at}
-use Rattle.reserving.specs.Requests.{credited}
-use Rattle.reserving.specs.Settlement.{charge_facts, due_of, report_price, settled_by}
-use Rattle.reserving.specs.Settlement.{use_of}
-use Rattle.reserving.specs.Reservation.{reserved, grant_for, held_due}
-use Rattle.reserving.specs.Reservation.{grant_at}
-use Rattle.reserving.specs.Debiting.{rest_price, debited}
+use Rattle.ledger.specs.Ledger.{Fact, Ledger, or_else, inner, newest, last_recording, used, counter}
+use Rattle.ledger.specs.Ledger.{held, only, open_grant, grant_in, next_bucket, UseOf, test_of}
+use Rattle.ledger.specs.Ledger.{counts}
+use Rattle.ledger.specs.Ledger.Fact.{Grant, End, Use}
+use Rattle.ledger.specs.Pricing.{tariff_of, tariff_at, cycle_at, periods_at, terms_at, validity_of}
+use Rattle.ledger.specs.Balance.{credits, buckets_at}
+use Rattle.ledger.specs.Requests.{credited}
+use Rattle.ledger.specs.Settlement.{charge_facts, due_of, report_price, settled_by, use_of}
+use Rattle.ledger.specs.Reservation.{reserved, grant_for, held_due, grant_at}
+use Rattle.ledger.specs.Debiting.{rest_price, debited}
 use Rattle.reserving.proofs.Lists.{some_of}
 use Rattle.reserving.proofs.Keys.{is_key, own_key, key_session, key_group}
-use Rattle.reserving.proofs.SettledFacts.{held-hold_facts, credits-hold_facts}
+use Rattle.ledger.proofs.Fronts.{held-hold_facts, credits-hold_facts}
 use Rattle.charging.specs.Quotas.{OpenGrant, grant_told, grant_open}
 use Rattle.buckets.proofs.Paid.{sum_in-share}
 use Rattle.charging.proofs.BucketSums.{sum_in-most, sum_in-alike, sum_in-moved, held_sum-parts}

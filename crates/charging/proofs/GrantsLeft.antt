@@ -8,18 +8,15 @@ use Rattle.buckets.specs.declared.kind.BucketKind.{BucketKind}
 use Rattle.buckets.specs.Kinds.{is_alike}
 use Rattle.buckets.specs.Row.{BucketRow, new_row}
 use Rattle.buckets.specs.Share.{sum_in}
-use Rattle.reserving.specs.Ledger.{Fact, Ledger, or_else, last_recording, used, held}
-use Rattle.reserving.specs.Ledger.{only, grant_in, open_grant}
-use Rattle.reserving.specs.Ledger.{Counts, CreditOf, EndOf, but_ended, inner, newest, recorded_at}
-use Rattle.reserving.specs.Ledger.{test_of, counts}
-use Rattle.reserving.specs.Ledger.Fact.{Hold, Charge}
-use Rattle.reserving.specs.Balance.{credits}
-use Rattle.reserving.specs.Balance.{with_credit}
-use Rattle.reserving.specs.Settlement.{charge_facts}
-use Rattle.reserving.specs.Reservation.{hold_facts}
-use Rattle.reserving.specs.Reservation.{hold_for}
+use Rattle.ledger.specs.Ledger.{Fact, Ledger, or_else, last_recording, used, held, only, grant_in}
+use Rattle.ledger.specs.Ledger.{open_grant, Counts, CreditOf, EndOf, but_ended, inner, newest}
+use Rattle.ledger.specs.Ledger.{recorded_at, test_of, counts}
+use Rattle.ledger.specs.Ledger.Fact.{Hold, Charge}
+use Rattle.ledger.specs.Balance.{credits, with_credit}
+use Rattle.ledger.specs.Settlement.{charge_facts}
+use Rattle.ledger.specs.Reservation.{hold_facts, hold_for}
 use Rattle.reserving.proofs.Keys.{is_key, is_key-sym, key_session, key_group}
-use Rattle.reserving.proofs.Holds.{held_same}
+use Rattle.ledger.proofs.Holds.{held_same}
 use Rattle.charging.specs.Quotas.{quota_by, grant_told, grant_open}
 use Rattle.charging.proofs.BucketSums.{sum_in-most, sum_in-inserted}
 use Rattle.reserving.proofs.Counted.{is_end, is_named, rest_none, unnamed_use, untold}

@@ -4,9 +4,9 @@ use Rattle.commands.specs.declared.request.Request.{Request}
 use Rattle.shelves.specs.Shelves.{Shelf}
 use Rattle.units.specs.declared.blocks.UsedPart.{UsedPart}
 use Rattle.buckets.specs.declared.kind.BucketKind.{BucketKind}
-use Rattle.reserving.specs.Ledger.{Dated, Ledger}
-use Rattle.reserving.specs.Requests.{credited}
-use Rattle.reserving.specs.Settlement.{settled_by}
+use Rattle.ledger.specs.Ledger.{Dated, Ledger}
+use Rattle.ledger.specs.Requests.{credited}
+use Rattle.ledger.specs.Settlement.{settled_by}
 use Rattle.decisions.specs.Decisions.{decision}
 use Rattle.keepers.specs.Steps.{Extends}
 use Rattle.charging.proofs.Steps.{Keeps}

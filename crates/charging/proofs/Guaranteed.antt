@@ -10,16 +10,14 @@ use Rattle.buckets.specs.declared.holds.HeldAmount.{HeldAmount}
 use Rattle.buckets.specs.declared.kind.BucketKind.{BucketKind}
 use Rattle.buckets.specs.declared.kind.BucketKind.TheVariants.{Money, Blocks}
 use Rattle.buckets.specs.Holding.{held_sum, holds_of, uncollected}
-use Rattle.reserving.specs.Ledger.{Fact, Ledger, used, counter, held, only, next_bucket, counts}
-use Rattle.reserving.specs.Ledger.Fact.{Touch, Recorded}
-use Rattle.reserving.specs.Pricing.{cycle_at, terms_now, rated_with, validity_of}
-use Rattle.reserving.specs.Balance.{credits, buckets_at}
-use Rattle.reserving.specs.Sessions.{holds_at}
-use Rattle.reserving.specs.Settlement.{price_by, coverable}
-use Rattle.reserving.specs.Settlement.{reported, report_price, charge_facts, settled_by, missing}
-use Rattle.reserving.specs.Settlement.{due_of, use_of}
-use Rattle.reserving.specs.Reservation.{hold_facts, grant_for, held_due}
-use Rattle.reserving.specs.Debiting.{debited}
+use Rattle.ledger.specs.Ledger.{Fact, Ledger, used, counter, held, only, next_bucket, counts}
+use Rattle.ledger.specs.Ledger.Fact.{Touch, Recorded}
+use Rattle.ledger.specs.Pricing.{cycle_at, terms_now, rated_with, validity_of}
+use Rattle.ledger.specs.Balance.{credits, buckets_at, holds_at}
+use Rattle.ledger.specs.Settlement.{price_by, coverable, reported, report_price, charge_facts}
+use Rattle.ledger.specs.Settlement.{settled_by, missing, due_of, use_of}
+use Rattle.ledger.specs.Reservation.{hold_facts, grant_for, held_due}
+use Rattle.ledger.specs.Debiting.{debited}
 use Rattle.charging.specs.SessionReports.{Report}
 use Rattle.charging.specs.Quotas.{OpenGrant, grant_open, IsWithinGrant, AreQuotasPaid}
 use Rattle.charging.proofs.BucketSums.{sum_in-moved, held_sum-parts}

@@ -22,24 +22,22 @@ use Rattle.rating.specs.declared.grant.Grant.{Grant as RatedGrant}
 use Rattle.units.specs.declared.blocks.UsedPart.{UsedPart}
 use Rattle.buckets.specs.declared.kind.BucketKind.TheVariants.{Money}
 use Rattle.buckets.specs.declared.kind.Due.{Due}
-use Rattle.reserving.specs.Settlement.{due_of}
+use Rattle.ledger.specs.Settlement.{due_of, charge_facts, report_price, settled_by}
 use Rattle.buckets.specs.declared.holds.HeldAmount.{HeldAmount}
 use Rattle.buckets.specs.Share.{parts}
 use Rattle.buckets.specs.Holding.{holds_of, paid}
-use Rattle.reserving.specs.Ledger.{Ledger, Recording, or_else, is_barred, is_within, is_live}
-use Rattle.reserving.specs.Ledger.{is_closed, last_touch, last_recording, recording_in, used}
-use Rattle.reserving.specs.Ledger.{next_bucket}
-use Rattle.reserving.specs.Ledger.Fact.{Close, Recorded}
-use Rattle.reserving.specs.Balance.{buckets_at}
-use Rattle.reserving.specs.Sessions.{holds_at}
-use Rattle.reserving.specs.Pricing.{tariff_at, validity_of}
-use Rattle.reserving.specs.Requests.{recorded, touched, credited}
-use Rattle.reserving.specs.Settlement.{charge_facts, report_price, settled_by}
-use Rattle.reserving.specs.Reservation.{hold_facts, reserved, grant_for, held_due}
-use Rattle.reserving.specs.Debiting.{is_covered, debit_passes}
+use Rattle.ledger.specs.Ledger.{Ledger, Recording, or_else, is_barred, is_within, is_live}
+use Rattle.ledger.specs.Ledger.{is_closed, last_touch, last_recording, recording_in, used}
+use Rattle.ledger.specs.Ledger.{next_bucket}
+use Rattle.ledger.specs.Ledger.Fact.{Close, Recorded}
+use Rattle.ledger.specs.Balance.{buckets_at, holds_at}
+use Rattle.ledger.specs.Pricing.{tariff_at, validity_of}
+use Rattle.ledger.specs.Requests.{recorded, touched, credited}
+use Rattle.ledger.specs.Reservation.{hold_facts, reserved, grant_for, held_due}
+use Rattle.ledger.specs.Debiting.{is_covered, debit_passes}
 use Rattle.reserving.proofs.Lists.{no_some}
-use Rattle.reserving.proofs.Keys.{is_same-refl}
-use Rattle.reserving.proofs.SettledFacts.{newest-front, each_hold}
+use Rattle.ledger.proofs.Names.{is_same-refl}
+use Rattle.ledger.proofs.Fronts.{newest-front, each_hold}
 use Rattle.decisions.specs.Known.{is_known}
 use Rattle.decisions.specs.Reports.{units_fault, units_of, parts_of}
 use Rattle.decisions.specs.Decided.{Decision, invalid, refused_or}

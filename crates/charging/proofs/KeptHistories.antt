@@ -21,8 +21,8 @@ use Rattle.voucher_rules.specs.Adding.{addition}
 use Rattle.voucher_rules.specs.Redeeming.{redemption}
 use Rattle.shelves.specs.Shelves.{Shelf}
 use Rattle.buckets.specs.declared.kind.BucketKind.TheVariants.{Money, Blocks}
-use Rattle.reserving.specs.Ledger.{Ledger}
-use Rattle.reserving.specs.Ledger.Fact.{Barred}
+use Rattle.ledger.specs.Ledger.{Ledger}
+use Rattle.ledger.specs.Ledger.Fact.{Barred}
 use Rattle.decisions.specs.Decided.{Decision}
 use Rattle.decisions.specs.Decisions.{decision, answer_of, is_read}
 use Rattle.keepers.specs.declared.key.KeptAnswer.{KeptAnswer}

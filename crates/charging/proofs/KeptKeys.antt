@@ -25,13 +25,13 @@ use Rattle.commands.specs.declared.request.EventAction.TheVariants as action
 use Rattle.commands.specs.declared.request.Request.{Request}
 use Rattle.voucher_rules.specs.declared.voucher.Voucher.{Voucher}
 use Rattle.shelves.specs.Shelves.{Shelf, book_at}
-use Rattle.reserving.specs.Ledger.{Ledger}
+use Rattle.ledger.specs.Ledger.{Ledger}
 use Rattle.reserving.proofs.Lists.{no_some}
 use Rattle.decisions.specs.Decided.{refused_or, told as told_of}
 use Rattle.decisions.specs.Events.{is_read_action, decided_action, read_refusal, checked_by}
 use Rattle.decisions.specs.Events.{priced_by}
 use Rattle.decisions.specs.Decisions.{decision, decided, answer_of, is_read}
-use Rattle.reserving.specs.Pricing.{tariff_at}
+use Rattle.ledger.specs.Pricing.{tariff_at}
 use Rattle.keepers.specs.declared.key.KeptAnswer.{KeptAnswer}
 use Rattle.keepers.specs.Keys.{key_of}
 use Rattle.charging.specs.Histories.{History, kept_under}

@@ -26,8 +26,8 @@ use Rattle.voucher_rules.specs.Adding.{addition}
 use Rattle.voucher_rules.specs.Redeeming.{redemption}
 use Rattle.shelves.specs.Shelves.{Shelf}
 use Rattle.buckets.specs.declared.kind.BucketKind.TheVariants.{Money}
-use Rattle.reserving.specs.Ledger.{next_bucket}
-use Rattle.reserving.specs.Requests.{credited}
+use Rattle.ledger.specs.Ledger.{next_bucket}
+use Rattle.ledger.specs.Requests.{credited}
 use Rattle.reserving.proofs.Lists.{no_some}
 use Rattle.decisions.specs.Decided.{Decision}
 use Rattle.decisions.specs.Decisions.{decision, answer_of, is_read}

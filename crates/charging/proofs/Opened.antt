@@ -17,15 +17,15 @@ use Rattle.buckets.specs.Spend.{funds, allowance}
 use Rattle.shelves.specs.Shelves.{Shelf, book_at}
 use Rattle.tariffs.specs.Tariffs.{GroupTariff}
 use Rattle.rating.specs.declared.grant.Grant.{Grant as RatedGrant}
-use Rattle.reserving.specs.Ledger.{Ledger, is_same, is_live, is_barred, last_recording, held}
-use Rattle.reserving.specs.Ledger.{used, counter, has_group}
-use Rattle.reserving.specs.Balance.{buckets_at}
-use Rattle.reserving.specs.Pricing.{tariff_at, cycle_at, periods_at, validity_of, grant_with}
-use Rattle.reserving.specs.Requests.{touched}
-use Rattle.reserving.specs.Reservation.{reserved, grant_for, held_due}
-use Rattle.reserving.specs.SoundLedger.{IsSoundLedger}
-use Rattle.reserving.proofs.Holds.{held_split, held_same, split_by, split_less}
-use Rattle.reserving.proofs.Keys.{is_same-sym}
+use Rattle.ledger.specs.Ledger.{Ledger, is_same, is_live, is_barred, last_recording, held, used}
+use Rattle.ledger.specs.Ledger.{counter, has_group}
+use Rattle.ledger.specs.Balance.{buckets_at}
+use Rattle.ledger.specs.Pricing.{tariff_at, cycle_at, periods_at, validity_of, grant_with}
+use Rattle.ledger.specs.Requests.{touched}
+use Rattle.ledger.specs.Reservation.{reserved, grant_for, held_due}
+use Rattle.ledger.specs.SoundLedger.{IsSoundLedger}
+use Rattle.ledger.proofs.Holds.{held_split, held_same, split_by, split_less}
+use Rattle.ledger.proofs.Names.{is_same-sym}
 use Rattle.reserving.proofs.SettledRows.{used_none}
 use Rattle.reserving.proofs.rows.Touching.{SameMoney, same_touched, buckets_at-same}
 use Rattle.decisions.specs.Reports.{units_of, asked_units}

@@ -15,12 +15,12 @@ use Rattle.commands.specs.declared.command.Credit.{Credit}
 use Rattle.voucher_rules.specs.declared.voucher.Voucher.{Voucher}
 use Rattle.shelves.specs.Shelves.{Shelf}
 use Rattle.buckets.specs.declared.kind.BucketKind.TheVariants.{Money}
-use Rattle.reserving.specs.declared.charge.ChargeRow.{ChargeRow}
+use Rattle.ledger.specs.declared.charge.ChargeRow.{ChargeRow}
 use Rattle.reserving.specs.declared.session.SessionGroup.{SessionGroup}
-use Rattle.reserving.specs.Ledger.{Ledger, next_bucket}
-use Rattle.reserving.specs.Ledger.Fact.{Barred}
-use Rattle.reserving.specs.Charges.{charge_rows}
-use Rattle.reserving.specs.Requests.{credited, with_bar}
+use Rattle.ledger.specs.Ledger.{Ledger, next_bucket}
+use Rattle.ledger.specs.Ledger.Fact.{Barred}
+use Rattle.ledger.specs.Charges.{charge_rows}
+use Rattle.ledger.specs.Requests.{credited, with_bar}
 use Rattle.reserving.specs.Rows.{AccountRows, IsAccount, IsRowsOf}
 use Rattle.reserving.specs.Stored.{StoredRows, stored, priced}
 use Rattle.reserving.specs.Left.{LeftRows, IsWith, left_of, differing}

@@ -6,8 +6,8 @@ use Rattle.std.specs.List.{find}
 use Rattle.std.proofs.lemmas.Bool.Decides.{nat_tests}
 use Rattle.buckets.specs.Row.{BucketRow, precedes}
 use Rattle.buckets.specs.Spend.{Each, AreDistinct, DiffersFromAll}
-use Rattle.reserving.specs.Ledger.{Ledger, has_group}
-use Rattle.reserving.specs.Pricing.{validity_of}
+use Rattle.ledger.specs.Ledger.{Ledger, has_group}
+use Rattle.ledger.specs.Pricing.{validity_of}
 use Rattle.reserving.specs.Sessions.{session_in, group_in, is_session, is_of, is_counter}
 use Rattle.reserving.specs.Sessions.{session_row, state_at, group_at}
 use Rattle.reserving.specs.Rows.{AreApart}

@@ -17,24 +17,21 @@ use Rattle.buckets.specs.Share.{parts, sum_in}
 use Rattle.buckets.specs.Spend.{IsInOrder, funds}
 use Rattle.buckets.specs.Holding.{paid, uncollected, holds_of, held_sum}
 use Rattle.buckets.proofs.Short.{spent_all}
-use Rattle.reserving.specs.Ledger.{Fact, Ledger, Recording, or_else, is_same, last_touch}
-use Rattle.reserving.specs.Ledger.{last_recording, next_bucket}
-use Rattle.reserving.specs.Ledger.{UseOf, recorded_at, touched_at, counts}
-use Rattle.reserving.specs.Ledger.Fact.{Touch, Recorded}
-use Rattle.reserving.specs.Balance.{credits, buckets_at}
-use Rattle.reserving.specs.Sessions.{holds_at}
-use Rattle.reserving.specs.Requests.{touched, credited}
-use Rattle.reserving.specs.Settlement.{charge_facts, reported, report_price, settled, settled_by}
-use Rattle.reserving.specs.Settlement.{due_of}
-use Rattle.reserving.specs.Settlement.{use_of}
-use Rattle.reserving.specs.Reservation.{hold_facts, reserved}
-use Rattle.reserving.specs.Debiting.{rest_price, is_covered, debited}
+use Rattle.ledger.specs.Ledger.{Fact, Ledger, Recording, or_else, is_same, last_touch}
+use Rattle.ledger.specs.Ledger.{last_recording, next_bucket, UseOf, recorded_at, touched_at, counts}
+use Rattle.ledger.specs.Ledger.Fact.{Touch, Recorded}
+use Rattle.ledger.specs.Balance.{credits, buckets_at, holds_at}
+use Rattle.ledger.specs.Requests.{touched, credited}
+use Rattle.ledger.specs.Settlement.{charge_facts, reported, report_price, settled, settled_by}
+use Rattle.ledger.specs.Settlement.{due_of, use_of}
+use Rattle.ledger.specs.Reservation.{hold_facts, reserved}
+use Rattle.ledger.specs.Debiting.{rest_price, is_covered, debited}
 use Rattle.reserving.proofs.Lists.{no_some}
 use Rattle.charging.specs.SessionReports.{Report, with_report}
 use Rattle.charging.specs.Paid.{before_charges, taken, is_touched, IsReport, IsEvent}
 use Rattle.charging.specs.Paid.{without_last, ArePaid}
 use Rattle.charging.specs.Paid.{IsPaidUse, is_charge, reports_without, taken_by}
-use Rattle.reserving.specs.Pricing.{validity_of}
+use Rattle.ledger.specs.Pricing.{validity_of}
 use Rattle.charging.proofs.Steps.{is_quiet, is_touch, untouched, with_grant, Keeps}
 use Rattle.charging.proofs.Credited.{AreCredited, no_credits, more_credits, SameCredits}
 use Rattle.charging.proofs.Credited.{same_credits, quiet_credits, charge_credits, hold_credits}

@@ -20,23 +20,23 @@ use Rattle.buckets.specs.Spend.{funds, allowance}
 use Rattle.buckets.specs.Holding.{holds_of, paid}
 use Rattle.reserving.specs.declared.session.Reservation.{Reservation}
 use Rattle.reserving.specs.declared.session.SessionGroup.{SessionGroup}
-use Rattle.reserving.specs.declared.session.Terms.{Terms}
-use Rattle.reserving.specs.Ledger.{Fact, Ledger, is_same, inner, or_else, newest, grant_in}
-use Rattle.reserving.specs.Ledger.{open_grant, used, counter, has_group, is_live}
-use Rattle.reserving.specs.Ledger.Fact.{End}
-use Rattle.reserving.specs.Pricing.{tariff_at, periods_at, switch_by, terms_at}
-use Rattle.reserving.specs.Pricing.{cycle_at, validity_of, grant_with}
-use Rattle.reserving.specs.Sessions.{group_in, group_at, holds_at, reservation_of}
+use Rattle.ledger.specs.declared.terms.Terms.{Terms}
+use Rattle.ledger.specs.Ledger.{Fact, Ledger, is_same, inner, or_else, newest, grant_in, open_grant}
+use Rattle.ledger.specs.Ledger.{used, counter, has_group, is_live}
+use Rattle.ledger.specs.Ledger.Fact.{End}
+use Rattle.ledger.specs.Pricing.{tariff_at, periods_at, switch_by, terms_at, cycle_at, validity_of}
+use Rattle.ledger.specs.Pricing.{grant_with}
+use Rattle.ledger.specs.Balance.{holds_at, buckets_at}
+use Rattle.reserving.specs.Sessions.{group_in, group_at, reservation_of}
 use Rattle.reserving.specs.Sessions.{reservation_at}
-use Rattle.reserving.specs.Balance.{buckets_at}
-use Rattle.reserving.specs.Settlement.{charge_facts, report_price, due_of, settled_by}
-use Rattle.reserving.specs.Reservation.{hold_facts, reserved, grant_for, held_due}
-use Rattle.reserving.specs.Debiting.{rest_price}
-use Rattle.reserving.specs.Rows.{EachIn}
+use Rattle.ledger.specs.Settlement.{charge_facts, report_price, due_of, settled_by}
+use Rattle.ledger.specs.Reservation.{hold_facts, reserved, grant_for, held_due}
+use Rattle.ledger.specs.Debiting.{rest_price}
+use Rattle.ledger.specs.Lists.{EachIn}
 use Rattle.reserving.specs.Placed.{AreOfBook, prices_on, is_placed}
 use Rattle.reserving.proofs.Lists.{no_some, some_of, EachIn-weaker}
 use Rattle.reserving.proofs.Keys.{second_true, same_number, found_own}
-use Rattle.reserving.proofs.SettledFacts.{newest-front, each_charge, each_hold}
+use Rattle.ledger.proofs.Fronts.{newest-front, each_charge, each_hold}
 use Rattle.reserving.proofs.kept.Placed.{prices_there}
 use Rattle.keepers.specs.Tables.{Head, GroupRow, Rows, group_row}
 use Rattle.keepers.specs.Change.{AreRowsAt}
@@ -66,7 +66,7 @@ module _ (b : Shelf) (ranges : IsShelf b) (t : ℕ) where
   of_book = record { before = below t; after = at (switch_by book t) }
     where
       at : (o : Option ℕ) →
-          (Rattle.reserving.specs.Pricing.period_after book.calendar t o).0
+          (Rattle.ledger.specs.Pricing.period_after book.calendar t o).0
           < Rattle.std.specs.Prelude.length book.periods
       at None = below t
       at (Some m) = below m

@@ -3,27 +3,23 @@ use Rattle.std.proofs.Common.{◌≡◌, ℕ, Bool, true, false, true≢false, L
 use Rattle.std.proofs.Common.{ap, ◌∙◌, Option, Some, None}
 use Rattle.std.specs.Prelude.{if◌then◌else◌, ◌&&◌, ◌||◌, ◌==◌, is_some}
 use Rattle.units.specs.declared.blocks.UsedPart.{UsedPart}
-use Rattle.reserving.specs.Settlement.{due_of}
+use Rattle.ledger.specs.Settlement.{due_of, charge_facts, report_price, settled_by, use_of}
 use Rattle.buckets.specs.declared.holds.HeldAmount.{HeldAmount}
 use Rattle.buckets.specs.Holding.{paid}
 use Rattle.buckets.specs.Share.{parts}
 use Rattle.shelves.specs.Shelves.{Shelf}
-use Rattle.reserving.specs.Ledger.{Fact, Ledger, Recording, is_same, or_else, names_group, touch_in}
-use Rattle.reserving.specs.Ledger.{has_group, last_touch, last_recording}
-use Rattle.reserving.specs.Ledger.{HoldOf, recorded_at, touched_at, counts}
-use Rattle.reserving.specs.Ledger.Fact.{Grant, Hold, End, Use, Charge}
-use Rattle.reserving.specs.Requests.{recorded, touched}
-use Rattle.reserving.specs.Settlement.{charge_facts, report_price, settled_by}
-use Rattle.reserving.specs.Settlement.{use_of}
-use Rattle.reserving.specs.Reservation.{hold_facts}
-use Rattle.reserving.specs.Reservation.{grant_at, hold_for}
-use Rattle.reserving.specs.Balance.{buckets_at}
-use Rattle.reserving.specs.Debiting.{debited, rest_price}
-use Rattle.reserving.specs.Sessions.{holds_at}
+use Rattle.ledger.specs.Ledger.{Fact, Ledger, Recording, is_same, or_else, names_group, touch_in}
+use Rattle.ledger.specs.Ledger.{has_group, last_touch, last_recording, HoldOf, recorded_at}
+use Rattle.ledger.specs.Ledger.{touched_at, counts}
+use Rattle.ledger.specs.Ledger.Fact.{Grant, Hold, End, Use, Charge}
+use Rattle.ledger.specs.Requests.{recorded, touched}
+use Rattle.ledger.specs.Reservation.{hold_facts, grant_at, hold_for}
+use Rattle.ledger.specs.Balance.{buckets_at, holds_at}
+use Rattle.ledger.specs.Debiting.{debited, rest_price}
 use Rattle.reserving.proofs.Lists.{no_some}
-use Rattle.reserving.proofs.Holds.{same_from}
+use Rattle.ledger.proofs.Holds.{same_from}
 use Rattle.reserving.proofs.Keys.{first_true}
-use Rattle.reserving.specs.Pricing.{validity_of}
+use Rattle.ledger.specs.Pricing.{validity_of}
 use Rattle.charging.specs.Accepted.{Accepted}
 use Rattle.charging.specs.Served.{history}
 use Rattle.charging.specs.Paid.{is_touched}

@@ -29,8 +29,8 @@ use Rattle.voucher_rules.specs.Adding.{addition}
 use Rattle.voucher_rules.specs.Redeeming.{redemption}
 use Rattle.shelves.specs.Shelves.{Shelf}
 use Rattle.buckets.specs.declared.kind.BucketKind.TheVariants.{Money, Blocks}
-use Rattle.reserving.specs.Ledger.{Ledger, next_bucket}
-use Rattle.reserving.specs.Requests.{credited}
+use Rattle.ledger.specs.Ledger.{Ledger, next_bucket}
+use Rattle.ledger.specs.Requests.{credited}
 use Rattle.decisions.specs.Decided.{Decision}
 use Rattle.decisions.specs.Decisions.{decision, answer_of, is_read}
 use Rattle.keepers.specs.declared.key.KeptAnswer.{KeptAnswer}

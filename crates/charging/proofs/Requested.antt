@@ -23,8 +23,8 @@ use Rattle.commands.specs.declared.request.EventAction.TheVariants.{DirectDebiti
 use Rattle.commands.specs.declared.request.EventAction.TheVariants.{PriceEnquiry}
 use Rattle.commands.specs.declared.request.Request.{Request}
 use Rattle.shelves.specs.Shelves.{Shelf, IsShelf}
-use Rattle.reserving.specs.Ledger.{Ledger, Recording, last_recording}
-use Rattle.reserving.specs.Charges.{charge_rows}
+use Rattle.ledger.specs.Ledger.{Ledger, Recording, last_recording}
+use Rattle.ledger.specs.Charges.{charge_rows}
 use Rattle.reserving.specs.Rows.{AccountRows, IsAccount}
 use Rattle.reserving.specs.Stored.{stored, priced}
 use Rattle.reserving.specs.Left.{LeftRows, IsWith, left_of}

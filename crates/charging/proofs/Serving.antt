@@ -7,12 +7,12 @@ use Rattle.std.specs.Prelude.{MatchResult}
 use Rattle.commands.specs.declared.answer.Answer.{Answer}
 use Rattle.commands.specs.declared.command.Command.{Command}
 use Rattle.shelves.specs.Shelves.{Shelf}
-use Rattle.reserving.specs.Charges.{charge_rows}
+use Rattle.ledger.specs.Charges.{charge_rows}
 use Rattle.reserving.specs.Rows.{AccountRows, IsAccount}
 use Rattle.reserving.specs.Stored.{StoredRows, stored, priced}
 use Rattle.reserving.specs.Left.{left_of, IsWith}
 use Rattle.reserving.proofs.Lists.{some_of}
-use Rattle.reserving.proofs.Keys.{is_same-refl}
+use Rattle.ledger.proofs.Names.{is_same-refl}
 use Rattle.keepers.specs.declared.fault.StoreFault.{StoreFault}
 use Rattle.keepers.specs.declared.key.Key.{Key}
 use Rattle.keepers.specs.declared.key.KeptAnswer.{KeptAnswer}

@@ -5,14 +5,13 @@ use Rattle.std.specs.Prelude.{if◌then◌else◌, ◌==◌}
 use Rattle.std.proofs.lemmas.List.Sums.{sum_by-cons}
 use Rattle.buckets.specs.declared.holds.HeldAmount.{HeldAmount}
 use Rattle.buckets.proofs.Parts.{sum_at}
-use Rattle.reserving.specs.Ledger.{charged, held}
-use Rattle.reserving.specs.Ledger.Fact.{Charge, Hold}
-use Rattle.reserving.specs.Settlement.{charge_facts}
-use Rattle.reserving.specs.Reservation.{hold_facts}
-use Rattle.reserving.specs.Reservation.{hold_for}
-use Rattle.reserving.proofs.SettledFacts.{charged-charge_facts, charged-hold_facts}
-use Rattle.reserving.proofs.SettledFacts.{credits-charge_facts, credits-hold_facts}
-use Rattle.reserving.proofs.SettledFacts.{held-charge_facts, held-hold_facts, held-hold_facts_other}
+use Rattle.ledger.specs.Ledger.{charged, held}
+use Rattle.ledger.specs.Ledger.Fact.{Charge, Hold}
+use Rattle.ledger.specs.Settlement.{charge_facts}
+use Rattle.ledger.specs.Reservation.{hold_facts, hold_for}
+use Rattle.ledger.proofs.Fronts.{charged-charge_facts, charged-hold_facts, credits-charge_facts}
+use Rattle.ledger.proofs.Fronts.{credits-hold_facts, held-charge_facts, held-hold_facts}
+use Rattle.ledger.proofs.Fronts.{held-hold_facts_other}
 use Rattle.charging.specs.SharesTold.{taken_of, ChargesAreShares}
 use Rattle.charging.specs.SharesTold.{HoldsAreShares}
 

@@ -5,11 +5,11 @@ use Rattle.buckets.specs.declared.holds.HeldAmount.{HeldAmount}
 use Rattle.buckets.specs.Row.{BucketRow}
 use Rattle.buckets.specs.Share.{parts}
 use Rattle.buckets.specs.Holding.{paid}
-use Rattle.reserving.specs.Ledger.{Fact, Ledger, last_recording, counts}
-use Rattle.reserving.specs.SoundLedger.{IsSoundLedger}
-use Rattle.reserving.specs.Balance.{buckets_at}
-use Rattle.reserving.specs.Settlement.{due_of}
-use Rattle.reserving.specs.Debiting.{rest_price, debited}
+use Rattle.ledger.specs.Ledger.{Fact, Ledger, last_recording, counts}
+use Rattle.ledger.specs.SoundLedger.{IsSoundLedger}
+use Rattle.ledger.specs.Balance.{buckets_at}
+use Rattle.ledger.specs.Settlement.{due_of}
+use Rattle.ledger.specs.Debiting.{rest_price, debited}
 use Rattle.reserving.proofs.Crediting.{IsSoundLedger-credited}
 use Rattle.reserving.proofs.SettledRows.{IsSoundLedger-settled_by}
 use Rattle.reserving.proofs.rows.Touching.{IsSoundLedger-touched, IsSoundLedger-recorded}
@@ -17,7 +17,7 @@ use Rattle.reserving.proofs.Counted.{IsSoundLedger-quiet}
 use Rattle.reserving.proofs.rows.Empty.{IsSoundLedger-none}
 use Rattle.reserving.proofs.rows.Reserved.{IsSoundLedger-reserved}
 use Rattle.reserving.proofs.rows.Debited.{IsSoundLedger-debited}
-use Rattle.reserving.specs.Pricing.{validity_of}
+use Rattle.ledger.specs.Pricing.{validity_of}
 use Rattle.charging.specs.SessionReports.{Report}
 use Rattle.charging.proofs.Steps.{is_quiet, quiet, is_touch, untouched, IsInPlace, Keeps}
 use Rattle.charging.proofs.Credited.{all_made}

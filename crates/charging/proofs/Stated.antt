@@ -9,14 +9,14 @@ use Rattle.commands.specs.declared.answer.Refusal.TheVariants.{AccountUnknown}
 use Rattle.commands.specs.declared.balance.AccountBalance.{AccountBalance}
 use Rattle.commands.specs.declared.command.Command.TheVariants as command
 use Rattle.shelves.specs.Shelves.{Shelf}
-use Rattle.reserving.specs.Balance.{buckets_at}
+use Rattle.ledger.specs.Balance.{buckets_at}
 use Rattle.reserving.specs.Changes.{advanced}
-use Rattle.reserving.specs.Ledger.{Ledger}
+use Rattle.ledger.specs.Ledger.{Ledger}
 use Rattle.reserving.specs.Left.{LeftRows, IsWith, is_dead, bucket_in, left_of, merged, only}
 use Rattle.reserving.specs.Rows.{AccountRows}
 use Rattle.reserving.specs.Stored.{priced}
 use Rattle.reserving.proofs.LeftMore.{with_advanced}
-use Rattle.reserving.specs.Pricing.{validity_of}
+use Rattle.ledger.specs.Pricing.{validity_of}
 use Rattle.keepers.specs.Change.{IsLoadedFrom, AreDeadOf}
 use Rattle.keepers.specs.Tables.{Tables}
 use Rattle.keepers.proofs.Found.{bucket_filter}

@@ -5,12 +5,12 @@ use Rattle.units.specs.declared.blocks.UsedPart.{UsedPart}
 use Rattle.shelves.specs.Shelves.{Shelf}
 use Rattle.rating.specs.declared.grant.Grant.{Grant as RatedGrant}
 use Rattle.buckets.specs.declared.kind.BucketKind.{BucketKind}
-use Rattle.reserving.specs.Ledger.{Fact, Ledger, counts, last_recording, used}
-use Rattle.reserving.specs.Ledger.Fact.{Grant}
-use Rattle.reserving.specs.Requests.{recorded, touched, credited}
-use Rattle.reserving.specs.Settlement.{settled_by}
-use Rattle.reserving.specs.Reservation.{grant_at, reserved, grant_for, held_due}
-use Rattle.reserving.specs.Debiting.{debited, is_covered}
+use Rattle.ledger.specs.Ledger.{Fact, Ledger, counts, last_recording, used}
+use Rattle.ledger.specs.Ledger.Fact.{Grant}
+use Rattle.ledger.specs.Requests.{recorded, touched, credited}
+use Rattle.ledger.specs.Settlement.{settled_by}
+use Rattle.ledger.specs.Reservation.{grant_at, reserved, grant_for, held_due}
+use Rattle.ledger.specs.Debiting.{debited, is_covered}
 pub use Rattle.reserving.proofs.Counted.{is_quiet, IsInPlace, IsQuiet, quiet}
 use Rattle.charging.specs.SessionReports.{Report, with_report}
 use Rattle.charging.specs.Paid.{is_touched}

@@ -40,13 +40,13 @@ use Rattle.units.specs.declared.blocks.UsedPart.{UsedPart}
 use Rattle.buckets.specs.declared.kind.BucketKind.{BucketKind}
 use Rattle.buckets.specs.declared.kind.BucketKind.TheVariants.{Money, Blocks}
 use Rattle.buckets.specs.declared.kind.Due.{Due}
-use Rattle.reserving.specs.Ledger.{Ledger, Recording, or_else, is_barred, is_live, last_recording}
-use Rattle.reserving.specs.Ledger.{used, next_bucket}
-use Rattle.reserving.specs.Pricing.{tariff_at, validity_of}
-use Rattle.reserving.specs.Requests.{recorded, touched, closed, credited, with_bar}
-use Rattle.reserving.specs.Settlement.{settled_by}
-use Rattle.reserving.specs.Reservation.{reserved, grant_for, held_due}
-use Rattle.reserving.specs.Debiting.{debited, is_covered, debit_passes}
+use Rattle.ledger.specs.Ledger.{Ledger, Recording, or_else, is_barred, is_live, last_recording}
+use Rattle.ledger.specs.Ledger.{used, next_bucket}
+use Rattle.ledger.specs.Pricing.{tariff_at, validity_of}
+use Rattle.ledger.specs.Requests.{recorded, touched, closed, credited, with_bar}
+use Rattle.ledger.specs.Settlement.{settled_by}
+use Rattle.ledger.specs.Reservation.{reserved, grant_for, held_due}
+use Rattle.ledger.specs.Debiting.{debited, is_covered, debit_passes}
 use Rattle.reserving.proofs.Lists.{no_some}
 use Rattle.decisions.specs.Known.{is_known}
 use Rattle.decisions.specs.Reports.{units_fault, units_of, parts_of}

@@ -10,10 +10,11 @@ use Rattle.buckets.specs.Row.{BucketRow}
 use Rattle.buckets.specs.Share.{sum_in, parts}
 use Rattle.buckets.specs.Spend.{AreDistinct, DiffersFromAll, Each}
 use Rattle.buckets.proofs.Dues.{sum_in-cons}
-use Rattle.reserving.specs.Ledger.{Ledger, next_bucket}
-use Rattle.reserving.specs.Balance.{credits, bucket_at, buckets_at}
-use Rattle.reserving.specs.Settlement.{charge_facts}
-use Rattle.reserving.proofs.Keys.{same_number, number_same}
+use Rattle.ledger.specs.Ledger.{Ledger, next_bucket}
+use Rattle.ledger.specs.Balance.{credits, bucket_at, buckets_at}
+use Rattle.ledger.specs.Settlement.{charge_facts}
+use Rattle.ledger.proofs.Names.{number_same}
+use Rattle.reserving.proofs.Keys.{same_number}
 use Rattle.charging.specs.Paid.{kind_in, is_of, taken}
 use Rattle.charging.proofs.Credited.{AreCredited, charge_credits, distinct}
 

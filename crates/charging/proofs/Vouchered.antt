@@ -22,9 +22,9 @@ use Rattle.voucher_rules.specs.Adding.{same_terms, addition}
 use Rattle.voucher_rules.specs.Redeeming.{redemption, after_redemption}
 use Rattle.shelves.specs.Shelves.{Shelf}
 use Rattle.buckets.specs.declared.kind.BucketKind.TheVariants.{Money}
-use Rattle.reserving.specs.Ledger.{Ledger, next_bucket}
-use Rattle.reserving.specs.Charges.{charge_rows}
-use Rattle.reserving.specs.Requests.{credited}
+use Rattle.ledger.specs.Ledger.{Ledger, next_bucket}
+use Rattle.ledger.specs.Charges.{charge_rows}
+use Rattle.ledger.specs.Requests.{credited}
 use Rattle.reserving.specs.Rows.{AccountRows}
 use Rattle.reserving.specs.Stored.{priced}
 use Rattle.reserving.specs.Left.{LeftRows, IsWith, left_of}

@@ -20,8 +20,7 @@ use Rattle.commands.specs.declared.command.Command.{Command}
 use Rattle.commands.specs.declared.command.Command.TheVariants as command
 use Rattle.commands.specs.declared.command.Content.TheVariants as content
 use Rattle.commands.specs.declared.command.Credit.{Credit}
-use Rattle.reserving.specs.Ledger.{Ledger, Fact as fact}
-use Rattle.reserving.specs.Ledger.{Fact}
+use Rattle.ledger.specs.Ledger.{Ledger, Fact as fact, Fact}
 use Rattle.charging.specs.Histories.{History, no_history}
 use Rattle.charging.specs.Accepted.{CommandOutcome}
 use Rattle.charging.specs.Outcomes.{only_told, done, outcome}

@@ -7,11 +7,11 @@ use Rattle.units.specs.declared.blocks.UsedPart.{UsedPart}
 use Rattle.shelves.specs.Shelves.{Shelf}
 use Rattle.rating.specs.declared.report.Rated.{Rated}
 use Rattle.buckets.specs.Spend.{allowance}
-use Rattle.reserving.specs.Ledger.{Ledger}
-use Rattle.reserving.specs.Pricing.{validity_of}
-use Rattle.reserving.specs.Balance.{buckets_at}
-use Rattle.reserving.specs.Settlement.{report_price, coverable}
-use Rattle.reserving.specs.Debiting.{rest_price}
+use Rattle.ledger.specs.Ledger.{Ledger}
+use Rattle.ledger.specs.Pricing.{validity_of}
+use Rattle.ledger.specs.Balance.{buckets_at}
+use Rattle.ledger.specs.Settlement.{report_price, coverable}
+use Rattle.ledger.specs.Debiting.{rest_price}
 
 -- of the started blocks at most so many are covered, and a price is due only where all these are
 pub record CoversFirst (price : Rated) (free : BlockCount) : Type 0 where

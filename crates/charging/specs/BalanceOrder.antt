@@ -7,9 +7,9 @@ use Rattle.identifiers.specs.Words.{AccountName}
 use Rattle.buckets.specs.Words.{BucketNumber}
 use Rattle.buckets.specs.Row.{BucketRow}
 use Rattle.shelves.specs.Shelves.{Shelf}
-use Rattle.reserving.specs.Balance.{buckets_at}
+use Rattle.ledger.specs.Balance.{buckets_at}
 use Rattle.reserving.specs.Left.{bucket_in}
-use Rattle.reserving.specs.Pricing.{validity_of}
+use Rattle.ledger.specs.Pricing.{validity_of}
 use Rattle.charging.specs.Accepted.{Accepted}
 use Rattle.charging.specs.Balances.{by_number}
 use Rattle.charging.specs.Served.{history}

@@ -12,9 +12,9 @@ use Rattle.commands.specs.declared.balance.BucketBalance.{BucketBalance}
 use Rattle.commands.specs.declared.balance.BucketUnit.{BucketUnit}
 use Rattle.commands.specs.declared.balance.BucketUnit.TheVariants.{MicroUnits, Blocks}
 use Rattle.shelves.specs.Shelves.{Shelf}
-use Rattle.reserving.specs.Ledger.{Ledger, is_barred}
-use Rattle.reserving.specs.Balance.{buckets_at}
-use Rattle.reserving.specs.Pricing.{validity_of}
+use Rattle.ledger.specs.Ledger.{Ledger, is_barred}
+use Rattle.ledger.specs.Balance.{buckets_at}
+use Rattle.ledger.specs.Pricing.{validity_of}
 
 -- a bucket stands before the first of a greater number
 abbrev pub numbered : BucketRow → List BucketRow → List BucketRow

@@ -5,9 +5,9 @@ use Rattle.std.specs.Prelude.{◌*◌, ◌<◌, ◌≤◌, ◌^◌, Bool, List, 
 use Rattle.units.specs.Words.{most_counted}
 use Rattle.identifiers.specs.Words.{AccountName}
 use Rattle.shelves.specs.Shelves.{Shelf, IsShelf}
-use Rattle.reserving.specs.declared.charge.ChargeRow.{ChargeRow}
-use Rattle.reserving.specs.Charges.{charge_rows}
-use Rattle.reserving.specs.Rows.{EachIn}
+use Rattle.ledger.specs.declared.charge.ChargeRow.{ChargeRow}
+use Rattle.ledger.specs.Charges.{charge_rows}
+use Rattle.ledger.specs.Lists.{EachIn}
 use Rattle.keepers.specs.Tables.{Tables}
 use Rattle.charging.specs.Accepted.{Accepted}
 use Rattle.charging.specs.Served.{AreTables, history}

@@ -6,10 +6,10 @@ use Rattle.buckets.specs.Words.{BucketAmount}
 use Rattle.buckets.specs.declared.kind.BucketKind.{BucketKind}
 use Rattle.buckets.specs.declared.kind.BucketKind.TheVariants.{Money, Blocks}
 use Rattle.buckets.specs.Share.{sum_in}
-use Rattle.reserving.specs.declared.charge.ChargeRow.{ChargeRow}
-use Rattle.reserving.specs.Ledger.{Ledger}
-use Rattle.reserving.specs.Balance.{buckets_at}
-use Rattle.reserving.specs.Charges.{charge_rows}
+use Rattle.ledger.specs.declared.charge.ChargeRow.{ChargeRow}
+use Rattle.ledger.specs.Ledger.{Ledger}
+use Rattle.ledger.specs.Balance.{buckets_at}
+use Rattle.ledger.specs.Charges.{charge_rows}
 
 -- what a charge took of the buckets of a kind, in its unit: micro-units, or blocks
 abbrev pub taken_of : BucketKind → ChargeRow → BucketAmount

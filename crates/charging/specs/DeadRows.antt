@@ -7,10 +7,11 @@ use Rattle.buckets.specs.Words.{BucketNumber}
 use Rattle.buckets.specs.Row.{BucketRow}
 use Rattle.shelves.specs.Shelves.{Shelf}
 use Rattle.reserving.specs.declared.session.Session.{Session}
-use Rattle.reserving.specs.Ledger.{Ledger}
-use Rattle.reserving.specs.Balance.{buckets_at}
-use Rattle.reserving.specs.Left.{IsDead, bucket_in}
-use Rattle.reserving.specs.Pricing.{validity_of}
+use Rattle.ledger.specs.Ledger.{Ledger}
+use Rattle.ledger.specs.Balance.{buckets_at}
+use Rattle.ledger.specs.Laws.{IsDead}
+use Rattle.reserving.specs.Left.{bucket_in}
+use Rattle.ledger.specs.Pricing.{validity_of}
 use Rattle.reserving.specs.Sessions.{is_open, session_at, group_at}
 use Rattle.charging.specs.Accepted.{Accepted, last_moment}
 use Rattle.charging.specs.declared.running.DatedCommand.{DatedCommand}

@@ -5,17 +5,17 @@ use Rattle.std.specs.Prelude.{◌≡◌, List, Option, Some, take, length}
 use Rattle.units.specs.Words.{Moment}
 use Rattle.identifiers.specs.Words.{AccountName}
 use Rattle.buckets.specs.Words.{BucketNumber}
-use Rattle.reserving.specs.Words.{ChargeNumber}
+use Rattle.ledger.specs.Words.{ChargeNumber}
 use Rattle.commands.specs.declared.answer.Answer.{Answer}
 use Rattle.buckets.specs.Row.{IsBalanced}
 use Rattle.buckets.specs.Spend.{Each}
 use Rattle.shelves.specs.Shelves.{Shelf}
-use Rattle.reserving.specs.declared.charge.ChargeRow.{ChargeRow}
-use Rattle.reserving.specs.Ledger.{Ledger}
-use Rattle.reserving.specs.Balance.{buckets_at}
-use Rattle.reserving.specs.Charges.{charge_rows}
+use Rattle.ledger.specs.declared.charge.ChargeRow.{ChargeRow}
+use Rattle.ledger.specs.Ledger.{Ledger}
+use Rattle.ledger.specs.Balance.{buckets_at}
+use Rattle.ledger.specs.Charges.{charge_rows}
 use Rattle.reserving.specs.Left.{bucket_in}
-use Rattle.reserving.specs.Pricing.{validity_of}
+use Rattle.ledger.specs.Pricing.{validity_of}
 use Rattle.keepers.specs.Tables.{Head, Rows, Tables, charge_in}
 use Rattle.charging.specs.Accepted.{Accepted, IsInTime}
 use Rattle.charging.specs.declared.running.DatedCommand.{DatedCommand}

@@ -2,7 +2,7 @@
 -- Source: profile; the ledger's facts of money and sessions are those of the account.
 use Rattle.std.specs.Prelude.{Bool, false, List, [], Option}
 use Rattle.std.specs.List.{find}
-use Rattle.reserving.specs.Ledger.{Ledger}
+use Rattle.ledger.specs.Ledger.{Ledger}
 use Rattle.keepers.specs.declared.key.Key.{Key}
 use Rattle.keepers.specs.declared.key.KeptAnswer.{KeptAnswer}
 use Rattle.keepers.specs.Keys.{same_key, key_of}

@@ -5,8 +5,8 @@ use Rattle.units.specs.Words.{Moment}
 use Rattle.identifiers.specs.Words.{AccountName, VoucherCode}
 use Rattle.buckets.specs.declared.kind.BucketKind.{BucketKind}
 use Rattle.shelves.specs.Shelves.{Shelf, IsShelf}
-use Rattle.reserving.specs.Pricing.{validity_of}
-use Rattle.reserving.specs.SoundLedger.{IsSoundLedger}
+use Rattle.ledger.specs.Pricing.{validity_of}
+use Rattle.ledger.specs.SoundLedger.{IsSoundLedger}
 use Rattle.charging.specs.Accepted.{Accepted}
 use Rattle.charging.specs.Collected.{charged_to_date, taken_to_date}
 use Rattle.charging.specs.Isolation.{HasOwnCodes, IsIsolated}

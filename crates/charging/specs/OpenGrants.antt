@@ -3,8 +3,8 @@
 use Rattle.std.specs.Prelude.{◌≡◌, Option, option_map}
 use Rattle.units.specs.Words.{UnitCount, Place, GroupId}
 use Rattle.identifiers.specs.Words.{SessionName}
-use Rattle.reserving.specs.declared.session.Terms.{Terms}
-use Rattle.reserving.specs.Ledger.{Dated, Ledger, GrantOf, tells, newest, inner, open_grant}
+use Rattle.ledger.specs.declared.terms.Terms.{Terms}
+use Rattle.ledger.specs.Ledger.{Dated, Ledger, GrantOf, tells, newest, inner, open_grant}
 use Rattle.charging.specs.Quotas.{grant_open}
 
 -- a grant: its terms, its units, and its place of the group's counter

@@ -35,8 +35,8 @@ use Rattle.voucher_rules.specs.Adding.{addition}
 use Rattle.voucher_rules.specs.Redeeming.{DayEnds, redemption}
 use Rattle.shelves.specs.Shelves.{Shelf, book_at}
 use Rattle.buckets.specs.declared.kind.BucketKind.TheVariants.{Money, Blocks}
-use Rattle.reserving.specs.Ledger.{Ledger, next_bucket}
-use Rattle.reserving.specs.Requests.{credited, with_bar}
+use Rattle.ledger.specs.Ledger.{Ledger, next_bucket}
+use Rattle.ledger.specs.Requests.{credited, with_bar}
 use Rattle.decisions.specs.Decided.{Decision}
 use Rattle.decisions.specs.Decisions.{decision, answer_of, is_read}
 use Rattle.decisions.specs.Known.{is_known}

@@ -13,12 +13,11 @@ use Rattle.buckets.specs.Kinds.{is_alike, due}
 use Rattle.buckets.specs.Row.{BucketRow, eligible_amount}
 use Rattle.buckets.specs.Holding.{held_in, paid_of_hold, settled_row}
 use Rattle.buckets.specs.Laws.{IsAmong}
-use Rattle.reserving.specs.Ledger.{Fact, Ledger, UseOf, counts, number_of, last_touch}
-use Rattle.reserving.specs.Balance.{credits, buckets_at}
-use Rattle.reserving.specs.Sessions.{holds_at}
-use Rattle.reserving.specs.Settlement.{reported, report_price, missing}
-use Rattle.reserving.specs.Debiting.{rest_price, is_covered}
-use Rattle.reserving.specs.Pricing.{validity_of}
+use Rattle.ledger.specs.Ledger.{Fact, Ledger, UseOf, counts, number_of, last_touch}
+use Rattle.ledger.specs.Balance.{credits, buckets_at, holds_at}
+use Rattle.ledger.specs.Settlement.{reported, report_price, missing}
+use Rattle.ledger.specs.Debiting.{rest_price, is_covered}
+use Rattle.ledger.specs.Pricing.{validity_of}
 use Rattle.charging.specs.SessionReports.{Report}
 
 -- ---- the charges of a use stand right before it

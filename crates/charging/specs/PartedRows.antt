@@ -6,7 +6,7 @@ use Rattle.units.specs.Words.{GroupId, CycleNumber}
 use Rattle.identifiers.specs.Words.{SessionName, AccountName}
 use Rattle.buckets.specs.Words.{BucketNumber}
 use Rattle.shelves.specs.Shelves.{Shelf}
-use Rattle.reserving.specs.Ledger.{last_recording}
+use Rattle.ledger.specs.Ledger.{last_recording}
 use Rattle.reserving.specs.Sessions.{session_in, group_in, counter_in}
 use Rattle.reserving.specs.Rows.{AccountRows}
 use Rattle.reserving.specs.Left.{LeftRows, IsLeft, IsJoined, NotLeft, joined, bucket_in, first_of}

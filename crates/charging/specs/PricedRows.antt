@@ -5,7 +5,7 @@ use Rattle.std.specs.Prelude.{◌≡◌, true, List, Some, is_some}
 use Rattle.units.specs.Words.{GroupId}
 use Rattle.identifiers.specs.Words.{SessionName, AccountName}
 use Rattle.shelves.specs.Shelves.{Shelf, IsShelf}
-use Rattle.reserving.specs.declared.session.Terms.{Terms}
+use Rattle.ledger.specs.declared.terms.Terms.{Terms}
 use Rattle.reserving.specs.Placed.{prices_on, ArePlaced}
 use Rattle.reserving.specs.Stored.{StoredRows, IsStored}
 use Rattle.keepers.specs.Tables.{GroupRow, Tables, AreListed}

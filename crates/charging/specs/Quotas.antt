@@ -4,9 +4,9 @@ use Rattle.std.specs.Prelude.{◌≡◌, ◌≤◌, [], ◌∷◌, Option, Some,
 use Rattle.units.specs.Words.{Moment, UnitCount, Place, GroupId}
 use Rattle.identifiers.specs.Words.{SessionName}
 use Rattle.shelves.specs.Shelves.{Shelf}
-use Rattle.reserving.specs.Ledger.{Fact, Dated, Ledger, GrantOf, UseOf, counts, tells, newest, inner}
-use Rattle.reserving.specs.Ledger.{counter}
-use Rattle.reserving.specs.Pricing.{cycle_at}
+use Rattle.ledger.specs.Ledger.{Fact, Dated, Ledger, GrantOf, UseOf, counts, tells, newest, inner}
+use Rattle.ledger.specs.Ledger.{counter}
+use Rattle.ledger.specs.Pricing.{cycle_at}
 use Rattle.charging.specs.Paid.{before_charges}
 
 -- what a session was granted of a group, and from which place of the group's counter on

@@ -6,11 +6,11 @@ use Rattle.units.specs.Words.{Moment, GroupId}
 use Rattle.identifiers.specs.Words.{SessionName}
 use Rattle.buckets.specs.Words.{BucketNumber, BucketAmount}
 use Rattle.buckets.specs.declared.holds.HeldAmount.{HeldAmount}
-use Rattle.reserving.specs.Ledger.{Ledger, charged, held}
-use Rattle.reserving.specs.Ledger.Fact.{Charge, Hold}
-use Rattle.reserving.specs.Balance.{credits}
-use Rattle.reserving.specs.Settlement.{charge_facts}
-use Rattle.reserving.specs.Reservation.{hold_for, hold_facts}
+use Rattle.ledger.specs.Ledger.{Ledger, charged, held}
+use Rattle.ledger.specs.Ledger.Fact.{Charge, Hold}
+use Rattle.ledger.specs.Balance.{credits}
+use Rattle.ledger.specs.Settlement.{charge_facts}
+use Rattle.ledger.specs.Reservation.{hold_for, hold_facts}
 
 -- what shares take of a bucket
 abbrev pub taken_of : BucketNumber → List HeldAmount → BucketAmount

@@ -6,7 +6,7 @@ ghost use Rattle.commands.specs.declared.command.Command.TheVariants as command;
 ghost use Rattle.commands.specs.declared.command.Content.TheVariants as content;
 ghost use Rattle.shelves.specs.Shelves.{Shelf, book_at};
 ghost use Rattle.buckets.specs.declared.kind.BucketKind.{BucketKind};
-ghost use Rattle.reserving.specs.Ledger.{Ledger};
+ghost use Rattle.ledger.specs.Ledger.{Ledger};
 ghost use Rattle.reserving.specs.Left.{LeftRows, IsWith};
 ghost use Rattle.decisions.specs.Known.{is_known};
 ghost use Rattle.keepers.specs.Keys.{key_of};

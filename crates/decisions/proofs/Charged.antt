@@ -12,13 +12,13 @@ use Rattle.units.specs.declared.blocks.UsedPart.{UsedPart}
 use Rattle.tariffs.specs.Tariffs.{GroupTariff}
 use Rattle.buckets.specs.declared.kind.BucketKind.TheVariants.{Money}
 use Rattle.shelves.specs.Shelves.{Shelf}
-use Rattle.reserving.specs.declared.charge.ChargeRow.{ChargeRow}
+use Rattle.ledger.specs.declared.charge.ChargeRow.{ChargeRow}
 use Rattle.reserving.specs.declared.settle.Settled.{Settled}
-use Rattle.reserving.specs.Ledger.{Ledger}
-use Rattle.reserving.specs.Settlement.{settled_by, passes_limit}
-use Rattle.reserving.specs.Requests.{recorded, credited}
-use Rattle.reserving.specs.Debiting.{debited, is_covered, debit_passes}
-use Rattle.reserving.specs.Charges.{charge_rows}
+use Rattle.ledger.specs.Ledger.{Ledger}
+use Rattle.ledger.specs.Settlement.{settled_by, passes_limit}
+use Rattle.ledger.specs.Requests.{recorded, credited}
+use Rattle.ledger.specs.Debiting.{debited, is_covered, debit_passes}
+use Rattle.ledger.specs.Charges.{charge_rows}
 use Rattle.reserving.specs.Results.{IsSettlementOf, IsDebitOf}
 use Rattle.reserving.specs.Rows.{AccountRows, IsRowsOf}
 use Rattle.reserving.specs.Left.{LeftRows, joined, NotLeft, IsBeside, IsWith}

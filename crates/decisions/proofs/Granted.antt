@@ -11,9 +11,9 @@ use Rattle.rating.specs.declared.grant.Grant.{Grant}
 use Rattle.shelves.specs.Shelves.{Shelf, book_at}
 use Rattle.commands.specs.declared.service.Service.{Service}
 use Rattle.commands.specs.declared.service.Requested.{Requested}
-use Rattle.reserving.specs.Ledger.{Ledger, is_barred, used}
-use Rattle.reserving.specs.Pricing.{tariff_of, wanted_units, wanted_with}
-use Rattle.reserving.specs.Reservation.{reserved, grant_for, held_due}
+use Rattle.ledger.specs.Ledger.{Ledger, is_barred, used}
+use Rattle.ledger.specs.Pricing.{tariff_of, wanted_units, wanted_with}
+use Rattle.ledger.specs.Reservation.{reserved, grant_for, held_due}
 use Rattle.reserving.specs.Results.{IsGrantOf}
 use Rattle.reserving.specs.Rows.{AccountRows, IsRowsOf}
 use Rattle.reserving.specs.Left.{LeftRows, joined, IsBeside, IsWith}

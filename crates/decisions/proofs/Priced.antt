@@ -20,8 +20,8 @@ use Rattle.rating.proofs.RunFacts.{rated_bound}
 use Rattle.rating.specs.declared.grant.Periods.{Periods}
 use Rattle.shelves.proofs.Begun.{last_begun_holds}
 use Rattle.shelves.specs.Shelves.{Shelf, IsShelf, book_at, number_at, tariff_in}
-use Rattle.reserving.specs.Pricing.{tariff_of, prices_by, rated_with, rated_parts}
-use Rattle.reserving.specs.Debiting.{untagged}
+use Rattle.ledger.specs.Pricing.{tariff_of, prices_by, rated_with, rated_parts}
+use Rattle.ledger.specs.Debiting.{untagged}
 use Rattle.reserving.specs.Changes.{event_price_in}
 use Rattle.reserving.specs.Rows.{AccountRows}
 

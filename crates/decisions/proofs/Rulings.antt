@@ -16,12 +16,12 @@ use Rattle.commands.specs.declared.answer.ServiceOutcome.TheVariants as service
 use Rattle.tariffs.specs.Tariffs.{GroupTariff}
 use Rattle.rating.specs.declared.grant.Grant.{Grant}
 use Rattle.shelves.specs.Shelves.{Shelf, book_at}
-use Rattle.reserving.specs.declared.charge.ChargeRow.{ChargeRow}
-use Rattle.reserving.specs.Ledger.{Ledger, is_barred, used}
-use Rattle.reserving.specs.Pricing.{tariff_of}
-use Rattle.reserving.specs.Requests.{recorded, touched, closed}
-use Rattle.reserving.specs.Reservation.{reserved, grant_for, held_due}
-use Rattle.reserving.specs.Charges.{charge_rows}
+use Rattle.ledger.specs.declared.charge.ChargeRow.{ChargeRow}
+use Rattle.ledger.specs.Ledger.{Ledger, is_barred, used}
+use Rattle.ledger.specs.Pricing.{tariff_of}
+use Rattle.ledger.specs.Requests.{recorded, touched, closed}
+use Rattle.ledger.specs.Reservation.{reserved, grant_for, held_due}
+use Rattle.ledger.specs.Charges.{charge_rows}
 use Rattle.reserving.specs.Rows.{AccountRows}
 use Rattle.reserving.specs.Left.{LeftRows, NotLeft, IsWith}
 use Rattle.reserving.proofs.ChargeRows.{charge_rows-recorded, charge_rows-touched}

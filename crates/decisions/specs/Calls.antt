@@ -6,10 +6,10 @@ use Rattle.std.specs.Prelude.{Result, IfOk, IfSome}
 use Rattle.units.specs.Words.{Moment}
 use Rattle.commands.specs.declared.request.Request.{Request}
 use Rattle.commands.specs.declared.answer.RequestAnswer.{RequestAnswer}
-use Rattle.reserving.specs.Ledger.{Ledger}
+use Rattle.ledger.specs.Ledger.{Ledger}
 use Rattle.reserving.specs.Rows.{AccountRows}
 use Rattle.reserving.specs.Left.{LeftRows, IsWith}
-use Rattle.reserving.specs.Charges.{charge_rows}
+use Rattle.ledger.specs.Charges.{charge_rows}
 use Rattle.reserving.specs.Others.{other_rows}
 use Rattle.decisions.specs.declared.decided.Decided.{Decided}
 use Rattle.decisions.specs.Asked.{IsAsked}

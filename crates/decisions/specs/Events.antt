@@ -28,10 +28,10 @@ use Rattle.tariffs.specs.Books.{Book}
 use Rattle.tariffs.specs.Tariffs.{GroupTariff}
 use Rattle.buckets.specs.declared.kind.BucketKind.TheVariants.{Money}
 use Rattle.shelves.specs.Shelves.{Shelf, book_at}
-use Rattle.reserving.specs.Ledger.{Ledger, is_barred, next_bucket}
-use Rattle.reserving.specs.Pricing.{tariff_of, tariff_at}
-use Rattle.reserving.specs.Requests.{recorded, credited}
-use Rattle.reserving.specs.Debiting.{event_price, is_covered, debited, debit_passes}
+use Rattle.ledger.specs.Ledger.{Ledger, is_barred, next_bucket}
+use Rattle.ledger.specs.Pricing.{tariff_of, tariff_at}
+use Rattle.ledger.specs.Requests.{recorded, credited}
+use Rattle.ledger.specs.Debiting.{event_price, is_covered, debited, debit_passes}
 use Rattle.decisions.specs.Recorded.{has_record}
 use Rattle.decisions.specs.Reports.{units_of, asks_other}
 use Rattle.decisions.specs.Decided.{Decision, accepted, denied, told, invalid, refused_or}

@@ -15,15 +15,15 @@ use Rattle.commands.specs.declared.answer.ServiceFailure.TheVariants.{RatingFail
 use Rattle.commands.specs.declared.answer.ServiceOutcome.{ServiceOutcome}
 use Rattle.commands.specs.declared.answer.ServiceOutcome.TheVariants as service
 use Rattle.commands.specs.declared.answer.ServiceAnswer.{ServiceAnswer}
-use Rattle.reserving.specs.Ledger.{Ledger, is_barred, used}
+use Rattle.ledger.specs.Ledger.{Ledger, is_barred, used}
 use Rattle.tariffs.specs.declared.final_action.FinalAction.{FinalAction}
 use Rattle.tariffs.specs.declared.final_action.FinalAction.TheVariants as action
 use Rattle.tariffs.specs.Tariffs.{GroupTariff}
 use Rattle.tariffs.specs.Books.{Book}
 use Rattle.rating.specs.declared.grant.Grant.{Grant}
 use Rattle.shelves.specs.Shelves.{Shelf}
-use Rattle.reserving.specs.Pricing.{switch_at, validity_at, wanted_units, tariff_at}
-use Rattle.reserving.specs.Reservation.{reserved, grant_for, held_due}
+use Rattle.ledger.specs.Pricing.{switch_at, validity_at, wanted_units, tariff_at}
+use Rattle.ledger.specs.Reservation.{reserved, grant_for, held_due}
 use Rattle.decisions.specs.Known.{is_known}
 use Rattle.decisions.specs.Reports.{units_of, asked_units}
 

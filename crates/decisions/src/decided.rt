@@ -5,7 +5,7 @@ ghost use Rattle.decisions.specs.Decided.{may_be_accepted};
 
 use commands::RequestAnswer;
 use identifiers::SessionId;
-use reserving::ChargeRow;
+use ledger::ChargeRow;
 
 /// What a request comes to. The type keeps that the answer of an accepted one is none of a read,
 /// and no failure but a denial.

@@ -1,7 +1,7 @@
 //! Checks of the balance and price enquiries: they change nothing.
 
 ghost use Rattle.std.specs.Prelude.{◌≡◌, ◌≤◌, ◌<◌, Some};
-ghost use Rattle.reserving.specs.Ledger.{Ledger};
+ghost use Rattle.ledger.specs.Ledger.{Ledger};
 ghost use Rattle.reserving.specs.Left.{LeftRows, IsWith};
 ghost use Rattle.decisions.specs.Events.{balance_of, check_decision, enquiry_decision};
 

@@ -8,8 +8,8 @@ use Rattle.commands.specs.declared.answer.Answer.TheVariants.{Refused}
 use Rattle.commands.specs.declared.answer.Refusal.TheVariants.{AccountUnknown}
 use Rattle.wire.specs.Spelled.{answer_text}
 use Rattle.shelves.specs.Shelves.{Shelf}
-use Rattle.reserving.specs.ChargeColumns.{ChargeColumns}
-use Rattle.reserving.specs.Charges.{charge_rows}
+use Rattle.ledger.specs.ChargeColumns.{ChargeColumns}
+use Rattle.ledger.specs.Charges.{charge_rows}
 use Rattle.keepers.specs.Tables.{Tables}
 use Rattle.keepers.specs.Rows.{AreCharges}
 use Rattle.keepers.proofs.Numbered.{charges_rise}
@@ -26,8 +26,8 @@ use Rattle.http_messages.specs.declared.asking.StatementAsked.{StatementAsked}
 use Rattle.http_messages.specs.declared.text.Media.TheVariants.{Text}
 use Rattle.http_messages.specs.Texts.{response, response_of, unable, TellsText}
 use Rattle.charging.specs.Balances.{by_number}
-use Rattle.reserving.specs.Balance.{buckets_at}
-use Rattle.reserving.specs.Pricing.{validity_of}
+use Rattle.ledger.specs.Balance.{buckets_at}
+use Rattle.ledger.specs.Pricing.{validity_of}
 use Rattle.http_api.specs.Replies.{unserved, MayAsk, GoesOn, statement_media, statement_reply}
 use Rattle.http_api.specs.Replies.{reply_text, IsReplied, Replies}
 use Rattle.http_api.specs.Told.{IsBodyTold, TellsAnswer, TellsCharges}

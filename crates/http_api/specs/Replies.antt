@@ -13,9 +13,9 @@ use Rattle.commands.specs.declared.answer.Refusal.TheVariants.{AccountUnknown}
 use Rattle.commands.specs.declared.command.Command.{Command}
 use Rattle.wire.specs.Spelled.{answer_text, fault_text}
 use Rattle.shelves.specs.Shelves.{Shelf}
-use Rattle.reserving.specs.Balance.{buckets_at}
-use Rattle.reserving.specs.Charges.{charge_rows}
-use Rattle.reserving.specs.Pricing.{validity_of}
+use Rattle.ledger.specs.Balance.{buckets_at}
+use Rattle.ledger.specs.Charges.{charge_rows}
+use Rattle.ledger.specs.Pricing.{validity_of}
 use Rattle.keepers.specs.Tables.{Tables}
 use Rattle.statements.specs.Texts.{statement_text}
 use Rattle.charging.specs.Accepted.{Accepted, IsInTime}

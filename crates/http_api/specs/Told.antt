@@ -2,10 +2,10 @@
 -- Source: profile.
 use Rattle.std.specs.Prelude.{◌≡◌, ◌⊎◌, Bool, List, Option}
 use Rattle.texts.specs.StreamWords.{Bytes}
-use Rattle.reserving.specs.Words.{ChargeNumber}
+use Rattle.ledger.specs.Words.{ChargeNumber}
 use Rattle.commands.specs.declared.answer.Answer.{Answer}
 use Rattle.wire.specs.Spelled.{answer_text}
-use Rattle.reserving.specs.ChargeColumns.{ChargeColumns}
+use Rattle.ledger.specs.ChargeColumns.{ChargeColumns}
 use Rattle.keepers.specs.Rows.{AreCharges}
 use Rattle.http_messages.specs.Statuses.{ok, service_unavailable}
 use Rattle.http_messages.specs.declared.text.Media.TheVariants.{Text}

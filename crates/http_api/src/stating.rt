@@ -4,7 +4,7 @@ ghost use Rattle.std.specs.Prelude.{◌≡◌, ◌≤◌, List, OnOk, OnErr, IfO
 ghost use Rattle.std.specs.Io.KnownBytes.{Appends};
 ghost use Rattle.commands.specs.declared.answer.Answer.TheVariants.{Refused};
 ghost use Rattle.commands.specs.declared.answer.Refusal.TheVariants.{AccountUnknown as Unknown};
-ghost use Rattle.reserving.specs.ChargeColumns.{ChargeColumns};
+ghost use Rattle.ledger.specs.ChargeColumns.{ChargeColumns};
 ghost use Rattle.keepers.specs.Rows.{AreCharges};
 ghost use Rattle.keepers.specs.Tables.{Tables};
 ghost use Rattle.statements.specs.Charges.{Asks};

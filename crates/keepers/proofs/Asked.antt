@@ -5,7 +5,7 @@ use Rattle.std.specs.Prelude.{is_some, not}
 use Rattle.std.proofs.lemmas.Bool.{cond-false}
 use Rattle.shelves.specs.Shelves.{Shelf, IsShelf}
 use Rattle.reserving.specs.declared.session.SessionGroup.{SessionGroup}
-use Rattle.reserving.specs.Ledger.{Ledger, last_recording, has_group}
+use Rattle.ledger.specs.Ledger.{Ledger, last_recording, has_group}
 use Rattle.reserving.specs.Sessions.{is_of, session_in, group_in}
 use Rattle.reserving.specs.Sessions.{state_at}
 use Rattle.reserving.specs.Rows.{IsAccount}
@@ -15,7 +15,7 @@ use Rattle.reserving.proofs.StoredRows.{IsAccount-priced}
 use Rattle.reserving.proofs.LeftTests.{find_filter}
 use Rattle.reserving.proofs.LeftParted.{one_group}
 use Rattle.reserving.proofs.rows.Touching.{recorded_row}
-use Rattle.reserving.specs.Pricing.{validity_of}
+use Rattle.ledger.specs.Pricing.{validity_of}
 use Rattle.keepers.specs.Tables.{Rows}
 use Rattle.keepers.specs.Change.{AreRowsAt}
 use Rattle.keepers.specs.Steps.{HasNoGroups}

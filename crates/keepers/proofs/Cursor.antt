@@ -8,10 +8,12 @@ use Rattle.buckets.specs.Row.{BucketRow}
 use Rattle.reserving.specs.declared.session.Session.{Session}
 use Rattle.reserving.specs.declared.session.SessionGroup.{SessionGroup}
 use Rattle.reserving.specs.declared.session.Counter.{Counter}
-use Rattle.reserving.specs.Rows.{EachIn, AreApart}
+use Rattle.ledger.specs.Lists.{EachIn}
+use Rattle.reserving.specs.Rows.{AreApart}
 use Rattle.reserving.proofs.Lists.{not_both}
-use Rattle.reserving.proofs.Keys.{same_tests, both_true, is_same-sym, is_key-sym}
-use Rattle.reserving.proofs.Holds.{number_from, number_itself, both}
+use Rattle.ledger.proofs.Names.{is_same-sym}
+use Rattle.reserving.proofs.Keys.{same_tests, both_true, is_key-sym}
+use Rattle.ledger.proofs.Holds.{number_from, number_itself, both}
 use Rattle.reserving.proofs.order.Searched.{no_less, at_place}
 use Rattle.keepers.specs.Keyed.{same_bucket, same_session, same_group, same_counter}
 

@@ -7,7 +7,7 @@ use Rattle.std.proofs.lemmas.Bool.Decides.{nat_tests}
 use Rattle.std.proofs.lemmas.List.Sorted.{IsNonDecreasingBy-short}
 use Rattle.buckets.specs.Row.{BucketRow}
 use Rattle.reserving.specs.Left.{is_dead}
-use Rattle.reserving.proofs.Keys.{number_same}
+use Rattle.ledger.proofs.Names.{number_same}
 use Rattle.reserving.proofs.LeftTests.{find_filter, apart_filter}
 use Rattle.reserving.proofs.Reordered.{find_reordered, apart_reordered}
 use Rattle.keepers.specs.Keyed.{same_bucket}

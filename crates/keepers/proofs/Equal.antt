@@ -8,7 +8,7 @@ use Rattle.buckets.specs.Row.{BucketRow}
 use Rattle.rating.specs.declared.grant.Periods.{Periods}
 use Rattle.buckets.specs.declared.kind.BucketKind.{BucketKind}
 use Rattle.buckets.specs.declared.kind.BucketKind.TheVariants.{Money, Blocks}
-use Rattle.reserving.specs.declared.session.Terms.{Terms}
+use Rattle.ledger.specs.declared.terms.Terms.{Terms}
 use Rattle.keepers.specs.Differing.{same_kind, equal_terms}
 use Rattle.reserving.specs.declared.session.Session.{Session}
 use Rattle.reserving.specs.declared.session.SessionState.{SessionState}
@@ -17,7 +17,7 @@ use Rattle.reserving.specs.declared.session.SessionGroup.{SessionGroup}
 use Rattle.reserving.specs.declared.session.Reservation.{Reservation}
 use Rattle.reserving.specs.declared.session.Counter.{Counter}
 use Rattle.reserving.proofs.Lists.{not_both}
-use Rattle.reserving.proofs.Holds.{same_from, number_from, both}
+use Rattle.ledger.proofs.Holds.{same_from, number_from, both}
 use Rattle.keepers.specs.Differing.{same_scope, equal_bucket, equal_counter, same_state}
 use Rattle.keepers.specs.Differing.{equal_session, equal_periods, equal_hold, equal_reservation}
 use Rattle.keepers.specs.Differing.{equal_group}

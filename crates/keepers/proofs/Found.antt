@@ -4,7 +4,8 @@ use Rattle.std.proofs.Common.{ap, ◌∙◌, Option, Some, None}
 use Rattle.std.specs.Prelude.{if◌then◌else◌, ◌==◌, ◌≢◌, filter}
 use Rattle.buckets.specs.Row.{BucketRow, precedes}
 use Rattle.buckets.specs.Spend.{AreDistinct, DiffersFromAll}
-use Rattle.reserving.specs.Rows.{EachIn, AreApart}
+use Rattle.ledger.specs.Lists.{EachIn}
+use Rattle.reserving.specs.Rows.{AreApart}
 use Rattle.reserving.proofs.Lists.{no_some}
 use Rattle.reserving.proofs.Keys.{same_number}
 use Rattle.reserving.specs.Left.{bucket_in, placed, merged, only, first_of}

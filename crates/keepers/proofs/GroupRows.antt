@@ -7,12 +7,12 @@ use Rattle.buckets.specs.Row.{BucketRow}
 use Rattle.buckets.specs.Share.{parts}
 use Rattle.reserving.specs.declared.session.SessionGroup.{SessionGroup}
 use Rattle.reserving.specs.declared.session.Reservation.{Reservation}
-use Rattle.reserving.specs.Ledger.{is_same}
+use Rattle.ledger.specs.Ledger.{is_same}
 use Rattle.reserving.specs.Sessions.{is_of, group_in, holds_in, reservation_of}
 use Rattle.reserving.specs.Rows.{IsInOrderOf, AreInOrderOf}
 use Rattle.reserving.specs.Left.{first_of}
 use Rattle.reserving.proofs.Lists.{find-passes, no_some, EachIn-found}
-use Rattle.reserving.proofs.Holds.{same_from}
+use Rattle.ledger.proofs.Holds.{same_from}
 use Rattle.reserving.proofs.Keys.{first_true, second_true, same_number}
 use Rattle.keepers.specs.Tables.{GroupRow, group_row, held_at, held_of}
 use Rattle.keepers.specs.Change.{held_over}

@@ -7,7 +7,8 @@ use Rattle.buckets.specs.Row.{BucketRow}
 use Rattle.buckets.specs.Holding.{held_in}
 use Rattle.reserving.specs.declared.session.SessionGroup.{SessionGroup}
 use Rattle.reserving.specs.Sessions.{is_of, group_in, holds_in, held_by}
-use Rattle.reserving.specs.Rows.{EachIn, AreApart}
+use Rattle.ledger.specs.Lists.{EachIn}
+use Rattle.reserving.specs.Rows.{AreApart}
 use Rattle.reserving.proofs.Keys.{is_key-sym}
 use Rattle.reserving.proofs.LeftParted.{one_group}
 

@@ -8,7 +8,7 @@ use Rattle.reserving.specs.declared.session.Session.{Session}
 use Rattle.reserving.specs.Sessions.{is_open, is_session, session_in}
 use Rattle.reserving.specs.Left.{first_of}
 use Rattle.reserving.proofs.Lists.{not_both, find-passes, EachIn-found}
-use Rattle.reserving.proofs.Holds.{same_from}
+use Rattle.ledger.proofs.Holds.{same_from}
 use Rattle.reserving.proofs.LeftParted.{find_both}
 use Rattle.keepers.specs.Named.{Names, is_named, AreLeftSessions}
 

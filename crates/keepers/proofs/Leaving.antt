@@ -8,9 +8,9 @@ use Rattle.shelves.specs.Shelves.{Shelf}
 use Rattle.reserving.specs.declared.session.Session.{Session}
 use Rattle.reserving.specs.declared.session.SessionGroup.{SessionGroup}
 use Rattle.reserving.specs.declared.session.Counter.{Counter}
-use Rattle.reserving.specs.Ledger.{Ledger, is_same}
-use Rattle.reserving.specs.Pricing.{cycle_at, validity_of}
-use Rattle.reserving.specs.Balance.{buckets_at}
+use Rattle.ledger.specs.Ledger.{Ledger, is_same}
+use Rattle.ledger.specs.Pricing.{cycle_at, validity_of}
+use Rattle.ledger.specs.Balance.{buckets_at}
 use Rattle.reserving.specs.Sessions.{is_session, is_of, is_counter, is_open, session_in, group_in}
 use Rattle.reserving.specs.Sessions.{counter_in}
 use Rattle.reserving.specs.Rows.{AccountRows, IsAccount, IsRowsOf}
@@ -18,7 +18,7 @@ use Rattle.reserving.specs.Stored.{stored, priced}
 use Rattle.reserving.specs.Left.{LeftRows, is_dead, is_open_row, only, first_of, bucket_in}
 use Rattle.reserving.specs.Left.{merged, joined, left_of, IsWith}
 use Rattle.reserving.proofs.Lists.{no_some, find-passes}
-use Rattle.reserving.proofs.Holds.{same_from}
+use Rattle.ledger.proofs.Holds.{same_from}
 use Rattle.reserving.proofs.Keys.{first_true}
 use Rattle.reserving.proofs.StoredRows.{IsStored-stored}
 use Rattle.reserving.proofs.LeftTests.{find_filter}

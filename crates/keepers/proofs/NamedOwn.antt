@@ -14,14 +14,16 @@ use Rattle.reserving.specs.declared.session.SessionState.{SessionState}
 use Rattle.reserving.specs.declared.session.SessionState.TheVariants.{Open, Ended, NeverOpened}
 use Rattle.reserving.specs.declared.session.SessionGroup.{SessionGroup}
 use Rattle.reserving.specs.declared.session.Reservation.{Reservation}
-use Rattle.reserving.specs.declared.session.Terms.{Terms}
-use Rattle.reserving.specs.Ledger.{is_same}
+use Rattle.ledger.specs.declared.terms.Terms.{Terms}
+use Rattle.ledger.specs.Ledger.{is_same}
 use Rattle.reserving.specs.Left.{differing}
-use Rattle.reserving.specs.Rows.{EachIn, AreApart}
+use Rattle.ledger.specs.Lists.{EachIn}
+use Rattle.reserving.specs.Rows.{AreApart}
 use Rattle.reserving.specs.Sessions.{is_session, session_in}
 use Rattle.reserving.specs.Stored.{StoredRows, IsStored}
 use Rattle.reserving.specs.Others.{own_sessions, own_groups, other_sessions, other_groups}
-use Rattle.reserving.proofs.Keys.{is_same-refl, number_same, both_true}
+use Rattle.ledger.proofs.Names.{is_same-refl, number_same}
+use Rattle.reserving.proofs.Keys.{both_true}
 use Rattle.reserving.proofs.Lists.{EachIn-weaker, not_both}
 use Rattle.reserving.proofs.LeftTests.{each_filter, each_passes, apart_filter}
 use Rattle.keepers.specs.Keyed.{same_bucket, same_session, same_group, same_counter}

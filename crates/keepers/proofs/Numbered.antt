@@ -4,9 +4,9 @@ use Rattle.std.proofs.Common.{sym, ap, ◌∙◌, subst, arith, append-nil, Opti
 use Rattle.std.specs.Prelude.{nat_le}
 use Rattle.std.proofs.lemmas.Bool.{and_from}
 use Rattle.std.proofs.lemmas.Bool.Decides.{nat_tests}
-use Rattle.reserving.specs.ChargeColumns.{ChargeColumns}
-use Rattle.reserving.specs.Charges.{charge_by, charge_rows}
-use Rattle.reserving.specs.Ledger.{Ledger, UseOf, counts as counts_of, number_of, next_charge}
+use Rattle.ledger.specs.ChargeColumns.{ChargeColumns}
+use Rattle.ledger.specs.Charges.{charge_by, charge_rows}
+use Rattle.ledger.specs.Ledger.{Ledger, UseOf, counts as counts_of, number_of, next_charge}
 use Rattle.keepers.specs.Rows.{are_rising}
 use Rattle.keepers.proofs.Unique.{rising_parts}
 

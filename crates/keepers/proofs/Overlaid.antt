@@ -11,16 +11,19 @@ use Rattle.reserving.specs.declared.session.Session.{Session}
 use Rattle.reserving.specs.declared.session.SessionGroup.{SessionGroup}
 use Rattle.reserving.specs.declared.session.Reservation.{Reservation}
 use Rattle.reserving.specs.declared.session.Counter.{Counter}
-use Rattle.reserving.specs.Ledger.{is_same}
+use Rattle.ledger.specs.Ledger.{is_same}
 use Rattle.reserving.specs.Sessions.{is_session, is_of, is_counter, is_open, session_in, group_in}
 use Rattle.reserving.specs.Sessions.{counter_in}
-use Rattle.reserving.specs.Rows.{EachIn, AreApart}
+use Rattle.ledger.specs.Lists.{EachIn}
+use Rattle.reserving.specs.Rows.{AreApart}
 use Rattle.reserving.specs.Stored.{StoredRows}
-use Rattle.reserving.specs.Left.{is_dead, IsDead, only, first_of, bucket_in}
+use Rattle.ledger.specs.Laws.{IsDead}
+use Rattle.reserving.specs.Left.{is_dead, only, first_of, bucket_in}
 use Rattle.reserving.specs.Restored.{in_key_order, AreReordered, FindsSame}
 use Rattle.reserving.proofs.Lists.{not_both, no_some, some_of, find-passes, EachIn-found}
-use Rattle.reserving.proofs.Holds.{same_from}
-use Rattle.reserving.proofs.Keys.{first_true, second_true, same_number, number_same}
+use Rattle.ledger.proofs.Holds.{same_from}
+use Rattle.ledger.proofs.Names.{number_same}
+use Rattle.reserving.proofs.Keys.{first_true, second_true, same_number}
 use Rattle.reserving.proofs.KeysFound.{is_none_is}
 use Rattle.reserving.proofs.LeftTests.{find_filter, first_alone}
 use Rattle.reserving.proofs.LeftParted.{one_session, one_group, one_counter, find_both, dead_parts}

@@ -11,11 +11,12 @@ use Rattle.buckets.proofs.SharesAlong.{with_end_keeps, with_release_number}
 use Rattle.shelves.specs.Shelves.{Shelf}
 use Rattle.reserving.specs.declared.session.Session.{Session}
 use Rattle.reserving.specs.declared.session.SessionGroup.{SessionGroup}
-use Rattle.reserving.specs.Ledger.{is_same}
+use Rattle.ledger.specs.Ledger.{is_same}
 use Rattle.reserving.specs.Sessions.{is_session, is_of, is_open, session_in, group_in}
 use Rattle.reserving.specs.Sessions.{counter_in, is_live_in}
 use Rattle.reserving.specs.Changes.{lapse, lapse_group, lapsed_in}
-use Rattle.reserving.specs.Rows.{AccountRows, EachIn, AreApart}
+use Rattle.ledger.specs.Lists.{EachIn}
+use Rattle.reserving.specs.Rows.{AccountRows, AreApart}
 use Rattle.reserving.specs.Stored.{StoredRows, IsStored, priced}
 use Rattle.reserving.specs.Left.{is_dead, bucket_in, none_left, first_of}
 use Rattle.reserving.proofs.Lists.{no_some, not_both, AreApart-map, EachIn-weaker}
@@ -25,7 +26,7 @@ use Rattle.reserving.proofs.kept.Ordered.{lapsed_name}
 use Rattle.reserving.proofs.Advancing.{session_in-advanced}
 use Rattle.reserving.proofs.LeftTests.{each_filter, each_passes, each_append, apart_filter}
 use Rattle.reserving.proofs.LeftTests.{apart_append, none_each}
-use Rattle.reserving.specs.Pricing.{validity_of}
+use Rattle.ledger.specs.Pricing.{validity_of}
 use Rattle.keepers.specs.Parts.{Parts, AreParts, leaves_bucket, leaves_counter, leaves_session}
 use Rattle.keepers.specs.Parts.{leaves_group, left_after, with_live, advanced_parts}
 use Rattle.keepers.specs.Keyed.{same_bucket, same_session, same_group, same_counter}

@@ -6,8 +6,8 @@ use Rattle.shelves.specs.Shelves.{Shelf}
 use Rattle.reserving.specs.declared.session.Session.{Session}
 use Rattle.reserving.specs.declared.session.SessionGroup.{SessionGroup}
 use Rattle.reserving.specs.declared.session.Counter.{Counter}
-use Rattle.reserving.specs.Ledger.{is_same}
-use Rattle.reserving.specs.Pricing.{cycle_at}
+use Rattle.ledger.specs.Ledger.{is_same}
+use Rattle.ledger.specs.Pricing.{cycle_at}
 use Rattle.reserving.specs.Sessions.{is_session, is_of, is_counter, is_open, session_in, group_in}
 use Rattle.reserving.specs.Sessions.{counter_in, counter_before}
 use Rattle.reserving.specs.Rows.{AccountRows}
@@ -15,7 +15,7 @@ use Rattle.reserving.specs.Stored.{IsStored}
 use Rattle.reserving.specs.Left.{is_dead, is_open_row, only, first_of, bucket_in}
 use Rattle.reserving.specs.Live.{is_live_group, live_part}
 use Rattle.reserving.proofs.Lists.{find-passes, EachIn-found}
-use Rattle.reserving.proofs.Holds.{same_from}
+use Rattle.ledger.proofs.Holds.{same_from}
 use Rattle.reserving.proofs.Keys.{first_true, second_true, same_number}
 use Rattle.reserving.proofs.LeftTests.{find_filter, apart_filter}
 use Rattle.reserving.proofs.Reordered.{find_reordered, arranged_reordered}

@@ -5,13 +5,13 @@ use Rattle.std.specs.Prelude.{◌==◌, is_some, option_map}
 use Rattle.shelves.specs.Shelves.{Shelf}
 use Rattle.reserving.specs.declared.session.SessionGroup.{SessionGroup}
 use Rattle.reserving.specs.declared.session.Reservation.{Reservation}
-use Rattle.reserving.specs.Ledger.{is_same}
+use Rattle.ledger.specs.Ledger.{is_same}
 use Rattle.reserving.specs.Sessions.{is_session, is_of, is_counter, is_open, session_in, group_in}
 use Rattle.reserving.specs.Sessions.{counter_in}
 use Rattle.reserving.specs.Stored.{StoredRows, IsStored, advanced_stored}
 use Rattle.reserving.specs.Left.{is_dead, first_of, bucket_in}
 use Rattle.reserving.proofs.Lists.{find-passes, no_some, some_of, EachIn-found}
-use Rattle.reserving.proofs.Holds.{same_from}
+use Rattle.ledger.proofs.Holds.{same_from}
 use Rattle.reserving.proofs.Keys.{first_true}
 use Rattle.reserving.proofs.KeysFound.{is_none_is}
 use Rattle.reserving.proofs.LeftParted.{one_session, one_group, one_counter, find_both, dead_parts}

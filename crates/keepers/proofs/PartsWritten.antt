@@ -8,14 +8,15 @@ use Rattle.buckets.specs.Row.{BucketRow}
 use Rattle.reserving.specs.declared.session.Session.{Session}
 use Rattle.reserving.specs.declared.session.SessionGroup.{SessionGroup}
 use Rattle.reserving.specs.declared.session.Counter.{Counter}
-use Rattle.reserving.specs.Ledger.{is_same}
+use Rattle.ledger.specs.Ledger.{is_same}
 use Rattle.reserving.specs.Sessions.{is_session, is_of, is_counter, is_open, session_in, group_in}
 use Rattle.reserving.specs.Sessions.{counter_in}
 use Rattle.reserving.specs.Rows.{AreApart}
 use Rattle.reserving.specs.Stored.{StoredRows, IsStored}
-use Rattle.reserving.specs.Left.{is_dead, IsDead, only, first_of, bucket_in, none_left}
+use Rattle.ledger.specs.Laws.{IsDead}
+use Rattle.reserving.specs.Left.{is_dead, only, first_of, bucket_in, none_left}
 use Rattle.reserving.proofs.Lists.{find-passes}
-use Rattle.reserving.proofs.Holds.{same_from}
+use Rattle.ledger.proofs.Holds.{same_from}
 use Rattle.reserving.proofs.Keys.{first_true, second_true, same_number, both_true}
 use Rattle.reserving.proofs.LeftTests.{find_filter}
 use Rattle.reserving.proofs.LeftParted.{one_session, one_group, one_counter, find_both}

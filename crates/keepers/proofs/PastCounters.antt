@@ -8,10 +8,11 @@ use Rattle.calendar.specs.declared.cycle.Cycle.TheVariants as Each
 use Rattle.shelves.specs.Shelves.{Shelf, book_at}
 use Rattle.tariffs.specs.Tariffs.{GroupTariff}
 use Rattle.reserving.specs.declared.session.Counter.{Counter}
-use Rattle.reserving.specs.Pricing.{tariff_at, cycle_with, cycle_at}
+use Rattle.ledger.specs.Pricing.{tariff_at, cycle_with, cycle_at}
 use Rattle.reserving.specs.Keyed.{arranged}
 use Rattle.reserving.specs.Sessions.{counter_before}
-use Rattle.reserving.specs.Rows.{EachIn, AreApart}
+use Rattle.ledger.specs.Lists.{EachIn}
+use Rattle.reserving.specs.Rows.{AreApart}
 use Rattle.reserving.specs.Stored.{StoredRows}
 use Rattle.reserving.specs.Live.{live_part}
 use Rattle.reserving.proofs.Lists.{not_both, EachIn-weaker}

@@ -16,7 +16,7 @@ use Rattle.reserving.proofs.Lists.{find-passes, find-put, find-put_other, put_fi
 use Rattle.reserving.proofs.Lists.{not_both}
 use Rattle.reserving.proofs.KeysFound.{placed, unplaced}
 use Rattle.keepers.specs.declared.entries.AccountEntry.{AccountEntry}
-use Rattle.reserving.specs.declared.charge.ChargeRow.{ChargeRow}
+use Rattle.ledger.specs.declared.charge.ChargeRow.{ChargeRow}
 use Rattle.reserving.specs.Left.{first_of}
 use Rattle.reserving.proofs.LeftParted.{find_both}
 use Rattle.keepers.specs.Tables.{charge_in}

@@ -10,7 +10,7 @@ use Rattle.std.proofs.lemmas.Iterator.Adapters.{position_from-zero}
 use Rattle.std.specs.HashMap.{get}
 use Rattle.identifiers.specs.Texts.{same_name}
 use Rattle.shelves.specs.Shelves.{Shelf}
-use Rattle.reserving.specs.Ledger.{Ledger}
+use Rattle.ledger.specs.Ledger.{Ledger}
 use Rattle.keepers.specs.declared.key.Key.{Key}
 use Rattle.keepers.specs.Keys.{same_key}
 use Rattle.keepers.specs.declared.entries.AccountEntry.{AccountEntry}

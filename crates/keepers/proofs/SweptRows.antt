@@ -10,20 +10,22 @@ use Rattle.buckets.specs.Holding.{held_in}
 use Rattle.reserving.specs.declared.session.Session.{Session}
 use Rattle.reserving.specs.declared.session.SessionState.TheVariants.{Ended}
 use Rattle.reserving.specs.declared.session.SessionGroup.{SessionGroup}
-use Rattle.reserving.specs.Ledger.{Ledger, is_same}
-use Rattle.reserving.specs.Pricing.{validity_of}
+use Rattle.ledger.specs.Ledger.{Ledger, is_same}
+use Rattle.ledger.specs.Pricing.{validity_of}
 use Rattle.reserving.specs.Sessions.{is_session, is_of, is_open, session_in, group_in, counter_in}
 use Rattle.reserving.specs.Sessions.{is_live_in, is_live_row, holds_in, held_by}
 use Rattle.reserving.specs.Changes.{advanced, lapse, lapse_group, lapsed_in}
-use Rattle.reserving.specs.Rows.{EachIn, IsAccount}
+use Rattle.ledger.specs.Lists.{EachIn}
+use Rattle.reserving.specs.Rows.{IsAccount}
 use Rattle.reserving.specs.Stored.{StoredRows, IsStored, priced, advanced_stored}
-use Rattle.reserving.specs.Left.{bucket_in, first_of, IsDead}
+use Rattle.ledger.specs.Laws.{IsDead}
+use Rattle.reserving.specs.Left.{bucket_in, first_of}
 use Rattle.reserving.proofs.Lists.{find-map, find-passes, no_some, some_of}
-use Rattle.reserving.proofs.Holds.{same_from}
+use Rattle.ledger.proofs.Holds.{same_from}
 use Rattle.reserving.proofs.Keys.{first_true, found_own}
 use Rattle.reserving.proofs.Advancing.{held_by-split, lapse-id, IsRowsOf-advanced}
 use Rattle.reserving.proofs.Advanced.{IsAccount-advanced}
-use Rattle.reserving.proofs.LeftMerged.{release_none, end_dead}
+use Rattle.ledger.proofs.DeadRows.{release_none, end_dead}
 use Rattle.reserving.proofs.StoredRows.{IsAccount-priced, IsStored-stored}
 use Rattle.reserving.proofs.calls.RowParts.{key_kept}
 use Rattle.keepers.specs.Tables.{Rows, GroupRow, head_of, group_row, held_at, held_of}

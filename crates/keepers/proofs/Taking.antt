@@ -7,9 +7,8 @@ use Rattle.buckets.proofs.Filtered.{sound_filter}
 use Rattle.reserving.specs.declared.session.Session.{Session}
 use Rattle.reserving.specs.declared.session.SessionGroup.{SessionGroup}
 use Rattle.reserving.specs.declared.session.Reservation.{Reservation}
-use Rattle.reserving.specs.Ledger.{Ledger, last_recording}
-use Rattle.reserving.specs.Ledger.{has_group}
-use Rattle.reserving.specs.Pricing.{cycle_at, validity_of}
+use Rattle.ledger.specs.Ledger.{Ledger, last_recording, has_group}
+use Rattle.ledger.specs.Pricing.{cycle_at, validity_of}
 use Rattle.reserving.specs.Sessions.{is_open, session_in, group_in}
 use Rattle.reserving.specs.Sessions.{reservation_at}
 use Rattle.reserving.specs.Rows.{AccountRows, AreInOrderOf, IsAccount, IsRowsOf}
@@ -36,7 +35,7 @@ module _ (ledger : Ledger) (w : AccountRows) (rows : IsRowsOf ledger w) where
       (if t then Some (record {
         session = s;
         group = g;
-        used = Rattle.reserving.specs.Ledger.used s g ledger;
+        used = Rattle.ledger.specs.Ledger.used s g ledger;
         reservation = reservation_at (validity_of w.shelf) w.as_of ledger s g;
       }) else None)) ≡ false
   row_free s g true e = ap (λ (o : Option Reservation). is_some

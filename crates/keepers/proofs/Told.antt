@@ -3,15 +3,15 @@ use Rattle.std.proofs.Common.{◌≡◌, ℕ, sym, ap, subst, ◌∙◌}
 use Rattle.buckets.specs.Row.{IsBalanced}
 use Rattle.buckets.specs.Spend.{Each}
 use Rattle.shelves.specs.Shelves.{Shelf}
-use Rattle.reserving.specs.Ledger.{Ledger}
-use Rattle.reserving.specs.Balance.{buckets_at}
+use Rattle.ledger.specs.Ledger.{Ledger}
+use Rattle.ledger.specs.Balance.{buckets_at}
 use Rattle.reserving.specs.Sessions.{session_at, group_at}
 use Rattle.reserving.specs.Rows.{AreInOrderOf, IsRowsOf}
 use Rattle.reserving.specs.Stored.{StoredRows, IsStored, priced}
 use Rattle.reserving.specs.Left.{bucket_in}
 use Rattle.reserving.proofs.Lists.{some_of}
 use Rattle.reserving.proofs.LeftMore.{are_told}
-use Rattle.reserving.specs.Pricing.{validity_of}
+use Rattle.ledger.specs.Pricing.{validity_of}
 use Rattle.keepers.specs.Tables.{Rows, head_of, AreListed}
 use Rattle.keepers.specs.Change.{AreRowsAt}
 use Rattle.keepers.specs.Steps.{IsBucketsTold}

@@ -8,15 +8,15 @@ use Rattle.buckets.specs.Row.{BucketRow}
 use Rattle.reserving.specs.declared.session.Session.{Session}
 use Rattle.reserving.specs.declared.session.SessionGroup.{SessionGroup}
 use Rattle.reserving.specs.declared.session.Counter.{Counter}
-use Rattle.reserving.specs.Ledger.{is_same}
-use Rattle.reserving.specs.Rows.{EachIn}
+use Rattle.ledger.specs.Ledger.{is_same}
+use Rattle.ledger.specs.Lists.{EachIn}
 use Rattle.reserving.specs.Stored.{StoredRows}
 use Rattle.reserving.specs.Sessions.{is_session, is_of, is_counter, is_open, session_in, group_in}
 use Rattle.reserving.specs.Sessions.{counter_in}
 use Rattle.reserving.specs.Left.{is_dead, bucket_in}
 use Rattle.reserving.proofs.Lists.{not_both, some_of, no_some, find-passes, EachIn-weaker}
 use Rattle.reserving.proofs.Keys.{first_true, second_true, both_true, same_number}
-use Rattle.reserving.proofs.Holds.{same_from}
+use Rattle.ledger.proofs.Holds.{same_from}
 use Rattle.keepers.specs.Parts.{leaves_bucket, leaves_counter, leaves_session, leaves_group}
 use Rattle.keepers.specs.Named.{Numbers, Names, is_numbered, is_named, AreLeftBuckets}
 use Rattle.keepers.specs.Named.{AreLeftCounters, AreLeftSessions, AreLeftGroups}

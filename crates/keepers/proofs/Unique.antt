@@ -5,7 +5,7 @@ use Rattle.std.specs.Prelude.{◌==◌, ◌&&◌, nat_le, Option}
 use Rattle.std.proofs.lemmas.Bool.{and_parts}
 use Rattle.std.proofs.lemmas.Bool.Decides.{nat_tests}
 use Rattle.std.proofs.lemmas.Option.{none-some, same_Some}
-use Rattle.reserving.specs.ChargeColumns.{ChargeColumns}
+use Rattle.ledger.specs.ChargeColumns.{ChargeColumns}
 use Rattle.keepers.specs.Tables.{charge_in}
 use Rattle.keepers.specs.Rows.{are_rising, AreCharges}
 

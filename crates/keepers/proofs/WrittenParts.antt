@@ -9,10 +9,11 @@ use Rattle.buckets.specs.Row.{BucketRow}
 use Rattle.reserving.specs.declared.session.Session.{Session}
 use Rattle.reserving.specs.declared.session.SessionGroup.{SessionGroup}
 use Rattle.reserving.specs.declared.session.Counter.{Counter}
-use Rattle.reserving.specs.Ledger.{is_same}
+use Rattle.ledger.specs.Ledger.{is_same}
 use Rattle.reserving.specs.Sessions.{is_session, is_of, is_counter, is_open, session_in, group_in}
 use Rattle.reserving.specs.Sessions.{counter_in, session_before, group_before, counter_before}
-use Rattle.reserving.specs.Rows.{EachIn, AreApart}
+use Rattle.ledger.specs.Lists.{EachIn}
+use Rattle.reserving.specs.Rows.{AreApart}
 use Rattle.reserving.specs.Stored.{StoredRows, IsStored, IsStoredInOrder}
 use Rattle.reserving.specs.Left.{is_dead, only, first_of, bucket_in}
 use Rattle.reserving.specs.declared.restoring.GivenRows.{GivenRows}
@@ -20,8 +21,9 @@ use Rattle.reserving.specs.Restored.{given}
 use Rattle.reserving.specs.Written.{written, rows_written, are_held_on, is_writable}
 use Rattle.reserving.proofs.Lists.{not_both, no_some, find-passes, EachIn-found, EachIn-weaker}
 use Rattle.reserving.proofs.Lists.{none_passing, none_each, each_none}
-use Rattle.reserving.proofs.Holds.{same_from}
-use Rattle.reserving.proofs.Keys.{first_true, second_true, same_number, number_same}
+use Rattle.ledger.proofs.Holds.{same_from}
+use Rattle.ledger.proofs.Names.{number_same}
+use Rattle.reserving.proofs.Keys.{first_true, second_true, same_number}
 use Rattle.reserving.proofs.KeysFound.{is_none_is}
 use Rattle.reserving.proofs.LeftTests.{apart_append}
 use Rattle.reserving.proofs.LeftParted.{one_session, one_group, one_counter, find_both}

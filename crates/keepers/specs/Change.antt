@@ -6,15 +6,15 @@ use Rattle.std.specs.List.Sorted.{IsNonDecreasingBy}
 use Rattle.units.specs.Words.{Moment, GroupId, CycleNumber}
 use Rattle.identifiers.specs.Words.{SessionName, AccountName, VoucherCode}
 use Rattle.buckets.specs.Words.{BucketNumber, BucketAmount}
-use Rattle.reserving.specs.Words.{ChargeNumber}
+use Rattle.ledger.specs.Words.{ChargeNumber}
 use Rattle.identifiers.specs.Texts.{same_name}
 use Rattle.buckets.specs.Row.{BucketRow}
 use Rattle.shelves.specs.Shelves.{Shelf}
 use Rattle.reserving.specs.declared.session.Session.{Session}
 use Rattle.reserving.specs.declared.session.SessionGroup.{SessionGroup}
 use Rattle.reserving.specs.declared.session.Counter.{Counter}
-use Rattle.reserving.specs.Ledger.{Ledger}
-use Rattle.reserving.specs.Pricing.{cycle_at}
+use Rattle.ledger.specs.Ledger.{Ledger}
+use Rattle.ledger.specs.Pricing.{cycle_at}
 use Rattle.reserving.specs.Sessions.{is_open, session_in, group_in, counter_in}
 use Rattle.reserving.specs.Rows.{AccountRows, AreApart, IsRowsOf}
 use Rattle.reserving.specs.Stored.{StoredRows, IsStored, stored, priced, advanced_stored}

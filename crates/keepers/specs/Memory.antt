@@ -10,7 +10,7 @@ use Rattle.units.specs.Words.{Moment}
 use Rattle.identifiers.specs.Words.{SessionName, AccountName}
 use Rattle.identifiers.specs.Texts.{same_name}
 use Rattle.shelves.specs.Shelves.{Shelf}
-use Rattle.reserving.specs.declared.charge.ChargeRow.{ChargeRow}
+use Rattle.ledger.specs.declared.charge.ChargeRow.{ChargeRow}
 use Rattle.reserving.specs.declared.session.Session.{Session}
 use Rattle.voucher_rules.specs.declared.voucher.Voucher.{Voucher}
 use Rattle.keepers.specs.declared.key.Key.{Key}
@@ -20,7 +20,7 @@ use Rattle.keepers.specs.declared.entries.AccountEntry.{AccountEntry}
 use Rattle.keepers.specs.Tables.{Rows, Tables, no_rows, charge_in}
 use Rattle.keepers.specs.Parts.{rows_of_parts}
 use Rattle.keepers.specs.Change.{AreRowsAt, AreBroughtTo, kept_after, over}
-use Rattle.reserving.specs.Ledger.{Ledger}
+use Rattle.ledger.specs.Ledger.{Ledger}
 use Rattle.reserving.specs.Stored.{StoredRows}
 
 -- whether it is the account of this number

@@ -2,7 +2,8 @@
 -- Source: profile.
 use Rattle.std.specs.Prelude.{◌≤◌}
 use Rattle.buckets.specs.Row.{IsBalanced}
-use Rattle.reserving.specs.Rows.{EachIn, AreApart}
+use Rattle.ledger.specs.Lists.{EachIn}
+use Rattle.reserving.specs.Rows.{AreApart}
 use Rattle.reserving.specs.Stored.{StoredRows}
 use Rattle.keepers.specs.Keyed.{same_bucket, same_session, same_group, same_counter}
 use Rattle.keepers.specs.declared.named_rows.NamedRows.TheInside.{Inside as Fields}

@@ -2,8 +2,8 @@
 -- Source: profile.
 use Rattle.std.specs.Prelude.{◌&&◌, List, [], ◌∷◌, Option, Some, None, nat_le, nat_lt}
 use Rattle.std.specs.Prelude.{if◌then◌else◌}
-use Rattle.reserving.specs.Words.{ChargeNumber}
-use Rattle.reserving.specs.ChargeColumns.{ChargeColumns}
+use Rattle.ledger.specs.Words.{ChargeNumber}
+use Rattle.ledger.specs.ChargeColumns.{ChargeColumns}
 
 -- a number from `least` on, where none was found before it that isn't greater
 abbrev pub nearer : ChargeNumber → ChargeNumber → Option ChargeNumber → Option ChargeNumber

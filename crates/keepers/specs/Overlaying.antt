@@ -14,7 +14,8 @@ use Rattle.reserving.specs.declared.session.Counter.{Counter}
 use Rattle.reserving.specs.Sessions.{is_open, session_in, group_in, counter_in}
 use Rattle.reserving.specs.Rows.{AreApart}
 use Rattle.reserving.specs.Stored.{StoredRows}
-use Rattle.reserving.specs.Left.{is_dead, bucket_in, IsDead}
+use Rattle.ledger.specs.Laws.{IsDead}
+use Rattle.reserving.specs.Left.{is_dead, bucket_in}
 use Rattle.reserving.specs.declared.restoring.GivenRows.{GivenRows}
 use Rattle.reserving.specs.Restored.{given, FindsSame}
 use Rattle.keepers.specs.Tables.{Rows, GroupRow, head_of, group_row, held_of}

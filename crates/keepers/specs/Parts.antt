@@ -11,7 +11,8 @@ use Rattle.reserving.specs.declared.session.SessionGroup.{SessionGroup}
 use Rattle.reserving.specs.declared.session.Counter.{Counter}
 use Rattle.reserving.specs.Sessions.{is_open, session_in, group_in}
 use Rattle.reserving.specs.Sessions.{counter_in}
-use Rattle.reserving.specs.Rows.{EachIn, AreApart}
+use Rattle.ledger.specs.Lists.{EachIn}
+use Rattle.reserving.specs.Rows.{AreApart}
 use Rattle.reserving.specs.Stored.{StoredRows, advanced_stored}
 use Rattle.reserving.specs.Left.{LeftRows, is_dead, bucket_in}
 use Rattle.keepers.specs.Tables.{Rows, head_of, group_row, held_of}

@@ -2,8 +2,8 @@
 -- Source: profile.
 use Rattle.std.specs.Prelude.{◌≡◌, ◌+◌, ◌&&◌, Bool, true, List, [], ◌∷◌, Option, nat_le, nat_lt}
 use Rattle.units.specs.Words.{Moment}
-use Rattle.reserving.specs.Words.{ChargeNumber}
-use Rattle.reserving.specs.ChargeColumns.{ChargeColumns}
+use Rattle.ledger.specs.Words.{ChargeNumber}
+use Rattle.ledger.specs.ChargeColumns.{ChargeColumns}
 use Rattle.keepers.specs.Tables.{charge_in}
 
 -- whether the moment is `from` or later and before `until`

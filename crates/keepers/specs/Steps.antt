@@ -5,16 +5,16 @@ use Rattle.units.specs.Words.{Moment, GroupId}
 use Rattle.identifiers.specs.Words.{SessionName}
 use Rattle.buckets.specs.Words.{BucketNumber}
 use Rattle.shelves.specs.Shelves.{Shelf, IsShelf}
-use Rattle.reserving.specs.Ledger.{Ledger, has_group, last_recording}
+use Rattle.ledger.specs.Ledger.{Ledger, has_group, last_recording}
 use Rattle.reserving.specs.Sessions.{group_in}
 use Rattle.reserving.specs.Rows.{AccountRows, IsAccount, IsRowsOf}
 use Rattle.reserving.specs.Stored.{StoredRows, IsStored, stored, priced}
 use Rattle.reserving.specs.Left.{IsWith, left_of, bucket_in}
 use Rattle.keepers.specs.Tables.{Rows, AreListed}
-use Rattle.reserving.specs.Balance.{buckets_at}
+use Rattle.ledger.specs.Balance.{buckets_at}
 use Rattle.buckets.specs.Spend.{Each}
 use Rattle.buckets.specs.Row.{IsBalanced}
-use Rattle.reserving.specs.Pricing.{validity_of}
+use Rattle.ledger.specs.Pricing.{validity_of}
 use Rattle.keepers.specs.Change.{IsLoadedFrom, AreRowsAt, over}
 use Rattle.keepers.specs.Differing.{named_rows}
 

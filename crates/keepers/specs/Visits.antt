@@ -3,8 +3,8 @@
 use Rattle.std.specs.Prelude.{◌≡◌, ℕ, Bool, true, false, List, [], ◌∷◌, Option, take}
 use Rattle.std.specs.List.{filter}
 use Rattle.units.specs.Words.{Moment}
-use Rattle.reserving.specs.Words.{ChargeNumber}
-use Rattle.reserving.specs.ChargeColumns.{ChargeColumns}
+use Rattle.ledger.specs.Words.{ChargeNumber}
+use Rattle.ledger.specs.ChargeColumns.{ChargeColumns}
 use Rattle.keepers.specs.Rows.{is_between, AreCharges}
 
 -- a visitor that goes on is shown the rest; one that stops is shown nothing more

@@ -8,7 +8,7 @@ use crate::entries::{AccountEntry, advance_entries, place_of, put_entry};
 use crate::key::KeptAnswer;
 use crate::named_rows::NamedRows;
 use identifiers::AccountNumber;
-use reserving::ChargeRow;
+use ledger::ChargeRow;
 use shelves::TariffShelf;
 use std::alloc::{AllocError, Global};
 use std::collections::HashMap;

@@ -11,8 +11,9 @@ ghost use Rattle.keepers.specs.Differing.{same_kind, equal_terms};
 ghost use Rattle.keepers.specs.Differing.{equal_reservation, equal_group};
 
 use buckets::{Bucket, BucketKind, HeldAmount};
+use ledger::Terms;
 use rating::Periods;
-use reserving::{Counter, Reservation, Session, SessionGroup, SessionState, StoredAccount, Terms};
+use reserving::{Counter, Reservation, Session, SessionGroup, SessionState, StoredAccount};
 
 /// Whether a bucket's row differs from all before, from this place on.
 pub(crate) fn is_new_bucket(before: &StoredAccount, cursor: &mut usize, row: &Bucket) -> bool

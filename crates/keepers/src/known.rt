@@ -2,7 +2,7 @@
 
 ghost use Rattle.std.specs.List.{list_any};
 ghost use Rattle.std.specs.Prelude.{◌≡◌, ℕ, List, true, false, OnOk};
-ghost use Rattle.reserving.specs.Rows.{EachIn};
+ghost use Rattle.ledger.specs.Lists.{EachIn};
 ghost use Rattle.keepers.specs.Named.{is_numbered, is_named, is_left_now, may_go_on};
 ghost use Rattle.keepers.specs.Named.{AreLeftCounters};
 ghost use Rattle.keepers.specs.Replacing.{KnowsMore, AreNoted};

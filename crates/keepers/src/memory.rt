@@ -16,7 +16,8 @@ use crate::voucher_map::{make_voucher_room, put_redeemed, put_voucher, voucher_i
 use crate::whole::WholeAccount;
 use buckets::Bucket;
 use identifiers::{AccountNumber, SessionId, VoucherCode};
-use reserving::{Account, ChargeRow, LoadFault};
+use ledger::ChargeRow;
+use reserving::{Account, LoadFault};
 use shelves::TariffShelf;
 use std::alloc::{AllocError, Global};
 use std::collections::HashMap;

@@ -12,7 +12,7 @@ use crate::memory::MemoryKeeper;
 use crate::showing::{is_between, show};
 use crate::source::{ChargeSource, ChargeVisitor};
 use identifiers::AccountNumber;
-use reserving::ChargeRow;
+use ledger::ChargeRow;
 use units::Moment;
 
 /// Whether the numbers rise, so that no two rows have one number.

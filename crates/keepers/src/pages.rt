@@ -10,7 +10,7 @@ use crate::keeper::Keeper;
 use crate::showing::show;
 use crate::source::ChargeVisitor;
 use identifiers::AccountNumber;
-use reserving::ChargeRow;
+use ledger::ChargeRow;
 use units::Moment;
 
 /// Some of an account's charges: those beyond a number, up to the page's last one.

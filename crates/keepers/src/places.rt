@@ -4,7 +4,7 @@ ghost use Rattle.std.specs.Prelude.{◌≡◌, true, ◌==◌, is_some, position
 ghost use Rattle.reserving.specs.Sessions.{session_in, group_in, counter_in, is_session, is_of};
 ghost use Rattle.reserving.specs.Sessions.{is_counter};
 ghost use Rattle.reserving.specs.Left.{bucket_in};
-ghost use Rattle.reserving.specs.Ledger.{is_same};
+ghost use Rattle.ledger.specs.Ledger.{is_same};
 
 use buckets::Bucket;
 use identifiers::SessionId;

@@ -6,7 +6,7 @@ ghost use Rattle.keepers.specs.Rows.{is_between};
 ghost use Rattle.keepers.specs.Visits.{Shows};
 
 use crate::source::ChargeVisitor;
-use reserving::ChargeRow;
+use ledger::ChargeRow;
 use units::Moment;
 
 /// Whether a charge's moment is `from` or later and before `until`.

@@ -2,13 +2,13 @@
 
 ghost use Rattle.std.specs.Prelude.{◌≡◌, Bool, OnErr};
 ghost use Rattle.keepers.specs.Keeping.{KeeperReads};
-ghost use Rattle.reserving.specs.ChargeColumns.{ChargeColumns};
+ghost use Rattle.ledger.specs.ChargeColumns.{ChargeColumns};
 ghost use Rattle.keepers.specs.Visits.{SeesCharges, SeesBeginning, IsShown};
 
 use crate::fault::StoreFault;
 use crate::keeper::Keeper;
 use identifiers::AccountNumber;
-use reserving::ChargeRow;
+use ledger::ChargeRow;
 use units::Moment;
 
 /// What is shown the charges of an account, one at a time.

@@ -3,7 +3,7 @@
 ghost use Rattle.std.specs.Prelude.{◌≡◌, ℕ, ◌≤◌, ◌++◌, if◌then◌else◌, [], is_some, IfOk, OnOk};
 ghost use Rattle.std.specs.Prelude.{OnErr};
 ghost use Rattle.reserving.specs.Sessions.{session_in};
-ghost use Rattle.reserving.specs.Ledger.{Ledger};
+ghost use Rattle.ledger.specs.Ledger.{Ledger};
 ghost use Rattle.keepers.specs.Change.{IsLoadedFrom, over, AreRowsAt, AreBroughtTo, AreDeadOf};
 ghost use Rattle.keepers.specs.Tables.{no_rows};
 ghost use Rattle.keepers.specs.Whole.{AreWhole};

@@ -6,8 +6,8 @@ use Rattle.std.specs.Io.KnownBytes.{Appends}
 use Rattle.buckets.specs.Row.{BucketRow}
 use Rattle.tariffs.specs.Books.{Book}
 use Rattle.shelves.specs.Shelves.{Shelf}
-use Rattle.reserving.specs.ChargeColumns.{ChargeColumns}
-use Rattle.reserving.specs.Charges.{charge_rows}
+use Rattle.ledger.specs.ChargeColumns.{ChargeColumns}
+use Rattle.ledger.specs.Charges.{charge_rows}
 use Rattle.keepers.specs.Tables.{Tables}
 use Rattle.keepers.specs.declared.fault.StoreFault.TheVariants as store
 use Rattle.charging.specs.Accepted.{Accepted}

@@ -6,8 +6,8 @@ use Rattle.identifiers.specs.Words.{AccountName}
 use Rattle.buckets.specs.Share.{sum_in}
 use Rattle.buckets.specs.declared.kind.BucketKind.{BucketKind}
 use Rattle.shelves.specs.Shelves.{Shelf}
-use Rattle.reserving.specs.Balance.{buckets_at}
-use Rattle.reserving.specs.Pricing.{validity_of}
+use Rattle.ledger.specs.Balance.{buckets_at}
+use Rattle.ledger.specs.Pricing.{validity_of}
 use Rattle.charging.specs.Accepted.{Accepted}
 use Rattle.charging.specs.Balances.{by_number}
 use Rattle.charging.specs.Collected.{taken_to_date}

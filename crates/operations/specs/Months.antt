@@ -11,11 +11,11 @@ use Rattle.buckets.specs.Row.{BucketRow}
 use Rattle.commands.specs.declared.answer.Answer.TheVariants.{Refused}
 use Rattle.commands.specs.declared.answer.Refusal.TheVariants.{AccountUnknown}
 use Rattle.shelves.specs.Shelves.{Shelf}
-use Rattle.reserving.specs.Balance.{buckets_at}
-use Rattle.reserving.specs.ChargeColumns.{ChargeColumns}
-use Rattle.reserving.specs.Charges.{charge_rows}
-use Rattle.reserving.specs.Ledger.{Ledger}
-use Rattle.reserving.specs.Pricing.{validity_of}
+use Rattle.ledger.specs.Balance.{buckets_at}
+use Rattle.ledger.specs.ChargeColumns.{ChargeColumns}
+use Rattle.ledger.specs.Charges.{charge_rows}
+use Rattle.ledger.specs.Ledger.{Ledger}
+use Rattle.ledger.specs.Pricing.{validity_of}
 use Rattle.keepers.specs.Faults.{max_failures}
 use Rattle.keepers.specs.Tables.{Tables}
 use Rattle.keepers.specs.declared.fault.StoreFault.TheVariants as store

@@ -11,7 +11,8 @@ use Rattle.reserving.specs.declared.session.SessionGroup.{SessionGroup}
 use Rattle.reserving.specs.Sessions.{is_open, is_session, session_in, is_of}
 use Rattle.reserving.specs.Sessions.{group_before}
 use Rattle.reserving.specs.Left.{first_of, is_open_row}
-use Rattle.reserving.specs.Rows.{EachIn, AreApart}
+use Rattle.ledger.specs.Lists.{EachIn}
+use Rattle.reserving.specs.Rows.{AreApart}
 use Rattle.reserving.specs.Stored.{StoredRows}
 use Rattle.reserving.specs.Live.{is_live_group}
 use Rattle.reserving.specs.Restored.{are_keys_ascending}

@@ -10,25 +10,25 @@ use Rattle.buckets.specs.declared.holds.HeldAmount.{HeldAmount}
 use Rattle.buckets.specs.Row.{BucketRow}
 use Rattle.buckets.specs.Share.{parts}
 use Rattle.buckets.specs.Holding.{paid, uncollected, holds_of}
-use Rattle.reserving.specs.declared.charge.ChargeRow.{ChargeRow}
+use Rattle.ledger.specs.declared.charge.ChargeRow.{ChargeRow}
 use Rattle.reserving.specs.declared.settle.Settled.{Settled}
-use Rattle.reserving.specs.Ledger.{Ledger, uses_in, next_charge}
-use Rattle.reserving.specs.Ledger.Fact.{Grant, End, Use}
-use Rattle.reserving.specs.Charges.{charge_of, charge_rows}
-use Rattle.reserving.specs.Requests.{recorded, touched, closed, credited, with_bar}
-use Rattle.reserving.specs.Pricing.{validity_of}
-use Rattle.reserving.specs.Balance.{buckets_at}
-use Rattle.reserving.specs.Sessions.{holds_at}
+use Rattle.ledger.specs.Ledger.{Ledger, uses_in, next_charge}
+use Rattle.ledger.specs.Ledger.Fact.{Grant, End, Use}
+use Rattle.ledger.specs.Charges.{charge_of, charge_rows}
+use Rattle.ledger.specs.Requests.{recorded, touched, closed, credited, with_bar}
+use Rattle.ledger.specs.Pricing.{validity_of}
+use Rattle.ledger.specs.Balance.{buckets_at, holds_at}
 use Rattle.rating.specs.declared.report.Rated.{Rated}
 use Rattle.buckets.specs.declared.kind.BucketKind.{BucketKind}
 use Rattle.buckets.specs.declared.kind.Due.{Due}
-use Rattle.reserving.specs.Settlement.{due_of, use_of, reported, report_price, charge_facts}
-use Rattle.reserving.specs.Settlement.{settled, settled_by, missing, passes}
-use Rattle.reserving.specs.Reservation.{grant_at, hold_facts, reserved}
-use Rattle.reserving.specs.Debiting.{rest_price, charged_use, debited}
+use Rattle.ledger.specs.Settlement.{due_of, use_of, reported, report_price, charge_facts, settled}
+use Rattle.ledger.specs.Settlement.{settled_by, missing, passes}
+use Rattle.ledger.specs.Reservation.{grant_at, hold_facts, reserved}
+use Rattle.ledger.specs.Debiting.{rest_price, charged_use, debited}
 use Rattle.reserving.specs.Results.{IsSettlementOf, IsDebitOf}
-use Rattle.reserving.specs.Rows.{AccountRows, EachIn}
-use Rattle.reserving.proofs.SettledFacts.{total-front, each_charge, each_hold}
+use Rattle.ledger.specs.Lists.{EachIn}
+use Rattle.reserving.specs.Rows.{AccountRows}
+use Rattle.ledger.proofs.Fronts.{total-front, each_charge, each_hold}
 
 -- ---- facts that are no use
 

@@ -4,18 +4,17 @@ use Rattle.std.proofs.Common.{◌≡◌, ℕ, ◌+◌, Bool, true, false, true�
 use Rattle.std.proofs.Common.{ap, subst, ◌∙◌, Option, Some, None}
 use Rattle.std.specs.Prelude.{◌==◌, ◌&&◌, ◌||◌, if◌then◌else◌, option_map, is_none, IfSome}
 use Rattle.std.proofs.lemmas.Bool.{or_parts}
-use Rattle.reserving.specs.Ledger.{Fact, Ledger, Recording, Counts, CreditOf, GrantOf, HoldOf}
-use Rattle.reserving.specs.Ledger.{EndOf, UseOf, ChargeOf, RequestOf, counts, number_of, test_of}
-use Rattle.reserving.specs.Ledger.{either, total, newest, or_else, inner, is_same}
-use Rattle.reserving.specs.Ledger.{paid_by, is_use_of, units_by, blocks_by, is_use_in, is_grant_of}
-use Rattle.reserving.specs.Ledger.{holds_by, but_ended, told_of, telling, touched_at, recorded_at}
-use Rattle.reserving.specs.Ledger.{names_group, units_in, credits_in, uses_in, grant_in, charged}
-use Rattle.reserving.specs.Ledger.{held, used, has_group, counter, has_counter, last_touch}
-use Rattle.reserving.specs.Ledger.{last_recording, is_closed}
-use Rattle.reserving.specs.Balance.{with_credit, credits}
-use Rattle.reserving.specs.SoundLedger.{IsSoundLedger}
+use Rattle.ledger.specs.Ledger.{Fact, Ledger, Recording, Counts, CreditOf, GrantOf, HoldOf, EndOf}
+use Rattle.ledger.specs.Ledger.{UseOf, ChargeOf, RequestOf, counts, number_of, test_of, either}
+use Rattle.ledger.specs.Ledger.{total, newest, or_else, inner, is_same, paid_by, is_use_of}
+use Rattle.ledger.specs.Ledger.{units_by, blocks_by, is_use_in, is_grant_of, holds_by, but_ended}
+use Rattle.ledger.specs.Ledger.{told_of, telling, touched_at, recorded_at, names_group, units_in}
+use Rattle.ledger.specs.Ledger.{credits_in, uses_in, grant_in, charged, held, used, has_group}
+use Rattle.ledger.specs.Ledger.{counter, has_counter, last_touch, last_recording, is_closed}
+use Rattle.ledger.specs.Balance.{with_credit, credits}
+use Rattle.ledger.specs.SoundLedger.{IsSoundLedger}
 use Rattle.reserving.proofs.Lists.{no_some}
-use Rattle.reserving.proofs.Holds.{same_from}
+use Rattle.ledger.proofs.Holds.{same_from}
 use Rattle.reserving.proofs.rows.Touching.{SameMoney, same_more, unknown-same, IsSoundLedger-same}
 
 -- ---- nothing of a kind

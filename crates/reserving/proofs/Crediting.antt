@@ -6,14 +6,14 @@ use Rattle.buckets.specs.Row.{BucketRow, new_row}
 use Rattle.buckets.specs.Spend.{IsBelow, inserted}
 use Rattle.buckets.specs.Share.{parts}
 use Rattle.buckets.proofs.Kept.{IsSound-inserted, Each-inserted}
-use Rattle.reserving.specs.Ledger.{Ledger, is_live, charged, held, only, used, counter, has_group}
-use Rattle.reserving.specs.Ledger.{has_counter, open_grant, next_bucket}
-use Rattle.reserving.specs.Balance.{credits, bucket_at, balance_of}
-use Rattle.reserving.specs.Sessions.{held_by, holds_at, group_at, reservation_of, counter_at}
-use Rattle.reserving.specs.Pricing.{cycle_at, validity_of}
-use Rattle.reserving.specs.SoundLedger.{IsUnknown, IsSoundLedger}
+use Rattle.ledger.specs.Ledger.{Ledger, is_live, charged, held, only, used, counter, has_group}
+use Rattle.ledger.specs.Ledger.{has_counter, open_grant, next_bucket}
+use Rattle.ledger.specs.Balance.{credits, bucket_at, balance_of, holds_at}
+use Rattle.reserving.specs.Sessions.{held_by, group_at, reservation_of, counter_at}
+use Rattle.ledger.specs.Pricing.{cycle_at, validity_of}
+use Rattle.ledger.specs.SoundLedger.{IsUnknown, IsSoundLedger}
 use Rattle.reserving.specs.Rows.{AccountRows, IsAccount, IsRowsOf}
-use Rattle.reserving.specs.Requests.{credited}
+use Rattle.ledger.specs.Requests.{credited}
 use Rattle.reserving.specs.Changes.{credited_account}
 use Rattle.buckets.specs.Row.{with_end, with_release}
 use Rattle.buckets.specs.declared.kind.BucketKind.{BucketKind}
@@ -21,8 +21,8 @@ use Rattle.buckets.specs.Kinds.{most_of, IsScopeOf}
 use Rattle.reserving.specs.Sessions.{is_live_in}
 use Rattle.reserving.specs.Changes.{advanced, lapsed_in}
 use Rattle.reserving.proofs.InOrder.{parts-inserted, order_inserted}
-use Rattle.reserving.proofs.ledger.Columns.{with_columns}
-use Rattle.reserving.proofs.ledger.Positions.{parts-at}
+use Rattle.ledger.proofs.Columns.{with_columns}
+use Rattle.ledger.proofs.Positions.{parts-at}
 use Rattle.reserving.proofs.rows.Lapsing.{ends_keep}
 use Rattle.reserving.proofs.Advancing.{held_by-split, IsRowsOf-advanced}
 

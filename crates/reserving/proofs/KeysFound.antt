@@ -15,7 +15,8 @@ use Rattle.reserving.specs.Sessions.{is_session, session_in, session_before}
 use Rattle.reserving.specs.Changes.{new_group, used_in, reserved_in, terms_in, count_in}
 use Rattle.reserving.specs.Changes.{ended_group}
 use Rattle.reserving.specs.Prepared.{with_group, with_counter}
-use Rattle.reserving.specs.Rows.{EachIn, AreApart}
+use Rattle.ledger.specs.Lists.{EachIn}
+use Rattle.reserving.specs.Rows.{AreApart}
 use Rattle.reserving.specs.Sessions.{group_before, counter_before}
 use Rattle.reserving.proofs.Lists.{IsPlace, IsPlaceFrom, position_is, position_none, find-passes}
 use Rattle.reserving.proofs.Lists.{some_of, no_some, any_found, put_first, put_later, none_each}

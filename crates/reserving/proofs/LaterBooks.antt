@@ -2,18 +2,18 @@
 use Rattle.std.proofs.Common.{◌≡◌, ℕ, ◌+◌, ◌*◌, ◌<◌, Bool, true, false, List, [], ◌∷◌, refl, sym}
 use Rattle.std.proofs.Common.{ap, subst, ◌∙◌, Option, Some, None}
 use Rattle.std.specs.Prelude.{◌==◌, ◌&&◌, ◌||◌, not, nat_lt, if◌then◌else◌, is_some, map}
-use Rattle.reserving.specs.Ledger.{Ledger, UseOf, counts, test_of, is_same, last_touch, touched_at}
-use Rattle.reserving.specs.Ledger.{is_closed, is_within, is_live, or_else, charged, held, counter}
-use Rattle.reserving.specs.Ledger.{blocks_in, has_counter, is_use_in, last_recording, has_group}
-use Rattle.reserving.specs.Ledger.{only, open_grant, used}
-use Rattle.reserving.specs.Balance.{buckets_at, balance_of, credits}
+use Rattle.ledger.specs.Ledger.{Ledger, UseOf, counts, test_of, is_same, last_touch, touched_at}
+use Rattle.ledger.specs.Ledger.{is_closed, is_within, is_live, or_else, charged, held, counter}
+use Rattle.ledger.specs.Ledger.{blocks_in, has_counter, is_use_in, last_recording, has_group, only}
+use Rattle.ledger.specs.Ledger.{open_grant, used}
+use Rattle.ledger.specs.Balance.{buckets_at, balance_of, credits}
 use Rattle.buckets.specs.Share.{parts}
 use Rattle.buckets.specs.Row.{BucketRow}
 use Rattle.reserving.specs.declared.session.SessionState.TheVariants.{Open, Ended, NeverOpened}
 use Rattle.reserving.specs.Sessions.{session_at, session_row, group_at, reservation_of}
 use Rattle.shelves.specs.Shelves.{Shelf}
 use Rattle.shelves.specs.Laws.{GoesOnFrom}
-use Rattle.reserving.specs.Pricing.{validity_of, cycle_at, cycle_with, tariff_of}
+use Rattle.ledger.specs.Pricing.{validity_of, cycle_at, cycle_with, tariff_of}
 use Rattle.reserving.specs.Rows.{AccountRows, IsRowsOf}
 use Rattle.tariffs.specs.Books.{Book}
 use Rattle.reserving.proofs.Lists.{no_some, some_of}

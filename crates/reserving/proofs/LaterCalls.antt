@@ -18,19 +18,18 @@ use Rattle.buckets.specs.Holding.{paid, uncollected, holds_of, held_sum}
 use Rattle.shelves.specs.Shelves.{Shelf, book_at, number_at, tariff_in, count}
 use Rattle.shelves.specs.Laws.{GoesOnFrom}
 use Rattle.shelves.proofs.Begun.{begun_few}
-use Rattle.reserving.specs.declared.session.Terms.{Terms}
-use Rattle.reserving.specs.Ledger.{Fact, Ledger, GrantOf, EndOf, counts, is_same, grant_in, told_of}
-use Rattle.reserving.specs.Ledger.{telling, newest, or_else, inner, open_grant, used, counter, held}
-use Rattle.reserving.specs.Ledger.{only}
-use Rattle.reserving.specs.Ledger.Fact.{Grant, End, Use}
-use Rattle.reserving.specs.Pricing.{validity_of, cycle_at, cycle_with, tariff_of, one_period}
-use Rattle.reserving.specs.Pricing.{terms_now, periods_by, rated_with, grant_with}
-use Rattle.reserving.specs.Balance.{buckets_at}
-use Rattle.reserving.specs.Settlement.{reported, report_price, charge_facts, use_of, settled_by}
-use Rattle.reserving.specs.Settlement.{passes, passes_limit, coverable, due_of}
-use Rattle.reserving.specs.Ledger.{next_charge}
-use Rattle.reserving.specs.Reservation.{reserved, grant_for, hold_facts}
-use Rattle.reserving.specs.Debiting.{event_price, rest_price, is_covered, untagged}
+use Rattle.ledger.specs.declared.terms.Terms.{Terms}
+use Rattle.ledger.specs.Ledger.{Fact, Ledger, GrantOf, EndOf, counts, is_same, grant_in, told_of}
+use Rattle.ledger.specs.Ledger.{telling, newest, or_else, inner, open_grant, used, counter, held}
+use Rattle.ledger.specs.Ledger.{only, next_charge}
+use Rattle.ledger.specs.Ledger.Fact.{Grant, End, Use}
+use Rattle.ledger.specs.Pricing.{validity_of, cycle_at, cycle_with, tariff_of, one_period}
+use Rattle.ledger.specs.Pricing.{terms_now, periods_by, rated_with, grant_with}
+use Rattle.ledger.specs.Balance.{buckets_at}
+use Rattle.ledger.specs.Settlement.{reported, report_price, charge_facts, use_of, settled_by}
+use Rattle.ledger.specs.Settlement.{passes, passes_limit, coverable, due_of}
+use Rattle.ledger.specs.Reservation.{reserved, grant_for, hold_facts}
+use Rattle.ledger.specs.Debiting.{event_price, rest_price, is_covered, untagged}
 use Rattle.reserving.proofs.Lists.{no_some, some_of}
 use Rattle.reserving.proofs.LaterBooks.{IsBefore, AgreeBefore, buckets_same, count_same}
 

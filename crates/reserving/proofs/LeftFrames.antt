@@ -19,25 +19,28 @@ use Rattle.reserving.specs.declared.session.Session.{Session}
 use Rattle.reserving.specs.declared.session.SessionGroup.{SessionGroup}
 use Rattle.reserving.specs.declared.session.Reservation.{Reservation}
 use Rattle.reserving.specs.declared.session.Counter.{Counter}
-use Rattle.reserving.specs.Ledger.{Ledger, is_same, is_live}
-use Rattle.reserving.specs.Pricing.{cycle_at, validity_of}
+use Rattle.ledger.specs.Ledger.{Ledger, is_same, is_live}
+use Rattle.ledger.specs.Pricing.{cycle_at, validity_of}
 use Rattle.reserving.specs.Keyed.{put}
 use Rattle.reserving.specs.Sessions.{session_in, is_open, is_of, group_in, is_counter, is_live_in}
 use Rattle.reserving.specs.Sessions.{is_live_row, holds_in, held_by}
-use Rattle.reserving.specs.Settlement.{reported, price_of, settled_by, due_of}
+use Rattle.ledger.specs.Settlement.{reported, price_of, settled_by, due_of}
 use Rattle.reserving.specs.Changes.{advanced, lapse, lapse_group, lapsed_in, group_or_new}
 use Rattle.reserving.specs.Changes.{new_group, used_in, reserved_in, count_in, price_in, with_use}
 use Rattle.reserving.specs.Changes.{with_count, ended_group, ended_rows, settled_account}
 use Rattle.reserving.specs.Changes.{settled_by_rows, coverable_in}
-use Rattle.reserving.specs.Rows.{AccountRows, EachIn, IsRowsOf}
+use Rattle.ledger.specs.Lists.{EachIn}
+use Rattle.reserving.specs.Rows.{AccountRows, IsRowsOf}
 use Rattle.reserving.proofs.Advancing.{held_by-split, is_live_in-is}
 use Rattle.reserving.proofs.Lists.{not_both, EachIn-weaker}
-use Rattle.reserving.proofs.Holds.{same_from, number_from}
+use Rattle.ledger.proofs.Holds.{same_from, number_from}
 use Rattle.reserving.proofs.SettledRows.{IsRowsOf-settled_by}
-use Rattle.reserving.specs.Left.{LeftRows, merged, joined, IsDead, IsLeft, AreOfOtherCycles}
+use Rattle.ledger.specs.Laws.{IsDead}
+use Rattle.reserving.specs.Left.{LeftRows, merged, joined, IsLeft, AreOfOtherCycles}
 use Rattle.reserving.specs.Sessions.{group_before, counter_before}
-use Rattle.reserving.proofs.LeftMerged.{map_merged, each_map, each_both, each_left, release_none}
-use Rattle.reserving.proofs.LeftMerged.{end_dead, settled_merged, released_merged}
+use Rattle.ledger.proofs.DeadRows.{release_none, end_dead}
+use Rattle.reserving.proofs.LeftMerged.{map_merged, each_map, each_both, each_left}
+use Rattle.reserving.proofs.LeftMerged.{settled_merged, released_merged}
 use Rattle.reserving.proofs.LeftMerged.{sum_in-merged, allowance_merged}
 use Rattle.reserving.proofs.LeftJoined.{find_behind, map_behind}
 use Rattle.reserving.proofs.Reordered.{put_behind}

@@ -1,11 +1,11 @@
 -- Buckets that are left, in their places among those that are loaded.
 use Rattle.std.proofs.Common.{◌≡◌, ℕ, ◌+◌, ◌-◌, Bool, true, false, List, [], ◌∷◌, map, refl, sym}
 use Rattle.std.proofs.Common.{ap, ◌∙◌, arith}
-use Rattle.std.specs.Prelude.{if◌then◌else◌, nat_lt, sum_by, min}
+use Rattle.std.specs.Prelude.{if◌then◌else◌, sum_by, min}
 use Rattle.std.proofs.lemmas.List.Sums.{sum_by-cons}
 use Rattle.buckets.specs.declared.holds.HeldAmount.{HeldAmount}
 use Rattle.buckets.specs.Row.{BucketRow, precedes, eligible_amount, is_eligible, with_charge}
-use Rattle.buckets.specs.Row.{with_charge_of_hold, with_release, with_end, is_paid_before}
+use Rattle.buckets.specs.Row.{with_charge_of_hold, with_release, is_paid_before}
 use Rattle.buckets.specs.Share.{share, sum_before, sum_in, left_over}
 use Rattle.buckets.specs.Spend.{Each, funds, allowance}
 use Rattle.buckets.specs.Holding.{held_in, paid_of_hold, paid_of_rest, settled_row}
@@ -16,7 +16,9 @@ use Rattle.buckets.specs.declared.kind.BucketKind.{BucketKind}
 use Rattle.buckets.specs.declared.kind.BucketKind.TheVariants.{Money, Blocks}
 use Rattle.buckets.specs.Kinds.{is_alike, due_in}
 use Rattle.buckets.specs.declared.kind.Due.{Due}
-use Rattle.reserving.specs.Left.{placed, merged, IsDead}
+use Rattle.ledger.specs.Laws.{IsDead}
+use Rattle.reserving.specs.Left.{placed, merged}
+use Rattle.ledger.proofs.DeadRows.{if_zero, release_none, settled_dead}
 
 -- ---- a change that keeps places
 
@@ -72,10 +74,6 @@ pub each_both : (P Q R : BucketRow → Type 0) (xs : List BucketRow) →
 each_both P Q R [] k h g = tt
 each_both P Q R (x ∷ xs) k h g = (k x h.0 g.0, each_both P Q R xs k h.1 g.1)
 
-pub if_zero : (t : Bool) (n : ℕ) → n ≡ 0 → (if t then n else 0) ≡ 0
-if_zero true n e = e
-if_zero false n e = refl
-
 -- dead buckets stand before none, as far as money goes
 pub before_merged : (f : BucketRow → ℕ) (left rows : List BucketRow) (b : BucketRow) →
     Each (λ x. f x ≡ 0) left →
@@ -124,35 +122,6 @@ pub allowance_merged : (group at : ℕ) (left rows : List BucketRow) → Each Is
 allowance_merged group at left rows h =
     sum_in-merged Blocks (eligible_amount group at) left rows (dead_amount group at left h)
 
-pub release_none : (at : ℕ) (b : BucketRow) (n : ℕ) → n ≡ 0 → with_release at b n ≡ b
-release_none at b n e = ap (with_release at b) e ∙ by_end (nat_lt at b.until)
-  where
-    r : b.reserved - 0 ≡ b.reserved
-    r = omega arith
-
-    a : b.available + 0 ≡ b.available
-    a = omega arith
-
-    x : b.expired + 0 ≡ b.expired
-    x = omega arith
-
-    by_end : (t : Bool) →
-        (if t then record b { reserved = b.reserved - 0; available = b.available + 0 }
-        else record b { reserved = b.reserved - 0; expired = b.expired + 0 }) ≡ b
-    by_end true = λ i. record b { reserved = r i; available = a i }
-    by_end false = λ i. record b { reserved = r i; expired = x i }
-
-pub end_dead : (at : ℕ) (b : BucketRow) → IsDead b → with_end at b ≡ b
-end_dead at b d = by_end (nat_lt at b.until)
-  where
-    x : b.expired + b.available ≡ b.expired
-    x = omega (arith, d.available)
-
-    by_end : (t : Bool) →
-        (if t then b else record b { available = 0; expired = b.expired + b.available }) ≡ b
-    by_end true = refl
-    by_end false = λ i. record b { available = sym d.available i; expired = x i }
-
 settled_keeps : (holds : List HeldAmount) (group at : ℕ) (due : Due) (rows : List BucketRow) →
     KeepsPlace (settled_row holds group at due rows)
 settled_keeps holds group at due rows = record {
@@ -184,26 +153,6 @@ settled_row_merged holds group at due left rows dead none b =
     (dead_amount group at left dead)
     ∙ ap (λ d. share (eligible_amount group at) rows d b) rest in
     λ i. with_release at (with_charge (with_charge_of_hold b (p i)) (q i)) (held_in holds b - p i)
-
-pub min_none : (m n : ℕ) → m ≡ 0 → min m n ≡ 0
-min_none m n e = omega (arith, e)
-
--- a dead bucket pays nothing
-pub settled_dead : (holds : List HeldAmount) (group at : ℕ) (due : Due) (rows : List BucketRow)
-    (b : BucketRow) →
-    IsDead b → held_in holds b ≡ 0 → settled_row holds group at due rows b ≡ b
-settled_dead holds group at due rows b dead none =
-    let p : paid_of_hold holds due rows b ≡ 0 = min_none (held_in holds b) _ none in
-    let q : paid_of_rest holds group at due rows b ≡ 0 =
-    min_none (eligible_amount group at b) _
-    (if_zero (is_eligible group at b) b.available dead.available) in
-    let rest : held_in holds b - paid_of_hold holds due rows b ≡ 0 = omega (arith, none) in
-    let r0 : b.reserved - 0 ≡ b.reserved = omega arith in
-    let a0 : b.available - 0 ≡ b.available = omega arith in
-    let c0 : b.charged + 0 + 0 ≡ b.charged = omega arith in
-    (λ i. with_release at (with_charge (with_charge_of_hold b (p i)) (q i)) (rest i))
-    ∙ release_none at (with_charge (with_charge_of_hold b 0) 0) 0 refl
-    ∙ (λ i. record b { reserved = r0 i; available = a0 i; charged = c0 i })
 
 pub settled_merged : (holds : List HeldAmount) (group at : ℕ) (due : Due)
     (left rows : List BucketRow) →

@@ -14,18 +14,20 @@ use Rattle.buckets.specs.declared.kind.Due.{Due}
 use Rattle.shelves.specs.Shelves.{book_at}
 use Rattle.reserving.specs.declared.session.SessionGroup.{SessionGroup}
 use Rattle.reserving.specs.declared.session.Reservation.{Reservation}
-use Rattle.reserving.specs.Ledger.{Ledger, is_live}
-use Rattle.reserving.specs.Balance.{buckets_at}
-use Rattle.reserving.specs.Pricing.{cycle_at, periods_at, validity_of}
+use Rattle.ledger.specs.Ledger.{Ledger, is_live}
+use Rattle.ledger.specs.Balance.{buckets_at}
+use Rattle.ledger.specs.Pricing.{cycle_at, periods_at, validity_of}
 use Rattle.reserving.specs.Quotas.{IsQuota}
-use Rattle.reserving.specs.Reservation.{grant_for}
+use Rattle.ledger.specs.Reservation.{grant_for}
 use Rattle.reserving.specs.Sessions.{is_of, is_live_in}
-use Rattle.reserving.specs.Settlement.{reported, price_of, passes, passes_limit, passes_after}
-use Rattle.reserving.specs.Debiting.{untagged, event_price, rest_price, debit_passes}
+use Rattle.ledger.specs.Settlement.{reported, price_of, passes, passes_limit, passes_after}
+use Rattle.ledger.specs.Debiting.{untagged, event_price, rest_price, debit_passes}
 use Rattle.reserving.specs.Changes.{advanced, used_in, count_in, price_in, event_price_in}
 use Rattle.reserving.specs.Changes.{rest_price_in}
-use Rattle.reserving.specs.Rows.{AccountRows, EachIn}
-use Rattle.reserving.specs.Left.{LeftRows, merged, joined, IsDead, IsLeft, AreOfOtherCycles, IsWith}
+use Rattle.ledger.specs.Lists.{EachIn}
+use Rattle.reserving.specs.Rows.{AccountRows}
+use Rattle.ledger.specs.Laws.{IsDead}
+use Rattle.reserving.specs.Left.{LeftRows, merged, joined, IsLeft, AreOfOtherCycles, IsWith}
 use Rattle.reserving.proofs.Advancing.{IsRowsOf-advanced, is_live_in-is}
 use Rattle.reserving.proofs.PassedLimits.{passes_after-none}
 use Rattle.reserving.proofs.calls.Settled.{passes_after_is}

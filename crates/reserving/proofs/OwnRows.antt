@@ -13,7 +13,8 @@ use Rattle.std.specs.Cmp.Lexicographic.{slice_cmp, texts_ties}
 use Rattle.std.proofs.lemmas.Cmp.{nat_list_cmp_total}
 use Rattle.reserving.specs.declared.session.SessionGroup.{SessionGroup}
 use Rattle.reserving.specs.Sessions.{group_before}
-use Rattle.reserving.specs.Rows.{EachIn, AreAscending}
+use Rattle.ledger.specs.Lists.{EachIn}
+use Rattle.reserving.specs.Rows.{AreAscending}
 use Rattle.reserving.specs.Others.{own_groups, is_earlier, is_later}
 use Rattle.reserving.proofs.Lists.{EachIn-weaker, not_both}
 use Rattle.reserving.proofs.order.Ascending.{less_is}

@@ -11,15 +11,14 @@ use Rattle.shelves.specs.Shelves.{Shelf, tariff_in}
 use Rattle.rating.specs.declared.grant.Periods.{Periods}
 use Rattle.rating.specs.declared.report.Rated.{Rated}
 use Rattle.buckets.specs.declared.kind.Due.{Due}
-use Rattle.reserving.specs.Ledger.{Ledger, is_same, used, counter, open_grant, next_charge, uses_in}
-use Rattle.reserving.specs.Ledger.{inner, or_else, newest, grant_in}
-use Rattle.reserving.specs.Pricing.{cycle_at, validity_of, terms_now, rated_with}
-use Rattle.reserving.specs.Settlement.{charge_facts, settled, settled_by, reported, price_of}
-use Rattle.reserving.specs.Settlement.{due_of, coverable}
-use Rattle.reserving.specs.Settlement.{report_price, passes, passes_limit, passes_after}
-use Rattle.reserving.specs.Settlement.{charge_count}
+use Rattle.ledger.specs.Ledger.{Ledger, is_same, used, counter, open_grant, next_charge, uses_in}
+use Rattle.ledger.specs.Ledger.{inner, or_else, newest, grant_in}
+use Rattle.ledger.specs.Pricing.{cycle_at, validity_of, terms_now, rated_with}
+use Rattle.ledger.specs.Settlement.{charge_facts, settled, settled_by, reported, price_of, due_of}
+use Rattle.ledger.specs.Settlement.{coverable, report_price, passes, passes_limit, passes_after}
+use Rattle.ledger.specs.Settlement.{charge_count}
 use Rattle.reserving.proofs.Keys.{is_key}
-use Rattle.reserving.proofs.SettledFacts.{total-front, each_charge}
+use Rattle.ledger.proofs.Fronts.{total-front, each_charge}
 use Rattle.reserving.proofs.SettledRows.{other_settled, counter-settled, parts_paid, if_none}
 
 -- another group of the same session

@@ -2,7 +2,7 @@
 use Rattle.std.proofs.Common.{◌+◌, ◌-◌}
 use Rattle.std.specs.Prelude.{min}
 use Rattle.buckets.specs.Spend.{allowance}
-use Rattle.reserving.specs.Reservation.{held_due}
+use Rattle.ledger.specs.Reservation.{held_due, reserved, grant_for}
 use Rattle.buckets.specs.declared.kind.Due.{Due}
 use Rattle.std.proofs.Common.{◌≡◌, ℕ, ◌<◌, ◌≤◌, Bool, true, false, List, map, refl, sym, ap, subst}
 use Rattle.std.proofs.Common.{◌∙◌, arith, Option, Some, None}
@@ -13,7 +13,7 @@ use Rattle.buckets.specs.Row.{BucketRow, with_release, with_end}
 use Rattle.buckets.specs.Spend.{funds, held_rows}
 use Rattle.buckets.specs.Holding.{holds_of}
 use Rattle.reserving.specs.declared.session.SessionGroup.{SessionGroup}
-use Rattle.reserving.specs.Ledger.{Ledger, used, counter, is_live}
+use Rattle.ledger.specs.Ledger.{Ledger, used, counter, is_live}
 use Rattle.tariffs.specs.Books.{Book}
 use Rattle.shelves.specs.Shelves.{Shelf, book_at}
 use Rattle.tariffs.specs.Tariffs.{GroupTariff, tiers_at}
@@ -22,16 +22,14 @@ use Rattle.tariffs.specs.BookPrices.{ArePricesOf}
 use Rattle.rating.specs.declared.grant.Grant.{Grant}
 use Rattle.rating.specs.declared.grant.Periods.{Periods}
 use Rattle.rating.specs.Granted.{IsGreatest, dearer, grant_of}
-use Rattle.reserving.specs.Pricing.{tariff_of, tariff_at, cycle_at, switch_at, validity_at}
-use Rattle.reserving.specs.Pricing.{periods_at}
-use Rattle.reserving.specs.Pricing.{terms_at}
-use Rattle.reserving.specs.declared.session.Terms.{Terms}
-use Rattle.reserving.specs.Pricing.{prices_by, wanted_units, wanted_with, grant_with, validity_of}
+use Rattle.ledger.specs.Pricing.{tariff_of, tariff_at, cycle_at, switch_at, validity_at, periods_at}
+use Rattle.ledger.specs.Pricing.{terms_at, prices_by, wanted_units, wanted_with, grant_with}
+use Rattle.ledger.specs.Pricing.{validity_of}
+use Rattle.ledger.specs.declared.terms.Terms.{Terms}
 use Rattle.reserving.specs.Quotas.{IsQuota, IsGreatestFor}
 use Rattle.reserving.specs.Keyed.{put}
-use Rattle.reserving.specs.Balance.{buckets_at}
+use Rattle.ledger.specs.Balance.{buckets_at}
 use Rattle.reserving.specs.Sessions.{is_of, group_in, is_live_in}
-use Rattle.reserving.specs.Reservation.{reserved, grant_for}
 use Rattle.reserving.specs.Changes.{lapse_group, lapsed_in, advanced, new_group, group_or_new}
 use Rattle.reserving.specs.Changes.{used_in, count_in, with_reservation, reserved_account}
 use Rattle.reserving.specs.Prepared.{with_group, with_group_row, reservation_in}

@@ -3,7 +3,8 @@ use Rattle.std.proofs.Common.{◌≡◌, ℕ, ◌+◌, ◌<◌, ◌≤◌, Bool,
 use Rattle.buckets.specs.declared.kind.BucketKind.TheVariants.{Blocks}
 use Rattle.buckets.specs.Spend.{allowance}
 use Rattle.buckets.specs.Holding.{held_sum}
-use Rattle.reserving.specs.Settlement.{due_of, coverable}
+use Rattle.ledger.specs.Settlement.{due_of, coverable, charge_facts, settled, settled_by, reported}
+use Rattle.ledger.specs.Settlement.{price_of, report_price}
 use Rattle.reserving.specs.Changes.{coverable_in}
 use Rattle.reserving.proofs.Advancing.{IsRowsOf-advanced}
 use Rattle.buckets.specs.declared.kind.Due.{Due}
@@ -23,40 +24,39 @@ use Rattle.buckets.proofs.SharesAlong.{with_release_number}
 use Rattle.reserving.specs.declared.session.SessionGroup.{SessionGroup}
 use Rattle.reserving.specs.declared.session.Reservation.{Reservation}
 use Rattle.reserving.specs.declared.session.Counter.{Counter}
-use Rattle.reserving.specs.declared.session.Terms.{Terms}
-use Rattle.reserving.specs.Ledger.{Dated, Ledger, or_else, open_grant, held, only, used}
-use Rattle.reserving.specs.Ledger.{counter, has_group, has_counter, inner, is_live, is_same}
-use Rattle.reserving.specs.Ledger.{UseOf, GrantOf, EndOf, counts as counts_of, number_of, test_of}
-use Rattle.reserving.specs.Ledger.{blocks_by, is_use_in, told_of, telling}
-use Rattle.reserving.specs.Ledger.{units_in, names_group, grant_in, counts_group, blocks_in}
-use Rattle.reserving.specs.Ledger.{uses_in, credits_in, newest, total, next_bucket, next_charge}
-use Rattle.reserving.specs.Ledger.Fact.{Charge}
-use Rattle.reserving.specs.Pricing.{cycle_at, validity_of}
+use Rattle.ledger.specs.declared.terms.Terms.{Terms}
+use Rattle.ledger.specs.Ledger.{Dated, Ledger, or_else, open_grant, held, only, used, counter}
+use Rattle.ledger.specs.Ledger.{has_group, has_counter, inner, is_live, is_same, UseOf, GrantOf}
+use Rattle.ledger.specs.Ledger.{EndOf, counts as counts_of, number_of, test_of, blocks_by}
+use Rattle.ledger.specs.Ledger.{is_use_in, told_of, telling, units_in, names_group, grant_in}
+use Rattle.ledger.specs.Ledger.{counts_group, blocks_in, uses_in, credits_in, newest, total}
+use Rattle.ledger.specs.Ledger.{next_bucket, next_charge}
+use Rattle.ledger.specs.Ledger.Fact.{Charge}
+use Rattle.ledger.specs.Pricing.{cycle_at, validity_of}
 use Rattle.reserving.specs.Keyed.{put}
-use Rattle.reserving.specs.Balance.{buckets_at}
+use Rattle.ledger.specs.Balance.{buckets_at, holds_at}
 use Rattle.reserving.specs.Sessions.{is_of, group_in, group_at, is_counter, counter_in, counter_at}
-use Rattle.reserving.specs.Sessions.{holds_at, reservation_of, reservation_at}
+use Rattle.reserving.specs.Sessions.{reservation_of, reservation_at}
 use Rattle.rating.specs.declared.report.Rated.{Rated}
-use Rattle.reserving.specs.Settlement.{charge_facts, settled, settled_by, reported, price_of}
-use Rattle.reserving.specs.Settlement.{report_price}
 use Rattle.reserving.specs.Changes.{new_group, used_in, reserved_in, terms_in, price_in, count_in}
 use Rattle.reserving.specs.Changes.{with_use, with_count, ended_group, ended_rows, settled_account}
 use Rattle.reserving.specs.Changes.{settled_by_rows}
-use Rattle.reserving.specs.SoundLedger.{IsUnknown, IsSoundLedger}
+use Rattle.ledger.specs.SoundLedger.{IsUnknown, IsSoundLedger}
 use Rattle.reserving.specs.Rows.{AccountRows, IsAccount, IsRowsOf}
 use Rattle.reserving.specs.Sessions.{group_before, counter_before}
 use Rattle.reserving.proofs.Lists.{find-put, find-put_other, find-map}
 use Rattle.reserving.proofs.Keys.{is_key, own_key, key_session, key_group, key_of, other_row}
 use Rattle.reserving.proofs.Keys.{is_cycle, own_cycle, cycle_group, cycle_cycle, other_counter}
 use Rattle.reserving.proofs.Keys.{same_tests, not_true}
-use Rattle.reserving.proofs.Holds.{one_if, held_split, held_same}
+use Rattle.ledger.proofs.Holds.{one_if, held_split, held_same}
 use Rattle.reserving.proofs.Counted.{is_named, unnamed_grant, none_units}
-use Rattle.reserving.proofs.SettledFacts.{is_barred-front, total-front, newest-front, any-front}
-use Rattle.reserving.proofs.SettledFacts.{any_dated-front, each_charge, held-charge_facts}
-use Rattle.reserving.proofs.SettledFacts.{charged-charge_facts, IsMoved, SameSessions, SameGroup}
-use Rattle.reserving.proofs.SettledFacts.{same_session, same_touched, same_group}
-use Rattle.reserving.proofs.ledger.SettledBuckets.{with_end, buckets_at-settled, buckets_at-ended}
-use Rattle.reserving.proofs.ledger.SettledBuckets.{same_sessions-settled, same_sessions-ended}
+use Rattle.ledger.proofs.Fronts.{is_barred-front, total-front, newest-front, any-front}
+use Rattle.ledger.proofs.Fronts.{any_dated-front, each_charge, held-charge_facts}
+use Rattle.ledger.proofs.Fronts.{charged-charge_facts, SameSessions, same_touched}
+use Rattle.reserving.proofs.SettledFacts.{IsMoved, SameGroup}
+use Rattle.reserving.proofs.SettledFacts.{same_session, same_group}
+use Rattle.ledger.proofs.SettledBuckets.{with_end, buckets_at-settled, buckets_at-ended}
+use Rattle.ledger.proofs.SettledBuckets.{same_sessions-settled, same_sessions-ended}
 use Rattle.reserving.proofs.rows.Complete.{row_with, reserved_in_is}
 use Rattle.reserving.proofs.kept.Settled.{settled_number}
 

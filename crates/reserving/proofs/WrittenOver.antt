@@ -17,12 +17,13 @@ use Rattle.reserving.specs.declared.session.SessionGroup.{SessionGroup}
 use Rattle.reserving.specs.declared.session.Counter.{Counter}
 use Rattle.reserving.specs.Keyed.{put}
 use Rattle.reserving.specs.Left.{first_of, bucket_in}
-use Rattle.reserving.specs.Ledger.{is_same}
+use Rattle.ledger.specs.Ledger.{is_same}
 use Rattle.reserving.specs.Sessions.{holds_in, held_by, is_session, is_of, is_counter, group_in}
 use Rattle.reserving.specs.Sessions.{session_in, counter_in}
 use Rattle.reserving.specs.Sessions.{session_before, group_before, counter_before}
 use Rattle.reserving.specs.Changes.{reserved_in, new_group}
-use Rattle.reserving.specs.Rows.{EachIn, AreApart, AreAscending, AreInKeyOrder, IsInOrderOf}
+use Rattle.ledger.specs.Lists.{EachIn}
+use Rattle.reserving.specs.Rows.{AreApart, AreAscending, AreInKeyOrder, IsInOrderOf}
 use Rattle.reserving.specs.Rows.{AreInOrderOf}
 use Rattle.reserving.specs.Restored.{are_keys_ascending, are_in_range, are_along, are_ascending}
 use Rattle.reserving.specs.Stored.{StoredRows, IsStored, IsStoredInOrder}
@@ -36,7 +37,8 @@ use Rattle.reserving.proofs.order.Ascending.{IsKey, ascending_put, apart_of_asce
 use Rattle.reserving.proofs.order.KeyRows.{session_key, own_group_key, own_counter_key}
 use Rattle.reserving.proofs.order.KeyRows.{sessions_parted, groups_parted, counters_parted}
 use Rattle.identifiers.proofs.Equality.{equal_names}
-use Rattle.reserving.proofs.Keys.{is_key, is_key-sym, other_row, is_same-refl, own_key}
+use Rattle.ledger.proofs.Names.{is_same-refl}
+use Rattle.reserving.proofs.Keys.{is_key, is_key-sym, other_row, own_key}
 use Rattle.reserving.proofs.Keys.{key_session, key_group, own_cycle, cycle_group, cycle_cycle}
 use Rattle.reserving.proofs.Keys.{is_cycle}
 use Rattle.reserving.proofs.Restored.{all_told, below_told, ascending_told, holds_told}

@@ -19,14 +19,14 @@ use Rattle.reserving.specs.declared.fault.LoadFault.TheVariants.{OtherBook}
 use Rattle.reserving.specs.declared.reserve.Granted.{Granted}
 use Rattle.reserving.specs.declared.session.Counter.{Counter}
 use Rattle.reserving.specs.declared.settle.Settled.{Settled}
-use Rattle.reserving.specs.Ledger.{Ledger, is_barred, is_live}
-use Rattle.reserving.specs.Pricing.{tariff_at, cycle_at, periods_at, grant_with, validity_of}
-use Rattle.reserving.specs.Balance.{buckets_at}
+use Rattle.ledger.specs.Ledger.{Ledger, is_barred, is_live}
+use Rattle.ledger.specs.Pricing.{tariff_at, cycle_at, periods_at, grant_with, validity_of}
+use Rattle.ledger.specs.Balance.{buckets_at}
 use Rattle.reserving.specs.Sessions.{session_in, group_in, is_live_in}
-use Rattle.reserving.specs.Settlement.{due_of, passes_limit, settled_by}
-use Rattle.reserving.specs.Reservation.{grant_for}
-use Rattle.reserving.specs.Debiting.{is_covered, debit_passes}
-use Rattle.reserving.specs.Requests.{credited}
+use Rattle.ledger.specs.Settlement.{due_of, passes_limit, settled_by}
+use Rattle.ledger.specs.Reservation.{grant_for}
+use Rattle.ledger.specs.Debiting.{is_covered, debit_passes}
+use Rattle.ledger.specs.Requests.{credited}
 use Rattle.reserving.specs.Rows.{AccountRows, IsRowsOf}
 use Rattle.reserving.specs.Placed.{ArePlaced}
 use Rattle.reserving.specs.Stored.{StoredRows, IsStored, priced}

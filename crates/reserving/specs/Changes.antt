@@ -22,17 +22,16 @@ use Rattle.reserving.specs.declared.session.SessionState.TheVariants.{Open, Ende
 use Rattle.reserving.specs.declared.session.SessionGroup.{SessionGroup}
 use Rattle.reserving.specs.declared.session.Reservation.{Reservation}
 use Rattle.reserving.specs.declared.session.Counter.{Counter}
-use Rattle.reserving.specs.Ledger.{is_same}
-use Rattle.reserving.specs.declared.session.Terms.{Terms}
+use Rattle.ledger.specs.Ledger.{is_same}
+use Rattle.ledger.specs.declared.terms.Terms.{Terms}
 use Rattle.rating.specs.declared.grant.Grant.{Grant}
 use Rattle.rating.specs.declared.report.Rated.{Rated}
-use Rattle.reserving.specs.Pricing.{tariff_at, cycle_at, periods_at, terms_at, validity_of}
-use Rattle.reserving.specs.Pricing.{grant_with}
+use Rattle.ledger.specs.Pricing.{tariff_at, cycle_at, periods_at, terms_at, validity_of, grant_with}
 use Rattle.reserving.specs.Keyed.{put}
 use Rattle.reserving.specs.Sessions.{is_session, is_of, group_in, is_counter, counter_in, is_open}
 use Rattle.reserving.specs.Sessions.{is_live_in, held_by, holds_in}
-use Rattle.reserving.specs.Settlement.{reported, price_of, due_of, passes}
-use Rattle.reserving.specs.Debiting.{untagged}
+use Rattle.ledger.specs.Settlement.{reported, price_of, due_of, passes}
+use Rattle.ledger.specs.Debiting.{untagged}
 use Rattle.reserving.specs.Rows.{AccountRows}
 use Rattle.reserving.specs.Sessions.{group_before, session_before, counter_before}
 

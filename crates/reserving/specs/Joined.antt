@@ -9,11 +9,11 @@ use Rattle.buckets.specs.declared.kind.BucketKind.{BucketKind}
 use Rattle.buckets.specs.Kinds.{most_of, IsScopeOf}
 use Rattle.buckets.specs.Spend.{funds, allowance}
 use Rattle.reserving.specs.declared.session.SessionState.TheVariants.{Open, NeverOpened}
-use Rattle.reserving.specs.Ledger.{Ledger, is_live, is_barred}
-use Rattle.reserving.specs.Pricing.{validity_of}
-use Rattle.reserving.specs.Balance.{buckets_at}
+use Rattle.ledger.specs.Ledger.{Ledger, is_live, is_barred}
+use Rattle.ledger.specs.Pricing.{validity_of}
+use Rattle.ledger.specs.Balance.{buckets_at}
 use Rattle.reserving.specs.Sessions.{session_in, is_live_in}
-use Rattle.reserving.specs.Requests.{recorded, touched, closed, with_bar, credited}
+use Rattle.ledger.specs.Requests.{recorded, touched, closed, with_bar, credited}
 use Rattle.reserving.specs.Changes.{advanced, with_session, touched_account, closed_account}
 use Rattle.reserving.specs.Changes.{credited_account}
 use Rattle.reserving.specs.Rows.{AccountRows}

@@ -1,98 +1,12 @@
--- Laws over the definitions alone.
+-- Two advances of an account are one.
 -- Source: profile.
-use Rattle.std.specs.Prelude.{◌≡◌, ◌≤◌, ◌+◌, ◌&&◌, Bool, true, not, List, [], ◌∷◌}
-use Rattle.units.specs.Words.{Moment, Seconds, UnitCount, BlockCount, GroupId}
-use Rattle.identifiers.specs.Words.{SessionName}
-use Rattle.buckets.specs.Words.{BucketNumber, BucketAmount}
-use Rattle.buckets.specs.declared.kind.Due.{Due}
-use Rattle.buckets.specs.Row.{BucketRow, IsBalanced, with_end, with_release}
-use Rattle.reserving.specs.Ledger.{Fact, Ledger, counts as counts_of, test_of, ends_of, is_live}
-use Rattle.reserving.specs.Ledger.{any, hold_of, held}
-use Rattle.buckets.specs.Spend.{Each, AreDistinct}
-use Rattle.reserving.specs.Balance.{bucket_at, buckets_at}
-use Rattle.reserving.specs.Settlement.{settled}
-use Rattle.reserving.specs.Left.{IsDead}
+use Rattle.std.specs.Prelude.{◌≡◌, ◌≤◌}
+use Rattle.units.specs.Words.{Moment}
 use Rattle.reserving.specs.Rows.{AccountRows}
 use Rattle.reserving.specs.Changes.{advanced}
 
--- the reservations of sessions that ended between two moments
-abbrev pub ended_between : (Moment → Seconds) → Moment → Moment → Ledger → SessionName → GroupId →
-    Bool
-ended_between v t1 t2 ledger s g = is_live v t1 ledger s && not (is_live v t2 ledger s)
-
--- a bucket that is brought from a moment to a later one: what sessions that ended between them held
--- is given up, and from its end on what is left is expired
-abbrev pub brought : (Moment → Seconds) → Moment → Moment → Ledger → BucketRow → BucketRow
-brought v t1 t2 ledger b =
-    with_end t2 (with_release t2 b (held (ended_between v t1 t2 ledger) b.number ledger))
-
--- a bucket's position, brought to a later moment, is its position then
-abbrev pub IsBroughtOn : Type 0
-IsBroughtOn = (v : Moment → Seconds) (t1 t2 : Moment) (ledger : Ledger) (c : BucketRow) → t1 ≤ t2 →
-    IsBalanced (bucket_at v t1 ledger c) →
-    brought v t1 t2 ledger (bucket_at v t1 ledger c) ≡ bucket_at v t2 ledger c
-
--- and in two steps it is brought to where one step brings it
-abbrev pub IsBroughtAlike : Type 0
-IsBroughtAlike =
-    (v : Moment → Seconds) (t1 t2 t3 : Moment) (ledger : Ledger) (c : BucketRow) → t1 ≤ t2 →
-    t2 ≤ t3 →
-    IsBalanced (bucket_at v t1 ledger c) →
-    brought v t2 t3 ledger (brought v t1 t2 ledger (bucket_at v t1 ledger c))
-    ≡ brought v t1 t3 ledger (bucket_at v t1 ledger c)
-
--- the whole account, whatever its rows: brought to a moment and then to a later one it is as
+-- an account, whatever its rows: brought to a moment and then to a later one it is as
 -- `advance` to the later one alone makes it
 abbrev pub IsAdvancedAlike : Type 0
 IsAdvancedAlike = (a : AccountRows) (t u : Moment) → t ≤ u →
     advanced u (advanced t a) ≡ advanced u a
-
--- ---- a dead bucket never changes again: a law of the ledger
-
-abbrev pub AreDeadKept : List BucketRow → List BucketRow → Type 0
-AreDeadKept [] [] = Unit {0}
-AreDeadKept [] (y ∷ ys) = Unit {0}
-AreDeadKept (x ∷ xs) [] = ⊥
-AreDeadKept (x ∷ xs) (y ∷ ys) = (IsDead x → y ≡ x) × AreDeadKept xs ys
-
--- as time goes on
-abbrev pub IsDeadLater : Type 0
-IsDeadLater = (v : Moment → Seconds) (t u : Moment) (ledger : Ledger) → t ≤ u →
-    Each IsBalanced (buckets_at v t ledger) →
-    AreDeadKept (buckets_at v t ledger) (buckets_at v u ledger)
-
--- and by a settlement
-abbrev pub IsDeadSettled : Type 0
-IsDeadSettled =
-    (v : Moment → Seconds) (t : Moment) (session : SessionName) (group : GroupId)
-    (units : UnitCount) (blocks : BlockCount) (due : Due) (ledger : Ledger) →
-    is_live v t ledger session ≡ true → Each IsBalanced (buckets_at v t ledger) →
-    AreDistinct (buckets_at v t ledger) →
-    AreDeadKept (buckets_at v t ledger)
-    (buckets_at v t (settled v t session group units blocks due ledger))
-
--- ---- what is reserved of a bucket, in the words of its holds
-
--- the fact ends this reservation
-abbrev pub is_end_of : SessionName → GroupId → Fact → Bool
-is_end_of s g f = test_of (ends_of s g) (counts_of f).end
-
--- the sum of a bucket's holds that count, of reservations that no fact after the hold ended
-abbrev pub held_unended : (SessionName → GroupId → Bool) → BucketNumber → Ledger → Ledger →
-    BucketAmount
-held_unended counts n newer [] = 0
-held_unended counts n newer (d ∷ older) =
-    hold_of (λ s g. counts s g && not (any (is_end_of s g) newer)) n d.fact
-    + held_unended counts n (d ∷ newer) older
-
--- what is held of a bucket is that sum
-abbrev pub IsHeldUnended : Type 0
-IsHeldUnended = (counts : SessionName → GroupId → Bool) (n : BucketNumber) (ledger : Ledger) →
-    held counts n ledger ≡ held_unended counts n [] ledger
-
--- so what is reserved of it is the sum of its holds whose session is live and whose reservation
--- hasn't ended
-abbrev pub IsReservedUnended : Type 0
-IsReservedUnended = (v : Moment → Seconds) (t : Moment) (ledger : Ledger) (c : BucketRow) →
-    (bucket_at v t ledger c).reserved
-    ≡ held_unended (λ s g. is_live v t ledger s) c.number [] ledger

@@ -9,11 +9,12 @@ use Rattle.identifiers.specs.Words.{SessionName}
 use Rattle.shelves.specs.Shelves.{Shelf}
 use Rattle.reserving.specs.declared.session.Session.{Session}
 use Rattle.reserving.specs.declared.session.SessionGroup.{SessionGroup}
-use Rattle.reserving.specs.Ledger.{is_same}
-use Rattle.reserving.specs.Pricing.{validity_of}
+use Rattle.ledger.specs.Ledger.{is_same}
+use Rattle.ledger.specs.Pricing.{validity_of}
 use Rattle.reserving.specs.Sessions.{is_session, is_live_in}
 use Rattle.reserving.specs.Changes.{is_other, lapse}
-use Rattle.reserving.specs.Rows.{AccountRows, EachIn}
+use Rattle.ledger.specs.Lists.{EachIn}
+use Rattle.reserving.specs.Rows.{AccountRows}
 
 -- the rows of the sessions beside one, with the shelf that tells their validity
 pub record OtherRows : Type 0 where

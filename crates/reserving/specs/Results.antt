@@ -14,13 +14,13 @@ use Rattle.buckets.specs.Spend.{funds}
 use Rattle.reserving.specs.declared.reserve.Granted.{Granted}
 use Rattle.reserving.specs.declared.reserve.Granted.TheVariants.{Nothing, Units}
 use Rattle.reserving.specs.declared.settle.Settled.{Settled}
-use Rattle.reserving.specs.Ledger.{Ledger, used, counter}
-use Rattle.reserving.specs.Pricing.{tariff_at, cycle_at, switch_at, validity_at, periods_at}
-use Rattle.reserving.specs.Pricing.{wanted_units, wanted_with, validity_of}
-use Rattle.reserving.specs.Balance.{buckets_at}
-use Rattle.reserving.specs.Settlement.{report_price, missing}
-use Rattle.reserving.specs.Reservation.{reserved, grant_for, held_due}
-use Rattle.reserving.specs.Debiting.{rest_price, is_covered, debit_passes, debited}
+use Rattle.ledger.specs.Ledger.{Ledger, used, counter}
+use Rattle.ledger.specs.Pricing.{tariff_at, cycle_at, switch_at, validity_at, periods_at}
+use Rattle.ledger.specs.Pricing.{wanted_units, wanted_with, validity_of}
+use Rattle.ledger.specs.Balance.{buckets_at}
+use Rattle.ledger.specs.Settlement.{report_price, missing}
+use Rattle.ledger.specs.Reservation.{reserved, grant_for, held_due}
+use Rattle.ledger.specs.Debiting.{rest_price, is_covered, debit_passes, debited}
 use Rattle.reserving.specs.Rows.{AccountRows, IsRowsOf}
 use Rattle.reserving.specs.Changes.{advanced, granted_in, reserved_account}
 

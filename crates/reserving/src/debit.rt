@@ -4,10 +4,10 @@ ghost use Rattle.std.specs.Prelude.{◌≡◌, ◌+◌, ◌≤◌, ◌<◌, true
 ghost use Rattle.std.specs.Prelude.{Err};
 ghost use Rattle.reserving.specs.Calls.{Debits, Tells};
 ghost use Rattle.buckets.specs.Holding.{uncollected};
-ghost use Rattle.reserving.specs.Pricing.{cycle_at};
+ghost use Rattle.ledger.specs.Pricing.{cycle_at};
 ghost use Rattle.reserving.specs.Sessions.{group_in, counter_in};
 ghost use Rattle.buckets.specs.Kinds.{due};
-ghost use Rattle.reserving.specs.Debiting.{event_price, rest_price};
+ghost use Rattle.ledger.specs.Debiting.{event_price, rest_price};
 ghost use Rattle.reserving.specs.Rows.{IsAccount};
 ghost use Rattle.reserving.specs.Changes.{used_in, count_in, event_price_in};
 ghost use Rattle.reserving.specs.Changes.{rest_price_in};

@@ -6,7 +6,7 @@ ghost use Rattle.buckets.specs.Share.{sum_in};
 ghost use Rattle.buckets.specs.Spend.{Each, IsSound, funds};
 ghost use Rattle.buckets.specs.Row.{eligible_amount, is_eligible};
 ghost use Rattle.buckets.specs.Holding.{held_in};
-ghost use Rattle.reserving.specs.Balance.{buckets_at};
+ghost use Rattle.ledger.specs.Balance.{buckets_at};
 ghost use Rattle.reserving.specs.Sessions.{held_by, is_live_in, session_before};
 ghost use Rattle.std.specs.Prelude.{◌*◌, ◌+◌};
 ghost use Rattle.reserving.specs.Rows.{AreAscending, IsAccount};
@@ -14,7 +14,7 @@ ghost use Rattle.reserving.specs.Changes.{advanced};
 ghost use Rattle.std.specs.List.{list_any};
 ghost use Rattle.reserving.specs.Calls.{Tells, TellsAllowance};
 ghost use Rattle.reserving.specs.Lapsed.{held_for, is_eligible_in, lapsed_for, lapsed_funds};
-ghost use Rattle.reserving.specs.Pricing.{validity_of};
+ghost use Rattle.ledger.specs.Pricing.{validity_of};
 
 use crate::account::Account;
 use crate::advance::is_live_near;

@@ -11,9 +11,10 @@ ghost use Rattle.reserving.specs.Changes.{with_event, with_count, with_reservati
 ghost use Rattle.reserving.specs.Prepared.{with_group, with_counter};
 
 use crate::searching::{seek_counter, seek_group};
-use crate::session::{Counter, Reservation, SessionGroup, Terms};
+use crate::session::{Counter, Reservation, SessionGroup};
 use buckets::{BucketKind, Holds, Purse};
 use identifiers::SessionId;
+use ledger::Terms;
 use std::alloc::{AllocError, Global};
 use units::Blocks;
 

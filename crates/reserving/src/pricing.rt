@@ -7,15 +7,14 @@ ghost use Rattle.units.specs.declared.blocks.TariffChangeUsage.TheVariants.{Unit
 ghost use Rattle.units.specs.declared.blocks.TariffChangeUsage.TheVariants.{UnitIndeterminate};
 ghost use Rattle.calendar.specs.Timetable.{period_at};
 ghost use Rattle.rating.specs.Rated.{part_of, rated_report};
-ghost use Rattle.reserving.specs.Pricing.{reach, switch_by, validity_by, periods_by, is_change};
-ghost use Rattle.reserving.specs.Pricing.{units_of, four_parts, wanted_units};
+ghost use Rattle.ledger.specs.Pricing.{reach, switch_by, validity_by, periods_by, is_change};
+ghost use Rattle.ledger.specs.Pricing.{units_of, four_parts, wanted_units};
 ghost use Rattle.reserving.specs.Placed.{AreOfBook, AreOfShelf};
 ghost use Rattle.shelves.specs.Shelves.{tariff_in};
-ghost use Rattle.reserving.specs.Pricing.{prices_by, terms_now};
-ghost use Rattle.reserving.specs.Settlement.{reported};
-ghost use Rattle.reserving.specs.Windows.{AreWindowsOfBooks};
+ghost use Rattle.ledger.specs.Pricing.{prices_by, terms_now};
+ghost use Rattle.ledger.specs.Settlement.{reported};
 
-use crate::session::Terms;
+use ledger::Terms;
 use rating::{Part, Periods, Rated, rate_report};
 use shelves::TariffShelf;
 use tariffs::{Prices, Side, Tariff, TariffBook};
@@ -64,12 +63,6 @@ pub(crate) fn window_at(book: &TariffBook, moment: Moment) -> GrantWindow
         },
     }
 }
-
-/// At a moment of a command the switch and the validity of a grant are the book's: no end of all
-/// moments cuts them.
-pub fn window_of_book()
-    ensures { AreWindowsOfBooks }
-{}
 
 /// A switch as a moment.
 fn switch_moment(switch: Option<u64>) -> Option<Moment>

@@ -5,7 +5,7 @@ ghost use Rattle.reserving.specs.Sessions.{session_before};
 ghost use Rattle.reserving.specs.Rows.{AreAscending};
 ghost use Rattle.reserving.specs.Calm.{are_sessions_quiet, are_groups_quiet, are_buckets_quiet};
 ghost use Rattle.reserving.specs.Calm.{is_session_quiet, is_group_quiet, is_bucket_quiet};
-ghost use Rattle.reserving.specs.Pricing.{validity_of};
+ghost use Rattle.ledger.specs.Pricing.{validity_of};
 
 use crate::kept_rows::KeptRows;
 use crate::live::is_open;

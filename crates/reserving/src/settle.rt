@@ -7,9 +7,9 @@ use crate::fault::AccountFault;
 use crate::grouping;
 use crate::live::cycle_of;
 use crate::pricing::{Tally, price, prices_by, reported_units, tally_of, terms_now};
-use crate::session::Terms;
 use buckets::{BucketKind, Charged};
 use identifiers::SessionId;
+use ledger::Terms;
 use rating::Rated;
 use units::{Amount, Blocks, Moment, Units, UsedPart};
 
@@ -52,9 +52,9 @@ pub(crate) struct RatedUse {
 impl<'b> Account<'b> {
     ghost use Rattle.std.specs.Prelude.{◌≡◌, ◌+◌, ◌≤◌, ◌<◌, ◌^◌, true, false, None, is_some};
     ghost use Rattle.std.specs.Prelude.{OnOk, OnErr, IfSome, List, Some, unwrap_or};
-    ghost use Rattle.reserving.specs.Ledger.{Ledger};
-    ghost use Rattle.reserving.specs.Settlement.{reported, price_of, passes};
-    ghost use Rattle.reserving.specs.Settlement.{passes_after};
+    ghost use Rattle.ledger.specs.Ledger.{Ledger};
+    ghost use Rattle.ledger.specs.Settlement.{reported, price_of, passes};
+    ghost use Rattle.ledger.specs.Settlement.{passes_after};
     ghost use Rattle.reserving.specs.Rows.{IsAccount};
     ghost use Rattle.reserving.specs.Placed.{AreOfShelf};
     ghost use Rattle.reserving.specs.Left.{LeftRows, IsWith};
@@ -70,7 +70,7 @@ impl<'b> Account<'b> {
       UnitAfterTariffChange,
     };
     ghost use Rattle.units.specs.declared.blocks.TariffChangeUsage.TheVariants.{UnitIndeterminate};
-    ghost use Rattle.reserving.specs.Pricing.{cycle_at, units_of, terms_now};
+    ghost use Rattle.ledger.specs.Pricing.{cycle_at, units_of, terms_now};
     ghost use Rattle.reserving.specs.Sessions.{group_in, counter_in};
     ghost use Rattle.reserving.specs.Changes.{used_in, reserved_in, terms_in, count_in};
     ghost use Rattle.reserving.specs.Changes.{price_in, settled_account};

@@ -10,13 +10,14 @@ use Rattle.calendar.specs.declared.week.Period.{Period}
 use Rattle.buckets.specs.Row.{IsBalanced}
 use Rattle.buckets.specs.Kinds.{IsScopeOf}
 use Rattle.rating.specs.declared.grant.Periods.{Periods}
-use Rattle.reserving.specs.declared.charge.ChargeRow.{ChargeRow}
+use Rattle.ledger.specs.declared.charge.ChargeRow.{ChargeRow}
 use Rattle.reserving.specs.declared.session.Session.{Session}
 use Rattle.reserving.specs.declared.session.SessionGroup.{SessionGroup}
 use Rattle.reserving.specs.declared.session.Reservation.{Reservation}
-use Rattle.reserving.specs.declared.session.Terms.{Terms}
+use Rattle.ledger.specs.declared.terms.Terms.{Terms}
 use Rattle.reserving.specs.Sessions.{session_in, is_session, is_of, is_open, group_in, holds_in}
-use Rattle.reserving.specs.Rows.{AreApart, EachIn}
+use Rattle.ledger.specs.Lists.{EachIn}
+use Rattle.reserving.specs.Rows.{AreApart}
 use Rattle.reserving.specs.Stored.{StoredRows, IsStored}
 use Rattle.reserving.specs.Left.{is_open_row, first_of}
 use Rattle.reserving.proofs.Lists.{find-passes, EachIn-found, EachIn-weaker}

@@ -8,8 +8,9 @@ use Rattle.buckets.specs.Kinds.{IsScopeOf}
 use Rattle.buckets.specs.Spend.{Each}
 use Rattle.buckets.specs.declared.kind.BucketKind.{BucketKind}
 use Rattle.buckets.specs.declared.kind.BucketKind.TheVariants.{Money, Blocks}
-use Rattle.reserving.specs.declared.charge.ChargeRow.{ChargeRow}
-use Rattle.reserving.specs.Rows.{EachIn, AreApart}
+use Rattle.ledger.specs.declared.charge.ChargeRow.{ChargeRow}
+use Rattle.ledger.specs.Lists.{EachIn}
+use Rattle.reserving.specs.Rows.{AreApart}
 use Rattle.reserving.specs.Left.{bucket_in, first_of}
 use Rattle.reserving.proofs.Lists.{EachIn-found}
 use Rattle.reserving.proofs.LeftTests.{none_more}

@@ -7,7 +7,8 @@ use Rattle.std.proofs.lemmas.Bool.{eqb-false}
 use Rattle.std.specs.Prelude.{if◌then◌else◌, slice_index_or}
 use Rattle.std.specs.List.Sorted.{IsNonDecreasingBy}
 use Rattle.buckets.specs.Row.{BucketRow}
-use Rattle.reserving.specs.Rows.{AreApart, EachIn}
+use Rattle.ledger.specs.Lists.{EachIn}
+use Rattle.reserving.specs.Rows.{AreApart}
 use Rattle.reserving.specs.Left.{is_dead, only}
 use Rattle.reserving.proofs.order.Searched.{no_less}
 use Rattle.keepers.specs.Keyed.{same_bucket}

@@ -13,7 +13,7 @@ use Rattle.buckets.specs.Row.{BucketRow}
 use Rattle.buckets.specs.Spend.{AreDistinct}
 use Rattle.reserving.specs.declared.session.SessionGroup.{SessionGroup}
 use Rattle.reserving.specs.declared.session.Reservation.{Reservation}
-use Rattle.reserving.specs.declared.session.Terms.{Terms}
+use Rattle.ledger.specs.declared.terms.Terms.{Terms}
 use Rattle.reserving.specs.Sessions.{is_of, group_in, holds_in}
 use Rattle.reserving.specs.Left.{is_open_row}
 use Rattle.reserving.proofs.Lists.{no_some, some_of}

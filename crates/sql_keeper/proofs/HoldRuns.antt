@@ -11,7 +11,7 @@ use Rattle.std.specs.declared.cmp.Ordering.TheVariants.{Less, Equal, Greater}
 use Rattle.std.specs.Cmp.{alike_right}
 use Rattle.std.specs.Cmp.Lexicographic.{slice_cmp, texts_ties}
 use Rattle.std.proofs.lemmas.Cmp.{nat_list_cmp_total}
-use Rattle.reserving.specs.Rows.{EachIn}
+use Rattle.ledger.specs.Lists.{EachIn}
 use Rattle.reserving.proofs.Lists.{EachIn-weaker, not_both}
 use Rattle.reserving.proofs.order.Ascending.{less_is, equal_is}
 use Rattle.reserving.proofs.order.Searched.{at_place}

@@ -6,7 +6,7 @@ use Rattle.std.specs.Prelude.{if◌then◌else◌, ◌==◌, filter, option_map}
 use Rattle.std.specs.List.{find}
 use Rattle.shelves.specs.Shelves.{Shelf}
 use Rattle.reserving.specs.declared.session.Session.{Session}
-use Rattle.reserving.specs.Pricing.{cycle_at}
+use Rattle.ledger.specs.Pricing.{cycle_at}
 use Rattle.reserving.specs.Sessions.{counter_in, group_in, is_open}
 use Rattle.reserving.specs.Rows.{AccountRows}
 use Rattle.reserving.specs.Stored.{StoredRows, stored}

@@ -6,7 +6,7 @@ use Rattle.std.specs.Prelude.{if◌then◌else◌, ◌==◌, ◌||◌, not, opti
 use Rattle.shelves.specs.Shelves.{Shelf}
 use Rattle.buckets.specs.Row.{BucketRow}
 use Rattle.reserving.specs.declared.session.Session.{Session}
-use Rattle.reserving.specs.Pricing.{cycle_at}
+use Rattle.ledger.specs.Pricing.{cycle_at}
 use Rattle.reserving.specs.Sessions.{is_open, session_in, group_in}
 use Rattle.reserving.specs.Rows.{AccountRows}
 use Rattle.reserving.specs.Stored.{StoredRows, stored, priced, advanced_stored}

@@ -7,7 +7,7 @@ use Rattle.std.proofs.lemmas.Result.{on_ok_weaker}
 use Rattle.sqlite.specs.State.{State}
 use Rattle.sql_tables.specs.Statements.{Attempts}
 use Rattle.identifiers.specs.Texts.{same_name}
-use Rattle.reserving.specs.declared.charge.ChargeRow.{ChargeRow}
+use Rattle.ledger.specs.declared.charge.ChargeRow.{ChargeRow}
 use Rattle.reserving.proofs.Lists.{no_some}
 use Rattle.sql_rows.specs.Content.{TablesContent, TableRows, tables_content, has_charge}
 use Rattle.sql_rows.specs.Content.{with_charge_row, with_covered}

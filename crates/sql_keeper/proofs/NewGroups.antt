@@ -9,7 +9,8 @@ use Rattle.reserving.specs.declared.session.SessionGroup.{SessionGroup}
 use Rattle.reserving.specs.declared.session.Reservation.{Reservation}
 use Rattle.reserving.specs.Sessions.{is_of, group_in, holds_in}
 use Rattle.reserving.specs.Stored.{StoredRows}
-use Rattle.reserving.specs.Rows.{EachIn, AreApart}
+use Rattle.ledger.specs.Lists.{EachIn}
+use Rattle.reserving.specs.Rows.{AreApart}
 use Rattle.reserving.specs.Left.{first_of}
 use Rattle.reserving.proofs.KeysFound.{found_session}
 use Rattle.reserving.proofs.LeftParted.{one_group}

@@ -4,14 +4,16 @@ use Rattle.std.proofs.Common.{◌∙◌, true≢false, Option, Some}
 use Rattle.std.specs.Prelude.{if◌then◌else◌, ◌+◌, nat_eq, is_some}
 use Rattle.std.specs.List.{find}
 use Rattle.identifiers.specs.Texts.{same_name}
-use Rattle.reserving.specs.declared.charge.ChargeRow.{ChargeRow}
+use Rattle.ledger.specs.declared.charge.ChargeRow.{ChargeRow}
 use Rattle.reserving.specs.declared.session.Session.{Session}
 use Rattle.reserving.specs.declared.session.Counter.{Counter}
 use Rattle.reserving.specs.Sessions.{is_session, session_in, is_counter, counter_in}
-use Rattle.reserving.specs.Rows.{EachIn, AreApart}
+use Rattle.ledger.specs.Lists.{EachIn}
+use Rattle.reserving.specs.Rows.{AreApart}
 use Rattle.reserving.specs.Left.{first_of}
-pub use Rattle.reserving.proofs.Holds.{same_from as name_from}
-pub use Rattle.reserving.proofs.Keys.{same_number as number_from, number_same as number_itself}
+pub use Rattle.ledger.proofs.Holds.{same_from as name_from}
+pub use Rattle.ledger.proofs.Names.{number_same as number_itself}
+pub use Rattle.reserving.proofs.Keys.{same_number as number_from}
 use Rattle.reserving.proofs.LeftParted.{one_session, one_counter}
 use Rattle.reserving.proofs.LeftTests.{none_more}
 use Rattle.keepers.specs.Keyed.{same_session, same_counter}

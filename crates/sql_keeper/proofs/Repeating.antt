@@ -14,7 +14,7 @@ use Rattle.tariffs.specs.Books.{Book}
 use Rattle.tariffs.specs.Tariffs.{GroupTariff}
 use Rattle.shelves.specs.Shelves.{Shelf, book_at}
 use Rattle.reserving.specs.declared.session.Counter.{Counter}
-use Rattle.reserving.specs.Pricing.{cycle_with, tariff_of}
+use Rattle.ledger.specs.Pricing.{cycle_with, tariff_of}
 use Rattle.reserving.specs.Sessions.{is_counter, counter_in}
 use Rattle.reserving.proofs.Keys.{first_true, same_number}
 use Rattle.reserving.proofs.Lists.{no_some, not_both, some_of}

@@ -20,10 +20,10 @@ use Rattle.buckets.specs.Row.{BucketRow}
 use Rattle.buckets.specs.declared.holds.HeldAmount.{HeldAmount}
 use Rattle.buckets.specs.declared.kind.BucketKind.{BucketKind}
 use Rattle.buckets.specs.declared.kind.BucketKind.TheVariants.{Blocks, Money}
-use Rattle.reserving.specs.Rows.{EachIn}
+use Rattle.ledger.specs.Lists.{EachIn}
 use Rattle.reserving.specs.Sessions.{holds_in}
 use Rattle.reserving.specs.Stored.{StoredRows}
-use Rattle.reserving.specs.declared.charge.ChargeRow.{ChargeRow}
+use Rattle.ledger.specs.declared.charge.ChargeRow.{ChargeRow}
 use Rattle.reserving.specs.declared.session.Reservation.{Reservation}
 use Rattle.reserving.specs.declared.session.Session.{Session}
 use Rattle.reserving.specs.declared.session.SessionGroup.{SessionGroup}

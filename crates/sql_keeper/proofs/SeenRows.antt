@@ -13,8 +13,8 @@ use Rattle.reserving.specs.declared.session.Reservation.{Reservation}
 use Rattle.reserving.specs.Left.{is_open_row, only}
 use Rattle.reserving.specs.Sessions.{group_in, is_open, session_in}
 use Rattle.reserving.specs.Stored.{StoredRows, stored as stored_rows}
-use Rattle.reserving.specs.Ledger.{is_same}
-use Rattle.reserving.proofs.Holds.{same_itself}
+use Rattle.ledger.specs.Ledger.{is_same}
+use Rattle.ledger.proofs.Holds.{same_itself}
 use Rattle.reserving.proofs.Lists.{no_some, not_both, some_of}
 use Rattle.reserving.proofs.KeysFound.{is_none_is}
 use Rattle.keepers.specs.declared.loaded.Loaded.{Loaded}

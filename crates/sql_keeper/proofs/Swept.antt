@@ -6,9 +6,10 @@ use Rattle.std.specs.List.{find}
 use Rattle.std.proofs.lemmas.Bool.Decides.{nat_tests}
 use Rattle.identifiers.specs.Texts.{same_name}
 use Rattle.shelves.specs.Shelves.{Shelf, IsShelf}
-use Rattle.reserving.specs.Ledger.{Ledger}
+use Rattle.ledger.specs.Ledger.{Ledger}
 use Rattle.reserving.specs.declared.session.Session.{Session}
-use Rattle.reserving.specs.Rows.{EachIn, AreApart}
+use Rattle.ledger.specs.Lists.{EachIn}
+use Rattle.reserving.specs.Rows.{AreApart}
 use Rattle.reserving.specs.Stored.{StoredRows, advanced_stored}
 use Rattle.reserving.proofs.Lists.{no_some, some_of, EachIn-weaker}
 use Rattle.reserving.proofs.LeftTests.{none_more}

@@ -14,8 +14,9 @@ use Rattle.sqlite.proofs.StateLemmas.{survives_then}
 use Rattle.identifiers.specs.Texts.{same_name}
 use Rattle.shelves.specs.Shelves.{Shelf, IsShelf}
 use Rattle.reserving.specs.Stored.{StoredRows}
-use Rattle.reserving.specs.Rows.{AreApart, EachIn}
-use Rattle.reserving.proofs.Holds.{same_itself as name_itself}
+use Rattle.ledger.specs.Lists.{EachIn}
+use Rattle.reserving.specs.Rows.{AreApart}
+use Rattle.ledger.proofs.Holds.{same_itself as name_itself}
 use Rattle.reserving.proofs.LeftTests.{each_append}
 use Rattle.keepers.specs.Change.{IsSwept}
 use Rattle.sql_tables.specs.Statements.{Attempts, HasBook, HasRules, IsInside, OnlyReads}

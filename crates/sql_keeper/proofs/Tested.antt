@@ -11,7 +11,7 @@ use Rattle.sqlite_catalog.specs.Listing.{IsSound}
 use Rattle.sqlite_schema.specs.declared.schema.Constraint.TheVariants.{ForeignKey}
 use Rattle.reserving.specs.declared.session.Session.{Session}
 use Rattle.reserving.specs.declared.session.SessionGroup.{SessionGroup}
-use Rattle.reserving.specs.Rows.{EachIn}
+use Rattle.ledger.specs.Lists.{EachIn}
 use Rattle.reserving.specs.Sessions.{group_in, is_open, is_session, session_in}
 use Rattle.reserving.specs.Left.{is_open_row}
 use Rattle.reserving.proofs.Lists.{EachIn-found, find-passes, not_both, no_some, some_of}

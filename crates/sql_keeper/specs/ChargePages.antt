@@ -4,13 +4,13 @@ use Rattle.std.specs.Prelude.{◌≡◌, refl, if◌then◌else◌, ◌+◌, ◌
 use Rattle.std.specs.Prelude.{nat_eq, nat_le, Bool, List}
 use Rattle.std.specs.List.{find}
 use Rattle.units.specs.Words.{greatest_number}
-use Rattle.reserving.specs.Words.{ChargeNumber}
+use Rattle.ledger.specs.Words.{ChargeNumber}
 use Rattle.sql_rows.specs.declared.head.HeadColumns.{HeadColumns}
 use Rattle.sql_rows.specs.Content.{TableRows}
 use Rattle.sql_rows.specs.Lists.{NumbersRise, is_row_within}
 use Rattle.sql_tables.specs.Selects.{passing}
 use Rattle.sql_keeper.specs.Content.{is_numbered, told_charge}
-use Rattle.reserving.specs.declared.charge.ChargeRow.{ChargeRow}
+use Rattle.ledger.specs.declared.charge.ChargeRow.{ChargeRow}
 use Rattle.keepers.specs.declared.pages.ChargePage.{ChargePage}
 
 -- the number of an account's last charge; 0 where it has none

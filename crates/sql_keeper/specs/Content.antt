@@ -6,7 +6,7 @@ use Rattle.std.specs.Prelude.{option_and_then, is_some, nat_lt, if◌then◌else
 use Rattle.units.specs.Words.{Moment, BlockCount, BookNumber}
 use Rattle.identifiers.specs.Words.{AccountName}
 use Rattle.buckets.specs.Words.{BucketNumber, BucketAmount}
-use Rattle.reserving.specs.Words.{ChargeNumber}
+use Rattle.ledger.specs.Words.{ChargeNumber}
 use Rattle.calendar.specs.declared.week.Period.{Period}
 use Rattle.rating.specs.declared.grant.Periods.{Periods}
 use Rattle.tariffs.specs.Names.{period_named}
@@ -14,8 +14,8 @@ use Rattle.shelves.specs.Shelves.{Shelf, dated_books}
 use Rattle.buckets.specs.Row.{BucketRow}
 use Rattle.buckets.specs.declared.kind.BucketKind.{BucketKind}
 use Rattle.buckets.specs.declared.kind.BucketKind.TheVariants.{Money, Blocks}
-use Rattle.reserving.specs.declared.charge.ChargeRow.{ChargeRow}
-use Rattle.reserving.specs.declared.session.Terms.{Terms}
+use Rattle.ledger.specs.declared.charge.ChargeRow.{ChargeRow}
+use Rattle.ledger.specs.declared.terms.Terms.{Terms}
 use Rattle.reserving.specs.Left.{is_open_row}
 use Rattle.commands.specs.declared.command.Content.{Content}
 use Rattle.commands.specs.declared.answer.Answer.{Answer}

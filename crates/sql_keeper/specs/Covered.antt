@@ -3,8 +3,8 @@
 use Rattle.std.specs.Prelude.{List, Option, nat_eq, option_map}
 use Rattle.std.specs.List.{find}
 use Rattle.units.specs.Words.{BlockCount}
-use Rattle.reserving.specs.Words.{ChargeNumber}
-use Rattle.reserving.specs.declared.charge.ChargeRow.{ChargeRow}
+use Rattle.ledger.specs.Words.{ChargeNumber}
+use Rattle.ledger.specs.declared.charge.ChargeRow.{ChargeRow}
 use Rattle.sql_rows.specs.declared.covered_rows.CoveredColumns.{CoveredColumns}
 use Rattle.sql_keeper.specs.Content.{charge_in, covered_in}
 

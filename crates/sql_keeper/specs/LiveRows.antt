@@ -11,7 +11,7 @@ use Rattle.reserving.specs.declared.session.Session.{Session}
 use Rattle.reserving.specs.declared.session.SessionGroup.{SessionGroup}
 use Rattle.reserving.specs.declared.session.Counter.{Counter}
 use Rattle.reserving.specs.Left.{is_dead, only, bucket_in}
-use Rattle.reserving.specs.Pricing.{cycle_at}
+use Rattle.ledger.specs.Pricing.{cycle_at}
 use Rattle.reserving.specs.Sessions.{is_open, counter_in}
 use Rattle.reserving.specs.Stored.{StoredRows, priced}
 use Rattle.keepers.specs.Change.{IsLoad, IsLoadedFrom}

@@ -10,7 +10,7 @@ use Rattle.calendar.specs.Timetable.{cycle_of}
 use Rattle.tariffs.specs.Books.{Book}
 use Rattle.tariffs.specs.Tariffs.{GroupTariff}
 use Rattle.reserving.specs.declared.session.Counter.{Counter}
-use Rattle.reserving.specs.Pricing.{tariff_of}
+use Rattle.ledger.specs.Pricing.{tariff_of}
 use Rattle.reserving.specs.Sessions.{counter_in}
 use Rattle.sql_rows.specs.declared.head.HeadColumns.{HeadColumns}
 use Rattle.sql_rows.specs.Content.{TableRows}

@@ -13,7 +13,8 @@ use Rattle.sqlite_trees.specs.Objects.{catalog_tree}
 use Rattle.sqlite.specs.State.{State, HasCleanDisk, Shows, Survives}
 use Rattle.sql_tables.specs.Statements.{AreStored, HasIdleBook, IsBook, IsIdle, IsStill}
 use Rattle.shelves.specs.Shelves.{Shelf}
-use Rattle.reserving.specs.Rows.{AreApart, EachIn}
+use Rattle.ledger.specs.Lists.{EachIn}
+use Rattle.reserving.specs.Rows.{AreApart}
 use Rattle.reserving.specs.Stored.{StoredRows, IsStored, advanced_stored}
 use Rattle.keepers.specs.Change.{IsSwept}
 use Rattle.keepers.specs.Differing.{named_rows}

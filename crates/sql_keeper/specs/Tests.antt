@@ -6,16 +6,16 @@ use Rattle.std.specs.List.{list_all}
 use Rattle.std.specs.Prelude.{if◌then◌else◌}
 use Rattle.units.specs.Words.{GroupId}
 use Rattle.identifiers.specs.Words.{SessionName}
-use Rattle.reserving.specs.Words.{ChargeNumber}
+use Rattle.ledger.specs.Words.{ChargeNumber}
 use Rattle.calendar.specs.declared.week.Period.{Period}
 use Rattle.tariffs.specs.Names.{period_named}
 use Rattle.buckets.specs.Holding.{AreHolds}
-use Rattle.reserving.specs.declared.charge.ChargeRow.{ChargeRow}
+use Rattle.ledger.specs.declared.charge.ChargeRow.{ChargeRow}
 use Rattle.reserving.specs.declared.session.Session.{Session}
 use Rattle.reserving.specs.declared.session.SessionGroup.{SessionGroup}
 use Rattle.reserving.specs.declared.session.Reservation.{Reservation}
 use Rattle.reserving.specs.Sessions.{is_open, session_in, group_in}
-use Rattle.reserving.specs.Rows.{EachIn}
+use Rattle.ledger.specs.Lists.{EachIn}
 use Rattle.reserving.specs.Left.{first_of, is_open_row}
 use Rattle.keepers.specs.declared.loaded.Change.{Change}
 use Rattle.sql_rows.specs.declared.head.HeadColumns.{HeadColumns}

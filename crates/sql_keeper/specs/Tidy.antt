@@ -6,7 +6,7 @@ use Rattle.std.specs.Prelude.{is_some, nat_eq}
 use Rattle.units.specs.Words.{GroupId, BookNumber, CcRequestNumber}
 use Rattle.identifiers.specs.Words.{SessionName, AccountName}
 use Rattle.buckets.specs.Words.{BucketNumber}
-use Rattle.reserving.specs.Words.{ChargeNumber}
+use Rattle.ledger.specs.Words.{ChargeNumber}
 use Rattle.sql_rows.specs.Words.{KeyKind, KeyName}
 use Rattle.tariffs.specs.Names.{period_named}
 use Rattle.reserving.specs.Left.{first_of, is_open_row}

@@ -17,7 +17,7 @@ use crate::paid_charges::cover_all;
 use crate::still_open::still_open;
 use identifiers::AccountNumber;
 use keepers::{ChargePage, ChargePages, ChargeSource, ChargeVisitor, StoreFault, show_pages};
-use reserving::ChargeRow;
+use ledger::ChargeRow;
 use sql_rows::{HeadColumns, read_account, read_charges_within, read_covered_within};
 use sql_tables::ReadFault;
 use sqlite::{Alter, Connection};

@@ -10,7 +10,7 @@ ghost use Rattle.sql_keeper.specs.Writes.{with_charged, with_new_blocks, with_pa
 ghost use Rattle.sqlite.specs.Held.{state};
 
 use identifiers::AccountNumber;
-use reserving::ChargeRow;
+use ledger::ChargeRow;
 use sql_rows::{CoveredColumns, add_charge, put_charge, put_covered, remove_covered};
 use sqlite::{Alter, Error, Transaction};
 use units::Blocks;

@@ -13,7 +13,8 @@ use crate::ruling::is_ruled_change;
 use calendar::Period;
 use identifiers::SessionId;
 use keepers::Change;
-use reserving::{ChargeRow, Reservation, Session, SessionGroup, SessionState, Terms};
+use ledger::{ChargeRow, Terms};
+use reserving::{Reservation, Session, SessionGroup, SessionState};
 use shelves::TariffShelf;
 use sql_rows::HeadColumns;
 

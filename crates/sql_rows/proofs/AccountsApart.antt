@@ -21,7 +21,8 @@ use Rattle.sql_tables.proofs.Keys.{keys_back, text_last}
 use Rattle.sql_tables.proofs.Selected.{selected_to}
 use Rattle.sql_tables.proofs.Selections.{one_row, full_key}
 use Rattle.sql_tables.proofs.Steps.{mapped_from}
-use Rattle.reserving.specs.Rows.{AreApart, EachIn}
+use Rattle.ledger.specs.Lists.{EachIn}
+use Rattle.reserving.specs.Rows.{AreApart}
 use Rattle.sql_rows.specs.Values.{head_key}
 
 abbrev pub columns : Row → Row

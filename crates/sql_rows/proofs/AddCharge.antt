@@ -21,7 +21,7 @@ use Rattle.sqlite.specs.declared.error.Error.{Error}
 use Rattle.sqlite.specs.Listing.{understood}
 use Rattle.sqlite.specs.State.{State, ExecutesInside, HasCleanDisk}
 use Rattle.sqlite.proofs.Callers.{IsPlain, command_of}
-use Rattle.reserving.specs.declared.charge.ChargeRow.{ChargeRow}
+use Rattle.ledger.specs.declared.charge.ChargeRow.{ChargeRow}
 use Rattle.sql_tables.specs.Keyed.{key_of, look}
 use Rattle.sql_tables.specs.Schema.{charges, book_schema, key_index}
 use Rattle.sql_tables.specs.Statements.{Attempts, HasBook, IsBook}

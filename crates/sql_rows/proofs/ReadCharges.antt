@@ -26,7 +26,7 @@ use Rattle.sql_tables.proofs.Keys.{keys_split, int_tie}
 use Rattle.sql_tables.proofs.Selected.{select_from, told}
 use Rattle.sql_tables.proofs.Selections.{meets}
 use Rattle.sql_tables.proofs.Steps.{and_last, and_true}
-use Rattle.reserving.specs.declared.charge.ChargeRow.{ChargeRow}
+use Rattle.ledger.specs.declared.charge.ChargeRow.{ChargeRow}
 use Rattle.sql_rows.specs.Values.{nat, charge_key, charge_in_row, charge_cells, cells_beside}
 use Rattle.sql_rows.specs.Values.{priced_cells}
 use Rattle.sql_rows.specs.Content.{rows_in}

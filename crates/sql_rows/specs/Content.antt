@@ -6,13 +6,13 @@ use Rattle.std.specs.Prelude.{◌+◌, if◌then◌else◌, nat_eq}
 use Rattle.units.specs.Words.{BlockCount, GroupId, CycleNumber, BookNumber, CcRequestNumber}
 use Rattle.identifiers.specs.Words.{SessionName, AccountName, VoucherCode}
 use Rattle.buckets.specs.Words.{BucketNumber, BucketAmount}
-use Rattle.reserving.specs.Words.{ChargeNumber}
+use Rattle.ledger.specs.Words.{ChargeNumber}
 use Rattle.sql_rows.specs.Words.{KeyKind, KeyName}
 use Rattle.sqlite_trees.specs.Tree.{Trees}
 use Rattle.buckets.specs.Row.{BucketRow}
 use Rattle.reserving.specs.declared.session.Session.{Session}
 use Rattle.reserving.specs.declared.session.Counter.{Counter}
-use Rattle.reserving.specs.declared.charge.ChargeRow.{ChargeRow}
+use Rattle.ledger.specs.declared.charge.ChargeRow.{ChargeRow}
 use Rattle.sql_tables.specs.Keyed.{look, same_name}
 use Rattle.sql_tables.specs.Schema.{meta, accounts, buckets, counters, sessions, session_groups}
 use Rattle.sql_tables.specs.Schema.{holds, answers, vouchers, charges, books, grant_books}

@@ -7,7 +7,7 @@ use Rattle.buckets.specs.Row.{BucketRow}
 use Rattle.buckets.specs.declared.holds.HeldAmount.{HeldAmount}
 use Rattle.reserving.specs.declared.session.Session.{Session}
 use Rattle.reserving.specs.declared.session.Counter.{Counter}
-use Rattle.reserving.specs.declared.charge.ChargeRow.{ChargeRow}
+use Rattle.ledger.specs.declared.charge.ChargeRow.{ChargeRow}
 use Rattle.sql_rows.specs.Content.{TablesContent, with_rows, with_bucket, with_session_row}
 use Rattle.sql_rows.specs.Content.{with_charge_row}
 use Rattle.sql_rows.specs.Content.{with_counter_row, with_hold_row}

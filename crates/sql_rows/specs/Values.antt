@@ -6,7 +6,7 @@ use Rattle.units.specs.Words.{Moment, DayCount, Micros, UnitCount, BlockCount, G
 use Rattle.units.specs.Words.{BookNumber, CcRequestNumber}
 use Rattle.identifiers.specs.Words.{SessionName, AccountName, VoucherCode}
 use Rattle.buckets.specs.Words.{BucketNumber, BucketAmount}
-use Rattle.reserving.specs.Words.{ChargeNumber}
+use Rattle.ledger.specs.Words.{ChargeNumber}
 use Rattle.sql_tables.specs.Words.{TablesVersion}
 use Rattle.sql_rows.specs.Words.{KeyKind, KeyName}
 use Rattle.sqlite_value.specs.declared.value.Value.{Value}
@@ -20,7 +20,7 @@ use Rattle.reserving.specs.declared.session.Session.{Session}
 use Rattle.reserving.specs.declared.session.SessionState.{SessionState}
 use Rattle.reserving.specs.declared.session.SessionState.TheVariants.{Open, Ended, NeverOpened}
 use Rattle.reserving.specs.declared.session.Counter.{Counter}
-use Rattle.reserving.specs.declared.charge.ChargeRow.{ChargeRow}
+use Rattle.ledger.specs.declared.charge.ChargeRow.{ChargeRow}
 use Rattle.sql_rows.specs.declared.head.HeadColumns.{HeadColumns}
 
 -- ---- one value; what isn't of its kind reads as nothing

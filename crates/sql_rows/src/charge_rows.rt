@@ -11,7 +11,7 @@ ghost use Rattle.sqlite.specs.Held.{state};
 
 use crate::decoding::{moment_at, session_at};
 use identifiers::AccountNumber;
-use reserving::ChargeRow;
+use ledger::ChargeRow;
 use sql_tables::{
     ReadFault, checked, has_columns, large, number_at, read, small_at, text, whole, write,
 };

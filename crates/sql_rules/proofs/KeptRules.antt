@@ -8,8 +8,8 @@ use Rattle.shelves.specs.Shelves.{Shelf, count}
 use Rattle.buckets.specs.Row.{BucketRow}
 use Rattle.reserving.specs.declared.session.Session.{Session}
 use Rattle.reserving.specs.declared.session.Counter.{Counter}
-use Rattle.reserving.specs.declared.charge.ChargeRow.{ChargeRow}
-use Rattle.reserving.proofs.Holds.{same_from}
+use Rattle.ledger.specs.declared.charge.ChargeRow.{ChargeRow}
+use Rattle.ledger.proofs.Holds.{same_from}
 use Rattle.sql_rows.specs.declared.head.HeadColumns.{HeadColumns}
 use Rattle.sql_rows.specs.Content.{TablesContent, TableRows, with_account, with_allowance}
 use Rattle.sql_rows.specs.Content.{with_answer}

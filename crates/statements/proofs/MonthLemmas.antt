@@ -10,7 +10,7 @@ use Rattle.std.specs.Io.KnownBytes.{Appends}
 use Rattle.std.proofs.KnownBytes.{Appends-nil, Appends-trans}
 use Rattle.std.proofs.lemmas.Bool.{false≢true}
 use Rattle.tariffs.specs.Books.{Book}
-use Rattle.reserving.specs.ChargeColumns.{ChargeColumns}
+use Rattle.ledger.specs.ChargeColumns.{ChargeColumns}
 use Rattle.keepers.specs.Rows.{is_between, AreCharges}
 use Rattle.keepers.specs.Visits.{Visits, GoesOn, IsShown, SeesCharges, SeesBeginning}
 use Rattle.texts.specs.declared.streams.StreamFault.{StreamFault}

@@ -4,10 +4,10 @@ use Rattle.std.specs.Prelude.{◌≡◌, ℕ, ◌+◌, ◌≤◌, min, List, Opt
 use Rattle.std.specs.Prelude.{IsErrOf}
 use Rattle.std.specs.Io.KnownBytes.{Appends}
 use Rattle.texts.specs.StreamWords.{Bytes}
-use Rattle.reserving.specs.Words.{ChargeNumber}
+use Rattle.ledger.specs.Words.{ChargeNumber}
 use Rattle.keepers.specs.Faults.{max_failures}
 use Rattle.keepers.specs.Tables.{Tables}
-use Rattle.reserving.specs.ChargeColumns.{ChargeColumns}
+use Rattle.ledger.specs.ChargeColumns.{ChargeColumns}
 use Rattle.keepers.specs.Rows.{AreCharges}
 use Rattle.statements.specs.Texts.{charges_text, sums_of, WritesBeginning}
 use Rattle.statements.specs.declared.fault.StatementFault.{StatementFault}

@@ -7,7 +7,7 @@ use Rattle.identifiers.specs.Words.{AccountName}
 use Rattle.texts.specs.NumberWords.{MonthNumber}
 use Rattle.texts.specs.StreamWords.{Bytes}
 use Rattle.buckets.specs.Row.{BucketRow}
-use Rattle.reserving.specs.ChargeColumns.{ChargeColumns}
+use Rattle.ledger.specs.ChargeColumns.{ChargeColumns}
 use Rattle.statements.specs.Columns.{column_text, columns_text, set}
 use Rattle.statements.specs.declared.columns.Column.{Column}
 use Rattle.statements.specs.declared.rows.Sums.{Sums}

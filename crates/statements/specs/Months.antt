@@ -6,7 +6,7 @@ use Rattle.texts.specs.NumberWords.{MonthNumber}
 use Rattle.calendar.specs.declared.cycle.Cycle.TheVariants as cycles
 use Rattle.calendar.specs.Timetable.{cycle_of}
 use Rattle.tariffs.specs.Books.{Book}
-use Rattle.reserving.specs.ChargeColumns.{ChargeColumns}
+use Rattle.ledger.specs.ChargeColumns.{ChargeColumns}
 
 -- months since January 1969, of a month YYYYMM
 abbrev pub cycle_of_month : MonthNumber → CycleNumber

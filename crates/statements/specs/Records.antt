@@ -4,7 +4,7 @@ use Rattle.std.specs.Prelude.{List, [], ◌∷◌, codes}
 use Rattle.std.specs.Fmt.{decimal}
 use Rattle.texts.specs.StreamWords.{Bytes}
 use Rattle.csv.specs.Writing.{default_writer, row_text}
-use Rattle.reserving.specs.ChargeColumns.{ChargeColumns}
+use Rattle.ledger.specs.ChargeColumns.{ChargeColumns}
 
 abbrev pub header_fields : List Bytes
 header_fields =

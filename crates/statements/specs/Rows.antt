@@ -3,7 +3,7 @@
 use Rattle.std.specs.Prelude.{◌≡◌, Bool, true, false, [], Option, is_some}
 use Rattle.std.specs.Io.KnownBytes.{Appends}
 use Rattle.texts.specs.StreamWords.{Bytes}
-use Rattle.reserving.specs.ChargeColumns.{ChargeColumns}
+use Rattle.ledger.specs.ChargeColumns.{ChargeColumns}
 use Rattle.statements.specs.Months.{is_of_cycle}
 use Rattle.statements.specs.Texts.{charge_text, plus_charge, WritesBeginning}
 use Rattle.statements.specs.declared.rows.Form.{Form}

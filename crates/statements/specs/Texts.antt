@@ -14,7 +14,7 @@ use Rattle.buckets.specs.Kinds.{is_alike}
 use Rattle.buckets.specs.Row.{BucketRow}
 use Rattle.buckets.specs.Share.{sum_in}
 use Rattle.tariffs.specs.Books.{Book}
-use Rattle.reserving.specs.ChargeColumns.{ChargeColumns}
+use Rattle.ledger.specs.ChargeColumns.{ChargeColumns}
 use Rattle.keepers.specs.Rows.{is_between}
 use Rattle.statements.specs.Months.{is_of_month}
 use Rattle.statements.specs.Records.{header_record, charge_record}

@@ -10,7 +10,7 @@ use crate::columns::{Column, push_column, push_columns};
 use crate::rows::Sums;
 use buckets::Bucket;
 use identifiers::AccountNumber;
-use reserving::ChargeRow;
+use ledger::ChargeRow;
 use std::alloc::{AllocError, Global};
 use texts::Month;
 use units::Moment;

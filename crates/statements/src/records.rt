@@ -6,7 +6,7 @@ ghost use Rattle.csv.specs.Writing.{default_writer, row_text};
 ghost use Rattle.statements.specs.Records.{charge_record, header_record};
 
 use csv::{Error, WriterBuilder};
-use reserving::ChargeRow;
+use ledger::ChargeRow;
 use std::alloc::{AllocError, Global};
 use texts::StreamFault;
 

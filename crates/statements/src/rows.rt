@@ -8,7 +8,7 @@ use crate::lines::charge_line;
 use crate::records::charge_record;
 use calendar::Cycle;
 use keepers::ChargeVisitor;
-use reserving::ChargeRow;
+use ledger::ChargeRow;
 use std::alloc::Global;
 use std::io::Write;
 use tariffs::TariffBook;

@@ -2,7 +2,7 @@
 
 ghost use Rattle.std.specs.Prelude.{◌≡◌, OnOk, OnErr, IfOk};
 ghost use Rattle.std.specs.Io.KnownBytes.{Appends};
-ghost use Rattle.reserving.specs.ChargeColumns.{ChargeColumns};
+ghost use Rattle.ledger.specs.ChargeColumns.{ChargeColumns};
 ghost use Rattle.keepers.specs.Rows.{AreCharges};
 ghost use Rattle.statements.specs.Charges.{Asks, SumsSome, Writes, WritesCharges};
 ghost use Rattle.statements.specs.Records.{header_record};

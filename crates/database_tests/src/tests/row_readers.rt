@@ -3,10 +3,10 @@
 use crate::tests::values::{at, large, perhaps, session_id, small, words_of};
 use buckets::{Bucket, BucketKind, Columns, HeldAmount, Holds, Purse};
 use calendar::Period;
+use ledger::{ChargeRow, Terms};
 use rating::Periods;
 use reserving::{
-    ChargeRow, Counter, GivenRows, Reservation, Session, SessionGroup, SessionState, StoredAccount,
-    Terms,
+    Counter, GivenRows, Reservation, Session, SessionGroup, SessionState, StoredAccount,
 };
 use sql_rows::HeadColumns;
 use std::alloc::Global;

@@ -1,7 +1,8 @@
 //! Rows as words: a line each, its kind and then its columns.
 
 use buckets::{Bucket, Columns};
-use reserving::{Account, ChargeRow, Counter, Reservation, Session, SessionGroup, SessionState};
+use ledger::ChargeRow;
+use reserving::{Account, Counter, Reservation, Session, SessionGroup, SessionState};
 use std::process::Abort;
 use voucher_rules::Voucher;
 

@@ -15,14 +15,14 @@ use Rattle.buckets.specs.declared.kind.Due.{Due}
 use Rattle.reserving.specs.declared.session.SessionGroup.{SessionGroup}
 use Rattle.reserving.specs.declared.session.Counter.{Counter}
 use Rattle.reserving.specs.declared.settle.Settled.{Settled}
-use Rattle.reserving.specs.Ledger.{Ledger}
-use Rattle.reserving.specs.Pricing.{cycle_at, validity_of}
-use Rattle.reserving.specs.Balance.{buckets_at}
+use Rattle.ledger.specs.Ledger.{Ledger}
+use Rattle.ledger.specs.Pricing.{cycle_at, validity_of}
+use Rattle.ledger.specs.Balance.{buckets_at}
 use Rattle.reserving.specs.Keyed.{put}
 use Rattle.reserving.specs.Sessions.{is_of, is_live_in}
-use Rattle.reserving.specs.Settlement.{price_of, passes, due_of}
-use Rattle.reserving.specs.Debiting.{untagged, event_price, is_covered, debit_passes, charged_use}
-use Rattle.reserving.specs.Debiting.{debited, rest_price}
+use Rattle.ledger.specs.Settlement.{price_of, passes, due_of}
+use Rattle.ledger.specs.Debiting.{untagged, event_price, is_covered, debit_passes, charged_use}
+use Rattle.ledger.specs.Debiting.{debited, rest_price}
 use Rattle.reserving.specs.Changes.{lapse_group, lapsed_in, advanced, group_or_new, used_in}
 use Rattle.reserving.specs.Changes.{count_in, with_event, with_count, event_price_in}
 use Rattle.reserving.specs.Changes.{debited_account, rest_price_in}

@@ -11,7 +11,7 @@ use Rattle.reserving.specs.Prepared.{reservation_in}
 use Rattle.reserving.specs.Rows.{AccountRows}
 use Rattle.reserving.specs.Sessions.{group_before}
 use Rattle.reserving.proofs.Lists.{find-map, find-passes, find-put}
-use Rattle.reserving.proofs.Holds.{same_itself, number_itself}
+use Rattle.ledger.proofs.Holds.{same_itself, number_itself}
 
 pub ended_key : (s : List ℕ) (g : ℕ) (r : SessionGroup) →
     is_of s g (ended_group s g r) ≡ is_of s g r

@@ -6,9 +6,9 @@ use Rattle.std.specs.Ordering.{is_lt, nat_cmp}
 use Rattle.units.specs.declared.blocks.UsedPart.{UsedPart}
 use Rattle.buckets.specs.Spend.{funds}
 use Rattle.rating.specs.declared.grant.Grant.{Grant}
-use Rattle.reserving.specs.Pricing.{cycle_at, switch_at, validity_at}
-use Rattle.reserving.specs.Settlement.{reported, passes}
-use Rattle.reserving.specs.Reservation.{held_due}
+use Rattle.ledger.specs.Pricing.{cycle_at, switch_at, validity_at}
+use Rattle.ledger.specs.Settlement.{reported, passes}
+use Rattle.ledger.specs.Reservation.{held_due}
 use Rattle.reserving.specs.Changes.{advanced, used_in, count_in, price_in, passes_in}
 use Rattle.reserving.specs.Changes.{rest_price_in, is_covered_in, reserved_account}
 use Rattle.reserving.specs.Prepared.{with_group_row}

@@ -1,10 +1,9 @@
 -- A settlement's call, from any ledger whose rows the account is before it.
 use Rattle.std.specs.Prelude.{unwrap_or}
 use Rattle.shelves.specs.Shelves.{tariff_in}
-use Rattle.reserving.specs.declared.session.Terms.{Terms}
-use Rattle.reserving.specs.Ledger.{open_grant}
-use Rattle.reserving.specs.Pricing.{terms_now}
-use Rattle.reserving.specs.Pricing.{validity_of}
+use Rattle.ledger.specs.declared.terms.Terms.{Terms}
+use Rattle.ledger.specs.Ledger.{open_grant, Ledger, used, is_live}
+use Rattle.ledger.specs.Pricing.{terms_now, validity_of, cycle_at, rated_with}
 use Rattle.std.specs.Prelude.{if◌then◌else◌}
 use Rattle.std.proofs.Common.{◌-◌}
 use Rattle.buckets.specs.declared.kind.BucketKind.{BucketKind}
@@ -15,7 +14,8 @@ use Rattle.buckets.specs.Spend.{allowance}
 use Rattle.buckets.specs.Holding.{held_sum, held_in}
 use Rattle.buckets.proofs.Dues.{sum_in-cons}
 use Rattle.buckets.proofs.Parts.{sum_at, held_in-sum_at}
-use Rattle.reserving.specs.Settlement.{due_of}
+use Rattle.ledger.specs.Settlement.{due_of, settled_by, reported, price_of, report_price, passes}
+use Rattle.ledger.specs.Settlement.{passes_limit, passes_after}
 use Rattle.reserving.specs.Changes.{coverable_in}
 use Rattle.reserving.proofs.rows.TwoAdvances.{advanced_twice}
 use Rattle.reserving.proofs.rows.LaterFunds.{later_kind}
@@ -30,10 +30,8 @@ use Rattle.buckets.specs.Row.{BucketRow, with_release, with_end}
 use Rattle.buckets.specs.Holding.{uncollected}
 use Rattle.reserving.specs.declared.session.SessionGroup.{SessionGroup}
 use Rattle.reserving.specs.declared.settle.Settled.{Settled}
-use Rattle.reserving.specs.Ledger.{Ledger, used, is_live}
-use Rattle.reserving.specs.Pricing.{cycle_at}
-use Rattle.reserving.specs.Balance.{buckets_at}
-use Rattle.reserving.specs.Sessions.{group_in, counter_in, holds_in, is_live_in, holds_at}
+use Rattle.ledger.specs.Balance.{buckets_at, holds_at}
+use Rattle.reserving.specs.Sessions.{group_in, counter_in, holds_in, is_live_in}
 use Rattle.reserving.specs.Sessions.{is_counter, counter_before}
 use Rattle.tariffs.specs.Tariffs.{GroupTariff}
 use Rattle.rating.specs.declared.grant.Periods.{Periods}
@@ -42,9 +40,6 @@ use Rattle.rating.specs.Rated.{uncovered_amount, report_blocks, report_amount}
 use Rattle.rating.proofs.Sums.{rated_none}
 use Rattle.tariffs.specs.Tariffs.{tiers_at}
 use Rattle.tariffs.specs.declared.tiers.Tier.{Tier}
-use Rattle.reserving.specs.Pricing.{rated_with}
-use Rattle.reserving.specs.Settlement.{settled_by, reported, price_of, report_price, passes}
-use Rattle.reserving.specs.Settlement.{passes_limit, passes_after}
 use Rattle.reserving.specs.Changes.{lapsed_in, advanced, used_in, reserved_in, count_in, price_in}
 use Rattle.reserving.specs.Changes.{ended_rows, settled_account, settled_by_rows}
 use Rattle.reserving.specs.Prepared.{with_group, with_rows, counter_or_new}

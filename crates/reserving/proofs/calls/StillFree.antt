@@ -5,7 +5,7 @@ use Rattle.std.specs.Prelude.{if◌then◌else◌, ◌==◌, option_map, unwrap_
 use Rattle.buckets.specs.declared.kind.Due.{Due}
 use Rattle.reserving.specs.declared.session.SessionGroup.{SessionGroup}
 use Rattle.reserving.specs.Keyed.{put}
-use Rattle.reserving.specs.Ledger.{is_same}
+use Rattle.ledger.specs.Ledger.{is_same}
 use Rattle.reserving.specs.Sessions.{is_of, group_in}
 use Rattle.reserving.specs.declared.session.Reservation.{Reservation}
 use Rattle.reserving.specs.Rows.{AccountRows}

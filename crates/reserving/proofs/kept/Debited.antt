@@ -6,7 +6,7 @@ use Rattle.buckets.specs.Holding.{held_in, IsWithin, settled_row}
 use Rattle.buckets.specs.declared.kind.Due.{Due}
 use Rattle.reserving.specs.declared.session.SessionGroup.{SessionGroup}
 use Rattle.reserving.specs.declared.session.Counter.{Counter}
-use Rattle.reserving.specs.Pricing.{cycle_at}
+use Rattle.ledger.specs.Pricing.{cycle_at}
 use Rattle.reserving.specs.Sessions.{is_of, is_counter, held_by}
 use Rattle.reserving.specs.Changes.{group_or_new, used_in, reserved_in, count_in, with_event}
 use Rattle.reserving.specs.Changes.{debited_account}

@@ -11,7 +11,7 @@ use Rattle.tariffs.specs.Tariffs.{GroupTariff}
 use Rattle.tariffs.specs.GroupPrices.{prices_in}
 use Rattle.tariffs.specs.BookPrices.{prices_at}
 use Rattle.rating.specs.declared.grant.Periods.{Periods}
-use Rattle.reserving.specs.declared.session.Terms.{Terms}
+use Rattle.ledger.specs.declared.terms.Terms.{Terms}
 use Rattle.shelves.specs.Shelves.{book_at, book_numbered, tariff_in}
 use Rattle.shelves.proofs.Begun.{last_begun_holds}
 use Rattle.std.specs.Prelude.{option_and_then}
@@ -19,8 +19,8 @@ use Rattle.reserving.specs.declared.session.SessionState.{SessionState}
 use Rattle.reserving.specs.declared.session.SessionGroup.{SessionGroup}
 use Rattle.reserving.specs.declared.session.Reservation.{Reservation}
 use Rattle.reserving.specs.declared.session.Counter.{Counter}
-use Rattle.reserving.specs.Pricing.{tariff_of, tariff_at, cycle_at, periods_at, terms_at, prices_by}
-use Rattle.reserving.specs.Pricing.{validity_of}
+use Rattle.ledger.specs.Pricing.{tariff_of, tariff_at, cycle_at, periods_at, terms_at, prices_by}
+use Rattle.ledger.specs.Pricing.{validity_of}
 use Rattle.reserving.specs.Sessions.{session_in, is_of, group_in, is_counter, is_live_in}
 use Rattle.buckets.specs.Holding.{holds_of}
 use Rattle.buckets.specs.declared.kind.BucketKind.{BucketKind}
@@ -34,7 +34,8 @@ use Rattle.reserving.specs.Changes.{credited_account, used_in, count_in, terms_i
 use Rattle.reserving.specs.Changes.{with_use, with_event}
 use Rattle.reserving.specs.Prepared.{with_group_row, with_rows, reservation_in, with_group}
 use Rattle.reserving.specs.Prepared.{counter_or_new}
-use Rattle.reserving.specs.Rows.{AccountRows, EachIn, AreApart}
+use Rattle.ledger.specs.Lists.{EachIn}
+use Rattle.reserving.specs.Rows.{AccountRows, AreApart}
 use Rattle.reserving.specs.Placed.{AreOfBook, AreOfShelf, is_placed, prices_on, ArePlaced, IsPriced}
 use Rattle.reserving.specs.Stored.{StoredRows, IsStoredInOrder, priced}
 use Rattle.reserving.specs.Live.{is_live_group, live_part}

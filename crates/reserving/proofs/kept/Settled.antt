@@ -15,14 +15,15 @@ use Rattle.buckets.proofs.Settling.{left_within, settled_rows-along, IsSound-rel
 use Rattle.buckets.specs.declared.kind.Due.{Due}
 use Rattle.reserving.specs.declared.session.SessionGroup.{SessionGroup}
 use Rattle.reserving.specs.declared.session.Counter.{Counter}
-use Rattle.reserving.specs.Pricing.{cycle_at}
+use Rattle.ledger.specs.Pricing.{cycle_at}
 use Rattle.reserving.specs.Keyed.{put}
 use Rattle.reserving.specs.Sessions.{is_of, group_in, is_counter, counter_in, holds_in, held_by}
 use Rattle.reserving.specs.Changes.{new_group, group_or_new, used_in, reserved_in, count_in}
 use Rattle.reserving.specs.Changes.{with_use, ended_group, ended_rows, settled_account}
 use Rattle.reserving.specs.Prepared.{with_group, with_counter, counter_or_new, with_rows}
 use Rattle.reserving.specs.Prepared.{with_group_row}
-use Rattle.reserving.specs.Rows.{EachIn, AreApart, AccountRows, IsAccount}
+use Rattle.ledger.specs.Lists.{EachIn}
+use Rattle.reserving.specs.Rows.{AreApart, AccountRows, IsAccount}
 use Rattle.reserving.specs.Sessions.{group_before, counter_before}
 use Rattle.reserving.proofs.Lists.{EachIn-put, EachIn-map, AreApart-map, AreApart-put, find-passes}
 use Rattle.reserving.proofs.Lists.{none_passing, each_none}

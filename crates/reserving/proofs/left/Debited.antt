@@ -14,20 +14,22 @@ use Rattle.buckets.specs.Kinds.{due}
 use Rattle.buckets.specs.declared.kind.Due.{Due}
 use Rattle.reserving.specs.declared.session.SessionGroup.{SessionGroup}
 use Rattle.reserving.specs.declared.settle.Settled.{Settled}
-use Rattle.reserving.specs.Ledger.{Ledger}
-use Rattle.reserving.specs.Balance.{buckets_at}
+use Rattle.ledger.specs.Ledger.{Ledger}
+use Rattle.ledger.specs.Balance.{buckets_at}
 use Rattle.reserving.specs.Keyed.{put}
-use Rattle.reserving.specs.Pricing.{cycle_at, validity_of}
+use Rattle.ledger.specs.Pricing.{cycle_at, validity_of}
 use Rattle.reserving.specs.Sessions.{is_of, group_in, is_live_in}
-use Rattle.reserving.specs.Settlement.{passes}
-use Rattle.reserving.specs.Debiting.{is_covered}
+use Rattle.ledger.specs.Settlement.{passes}
+use Rattle.ledger.specs.Debiting.{is_covered}
 use Rattle.reserving.specs.Changes.{advanced, group_or_new, used_in, count_in, with_event}
 use Rattle.reserving.specs.Changes.{with_count}
 use Rattle.reserving.specs.Changes.{rest_price_in, debited_account}
 use Rattle.reserving.specs.Prepared.{with_rows}
-use Rattle.reserving.specs.Rows.{AccountRows, EachIn, IsAccount}
+use Rattle.ledger.specs.Lists.{EachIn}
+use Rattle.reserving.specs.Rows.{AccountRows, IsAccount}
 use Rattle.reserving.specs.Results.{IsDebitOf}
-use Rattle.reserving.specs.Left.{LeftRows, merged, joined, IsDead, IsLeft, AreOfOtherCycles}
+use Rattle.ledger.specs.Laws.{IsDead}
+use Rattle.reserving.specs.Left.{LeftRows, merged, joined, IsLeft, AreOfOtherCycles}
 use Rattle.reserving.specs.Left.{IsBeside, IsWith}
 use Rattle.reserving.specs.Sessions.{group_before}
 use Rattle.reserving.proofs.kept.Debited.{IsAccount-debited}

@@ -6,13 +6,14 @@ use Rattle.rating.specs.declared.grant.Grant.{Grant}
 use Rattle.buckets.specs.declared.kind.Due.{Due}
 use Rattle.reserving.specs.declared.session.SessionGroup.{SessionGroup}
 use Rattle.shelves.specs.Shelves.{Shelf}
-use Rattle.reserving.specs.Ledger.{Ledger, used}
-use Rattle.reserving.specs.Pricing.{switch_at, validity_at, validity_of}
-use Rattle.reserving.specs.Reservation.{grant_for, held_due}
+use Rattle.ledger.specs.Ledger.{Ledger, used}
+use Rattle.ledger.specs.Pricing.{switch_at, validity_at, validity_of}
+use Rattle.ledger.specs.Reservation.{grant_for, held_due}
 use Rattle.reserving.specs.Sessions.{is_of, is_live_in}
 use Rattle.reserving.specs.Changes.{advanced, reserved_account}
 use Rattle.reserving.specs.Prepared.{with_group_row, reservation_in}
-use Rattle.reserving.specs.Rows.{AccountRows, EachIn, IsAccount}
+use Rattle.ledger.specs.Lists.{EachIn}
+use Rattle.reserving.specs.Rows.{AccountRows, IsAccount}
 use Rattle.reserving.specs.Results.{IsGrantOf}
 use Rattle.reserving.specs.Left.{LeftRows, joined, IsLeft, IsBeside, IsWith}
 use Rattle.reserving.proofs.rows.Reserved.{IsAccount-reserved}

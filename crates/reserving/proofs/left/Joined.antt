@@ -3,9 +3,9 @@
 use Rattle.std.proofs.Common.{◌≡◌, ℕ, ◌≤◌, ◌<◌, ◌++◌, true, List, [], refl, arith}
 use Rattle.shelves.proofs.Begun.{validity_some}
 use Rattle.reserving.specs.declared.session.SessionState.TheVariants.{Open, NeverOpened}
-use Rattle.reserving.specs.Ledger.{Ledger}
-use Rattle.reserving.specs.Pricing.{validity_of}
-use Rattle.reserving.specs.Requests.{recorded, touched, closed, with_bar, credited}
+use Rattle.ledger.specs.Ledger.{Ledger}
+use Rattle.ledger.specs.Pricing.{validity_of}
+use Rattle.ledger.specs.Requests.{recorded, touched, closed, with_bar, credited}
 use Rattle.reserving.specs.Changes.{advanced, with_session, touched_account, closed_account}
 use Rattle.reserving.specs.Changes.{credited_account}
 use Rattle.reserving.specs.Rows.{AccountRows}

@@ -4,7 +4,7 @@ use Rattle.std.proofs.Common.{sym, subst, ◌∙◌, arith, Some}
 use Rattle.std.specs.List.Sorted.{IsPermutation}
 use Rattle.std.proofs.lemmas.List.Sorted.{IsPermutation-refl}
 use Rattle.std.specs.Prelude.{◌-◌}
-use Rattle.reserving.specs.declared.session.Terms.{Terms}
+use Rattle.ledger.specs.declared.terms.Terms.{Terms}
 use Rattle.buckets.specs.declared.holds.HeldAmount.{HeldAmount}
 use Rattle.buckets.specs.Row.{BucketRow, eligible_amount, with_hold}
 use Rattle.buckets.specs.Share.{share, parts}
@@ -14,13 +14,16 @@ use Rattle.buckets.proofs.SharesAlong.{KeepsPlace}
 use Rattle.buckets.specs.declared.kind.Due.{Due}
 use Rattle.reserving.specs.declared.session.SessionGroup.{SessionGroup}
 use Rattle.reserving.specs.Keyed.{put}
-use Rattle.reserving.specs.Pricing.{terms_at, validity_of}
+use Rattle.ledger.specs.Pricing.{terms_at, validity_of}
 use Rattle.reserving.specs.Sessions.{is_of, is_live_in}
 use Rattle.reserving.specs.Changes.{used_in, with_reservation, reserved_account}
-use Rattle.reserving.specs.Rows.{AccountRows, EachIn}
-use Rattle.reserving.specs.Left.{LeftRows, merged, joined, IsDead, IsLeft}
+use Rattle.ledger.specs.Lists.{EachIn}
+use Rattle.reserving.specs.Rows.{AccountRows}
+use Rattle.ledger.specs.Laws.{IsDead}
+use Rattle.reserving.specs.Left.{LeftRows, merged, joined, IsLeft}
 use Rattle.reserving.specs.Sessions.{group_before}
-use Rattle.reserving.proofs.LeftMerged.{map_merged, each_map, share_merged, dead_amount, min_none}
+use Rattle.ledger.proofs.DeadRows.{min_none}
+use Rattle.reserving.proofs.LeftMerged.{map_merged, each_map, share_merged, dead_amount}
 use Rattle.reserving.proofs.Reordered.{put_behind}
 use Rattle.reserving.proofs.order.SameRows.{IsReordered}
 use Rattle.reserving.proofs.LeftFrames.{not_of_live, row_same}

@@ -6,14 +6,15 @@ use Rattle.units.specs.declared.blocks.UsedPart.{UsedPart}
 use Rattle.rating.specs.declared.report.Rated.{Rated}
 use Rattle.buckets.specs.declared.kind.Due.{Due}
 use Rattle.reserving.specs.declared.session.SessionGroup.{SessionGroup}
-use Rattle.reserving.specs.Ledger.{Ledger, is_live}
-use Rattle.reserving.specs.Pricing.{cycle_at, validity_of}
+use Rattle.ledger.specs.Ledger.{Ledger, is_live}
+use Rattle.ledger.specs.Pricing.{cycle_at, validity_of}
 use Rattle.reserving.specs.Sessions.{is_of, is_live_in}
-use Rattle.reserving.specs.Settlement.{reported, passes, settled_by, due_of}
+use Rattle.ledger.specs.Settlement.{reported, passes, settled_by, due_of}
 use Rattle.reserving.specs.Changes.{advanced, used_in, count_in, price_in, ended_rows}
 use Rattle.reserving.specs.Changes.{settled_account, settled_by_rows}
 use Rattle.reserving.specs.Prepared.{with_rows}
-use Rattle.reserving.specs.Rows.{AccountRows, EachIn, IsRowsOf}
+use Rattle.ledger.specs.Lists.{EachIn}
+use Rattle.reserving.specs.Rows.{AccountRows, IsRowsOf}
 use Rattle.reserving.specs.Left.{LeftRows, joined, IsWith}
 use Rattle.reserving.proofs.Advancing.{is_live_in-is}
 use Rattle.reserving.proofs.kept.Settled.{IsAccount-settled}

@@ -7,11 +7,12 @@ use Rattle.rating.specs.declared.report.Rated.{Rated}
 use Rattle.buckets.specs.Kinds.{due}
 use Rattle.reserving.specs.declared.session.SessionGroup.{SessionGroup}
 use Rattle.reserving.specs.declared.settle.Settled.{Settled}
-use Rattle.reserving.specs.Ledger.{Ledger}
+use Rattle.ledger.specs.Ledger.{Ledger}
 use Rattle.reserving.specs.Sessions.{is_of, is_live_in, holds_in}
 use Rattle.reserving.specs.Changes.{advanced, reserved_in, price_in}
 use Rattle.reserving.specs.Prepared.{with_rows}
-use Rattle.reserving.specs.Rows.{AccountRows, EachIn}
+use Rattle.ledger.specs.Lists.{EachIn}
+use Rattle.reserving.specs.Rows.{AccountRows}
 use Rattle.reserving.specs.Results.{IsSettlementOf}
 use Rattle.reserving.specs.Left.{LeftRows, merged, joined, IsWith}
 use Rattle.reserving.proofs.calls.RowParts.{or_new_later}
@@ -20,7 +21,7 @@ use Rattle.reserving.proofs.calls.Debited.{buckets_later}
 use Rattle.reserving.proofs.LeftFrames.{live, not_of_live, holds_same, holds_none, advanced_joined}
 use Rattle.reserving.proofs.LeftMore.{with_advanced}
 use Rattle.reserving.proofs.LeftReadings.{price_joined, uncollected_merged}
-use Rattle.reserving.specs.Pricing.{validity_of}
+use Rattle.ledger.specs.Pricing.{validity_of}
 
 -- rows without facts hold nothing
 held_later : (a : AccountRows) (s : List ℕ) (g c t : ℕ) →

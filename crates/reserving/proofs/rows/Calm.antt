@@ -21,15 +21,16 @@ use Rattle.reserving.specs.Changes.{lapse, lapse_group, lapsed_in, advanced, new
 use Rattle.reserving.specs.Changes.{group_or_new, ended_group, ended_rows, settled_account}
 use Rattle.reserving.specs.Changes.{reserved_account, touched_session, touched_account}
 use Rattle.reserving.specs.Prepared.{with_group, with_rows, with_group_row}
-use Rattle.reserving.specs.Rows.{AccountRows, EachIn}
+use Rattle.ledger.specs.Lists.{EachIn}
+use Rattle.reserving.specs.Rows.{AccountRows}
 use Rattle.reserving.specs.Calm.{IsCalm}
 use Rattle.reserving.specs.Sessions.{group_before}
 use Rattle.reserving.proofs.Lists.{find-map, EachIn-map, EachIn-put, not_both}
 use Rattle.reserving.proofs.Lists.{EachIn-found, EachIn-weaker}
-use Rattle.reserving.proofs.ledger.Columns.{with_columns}
+use Rattle.ledger.proofs.Columns.{with_columns}
 use Rattle.reserving.proofs.rows.Lapsing.{released_none}
 use Rattle.reserving.proofs.rows.TwoAdvances.{lapse_twice, live_alike}
-use Rattle.reserving.specs.Pricing.{validity_of}
+use Rattle.ledger.specs.Pricing.{validity_of}
 
 -- ---- lists
 

@@ -10,19 +10,20 @@ use Rattle.reserving.specs.declared.session.Session.{Session}
 use Rattle.reserving.specs.declared.session.SessionGroup.{SessionGroup}
 use Rattle.reserving.specs.declared.session.SessionState.{SessionState}
 use Rattle.reserving.specs.declared.session.SessionState.TheVariants.{Open, Ended, NeverOpened}
-use Rattle.reserving.specs.Ledger.{is_same}
+use Rattle.ledger.specs.Ledger.{is_same}
 use Rattle.reserving.specs.Keyed.{put}
 use Rattle.reserving.specs.Sessions.{is_session, session_in, is_of, group_in, is_live_in}
 use Rattle.reserving.specs.Sessions.{is_live_row}
 use Rattle.reserving.specs.Changes.{lapse, new_group, group_or_new, debited_account, session_put}
 use Rattle.reserving.specs.Changes.{with_session}
-use Rattle.reserving.specs.Rows.{AccountRows, EachIn}
+use Rattle.ledger.specs.Lists.{EachIn}
+use Rattle.reserving.specs.Rows.{AccountRows}
 use Rattle.reserving.specs.Calm.{IsCalm}
 use Rattle.reserving.specs.Sessions.{group_before, session_before}
 use Rattle.reserving.proofs.Lists.{EachIn-put, find-put_other, EachIn-found, EachIn-weaker}
 use Rattle.reserving.proofs.KeysFound.{found_session}
 use Rattle.reserving.proofs.rows.Calm.{rows_map, settled_calm}
-use Rattle.reserving.specs.Pricing.{validity_of}
+use Rattle.ledger.specs.Pricing.{validity_of}
 
 -- ---- an event keeps the group's reservation
 

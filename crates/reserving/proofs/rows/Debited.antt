@@ -11,30 +11,32 @@ use Rattle.buckets.specs.Holding.{settled_rows}
 use Rattle.buckets.proofs.Parts.{sum_at, sum_at-parts, sum_at_none}
 use Rattle.buckets.specs.declared.kind.Due.{Due}
 use Rattle.reserving.specs.declared.session.SessionGroup.{SessionGroup}
-use Rattle.reserving.specs.declared.session.Terms.{Terms}
-use Rattle.reserving.specs.Ledger.{Ledger, charged, open_grant, held, only, used, counter}
-use Rattle.reserving.specs.Ledger.{has_group, has_counter, inner, is_live, is_same, grant_in}
-use Rattle.reserving.specs.Ledger.{counts_group, blocks_in, next_bucket}
-use Rattle.reserving.specs.Pricing.{cycle_at, validity_of}
+use Rattle.ledger.specs.declared.terms.Terms.{Terms}
+use Rattle.ledger.specs.Ledger.{Ledger, charged, open_grant, held, only, used, counter, has_group}
+use Rattle.ledger.specs.Ledger.{has_counter, inner, is_live, is_same, grant_in, counts_group}
+use Rattle.ledger.specs.Ledger.{blocks_in, next_bucket}
+use Rattle.ledger.specs.Pricing.{cycle_at, validity_of}
 use Rattle.reserving.specs.Keyed.{put}
-use Rattle.reserving.specs.Balance.{credits, balance_of, bucket_at, buckets_at}
-use Rattle.reserving.specs.Sessions.{is_of, group_in, group_at, holds_at, reservation_of}
+use Rattle.ledger.specs.Balance.{credits, balance_of, bucket_at, buckets_at, holds_at}
+use Rattle.reserving.specs.Sessions.{is_of, group_in, group_at, reservation_of}
 use Rattle.reserving.specs.Sessions.{reservation_at}
-use Rattle.reserving.specs.Settlement.{charge_facts}
-use Rattle.reserving.specs.Debiting.{charged_use}
+use Rattle.ledger.specs.Settlement.{charge_facts}
+use Rattle.ledger.specs.Debiting.{charged_use}
 use Rattle.reserving.specs.Changes.{new_group, group_or_new, used_in, with_event, debited_account}
-use Rattle.reserving.specs.SoundLedger.{IsUnknown, IsSoundLedger}
+use Rattle.ledger.specs.SoundLedger.{IsUnknown, IsSoundLedger}
 use Rattle.reserving.specs.Rows.{AccountRows, IsAccount, IsRowsOf}
 use Rattle.reserving.specs.Sessions.{group_before}
 use Rattle.reserving.proofs.Lists.{find-put, find-put_other}
 use Rattle.reserving.proofs.Keys.{is_key, own_key, key_session, key_group, other_row}
-use Rattle.reserving.proofs.SettledFacts.{is_barred-front, total-front, newest-front, any-front}
-use Rattle.reserving.proofs.SettledFacts.{any_dated-front, each_charge, held-charge_facts}
-use Rattle.reserving.proofs.SettledFacts.{credits-charge_facts, charged-charge_facts, IsMoved}
-use Rattle.reserving.proofs.SettledFacts.{SameSessions, SameGroup, same_live, same_session}
-use Rattle.reserving.proofs.SettledFacts.{same_touched, same_reservation, same_group}
-use Rattle.reserving.proofs.ledger.Columns.{balanced_le}
-use Rattle.reserving.proofs.ledger.SettledBuckets.{balance_by-settled, eligible_le}
+use Rattle.ledger.proofs.Fronts.{is_barred-front, total-front, newest-front, any-front}
+use Rattle.ledger.proofs.Fronts.{any_dated-front, each_charge, held-charge_facts}
+use Rattle.ledger.proofs.Fronts.{credits-charge_facts, charged-charge_facts, SameSessions}
+use Rattle.ledger.proofs.Fronts.{same_live, same_touched}
+use Rattle.reserving.proofs.SettledFacts.{IsMoved}
+use Rattle.reserving.proofs.SettledFacts.{SameGroup, same_session}
+use Rattle.reserving.proofs.SettledFacts.{same_reservation, same_group}
+use Rattle.ledger.proofs.Columns.{balanced_le}
+use Rattle.ledger.proofs.SettledBuckets.{balance_by-settled, eligible_le}
 use Rattle.reserving.proofs.kept.Settled.{settled_number}
 use Rattle.reserving.proofs.rows.Complete.{row_with}
 use Rattle.reserving.proofs.SettledRows.{own_row, own_named, own_used, other_named, other_used}

@@ -17,11 +17,11 @@ use Rattle.reserving.specs.declared.session.SessionState.TheVariants.{Open, Ende
 use Rattle.reserving.specs.declared.settle.Settled.{Settled}
 use Rattle.reserving.specs.declared.reserve.Granted.{Granted}
 use Rattle.reserving.specs.declared.reserve.Granted.TheVariants.{Nothing, Units}
-use Rattle.reserving.specs.Ledger.{is_same}
+use Rattle.ledger.specs.Ledger.{is_same}
 use Rattle.reserving.specs.Keyed.{put}
-use Rattle.reserving.specs.Pricing.{validity_of, terms_at}
-use Rattle.reserving.specs.Settlement.{reported, due_of}
-use Rattle.reserving.specs.Reservation.{held_due}
+use Rattle.ledger.specs.Pricing.{validity_of, terms_at}
+use Rattle.ledger.specs.Settlement.{reported, due_of}
+use Rattle.ledger.specs.Reservation.{held_due}
 use Rattle.reserving.specs.Sessions.{is_session, is_of, is_live_in, is_live_row}
 use Rattle.reserving.specs.Sessions.{is_open, session_before, group_before}
 use Rattle.reserving.specs.Changes.{is_other, lapse, lapse_group, advanced, with_session}
@@ -30,11 +30,12 @@ use Rattle.reserving.specs.Changes.{closed_account, ended_group, ended_rows, set
 use Rattle.reserving.specs.Changes.{settled_by_rows, debited_account, reserved_account}
 use Rattle.reserving.specs.Changes.{credited_account, used_in, group_or_new, price_in, granted_in}
 use Rattle.reserving.specs.Results.{GivesGrantIn}
-use Rattle.reserving.specs.Rows.{AccountRows, EachIn}
+use Rattle.ledger.specs.Lists.{EachIn}
+use Rattle.reserving.specs.Rows.{AccountRows}
 use Rattle.reserving.specs.Calm.{IsCalm}
 use Rattle.reserving.specs.Others.{other_sessions, other_groups, other_rows, AreStill}
 use Rattle.reserving.specs.Others.{OthersStay}
-use Rattle.reserving.proofs.Keys.{is_same-refl}
+use Rattle.ledger.proofs.Names.{is_same-refl}
 use Rattle.reserving.proofs.Lists.{not_both}
 use Rattle.reserving.proofs.LeftTests.{each_filter, each_passes}
 

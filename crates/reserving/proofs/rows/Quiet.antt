@@ -9,9 +9,10 @@ use Rattle.reserving.specs.declared.session.SessionGroup.{SessionGroup}
 use Rattle.reserving.specs.declared.session.SessionState.TheVariants.{Ended}
 use Rattle.reserving.specs.Sessions.{is_open, is_session, session_in, is_live_in, is_live_row}
 use Rattle.reserving.specs.Left.{is_open_row}
-use Rattle.reserving.specs.Rows.{AccountRows, EachIn}
+use Rattle.ledger.specs.Lists.{EachIn}
+use Rattle.reserving.specs.Rows.{AccountRows}
 use Rattle.reserving.specs.Changes.{lapse, advanced}
-use Rattle.reserving.specs.Pricing.{validity_of}
+use Rattle.ledger.specs.Pricing.{validity_of}
 use Rattle.reserving.specs.Calm.{IsCalm, is_session_quiet, are_sessions_quiet, is_group_quiet}
 use Rattle.reserving.specs.Calm.{are_groups_quiet, is_bucket_quiet, are_buckets_quiet}
 use Rattle.reserving.proofs.Lists.{not_both, EachIn-found}

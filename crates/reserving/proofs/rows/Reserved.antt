@@ -15,36 +15,37 @@ use Rattle.buckets.specs.declared.kind.Due.{Due}
 use Rattle.reserving.specs.declared.session.SessionGroup.{SessionGroup}
 use Rattle.reserving.specs.declared.session.Reservation.{Reservation}
 use Rattle.reserving.specs.declared.session.Counter.{Counter}
-use Rattle.reserving.specs.Ledger.{Ledger, or_else, charged, held, only, used, counter, has_group}
-use Rattle.reserving.specs.Ledger.{has_counter, open_grant, inner, is_live, is_within, is_same}
-use Rattle.reserving.specs.Ledger.{is_closed, units_in, names_group, grant_in, counts_group}
-use Rattle.reserving.specs.Ledger.{blocks_in, uses_in, credits_in, newest, last_touch}
-use Rattle.reserving.specs.Ledger.{last_recording, next_bucket}
-use Rattle.reserving.specs.Ledger.Fact.{Grant}
+use Rattle.ledger.specs.Ledger.{Ledger, or_else, charged, held, only, used, counter, has_group}
+use Rattle.ledger.specs.Ledger.{has_counter, open_grant, inner, is_live, is_within, is_same}
+use Rattle.ledger.specs.Ledger.{is_closed, units_in, names_group, grant_in, counts_group, blocks_in}
+use Rattle.ledger.specs.Ledger.{uses_in, credits_in, newest, last_touch, last_recording}
+use Rattle.ledger.specs.Ledger.{next_bucket}
+use Rattle.ledger.specs.Ledger.Fact.{Grant}
 use Rattle.shelves.specs.Shelves.{Shelf}
-use Rattle.reserving.specs.declared.session.Terms.{Terms}
-use Rattle.reserving.specs.Pricing.{terms_at, cycle_at, validity_of}
+use Rattle.ledger.specs.declared.terms.Terms.{Terms}
+use Rattle.ledger.specs.Pricing.{terms_at, cycle_at, validity_of}
 use Rattle.reserving.specs.Keyed.{put}
-use Rattle.reserving.specs.Balance.{credits, balance_of, bucket_at, buckets_at}
-use Rattle.reserving.specs.Sessions.{is_of, group_in, group_at, counter_at, holds_at, holds_in}
+use Rattle.ledger.specs.Balance.{credits, balance_of, bucket_at, buckets_at, holds_at}
+use Rattle.reserving.specs.Sessions.{is_of, group_in, group_at, counter_at, holds_in}
 use Rattle.reserving.specs.Sessions.{held_by, reservation_of, reservation_at}
-use Rattle.reserving.specs.Reservation.{grant_at, hold_facts, reserved}
+use Rattle.ledger.specs.Reservation.{grant_at, hold_facts, reserved}
 use Rattle.reserving.specs.Changes.{used_in, reserved_in, with_reservation, reserved_account}
 use Rattle.reserving.specs.Prepared.{reservation_in}
-use Rattle.reserving.specs.SoundLedger.{IsUnknown, IsSoundLedger}
+use Rattle.ledger.specs.SoundLedger.{IsUnknown, IsSoundLedger}
 use Rattle.reserving.specs.Rows.{AccountRows, IsAccount, IsRowsOf}
 use Rattle.reserving.specs.Sessions.{group_before}
 use Rattle.reserving.proofs.InOrder.{order_map, order_held}
 use Rattle.reserving.proofs.Lists.{find-put, find-put_other, EachIn-put, no_some}
 use Rattle.reserving.proofs.Keys.{is_key, own_key, key_session, key_group, other_row, not_true}
 use Rattle.reserving.proofs.Keys.{first_true}
-use Rattle.reserving.proofs.Holds.{same_from}
-use Rattle.reserving.proofs.SettledFacts.{is_barred-front, total-front, newest-front, any-front}
-use Rattle.reserving.proofs.SettledFacts.{any_dated-front, each_hold, held-hold_facts}
-use Rattle.reserving.proofs.SettledFacts.{held-hold_facts_other, credits-hold_facts}
-use Rattle.reserving.proofs.SettledFacts.{charged-hold_facts, IsMoved, SameSessions, SameGroup}
-use Rattle.reserving.proofs.SettledFacts.{same_session, same_live, same_touched, same_group}
-use Rattle.reserving.proofs.ledger.Columns.{balance_by, with_columns}
+use Rattle.ledger.proofs.Holds.{same_from}
+use Rattle.ledger.proofs.Fronts.{is_barred-front, total-front, newest-front, any-front}
+use Rattle.ledger.proofs.Fronts.{any_dated-front, each_hold, held-hold_facts, held-hold_facts_other}
+use Rattle.ledger.proofs.Fronts.{credits-hold_facts, charged-hold_facts, SameSessions, same_live}
+use Rattle.ledger.proofs.Fronts.{same_touched}
+use Rattle.reserving.proofs.SettledFacts.{IsMoved, SameGroup}
+use Rattle.reserving.proofs.SettledFacts.{same_session, same_group}
+use Rattle.ledger.proofs.Columns.{balance_by, with_columns}
 use Rattle.reserving.proofs.rows.Complete.{held_free}
 use Rattle.reserving.proofs.SettledRows.{own_row, used_in_is, if_none, differs_above}
 use Rattle.reserving.proofs.SettledRows.{made_in}

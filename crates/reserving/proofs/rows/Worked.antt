@@ -21,13 +21,12 @@ use Rattle.rating.specs.Rated.{rated_amount, report_blocks, report_amount}
 use Rattle.buckets.specs.Row.{BucketRow}
 use Rattle.buckets.specs.declared.kind.BucketKind.{BucketKind}
 use Rattle.buckets.specs.declared.kind.BucketKind.TheVariants.{Money, Blocks}
-use Rattle.reserving.specs.Ledger.{Fact, Ledger, used, is_live}
-use Rattle.reserving.specs.Ledger.Fact.{Credit, Touch}
-use Rattle.reserving.specs.Pricing.{switch_at, validity_at, validity_of}
-use Rattle.reserving.specs.Balance.{buckets_at}
-use Rattle.reserving.specs.Settlement.{settled_by, missing}
-use Rattle.reserving.specs.Reservation.{reserved, grant_for, held_due}
-use Rattle.reserving.specs.Settlement.{report_price}
+use Rattle.ledger.specs.Ledger.{Fact, Ledger, used, is_live}
+use Rattle.ledger.specs.Ledger.Fact.{Credit, Touch}
+use Rattle.ledger.specs.Pricing.{switch_at, validity_at, validity_of}
+use Rattle.ledger.specs.Balance.{buckets_at}
+use Rattle.ledger.specs.Settlement.{settled_by, missing, report_price}
+use Rattle.ledger.specs.Reservation.{reserved, grant_for, held_due}
 
 abbrev week : List Bool
 week = true ∷ true ∷ true ∷ true ∷ true ∷ false ∷ false ∷ []

@@ -10,7 +10,8 @@ use crate::tests::row_writers::{
 use crate::tests::values::session_id;
 use buckets::{Bucket, Columns};
 use identifiers::AccountNumber;
-use reserving::{ChargeRow, Counter, Session};
+use ledger::ChargeRow;
+use reserving::{Counter, Session};
 use sql_rows::{
     put_bucket, put_buckets, put_charge, put_charges, put_counter, put_counters, put_session,
     put_sessions, read_buckets_all, read_buckets_dead, read_buckets_live, read_charges_within,

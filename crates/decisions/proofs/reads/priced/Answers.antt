@@ -3,7 +3,7 @@ use Rattle.std.proofs.Math.Facts.{Fits-of_lt}
 use Rattle.units.specs.Blocks.{started}
 use Rattle.tariffs.specs.Tariffs.{IsTariff}
 use Rattle.shelves.specs.Shelves.{IsShelf, book_at}
-use Rattle.reserving.specs.Pricing.{tariff_of}
+use Rattle.ledger.specs.Pricing.{tariff_of}
 use Rattle.reserving.specs.Changes.{event_price_in}
 use Rattle.decisions.specs.Events.{event_fault, event_units}
 use Rattle.decisions.proofs.Reading.{AreRight, units_right}

@@ -1,5 +1,5 @@
 use Rattle.std.proofs.Common.{◌≡◌, true, subst, rules}
-use Rattle.reserving.specs.Rows.{EachIn}
+use Rattle.ledger.specs.Lists.{EachIn}
 use Rattle.reserving.proofs.Lists.{EachIn-weaker}
 use Rattle.keepers.specs.Named.{is_numbered, is_named, AreLeftCounters}
 use Rattle.keepers.proofs.known.note.Goals as goal

@@ -1,6 +1,6 @@
 use Rattle.std.proofs.Common.{◌≡◌, ℕ, take, true}
 use Rattle.reserving.specs.declared.session.Counter.{Counter}
-use Rattle.reserving.specs.Rows.{EachIn}
+use Rattle.ledger.specs.Lists.{EachIn}
 use Rattle.keepers.specs.Named.{is_numbered}
 use Rattle.keepers.proofs.known.note_counters.Given as goal
 

@@ -1,6 +1,6 @@
 use Rattle.std.proofs.Common.{◌≡◌, ℕ, List, take, true}
 use Rattle.reserving.specs.declared.session.Session.{Session}
-use Rattle.reserving.specs.Rows.{EachIn}
+use Rattle.ledger.specs.Lists.{EachIn}
 use Rattle.keepers.specs.Named.{is_named}
 use Rattle.keepers.proofs.known.note_sessions.Given as goal
 

@@ -2,8 +2,8 @@ use Rattle.std.proofs.Common.{sym, ◌∙◌}
 use Rattle.std.specs.Prelude.{if◌then◌else◌}
 use Rattle.buckets.specs.declared.kind.BucketKind.TheVariants.{Blocks}
 use Rattle.buckets.specs.Kinds.{is_alike}
-use Rattle.reserving.specs.Balance.{buckets_at}
-use Rattle.reserving.specs.Pricing.{validity_of}
+use Rattle.ledger.specs.Balance.{buckets_at}
+use Rattle.ledger.specs.Pricing.{validity_of}
 use Rattle.charging.specs.Served.{history}
 use Rattle.operations.proofs.NumberedSums.{sum_by-by_number}
 use Rattle.operations.proofs.laws.statement_covers.Goals as goal

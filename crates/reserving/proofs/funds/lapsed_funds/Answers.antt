@@ -1,7 +1,7 @@
 use Rattle.std.proofs.Common.{◌<◌, ◌^◌, length, sym, ◌∙◌, arith}
 use Rattle.reserving.specs.Sessions.{is_live_in}
 use Rattle.reserving.proofs.rows.LapsedFunds.{lapsed_funds-most, lapsed_funds-none}
-use Rattle.reserving.specs.Pricing.{validity_of}
+use Rattle.ledger.specs.Pricing.{validity_of}
 use Rattle.reserving.proofs.funds.lapsed_funds.Goals as goal
 
 pub loop-row-init : goal.loop-row-init

@@ -1,7 +1,7 @@
 use Rattle.std.proofs.Common.{◌≡◌, ◌+◌, ◌<◌, ◌^◌, drop}
 use Rattle.reserving.specs.Sessions.{is_live_in}
 use Rattle.reserving.specs.Lapsed.{lapsed_funds}
-use Rattle.reserving.specs.Pricing.{validity_of}
+use Rattle.ledger.specs.Pricing.{validity_of}
 use Rattle.reserving.proofs.funds.lapsed_funds.Given as goal
 
 abbrev pub invariant-loop-row : goal.invariant-loop-row

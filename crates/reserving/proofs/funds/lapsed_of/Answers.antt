@@ -1,4 +1,4 @@
-use Rattle.reserving.specs.Pricing.{validity_of}
+use Rattle.ledger.specs.Pricing.{validity_of}
 use Rattle.reserving.specs.Sessions.{is_live_in}
 use Rattle.reserving.proofs.rows.LapsedFunds.{lapsed_for-none}
 use Rattle.reserving.proofs.funds.lapsed_of.Goals as goal

@@ -1,6 +1,6 @@
 use Rattle.std.proofs.Common.{◌≡◌, drop}
 use Rattle.std.specs.List.{list_all}
-use Rattle.reserving.specs.Pricing.{validity_of}
+use Rattle.ledger.specs.Pricing.{validity_of}
 use Rattle.reserving.specs.Calm.{is_session_quiet}
 use Rattle.reserving.proofs.quiet.are_sessions_quiet.Given as goal
 

@@ -2,7 +2,7 @@ use Rattle.std.proofs.Common.{sym, ap, subst, ◌∙◌}
 use Rattle.std.specs.Prelude.{position}
 use Rattle.reserving.specs.Keyed.{IsGap}
 use Rattle.reserving.specs.Sessions.{is_session, session_before}
-use Rattle.reserving.proofs.Keys.{is_same-refl}
+use Rattle.ledger.proofs.Names.{is_same-refl}
 use Rattle.reserving.proofs.KeysFound.{placed}
 use Rattle.reserving.proofs.writing.write_session.Goals as goal
 

@@ -6,9 +6,10 @@ use crate::tests::tables::{Teller, try_table, try_told};
 use crate::tests::values::{TEN, moment, money, session_id};
 use buckets::{Bucket, HeldAmount, Holds, Purse};
 use calendar::Period;
+use ledger::Terms;
 use rating::Periods;
 use reserving::{
-    Counter, GivenRows, Reservation, Session, SessionGroup, SessionState, StoredAccount, Terms,
+    Counter, GivenRows, Reservation, Session, SessionGroup, SessionState, StoredAccount,
 };
 use std::alloc::{AllocError, Global};
 use std::process::Abort;

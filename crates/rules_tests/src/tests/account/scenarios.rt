@@ -9,7 +9,7 @@
 //! blocks of an allowance.
 
 ghost use Rattle.std.specs.Prelude.{◌≡◌, ◌≤◌, true, None};
-ghost use Rattle.reserving.specs.Pricing.{validity_of};
+ghost use Rattle.ledger.specs.Pricing.{validity_of};
 ghost use Rattle.reserving.specs.Sessions.{session_in, is_live_in};
 ghost use Rattle.reserving.specs.Prepared.{reservation_in};
 

@@ -1,5 +1,5 @@
 use Rattle.std.proofs.Common.{ap}
-use Rattle.reserving.specs.declared.charge.ChargeRow.{ChargeRow}
+use Rattle.ledger.specs.declared.charge.ChargeRow.{ChargeRow}
 use Rattle.sql_keeper.proofs.Puts.{puts_none, puts_some}
 use Rattle.sql_keeper.proofs.paid_charges.put_blocks.Goals as goal
 

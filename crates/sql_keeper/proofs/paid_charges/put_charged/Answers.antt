@@ -1,6 +1,6 @@
 use Rattle.std.proofs.Common.{ap, ◌∙◌}
 use Rattle.std.proofs.lemmas.Result.{err_from_is_err_and}
-use Rattle.reserving.specs.declared.charge.ChargeRow.{ChargeRow}
+use Rattle.ledger.specs.declared.charge.ChargeRow.{ChargeRow}
 use Rattle.sql_keeper.specs.Writes.{some_blocks}
 use Rattle.sql_keeper.proofs.NewCharges.{charged_again, charged_new}
 use Rattle.sql_keeper.proofs.Puts.{makes_failed}

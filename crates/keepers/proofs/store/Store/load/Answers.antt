@@ -1,6 +1,7 @@
 use Rattle.std.proofs.Common.{◌≡◌, ◌≤◌, ◌++◌, ◌∙◌, [], sym, ap, subst}
 use Rattle.std.specs.Prelude.{if◌then◌else◌}
-use Rattle.reserving.specs.Rows.{EachIn, AreApart}
+use Rattle.ledger.specs.Lists.{EachIn}
+use Rattle.reserving.specs.Rows.{AreApart}
 use Rattle.reserving.specs.Live.{live_part}
 use Rattle.keepers.specs.Change.{IsLoadedFrom}
 use Rattle.keepers.specs.Parts.{Parts, rows_of_parts}

@@ -2,7 +2,7 @@ use Rattle.std.proofs.Common.{Some, refl}
 use Rattle.buckets.specs.declared.kind.BucketKind.TheVariants.{Blocks}
 use Rattle.std.proofs.Common.{sym, ap, ◌∙◌, subst}
 use Rattle.reserving.specs.Rows.{IsRowsOf}
-use Rattle.reserving.specs.Requests.{credited}
+use Rattle.ledger.specs.Requests.{credited}
 use Rattle.reserving.specs.Changes.{advanced}
 use Rattle.reserving.proofs.Crediting.{IsRowsOf-credited}
 use Rattle.reserving.specs.Left.{IsWith}

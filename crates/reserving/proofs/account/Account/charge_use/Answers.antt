@@ -3,7 +3,7 @@ use Rattle.buckets.specs.Holding.{uncollected}
 use Rattle.buckets.specs.Kinds.{due}
 use Rattle.std.proofs.Common.{◌≤◌, ◌+◌, sym, ap, subst, ◌∙◌}
 use Rattle.buckets.specs.Holding.{IsWithin}
-use Rattle.reserving.specs.Pricing.{cycle_at}
+use Rattle.ledger.specs.Pricing.{cycle_at}
 use Rattle.reserving.specs.Rows.{AccountRows}
 use Rattle.reserving.specs.Changes.{count_in, debited_account}
 use Rattle.reserving.proofs.kept.Debited.{within_none}

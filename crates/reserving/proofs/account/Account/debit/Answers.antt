@@ -5,8 +5,8 @@ use Rattle.units.specs.declared.money.Amount.{Amount}
 use Rattle.units.specs.declared.blocks.Blocks.{Blocks}
 use Rattle.rating.specs.declared.report.Rated.{Rated}
 use Rattle.buckets.specs.Kinds.{due}
-use Rattle.reserving.specs.Pricing.{cycle_at}
-use Rattle.reserving.specs.Settlement.{passes}
+use Rattle.ledger.specs.Pricing.{cycle_at}
+use Rattle.ledger.specs.Settlement.{passes}
 use Rattle.reserving.specs.Sessions.{session_in}
 use Rattle.reserving.specs.Changes.{advanced, used_in, count_in, rest_price_in, debited_account}
 use Rattle.reserving.specs.Prepared.{with_rows}

@@ -1,7 +1,7 @@
 use Rattle.std.proofs.Common.{◌≡◌, true, None, sym, ap, subst, ◌∙◌}
 use Rattle.std.specs.Prelude.{is_some}
-use Rattle.reserving.specs.Pricing.{tariff_at, terms_at, validity_of}
-use Rattle.reserving.specs.declared.session.Terms.{Terms}
+use Rattle.ledger.specs.Pricing.{tariff_at, terms_at, validity_of}
+use Rattle.ledger.specs.declared.terms.Terms.{Terms}
 use Rattle.shelves.specs.Shelves.{book_at}
 use Rattle.reserving.specs.Rows.{AccountRows}
 use Rattle.reserving.specs.Changes.{reserved_account}
@@ -13,7 +13,7 @@ use Rattle.reserving.proofs.kept.Placed.{IsPriced-reserved}
 use Rattle.reserving.specs.Calm.{IsCalm}
 use Rattle.reserving.specs.Sessions.{is_live_in}
 use Rattle.reserving.proofs.rows.Calm.{calm_reserved}
-use Rattle.reserving.specs.Reservation.{held_due}
+use Rattle.ledger.specs.Reservation.{held_due}
 use Rattle.reserving.proofs.account.Account.hold_quota.Goals as goal
 
 pub invariant_of-self : goal.invariant_of-self

@@ -11,7 +11,7 @@ use Rattle.rating.specs.declared.grant.Grant.{Grant}
 use Rattle.rating.specs.Granted.{IsGreatest, grant_of}
 use Rattle.buckets.specs.Spend.{funds}
 use Rattle.shelves.specs.Shelves.{book_at}
-use Rattle.reserving.specs.Pricing.{cycle_at, wanted_units}
+use Rattle.ledger.specs.Pricing.{cycle_at, wanted_units}
 use Rattle.reserving.specs.Changes.{advanced, count_in}
 use Rattle.reserving.specs.Rows.{AccountRows}
 use Rattle.reserving.proofs.ReservedCall.{no_tariff, quota_none, quota_by}

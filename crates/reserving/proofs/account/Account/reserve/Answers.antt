@@ -4,8 +4,8 @@ use Rattle.units.specs.declared.blocks.Units.{Units}
 use Rattle.tariffs.specs.Books.{Book}
 use Rattle.rating.specs.declared.grant.Grant.{Grant}
 use Rattle.shelves.specs.Shelves.{book_at}
-use Rattle.reserving.specs.Pricing.{periods_at, switch_at, validity_at, periods_by, switch_by}
-use Rattle.reserving.specs.Pricing.{validity_by}
+use Rattle.ledger.specs.Pricing.{periods_at, switch_at, validity_at, periods_by, switch_by}
+use Rattle.ledger.specs.Pricing.{validity_by}
 use Rattle.reserving.specs.Changes.{advanced, used_in, reserved_account}
 use Rattle.reserving.specs.Prepared.{with_group_row}
 use Rattle.reserving.specs.Rows.{AccountRows}
@@ -18,7 +18,7 @@ use Rattle.reserving.proofs.calls.Limits.{grant_in_is}
 use Rattle.reserving.specs.Left.{IsWith}
 use Rattle.reserving.proofs.left.Granted.{nothing_beside, grant_beside}
 use Rattle.reserving.proofs.rows.Calm.{live_middle}
-use Rattle.reserving.specs.Reservation.{held_due}
+use Rattle.ledger.specs.Reservation.{held_due}
 use Rattle.reserving.proofs.account.Account.reserve.Goals as goal
 
 -- where nothing is granted, the quota was reckoned with the window's periods

@@ -2,10 +2,10 @@ use Rattle.std.proofs.Common.{false, ◌≡◌, [], refl, sym, ap, ◌∙◌, ar
 use Rattle.buckets.specs.Kinds.{due}
 use Rattle.reserving.specs.Changes.{advanced, used_in, count_in, price_in, settled_account}
 use Rattle.reserving.specs.Changes.{ended_rows}
-use Rattle.reserving.specs.Pricing.{cycle_at}
+use Rattle.ledger.specs.Pricing.{cycle_at}
 use Rattle.reserving.specs.Rows.{AccountRows}
 use Rattle.reserving.specs.Prepared.{with_rows}
-use Rattle.reserving.specs.Settlement.{passes, reported, due_of, passes_limit}
+use Rattle.ledger.specs.Settlement.{passes, reported, due_of, passes_limit}
 use Rattle.reserving.proofs.Lists.{is_nothing, is_something, no_fault}
 use Rattle.reserving.proofs.calls.Settled.{rows_ended, nothing_settled, within_used, within_counted}
 use Rattle.reserving.proofs.calls.Settled.{passes_is, there_later, counter_there, used_middle}

@@ -11,7 +11,7 @@ use Rattle.buckets.specs.Share.{sum_in}
 use Rattle.reserving.specs.Sessions.{is_live_in}
 use Rattle.reserving.specs.Changes.{advanced, lapsed_in}
 use Rattle.reserving.proofs.rows.LapsedFunds.{lapsed_funds-is}
-use Rattle.reserving.specs.Pricing.{validity_of}
+use Rattle.ledger.specs.Pricing.{validity_of}
 use Rattle.reserving.proofs.account.Account.sum_later.Goals as goal
 
 pub returns-clause-rows : goal.returns-clause-rows

@@ -5,7 +5,7 @@ use Rattle.tariffs.specs.Books.{Book}
 use Rattle.rating.specs.declared.grant.Grant.{Grant}
 use Rattle.buckets.specs.Spend.{funds, allowance}
 use Rattle.shelves.specs.Shelves.{book_at}
-use Rattle.reserving.specs.Pricing.{periods_at, cycle_at, periods_by}
+use Rattle.ledger.specs.Pricing.{periods_at, cycle_at, periods_by}
 use Rattle.reserving.specs.Quotas.{IsQuota}
 use Rattle.reserving.specs.Changes.{advanced, count_in}
 use Rattle.reserving.specs.Rows.{AccountRows}

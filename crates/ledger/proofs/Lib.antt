@@ -1,0 +1,11 @@
+pub mod Names
+pub mod Holds
+pub mod Later
+pub mod Columns
+pub mod Positions
+pub mod Fronts
+pub mod SettledBuckets
+pub mod DeadRows
+pub mod DeadBuckets
+pub mod Unended
+pub mod Numbered

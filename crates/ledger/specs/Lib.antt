@@ -1,0 +1,14 @@
+pub mod Words
+pub mod Ledger
+pub mod Pricing
+pub mod Windows
+pub mod Balance
+pub mod Settlement
+pub mod Reservation
+pub mod Debiting
+pub mod Requests
+pub mod ChargeColumns
+pub mod Charges
+pub mod SoundLedger
+pub mod Lists
+pub mod Laws

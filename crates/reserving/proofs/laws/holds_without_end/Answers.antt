@@ -1,8 +1,0 @@
-use Rattle.reserving.proofs.ledger.Unended.{held_is_unended, reserved_is_unended}
-use Rattle.reserving.proofs.laws.holds_without_end.Goals as goal
-
-pub returns-clause-held : goal.returns-clause-held
-returns-clause-held c = held_is_unended
-
-pub returns-clause-reserved : goal.returns-clause-reserved
-returns-clause-reserved c = reserved_is_unended
