@@ -1,7 +1,8 @@
 -- What the definitions of periods, weekdays and day ends say in other words.
 -- Source: profile; the Gregorian calendar.
 use Rattle.std.specs.Prelude.{◌≡◌, ◌≢◌, ℕ, ◌+◌, ◌-◌, ◌<◌, ◌≤◌, ◌⊎◌, pos, ◌+ℤ◌, Contains, Some}
-use Rattle.units.specs.Words.{Moment, DayCount}
+use Rattle.std.specs.Prelude.{Option, IfSome, IfNone}
+use Rattle.units.specs.Words.{Moment, Seconds, DayCount}
 use Rattle.jiff.specs.Types.{Date}
 use Rattle.jiff.specs.Words.{epoch_day, weekday_of}
 use Rattle.calendar.specs.declared.week.Entry.{Entry}
@@ -9,14 +10,26 @@ use Rattle.calendar.specs.declared.zone.ZoneChange.{ZoneChange}
 use Rattle.calendar.specs.declared.summer.SummerTime.{SummerTime}
 use Rattle.calendar.specs.Clock.{ZoneRule, IsZone, since_1968, lead, clock, day, weekday}
 use Rattle.calendar.specs.Summer.{IsSummerTime, zone_of_rule}
-use Rattle.calendar.specs.Timetable.{Timetable, IsTimetable, IsEntryAt, period_at, midnight}
-use Rattle.calendar.specs.Timetable.{day_end}
+use Rattle.calendar.specs.Timetable.{Timetable, IsTimetable, IsEntryAt, period_at, IsChange}
+use Rattle.calendar.specs.Timetable.{switch_within, midnight, day_end}
 
 -- the period at a moment is that of any entry that holds its civil minute, wherever in the list it
 -- stands
 abbrev pub IsPeriodOfEntry : Type 0
 IsPeriodOfEntry = (c : Timetable) (t : Moment) (e : Entry) → IsTimetable c → IsEntryAt c t e →
     period_at c t ≡ e.period
+
+-- the first change of period after t and less than d seconds later; None where there is none
+pub record IsFirstChange (c : Timetable) (t : Moment) (d : Seconds) (first : Option Moment)
+    : Type 0 where
+  pub found : IfSome first (IsChange c t (t + d))
+  pub least : IfSome first (λ s. (r : ℕ) → IsChange c t (t + d) r → s ≤ r)
+  pub none : IfNone first ((r : ℕ) → IsChange c t (t + d) r → ⊥)
+
+-- the tariff switch is the first change of period
+abbrev pub IsSwitchFirst : Type 0
+IsSwitchFirst = (c : Timetable) (t : Moment) (d : Seconds) →
+    IsFirstChange c t d (switch_within c t d)
 
 -- the weekday at a moment is that of the date that the clock shows, by the Gregorian calendar
 abbrev pub IsWeekdayOfDate : Type 0

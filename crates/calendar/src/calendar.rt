@@ -1,10 +1,10 @@
 //! The calendar of a tariff book: its week in its zone.
 
-ghost use Rattle.std.specs.Prelude.{◌≡◌, ◌↔◌, ◌≤◌, ◌<◌, ◌^◌, ◌+◌, ◌*◌, ◌-◌, ℕ, Some, IsSome};
-ghost use Rattle.std.specs.Prelude.{IfSome, IfNone};
+ghost use Rattle.std.specs.Prelude.{◌≡◌, ◌↔◌, ◌≤◌, ◌<◌, ◌^◌, ◌+◌, ◌*◌, ◌-◌, Some, IsSome};
+ghost use Rattle.std.specs.Prelude.{IfSome};
 ghost use Rattle.calendar.specs.Week.{IsWeek};
 ghost use Rattle.calendar.specs.Timetable.{timetable_of, IsTimetable, period_at, IsEntryAt};
-ghost use Rattle.calendar.specs.Timetable.{IsChange, IsSwitch, IsWindow, switch_within};
+ghost use Rattle.calendar.specs.Timetable.{IsChange, IsWindow, switch_within};
 ghost use Rattle.calendar.specs.Timetable.{cut_after, validity_from, IsCycleOf, cycle_of, day_end};
 
 use crate::cycle::Cycle;
@@ -77,7 +77,7 @@ impl Calendar {
     pub fn next_switch(&self, moment: Moment, seconds: u32) -> Option<Moment>
         requires seconds { seconds ≤ 43_200 }
         requires in_range { moment + seconds ≤ 4_102_488_000 }
-        ensures { IsSwitch self.now moment seconds result }
+        ensures { result ≡ switch_within self.now moment seconds }
     {
         self.next_switch_steps(moment, seconds, &mut Steps::new())
     }
@@ -93,7 +93,7 @@ impl Calendar {
         requires seconds { seconds ≤ 43_200 }
         requires in_range { moment + seconds ≤ 4_102_488_000 }
         requires steps { steps.old ≤ 1_000_000_000 }
-        ensures switch { IsSwitch self.now moment seconds result }
+        ensures value { result ≡ switch_within self.now moment seconds }
         ensures steps { steps.new ≤ steps.old + 260 }
     {
         match self.change_after(moment.seconds(), seconds, steps) {
@@ -109,9 +109,6 @@ impl Calendar {
         requires steps { steps.old ≤ 1_000_000_000 }
         ensures value { result ≡ switch_within self.now start seconds }
         ensures found { IfSome result (IsChange self.now start (start + seconds)) }
-        ensures least { IfSome result (λ s. (r : ℕ) → IsChange self.now start (start + seconds) r →
-            s ≤ r) }
-        ensures none { IfNone result ((r : ℕ) → IsChange self.now start (start + seconds) r → ⊥) }
         ensures steps { seconds ≤ 43_200 → steps.new ≤ steps.old + 258 }
     {
         let end = start + u64::from(seconds);

@@ -4,7 +4,7 @@ ghost use Rattle.std.specs.Prelude.{◌≡◌, ◌==◌, ◌+◌, ◌<◌, ◌�
 ghost use Rattle.std.specs.Prelude.{length, find, slice_get, option_copied, IfSome};
 ghost use Rattle.std.specs.Prelude.{IfNone, Ok, Err, All};
 ghost use Rattle.toml.specs.View.{table_view};
-ghost use Rattle.calendar.specs.Timetable.{period_at, IsEntryAt, IsSwitch, IsWindow};
+ghost use Rattle.calendar.specs.Timetable.{period_at, IsEntryAt, switch_within, IsWindow};
 ghost use Rattle.calendar.specs.Timetable.{IsCycleOf, validity_from, day_end};
 ghost use Rattle.calendar.specs.declared.week.Entry.{Entry};
 ghost use Rattle.tariffs.specs.Faults.{Gives};
@@ -211,7 +211,7 @@ impl TariffBook {
     pub fn next_switch(&self, moment: Moment, seconds: u32) -> Option<Moment>
         requires seconds { seconds ≤ 43_200 }
         requires in_range { moment + seconds ≤ 4_102_488_000 }
-        ensures { IsSwitch self.now.calendar moment seconds result }
+        ensures { result ≡ switch_within self.now.calendar moment seconds }
     {
         self.calendar.next_switch(moment, seconds)
     }
@@ -227,7 +227,7 @@ impl TariffBook {
         requires seconds { seconds ≤ 43_200 }
         requires in_range { moment + seconds ≤ 4_102_488_000 }
         requires steps { steps.old ≤ 1_000_000_000 }
-        ensures switch { IsSwitch self.now.calendar moment seconds result }
+        ensures value { result ≡ switch_within self.now.calendar moment seconds }
         ensures steps { steps.new ≤ steps.old + 260 }
     {
         self.calendar.next_switch_steps(moment, seconds, steps)

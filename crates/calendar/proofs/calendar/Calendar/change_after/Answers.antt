@@ -60,9 +60,6 @@ returns-in-Some-clause-value c =
 pub returns-in-Some-clause-found : goal.returns-in-Some-clause-found
 returns-in-Some-clause-found c = change c
 
-pub returns-in-Some-clause-least : goal.returns-in-Some-clause-least
-returns-in-Some-clause-least c = least c
-
 pub returns-in-Some-clause-steps : goal.returns-in-Some-clause-steps
 returns-in-Some-clause-steps c = λ short.
     turn_steps _ _ _ _ _ _ _ _ _ c.other_within-other.new.steps (turn c)
