@@ -26,12 +26,16 @@ use sqlite::{Alter, Connection};
 use std::alloc::Global;
 use units::Moment;
 
-/// A copy of the rows as an account that the shelf prices. A reservation that has no prices there
-/// is out of the rules.
-fn priced_copy<'b>(rows: &StoredAccount, shelf: &'b TariffShelf) -> Result<Account<'b>, ReadFault>
+/// A copy of the rows as an account that the shelf prices, for a command at the moment. A
+/// reservation that has no prices there is out of the rules.
+fn priced_copy<'b>(
+    rows: &StoredAccount,
+    shelf: &'b TariffShelf,
+    moment: Moment,
+) -> Result<Account<'b>, ReadFault>
     ensures { IfOk result (λ account. account ≡ priced shelf.now rows.now) }
 {
-    match rows.load(shelf) {
+    match rows.load(shelf, moment) {
         Ok(account) => Ok(account),
         Err(LoadFault::Memory) => Err(ReadFault::Memory),
         Err(LoadFault::OtherBook) => Err(ReadFault::Rules),
@@ -43,6 +47,7 @@ fn loaded_of<'b>(
     rows: Option<StoredAccount>,
     shelf: &'b TariffShelf,
     number: &AccountNumber,
+    moment: Moment,
 ) -> Result<Option<Loaded<'b>>, ReadFault>
     ensures { IfOk result (IsLoadOf shelf.now number.now rows) }
 {
@@ -50,7 +55,7 @@ fn loaded_of<'b>(
         return Ok(None);
     };
     let number = number.clone()?;
-    let account = priced_copy(&before, shelf)?;
+    let account = priced_copy(&before, shelf, moment)?;
     Ok(Some(Loaded {
         number,
         account,
@@ -92,7 +97,7 @@ fn load_of<'b, S: Alter>(
         (state S.Store conn.old) (state S.Store conn.new) result }
 {
     let rows = read_live_account(conn, alloc, account, names, shelf, moment)?;
-    loaded_of(rows, shelf, account)
+    loaded_of(rows, shelf, account, moment)
 }
 
 fn ask_to_load<'b, S: Alter>(
