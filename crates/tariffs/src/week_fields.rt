@@ -91,19 +91,15 @@ fn day(before: &[bool; 7], value: &Value) -> Result<usize, BookFault>
     ensures value { Gives (λ d. d) result (day_of before.now (view value.now)) }
     ensures in_range { IfOk result (λ d. d < 7) }
 {
-    match value.as_integer() {
-        Some(number) => {
-            if number < 1 || 7 < number {
-                return Err(BookFault::OutOfRange);
-            }
-            let day = number as usize - 1;
-            if before[day] {
-                return Err(BookFault::OutOfRange);
-            }
-            Ok(day)
-        }
-        None => Err(BookFault::WrongKind),
+    let number = value.as_integer().ok_or(BookFault::WrongKind)?;
+    if number < 1 || 7 < number {
+        return Err(BookFault::OutOfRange);
     }
+    let day = number as usize - 1;
+    if before[day] {
+        return Err(BookFault::OutOfRange);
+    }
+    Ok(day)
 }
 
 fn week_days(values: &[Value]) -> Result<[bool; 7], BookFault>
@@ -131,15 +127,11 @@ fn minute(table: &Table, key: &str) -> Result<u16, BookFault>
     ensures in_range { IfOk result (λ m. m ≤ 1440) }
 {
     let text = book_fields::text(table, key)?;
-    match minutes(text.as_bytes()) {
-        Some(minute) => {
-            if minute <= 1440 {
-                Ok(minute)
-            } else {
-                Err(BookFault::OutOfRange)
-            }
-        }
-        None => Err(BookFault::OutOfRange),
+    let minute = minutes(text.as_bytes()).ok_or(BookFault::OutOfRange)?;
+    if minute <= 1440 {
+        Ok(minute)
+    } else {
+        Err(BookFault::OutOfRange)
     }
 }
 
