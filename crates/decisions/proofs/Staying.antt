@@ -1,7 +1,7 @@
 -- Calls on a session, one after another, leave the others' rows.
-use Rattle.std.proofs.Common.{◌≡◌, ℕ, Bool, true, List, Option, Some, None, Result, Ok, Err, ap}
-use Rattle.std.proofs.Common.{sym, subst}
-use Rattle.std.specs.Prelude.{OnOk, IfSome}
+use Rattle.std.proofs.Common.{◌≡◌, ℕ, Bool, true, false, List, Option, Some, None, Result, Ok, Err}
+use Rattle.std.proofs.Common.{refl, ap, sym, subst}
+use Rattle.std.specs.Prelude.{OnOk, IfSome, if◌then◌else◌}
 use Rattle.reserving.specs.Calm.{IsCalm}
 use Rattle.reserving.specs.Rows.{AccountRows}
 use Rattle.reserving.specs.Others.{other_rows, OthersStay}
@@ -22,14 +22,18 @@ stay_asked r s {s'} t {t'} x y e f h =
 
 -- the session that is told, where nothing ends at the moment
 pub stay_alone : (own : Option (List ℕ)) (s : List ℕ) (t : ℕ) (x y : AccountRows) (alone : Bool) →
-    IfSome own (λ name. (name ≡ s) × (alone ≡ true)) →
+    own ≡ (if alone then Some s else None) →
     (alone ≡ true → IsCalm (record x { as_of = t })) → OthersStay s t x y →
     IfSome own (λ name. (name ≡ s) × (other_rows name y ≡ other_rows name x))
-stay_alone None s t x y alone told quiet stay = tt
-stay_alone (Some name) s t x y alone told quiet stay = (
-  told.0,
-  subst (λ n. other_rows n y ≡ other_rows n x) (sym told.0) (stay (still s t x (quiet told.1))),
-)
+stay_alone own s t x y alone told quiet stay =
+    subst (λ o. IfSome o (λ name. (name ≡ s) × (other_rows name y ≡ other_rows name x))) (sym told)
+    (at alone quiet)
+  where
+    at : (q : Bool) → (q ≡ true → IsCalm (record x { as_of = t })) →
+        IfSome (if q then Some s else None)
+        (λ name. (name ≡ s) × (other_rows name y ≡ other_rows name x))
+    at true calm = (refl, stay (still s t x (calm refl)))
+    at false calm = tt
 
 -- a call that changes nothing
 pub stay_same : (s : List ℕ) (t : ℕ) (x y : AccountRows) → y ≡ x → OthersStay s t x y

@@ -1,19 +1,25 @@
 -- What the calls on a request say, for each ledger whose rows the account's are together with those
 -- left.
 -- Source: RFC 8506 sections 5.1, 6 and 9.
-use Rattle.std.specs.Prelude.{◌≡◌, Bool, false, if◌then◌else◌, [], ◌++◌, Option, is_some}
-use Rattle.std.specs.Prelude.{Result, IfOk, IfSome}
+use Rattle.std.specs.Prelude.{◌≡◌, Bool, false, if◌then◌else◌, [], ◌++◌, Option, Some, None}
+use Rattle.std.specs.Prelude.{is_some, Result, IfOk, IfSome}
 use Rattle.units.specs.Words.{Moment}
+use Rattle.identifiers.specs.Words.{SessionName}
 use Rattle.commands.specs.declared.request.Request.{Request}
 use Rattle.commands.specs.declared.answer.RequestAnswer.{RequestAnswer}
 use Rattle.ledger.specs.Ledger.{Ledger}
 use Rattle.reserving.specs.Rows.{AccountRows}
 use Rattle.reserving.specs.Left.{LeftRows, IsWith}
 use Rattle.ledger.specs.Charges.{charge_rows}
+use Rattle.reserving.specs.Calm.{is_quiet_at}
 use Rattle.reserving.specs.Others.{other_rows}
 use Rattle.decisions.specs.declared.decided.Decided.{Decided}
 use Rattle.decisions.specs.Asked.{IsAsked}
 use Rattle.decisions.specs.Decisions.{decision, answer_of, is_read}
+
+-- the session whose rows alone may change: the request's, where nothing ends at the moment
+abbrev pub own_of : Request → Moment → AccountRows → Option SessionName
+own_of r t a = if is_quiet_at t a then Some r.session else None
 
 -- a request is decided: its answer, whether it is accepted, and its charges are the decision's, and
 -- the account has the rows of the ledger after it; what isn't accepted changes nothing; where its
@@ -37,6 +43,7 @@ pub record Decides {E : Type 0} (request : Request) (known : Bool) (t : Moment)
   pub tariff : after.shelf ≡ before.shelf
   pub same : IfOk result (λ d. d.accepted ≡ false → after ≡ before)
   pub unwritten : IfOk result (λ d. d.accepted ≡ false → d.charges.items ≡ [])
+  pub own : IfOk result (λ d. d.own ≡ own_of request t before)
   pub others : IfOk result (λ d. IfSome d.own (λ s. (s ≡ request.session) ×
       (other_rows s after ≡ other_rows s before)))
 

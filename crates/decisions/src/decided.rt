@@ -17,8 +17,8 @@ pub struct Decided {
     pub accepted: bool,
     /// The charges that it made, in order.
     pub charges: Vec<ChargeRow>,
-    /// The request's session, where it is known that no row of another session has changed: nothing
-    /// of them ended by the moment.
+    /// The request's session, where nothing of the account ends at the moment: then no row of
+    /// another session has changed.
     pub own: Option<SessionId>,
     pub ghost told: { accepted ≡ true → may_be_accepted answer.outcome ≡ true },
 }

@@ -60,7 +60,7 @@ impl<'b> Account<'b> {
         if self.calm && self.rows.as_of == moment {
             return free;
         }
-        if self.is_quiet(moment) {
+        if self.is_found_quiet(moment) {
             return free;
         }
         let given_up = lapsed_funds(

@@ -1,4 +1,4 @@
-//! Whether nothing of an account ends at a moment: it is looked for once, at a load.
+//! Whether nothing of an account ends at a moment: it is looked for at a load.
 
 ghost use Rattle.std.specs.Prelude.{◌≡◌, ◌+◌, ◌*◌, ◌&&◌, true, IfSome};
 ghost use Rattle.reserving.specs.Sessions.{session_before};

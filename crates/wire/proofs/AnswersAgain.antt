@@ -2,7 +2,7 @@
 use Rattle.std.proofs.Common.{subst, ◌≡◌, ℕ, ◌≤◌, lit≤, List, [], ◌∷◌, ◌++◌}
 use Rattle.std.proofs.Common.{length, Bool, true, false, Option, Some, None, option_map}
 use Rattle.std.proofs.Common.{IfSome, Result, Ok, Err, refl, sym, ap, ◌∙◌, arith, append_assoc}
-use Rattle.std.proofs.Common.{append-nil, nat_le}
+use Rattle.std.proofs.Common.{append-nil, nat_le, ◌⊎◌, inl, inr}
 use Rattle.std.specs.Prelude.{nat_eq}
 use Rattle.std.specs.List.{AllByRecursion, list_all}
 use Rattle.std.specs.Str.{IsUtf8}
@@ -741,9 +741,15 @@ text_of_other bytes a said other =
 
 pub text_refused : (bytes : List ℕ) (fault told : WireFault) →
     Gives (λ (a : Answer). a) (Err fault) (answer_of bytes) → (fault ≡ Memory → told ≡ Memory) →
-    ¬ (told ≡ Memory) → is_answer_text bytes ≡ false
-text_refused bytes fault told given keeps more =
-    ap (is_own_answer bytes) (given (λ e. more (keeps e)))
+    (told ≡ Memory) ⊎ (told ≡ NotRequest) →
+    (told ≡ Memory) ⊎ ((told ≡ NotRequest) × (is_answer_text bytes ≡ false))
+text_refused bytes fault told given keeps (inl e) = inl e
+text_refused bytes fault told given keeps (inr e) = inr (
+  e,
+  ap (is_own_answer bytes) (given (λ f.
+      let clash : NotRequest ≡ Memory = sym e ∙ keeps f in
+      absurd (cc))),
+)
 
 -- ---- the order of members
 

@@ -1,6 +1,6 @@
 -- Reading an answer that was written.
 use Rattle.std.specs.Prelude.{◌≡◌, ℕ, ◌==◌, List, [], Bool, true, false, Option, Some}
-use Rattle.std.specs.Prelude.{None, Result, Ok, Err, MatchResult, nat_eq, if◌then◌else◌}
+use Rattle.std.specs.Prelude.{None, Result, Ok, Err, MatchResult, ◌⊎◌, nat_eq, if◌then◌else◌}
 use Rattle.std.specs.Cmp.Lexicographic.{pointwise}
 use Rattle.units.specs.Words.{Moment, Seconds, greatest_number}
 use Rattle.serde_json.specs.Data.{Data, Items}
@@ -237,11 +237,11 @@ is_own_answer bytes (Err e) = false
 abbrev pub is_answer_text : List ℕ → Bool
 is_answer_text bytes = is_own_answer bytes (answer_of bytes)
 
--- such a text is read, unless memory runs out, and no other is
+-- such a text is read, and of any other it is told that it is none, unless memory runs out
 abbrev pub ReadsTexts : List ℕ → Result Answer WireFault → Type 0
 ReadsTexts bytes returned =
     MatchResult returned (λ a. is_answer_text bytes ≡ true)
-    (λ e. ¬ (e ≡ Memory) → is_answer_text bytes ≡ false)
+    (λ e. (e ≡ Memory) ⊎ ((e ≡ NotRequest) × (is_answer_text bytes ≡ false)))
 
 -- what was written has its members in byte order
 abbrev pub AnswersAreInOrder : (Answer → Data) → Type 0

@@ -1,4 +1,6 @@
-use Rattle.std.proofs.Common.{ap, ◌∙◌}
+use Rattle.std.proofs.Common.{ap, sym, ◌∙◌, Some, None}
+use Rattle.std.specs.Prelude.{if◌then◌else◌}
+use Rattle.reserving.proofs.rows.Quiet.{calm_told}
 use Rattle.decisions.specs.Decisions.{answer_of}
 use Rattle.decisions.proofs.Staying.{stay_alone}
 use Rattle.decisions.proofs.deciding.decide.Goals as goal
@@ -22,8 +24,11 @@ returns c = record {
   tariff = c.in_ok-ruling.ensures.tariff;
   same = c.in_ok-ruling.ensures.ruled.stands.same;
   unwritten = c.in_ok-ruling.ensures.ruled.stands.unwritten;
+  own = c.in_ok-own.ensures
+      ∙ ap (λ q. if q then Some c.args.request.now.session else None) c.is_quiet.ensures;
   others =
       stay_alone c.in_ok-own.own c.args.request.now.session c.args.moment c.args.account.now
-      c.decide_ask.new.account c.is_quiet.result c.in_ok-own.ensures c.is_quiet.ensures
+      c.decide_ask.new.account c.is_quiet.result c.in_ok-own.ensures
+      (λ e. calm_told c.args.account.now c.args.moment (sym c.is_quiet.ensures ∙ e))
       c.in_ok-ruling.ensures.stay;
 }

@@ -1,9 +1,9 @@
-use Rattle.std.proofs.Common.{◌≡◌, true, false, Result, Ok, Err, sym, ◌∙◌, subst}
+use Rattle.std.proofs.Common.{◌≡◌, true, false, Result, Ok, Err, refl, sym, ◌∙◌, subst, inr}
 use Rattle.commands.specs.declared.answer.Answer.{Answer}
 use Rattle.json_fields.specs.Gives.{Gives}
 use Rattle.json_fields.specs.declared.fault.WireFault.{WireFault}
 use Rattle.json_fields.specs.declared.fault.WireFault.TheVariants.{NotRequest}
-use Rattle.wire.specs.ReadingAnswers.{answer_of}
+use Rattle.wire.specs.ReadingAnswers.{answer_of, is_answer_text}
 use Rattle.wire.proofs.AnswersAgain.{reads_written, never_said, never_written}
 use Rattle.wire.proofs.AnswersAgain.{text_of_other, text_read, text_refused}
 use Rattle.wire.proofs.reading.read_answer.Goals as goal
@@ -39,6 +39,7 @@ returns-in-Err-clause-texts c =
     subst (λ (r : Result Answer WireFault).
     Gives (λ (a : Answer). a) r (answer_of c.args.bytes.now)) c.in-Err.is c.answer.ensures in
     text_refused c.args.bytes.now c.in-Err.fault c.told.result given c.told.ensures.memory
+    c.told.ensures.other
 
 pub returns-then-is_text-clause-texts : goal.returns-then-is_text-clause-texts
 returns-then-is_text-clause-texts c =
@@ -53,9 +54,11 @@ returns-else-is_text-clause-texts c =
     let given : answer_of c.args.bytes.now ≡ Ok c.in-Ok.answer =
     subst (λ (r : Result Answer WireFault).
     Gives (λ (a : Answer). a) r (answer_of c.args.bytes.now)) c.in-Ok.is c.answer.ensures in
-    λ more. text_of_other c.args.bytes.now c.in-Ok.answer given (λ e.
+    let other : is_answer_text c.args.bytes.now ≡ false =
+    text_of_other c.args.bytes.now c.in-Ok.answer given (λ e.
     let same : c.deref.result.now ≡ c.args.bytes.now = c.deref.ensures
     ∙ c.in_ok-text.ensures.text
     ∙ e in
     let clash : false ≡ true = sym c.if-is_text.false ∙ c.is_text.ensures.1 same in
-    absurd (cc))
+    absurd (cc)) in
+    inr (refl, other)

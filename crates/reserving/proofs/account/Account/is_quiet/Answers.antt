@@ -1,22 +1,19 @@
-use Rattle.std.proofs.Common.{rules, ◌≡◌, subst}
-use Rattle.std.specs.Prelude.{IfSome}
-use Rattle.reserving.specs.Rows.{AccountRows}
-use Rattle.reserving.specs.Inside.{rows_inside}
-use Rattle.reserving.specs.Calm.{IsCalm}
+use Rattle.std.proofs.Common.{sym, ap, ◌∙◌}
+use Rattle.reserving.specs.Calm.{is_quiet_at}
 use Rattle.reserving.proofs.Lists.{not_both}
+use Rattle.reserving.proofs.rows.Quiet.{quiet_found}
 use Rattle.reserving.proofs.account.Account.is_quiet.Goals as goal
 
-pub returns-then-eq : goal.returns-then-eq
-returns-then-eq c = λ e.
-    let same : c.in-Some.at ≡ c.args.moment = search rules in
-    let found : IsCalm (record (rows_inside c.self.inside) { as_of = c.in-Some.at }) =
-    subst (λ o. IfSome o (λ t. IsCalm (record (rows_inside c.self.inside) { as_of = t })))
-    c.in-Some.is c.self.invariant.quiet in
-    subst (λ (x : AccountRows). IsCalm (record x { as_of = c.args.moment })) c.self.view_is
-    (subst (λ t. IsCalm (record (rows_inside c.self.inside) { as_of = t })) same found)
+pub is_quiet-requires-clause-order : goal.is_quiet-requires-clause-order
+is_quiet-requires-clause-order c = c.self.invariant.priced.order.by_name
+
+pub is_quiet-requires-clause-bound : goal.is_quiet-requires-clause-bound
+is_quiet-requires-clause-bound c = λ e. absurd (not_both e)
+
+pub returns-then-is_found_quiet : goal.returns-then-is_found_quiet
+returns-then-is_found_quiet c =
+    sym (quiet_found c.args.self.now c.args.moment
+    (c.is_found_quiet.ensures c.if-is_found_quiet.true))
 
 pub returns : goal.returns
-returns c = λ e. absurd (not_both e)
-
-pub returns-in_default : goal.returns-in_default
-returns-in_default c = λ e. absurd (not_both e)
+returns c = c.is_quiet.ensures ∙ ap (is_quiet_at c.args.moment) c.self.view_is

@@ -74,29 +74,29 @@ returns-clause-most c =
     )
 
 -- nor does anything end at it, as a load found
-pub returns-then-is_quiet-clause-rows : goal.returns-then-is_quiet-clause-rows
-returns-then-is_quiet-clause-rows c =
+pub returns-then-is_found_quiet-clause-rows : goal.returns-then-is_found_quiet-clause-rows
+returns-then-is_found_quiet-clause-rows c =
     let a : AccountRows = c.args.self.now in
     let quiet : advanced c.args.moment a ≡ record a { as_of = c.args.moment } =
-    quiet_advanced a c.args.moment (c.is_quiet.ensures c.if-is_quiet.true) in
+    quiet_advanced a c.args.moment (c.is_found_quiet.ensures c.if-is_found_quiet.true) in
     c.free_funds-free.ensures.value
     ∙ ap (sum_in c.args.kind (eligible_amount c.args.group c.args.moment))
     (c.buckets-buckets.ensures.value
     ∙ ap (λ (x : AccountRows). x.buckets) c.self.view_is
     ∙ sym (ap (λ (x : AccountRows). x.buckets) quiet))
 
-pub returns-then-is_quiet-clause-account : goal.returns-then-is_quiet-clause-account
-returns-then-is_quiet-clause-account c =
+pub returns-then-is_found_quiet-clause-account : goal.returns-then-is_found_quiet-clause-account
+returns-then-is_found_quiet-clause-account c =
     (subst IsPriced c.self.view_is c.self.invariant.priced).account
 
-pub returns-then-is_quiet-clause-most : goal.returns-then-is_quiet-clause-most
-returns-then-is_quiet-clause-most c =
+pub returns-then-is_found_quiet-clause-most : goal.returns-then-is_found_quiet-clause-most
+returns-then-is_found_quiet-clause-most c =
     let later : IsAccount (advanced c.args.moment c.args.self.now) =
     IsAccount-advanced c.args.self.now c.args.moment
     ((subst IsPriced c.self.view_is c.self.invariant.priced).account) in
     omega (
       arith,
-      returns-then-is_quiet-clause-rows c,
+      returns-then-is_found_quiet-clause-rows c,
       sum_in-most c.args.kind c.args.group c.args.moment
           (advanced c.args.moment c.args.self.now).buckets later.sound,
     )
