@@ -2,7 +2,7 @@
 use Rattle.std.proofs.Common.{◌≡◌, ◌≤◌, ◌<◌, ◌+◌, ◌∙◌, ℕ, suc, List, [], ◌∷◌, Option, Some, None}
 use Rattle.std.proofs.Common.{refl, sym, ap, subst, arith, length, length-append, IsTrue, false}
 use Rattle.std.proofs.Common.{◌⊎◌, inl, inr}
-use Rattle.std.specs.Prelude.{Result, Ok, Err, IfErr, IfSome, OnErr, OnOk}
+use Rattle.std.specs.Prelude.{Result, Ok, Err, IfErr, IsErrOf, IfSome, OnErr, OnOk, min}
 use Rattle.sqlite_trees.specs.Tree.{Trees}
 use Rattle.sqlite_trees.specs.declared.store.Store.{Ghosts}
 use Rattle.sqlite.specs.Held.{state}
@@ -17,6 +17,7 @@ use Rattle.shelves.specs.declared.fault.ShelfFault.TheVariants.{Memory}
 use Rattle.keepers.specs.Faults.{HasCause, max_failures}
 use Rattle.keepers.specs.declared.fault.StoreFault.{StoreFault}
 use Rattle.keepers.specs.declared.fault.StoreFault.TheVariants.{Memory as NoMemory}
+use Rattle.keepers.specs.declared.fault.StoreFault.TheVariants.{Store as Failed}
 use Rattle.sql_tables.specs.Statements.{OnlyReads}
 use Rattle.sql_keeper.specs.AddsBook.{AddsBook, AddsToAll, BecomesDated, IsAddFault}
 use Rattle.sql_keeper.specs.AddsBook.{IsAdded, IsBehind, IsOnBoth, IsTextFault}
@@ -24,7 +25,7 @@ use Rattle.sql_keeper.specs.AddsBook.{AreTakenBack, LeavesDated, add_told, last_
 use Rattle.sql_keeper.specs.Asks.{IsHanded}
 use Rattle.sql_keeper.specs.Books.{IsBookOf}
 use Rattle.sql_keeper.specs.Commits.{CommitsWhole}
-use Rattle.sql_keeper.specs.Inside.{IsClean, IsKeeper, KeeperState, tables_in}
+use Rattle.sql_keeper.specs.Inside.{IsClean, IsKeeper, KeeperState, failed_in, tables_in}
 use Rattle.sql_keeper.specs.Left.{IsHeld, IsLeftRuled}
 use Rattle.sql_keeper.specs.Stops.{trees_in}
 use Rattle.sql_keeper.specs.declared.add_fault.AddFault.{AddFault}
@@ -252,6 +253,12 @@ text_told text from s last (OfBook fault) told = told
 text_told text from s last (OfShelf fault) told = absurd told
 text_told text from s last (OfStore fault) told = absurd told
 
+text_counts : {A B : Type 0} (text : List ℕ) (f : AddFault) → IsTextFault text f →
+    (r : Result A AddFault) → r ≡ Err f → IsErrOf r (OfStore Failed) → B
+text_counts text (OfBook fault) told r is e = absurd (cc)
+text_counts text (OfShelf fault) told r is e = absurd told
+text_counts text (OfStore fault) told r is e = absurd told
+
 pub no_text : {S A : Type 0} (g : Ghosts S) (text : List ℕ) (from : ℕ) (k : KeeperState S)
     (shelf : Shelf) (f : AddFault) → IsTextFault text f
     → AddsBook {A = A} g text from k k shelf shelf (Err f)
@@ -266,6 +273,7 @@ no_text g text from k shelf f told = record {
   told = λ clean. text_told text from shelf (tables_in g k).last f told;
   cleanness = λ clean. clean;
   counts = omega arith;
+  cause = text_counts text f told (Err f) refl;
   whole = record { left = λ clean db may. inl may };
   follows = record { left = λ clean db may. inl may };
 }
@@ -350,6 +358,13 @@ module _ {S : Type 0} (g : Ghosts S) (old new : KeeperState S) (text : List ℕ)
   faults_told (Ok (Err f)) a clean = (b, read, a.told clean)
   faults_told (Err e) a clean = (b, read)
 
+  counts_told : {A : Type 0} (r : Result (Result A ShelfFault) StoreFault)
+      → HasCause (failed_in old) (failed_in new) r → IsErrOf (add_told r) (OfStore Failed)
+      → min (failed_in old + 1) max_failures ≤ failed_in new
+  counts_told (Ok (Ok x)) cause e = absurd (cc)
+  counts_told (Ok (Err f)) cause e = absurd (cc)
+  counts_told (Err f) cause e = cause.cause (cc)
+
   pub adds_book : {A E : Type 0} (added : Result (Result A ShelfFault) E)
       (r : Result (Result A ShelfFault) StoreFault) → IsHanded added r
       → AddsToAll from text b (state g old.connection) (state g new.connection) before after own
@@ -370,6 +385,7 @@ module _ {S : Type 0} (g : Ghosts S) (old new : KeeperState S) (text : List ℕ)
         told = λ clean. faults_told r a clean.disk;
         cleanness = was_clean g old new Become [] keeper (was_added r) a.commits;
         counts = (cause_at_most old.failures new.failures r cause).kept;
+        cause = counts_told r (cause_at_most old.failures new.failures r cause);
         whole = record {
           left = λ clean db may. elim (a.leaves clean db may) [
             | inl was ↦ inl was

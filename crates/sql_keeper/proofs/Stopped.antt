@@ -73,6 +73,7 @@ module _ {S T : Type 0} (g : Ghosts S) (e : Ghosts T) (law : AreSettled g) (old 
       left = o.left after;
       text = text_is;
       own = o.fresh.own;
+      uncounted = o.fresh.uncounted;
       books = books_are;
       rests = at_rest_now;
     }

@@ -1,7 +1,7 @@
 -- A book that is added behind those of a shelf, committed whole or not at all.
 -- Source: profile.
 use Rattle.std.specs.Prelude.{◌≡◌, ◌≤◌, ◌<◌, ℕ, suc, ◌++◌, List, [], ◌∷◌, Some, None, length}
-use Rattle.std.specs.Prelude.{Result, ◌⊎◌, Ok, Err, IfErr, IsTrue, OnErr, OnOk}
+use Rattle.std.specs.Prelude.{Result, ◌⊎◌, ◌+◌, Ok, Err, IfErr, IsErrOf, IsTrue, OnErr, OnOk, min}
 use Rattle.units.specs.Words.{Moment, GroupId, BookNumber, no_end}
 use Rattle.identifiers.specs.Words.{SessionName, AccountName}
 use Rattle.shelves.specs.Words.{BookText}
@@ -15,7 +15,9 @@ use Rattle.shelves.specs.Succession.{shelf_fault}
 use Rattle.shelves.specs.declared.fault.ShelfFault.{ShelfFault}
 use Rattle.shelves.specs.declared.fault.ShelfFault.TheVariants.{Memory}
 use Rattle.keepers.specs.declared.fault.StoreFault.{StoreFault}
+use Rattle.keepers.specs.Faults.{max_failures}
 use Rattle.keepers.specs.declared.fault.StoreFault.TheVariants.{Memory as NoMemory}
+use Rattle.keepers.specs.declared.fault.StoreFault.TheVariants.{Store as Failed}
 use Rattle.sql_tables.specs.Statements.{AreStored}
 use Rattle.sql_rows.specs.Content.{TablesContent, tables_content, with_book_row}
 use Rattle.sql_rows.specs.Plain.{ArePlain}
@@ -209,5 +211,8 @@ pub record AddsBook {S A : Type 0} (g : Ghosts S) (text : BookText) (from : Mome
       IfErr result (IsAddFault text from before (tables_in g old).last)
   pub cleanness : clean_in g new → clean_in g old
   pub counts : failed_in old ≤ failed_in new
+  -- a fault of the store is counted
+  pub cause : IsErrOf result (OfStore Failed) →
+      min (failed_in old + 1) max_failures ≤ failed_in new
   pub whole : IsCommitWhole g old new (BecomesDated (suc (count before)) from text (trees_in g old))
   pub follows : IsCommitWhole g old new (BecomesBehind old.shelf before from text (trees_in g old))

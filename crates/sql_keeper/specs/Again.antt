@@ -83,7 +83,8 @@ IsFoundAgain g old new text fault = IsLeftRuled text (state g old).now.trees
 -- ---- after a stop
 
 -- a keeper that was made after a stop of an older one shows what that stop left, with the text of
--- the older one and the shelf of both; where the older one was clean, with all that it knew
+-- the older one and the shelf of both, and no failure yet; where the older one was clean, with all
+-- that it knew
 pub record IsFoundAfter {S T : Type 0} (g : Ghosts S) (e : Ghosts T) (old : KeeperState S)
     (new : KeeperState T) (shelf : Shelf) : Type 0 where
   pub honest : HasCleanDisk (state g old.connection)
@@ -91,6 +92,7 @@ pub record IsFoundAfter {S T : Type 0} (g : Ghosts S) (e : Ghosts T) (old : Keep
   pub left : IsLeftRuled new.text (trees_in e new)
   pub text : new.text ≡ old.text
   pub own : new.shelf ≡ shelf
+  pub uncounted : new.failures ≡ 0
   pub books : IsShelfOf old.text (tables_content (trees_in e new)).books shelf
   pub rests : IsClean (state g old.connection) → (trees_in e new ≡ trees_in g old)
       × (shelf ≡ old.shelf) × (new.last ≡ old.last)
