@@ -4,7 +4,7 @@ ghost use Rattle.std.specs.Prelude.{◌≡◌, ◌++◌, string_bytes, OnOk};
 ghost use Rattle.std.specs.Prelude.{◌-◌};
 ghost use Rattle.statements.specs.Columns.{blanks, column_text, columns_text};
 
-use std::alloc::{AllocError, Global};
+use std::alloc::AllocError;
 
 /// A number and the places that its column has.
 #[derive(Clone, Copy)]
@@ -25,33 +25,25 @@ fn push_blanks(text: &mut String, taken: usize, width: usize) -> Result<(), Allo
 }
 
 /// Adds a number, set right in its column; a wider one takes its own width.
-pub(crate) fn push_column(
-    alloc: Global,
-    text: &mut String,
-    column: &Column,
-) -> Result<(), AllocError>
+pub(crate) fn push_column(text: &mut String, column: &Column) -> Result<(), AllocError>
     ensures { OnOk result
         (string_bytes text.new ≡ string_bytes text.old ++ column_text column.now) }
 {
-    let value = column.value;
-    let digits = format!(in alloc; "{value}")?;
+    let mut buffer = itoa::Buffer::new();
+    let digits = buffer.format(column.value);
     push_blanks(text, digits.len(), column.width)?;
-    text.push_str(digits.as_str())?;
+    text.push_str(digits)?;
     Ok(())
 }
 
 /// Adds columns, each after a blank, and ends the line.
-pub(crate) fn push_columns(
-    alloc: Global,
-    text: &mut String,
-    columns: &[Column],
-) -> Result<(), AllocError>
+pub(crate) fn push_columns(text: &mut String, columns: &[Column]) -> Result<(), AllocError>
     ensures { OnOk result
         (string_bytes text.new ≡ string_bytes text.old ++ columns_text columns.now) }
 {
     for column in columns {
         text.push(' ')?;
-        push_column(alloc, text, column)?;
+        push_column(text, column)?;
     }
     text.push('\n')?;
     Ok(())

@@ -40,12 +40,12 @@ fn set(width: usize, value: u128) -> Column
     Column { width, value }
 }
 
-/// The line of a charge.
+/// The line of a charge: 93 bytes where each number fits into its column.
 pub(crate) fn charge_line(alloc: Global, row: &ChargeRow) -> Result<String, AllocError>
     ensures { IfOk result (λ text. string_bytes text ≡ charge_line row.now) }
 {
-    let mut text = String::new(alloc);
-    push_column(alloc, &mut text, &set(10, row.moment.seconds() as u128))?;
+    let mut text = String::with_capacity(alloc, 93)?;
+    push_column(&mut text, &set(10, row.moment.seconds() as u128))?;
     let columns = [
         set(10, row.group as u128),
         set(10, row.blocks.0 as u128),
@@ -53,7 +53,7 @@ pub(crate) fn charge_line(alloc: Global, row: &ChargeRow) -> Result<String, Allo
         set(19, row.collected.0),
         set(19, row.uncollected.0),
     ];
-    push_columns(alloc, &mut text, &columns)?;
+    push_columns(&mut text, &columns)?;
     Ok(text)
 }
 
@@ -69,12 +69,12 @@ pub(crate) fn total_line(alloc: Global, sums: &Sums) -> Result<String, AllocErro
         set(19, sums.collected),
         set(19, sums.uncollected),
     ];
-    push_columns(alloc, &mut text, &columns)?;
+    push_columns(&mut text, &columns)?;
     Ok(text)
 }
 
 /// Adds the amounts of a bucket, and ends the line.
-fn push_amounts(alloc: Global, text: &mut String, bucket: &Bucket) -> Result<(), AllocError>
+fn push_amounts(text: &mut String, bucket: &Bucket) -> Result<(), AllocError>
     ensures { OnOk result
         (string_bytes text.new ≡ string_bytes text.old ++ columns_text (amounts_of bucket.now)) }
 {
@@ -85,16 +85,16 @@ fn push_amounts(alloc: Global, text: &mut String, bucket: &Bucket) -> Result<(),
         set(16, bucket.charged() as u128),
         set(16, bucket.expired() as u128),
     ];
-    push_columns(alloc, text, &columns)
+    push_columns(text, &columns)
 }
 
-/// The line of a bucket of money.
+/// The line of a bucket of money: 96 bytes where each number fits into its column.
 pub(crate) fn bucket_line(alloc: Global, bucket: &Bucket) -> Result<String, AllocError>
     ensures { IfOk result (λ text. string_bytes text ≡ bucket_line bucket.now) }
 {
-    let mut text = String::new(alloc);
-    push_column(alloc, &mut text, &set(10, bucket.number() as u128))?;
-    push_amounts(alloc, &mut text, bucket)?;
+    let mut text = String::with_capacity(alloc, 96)?;
+    push_column(&mut text, &set(10, bucket.number() as u128))?;
+    push_amounts(&mut text, bucket)?;
     Ok(text)
 }
 
@@ -105,15 +105,15 @@ fn group_of(bucket: &Bucket) -> u32
     bucket.scope().unwrap_or(0)
 }
 
-/// The line of an allowance.
+/// The line of an allowance: 107 bytes where each number fits into its column.
 pub(crate) fn allowance_line(alloc: Global, bucket: &Bucket) -> Result<String, AllocError>
     ensures { IfOk result (λ text. string_bytes text ≡ allowance_line bucket.now) }
 {
-    let mut text = String::new(alloc);
-    push_column(alloc, &mut text, &set(10, bucket.number() as u128))?;
+    let mut text = String::with_capacity(alloc, 107)?;
+    push_column(&mut text, &set(10, bucket.number() as u128))?;
     text.push(' ')?;
-    push_column(alloc, &mut text, &set(10, group_of(bucket) as u128))?;
-    push_amounts(alloc, &mut text, bucket)?;
+    push_column(&mut text, &set(10, group_of(bucket) as u128))?;
+    push_amounts(&mut text, bucket)?;
     Ok(text)
 }
 

@@ -1,13 +1,12 @@
 //! Records of an export.
 
-ghost use Rattle.std.specs.Prelude.{◌≡◌, IfOk, map, string_bytes};
-ghost use Rattle.std.specs.Fmt.{decimal};
+ghost use Rattle.std.specs.Prelude.{◌≡◌, IfOk, map};
 ghost use Rattle.csv.specs.Writing.{default_writer, row_text};
 ghost use Rattle.statements.specs.Records.{charge_record, header_record};
 
 use csv::{Error, WriterBuilder};
 use ledger::ChargeRow;
-use std::alloc::{AllocError, Global};
+use std::alloc::Global;
 use texts::StreamFault;
 
 /// The text of a record.
@@ -51,32 +50,26 @@ pub(crate) fn header_record(alloc: Global) -> Result<Vec<u8>, StreamFault>
     made(alloc, &fields)
 }
 
-fn digits(alloc: Global, value: u128) -> Result<String, AllocError>
-    ensures { IfOk result (λ text. string_bytes text ≡ decimal value) }
-{
-    format!(in alloc; "{value}")
-}
-
 /// The record of a charge.
 pub(crate) fn charge_record(alloc: Global, row: &ChargeRow) -> Result<Vec<u8>, StreamFault>
     ensures { IfOk result (λ text. text.items ≡ charge_record row.now) }
 {
-    let moment = digits(alloc, row.moment.seconds() as u128)?;
-    let group = digits(alloc, row.group as u128)?;
-    let blocks = digits(alloc, row.blocks.0 as u128)?;
-    let rated = digits(alloc, row.rated.0)?;
-    let collected = digits(alloc, row.collected.0)?;
-    let uncollected = digits(alloc, row.uncollected.0)?;
-    let covered = digits(alloc, row.covered.0 as u128)?;
+    let mut moment = itoa::Buffer::new();
+    let mut group = itoa::Buffer::new();
+    let mut blocks = itoa::Buffer::new();
+    let mut rated = itoa::Buffer::new();
+    let mut collected = itoa::Buffer::new();
+    let mut uncollected = itoa::Buffer::new();
+    let mut covered = itoa::Buffer::new();
     let fields = [
-        moment.as_bytes(),
+        moment.format(row.moment.seconds()).as_bytes(),
         row.session.as_str().as_bytes(),
-        group.as_bytes(),
-        blocks.as_bytes(),
-        rated.as_bytes(),
-        collected.as_bytes(),
-        uncollected.as_bytes(),
-        covered.as_bytes(),
+        group.format(row.group).as_bytes(),
+        blocks.format(row.blocks.0).as_bytes(),
+        rated.format(row.rated.0).as_bytes(),
+        collected.format(row.collected.0).as_bytes(),
+        uncollected.format(row.uncollected.0).as_bytes(),
+        covered.format(row.covered.0).as_bytes(),
     ];
     made(alloc, &fields)
 }
