@@ -1,17 +1,14 @@
 //! Events: their price, and the debit of it.
 
-ghost use Rattle.std.specs.Prelude.{◌≡◌, ◌+◌, ◌≤◌, ◌<◌, true, None, [], is_some};
+ghost use Rattle.std.specs.Prelude.{◌≡◌, ◌+◌, ◌≤◌, None, []};
 ghost use Rattle.std.specs.Prelude.{Err};
 ghost use Rattle.reserving.specs.Calls.{Debits, Tells};
 ghost use Rattle.buckets.specs.Holding.{uncollected};
-ghost use Rattle.ledger.specs.Pricing.{cycle_at};
-ghost use Rattle.reserving.specs.Sessions.{group_in, counter_in};
 ghost use Rattle.buckets.specs.Kinds.{due};
 ghost use Rattle.ledger.specs.Debiting.{event_price, rest_price};
 ghost use Rattle.reserving.specs.Rows.{IsAccount};
-ghost use Rattle.reserving.specs.Changes.{used_in, count_in, event_price_in};
-ghost use Rattle.reserving.specs.Changes.{rest_price_in};
-ghost use Rattle.reserving.specs.Changes.{debited_account};
+ghost use Rattle.reserving.specs.Changes.{event_price_in, rest_price_in, debited_account};
+ghost use Rattle.reserving.specs.Prepared.{HasUseRows};
 
 use crate::account::Account;
 use crate::fault::AccountFault;
@@ -126,14 +123,7 @@ impl<'b> Account<'b> {
         cycle: u32,
         rated: RatedUse,
     ) -> Charged
-        requires group { is_some (group_in session.now group self.old.groups) ≡ true }
-        requires counter { is_some (counter_in group cycle self.old.counters) ≡ true }
-        requires cycle { cycle ≡ cycle_at self.old.shelf group self.old.as_of }
-        requires used { used_in session.now group self.old.groups + rated.units.0
-            ≤ 1_000_000_000_000_000_000 }
-        requires counted { count_in group cycle self.old.counters + rated.blocks.0
-            ≤ 4_000_000_000_000_000_000 }
-        requires charges { self.old.next_charge < 4_294_967_296 }
+        requires { HasUseRows session.now group cycle rated self.old }
         ensures rows { self.new
             ≡ debited_account session.now group rated.units.0 rated.blocks.0
             (due rated.amount.0 rated.covered.0) self.old }

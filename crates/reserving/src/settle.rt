@@ -50,7 +50,7 @@ pub(crate) struct RatedUse {
 }
 
 impl<'b> Account<'b> {
-    ghost use Rattle.std.specs.Prelude.{◌≡◌, ◌+◌, ◌≤◌, ◌<◌, ◌^◌, true, false, None, is_some};
+    ghost use Rattle.std.specs.Prelude.{◌≡◌, ◌+◌, ◌≤◌, ◌<◌, ◌^◌, true, false, None};
     ghost use Rattle.std.specs.Prelude.{OnOk, OnErr, IfSome, List, Some, unwrap_or};
     ghost use Rattle.ledger.specs.Ledger.{Ledger};
     ghost use Rattle.ledger.specs.Settlement.{reported, price_of, passes};
@@ -71,11 +71,10 @@ impl<'b> Account<'b> {
     };
     ghost use Rattle.units.specs.declared.blocks.TariffChangeUsage.TheVariants.{UnitIndeterminate};
     ghost use Rattle.ledger.specs.Pricing.{cycle_at, units_of, terms_now};
-    ghost use Rattle.reserving.specs.Sessions.{group_in, counter_in};
     ghost use Rattle.reserving.specs.Changes.{used_in, reserved_in, terms_in, count_in};
     ghost use Rattle.reserving.specs.Changes.{price_in, settled_account};
     ghost use Rattle.reserving.specs.Changes.{ended_rows};
-    ghost use Rattle.reserving.specs.Prepared.{with_rows};
+    ghost use Rattle.reserving.specs.Prepared.{HasUseRows, with_rows};
 
     /// Settles a report of a live session's use of a rating group, and ends its reservation (RFC
     /// 8506 section 5.3; TS 32.299, session charging with unit reservation). The rated amount is
@@ -330,14 +329,7 @@ impl<'b> Account<'b> {
         cycle: u32,
         rated: RatedUse,
     ) -> Charged
-        requires group { is_some (group_in session.now group self.old.groups) ≡ true }
-        requires counter { is_some (counter_in group cycle self.old.counters) ≡ true }
-        requires cycle { cycle ≡ cycle_at self.old.shelf group self.old.as_of }
-        requires used { used_in session.now group self.old.groups + rated.units.0
-            ≤ 1_000_000_000_000_000_000 }
-        requires counted { count_in group cycle self.old.counters + rated.blocks.0
-            ≤ 4_000_000_000_000_000_000 }
-        requires charges { self.old.next_charge < 4_294_967_296 }
+        requires { HasUseRows session.now group cycle rated self.old }
         ensures rows { self.new
             ≡ settled_account session.now group rated.units.0 rated.blocks.0
             (due rated.amount.0 rated.covered.0) self.old }

@@ -1,4 +1,4 @@
-use Rattle.std.proofs.Common.{◌≡◌, ◌+◌, true, false, refl, sym, ap, ◌∙◌, arith}
+use Rattle.std.proofs.Common.{◌≡◌, ◌+◌, true, false, refl, sym, ap, ◌∙◌, arith, rules}
 use Rattle.std.specs.Ordering.{is_lt, nat_cmp}
 use Rattle.units.specs.declared.blocks.Units.{Units}
 use Rattle.units.specs.declared.money.Amount.{Amount}
@@ -26,59 +26,57 @@ use Rattle.reserving.proofs.LeftReadings.{debit_passes_told}
 use Rattle.reserving.proofs.left.Debited.{debit_beside, covered_beside}
 use Rattle.reserving.proofs.account.Account.debit.Goals as goal
 
-pub charge_use-charged-requires-clause-group : goal.charge_use-charged-requires-clause-group
-charge_use-charged-requires-clause-group c =
-    there_later c.args.self.now c.advance.new.self c.args.session.now c.args.group
-    c.cycle_at-cycle.result c.args.moment
-    (c.advance.ensures.rows ∙ ap (advanced c.args.moment) c.in_ok-make_rows.ensures.ok)
-
-pub charge_use-charged-requires-clause-counter : goal.charge_use-charged-requires-clause-counter
-charge_use-charged-requires-clause-counter c =
-    counter_there c.args.self.now c.advance.new.self c.args.session.now c.args.group
-    c.cycle_at-cycle.result c.args.moment
-    (c.advance.ensures.rows ∙ ap (advanced c.args.moment) c.in_ok-make_rows.ensures.ok)
-
-pub charge_use-charged-requires-clause-used : goal.charge_use-charged-requires-clause-used
-charge_use-charged-requires-clause-used c =
-    let same : used_in c.args.session.now c.args.group c.advance.new.self.groups
-    ≡ used_in c.args.session.now c.args.group c.args.self.now.groups =
-    used_middle c.args.self.now c.advance.new.self c.args.session.now c.args.group
-    c.cycle_at-cycle.result c.args.moment
-    (c.advance.ensures.rows ∙ ap (advanced c.args.moment) c.in_ok-make_rows.ensures.ok) in
-    let units : c.in-Some.rated.units.0 ≡ c.args.units.0 =
-    ap (λ (x : Units). x.0) c.in-Some.ensures.units in
-    omega (
-      arith,
-      same,
-      units,
-      within_used (used_in c.args.session.now c.args.group c.args.self.now.groups) c.args.units.0
-          (count_in c.args.group (cycle_at c.args.self.now.shelf c.args.group c.args.moment)
-          c.args.self.now.counters) c.rest_price-price.result.blocks c.args.self.now.next_charge
-          c.in-Some.ensures.some,
-    )
-
-pub charge_use-charged-requires-clause-counted : goal.charge_use-charged-requires-clause-counted
-charge_use-charged-requires-clause-counted c =
-    let cycle : count_in c.args.group c.cycle_at-cycle.result c.args.self.now.counters
-    ≡ count_in c.args.group (cycle_at c.args.self.now.shelf c.args.group c.args.moment)
-    c.args.self.now.counters =
-    ap (λ x. count_in c.args.group x c.args.self.now.counters) c.cycle_at-cycle.ensures in
-    let same : count_in c.args.group c.cycle_at-cycle.result c.advance.new.self.counters
-    ≡ count_in c.args.group c.cycle_at-cycle.result c.args.self.now.counters =
-    count_middle c.args.self.now c.advance.new.self c.args.session.now c.args.group
-    c.cycle_at-cycle.result c.args.moment
-    (c.advance.ensures.rows ∙ ap (advanced c.args.moment) c.in_ok-make_rows.ensures.ok) in
-    omega (
-      arith,
-      same,
-      cycle,
-      c.in-Some.ensures.blocks,
-      within_counted (used_in c.args.session.now c.args.group c.args.self.now.groups)
-          c.args.units.0
-          (count_in c.args.group (cycle_at c.args.self.now.shelf c.args.group c.args.moment)
-          c.args.self.now.counters) c.rest_price-price.result.blocks c.args.self.now.next_charge
-          c.in-Some.ensures.some,
-    )
+pub charge_use-charged-requires : goal.charge_use-charged-requires
+charge_use-charged-requires c = record {
+  group =
+      there_later c.args.self.now c.advance.new.self c.args.session.now c.args.group
+      c.cycle_at-cycle.result c.args.moment
+      (c.advance.ensures.rows ∙ ap (advanced c.args.moment) c.in_ok-make_rows.ensures.ok);
+  counter =
+      counter_there c.args.self.now c.advance.new.self c.args.session.now c.args.group
+      c.cycle_at-cycle.result c.args.moment
+      (c.advance.ensures.rows ∙ ap (advanced c.args.moment) c.in_ok-make_rows.ensures.ok);
+  cycle = search rules;
+  used =
+      let same : used_in c.args.session.now c.args.group c.advance.new.self.groups
+      ≡ used_in c.args.session.now c.args.group c.args.self.now.groups =
+      used_middle c.args.self.now c.advance.new.self c.args.session.now c.args.group
+      c.cycle_at-cycle.result c.args.moment
+      (c.advance.ensures.rows ∙ ap (advanced c.args.moment) c.in_ok-make_rows.ensures.ok) in
+      let units : c.in-Some.rated.units.0 ≡ c.args.units.0 =
+      ap (λ (x : Units). x.0) c.in-Some.ensures.units in
+      omega (
+        arith,
+        same,
+        units,
+        within_used (used_in c.args.session.now c.args.group c.args.self.now.groups) c.args.units.0
+            (count_in c.args.group (cycle_at c.args.self.now.shelf c.args.group c.args.moment)
+            c.args.self.now.counters) c.rest_price-price.result.blocks c.args.self.now.next_charge
+            c.in-Some.ensures.some,
+      );
+  counted =
+      let cycle : count_in c.args.group c.cycle_at-cycle.result c.args.self.now.counters
+      ≡ count_in c.args.group (cycle_at c.args.self.now.shelf c.args.group c.args.moment)
+      c.args.self.now.counters =
+      ap (λ x. count_in c.args.group x c.args.self.now.counters) c.cycle_at-cycle.ensures in
+      let same : count_in c.args.group c.cycle_at-cycle.result c.advance.new.self.counters
+      ≡ count_in c.args.group c.cycle_at-cycle.result c.args.self.now.counters =
+      count_middle c.args.self.now c.advance.new.self c.args.session.now c.args.group
+      c.cycle_at-cycle.result c.args.moment
+      (c.advance.ensures.rows ∙ ap (advanced c.args.moment) c.in_ok-make_rows.ensures.ok) in
+      omega (
+        arith,
+        same,
+        cycle,
+        c.in-Some.ensures.blocks,
+        within_counted (used_in c.args.session.now c.args.group c.args.self.now.groups)
+            c.args.units.0
+            (count_in c.args.group (cycle_at c.args.self.now.shelf c.args.group c.args.moment)
+            c.args.self.now.counters) c.rest_price-price.result.blocks c.args.self.now.next_charge
+            c.in-Some.ensures.some,
+      );
+  charges = search rules;
+}
 
 -- the units' blocks and their price, by the rows
 started : (c : goal.After-result-6-1) →

@@ -1,4 +1,4 @@
-use Rattle.std.proofs.Common.{false, ◌≡◌, [], refl, sym, ap, ◌∙◌, arith}
+use Rattle.std.proofs.Common.{false, ◌≡◌, [], refl, sym, ap, ◌∙◌, arith, rules}
 use Rattle.buckets.specs.Kinds.{due}
 use Rattle.reserving.specs.Changes.{advanced, used_in, count_in, price_in, settled_account}
 use Rattle.reserving.specs.Changes.{ended_rows}
@@ -19,56 +19,54 @@ use Rattle.reserving.proofs.LeftReadings.{passes_told}
 use Rattle.reserving.proofs.left.Settlement.{settlement_beside}
 use Rattle.reserving.proofs.account.Account.settle.Goals as goal
 
-pub settle_use-charged-requires-clause-group : goal.settle_use-charged-requires-clause-group
-settle_use-charged-requires-clause-group c =
-    there_later c.args.self.now c.advance-2.new.self c.args.session.now c.args.group
-    c.cycle_at-cycle.result c.args.moment
-    (c.advance-2.ensures.rows ∙ ap (advanced c.args.moment) c.in_ok-make_rows.ensures.ok)
-
-pub settle_use-charged-requires-clause-counter : goal.settle_use-charged-requires-clause-counter
-settle_use-charged-requires-clause-counter c =
-    counter_there c.args.self.now c.advance-2.new.self c.args.session.now c.args.group
-    c.cycle_at-cycle.result c.args.moment
-    (c.advance-2.ensures.rows ∙ ap (advanced c.args.moment) c.in_ok-make_rows.ensures.ok)
-
-pub settle_use-charged-requires-clause-used : goal.settle_use-charged-requires-clause-used
-settle_use-charged-requires-clause-used c =
-    let same : used_in c.args.session.now c.args.group c.advance-2.new.self.groups
-    ≡ used_in c.args.session.now c.args.group c.args.self.now.groups =
-    used_middle c.args.self.now c.advance-2.new.self c.args.session.now c.args.group
-    c.cycle_at-cycle.result c.args.moment
-    (c.advance-2.ensures.rows ∙ ap (advanced c.args.moment) c.in_ok-make_rows.ensures.ok) in
-    omega (
-      arith,
-      same,
-      within_used (used_in c.args.session.now c.args.group c.args.self.now.groups)
-          c.in-Some.rated.units.0
-          (count_in c.args.group (cycle_at c.args.self.now.shelf c.args.group c.args.moment)
-          c.args.self.now.counters) c.in-Some.rated.blocks.0 c.args.self.now.next_charge
-          c.in-Some.ensures.some,
-    )
-
-pub settle_use-charged-requires-clause-counted : goal.settle_use-charged-requires-clause-counted
-settle_use-charged-requires-clause-counted c =
-    let cycle : count_in c.args.group c.cycle_at-cycle.result c.args.self.now.counters
-    ≡ count_in c.args.group (cycle_at c.args.self.now.shelf c.args.group c.args.moment)
-    c.args.self.now.counters =
-    ap (λ x. count_in c.args.group x c.args.self.now.counters) c.cycle_at-cycle.ensures in
-    let same : count_in c.args.group c.cycle_at-cycle.result c.advance-2.new.self.counters
-    ≡ count_in c.args.group c.cycle_at-cycle.result c.args.self.now.counters =
-    count_middle c.args.self.now c.advance-2.new.self c.args.session.now c.args.group
-    c.cycle_at-cycle.result c.args.moment
-    (c.advance-2.ensures.rows ∙ ap (advanced c.args.moment) c.in_ok-make_rows.ensures.ok) in
-    omega (
-      arith,
-      same,
-      cycle,
-      within_counted (used_in c.args.session.now c.args.group c.args.self.now.groups)
-          c.in-Some.rated.units.0
-          (count_in c.args.group (cycle_at c.args.self.now.shelf c.args.group c.args.moment)
-          c.args.self.now.counters) c.in-Some.rated.blocks.0 c.args.self.now.next_charge
-          c.in-Some.ensures.some,
-    )
+pub settle_use-charged-requires : goal.settle_use-charged-requires
+settle_use-charged-requires c = record {
+  group =
+      there_later c.args.self.now c.advance-2.new.self c.args.session.now c.args.group
+      c.cycle_at-cycle.result c.args.moment
+      (c.advance-2.ensures.rows ∙ ap (advanced c.args.moment) c.in_ok-make_rows.ensures.ok);
+  counter =
+      counter_there c.args.self.now c.advance-2.new.self c.args.session.now c.args.group
+      c.cycle_at-cycle.result c.args.moment
+      (c.advance-2.ensures.rows ∙ ap (advanced c.args.moment) c.in_ok-make_rows.ensures.ok);
+  cycle = search rules;
+  used =
+      let same : used_in c.args.session.now c.args.group c.advance-2.new.self.groups
+      ≡ used_in c.args.session.now c.args.group c.args.self.now.groups =
+      used_middle c.args.self.now c.advance-2.new.self c.args.session.now c.args.group
+      c.cycle_at-cycle.result c.args.moment
+      (c.advance-2.ensures.rows ∙ ap (advanced c.args.moment) c.in_ok-make_rows.ensures.ok) in
+      omega (
+        arith,
+        same,
+        within_used (used_in c.args.session.now c.args.group c.args.self.now.groups)
+            c.in-Some.rated.units.0
+            (count_in c.args.group (cycle_at c.args.self.now.shelf c.args.group c.args.moment)
+            c.args.self.now.counters) c.in-Some.rated.blocks.0 c.args.self.now.next_charge
+            c.in-Some.ensures.some,
+      );
+  counted =
+      let cycle : count_in c.args.group c.cycle_at-cycle.result c.args.self.now.counters
+      ≡ count_in c.args.group (cycle_at c.args.self.now.shelf c.args.group c.args.moment)
+      c.args.self.now.counters =
+      ap (λ x. count_in c.args.group x c.args.self.now.counters) c.cycle_at-cycle.ensures in
+      let same : count_in c.args.group c.cycle_at-cycle.result c.advance-2.new.self.counters
+      ≡ count_in c.args.group c.cycle_at-cycle.result c.args.self.now.counters =
+      count_middle c.args.self.now c.advance-2.new.self c.args.session.now c.args.group
+      c.cycle_at-cycle.result c.args.moment
+      (c.advance-2.ensures.rows ∙ ap (advanced c.args.moment) c.in_ok-make_rows.ensures.ok) in
+      omega (
+        arith,
+        same,
+        cycle,
+        within_counted (used_in c.args.session.now c.args.group c.args.self.now.groups)
+            c.in-Some.rated.units.0
+            (count_in c.args.group (cycle_at c.args.self.now.shelf c.args.group c.args.moment)
+            c.args.self.now.counters) c.in-Some.rated.blocks.0 c.args.self.now.next_charge
+            c.in-Some.ensures.some,
+      );
+  charges = search rules;
+}
 
 -- what is charged
 due_is' : (c : goal.After-result-7-1) →
