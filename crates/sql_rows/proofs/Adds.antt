@@ -1,8 +1,8 @@
 -- What INSERT .. ON CONFLICT (key) DO NOTHING of one row makes of its table.
 use Rattle.std.proofs.Common.{◌≡◌, ◌≢◌, ◌⊎◌, inl, inr, ℕ, ℤ, List, [], ◌∷◌, length, slice_get}
-use Rattle.std.proofs.Common.{true, false, not, ◌/◌, if◌then◌else◌, Some, None, Option, Ok, Err}
+use Rattle.std.proofs.Common.{true, false, ◌/◌, Some, None, Option, Ok, Err}
 use Rattle.std.proofs.Common.{Result, OnOk, IsTrue, refl, sym, ap, subst, ◌∙◌, is_eq}
-use Rattle.std.specs.Prelude.{IfOk, is_some, unwrap_or}
+use Rattle.std.specs.Prelude.{IfOk, is_some}
 use Rattle.std.proofs.lemmas.Bool.{and_parts, not-true}
 use Rattle.std.proofs.lemmas.Cmp.{tied_back}
 use Rattle.std.specs.FinMap.{get, get-from_entries}
@@ -27,19 +27,16 @@ use Rattle.sqlite_schema.specs.declared.command.Source.TheVariants.{Values}
 use Rattle.sqlite_schema.specs.declared.command.Conflict.TheVariants.{Abort}
 use Rattle.sqlite_schema.specs.declared.command.Upsert.{Upsert}
 use Rattle.sqlite_schema.specs.declared.command.Command.TheVariants.{InsertOr}
-use Rattle.sqlite_rules.specs.declared.error.Rowids.TheVariants.{Chosen, Above, Given}
-use Rattle.sqlite_rules.specs.declared.error.Refusal.{Refusal}
+use Rattle.sqlite_rules.specs.declared.error.Rowids.TheVariants.{Given}
 use Rattle.sqlite_rules.specs.Cast.{cast_row}
 use Rattle.sqlite_rules.specs.Keys.{AreConflicts, conflicts}
 use Rattle.sqlite_rules.specs.Lists.{Has}
-use Rattle.sqlite_rules.specs.Edit.{edit_of, next_rowid, are_fresh, with_rowid}
+use Rattle.sqlite_rules.specs.Edit.{edit_of, next_rowid, are_fresh}
 use Rattle.sqlite_rules.proofs.ActionLemmas.{no_works}
 use Rattle.sqlite_rules.proofs.ListLemmas.{all_has}
-use Rattle.sqlite.specs.Does.{Tally}
 use Rattle.sqlite.specs.Rows.{Written, Task, Clears, Puts, Upserts, Meets}
-use Rattle.sqlite.specs.Rows.{Judged, Tries, TriesEach, InsertsOr, mended, nothing}
-use Rattle.sqlite.specs.Rows.{stamped, count_of, rowids_for, Counts}
-use Rattle.sqlite.specs.Effect.{Database, value_rows}
+use Rattle.sqlite.specs.Rows.{stamped}
+use Rattle.sqlite.specs.Effect.{value_rows}
 use Rattle.sqlite.specs.declared.error.Error.{Error}
 use Rattle.sqlite.specs.Listing.{understood}
 use Rattle.sqlite.specs.State.{State, ExecutesInside, Shows, Writes}
@@ -49,10 +46,11 @@ use Rattle.sql_tables.specs.Schema.{book_schema}
 use Rattle.sql_tables.specs.Statements.{AreStored, Changes, IsBook}
 use Rattle.sql_tables.proofs.Books.{others, stays_stored, catalog_stays}
 use Rattle.sql_tables.proofs.Selections.{meets, met_some, met_has}
-use Rattle.sql_tables.proofs.Steps.{went, same_value, does_over}
+use Rattle.sql_tables.proofs.Steps.{went, same_value}
 use Rattle.sql_tables.proofs.Swaps.{PutsRow, puts_key}
 use Rattle.sql_tables.proofs.Ties.{equal_is}
 use Rattle.sql_tables.proofs.Upserts.{Put, Added}
+use Rattle.sql_tables.proofs.OneRow.{says_of_statement}
 
 -- the row of these values is stored as it is
 pub record IsAddOf (table : Table) (values : Row) : Type 0 where
@@ -137,51 +135,6 @@ module _ (limit : Option ℕ) (schema : Schema) (table : Table) (params values :
             ap (λ (w : Written). length w.rows) (same_value m),
           )
 
-  judged : (one : Written) (verdict : Option Refusal) →
-      Judged task Abort (clause ∷ []) new db verdict (Ok one) → Adds one
-  judged one None h = upserts one h
-  judged one (Some why) h = absurd (let e = h in cc)
-
-  tries : (one : Written) → Tries task Abort (clause ∷ []) new db (Ok one) → Adds one
-  tries one (inl h) = absurd (let e = h.1 in cc)
-  tries one (inr h) = judged one h.0 h.2
-
-  made : (top : ℤ) → table.is_counted ≡ false → with_rowid (rowids_for table top) (db table.tree)
-      (cast_row table (mended Abort table (Null ∷ values))) ≡ new
-  made top uncounted = ap (λ r. with_rowid (rowids_for table top) (db table.tree) r) adds.plain ∙ ap
-      (λ b. with_rowid (if b then Above top else Chosen) (db table.tree) (Null ∷ values)) uncounted
-
-  uncounts : (mid next : Trees) (counter : Option Row) (top : ℤ) → table.is_counted ≡ false →
-      Counts task mid counter top (Ok next) → next ≡ mid
-  uncounts mid next counter top uncounted h = same_value (rw uncounted at h)
-
-  inserts : (terms : List Term) (width : ℕ) (done : Written) → table.is_counted ≡ false
-      → value_rows (stamped table params) width (length terms / width) terms ≡ (Null ∷ values) ∷ []
-      → InsertsOr task Abort (clause ∷ []) (Values terms width) db (Ok done) → Adds done
-  inserts terms width done uncounted supplied h =
-      let sourced = went h in
-      let counted = went sourced.2 in
-      let tried = went counted.2 in
-      let ended = went tried.2 in
-      let each =
-      subst (λ rows. TriesEach task Abort (clause ∷ []) rows (count_of counted.0) (nothing db)
-      (Ok tried.0)) (sourced.1.1 ∙ supplied) tried.1 in
-      let one = went each in
-      let put = tries one.0 (subst (λ r. Tries task Abort (clause ∷ []) r db (Ok one.0))
-      (made (count_of counted.0) uncounted) one.1) in
-      let first : tried.0.0.trees ≡ one.0.trees =
-      ap (λ (p : Written × ℤ). p.0.trees) (same_value one.2) in
-      let uncounting : ended.0 ≡ tried.0.0.trees =
-      uncounts tried.0.0.trees ended.0 counted.0 tried.0.1 uncounted
-      ended.1 in
-      let last : done.trees ≡ ended.0 = ap (λ (w : Written). w.trees) (same_value ended.2) in
-      let same : one.0.trees ≡ done.trees = sym (last ∙ uncounting ∙ first) in
-      let rows : length one.0.rows ≡ length done.rows =
-      sym (ap (λ (w : Written). length w.rows) (same_value ended.2)
-      ∙ ap (λ (p : Written × ℤ). length p.0.rows) (same_value one.2)) in
-      subst (λ n. Adding schema table target values db done.trees n) rows
-      (subst (λ t. Adding schema table target values db t (length one.0.rows)) same put)
-
 -- the same of the whole statement
 module _ (schema : Schema) (at : ℕ) (table : Table)
     (there : slice_get schema.tables at ≡ Some table)
@@ -194,20 +147,11 @@ module _ (schema : Schema) (at : ℕ) (table : Table)
       (record { target = Some target; update = None } ∷ [])) text params count
       → (new.now.schema ≡ schema)
       × Adding schema table target values old.now.trees new.now.trees count
-  adds_row old new text count has w =
-      let does = does_over has w in
-      let done = went (rw there at does) in
-      let concluded = went (went done.2).2 in
-      let now = ap (λ (p : Tally × Database). p.1) (same_value concluded.2) in
-      let tally = ap (λ (p : Tally × Database). p.0.rows) (same_value concluded.2) in
-      let counted : length done.0.rows ≡ count =
-      sym (w.counted ∙ ap (λ (o : Option ℕ). unwrap_or o 0) tally) in (
-        ap (λ (d : Database). d.schema) now,
-        subst (λ n. Adding schema table target values old.now.trees new.now.trees n) counted
-            (subst (λ t. Adding schema table target values old.now.trees t (length done.0.rows))
-            (sym (ap (λ (d : Database). d.trees) now)) (inserts old.step_limit schema table params
-            values target old.now.trees adds terms width done.0 uncounted supplied done.1)),
-      )
+  adds_row old new text count =
+      says_of_statement schema at table there params values
+      (record { target = Some target; update = None }) adds.plain terms width uncounted supplied old
+      new text count (Adding schema table target values old.now.trees)
+      (upserts old.step_limit schema table params values target old.now.trees adds)
 
 -- ---- of a table of the book
 

@@ -21,9 +21,11 @@ pub mod Swaps
 pub mod Tabled
 pub mod Telling
 pub mod Ties
+pub mod OneRow
 pub mod Upserts
 pub mod Ascents
 pub mod Plains
+pub mod StoredOrder
 pub mod Standing
 pub mod OpeningSteps
 pub mod OpeningTexts

@@ -1,20 +1,19 @@
 -- What rowids that rise say of the table.
-use Rattle.std.proofs.Common.{◌≡◌, ℕ, suc, ◌+◌, ◌<◌, length, slice_index_or, ap₂, arith}
-use Rattle.std.proofs.Common.{List, [], ◌∷◌, map, flat_map, Bool, false, Ordering, Less, Equal}
-use Rattle.std.proofs.Common.{Greater, is_eq, IsTrue, refl, sym, ap, subst, ◌∙◌}
+use Rattle.std.proofs.Common.{◌≡◌, ℕ, ◌+◌, ◌<◌, length, slice_index_or, ap₂, arith}
+use Rattle.std.proofs.Common.{List, [], ◌∷◌, map, flat_map, false}
+use Rattle.std.proofs.Common.{IsTrue, refl, sym, ap, subst, ◌∙◌}
 use Rattle.std.specs.Prelude.{codes}
-use Rattle.std.specs.List.{AllByRecursion, IsDistinct}
+use Rattle.std.specs.List.{AllByRecursion}
 use Rattle.std.specs.List.Sorted.{IsPermutation, IsSorted, IsSortedBy}
-use Rattle.std.specs.Ordering.{is_lt, ordering_reverse}
+use Rattle.std.specs.Ordering.{is_lt}
 use Rattle.std.proofs.lemmas.List.{get_or-map, length-map}
 use Rattle.std.proofs.lemmas.List.Sorted.{IsPermutation-map, IsPermutation-sym}
-use Rattle.std.proofs.lemmas.Map.Keys.{IsDistinct-IsPermutation}
 use Rattle.sqlite_value.specs.declared.value.Value.TheVariants.{Null}
 use Rattle.sqlite_value.specs.Order.{Row, value_cmp}
-use Rattle.sqlite_value.proofs.OrderLemmas.{then-Equal, value_cmp_total}
-use Rattle.sqlite_trees.specs.Tree.{Trees, rowid, IsAscending}
+use Rattle.sqlite_value.proofs.OrderLemmas.{then-Equal}
+use Rattle.sqlite_trees.specs.Tree.{Trees, rowid}
 use Rattle.sqlite_trees.specs.View.{is_int}
-use Rattle.sqlite_trees.proofs.ListLemmas.{all-map, all-permutation, all_from_map, all_weaker}
+use Rattle.sqlite_trees.proofs.ListLemmas.{all-map, all-permutation, all_from_map}
 use Rattle.sqlite_trees.proofs.ListLemmas.{ascending-map, ascending_from_map}
 use Rattle.sqlite_sql.specs.Query.{Output, output, output_cmp, IsAnswer}
 use Rattle.sqlite_sql.specs.Program.{overlay}
@@ -25,6 +24,7 @@ use Rattle.sql_tables.specs.Keyed.{IsStored}
 use Rattle.sqlite_schema.specs.declared.schema.Table.{Table}
 use Rattle.sql_tables.specs.Schema.{schema_at}
 use Rattle.sql_tables.proofs.Steps.{bare}
+use Rattle.sql_tables.proofs.StoredOrder.{same_id, stored_permuted, climbs}
 use Rattle.sql_tables.specs.Opens.{rowids_of, IsRowids}
 use Rattle.sql_tables.specs.Rises.{AreRising}
 
@@ -53,36 +53,6 @@ shown_ids tree db rows a =
     twice [] = refl
     twice (r ∷ rs) = ap (λ xs. (rowid r ∷ []) ∷ xs) (twice rs)
 
-abbrev same_id : Row → Row → Bool
-same_id a b = is_eq (value_cmp (rowid a) (rowid b))
-
-flips : (a b : Row) → same_id a b ≡ same_id b a
-flips a b = ap is_eq (value_cmp_total.antisymm (rowid a) (rowid b))
-    ∙ turned (value_cmp (rowid b) (rowid a))
-  where
-    turned : (o : Ordering) → is_eq (ordering_reverse o) ≡ is_eq o
-    turned Less = refl
-    turned Equal = refl
-    turned Greater = refl
-
-to_distinct : (rows : List Row) → IsAscending (λ a b. same_id a b ≡ false) rows →
-    IsDistinct same_id rows
-unfolding IsDistinct
-to_distinct [] h = tt
-to_distinct (r ∷ rows) h = (h.0, to_distinct rows h.1)
-
-from_distinct : (rows : List Row) → IsDistinct same_id rows →
-    IsAscending (λ a b. same_id a b ≡ false) rows
-unfolding IsDistinct
-from_distinct [] h = tt
-from_distinct (r ∷ rows) h = (h.0, from_distinct rows h.1)
-
-stored_permuted : (xs ys : List Row) → IsPermutation xs ys → IsStored xs → IsStored ys
-stored_permuted xs ys p h = (
-  from_distinct ys (IsDistinct-IsPermutation same_id flips xs ys p (to_distinct xs h.0)),
-  all-permutation _ xs ys p h.1,
-)
-
 stored_ids : (rows : List Row) → IsStored (map (λ r. rowid r ∷ []) rows) → IsStored rows
 stored_ids rows h = (
   ascending_from_map (λ a b. same_id a b ≡ false) (λ (r : Row). rowid r ∷ []) rows h.0,
@@ -106,37 +76,6 @@ ids_stored rows h = (
   ascending-map (λ a b. same_id a b ≡ false) (λ (r : Row). rowid r ∷ []) rows h.0,
   all-map (λ r. IsTrue (is_int (rowid r))) (λ (r : Row). rowid r ∷ []) rows h.1,
 )
-
-above : (o : Ordering) → is_lt o ≡ false → is_eq (ordering_reverse o) ≡ false →
-    ordering_reverse o ≡ Less
-above Less a b = absurd (cc a)
-above Equal a b = absurd (cc b)
-above Greater a b = refl
-
-abbrev rises_by : Row → Row → Type 0
-rises_by a b = value_cmp (rowid a) (rowid b) ≡ Less
-
-climbs : (rows : List Row) → IsSortedBy (λ a b. is_lt (value_cmp (rowid a) (rowid b))) rows
-    → IsAscending (λ a b. same_id a b ≡ false) rows → IsAscending rises_by rows
-climbs [] sorted apart = tt
-climbs (r ∷ []) sorted apart = (tt, tt)
-climbs (r ∷ s ∷ rows) sorted apart =
-    let rest = climbs (s ∷ rows) (λ k d low high.
-    let next : suc k + 1 ≡ suc (k + 1) = omega arith in
-    subst (λ n. is_lt (value_cmp (rowid (slice_index_or (r ∷ s ∷ rows) n d))
-    (rowid (slice_index_or (s ∷ rows) k d))) ≡ false)
-    next (sorted (suc k) d (omega arith) (omega (arith, high)))) apart.1 in
-    let turned = value_cmp_total.antisymm (rowid r) (rowid s) in
-    let less : rises_by r s =
-    turned ∙ above (value_cmp (rowid s) (rowid r)) (sorted 0 r (omega arith) (omega arith))
-    (ap is_eq (sym turned) ∙ apart.0.0) in (
-      (
-        less,
-        all_weaker (rises_by s) (rises_by r)
-            (λ t more. value_cmp_total.trans (rowid r) (rowid s) (rowid t) less more) rows rest.0,
-      ),
-      rest,
-    )
 
 abbrev both : Row → Output
 both r = (r, r)

@@ -1,7 +1,7 @@
 -- What INSERT .. ON CONFLICT (key) DO UPDATE of one row makes of its table.
 use Rattle.std.proofs.Common.{◌≡◌, ◌≢◌, ◌⊎◌, inl, inr, ℕ, ℤ, pos, negsuc, List, [], ◌∷◌, ◌++◌, map}
 use Rattle.std.proofs.Common.{flat_map, length, slice_get, drop, true, false, not, ◌&&◌, cond}
-use Rattle.std.proofs.Common.{if◌then◌else◌, ◌/◌, ◌<◌, Some, None, Option, Ok}
+use Rattle.std.proofs.Common.{◌/◌, ◌<◌, Some, None, Option, Ok}
 use Rattle.std.proofs.Common.{IsTrue, refl, sym, ap, subst, ◌∙◌, arith}
 use Rattle.std.proofs.lemmas.Bool.{cases_Bool, and_parts, not-true}
 use Rattle.std.proofs.lemmas.Cmp.{tied_itself}
@@ -29,30 +29,28 @@ use Rattle.sqlite_schema.specs.declared.command.Source.TheVariants.{Values}
 use Rattle.sqlite_schema.specs.declared.command.Conflict.TheVariants.{Abort}
 use Rattle.sqlite_schema.specs.declared.command.Upsert.{Upsert}
 use Rattle.sqlite_schema.specs.declared.command.Command.TheVariants.{InsertOr}
-use Rattle.sqlite_rules.specs.declared.error.Rowids.TheVariants.{Chosen, Above, Given}
-use Rattle.sqlite_rules.specs.declared.error.Refusal.{Refusal}
+use Rattle.sqlite_rules.specs.declared.error.Rowids.TheVariants.{Given}
 use Rattle.sqlite_rules.specs.Cast.{cast_row}
 use Rattle.sqlite_rules.specs.Keys.{AreConflicts, conflicts}
 use Rattle.sqlite_rules.specs.Lists.{Has}
 use Rattle.sqlite_rules.specs.Calls.{ids_of}
 use Rattle.sqlite_rules.specs.Edit.{Edit, edit_of, left_by, id_in, next_rowid, is_taken}
-use Rattle.sqlite_rules.specs.Edit.{are_fresh, taken_by, Applies, IsNoIndex, with_rowid}
+use Rattle.sqlite_rules.specs.Edit.{are_fresh, taken_by, Applies, IsNoIndex}
 use Rattle.sqlite_rules.specs.Edit.{without_all, put_all}
 use Rattle.sqlite_rules.specs.Action.{works, Writes as Settling}
 use Rattle.sqlite_rules.proofs.ActionLemmas.{no_works}
 use Rattle.sqlite_rules.proofs.ListLemmas.{all_has, some_from}
 use Rattle.sqlite_rules.proofs.TableLemmas.{int_is, has_put}
 use Rattle.sqlite_rules.proofs.PlaceLemmas.{given as given_news}
-use Rattle.sqlite.specs.Does.{Tally}
 use Rattle.sqlite.specs.Rows.{Written, Task, Clears, Puts, Upserts, Meets, Resolves}
-use Rattle.sqlite.specs.Rows.{Judged, Tries, TriesEach, InsertsOr, mended, nothing}
-use Rattle.sqlite.specs.Rows.{stamped, count_of, rowids_for, Counts, shown}
-use Rattle.sqlite.specs.Effect.{Database, Answers, value_rows}
+use Rattle.sqlite.specs.Rows.{stamped, shown}
+use Rattle.sqlite.specs.Effect.{Answers, value_rows}
 use Rattle.sqlite.specs.State.{State, Writes}
 use Rattle.std.proofs.lemmas.List.{length-map}
 use Rattle.sqlite.proofs.Callers.{one_step}
 use Rattle.sql_tables.proofs.Ties.{same_ints, equals_itself}
-use Rattle.sql_tables.proofs.Steps.{went, same_value, bare, does_over}
+use Rattle.sql_tables.proofs.Steps.{went, same_value, bare}
+use Rattle.sql_tables.proofs.OneRow.{says_of_statement}
 
 -- the query of DO UPDATE: the rowid and the new row, where the rowid is that of the row that is met
 abbrev pub pick : ℕ → ℕ → List Term → Query
@@ -334,51 +332,6 @@ module _ (limit : Option ℕ) (schema : Schema) (table : Table) (params values :
           let why = c.sound x (inl refl) in
           inr (moves why.0 x one why.1 why.2 why.3 m)
 
-  judged : (one : Written) (verdict : Option Refusal) →
-      Judged task Abort (clause ∷ []) new db verdict (Ok one) →
-      Upserted schema table target values db one.trees
-  judged one None h = upserts one h
-  judged one (Some why) h = absurd (let e = h in cc)
-
-  tries : (one : Written) → Tries task Abort (clause ∷ []) new db (Ok one) →
-      Upserted schema table target values db one.trees
-  tries one (inl h) = absurd (let e = h.1 in cc)
-  tries one (inr h) = judged one h.0 h.2
-
-  made : (top : ℤ) → table.is_counted ≡ false → with_rowid (rowids_for table top) (db table.tree)
-      (cast_row table (mended Abort table (Null ∷ values))) ≡ new
-  made top uncounted = ap (λ r. with_rowid (rowids_for table top) (db table.tree) r) upsert.plain
-      ∙ ap (λ b. with_rowid (if b then Above top else Chosen) (db table.tree) (Null ∷ values))
-      uncounted
-
-  uncounts : (mid next : Trees) (counter : Option Row) (top : ℤ) → table.is_counted ≡ false →
-      Counts task mid counter top (Ok next) → next ≡ mid
-  uncounts mid next counter top uncounted h = same_value (rw uncounted at h)
-
-  inserts : (terms : List Term) (width : ℕ) (done : Written) → table.is_counted ≡ false
-      → value_rows (stamped table params) width (length terms / width) terms ≡ (Null ∷ values) ∷ []
-      → InsertsOr task Abort (clause ∷ []) (Values terms width) db (Ok done)
-      → Upserted schema table target values db done.trees
-  inserts terms width done uncounted supplied h =
-      let sourced = went h in
-      let counted = went sourced.2 in
-      let tried = went counted.2 in
-      let ended = went tried.2 in
-      let each =
-      subst (λ rows. TriesEach task Abort (clause ∷ []) rows (count_of counted.0) (nothing db)
-      (Ok tried.0)) (sourced.1.1 ∙ supplied) tried.1 in
-      let one = went each in
-      let put = tries one.0 (subst (λ r. Tries task Abort (clause ∷ []) r db (Ok one.0))
-      (made (count_of counted.0) uncounted) one.1) in
-      let first : tried.0.0.trees ≡ one.0.trees =
-      ap (λ (p : Written × ℤ). p.0.trees) (same_value one.2) in
-      let uncounting : ended.0 ≡ tried.0.0.trees =
-      uncounts tried.0.0.trees ended.0 counted.0 tried.0.1 uncounted
-      ended.1 in
-      let last : done.trees ≡ ended.0 = ap (λ (w : Written). w.trees) (same_value ended.2) in
-      let same : one.0.trees ≡ done.trees = sym (last ∙ uncounting ∙ first) in
-      subst (Upserted schema table target values db) same put
-
 -- the same of the whole statement
 module _ (schema : Schema) (at : ℕ) (table : Table)
     (there : slice_get schema.tables at ≡ Some table)
@@ -395,14 +348,12 @@ module _ (schema : Schema) (at : ℕ) (table : Table)
         update = Some (record { lets = []; body = pick table.tree base project });
       } ∷ [])) text params count
       → (new.now.schema ≡ schema) × Upserted schema table target values old.now.trees new.now.trees
-  puts_row old new text count has keyed w =
-      let does = does_over has w in
-      let done = went (rw there at does) in
-      let concluded = went (went done.2).2 in
-      let now = ap (λ (p : Tally × Database). p.1) (same_value concluded.2) in (
-        ap (λ (d : Database). d.schema) now,
-        subst (Upserted schema table target values old.now.trees)
-            (sym (ap (λ (d : Database). d.trees) now)) (inserts old.step_limit schema table params
-            values base target project old.now.trees keyed upsert
-            terms width done.0 uncounted supplied done.1),
-      )
+  puts_row old new text count has keyed =
+      says_of_statement schema at table there params values
+      (record {
+        target = Some target;
+        update = Some (record { lets = []; body = pick table.tree base project });
+      }) upsert.plain terms width uncounted supplied old new text count
+      (λ trees many. Upserted schema table target values old.now.trees trees)
+      (upserts old.step_limit schema table params values base target project old.now.trees keyed
+      upsert) has
