@@ -101,34 +101,38 @@ module _ (p : Parts) (h : AreParts p) where
 
   live_may_change : IsMadeFrom p.live p.live (rows_of_parts p)
   live_may_change = record {
-    buckets = λ n y e.
-        find_both (λ b. b.number == n) p.left.buckets p.live.buckets
-        ∙ live_found (bucket_in n p.left.buckets) (bucket_in n p.live.buckets) y
-        (bucket_apart p h n) e;
-    counters = λ g c y e.
-        find_both (is_counter g c) p.left.counters p.live.counters
-        ∙ live_found (counter_in g c p.left.counters) (counter_in g c p.live.counters) y
-        (counter_apart p h g c) e;
-    sessions = λ s y e.
-        find_both (is_session s) p.left.sessions p.live.sessions
-        ∙ live_found (session_in s p.left.sessions) (session_in s p.live.sessions) y
-        (session_apart p h s) e;
-    groups = λ s g y e. ap (option_map group_row) (group_live s g y e);
-    holds = λ s g n y e. ap (held_of n) (group_live s g y e);
-    dead = λ n y e k.
-        dead_parts y (EachIn-found (λ b. is_dead b ≡ _) (λ b. b.number == n) p.left.buckets y
-        h.dead
-        (left_found (bucket_in n p.left.buckets) (bucket_in n p.live.buckets) y
-        (sym (find_both (λ b. b.number == n) p.left.buckets p.live.buckets) ∙ e) k));
-    ended = λ s y e k.
-        EachIn-found (λ r. is_open r.state ≡ false) (is_session s) p.left.sessions y h.over
-        (left_found (session_in s p.left.sessions) (session_in s p.live.sessions) y
-        (sym (find_both (is_session s) p.left.sessions p.live.sessions) ∙ e) k);
-    free = λ s g y e k.
-        free_row s g y (group_in s g p.left.groups) refl
-        (row_found (group_in s g p.left.groups) (group_in s g p.live.groups) y
-        (ap (option_map group_row) (sym (find_both (is_of s g) p.left.groups p.live.groups)) ∙ e)
-        k);
+    there = record {
+      buckets = λ n y e.
+          find_both (λ b. b.number == n) p.left.buckets p.live.buckets
+          ∙ live_found (bucket_in n p.left.buckets) (bucket_in n p.live.buckets) y
+          (bucket_apart p h n) e;
+      counters = λ g c y e.
+          find_both (is_counter g c) p.left.counters p.live.counters
+          ∙ live_found (counter_in g c p.left.counters) (counter_in g c p.live.counters) y
+          (counter_apart p h g c) e;
+      sessions = λ s y e.
+          find_both (is_session s) p.left.sessions p.live.sessions
+          ∙ live_found (session_in s p.left.sessions) (session_in s p.live.sessions) y
+          (session_apart p h s) e;
+      groups = λ s g y e. ap (option_map group_row) (group_live s g y e);
+      holds = λ s g n y e. ap (held_of n) (group_live s g y e);
+    };
+    rest = record {
+      dead = λ n y e k.
+          dead_parts y (EachIn-found (λ b. is_dead b ≡ _) (λ b. b.number == n) p.left.buckets y
+          h.dead
+          (left_found (bucket_in n p.left.buckets) (bucket_in n p.live.buckets) y
+          (sym (find_both (λ b. b.number == n) p.left.buckets p.live.buckets) ∙ e) k));
+      ended = λ s y e k.
+          EachIn-found (λ r. is_open r.state ≡ false) (is_session s) p.left.sessions y h.over
+          (left_found (session_in s p.left.sessions) (session_in s p.live.sessions) y
+          (sym (find_both (is_session s) p.left.sessions p.live.sessions) ∙ e) k);
+      free = λ s g y e k.
+          free_row s g y (group_in s g p.left.groups) refl
+          (row_found (group_in s g p.left.groups) (group_in s g p.live.groups) y
+          (ap (option_map group_row) (sym (find_both (is_of s g) p.left.groups p.live.groups)) ∙ e)
+          k);
+    };
   }
 
 -- ---- what is live, brought on, stands over all that is there as it stands beside what was left

@@ -166,9 +166,9 @@ module _ (shelf : Shelf) (t : ℕ) (before w : StoredRows) (r : Rows)
       at : (o p : Option Session) → session_in s before.sessions ≡ o →
           session_in s w.sessions ≡ p → is_live_row v t o ≡ is_live_row v t p
       at (Some x) p e k =
-          ap (is_live_row v t) (sym (made.sessions s x e) ∙ are.sessions s ∙ k)
+          ap (is_live_row v t) (sym (made.there.sessions s x e) ∙ are.sessions s ∙ k)
       at None None e k = refl
-      at None (Some y) e k = not_live y (made.ended s y (are.sessions s ∙ k) e)
+      at None (Some y) e k = not_live y (made.rest.ended s y (are.sessions s ∙ k) e)
 
   keeps_same : live ≡ live_all
   keeps_same = λ i s. live_same s i
@@ -179,7 +179,7 @@ module _ (shelf : Shelf) (t : ℕ) (before w : StoredRows) (r : Rows)
       held_found q b (Some x) ≤ held_found q b (group_in x.session x.group w.groups)
   held_here q b x e =
       at (group_in x.session x.group w.groups) refl
-      (sym (made.holds x.session x.group b.number x e) ∙ are.holds x.session x.group b.number)
+      (sym (made.there.holds x.session x.group b.number x e) ∙ are.holds x.session x.group b.number)
     where
       same_if : (u : Bool) (m n : ℕ) → m ≡ n → (if u then m else 0) ≤ (if u then n else 0)
       same_if true m n e = omega (arith, e)
@@ -248,10 +248,10 @@ module _ (shelf : Shelf) (t : ℕ) (before w : StoredRows) (r : Rows)
       at None (Some y) e k =
           ap Some (sym (dead_stays y
           (each_found (λ b. held_by (λ s. true) w.groups b ≡ b.reserved) n w.buckets y kept.held k)
-          (made.dead n y (are.buckets n ∙ k) e)))
+          (made.rest.dead n y (are.buckets n ∙ k) e)))
       at (Some x) p e k =
           let there : bucket_in n w.buckets ≡ Some x =
-          sym (are.buckets n) ∙ made.buckets n x e in
+          sym (are.buckets n) ∙ made.there.buckets n x e in
           let same : lapsed_in live before.groups x ≡ lapsed_in live_all w.groups x =
           held_same (λ s. not (live s)) x
           (each_found (λ b. held_by (λ s. true) before.groups b ≡ b.reserved) n before.buckets x
@@ -272,9 +272,9 @@ module _ (shelf : Shelf) (t : ℕ) (before w : StoredRows) (r : Rows)
           first_of (option_map (lapse v t) o) p ≡ option_map (lapse v t) p
       at None None e k = refl
       at None (Some y) e k =
-          ap Some (sym (ended_stays v t y (made.ended s y (are.sessions s ∙ k) e)))
+          ap Some (sym (ended_stays v t y (made.rest.ended s y (are.sessions s ∙ k) e)))
       at (Some x) p e k =
-          ap (option_map (lapse v t)) (sym (made.sessions s x e) ∙ are.sessions s ∙ k)
+          ap (option_map (lapse v t)) (sym (made.there.sessions s x e) ∙ are.sessions s ∙ k)
 
   -- what is among what may change is told alike by both, and what isn't holds nothing
   record IsAlike (s : List ℕ) (g : ℕ) (o p : Option SessionGroup) : Type 0 where
@@ -312,15 +312,15 @@ module _ (shelf : Shelf) (t : ℕ) (before w : StoredRows) (r : Rows)
   alike s g None None e k = record { row = refl; holds = λ n. refl }
   alike s g (Some x) None e k =
       absurd (no_some (group_row x)
-      (ap (option_map group_row) (sym k) ∙ sym (are.groups s g) ∙ made.groups s g x e))
+      (ap (option_map group_row) (sym k) ∙ sym (are.groups s g) ∙ made.there.groups s g x e))
   alike s g None (Some y) e k =
       alike_free s g y (no_terms y.reservation
-      (made.free s g (group_row y) (are.groups s g ∙ ap (option_map group_row) k) e).0)
+      (made.rest.free s g (group_row y) (are.groups s g ∙ ap (option_map group_row) k) e).0)
   alike s g (Some x) (Some y) e k =
       alike_rows s g x y (key_of s g before.groups x e) (key_of s g w.groups y k)
       (some_of (group_row x) (group_row y)
-      (sym (made.groups s g x e) ∙ are.groups s g ∙ ap (option_map group_row) k))
-      (λ n. sym (made.holds s g n x e) ∙ are.holds s g n ∙ ap (held_of n) k)
+      (sym (made.there.groups s g x e) ∙ are.groups s g ∙ ap (option_map group_row) k))
+      (λ n. sym (made.there.holds s g n x e) ∙ are.holds s g n ∙ ap (held_of n) k)
 
   group_found : (s : List ℕ) (g : ℕ) →
       IsAlike s g (group_in s g before.groups) (group_in s g w.groups)
@@ -334,7 +334,7 @@ module _ (shelf : Shelf) (t : ℕ) (before w : StoredRows) (r : Rows)
           counter_in g c before.counters ≡ o →
           first_of o (r.counters g c) ≡ counter_in g c w.counters
       at None e = are.counters g c
-      at (Some x) e = sym (made.counters g c x e) ∙ are.counters g c
+      at (Some x) e = sym (made.there.counters g c x e) ∙ are.counters g c
 
   pub brought_over : AreListed (advanced_stored shelf t w) (over (advanced_stored shelf t before) r)
   brought_over = record {

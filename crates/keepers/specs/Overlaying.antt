@@ -4,21 +4,22 @@ use Rattle.std.specs.Prelude.{◌≡◌, Bool, false, not, ◌==◌, ◌&&◌, �
 use Rattle.std.specs.Prelude.{Some, filter, is_some, if◌then◌else◌}
 use Rattle.std.specs.List.{list_any}
 use Rattle.std.specs.List.Sorted.{IsPermutation}
-use Rattle.units.specs.Words.{GroupId, CycleNumber}
+use Rattle.units.specs.Words.{GroupId}
 use Rattle.identifiers.specs.Words.{SessionName}
 use Rattle.buckets.specs.Words.{BucketNumber}
 use Rattle.buckets.specs.Row.{BucketRow}
 use Rattle.reserving.specs.declared.session.Session.{Session}
 use Rattle.reserving.specs.declared.session.SessionGroup.{SessionGroup}
 use Rattle.reserving.specs.declared.session.Counter.{Counter}
-use Rattle.reserving.specs.Sessions.{is_open, session_in, group_in, counter_in}
+use Rattle.reserving.specs.Sessions.{is_open, session_in, group_in}
 use Rattle.reserving.specs.Rows.{AreApart}
 use Rattle.reserving.specs.Stored.{StoredRows}
 use Rattle.ledger.specs.Laws.{IsDead}
 use Rattle.reserving.specs.Left.{is_dead, bucket_in}
 use Rattle.reserving.specs.declared.restoring.GivenRows.{GivenRows}
 use Rattle.reserving.specs.Restored.{given, FindsSame}
-use Rattle.keepers.specs.Tables.{Rows, GroupRow, head_of, group_row, held_of}
+use Rattle.keepers.specs.Tables.{Rows, GroupRow, head_of}
+use Rattle.keepers.specs.Differing.{AreThere}
 use Rattle.keepers.specs.Named.{Names, Numbers, is_named, is_numbered}
 use Rattle.keepers.specs.Keyed.{same_bucket}
 
@@ -97,22 +98,5 @@ pub record IsRestDead (after : StoredRows) (r : Rows) : Type 0 where
 
 -- the rows before are there, and what isn't among those after it can't change any more
 pub record IsMadeFrom (before after : StoredRows) (r : Rows) : Type 0 where
-  pub buckets : (n : BucketNumber) (x : BucketRow) → bucket_in n before.buckets ≡ Some x →
-      r.buckets n ≡ Some x
-  pub counters : (g : GroupId) (c : CycleNumber) (x : Counter) →
-      counter_in g c before.counters ≡ Some x →
-      r.counters g c ≡ Some x
-  pub sessions : (s : SessionName) (x : Session) → session_in s before.sessions ≡ Some x →
-      r.sessions s ≡ Some x
-  pub groups : (s : SessionName) (g : GroupId) (x : SessionGroup) →
-      group_in s g before.groups ≡ Some x →
-      r.groups s g ≡ Some (group_row x)
-  pub holds : (s : SessionName) (g : GroupId) (n : BucketNumber) (x : SessionGroup) →
-      group_in s g before.groups ≡ Some x →
-      r.holds s g n ≡ held_of n (Some x)
-  pub dead : (n : BucketNumber) (x : BucketRow) → r.buckets n ≡ Some x →
-      bucket_in n after.buckets ≡ None → IsDead x
-  pub ended : (s : SessionName) (x : Session) → r.sessions s ≡ Some x →
-      session_in s after.sessions ≡ None → is_open x.state ≡ false
-  pub free : (s : SessionName) (g : GroupId) (x : GroupRow) → r.groups s g ≡ Some x →
-      group_in s g after.groups ≡ None → (x.terms ≡ None) × (session_in s after.sessions ≡ None)
+  pub there : AreThere before r
+  pub rest : IsRestDead after r

@@ -22,11 +22,11 @@ use Rattle.reserving.proofs.order.Searched.{at_place}
 
 -- ---- names in order
 
-abbrev order : List ℕ → List ℕ → Ordering
+abbrev pub order : List ℕ → List ℕ → Ordering
 order = slice_cmp nat_cmp
 
 -- not behind one that isn't behind a third
-not_behind : (x y z : List ℕ) → is_gt (order x y) ≡ false → is_gt (order y z) ≡ false
+pub not_behind : (x y z : List ℕ) → is_gt (order x y) ≡ false → is_gt (order y z) ≡ false
     → is_gt (order x z) ≡ false
 not_behind x y z h k = go (order x y) (order y z) refl refl h k
   where
@@ -38,7 +38,7 @@ not_behind x y z h k = go (order x y) (order y z) refl refl h k
     go Equal q e f h k = ap is_gt (nat_list_cmp_total.congr x y z e ∙ f) ∙ k
     go Greater q e f h k = absurd (not_both (sym h))
 
-before_it : (x y z : List ℕ) → is_gt (order x y) ≡ false → is_lt (order y z) ≡ true
+pub before_it : (x y z : List ℕ) → is_gt (order x y) ≡ false → is_lt (order y z) ≡ true
     → is_lt (order x z) ≡ true
 before_it x y z h k = go (order x y) refl h
   where

@@ -81,6 +81,19 @@ keyed w h = record {
   groups = h.groups;
 }
 
+-- all but the groups
+abbrev pub without_groups : StoredRows → StoredRows
+without_groups w = record w { groups = [] }
+
+pub keyed_without : (w : StoredRows) → AreKeyed w → AreKeyed (without_groups w)
+keyed_without w h = record {
+  buckets = h.buckets;
+  scoped = h.scoped;
+  counters = h.counters;
+  sessions = h.sessions;
+  groups = tt;
+}
+
 pub stored_over : (a : List ℕ) (names : Names) (sessions : List Session) (w : StoredRows)
     (c : TablesContent) → AreKeyed w → AreWritable names sessions w.groups
     → with_stored a names w c ≡ opened a (over_stored names w) c

@@ -9,10 +9,11 @@ use Rattle.std.specs.Ordering.{nat_cmp, is_lt, is_eq, is_gt, ordering_then}
 use Rattle.std.specs.declared.cmp.Ordering.{Ordering}
 use Rattle.std.specs.declared.cmp.Ordering.TheVariants.{Less, Equal, Greater}
 use Rattle.std.specs.Cmp.{alike_right}
-use Rattle.std.specs.Cmp.Lexicographic.{slice_cmp, texts_ties}
+use Rattle.std.specs.Cmp.Lexicographic.{texts_ties}
 use Rattle.std.proofs.lemmas.Cmp.{nat_list_cmp_total}
 use Rattle.ledger.specs.Lists.{EachIn}
 use Rattle.reserving.proofs.Lists.{EachIn-weaker, not_both}
+use Rattle.reserving.proofs.OwnRows.{order, not_behind, before_it}
 use Rattle.reserving.proofs.order.Ascending.{less_is, equal_is}
 use Rattle.reserving.proofs.order.Searched.{at_place}
 use Rattle.sql_tables.specs.Keyed.{same_name}
@@ -20,37 +21,10 @@ use Rattle.sql_rows.specs.declared.hold_rows.HeldColumns.{HeldColumns}
 use Rattle.sql_rows.specs.declared.session_hold_rows.SessionHold.{SessionHold}
 use Rattle.sql_keeper.specs.GroupRows.{DoHoldsRise, IsRun, held_for, precedes}
 
--- ---- names in order
-
-abbrev order : List ℕ → List ℕ → Ordering
-order = slice_cmp nat_cmp
-
 greater_is : (r : Ordering) → is_lt r ≡ false → is_eq r ≡ false → r ≡ Greater
 greater_is Less h k = absurd (not_both (sym h))
 greater_is Equal h k = absurd (not_both (sym k))
 greater_is Greater h k = refl
-
--- not behind one that isn't behind a third
-not_behind : (x y z : List ℕ) → is_gt (order x y) ≡ false → is_gt (order y z) ≡ false
-    → is_gt (order x z) ≡ false
-not_behind x y z h k = go (order x y) (order y z) refl refl h k
-  where
-    go : (p q : Ordering) → order x y ≡ p → order y z ≡ q → is_gt p ≡ false → is_gt q ≡ false
-        → is_gt (order x z) ≡ false
-    go Less Less e f h k = ap is_gt (nat_list_cmp_total.trans x y z e f)
-    go Less Equal e f h k = ap is_gt (sym (alike_right nat_list_cmp_total y z x f) ∙ e)
-    go Less Greater e f h k = absurd (not_both (sym k))
-    go Equal q e f h k = ap is_gt (nat_list_cmp_total.congr x y z e ∙ f) ∙ k
-    go Greater q e f h k = absurd (not_both (sym h))
-
-before_it : (x y z : List ℕ) → is_gt (order x y) ≡ false → is_lt (order y z) ≡ true
-    → is_lt (order x z) ≡ true
-before_it x y z h k = go (order x y) refl h
-  where
-    go : (p : Ordering) → order x y ≡ p → is_gt p ≡ false → is_lt (order x z) ≡ true
-    go Less e h = ap is_lt (nat_list_cmp_total.trans x y z e (less_is (order y z) k))
-    go Equal e h = ap is_lt (nat_list_cmp_total.congr x y z e) ∙ k
-    go Greater e h = absurd (not_both (sym h))
 
 first_le : (a b c : Ordering) → is_lt (ordering_then (ordering_then a b) c) ≡ true
     → is_gt a ≡ false

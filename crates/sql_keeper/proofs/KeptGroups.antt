@@ -31,11 +31,12 @@ use Rattle.sql_keeper.specs.Writes.{columns_of, with_group_over, with_groups_ove
 use Rattle.sql_keeper.specs.Writes.{with_kept_group, with_named, with_stored}
 use Rattle.sql_keeper.specs.declared.seen.SeenAccount.{SeenAccount}
 use Rattle.sql_keeper.specs.declared.seen.SeenGrant.{SeenGrant}
-use Rattle.sql_keeper.proofs.Changed.{AreKeyed, over_stored, stored_over}
+use Rattle.sql_keeper.proofs.Changed.{AreKeyed, keyed_without, over_stored, stored_over}
+use Rattle.sql_keeper.proofs.Changed.{without_groups}
 use Rattle.sql_keeper.proofs.Groups.{amount_at, amount_in, book_over, book_put, column_over}
 use Rattle.sql_keeper.proofs.Groups.{group_put, holds_over, may_hold, over_groups, over_holds}
 use Rattle.sql_keeper.proofs.Overlays.{each, each_over, name_from, number_from, number_itself}
-use Rattle.sql_keeper.proofs.Overlays.{opened, with_opened, with_twice}
+use Rattle.sql_keeper.proofs.Overlays.{opened_same, with_opened, with_twice}
 use Rattle.sql_keeper.proofs.SeenRows.{name_is, told_grant}
 
 -- ---- how one is put
@@ -241,33 +242,11 @@ pub record IsKeptIn (r : TableRows) (x : SessionGroup) : Type 0 where
   pub held : (n : ℕ) → amount_at n (holds_in x.reservation) ≡ None
       → r.holds x.session x.group n ≡ None
 
-opened_same : (a : List ℕ) (f g : TableRows → TableRows) (c : TablesContent) →
-    f (c.rows a) ≡ g (c.rows a) →
-    opened a f c ≡ opened a g c
-opened_same a f g c same = λ i. record (opened a f c) {
-  rows = λ x. at x (same_name a x) refl i;
-}
-  where
-    at : (x : List ℕ) (t : Bool) → same_name a x ≡ t →
-        (if t then f (c.rows x) else c.rows x) ≡ (if t then g (c.rows x) else c.rows x)
-    at x true e = subst (λ y. f (c.rows y) ≡ g (c.rows y)) (name_from a x e) same
-    at x false e = refl
-
 module _ (a : List ℕ) (names : Names) (sessions : List Session) (w : StoredRows) (c : TablesContent)
     (keyed : AreKeyed w) (may : AreWritable names sessions w.groups) (seen : Option SeenAccount)
     (stand : (x : SessionGroup) → is_kept seen a x ≡ true → IsKeptIn (c.rows a) x) where
-  -- all but the groups
   abbrev others : StoredRows
-  others = record w { groups = [] }
-
-  keyed_others : AreKeyed others
-  keyed_others = record {
-    buckets = keyed.buckets;
-    scoped = keyed.scoped;
-    counters = keyed.counters;
-    sessions = keyed.sessions;
-    groups = tt;
-  }
+  others = without_groups w
 
   found_is : (s : List ℕ) (g : ℕ) (x : SessionGroup) → group_in s g w.groups ≡ Some x
       → (x.session ≡ s) × (x.group ≡ g)
@@ -292,7 +271,7 @@ module _ (a : List ℕ) (names : Names) (sessions : List Session) (w : StoredRow
   named_kept =
       mixed_over a names seen sessions w.groups (with_stored a names others c) keyed.groups may
       ∙ ap (with_rows a (over_mixed names (λ r. is_kept seen a r) w.groups))
-      (stored_over a names sessions others c keyed_others tt)
+      (stored_over a names sessions others c (keyed_without w keyed) tt)
       ∙ with_opened a (over_mixed names (λ r. is_kept seen a r) w.groups)
       (over_stored names others) c
       ∙ opened_same a

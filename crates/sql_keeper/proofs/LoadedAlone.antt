@@ -77,26 +77,30 @@ held_loaded false o x m n e k = absurd (no_some x e)
 pub loaded_may_change : (shelf : Shelf) (t : ℕ) (r : Rows) (a : AccountRows) →
     IsLoadedFrom shelf t r a → IsMadeFrom (stored a) (stored a) r
 loaded_may_change shelf t r a h = record {
-  buckets = λ n x e. only_found (λ b. not (is_dead b)) (r.buckets n) x (sym (h.buckets n) ∙ e);
-  counters = λ g c x e. if_found (c == cycle_at shelf g t) (r.counters g c) x
-      (sym (h.counters g c) ∙ e);
-  sessions = λ s x e. only_found (λ y. is_open y.state) (r.sessions s) x (sym (h.sessions s) ∙ e);
-  groups = λ s g x e. if_found (is_loaded r s g) (r.groups s g) (group_row x)
-      (sym (h.groups s g) ∙ ap (option_map group_row) e);
-  holds = λ s g n x e. held_loaded (is_loaded r s g) (r.groups s g) (group_row x)
-      (held_of n (Some x)) (r.holds s g n) (sym (h.groups s g) ∙ ap (option_map group_row) e)
-      (ap (held_of n) (sym e) ∙ h.holds s g n);
-  dead = λ n x e k. dead_parts x (alive x (only_none (λ b. not (is_dead b)) x
-      (ap (only (λ b. not (is_dead b))) (sym e) ∙ sym (h.buckets n) ∙ k)));
-  ended = λ s x e k. only_none (λ y. is_open y.state) x
-      (ap (only (λ (y : Session). is_open y.state)) (sym e) ∙ sym (h.sessions s) ∙ k);
-  free = λ s g x e k.
-      let closed = neither (is_open_row (r.sessions s)) (has_reservation (r.groups s g))
-      (if_none (is_loaded r s g) (r.groups s g) x
-      (sym (h.groups s g) ∙ ap (option_map group_row) k) e) in (
-        unreserved (r.groups s g) x e closed.1,
-        h.sessions s ∙ no_open (r.sessions s) closed.0,
-      );
+  there = record {
+    buckets = λ n x e. only_found (λ b. not (is_dead b)) (r.buckets n) x (sym (h.buckets n) ∙ e);
+    counters = λ g c x e. if_found (c == cycle_at shelf g t) (r.counters g c) x
+        (sym (h.counters g c) ∙ e);
+    sessions = λ s x e. only_found (λ y. is_open y.state) (r.sessions s) x (sym (h.sessions s) ∙ e);
+    groups = λ s g x e. if_found (is_loaded r s g) (r.groups s g) (group_row x)
+        (sym (h.groups s g) ∙ ap (option_map group_row) e);
+    holds = λ s g n x e. held_loaded (is_loaded r s g) (r.groups s g) (group_row x)
+        (held_of n (Some x)) (r.holds s g n) (sym (h.groups s g) ∙ ap (option_map group_row) e)
+        (ap (held_of n) (sym e) ∙ h.holds s g n);
+  };
+  rest = record {
+    dead = λ n x e k. dead_parts x (alive x (only_none (λ b. not (is_dead b)) x
+        (ap (only (λ b. not (is_dead b))) (sym e) ∙ sym (h.buckets n) ∙ k)));
+    ended = λ s x e k. only_none (λ y. is_open y.state) x
+        (ap (only (λ (y : Session). is_open y.state)) (sym e) ∙ sym (h.sessions s) ∙ k);
+    free = λ s g x e k.
+        let closed = neither (is_open_row (r.sessions s)) (has_reservation (r.groups s g))
+        (if_none (is_loaded r s g) (r.groups s g) x
+        (sym (h.groups s g) ∙ ap (option_map group_row) k) e) in (
+          unreserved (r.groups s g) x e closed.1,
+          h.sessions s ∙ no_open (r.sessions s) closed.0,
+        );
+  };
 }
 
 -- and what isn't among the rows brought on was free and of no session that is among them
@@ -105,5 +109,5 @@ pub free_later : (shelf : Shelf) (t : ℕ) (w : StoredRows) (r : Rows) → IsMad
     group_in s g (advanced_stored shelf t w).groups ≡ None →
     (x.terms ≡ None) × (session_in s (advanced_stored shelf t w).sessions ≡ None)
 free_later shelf t w r made s g x e k =
-    let free = made.free s g x e (none_lapsed shelf t w s g k) in
+    let free = made.rest.free s g x e (none_lapsed shelf t w s g k) in
     (free.0, session_in-advanced s t (priced shelf w) free.1)

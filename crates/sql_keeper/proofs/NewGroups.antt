@@ -27,14 +27,15 @@ use Rattle.sql_keeper.specs.Tests.{AreNewGroups, AreWritable, IsTested}
 use Rattle.sql_keeper.specs.Writes.{columns_of, with_all_charged, with_change, with_change_put}
 use Rattle.sql_keeper.specs.Writes.{with_kept, with_named, with_new_book, with_new_group}
 use Rattle.sql_keeper.specs.Writes.{with_new_groups, with_redeemed, with_stored}
-use Rattle.sql_keeper.proofs.Changed.{AreKeyed, keyed_named, over_stored, stored_over}
+use Rattle.sql_keeper.proofs.Changed.{AreKeyed, keyed_named, keyed_without, over_stored}
+use Rattle.sql_keeper.proofs.Changed.{stored_over, without_groups}
 use Rattle.sql_keeper.specs.Grants.{is_kept}
 use Rattle.sql_keeper.specs.declared.seen.SeenAccount.{SeenAccount}
 use Rattle.sql_keeper.proofs.KeptGroups.{IsKeptIn, named_kept}
 use Rattle.sql_keeper.proofs.NewCharges.{all_charged_are}
 use Rattle.sql_keeper.proofs.Groups.{amount_at, amount_in, book_over, book_put, column_over}
 use Rattle.sql_keeper.proofs.Groups.{holds_over, may_hold, over_groups, over_holds}
-use Rattle.sql_keeper.proofs.Overlays.{each, each_over, name_from, opened, with_none, with_opened}
+use Rattle.sql_keeper.proofs.Overlays.{each, each_over, opened, opened_same, with_none, with_opened}
 use Rattle.sql_keeper.proofs.Overlays.{with_twice}
 
 -- ---- one group
@@ -176,33 +177,11 @@ module _ (names : Names) (gs : List SessionGroup) (r : TableRows) (new : AreNewG
 
 -- ---- the rows of an account
 
-opened_same : (a : List ℕ) (f g : TableRows → TableRows) (c : TablesContent) →
-    f (c.rows a) ≡ g (c.rows a) →
-    opened a f c ≡ opened a g c
-opened_same a f g c same = λ i. record (opened a f c) {
-  rows = λ x. at x (same_name a x) refl i;
-}
-  where
-    at : (x : List ℕ) (t : Bool) → same_name a x ≡ t →
-        (if t then f (c.rows x) else c.rows x) ≡ (if t then g (c.rows x) else c.rows x)
-    at x true e = subst (λ y. f (c.rows y) ≡ g (c.rows y)) (name_from a x e) same
-    at x false e = refl
-
 module _ (a : List ℕ) (names : Names) (sessions : List Session) (w : StoredRows) (c : TablesContent)
     (keyed : AreKeyed w) (may : AreWritable names sessions w.groups)
     (new : AreNewGroups (c.rows a) w.groups) where
-  -- all but the groups
   abbrev others : StoredRows
-  others = record w { groups = [] }
-
-  keyed_others : AreKeyed others
-  keyed_others = record {
-    buckets = keyed.buckets;
-    scoped = keyed.scoped;
-    counters = keyed.counters;
-    sessions = keyed.sessions;
-    groups = tt;
-  }
+  others = without_groups w
 
   still_new : AreNewGroups (over_stored names others (c.rows a)) w.groups
   still_new = EachIn-weaker (λ (x : SessionGroup). HasNoGroups (c.rows a) x.session)
@@ -214,7 +193,7 @@ module _ (a : List ℕ) (names : Names) (sessions : List Session) (w : StoredRow
   named_new seen =
       new_over a names sessions w.groups (with_stored a names others c) keyed.groups may
       ∙ ap (with_rows a (over_new names w.groups))
-      (stored_over a names sessions others c keyed_others tt)
+      (stored_over a names sessions others c (keyed_without w keyed) tt)
       ∙ with_opened a (over_new names w.groups) (over_stored names others) c
       ∙ opened_same a (λ r. over_new names w.groups (over_stored names others r))
       (over_stored names w) c

@@ -70,6 +70,18 @@ pub with_opened : (a : List ℕ) (f g : TableRows → TableRows) (c : TablesCont
 with_opened a f g c =
     λ i. record (opened a g c) { rows = λ x. chosen_twice (same_name a x) (c.rows x) f g i }
 
+pub opened_same : (a : List ℕ) (f g : TableRows → TableRows) (c : TablesContent) →
+    f (c.rows a) ≡ g (c.rows a) →
+    opened a f c ≡ opened a g c
+opened_same a f g c same = λ i. record (opened a f c) {
+  rows = λ x. at x (same_name a x) refl i;
+}
+  where
+    at : (x : List ℕ) (t : Bool) → same_name a x ≡ t →
+        (if t then f (c.rows x) else c.rows x) ≡ (if t then g (c.rows x) else c.rows x)
+    at x true e = subst (λ y. f (c.rows y) ≡ g (c.rows y)) (name_from a x e) same
+    at x false e = refl
+
 -- ---- a list of rows
 
 unfoldable pub each : {X : Type 0} → List ℕ → (X → TableRows → TableRows) → List X → TablesContent →

@@ -152,24 +152,18 @@ module _ (names : Names) (shelf : Shelf) (t : ℕ) (r : TableRows) (w : StoredRo
       let m = loaded_may_change shelf t (told_rows names (without_counters r)) (priced shelf before)
       loads in
       record {
-        buckets = m.buckets;
-        counters = λ g c x e. absurd (no_some x (m.counters g c x e));
-        sessions = m.sessions;
-        groups = m.groups;
-        holds = m.holds;
-        dead = m.dead;
-        ended = m.ended;
-        free = m.free;
+        there = record {
+          buckets = m.there.buckets;
+          counters = λ g c x e. absurd (no_some x (m.there.counters g c x e));
+          sessions = m.there.sessions;
+          groups = m.there.groups;
+          holds = m.there.holds;
+        };
+        rest = record { dead = m.rest.dead; ended = m.rest.ended; free = m.rest.free };
       }
 
   there : AreThere before (told_rows names r)
-  there = record {
-    buckets = made.buckets;
-    counters = made.counters;
-    sessions = made.sessions;
-    groups = made.groups;
-    holds = made.holds;
-  }
+  there = made.there
 
   free : IsFreeBeside names r after
   free = at (nat_le before.as_of t)
@@ -177,7 +171,7 @@ module _ (names : Names) (shelf : Shelf) (t : ℕ) (r : TableRows) (w : StoredRo
       at : (b : Bool) →
           IsFreeBeside names r (if b then advanced_stored shelf t before else before)
       at true = free_later shelf t before (told_rows names r) made
-      at false = made.free
+      at false = made.rest.free
 
   alone : AreOpenAlone r after
   alone = at (nat_le before.as_of t)

@@ -39,6 +39,7 @@ pub mod ReadCharges
 pub mod ReadCounter
 pub mod ReadCounters
 pub mod ReadCovered
+pub mod OfSession
 pub mod ReadGrantBooks
 pub mod ReadGroups
 pub mod ReadHeadCounters

@@ -1,15 +1,12 @@
 -- What the text of `read_grant_books` answers.
 use Rattle.std.specs.Prelude.{codes, option_map}
-use Rattle.std.proofs.Common.{◌≡◌, inl, inr, ℕ, List, [], ◌∷◌, ◌++◌, map, drop, Bool, true, false}
-use Rattle.std.proofs.Common.{◌&&◌, Some, None, Option, is_eq, nat_eq, ap₂, refl, sym, ap, subst}
+use Rattle.std.proofs.Common.{◌≡◌, inl, inr, ℕ, List, [], ◌∷◌, ◌++◌, map, drop, true, false}
+use Rattle.std.proofs.Common.{◌&&◌, Some, None, Option, is_eq, nat_eq, refl, sym, ap, subst}
 use Rattle.std.proofs.Common.{◌∙◌}
 use Rattle.sqlite_value.specs.declared.value.Value.TheVariants.{Null, Text}
 use Rattle.sqlite_value.specs.declared.keys.Collation.TheVariants.{Binary}
-use Rattle.sqlite_value.specs.declared.keys.Key.{Key}
 use Rattle.sqlite_value.specs.Order.{Row, column, value_cmp}
-use Rattle.sqlite_sql.specs.declared.ops.BinaryOp.TheVariants.{Compare}
-use Rattle.sqlite_sql.specs.declared.ops.CompareOp.TheVariants.{Eq}
-use Rattle.sqlite_sql.specs.Term.{Term, col, op2}
+use Rattle.sqlite_sql.specs.Term.{Term, col}
 use Rattle.sqlite_schema.specs.declared.command.Command.TheVariants.{Select}
 use Rattle.sqlite_schema.specs.Rules.{equal}
 use Rattle.sqlite_tied.specs.Compute.{everything}
@@ -21,14 +18,13 @@ use Rattle.sql_tables.specs.Schema.{grant_books, book_schema}
 use Rattle.sql_tables.specs.Selects.{Selects}
 use Rattle.sql_tables.specs.Statements.{Answers}
 use Rattle.sql_tables.proofs.ByKey.{listed_told, only_all}
-use Rattle.sql_tables.proofs.Columns.{equal_turned}
-use Rattle.sql_tables.proofs.Keys.{keys_split, int_tie}
+use Rattle.sql_tables.proofs.Keys.{int_tie}
 use Rattle.sql_tables.proofs.Selected.{select_from, told}
-use Rattle.sql_tables.proofs.Selections.{meets}
-use Rattle.sql_tables.proofs.Steps.{and_apart, and_true}
+use Rattle.sql_tables.proofs.Steps.{and_apart}
 use Rattle.sql_rows.specs.Values.{nat, nat_in, group_key, grant_book_in}
 use Rattle.sql_rows.specs.Content.{rows_in}
 use Rattle.sql_rows.specs.Lists.{GrantBookAt, grant_book_cells, AreGrantBooks}
+use Rattle.sql_rows.proofs.OfSession.{of_session, by_group, is_of_session, is_of_group, splits}
 
 -- a stored row as one of the list
 abbrev at_in : Row → GrantBookAt
@@ -55,16 +51,8 @@ read_grant_books_text =
     codes "SELECT rating_group, book FROM grant_books WHERE account = ?1 AND session = ?2 "
     ++ codes "ORDER BY rating_group"
 
-abbrev of_session : List Term
-of_session =
-    op2 (Compare Eq Binary) (col 1 1) (col 0 0)
-    ∷ op2 (Compare Eq Binary) (col 1 2) (col 0 1) ∷ []
-
-abbrev order : List (Term × Key)
-order = (col 1 3, record { collation = Binary; descending = false }) ∷ []
-
 text_is : (command_of (understood book_schema read_grant_books_text)
-    ≡ Select (record { lets = []; body = select_from 24 of_session project order }) names) ×
+    ≡ Select (record { lets = []; body = select_from 24 of_session project by_group }) names) ×
     (reads_listing book_schema read_grant_books_text ≡ false)
 unfolding understood everything
 text_is = (refl, refl)
@@ -79,24 +67,8 @@ books_only None = refl
 books_only (Some v) = refl
 
 module _ (a s : List ℕ) where
-  abbrev front : Row → Bool
-  front r = equal Binary (column r 1) (Text a) && equal Binary (column r 2) (Text s)
-
-  abbrev rest : ℕ → Row → Bool
-  rest g r = is_eq (value_cmp (nat g) (column r 3))
-
-  splits : (g : ℕ) (r : Row) → meets (1 ∷ 2 ∷ 3 ∷ []) (group_key a s g) r ≡ (front r && rest g r)
-  splits g r =
-      keys_split (Text a) (column r 1) (Text s ∷ nat g ∷ []) (column r 2 ∷ column r 3 ∷ [])
-      ∙ ap₂ ◌&&◌ (sym (equal_turned (column r 1) (Text a) refl))
-      (keys_split (Text s) (column r 2) (nat g ∷ []) (column r 3 ∷ [])
-      ∙ ap₂ ◌&&◌ (sym (equal_turned (column r 2) (Text s) refl))
-      (keys_split (nat g) (column r 3) [] [] ∙ and_true _))
-      ∙ and_apart (equal Binary (column r 1) (Text a))
-      (equal Binary (column r 2) (Text s)) (rest g r)
-
   wanted : (g : ℕ) (x : GrantBookAt) (r : Row) → grant_book_cells x ≡ columns r →
-      rest g r ≡ nat_eq x.group g
+      is_of_group g r ≡ nat_eq x.group g
   wanted g x r is =
       ap (λ (w : Row). is_eq (value_cmp (nat g) (column w 0))) (sym is) ∙ int_tie x.group g
 
@@ -109,13 +81,14 @@ module _ (a s : List ℕ) where
       (inr (inr (inr (inr (inr (inr (inr (inr (inr (inr (inr (inl refl))))))))))))
       (inr (inr (inr (inr (inr (inr (inr (inr (inr (inr (inr (inr (inr (inl refl))))))))))))))
       refl old.now.trees got.fits (got.book.stored.1.1.1.1.1.1.1.1.1.1.1.0) at_in grant_book_cells
-      columns (λ r. front r && true) (group_key a s g) (refl, (refl, (refl, tt)))
-      (λ x r m. back x r) (λ x. nat_eq x.group g) (λ x. true) front (rest g)
-      (λ r. true) (λ r. refl) (splits g) (wanted g) (λ r m h. refl) (λ x r e same. refl) xs
-      (subst (Selects (λ r. front r && true) columns (old.now.trees 24)) (sym is)
-      (told read_grant_books_text names 24 of_session project order text_is
+      columns (λ r. is_of_session a s r && true) (group_key a s g) (refl, (refl, (refl, tt)))
+      (λ x r m. back x r) (λ x. nat_eq x.group g) (λ x. true) (is_of_session a s) (is_of_group g)
+      (λ r. true) (λ r. refl) (splits a s g) (wanted g) (λ r m h. refl) (λ x r e same. refl) xs
+      (subst (Selects (λ r. is_of_session a s r && true) columns (old.now.trees 24)) (sym is)
+      (told read_grant_books_text names 24 of_session project by_group text_is
       read_grant_books_plain (Text a ∷ Text s ∷ [])
-      (λ r. front r && true) columns (λ r. and_apart (equal Binary (column r 1) (Text a))
-      (equal Binary (column r 2) (Text s)) true) (λ r. refl) old new rows got))
+      (λ r. is_of_session a s r && true) columns
+      (λ r. and_apart (equal Binary (column r 1) (Text a)) (equal Binary (column r 2) (Text s))
+      true) (λ r. refl) old new rows got))
       ∙ only_all _)
       ∙ books_only _

@@ -1,15 +1,12 @@
 -- What the text of `read_groups` answers.
 use Rattle.std.specs.Prelude.{codes, option_map}
-use Rattle.std.proofs.Common.{◌≡◌, inl, inr, ℕ, List, [], ◌∷◌, ◌++◌, map, drop, Bool, true}
-use Rattle.std.proofs.Common.{false, ◌&&◌, Some, None, Option, is_eq, refl, sym, ap, ap₂}
+use Rattle.std.proofs.Common.{◌≡◌, inl, inr, ℕ, List, [], ◌∷◌, ◌++◌, map, drop, true}
+use Rattle.std.proofs.Common.{false, ◌&&◌, Some, None, Option, is_eq, refl, sym, ap}
 use Rattle.std.proofs.Common.{subst, ◌∙◌, nat_eq}
 use Rattle.sqlite_value.specs.declared.value.Value.TheVariants.{Null, Text}
 use Rattle.sqlite_value.specs.declared.keys.Collation.TheVariants.{Binary}
-use Rattle.sqlite_value.specs.declared.keys.Key.{Key}
 use Rattle.sqlite_value.specs.Order.{Row, column, value_cmp}
-use Rattle.sqlite_sql.specs.declared.ops.BinaryOp.TheVariants.{Compare}
-use Rattle.sqlite_sql.specs.declared.ops.CompareOp.TheVariants.{Eq}
-use Rattle.sqlite_sql.specs.Term.{Term, col, op2}
+use Rattle.sqlite_sql.specs.Term.{Term, col}
 use Rattle.sqlite_schema.specs.declared.command.Command.TheVariants.{Select}
 use Rattle.sqlite_schema.specs.Rules.{equal}
 use Rattle.sqlite_tied.specs.Compute.{everything}
@@ -21,15 +18,14 @@ use Rattle.sql_tables.specs.Schema.{session_groups, book_schema}
 use Rattle.sql_tables.specs.Selects.{Selects}
 use Rattle.sql_tables.specs.Statements.{Answers}
 use Rattle.sql_tables.proofs.ByKey.{listed_told, only_all}
-use Rattle.sql_tables.proofs.Columns.{equal_turned}
-use Rattle.sql_tables.proofs.Keys.{keys_split, int_tie}
+use Rattle.sql_tables.proofs.Keys.{int_tie}
 use Rattle.sql_tables.proofs.Selected.{select_from, told}
-use Rattle.sql_tables.proofs.Selections.{meets}
-use Rattle.sql_tables.proofs.Steps.{and_apart, and_true}
+use Rattle.sql_tables.proofs.Steps.{and_apart}
 use Rattle.sql_rows.specs.Values.{nat, nat_in, group_key, group_in_row}
 use Rattle.sql_rows.specs.Content.{rows_in}
 use Rattle.sql_rows.specs.Lists.{GroupAt, AreGroups, group_at_cells}
 use Rattle.sql_rows.proofs.PutGroup.{group_told}
+use Rattle.sql_rows.proofs.OfSession.{of_session, by_group, is_of_session, is_of_group, splits}
 
 -- a stored row as one of the list
 abbrev at_in : Row → GroupAt
@@ -59,17 +55,8 @@ abbrev pub read_groups_text : List ℕ
 read_groups_text = codes "SELECT rating_group, used, reserved, period_before, period_after "
     ++ codes "FROM session_groups WHERE account = ?1 AND session = ?2 ORDER BY rating_group"
 
-abbrev groups_terms : List Term
-groups_terms =
-    op2 (Compare Eq Binary) (col 1 1) (col 0 0)
-    ∷ op2 (Compare Eq Binary) (col 1 2) (col 0 1) ∷ []
-
-abbrev groups_order : List (Term × Key)
-groups_order = (col 1 3, record { collation = Binary; descending = false }) ∷ []
-
 groups_is : (command_of (understood book_schema read_groups_text)
-    ≡ Select (record { lets = []; body = select_from 10 groups_terms project groups_order }) names)
-    ×
+    ≡ Select (record { lets = []; body = select_from 10 of_session project by_group }) names) ×
     (reads_listing book_schema read_groups_text ≡ false)
 unfolding understood everything
 groups_is = (refl, refl)
@@ -84,24 +71,8 @@ rows_only None = refl
 rows_only (Some v) = refl
 
 module _ (a s : List ℕ) where
-  abbrev front : Row → Bool
-  front r = equal Binary (column r 1) (Text a) && equal Binary (column r 2) (Text s)
-
-  abbrev rest : ℕ → Row → Bool
-  rest g r = is_eq (value_cmp (nat g) (column r 3))
-
-  splits : (g : ℕ) (r : Row) → meets (1 ∷ 2 ∷ 3 ∷ []) (group_key a s g) r ≡ (front r && rest g r)
-  splits g r =
-      keys_split (Text a) (column r 1) (Text s ∷ nat g ∷ []) (column r 2 ∷ column r 3 ∷ [])
-      ∙ ap₂ ◌&&◌ (sym (equal_turned (column r 1) (Text a) refl))
-      (keys_split (Text s) (column r 2) (nat g ∷ []) (column r 3 ∷ [])
-      ∙ ap₂ ◌&&◌ (sym (equal_turned (column r 2) (Text s) refl))
-      (keys_split (nat g) (column r 3) [] [] ∙ and_true _))
-      ∙ and_apart (equal Binary (column r 1) (Text a))
-      (equal Binary (column r 2) (Text s)) (rest g r)
-
   wanted : (g : ℕ) (x : GroupAt) (r : Row) → group_at_cells x ≡ columns r →
-      rest g r ≡ nat_eq x.group g
+      is_of_group g r ≡ nat_eq x.group g
   wanted g x r is = ap (λ (w : Row). is_eq (value_cmp (nat g) (column w 0))) (sym is)
       ∙ int_tie x.group g
 
@@ -113,13 +84,15 @@ module _ (a s : List ℕ) where
       (listed_told session_groups (inr (inr (inr (inr (inr (inl refl))))))
       (inr (inr (inr (inr (inr (inl refl)))))) refl old.now.trees got.fits
       (got.book.stored.1.1.1.1.1.0) at_in group_at_cells columns
-      (λ r. front r && true) (group_key a s g) (refl, (refl, (refl, tt))) (λ x r m. back x r)
-      (λ x. nat_eq x.group g) (λ x. true) front (rest g) (λ r. true) (λ r. refl)
-      (splits g) (wanted g) (λ r m h. refl) (λ x r e same. refl) xs
-      (subst (Selects (λ r. front r && true) columns (old.now.trees 10)) (sym is)
-      (told read_groups_text names 10 groups_terms project groups_order groups_is read_groups_plain
+      (λ r. is_of_session a s r && true) (group_key a s g) (refl, (refl, (refl, tt)))
+      (λ x r m. back x r) (λ x. nat_eq x.group g) (λ x. true) (is_of_session a s) (is_of_group g)
+      (λ r. true) (λ r. refl)
+      (splits a s g) (wanted g) (λ r m h. refl) (λ x r e same. refl) xs
+      (subst (Selects (λ r. is_of_session a s r && true) columns (old.now.trees 10)) (sym is)
+      (told read_groups_text names 10 of_session project by_group groups_is read_groups_plain
       (Text a ∷ Text s ∷ [])
-      (λ r. front r && true) columns (λ r. and_apart (equal Binary (column r 1) (Text a))
-      (equal Binary (column r 2) (Text s)) true) (λ r. refl) old new rows got))
+      (λ r. is_of_session a s r && true) columns
+      (λ r. and_apart (equal Binary (column r 1) (Text a)) (equal Binary (column r 2) (Text s))
+      true) (λ r. refl) old new rows got))
       ∙ only_all _)
       ∙ rows_only _

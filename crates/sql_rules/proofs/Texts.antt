@@ -431,21 +431,3 @@ texts_at (suc (suc (suc (suc n)))) at known low =
 pub text_at : (v at : ℕ) (text : List ℕ) → IsVersion v → at < length (schema_at v).tables
     → text ≡ slice_index_or texts at [] → IsTable v text at
 text_at v at text known low is = subst (λ t. IsTable v t at) (sym is) (texts_at v at known low)
-
--- no version has more tables than there are texts
-pub at_most : (v : ℕ) → IsVersion v → length (schema_at v).tables ≤ 14
-at_most zero known = absurd (omega (arith, known.0))
-at_most (suc zero) known = let n : 10 ≤ 14 = omega arith in n
-at_most (suc (suc zero)) known = let n : 12 ≤ 14 = omega arith in n
-at_most (suc (suc (suc zero))) known = let n : 14 ≤ 14 = omega arith in n
-at_most (suc (suc (suc (suc n)))) known =
-    let high : suc (suc (suc (suc n))) ≤ 3 = known.1 in absurd (omega (arith, high))
-
--- each version has tables
-pub at_least : (v : ℕ) → IsVersion v → 1 ≤ length (schema_at v).tables
-at_least zero known = absurd (omega (arith, known.0))
-at_least (suc zero) known = let n : 1 ≤ 10 = omega arith in n
-at_least (suc (suc zero)) known = let n : 1 ≤ 12 = omega arith in n
-at_least (suc (suc (suc zero))) known = let n : 1 ≤ 14 = omega arith in n
-at_least (suc (suc (suc (suc n)))) known =
-    let high : suc (suc (suc (suc n))) ≤ 3 = known.1 in absurd (omega (arith, high))

@@ -3,7 +3,7 @@ use Rattle.sqlite.specs.Held.{state}
 use Rattle.sql_tables.specs.Schema.{schema_at}
 use Rattle.sql_rules.proofs.Steps.{found_all, found_first, found_next, found_not, none_found_not}
 use Rattle.sql_rules.proofs.Steps.{still_ours}
-use Rattle.sql_rules.proofs.Texts.{at_least, at_most}
+use Rattle.sql_tables.proofs.OpeningTexts.{at_least, at_most}
 use Rattle.sql_rules.proofs.ruling.rules_of.Goals as goal
 
 pub table_passes-requires-clause-place : goal.table_passes-requires-clause-place
