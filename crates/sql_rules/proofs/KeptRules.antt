@@ -137,17 +137,16 @@ module _ (shelf : Shelf) (a : List ℕ) (r : TableRows) (in' : AreInRules shelf 
     covered = in'.covered;
   }
 
-  pub hold_kept : (s : List ℕ) (g n amount : ℕ) → is_some_money amount ≡ true
-      → AreInRules shelf a (with_hold_row s g n amount r)
-  hold_kept s g n amount rule = record {
+  holds_put : (f : List ℕ → ℕ → ℕ → Option ℕ) →
+      ((s : List ℕ) (g n y : ℕ) → f s g n ≡ Some y → is_some_money y ≡ true)
+      → AreInRules shelf a (record r { holds = f })
+  holds_put f is = record {
     head = in'.head;
     buckets = in'.buckets;
     counters = in'.counters;
     sessions = in'.sessions;
     groups = in'.groups;
-    holds = λ t h m. chosen (λ y. is_some_money y ≡ true)
-        (same_name s t && (nat_eq g h && nat_eq n m)) amount (r.holds t h m) (λ e. rule)
-        (in'.holds t h m);
+    holds = is;
     answers = in'.answers;
     charges = in'.charges;
     grant_books = in'.grant_books;
@@ -155,21 +154,17 @@ module _ (shelf : Shelf) (a : List ℕ) (r : TableRows) (in' : AreInRules shelf 
     covered = in'.covered;
   }
 
+  pub hold_kept : (s : List ℕ) (g n amount : ℕ) → is_some_money amount ≡ true
+      → AreInRules shelf a (with_hold_row s g n amount r)
+  hold_kept s g n amount rule =
+      holds_put _ (λ t h m. chosen (λ y. is_some_money y ≡ true)
+      (same_name s t && (nat_eq g h && nat_eq n m)) amount (r.holds t h m) (λ e. rule)
+      (in'.holds t h m))
+
   pub holds_gone : (s : List ℕ) (g : ℕ) → AreInRules shelf a (without_holds s g r)
-  holds_gone s g = record {
-    head = in'.head;
-    buckets = in'.buckets;
-    counters = in'.counters;
-    sessions = in'.sessions;
-    groups = in'.groups;
-    holds = λ t h m. left_out (λ y. is_some_money y ≡ true) (same_name s t && nat_eq g h)
-        (r.holds t h m) (in'.holds t h m);
-    answers = in'.answers;
-    charges = in'.charges;
-    grant_books = in'.grant_books;
-    allowances = in'.allowances;
-    covered = in'.covered;
-  }
+  holds_gone s g =
+      holds_put _ (λ t h m. left_out (λ y. is_some_money y ≡ true) (same_name s t && nat_eq g h)
+      (r.holds t h m) (in'.holds t h m))
 
   pub answer_kept : (kind : ℕ) (name : List ℕ) (number : ℕ) (k : Kept)
       → is_answer a kind name number k ≡ true
@@ -212,9 +207,10 @@ module _ (shelf : Shelf) (a : List ℕ) (r : TableRows) (in' : AreInRules shelf 
     covered = in'.covered;
   }
 
-  pub grant_book_kept : (s : List ℕ) (g n : ℕ) → is_in_bounds 1 (count shelf) n ≡ true
-      → AreInRules shelf a (with_grant_book s g n r)
-  grant_book_kept s g n rule = record {
+  grant_books_put : (f : List ℕ → ℕ → Option ℕ) →
+      ((s : List ℕ) (g y : ℕ) → f s g ≡ Some y → is_in_bounds 1 (count shelf) y ≡ true)
+      → AreInRules shelf a (record r { grant_books = f })
+  grant_books_put f is = record {
     head = in'.head;
     buckets = in'.buckets;
     counters = in'.counters;
@@ -223,14 +219,26 @@ module _ (shelf : Shelf) (a : List ℕ) (r : TableRows) (in' : AreInRules shelf 
     holds = in'.holds;
     answers = in'.answers;
     charges = in'.charges;
-    grant_books = λ t h. chosen (λ y. is_in_bounds 1 (count shelf) y ≡ true)
-        (same_name s t && nat_eq g h) n (r.grant_books t h) (λ e. rule) (in'.grant_books t h);
+    grant_books = is;
     allowances = in'.allowances;
     covered = in'.covered;
   }
 
+  pub grant_book_kept : (s : List ℕ) (g n : ℕ) → is_in_bounds 1 (count shelf) n ≡ true
+      → AreInRules shelf a (with_grant_book s g n r)
+  grant_book_kept s g n rule =
+      grant_books_put _ (λ t h. chosen (λ y. is_in_bounds 1 (count shelf) y ≡ true)
+      (same_name s t && nat_eq g h) n (r.grant_books t h) (λ e. rule) (in'.grant_books t h))
+
   pub grant_book_gone : (s : List ℕ) (g : ℕ) → AreInRules shelf a (without_grant_book s g r)
-  grant_book_gone s g = record {
+  grant_book_gone s g =
+      grant_books_put _ (λ t h. left_out (λ y. is_in_bounds 1 (count shelf) y ≡ true)
+      (same_name s t && nat_eq g h) (r.grant_books t h) (in'.grant_books t h))
+
+  allowances_put : (f : ℕ → Bool) →
+      ((n : ℕ) → f n ≡ true → is_numbering n ≡ true)
+      → AreInRules shelf a (record r { allowances = f })
+  allowances_put f is = record {
     head = in'.head;
     buckets = in'.buckets;
     counters = in'.counters;
@@ -239,30 +247,25 @@ module _ (shelf : Shelf) (a : List ℕ) (r : TableRows) (in' : AreInRules shelf 
     holds = in'.holds;
     answers = in'.answers;
     charges = in'.charges;
-    grant_books = λ t h. left_out (λ y. is_in_bounds 1 (count shelf) y ≡ true)
-        (same_name s t && nat_eq g h) (r.grant_books t h) (in'.grant_books t h);
-    allowances = in'.allowances;
+    grant_books = in'.grant_books;
+    allowances = is;
     covered = in'.covered;
   }
 
   pub allowance_kept : (n : ℕ) → is_numbering n ≡ true → AreInRules shelf a (with_allowance n r)
-  allowance_kept n rule = record {
-    head = in'.head;
-    buckets = in'.buckets;
-    counters = in'.counters;
-    sessions = in'.sessions;
-    groups = in'.groups;
-    holds = in'.holds;
-    answers = in'.answers;
-    charges = in'.charges;
-    grant_books = in'.grant_books;
-    allowances = λ m. marked (λ x. is_numbering x ≡ true) n m (r.allowances m) rule
-        (in'.allowances m);
-    covered = in'.covered;
-  }
+  allowance_kept n rule =
+      allowances_put _ (λ m. marked (λ x. is_numbering x ≡ true) n m (r.allowances m) rule
+      (in'.allowances m))
 
   pub allowance_gone : (n : ℕ) → AreInRules shelf a (without_allowance n r)
-  allowance_gone n = record {
+  allowance_gone n =
+      allowances_put _ (λ m. unmarked (λ x. is_numbering x ≡ true) m (nat_eq n m) (r.allowances m)
+      (in'.allowances m))
+
+  covered_put : (f : ℕ → Option ℕ) →
+      ((n y : ℕ) → f n ≡ Some y → 0 < y)
+      → AreInRules shelf a (record r { covered = f })
+  covered_put f is = record {
     head = in'.head;
     buckets = in'.buckets;
     counters = in'.counters;
@@ -272,41 +275,18 @@ module _ (shelf : Shelf) (a : List ℕ) (r : TableRows) (in' : AreInRules shelf 
     answers = in'.answers;
     charges = in'.charges;
     grant_books = in'.grant_books;
-    allowances = λ m. unmarked (λ x. is_numbering x ≡ true) m (nat_eq n m) (r.allowances m)
-        (in'.allowances m);
-    covered = in'.covered;
+    allowances = in'.allowances;
+    covered = is;
   }
 
   pub covered_kept : (x : CoveredRow) → 0 < x.blocks → AreInRules shelf a (with_covered x r)
-  covered_kept x some = record {
-    head = in'.head;
-    buckets = in'.buckets;
-    counters = in'.counters;
-    sessions = in'.sessions;
-    groups = in'.groups;
-    holds = in'.holds;
-    answers = in'.answers;
-    charges = in'.charges;
-    grant_books = in'.grant_books;
-    allowances = in'.allowances;
-    covered = λ n. chosen (λ y. 0 < y) (nat_eq x.number n) x.blocks (r.covered n) (λ e. some)
-        (in'.covered n);
-  }
+  covered_kept x some =
+      covered_put _ (λ n. chosen (λ y. 0 < y) (nat_eq x.number n) x.blocks (r.covered n) (λ e. some)
+      (in'.covered n))
 
   pub covered_gone : (n : ℕ) → AreInRules shelf a (without_covered n r)
-  covered_gone n = record {
-    head = in'.head;
-    buckets = in'.buckets;
-    counters = in'.counters;
-    sessions = in'.sessions;
-    groups = in'.groups;
-    holds = in'.holds;
-    answers = in'.answers;
-    charges = in'.charges;
-    grant_books = in'.grant_books;
-    allowances = in'.allowances;
-    covered = λ m. left_out (λ y. 0 < y) (nat_eq n m) (r.covered m) (in'.covered m);
-  }
+  covered_gone n =
+      covered_put _ (λ m. left_out (λ y. 0 < y) (nat_eq n m) (r.covered m) (in'.covered m))
 
 -- ---- the content
 
