@@ -1,26 +1,17 @@
 -- Each charge of an account is within its bounds, and so are their sums.
-use Rattle.std.proofs.Common.{◌≡◌, ℕ, zero, suc, ◌+◌, ◌-◌, ◌*◌, ◌<◌, ◌≤◌, ◌^◌, Bool, true, false}
+use Rattle.std.proofs.Common.{◌≡◌, ℕ, zero, suc, ◌+◌, ◌*◌, ◌<◌, ◌≤◌, ◌^◌, Bool, true, false}
 use Rattle.std.proofs.Common.{cond, List, [], ◌∷◌, ◌++◌, length, refl, sym, subst, arith}
 use Rattle.std.proofs.Common.{Option, Some, None}
 use Rattle.std.specs.Prelude.{if◌then◌else◌, ◌==◌, filter, find, sum_by, slice_get}
-use Rattle.std.specs.Prelude.{slice_index_or, option_map, option_and_then, unwrap_or}
+use Rattle.std.specs.Prelude.{option_map, option_and_then, unwrap_or}
 use Rattle.std.specs.Prelude.{IfSome}
-use Rattle.std.specs.List.{All, AllByRecursion}
+use Rattle.std.specs.List.{All}
 use Rattle.std.proofs.lemmas.List.Elements.{All-head, All-tail}
 use Rattle.std.proofs.lemmas.List.Sums.{sum_by-cons}
-use Rattle.units.specs.Blocks.{started}
 use Rattle.units.specs.declared.blocks.UsedPart.{UsedPart}
-use Rattle.tariffs.specs.declared.tiers.Tier.{Tier}
-use Rattle.tariffs.specs.declared.group_prices.Side.{Side}
-use Rattle.tariffs.specs.declared.group_prices.Side.TheVariants.{Before, After}
-use Rattle.tariffs.specs.Prices.{AreTiers, ArePriced}
 use Rattle.tariffs.specs.Tariffs.{GroupTariff, IsTariff}
-use Rattle.tariffs.specs.GroupPrices.{tiers_on}
-use Rattle.rating.specs.declared.report.Part.{Part}
 use Rattle.rating.specs.declared.report.Rated.{Rated}
 use Rattle.rating.specs.declared.grant.Periods.{Periods}
-use Rattle.rating.specs.Rated.{report_blocks, report_amount, uncovered_amount}
-use Rattle.rating.proofs.RunFacts.{rated_bound}
 use Rattle.shelves.specs.declared.dated.DatedBook.{DatedBook}
 use Rattle.shelves.specs.Shelves.{Shelf, IsShelf, tariff_of, tariff_in}
 use Rattle.shelves.proofs.Begun.{book_within}
@@ -34,7 +25,7 @@ use Rattle.ledger.specs.declared.terms.Terms.{Terms}
 use Rattle.ledger.specs.Ledger.{Fact, Dated, Ledger, counter, used, open_grant, next_charge}
 use Rattle.ledger.specs.Ledger.{uses_in, UseOf, blocks_by, number_of, counts}
 use Rattle.ledger.specs.Charges.{charge_of, charge_rows, charge_by}
-use Rattle.ledger.specs.Pricing.{cycle_at, terms_now, prices_by, rated_with, validity_of}
+use Rattle.ledger.specs.Pricing.{cycle_at, terms_now, rated_with, validity_of}
 use Rattle.ledger.specs.Settlement.{charge_facts, due_of, price_of, report_price, settled_by}
 use Rattle.ledger.specs.Settlement.{coverable}
 use Rattle.ledger.specs.Reservation.{grant_for, held_due, hold_facts}
@@ -59,6 +50,7 @@ use Rattle.charging.proofs.Steps.{Keeps, is_quiet, with_grant}
 use Rattle.charging.proofs.KeptHistories.{kept_history}
 use Rattle.charging.proofs.NeverOpened.{unopened-ledger}
 use Rattle.reserving.proofs.Counted.{has_none, quiet}
+use Rattle.decisions.proofs.Priced.{report_bound}
 
 -- ---- no block costs more than 10^9
 
@@ -90,35 +82,6 @@ is_tariff b is (suc (suc i)) g = at (slice_get b.later i) refl
     at (Some d) e =
         found_tariff g d.book.tariffs (book_within b.first 0 b.first b.later i d is.later e).tariffs
 
-priced_at : (lists : List (List Tier)) (i : ℕ) → AllByRecursion AreTiers lists →
-    ArePriced (slice_index_or lists i [])
-priced_at [] i h = tt
-priced_at (x ∷ xs) zero h = h.0.priced
-priced_at (x ∷ xs) (suc i) h = priced_at xs i h.1
-
-priced_on : (t : GroupTariff) (p : Periods) (side : Side) → IsTariff t →
-    ArePriced (tiers_on (prices_by t p) side)
-priced_on t p Before is = priced_at t.prices p.before.0 is.tiers
-priced_on t p After is = priced_at t.prices p.after.0 is.tiers
-
-amount_bound : (t : GroupTariff) (p : Periods) (used place covered : ℕ) (parts : List Part) →
-    IsTariff t →
-    report_amount (prices_by t p) used place covered parts
-    ≤ report_blocks t.block used parts * 1_000_000_000
-unfolding report_blocks report_amount
-amount_bound t p used place covered [] is = omega arith
-amount_bound t p used place covered (part ∷ parts) is =
-    let n : ℕ = started used part.units.0 t.block in
-    let here : uncovered_amount (tiers_on (prices_by t p) part.side) place covered n
-    ≤ (n - covered) * 1_000_000_000 =
-    rated_bound (tiers_on (prices_by t p) part.side) (place + covered) (n - covered)
-    (priced_on t p part.side is) in
-    omega (
-      arith,
-      here,
-      amount_bound t p (used + part.units.0) (place + n) (covered - n) parts is,
-    )
-
 abbrev IsWithin : Rated → Type 0
 IsWithin r = r.amount.0 ≤ r.blocks * 1_000_000_000
 
@@ -127,7 +90,7 @@ rated_within : (o : Option GroupTariff) (p : Periods) (used place covered : ℕ)
     IsWithin (rated_with o p used place covered used_parts)
 rated_within None p used place covered used_parts is = omega arith
 rated_within (Some t) p used place covered used_parts is =
-    amount_bound t p used place covered _ is
+    report_bound t p used place covered _ is
 
 price_within : (b : Shelf) → IsShelf b → (t g : ℕ) (o : Option Terms) (used place covered : ℕ)
     (used_parts : List UsedPart) → IsWithin (price_of b t g o used place covered used_parts)

@@ -37,7 +37,7 @@ priced_on t p Before is = priced_at t.prices p.before.0 is.tiers
 priced_on t p After is = priced_at t.prices p.after.0 is.tiers
 
 -- no block costs more than 10^9
-report_bound : (t : GroupTariff) (p : Periods) (used place covered : ℕ) (parts : List Part) →
+pub report_bound : (t : GroupTariff) (p : Periods) (used place covered : ℕ) (parts : List Part) →
     IsTariff t →
     report_amount (prices_by t p) used place covered parts
     ≤ report_blocks t.block used parts * 1_000_000_000
