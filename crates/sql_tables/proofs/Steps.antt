@@ -1,6 +1,6 @@
 -- Small lemmas that the others share.
 use Rattle.std.proofs.Common.{◌≡◌, ◌⊎◌, inl, inr, ℕ, List, [], ◌∷◌, map, Bool, true, false, not}
-use Rattle.std.proofs.Common.{◌&&◌, ◌||◌, cond, Some, None, Ok, Err, Result, refl, ap, subst}
+use Rattle.std.proofs.Common.{◌&&◌, ◌||◌, cond, Some, None, Ok, Err, Result, refl, ap, subst, arith}
 use Rattle.std.specs.Prelude.{nat_le, ◌^◌}
 use Rattle.std.proofs.lemmas.Bool.{cases_Bool}
 use Rattle.std.specs.List.Sorted.{IsPermutation}
@@ -15,7 +15,10 @@ use Rattle.sqlite_schema.specs.declared.command.Command.{Command}
 use Rattle.sqlite_rules.specs.Lists.{Has}
 use Rattle.sqlite_rules.proofs.ListLemmas.{has_contained, contains_had}
 use Rattle.sqlite.specs.Does.{Does}
-use Rattle.sqlite.specs.State.{State, mode_of, Writes}
+use Rattle.sqlite.specs.Listing.{understood}
+use Rattle.sqlite.specs.State.{State, HasCleanDisk, Survives, CommitsShowing, mode_of, Writes}
+use Rattle.sqlite.proofs.Callers.{IsPlain, never_commits}
+use Rattle.sqlite.proofs.StateLemmas.{survives_weaker}
 
 -- a part that gave a value did not stop on the way
 pub went : {B E R : Type 0} {b : B} {Stops : E → Type 0} →
@@ -85,3 +88,11 @@ pub mapped_to : {X Y : Type 0} (f : X → Y) (xs : List X) (x : X) → Has xs x 
 mapped_to f [] x h = absurd h
 mapped_to f (y ∷ ys) x (inl e) = inl (ap f e)
 mapped_to f (y ∷ ys) x (inr h) = inr (mapped_to f ys x h)
+
+-- a selection that failed committed nothing
+pub commits_nothing : (sql : List ℕ) (params : Row) (old new : State)
+    → (HasCleanDisk old → IsPlain (understood old.now.schema sql))
+    → Survives old new (CommitsShowing sql params old) → Survives old new (λ _. ⊥)
+commits_nothing sql params old new plain s =
+    survives_weaker old new _ _
+    (λ clean db. never_commits sql params old db (plain (omega (arith, s.clean, clean)))) s

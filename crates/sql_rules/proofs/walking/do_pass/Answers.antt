@@ -1,21 +1,13 @@
-use Rattle.std.proofs.Common.{ℕ, List, [], ◌++◌, ◌∷◌, refl, rules, arith}
-use Rattle.sqlite_value.specs.Order.{Row}
+use Rattle.std.proofs.Common.{[], ◌++◌, ◌∷◌, refl, rules, arith}
 use Rattle.sqlite.specs.Given.{HasGiven}
-use Rattle.sqlite.specs.Listing.{understood}
-use Rattle.sqlite.specs.State.{State, HasCleanDisk, Survives, CommitsShowing}
+use Rattle.sqlite.specs.State.{HasCleanDisk, Survives, CommitsShowing}
 use Rattle.sqlite.specs.Held.{state}
-use Rattle.sqlite.proofs.StateLemmas.{survives_weaker, survives_then}
-use Rattle.sqlite.proofs.Callers.{IsPlain, begun_plain, never_commits, unchanged_then}
+use Rattle.sqlite.proofs.StateLemmas.{survives_then}
+use Rattle.sqlite.proofs.Callers.{begun_plain, unchanged_then}
+use Rattle.sql_tables.proofs.Steps.{commits_nothing}
 use Rattle.sql_rules.specs.Rules.{rule_at}
 use Rattle.sql_rules.proofs.Passing.{walked}
 use Rattle.sql_rules.proofs.walking.do_pass.Goals as goal
-
-commits_nothing : (sql : List ℕ) (params : Row) (old new : State)
-    → (HasCleanDisk old → IsPlain (understood old.now.schema sql))
-    → Survives old new (CommitsShowing sql params old) → Survives old new (λ _. ⊥)
-commits_nothing sql params old new plain s =
-    survives_weaker old new _ _
-    (λ clean db. never_commits sql params old db (plain (omega (arith, s.clean, clean)))) s
 
 pub returns-in_err-rows-clause-crash : goal.returns-in_err-rows-clause-crash
 returns-in_err-rows-clause-crash g c =
