@@ -259,6 +259,13 @@ text_counts text (OfBook fault) told r is e = absurd (cc)
 text_counts text (OfShelf fault) told r is e = absurd told
 text_counts text (OfStore fault) told r is e = absurd told
 
+-- the store's fault that is told
+fault_in : {A : Type 0} → Result A AddFault → StoreFault
+fault_in (Ok x) = Failed
+fault_in (Err (OfBook fault)) = Failed
+fault_in (Err (OfShelf fault)) = Failed
+fault_in (Err (OfStore fault)) = fault
+
 pub no_text : {S A : Type 0} (g : Ghosts S) (text : List ℕ) (from : ℕ) (k : KeeperState S)
     (shelf : Shelf) (f : AddFault) → IsTextFault text f
     → AddsBook {A = A} g text from k k shelf shelf (Err f)
@@ -363,7 +370,7 @@ module _ {S : Type 0} (g : Ghosts S) (old new : KeeperState S) (text : List ℕ)
       → min (failed_in old + 1) max_failures ≤ failed_in new
   counts_told (Ok (Ok x)) cause e = absurd (cc)
   counts_told (Ok (Err f)) cause e = absurd (cc)
-  counts_told (Err f) cause e = cause.cause (cc)
+  counts_told (Err f) cause e = cause.cause (ap Err (ap fault_in e))
 
   pub adds_book : {A E : Type 0} (added : Result (Result A ShelfFault) E)
       (r : Result (Result A ShelfFault) StoreFault) → IsHanded added r
