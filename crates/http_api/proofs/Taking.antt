@@ -317,14 +317,16 @@ module _ {C : Type 0} (gives : C → Option ℕ → C → Type 0) (b : Shelf) wh
   so_far-closed count total left next closes (Some stream) r2 c0 c2 w0 w1 w2 old new count_is
       next_is over one =
       let whole : IsConnectionServed gives b stream (count + 1) c0 c2 w0 w2 old new = record {
-        moments = one.moments;
-        given = one.given;
-        text = one.text ++ one.more;
-        written = Appends-trans w0 w1 w2 one.text one.more one.written one.wrote;
-        whole = λ list time are.
-            let at : IsAt b stream (count + 1) (left_after closes left) one.rest one.moments
-            (one.text ++ one.more) new list = one.at list time are in
-            record { taken = at.taken; over = inl (at.left_is ∙ sym next_is ∙ over) };
+        whole = record {
+          moments = one.moments;
+          given = one.given;
+          text = one.text ++ one.more;
+          written = Appends-trans w0 w1 w2 one.text one.more one.written one.wrote;
+          is = λ list time are.
+              let at : IsAt b stream (count + 1) (left_after closes left) one.rest one.moments
+              (one.text ++ one.more) new list = one.at list time are in
+              record { taken = at.taken; over = inl (at.left_is ∙ sym next_is ∙ over) };
+        };
       } in
       subst (λ n. IsConnectionServed gives b stream n c0 c2 w0 w2 old new) (sym count_is) whole
 
@@ -338,11 +340,13 @@ module _ {C : Type 0} (gives : C → Option ℕ → C → Type 0) (b : Shelf) wh
   so_far-broken count left closes (Some stream) r2 c0 c2 w0 w1 w2 old new few one = record {
     count = count + 1;
     bounded = omega (arith, few);
-    moments = one.moments;
-    given = one.given;
-    text = one.text ++ one.more;
-    written = begun_second w0 w1 w2 one.text one.more one.written one.wrote;
-    taken = λ list time are. (one.at list time are).taken;
+    taken = record {
+      moments = one.moments;
+      given = one.given;
+      text = one.text ++ one.more;
+      written = begun_second w0 w1 w2 one.text one.more one.written one.wrote;
+      is = λ list time are. (one.at list time are).taken;
+    };
   }
 
   -- of its answer a beginning is written
@@ -355,13 +359,16 @@ module _ {C : Type 0} (gives : C → Option ℕ → C → Type 0) (b : Shelf) wh
   so_far-cut count left closes (Some stream) r2 c0 c2 w0 w1 w2 old new few one = record {
     count = count;
     bounded = few;
-    moments = one.moments;
-    given = one.given;
-    text = one.text;
     more = one.more;
     begun = one.wrote.0;
-    written = Appends-trans w0 w1 w2 one.text (take one.wrote.0 one.more) one.written one.wrote.1;
-    taken = one.turned;
+    taken = record {
+      moments = one.moments;
+      given = one.given;
+      text = one.text;
+      written =
+          Appends-trans w0 w1 w2 one.text (take one.wrote.0 one.more) one.written one.wrote.1;
+      is = one.turned;
+    };
   }
 
   -- what was taken so far is all, where the connection is over
@@ -372,14 +379,16 @@ module _ {C : Type 0} (gives : C → Option ℕ → C → Type 0) (b : Shelf) wh
       (at : IsAt b stream count left so.rest so.moments so.text new list) → IsOver at.taken.last) →
       IsConnectionServed gives b stream count c0 c1 w0 w1 old new
   served_over stream count left r1 c0 c1 w0 w1 old new so over = record {
-    moments = so.moments;
-    given = so.given;
-    text = so.text;
-    written = so.written;
-    whole = λ list time are.
-        let at : IsAt b stream count left so.rest so.moments so.text new list =
-        so.at list time are in
-        record { taken = at.taken; over = over list at };
+    whole = record {
+      moments = so.moments;
+      given = so.given;
+      text = so.text;
+      written = so.written;
+      is = λ list time are.
+          let at : IsAt b stream count left so.rest so.moments so.text new list =
+          so.at list time are in
+          record { taken = at.taken; over = over list at };
+    };
   }
 
   -- the stream ends before the next request does
@@ -420,11 +429,13 @@ module _ {C : Type 0} (gives : C → Option ℕ → C → Type 0) (b : Shelf) wh
   so_far-begun count left (Some stream) r1 c0 c1 w0 w1 old new few so = record {
     count = count;
     bounded = few;
-    moments = so.moments;
-    given = so.given;
-    text = so.text;
-    written = begins-all w0 w1 so.text so.written;
-    taken = λ list time are. (so.at list time are).taken;
+    taken = record {
+      moments = so.moments;
+      given = so.given;
+      text = so.text;
+      written = begins-all w0 w1 so.text so.written;
+      is = λ list time are. (so.at list time are).taken;
+    };
   }
 
   -- since the reader fails, or memory is refused
@@ -436,14 +447,16 @@ module _ {C : Type 0} (gives : C → Option ℕ → C → Type 0) (b : Shelf) wh
   so_far-unread count left (Some stream) r1 c0 c1 w0 w1 old new few some so = record {
     count = count;
     bounded = few;
-    moments = so.moments;
-    given = so.given;
-    text = so.text;
-    written = so.written;
-    taken = λ list time are.
-        let at : IsAt b stream count left so.rest so.moments so.text new list =
-        so.at list time are in
-        record { taken = at.taken; goes_on = subst (λ n. 0 < n) (sym at.left_is) some };
+    taken = record {
+      moments = so.moments;
+      given = so.given;
+      text = so.text;
+      written = so.written;
+      is = λ list time are.
+          let at : IsAt b stream count left so.rest so.moments so.text new list =
+          so.at list time are in
+          record { taken = at.taken; goes_on = subst (λ n. 0 < n) (sym at.left_is) some };
+    };
   }
 
   -- nothing is read, since memory is refused

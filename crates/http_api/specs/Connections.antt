@@ -102,15 +102,24 @@ pub record IsWholeConnection (b : Shelf) (stream : Bytes) (count : ℕ)
   pub taken : IsTaken b stream count moments text content list
   pub over : IsOver taken.last
 
+-- a part of a connection: the moments that the clock gave in turn, the text of the answers, what is
+-- written of it, and what both are of the stream, over each list of commands that the tables before
+-- come from
+pub record IsPart {C : Type 0} (gives : C → Option Moment → C → Type 0) (b : Shelf)
+    (before after : C) (old : Tables) (Writes : Bytes → Type 0)
+    (Is : List (Option Moment) → Bytes → List Accepted → Type 0) : Type 0 where
+  pub moments : List (Option Moment)
+  pub given : GivesInTurn gives before moments after
+  pub text : Bytes
+  pub written : Writes text
+  pub is : ForEachList b old (Is moments text)
+
 -- a stream is served to the end of the connection
 pub record IsConnectionServed {C : Type 0} (gives : C → Option Moment → C → Type 0) (b : Shelf)
     (stream : Bytes) (count : ℕ) (before after : C) (empty full : Option Bytes) (old new : Tables)
     : Type 0 where
-  pub moments : List (Option Moment)
-  pub given : GivesInTurn gives before moments after
-  pub text : Bytes
-  pub written : Appends empty full text
-  pub whole : ForEachList b old (IsWholeConnection b stream count moments text new)
+  pub whole : IsPart gives b before after old (Appends empty full)
+      (λ moments text. IsWholeConnection b stream count moments text new)
 
 -- so many requests of it were taken, and a beginning of their answers is written
 pub record IsConnectionBegun {C : Type 0} (gives : C → Option Moment → C → Type 0) (b : Shelf)
@@ -118,11 +127,8 @@ pub record IsConnectionBegun {C : Type 0} (gives : C → Option Moment → C →
     : Type 0 where
   pub count : ℕ
   pub bounded : count ≤ 1000
-  pub moments : List (Option Moment)
-  pub given : GivesInTurn gives before moments after
-  pub text : Bytes
-  pub written : Begins empty full text
-  pub taken : ForEachList b old (IsTaken b stream count moments text new)
+  pub taken : IsPart gives b before after old (Begins empty full)
+      (λ moments text. IsTaken b stream count moments text new)
 
 -- so many of its requests were answered, and the connection takes more
 pub record IsTakenOn (b : Shelf) (stream : Bytes) (count : ℕ) (moments : List (Option Moment))
@@ -137,11 +143,8 @@ pub record IsUnread {C : Type 0} (gives : C → Option Moment → C → Type 0) 
     : Type 0 where
   pub count : ℕ
   pub bounded : count < 1000
-  pub moments : List (Option Moment)
-  pub given : GivesInTurn gives before moments after
-  pub text : Bytes
-  pub written : Appends empty full text
-  pub taken : ForEachList b old (IsTakenOn b stream count moments text new)
+  pub taken : IsPart gives b before after old (Appends empty full)
+      (λ moments text. IsTakenOn b stream count moments text new)
 
 -- so many of its requests were answered with a text, and one more with another
 pub record IsTakenWith (b : Shelf) (stream : Bytes) (count : ℕ) (moments : List (Option Moment))
@@ -163,13 +166,10 @@ pub record IsCutOff {C : Type 0} (gives : C → Option Moment → C → Type 0) 
     : Type 0 where
   pub count : ℕ
   pub bounded : count < 1000
-  pub moments : List (Option Moment)
-  pub given : GivesInTurn gives before moments after
-  pub text : Bytes
   pub more : Bytes
   pub begun : ℕ
-  pub written : Appends empty full (text ++ take begun more)
-  pub taken : ForEachList b old (IsTakenWith b stream count moments text more new)
+  pub taken : IsPart gives b before after old (λ text. Appends empty full (text ++ take begun more))
+      (λ moments text. IsTakenWith b stream count moments text more new)
 
 -- the same of an honest keeper that may not be asked any more: of the tables at the last moment at
 -- which it could be asked
