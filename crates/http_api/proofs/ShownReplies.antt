@@ -57,3 +57,20 @@ module _ {A K : Type 0} (Told : (List ℕ → Type 0) → Tables → Tables → 
         ok = ok_gives result (told (Appends empty full) held had.next) had.ok;
         err = err_gives result (told (Begins empty full) held had.next) had.err;
       }
+
+  -- so it is told of the tables of a keeper that stays clean
+  pub shown_ok : Shows Told empty full content honest clean old new result → honest new →
+      clean new → OnOk result (Told (Appends empty full) (content old) (content new))
+  shown_ok shows h c =
+      let had : ShowsReply Told empty full (content old) (λ t. clean new → t ≡ content new) result =
+      shows h (content old) (λ _. refl) in
+      subst (λ (x : Tables). OnOk result (Told (Appends empty full) (content old) x)) (had.now c)
+      had.ok
+
+  pub shown_err : Shows Told empty full content honest clean old new result → honest new →
+      clean new → OnErr result (Told (Begins empty full) (content old) (content new))
+  shown_err shows h c =
+      let had : ShowsReply Told empty full (content old) (λ t. clean new → t ≡ content new) result =
+      shows h (content old) (λ _. refl) in
+      subst (λ (x : Tables). OnErr result (Told (Begins empty full) (content old) x)) (had.now c)
+      had.err

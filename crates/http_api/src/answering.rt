@@ -1,9 +1,7 @@
 //! A request, answered over a keeper.
 
-ghost use Rattle.std.specs.Prelude.{Ok, OnOk, OnErr};
-ghost use Rattle.std.specs.Io.KnownBytes.{Appends};
+ghost use Rattle.std.specs.Prelude.{Ok};
 ghost use Rattle.http_messages.specs.Asking.{Asking, reads, IsAsked};
-ghost use Rattle.http_messages.specs.Texts.{Begins};
 ghost use Rattle.http_api.specs.Replies.{GoesOn, Replies, Shows};
 
 use crate::clock::Clock;
@@ -34,14 +32,6 @@ pub(crate) fn answer_request<W: Write, K: ChargeSource, C: Clock>(
     asked: HttpAsked,
     closes: bool,
 ) -> Result<(), StreamFault>
-    ensures ok { K.clean keeper.new → OnOk result ((asking : Asking) → IsAsked asking asked →
-        Replies C.gives shelf.now asking closes clock.old clock.new
-        (Appends (W.contents writer.old) (W.contents writer.new))
-        (K.content keeper.old) (K.content keeper.new)) }
-    ensures err { K.clean keeper.new → OnErr result ((asking : Asking) → IsAsked asking asked →
-        Replies C.gives shelf.now asking closes clock.old clock.new
-        (Begins (W.contents writer.old) (W.contents writer.new))
-        (K.content keeper.old) (K.content keeper.new)) }
     ensures shown { Shows (λ Writes x y. (asking : Asking) → IsAsked asking asked →
         Replies C.gives shelf.now asking closes clock.old clock.new Writes x y)
         (W.contents writer.old) (W.contents writer.new)
@@ -72,14 +62,6 @@ fn serve_command<W: Write, K: ChargeSource, C: Clock>(
     command: Command,
     closes: bool,
 ) -> Result<(), StreamFault>
-    ensures ok { K.clean keeper.new → OnOk result
-        (Replies C.gives shelf.now (reads (Ok command)) closes clock.old clock.new
-        (Appends (W.contents writer.old) (W.contents writer.new))
-        (K.content keeper.old) (K.content keeper.new)) }
-    ensures err { K.clean keeper.new → OnErr result
-        (Replies C.gives shelf.now (reads (Ok command)) closes clock.old clock.new
-        (Begins (W.contents writer.old) (W.contents writer.new))
-        (K.content keeper.old) (K.content keeper.new)) }
     ensures shown { Shows
         (Replies C.gives shelf.now (reads (Ok command)) closes clock.old clock.new)
         (W.contents writer.old) (W.contents writer.new)

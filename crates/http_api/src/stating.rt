@@ -41,14 +41,6 @@ pub(crate) fn serve_statement<W: Write, K: ChargeSource, C: Clock>(
     asked: &StatementAsked,
     closes: bool,
 ) -> Result<(), StreamFault>
-    ensures ok { K.clean keeper.new → OnOk result
-        (Replies C.gives shelf.now (states asked.now) closes clock.old clock.new
-        (Appends (W.contents writer.old) (W.contents writer.new))
-        (K.content keeper.old) (K.content keeper.new)) }
-    ensures err { K.clean keeper.new → OnErr result
-        (Replies C.gives shelf.now (states asked.now) closes clock.old clock.new
-        (Begins (W.contents writer.old) (W.contents writer.new))
-        (K.content keeper.old) (K.content keeper.new)) }
     ensures shown { Shows (Replies C.gives shelf.now (states asked.now) closes clock.old clock.new)
         (W.contents writer.old) (W.contents writer.new)
         K.content K.honest K.clean keeper.old keeper.new result }

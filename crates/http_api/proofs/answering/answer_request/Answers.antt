@@ -1,57 +1,12 @@
 use Rattle.std.proofs.Common.{refl, subst, Ok}
-use Rattle.std.specs.Io.KnownBytes.{Appends}
 use Rattle.http_messages.specs.Asking.{Asking, IsAsked, reads, states}
 use Rattle.http_messages.specs.Refusals.{refusal_status}
-use Rattle.http_messages.specs.Texts.{Begins, TellsFault, no_members, response}
+use Rattle.http_messages.specs.Texts.{TellsFault, no_members, response}
 use Rattle.http_api.specs.Replies.{Replies}
-use Rattle.http_api.proofs.RequestReplies.{ok_gives, err_gives, refused_reply, unread_reply}
+use Rattle.http_api.proofs.RequestReplies.{refused_reply, unread_reply}
 use Rattle.http_api.proofs.RequestReplies.{command_reply, statement_reply}
 use Rattle.http_api.proofs.ShownReplies.{shows_as, shows_same}
 use Rattle.http_api.proofs.answering.answer_request.Goals as goal
-
-pub returns-in-Refused-clause-ok : goal.returns-in-Refused-clause-ok
-returns-in-Refused-clause-ok g c = λ clean. ok_gives c.tell_refusal.result
-    (λ tells asking asked. refused_reply g.C.Clock.gives c.args.shelf.now c.args.closes
-    (Appends (g.W.Write.contents c.args.writer.now) (g.W.Write.contents c.tell_refusal.new.writer))
-    c.in-Refused.refusal c.args.clock.now (g.K.Keeper.content c.args.keeper.now) tells asking
-    (subst (IsAsked asking) c.in-Refused.is asked)) c.tell_refusal.ensures.ok
-
-pub returns-in-Refused-clause-err : goal.returns-in-Refused-clause-err
-returns-in-Refused-clause-err g c = λ clean. err_gives c.tell_refusal.result
-    (λ tells asking asked. refused_reply g.C.Clock.gives c.args.shelf.now c.args.closes
-    (Begins (g.W.Write.contents c.args.writer.now) (g.W.Write.contents c.tell_refusal.new.writer))
-    c.in-Refused.refusal c.args.clock.now (g.K.Keeper.content c.args.keeper.now) tells asking
-    (subst (IsAsked asking) c.in-Refused.is asked)) c.tell_refusal.ensures.err
-
-pub returns-in-Unread-clause-ok : goal.returns-in-Unread-clause-ok
-returns-in-Unread-clause-ok g c = λ clean. ok_gives c.tell_fault.result
-    (λ tells asking asked. unread_reply g.C.Clock.gives c.args.shelf.now c.args.closes
-    (Appends (g.W.Write.contents c.args.writer.now) (g.W.Write.contents c.tell_fault.new.writer))
-    c.in-Unread.fault c.args.clock.now (g.K.Keeper.content c.args.keeper.now) tells asking
-    (subst (IsAsked asking) c.in-Unread.is asked)) c.tell_fault.ensures.ok
-
-pub returns-in-Unread-clause-err : goal.returns-in-Unread-clause-err
-returns-in-Unread-clause-err g c = λ clean. err_gives c.tell_fault.result
-    (λ tells asking asked. unread_reply g.C.Clock.gives c.args.shelf.now c.args.closes
-    (Begins (g.W.Write.contents c.args.writer.now) (g.W.Write.contents c.tell_fault.new.writer))
-    c.in-Unread.fault c.args.clock.now (g.K.Keeper.content c.args.keeper.now) tells asking
-    (subst (IsAsked asking) c.in-Unread.is asked)) c.tell_fault.ensures.err
-
-pub returns-in-States-clause-ok : goal.returns-in-States-clause-ok
-returns-in-States-clause-ok g c = λ clean. ok_gives c.serve_statement.result
-    (λ replies asking asked. statement_reply g.C.Clock.gives c.args.shelf.now c.args.closes (Appends
-    (g.W.Write.contents c.args.writer.now) (g.W.Write.contents c.serve_statement.new.writer))
-    c.in-States.statement c.args.clock.now c.serve_statement.new.clock
-    (g.K.Keeper.content c.args.keeper.now) (g.K.Keeper.content c.serve_statement.new.keeper) replies
-    asking (subst (IsAsked asking) c.in-States.is asked)) (c.serve_statement.ensures.ok clean)
-
-pub returns-in-States-clause-err : goal.returns-in-States-clause-err
-returns-in-States-clause-err g c = λ clean. err_gives c.serve_statement.result
-    (λ replies asking asked. statement_reply g.C.Clock.gives c.args.shelf.now c.args.closes (Begins
-    (g.W.Write.contents c.args.writer.now) (g.W.Write.contents c.serve_statement.new.writer))
-    c.in-States.statement c.args.clock.now c.serve_statement.new.clock
-    (g.K.Keeper.content c.args.keeper.now) (g.K.Keeper.content c.serve_statement.new.keeper) replies
-    asking (subst (IsAsked asking) c.in-States.is asked)) (c.serve_statement.ensures.err clean)
 
 pub returns-in-Refused-clause-shown : goal.returns-in-Refused-clause-shown
 returns-in-Refused-clause-shown g c = shows_same

@@ -1,67 +1,14 @@
 use Rattle.std.proofs.Common.{refl, subst, Ok}
-use Rattle.std.specs.Io.KnownBytes.{Appends}
 use Rattle.http_messages.specs.Asking.{reads}
-use Rattle.http_messages.specs.Texts.{Begins, response, unable}
+use Rattle.http_messages.specs.Texts.{response, unable}
 use Rattle.http_messages.specs.Statuses.{ok, service_unavailable}
 use Rattle.wire.specs.Spelled.{answer_text}
 use Rattle.http_api.specs.Replies.{Replies}
 use Rattle.http_api.proofs.Continuing.{continued_step, leaves_step}
-use Rattle.http_api.proofs.RequestReplies.{ok_gives, err_gives, unclocked_reply, failed_reply}
+use Rattle.http_api.proofs.RequestReplies.{unclocked_reply, failed_reply}
 use Rattle.http_api.proofs.RequestReplies.{served_reply}
 use Rattle.http_api.proofs.ShownReplies.{shows_new, shows_same}
 use Rattle.http_api.proofs.answering.serve_command.Goals as goal
-
-pub returns-in_default-clause-ok : goal.returns-in_default-clause-ok
-returns-in_default-clause-ok g c = λ clean. ok_gives c.tell_unable.result
-    (unclocked_reply g.C.Clock.gives c.args.shelf.now c.args.closes
-    (Appends (g.W.Write.contents c.args.writer.now) (g.W.Write.contents c.tell_unable.new.writer))
-    c.args.command c.args.clock.now c.now.new.self (g.K.Keeper.content c.args.keeper.now)
-    (subst (λ o. g.C.Clock.gives c.args.clock.now o c.now.new.self) c.in_default.is c.now.ensures))
-    c.tell_unable.ensures.ok
-
-pub returns-in_default-clause-err : goal.returns-in_default-clause-err
-returns-in_default-clause-err g c = λ clean. err_gives c.tell_unable.result
-    (unclocked_reply g.C.Clock.gives c.args.shelf.now c.args.closes
-    (Begins (g.W.Write.contents c.args.writer.now) (g.W.Write.contents c.tell_unable.new.writer))
-    c.args.command c.args.clock.now c.now.new.self (g.K.Keeper.content c.args.keeper.now)
-    (subst (λ o. g.C.Clock.gives c.args.clock.now o c.now.new.self) c.in_default.is c.now.ensures))
-    c.tell_unable.ensures.err
-
-pub returns-in-Ok-clause-ok : goal.returns-in-Ok-clause-ok
-returns-in-Ok-clause-ok g c = λ clean. ok_gives c.tell_answer.result
-    (served_reply g.C.Clock.gives c.args.shelf.now c.args.closes
-    (Appends (g.W.Write.contents c.args.writer.now) (g.W.Write.contents c.tell_answer.new.writer))
-    c.args.command c.in-Some.moment c.args.clock.now c.now.new.self
-    (g.K.Keeper.content c.args.keeper.now) (g.K.Keeper.content c.step.new.keeper) c.in-Ok.answer
-    (subst (λ o. g.C.Clock.gives c.args.clock.now o c.now.new.self) c.in-Some.is c.now.ensures)
-    (c.in-Ok.ensures.served clean)) c.tell_answer.ensures.ok
-
-pub returns-in-Ok-clause-err : goal.returns-in-Ok-clause-err
-returns-in-Ok-clause-err g c = λ clean. err_gives c.tell_answer.result
-    (served_reply g.C.Clock.gives c.args.shelf.now c.args.closes
-    (Begins (g.W.Write.contents c.args.writer.now) (g.W.Write.contents c.tell_answer.new.writer))
-    c.args.command c.in-Some.moment c.args.clock.now c.now.new.self
-    (g.K.Keeper.content c.args.keeper.now) (g.K.Keeper.content c.step.new.keeper) c.in-Ok.answer
-    (subst (λ o. g.C.Clock.gives c.args.clock.now o c.now.new.self) c.in-Some.is c.now.ensures)
-    (c.in-Ok.ensures.served clean)) c.tell_answer.ensures.err
-
-pub returns-in-Err-clause-ok : goal.returns-in-Err-clause-ok
-returns-in-Err-clause-ok g c = λ clean. ok_gives c.tell_unable-in-Err.result
-    (failed_reply g.C.Clock.gives c.args.shelf.now c.args.closes (Appends
-    (g.W.Write.contents c.args.writer.now) (g.W.Write.contents c.tell_unable-in-Err.new.writer))
-    c.args.command c.in-Some.moment c.args.clock.now c.now.new.self
-    (g.K.Keeper.content c.args.keeper.now) (g.K.Keeper.content c.step.new.keeper) c.in-Err.field-0
-    (subst (λ o. g.C.Clock.gives c.args.clock.now o c.now.new.self) c.in-Some.is c.now.ensures)
-    (c.in-Err.ensures.served clean)) c.tell_unable-in-Err.ensures.ok
-
-pub returns-in-Err-clause-err : goal.returns-in-Err-clause-err
-returns-in-Err-clause-err g c = λ clean. err_gives c.tell_unable-in-Err.result
-    (failed_reply g.C.Clock.gives c.args.shelf.now c.args.closes (Begins
-    (g.W.Write.contents c.args.writer.now) (g.W.Write.contents c.tell_unable-in-Err.new.writer))
-    c.args.command c.in-Some.moment c.args.clock.now c.now.new.self
-    (g.K.Keeper.content c.args.keeper.now) (g.K.Keeper.content c.step.new.keeper) c.in-Err.field-0
-    (subst (λ o. g.C.Clock.gives c.args.clock.now o c.now.new.self) c.in-Some.is c.now.ensures)
-    (c.in-Err.ensures.served clean)) c.tell_unable-in-Err.ensures.err
 
 pub returns-in-Ok-clause-goes_on : goal.returns-in-Ok-clause-goes_on
 returns-in-Ok-clause-goes_on g c = record {

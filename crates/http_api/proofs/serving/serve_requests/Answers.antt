@@ -1,13 +1,16 @@
 use Rattle.std.proofs.Common.{◌==◌, ℕ, List, refl, le_refl, arith, Result, Ok, Err, IfOk}
 use Rattle.std.proofs.Common.{IfSome, inl}
 use Rattle.std.specs.Prelude.{IsErrAnd}
+use Rattle.std.specs.Io.KnownBytes.{Appends}
 use Rattle.texts.specs.declared.streams.StreamFault.TheVariants as broken
 use Rattle.charging.specs.Continued.{Continues, LeavesOn}
 use Rattle.http_messages.specs.Asking.{Asking, IsAsked}
+use Rattle.http_messages.specs.Texts.{Begins}
 use Rattle.keepers.specs.Tables.{Tables}
 use Rattle.http_api.specs.Replies.{Replies}
 use Rattle.http_api.proofs.RequestReplies.{at_err, fault_told, not_memory, not_read}
 use Rattle.http_api.proofs.Continuing.{continued_none, continued_more, leaves_more}
+use Rattle.http_api.proofs.ShownReplies.{shown_err, shown_ok}
 use Rattle.http_api.proofs.Taking.{IsOneMore, IsSoFar, taken_one, some_left, turns-more}
 use Rattle.http_api.proofs.Taking.{so_far-none, so_far-more, so_far-closed, so_far-broken}
 use Rattle.http_api.proofs.Taking.{so_far-ended, so_far-full, so_far-begun}
@@ -195,8 +198,12 @@ returns-in_err-answer_request g c = record {
       (so_far-broken g.C.Clock.gives c.args.shelf.now c.loop-served.served c.loop-served.left
       c.in-Some.heard.closes (g.R.Read.remaining c.args.reader.now) _ _ _ _
       (g.W.Write.contents c.loop-served.writer) _ _ _ c.loop-served-test.true
-      (one_more g (goal.at.returns-in_err-answer_request g c).After-answer_request _ clean
-      (c.in_err-answer_request.ensures.err clean)));
+      (one_more g (goal.at.returns-in_err-answer_request g c).After-answer_request
+      (Begins (g.W.Write.contents c.loop-served.writer)
+      (g.W.Write.contents c.answer_request.new.writer)) clean
+      (shown_err _ _ _ g.K.Keeper.content g.K.Keeper.honest g.K.Keeper.clean
+      c.loop-served.keeper c.answer_request.new.keeper _ c.in_err-answer_request.ensures.shown
+      (g.met.K.Keeper.honesty c.answer_request.new.keeper clean) clean)));
   memory = λ clean e. not_memory c.answer_request.result c.answer_request.ensures.goes_on.fault
       (fault_told c.answer_request.result c.from_residual-in_err-answer_request.result _
       broken.Memory c.in_err-answer_request.was c.from_residual-in_err-answer_request.ensures.1 e);
@@ -207,8 +214,12 @@ returns-in_err-answer_request g c = record {
       so_far-cut g.C.Clock.gives c.args.shelf.now c.loop-served.served c.loop-served.left
       c.in-Some.heard.closes (g.R.Read.remaining c.args.reader.now) _ _ _ _
       (g.W.Write.contents c.loop-served.writer) _ _ _ c.loop-served-test.true
-      (one_more g (goal.at.returns-in_err-answer_request g c).After-answer_request _ clean
-      (c.in_err-answer_request.ensures.err clean));
+      (one_more g (goal.at.returns-in_err-answer_request g c).After-answer_request
+      (Begins (g.W.Write.contents c.loop-served.writer)
+      (g.W.Write.contents c.answer_request.new.writer)) clean
+      (shown_err _ _ _ g.K.Keeper.content g.K.Keeper.honest g.K.Keeper.clean
+      c.loop-served.keeper c.answer_request.new.keeper _ c.in_err-answer_request.ensures.shown
+      (g.met.K.Keeper.honesty c.answer_request.new.keeper clean) clean));
   shown = λ honest.
       let had = c.loop-served.invariant.shown (c.answer_request.ensures.goes_on.honesty honest) in
       let told = c.in_err-answer_request.ensures.shown honest had.held had.now in
@@ -243,8 +254,12 @@ returns-then-left-eq0 g c = record {
       (g.R.Read.remaining c.args.reader.now) (g.R.Read.remaining c.hear.new.reader) _ _ _
       (g.W.Write.contents c.loop-served.writer) _ _ _ c.one_more.ensures c.left_after-left.ensures
       c.if-left-eq0.true
-      (one_more g (goal.at.returns-then-left-eq0 g c).After-answer_request _ clean
-      (c.in_ok-answer_request.ensures.ok clean));
+      (one_more g (goal.at.returns-then-left-eq0 g c).After-answer_request
+      (Appends (g.W.Write.contents c.loop-served.writer)
+      (g.W.Write.contents c.answer_request.new.writer)) clean
+      (shown_ok _ _ _ g.K.Keeper.content g.K.Keeper.honest g.K.Keeper.clean
+      c.loop-served.keeper c.answer_request.new.keeper _ c.in_ok-answer_request.ensures.shown
+      (g.met.K.Keeper.honesty c.answer_request.new.keeper clean) clean));
   begun = λ clean. tt;
   memory = λ clean e. absurd (cc);
   read = λ clean e. absurd (cc);
@@ -283,8 +298,12 @@ loop-served-preserved g c = record {
       so_far-more g.C.Clock.gives c.args.shelf.now c.loop-served.served c.loop-served.left
       c.left_after-left.result c.in-Some.heard.closes (g.R.Read.remaining c.args.reader.now) _ _ _ _
       (g.W.Write.contents c.loop-served.writer) _ _ _ c.left_after-left.ensures
-      c.if-left-eq0.false (one_more g (goal.at.loop-served-preserved g c).After-answer_request _
-      clean (c.in_ok-answer_request.ensures.ok clean));
+      c.if-left-eq0.false (one_more g (goal.at.loop-served-preserved g c).After-answer_request
+      (Appends (g.W.Write.contents c.loop-served.writer)
+      (g.W.Write.contents c.answer_request.new.writer)) clean
+      (shown_ok _ _ _ g.K.Keeper.content g.K.Keeper.honest g.K.Keeper.clean
+      c.loop-served.keeper c.answer_request.new.keeper _ c.in_ok-answer_request.ensures.shown
+      (g.met.K.Keeper.honesty c.answer_request.new.keeper clean) clean));
   shown = λ honest.
       let had = c.loop-served.invariant.shown (c.answer_request.ensures.goes_on.honesty honest) in
       let told = c.in_ok-answer_request.ensures.shown honest had.held had.now in
