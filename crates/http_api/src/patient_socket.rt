@@ -18,13 +18,24 @@ pub(crate) struct JoinedAnswers<'s> {
     pub(crate) failed: Cell<bool>,
 }
 
-/// What is read of a socket, with the moment at which the bytes of a request began to come: those
-/// that are read first after an answer. A read fails once they have taken longer than they may. The
-/// answers that wait are written before it: the peer may wait for them, too.
+/// How far a request has come.
+#[derive(Clone, Copy)]
+pub(crate) enum Coming {
+    /// Nothing was read since the last answer.
+    Nothing,
+    /// Bytes were read once.
+    Begun,
+    /// More bytes were asked for since this moment.
+    Since(Instant),
+}
+
+/// What is read of a socket, with how far a request has come since the last answer. A read fails
+/// once its bytes have taken longer than they may. Most requests come by one read, for which no
+/// clock is asked. The answers that wait are written before a read: the peer may wait for them, too.
 #[derive(Drop)]
 pub(crate) struct PatientReader<'s, 'b> {
     pub(crate) rt: HostRuntime,
-    pub(crate) begun: &'b Cell<Option<Instant>>,
+    pub(crate) coming: &'b Cell<Coming>,
     pub(crate) answers: &'b JoinedAnswers<'s>,
 }
 
@@ -32,7 +43,7 @@ pub(crate) struct PatientReader<'s, 'b> {
 /// more. After it the next request may begin.
 #[derive(Drop)]
 pub(crate) struct PatientWriter<'s, 'b> {
-    pub(crate) begun: &'b Cell<Option<Instant>>,
+    pub(crate) coming: &'b Cell<Coming>,
     pub(crate) answers: &'b JoinedAnswers<'s>,
 }
 
@@ -77,20 +88,26 @@ impl<'s> JoinedAnswers<'s> {
 }
 
 impl<'s, 'b> PatientReader<'s, 'b> {
-    /// Whether the request that is being read has taken longer than it may.
+    /// Whether the request that is being read has taken longer than it may, where bytes of it were
+    /// read before.
     fn is_late(&self) -> io::Result<bool> {
-        match self.begun.get() {
-            Some(begun) => Ok(begun.elapsed(&self.rt)? > Duration::from_secs(REQUEST_SECONDS)),
-            None => Ok(false),
+        match self.coming.get() {
+            Coming::Nothing => Ok(false),
+            Coming::Begun => {
+                self.coming.set(Coming::Since(Instant::now(&self.rt)?));
+                Ok(false)
+            }
+            Coming::Since(begun) => {
+                Ok(begun.elapsed(&self.rt)? > Duration::from_secs(REQUEST_SECONDS))
+            }
         }
     }
 
     /// Sees that bytes of a request have come.
-    fn begin(&self) -> io::Result<()> {
-        if self.begun.get().is_none() {
-            self.begun.set(Some(Instant::now(&self.rt)?));
+    fn begin(&self) {
+        if let Coming::Nothing = self.coming.get() {
+            self.coming.set(Coming::Begun);
         }
-        Ok(())
     }
 }
 
@@ -101,14 +118,14 @@ impl<'s, 'b> Read for PatientReader<'s, 'b> {
         }
         self.answers.write()?;
         let count = (&mut &*self.answers.stream).read(buf)?;
-        self.begin()?;
+        self.begin();
         Ok(count)
     }
 }
 
 impl<'s, 'b> Write for PatientWriter<'s, 'b> {
     fn write(&mut self, buf: &[u8]) -> io::Result<usize> {
-        self.begun.set(None);
+        self.coming.set(Coming::Nothing);
         self.answers.add(buf)
     }
 

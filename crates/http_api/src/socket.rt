@@ -4,7 +4,7 @@ ghost use Rattle.http_api.specs.Sockets.{ServesSocket};
 
 use crate::clock::Clock;
 use crate::fault::ServeFault;
-use crate::patient_socket::{JoinedAnswers, PatientReader, PatientWriter};
+use crate::patient_socket::{Coming, JoinedAnswers, PatientReader, PatientWriter};
 use crate::serving::{Served, serve};
 use keepers::ChargeSource;
 use shelves::TariffShelf;
@@ -64,14 +64,14 @@ fn serve_joined<K: ChargeSource, C: Clock>(
     ensures { ServesSocket K.content K.failed K.honest K.clean K.left shelf.now
         keeper.old keeper.new result }
 {
-    let begun = Cell::new(None);
+    let coming = Cell::new(Coming::Nothing);
     let mut reader = PatientReader {
         rt: *rt,
-        begun: &begun,
+        coming: &coming,
         answers,
     };
     let mut writer = PatientWriter {
-        begun: &begun,
+        coming: &coming,
         answers,
     };
     serve(rt.alloc(), &mut reader, &mut writer, keeper, shelf, clock)
