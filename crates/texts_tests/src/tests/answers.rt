@@ -28,7 +28,7 @@ const SHOWN: &str = r##"{"CC-Request-Number":0,"CC-Request-Type":1,
   "Tariff-Time-Change":1767600000},"Rating-Group":10,"Result-Code":2001,"Validity-Time":3600}],
   "Result-Code":2001,"Session-Id":"s1"} -> Request(RequestAnswer { session: SessionId {
    text: "s1" }, kind: Initial, number: 0, outcome: Services(ServiceAnswers { list: [
-  ServiceAnswer { group: 10, outcome: Granted(Granted { quantity: Quantity { kind: Time,
+  ServiceAnswer { group: 10, outcome: Granted(GrantedServiceUnit { quantity: Quantity { kind: Time,
    units: 600 }, switch: Some(Moment { seconds: 1767600000 }), validity: 3600,
    last: None }) }] }) })
 {"CC-Request-Number":1,"CC-Request-Type":2,"Multiple-Services-Credit-Control":[{"Rating-Group":10,
@@ -40,17 +40,17 @@ const SHOWN: &str = r##"{"CC-Request-Number":0,"CC-Request-Type":1,
   "Rating-Group":10,"Result-Code":2001,"Validity-Time":3600}],"Result-Code":2001,
   "Session-Id":"s3"} -> Request(RequestAnswer { session: SessionId { text: "s3" }, kind: Initial,
    number: 0, outcome: Services(ServiceAnswers { list: [ServiceAnswer { group: 10,
-   outcome: Granted(Granted { quantity: Quantity { kind: Time, units: 120 }, switch: None,
-   validity: 3600, last: Some(Terminate) }) }] }) })
+   outcome: Granted(GrantedServiceUnit { quantity: Quantity { kind: Time, units: 120 }, switch:
+   None, validity: 3600, last: Some(Terminate) }) }] }) })
 {"CC-Request-Number":0,"CC-Request-Type":1,"Multiple-Services-Credit-Control":[{
   "Final-Unit-Indication":{"Final-Unit-Action":1,"Redirect-Server":{"Redirect-Address-Type":2,
   "Redirect-Server-Address":"http://topup.example/"}},"Granted-Service-Unit":{
   "CC-Total-Octets":1000000000000000},"Rating-Group":20,"Result-Code":2001,"Validity-Time":3600}],
   "Result-Code":2001,"Session-Id":"s7"} -> Request(RequestAnswer { session: SessionId {
    text: "s7" }, kind: Initial, number: 0, outcome: Services(ServiceAnswers { list: [
-  ServiceAnswer { group: 20, outcome: Granted(Granted { quantity: Quantity { kind: TotalOctets,
-   units: 1000000000000000 }, switch: None, validity: 3600, last: Some(Redirect(RedirectAddress {
-   text: "http://topup.example/" })) }) }] }) })
+  ServiceAnswer { group: 20, outcome: Granted(GrantedServiceUnit { quantity: Quantity { kind:
+   TotalOctets, units: 1000000000000000 }, switch: None, validity: 3600, last:
+   Some(Redirect(RedirectAddress { text: "http://topup.example/" })) }) }] }) })
 {"CC-Request-Number":0,"CC-Request-Type":4,"Multiple-Services-Credit-Control":[{
   "Granted-Service-Unit":{"CC-Service-Specific-Units":1},"Rating-Group":30,"Result-Code":2001}],
   "Result-Code":2001,"Session-Id":"d8"} -> Request(RequestAnswer { session: SessionId {
@@ -68,8 +68,8 @@ const SHOWN: &str = r##"{"CC-Request-Number":0,"CC-Request-Type":1,
   "Result-Code":4010}],"Result-Code":2001,"Session-Id":"s19"} -> Request(RequestAnswer {
    session: SessionId { text: "s19" }, kind: Initial, number: 0, outcome: Services(ServiceAnswers {
    list: [ServiceAnswer { group: 99, outcome: Failed(RatingFailed) }, ServiceAnswer { group: 10,
-   outcome: Granted(Granted { quantity: Quantity { kind: Time, units: 600 }, switch: None,
-   validity: 3600, last: None }) }, ServiceAnswer { group: 11, outcome: Failed(
+   outcome: Granted(GrantedServiceUnit { quantity: Quantity { kind: Time, units: 600 }, switch:
+   None, validity: 3600, last: None }) }, ServiceAnswer { group: 11, outcome: Failed(
   CreditLimitReached) }, ServiceAnswer { group: 4294967295, outcome: Failed(
   EndUserServiceDenied) }] }) })
 {"CC-Request-Number":2,"CC-Request-Type":3,"Multiple-Services-Credit-Control":[],
@@ -134,8 +134,8 @@ const SHOWN: &str = r##"{"CC-Request-Number":0,"CC-Request-Type":1,
   "Granted-Service-Unit":{"CC-Time":60},"Rating-Group":10,"Result-Code":2001,
   "Validity-Time":3600}],"Result-Code":2001,"Session-Id":"s11"} -> Request(RequestAnswer {
    session: SessionId { text: "s11" }, kind: Update, number: 1, outcome: Services(ServiceAnswers {
-   list: [ServiceAnswer { group: 10, outcome: Granted(Granted { quantity: Quantity { kind: Time,
-   units: 60 }, switch: None, validity: 3600, last: None }) }] }) })
+   list: [ServiceAnswer { group: 10, outcome: Granted(GrantedServiceUnit { quantity: Quantity {
+   kind: Time, units: 60 }, switch: None, validity: 3600, last: None }) }] }) })
 {"CC-Request-Number":0,"CC-Request-Type":1,"Result-Code":4010,"Session-Id":"a1"} -> Request(
   RequestAnswer { session: SessionId { text: "a1" }, kind: Initial, number: 0, outcome: Failed(
   Denied(EndUserServiceDenied)) })
@@ -165,11 +165,11 @@ const SHOWN: &str = r##"{"CC-Request-Number":0,"CC-Request-Type":1,
   "Validity-Time":43200},{"Granted-Service-Unit":{"CC-Service-Specific-Units":1},"Rating-Group":1,
   "Result-Code":2001,"Validity-Time":0}],"Result-Code":2001,"Session-Id":"a1"} -> Request(
   RequestAnswer { session: SessionId { text: "a1" }, kind: Initial, number: 0, outcome: Services(
-  ServiceAnswers { list: [ServiceAnswer { group: 0, outcome: Granted(Granted { quantity: Quantity {
-   kind: TotalOctets, units: 1048576 }, switch: Some(Moment { seconds: 4102487999 }),
+  ServiceAnswers { list: [ServiceAnswer { group: 0, outcome: Granted(GrantedServiceUnit { quantity:
+   Quantity { kind: TotalOctets, units: 1048576 }, switch: Some(Moment { seconds: 4102487999 }),
    validity: 43200, last: Some(Terminate) }) }, ServiceAnswer { group: 1, outcome: Granted(
-  Granted { quantity: Quantity { kind: ServiceSpecific, units: 1 }, switch: None, validity: 0,
-   last: None }) }] }) })
+  GrantedServiceUnit { quantity: Quantity { kind: ServiceSpecific, units: 1 }, switch: None,
+   validity: 0, last: None }) }] }) })
 {"Bucket":4294967295,"Result-Code":2001} -> Bucket(4294967295)
 {"Accounts":0,"Result-Code":2001} -> Swept(0)
 {"Accounts":18446744073709551615,"Result-Code":2001} -> Swept(18446744073709551615)
