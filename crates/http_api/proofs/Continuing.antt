@@ -1,5 +1,6 @@
 -- Dated commands come to a list, one after another.
-use Rattle.std.proofs.Common.{ℕ, List, [], ◌∷◌, ◌++◌, sym, subst, Result, Ok, Err, ◌⊎◌, inl, inr}
+use Rattle.std.proofs.Common.{ℕ, List, [], ◌∷◌, ◌++◌, refl, sym, subst, Result, Ok, Err}
+use Rattle.std.proofs.Common.{◌⊎◌, inl, inr, Some}
 use Rattle.commands.specs.declared.answer.Answer.{Answer}
 use Rattle.commands.specs.declared.command.Command.{Command}
 use Rattle.shelves.specs.Shelves.{Shelf}
@@ -12,6 +13,9 @@ use Rattle.charging.specs.Continued.{ForEachList, IsContinued, LeavesOn}
 use Rattle.charging.specs.Runs.{after_commands}
 use Rattle.charging.proofs.RunLemmas.{commands_after, time-more}
 use Rattle.charging.proofs.Serving.{left_as}
+use Rattle.http_messages.specs.Asking.{Asking, refuses, reads, states, IsAsked}
+use Rattle.http_messages.specs.declared.asking.HttpAsked.TheVariants as told
+use Rattle.http_api.specs.Replies.{LeavesReply, reply_at}
 
 -- none
 pub continued_none : (b : Shelf) (tables : Tables) → ForEachList b tables (IsContinued b tables)
@@ -84,3 +88,32 @@ continued_step b c t old new (Err fault) serves = λ list time are.
       tables = subst (AreTables b list) (sym (serves list time are)) are;
       time = time;
     }
+
+-- ---- what a stop leaves of a request
+
+module _ {K : Type 0} (content : K → Tables) (honest clean : K → Type 0)
+    (leaves : K → Tables → Type 0) (b : Shelf) where
+  -- of a command at the clock's moment: it is due
+  pub held_step : (c : Command) (t : ℕ) (old new : K) →
+      Leaves honest leaves old new (λ held. clean old × Writes b c t (content old) held) →
+      LeavesReply content honest clean leaves b (reads (Ok c)) old new
+  held_step c t old new left = λ h held l. left_as (left h held l) (λ before. before)
+      (λ w. (
+        w.0,
+        λ list time are. record {
+          moments = Some t ∷ [];
+          reply = reply_at b list c (Some t);
+          is_reply = inl (Some t, refl, refl);
+          tables = w.1 list time are;
+          time = time-more b list (record { moment = t; command = c }) time;
+        },
+      ))
+
+  -- of a command, whatever it is read from
+  pub held_asked : (c : Command) (old new : K) →
+      LeavesReply content honest clean leaves b (reads (Ok c)) old new → (asking : Asking) →
+      IsAsked asking (told.Does c) → LeavesReply content honest clean leaves b asking old new
+  held_asked c old new left (refuses s) asked = absurd asked
+  held_asked c old new left (reads read) asked =
+      subst (λ r. LeavesReply content honest clean leaves b (reads r) old new) (sym asked) left
+  held_asked c old new left (states q) asked = absurd asked

@@ -10,6 +10,8 @@ use Rattle.shelves.specs.Shelves.{Shelf}
 use Rattle.keepers.specs.Tables.{Tables}
 use Rattle.charging.specs.Accepted.{Accepted}
 use Rattle.charging.specs.Continued.{ForEachList}
+use Rattle.charging.specs.Served.{AreTables}
+use Rattle.charging.proofs.Serving.{left_as}
 use Rattle.http_messages.specs.Parts.{first_part}
 use Rattle.http_messages.proofs.Refusals.{refused_says}
 use Rattle.http_messages.specs.Requests.{Next, asks, refused, ended, IsNext}
@@ -20,12 +22,12 @@ use Rattle.http_api.specs.declared.fault.ServeFault.TheVariants as fault
 use Rattle.http_api.specs.declared.hearing.Heard.{Heard}
 use Rattle.http_api.specs.Clocks.{GivesInTurn}
 use Rattle.http_api.specs.Hearing.{Hears, HearsNext}
-use Rattle.http_api.specs.Replies.{reply_text, IsReplied, Replies}
+use Rattle.http_api.specs.Replies.{reply_text, IsReplied, Replies, IsReplyHeld, LeavesReply}
 use Rattle.http_api.specs.Connections.{Connection, new_connection, left_after, after_reply}
 use Rattle.http_api.specs.Connections.{IsAnswered, Takes, Turns, IsTaken, IsOver}
 use Rattle.http_api.specs.Connections.{IsConnectionServed}
 use Rattle.http_api.specs.Connections.{IsConnectionBegun, IsUnread, IsTakenWith, IsCutOff}
-use Rattle.http_api.specs.Connections.{ServesConnection}
+use Rattle.http_api.specs.Connections.{ServesConnection, IsLeftWithin, LeavesTurns}
 use Rattle.http_api.proofs.Continuing.{continued_none}
 use Rattle.http_api.proofs.Statuses.{SaysStatus, asked_says, reply_says}
 
@@ -459,6 +461,111 @@ module _ {C : Type 0} (gives : C → Option ℕ → C → Type 0) (b : Shelf) wh
     };
   }
 
+  -- ---- what a stop leaves
+
+  pub left_within : (stream : List ℕ) (few most : ℕ) (held : Tables) (list : List Accepted) →
+      few ≤ most → IsLeftWithin b stream few held list → IsLeftWithin b stream most held list
+  left_within stream few most held list le x = record {
+    count = x.count;
+    bounded = omega (arith, x.bounded, le);
+    last = x.last;
+    turns = x.turns;
+    tables = x.tables;
+    time = x.time;
+  }
+
+  -- one request more was answered so
+  left_one : (stream : List ℕ) (count left : ℕ) (rest after : List ℕ)
+      (moments : List (Option ℕ)) (text : List ℕ) (mid new : Tables) (list : List Accepted)
+      (asking : Asking) (closes : Bool) (next : Next) →
+      0 < left → IsNext rest next → SaysStatus asking →
+      ((old last : Connection) → IsAnswered b asking closes after old last →
+      Takes b next old last) → (at : IsAt b stream count left rest moments text mid list) →
+      IsReplyHeld b asking new at.taken.last.list → IsLeftWithin b stream (count + 1) new list
+  left_one stream count left rest after moments text mid new list asking closes next some is_next
+      says takes at held =
+      let more : IsMoreAt b stream count left closes after (moments ++ held.moments) text
+      (reply_text (left_after closes left == 0) held.reply) new list =
+      more-at b stream count left rest after moments held.moments text
+      (reply_text (left_after closes left == 0) held.reply) mid new list asking closes next some
+      is_next says takes at (record {
+        reply = held.reply;
+        is_reply = held.is_reply;
+        written = refl;
+        tables = held.tables;
+        time = held.time;
+      }) in
+      let here : IsAt b stream (count + 1) (left_after closes left) after (moments ++ held.moments)
+      (text ++ reply_text (left_after closes left == 0) held.reply) new list =
+      at-more b stream count left closes after (moments ++ held.moments) text
+      (reply_text (left_after closes left == 0) held.reply) new list more in
+      record {
+        count = count + 1;
+        bounded = le_refl (count + 1);
+        last = here.taken.last;
+        turns = here.taken.turns;
+        tables = here.taken.tables;
+        time = here.taken.time;
+      }
+
+  module _ {K : Type 0} (content : K → Tables) (honest clean : K → Type 0)
+      (leaves : K → Tables → Type 0) where
+    pub turns_none : (r : Option (List ℕ)) (most : ℕ) (k : K) →
+        LeavesTurns content honest clean leaves b r most k k
+    turns_none None most k = tt
+    turns_none (Some stream) most k = λ h t l. inl l
+
+    pub turns_most : (r : Option (List ℕ)) (few most : ℕ) (old new : K) → few ≤ most →
+        LeavesTurns content honest clean leaves b r few old new →
+        LeavesTurns content honest clean leaves b r most old new
+    turns_most None few most old new le left = tt
+    turns_most (Some stream) few most old new le left = λ h t l. left_as (left h t l)
+        (λ before. before) (λ w. (
+          w.0,
+          λ list time are.
+              left_within stream few most t list le (w.1 list time are),
+        ))
+
+    -- one request more
+    pub turns_more : (count left : ℕ) (r0 r1 r2 : Option (List ℕ)) (c0 c1 : C)
+        (w0 w1 : Option (List ℕ)) (old mid new : K) (o : Option Heard) (heard : Heard) →
+        0 < left → o ≡ Some heard → (clean mid → clean old) → (honest new → honest mid) →
+        (honest mid → IsHeldSoFar count left r0 r1 c0 c1 w0 w1 (content old)
+        (λ t. clean mid → t ≡ content mid)) → IfSome r1 (λ s. Hears s o r2) →
+        ((asking : Asking) → IsAsked asking heard.asked →
+        LeavesReply content honest clean leaves b asking mid new) →
+        LeavesTurns content honest clean leaves b r0 count old mid →
+        LeavesTurns content honest clean leaves b r0 (count + 1) old new
+    turns_more count left None r1 r2 c0 c1 w0 w1 old mid new o heard some is cleanness honesty had
+        hears replies first = tt
+    turns_more count left (Some stream) r1 r2 c0 c1 w0 w1 old mid new o heard some is cleanness
+        honesty had hears replies first = λ h t l.
+        let so : IsSoFar stream count left r1 c0 c1 w0 w1 (content old) (had (honesty h)).held =
+        (had (honesty h)).so_far in
+        let here : Hears so.rest (Some heard) r2 =
+        subst (λ (r : Option (List ℕ)). IfSome r (λ s. Hears s (Some heard) r2)) so.rest_is
+        (subst (λ (x : Option Heard). IfSome r1 (λ s. Hears s x r2)) is hears) in
+        let case : IsHeard b here.next heard r2 =
+        heard_case b so.rest here.next heard r2 here.is_next here.hears in
+        elim (replies case.asking case.asked h t l) [
+          | inl before ↦ left_as (first (honesty h) t before) (λ x. x) (λ w. (
+            w.0,
+            λ list time are. left_within stream count (count + 1) t list (omega arith)
+                (w.1 list time are),
+          ))
+          | inr w ↦ inr (
+            cleanness w.0,
+            λ list time are.
+                let at : IsAt b stream count left so.rest so.moments so.text (had (honesty h)).held
+                list = so.at list time are in
+                left_one stream count left so.rest case.rest so.moments so.text
+                (had (honesty h)).held t list case.asking heard.closes here.next some here.is_next
+                case.says case.takes at
+                (w.1 at.taken.last.list at.taken.time (subst (AreTables b at.taken.last.list)
+                ((had (honesty h)).now w.0) at.taken.tables)),
+          )
+        ]
+
   -- nothing is read, since memory is refused
   pub none_served : {K : Type 0} (r : Option (List ℕ)) (c : C) (w : Option (List ℕ))
       (content : K → Tables) (failed : K → ℕ) (honest clean : K → Type 0)
@@ -483,6 +590,7 @@ module _ {C : Type 0} (gives : C → Option ℕ → C → Type 0) (b : Shelf) wh
     cleanness = λ is_clean. is_clean;
     honesty = λ is_honest. is_honest;
     left = λ is_honest t l. inl l;
+    held = turns_none content honest clean leaves r 1000 k;
     failures = le_refl (failed k);
   }
 

@@ -12,6 +12,7 @@ use Rattle.shelves.specs.Shelves.{Shelf}
 use Rattle.keepers.specs.Tables.{Tables}
 use Rattle.charging.specs.Accepted.{Accepted, IsInTime}
 use Rattle.charging.specs.Continued.{ForEachList, Continues, LeavesOn}
+use Rattle.charging.specs.Parts.{Leaves}
 use Rattle.charging.specs.Served.{AreTables}
 use Rattle.http_messages.specs.Statuses.{IsAnswerStatus}
 use Rattle.http_messages.specs.Requests.{Next, asks, refused, ended, IsNext}
@@ -171,6 +172,24 @@ pub record IsCutOff {C : Type 0} (gives : C → Option Moment → C → Type 0) 
   pub taken : IsPart gives b before after old (λ text. Appends empty full (text ++ take begun more))
       (λ moments text. IsTakenWith b stream count moments text more new)
 
+-- at most so many requests of a stream come to these tables
+pub record IsLeftWithin (b : Shelf) (stream : Bytes) (most : ℕ) (held : Tables)
+    (list : List Accepted) : Type 0 where
+  pub count : ℕ
+  pub bounded : count ≤ most
+  pub last : Connection
+  pub turns : Turns b count (new_connection stream list) last
+  pub tables : AreTables b last.list held
+  pub time : IsInTime last.list
+
+-- where the reader tells its bytes, a stop leaves what it left before, or, of a keeper that was
+-- clean before, tables to which at most so many of its requests come
+abbrev pub LeavesTurns : {K : Type 0} → (K → Tables) → (K → Type 0) → (K → Type 0) →
+    (K → Tables → Type 0) → Shelf → Option Bytes → ℕ → K → K → Type 0
+LeavesTurns content honest clean leaves b bytes most old new = IfSome bytes (λ stream.
+    Leaves honest leaves old new
+    (λ t. clean old × ForEachList b (content old) (IsLeftWithin b stream most t)))
+
 -- the same of an honest keeper that may not be asked any more: of the tables at the last moment at
 -- which it could be asked
 pub record IsShown {C : Type 0} (gives : C → Option Moment → C → Type 0) (b : Shelf)
@@ -184,7 +203,8 @@ pub record IsShown {C : Type 0} (gives : C → Option Moment → C → Type 0) (
 
 -- what comes of a connection over a keeper that stays clean, where the reader tells its bytes: it
 -- is served to its end, or a beginning of it is, and each fault says which; at most 1,000 requests
--- are answered, and the accepted commands go on, also those that are found after a stop
+-- are answered, and the accepted commands go on, also those that are found after a stop: these are
+-- of a beginning of its requests
 pub record ServesConnection {C K : Type 0} (gives : C → Option Moment → C → Type 0) (b : Shelf)
     (bytes : Option Bytes) (before after : C) (empty full : Option Bytes) (content : K → Tables)
     (failed : K → ℕ) (honest clean : K → Type 0) (leaves : K → Tables → Type 0) (old new : K)
@@ -206,4 +226,5 @@ pub record ServesConnection {C K : Type 0} (gives : C → Option Moment → C �
   pub cleanness : clean new → clean old
   pub honesty : honest new → honest old
   pub left : LeavesOn content honest clean leaves b old new
+  pub held : LeavesTurns content honest clean leaves b bytes 1000 old new
   pub failures : failed old ≤ failed new

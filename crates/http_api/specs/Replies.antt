@@ -22,6 +22,7 @@ use Rattle.charging.specs.Accepted.{Accepted, IsInTime}
 use Rattle.charging.specs.Balances.{by_number}
 use Rattle.charging.specs.Continued.{ForEachList, Continues, LeavesOn}
 use Rattle.charging.specs.Histories.{History}
+use Rattle.charging.specs.Parts.{Leaves}
 use Rattle.charging.specs.Served.{AreTables, history, moment_of, answer_to, with_command}
 use Rattle.http_messages.specs.Statuses as status
 use Rattle.http_messages.specs.Asking.{Asking, refuses, reads, states}
@@ -152,6 +153,22 @@ abbrev pub Shows : {A K : Type 0} → ((Bytes → Type 0) → Tables → Tables 
 Shows Told empty full content honest clean old new result =
     honest new → (held : Tables) → (clean old → held ≡ content old) →
     ShowsReply Told empty full held (λ t. clean new → t ≡ content new) result
+
+-- tables are those after a reply to the request
+pub record IsReplyHeld (b : Shelf) (asking : Asking) (held : Tables) (list : List Accepted) : Type 0
+  where
+    pub moments : List (Option Moment)
+    pub reply : Reply
+    pub is_reply : IsReply b list asking moments reply
+    pub tables : AreTables b reply.after held
+    pub time : IsInTime reply.after
+
+-- a stop leaves what it left before, or, of a keeper that was clean before, tables after a reply
+abbrev pub LeavesReply : {K : Type 0} → (K → Tables) → (K → Type 0) → (K → Type 0) →
+    (K → Tables → Type 0) → Shelf → Asking → K → K → Type 0
+LeavesReply content honest clean leaves b asking old new =
+    Leaves honest leaves old new
+    (λ t. clean old × ForEachList b (content old) (IsReplyHeld b asking t))
 
 -- what answering a request leaves, whatever it asks: the writer alone fails, and the accepted
 -- commands go on

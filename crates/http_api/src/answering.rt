@@ -2,7 +2,7 @@
 
 ghost use Rattle.std.specs.Prelude.{Ok};
 ghost use Rattle.http_messages.specs.Asking.{Asking, reads, IsAsked};
-ghost use Rattle.http_api.specs.Replies.{GoesOn, Replies, Shows};
+ghost use Rattle.http_api.specs.Replies.{GoesOn, LeavesReply, Replies, Shows};
 
 use crate::clock::Clock;
 use crate::stating::serve_statement;
@@ -38,6 +38,8 @@ pub(crate) fn answer_request<W: Write, K: ChargeSource, C: Clock>(
         K.content K.honest K.clean keeper.old keeper.new result }
     ensures goes_on { GoesOn shelf.now K.content K.failed K.honest K.clean K.left
         keeper.old keeper.new result }
+    ensures held { (asking : Asking) → IsAsked asking asked →
+        LeavesReply K.content K.honest K.clean K.left shelf.now asking keeper.old keeper.new }
 {
     match asked {
         HttpAsked::Refused(refusal) => tell_refusal(writer, refusal, closes),
@@ -68,6 +70,8 @@ fn serve_command<W: Write, K: ChargeSource, C: Clock>(
         K.content K.honest K.clean keeper.old keeper.new result }
     ensures goes_on { GoesOn shelf.now K.content K.failed K.honest K.clean K.left
         keeper.old keeper.new result }
+    ensures held { LeavesReply K.content K.honest K.clean K.left shelf.now (reads (Ok command))
+        keeper.old keeper.new }
 {
     let Some(moment) = clock.now() else {
         return tell_unable(writer, closes);

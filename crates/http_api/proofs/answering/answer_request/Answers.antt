@@ -1,10 +1,11 @@
-use Rattle.std.proofs.Common.{refl, subst, Ok}
+use Rattle.std.proofs.Common.{refl, subst, Ok, inl}
 use Rattle.http_messages.specs.Asking.{Asking, IsAsked, reads, states}
 use Rattle.http_messages.specs.Refusals.{refusal_status}
 use Rattle.http_messages.specs.Texts.{TellsFault, no_members, response}
 use Rattle.http_api.specs.Replies.{Replies}
 use Rattle.http_api.proofs.RequestReplies.{refused_reply, unread_reply}
 use Rattle.http_api.proofs.RequestReplies.{command_reply, statement_reply}
+use Rattle.http_api.proofs.Continuing.{held_asked}
 use Rattle.http_api.proofs.ShownReplies.{shows_as, shows_same}
 use Rattle.http_api.proofs.answering.answer_request.Goals as goal
 
@@ -60,3 +61,18 @@ returns-in-States-clause-shown g c = shows_as
     c.args.closes
     Writes c.in-States.statement c.args.clock.now c.serve_statement.new.clock x y replies asking
     (subst (IsAsked asking) c.in-States.is asked)) c.serve_statement.ensures.shown
+
+pub returns-in-Refused-clause-held : goal.returns-in-Refused-clause-held
+returns-in-Refused-clause-held g c = λ asking asked h t l. inl l
+
+pub returns-in-Unread-clause-held : goal.returns-in-Unread-clause-held
+returns-in-Unread-clause-held g c = λ asking asked h t l. inl l
+
+pub returns-in-Does-clause-held : goal.returns-in-Does-clause-held
+returns-in-Does-clause-held g c = λ asking asked.
+    held_asked g.K.Keeper.content g.K.Keeper.honest g.K.Keeper.clean g.K.Keeper.left
+    c.args.shelf.now c.in-Does.command c.args.keeper.now c.serve_command.new.keeper
+    c.serve_command.ensures.held asking (subst (IsAsked asking) c.in-Does.is asked)
+
+pub returns-in-States-clause-held : goal.returns-in-States-clause-held
+returns-in-States-clause-held g c = λ asking asked h t l. inl (c.serve_statement.ensures.left h t l)

@@ -1,10 +1,10 @@
-use Rattle.std.proofs.Common.{refl, subst, Ok}
+use Rattle.std.proofs.Common.{refl, subst, Ok, inl}
 use Rattle.http_messages.specs.Asking.{reads}
 use Rattle.http_messages.specs.Texts.{response, unable}
 use Rattle.http_messages.specs.Statuses.{ok, service_unavailable}
 use Rattle.wire.specs.Spelled.{answer_text}
 use Rattle.http_api.specs.Replies.{Replies}
-use Rattle.http_api.proofs.Continuing.{continued_step, leaves_step}
+use Rattle.http_api.proofs.Continuing.{continued_step, leaves_step, held_step}
 use Rattle.http_api.proofs.RequestReplies.{unclocked_reply, failed_reply}
 use Rattle.http_api.proofs.RequestReplies.{served_reply}
 use Rattle.http_api.proofs.ShownReplies.{shows_new, shows_same}
@@ -77,3 +77,16 @@ returns-in-Err-clause-shown g c = shows_same
     c.args.command c.in-Some.moment c.args.clock.now c.now.new.self t t c.in-Err.field-0
     (subst (λ o. g.C.Clock.gives c.args.clock.now o c.now.new.self) c.in-Some.is c.now.ensures)
     (λ list time are. refl) w) c.tell_unable-in-Err.ensures.ok c.tell_unable-in-Err.ensures.err
+
+pub returns-in_default-clause-held : goal.returns-in_default-clause-held
+returns-in_default-clause-held g c = λ h t l. inl l
+
+pub returns-in-Ok-clause-held : goal.returns-in-Ok-clause-held
+returns-in-Ok-clause-held g c = held_step g.K.Keeper.content g.K.Keeper.honest g.K.Keeper.clean
+    g.K.Keeper.left c.args.shelf.now c.args.command c.in-Some.moment c.args.keeper.now
+    c.step.new.keeper c.step.ensures.left
+
+pub returns-in-Err-clause-held : goal.returns-in-Err-clause-held
+returns-in-Err-clause-held g c = held_step g.K.Keeper.content g.K.Keeper.honest g.K.Keeper.clean
+    g.K.Keeper.left c.args.shelf.now c.args.command c.in-Some.moment c.args.keeper.now
+    c.step.new.keeper c.step.ensures.left

@@ -1,4 +1,4 @@
-use Rattle.std.proofs.Common.{◌==◌, ℕ, List, refl, le_refl, arith, Result, Ok, Err, IfOk}
+use Rattle.std.proofs.Common.{◌==◌, ◌+◌, ℕ, List, refl, le_refl, arith, Result, Ok, Err, IfOk}
 use Rattle.std.proofs.Common.{IfSome, inl}
 use Rattle.std.specs.Prelude.{IsErrAnd}
 use Rattle.std.specs.Io.KnownBytes.{Appends}
@@ -8,13 +8,14 @@ use Rattle.http_messages.specs.Asking.{Asking, IsAsked}
 use Rattle.http_messages.specs.Texts.{Begins}
 use Rattle.keepers.specs.Tables.{Tables}
 use Rattle.http_api.specs.Replies.{Replies}
+use Rattle.http_api.specs.Connections.{LeavesTurns}
 use Rattle.http_api.proofs.RequestReplies.{at_err, fault_told, not_memory, not_read}
 use Rattle.http_api.proofs.Continuing.{continued_none, continued_more, leaves_more}
 use Rattle.http_api.proofs.ShownReplies.{shown_err, shown_ok}
 use Rattle.http_api.proofs.Taking.{IsOneMore, IsSoFar, taken_one, some_left, turns-more}
 use Rattle.http_api.proofs.Taking.{so_far-none, so_far-more, so_far-closed, so_far-broken}
 use Rattle.http_api.proofs.Taking.{so_far-ended, so_far-full, so_far-begun}
-use Rattle.http_api.proofs.Taking.{so_far-unread, so_far-cut}
+use Rattle.http_api.proofs.Taking.{so_far-unread, so_far-cut, turns_none, turns_most, turns_more}
 use Rattle.http_api.proofs.serving.serve_requests.Goals as goal
 use Rattle.http_api.proofs.serving.serve_requests.Goals.{After-answer_request}
 
@@ -35,6 +36,8 @@ loop-served-init g c = record {
   cleanness = λ clean. clean;
   honesty = λ honest. honest;
   left = λ honest t l. inl l;
+  held = turns_none g.C.Clock.gives c.args.shelf.now g.K.Keeper.content g.K.Keeper.honest g.K.Keeper.clean
+      g.K.Keeper.left (g.R.Read.remaining c.args.reader.now) 0 c.args.keeper.now;
   failures = le_refl (g.K.Keeper.failed c.args.keeper.now);
 }
 
@@ -102,6 +105,33 @@ left g c = leaves_more g.K.Keeper.content g.K.Keeper.honest g.K.Keeper.clean g.K
     c.answer_request.ensures.goes_on.honesty c.loop-served.invariant.left
     c.answer_request.ensures.goes_on.left
 
+-- of the requests that were taken, and this one
+held : (g : _) (c : After-answer_request g) →
+    LeavesTurns g.K.Keeper.content g.K.Keeper.honest g.K.Keeper.clean g.K.Keeper.left
+    c.args.shelf.now (g.R.Read.remaining c.args.reader.now) (c.loop-served.served + 1)
+    c.args.keeper.now c.answer_request.new.keeper
+held g c = turns_more g.C.Clock.gives c.args.shelf.now g.K.Keeper.content g.K.Keeper.honest
+    g.K.Keeper.clean g.K.Keeper.left c.loop-served.served c.loop-served.left
+    (g.R.Read.remaining c.args.reader.now) (g.R.Read.remaining c.loop-served.reader)
+    (g.R.Read.remaining c.hear.new.reader) c.args.clock.now c.loop-served.clock
+    (g.W.Write.contents c.args.writer.now) (g.W.Write.contents c.loop-served.writer)
+    c.args.keeper.now c.loop-served.keeper c.answer_request.new.keeper c.in_ok-heard.field-0
+    c.in-Some.heard (some_left c.loop-served.left c.loop-served.served
+    c.loop-served.invariant.turns c.loop-served-test.true) c.in-Some.is
+    c.loop-served.invariant.cleanness c.answer_request.ensures.goes_on.honesty
+    c.loop-served.invariant.shown c.in_ok-heard.ensures.heard c.answer_request.ensures.held
+    c.loop-served.invariant.held
+
+-- of no more than a connection takes
+held_most : (g : _) (c : After-answer_request g) →
+    LeavesTurns g.K.Keeper.content g.K.Keeper.honest g.K.Keeper.clean g.K.Keeper.left
+    c.args.shelf.now (g.R.Read.remaining c.args.reader.now) 1000 c.args.keeper.now
+    c.answer_request.new.keeper
+held_most g c = turns_most g.C.Clock.gives c.args.shelf.now g.K.Keeper.content g.K.Keeper.honest
+    g.K.Keeper.clean g.K.Keeper.left (g.R.Read.remaining c.args.reader.now)
+    (c.loop-served.served + 1) 1000 c.args.keeper.now c.answer_request.new.keeper
+    (omega (arith, c.loop-served-test.true)) (held g c)
+
 -- what failed gives no value
 no_value : {A E : Type 0} (r : Result A E) (Fault : E → Type 0) (Value : A → Type 0) →
     IsErrAnd r Fault → IfOk r Value
@@ -153,6 +183,10 @@ returns-in_err-heard g c = record {
   cleanness = c.loop-served.invariant.cleanness;
   honesty = c.loop-served.invariant.honesty;
   left = c.loop-served.invariant.left;
+  held = turns_most g.C.Clock.gives c.args.shelf.now g.K.Keeper.content g.K.Keeper.honest
+      g.K.Keeper.clean g.K.Keeper.left (g.R.Read.remaining c.args.reader.now) c.loop-served.served
+      1000 c.args.keeper.now c.loop-served.keeper (omega (arith, c.loop-served.invariant.turns))
+      c.loop-served.invariant.held;
   failures = c.loop-served.invariant.failures;
 }
 
@@ -187,6 +221,10 @@ returns-in_default g c = record {
   cleanness = c.loop-served.invariant.cleanness;
   honesty = c.loop-served.invariant.honesty;
   left = c.loop-served.invariant.left;
+  held = turns_most g.C.Clock.gives c.args.shelf.now g.K.Keeper.content g.K.Keeper.honest
+      g.K.Keeper.clean g.K.Keeper.left (g.R.Read.remaining c.args.reader.now) c.loop-served.served
+      1000 c.args.keeper.now c.loop-served.keeper (omega (arith, c.loop-served.invariant.turns))
+      c.loop-served.invariant.held;
   failures = c.loop-served.invariant.failures;
 }
 
@@ -242,6 +280,7 @@ returns-in_err-answer_request g c = record {
   honesty = λ honest.
       c.loop-served.invariant.honesty (c.answer_request.ensures.goes_on.honesty honest);
   left = left g (goal.at.returns-in_err-answer_request g c).After-answer_request;
+  held = held_most g (goal.at.returns-in_err-answer_request g c).After-answer_request;
   failures =
       omega (arith, c.loop-served.invariant.failures, c.answer_request.ensures.goes_on.failures);
 }
@@ -285,6 +324,7 @@ returns-then-left-eq0 g c = record {
   honesty = λ honest.
       c.loop-served.invariant.honesty (c.answer_request.ensures.goes_on.honesty honest);
   left = left g (goal.at.returns-then-left-eq0 g c).After-answer_request;
+  held = held_most g (goal.at.returns-then-left-eq0 g c).After-answer_request;
   failures =
       omega (arith, c.loop-served.invariant.failures, c.answer_request.ensures.goes_on.failures);
 }
@@ -324,6 +364,7 @@ loop-served-preserved g c = record {
   honesty = λ honest.
       c.loop-served.invariant.honesty (c.answer_request.ensures.goes_on.honesty honest);
   left = left g (goal.at.loop-served-preserved g c).After-answer_request;
+  held = held g (goal.at.loop-served-preserved g c).After-answer_request;
   failures =
       omega (arith, c.loop-served.invariant.failures, c.answer_request.ensures.goes_on.failures);
 }
@@ -366,5 +407,9 @@ returns g c = record {
   cleanness = c.loop-served.invariant.cleanness;
   honesty = c.loop-served.invariant.honesty;
   left = c.loop-served.invariant.left;
+  held = turns_most g.C.Clock.gives c.args.shelf.now g.K.Keeper.content g.K.Keeper.honest
+      g.K.Keeper.clean g.K.Keeper.left (g.R.Read.remaining c.args.reader.now) c.loop-served.served
+      1000 c.args.keeper.now c.loop-served.keeper (omega (arith, c.loop-served.invariant.turns))
+      c.loop-served.invariant.held;
   failures = c.loop-served.invariant.failures;
 }

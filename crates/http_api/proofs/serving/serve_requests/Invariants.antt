@@ -1,5 +1,6 @@
 use Rattle.std.proofs.Common.{◌≡◌, ◌+◌, ◌≤◌, IfSome}
 use Rattle.charging.specs.Continued.{ForEachList, IsContinued, LeavesOn}
+use Rattle.http_api.specs.Connections.{LeavesTurns}
 use Rattle.http_api.proofs.Taking.{IsHeldSoFar, IsSoFar}
 use Rattle.http_api.proofs.serving.serve_requests.Given as goal
 
@@ -22,5 +23,7 @@ invariant-loop-served g l = record {
   honesty : g.K.Keeper.honest l.keeper → g.K.Keeper.honest l.fn.keeper;
   left : LeavesOn g.K.Keeper.content g.K.Keeper.honest g.K.Keeper.clean g.K.Keeper.left l.shelf
       l.fn.keeper l.keeper;
+  held : LeavesTurns g.K.Keeper.content g.K.Keeper.honest g.K.Keeper.clean g.K.Keeper.left l.shelf
+      (g.R.Read.remaining l.fn.reader) l.served l.fn.keeper l.keeper;
   failures : g.K.Keeper.failed l.fn.keeper ≤ g.K.Keeper.failed l.keeper;
 }
