@@ -585,6 +585,10 @@ module _ {C : Type 0} (gives : C → Option ℕ → C → Type 0) (b : Shelf) wh
       served = tt;
       begun = so_far-begun 0 1000 r r c c w w (content k) (content k) (omega arith)
           (so_far-none r c w (content k));
+      memory = λ e. so_far-unread 0 1000 r r c c w w (content k) (content k) (omega arith)
+          (omega arith) (so_far-none r c w (content k));
+      read = λ e. absurd (cc);
+      write = λ e. absurd (cc);
     };
     continued = λ is_clean. continued_none b (content k);
     cleanness = λ is_clean. is_clean;

@@ -200,6 +200,12 @@ pub record IsShown {C : Type 0} (gives : C → Option Moment → C → Type 0) (
       IsConnectionServed gives b stream done.requests before after empty full old held))
   pub begun : OnErr result (IfSome bytes (λ stream.
       IsConnectionBegun gives b stream before after empty full old held))
+  pub memory : IsErrOf result Memory → IfSome bytes (λ stream.
+      IsUnread gives b stream before after empty full old held)
+  pub read : IsErrOf result Read → IfSome bytes (λ stream.
+      IsUnread gives b stream before after empty full old held)
+  pub write : IsErrOf result Write → IfSome bytes (λ stream.
+      IsCutOff gives b stream before after empty full old held)
 
 -- what comes of a connection over a keeper that stays clean, where the reader tells its bytes: it
 -- is served to its end, or a beginning of it is, and each fault says which; at most 1,000 requests

@@ -36,8 +36,9 @@ loop-served-init g c = record {
   cleanness = λ clean. clean;
   honesty = λ honest. honest;
   left = λ honest t l. inl l;
-  held = turns_none g.C.Clock.gives c.args.shelf.now g.K.Keeper.content g.K.Keeper.honest g.K.Keeper.clean
-      g.K.Keeper.left (g.R.Read.remaining c.args.reader.now) 0 c.args.keeper.now;
+  held = turns_none g.C.Clock.gives c.args.shelf.now g.K.Keeper.content g.K.Keeper.honest
+      g.K.Keeper.clean g.K.Keeper.left (g.R.Read.remaining c.args.reader.now) 0
+      c.args.keeper.now;
   failures = le_refl (g.K.Keeper.failed c.args.keeper.now);
 }
 
@@ -177,6 +178,22 @@ returns-in_err-heard g c = record {
             c.args.clock.now c.loop-served.clock (g.W.Write.contents c.args.writer.now)
             (g.W.Write.contents c.loop-served.writer) (g.K.Keeper.content c.args.keeper.now)
             had.held (omega (arith, c.loop-served.invariant.turns)) had.so_far);
+        memory = λ e. so_far-unread g.C.Clock.gives c.args.shelf.now c.loop-served.served
+            c.loop-served.left (g.R.Read.remaining c.args.reader.now)
+            (g.R.Read.remaining c.loop-served.reader) c.args.clock.now c.loop-served.clock
+            (g.W.Write.contents c.args.writer.now) (g.W.Write.contents c.loop-served.writer)
+            (g.K.Keeper.content c.args.keeper.now) had.held c.loop-served-test.true
+            (some_left c.loop-served.left c.loop-served.served c.loop-served.invariant.turns
+            c.loop-served-test.true) had.so_far;
+        read = λ e. so_far-unread g.C.Clock.gives c.args.shelf.now c.loop-served.served
+            c.loop-served.left (g.R.Read.remaining c.args.reader.now)
+            (g.R.Read.remaining c.loop-served.reader) c.args.clock.now c.loop-served.clock
+            (g.W.Write.contents c.args.writer.now) (g.W.Write.contents c.loop-served.writer)
+            (g.K.Keeper.content c.args.keeper.now) had.held c.loop-served-test.true
+            (some_left c.loop-served.left c.loop-served.served c.loop-served.invariant.turns
+            c.loop-served-test.true) had.so_far;
+        write = λ e. absurd (c.hear.ensures.fault (fault_told c.hear.result
+            c.from_residual.result _ broken.Write c.in_err-heard.was c.from_residual.ensures.1 e));
       };
   bounded = no_value c.from_residual.result _ _ c.from_residual.ensures.1;
   continued = c.loop-served.invariant.continued;
@@ -215,6 +232,9 @@ returns-in_default g c = record {
             (g.W.Write.contents c.loop-served.writer) (g.K.Keeper.content c.args.keeper.now)
             had.held c.in_ok-heard.field-0 c.in_default.is had.so_far c.in_ok-heard.ensures.heard;
         begun = tt;
+        memory = λ e. absurd (cc);
+        read = λ e. absurd (cc);
+        write = λ e. absurd (cc);
       };
   bounded = omega (arith, c.loop-served.invariant.turns);
   continued = c.loop-served.invariant.continued;
@@ -271,6 +291,20 @@ returns-in_err-answer_request g c = record {
             (g.W.Write.contents c.loop-served.writer) _ _ told.next c.loop-served-test.true
             (one_more_of g (goal.at.returns-in_err-answer_request g c).After-answer_request _
             had.held told.next had.so_far told.err));
+        memory = λ e. not_memory c.answer_request.result c.answer_request.ensures.goes_on.fault
+            (fault_told c.answer_request.result
+            c.from_residual-in_err-answer_request.result _ broken.Memory c.in_err-answer_request.was
+            c.from_residual-in_err-answer_request.ensures.1 e);
+        read = λ e. absurd (not_read c.answer_request.result
+            c.answer_request.ensures.goes_on.fault (fault_told c.answer_request.result
+            c.from_residual-in_err-answer_request.result _ broken.Read c.in_err-answer_request.was
+            c.from_residual-in_err-answer_request.ensures.1 e));
+        write = λ e.
+            so_far-cut g.C.Clock.gives c.args.shelf.now c.loop-served.served c.loop-served.left
+            c.in-Some.heard.closes (g.R.Read.remaining c.args.reader.now) _ _ _ _
+            (g.W.Write.contents c.loop-served.writer) _ _ told.next c.loop-served-test.true
+            (one_more_of g (goal.at.returns-in_err-answer_request g c).After-answer_request _
+            had.held told.next had.so_far told.err);
       };
   bounded = no_value c.from_residual-in_err-answer_request.result _ _
       c.from_residual-in_err-answer_request.ensures.1;
@@ -316,6 +350,9 @@ returns-then-left-eq0 g c = record {
             (one_more_of g (goal.at.returns-then-left-eq0 g c).After-answer_request _ had.held
             told.next had.so_far told.ok);
         begun = tt;
+        memory = λ e. absurd (cc);
+        read = λ e. absurd (cc);
+        write = λ e. absurd (cc);
       };
   bounded = omega (arith, c.one_more.ensures, c.loop-served-test.true);
   continued = continued g (goal.at.returns-then-left-eq0 g c).After-answer_request;
@@ -401,6 +438,9 @@ returns g c = record {
               c.loop-served-test.false,
             )) had.so_far;
         begun = tt;
+        memory = λ e. absurd (cc);
+        read = λ e. absurd (cc);
+        write = λ e. absurd (cc);
       };
   bounded = omega arith;
   continued = c.loop-served.invariant.continued;
