@@ -1,5 +1,5 @@
 -- Rows that are put one after another, as one change over what was there.
-use Rattle.std.proofs.Common.{◌≡◌, ℕ, Bool, true, false, cond, List, [], ◌∷◌, refl, sym, ap}
+use Rattle.std.proofs.Common.{◌≡◌, ℕ, Bool, true, false, cond, List, [], ◌∷◌, refl, sym, ap, subst}
 use Rattle.std.proofs.Common.{◌∙◌, true≢false, Option, Some}
 use Rattle.std.specs.Prelude.{if◌then◌else◌, ◌+◌, nat_eq, is_some}
 use Rattle.std.specs.List.{find}
