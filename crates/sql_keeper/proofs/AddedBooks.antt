@@ -260,7 +260,7 @@ text_counts text (OfShelf fault) told r is e = absurd told
 text_counts text (OfStore fault) told r is e = absurd told
 
 -- the store's fault that is told
-fault_in : {A : Type 0} → Result A AddFault → StoreFault
+abbrev fault_in : {A : Type 0} → Result A AddFault → StoreFault
 fault_in (Ok x) = Failed
 fault_in (Err (OfBook fault)) = Failed
 fault_in (Err (OfShelf fault)) = Failed
