@@ -49,9 +49,7 @@ pub(crate) fn answer_init<O: Write>(
     ensures unwritten { IfErr result (λ fault.
         IfStream fault (λ _. ⊥) → output.new ≡ output.old) }
 {
-    if let Err(fault) = make_database(rt, init) {
-        return Err(ProgramFault::Database(fault));
-    }
+    make_database(rt, init).map_err(ProgramFault::Database)?;
     print_done(output, "ok\n")
 }
 
@@ -71,9 +69,7 @@ pub(crate) fn answer_migrate<O: Write>(
     ensures unwritten { IfErr result (λ fault.
         IfStream fault (λ _. ⊥) → output.new ≡ output.old) }
 {
-    if let Err(fault) = migrate_database(rt, migrate) {
-        return Err(ProgramFault::Database(fault));
-    }
+    migrate_database(rt, migrate).map_err(ProgramFault::Database)?;
     print_done(output, "version 3\n")
 }
 
@@ -93,8 +89,6 @@ pub(crate) fn answer_book<O: Write>(
     ensures unwritten { IfErr result (λ fault.
         IfStream fault (λ _. ⊥) → output.new ≡ output.old) }
 {
-    if let Err(fault) = add_book(rt, book) {
-        return Err(ProgramFault::Database(fault));
-    }
+    add_book(rt, book).map_err(ProgramFault::Database)?;
     print_done(output, "ok\n")
 }

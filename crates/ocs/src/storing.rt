@@ -31,10 +31,7 @@ pub(crate) fn answer_office<O: Write>(
     ensures unwritten { IfErr result (λ fault.
         IfDatabase fault IsUnanswered → output.new ≡ output.old) }
 {
-    match command_office(rt, words, output) {
-        Ok(status) => Ok(status),
-        Err(fault) => Err(ProgramFault::Database(fault)),
-    }
+    command_office(rt, words, output).map_err(ProgramFault::Database)
 }
 
 /// Tells an account's month.
@@ -53,10 +50,7 @@ pub(crate) fn answer_statement<O: Write>(
     ensures unwritten { IfErr result (λ fault.
         IfDatabase fault IsUnasked → output.new ≡ output.old) }
 {
-    match state_office(rt, words, output) {
-        Ok(status) => Ok(status),
-        Err(fault) => Err(ProgramFault::Database(fault)),
-    }
+    state_office(rt, words, output).map_err(ProgramFault::Database)
 }
 
 /// Adds the vouchers of a file, and tells what became of them.
