@@ -59,10 +59,8 @@ impl WrittenAnswer {
         ensures said { IfOk result (λ written. answer_of (string_bytes text) ≡ Ok written) }
         ensures texts { ReadsTexts (string_bytes text) result }
     {
-        match read_answer(alloc, text.as_bytes()) {
-            Ok(answer) => Ok(WrittenAnswer { answer, text }),
-            Err(fault) => Err(fault),
-        }
+        let answer = read_answer(alloc, text.as_bytes())?;
+        Ok(WrittenAnswer { answer, text })
     }
 
     /// The same answer with its text once more.
