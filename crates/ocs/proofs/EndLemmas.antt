@@ -30,12 +30,9 @@ use Rattle.operator.specs.declared.parsed.ProgramWords.{ProgramWords}
 use Rattle.operator.specs.declared.parsed.ProgramWords.TheVariants as words
 use Rattle.service.specs.declared.fault.DatabaseFault.{DatabaseFault}
 use Rattle.ocs.specs.Ends.{HasPrinted, IfOnce, IsEnd, IsEndBy, IsEndOf, IsMemory, IsRefused}
-use Rattle.ocs.specs.Ends.{HasBegun}
+use Rattle.ocs.specs.Ends.{HasBegun, Says}
 use Rattle.ocs.specs.Faults.{IsFaultIn, IsFaultOf, IsMemoryFault, IsReachedByLines}
 use Rattle.ocs.specs.Faults.{IsWriteFault, OnlyDone}
-use Rattle.tariffs.specs.OnceBook.{once_book}
-use Rattle.ocs.specs.Once.{BeginsOnce, once_text}
-use Rattle.ocs.specs.Runs.{PrintsSaid}
 use Rattle.ocs.specs.Told.{AreUnread, IsTextTold, IsTold}
 use Rattle.ocs.specs.Told.{IsToldAtEnd, IsToldBy, IsToldOf, LeavesOutput, ServesConnections}
 use Rattle.ocs.specs.Told.{TellsFault, fault_line, line_of}
@@ -150,13 +147,16 @@ told_said texts said before after Failed old new h (inr refused) =
     inr (record { said = said; says = h; is = refused.0 }, refused.1)
 told_said texts said before after Unread old new h told = absurd told
 
+-- what is so of the words of `once`
+pub once_said : (texts : List Text) (said : ProgramWords) (P : OnceWords → Type 0)
+    (once : OnceWords) → IsSaid texts said → IfOnce said P → IsSaid texts (words.Once once) → P once
+once_said texts said P once h if k =
+    subst (λ (s : ProgramWords). IfOnce s P) (same_said texts said (words.Once once) h k) if
+
 pub not_once : (texts : List Text) (said : ProgramWords) → IsSaid texts said →
     ((once : OnceWords) → IsSaid texts (words.Once once) → ⊥) → IfOnce said (λ _. ⊥)
 not_once texts (words.Once once) h other = other once h
 not_once texts _ h other = tt
-
-pub fails_undone : (status : Status) → status ≡ Failed → status ≡ Done → ⊥
-fails_undone status failed done = let no : Failed ≡ Done = sym failed ∙ done in cc
 
 pub ends_read : (status : Status) → IsEndBy status → status ≡ Unread → ⊥
 ends_read status end e = subst IsEndBy e end
@@ -199,13 +199,19 @@ refused_begun bytes (words.Replay replay) before after status ended failed =
 refused_begun bytes _ before after status ended failed = tt
 
 -- nothing has, too
-nothing_started : {F : Type 0} (bytes : F → Option (List ℕ)) (said : ProgramWords)
+pub nothing_started : {F : Type 0} (bytes : F → Option (List ℕ)) (said : ProgramWords)
     (before after : Option (List ℕ)) → after ≡ before → HasBegun bytes said before after
 nothing_started bytes (words.Statement statement) before after same =
     inr (subst (λ (w : Option (List ℕ)). WritesBeginning before w unknown_line) (sym same)
     (nothing_written before unknown_line))
 nothing_started bytes (words.Replay replay) before after same = inr same
 nothing_started bytes _ before after same = tt
+
+pub started_said : {F : Type 0} (bytes : F → Option (List ℕ)) (texts : List Text)
+    (said other : ProgramWords) (before after : Option (List ℕ)) → IsSaid texts said →
+    IsSaid texts other → HasBegun bytes said before after → HasBegun bytes other before after
+started_said bytes texts said other before after h k is =
+    subst (λ (s : ProgramWords). HasBegun bytes s before after) (same_said texts said other h k) is
 
 abbrev IsRead : Status → Type 0
 IsRead Done = Unit {0}
@@ -271,6 +277,20 @@ line_ends (words.Book book) before after status P ended failed =
 line_ends (words.Serve serve) before after status P ended failed =
     absurd (subst (IsEnded ⊥) failed ended)
 line_ends _ before after status P ended failed = tt
+
+-- what is so of one said of all that the words say
+pub line_said : (texts : List Text) (said other : ProgramWords) (P : List ℕ → Type 0) →
+    IsSaid texts said → IsSaid texts other → IfSome (line_of said) P → IfSome (line_of other) P
+line_said texts said other P h k is =
+    subst (λ (s : ProgramWords). IfSome (line_of s) P) (same_said texts said other h k) is
+
+pub printed_said : {F : Type 0} (bytes : F → Option (List ℕ)) (texts : List Text)
+    (said other : ProgramWords) (before after : Option (List ℕ)) → IsSaid texts said →
+    IsSaid texts other → HasPrinted bytes said before after Done →
+    HasPrinted bytes other before after Done
+printed_said bytes texts said other before after h k is =
+    subst (λ (s : ProgramWords). HasPrinted bytes s before after Done)
+    (same_said texts said other h k) is
 
 -- ---- words that aren't read
 
@@ -366,47 +386,17 @@ not_done fault.Memory status memory end e = subst (IsEndOf fault.Memory) e end
 -- ---- lines
 
 -- nothing is a beginning of each text
-unwritten_begins : (r old new : Option (List ℕ)) (text : List ℕ → List ℕ) → new ≡ old →
+pub unwritten_begins : (r old new : Option (List ℕ)) (text : List ℕ → List ℕ) → new ≡ old →
     IfSome r (λ stream. WritesBeginning old new (text stream))
 unwritten_begins None old new text same = tt
 unwritten_begins (Some stream) old new text same = subst (λ (w : Option (List ℕ)).
     WritesBeginning old w (text stream)) (sym same) (nothing_written old (text stream))
 
-nothing_begun : (said : ProgramWords) (stream old new : Option (List ℕ)) → new ≡ old →
-    IfOnce said (λ once.
-    BeginsOnce (once_book once.price once.block) once.credit stream old new)
-nothing_begun (words.Once once) stream old new same =
-    unwritten_begins stream old new
-    (λ given. once_text (once_book once.price once.block) once.credit given) same
-nothing_begun _ stream old new same = tt
-
-unwritten_line : (line old new : Option (List ℕ)) → new ≡ old →
+pub unwritten_line : (line old new : Option (List ℕ)) → new ≡ old →
     IfSome line (WritesBeginning old new)
 unwritten_line None old new same = tt
 unwritten_line (Some text) old new same = subst (λ (w : Option (List ℕ)).
     WritesBeginning old w text) (sym same) (nothing_written old text)
-
--- what is so of one said of all that the words say
-pub prints_said : {F : Type 0} (bytes : F → Option (List ℕ)) (texts : List Text)
-    (said other : ProgramWords) (stream old new : Option (List ℕ)) (status : Status) →
-    IsSaid texts said → IsSaid texts other → PrintsSaid bytes said stream old new status →
-    PrintsSaid bytes other stream old new status
-prints_said bytes texts said other stream old new status h k prints =
-    subst (λ (s : ProgramWords). PrintsSaid bytes s stream old new status)
-    (same_said texts said other h k) prints
-
--- where nothing is done or written
-pub nothing_prints : {F : Type 0} (bytes : F → Option (List ℕ)) (said : ProgramWords)
-    (stream old new : Option (List ℕ)) (status : Status) → new ≡ old → (status ≡ Done → ⊥) →
-    PrintsSaid bytes said stream old new status
-nothing_prints bytes said stream old new status same undone = record {
-  printed = λ done. absurd (undone done);
-  begun = λ failed. unwritten_line (line_of said) old new same;
-  answered = λ done. absurd (undone done);
-  started = λ failed. nothing_started bytes said old new same;
-  done = λ done. absurd (undone done);
-  fault = λ failed. nothing_begun said stream old new same;
-}
 
 -- ---- want of memory, and streams
 

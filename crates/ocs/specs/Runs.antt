@@ -12,22 +12,9 @@ use Rattle.operator.specs.declared.parsed.ProgramWords.TheVariants.{Once}
 use Rattle.operations.specs.Written.{WritesBeginning}
 use Rattle.operations.specs.declared.status.Status.{Status}
 use Rattle.operations.specs.declared.status.Status.TheVariants.{Done, Failed, Unread}
-use Rattle.ocs.specs.Ends.{HasBegun, HasPrinted, IfOnce, IsEnd}
-use Rattle.ocs.specs.Once.{BeginsOnce, WritesOnce}
+use Rattle.ocs.specs.Ends.{HasBegun, HasPrinted, IsEnd}
+use Rattle.ocs.specs.Once.{once_text}
 use Rattle.ocs.specs.Told.{IsTold, line_of}
-
--- what words that are read print: all that they ask for where it is done, and where it fails a
--- beginning of that; `once` by the lines of this stream
-pub record PrintsSaid {File : Type 0} (bytes : File → Option Bytes) (said : ProgramWords)
-    (stream old new : Option Bytes) (status : Status) : Type 0 where
-  pub printed : status ≡ Done → IfSome (line_of said) (Appends old new)
-  pub begun : status ≡ Failed → IfSome (line_of said) (WritesBeginning old new)
-  pub answered : status ≡ Done → HasPrinted bytes said old new Done
-  pub started : status ≡ Failed → HasBegun bytes said old new
-  pub done : status ≡ Done → IfOnce said (λ once.
-      WritesOnce (once_book once.price once.block) once.credit stream old new)
-  pub fault : status ≡ Failed → IfOnce said (λ once.
-      BeginsOnce (once_book once.price once.block) once.credit stream old new)
 
 -- it ends as the words say, what they ask for is printed or a beginning of it, and a fault is told
 pub record Runs {F I O E : Type 0} (bytes : F → Option Bytes) (remaining : I → Option Bytes)
@@ -37,5 +24,17 @@ pub record Runs {F I O E : Type 0} (bytes : F → Option Bytes) (remaining : I �
   pub told : IsTold texts (contents old) (contents new) status (faults before) (faults after)
   pub unread : ((once : OnceWords) → IsSaid texts (Once once) → ⊥) → rest ≡ input
   pub unwritten : status ≡ Unread → new ≡ old
-  pub prints : (said : ProgramWords) → IsSaid texts said →
-      PrintsSaid bytes said (remaining input) (contents old) (contents new) status
+  pub printed : (said : ProgramWords) → IsSaid texts said → status ≡ Done →
+      IfSome (line_of said) (Appends (contents old) (contents new))
+  pub begun : (said : ProgramWords) → IsSaid texts said → status ≡ Failed →
+      IfSome (line_of said) (WritesBeginning (contents old) (contents new))
+  pub answered : (said : ProgramWords) → IsSaid texts said → status ≡ Done →
+      HasPrinted bytes said (contents old) (contents new) Done
+  pub started : (said : ProgramWords) → IsSaid texts said → status ≡ Failed →
+      HasBegun bytes said (contents old) (contents new)
+  pub done : (once : OnceWords) → IsSaid texts (Once once) → status ≡ Done →
+      IfSome (remaining input) (λ stream. Appends (contents old) (contents new)
+      (once_text (once_book once.price once.block) once.credit stream))
+  pub fault : (once : OnceWords) → IsSaid texts (Once once) → status ≡ Failed →
+      IfSome (remaining input) (λ stream. WritesBeginning (contents old) (contents new)
+      (once_text (once_book once.price once.block) once.credit stream))

@@ -93,8 +93,10 @@ fn answer_once<I: Read, O: Write>(
     ensures fault { OnErr result (BeginsOnce (once_book once.price once.block) once.credit
         (I.remaining input.old) (O.contents output.old) (O.contents output.new)) }
 {
-    answer_lines(alloc, once, input, output).map_err(ProgramFault::Lines)?;
-    Ok(Status::Done)
+    match answer_lines(alloc, once, input, output) {
+        Ok(()) => Ok(Status::Done),
+        Err(fault) => Err(ProgramFault::Lines(fault)),
+    }
 }
 
 /// Answers the lines of the input as `answer_once` does; an error is the fault of the lines.

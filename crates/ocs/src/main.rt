@@ -9,11 +9,17 @@ mod serving;
 mod storing;
 mod telling;
 
-ghost use Rattle.std.specs.Prelude.{◌≡◌};
+ghost use Rattle.std.specs.Prelude.{◌≡◌, IfSome};
+ghost use Rattle.std.specs.Io.KnownBytes.{Appends};
+ghost use Rattle.operations.specs.Written.{WritesBeginning};
+ghost use Rattle.operations.specs.declared.status.Status.TheVariants.{Done, Failed};
+ghost use Rattle.tariffs.specs.OnceBook.{once_book};
 ghost use Rattle.operator.specs.Read.{IsInRange, texts_of};
-ghost use Rattle.ocs.specs.Ends.{IfOnce, IsEndBy};
-ghost use Rattle.ocs.specs.Told.{IsToldBy};
-ghost use Rattle.ocs.specs.Runs.{PrintsSaid, Runs};
+ghost use Rattle.operator.specs.declared.parsed.ProgramWords.{ProgramWords};
+ghost use Rattle.ocs.specs.Ends.{HasBegun, HasPrinted, IfOnce, IsEndBy};
+ghost use Rattle.ocs.specs.Once.{once_text};
+ghost use Rattle.ocs.specs.Told.{IsToldBy, line_of};
+ghost use Rattle.ocs.specs.Runs.{Runs};
 
 use crate::doing::do_said;
 use crate::telling::{tell_fault, tell_start, tell_unread};
@@ -73,7 +79,7 @@ pub fn run_words<'a, F: Files, I: Read, O: Write, E: Write>(
 }
 
 /// Does what the words say, and tells a fault.
-#[tactic(auto, using(crate::proofs::EndLemmas::ended_told, crate::proofs::EndLemmas::ended_end, crate::proofs::EndLemmas::fault_end))]
+#[tactic(auto, using(crate::proofs::EndLemmas::ended_told, crate::proofs::EndLemmas::ended_end, crate::proofs::EndLemmas::fault_end, crate::proofs::EndLemmas::once_ends, crate::proofs::EndLemmas::line_ends, crate::proofs::EndLemmas::printed_done, crate::proofs::EndLemmas::refused_begun))]
 fn run_said<F: Files, I: Read, O: Write, E: Write>(
     rt: &HostRuntime,
     files: &F,
@@ -86,9 +92,21 @@ fn run_said<F: Files, I: Read, O: Write, E: Write>(
     ensures end { IsEndBy result }
     ensures told { IsToldBy said (O.contents output.old) (O.contents output.new) result
         (E.contents errors.old) (E.contents errors.new) }
-    ensures prints { PrintsSaid F.File.remaining said (I.remaining input.old)
-        (O.contents output.old) (O.contents output.new) result }
+    ensures printed { result ≡ Done →
+        IfSome (line_of said) (Appends (O.contents output.old) (O.contents output.new)) }
+    ensures begun { result ≡ Failed →
+        IfSome (line_of said) (WritesBeginning (O.contents output.old) (O.contents output.new)) }
+    ensures answered { result ≡ Done →
+        HasPrinted F.File.remaining said (O.contents output.old) (O.contents output.new) Done }
+    ensures started { result ≡ Failed →
+        HasBegun F.File.remaining said (O.contents output.old) (O.contents output.new) }
     ensures unread { IfOnce said (λ _. ⊥) → input.new ≡ input.old }
+    ensures done { IfOnce said (λ once. result ≡ Done → IfSome (I.remaining input.old) (λ stream.
+        Appends (O.contents output.old) (O.contents output.new)
+        (once_text (once_book once.price once.block) once.credit stream))) }
+    ensures fault { IfOnce said (λ once. result ≡ Failed → IfSome (I.remaining input.old) (λ stream.
+        WritesBeginning (O.contents output.old) (O.contents output.new)
+        (once_text (once_book once.price once.block) once.credit stream))) }
 {
     match do_said(rt, files, said, input, output, errors) {
         Ok(status) => status,

@@ -49,7 +49,9 @@ pub(crate) fn answer_init<O: Write>(
     ensures unwritten { IfErr result (λ fault.
         IfStream fault (λ _. ⊥) → output.new ≡ output.old) }
 {
-    make_database(rt, init).map_err(ProgramFault::Database)?;
+    if let Err(fault) = make_database(rt, init) {
+        return Err(ProgramFault::Database(fault));
+    }
     print_done(output, "ok\n")
 }
 
@@ -69,7 +71,9 @@ pub(crate) fn answer_migrate<O: Write>(
     ensures unwritten { IfErr result (λ fault.
         IfStream fault (λ _. ⊥) → output.new ≡ output.old) }
 {
-    migrate_database(rt, migrate).map_err(ProgramFault::Database)?;
+    if let Err(fault) = migrate_database(rt, migrate) {
+        return Err(ProgramFault::Database(fault));
+    }
     print_done(output, "version 3\n")
 }
 
@@ -89,6 +93,8 @@ pub(crate) fn answer_book<O: Write>(
     ensures unwritten { IfErr result (λ fault.
         IfStream fault (λ _. ⊥) → output.new ≡ output.old) }
 {
-    add_book(rt, book).map_err(ProgramFault::Database)?;
+    if let Err(fault) = add_book(rt, book) {
+        return Err(ProgramFault::Database(fault));
+    }
     print_done(output, "ok\n")
 }

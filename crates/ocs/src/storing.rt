@@ -31,7 +31,10 @@ pub(crate) fn answer_office<O: Write>(
     ensures unwritten { IfErr result (λ fault.
         IfDatabase fault IsUnanswered → output.new ≡ output.old) }
 {
-    command_office(rt, words, output).map_err(ProgramFault::Database)
+    match command_office(rt, words, output) {
+        Ok(status) => Ok(status),
+        Err(fault) => Err(ProgramFault::Database(fault)),
+    }
 }
 
 /// Tells an account's month.
@@ -50,7 +53,10 @@ pub(crate) fn answer_statement<O: Write>(
     ensures unwritten { IfErr result (λ fault.
         IfDatabase fault IsUnasked → output.new ≡ output.old) }
 {
-    state_office(rt, words, output).map_err(ProgramFault::Database)
+    match state_office(rt, words, output) {
+        Ok(status) => Ok(status),
+        Err(fault) => Err(ProgramFault::Database(fault)),
+    }
 }
 
 /// Adds the vouchers of a file, and tells what became of them.
