@@ -1,18 +1,18 @@
 -- What an operator's command tells: its answer as a line, a fault as one line, and a status.
 -- Source: profile.
-use Rattle.std.specs.Prelude.{ℕ, ◌++◌, ◌∷◌, [], codes, Option, Some, None}
+use Rattle.std.specs.Prelude.{ℕ, ◌++◌, ◌∷◌, [], codes, Option, Some, None, if◌then◌else◌}
 use Rattle.std.specs.Fmt.{decimal}
 use Rattle.texts.specs.StreamWords.{Bytes}
 use Rattle.texts.specs.declared.streams.StreamFault.{StreamFault}
 use Rattle.texts.specs.declared.streams.StreamFault.TheVariants as stream
 use Rattle.commands.specs.declared.answer.Answer.{Answer}
-use Rattle.commands.specs.declared.answer.Answer.TheVariants as answer
 use Rattle.keepers.specs.declared.fault.StoreFault.{StoreFault}
 use Rattle.keepers.specs.Faults.{store_fault_number}
 use Rattle.operations.specs.declared.fault.OfficeFault.{OfficeFault}
 use Rattle.operations.specs.declared.fault.OfficeFault.TheVariants.{Store, Write}
 use Rattle.operations.specs.declared.status.Status.{Status}
 use Rattle.operations.specs.declared.status.Status.TheVariants.{Done, Failed, Unread}
+use Rattle.wire.specs.ReadingAnswers.{is_refusal}
 use Rattle.wire.specs.Spelled.{answer_text}
 
 -- an answer with its line feed
@@ -21,12 +21,7 @@ answer_line given = answer_text given ++ 10 ∷ []
 
 -- a refusal is no success
 abbrev pub status_of : Answer → Status
-status_of (answer.Request given) = Done
-status_of answer.Done = Done
-status_of (answer.Bucket number) = Done
-status_of (answer.Swept count) = Done
-status_of (answer.Balance balance) = Done
-status_of (answer.Refused refusal) = Failed
+status_of given = if is_refusal given then Failed else Done
 
 abbrev pub status_number : Status → ℕ
 status_number Done = 0

@@ -111,10 +111,8 @@ fn write_month<K: ChargeSource, W: Write>(
 fn month_ended(written: Result<(), StatementFault>) -> Result<Status, OfficeFault>
     ensures { result ≡ month_ended written }
 {
-    match written {
-        Ok(()) => Ok(Status::Done),
-        Err(fault) => Err(month_fault(fault)),
-    }
+    written.map_err(month_fault)?;
+    Ok(Status::Done)
 }
 
 /// A fault of a statement among those of an office.
@@ -137,10 +135,8 @@ fn tell_unknown<W: Write>(alloc: Global, writer: &mut W) -> Result<Status, Offic
     ensures unstored { IsErrOf result (Store StoreFailed) → ⊥ }
     ensures fault { (fault : StreamFault) → result ≡ Err (Write fault) → fault ≢ ReadFailed }
 {
-    match write_unknown(alloc, writer) {
-        Ok(()) => Ok(Status::Failed),
-        Err(fault) => Err(OfficeFault::Write(fault)),
-    }
+    write_unknown(alloc, writer).map_err(OfficeFault::Write)?;
+    Ok(Status::Failed)
 }
 
 /// Writes that the account isn't there.

@@ -3,7 +3,6 @@
 ghost use Rattle.std.specs.Prelude.{◌≡◌};
 ghost use Rattle.operations.specs.Told.{status_number, status_of};
 
-use commands::Answer;
 use wire::WrittenAnswer;
 
 /// How the program ends.
@@ -30,23 +29,13 @@ impl Status {
     }
 }
 
-/// How a command ends that is given this answer.
+/// How a command ends that is given this answer: a refusal is no success.
 pub(crate) fn ends_as(answer: &WrittenAnswer) -> Status
     ensures { result ≡ status_of answer.now }
 {
-    status_of(answer.answer())
-}
-
-/// How a command with this answer ends: a refusal is no success.
-fn status_of(answer: &Answer) -> Status
-    ensures { result ≡ status_of answer.now }
-{
-    match answer {
-        Answer::Request(_) => Status::Done,
-        Answer::Done => Status::Done,
-        Answer::Bucket(_) => Status::Done,
-        Answer::Swept(_) => Status::Done,
-        Answer::Balance(_) => Status::Done,
-        Answer::Refused(_) => Status::Failed,
+    if answer.is_refused() {
+        Status::Failed
+    } else {
+        Status::Done
     }
 }

@@ -35,7 +35,7 @@ use Rattle.sql_keeper.specs.Left.{IsHeld, IsKept, IsLeftRuled}
 use Rattle.sql_keeper.specs.RuledOpening.{HasUnruledRow}
 use Rattle.sql_keeper.specs.Shelves.{IsShelfOf}
 use Rattle.sql_keeper.specs.Sweeps.{BecomesSwept}
-use Rattle.sql_keeper.specs.Writes.{meta_with}
+use Rattle.sql_keeper.specs.Writes.{meta_at}
 use Rattle.sql_keeper.proofs.Again.{left_again, no_fault}
 use Rattle.sql_keeper.proofs.OneShelf.{same_shelf}
 use Rattle.sql_keeper.proofs.Overlays.{number_from}
@@ -164,11 +164,11 @@ held_committed text shelf last change old new held b = record {
   moment = sym (ap last_in b.meta);
 }
 
--- what is kept once stands as a change leaves it that is at the last moment
-pub held_stands : (text : List ℕ) (shelf : Shelf) (last : ℕ) (given : List ℕ) (change : Change)
-    (trees : Trees) → given ≡ text → (last == change.moment) ≡ true → IsHeld text shelf last trees
-    → (tables_content trees).meta ≡ Some (meta_with given change)
-held_stands text shelf last given change trees same at_last held =
+-- what is kept once stands as a command leaves it that is at the last moment
+pub held_stands : (text : List ℕ) (shelf : Shelf) (last : ℕ) (given : List ℕ) (t : ℕ)
+    (trees : Trees) → given ≡ text → (last == t) ≡ true → IsHeld text shelf last trees
+    → (tables_content trees).meta ≡ Some (meta_at given t)
+held_stands text shelf last given t trees same at_last held =
     kept.is ∙ (λ i. Some (record {
       version = kept.version i;
       book = (kept.book ∙ sym same) i;
@@ -178,8 +178,8 @@ held_stands text shelf last given change trees same at_last held =
     kept : IsKept trees text
     kept = held.left.left.kept
 
-    moment : kept.row.last ≡ change.moment
-    moment = sym (held.moment ∙ ap last_in kept.is) ∙ number_from last change.moment at_last
+    moment : kept.row.last ≡ t
+    moment = sym (held.moment ∙ ap last_in kept.is) ∙ number_from last t at_last
 
 pub held_added : (text : List ℕ) (shelf : Shelf) (last : ℕ) (code : List ℕ) (terms : VoucherTerms)
     (t : ℕ) (old new : Trees) → IsHeld text shelf last old → BecomesAdded text code terms t old new

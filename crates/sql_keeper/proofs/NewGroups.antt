@@ -26,7 +26,7 @@ use Rattle.sql_keeper.specs.Content.{Names}
 use Rattle.sql_keeper.specs.Tests.{AreNewGroups, AreWritable, IsTested}
 use Rattle.sql_keeper.specs.Writes.{columns_of, with_all_charged, with_change, with_change_put}
 use Rattle.sql_keeper.specs.Writes.{with_kept, with_named, with_new_book, with_new_group}
-use Rattle.sql_keeper.specs.Writes.{with_new_groups, with_redeemed, with_stored}
+use Rattle.sql_keeper.specs.Writes.{with_meta_put, with_new_groups, with_redeemed, with_stored}
 use Rattle.sql_keeper.proofs.Changed.{AreKeyed, keyed_named, keyed_without, over_stored}
 use Rattle.sql_keeper.proofs.Changed.{stored_over, without_groups}
 use Rattle.sql_keeper.specs.Grants.{is_kept}
@@ -254,12 +254,17 @@ put_is names new seen m change texts c named t kept =
     (with_stored change.number names change.rows (with_meta m c))
     (stored_beside names m change c named t.made.reservations t.covered))
 
--- so it is where what is kept once stands already, and isn't put
+-- what is kept once stands already where it isn't put
 meta_same : (m : Meta) (c : TablesContent) → c.meta ≡ Some m → c ≡ with_meta m c
 meta_same m c is = λ i. record c { meta = is i; kept = count i }
   where
     count : c.kept ≡ (if is_some c.meta then c.kept else c.kept + 1)
     count = ap (λ (o : Option Meta). if is_some o then c.kept else c.kept + 1) (sym is)
+
+pub meta_put : (stands : Bool) (m : Meta) (c : TablesContent) → (stands ≡ true → c.meta ≡ Some m)
+    → with_meta_put stands m c ≡ with_meta m c
+meta_put false m c is = refl
+meta_put true m c is = meta_same m c (is refl)
 
 pub put_over : (names : Names) (new : Bool) (seen : Option SeenAccount) (stands : Bool) (m : Meta)
     (change : Change) (texts : Option Kept) (c : TablesContent) → IsNamed change.rows
@@ -267,8 +272,6 @@ pub put_over : (names : Names) (new : Bool) (seen : Option SeenAccount) (stands 
     ((x : SessionGroup) → is_kept seen change.number x ≡ true → IsKeptIn (c.rows change.number) x)
     → (stands ≡ true → c.meta ≡ Some m)
     → with_change_put names new seen stands m change texts c ≡ with_change names m change texts c
-put_over names new seen false m change texts c named t kept is =
-    put_is names new seen m change texts c named t kept
-put_over names new seen true m change texts c named t kept is =
-    ap (with_change_put names new seen true m change texts) (meta_same m c (is refl))
+put_over names new seen stands m change texts c named t kept is =
+    ap (with_change_put names new seen true m change texts) (meta_put stands m c is)
     ∙ put_is names new seen m change texts c named t kept

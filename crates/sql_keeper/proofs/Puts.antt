@@ -16,17 +16,17 @@ use Rattle.reserving.specs.declared.session.SessionGroup.{SessionGroup}
 use Rattle.voucher_rules.specs.Standing.{unspent}
 use Rattle.voucher_rules.specs.declared.terms.VoucherTerms.{VoucherTerms}
 use Rattle.sql_rows.specs.declared.head.HeadColumns.{HeadColumns}
-use Rattle.sql_rows.specs.Content.{TablesContent, TableRows, with_account, with_meta, with_rows}
+use Rattle.sql_rows.specs.Content.{TablesContent, TableRows, with_account, with_rows}
 use Rattle.sql_rows.specs.Content.{with_covered}
 use Rattle.sql_rows.specs.Content.{with_voucher_row, without_covered}
 use Rattle.sql_rows.specs.Each.{with_counters, with_sessions}
 use Rattle.sql_rows.specs.Makes.{Makes, MakesIfOpen, Turns}
 use Rattle.sql_rows.specs.Values.{VoucherRow}
-use Rattle.sql_keeper.specs.Additions.{with_addition}
+use Rattle.sql_keeper.specs.Additions.{with_addition_put}
 use Rattle.sql_keeper.specs.Commits.{with_money}
 use Rattle.sql_keeper.specs.Content.{Names}
 use Rattle.sql_keeper.specs.Writes.{head_columns_of, meta_at, voucher_row, with_all_charged}
-use Rattle.sql_keeper.specs.Writes.{with_all_counted, with_blocks, with_groups}
+use Rattle.sql_keeper.specs.Writes.{with_all_counted, with_blocks, with_groups, with_meta_put}
 use Rattle.sql_keeper.proofs.Overlays.{number_from}
 
 pub made_then : (f g : TablesContent → TablesContent) (a b c : State) → Makes f a b → Makes g b c →
@@ -221,17 +221,17 @@ module _ {A B C E : Type 0} (a : List ℕ) (p q r s : State) (x : A) (y : B) (z 
       (makes_all_then (λ c. with_sessions a xs (money c)) (groups gs) p r s y z
       (makes_all_then money (with_sessions a xs) p q r x (Ok y) one two) three)
 
--- the moment, and a voucher that no account has redeemed
-pub puts_addition : {A B E : Type 0} (text code k : List ℕ) (terms : VoucherTerms) (t : ℕ)
-    (v : VoucherRow) (a b c : State) (x : A) (r : Result B E) → k ≡ code
+-- the moment unless it stands, and a voucher that no account has redeemed
+pub puts_addition : {A B E : Type 0} (stands : Bool) (text code k : List ℕ) (terms : VoucherTerms)
+    (t : ℕ) (v : VoucherRow) (a b c : State) (x : A) (r : Result B E) → k ≡ code
     → v ≡ voucher_row (unspent terms)
-    → Attempts {A = A} {E = E} (Makes (with_meta (meta_at text t))) a b (Ok x)
+    → Attempts {A = A} {E = E} (MakesIfOpen (with_meta_put stands (meta_at text t))) a b (Ok x)
     → Attempts {A = B} {E = E} (Makes (with_voucher_row k v)) b c r
-    → Attempts {A = B} {E = E} (Makes (with_addition text code terms t)) a c r
-puts_addition {A} {B} {E} text code k terms t v a b c x r same row one two =
+    → Attempts {A = B} {E = E} (Makes (with_addition_put stands text code terms t)) a c r
+puts_addition {A} {B} {E} stands text code k terms t v a b c x r same row one two =
     subst (λ (f : TablesContent → TablesContent). Attempts {A = B} {E = E} (Makes f) a c r)
-    (λ i d. with_voucher_row (same i) (row i) (with_meta (meta_at text t) d))
-    (makes_then (with_meta (meta_at text t)) (with_voucher_row k v) a b c x r one two)
+    (λ i d. with_voucher_row (same i) (row i) (with_meta_put stands (meta_at text t) d))
+    (list_makes (with_meta_put stands (meta_at text t)) (with_voucher_row k v) a b c x r one two)
 
 -- the charges of the same list
 pub puts_paid : {A E : Type 0} (a : List ℕ) (xs ys : List ChargeRow) → ys ≡ xs

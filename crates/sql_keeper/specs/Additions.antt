@@ -1,6 +1,6 @@
 -- A voucher that is added, committed whole or not at all.
 -- Source: profile.
-use Rattle.std.specs.Prelude.{◌≡◌, ◌≤◌, IsTrue, Some, is_some}
+use Rattle.std.specs.Prelude.{◌≡◌, ◌≤◌, Bool, IsTrue, Some, is_some}
 use Rattle.units.specs.Words.{Moment}
 use Rattle.identifiers.specs.Words.{VoucherCode}
 use Rattle.shelves.specs.Words.{BookText}
@@ -16,13 +16,19 @@ use Rattle.sql_rows.specs.Plain.{ArePlain}
 use Rattle.sql_rules.specs.Ruled.{IsInRules}
 use Rattle.sql_keeper.specs.Content.{tables_of, Names}
 use Rattle.sql_keeper.specs.Tidy.{IsTidy}
-use Rattle.sql_keeper.specs.Writes.{meta_at, voucher_row}
+use Rattle.sql_keeper.specs.Writes.{meta_at, voucher_row, with_meta_put}
 
 -- what is written: the moment, and a voucher that no account has redeemed
 abbrev pub with_addition : BookText → VoucherCode → VoucherTerms → Moment → TablesContent →
     TablesContent
 with_addition text code terms t c =
     with_voucher_row code (voucher_row (unspent terms)) (with_meta (meta_at text t) c)
+
+-- the same as it is put: what is kept once isn't where it stands so already
+abbrev pub with_addition_put : Bool → BookText → VoucherCode → VoucherTerms → Moment →
+    TablesContent → TablesContent
+with_addition_put stands text code terms t c =
+    with_voucher_row code (voucher_row (unspent terms)) (with_meta_put stands (meta_at text t) c)
 
 -- the tables hold the voucher; they would be found again: the catalog is the same, and so are the
 -- version and the books, no rowid stands twice, and the moment is in the range of moments

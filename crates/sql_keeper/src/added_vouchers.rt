@@ -3,40 +3,45 @@
 ghost use Rattle.std.specs.Prelude.{◌≡◌, false};
 ghost use Rattle.keepers.specs.Change.{with_voucher};
 ghost use Rattle.sql_rows.specs.Makes.{Makes};
-ghost use Rattle.sql_tables.specs.Statements.{Attempts, HasBook, HasIdleBook};
-ghost use Rattle.sql_keeper.specs.Additions.{BecomesAdded, with_addition};
+ghost use Rattle.sql_tables.specs.Statements.{Attempts, HasBook, HasIdleBook, IsInside};
+ghost use Rattle.sql_keeper.specs.Additions.{BecomesAdded, with_addition_put};
 ghost use Rattle.sql_keeper.specs.Commits.{CommitsStanding, CommitsWhole, Transacts};
+ghost use Rattle.sql_keeper.specs.Seen.{Stands};
 ghost use Rattle.sql_keeper.specs.Stops.{trees_in};
+ghost use Rattle.sql_keeper.specs.Writes.{meta_at};
 ghost use Rattle.sqlite.specs.Held.{state};
 ghost use Rattle.sql_keeper.specs.Calls.{StoresChange};
 
 use crate::faults::counted;
 use crate::keeper::SqlKeeper;
-use crate::last_moment::last_after;
+use crate::last_moment::{is_last, last_after};
+use crate::putting::put_moment;
 use crate::ruling::is_ruled_addition;
 use crate::still_open::still_open;
 use identifiers::VoucherCode;
 use keepers::StoreFault;
-use sql_rows::{put_meta, put_voucher};
-use sql_tables::{LATEST, ReadFault};
+use sql_rows::put_voucher;
+use sql_tables::ReadFault;
 use sqlite::{Alter, Connection, Error, Transaction};
 use units::Moment;
 use voucher_rules::VoucherTerms;
 
-/// Puts the moment, and a voucher that no account has redeemed.
+/// Puts the moment unless it stands already, and a voucher that no account has redeemed.
 fn put_addition<S: Alter>(
     tx: &mut Transaction<'_, S>,
     text: &str,
+    stands: bool,
     code: &VoucherCode,
     terms: VoucherTerms,
     moment: Moment,
 ) -> Result<usize, Error>
+    requires open { IsInside (state S.Store tx.old.conn.now) }
     requires book { HasBook (state S.Store tx.old.conn.now) }
     ensures same_reference { tx.new.conn.ghost_name ≡ tx.old.conn.ghost_name }
-    ensures makes { Attempts (Makes (with_addition text.now code.now terms moment))
+    ensures makes { Attempts (Makes (with_addition_put stands text.now code.now terms moment))
         (state S.Store tx.old.conn.now) (state S.Store tx.new.conn.now) result }
 {
-    put_meta(tx, LATEST, text, moment)?;
+    put_moment(tx, text, moment, stands)?;
     let code = code.as_str();
     put_voucher(tx, code, terms.amount(), terms.days(), terms.scope(), None)
 }
@@ -45,6 +50,7 @@ fn put_addition<S: Alter>(
 fn write_addition<S: Alter>(
     conn: &mut Connection<S>,
     text: &str,
+    stands: bool,
     code: &VoucherCode,
     terms: VoucherTerms,
     moment: Moment,
@@ -52,11 +58,11 @@ fn write_addition<S: Alter>(
     requires plain { conn.old.in_transaction ≡ false }
     requires idle { HasIdleBook (state S.Store conn.old) }
     ensures plain { conn.new.in_transaction ≡ false }
-    ensures transacts { Transacts (with_addition text.now code.now terms moment)
+    ensures transacts { Transacts (with_addition_put stands text.now code.now terms moment)
         (state S.Store conn.old) (state S.Store conn.new) result }
 {
     let mut tx = conn.transaction();
-    put_addition(&mut tx, text, code, terms, moment)?;
+    put_addition(&mut tx, text, stands, code, terms, moment)?;
     tx.commit()
 }
 
@@ -65,12 +71,14 @@ fn write_addition<S: Alter>(
 fn make_addition<S: Alter>(
     conn: &mut Connection<S>,
     text: &str,
+    stands: bool,
     code: &VoucherCode,
     terms: VoucherTerms,
     moment: Moment,
 ) -> Result<(), ReadFault>
     requires plain { conn.old.in_transaction ≡ false }
     requires idle { HasIdleBook (state S.Store conn.old) }
+    requires stands { Stands stands (meta_at text.now moment) (state S.Store conn.old) }
     ensures plain { conn.new.in_transaction ≡ false }
     ensures commits { CommitsWhole (BecomesAdded text.now code.now terms moment)
         (state S.Store conn.old) (state S.Store conn.new) result }
@@ -80,7 +88,7 @@ fn make_addition<S: Alter>(
     if !is_ruled_addition(code, terms, moment) {
         return Err(ReadFault::Rules);
     }
-    write_addition(conn, text, code, terms, moment)?;
+    write_addition(conn, text, stands, code, terms, moment)?;
     Ok(())
 }
 
@@ -88,18 +96,20 @@ fn make_addition<S: Alter>(
 fn ask_to_add<S: Alter>(
     conn: &mut Connection<S>,
     text: &str,
+    stands: bool,
     code: &VoucherCode,
     terms: VoucherTerms,
     moment: Moment,
 ) -> Result<(), ReadFault>
     requires plain { conn.old.in_transaction ≡ false }
     requires idle { HasIdleBook (state S.Store conn.old) }
+    requires stands { Stands stands (meta_at text.now moment) (state S.Store conn.old) }
     ensures plain { conn.new.in_transaction ≡ false }
     ensures commits { CommitsStanding (BecomesAdded text.now code.now terms moment)
         (state S.Store conn.old) (state S.Store conn.new) result }
 {
     still_open(conn)?;
-    make_addition(conn, text, code, terms, moment)
+    make_addition(conn, text, stands, code, terms, moment)
 }
 
 impl<S: Alter> SqlKeeper<S> {
@@ -120,7 +130,8 @@ impl<S: Alter> SqlKeeper<S> {
             self.old self.new result }
     {
         let text = self.text.as_str();
-        let made = ask_to_add(&mut self.connection, text, &code, terms, moment);
+        let stands = is_last(self.last, moment);
+        let made = ask_to_add(&mut self.connection, text, stands, &code, terms, moment);
         self.seen = None;
         self.last = last_after(&made, self.last, moment);
         counted(&mut self.failures, made)

@@ -79,14 +79,8 @@ fn read_twice(alloc: Global, text: &str) -> Result<TwoBooks, AddFault>
     ensures same { IfOk result (λ b. b.given ≡ b.own) }
     ensures fault { IfErr result (IsTextFault text.now) }
 {
-    let given = match read_text(alloc, text) {
-        Ok(book) => book,
-        Err(fault) => return Err(AddFault::Book(fault)),
-    };
-    let own = match read_text(alloc, text) {
-        Ok(book) => book,
-        Err(fault) => return Err(AddFault::Book(fault)),
-    };
+    let given = read_text(alloc, text).map_err(AddFault::Book)?;
+    let own = read_text(alloc, text).map_err(AddFault::Book)?;
     Ok(TwoBooks { given, own })
 }
 

@@ -109,10 +109,7 @@ pub(crate) fn make_later<S: Alter>(
     ensures store { IfErr result
         (λ fault. (fault ≡ OpenFault.Store) ⊎ (fault ≡ OpenFault.Memory)) }
 {
-    match create_since(tx, version) {
-        Ok(()) => Ok(()),
-        Err(error) => Err(open_fault(error)),
-    }
+    create_since(tx, version).map_err(open_fault)
 }
 
 /// What is kept once.
@@ -161,10 +158,7 @@ pub(crate) fn books_within<S: Alter>(
         fault ≡ Rules →
         ¬ AreRuledBooks (tables_content (state S.Store tx.old.conn.now).now.trees).books) }
 {
-    match read_books_within(tx, alloc) {
-        Ok(books) => Ok(books),
-        Err(fault) => Err(read_fault(fault)),
-    }
+    read_books_within(tx, alloc).map_err(read_fault)
 }
 
 /// Puts what the latest version has and the tables of an older one haven't: the numbers of books,

@@ -96,10 +96,7 @@ fn make_tables<S: Alter>(conn: &mut Connection<S>, text: &str) -> Result<(), Cre
     if !conn.is_autocommit() || !is_blank(conn.schema()) {
         return Err(CreateFault::Store);
     }
-    match create_book(conn, text) {
-        Ok(()) => Ok(()),
-        Err(error) => Err(store_fault(error)),
-    }
+    create_book(conn, text).map_err(store_fault)
 }
 
 /// The fault of an error of the store.

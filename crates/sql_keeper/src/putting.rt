@@ -171,7 +171,7 @@ fn put_rows<S: Alter>(
 
 /// Puts the moment of the last accepted command, with what else is kept once. Where it stands there
 /// already nothing is written, so that the text of the book isn't written again either.
-fn put_moment<S: Alter>(
+pub(crate) fn put_moment<S: Alter>(
     tx: &mut Transaction<'_, S>,
     text: &str,
     moment: Moment,

@@ -14,6 +14,7 @@ use Rattle.commands.specs.declared.command.Content.{Content}
 use Rattle.commands.specs.declared.command.Content.TheVariants as content
 use Rattle.json_fields.specs.declared.fault.WireFault.{WireFault}
 use Rattle.json_fields.specs.declared.fault.WireFault.TheVariants.{Missing, Invalid, Memory}
+use Rattle.json_fields.specs.declared.fault.WireFault.TheVariants.{NotRequest}
 use Rattle.json_fields.specs.Gives.{or_fault, Gives}
 use Rattle.json_fields.specs.Fields.{member_at, number_at, optional_at, text_at, document_at}
 use Rattle.json_fields.specs.Spelling.{whole, perhaps}
@@ -34,6 +35,7 @@ use Rattle.wire.proofs.RedeemedAgain.{reference_utf8, redemption_content_again, 
 use Rattle.wire.specs.Contents.{content_text, content_of, request_content_in, credit_content_in}
 use Rattle.wire.specs.Contents.{given_content_when, operator_content_when, content_when}
 use Rattle.wire.specs.Contents.{account_of, IsContent, is_content_text, is_own_text}
+use Rattle.wire.specs.Contents.{fault_of_content}
 use Rattle.wire.specs.Contents.{ContentsReadAgain, ReadsWritten, CreditsAreInOrder}
 
 abbrev credit_members : ℕ → Option Data → List ℕ → Option Data → Option Data → Members
@@ -279,11 +281,17 @@ text_read account bytes c said text =
     ap (is_own_text bytes) said ∙ same_bytes (content_text c) bytes text
 
 pub text_of_other : (account bytes : List ℕ) (c : Content) → content_of account bytes ≡ Ok c →
-    (content_text c ≡ bytes → ⊥) → is_content_text account bytes ≡ false
-text_of_other account bytes c said other =
-    ap (is_own_text bytes) said ∙ other_bytes (content_text c) bytes other
+    (content_text c ≡ bytes → ⊥) → (is_content_text account bytes ≡ false)
+    × (NotRequest ≡ fault_of_content (content_of account bytes))
+text_of_other account bytes c said other = (
+  ap (is_own_text bytes) said ∙ other_bytes (content_text c) bytes other,
+  sym (ap fault_of_content said),
+)
 
 pub text_refused : (account bytes : List ℕ) (e : WireFault) →
     Gives (λ (c : Content). c) (Err e) (content_of account bytes) → ¬ (e ≡ Memory) →
-    is_content_text account bytes ≡ false
-text_refused account bytes e given more = ap (is_own_text bytes) (given more)
+    (is_content_text account bytes ≡ false) × (e ≡ fault_of_content (content_of account bytes))
+text_refused account bytes e given more = (
+  ap (is_own_text bytes) (given more),
+  sym (ap fault_of_content (given more)),
+)

@@ -5,3 +5,4 @@ pub mod ContentsAgain
 pub mod AllowancesAgain
 pub mod RedeemedAgain
 pub mod SaidBodies
+pub mod SaidTexts

@@ -13,7 +13,7 @@ use Rattle.commands.specs.declared.command.VoucherRedemption.{VoucherRedemption}
 use Rattle.commands.specs.declared.command.Content.{Content}
 use Rattle.commands.specs.declared.command.Content.TheVariants as content
 use Rattle.json_fields.specs.declared.fault.WireFault.{WireFault}
-use Rattle.json_fields.specs.declared.fault.WireFault.TheVariants.{Invalid, Memory}
+use Rattle.json_fields.specs.declared.fault.WireFault.TheVariants.{Invalid, Memory, NotRequest}
 use Rattle.json_fields.specs.Gives.{◌>>=◌, where_holds, Gives}
 use Rattle.json_fields.specs.Fields.{document_at}
 use Rattle.json_fields.specs.Order.{AreInByteOrder}
@@ -109,11 +109,18 @@ is_own_text bytes (Err e) = false
 abbrev pub is_content_text : List ℕ → List ℕ → Bool
 is_content_text account bytes = is_own_text bytes (content_of account bytes)
 
--- such a text is read, unless memory runs out, and no other is
-abbrev pub ReadsTexts : List ℕ → List ℕ → Result Content WireFault → Type 0
+-- what is told of bytes that aren't the text of a content of this account: the first fault of what
+-- they say, and where they say a content, that they aren't its text
+abbrev pub fault_of_content : Result Content WireFault → WireFault
+fault_of_content (Ok c) = NotRequest
+fault_of_content (Err e) = e
+
+-- such a text is read, unless memory runs out, and no other is: its fault is told
+abbrev pub ReadsTexts : AccountName → List ℕ → Result Content WireFault → Type 0
 ReadsTexts account bytes returned =
     MatchResult returned (λ c. is_content_text account bytes ≡ true)
-    (λ e. ¬ (e ≡ Memory) → is_content_text account bytes ≡ false)
+    (λ e. ¬ (e ≡ Memory) → (is_content_text account bytes ≡ false)
+    × (e ≡ fault_of_content (content_of account bytes)))
 
 -- bytes are read as the content that they are the text of, of this account
 pub record ReadsContent (name : AccountName) (bytes : List ℕ) (result : Result Content WireFault)

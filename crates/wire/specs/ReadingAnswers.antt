@@ -219,6 +219,23 @@ answer_of bytes = do
   d ← document_at bytes
   answer_when d (get (name_of avp.SessionId) d)
 
+-- the answer that a text says, where it says one
+abbrev pub said_or_done : Result Answer WireFault → Answer
+said_or_done (Ok a) = a
+said_or_done (Err e) = answer.Done
+
+abbrev pub answer_said : List ℕ → Answer
+answer_said bytes = said_or_done (answer_of bytes)
+
+-- an operator's command is refused
+abbrev pub is_refusal : Answer → Bool
+is_refusal (answer.Request r) = false
+is_refusal answer.Done = false
+is_refusal (answer.Bucket number) = false
+is_refusal (answer.Swept count) = false
+is_refusal (answer.Balance balance) = false
+is_refusal (answer.Refused r) = true
+
 -- what is written is read again
 abbrev pub AnswersReadAgain : (Answer → List ℕ) → Type 0
 AnswersReadAgain text = (a : Answer) → IsAnswer a → answer_of (text a) ≡ Ok a

@@ -4,7 +4,7 @@ ghost use Rattle.std.specs.Prelude.{◌≡◌, ◌≤◌, ◌+◌, ◌++◌, [],
 ghost use Rattle.std.specs.Prelude.{string_len, string_capacity};
 ghost use Rattle.commands.specs.declared.answer.Answer.TheVariants as answer;
 ghost use Rattle.wire.specs.Spelled.{answer_text};
-ghost use Rattle.wire.specs.ReadingAnswers.{answer_of, ReadsTexts};
+ghost use Rattle.wire.specs.ReadingAnswers.{answer_of, is_refusal, ReadsTexts};
 ghost use Rattle.wire.specs.Rules.{IsAnswer};
 
 use crate::reading::read_answer;
@@ -14,40 +14,42 @@ use json_fields::WireFault;
 use std::alloc::{AllocError, Global};
 use std::marker::Model;
 
-/// An answer and its text, as `write_answer` writes it: the same bytes are kept of a command and
-/// written to whoever asked it.
+/// An answer as its text, as `write_answer` writes it: the same bytes are kept of a command and
+/// written to whoever asked it. Beside them it is told whether it is a refusal.
 ///
-/// Contracts see the answer.
+/// Contracts see the answer that the text says.
 #[derive(Debug, Drop)]
 pub struct WrittenAnswer {
-    answer: Answer,
     text: String,
+    refused: bool,
 }
 
 impl Model for WrittenAnswer {
     ghost use Rattle.std.specs.Prelude.{◌≡◌, Ok, string_bytes};
     ghost use Rattle.commands.specs.declared.answer.Answer.{Answer};
     ghost use Rattle.wire.specs.Spelled.{answer_text};
-    ghost use Rattle.wire.specs.ReadingAnswers.{answer_of};
+    ghost use Rattle.wire.specs.ReadingAnswers.{answer_of, answer_said, is_refusal};
 
     ghost Value = { Answer };
 
-    ghost view = { λ w. w.answer };
+    ghost view = { λ w. answer_said (string_bytes w.text) };
 
-    ghost invariant = { λ w. (string_bytes w.text ≡ answer_text w.answer)
-        × (answer_of (string_bytes w.text) ≡ Ok w.answer) };
+    ghost invariant = { λ w. (string_bytes w.text ≡ answer_text (answer_said (string_bytes w.text)))
+        × (answer_of (string_bytes w.text) ≡ Ok (answer_said (string_bytes w.text)))
+        × (w.refused ≡ is_refusal (answer_said (string_bytes w.text))) };
 }
 
 impl WrittenAnswer {
-    /// An answer with its text.
+    /// An answer as its text.
     ///
     /// # Errors
     /// The growth of the text was refused.
     pub fn new(alloc: Global, answer: Answer) -> Result<WrittenAnswer, AllocError>
         ensures { IfOk result (λ written. written ≡ answer) }
     {
+        let refused = is_refusal(&answer);
         let text = write_answer(alloc, &answer)?;
-        Ok(WrittenAnswer { answer, text })
+        Ok(WrittenAnswer { text, refused })
     }
 
     /// The answer whose text this is.
@@ -59,29 +61,30 @@ impl WrittenAnswer {
         ensures said { IfOk result (λ written. answer_of (string_bytes text) ≡ Ok written) }
         ensures texts { ReadsTexts (string_bytes text) result }
     {
-        match read_answer(alloc, text.as_bytes()) {
-            Ok(answer) => Ok(WrittenAnswer { answer, text }),
-            Err(fault) => Err(fault),
-        }
+        let answer = read_answer(alloc, text.as_bytes())?;
+        let refused = is_refusal(&answer);
+        Ok(WrittenAnswer { text, refused })
     }
 
-    /// The same answer with its text once more.
+    /// The same answer once more.
     ///
     /// # Errors
     /// Out of memory.
     pub fn copy(&self) -> Result<WrittenAnswer, AllocError>
         ensures { IfOk result (λ copy. copy ≡ self.now) }
     {
-        let answer = copy_answer(&self.answer)?;
         let text = copy_text(&self.text)?;
-        Ok(WrittenAnswer { answer, text })
+        Ok(WrittenAnswer {
+            text,
+            refused: self.refused,
+        })
     }
 
-    /// The answer.
-    pub fn answer(&self) -> &Answer
-        ensures { result.now ≡ self.now }
+    /// Whether it is the refusal of an operator's command.
+    pub fn is_refused(&self) -> bool
+        ensures { result ≡ is_refusal self.now }
     {
-        &self.answer
+        self.refused
     }
 
     /// Its text, which is read again as the same answer.
@@ -105,11 +108,18 @@ impl WrittenAnswer {
     }
 }
 
-/// The same answer once more.
-fn copy_answer(answer: &Answer) -> Result<Answer, AllocError>
-    ensures { IfOk result (λ copy. copy ≡ answer.now) }
+/// Whether an answer is the refusal of an operator's command.
+fn is_refusal(answer: &Answer) -> bool
+    ensures { result ≡ is_refusal answer.now }
 {
-    answer.clone()
+    match answer {
+        Answer::Request(_) => false,
+        Answer::Done => false,
+        Answer::Bucket(_) => false,
+        Answer::Swept(_) => false,
+        Answer::Balance(_) => false,
+        Answer::Refused(_) => true,
+    }
 }
 
 /// The same text once more.
@@ -146,8 +156,8 @@ impl AnswerRoom {
         let mut text = self.text;
         put_swept(&mut text, accounts);
         WrittenAnswer {
-            answer: Answer::Swept(accounts),
             text,
+            refused: false,
         }
     }
 }

@@ -1,11 +1,16 @@
-use Rattle.std.proofs.Common.{refl}
+use Rattle.std.proofs.Common.{◌∙◌, refl, sym}
 use Rattle.sql_keeper.specs.Additions.{BecomesAdded}
 use Rattle.sql_keeper.specs.Content.{shelf_names}
-use Rattle.sql_keeper.proofs.Held.{held_added}
+use Rattle.sql_keeper.proofs.Held.{held_added, held_stands}
 use Rattle.sql_keeper.proofs.Committed.{added_law}
 use Rattle.sql_keeper.proofs.Standing.{keeps, standing_keeper, standing_whole}
 use Rattle.sql_keeper.proofs.Whole.{handed_on}
 use Rattle.sql_keeper.proofs.keeper.SqlKeeper.add_voucher.Goals as goal
+
+pub ask_to_add-made-requires-clause-stands : goal.ask_to_add-made-requires-clause-stands
+ask_to_add-made-requires-clause-stands g c = λ is clean on.
+    held_stands _ c.self.inside.shelf _ _ c.args.moment _ c.as_str-text.ensures.value
+    (sym c.is_last-stands.ensures ∙ is) (c.self.invariant.keeper.held clean on)
 
 pub invariant_of-self : goal.invariant_of-self
 invariant_of-self g c = record {

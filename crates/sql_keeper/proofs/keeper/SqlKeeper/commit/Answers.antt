@@ -9,7 +9,7 @@ use Rattle.sql_keeper.proofs.keeper.SqlKeeper.commit.Goals as goal
 
 pub ask_to_change-made-requires-clause-stands : goal.ask_to_change-made-requires-clause-stands
 ask_to_change-made-requires-clause-stands g c = λ is clean on.
-    held_stands _ c.self.inside.shelf _ _ c.args.change _ c.as_str-text.ensures.value
+    held_stands _ c.self.inside.shelf _ _ c.args.change.moment _ c.as_str-text.ensures.value
     (sym c.is_last-stands.ensures ∙ is) (c.self.invariant.keeper.held clean on)
 
 pub invariant_of-self : goal.invariant_of-self
