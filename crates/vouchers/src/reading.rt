@@ -82,10 +82,13 @@ fn voucher_at(
         (λ f. f.kind ≢ Memory → voucher_of (fields_of fields.now) ≡ Err f.kind) }
     ensures number { IfErr result (λ f. f.record_number ≡ number) }
 {
-    voucher(alloc, fields).map_err(|kind| VoucherFault {
-        record_number: number,
-        kind,
-    })
+    match voucher(alloc, fields) {
+        Ok(row) => Ok(row),
+        Err(kind) => Err(VoucherFault {
+            record_number: number,
+            kind,
+        }),
+    }
 }
 
 /// The vouchers of a file in their order: CSV of the header `code,amount,days,scope` and a record a
