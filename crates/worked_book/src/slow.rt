@@ -1,5 +1,7 @@
 //! A writer that fails.
 
+ghost use Rattle.std.specs.Prelude.{◌≡◌, []};
+
 use std::alloc::Global;
 use std::io::{self, ErrorKind, Write};
 
@@ -13,8 +15,11 @@ pub struct Slow {
 }
 
 impl Slow {
-    /// A writer that has taken nothing.
-    pub fn new(alloc: Global, calls: usize) -> Slow {
+    /// A writer that has taken nothing, and fails after so many calls.
+    pub fn new(alloc: Global, calls: usize) -> Slow
+        ensures taken { result.taken.items ≡ [] }
+        ensures calls { result.calls ≡ calls }
+    {
         Slow {
             taken: Vec::new(alloc),
             calls,
