@@ -123,7 +123,10 @@ fn add_row(alloc: Global, shelf: &mut TariffShelf, row: &BookColumns) -> Result<
 {
     // For the prover alone: looking at the value makes known here what its type keeps.
     let _moment = row.starts.seconds();
-    let book = read_text(alloc, row.content.as_str()).map_err(book_fault)?;
+    let book = match read_text(alloc, row.content.as_str()) {
+        Ok(book) => book,
+        Err(fault) => return Err(book_fault(fault)),
+    };
     match shelf.add(row.starts, book, Moment::first()) {
         Ok(()) => Ok(()),
         Err(fault) => Err(shelf_fault(fault)),

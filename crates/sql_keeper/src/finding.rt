@@ -39,14 +39,20 @@ fn content_said(alloc: Global, account: &AccountNumber, text: &str) -> Result<Co
 {
     let account = account.clone()?;
     let bytes = text.as_bytes();
-    read_content(alloc, account, bytes).map_err(fault_of)
+    match read_content(alloc, account, bytes) {
+        Ok(content) => Ok(content),
+        Err(fault) => Err(fault_of(fault)),
+    }
 }
 
 /// The answer that a kept text says, with that text as it stands.
 fn answer_said(alloc: Global, text: String) -> Result<WrittenAnswer, ReadFault>
     ensures { IfOk result (λ a. answer_of (string_bytes text) ≡ Ok a) }
 {
-    WrittenAnswer::read(alloc, text).map_err(fault_of)
+    match WrittenAnswer::read(alloc, text) {
+        Ok(answer) => Ok(answer),
+        Err(fault) => Err(fault_of(fault)),
+    }
 }
 
 /// What texts that are kept under an account say; texts that say nothing are out of the rules.
