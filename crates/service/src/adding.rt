@@ -49,5 +49,8 @@ pub fn add_text<S: Alter>(
         shelf.old shelf.new) result }
     ensures fault { IfErr result IsAddingFault }
 {
-    keeper.add_book(shelf, from, text).map_err(adding_fault)
+    match keeper.add_book(shelf, from, text) {
+        Ok(()) => Ok(()),
+        Err(fault) => Err(adding_fault(fault)),
+    }
 }

@@ -54,7 +54,10 @@ pub(crate) fn connect<S: Start>(
         (λ c. HasCleanDisk (file_state c) → FindsIn (image_at S.Start) (file_state c)) }
     ensures told { IfErr result IsUnopened }
 {
-    open_database(rt, path, start).map_err(opening_fault)
+    match open_database(rt, path, start) {
+        Ok(connection) => Ok(connection),
+        Err(error) => Err(opening_fault(error)),
+    }
 }
 
 /// Whether there is something at a path that isn't an empty file.

@@ -74,8 +74,10 @@ pub fn book_text(alloc: Global, bytes: &[u8]) -> Result<&str, DatabaseFault>
     let Ok(text) = str::from_utf8(bytes) else {
         return Err(DatabaseFault::Book(BookFault::NotToml));
     };
-    TariffBook::read(alloc, bytes).map_err(DatabaseFault::Book)?;
-    Ok(text)
+    match TariffBook::read(alloc, bytes) {
+        Ok(_book) => Ok(text),
+        Err(fault) => Err(DatabaseFault::Book(fault)),
+    }
 }
 
 /// Makes the tables of a tariff book's text in a database that has none, and answers its office.
