@@ -9,6 +9,7 @@ pub mod Each
 pub mod MetaRules
 pub mod NamedTexts
 pub mod NamesPut
+pub mod OfSession
 pub mod Periods
 pub mod Plains
 pub mod PutAccount
@@ -22,6 +23,7 @@ pub mod PutCovered
 pub mod PutGrantBook
 pub mod PutGroup
 pub mod PutHold
+pub mod PutLastMoment
 pub mod PutMeta
 pub mod PutSession
 pub mod PutVoucher
@@ -39,7 +41,6 @@ pub mod ReadCharges
 pub mod ReadCounter
 pub mod ReadCounters
 pub mod ReadCovered
-pub mod OfSession
 pub mod ReadGrantBooks
 pub mod ReadGroups
 pub mod ReadHeadCounters
@@ -61,5 +62,6 @@ pub mod RowRules
 pub mod Stays
 pub mod Tests
 pub mod Unioned
+pub mod Updates
 pub mod Within
 pub mod Writes

@@ -106,7 +106,7 @@ row_in : (row : Row) → are_typed None 0 meta.columns (drop 1 row) ≡ true
 row_in [] kinds there rules = absurd (let no : false ≡ true = (full [] there).0 in cc)
 row_in (x ∷ vs) kinds there rules = typed x vs kinds (full (x ∷ vs) there) (right (x ∷ vs) rules)
 
-fitting : (trees : Trees) → Fits book_schema trees → (row : Row) → Has (trees 0) row
+pub fitting : (trees : Trees) → Fits book_schema trees → (row : Row) → Has (trees 0) row
     → columns row ≡ meta_cells (meta_in (drop 1 row))
 fitting trees fits row has =
     row_in row
@@ -114,6 +114,27 @@ fitting trees fits row has =
     (all_has _ (trees 0) row (fits.rules Datatype (λ e. cc)).0 has)).0
     (all_has _ (trees 0) row (fits.rules NotNull (λ e. cc)).0 has)
     (all_has _ (trees 0) row (fits.rules Check (λ e. cc)).0 has)
+
+-- the key is a number
+key_in : (row : Row) → are_typed None 0 meta.columns (drop 1 row) ≡ true → full_at row 1 ≡ true
+    → right_at row 1 ≡ true → column row 1 ≡ nat (nat_in (column row 1))
+key_in [] kinds there rule = absurd (let no : false ≡ true = there in cc)
+key_in (x ∷ []) kinds there rule = absurd (let no : false ≡ true = there in cc)
+key_in (x ∷ a ∷ more) kinds there rule =
+    whole_in a
+    (and_parts (is_of kind.Integer a) (are_typed None 1 (drop 1 meta.columns) more) kinds).0
+    there rule
+
+pub number_there : (trees : Trees) → Fits book_schema trees → (row : Row) → Has (trees 0) row
+    → column row 1 ≡ nat (nat_in (column row 1))
+number_there trees fits row has =
+    key_in row
+    (and_parts (are_typed None 0 meta.columns (drop 1 row)) true
+    (all_has _ (trees 0) row (fits.rules Datatype (λ e. cc)).0 has)).0
+    (and_parts (full_at row 1) (full_at row 2 && (full_at row 3 && (full_at row 4 && true)))
+    (all_has _ (trees 0) row (fits.rules NotNull (λ e. cc)).0 has)).0
+    (and_parts (right_at row 1) (right_at row 2 && (right_at row 4 && true))
+    (all_has _ (trees 0) row (fits.rules Check (λ e. cc)).0 has)).0
 
 -- ---- what is read
 

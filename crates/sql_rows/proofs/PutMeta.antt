@@ -71,13 +71,13 @@ module _ (m : Meta) where
   abbrev values : Row
   values = meta_values m
 
-  again : (id : ℤ) → cast_row meta (Int id ∷ values) ≡ Int id ∷ values
+  pub again : (id : ℤ) → cast_row meta (Int id ∷ values) ≡ Int id ∷ values
   again id = simp (cast_int)
 
   unset : cast_row meta (Null ∷ values) ≡ Null ∷ values
   unset = simp (cast_int, cast_null)
 
-  meets : (id : ℤ) (other : Row) →
+  pub meets : (id : ℤ) (other : Row) →
       conflicts (Some places) book_schema.indexes meta (Int id ∷ values) other
       ≡ eq_by_cmp row_cmp (key_of places other) (key_of places (Int id ∷ values))
   meets id other = or_false (agree plain places other places (Int id ∷ values))
@@ -94,7 +94,7 @@ module _ (m : Meta) where
   abbrev grown : Trees → ℕ
   grown old = if is_some (look meta old meta_key) then length (old 0) else length (old 0) + 1
 
-  turns : (old new : Trees) → Changes meta values old new → length (new 0) ≡ grown old
+  pub turns : (old new : Trees) → Changes meta values old new → length (new 0) ≡ grown old
       → tables_content new ≡ with_meta m (tables_content old)
   turns old new c more = only_changed 0 old new c.others ∙ (λ i. record (tables_content old) {
     meta = put_tells meta_in meta values old new c m refl meta_key true (number_last 1 1) i;

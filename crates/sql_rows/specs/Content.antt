@@ -3,7 +3,7 @@
 use Rattle.std.specs.Prelude.{ℕ, ◌&&◌, Bool, true, false, Option, Some, None, option_map}
 use Rattle.std.specs.Prelude.{is_some, length}
 use Rattle.std.specs.Prelude.{◌+◌, if◌then◌else◌, nat_eq}
-use Rattle.units.specs.Words.{BlockCount, GroupId, CycleNumber, BookNumber, CcRequestNumber}
+use Rattle.units.specs.Words.{Moment, BlockCount, GroupId, CycleNumber, BookNumber, CcRequestNumber}
 use Rattle.identifiers.specs.Words.{SessionName, AccountName, VoucherCode}
 use Rattle.buckets.specs.Words.{BucketNumber, BucketAmount}
 use Rattle.ledger.specs.Words.{ChargeNumber}
@@ -76,6 +76,10 @@ with_meta m c = record c {
   meta = Some m;
   kept = if is_some c.meta then c.kept else c.kept + 1;
 }
+
+-- the moment of the last accepted command changes, where anything is kept once
+abbrev pub with_last_moment : Moment → TablesContent → TablesContent
+with_last_moment t c = record c { meta = option_map (λ (m : Meta). record m { last = t }) c.meta }
 
 abbrev pub with_head : HeadColumns → TableRows → TableRows
 with_head h r = record r { head = Some h }

@@ -44,7 +44,7 @@ pub use crate::head::HeadColumns;
 pub use crate::head_counter_rows::{HeadCounters, read_head_counters};
 pub use crate::hold_rows::{HeldColumns, put_hold, put_holds, read_holds, remove_holds};
 pub use crate::live_bucket_rows::{read_buckets_live, read_buckets_live_within};
-pub use crate::meta_rows::{MetaColumns, put_meta, read_meta, read_meta_within};
+pub use crate::meta_rows::{MetaColumns, put_last_moment, put_meta, read_meta, read_meta_within};
 pub use crate::open_group_rows::{OpenGroup, read_groups_open, read_groups_open_within};
 pub use crate::reserved_rows::{ReservedColumns, read_reserved_within};
 pub use crate::session_book_rows::{

@@ -1,7 +1,7 @@
 //! The row that is kept once.
 
 ghost use Rattle.std.specs.Prelude.{◌≡◌, map, option_map, IfErr, MatchResult, OnOk, Option};
-ghost use Rattle.sql_rows.specs.Content.{tables_content, with_meta};
+ghost use Rattle.sql_rows.specs.Content.{tables_content, with_last_moment, with_meta};
 ghost use Rattle.sql_rows.specs.Ruled.{IsRefusedMeta, IsRuledMeta};
 ghost use Rattle.sql_rows.specs.Values.{Meta, meta_cells};
 ghost use Rattle.sql_rows.specs.Texts.{meta_of};
@@ -60,6 +60,29 @@ pub fn put_meta<S: Alter>(
          id = excluded.id, version = excluded.version, book = excluded.book, \
          last_moment = excluded.last_moment",
         &[id, of_version, of_book, moment],
+    )
+}
+
+/// Puts the moment of the last accepted command in the row that is kept once. The version of the
+/// tables and the text of the tariff book stay as they are there, so that the text isn't handed
+/// over; where no row is there nothing changes.
+///
+/// # Errors
+/// An error of the store. Then nothing is committed.
+pub fn put_last_moment<S: Alter>(tx: &mut Transaction<'_, S>, last: Moment) -> Result<usize, Error>
+    requires book { HasBook (state S.Store tx.old.conn.now) }
+    requires rules { HasRules (state S.Store tx.old.conn.now) }
+    ensures same_reference { tx.new.conn.ghost_name ≡ tx.old.conn.ghost_name }
+    ensures makes { Attempts (Makes (with_last_moment last))
+        (state S.Store tx.old.conn.now) (state S.Store tx.new.conn.now) result }
+    // The rows of the tables obey their rules then.
+    ensures rules { OnOk result (HasRules (state S.Store tx.new.conn.now)) }
+{
+    let moment = large(last.seconds());
+    write(
+        tx,
+        "UPDATE meta SET last_moment = ?1 WHERE id = 1",
+        &[moment],
     )
 }
 
