@@ -7,3 +7,6 @@ pub mod Fit
 pub mod Found
 pub mod Kept
 pub mod Order
+pub mod Ranges
+pub mod Seen
+pub mod Tests

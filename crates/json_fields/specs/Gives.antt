@@ -2,13 +2,14 @@
 use Rattle.std.specs.Prelude.{◌≡◌, List, [], ◌∷◌, Result, Err}
 use Rattle.std.specs.Borrow.{Bor}
 use Rattle.serde_json.specs.Data.{Data, Items, no_items, item}
-use Rattle.serde_json.specs.declared.value.Value.{Value}
-use Rattle.serde_json.specs.View.{view}
+use Rattle.std.specs.declared.alloc.Global.{Global}
+use Rattle.json.specs.declared.value.Value.{Value}
 use Rattle.texts.specs.Steps as steps
 use Rattle.texts.specs.Steps.{GivesUnless}
 pub use Rattle.texts.specs.Steps.{◌>>=◌, or_fault, where_holds, Says}
 use Rattle.json_fields.specs.declared.fault.WireFault.{WireFault}
 use Rattle.json_fields.specs.declared.fault.WireFault.TheVariants.{Memory}
+use Rattle.json_fields.specs.View.{view}
 
 -- what a fault tells of reading, where it isn't want of memory
 abbrev pub Fails : {Y : Type 0} → WireFault → Result Y WireFault → Type 0
@@ -31,7 +32,7 @@ read_each read done ds = steps.collected read done (item_list ds)
 
 -- what a function returns for the items that were read and a value is what `says` gives
 abbrev pub IsReadBy : {A : Type 0}
-    → (Bor (List A) → Bor Value → Result A WireFault → Type 0)
+    → (Bor (List A) → Bor (Value Global) → Result A WireFault → Type 0)
     → (List A → Data → Result A WireFault) → Type 0
-IsReadBy {A} returns says = (done : Bor (List A)) (value : Bor Value) (r : Result A WireFault)
+IsReadBy {A} returns says = (done : Bor (List A)) (value : Bor (Value Global)) (r : Result A WireFault)
     → returns done value r → Gives (λ (x : A). x) r (says done.now (view value.now))

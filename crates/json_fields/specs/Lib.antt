@@ -1,3 +1,4 @@
+pub mod View
 pub mod Gives
 pub mod Fields
 pub mod Order

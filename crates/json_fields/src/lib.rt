@@ -3,8 +3,10 @@
 #![tactic(auto)]
 
 mod fault;
+mod numbers;
 mod reading;
 mod unit;
+mod value;
 mod writing;
 
 pub use crate::fault::WireFault;
@@ -13,4 +15,5 @@ pub use crate::reading::{
     optional_number, read_each, text, whole_in,
 };
 pub use crate::unit::{unit_name, unit_told, units_in};
+pub use crate::value::{as_array, as_bool, as_i64, as_str, as_u64, get, is_object};
 pub use crate::writing::{put_moment, put_money, put_number, put_perhaps, put_text, text_of};

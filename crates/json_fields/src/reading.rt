@@ -2,38 +2,47 @@
 
 ghost use Rattle.std.specs.Prelude.{◌≡◌, ◌≤◌, ◌↔◌, List, [], Result, IfOk, IfSome, IsTrue};
 ghost use Rattle.serde_json.specs.Data.{Data};
-ghost use Rattle.serde_json.specs.View.{view, items_view};
 ghost use Rattle.json_fields.specs.Gives.{Gives, Says, or_fault, read_each, IsReadBy};
 ghost use Rattle.json_fields.specs.Fields.{json_of, document_at, member_at, whole_in, number_at};
 ghost use Rattle.json_fields.specs.Fields.{optional_in, optional_at, text_at, object_at, array_of};
+ghost use Rattle.json_fields.specs.View.{view, items_view};
 
 use crate::fault::WireFault;
+use crate::value::{as_array, as_str, as_u64, get, is_object, value_of};
 use commands::Avp;
-use serde_json::Value;
+use json::{Scratch, Value};
 use std::alloc::Global;
 use units::Moment;
 
-#[tactic(auto, using(crate::proofs::Documents::json_found, crate::proofs::Documents::json_refused))]
-fn parsed(alloc: Global, bytes: &[u8]) -> Result<Value, WireFault>
+#[tactic(auto, using(crate::proofs::Documents::text_read, crate::proofs::Documents::no_text))]
+fn parsed<'a>(
+    alloc: Global,
+    bytes: &'a [u8],
+    scratch: &'a mut Scratch,
+) -> Result<Value<'a>, WireFault>
     ensures { Gives view result (or_fault WireFault.NotRequest (json_of bytes.now)) }
 {
-    match Value::from_slice(alloc, bytes) {
-        Ok(value) => Ok(value),
-        Err(e) if e.is_memory() => Err(WireFault::Memory),
+    match simdutf8::basic::from_utf8(bytes) {
+        Ok(text) => value_of(alloc, text, scratch),
         Err(_) => Err(WireFault::NotRequest),
     }
 }
 
-/// The object that the bytes are.
+/// The object that the bytes are. Its texts are borrowed: those with escapes from `scratch`, all
+/// others from the bytes.
 ///
 /// # Errors
 /// `NotRequest` where the bytes are no JSON object, `Memory` where memory ran out.
 #[tactic(auto, unfolding(crate::specs::Fields::document_at))]
-pub fn document(alloc: Global, bytes: &[u8]) -> Result<Value, WireFault>
+pub fn document<'a>(
+    alloc: Global,
+    bytes: &'a [u8],
+    scratch: &'a mut Scratch,
+) -> Result<Value<'a>, WireFault>
     ensures { Gives view result (document_at bytes.now) }
 {
-    let value = parsed(alloc, bytes)?;
-    if value.is_object() {
+    let value = parsed(alloc, bytes, scratch)?;
+    if is_object(&value) {
         Ok(value)
     } else {
         Err(WireFault::NotRequest)
@@ -45,21 +54,21 @@ pub fn document(alloc: Global, bytes: &[u8]) -> Result<Value, WireFault>
 /// # Errors
 /// `Missing`, with the name, where it isn't there.
 #[tactic(auto, unfolding(crate::specs::Fields::member_at))]
-pub fn member<'v>(parent: &'v Value, name: Avp) -> Result<&'v Value, WireFault>
+pub fn member<'v, 'a>(parent: &'v Value<'a>, name: Avp) -> Result<&'v Value<'a>, WireFault>
     ensures { Says (λ v. view v.now) result (member_at name (view parent.now)) }
 {
-    parent.get(name.name()).ok_or(WireFault::Missing(name))
+    get(parent, name.name()).ok_or(WireFault::Missing(name))
 }
 
 /// The whole number that a value is, from `low` to `high`.
 ///
 /// # Errors
 /// `fault` where the value is no such number.
-pub fn whole_in(value: &Value, fault: WireFault, low: u64, high: u64) -> Result<u64, WireFault>
+pub fn whole_in(value: &Value<'_>, fault: WireFault, low: u64, high: u64) -> Result<u64, WireFault>
     ensures reads { Says (λ n. n) result (whole_in fault low high (view value.now)) }
     ensures within { IfOk result (λ n. (low ≤ n) × (n ≤ high)) }
 {
-    let n = value.as_u64().ok_or(fault)?;
+    let n = as_u64(value).ok_or(fault)?;
     if !(low..=high).contains(&n) {
         return Err(fault);
     }
@@ -71,7 +80,7 @@ pub fn whole_in(value: &Value, fault: WireFault, low: u64, high: u64) -> Result<
 /// # Errors
 /// `Missing` where it isn't there, `Invalid` where it is no such number, both with the name.
 #[tactic(auto, unfolding(crate::specs::Fields::number_at))]
-pub fn number(parent: &Value, name: Avp, low: u64, high: u64) -> Result<u64, WireFault>
+pub fn number(parent: &Value<'_>, name: Avp, low: u64, high: u64) -> Result<u64, WireFault>
     ensures reads { Says (λ n. n) result (number_at name low high (view parent.now)) }
     ensures within { IfOk result (λ n. (low ≤ n) × (n ≤ high)) }
 {
@@ -83,7 +92,7 @@ pub fn number(parent: &Value, name: Avp, low: u64, high: u64) -> Result<u64, Wir
 /// # Errors
 /// `Invalid`, with the name, where it is there and is no such number.
 pub fn optional_number(
-    parent: &Value,
+    parent: &Value<'_>,
     name: Avp,
     low: u64,
     high: u64,
@@ -100,7 +109,7 @@ pub fn optional_number(
 /// `fault` where it is there and is no such number.
 #[tactic(auto, unfolding(crate::specs::Fields::optional_in))]
 pub fn optional_in(
-    parent: &Value,
+    parent: &Value<'_>,
     name: &str,
     fault: WireFault,
     low: u64,
@@ -109,7 +118,7 @@ pub fn optional_in(
     ensures reads { Says (λ n. n) result (optional_in name.now fault low high (view parent.now)) }
     ensures within { IfOk result (λ o. IfSome o (λ n. (low ≤ n) × (n ≤ high))) }
 {
-    match parent.get(name) {
+    match get(parent, name) {
         None => Ok(None),
         Some(value) => Ok(Some(whole_in(value, fault, low, high)?)),
     }
@@ -120,7 +129,7 @@ pub fn optional_in(
 /// # Errors
 /// `fault` where it is there and is no such number of seconds since 1970.
 pub fn optional_moment(
-    parent: &Value,
+    parent: &Value<'_>,
     name: &str,
     fault: WireFault,
     low: u64,
@@ -149,12 +158,10 @@ fn moment(seconds: Option<u64>) -> Option<Moment>
 /// # Errors
 /// `Missing` where it isn't there, `Invalid` where it is no text, both with the name.
 #[tactic(auto, unfolding(crate::specs::Fields::text_at))]
-pub fn text<'v>(parent: &'v Value, name: Avp) -> Result<&'v str, WireFault>
+pub fn text<'a>(parent: &Value<'a>, name: Avp) -> Result<&'a str, WireFault>
     ensures { Says (λ s. s.now) result (text_at name (view parent.now)) }
 {
-    member(parent, name)?
-        .as_str()
-        .ok_or(WireFault::Invalid(name))
+    as_str(member(parent, name)?).ok_or(WireFault::Invalid(name))
 }
 
 /// The member of this name, an object.
@@ -162,11 +169,11 @@ pub fn text<'v>(parent: &'v Value, name: Avp) -> Result<&'v str, WireFault>
 /// # Errors
 /// `Missing` where it isn't there, `Invalid` where it is no object, both with the name.
 #[tactic(auto, unfolding(crate::specs::Fields::object_at))]
-pub fn object<'v>(parent: &'v Value, name: Avp) -> Result<&'v Value, WireFault>
+pub fn object<'v, 'a>(parent: &'v Value<'a>, name: Avp) -> Result<&'v Value<'a>, WireFault>
     ensures { Says (λ v. view v.now) result (object_at name (view parent.now)) }
 {
     let value = member(parent, name)?;
-    if !value.is_object() {
+    if !is_object(value) {
         return Err(WireFault::Invalid(name));
     }
     Ok(value)
@@ -177,19 +184,19 @@ pub fn object<'v>(parent: &'v Value, name: Avp) -> Result<&'v Value, WireFault>
 /// # Errors
 /// `Invalid`, with the name `told`, where the value is no array.
 #[tactic(auto, unfolding(crate::specs::Fields::array_of))]
-pub fn array<'v>(value: &'v Value, told: Avp) -> Result<&'v Vec<Value>, WireFault>
+pub fn array<'v, 'a>(value: &'v Value<'a>, told: Avp) -> Result<&'v Vec<Value<'a>>, WireFault>
     ensures { Says (λ v. items_view v.now.items) result (array_of told (view value.now)) }
 {
-    value.as_array().ok_or(WireFault::Invalid(told))
+    as_array(value).ok_or(WireFault::Invalid(told))
 }
 
 /// What the items of an array say, one after another, each read beside those before it.
 ///
 /// # Errors
 /// The first fault of `read`, which ends it; `Memory` where memory ran out.
-pub fn read_each<T: Drop, F: Fn(&[T], &Value) -> Result<T, WireFault>>(
+pub fn read_each<'a, T: Drop, F: Fn(&[T], &Value<'a>) -> Result<T, WireFault>>(
     alloc: Global,
-    list: &Vec<Value>,
+    list: &Vec<Value<'a>>,
     read: F,
 ) -> Result<Vec<T>, WireFault>
     requires { F.IsAlwaysCallable read }

@@ -1,14 +1,15 @@
 //! The members that count units.
 
 ghost use Rattle.std.specs.Prelude.{◌≡◌, ◌≤◌, ◌&&◌, IfOk};
-ghost use Rattle.serde_json.specs.View.{view};
 ghost use Rattle.commands.specs.Quantities.{most_units};
 ghost use Rattle.json_fields.specs.Gives.{Says};
+ghost use Rattle.json_fields.specs.View.{view};
 ghost use Rattle.json_fields.specs.Unit.{name_of_unit, has_unit, lacks_others, kind_told, units_at};
 
 use crate::fault::WireFault;
 use crate::reading::whole_in;
-use serde_json::Value;
+use crate::value::get;
+use json::Value;
 use units::UnitKind;
 
 /// The name of the member that counts units of this kind.
@@ -22,15 +23,15 @@ pub fn unit_name(kind: UnitKind) -> &'static str
     }
 }
 
-fn has_unit(value: &Value, kind: UnitKind) -> bool
+fn has_unit(value: &Value<'_>, kind: UnitKind) -> bool
     ensures { result ≡ has_unit kind (view value.now) }
 {
-    value.get(unit_name(kind)).is_some()
+    get(value, unit_name(kind)).is_some()
 }
 
 /// The kind of the first unit member that stands.
 #[tactic(auto, unfolding(crate::specs::Unit::kind_told))]
-pub fn unit_told(value: &Value) -> Option<UnitKind>
+pub fn unit_told(value: &Value<'_>) -> Option<UnitKind>
     ensures { result ≡ kind_told (view value.now) }
 {
     if has_unit(value, UnitKind::Time) {
@@ -53,7 +54,7 @@ fn most_units(kind: UnitKind) -> u64
     }
 }
 
-fn lacks_others(value: &Value, kind: UnitKind) -> bool
+fn lacks_others(value: &Value<'_>, kind: UnitKind) -> bool
     ensures { result ≡ lacks_others kind (view value.now) }
 {
     match kind {
@@ -68,11 +69,16 @@ fn lacks_others(value: &Value, kind: UnitKind) -> bool
 
 /// The units of this kind in `value`, alone, at least `low`, and else `fault`.
 #[tactic(auto, unfolding(crate::specs::Unit::units_at))]
-pub fn units_in(value: &Value, fault: WireFault, low: u64, kind: UnitKind) -> Result<u64, WireFault>
+pub fn units_in(
+    value: &Value<'_>,
+    fault: WireFault,
+    low: u64,
+    kind: UnitKind,
+) -> Result<u64, WireFault>
     ensures reads { Says (λ n. n) result (units_at fault low kind (view value.now)) }
     ensures within { IfOk result (λ n. (low ≤ n) × (n ≤ most_units kind)) }
 {
-    let units = value.get(unit_name(kind)).ok_or(fault)?;
+    let units = get(value, unit_name(kind)).ok_or(fault)?;
     let n = whole_in(units, fault, low, most_units(kind))?;
     if lacks_others(value, kind) {
         Ok(n)

@@ -1,23 +1,22 @@
 //! The body of an allowance.
 
 ghost use Rattle.std.specs.Prelude.{◌≡◌, ◌≤◌, IfOk, OnOk, string_bytes};
-ghost use Rattle.serde_json.specs.View.{view};
 ghost use Rattle.json_fields.specs.Gives.{Gives, Says};
 ghost use Rattle.json_fields.specs.Fields.{number_at};
 ghost use Rattle.json_fields.specs.Tokens.{Adds, tokens_of};
+ghost use Rattle.json_fields.specs.View.{view};
 ghost use Rattle.wire.specs.Allowances.{allowance_at, allowance_of, allowance_data};
 ghost use Rattle.wire.specs.Allowances.{allowance_text, IsAllowance};
 
 use crate::credits::{end, ended, reference, start, started};
 use commands::{Allowance, AllowanceBlocks, Avp};
 use identifiers::AccountNumber;
-use json::Writer;
+use json::{Scratch, Value, Writer};
 use json_fields::{WireFault, document, number, put_moment, put_number, put_text, text_of};
-use serde_json::Value;
 use std::alloc::{AllocError, Global};
 use units::Blocks;
 
-fn blocks(parent: &Value) -> Result<AllowanceBlocks, WireFault>
+fn blocks(parent: &Value<'_>) -> Result<AllowanceBlocks, WireFault>
     ensures { Says (λ b. b) result (number_at Avp.Blocks 1 1_000_000_000 (view parent.now)) }
 {
     let number = number(parent, Avp::Blocks, 1, 1_000_000_000)?;
@@ -29,7 +28,7 @@ fn blocks(parent: &Value) -> Result<AllowanceBlocks, WireFault>
 pub(crate) fn allowance_in(
     alloc: Global,
     account: AccountNumber,
-    parent: &Value,
+    parent: &Value<'_>,
 ) -> Result<Allowance, WireFault>
     ensures { Gives (λ a. a) result (allowance_at account (view parent.now)) }
 {
@@ -62,7 +61,8 @@ pub fn read_allow(
 ) -> Result<Allowance, WireFault>
     ensures { Gives (λ a. a) result (allowance_of account bytes.now) }
 {
-    let parent = document(alloc, bytes)?;
+    let mut scratch = Scratch::new(alloc);
+    let parent = document(alloc, bytes, &mut scratch)?;
     allowance_in(alloc, account, &parent)
 }
 

@@ -2,9 +2,9 @@
 
 ghost use Rattle.std.specs.Prelude.{◌≡◌, IfOk, Ok, string_bytes};
 ghost use Rattle.serde_json.specs.Find.{get};
-ghost use Rattle.serde_json.specs.View.{view};
 ghost use Rattle.commands.specs.Names.{name_of};
 ghost use Rattle.json_fields.specs.Gives.{Gives};
+ghost use Rattle.json_fields.specs.View.{view};
 ghost use Rattle.wire.specs.Credits.{credit_data};
 ghost use Rattle.wire.specs.Allowances.{allowance_data};
 ghost use Rattle.wire.specs.Redeemed.{redemption_data};
@@ -21,8 +21,8 @@ use crate::credits::{credit_in, credit_written};
 use crate::redeeming::{kept_redemption_in, redemption_written};
 use commands::{Allowance, Avp, Content, KeptCredit, Request, VoucherRedemption};
 use identifiers::AccountNumber;
-use json_fields::{WireFault, document, is_text};
-use serde_json::Value;
+use json::{Scratch, Value};
+use json_fields::{WireFault, document, get, is_text};
 use std::alloc::{AllocError, Global};
 use wire_requests::{request, write_request};
 
@@ -85,7 +85,7 @@ pub fn write_content(alloc: Global, content: &Content) -> Result<String, AllocEr
 fn request_content(
     alloc: Global,
     account: AccountNumber,
-    parent: &Value,
+    parent: &Value<'_>,
 ) -> Result<Content, WireFault>
     ensures { Gives (λ c. c) result (request_content_in account (view parent.now)) }
 {
@@ -101,7 +101,7 @@ fn request_content(
 fn credit_content(
     alloc: Global,
     account: AccountNumber,
-    parent: &Value,
+    parent: &Value<'_>,
 ) -> Result<Content, WireFault>
     ensures { Gives (λ c. c) result (credit_content_in account (view parent.now)) }
 {
@@ -113,7 +113,7 @@ fn credit_content(
 fn allowance_content(
     alloc: Global,
     account: AccountNumber,
-    parent: &Value,
+    parent: &Value<'_>,
 ) -> Result<Content, WireFault>
     ensures { Gives (λ c. c) result (allowance_content_in account (view parent.now)) }
 {
@@ -124,7 +124,7 @@ fn allowance_content(
 fn redemption_content(
     alloc: Global,
     account: AccountNumber,
-    parent: &Value,
+    parent: &Value<'_>,
 ) -> Result<Content, WireFault>
     ensures { Gives (λ c. c) result (redemption_content_in account (view parent.now)) }
 {
@@ -140,13 +140,13 @@ fn redemption_content(
 fn given_content(
     alloc: Global,
     account: AccountNumber,
-    parent: &Value,
+    parent: &Value<'_>,
 ) -> Result<Content, WireFault>
     ensures { Gives (λ c. c) result
         (given_content_when account (view parent.now)
         (get (name_of Avp.Blocks) (view parent.now))) }
 {
-    match parent.get(Avp::Blocks.name()) {
+    match get(parent, Avp::Blocks.name()) {
         Some(_) => allowance_content(alloc, account, parent),
         None => credit_content(alloc, account, parent),
     }
@@ -156,24 +156,28 @@ fn given_content(
 fn operator_content(
     alloc: Global,
     account: AccountNumber,
-    parent: &Value,
+    parent: &Value<'_>,
 ) -> Result<Content, WireFault>
     ensures { Gives (λ c. c) result
         (operator_content_when account (view parent.now)
         (get (name_of Avp.VoucherCode) (view parent.now))) }
 {
-    match parent.get(Avp::VoucherCode.name()) {
+    match get(parent, Avp::VoucherCode.name()) {
         Some(_) => redemption_content(alloc, account, parent),
         None => given_content(alloc, account, parent),
     }
 }
 
 /// What a kept object of this account is, by the member that stands.
-fn content_in(alloc: Global, account: AccountNumber, parent: &Value) -> Result<Content, WireFault>
+fn content_in(
+    alloc: Global,
+    account: AccountNumber,
+    parent: &Value<'_>,
+) -> Result<Content, WireFault>
     ensures { Gives (λ c. c) result
         (content_when account (view parent.now) (get (name_of Avp.SessionId) (view parent.now))) }
 {
-    match parent.get(Avp::SessionId.name()) {
+    match get(parent, Avp::SessionId.name()) {
         Some(_) => request_content(alloc, account, parent),
         None => operator_content(alloc, account, parent),
     }
@@ -183,7 +187,8 @@ fn content_in(alloc: Global, account: AccountNumber, parent: &Value) -> Result<C
 fn content(alloc: Global, account: AccountNumber, bytes: &[u8]) -> Result<Content, WireFault>
     ensures { Gives (λ c. c) result (content_of account bytes.now) }
 {
-    let parent = document(alloc, bytes)?;
+    let mut scratch = Scratch::new(alloc);
+    let parent = document(alloc, bytes, &mut scratch)?;
     content_in(alloc, account, &parent)
 }
 

@@ -1,26 +1,25 @@
 //! The body of a credit.
 
 ghost use Rattle.std.specs.Prelude.{◌≡◌, ◌≤◌, IfOk, IfSome, OnOk, string_bytes};
-ghost use Rattle.serde_json.specs.View.{view};
 ghost use Rattle.json_fields.specs.Gives.{Gives, Says};
 ghost use Rattle.json_fields.specs.Fields.{number_at, optional_at};
 ghost use Rattle.json_fields.specs.Tokens.{Adds, tokens_of};
+ghost use Rattle.json_fields.specs.View.{view};
 ghost use Rattle.wire.specs.Credits.{reference_at, credit_at, credit_of, credit_data, credit_text};
 ghost use Rattle.wire.specs.Credits.{IsCredit};
 
 use commands::{Avp, Credit, CreditEnd, CreditStart, KeptCredit};
 use identifiers::{AccountNumber, Reference};
-use json::Writer;
+use json::{Scratch, Value, Writer};
 use json_fields::{
     WireFault, document, number, optional_moment, optional_number, put_moment, put_number,
     put_perhaps, put_text, text, text_of,
 };
-use serde_json::Value;
 use std::alloc::{AllocError, Global};
 use units::{Moment, Money};
 
 #[tactic(auto, unfolding(crate::specs::Credits::reference_at))]
-pub(crate) fn reference(alloc: Global, parent: &Value) -> Result<Reference, WireFault>
+pub(crate) fn reference(alloc: Global, parent: &Value<'_>) -> Result<Reference, WireFault>
     ensures { Gives (λ r. r) result (reference_at (view parent.now)) }
 {
     let text = text(parent, Avp::Reference)?;
@@ -38,7 +37,7 @@ fn scope(group: Option<u64>) -> Option<u32>
     }
 }
 
-fn amount(parent: &Value) -> Result<Money, WireFault>
+fn amount(parent: &Value<'_>) -> Result<Money, WireFault>
     ensures { Says (λ m. m) result
         (number_at Avp.Amount 1 1_000_000_000_000_000 (view parent.now)) }
 {
@@ -46,7 +45,12 @@ fn amount(parent: &Value) -> Result<Money, WireFault>
     Money::new(micros).ok_or(WireFault::Invalid(Avp::Amount))
 }
 
-fn moment_at(parent: &Value, name: Avp, low: u64, high: u64) -> Result<Option<Moment>, WireFault>
+fn moment_at(
+    parent: &Value<'_>,
+    name: Avp,
+    low: u64,
+    high: u64,
+) -> Result<Option<Moment>, WireFault>
     requires { high ≤ 4_102_488_000 }
     ensures reads { Says (λ m. m) result (optional_at name low high (view parent.now)) }
     ensures within { IfOk result (λ o. IfSome o (λ m. (low ≤ m) × (m ≤ high))) }
@@ -74,14 +78,14 @@ fn end_of(moment: Option<Moment>) -> Option<CreditEnd>
     }
 }
 
-pub(crate) fn start(parent: &Value) -> Result<Option<CreditStart>, WireFault>
+pub(crate) fn start(parent: &Value<'_>) -> Result<Option<CreditStart>, WireFault>
     ensures { Says (λ s. s) result (optional_at Avp.From 0 4_102_444_799 (view parent.now)) }
 {
     let moment = moment_at(parent, Avp::From, 0, 4_102_444_799)?;
     Ok(start_of(moment))
 }
 
-pub(crate) fn end(parent: &Value) -> Result<Option<CreditEnd>, WireFault>
+pub(crate) fn end(parent: &Value<'_>) -> Result<Option<CreditEnd>, WireFault>
     ensures { Says (λ e. e) result (optional_at Avp.Until 1 4_102_444_800 (view parent.now)) }
 {
     let moment = moment_at(parent, Avp::Until, 1, 4_102_444_800)?;
@@ -93,7 +97,7 @@ pub(crate) fn end(parent: &Value) -> Result<Option<CreditEnd>, WireFault>
 pub(crate) fn credit_in(
     alloc: Global,
     account: AccountNumber,
-    parent: &Value,
+    parent: &Value<'_>,
 ) -> Result<Credit, WireFault>
     ensures { Gives (λ c. c) result (credit_at account (view parent.now)) }
 {
@@ -122,7 +126,8 @@ pub(crate) fn credit_in(
 pub fn read_credit(alloc: Global, account: AccountNumber, bytes: &[u8]) -> Result<Credit, WireFault>
     ensures { Gives (λ c. c) result (credit_of account bytes.now) }
 {
-    let parent = document(alloc, bytes)?;
+    let mut scratch = Scratch::new(alloc);
+    let parent = document(alloc, bytes, &mut scratch)?;
     credit_in(alloc, account, &parent)
 }
 

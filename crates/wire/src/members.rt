@@ -1,24 +1,24 @@
 //! Members of an answer.
 
 ghost use Rattle.std.specs.Prelude.{◌≤◌, IfOk, IfSome};
-ghost use Rattle.serde_json.specs.View.{view};
 ghost use Rattle.json_fields.specs.Gives.{Says};
 ghost use Rattle.json_fields.specs.Fields.{optional_in};
+ghost use Rattle.json_fields.specs.View.{view};
 ghost use Rattle.wire.specs.Members.{member_in, number_in, text_in, object_in};
 
-use json_fields::{WireFault, optional_in, whole_in};
-use serde_json::Value;
+use json::Value;
+use json_fields::{WireFault, as_str, get, is_object, optional_in, whole_in};
 
 /// The member of this name.
-pub(crate) fn member<'v>(parent: &'v Value, name: &str) -> Result<&'v Value, WireFault>
+pub(crate) fn member<'v, 'a>(parent: &'v Value<'a>, name: &str) -> Result<&'v Value<'a>, WireFault>
     ensures { Says (λ v. view v.now) result (member_in name.now (view parent.now)) }
 {
-    parent.get(name).ok_or(WireFault::NotRequest)
+    get(parent, name).ok_or(WireFault::NotRequest)
 }
 
 /// The member of this name, a whole number from `low` to `high`.
 #[tactic(auto, unfolding(crate::specs::Members::number_in))]
-pub(crate) fn number(parent: &Value, name: &str, low: u64, high: u64) -> Result<u64, WireFault>
+pub(crate) fn number(parent: &Value<'_>, name: &str, low: u64, high: u64) -> Result<u64, WireFault>
     ensures reads { Says (λ n. n) result (number_in name.now low high (view parent.now)) }
     ensures within { IfOk result (λ n. (low ≤ n) × (n ≤ high)) }
 {
@@ -27,19 +27,19 @@ pub(crate) fn number(parent: &Value, name: &str, low: u64, high: u64) -> Result<
 
 /// The member of this name, a text.
 #[tactic(auto, unfolding(crate::specs::Members::text_in))]
-pub(crate) fn text<'v>(parent: &'v Value, name: &str) -> Result<&'v str, WireFault>
+pub(crate) fn text<'a>(parent: &Value<'a>, name: &str) -> Result<&'a str, WireFault>
     ensures { Says (λ s. s.now) result (text_in name.now (view parent.now)) }
 {
-    member(parent, name)?.as_str().ok_or(WireFault::NotRequest)
+    as_str(member(parent, name)?).ok_or(WireFault::NotRequest)
 }
 
 /// The member of this name, an object.
 #[tactic(auto, unfolding(crate::specs::Members::object_in))]
-pub(crate) fn object<'v>(parent: &'v Value, name: &str) -> Result<&'v Value, WireFault>
+pub(crate) fn object<'v, 'a>(parent: &'v Value<'a>, name: &str) -> Result<&'v Value<'a>, WireFault>
     ensures { Says (λ v. view v.now) result (object_in name.now (view parent.now)) }
 {
     let value = member(parent, name)?;
-    if !value.is_object() {
+    if !is_object(value) {
         return Err(WireFault::NotRequest);
     }
     Ok(value)
@@ -47,7 +47,7 @@ pub(crate) fn object<'v>(parent: &'v Value, name: &str) -> Result<&'v Value, Wir
 
 /// The member of this name, a whole number from `low` to `high`, where it is there.
 pub(crate) fn optional(
-    parent: &Value,
+    parent: &Value<'_>,
     name: &str,
     low: u64,
     high: u64,

@@ -1,10 +1,10 @@
 //! An answer, read.
 
 ghost use Rattle.std.specs.Prelude.{◌≡◌, ◌⊎◌, IfOk, Ok};
-ghost use Rattle.serde_json.specs.View.{view};
 ghost use Rattle.serde_json.specs.Find.{get};
 ghost use Rattle.commands.specs.Names.{name_of, account, cost_information, refusal};
 ghost use Rattle.json_fields.specs.Gives.{Gives, Says};
+ghost use Rattle.json_fields.specs.View.{view};
 ghost use Rattle.wire.specs.Spelled.{answer_data, answer_text};
 ghost use Rattle.wire.specs.ReadingAnswers.{failed_at, failure_told, cost_in, priced_when};
 ghost use Rattle.wire.specs.ReadingAnswers.{checked_when, unserved_in, served_when};
@@ -24,13 +24,13 @@ use commands::names::{
 use commands::{
     Answer, Avp, Balance, Cost, Failure, Outcome, Refusal, RequestAnswer, ServiceFailure,
 };
-use json_fields::{WireFault, document, is_text, number, object};
-use serde_json::Value;
+use json::{Scratch, Value};
+use json_fields::{WireFault, document, get, is_text, number, object};
 use std::alloc::Global;
 use wire_requests::{request_kind, session_id};
 
 #[tactic(auto, unfolding(crate::specs::ReadingAnswers::failed_at))]
-fn failed(parent: &Value) -> Result<Failure, WireFault>
+fn failed(parent: &Value<'_>) -> Result<Failure, WireFault>
     ensures { Says (λ f. f) result (failed_at (view parent.now)) }
 {
     let name = members::text(parent, FAILED_AVP)?;
@@ -39,7 +39,7 @@ fn failed(parent: &Value) -> Result<Failure, WireFault>
 }
 
 #[tactic(auto, unfolding(crate::specs::ReadingAnswers::failure_told))]
-fn failure(code: u64, parent: &Value) -> Result<Failure, WireFault>
+fn failure(code: u64, parent: &Value<'_>) -> Result<Failure, WireFault>
     ensures { Says (λ f. f) result (failure_told code (view parent.now)) }
 {
     match code {
@@ -55,7 +55,7 @@ fn failure(code: u64, parent: &Value) -> Result<Failure, WireFault>
 }
 
 #[tactic(auto, unfolding(crate::specs::ReadingAnswers::cost_in))]
-fn cost(value: &Value) -> Result<Cost, WireFault>
+fn cost(value: &Value<'_>) -> Result<Cost, WireFault>
     ensures { Says (λ c. c) result (cost_in (view value.now)) }
 {
     let unit_value = object(value, Avp::UnitValue)?;
@@ -64,16 +64,16 @@ fn cost(value: &Value) -> Result<Cost, WireFault>
     Ok(Cost { micros, currency })
 }
 
-fn priced(parent: &Value) -> Result<Outcome, WireFault>
+fn priced(parent: &Value<'_>) -> Result<Outcome, WireFault>
     ensures { Says (λ o. o) result (priced_when (get cost_information (view parent.now))) }
 {
-    match parent.get(COST_INFORMATION) {
+    match get(parent, COST_INFORMATION) {
         None => Ok(Outcome::Refunded),
         Some(value) => Ok(Outcome::Priced(cost(value)?)),
     }
 }
 
-fn checked(told: Option<u64>, parent: &Value) -> Result<Outcome, WireFault>
+fn checked(told: Option<u64>, parent: &Value<'_>) -> Result<Outcome, WireFault>
     ensures { Says (λ o. o) result (checked_when (view parent.now) told) }
 {
     match told {
@@ -86,25 +86,25 @@ fn checked(told: Option<u64>, parent: &Value) -> Result<Outcome, WireFault>
 }
 
 #[tactic(auto, unfolding(crate::specs::ReadingAnswers::unserved_in))]
-fn unserved(parent: &Value) -> Result<Outcome, WireFault>
+fn unserved(parent: &Value<'_>) -> Result<Outcome, WireFault>
     ensures { Says (λ o. o) result (unserved_in (view parent.now)) }
 {
     let balance = members::optional(parent, CHECK_BALANCE_RESULT, 0, 1)?;
     checked(balance, parent)
 }
 
-fn served(alloc: Global, parent: &Value) -> Result<Outcome, WireFault>
+fn served(alloc: Global, parent: &Value<'_>) -> Result<Outcome, WireFault>
     ensures { Gives (λ o. o) result
         (served_when (view parent.now) (get (name_of Avp.Services) (view parent.now))) }
 {
-    match parent.get(Avp::Services.name()) {
+    match get(parent, Avp::Services.name()) {
         Some(value) => Ok(Outcome::Services(services_in(alloc, value)?)),
         None => unserved(parent),
     }
 }
 
 #[tactic(auto, unfolding(crate::specs::ReadingAnswers::outcome_told))]
-fn outcome(alloc: Global, code: u64, parent: &Value) -> Result<Outcome, WireFault>
+fn outcome(alloc: Global, code: u64, parent: &Value<'_>) -> Result<Outcome, WireFault>
     ensures { Gives (λ o. o) result (outcome_told code (view parent.now)) }
 {
     if code == 2001 {
@@ -115,7 +115,7 @@ fn outcome(alloc: Global, code: u64, parent: &Value) -> Result<Outcome, WireFaul
 }
 
 #[tactic(auto, unfolding(crate::specs::ReadingAnswers::request_answer_at))]
-fn request_answer(alloc: Global, parent: &Value) -> Result<RequestAnswer, WireFault>
+fn request_answer(alloc: Global, parent: &Value<'_>) -> Result<RequestAnswer, WireFault>
     ensures { Gives (λ a. a) result (request_answer_at (view parent.now)) }
 {
     let session = session_id(alloc, parent)?;
@@ -132,7 +132,7 @@ fn request_answer(alloc: Global, parent: &Value) -> Result<RequestAnswer, WireFa
 }
 
 #[tactic(auto, unfolding(crate::specs::ReadingAnswers::refusal_at))]
-fn refusal(parent: &Value) -> Result<Answer, WireFault>
+fn refusal(parent: &Value<'_>) -> Result<Answer, WireFault>
     ensures { Says (λ a. a) result (refusal_at (view parent.now)) }
 {
     let name = members::text(parent, REFUSAL)?;
@@ -141,7 +141,7 @@ fn refusal(parent: &Value) -> Result<Answer, WireFault>
 }
 
 #[tactic(auto, unfolding(crate::specs::ReadingAnswers::done_at))]
-fn done(parent: &Value) -> Result<Answer, WireFault>
+fn done(parent: &Value<'_>) -> Result<Answer, WireFault>
     ensures { Says (λ a. a) result (done_at (view parent.now)) }
 {
     members::number(parent, RESULT_CODE, 2001, 2001)?;
@@ -154,31 +154,31 @@ fn done(parent: &Value) -> Result<Answer, WireFault>
     }
 }
 
-fn balance_told(alloc: Global, parent: &Value) -> Result<Answer, WireFault>
+fn balance_told(alloc: Global, parent: &Value<'_>) -> Result<Answer, WireFault>
     ensures { Gives (λ a. a) result
         (balance_when (view parent.now) (get account (view parent.now))) }
 {
-    match parent.get(ACCOUNT) {
+    match get(parent, ACCOUNT) {
         None => done(parent),
         Some(_) => Ok(Answer::Balance(balance(alloc, parent)?)),
     }
 }
 
-fn refused(alloc: Global, parent: &Value) -> Result<Answer, WireFault>
+fn refused(alloc: Global, parent: &Value<'_>) -> Result<Answer, WireFault>
     ensures { Gives (λ a. a) result
         (refused_when (view parent.now) (get refusal (view parent.now))) }
 {
-    match parent.get(REFUSAL) {
+    match get(parent, REFUSAL) {
         None => balance_told(alloc, parent),
         Some(_) => refusal(parent),
     }
 }
 
-fn answered(alloc: Global, parent: &Value) -> Result<Answer, WireFault>
+fn answered(alloc: Global, parent: &Value<'_>) -> Result<Answer, WireFault>
     ensures { Gives (λ a. a) result
         (answer_when (view parent.now) (get (name_of Avp.SessionId) (view parent.now))) }
 {
-    match parent.get(Avp::SessionId.name()) {
+    match get(parent, Avp::SessionId.name()) {
         Some(_) => Ok(Answer::Request(request_answer(alloc, parent)?)),
         None => refused(alloc, parent),
     }
@@ -188,7 +188,8 @@ fn answered(alloc: Global, parent: &Value) -> Result<Answer, WireFault>
 fn answer(alloc: Global, bytes: &[u8]) -> Result<Answer, WireFault>
     ensures { Gives (λ a. a) result (answer_of bytes.now) }
 {
-    let parent = document(alloc, bytes)?;
+    let mut scratch = Scratch::new(alloc);
+    let parent = document(alloc, bytes, &mut scratch)?;
     answered(alloc, &parent)
 }
 

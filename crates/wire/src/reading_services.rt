@@ -1,9 +1,9 @@
 //! The services of an answer, read.
 
 ghost use Rattle.serde_json.specs.Find.{get};
-ghost use Rattle.serde_json.specs.View.{view, items_view};
 ghost use Rattle.commands.specs.Names.{granted_unit};
 ghost use Rattle.json_fields.specs.Gives.{Gives, Says};
+ghost use Rattle.json_fields.specs.View.{view, items_view};
 ghost use Rattle.wire.specs.ReadingAnswers.{redirect_at, final_told, final_in, final_at};
 ghost use Rattle.wire.specs.ReadingAnswers.{quantity_in, switch_at, session_grant_in};
 ghost use Rattle.wire.specs.ReadingAnswers.{granted_in, success_when, service_told};
@@ -19,13 +19,13 @@ use commands::{
     ServiceOutcome,
 };
 use identifiers::RedirectAddress;
-use json_fields::{WireFault, array, number, optional_moment, read_each, unit_told, units_in};
-use serde_json::Value;
+use json::Value;
+use json_fields::{WireFault, array, get, number, optional_moment, read_each, unit_told, units_in};
 use std::alloc::Global;
 use units::Moment;
 
 #[tactic(auto, unfolding(crate::specs::ReadingAnswers::redirect_at))]
-fn redirect(alloc: Global, parent: &Value) -> Result<RedirectAddress, WireFault>
+fn redirect(alloc: Global, parent: &Value<'_>) -> Result<RedirectAddress, WireFault>
     ensures { Gives (λ a. a) result (redirect_at (view parent.now)) }
 {
     let server = members::object(parent, REDIRECT_SERVER)?;
@@ -34,7 +34,7 @@ fn redirect(alloc: Global, parent: &Value) -> Result<RedirectAddress, WireFault>
 }
 
 #[tactic(auto, unfolding(crate::specs::ReadingAnswers::final_told))]
-fn final_told(alloc: Global, action: u64, value: &Value) -> Result<FinalUnit, WireFault>
+fn final_told(alloc: Global, action: u64, value: &Value<'_>) -> Result<FinalUnit, WireFault>
     ensures { Gives (λ f. f) result (final_told action (view value.now)) }
 {
     if action == 0 {
@@ -45,7 +45,7 @@ fn final_told(alloc: Global, action: u64, value: &Value) -> Result<FinalUnit, Wi
 }
 
 #[tactic(auto, unfolding(crate::specs::ReadingAnswers::final_in))]
-fn final_in(alloc: Global, value: &Value) -> Result<FinalUnit, WireFault>
+fn final_in(alloc: Global, value: &Value<'_>) -> Result<FinalUnit, WireFault>
     ensures { Gives (λ f. f) result (final_in (view value.now)) }
 {
     final_told(
@@ -56,17 +56,17 @@ fn final_in(alloc: Global, value: &Value) -> Result<FinalUnit, WireFault>
 }
 
 #[tactic(auto, unfolding(crate::specs::ReadingAnswers::final_at))]
-fn final_unit(alloc: Global, parent: &Value) -> Result<Option<FinalUnit>, WireFault>
+fn final_unit(alloc: Global, parent: &Value<'_>) -> Result<Option<FinalUnit>, WireFault>
     ensures { Gives (λ f. f) result (final_at (view parent.now)) }
 {
-    match parent.get(FINAL_UNIT) {
+    match get(parent, FINAL_UNIT) {
         None => Ok(None),
         Some(value) => Ok(Some(final_in(alloc, value)?)),
     }
 }
 
 #[tactic(auto, unfolding(crate::specs::ReadingAnswers::quantity_in))]
-fn quantity(value: &Value) -> Result<Quantity, WireFault>
+fn quantity(value: &Value<'_>) -> Result<Quantity, WireFault>
     ensures { Says (λ q. q) result (quantity_in (view value.now)) }
 {
     let kind = unit_told(value).ok_or(WireFault::NotRequest)?;
@@ -75,7 +75,7 @@ fn quantity(value: &Value) -> Result<Quantity, WireFault>
 }
 
 /// When the price of a grant changes, where it does.
-fn switch(value: &Value) -> Result<Option<Moment>, WireFault>
+fn switch(value: &Value<'_>) -> Result<Option<Moment>, WireFault>
     ensures { Says (λ m. m) result (switch_at (view value.now)) }
 {
     optional_moment(
@@ -92,8 +92,8 @@ fn session_grant(
     alloc: Global,
     quantity: Quantity,
     validity: u32,
-    parent: &Value,
-    value: &Value,
+    parent: &Value<'_>,
+    value: &Value<'_>,
 ) -> Result<ServiceOutcome, WireFault>
     ensures { Gives (λ o. o) result
         (session_grant_in quantity validity (view parent.now) (view value.now)) }
@@ -109,7 +109,11 @@ fn session_grant(
 }
 
 #[tactic(auto, unfolding(crate::specs::ReadingAnswers::granted_in))]
-fn granted_in(alloc: Global, parent: &Value, value: &Value) -> Result<ServiceOutcome, WireFault>
+fn granted_in(
+    alloc: Global,
+    parent: &Value<'_>,
+    value: &Value<'_>,
+) -> Result<ServiceOutcome, WireFault>
     ensures { Gives (λ o. o) result (granted_in (view parent.now) (view value.now)) }
 {
     let quantity = quantity(value)?;
@@ -119,18 +123,18 @@ fn granted_in(alloc: Global, parent: &Value, value: &Value) -> Result<ServiceOut
     session_grant(alloc, quantity, validity as u32, parent, value)
 }
 
-fn success(alloc: Global, parent: &Value) -> Result<ServiceOutcome, WireFault>
+fn success(alloc: Global, parent: &Value<'_>) -> Result<ServiceOutcome, WireFault>
     ensures { Gives (λ o. o) result
         (success_when (view parent.now) (get granted_unit (view parent.now))) }
 {
-    match parent.get(GRANTED_UNIT) {
+    match get(parent, GRANTED_UNIT) {
         None => Ok(ServiceOutcome::Settled),
         Some(value) => granted_in(alloc, parent, value),
     }
 }
 
 #[tactic(auto, unfolding(crate::specs::ReadingAnswers::service_told))]
-fn service_told(alloc: Global, code: u64, parent: &Value) -> Result<ServiceOutcome, WireFault>
+fn service_told(alloc: Global, code: u64, parent: &Value<'_>) -> Result<ServiceOutcome, WireFault>
     ensures { Gives (λ o. o) result (service_told code (view parent.now)) }
 {
     if code == 2001 {
@@ -142,7 +146,7 @@ fn service_told(alloc: Global, code: u64, parent: &Value) -> Result<ServiceOutco
 }
 
 #[tactic(auto, unfolding(crate::specs::ReadingAnswers::service_answer_at))]
-fn service_answer(alloc: Global, value: &Value) -> Result<ServiceAnswer, WireFault>
+fn service_answer(alloc: Global, value: &Value<'_>) -> Result<ServiceAnswer, WireFault>
     ensures { Gives (λ s. s) result (service_answer_at (view value.now)) }
 {
     let group = number(value, Avp::RatingGroup, 0, 4_294_967_295)? as u32;
@@ -151,7 +155,7 @@ fn service_answer(alloc: Global, value: &Value) -> Result<ServiceAnswer, WireFau
     Ok(ServiceAnswer { group, outcome })
 }
 
-fn services_from(alloc: Global, list: &Vec<Value>) -> Result<Vec<ServiceAnswer>, WireFault>
+fn services_from(alloc: Global, list: &Vec<Value<'_>>) -> Result<Vec<ServiceAnswer>, WireFault>
     ensures { Gives (λ v. v.items) result (services_from (items_view list.now.items)) }
 {
     read_each(alloc, list, |_, value| service_answer(alloc, value))
@@ -159,7 +163,7 @@ fn services_from(alloc: Global, list: &Vec<Value>) -> Result<Vec<ServiceAnswer>,
 
 /// The answers to the services of a request.
 #[tactic(auto, unfolding(crate::specs::ReadingAnswers::services_in))]
-pub(crate) fn services_in(alloc: Global, value: &Value) -> Result<ServiceAnswers, WireFault>
+pub(crate) fn services_in(alloc: Global, value: &Value<'_>) -> Result<ServiceAnswers, WireFault>
     ensures { Gives (λ s. s) result (services_in (view value.now)) }
 {
     let list = array(value, Avp::Services)?;

@@ -1,9 +1,9 @@
 //! The body of a redemption.
 
 ghost use Rattle.std.specs.Prelude.{◌≡◌, IfOk, OnOk, string_bytes};
-ghost use Rattle.serde_json.specs.View.{view};
 ghost use Rattle.json_fields.specs.Gives.{Gives};
 ghost use Rattle.json_fields.specs.Tokens.{Adds, tokens_of};
+ghost use Rattle.json_fields.specs.View.{view};
 ghost use Rattle.wire.specs.Redeemed.{account_at, code_at, redemption_at, redemption_of};
 ghost use Rattle.wire.specs.Redeemed.{kept_redemption_at, redemption_data, redemption_text};
 ghost use Rattle.wire.specs.Redeemed.{IsRedemption};
@@ -11,14 +11,13 @@ ghost use Rattle.wire.specs.Redeemed.{IsRedemption};
 use crate::credits::reference;
 use commands::{Avp, VoucherRedemption};
 use identifiers::{AccountNumber, VoucherCode};
-use json::Writer;
+use json::{Scratch, Value, Writer};
 use json_fields::{WireFault, document, put_text, text, text_of};
-use serde_json::Value;
 use std::alloc::{AllocError, Global};
 
 /// The account that a redemption is for.
 #[tactic(auto, unfolding(crate::specs::Redeemed::account_at))]
-fn account(alloc: Global, parent: &Value) -> Result<AccountNumber, WireFault>
+fn account(alloc: Global, parent: &Value<'_>) -> Result<AccountNumber, WireFault>
     ensures { Gives (λ a. a) result (account_at (view parent.now)) }
 {
     let text = text(parent, Avp::SubscriptionIdData)?;
@@ -27,7 +26,7 @@ fn account(alloc: Global, parent: &Value) -> Result<AccountNumber, WireFault>
 
 /// The voucher that a redemption as it is kept names.
 #[tactic(auto, unfolding(crate::specs::Redeemed::code_at))]
-fn code(alloc: Global, parent: &Value) -> Result<VoucherCode, WireFault>
+fn code(alloc: Global, parent: &Value<'_>) -> Result<VoucherCode, WireFault>
     ensures { Gives (λ c. c) result (code_at (view parent.now)) }
 {
     let text = text(parent, Avp::VoucherCode)?;
@@ -40,7 +39,7 @@ fn code(alloc: Global, parent: &Value) -> Result<VoucherCode, WireFault>
 fn redemption_in(
     alloc: Global,
     code: VoucherCode,
-    parent: &Value,
+    parent: &Value<'_>,
 ) -> Result<VoucherRedemption, WireFault>
     ensures { Gives (λ r. r) result (redemption_at code (view parent.now)) }
 {
@@ -66,7 +65,8 @@ pub fn read_redeem(
 ) -> Result<VoucherRedemption, WireFault>
     ensures { Gives (λ r. r) result (redemption_of code bytes.now) }
 {
-    let parent = document(alloc, bytes)?;
+    let mut scratch = Scratch::new(alloc);
+    let parent = document(alloc, bytes, &mut scratch)?;
     redemption_in(alloc, code, &parent)
 }
 
@@ -74,7 +74,7 @@ pub fn read_redeem(
 #[tactic(auto, unfolding(crate::specs::Redeemed::kept_redemption_at))]
 pub(crate) fn kept_redemption_in(
     alloc: Global,
-    parent: &Value,
+    parent: &Value<'_>,
 ) -> Result<VoucherRedemption, WireFault>
     ensures { Gives (λ r. r) result (kept_redemption_at (view parent.now)) }
 {

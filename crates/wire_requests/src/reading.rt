@@ -1,7 +1,7 @@
 //! A request, read.
 
-ghost use Rattle.serde_json.specs.View.{view, items_view};
 ghost use Rattle.json_fields.specs.Gives.{Gives, Says, or_fault};
+ghost use Rattle.json_fields.specs.View.{view, items_view};
 ghost use Rattle.wire_requests.specs.Reading.{session_at, kind_at, account_at, only_item, event_of};
 ghost use Rattle.wire_requests.specs.Reading.{event_at, action_at, ask_at, request_in, request_of};
 ghost use Rattle.wire_requests.specs.Said.{ReadsWhatIsSaid};
@@ -17,8 +17,8 @@ use commands::{
     UpdateServices,
 };
 use identifiers::{AccountNumber, SessionId};
-use json_fields::{WireFault, array, document, member, number, object, text};
-use serde_json::Value;
+use json::{Scratch, Value};
+use json_fields::{WireFault, array, document, get, is_object, member, number, object, text};
 use std::alloc::Global;
 
 /// The Requested-Action that is no event's (RFC 8506 section 8.41).
@@ -30,7 +30,7 @@ const REFUND_ACCOUNT: u64 = 1;
 /// Of Session-Id: `Missing` where it isn't there, `Invalid` where it isn't the name of a session;
 /// `Memory` where memory ran out.
 #[tactic(auto, unfolding(crate::specs::Reading::session_at))]
-pub fn session_id(alloc: Global, parent: &Value) -> Result<SessionId, WireFault>
+pub fn session_id(alloc: Global, parent: &Value<'_>) -> Result<SessionId, WireFault>
     ensures { Gives (λ s. s) result (session_at (view parent.now)) }
 {
     let text = text(parent, Avp::SessionId)?;
@@ -43,7 +43,7 @@ pub fn session_id(alloc: Global, parent: &Value) -> Result<SessionId, WireFault>
 /// Of CC-Request-Type: `Missing` where it isn't there, `Invalid` where it isn't a number from 1 to
 /// 4.
 #[tactic(auto, unfolding(crate::specs::Reading::kind_at))]
-pub fn request_kind(parent: &Value) -> Result<RequestKind, WireFault>
+pub fn request_kind(parent: &Value<'_>) -> Result<RequestKind, WireFault>
     ensures { Says (λ k. k) result (kind_at (view parent.now)) }
 {
     let number = number(parent, Avp::RequestType, 1, 4)?;
@@ -57,7 +57,7 @@ pub fn request_kind(parent: &Value) -> Result<RequestKind, WireFault>
 /// in it Subscription-Id-Type is `Missing`, or `Invalid` where it isn't 0; Subscription-Id-Data is
 /// `Missing`, or `Invalid` where it isn't the number of an account. `Memory` where memory ran out.
 #[tactic(auto, unfolding(crate::specs::Reading::account_at))]
-pub fn account_number(alloc: Global, parent: &Value) -> Result<AccountNumber, WireFault>
+pub fn account_number(alloc: Global, parent: &Value<'_>) -> Result<AccountNumber, WireFault>
     ensures { Gives (λ n. n) result (account_at (view parent.now)) }
 {
     let subscription = object(parent, Avp::SubscriptionId)?;
@@ -67,7 +67,7 @@ pub fn account_number(alloc: Global, parent: &Value) -> Result<AccountNumber, Wi
 }
 
 #[tactic(auto, using(crate::proofs::Objects::not_one))]
-fn only_item(list: &Vec<Value>) -> Result<&Value, WireFault>
+fn only_item<'v, 'a>(list: &'v Vec<Value<'a>>) -> Result<&'v Value<'a>, WireFault>
     ensures { Says (λ v. view v.now) result
         (or_fault (WireFault.Invalid Avp.Services) (only_item (items_view list.now.items))) }
 {
@@ -79,17 +79,17 @@ fn only_item(list: &Vec<Value>) -> Result<&Value, WireFault>
 }
 
 #[tactic(auto, unfolding(crate::specs::Reading::event_of))]
-fn event_of(action: EventAction, value: &Value) -> Result<Event, WireFault>
+fn event_of(action: EventAction, value: &Value<'_>) -> Result<Event, WireFault>
     ensures { Says (λ e. e) result (event_of action (view value.now)) }
 {
     let list = array(value, Avp::Services)?;
     let service = only_item(list)?;
-    if !service.is_object() {
+    if !is_object(service) {
         return Err(WireFault::Invalid(Avp::Services));
     }
     let group = number(service, Avp::RatingGroup, 0, 4_294_967_295)? as u32;
     let requested = required(service)?;
-    if service.get(Avp::UsedUnit.name()).is_some() {
+    if get(service, Avp::UsedUnit.name()).is_some() {
         return Err(WireFault::Invalid(Avp::UsedUnit));
     }
     Ok(Event {
@@ -100,7 +100,7 @@ fn event_of(action: EventAction, value: &Value) -> Result<Event, WireFault>
 }
 
 #[tactic(auto, unfolding(crate::specs::Reading::event_at))]
-fn event(action: EventAction, parent: &Value) -> Result<Ask, WireFault>
+fn event(action: EventAction, parent: &Value<'_>) -> Result<Ask, WireFault>
     ensures { Says (λ a. a) result (event_at action (view parent.now)) }
 {
     let value = member(parent, Avp::Services)?;
@@ -108,7 +108,7 @@ fn event(action: EventAction, parent: &Value) -> Result<Ask, WireFault>
 }
 
 #[tactic(auto, unfolding(crate::specs::Reading::action_at))]
-fn action(number: u64, parent: &Value) -> Result<Ask, WireFault>
+fn action(number: u64, parent: &Value<'_>) -> Result<Ask, WireFault>
     ensures { Says (λ a. a) result (action_at number (view parent.now)) }
 {
     if number == REFUND_ACCOUNT {
@@ -119,7 +119,7 @@ fn action(number: u64, parent: &Value) -> Result<Ask, WireFault>
 }
 
 #[tactic(auto, using(crate::proofs::Kept::initial, crate::proofs::Kept::update, crate::proofs::Kept::termination), unfolding(crate::specs::Reading::ask_at))]
-fn ask(alloc: Global, kind: RequestKind, parent: &Value) -> Result<Ask, WireFault>
+fn ask(alloc: Global, kind: RequestKind, parent: &Value<'_>) -> Result<Ask, WireFault>
     ensures { Gives (λ a. a) result (ask_at kind (view parent.now)) }
 {
     match kind {
@@ -147,7 +147,7 @@ fn ask(alloc: Global, kind: RequestKind, parent: &Value) -> Result<Ask, WireFaul
 /// # Errors
 /// `Missing` and `Invalid` as the fields say; `Memory` where memory ran out.
 #[tactic(auto, unfolding(crate::specs::Reading::request_in))]
-pub fn request(alloc: Global, parent: &Value) -> Result<Request, WireFault>
+pub fn request(alloc: Global, parent: &Value<'_>) -> Result<Request, WireFault>
     ensures { Gives (λ r. r) result (request_in (view parent.now)) }
 {
     let session = session_id(alloc, parent)?;
@@ -172,7 +172,8 @@ pub fn request(alloc: Global, parent: &Value) -> Result<Request, WireFault>
 pub fn read_request(alloc: Global, bytes: &[u8]) -> Result<Request, WireFault>
     ensures { Gives (λ r. r) result (request_of bytes.now) }
 {
-    let parent = document(alloc, bytes)?;
+    let mut scratch = Scratch::new(alloc);
+    let parent = document(alloc, bytes, &mut scratch)?;
     request(alloc, &parent)
 }
 

@@ -1,24 +1,24 @@
 //! The money of a refund, read.
 
 ghost use Rattle.std.specs.Prelude.{◌≤◌, ◌≤ℤ◌, ℤ, pos, negsuc, IfOk};
-ghost use Rattle.serde_json.specs.View.{view};
 ghost use Rattle.json_fields.specs.Gives.{Says};
+ghost use Rattle.json_fields.specs.View.{view};
 ghost use Rattle.wire_requests.specs.Refunds.{exponent_at, money_at, refund_at};
 
 use commands::{Avp, Refund};
-use json_fields::{WireFault, number, object};
-use serde_json::Value;
+use json::Value;
+use json_fields::{WireFault, as_i64, get, number, object};
 use units::Money;
 
 #[tactic(auto, unfolding(crate::specs::Refunds::exponent_at))]
-fn exponent(parent: &Value) -> Result<i32, WireFault>
+fn exponent(parent: &Value<'_>) -> Result<i32, WireFault>
     ensures reads { Says (λ z. z) result (exponent_at (view parent.now)) }
     ensures within { IfOk result (λ z. (negsuc 5 ≤ℤ z) × (z ≤ℤ pos 0)) }
 {
-    let Some(value) = parent.get(Avp::Exponent.name()) else {
+    let Some(value) = get(parent, Avp::Exponent.name()) else {
         return Ok(0);
     };
-    let exponent = value.as_i64().ok_or(WireFault::Invalid(Avp::Exponent))?;
+    let exponent = as_i64(value).ok_or(WireFault::Invalid(Avp::Exponent))?;
     if !(-6..=0).contains(&exponent) {
         return Err(WireFault::Invalid(Avp::Exponent));
     }
@@ -26,7 +26,7 @@ fn exponent(parent: &Value) -> Result<i32, WireFault>
 }
 
 #[tactic(auto, using(crate::proofs::Micros::too_many), unfolding(crate::specs::Refunds::money_at))]
-fn money(parent: &Value) -> Result<Money, WireFault>
+fn money(parent: &Value<'_>) -> Result<Money, WireFault>
     ensures { Says (λ m. m) result (money_at (view parent.now)) }
 {
     let digits = number(parent, Avp::ValueDigits, 1, u64::MAX)?;
@@ -42,7 +42,7 @@ fn money(parent: &Value) -> Result<Money, WireFault>
 
 /// The money of a refund.
 #[tactic(auto, using(crate::proofs::Micros::refund_fits), unfolding(crate::specs::Refunds::refund_at))]
-pub(crate) fn refund(parent: &Value) -> Result<Refund, WireFault>
+pub(crate) fn refund(parent: &Value<'_>) -> Result<Refund, WireFault>
     ensures { Says (λ r. r) result (refund_at (view parent.now)) }
 {
     let requested = object(parent, Avp::RequestedUnit)?;

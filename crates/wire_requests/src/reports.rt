@@ -1,16 +1,18 @@
 //! What a service asks for and reports, read.
 
 ghost use Rattle.std.specs.Prelude.{◌≡◌, []};
-ghost use Rattle.serde_json.specs.View.{view, items_view};
 ghost use Rattle.json_fields.specs.Gives.{Gives, Says};
+ghost use Rattle.json_fields.specs.View.{view, items_view};
 ghost use Rattle.wire_requests.specs.Reports.{wanted_in, requested_of, required_at, usage_at};
 ghost use Rattle.wire_requests.specs.Reports.{tag_is_taken, part_at, kind_of_first, parts_from};
 ghost use Rattle.wire_requests.specs.Reports.{used_of};
 
 use commands::names::TARIFF_CHANGE_USAGE;
 use commands::{Avp, Quantity, Requested, UsedParts, usage_numbered};
-use json_fields::{WireFault, array, member, read_each, unit_told, units_in};
-use serde_json::Value;
+use json::Value;
+use json_fields::{
+    WireFault, array, as_u64, get, is_object, member, read_each, unit_told, units_in,
+};
 use std::alloc::Global;
 use units::{TariffChangeUsage, UnitKind, Units, UsedPart};
 
@@ -18,7 +20,7 @@ use units::{TariffChangeUsage, UnitKind, Units, UsedPart};
 const MOST_PARTS: usize = 4;
 
 #[tactic(auto, unfolding(crate::specs::Reports::wanted_in))]
-fn wanted_in(told: Option<UnitKind>, value: &Value) -> Result<Requested, WireFault>
+fn wanted_in(told: Option<UnitKind>, value: &Value<'_>) -> Result<Requested, WireFault>
     ensures { Says (λ r. r) result (wanted_in told (view value.now)) }
 {
     let Some(kind) = told else {
@@ -29,33 +31,33 @@ fn wanted_in(told: Option<UnitKind>, value: &Value) -> Result<Requested, WireFau
 }
 
 #[tactic(auto, unfolding(crate::specs::Reports::requested_of))]
-pub(crate) fn requested_in(value: &Value) -> Result<Requested, WireFault>
+pub(crate) fn requested_in(value: &Value<'_>) -> Result<Requested, WireFault>
     ensures { Says (λ r. r) result (requested_of (view value.now)) }
 {
-    if !value.is_object() {
+    if !is_object(value) {
         return Err(WireFault::Invalid(Avp::RequestedUnit));
     }
-    if value.get(Avp::Money.name()).is_some() {
+    if get(value, Avp::Money.name()).is_some() {
         return Err(WireFault::Invalid(Avp::RequestedUnit));
     }
     wanted_in(unit_told(value), value)
 }
 
 #[tactic(auto, unfolding(crate::specs::Reports::required_at))]
-pub(crate) fn required(parent: &Value) -> Result<Requested, WireFault>
+pub(crate) fn required(parent: &Value<'_>) -> Result<Requested, WireFault>
     ensures { Says (λ r. r) result (required_at (view parent.now)) }
 {
     requested_in(member(parent, Avp::RequestedUnit)?)
 }
 
 #[tactic(auto, unfolding(crate::specs::Reports::usage_at))]
-fn usage(parent: &Value) -> Result<Option<TariffChangeUsage>, WireFault>
+fn usage(parent: &Value<'_>) -> Result<Option<TariffChangeUsage>, WireFault>
     ensures { Says (λ u. u) result (usage_at (view parent.now)) }
 {
-    let Some(value) = parent.get(TARIFF_CHANGE_USAGE) else {
+    let Some(value) = get(parent, TARIFF_CHANGE_USAGE) else {
         return Ok(None);
     };
-    let number = value.as_u64().ok_or(WireFault::Invalid(Avp::UsedUnit))?;
+    let number = as_u64(value).ok_or(WireFault::Invalid(Avp::UsedUnit))?;
     Ok(Some(usage_numbered(number).ok_or(WireFault::Invalid(Avp::UsedUnit))?))
 }
 
@@ -66,10 +68,10 @@ fn is_taken(done: &[UsedPart], tag: Option<TariffChangeUsage>) -> bool
 }
 
 #[tactic(auto, unfolding(crate::specs::Reports::part_at))]
-fn part(kind: UnitKind, done: &[UsedPart], value: &Value) -> Result<UsedPart, WireFault>
+fn part(kind: UnitKind, done: &[UsedPart], value: &Value<'_>) -> Result<UsedPart, WireFault>
     ensures { Says (λ p. p) result (part_at kind done.now (view value.now)) }
 {
-    if !value.is_object() {
+    if !is_object(value) {
         return Err(WireFault::Invalid(Avp::UsedUnit));
     }
     let units = units_in(value, WireFault::Invalid(Avp::UsedUnit), 0, kind)?;
@@ -84,7 +86,7 @@ fn part(kind: UnitKind, done: &[UsedPart], value: &Value) -> Result<UsedPart, Wi
 }
 
 #[tactic(auto, unfolding(crate::specs::Reports::kind_of_first))]
-fn kind_of_first(list: &Vec<Value>) -> UnitKind
+fn kind_of_first(list: &Vec<Value<'_>>) -> UnitKind
     ensures { result ≡ kind_of_first (items_view list.now.items) }
 {
     match list.first() {
@@ -93,14 +95,18 @@ fn kind_of_first(list: &Vec<Value>) -> UnitKind
     }
 }
 
-fn parts_in(alloc: Global, kind: UnitKind, list: &Vec<Value>) -> Result<Vec<UsedPart>, WireFault>
+fn parts_in(
+    alloc: Global,
+    kind: UnitKind,
+    list: &Vec<Value<'_>>,
+) -> Result<Vec<UsedPart>, WireFault>
     ensures { Gives (λ v. v.items) result (parts_from kind (items_view list.now.items)) }
 {
     read_each(alloc, list, |done, value| part(kind, done, value))
 }
 
 #[tactic(auto, using(json_fields::proofs::Counts::counts, crate::proofs::Kept::report), unfolding(crate::specs::Reports::used_of))]
-pub(crate) fn used_in(alloc: Global, value: &Value) -> Result<UsedParts, WireFault>
+pub(crate) fn used_in(alloc: Global, value: &Value<'_>) -> Result<UsedParts, WireFault>
     ensures { Gives (λ u. u) result (used_of (view value.now)) }
 {
     let list = array(value, Avp::UsedUnit)?;

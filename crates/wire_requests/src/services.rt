@@ -3,8 +3,8 @@
 ghost use Rattle.std.specs.Prelude.{◌≡◌, ◌&&◌, nat_le, is_some};
 ghost use Rattle.std.specs.List.{list_all};
 ghost use Rattle.serde_json.specs.Find.{as_object};
-ghost use Rattle.serde_json.specs.View.{view, items_view};
 ghost use Rattle.json_fields.specs.Gives.{Gives, Says};
+ghost use Rattle.json_fields.specs.View.{view, items_view};
 ghost use Rattle.wire_requests.specs.Phases.{requested_at, used_at, group_is_taken, service_at};
 ghost use Rattle.wire_requests.specs.Phases.{are_objects, services_from, fewest, services_of};
 ghost use Rattle.wire_requests.specs.Phases.{services_at};
@@ -12,21 +12,21 @@ ghost use Rattle.wire_requests.specs.Phases.{services_at};
 use crate::phase::Phase;
 use crate::reports::{requested_in, required, used_in};
 use commands::{Avp, Requested, Service, UsedParts};
-use json_fields::{WireFault, array, number, read_each};
-use serde_json::Value;
+use json::Value;
+use json_fields::{WireFault, array, get, is_object, number, read_each};
 use std::alloc::Global;
 
 /// The most services that a request has.
 const MOST_SERVICES: usize = 16;
 
 #[tactic(auto, unfolding(crate::specs::Phases::requested_at))]
-fn requested(phase: Phase, parent: &Value) -> Result<Option<Requested>, WireFault>
+fn requested(phase: Phase, parent: &Value<'_>) -> Result<Option<Requested>, WireFault>
     ensures { Says (λ r. r) result (requested_at phase (view parent.now)) }
 {
     if phase == Phase::Initial {
         return Ok(Some(required(parent)?));
     }
-    match (phase, parent.get(Avp::RequestedUnit.name())) {
+    match (phase, get(parent, Avp::RequestedUnit.name())) {
         (_, None) => Ok(None),
         (Phase::Termination, Some(_)) => Err(WireFault::Invalid(Avp::RequestedUnit)),
         (_, Some(value)) => Ok(Some(requested_in(value)?)),
@@ -34,10 +34,10 @@ fn requested(phase: Phase, parent: &Value) -> Result<Option<Requested>, WireFaul
 }
 
 #[tactic(auto, unfolding(crate::specs::Phases::used_at))]
-fn used(alloc: Global, phase: Phase, parent: &Value) -> Result<Option<UsedParts>, WireFault>
+fn used(alloc: Global, phase: Phase, parent: &Value<'_>) -> Result<Option<UsedParts>, WireFault>
     ensures { Gives (λ u. u) result (used_at phase (view parent.now)) }
 {
-    let Some(value) = parent.get(Avp::UsedUnit.name()) else {
+    let Some(value) = get(parent, Avp::UsedUnit.name()) else {
         return Ok(None);
     };
     match phase {
@@ -57,7 +57,7 @@ fn service(
     alloc: Global,
     phase: Phase,
     done: &[Service],
-    value: &Value,
+    value: &Value<'_>,
 ) -> Result<Service, WireFault>
     ensures { Gives (λ s. s) result (service_at phase done.now (view value.now)) }
 {
@@ -74,7 +74,11 @@ fn service(
     })
 }
 
-fn services_in(alloc: Global, phase: Phase, list: &Vec<Value>) -> Result<Vec<Service>, WireFault>
+fn services_in(
+    alloc: Global,
+    phase: Phase,
+    list: &Vec<Value<'_>>,
+) -> Result<Vec<Service>, WireFault>
     ensures { Gives (λ v. v.items) result (services_from phase (items_view list.now.items)) }
 {
     read_each(
@@ -84,10 +88,10 @@ fn services_in(alloc: Global, phase: Phase, list: &Vec<Value>) -> Result<Vec<Ser
     )
 }
 
-fn are_objects(list: &Vec<Value>) -> bool
+fn are_objects(list: &Vec<Value<'_>>) -> bool
     ensures { result ≡ list_all (λ v. is_some (as_object (view v))) list.now.items }
 {
-    list.iter().all(|value| value.is_object())
+    list.iter().all(|value| is_object(value))
 }
 
 fn count_fits(phase: Phase, count: usize) -> bool
@@ -100,7 +104,7 @@ fn count_fits(phase: Phase, count: usize) -> bool
 }
 
 #[tactic(auto, using(json_fields::proofs::Counts::counts, crate::proofs::Objects::objects_are), unfolding(crate::specs::Phases::services_of))]
-fn services_of(alloc: Global, phase: Phase, value: &Value) -> Result<Vec<Service>, WireFault>
+fn services_of(alloc: Global, phase: Phase, value: &Value<'_>) -> Result<Vec<Service>, WireFault>
     ensures { Gives (λ v. v.items) result (services_of phase (view value.now)) }
 {
     let list = array(value, Avp::Services)?;
@@ -118,11 +122,11 @@ fn services_of(alloc: Global, phase: Phase, value: &Value) -> Result<Vec<Service
 pub(crate) fn services(
     alloc: Global,
     phase: Phase,
-    parent: &Value,
+    parent: &Value<'_>,
 ) -> Result<Vec<Service>, WireFault>
     ensures { Gives (λ v. v.items) result (services_at phase (view parent.now)) }
 {
-    match (phase, parent.get(Avp::Services.name())) {
+    match (phase, get(parent, Avp::Services.name())) {
         (Phase::Termination, None) => Ok(Vec::new(alloc)),
         (_, None) => Err(WireFault::Missing(Avp::Services)),
         (_, Some(value)) => services_of(alloc, phase, value),

@@ -1,6 +1,6 @@
 use Rattle.std.proofs.Common.{refl, ◌≡◌, ◌<◌, ◌≤◌, length, get_or, Ok}
 use Rattle.std.proofs.lemmas.Result.{err_from_is_err_and}
-use Rattle.serde_json.specs.View.{view}
+use Rattle.json_fields.specs.View.{view}
 use Rattle.json_fields.specs.Gives.{Fails}
 use Rattle.json_fields.proofs.Loop.{goes_on, fails_at, is_done}
 use Rattle.json_fields.proofs.reading.read_each.Goals as goal

@@ -1,6 +1,6 @@
 use Rattle.std.proofs.Common.{◌≡◌, List, [], Result, drop}
 use Rattle.serde_json.specs.Data.{Data}
-use Rattle.serde_json.specs.View.{items_view}
+use Rattle.json_fields.specs.View.{items_view}
 use Rattle.json_fields.specs.declared.fault.WireFault.{WireFault}
 use Rattle.json_fields.specs.Gives.{read_each, IsReadBy}
 use Rattle.json_fields.proofs.reading.read_each.Given as goal

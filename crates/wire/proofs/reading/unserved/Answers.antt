@@ -1,10 +1,10 @@
 use Rattle.std.proofs.Common.{ℕ, Option, Result, sym, ap, subst}
 use Rattle.std.proofs.lemmas.Result.{err_from_is_err_and}
 use Rattle.serde_json.specs.Data.{Data}
-use Rattle.serde_json.specs.View.{view}
 use Rattle.commands.specs.declared.answer.Outcome.{Outcome}
 use Rattle.json_fields.specs.declared.fault.WireFault.{WireFault}
 use Rattle.json_fields.specs.Gives.{◌>>=◌, Says}
+use Rattle.json_fields.specs.View.{view}
 use Rattle.wire.specs.ReadingAnswers.{checked_when, unserved_in}
 use Rattle.wire.proofs.reading.unserved.Goals as goal
 

@@ -1,0 +1,99 @@
+//! Numbers of JSON, read from their texts.
+
+ghost use Rattle.std.specs.Prelude.{◌≡◌, ◌<◌, ◌==◌, length, slice_index, IsTrue, option_map, true};
+ghost use Rattle.std.specs.Prelude.{false};
+ghost use Rattle.json.specs.Value.{value_view, items_view, members_view};
+ghost use Rattle.serde_json.specs.Read.{number_of, number_from, float_of};
+ghost use Rattle.serde_json.specs.View.{number_view};
+ghost use Rattle.json_fields.specs.View.{is_in_range, are_in_range, members_in_range};
+
+use fast_float::Numeral;
+use json::Value;
+use serde_json::Number;
+
+fn has_minus(bytes: &[u8]) -> bool
+    ensures value { result ≡ (slice_index bytes.now 0 == 45) }
+    ensures len { IsTrue result → 0 < length bytes.now }
+{
+    !bytes.is_empty() && bytes[0] == b'-'
+}
+
+fn nearest(negative: bool, numeral: &Numeral<'_>) -> Option<Number>
+    ensures { option_map number_view result ≡ float_of negative numeral.now }
+{
+    Number::from_f64(numeral.to_float::<f64>(negative))
+}
+
+fn unsigned(numeral: &Numeral<'_>) -> Option<Number>
+    ensures { option_map number_view result ≡ number_from false numeral.now }
+{
+    match numeral.to_u64() {
+        Some(n) => Number::from_u128(n as u128),
+        None => nearest(false, numeral),
+    }
+}
+
+fn negative(numeral: &Numeral<'_>) -> Option<Number>
+    ensures { option_map number_view result ≡ number_from true numeral.now }
+{
+    if let Some(n) = numeral.to_i64(true) {
+        if n < 0 {
+            return Number::from_i128(n as i128);
+        }
+    }
+    nearest(true, numeral)
+}
+
+/// The number that a text of JSON's grammar writes, where it is in range: a whole number of 64 bits,
+/// or a finite float.
+pub(crate) fn number(text: &str) -> Option<Number>
+    ensures { option_map number_view result ≡ number_of text.now }
+{
+    let bytes = text.as_bytes();
+    if has_minus(bytes) {
+        negative(&Numeral::scan(&bytes[1..]))
+    } else {
+        unsigned(&Numeral::scan(bytes))
+    }
+}
+
+/// Whether each number of a value is in range.
+#[cycle(ranges)]
+pub(crate) fn is_in_range(value: &Value<'_>) -> bool
+    ensures { result ≡ is_in_range (value_view value.now) }
+{
+    match value {
+        Value::Null => true,
+        Value::Bool(_) => true,
+        Value::Number(text) => number(text).is_some(),
+        Value::String(_) => true,
+        Value::Array(items) => are_in_range(items),
+        Value::Object(members) => members_in_range(members),
+    }
+}
+
+#[cycle(ranges)]
+#[inline(never)]
+fn are_in_range<'a>(items: &Vec<Value<'a>>) -> bool
+    ensures { result ≡ are_in_range (items_view items.now.items) }
+{
+    for item in items {
+        if !is_in_range(item) {
+            return false;
+        }
+    }
+    true
+}
+
+#[cycle(ranges)]
+#[inline(never)]
+fn members_in_range<'a>(members: &Vec<(&'a str, Value<'a>)>) -> bool
+    ensures { result ≡ members_in_range (members_view members.now.items) }
+{
+    for member in members {
+        if !is_in_range(&member.1) {
+            return false;
+        }
+    }
+    true
+}
