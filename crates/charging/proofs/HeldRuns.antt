@@ -1,5 +1,5 @@
 -- What a run leaves of a keeper whose store may fail, command by command.
-use Rattle.std.proofs.Common.{◌≡◌, ◌+◌, ◌≤◌, ℕ, List, [], ◌∷◌, ◌++◌, length, take}
+use Rattle.std.proofs.Common.{◌≡◌, ◌+◌, ◌≤◌, List, [], ◌∷◌, ◌++◌, length, take}
 use Rattle.std.proofs.Common.{refl, sym, ap, subst, ◌∙◌, arith, le_refl, ◌⊎◌, inl, inr, Some}
 use Rattle.std.proofs.Common.{None, Ok, Err}
 use Rattle.std.proofs.lemmas.List.{length-append, append_assoc}
@@ -10,6 +10,7 @@ use Rattle.std.specs.Global.{Global}
 use Rattle.commands.specs.declared.answer.Answer.{Answer}
 use Rattle.shelves.specs.Shelves.{Shelf}
 use Rattle.keepers.specs.Faults.{HasCause}
+use Rattle.keepers.specs.Seen.{Seen}
 use Rattle.keepers.specs.Tables.{Tables}
 use Rattle.keepers.specs.declared.fault.StoreFault.{StoreFault}
 use Rattle.keepers.specs.declared.fault.StoreFault.TheVariants.{Memory, Store}
@@ -43,23 +44,22 @@ held-at b commands xs rest old t given all low high after = λ list time is. rec
 }
 
 -- so many commands were answered
-pub record HasRun {K : Type 0} (content : K → Tables) (failed : K → ℕ) (honest clean : K → Type 0)
-    (leaves : K → Tables → Type 0) (b : Shelf) (old now : K) (ds : List DatedCommand)
-    (given : List Answer) : Type 0 where
-  pub runs : honest now → RunsSoFar b ds (content old) (content now) given
-  pub unchanged : clean now → given ≡ [] → content now ≡ content old
-  pub cleanness : clean now → clean old
-  pub honesty : honest now → honest old
-  pub stands : honest now → clean old → clean now
-  pub left : honest now → (t : Tables) → leaves now t →
-      ((ds ≡ []) × leaves old t) ⊎ AreAfter b ds (content old) t
-  pub failures : failed old ≤ failed now
+pub record HasRun (b : Shelf) (old now : Seen) (ds : List DatedCommand) (given : List Answer)
+    : Type 0 where
+  pub runs : now.honest → RunsSoFar b ds old.tables now.tables given
+  pub unchanged : now.clean → given ≡ [] → now.tables ≡ old.tables
+  pub cleanness : now.clean → old.clean
+  pub honesty : now.honest → old.honest
+  pub stands : now.honest → old.clean → now.clean
+  pub left : now.honest → (t : Tables) → now.left t →
+      ((ds ≡ []) × old.left t) ⊎ AreAfter b ds old.tables t
+  pub failures : old.failed ≤ now.failed
 
-module _ {K : Type 0} (content : K → Tables) (failed : K → ℕ) (honest clean : K → Type 0)
-    (leaves : K → Tables → Type 0) (is_honest : (k : K) → clean k → honest k)
-    (settled : (k : K) (t : Tables) → clean k → leaves k t → t ≡ content k) (b : Shelf) where
+module _ {K : Type 0} (seen : K → Seen) (is_honest : (k : K) → (seen k).clean → (seen k).honest)
+    (settled : (k : K) (t : Tables) → (seen k).clean → (seen k).left t → t ≡ (seen k).tables)
+    (b : Shelf) where
   abbrev Has : K → K → List DatedCommand → List Answer → Type 0
-  Has old now ds given = HasRun content failed honest clean leaves b old now ds given
+  Has old now ds given = HasRun b (seen old) (seen now) ds given
 
   pub has-run_none : (k : K) → Has k k [] []
   has-run_none k = record {
@@ -69,22 +69,24 @@ module _ {K : Type 0} (content : K → Tables) (failed : K → ℕ) (honest clea
     honesty = λ h. h;
     stands = λ h c. c;
     left = λ h t l. inl (refl, l);
-    failures = le_refl (failed k);
+    failures = le_refl (seen k).failed;
   }
 
   -- one more was answered
   module _ (old mid new : K) (ds : List DatedCommand) (d : DatedCommand) (given : List Answer)
-      (had : Has old mid ds given) (cleanness : clean new → clean mid)
-      (honesty : honest new → honest mid) where
+      (had : Has old mid ds given) (cleanness : (seen new).clean → (seen mid).clean)
+      (honesty : (seen new).honest → (seen mid).honest) where
     pub has-run_more : (all : List Answer) (x : Answer) →
-        (clean new → Serves b d.command d.moment (content mid) (content new) (Ok x)) →
-        (honest new → clean new) → failed mid ≤ failed new → all ≡ given ++ x ∷ [] →
-        Has old new (ds ++ d ∷ []) all
+        ((seen new).clean →
+        Serves b d.command d.moment (seen mid).tables (seen new).tables (Ok x)) →
+        ((seen new).honest → (seen new).clean) → (seen mid).failed ≤ (seen new).failed →
+        all ≡ given ++ x ∷ [] → Has old new (ds ++ d ∷ []) all
     has-run_more all x served stands failures grows =
-        let runs : honest new → RunsSoFar b (ds ++ d ∷ []) (content old) (content new) all =
+        let runs : (seen new).honest →
+        RunsSoFar b (ds ++ d ∷ []) (seen old).tables (seen new).tables all =
         λ h list time is.
-        let so : IsSoFar b list ds (content mid) given = had.runs (honesty h) list time is in
-        so-far-more b list ds d (content mid) (content new) given all x so
+        let so : IsSoFar b list ds (seen mid).tables given = had.runs (honesty h) list time is in
+        so-far-more b list ds d (seen mid).tables (seen new).tables given all x so
         (served (stands h) (after_commands b list ds) so.time so.tables) grows in
         record {
           runs = runs;
@@ -101,30 +103,31 @@ module _ {K : Type 0} (content : K → Tables) (failed : K → ℕ) (honest clea
   -- what a stop leaves of so many is held
   held-now : (commands ds rest : List DatedCommand) (old now : K) (given : List Answer)
       (t : Tables) →
-      Has old now ds given → ds ++ rest ≡ commands → length given ≡ length ds → honest now →
-      leaves now t → ((ds ≡ []) × leaves old t) ⊎ AreHeld b commands (content old) given t
+      Has old now ds given → ds ++ rest ≡ commands → length given ≡ length ds → (seen now).honest →
+      (seen now).left t → ((ds ≡ []) × (seen old).left t) ⊎ AreHeld b commands (seen old).tables
+      given t
   held-now commands ds rest old now given t had all count h l = at (had.left h t l)
     where
-      at : ((ds ≡ []) × leaves old t) ⊎ AreAfter b ds (content old) t →
-          ((ds ≡ []) × leaves old t) ⊎ AreHeld b commands (content old) given t
+      at : ((ds ≡ []) × (seen old).left t) ⊎ AreAfter b ds (seen old).tables t →
+          ((ds ≡ []) × (seen old).left t) ⊎ AreHeld b commands (seen old).tables given t
       at (inl p) = inl p
-      at (inr after) = inr (held-at b commands ds rest (content old) t given all
+      at (inr after) = inr (held-at b commands ds rest (seen old).tables t given all
           (omega (arith, count)) (omega (arith, count)) after)
 
   -- where none was answered the tables before are held
   held-first : (commands ds rest : List DatedCommand) (old : K) (given : List Answer) (t : Tables) →
-      ds ++ rest ≡ commands → length given ≡ length ds → ds ≡ [] → t ≡ content old →
-      AreHeld b commands (content old) given t
+      ds ++ rest ≡ commands → length given ≡ length ds → ds ≡ [] → t ≡ (seen old).tables →
+      AreHeld b commands (seen old).tables given t
   held-first commands ds rest old given t all count none same =
-      held-at b commands ds rest (content old) t given all (omega (arith, count))
+      held-at b commands ds rest (seen old).tables t given all (omega (arith, count))
       (omega (arith, count)) (λ list time is.
       subst (λ (xs : List DatedCommand). AreTables b (after_commands b list xs) t) (sym none)
       (subst (AreTables b list) (sym same) is))
 
   held-clean : (commands ds rest : List DatedCommand) (old : K) (given : List Answer) (t : Tables) →
-      ds ++ rest ≡ commands → length given ≡ length ds → clean old →
-      ((ds ≡ []) × leaves old t) ⊎ AreHeld b commands (content old) given t →
-      AreHeld b commands (content old) given t
+      ds ++ rest ≡ commands → length given ≡ length ds → (seen old).clean →
+      ((ds ≡ []) × (seen old).left t) ⊎ AreHeld b commands (seen old).tables given t →
+      AreHeld b commands (seen old).tables given t
   held-clean commands ds rest old given t all count c (inr held) = held
   held-clean commands ds rest old given t all count c (inl p) =
       held-first commands ds rest old given t all count p.0 (settled old t c p.1)
@@ -135,10 +138,10 @@ module _ {K : Type 0} (content : K → Tables) (failed : K → ℕ) (honest clea
 
   -- the answers are those of a beginning
   answered-now : (commands ds rest : List DatedCommand) (old now : K) (given : List Answer) →
-      Has old now ds given → ds ++ rest ≡ commands → length given ≡ length ds → honest now →
-      AreAnswered b commands (content old) given
+      Has old now ds given → ds ++ rest ≡ commands → length given ≡ length ds → (seen now).honest →
+      AreAnswered b commands (seen old).tables given
   answered-now commands ds rest old now given had all count h = λ list time is.
-      (run-of b list commands ds rest (content now) given all count
+      (run-of b list commands ds rest (seen now).tables given all count
       (had.runs h list time is)).answers
 
   -- ---- a run ends
@@ -146,12 +149,12 @@ module _ {K : Type 0} (content : K → Tables) (failed : K → ℕ) (honest clea
   module _ (commands ds rest : List DatedCommand) (old now : K) (answers : Vec Answer Global)
       (had : Has old now ds answers.items) (all : ds ++ rest ≡ commands)
       (count : length answers.items ≡ length ds) where
-    runs-now : clean now → Runs b commands (content old) (content now) answers.items
-    runs-now c = λ list time is. run-of b list commands ds rest (content now) answers.items all
+    runs-now : (seen now).clean → Runs b commands (seen old).tables (seen now).tables answers.items
+    runs-now c = λ list time is. run-of b list commands ds rest (seen now).tables answers.items all
         count (had.runs (is_honest now c) list time is)
 
     -- each command was answered
-    pub run-whole : length rest ≡ 0 → RunsOver content failed honest clean leaves b commands old now
+    pub run-whole : length rest ≡ 0 → RunsOver b commands (seen old) (seen now)
         (record { answers = answers; fault = None })
     run-whole none =
         let long : length ds + length rest ≡ length commands = sym (length-append ds rest)
@@ -176,7 +179,7 @@ module _ {K : Type 0} (content : K → Tables) (failed : K → ℕ) (honest clea
 
     -- memory was refused before the next one
     pub run-refused : (d : DatedCommand) (more : List DatedCommand) → rest ≡ d ∷ more →
-        RunsOver content failed honest clean leaves b commands old now
+        RunsOver b commands (seen old) (seen now)
         (record { answers = answers; fault = Some Memory })
     run-refused d more next =
         let long : length ds + length rest ≡ length commands = sym (length-append ds rest)
@@ -203,43 +206,44 @@ module _ {K : Type 0} (content : K → Tables) (failed : K → ℕ) (honest clea
   module _ (commands ds more : List DatedCommand) (d : DatedCommand) (old mid new : K)
       (answers : Vec Answer Global) (had : Has old mid ds answers.items)
       (all : ds ++ d ∷ more ≡ commands) (count : length answers.items ≡ length ds)
-      (same : clean new → content new ≡ content mid) (cleanness : clean new → clean mid)
-      (honesty : honest new → honest mid)
-      (left : Leaves honest leaves mid new
-      (λ t. clean mid × Writes b d.command d.moment (content mid) t)) where
+      (same : (seen new).clean → (seen new).tables ≡ (seen mid).tables)
+      (cleanness : (seen new).clean → (seen mid).clean)
+      (honesty : (seen new).honest → (seen mid).honest)
+      (left : Leaves (seen mid) (seen new)
+      (λ t. (seen mid).clean × Writes b d.command d.moment (seen mid).tables t)) where
     -- the next one may be held too
-    held-next : (t : Tables) → honest new → Writes b d.command d.moment (content mid) t →
-        AreHeld b commands (content old) answers.items t
+    held-next : (t : Tables) → (seen new).honest → Writes b d.command d.moment (seen mid).tables t →
+        AreHeld b commands (seen old).tables answers.items t
     held-next t h writes =
         let long : length (ds ++ d ∷ []) ≡ length ds + 1 = length-append ds (d ∷ []) in
-        held-at b commands (ds ++ d ∷ []) more (content old) t answers.items
+        held-at b commands (ds ++ d ∷ []) more (seen old).tables t answers.items
         (append_assoc ds (d ∷ []) more ∙ all) (omega (arith, long, count))
         (omega (arith, long, count))
         (λ list time is.
-        let so : IsSoFar b list ds (content mid) answers.items =
+        let so : IsSoFar b list ds (seen mid).tables answers.items =
         had.runs (honesty h) list time is in
         subst (λ (l : List Accepted). AreTables b l t) (sym (commands-more b list ds d))
         (writes (after_commands b list ds) so.time so.tables))
 
-    held-failed : (t : Tables) → honest new →
-        leaves mid t ⊎ (clean mid × Writes b d.command d.moment (content mid) t) →
-        ((ds ≡ []) × leaves old t) ⊎ AreHeld b commands (content old) answers.items t
+    held-failed : (t : Tables) → (seen new).honest →
+        (seen mid).left t ⊎ ((seen mid).clean × Writes b d.command d.moment (seen mid).tables t) →
+        ((ds ≡ []) × (seen old).left t) ⊎ AreHeld b commands (seen old).tables answers.items t
     held-failed t h (inl l) =
         held-now commands ds (d ∷ more) old mid answers.items t had all count (honesty h) l
     held-failed t h (inr writes) = inr (held-next t h writes.1)
 
     pub run-failed : (fault : StoreFault) →
-        HasCause {T = Answer} (failed mid) (failed new) (Err fault) →
-        RunsOver content failed honest clean leaves b commands old new
-        (record { answers = answers; fault = Some fault })
+        HasCause {T = Answer} (seen mid).failed (seen new).failed (Err fault) →
+        RunsOver b commands (seen old) (seen new) (record { answers = answers; fault = Some fault })
     run-failed fault cause =
         let long : length ds + length (d ∷ more) ≡ length commands =
         sym (length-append ds (d ∷ more)) ∙ ap length all in
         record {
           runs = λ c list time is.
-              let so : IsSoFar b list ds (content mid) answers.items =
+              let so : IsSoFar b list ds (seen mid).tables answers.items =
               had.runs (is_honest mid (cleanness c)) list time is in
-              run-of b list commands ds (d ∷ more) (content new) answers.items all count (record {
+              run-of b list commands ds (d ∷ more) (seen new).tables answers.items all count
+              (record {
                 answers = so.answers;
                 tables = subst (λ (y : Tables). AreTables b (after_commands b list ds) y)
                     (sym (same c)) so.tables;

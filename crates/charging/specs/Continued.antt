@@ -1,8 +1,9 @@
 -- What holds of every list of accepted commands that a keeper's tables may be of, and that the list
 -- goes on.
 -- Source: profile.
-use Rattle.std.specs.Prelude.{◌≤◌, ℕ, List}
+use Rattle.std.specs.Prelude.{◌≤◌, List}
 use Rattle.shelves.specs.Shelves.{Shelf}
+use Rattle.keepers.specs.Seen.{Seen}
 use Rattle.keepers.specs.Tables.{Tables}
 use Rattle.charging.specs.declared.running.DatedCommand.{DatedCommand}
 use Rattle.charging.specs.Accepted.{Accepted, IsInTime}
@@ -28,16 +29,13 @@ Continues b old new = ForEachList b old (IsContinued b new)
 
 -- a stop leaves what it left before, or, of a keeper that was clean before, tables to which more
 -- commands came
-abbrev pub LeavesOn : {K : Type 0} → (K → Tables) → (K → Type 0) → (K → Type 0) →
-    (K → Tables → Type 0) → Shelf → K → K → Type 0
-LeavesOn content honest clean leaves b old new =
-    Leaves honest leaves old new (λ t. clean old × Continues b (content old) t)
+abbrev pub LeavesOn : Shelf → Seen → Seen → Type 0
+LeavesOn b old new = Leaves old new (λ t. old.clean × Continues b old.tables t)
 
 -- requests leave a keeper so, also where its store fails
-pub record GoesOn {K : Type 0} (content : K → Tables) (failed : K → ℕ) (honest clean : K → Type 0)
-    (leaves : K → Tables → Type 0) (b : Shelf) (old new : K) : Type 0 where
-  pub continued : clean new → Continues b (content old) (content new)
-  pub cleanness : clean new → clean old
-  pub honesty : honest new → honest old
-  pub left : LeavesOn content honest clean leaves b old new
-  pub failures : failed old ≤ failed new
+pub record GoesOn (b : Shelf) (old new : Seen) : Type 0 where
+  pub continued : new.clean → Continues b old.tables new.tables
+  pub cleanness : new.clean → old.clean
+  pub honesty : new.honest → old.honest
+  pub left : LeavesOn b old new
+  pub failures : old.failed ≤ new.failed

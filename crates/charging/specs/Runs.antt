@@ -7,6 +7,7 @@ use Rattle.charging.specs.declared.answers.Run.{Run}
 use Rattle.charging.specs.declared.running.DatedCommand.{DatedCommand}
 use Rattle.shelves.specs.Shelves.{Shelf}
 use Rattle.keepers.specs.Faults.{max_failures}
+use Rattle.keepers.specs.Seen.{Seen}
 use Rattle.keepers.specs.Tables.{Tables}
 use Rattle.keepers.specs.declared.fault.StoreFault.TheVariants.{Store}
 use Rattle.charging.specs.Accepted.{Accepted, IsInTime}
@@ -68,20 +69,19 @@ IsRunOfBoth =
     IsRun b list (take (length given) first ++ second) new (given ++ more)
 
 -- what a run leaves of a keeper, and where it stops
-pub record RunsOver {K : Type 0} (content : K → Tables) (failed : K → ℕ) (honest clean : K → Type 0)
-    (leaves : K → Tables → Type 0) (b : Shelf) (commands : List DatedCommand) (old new : K)
+pub record RunsOver (b : Shelf) (commands : List DatedCommand) (old new : Seen)
     (run : Run) : Type 0 where
-  pub runs : clean new → Runs b commands (content old) (content new) run.answers.items
+  pub runs : new.clean → Runs b commands old.tables new.tables run.answers.items
   pub beginning : length run.answers.items ≤ length commands
   pub whole : IfNone run.fault (length run.answers.items ≡ length commands)
   pub stopped : IfSome run.fault (λ fault. length run.answers.items < length commands)
-  pub unchanged : clean new → run.answers.items ≡ [] → content new ≡ content old
-  pub cleanness : clean new → clean old
-  pub honesty : honest new → honest old
-  pub answered : honest new → AreAnswered b commands (content old) run.answers.items
-  pub stands : honest new → clean old → IfNone run.fault (clean new)
-  pub held : honest new → clean old → (t : Tables) → leaves new t →
-      AreHeld b commands (content old) run.answers.items t
-  pub left : Leaves honest leaves old new (AreHeld b commands (content old) run.answers.items)
-  pub failures : failed old ≤ failed new
-  pub cause : run.fault ≡ Some Store → min (failed old + 1) max_failures ≤ failed new
+  pub unchanged : new.clean → run.answers.items ≡ [] → new.tables ≡ old.tables
+  pub cleanness : new.clean → old.clean
+  pub honesty : new.honest → old.honest
+  pub answered : new.honest → AreAnswered b commands old.tables run.answers.items
+  pub stands : new.honest → old.clean → IfNone run.fault new.clean
+  pub held : new.honest → old.clean → (t : Tables) → new.left t →
+      AreHeld b commands old.tables run.answers.items t
+  pub left : Leaves old new (AreHeld b commands old.tables run.answers.items)
+  pub failures : old.failed ≤ new.failed
+  pub cause : run.fault ≡ Some Store → min (old.failed + 1) max_failures ≤ new.failed

@@ -34,14 +34,14 @@ pub(crate) fn serve_allowance<K: Keeper>(
     allowance: Allowance,
     moment: Moment,
 ) -> Result<WrittenAnswer, StoreFault>
-    ensures served { K.clean keeper.new →
-        ServesAt shelf.now (command.Allow allowance) moment (K.content keeper.old)
-        (K.content keeper.new) result }
-    ensures refused { K.clean keeper.new → LeavesRefused (K.content keeper.old)
-        (K.content keeper.new) result }
-    ensures kept { PartKeeps K.content K.failed K.honest K.clean keeper.old keeper.new result }
-    ensures left { Leaves K.honest K.left keeper.old keeper.new
-        (WritesAt shelf.now (command.Allow allowance) moment (K.content keeper.old)) }
+    ensures served { (K.seen keeper.new).clean →
+        ServesAt shelf.now (command.Allow allowance) moment (K.seen keeper.old).tables
+        (K.seen keeper.new).tables result }
+    ensures refused { (K.seen keeper.new).clean → LeavesRefused (K.seen keeper.old).tables
+        (K.seen keeper.new).tables result }
+    ensures kept { PartKeeps (K.seen keeper.old) (K.seen keeper.new) result }
+    ensures left { Leaves (K.seen keeper.old) (K.seen keeper.new)
+        (WritesAt shelf.now (command.Allow allowance) moment (K.seen keeper.old).tables) }
 {
     let kept = find_allowance(keeper, &allowance)?;
     if let Some(kept) = kept {
@@ -76,9 +76,8 @@ fn find_allowance<K: Keeper>(
     keeper: &mut K,
     allowance: &Allowance,
 ) -> Result<Option<KeptAnswer>, StoreFault>
-    ensures { KeeperReads K.content K.failed K.honest K.clean K.left keeper.old keeper.new
-        (λ found. found ≡
-        (K.content keeper.old).answers allowance.now.account
+    ensures { KeeperReads (K.seen keeper.old) (K.seen keeper.new)
+        (λ found. found ≡ (K.seen keeper.old).tables.answers allowance.now.account
         (key_of (content.Allow allowance.now)))
         result }
 {
@@ -171,21 +170,21 @@ fn allow_account<K: Keeper>(
     allowance: Allowance,
     moment: Moment,
 ) -> Result<WrittenAnswer, StoreFault>
-    ensures served { K.clean keeper.new → (b : Shelf) →
-        IsLoad b moment allowance.account ((K.content keeper.old).rows allowance.account)
-        (Some loaded.entry) → (K.content keeper.old).answers allowance.account
+    ensures served { (K.seen keeper.new).clean → (b : Shelf) →
+        IsLoad b moment allowance.account ((K.seen keeper.old).tables.rows allowance.account)
+        (Some loaded.entry) → (K.seen keeper.old).tables.answers allowance.account
         (key_of (content.Allow allowance)) ≡ None →
-        ServesAt b (command.Allow allowance) moment (K.content keeper.old)
-        (K.content keeper.new) result }
-    ensures refused { K.clean keeper.new → LeavesRefused (K.content keeper.old)
-        (K.content keeper.new) result }
-    ensures kept { PartKeeps K.content K.failed K.honest K.clean keeper.old keeper.new result }
-    ensures left { Leaves K.honest K.left keeper.old keeper.new
+        ServesAt b (command.Allow allowance) moment (K.seen keeper.old).tables
+        (K.seen keeper.new).tables result }
+    ensures refused { (K.seen keeper.new).clean → LeavesRefused (K.seen keeper.old).tables
+        (K.seen keeper.new).tables result }
+    ensures kept { PartKeeps (K.seen keeper.old) (K.seen keeper.new) result }
+    ensures left { Leaves (K.seen keeper.old) (K.seen keeper.new)
         (λ t. (b : Shelf) →
-        IsLoad b moment allowance.account ((K.content keeper.old).rows allowance.account)
-        (Some loaded.entry) → (K.content keeper.old).answers allowance.account
+        IsLoad b moment allowance.account ((K.seen keeper.old).tables.rows allowance.account)
+        (Some loaded.entry) → (K.seen keeper.old).tables.answers allowance.account
         (key_of (content.Allow allowance)) ≡ None →
-        WritesAt b (command.Allow allowance) moment (K.content keeper.old) t) }
+        WritesAt b (command.Allow allowance) moment (K.seen keeper.old).tables t) }
 {
     let moment = moment_on(&loaded.account, moment);
     match add_allowance(&mut loaded.account, &allowance, moment) {

@@ -44,8 +44,8 @@ pub fn account_state<K: Keeper>(
     number: &AccountNumber,
     moment: Moment,
 ) -> Result<Option<AccountState>, StoreFault>
-    ensures { KeeperReads K.content K.failed K.honest K.clean K.left keeper.old keeper.new
-        (TellsState shelf.now number.now moment (K.content keeper.old)) result }
+    ensures { KeeperReads (K.seen keeper.old) (K.seen keeper.new)
+        (TellsState shelf.now number.now moment (K.seen keeper.old).tables) result }
 {
     let last = keeper.last()?;
     state_at(keeper, shelf, number, moment.max(last))
@@ -58,11 +58,13 @@ fn state_at<K: Keeper>(
     number: &AccountNumber,
     moment: Moment,
 ) -> Result<Option<AccountState>, StoreFault>
-    ensures found { K.clean keeper.new →
-        IfOk result (TellsStateAt shelf.now number.now moment (K.content keeper.old)) }
-    ensures same { K.clean keeper.new → K.content keeper.new ≡ K.content keeper.old }
-    ensures kept { PartKeeps K.content K.failed K.honest K.clean keeper.old keeper.new result }
-    ensures left { K.honest keeper.new → (t : Tables) → K.left keeper.new t → K.left keeper.old t }
+    ensures found { (K.seen keeper.new).clean →
+        IfOk result (TellsStateAt shelf.now number.now moment (K.seen keeper.old).tables) }
+    ensures same { (K.seen keeper.new).clean →
+        (K.seen keeper.new).tables ≡ (K.seen keeper.old).tables }
+    ensures kept { PartKeeps (K.seen keeper.old) (K.seen keeper.new) result }
+    ensures left { (K.seen keeper.new).honest → (t : Tables) → (K.seen keeper.new).left t →
+        (K.seen keeper.old).left t }
 {
     let Some(account) = keeper.view(shelf, number, moment)? else {
         return Ok(None);
@@ -115,14 +117,14 @@ pub(crate) fn tell_balance<K: Keeper>(
     number: AccountNumber,
     moment: Moment,
 ) -> Result<WrittenAnswer, StoreFault>
-    ensures served { K.clean keeper.new →
-        ServesAt shelf.now (command.Balance number) moment (K.content keeper.old)
-        (K.content keeper.new) result }
-    ensures refused { K.clean keeper.new → LeavesRefused (K.content keeper.old)
-        (K.content keeper.new) result }
-    ensures kept { PartKeeps K.content K.failed K.honest K.clean keeper.old keeper.new result }
-    ensures left { Leaves K.honest K.left keeper.old keeper.new
-        (WritesAt shelf.now (command.Balance number) moment (K.content keeper.old)) }
+    ensures served { (K.seen keeper.new).clean →
+        ServesAt shelf.now (command.Balance number) moment (K.seen keeper.old).tables
+        (K.seen keeper.new).tables result }
+    ensures refused { (K.seen keeper.new).clean → LeavesRefused (K.seen keeper.old).tables
+        (K.seen keeper.new).tables result }
+    ensures kept { PartKeeps (K.seen keeper.old) (K.seen keeper.new) result }
+    ensures left { Leaves (K.seen keeper.old) (K.seen keeper.new)
+        (WritesAt shelf.now (command.Balance number) moment (K.seen keeper.old).tables) }
 {
     let Some(state) = state_at(keeper, shelf, &number, moment)? else {
         return Ok(refuse(alloc, Refusal::AccountUnknown)?);

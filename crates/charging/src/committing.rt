@@ -53,14 +53,14 @@ pub(crate) fn commit<K: Keeper>(
     redeemed: Option<Redeemed>,
     answer: Answer,
 ) -> Result<WrittenAnswer, StoreFault>
-    ensures done { K.clean keeper.new → IfOk result (λ given. (given ≡ answer)
+    ensures done { (K.seen keeper.new).clean → IfOk result (λ given. (given ≡ answer)
         × Commits (change_for (option_copied own.entry) loaded.entry charges
-        (kept_as content answer) redeemed) (K.content keeper.old) (K.content keeper.new)) }
+        (kept_as content answer) redeemed) (K.seen keeper.old).tables (K.seen keeper.new).tables) }
     ensures account { IsAccount loaded.entry.account }
-    ensures kept { PartKeeps K.content K.failed K.honest K.clean keeper.old keeper.new result }
-    ensures left { Leaves K.honest K.left keeper.old keeper.new
+    ensures kept { PartKeeps (K.seen keeper.old) (K.seen keeper.new) result }
+    ensures left { Leaves (K.seen keeper.old) (K.seen keeper.new)
         (Commits (change_for (option_copied own.entry) loaded.entry charges
-        (kept_as content answer) redeemed) (K.content keeper.old)) }
+        (kept_as content answer) redeemed) (K.seen keeper.old).tables) }
 {
     // For the prover alone: the call makes known here what each account keeps.
     let _moment = loaded.account.as_of();
@@ -86,14 +86,14 @@ fn commit_change<K: Keeper>(
     kept: Option<KeptAnswer>,
     redeemed: Option<Redeemed>,
 ) -> Result<(), StoreFault>
-    ensures done { K.clean keeper.new → OnOk result
+    ensures done { (K.seen keeper.new).clean → OnOk result
         (Commits (change_for (option_copied own.entry) loaded.entry charges kept redeemed)
-        (K.content keeper.old) (K.content keeper.new)) }
+        (K.seen keeper.old).tables (K.seen keeper.new).tables) }
     ensures account { IsAccount loaded.entry.account }
-    ensures kept { PartKeeps K.content K.failed K.honest K.clean keeper.old keeper.new result }
-    ensures left { Leaves K.honest K.left keeper.old keeper.new
+    ensures kept { PartKeeps (K.seen keeper.old) (K.seen keeper.new) result }
+    ensures left { Leaves (K.seen keeper.old) (K.seen keeper.new)
         (Commits (change_for (option_copied own.entry) loaded.entry charges kept redeemed)
-        (K.content keeper.old)) }
+        (K.seen keeper.old).tables) }
 {
     // For the prover alone: the call makes known here what each account keeps.
     let _kept = loaded.account.as_of();

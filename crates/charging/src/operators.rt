@@ -36,14 +36,14 @@ pub(crate) fn open_account<K: Keeper>(
     number: AccountNumber,
     moment: Moment,
 ) -> Result<WrittenAnswer, StoreFault>
-    ensures served { K.clean keeper.new →
-        ServesAt shelf.now (command.OpenAccount number) moment (K.content keeper.old)
-        (K.content keeper.new) result }
-    ensures refused { K.clean keeper.new → LeavesRefused (K.content keeper.old)
-        (K.content keeper.new) result }
-    ensures kept { PartKeeps K.content K.failed K.honest K.clean keeper.old keeper.new result }
-    ensures left { Leaves K.honest K.left keeper.old keeper.new
-        (WritesAt shelf.now (command.OpenAccount number) moment (K.content keeper.old)) }
+    ensures served { (K.seen keeper.new).clean →
+        ServesAt shelf.now (command.OpenAccount number) moment (K.seen keeper.old).tables
+        (K.seen keeper.new).tables result }
+    ensures refused { (K.seen keeper.new).clean → LeavesRefused (K.seen keeper.old).tables
+        (K.seen keeper.new).tables result }
+    ensures kept { PartKeeps (K.seen keeper.old) (K.seen keeper.new) result }
+    ensures left { Leaves (K.seen keeper.old) (K.seen keeper.new)
+        (WritesAt shelf.now (command.OpenAccount number) moment (K.seen keeper.old).tables) }
 {
     if keeper.has_account(&number)? {
         return Ok(refuse(alloc, Refusal::AccountExists)?);
@@ -77,14 +77,14 @@ pub(crate) fn set_barred<K: Keeper>(
     barred: bool,
     moment: Moment,
 ) -> Result<WrittenAnswer, StoreFault>
-    ensures served { K.clean keeper.new →
-        ServesAt shelf.now (bar_command number barred) moment (K.content keeper.old)
-        (K.content keeper.new) result }
-    ensures refused { K.clean keeper.new → LeavesRefused (K.content keeper.old)
-        (K.content keeper.new) result }
-    ensures kept { PartKeeps K.content K.failed K.honest K.clean keeper.old keeper.new result }
-    ensures left { Leaves K.honest K.left keeper.old keeper.new
-        (WritesAt shelf.now (bar_command number barred) moment (K.content keeper.old)) }
+    ensures served { (K.seen keeper.new).clean →
+        ServesAt shelf.now (bar_command number barred) moment (K.seen keeper.old).tables
+        (K.seen keeper.new).tables result }
+    ensures refused { (K.seen keeper.new).clean → LeavesRefused (K.seen keeper.old).tables
+        (K.seen keeper.new).tables result }
+    ensures kept { PartKeeps (K.seen keeper.old) (K.seen keeper.new) result }
+    ensures left { Leaves (K.seen keeper.old) (K.seen keeper.new)
+        (WritesAt shelf.now (bar_command number barred) moment (K.seen keeper.old).tables) }
 {
     let Some(mut loaded) = keeper.load(shelf, &number, moment)? else {
         return Ok(refuse(alloc, Refusal::AccountUnknown)?);
@@ -110,14 +110,14 @@ pub(crate) fn sweep<K: Keeper>(
     shelf: &TariffShelf,
     moment: Moment,
 ) -> Result<WrittenAnswer, StoreFault>
-    ensures served { K.clean keeper.new →
-        ServesAt shelf.now command.Sweep moment (K.content keeper.old)
-        (K.content keeper.new) result }
-    ensures refused { K.clean keeper.new → LeavesRefused (K.content keeper.old)
-        (K.content keeper.new) result }
-    ensures kept { PartKeeps K.content K.failed K.honest K.clean keeper.old keeper.new result }
-    ensures left { Leaves K.honest K.left keeper.old keeper.new
-        (WritesAt shelf.now command.Sweep moment (K.content keeper.old)) }
+    ensures served { (K.seen keeper.new).clean →
+        ServesAt shelf.now command.Sweep moment (K.seen keeper.old).tables
+        (K.seen keeper.new).tables result }
+    ensures refused { (K.seen keeper.new).clean → LeavesRefused (K.seen keeper.old).tables
+        (K.seen keeper.new).tables result }
+    ensures kept { PartKeeps (K.seen keeper.old) (K.seen keeper.new) result }
+    ensures left { Leaves (K.seen keeper.old) (K.seen keeper.new)
+        (WritesAt shelf.now command.Sweep moment (K.seen keeper.old).tables) }
 {
     let room = AnswerRoom::new(alloc)?;
     let count = keeper.sweep(shelf, moment)?;
@@ -132,14 +132,14 @@ pub(crate) fn serve_credit<K: Keeper>(
     credit: Credit,
     moment: Moment,
 ) -> Result<WrittenAnswer, StoreFault>
-    ensures served { K.clean keeper.new →
-        ServesAt shelf.now (command.Credit credit) moment (K.content keeper.old)
-        (K.content keeper.new) result }
-    ensures refused { K.clean keeper.new → LeavesRefused (K.content keeper.old)
-        (K.content keeper.new) result }
-    ensures kept { PartKeeps K.content K.failed K.honest K.clean keeper.old keeper.new result }
-    ensures left { Leaves K.honest K.left keeper.old keeper.new
-        (WritesAt shelf.now (command.Credit credit) moment (K.content keeper.old)) }
+    ensures served { (K.seen keeper.new).clean →
+        ServesAt shelf.now (command.Credit credit) moment (K.seen keeper.old).tables
+        (K.seen keeper.new).tables result }
+    ensures refused { (K.seen keeper.new).clean → LeavesRefused (K.seen keeper.old).tables
+        (K.seen keeper.new).tables result }
+    ensures kept { PartKeeps (K.seen keeper.old) (K.seen keeper.new) result }
+    ensures left { Leaves (K.seen keeper.old) (K.seen keeper.new)
+        (WritesAt shelf.now (command.Credit credit) moment (K.seen keeper.old).tables) }
 {
     let kept = find_credit(keeper, &credit)?;
     if let Some(kept) = kept {
@@ -171,9 +171,9 @@ fn repeated_credit(
 
 /// What is kept under a credit's reference.
 fn find_credit<K: Keeper>(keeper: &mut K, credit: &Credit) -> Result<Option<KeptAnswer>, StoreFault>
-    ensures { KeeperReads K.content K.failed K.honest K.clean K.left keeper.old keeper.new
+    ensures { KeeperReads (K.seen keeper.old) (K.seen keeper.new)
         (λ found. found ≡
-        (K.content keeper.old).answers credit.now.account (key_of (content.Credit credit.now)))
+        (K.seen keeper.old).tables.answers credit.now.account (key_of (content.Credit credit.now)))
         result }
 {
     let key = Key::Reference(credit.reference.clone()?);
@@ -251,21 +251,21 @@ fn credit_account<K: Keeper>(
     credit: Credit,
     moment: Moment,
 ) -> Result<WrittenAnswer, StoreFault>
-    ensures served { K.clean keeper.new → (b : Shelf) →
-        IsLoad b moment credit.account ((K.content keeper.old).rows credit.account)
-        (Some loaded.entry) → (K.content keeper.old).answers credit.account
+    ensures served { (K.seen keeper.new).clean → (b : Shelf) →
+        IsLoad b moment credit.account ((K.seen keeper.old).tables.rows credit.account)
+        (Some loaded.entry) → (K.seen keeper.old).tables.answers credit.account
         (key_of (content.Credit credit)) ≡ None →
-        ServesAt b (command.Credit credit) moment (K.content keeper.old)
-        (K.content keeper.new) result }
-    ensures refused { K.clean keeper.new → LeavesRefused (K.content keeper.old)
-        (K.content keeper.new) result }
-    ensures kept { PartKeeps K.content K.failed K.honest K.clean keeper.old keeper.new result }
-    ensures left { Leaves K.honest K.left keeper.old keeper.new
+        ServesAt b (command.Credit credit) moment (K.seen keeper.old).tables
+        (K.seen keeper.new).tables result }
+    ensures refused { (K.seen keeper.new).clean → LeavesRefused (K.seen keeper.old).tables
+        (K.seen keeper.new).tables result }
+    ensures kept { PartKeeps (K.seen keeper.old) (K.seen keeper.new) result }
+    ensures left { Leaves (K.seen keeper.old) (K.seen keeper.new)
         (λ t. (b : Shelf) →
-        IsLoad b moment credit.account ((K.content keeper.old).rows credit.account)
-        (Some loaded.entry) → (K.content keeper.old).answers credit.account
+        IsLoad b moment credit.account ((K.seen keeper.old).tables.rows credit.account)
+        (Some loaded.entry) → (K.seen keeper.old).tables.answers credit.account
         (key_of (content.Credit credit)) ≡ None →
-        WritesAt b (command.Credit credit) moment (K.content keeper.old) t) }
+        WritesAt b (command.Credit credit) moment (K.seen keeper.old).tables t) }
 {
     let moment = moment_on(&loaded.account, moment);
     match add_bucket(&mut loaded.account, &credit, moment) {

@@ -32,14 +32,14 @@ pub(crate) fn serve_request<K: Keeper>(
     request: Request,
     moment: Moment,
 ) -> Result<WrittenAnswer, StoreFault>
-    ensures served { K.clean keeper.new →
-        ServesAt shelf.now (Ccr request) moment (K.content keeper.old)
-        (K.content keeper.new) result }
-    ensures refused { K.clean keeper.new → LeavesRefused (K.content keeper.old)
-        (K.content keeper.new) result }
-    ensures kept { PartKeeps K.content K.failed K.honest K.clean keeper.old keeper.new result }
-    ensures left { Leaves K.honest K.left keeper.old keeper.new
-        (WritesAt shelf.now (Ccr request) moment (K.content keeper.old)) }
+    ensures served { (K.seen keeper.new).clean →
+        ServesAt shelf.now (Ccr request) moment (K.seen keeper.old).tables
+        (K.seen keeper.new).tables result }
+    ensures refused { (K.seen keeper.new).clean → LeavesRefused (K.seen keeper.old).tables
+        (K.seen keeper.new).tables result }
+    ensures kept { PartKeeps (K.seen keeper.old) (K.seen keeper.new) result }
+    ensures left { Leaves (K.seen keeper.old) (K.seen keeper.new)
+        (WritesAt shelf.now (Ccr request) moment (K.seen keeper.old).tables) }
 {
     let kept = find_kept(keeper, &request)?;
     if let Some(kept) = kept {
@@ -60,8 +60,8 @@ pub(crate) fn serve_request<K: Keeper>(
 
 /// Whether a request begins a session of which the account has a row.
 fn is_known<K: Keeper>(keeper: &mut K, request: &Request) -> Result<bool, StoreFault>
-    ensures { PartReads K.content K.failed K.honest K.clean K.left keeper.old keeper.new
-        (λ known. known ≡ is_known request.now (K.content keeper.old)) result }
+    ensures { PartReads (K.seen keeper.old) (K.seen keeper.new)
+        (λ known. known ≡ is_known request.now (K.seen keeper.old).tables) result }
 {
     if begins_session(&request.ask) {
         keeper.knows_session(&request.account, &request.session)
@@ -72,8 +72,8 @@ fn is_known<K: Keeper>(keeper: &mut K, request: &Request) -> Result<bool, StoreF
 
 /// What is kept under a request's key; reads have none.
 fn find_kept<K: Keeper>(keeper: &mut K, request: &Request) -> Result<Option<KeptAnswer>, StoreFault>
-    ensures { PartReads K.content K.failed K.honest K.clean K.left keeper.old keeper.new
-        (λ found. found ≡ kept_of_request request.now (K.content keeper.old)) result }
+    ensures { PartReads (K.seen keeper.old) (K.seen keeper.new)
+        (λ found. found ≡ kept_of_request request.now (K.seen keeper.old).tables) result }
 {
     if is_read(&request.ask) {
         return Ok(None);
@@ -127,13 +127,15 @@ fn answer_read<K: Keeper>(
     request: &Request,
     moment: Moment,
 ) -> Result<Option<WrittenAnswer>, StoreFault>
-    ensures served { K.clean keeper.new →
+    ensures served { (K.seen keeper.new).clean →
         IfOk result (λ o. IfSome o (λ given.
-        Answers shelf.now (Ccr request.now) moment (K.content keeper.old)
-        (K.content keeper.new) given)) }
-    ensures same { K.clean keeper.new → K.content keeper.new ≡ K.content keeper.old }
-    ensures kept { PartKeeps K.content K.failed K.honest K.clean keeper.old keeper.new result }
-    ensures left { K.honest keeper.new → (t : Tables) → K.left keeper.new t → K.left keeper.old t }
+        Answers shelf.now (Ccr request.now) moment (K.seen keeper.old).tables
+        (K.seen keeper.new).tables given)) }
+    ensures same { (K.seen keeper.new).clean →
+        (K.seen keeper.new).tables ≡ (K.seen keeper.old).tables }
+    ensures kept { PartKeeps (K.seen keeper.old) (K.seen keeper.new) result }
+    ensures left { (K.seen keeper.new).honest → (t : Tables) → (K.seen keeper.new).left t →
+        (K.seen keeper.old).left t }
 {
     if !is_read(&request.ask) {
         return Ok(None);
@@ -156,22 +158,23 @@ fn decide_on<K: Keeper>(
     request: Request,
     moment: Moment,
 ) -> Result<WrittenAnswer, StoreFault>
-    ensures served { K.clean keeper.new → (b : Shelf) →
-        IsLoad b moment request.account ((K.content keeper.old).rows request.account)
+    ensures served { (K.seen keeper.new).clean → (b : Shelf) →
+        IsLoad b moment request.account ((K.seen keeper.old).tables.rows request.account)
         (Some loaded.entry) →
-        kept_of_request request (K.content keeper.old) ≡ None →
-        is_known request (K.content keeper.old) ≡ false →
-        ServesAt b (Ccr request) moment (K.content keeper.old) (K.content keeper.new) result }
-    ensures refused { K.clean keeper.new → LeavesRefused (K.content keeper.old)
-        (K.content keeper.new) result }
-    ensures kept { PartKeeps K.content K.failed K.honest K.clean keeper.old keeper.new result }
-    ensures left { Leaves K.honest K.left keeper.old keeper.new
+        kept_of_request request (K.seen keeper.old).tables ≡ None →
+        is_known request (K.seen keeper.old).tables ≡ false →
+        ServesAt b (Ccr request) moment (K.seen keeper.old).tables (K.seen keeper.new).tables
+        result }
+    ensures refused { (K.seen keeper.new).clean → LeavesRefused (K.seen keeper.old).tables
+        (K.seen keeper.new).tables result }
+    ensures kept { PartKeeps (K.seen keeper.old) (K.seen keeper.new) result }
+    ensures left { Leaves (K.seen keeper.old) (K.seen keeper.new)
         (λ t. (b : Shelf) →
-        IsLoad b moment request.account ((K.content keeper.old).rows request.account)
+        IsLoad b moment request.account ((K.seen keeper.old).tables.rows request.account)
         (Some loaded.entry) →
-        kept_of_request request (K.content keeper.old) ≡ None →
-        is_known request (K.content keeper.old) ≡ false →
-        WritesAt b (Ccr request) moment (K.content keeper.old) t) }
+        kept_of_request request (K.seen keeper.old).tables ≡ None →
+        is_known request (K.seen keeper.old).tables ≡ false →
+        WritesAt b (Ccr request) moment (K.seen keeper.old).tables t) }
 {
     let moment = moment_on(&loaded.account, moment);
     match decide(alloc, &mut loaded.account, &request, false, moment) {
@@ -195,18 +198,18 @@ fn keep<K: Keeper>(
     decided: Decided,
     request: Request,
 ) -> Result<WrittenAnswer, StoreFault>
-    ensures done { K.clean keeper.new →
+    ensures done { (K.seen keeper.new).clean →
         IfOk result (λ given. (given ≡ answer.Request decided.answer)
         × Commits (change_for decided.own loaded.entry decided.charges (Some (record {
           content = content.Request request;
           answer = answer.Request decided.answer;
-        })) None) (K.content keeper.old) (K.content keeper.new)) }
-    ensures kept { PartKeeps K.content K.failed K.honest K.clean keeper.old keeper.new result }
-    ensures left { Leaves K.honest K.left keeper.old keeper.new
+        })) None) (K.seen keeper.old).tables (K.seen keeper.new).tables) }
+    ensures kept { PartKeeps (K.seen keeper.old) (K.seen keeper.new) result }
+    ensures left { Leaves (K.seen keeper.old) (K.seen keeper.new)
         (Commits (change_for decided.own loaded.entry decided.charges (Some (record {
           content = content.Request request;
           answer = answer.Request decided.answer;
-        })) None) (K.content keeper.old)) }
+        })) None) (K.seen keeper.old).tables) }
 {
     let own = decided.own;
     commit(

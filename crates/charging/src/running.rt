@@ -38,11 +38,11 @@ pub fn run<K: Keeper>(
     shelf: &TariffShelf,
     commands: Vec<DatedCommand>,
 ) -> Run
-    ensures runs { RunsOver K.content K.failed K.honest K.clean K.left shelf.now commands.items
-        keeper.old keeper.new result }
-    ensures accounted { K.clean keeper.new →
-        AreAccounted shelf.now commands.items (K.content keeper.old)
-        (K.content keeper.new) result.answers.items }
+    ensures runs { RunsOver shelf.now commands.items
+        (K.seen keeper.old) (K.seen keeper.new) result }
+    ensures accounted { (K.seen keeper.new).clean →
+        AreAccounted shelf.now commands.items (K.seen keeper.old).tables
+        (K.seen keeper.new).tables result.answers.items }
 {
     // For the prover alone: looking at the value makes known here what its type keeps.
     let _ranges = shelf.first();
@@ -56,8 +56,7 @@ fn answer_each<K: Keeper>(
     shelf: &TariffShelf,
     commands: Vec<DatedCommand>,
 ) -> Run
-    ensures { RunsOver K.content K.failed K.honest K.clean K.left shelf.now commands.items
-        keeper.old keeper.new result }
+    ensures { RunsOver shelf.now commands.items (K.seen keeper.old) (K.seen keeper.new) result }
 {
     let mut answers = Vec::new(alloc);
     for dated in commands {

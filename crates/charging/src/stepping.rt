@@ -33,8 +33,7 @@ pub fn step<K: Keeper>(
     command: Command,
     moment: Moment,
 ) -> Result<WrittenAnswer, StoreFault>
-    ensures { StepsOver K.content K.failed K.honest K.clean K.left shelf.now command moment
-        keeper.old keeper.new result }
+    ensures { StepsOver shelf.now command moment (K.seen keeper.old) (K.seen keeper.new) result }
 {
     serve(alloc, keeper, shelf, command, moment)
 }
@@ -47,14 +46,15 @@ fn serve<K: Keeper>(
     command: Command,
     moment: Moment,
 ) -> Result<WrittenAnswer, StoreFault>
-    ensures served { K.clean keeper.new →
-        Serves shelf.now command moment (K.content keeper.old) (K.content keeper.new) result }
-    ensures refused { K.clean keeper.new → LeavesRefused (K.content keeper.old)
-        (K.content keeper.new) result }
-    ensures kept { PartKeeps K.content K.failed K.honest K.clean keeper.old keeper.new result }
-    ensures stands { K.honest keeper.new → OnOk result (K.clean keeper.new) }
-    ensures left { Leaves K.honest K.left keeper.old keeper.new (λ t. K.clean keeper.old
-        × Writes shelf.now command moment (K.content keeper.old) t) }
+    ensures served { (K.seen keeper.new).clean →
+        Serves shelf.now command moment (K.seen keeper.old).tables (K.seen keeper.new).tables
+        result }
+    ensures refused { (K.seen keeper.new).clean → LeavesRefused (K.seen keeper.old).tables
+        (K.seen keeper.new).tables result }
+    ensures kept { PartKeeps (K.seen keeper.old) (K.seen keeper.new) result }
+    ensures stands { (K.seen keeper.new).honest → OnOk result (K.seen keeper.new).clean }
+    ensures left { Leaves (K.seen keeper.old) (K.seen keeper.new) (λ t. (K.seen keeper.old).clean
+        × Writes shelf.now command moment (K.seen keeper.old).tables t) }
 {
     let last = keeper.last()?;
     let moment = later(moment, last);
@@ -76,13 +76,14 @@ fn serve_at<K: Keeper>(
     command: Command,
     moment: Moment,
 ) -> Result<WrittenAnswer, StoreFault>
-    ensures served { K.clean keeper.new →
-        ServesAt shelf.now command moment (K.content keeper.old) (K.content keeper.new) result }
-    ensures refused { K.clean keeper.new → LeavesRefused (K.content keeper.old)
-        (K.content keeper.new) result }
-    ensures kept { PartKeeps K.content K.failed K.honest K.clean keeper.old keeper.new result }
-    ensures left { Leaves K.honest K.left keeper.old keeper.new
-        (WritesAt shelf.now command moment (K.content keeper.old)) }
+    ensures served { (K.seen keeper.new).clean →
+        ServesAt shelf.now command moment (K.seen keeper.old).tables (K.seen keeper.new).tables
+        result }
+    ensures refused { (K.seen keeper.new).clean → LeavesRefused (K.seen keeper.old).tables
+        (K.seen keeper.new).tables result }
+    ensures kept { PartKeeps (K.seen keeper.old) (K.seen keeper.new) result }
+    ensures left { Leaves (K.seen keeper.old) (K.seen keeper.new)
+        (WritesAt shelf.now command moment (K.seen keeper.old).tables) }
 {
     match command {
         Command::Ccr(request) => serve_request(alloc, keeper, shelf, request, moment),

@@ -48,15 +48,15 @@ pub(crate) fn add_voucher<K: Keeper>(
     addition: VoucherAddition,
     moment: Moment,
 ) -> Result<WrittenAnswer, StoreFault>
-    ensures served { K.clean keeper.new → (b : Shelf) →
-        ServesAt b (command.AddVoucher addition) moment (K.content keeper.old)
-        (K.content keeper.new) result }
-    ensures refused { K.clean keeper.new → LeavesRefused (K.content keeper.old)
-        (K.content keeper.new) result }
-    ensures kept { PartKeeps K.content K.failed K.honest K.clean keeper.old keeper.new result }
-    ensures left { Leaves K.honest K.left keeper.old keeper.new
+    ensures served { (K.seen keeper.new).clean → (b : Shelf) →
+        ServesAt b (command.AddVoucher addition) moment (K.seen keeper.old).tables
+        (K.seen keeper.new).tables result }
+    ensures refused { (K.seen keeper.new).clean → LeavesRefused (K.seen keeper.old).tables
+        (K.seen keeper.new).tables result }
+    ensures kept { PartKeeps (K.seen keeper.old) (K.seen keeper.new) result }
+    ensures left { Leaves (K.seen keeper.old) (K.seen keeper.new)
         (λ t. (b : Shelf) →
-        WritesAt b (command.AddVoucher addition) moment (K.content keeper.old) t) }
+        WritesAt b (command.AddVoucher addition) moment (K.seen keeper.old).tables t) }
 {
     let found = keeper.find_voucher(&addition.code)?;
     let done = WrittenAnswer::new(alloc, Answer::Done)?;
@@ -78,14 +78,14 @@ pub(crate) fn serve_redemption<K: Keeper>(
     asked: VoucherRedemption,
     moment: Moment,
 ) -> Result<WrittenAnswer, StoreFault>
-    ensures served { K.clean keeper.new →
-        ServesAt shelf.now (command.Redeem asked) moment (K.content keeper.old)
-        (K.content keeper.new) result }
-    ensures refused { K.clean keeper.new → LeavesRefused (K.content keeper.old)
-        (K.content keeper.new) result }
-    ensures kept { PartKeeps K.content K.failed K.honest K.clean keeper.old keeper.new result }
-    ensures left { Leaves K.honest K.left keeper.old keeper.new
-        (WritesAt shelf.now (command.Redeem asked) moment (K.content keeper.old)) }
+    ensures served { (K.seen keeper.new).clean →
+        ServesAt shelf.now (command.Redeem asked) moment (K.seen keeper.old).tables
+        (K.seen keeper.new).tables result }
+    ensures refused { (K.seen keeper.new).clean → LeavesRefused (K.seen keeper.old).tables
+        (K.seen keeper.new).tables result }
+    ensures kept { PartKeeps (K.seen keeper.old) (K.seen keeper.new) result }
+    ensures left { Leaves (K.seen keeper.old) (K.seen keeper.new)
+        (WritesAt shelf.now (command.Redeem asked) moment (K.seen keeper.old).tables) }
 {
     let kept = find_redemption(keeper, &asked)?;
     if let Some(kept) = kept {
@@ -129,9 +129,9 @@ fn find_redemption<K: Keeper>(
     keeper: &mut K,
     asked: &VoucherRedemption,
 ) -> Result<Option<KeptAnswer>, StoreFault>
-    ensures { KeeperReads K.content K.failed K.honest K.clean K.left keeper.old keeper.new
+    ensures { KeeperReads (K.seen keeper.old) (K.seen keeper.new)
         (λ found. found ≡
-        (K.content keeper.old).answers asked.now.account (key_of (content.Redeem asked.now)))
+        (K.seen keeper.old).tables.answers asked.now.account (key_of (content.Redeem asked.now)))
         result }
 {
     let key = Key::Reference(asked.reference.clone()?);
@@ -174,25 +174,25 @@ fn credit_redeemed<K: Keeper>(
     redeemed: Redemption,
     moment: Moment,
 ) -> Result<WrittenAnswer, StoreFault>
-    ensures served { K.clean keeper.new → (b : Shelf) →
-        IsLoad b moment asked.account ((K.content keeper.old).rows asked.account)
-        (Some loaded.entry) → (K.content keeper.old).answers asked.account
+    ensures served { (K.seen keeper.new).clean → (b : Shelf) →
+        IsLoad b moment asked.account ((K.seen keeper.old).tables.rows asked.account)
+        (Some loaded.entry) → (K.seen keeper.old).tables.answers asked.account
         (key_of (content.Redeem asked)) ≡ None → code ≡ asked.code →
-        redemption (book_days b) ((K.content keeper.old).vouchers asked.code) asked.account
+        redemption (book_days b) ((K.seen keeper.old).tables.vouchers asked.code) asked.account
         moment ≡ Ok redeemed →
-        ServesAt b (command.Redeem asked) moment (K.content keeper.old)
-        (K.content keeper.new) result }
-    ensures refused { K.clean keeper.new → LeavesRefused (K.content keeper.old)
-        (K.content keeper.new) result }
-    ensures kept { PartKeeps K.content K.failed K.honest K.clean keeper.old keeper.new result }
-    ensures left { Leaves K.honest K.left keeper.old keeper.new
+        ServesAt b (command.Redeem asked) moment (K.seen keeper.old).tables
+        (K.seen keeper.new).tables result }
+    ensures refused { (K.seen keeper.new).clean → LeavesRefused (K.seen keeper.old).tables
+        (K.seen keeper.new).tables result }
+    ensures kept { PartKeeps (K.seen keeper.old) (K.seen keeper.new) result }
+    ensures left { Leaves (K.seen keeper.old) (K.seen keeper.new)
         (λ t. (b : Shelf) →
-        IsLoad b moment asked.account ((K.content keeper.old).rows asked.account)
-        (Some loaded.entry) → (K.content keeper.old).answers asked.account
+        IsLoad b moment asked.account ((K.seen keeper.old).tables.rows asked.account)
+        (Some loaded.entry) → (K.seen keeper.old).tables.answers asked.account
         (key_of (content.Redeem asked)) ≡ None → code ≡ asked.code →
-        redemption (book_days b) ((K.content keeper.old).vouchers asked.code) asked.account
+        redemption (book_days b) ((K.seen keeper.old).tables.vouchers asked.code) asked.account
         moment ≡ Ok redeemed →
-        WritesAt b (command.Redeem asked) moment (K.content keeper.old) t) }
+        WritesAt b (command.Redeem asked) moment (K.seen keeper.old).tables t) }
 {
     let moment = moment_on(&loaded.account, moment);
     let Redemption {

@@ -5,6 +5,7 @@ use Rattle.commands.specs.declared.answer.Answer.{Answer}
 use Rattle.commands.specs.declared.command.Command.{Command}
 use Rattle.shelves.specs.Shelves.{Shelf}
 use Rattle.keepers.specs.declared.fault.StoreFault.{StoreFault}
+use Rattle.keepers.specs.Seen.{Seen}
 use Rattle.keepers.specs.Tables.{Tables}
 use Rattle.charging.specs.Accepted.{Accepted, IsInTime}
 use Rattle.charging.specs.Parts.{Leaves}
@@ -44,31 +45,27 @@ continued_writes b c t old new writes = λ list time are. record {
   time = time-more b list (record { moment = t; command = c }) time;
 }
 
-module _ {K : Type 0} (content : K → Tables) (honest clean : K → Type 0)
-    (leaves : K → Tables → Type 0) (b : Shelf) where
+module _ (b : Shelf) where
   -- what a stop leaves of a command
-  pub leaves_step : (c : Command) (t : ℕ) (old new : K) →
-      Leaves honest leaves old new (λ held. clean old × Writes b c t (content old) held) →
-      LeavesOn content honest clean leaves b old new
+  pub leaves_step : (c : Command) (t : ℕ) (old new : Seen) →
+      Leaves old new (λ held. old.clean × Writes b c t old.tables held) → LeavesOn b old new
   leaves_step c t old new left = λ h held l. left_as (left h held l) (λ before. before)
-      (λ w. (w.0, continued_writes b c t (content old) held w.1))
+      (λ w. (w.0, continued_writes b c t old.tables held w.1))
 
   -- and of one call after another
-  pub leaves_more : (old mid new : K) → (clean mid → clean old) →
-      (clean mid → ForEachList b (content old) (IsContinued b (content mid))) →
-      (honest new → honest mid) → LeavesOn content honest clean leaves b old mid →
-      LeavesOn content honest clean leaves b mid new →
-      LeavesOn content honest clean leaves b old new
+  pub leaves_more : (old mid new : Seen) → (mid.clean → old.clean) →
+      (mid.clean → ForEachList b old.tables (IsContinued b mid.tables)) →
+      (new.honest → mid.honest) → LeavesOn b old mid → LeavesOn b mid new → LeavesOn b old new
   leaves_more old mid new cleanness continued honesty first second = λ h held l.
       at held h (second h held l)
     where
-      at : (held : Tables) → honest new →
-          leaves mid held ⊎ (clean mid × ForEachList b (content mid) (IsContinued b held)) →
-          leaves old held ⊎ (clean old × ForEachList b (content old) (IsContinued b held))
+      at : (held : Tables) → new.honest →
+          mid.left held ⊎ (mid.clean × ForEachList b mid.tables (IsContinued b held)) →
+          old.left held ⊎ (old.clean × ForEachList b old.tables (IsContinued b held))
       at held h (inl l) = first (honesty h) held l
       at held h (inr w) = inr (
         cleanness w.0,
-        continued_more b (content old) (content mid) held (continued w.0) w.1,
+        continued_more b old.tables mid.tables held (continued w.0) w.1,
       )
 
 -- a step
@@ -91,12 +88,11 @@ continued_step b c t old new (Err fault) serves = λ list time are.
 
 -- ---- what a stop leaves of a request
 
-module _ {K : Type 0} (content : K → Tables) (honest clean : K → Type 0)
-    (leaves : K → Tables → Type 0) (b : Shelf) where
+module _ (b : Shelf) where
   -- of a command at the clock's moment: it is due
-  pub held_step : (c : Command) (t : ℕ) (old new : K) →
-      Leaves honest leaves old new (λ held. clean old × Writes b c t (content old) held) →
-      LeavesReply content honest clean leaves b (reads (Ok c)) old new
+  pub held_step : (c : Command) (t : ℕ) (old new : Seen) →
+      Leaves old new (λ held. old.clean × Writes b c t old.tables held) →
+      LeavesReply b (reads (Ok c)) old new
   held_step c t old new left = λ h held l. left_as (left h held l) (λ before. before)
       (λ w. (
         w.0,
@@ -110,10 +106,10 @@ module _ {K : Type 0} (content : K → Tables) (honest clean : K → Type 0)
       ))
 
   -- of a command, whatever it is read from
-  pub held_asked : (c : Command) (old new : K) →
-      LeavesReply content honest clean leaves b (reads (Ok c)) old new → (asking : Asking) →
-      IsAsked asking (told.Does c) → LeavesReply content honest clean leaves b asking old new
+  pub held_asked : (c : Command) (old new : Seen) →
+      LeavesReply b (reads (Ok c)) old new → (asking : Asking) →
+      IsAsked asking (told.Does c) → LeavesReply b asking old new
   held_asked c old new left (refuses s) asked = absurd asked
   held_asked c old new left (reads read) asked =
-      subst (λ r. LeavesReply content honest clean leaves b (reads r) old new) (sym asked) left
+      subst (λ r. LeavesReply b (reads r) old new) (sym asked) left
   held_asked c old new left (states q) asked = absurd asked

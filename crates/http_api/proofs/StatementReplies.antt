@@ -10,6 +10,7 @@ use Rattle.wire.specs.Spelled.{answer_text}
 use Rattle.shelves.specs.Shelves.{Shelf}
 use Rattle.ledger.specs.ChargeColumns.{ChargeColumns}
 use Rattle.ledger.specs.Charges.{charge_rows}
+use Rattle.keepers.specs.Seen.{Seen}
 use Rattle.keepers.specs.Tables.{Tables}
 use Rattle.keepers.specs.Rows.{AreCharges}
 use Rattle.keepers.proofs.Numbered.{charges_rise}
@@ -47,18 +48,15 @@ continued_same b old new same = λ list time are.
     record { commands = []; tables = subst (AreTables b list) (sym same) are; time = time }
 
 -- where the tables stay, and the writer alone fails
-pub goes_on_same : {A K : Type 0} (b : Shelf) (content : K → Tables) (failed : K → ℕ)
-    (honest clean : K → Type 0) (leaves : K → Tables → Type 0) (old new : K)
-    (result : Result A StreamFault) →
-    OnErr result (result ≡ Err stream.Write) → (clean new → content new ≡ content old) →
-    (clean new → clean old) → (honest new → honest old) →
-    (honest new → (t : Tables) → leaves new t → leaves old t) → failed old ≤ failed new →
-    GoesOn b content failed honest clean leaves old new result
-goes_on_same b content failed honest clean leaves old new result only same cleanness honesty left
-    failures =
+pub goes_on_same : {A : Type 0} (b : Shelf) (old new : Seen) (result : Result A StreamFault) →
+    OnErr result (result ≡ Err stream.Write) → (new.clean → new.tables ≡ old.tables) →
+    (new.clean → old.clean) → (new.honest → old.honest) →
+    (new.honest → (t : Tables) → new.left t → old.left t) → old.failed ≤ new.failed →
+    GoesOn b old new result
+goes_on_same b old new result only same cleanness honesty left failures =
     record {
       fault = only;
-      continued = λ whole. continued_same b (content old) (content new) (same whole);
+      continued = λ whole. continued_same b old.tables new.tables (same whole);
       cleanness = cleanness;
       honesty = honesty;
       left = λ h t l. inl (left h t l);

@@ -7,6 +7,7 @@ use Rattle.std.specs.Io.KnownBytes.{Appends}
 use Rattle.std.proofs.KnownBytes.{Appends-nil, Appends-trans}
 use Rattle.std.proofs.Math.Seq.{take-length}
 use Rattle.shelves.specs.Shelves.{Shelf}
+use Rattle.keepers.specs.Seen.{Seen}
 use Rattle.keepers.specs.Tables.{Tables}
 use Rattle.charging.specs.Accepted.{Accepted}
 use Rattle.charging.specs.Continued.{ForEachList}
@@ -508,94 +509,85 @@ module _ {C : Type 0} (gives : C → Option ℕ → C → Type 0) (b : Shelf) wh
         time = here.taken.time;
       }
 
-  module _ {K : Type 0} (content : K → Tables) (honest clean : K → Type 0)
-      (leaves : K → Tables → Type 0) where
-    pub turns_none : (r : Option (List ℕ)) (most : ℕ) (k : K) →
-        LeavesTurns content honest clean leaves b r most k k
-    turns_none None most k = tt
-    turns_none (Some stream) most k = λ h t l. inl l
+  pub turns_none : (r : Option (List ℕ)) (most : ℕ) (k : Seen) → LeavesTurns b r most k k
+  turns_none None most k = tt
+  turns_none (Some stream) most k = λ h t l. inl l
 
-    pub turns_most : (r : Option (List ℕ)) (few most : ℕ) (old new : K) → few ≤ most →
-        LeavesTurns content honest clean leaves b r few old new →
-        LeavesTurns content honest clean leaves b r most old new
-    turns_most None few most old new le left = tt
-    turns_most (Some stream) few most old new le left = λ h t l. left_as (left h t l)
-        (λ before. before) (λ w. (
+  pub turns_most : (r : Option (List ℕ)) (few most : ℕ) (old new : Seen) → few ≤ most →
+      LeavesTurns b r few old new → LeavesTurns b r most old new
+  turns_most None few most old new le left = tt
+  turns_most (Some stream) few most old new le left = λ h t l. left_as (left h t l)
+      (λ before. before) (λ w. (
+        w.0,
+        λ list time are. left_within stream few most t list le (w.1 list time are),
+      ))
+
+  -- one request more
+  pub turns_more : (count left : ℕ) (r0 r1 r2 : Option (List ℕ)) (c0 c1 : C)
+      (w0 w1 : Option (List ℕ)) (old mid new : Seen) (o : Option Heard) (heard : Heard) →
+      0 < left → o ≡ Some heard → (mid.clean → old.clean) → (new.honest → mid.honest) →
+      (mid.honest → IsHeldSoFar count left r0 r1 c0 c1 w0 w1 old.tables
+      (λ t. mid.clean → t ≡ mid.tables)) → IfSome r1 (λ s. Hears s o r2) →
+      ((asking : Asking) → IsAsked asking heard.asked → LeavesReply b asking mid new) →
+      LeavesTurns b r0 count old mid → LeavesTurns b r0 (count + 1) old new
+  turns_more count left None r1 r2 c0 c1 w0 w1 old mid new o heard some is cleanness honesty had
+      hears replies first = tt
+  turns_more count left (Some stream) r1 r2 c0 c1 w0 w1 old mid new o heard some is cleanness
+      honesty had hears replies first = λ h t l.
+      let so : IsSoFar stream count left r1 c0 c1 w0 w1 old.tables (had (honesty h)).held =
+      (had (honesty h)).so_far in
+      let here : Hears so.rest (Some heard) r2 =
+      subst (λ (r : Option (List ℕ)). IfSome r (λ s. Hears s (Some heard) r2)) so.rest_is
+      (subst (λ (x : Option Heard). IfSome r1 (λ s. Hears s x r2)) is hears) in
+      let case : IsHeard b here.next heard r2 =
+      heard_case b so.rest here.next heard r2 here.is_next here.hears in
+      elim (replies case.asking case.asked h t l) [
+        | inl before ↦ left_as (first (honesty h) t before) (λ x. x) (λ w. (
           w.0,
-          λ list time are.
-              left_within stream few most t list le (w.1 list time are),
+          λ list time are. left_within stream count (count + 1) t list (omega arith)
+              (w.1 list time are),
         ))
-
-    -- one request more
-    pub turns_more : (count left : ℕ) (r0 r1 r2 : Option (List ℕ)) (c0 c1 : C)
-        (w0 w1 : Option (List ℕ)) (old mid new : K) (o : Option Heard) (heard : Heard) →
-        0 < left → o ≡ Some heard → (clean mid → clean old) → (honest new → honest mid) →
-        (honest mid → IsHeldSoFar count left r0 r1 c0 c1 w0 w1 (content old)
-        (λ t. clean mid → t ≡ content mid)) → IfSome r1 (λ s. Hears s o r2) →
-        ((asking : Asking) → IsAsked asking heard.asked →
-        LeavesReply content honest clean leaves b asking mid new) →
-        LeavesTurns content honest clean leaves b r0 count old mid →
-        LeavesTurns content honest clean leaves b r0 (count + 1) old new
-    turns_more count left None r1 r2 c0 c1 w0 w1 old mid new o heard some is cleanness honesty had
-        hears replies first = tt
-    turns_more count left (Some stream) r1 r2 c0 c1 w0 w1 old mid new o heard some is cleanness
-        honesty had hears replies first = λ h t l.
-        let so : IsSoFar stream count left r1 c0 c1 w0 w1 (content old) (had (honesty h)).held =
-        (had (honesty h)).so_far in
-        let here : Hears so.rest (Some heard) r2 =
-        subst (λ (r : Option (List ℕ)). IfSome r (λ s. Hears s (Some heard) r2)) so.rest_is
-        (subst (λ (x : Option Heard). IfSome r1 (λ s. Hears s x r2)) is hears) in
-        let case : IsHeard b here.next heard r2 =
-        heard_case b so.rest here.next heard r2 here.is_next here.hears in
-        elim (replies case.asking case.asked h t l) [
-          | inl before ↦ left_as (first (honesty h) t before) (λ x. x) (λ w. (
-            w.0,
-            λ list time are. left_within stream count (count + 1) t list (omega arith)
-                (w.1 list time are),
-          ))
-          | inr w ↦ inr (
-            cleanness w.0,
-            λ list time are.
-                let at : IsAt b stream count left so.rest so.moments so.text (had (honesty h)).held
-                list = so.at list time are in
-                left_one stream count left so.rest case.rest so.moments so.text
-                (had (honesty h)).held t list case.asking heard.closes here.next some here.is_next
-                case.says case.takes at
-                (w.1 at.taken.last.list at.taken.time (subst (AreTables b at.taken.last.list)
-                ((had (honesty h)).now w.0) at.taken.tables)),
-          )
-        ]
+        | inr w ↦ inr (
+          cleanness w.0,
+          λ list time are.
+              let at : IsAt b stream count left so.rest so.moments so.text (had (honesty h)).held
+              list = so.at list time are in
+              left_one stream count left so.rest case.rest so.moments so.text
+              (had (honesty h)).held t list case.asking heard.closes here.next some here.is_next
+              case.says case.takes at
+              (w.1 at.taken.last.list at.taken.time (subst (AreTables b at.taken.last.list)
+              ((had (honesty h)).now w.0) at.taken.tables)),
+        )
+      ]
 
   -- nothing is read, since memory is refused
-  pub none_served : {K : Type 0} (r : Option (List ℕ)) (c : C) (w : Option (List ℕ))
-      (content : K → Tables) (failed : K → ℕ) (honest clean : K → Type 0)
-      (leaves : K → Tables → Type 0) (k : K) →
-      ServesConnection gives b r c c w w content failed honest clean leaves k k (Err fault.Memory)
-  none_served r c w content failed honest clean leaves k = record {
+  pub none_served : (r : Option (List ℕ)) (c : C) (w : Option (List ℕ)) (k : Seen) →
+      ServesConnection gives b r c c w w k k (Err fault.Memory)
+  none_served r c w k = record {
     served = λ is_clean. tt;
-    begun = λ is_clean. so_far-begun 0 1000 r r c c w w (content k) (content k) (omega arith)
-        (so_far-none r c w (content k));
-    memory = λ is_clean e. so_far-unread 0 1000 r r c c w w (content k) (content k) (omega arith)
-        (omega arith) (so_far-none r c w (content k));
+    begun = λ is_clean. so_far-begun 0 1000 r r c c w w k.tables k.tables (omega arith)
+        (so_far-none r c w k.tables);
+    memory = λ is_clean e. so_far-unread 0 1000 r r c c w w k.tables k.tables (omega arith)
+        (omega arith) (so_far-none r c w k.tables);
     read = λ is_clean e. absurd (cc);
     write = λ is_clean e. absurd (cc);
     bounded = tt;
     shown = λ is_honest. record {
-      held = content k;
+      held = k.tables;
       served = tt;
-      begun = so_far-begun 0 1000 r r c c w w (content k) (content k) (omega arith)
-          (so_far-none r c w (content k));
-      memory = λ e. so_far-unread 0 1000 r r c c w w (content k) (content k) (omega arith)
-          (omega arith) (so_far-none r c w (content k));
+      begun = so_far-begun 0 1000 r r c c w w k.tables k.tables (omega arith)
+          (so_far-none r c w k.tables);
+      memory = λ e. so_far-unread 0 1000 r r c c w w k.tables k.tables (omega arith)
+          (omega arith) (so_far-none r c w k.tables);
       read = λ e. absurd (cc);
       write = λ e. absurd (cc);
     };
-    continued = λ is_clean. continued_none b (content k);
+    continued = λ is_clean. continued_none b k.tables;
     cleanness = λ is_clean. is_clean;
     honesty = λ is_honest. is_honest;
     left = λ is_honest t l. inl l;
-    held = turns_none content honest clean leaves r 1000 k;
-    failures = le_refl (failed k);
+    held = turns_none r 1000 k;
+    failures = le_refl k.failed;
   }
 
 -- ---- how many requests are left

@@ -9,6 +9,7 @@ use Rattle.std.specs.Io.KnownBytes.{Appends}
 use Rattle.units.specs.Words.{Moment}
 use Rattle.texts.specs.StreamWords.{Bytes}
 use Rattle.shelves.specs.Shelves.{Shelf}
+use Rattle.keepers.specs.Seen.{Seen}
 use Rattle.keepers.specs.Tables.{Tables}
 use Rattle.charging.specs.Accepted.{Accepted, IsInTime}
 use Rattle.charging.specs.Continued.{ForEachList, Continues, LeavesOn}
@@ -184,11 +185,9 @@ pub record IsLeftWithin (b : Shelf) (stream : Bytes) (most : ℕ) (held : Tables
 
 -- where the reader tells its bytes, a stop leaves what it left before, or, of a keeper that was
 -- clean before, tables to which at most so many of its requests come
-abbrev pub LeavesTurns : {K : Type 0} → (K → Tables) → (K → Type 0) → (K → Type 0) →
-    (K → Tables → Type 0) → Shelf → Option Bytes → ℕ → K → K → Type 0
-LeavesTurns content honest clean leaves b bytes most old new = IfSome bytes (λ stream.
-    Leaves honest leaves old new
-    (λ t. clean old × ForEachList b (content old) (IsLeftWithin b stream most t)))
+abbrev pub LeavesTurns : Shelf → Option Bytes → ℕ → Seen → Seen → Type 0
+LeavesTurns b bytes most old new = IfSome bytes (λ stream.
+    Leaves old new (λ t. old.clean × ForEachList b old.tables (IsLeftWithin b stream most t)))
 
 -- the same of an honest keeper that may not be asked any more: of the tables at the last moment at
 -- which it could be asked
@@ -211,26 +210,25 @@ pub record IsShown {C : Type 0} (gives : C → Option Moment → C → Type 0) (
 -- is served to its end, or a beginning of it is, and each fault says which; at most 1,000 requests
 -- are answered, and the accepted commands go on, also those that are found after a stop: these are
 -- of a beginning of its requests
-pub record ServesConnection {C K : Type 0} (gives : C → Option Moment → C → Type 0) (b : Shelf)
-    (bytes : Option Bytes) (before after : C) (empty full : Option Bytes) (content : K → Tables)
-    (failed : K → ℕ) (honest clean : K → Type 0) (leaves : K → Tables → Type 0) (old new : K)
+pub record ServesConnection {C : Type 0} (gives : C → Option Moment → C → Type 0) (b : Shelf)
+    (bytes : Option Bytes) (before after : C) (empty full : Option Bytes) (old new : Seen)
     (result : Result Served ServeFault) : Type 0 where
-  pub served : clean new → IfOk result (λ done. IfSome bytes (λ stream.
-      IsConnectionServed gives b stream done.requests before after empty full (content old)
-      (content new)))
-  pub begun : clean new → OnErr result (IfSome bytes (λ stream.
-      IsConnectionBegun gives b stream before after empty full (content old) (content new)))
-  pub memory : clean new → IsErrOf result Memory → IfSome bytes (λ stream.
-      IsUnread gives b stream before after empty full (content old) (content new))
-  pub read : clean new → IsErrOf result Read → IfSome bytes (λ stream.
-      IsUnread gives b stream before after empty full (content old) (content new))
-  pub write : clean new → IsErrOf result Write → IfSome bytes (λ stream.
-      IsCutOff gives b stream before after empty full (content old) (content new))
-  pub shown : honest new → IsShown gives b bytes before after empty full (content old) result
+  pub served : new.clean → IfOk result (λ done. IfSome bytes (λ stream.
+      IsConnectionServed gives b stream done.requests before after empty full old.tables
+      new.tables))
+  pub begun : new.clean → OnErr result (IfSome bytes (λ stream.
+      IsConnectionBegun gives b stream before after empty full old.tables new.tables))
+  pub memory : new.clean → IsErrOf result Memory → IfSome bytes (λ stream.
+      IsUnread gives b stream before after empty full old.tables new.tables)
+  pub read : new.clean → IsErrOf result Read → IfSome bytes (λ stream.
+      IsUnread gives b stream before after empty full old.tables new.tables)
+  pub write : new.clean → IsErrOf result Write → IfSome bytes (λ stream.
+      IsCutOff gives b stream before after empty full old.tables new.tables)
+  pub shown : new.honest → IsShown gives b bytes before after empty full old.tables result
   pub bounded : IfOk result (λ done. done.requests ≤ 1000)
-  pub continued : clean new → Continues b (content old) (content new)
-  pub cleanness : clean new → clean old
-  pub honesty : honest new → honest old
-  pub left : LeavesOn content honest clean leaves b old new
-  pub held : LeavesTurns content honest clean leaves b bytes 1000 old new
-  pub failures : failed old ≤ failed new
+  pub continued : new.clean → Continues b old.tables new.tables
+  pub cleanness : new.clean → old.clean
+  pub honesty : new.honest → old.honest
+  pub left : LeavesOn b old new
+  pub held : LeavesTurns b bytes 1000 old new
+  pub failures : old.failed ≤ new.failed

@@ -16,6 +16,7 @@ use Rattle.shelves.specs.Shelves.{Shelf}
 use Rattle.ledger.specs.Balance.{buckets_at}
 use Rattle.ledger.specs.Charges.{charge_rows}
 use Rattle.ledger.specs.Pricing.{validity_of}
+use Rattle.keepers.specs.Seen.{Seen}
 use Rattle.keepers.specs.Tables.{Tables}
 use Rattle.statements.specs.Texts.{statement_text}
 use Rattle.charging.specs.Accepted.{Accepted, IsInTime}
@@ -147,12 +148,11 @@ pub record ShowsReply {A : Type 0} (Told : (Bytes → Type 0) → Tables → Tab
   pub err : OnErr result (Told (Begins empty full) held next)
 
 -- so it is over an honest keeper, from any tables on that are the keeper's where it is clean
-abbrev pub Shows : {A K : Type 0} → ((Bytes → Type 0) → Tables → Tables → Type 0) → Option Bytes →
-    Option Bytes → (K → Tables) → (K → Type 0) → (K → Type 0) → K → K → Result A StreamFault →
-    Type 0
-Shows Told empty full content honest clean old new result =
-    honest new → (held : Tables) → (clean old → held ≡ content old) →
-    ShowsReply Told empty full held (λ t. clean new → t ≡ content new) result
+abbrev pub Shows : {A : Type 0} → ((Bytes → Type 0) → Tables → Tables → Type 0) → Option Bytes →
+    Option Bytes → Seen → Seen → Result A StreamFault → Type 0
+Shows Told empty full old new result =
+    new.honest → (held : Tables) → (old.clean → held ≡ old.tables) →
+    ShowsReply Told empty full held (λ t. new.clean → t ≡ new.tables) result
 
 -- tables are those after a reply to the request
 pub record IsReplyHeld (b : Shelf) (asking : Asking) (held : Tables) (list : List Accepted) : Type 0
@@ -164,20 +164,17 @@ pub record IsReplyHeld (b : Shelf) (asking : Asking) (held : Tables) (list : Lis
     pub time : IsInTime reply.after
 
 -- a stop leaves what it left before, or, of a keeper that was clean before, tables after a reply
-abbrev pub LeavesReply : {K : Type 0} → (K → Tables) → (K → Type 0) → (K → Type 0) →
-    (K → Tables → Type 0) → Shelf → Asking → K → K → Type 0
-LeavesReply content honest clean leaves b asking old new =
-    Leaves honest leaves old new
-    (λ t. clean old × ForEachList b (content old) (IsReplyHeld b asking t))
+abbrev pub LeavesReply : Shelf → Asking → Seen → Seen → Type 0
+LeavesReply b asking old new =
+    Leaves old new (λ t. old.clean × ForEachList b old.tables (IsReplyHeld b asking t))
 
 -- what answering a request leaves, whatever it asks: the writer alone fails, and the accepted
 -- commands go on
-pub record GoesOn {A K : Type 0} (b : Shelf) (content : K → Tables) (failed : K → ℕ)
-    (honest clean : K → Type 0) (leaves : K → Tables → Type 0) (old new : K)
+pub record GoesOn {A : Type 0} (b : Shelf) (old new : Seen)
     (result : Result A StreamFault) : Type 0 where
   pub fault : OnErr result (result ≡ Err Write)
-  pub continued : clean new → Continues b (content old) (content new)
-  pub cleanness : clean new → clean old
-  pub honesty : honest new → honest old
-  pub left : LeavesOn content honest clean leaves b old new
-  pub failures : failed old ≤ failed new
+  pub continued : new.clean → Continues b old.tables new.tables
+  pub cleanness : new.clean → old.clean
+  pub honesty : new.honest → old.honest
+  pub left : LeavesOn b old new
+  pub failures : old.failed ≤ new.failed

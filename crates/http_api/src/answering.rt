@@ -34,12 +34,11 @@ pub(crate) fn answer_request<W: Write, K: ChargeSource, C: Clock>(
 ) -> Result<(), StreamFault>
     ensures shown { Shows (λ Writes x y. (asking : Asking) → IsAsked asking asked →
         Replies C.gives shelf.now asking closes clock.old clock.new Writes x y)
-        (W.contents writer.old) (W.contents writer.new)
-        K.content K.honest K.clean keeper.old keeper.new result }
-    ensures goes_on { GoesOn shelf.now K.content K.failed K.honest K.clean K.left
-        keeper.old keeper.new result }
+        (W.contents writer.old) (W.contents writer.new) (K.seen keeper.old) (K.seen keeper.new)
+        result }
+    ensures goes_on { GoesOn shelf.now (K.seen keeper.old) (K.seen keeper.new) result }
     ensures held { (asking : Asking) → IsAsked asking asked →
-        LeavesReply K.content K.honest K.clean K.left shelf.now asking keeper.old keeper.new }
+        LeavesReply shelf.now asking (K.seen keeper.old) (K.seen keeper.new) }
 {
     match asked {
         HttpAsked::Refused(refusal) => tell_refusal(writer, refusal, closes),
@@ -66,12 +65,11 @@ fn serve_command<W: Write, K: ChargeSource, C: Clock>(
 ) -> Result<(), StreamFault>
     ensures shown { Shows
         (Replies C.gives shelf.now (reads (Ok command)) closes clock.old clock.new)
-        (W.contents writer.old) (W.contents writer.new)
-        K.content K.honest K.clean keeper.old keeper.new result }
-    ensures goes_on { GoesOn shelf.now K.content K.failed K.honest K.clean K.left
-        keeper.old keeper.new result }
-    ensures held { LeavesReply K.content K.honest K.clean K.left shelf.now (reads (Ok command))
-        keeper.old keeper.new }
+        (W.contents writer.old) (W.contents writer.new) (K.seen keeper.old) (K.seen keeper.new)
+        result }
+    ensures goes_on { GoesOn shelf.now (K.seen keeper.old) (K.seen keeper.new) result }
+    ensures held { LeavesReply shelf.now (reads (Ok command))
+        (K.seen keeper.old) (K.seen keeper.new) }
 {
     let Some(moment) = clock.now() else {
         return tell_unable(writer, closes);

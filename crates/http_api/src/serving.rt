@@ -44,8 +44,8 @@ pub fn serve<R: Read, W: Write, K: ChargeSource, C: Clock>(
     clock: &mut C,
 ) -> Result<Served, ServeFault>
     ensures { ServesConnection C.gives shelf.now (R.remaining reader.old) clock.old clock.new
-        (W.contents writer.old) (W.contents writer.new)
-        K.content K.failed K.honest K.clean K.left keeper.old keeper.new result }
+        (W.contents writer.old) (W.contents writer.new) (K.seen keeper.old) (K.seen keeper.new)
+        result }
 {
     let Ok(router) = known_router(alloc) else {
         return Err(ServeFault::Memory);
@@ -100,8 +100,8 @@ fn serve_requests<R: BufRead, W: Write, K: ChargeSource, C: Clock>(
     requires router { router.now ≡ table }
     requires room { 8192 ≤ 3 * length room.old }
     ensures { ServesConnection C.gives shelf.now (R.remaining reader.old) clock.old clock.new
-        (W.contents writer.old) (W.contents writer.new)
-        K.content K.failed K.honest K.clean K.left keeper.old keeper.new result }
+        (W.contents writer.old) (W.contents writer.new) (K.seen keeper.old) (K.seen keeper.new)
+        result }
 {
     let mut left = MAX_REQUESTS;
     for served in 0..MAX_REQUESTS {

@@ -35,8 +35,7 @@ pub fn serve_socket<K: ChargeSource, C: Clock>(
     shelf: &TariffShelf,
     clock: &mut C,
 ) -> Result<Served, ServeFault>
-    ensures { ServesSocket K.content K.failed K.honest K.clean K.left shelf.now
-        keeper.old keeper.new result }
+    ensures { ServesSocket shelf.now (K.seen keeper.old) (K.seen keeper.new) result }
 {
     if limit(stream).is_err() {
         return Err(ServeFault::Read);
@@ -61,8 +60,7 @@ fn serve_joined<K: ChargeSource, C: Clock>(
     shelf: &TariffShelf,
     clock: &mut C,
 ) -> Result<Served, ServeFault>
-    ensures { ServesSocket K.content K.failed K.honest K.clean K.left shelf.now
-        keeper.old keeper.new result }
+    ensures { ServesSocket shelf.now (K.seen keeper.old) (K.seen keeper.new) result }
 {
     let coming = Cell::new(Coming::Nothing);
     let mut reader = PatientReader {

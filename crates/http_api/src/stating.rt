@@ -42,14 +42,16 @@ pub(crate) fn serve_statement<W: Write, K: ChargeSource, C: Clock>(
     closes: bool,
 ) -> Result<(), StreamFault>
     ensures shown { Shows (Replies C.gives shelf.now (states asked.now) closes clock.old clock.new)
-        (W.contents writer.old) (W.contents writer.new)
-        K.content K.honest K.clean keeper.old keeper.new result }
+        (W.contents writer.old) (W.contents writer.new) (K.seen keeper.old) (K.seen keeper.new)
+        result }
     ensures fault { OnErr result (result ≡ Err StreamFault.Write) }
-    ensures same { K.clean keeper.new → K.content keeper.new ≡ K.content keeper.old }
-    ensures cleanness { K.clean keeper.new → K.clean keeper.old }
-    ensures honesty { K.honest keeper.new → K.honest keeper.old }
-    ensures left { K.honest keeper.new → (t : Tables) → K.left keeper.new t → K.left keeper.old t }
-    ensures failures { K.failed keeper.old ≤ K.failed keeper.new }
+    ensures same { (K.seen keeper.new).clean →
+        (K.seen keeper.new).tables ≡ (K.seen keeper.old).tables }
+    ensures cleanness { (K.seen keeper.new).clean → (K.seen keeper.old).clean }
+    ensures honesty { (K.seen keeper.new).honest → (K.seen keeper.old).honest }
+    ensures left { (K.seen keeper.new).honest → (t : Tables) → (K.seen keeper.new).left t →
+        (K.seen keeper.old).left t }
+    ensures failures { (K.seen keeper.old).failed ≤ (K.seen keeper.new).failed }
 {
     let Some(moment) = clock.now() else {
         return tell_unable(writer, closes);
@@ -74,22 +76,24 @@ fn tell_statement<W: Write, K: ChargeSource>(
     state: &AccountState,
     closes: bool,
 ) -> Result<(), StreamFault>
-    ensures ok { K.honest keeper.new → OnOk result
-        (TellsCharges ((K.content keeper.old).charges asked.now.account)
+    ensures ok { (K.seen keeper.new).honest → OnOk result
+        (TellsCharges ((K.seen keeper.old).tables.charges asked.now.account)
         (λ rows. statement_text shelf.now.first asked.now.account asked.now.month state.now.moment
         rows state.now.buckets.items) closes
         (Appends (W.contents writer.old) (W.contents writer.new))) }
-    ensures err { K.honest keeper.new → OnErr result
-        (TellsCharges ((K.content keeper.old).charges asked.now.account)
+    ensures err { (K.seen keeper.new).honest → OnErr result
+        (TellsCharges ((K.seen keeper.old).tables.charges asked.now.account)
         (λ rows. statement_text shelf.now.first asked.now.account asked.now.month state.now.moment
         rows state.now.buckets.items) closes
         (Begins (W.contents writer.old) (W.contents writer.new))) }
     ensures fault { OnErr result (result ≡ Err StreamFault.Write) }
-    ensures same { K.clean keeper.new → K.content keeper.new ≡ K.content keeper.old }
-    ensures cleanness { K.clean keeper.new → K.clean keeper.old }
-    ensures honesty { K.honest keeper.new → K.honest keeper.old }
-    ensures left { K.honest keeper.new → (t : Tables) → K.left keeper.new t → K.left keeper.old t }
-    ensures failures { K.failed keeper.old ≤ K.failed keeper.new }
+    ensures same { (K.seen keeper.new).clean →
+        (K.seen keeper.new).tables ≡ (K.seen keeper.old).tables }
+    ensures cleanness { (K.seen keeper.new).clean → (K.seen keeper.old).clean }
+    ensures honesty { (K.seen keeper.new).honest → (K.seen keeper.old).honest }
+    ensures left { (K.seen keeper.new).honest → (t : Tables) → (K.seen keeper.new).left t →
+        (K.seen keeper.old).left t }
+    ensures failures { (K.seen keeper.old).failed ≤ (K.seen keeper.new).failed }
 {
     match statement_of(alloc, keeper, shelf, asked, state) {
         Ok(text) => tell_text(alloc, writer, StatusCode::OK, closes, text.as_slice()),
@@ -105,12 +109,12 @@ fn statement_of<K: ChargeSource>(
     asked: &StatementAsked,
     state: &AccountState,
 ) -> Result<Vec<u8>, StatementFault>
-    ensures text { K.clean keeper.new → IfOk result (λ text. (rows : List ChargeColumns) →
-        AreCharges ((K.content keeper.old).charges asked.now.account) rows →
+    ensures text { (K.seen keeper.new).clean → IfOk result (λ text. (rows : List ChargeColumns) →
+        AreCharges ((K.seen keeper.old).tables.charges asked.now.account) rows →
         text.items ≡ statement_text shelf.now.first asked.now.account asked.now.month
         state.now.moment
         rows state.now.buckets.items) }
-    ensures asks { Asks K.content K.failed K.honest K.clean K.left keeper.old keeper.new
+    ensures asks { Asks (K.seen keeper.old) (K.seen keeper.new)
         result }
 {
     let mut text = Vec::new(alloc);

@@ -12,6 +12,7 @@ use Rattle.std.proofs.lemmas.Option.{none-some}
 use Rattle.ledger.specs.ChargeColumns.{ChargeColumns}
 use Rattle.keepers.specs.Faults.{HasCause}
 use Rattle.keepers.specs.Keeping.{KeeperReads}
+use Rattle.keepers.specs.Seen.{Seen}
 use Rattle.keepers.specs.Tables.{Tables, charge_in}
 use Rattle.keepers.specs.declared.fault.StoreFault.{StoreFault}
 use Rattle.keepers.specs.declared.fault.StoreFault.TheVariants.{Store}
@@ -62,27 +63,26 @@ same_fault {A} {B} e f is = ap (λ x. Err x) (inner is)
     inner : ◌≡◌ {A = Result B StoreFault} (Err e) (Err f) → e ≡ f
     inner h = cc
 
-module _ {K V : Type 0} (content : K → Tables) (failed : K → ℕ) (honest clean : K → Type 0)
-    (leaves : K → Tables → Type 0)
-    (Sees : V → ChargeColumns → Bool → V → Type 0) (account : List ℕ) (from until : ℕ) where
+module _ {V : Type 0} (Sees : V → ChargeColumns → Bool → V → Type 0) (account : List ℕ)
+    (from until : ℕ) where
   in_range : List ChargeColumns → List ChargeColumns
   in_range rows = filter (is_between from until) rows
 
-  abbrev Pages : K → ℕ → ChargePage → Type 0
-  Pages k after page = IsPage ((content k).charges account) after page
+  abbrev Pages : Seen → ℕ → ChargePage → Type 0
+  Pages k after page = IsPage (k.tables.charges account) after page
 
   -- the charges up to a number were shown, and the visitor goes on
-  pub record HasShown (after : ℕ) (old now : K) (before seen : V) : Type 0 where
-    pub same : clean now → content now ≡ content old
-    pub cleanness : clean now → clean old
-    pub honesty : honest now → honest old
-    pub left : honest now → (t : Tables) → leaves now t → leaves old t
-    pub kept : failed old ≤ failed now
-    pub shown : clean now → (rows : List ChargeColumns) →
-        AreCharges ((content old).charges account) rows →
+  pub record HasShown (after : ℕ) (old now : Seen) (before seen : V) : Type 0 where
+    pub same : now.clean → now.tables ≡ old.tables
+    pub cleanness : now.clean → old.clean
+    pub honesty : now.honest → old.honest
+    pub left : now.honest → (t : Tables) → now.left t → old.left t
+    pub kept : old.failed ≤ now.failed
+    pub shown : now.clean → (rows : List ChargeColumns) →
+        AreCharges (old.tables.charges account) rows →
         Shows Sees (filter (is_between from until) (up_to after rows)) true before seen
 
-  pub none_shown : (k : K) (v : V) → (content k).charges account 0 ≡ None → HasShown 0 k k v v
+  pub none_shown : (k : Seen) (v : V) → k.tables.charges account 0 ≡ None → HasShown 0 k k v v
   none_shown k v none = record {
     same = λ clean. refl;
     cleanness = λ clean. clean;
@@ -95,11 +95,11 @@ module _ {K V : Type 0} (content : K → Tables) (failed : K → ℕ) (honest cl
   }
 
   -- what a page's rows are shown for
-  paged : (after : ℕ) (old mid now : K) (page : ChargePage) (before seen next : V) (all : Bool) →
+  paged : (after : ℕ) (old mid now : Seen) (page : ChargePage) (before seen next : V) (all : Bool) →
       HasShown after old mid before seen →
-      KeeperReads content failed honest clean leaves mid now (Pages mid after) (Ok page) →
-      Shows Sees (filter (is_between from until) page.rows.items) all seen next → clean now →
-      (rows : List ChargeColumns) → AreCharges ((content old).charges account) rows →
+      KeeperReads mid now (Pages mid after) (Ok page) →
+      Shows Sees (filter (is_between from until) page.rows.items) all seen next → now.clean →
+      (rows : List ChargeColumns) → AreCharges (old.tables.charges account) rows →
       Shows Sees (filter (is_between from until) (up_to page.last rows)) all before next
   paged after old mid now page before seen next all had read shows ok rows are =
       let p = is_between from until in
@@ -115,9 +115,9 @@ module _ {K V : Type 0} (content : K → Tables) (failed : K → ℕ) (honest cl
       (subst (λ l. Shows Sees (filter p l) all seen next) (is.rows rows are) shows))
 
   -- one page more
-  pub page_shown : (after : ℕ) (old mid now : K) (page : ChargePage) (before seen next : V) →
+  pub page_shown : (after : ℕ) (old mid now : Seen) (page : ChargePage) (before seen next : V) →
       HasShown after old mid before seen →
-      KeeperReads content failed honest clean leaves mid now (Pages mid after) (Ok page) →
+      KeeperReads mid now (Pages mid after) (Ok page) →
       Shows Sees (filter (is_between from until) page.rows.items) true seen next →
       HasShown page.last old now before next
   page_shown after old mid now page before seen next had read shows = record {
@@ -130,12 +130,12 @@ module _ {K V : Type 0} (content : K → Tables) (failed : K → ℕ) (honest cl
   }
 
   -- an answer after a page
-  answers : (after : ℕ) (old mid now : K) (page : ChargePage) (before seen next : V) →
+  answers : (after : ℕ) (old mid now : Seen) (page : ChargePage) (before seen next : V) →
       HasShown after old mid before seen →
-      KeeperReads content failed honest clean leaves mid now (Pages mid after) (Ok page) →
-      (clean now → SeesCharges Sees from until ((content old).charges account) before next) →
-      KeeperReads {T = Unit {0}} content failed honest clean leaves old now
-      (λ done. SeesCharges Sees from until ((content old).charges account) before next) (Ok tt)
+      KeeperReads mid now (Pages mid after) (Ok page) →
+      (now.clean → SeesCharges Sees from until (old.tables.charges account) before next) →
+      KeeperReads {T = Unit {0}} old now
+      (λ done. SeesCharges Sees from until (old.tables.charges account) before next) (Ok tt)
   answers after old mid now page before seen next had read sees = record {
     found = sees;
     same = λ ok. read.same ok ∙ had.same (read.cleanness ok);
@@ -150,12 +150,12 @@ module _ {K V : Type 0} (content : K → Tables) (failed : K → ℕ) (honest cl
   }
 
   -- the visitor stopped
-  pub stopped : (after : ℕ) (old mid now : K) (page : ChargePage) (before seen next : V) →
+  pub stopped : (after : ℕ) (old mid now : Seen) (page : ChargePage) (before seen next : V) →
       HasShown after old mid before seen →
-      KeeperReads content failed honest clean leaves mid now (Pages mid after) (Ok page) →
+      KeeperReads mid now (Pages mid after) (Ok page) →
       Shows Sees (filter (is_between from until) page.rows.items) false seen next →
-      KeeperReads {T = Unit {0}} content failed honest clean leaves old now
-      (λ done. SeesCharges Sees from until ((content old).charges account) before next) (Ok tt)
+      KeeperReads {T = Unit {0}} old now
+      (λ done. SeesCharges Sees from until (old.tables.charges account) before next) (Ok tt)
   stopped after old mid now page before seen next had read shows =
       let p = is_between from until in
       answers after old mid now page before seen next had read
@@ -169,13 +169,13 @@ module _ {K V : Type 0} (content : K → Tables) (failed : K → ℕ) (honest cl
       (paged after old mid now page before seen next false had read shows ok rows are))))
 
   -- no page is left
-  pub ended : (after : ℕ) (old mid now : K) (page : ChargePage) (before seen next : V) →
+  pub ended : (after : ℕ) (old mid now : Seen) (page : ChargePage) (before seen next : V) →
       HasShown after old mid before seen →
-      KeeperReads content failed honest clean leaves mid now (Pages mid after) (Ok page) →
+      KeeperReads mid now (Pages mid after) (Ok page) →
       Shows Sees (filter (is_between from until) page.rows.items) true seen next →
       page.is_last ≡ true →
-      KeeperReads {T = Unit {0}} content failed honest clean leaves old now
-      (λ done. SeesCharges Sees from until ((content old).charges account) before next) (Ok tt)
+      KeeperReads {T = Unit {0}} old now
+      (λ done. SeesCharges Sees from until (old.tables.charges account) before next) (Ok tt)
   ended after old mid now page before seen next had read shows last =
       let p = is_between from until in
       answers after old mid now page before seen next had read
@@ -189,12 +189,11 @@ module _ {K V : Type 0} (content : K → Tables) (failed : K → ℕ) (honest cl
       (paged after old mid now page before seen next true had read shows ok rows are)))
 
   -- a page failed: its fault is told
-  pub failed_then : {A B : Type 0} (after : ℕ) (old mid now : K) (before seen : V)
-      (Found : A → Type 0) (Seen : B → Type 0) (e : StoreFault) →
+  pub failed_then : {A B : Type 0} (after : ℕ) (old mid now : Seen) (before seen : V)
+      (Found : A → Type 0) (Told : B → Type 0) (e : StoreFault) →
       HasShown after old mid before seen →
-      KeeperReads content failed honest clean leaves mid now Found (Err e) →
-      KeeperReads content failed honest clean leaves old now Seen (Err e)
-  failed_then after old mid now before seen Found Seen e had read = record {
+      KeeperReads mid now Found (Err e) → KeeperReads old now Told (Err e)
+  failed_then after old mid now before seen Found Told e had read = record {
     found = λ ok. tt;
     same = λ ok. read.same ok ∙ had.same (read.cleanness ok);
     cleanness = λ ok. had.cleanness (read.cleanness ok);
@@ -210,11 +209,11 @@ module _ {K V : Type 0} (content : K → Tables) (failed : K → ℕ) (honest cl
   }
 
   -- what was shown until then is a beginning
-  pub begun : {A : Type 0} (after : ℕ) (old mid now : K) (before seen : V) (Found : A → Type 0)
+  pub begun : {A : Type 0} (after : ℕ) (old mid now : Seen) (before seen : V) (Found : A → Type 0)
       (r : Result A StoreFault) →
       HasShown after old mid before seen →
-      KeeperReads content failed honest clean leaves mid now Found r → clean now →
-      SeesBeginning Sees from until ((content old).charges account) before seen
+      KeeperReads mid now Found r → now.clean →
+      SeesBeginning Sees from until (old.tables.charges account) before seen
   begun after old mid now before seen Found r had read ok rows are =
       let p = is_between from until in (
         length (filter p (up_to after rows)),
@@ -225,10 +224,10 @@ module _ {K V : Type 0} (content : K → Tables) (failed : K → ℕ) (honest cl
       )
 
   -- nothing is said of a store that isn't clean
-  pub never : (after : ℕ) (old now : K) (before seen : V) → HasShown after old now before seen →
-      (honest now → clean now) → (clean now → ⊥) →
-      KeeperReads {T = Unit {0}} content failed honest clean leaves old now
-      (λ done. SeesCharges Sees from until ((content old).charges account) before seen) (Ok tt)
+  pub never : (after : ℕ) (old now : Seen) (before seen : V) → HasShown after old now before seen →
+      (now.honest → now.clean) → (now.clean → ⊥) →
+      KeeperReads {T = Unit {0}} old now
+      (λ done. SeesCharges Sees from until (old.tables.charges account) before seen) (Ok tt)
   never after old now before seen had asked unclean = record {
     found = λ ok. absurd (unclean ok);
     same = had.same;

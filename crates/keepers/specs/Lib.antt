@@ -14,6 +14,7 @@ pub mod Replacing
 pub mod Overlaying
 pub mod Memory
 pub mod Failing
+pub mod Seen
 pub mod Steps
 pub mod Rows
 pub mod Visits

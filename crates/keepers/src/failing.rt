@@ -27,9 +27,9 @@ impl<K: Keeper> Failing<K> {
     /// The keeper, with a store that fails at the call after this many. `failures` and `abandon`
     /// don't count.
     pub fn new(inner: K, left: u64) -> Failing<K>
-        ensures content { ⟦<Failing<K> as Keeper>⟧.content result ≡ K.content inner }
-        ensures failures { ⟦<Failing<K> as Keeper>⟧.failed result ≡ K.failed inner }
-        ensures cleanness { K.clean inner → ⟦<Failing<K> as Keeper>⟧.clean result }
+        ensures content { (⟦<Failing<K> as Keeper>⟧.seen result).tables ≡ (K.seen inner).tables }
+        ensures failures { (⟦<Failing<K> as Keeper>⟧.seen result).failed ≡ (K.seen inner).failed }
+        ensures cleanness { (K.seen inner).clean → (⟦<Failing<K> as Keeper>⟧.seen result).clean }
         ensures calls { result.left ≡ left }
     {
         Failing {
@@ -41,7 +41,7 @@ impl<K: Keeper> Failing<K> {
 
     /// The keeper inside.
     pub fn into_inner(self) -> K
-        ensures { K.content result ≡ ⟦<Failing<K> as Keeper>⟧.content self }
+        ensures { (K.seen result).tables ≡ (⟦<Failing<K> as Keeper>⟧.seen self).tables }
     {
         let Failing {
             inner,
@@ -75,17 +75,15 @@ impl<K: Keeper> Failing<K> {
 impl<K: Keeper> Keeper for Failing<K> {
     ghost use Rattle.keepers.specs.Failing.{failure_total, total-bounded};
 
-    ghost content = { λ k. K.content k.inner };
+    ghost seen = { λ k. record {
+      tables = (K.seen k.inner).tables;
+      failed = failure_total (K.seen k.inner).failed k.failed;
+      honest = (K.seen k.inner).honest;
+      clean = (K.seen k.inner).clean;
+      left = (K.seen k.inner).left;
+    } };
 
-    ghost failed = { λ k. failure_total (K.failed k.inner) k.failed };
-
-    ghost honest = { λ k. K.honest k.inner };
-
-    ghost clean = { λ k. K.clean k.inner };
-
-    ghost left = { λ k. K.left k.inner };
-
-    ghost bounded = { λ k. total-bounded (K.failed k.inner) k.failed (K.bounded k.inner) };
+    ghost bounded = { λ k. total-bounded (K.seen k.inner).failed k.failed (K.bounded k.inner) };
 
     ghost honesty = { λ k. K.honesty k.inner };
 

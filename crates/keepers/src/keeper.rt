@@ -1,8 +1,9 @@
 //! The trait of all keepers, with its laws.
 
-ghost use Rattle.std.specs.Prelude.{◌≡◌, ◌≤◌, ℕ, IfOk, OnOk, is_some};
+ghost use Rattle.std.specs.Prelude.{◌≡◌, ◌≤◌, IfOk, OnOk, is_some};
 ghost use Rattle.keepers.specs.Faults.{max_failures};
 ghost use Rattle.keepers.specs.Keeping.{KeeperReads, Keeps};
+ghost use Rattle.keepers.specs.Seen.{Seen};
 ghost use Rattle.keepers.specs.Tables.{Tables};
 ghost use Rattle.keepers.specs.Change.{IsLoad, IsView, AreDeadOf, changed};
 ghost use Rattle.keepers.specs.Change.{with_voucher, IsSwept};
@@ -25,29 +26,17 @@ use voucher_rules::{Voucher, VoucherTerms};
 /// failed in the call. A change that would leave rows which a keeper can't tell, as holds without
 /// the reservation that holds them, is refused as a fault: store fault 1 in memory, 2 over a store.
 pub trait Keeper {
-    /// The tables.
-    ghost content: { Self → Tables };
-
-    /// How many calls met a failure of the store.
-    ghost failed: { Self → ℕ };
-
-    /// The store returned what was written, and nobody else writes it: a premise.
-    ghost honest: { Self → Type 0 };
-
-    /// The store is honest, and it can still be asked.
-    ghost clean: { Self → Type 0 };
-
-    /// The tables that are found when the store is opened again after a stop at this moment.
-    ghost left: { Self → Tables → Type 0 };
+    /// What a contract sees of it.
+    ghost seen: { Self → Seen };
 
     /// How many calls met a failure of the store; at 10^18 it stays.
     fn failures(&self) -> u64
-        ensures { result ≡ failed self.now };
+        ensures { result ≡ (seen self.now).failed };
 
     /// The moment of the last accepted command.
     fn last(&mut self) -> Result<Moment, StoreFault>
-        ensures { KeeperReads content failed honest clean left self.old self.new
-            (λ t. t ≡ (content self.old).last) result };
+        ensures { KeeperReads (seen self.old) (seen self.new)
+            (λ t. t ≡ (seen self.old).tables.last) result };
 
     /// What may still change of the account of this number at the moment, priced by the shelf; None
     /// where there is no account.
@@ -57,9 +46,9 @@ pub trait Keeper {
         account: &AccountNumber,
         moment: Moment,
     ) -> Result<Option<Loaded<'b>>, StoreFault>
-        ensures { KeeperReads content failed honest clean left self.old self.new
+        ensures { KeeperReads (seen self.old) (seen self.new)
             (λ found. IsLoad shelf.now moment account.now
-            ((content self.old).rows account.now) found) result };
+            ((seen self.old).tables.rows account.now) found) result };
 
     /// What may still change of the account of this number at the moment, to be read; None where
     /// there is no account.
@@ -69,13 +58,14 @@ pub trait Keeper {
         account: &AccountNumber,
         moment: Moment,
     ) -> Result<Option<Account<'b>>, StoreFault>
-        ensures { KeeperReads content failed honest clean left self.old self.new
-            (λ found. IsView shelf.now moment ((content self.old).rows account.now) found) result };
+        ensures { KeeperReads (seen self.old) (seen self.new)
+            (λ found. IsView shelf.now moment ((seen self.old).tables.rows account.now) found)
+            result };
 
     /// Whether there is an account of this number.
     fn has_account(&mut self, account: &AccountNumber) -> Result<bool, StoreFault>
-        ensures { KeeperReads content failed honest clean left self.old self.new
-            (λ there. there ≡ is_some ((content self.old).rows account.now).head) result };
+        ensures { KeeperReads (seen self.old) (seen self.new)
+            (λ there. there ≡ is_some ((seen self.old).tables.rows account.now).head) result };
 
     /// Whether an account has a row of this session, which may be over.
     fn knows_session(
@@ -83,15 +73,15 @@ pub trait Keeper {
         account: &AccountNumber,
         session: &SessionId,
     ) -> Result<bool, StoreFault>
-        ensures { KeeperReads content failed honest clean left self.old self.new
-            (λ known. known ≡ is_some (((content self.old).rows account.now).sessions session.now))
-            result };
+        ensures { KeeperReads (seen self.old) (seen self.new)
+            (λ known. known
+            ≡ is_some (((seen self.old).tables.rows account.now).sessions session.now)) result };
 
     /// The buckets of an account that can't be used any more, which `load` leaves, in the order of
     /// their numbers; none where there is no account.
     fn dead_buckets(&mut self, account: &AccountNumber) -> Result<Vec<Bucket>, StoreFault>
-        ensures { KeeperReads content failed honest clean left self.old self.new
-            (λ found. AreDeadOf ((content self.old).rows account.now) found.items) result };
+        ensures { KeeperReads (seen self.old) (seen self.new)
+            (λ found. AreDeadOf ((seen self.old).tables.rows account.now) found.items) result };
 
     /// What is kept under a key of an account; None where nothing is.
     fn find_answer(
@@ -99,20 +89,20 @@ pub trait Keeper {
         account: &AccountNumber,
         key: &Key,
     ) -> Result<Option<KeptAnswer>, StoreFault>
-        ensures { KeeperReads content failed honest clean left self.old self.new
-            (λ found. found ≡ (content self.old).answers account.now key.now) result };
+        ensures { KeeperReads (seen self.old) (seen self.new)
+            (λ found. found ≡ (seen self.old).tables.answers account.now key.now) result };
 
     /// What stands under the code of a voucher; None where nothing does.
     fn find_voucher(&mut self, code: &VoucherCode) -> Result<Option<Voucher>, StoreFault>
-        ensures { KeeperReads content failed honest clean left self.old self.new
-            (λ found. found ≡ (content self.old).vouchers code.now) result };
+        ensures { KeeperReads (seen self.old) (seen self.new)
+            (λ found. found ≡ (seen self.old).tables.vouchers code.now) result };
 
     /// Makes the change, in one transaction, and nothing else. At a fault nothing has changed.
     fn commit(&mut self, change: Change) -> Result<(), StoreFault>
-        ensures done { clean self.new →
-            OnOk result (content self.new ≡ changed change (content self.old)) }
-        ensures kept { Keeps content failed honest clean left self.old self.new
-            (λ t. t ≡ changed change (content self.old)) result };
+        ensures done { (seen self.new).clean →
+            OnOk result ((seen self.new).tables ≡ changed change (seen self.old).tables) }
+        ensures kept { Keeps (seen self.old) (seen self.new)
+            (λ t. t ≡ changed change (seen self.old).tables) result };
 
     /// Puts a voucher of these terms, which no account has redeemed, under the code, as a command
     /// of the moment, in one transaction. At a fault nothing has changed.
@@ -122,10 +112,11 @@ pub trait Keeper {
         terms: VoucherTerms,
         moment: Moment,
     ) -> Result<(), StoreFault>
-        ensures done { clean self.new →
-            OnOk result (content self.new ≡ with_voucher code terms moment (content self.old)) }
-        ensures kept { Keeps content failed honest clean left self.old self.new
-            (λ t. t ≡ with_voucher code terms moment (content self.old)) result };
+        ensures done { (seen self.new).clean →
+            OnOk result ((seen self.new).tables
+            ≡ with_voucher code terms moment (seen self.old).tables) }
+        ensures kept { Keeps (seen self.old) (seen self.new)
+            (λ t. t ≡ with_voucher code terms moment (seen self.old).tables) result };
 
     /// Gives a loaded account up: nothing changes.
     fn abandon<'b>(&mut self, loaded: Loaded<'b>)
@@ -141,18 +132,20 @@ pub trait Keeper {
     /// Brings each account to the moment, in one transaction, and answers how many there are. At a
     /// fault nothing has changed.
     fn sweep(&mut self, shelf: &TariffShelf, moment: Moment) -> Result<u64, StoreFault>
-        ensures count { clean self.new → IfOk result (λ n. n ≡ (content self.old).count) }
-        ensures done { clean self.new →
-            OnOk result (IsSwept shelf.now moment (content self.old) (content self.new)) }
-        ensures kept { Keeps content failed honest clean left self.old self.new
-            (IsSwept shelf.now moment (content self.old)) result };
+        ensures count { (seen self.new).clean →
+            IfOk result (λ n. n ≡ (seen self.old).tables.count) }
+        ensures done { (seen self.new).clean →
+            OnOk result (IsSwept shelf.now moment (seen self.old).tables (seen self.new).tables) }
+        ensures kept { Keeps (seen self.old) (seen self.new)
+            (IsSwept shelf.now moment (seen self.old).tables) result };
 
     /// The count stays at the highest.
-    ghost bounded: { (k : Self) → failed k ≤ max_failures };
+    ghost bounded: { (k : Self) → (seen k).failed ≤ max_failures };
 
     /// A clean store is honest.
-    ghost honesty: { (k : Self) → clean k → honest k };
+    ghost honesty: { (k : Self) → (seen k).clean → (seen k).honest };
 
     /// A stop between two calls leaves the tables as they stand.
-    ghost settled: { (k : Self) (t : Tables) → clean k → left k t → t ≡ content k };
+    ghost settled: { (k : Self) (t : Tables) → (seen k).clean → (seen k).left t →
+        t ≡ (seen k).tables };
 }

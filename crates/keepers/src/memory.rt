@@ -36,9 +36,9 @@ pub struct MemoryKeeper {
 impl MemoryKeeper {
     /// A keeper without accounts and vouchers. It takes no memory.
     pub fn new(alloc: Global) -> MemoryKeeper
-        ensures content { ⟦<MemoryKeeper as Keeper>⟧.content result ≡ no_tables }
-        ensures cleanness { ⟦<MemoryKeeper as Keeper>⟧.clean result }
-        ensures failures { ⟦<MemoryKeeper as Keeper>⟧.failed result ≡ 0 }
+        ensures content { (⟦<MemoryKeeper as Keeper>⟧.seen result).tables ≡ no_tables }
+        ensures cleanness { (⟦<MemoryKeeper as Keeper>⟧.seen result).clean }
+        ensures failures { (⟦<MemoryKeeper as Keeper>⟧.seen result).failed ≡ 0 }
     {
         MemoryKeeper {
             last: Moment::first(),
@@ -51,7 +51,7 @@ impl MemoryKeeper {
     /// The charges of an account, in order; none where there is no such account.
     pub fn charges(&self, account: &AccountNumber) -> &[ChargeRow]
         ensures { (n : ℕ) → charge_in n result.now ≡
-            (⟦<MemoryKeeper as Keeper>⟧.content self.now).charges account.now n }
+            (⟦<MemoryKeeper as Keeper>⟧.seen self.now).tables.charges account.now n }
     {
         charges_in(&self.accounts, account)
     }
@@ -62,7 +62,7 @@ impl MemoryKeeper {
     /// Out of memory.
     pub fn whole(&self, account: &AccountNumber) -> Result<WholeAccount, AllocError>
         ensures { IfOk result (AreWhole
-            ((⟦<MemoryKeeper as Keeper>⟧.content self.now).rows account.now)) }
+            ((⟦<MemoryKeeper as Keeper>⟧.seen self.now).tables.rows account.now)) }
     {
         whole_in(self.alloc, &self.accounts, account)
     }
@@ -81,15 +81,13 @@ fn refused(fault: LoadFault) -> StoreFault
 impl Keeper for MemoryKeeper {
     ghost use Rattle.keepers.specs.Memory.{memory_tables};
 
-    ghost content = { λ k. memory_tables k.last k.accounts.entries.items k.vouchers };
-
-    ghost failed = { λ _. 0 };
-
-    ghost honest = { λ _. Unit {0} };
-
-    ghost clean = { λ _. Unit {0} };
-
-    ghost left = { λ _ _. ⊥ };
+    ghost seen = { λ k. record {
+      tables = memory_tables k.last k.accounts.entries.items k.vouchers;
+      failed = 0;
+      honest = Unit {0};
+      clean = Unit {0};
+      left = λ _. ⊥;
+    } };
 
     ghost use Rattle.std.proofs.Common.{zero-le};
 

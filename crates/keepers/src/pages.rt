@@ -29,12 +29,11 @@ pub trait ChargePages: Keeper {
     /// The charges of an account beyond this number, as many as a page has; none where there is no
     /// account.
     fn page(&mut self, account: &AccountNumber, after: u32) -> Result<ChargePage, StoreFault>
-        ensures { KeeperReads Self.content Self.failed Self.honest Self.clean Self.left self.old
-            self.new
-            (λ page. IsPage ((Self.content self.old).charges account.now) after page) result };
+        ensures { KeeperReads (Self.seen self.old) (Self.seen self.new)
+            (λ page. IsPage ((Self.seen self.old).tables.charges account.now) after page) result };
 
     /// Charges are numbered from 1.
-    ghost numbered: { (k : Self) → (a : List ℕ) → (Self.Keeper.content k).charges a 0 ≡ None };
+    ghost numbered: { (k : Self) → (a : List ℕ) → (Self.Keeper.seen k).tables.charges a 0 ≡ None };
 }
 
 /// Shows a visitor each charge of an account whose moment is `from` or later and before `until`, in
@@ -49,12 +48,12 @@ pub fn show_pages<K: ChargePages, V: ChargeVisitor>(
     until: Moment,
     visitor: &mut V,
 ) -> Result<(), StoreFault>
-    ensures reads { KeeperReads K.content K.failed K.honest K.clean K.left keeper.old keeper.new
-        (λ _. SeesCharges V.sees from until ((K.content keeper.old).charges account.now)
+    ensures reads { KeeperReads (K.seen keeper.old) (K.seen keeper.new)
+        (λ _. SeesCharges V.sees from until ((K.seen keeper.old).tables.charges account.now)
         visitor.old visitor.new) result }
-    ensures beginning { K.clean keeper.new →
+    ensures beginning { (K.seen keeper.new).clean →
         OnErr result (SeesBeginning V.sees from until
-        ((K.content keeper.old).charges account.now) visitor.old visitor.new) }
+        ((K.seen keeper.old).tables.charges account.now) visitor.old visitor.new) }
     ensures shown { IsShown V.sees from until visitor.old visitor.new }
 {
     let mut after = 0u32;

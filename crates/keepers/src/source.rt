@@ -36,12 +36,11 @@ pub trait ChargeSource: Keeper {
         until: Moment,
         visitor: &mut V,
     ) -> Result<(), StoreFault>
-        ensures reads { KeeperReads Self.content Self.failed Self.honest Self.clean Self.left
-            self.old
-            self.new (λ _. SeesCharges V.sees from until
-            ((Self.content self.old).charges account.now) visitor.old visitor.new) result }
-        ensures beginning { Self.clean self.new →
+        ensures reads { KeeperReads (Self.seen self.old) (Self.seen self.new)
+            (λ _. SeesCharges V.sees from until
+            ((Self.seen self.old).tables.charges account.now) visitor.old visitor.new) result }
+        ensures beginning { (Self.seen self.new).clean →
             OnErr result (SeesBeginning V.sees from until
-            ((Self.content self.old).charges account.now) visitor.old visitor.new) }
+            ((Self.seen self.old).tables.charges account.now) visitor.old visitor.new) }
         ensures shown { IsShown V.sees from until visitor.old visitor.new };
 }

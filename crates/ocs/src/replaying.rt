@@ -110,11 +110,11 @@ fn answer_reader<K: Keeper, R: Read + Drop, O: Write>(
     reader: R,
     output: &mut O,
 ) -> Result<(), ProgramFault>
-    ensures done { K.clean keeper.old → K.honest keeper.new → OnOk result
+    ensures done { (K.seen keeper.old).clean → (K.seen keeper.new).honest → OnOk result
         (IfSome (R.remaining reader) (λ stream. IsReplayDone stream
         (O.contents output.old) (O.contents output.new) shelf.now
-        (K.content keeper.old) (K.content keeper.new))) }
-    ensures honesty { K.honest keeper.new → K.honest keeper.old }
+        (K.seen keeper.old).tables (K.seen keeper.new).tables)) }
+    ensures honesty { (K.seen keeper.new).honest → (K.seen keeper.old).honest }
     ensures told { OnOk result (IfSome (R.remaining reader)
         (TellsLines (O.contents output.old) (O.contents output.new))) }
     ensures begun { OnErr result (IfSome (R.remaining reader)
@@ -144,14 +144,15 @@ fn answer_requests<K: Keeper, R: Read, O: Write>(
     ensures unwritten { IfErr result (λ fault. AreUnread fault → output.new ≡ output.old) }
     ensures unread { IfErr result (λ fault. AreUnread fault → keeper.new ≡ keeper.old) }
     ensures answers { AnswersLines shelf.now None (R.remaining reader.old)
-        (O.contents output.old) (O.contents output.new)
-        K.content K.failed K.clean keeper.old keeper.new result }
+        (O.contents output.old) (O.contents output.new) (K.seen keeper.old) (K.seen keeper.new)
+        result }
     ensures told { OnOk result (IfSome (R.remaining reader.old)
         (TellsLines (O.contents output.old) (O.contents output.new))) }
     ensures begun { OnErr result (IfSome (R.remaining reader.old)
         (BeginsLines (O.contents output.old) (O.contents output.new))) }
-    ensures honesty { K.honest keeper.new → K.honest keeper.old }
-    ensures stands { K.honest keeper.new → K.clean keeper.old → OnOk result (K.clean keeper.new) }
+    ensures honesty { (K.seen keeper.new).honest → (K.seen keeper.old).honest }
+    ensures stands { (K.seen keeper.new).honest → (K.seen keeper.old).clean →
+        OnOk result (K.seen keeper.new).clean }
 {
     lines(alloc, keeper, shelf, None, reader, output)
 }

@@ -5,6 +5,7 @@ use Rattle.std.specs.Prelude.{is_ok, MatchResult}
 use Rattle.commands.specs.declared.answer.Answer.{Answer}
 use Rattle.commands.specs.declared.command.Command.{Command}
 use Rattle.shelves.specs.Shelves.{Shelf}
+use Rattle.keepers.specs.Seen.{Seen}
 use Rattle.keepers.specs.Tables.{Tables}
 use Rattle.charging.specs.Parts.{Leaves}
 use Rattle.charging.specs.Served.{IsServed, Serves, Writes, moment_of}
@@ -35,13 +36,12 @@ served_from b c d t old new r given serves e same =
     subst (λ (x : Command). Serves b x t old new (Ok given)) same
     (subst (λ (x : Result Answer StoreFault). Serves b d t old new x) e serves)
 
-pub left_from : {K : Type 0} (content : K → Tables) (honest clean : K → Type 0)
-    (leaves : K → Tables → Type 0) (b : Shelf) (c d : Command) (t : ℕ) (old new : K)
-    → Leaves honest leaves old new (λ held. clean old × Writes b d t (content old) held) → d ≡ c
-    → Leaves honest leaves old new (λ held. clean old × Writes b c t (content old) held)
-left_from content honest clean leaves b c d t old new left same =
+pub left_from : (b : Shelf) (c d : Command) (t : ℕ) (old new : Seen)
+    → Leaves old new (λ held. old.clean × Writes b d t old.tables held) → d ≡ c
+    → Leaves old new (λ held. old.clean × Writes b c t old.tables held)
+left_from b c d t old new left same =
     subst (λ (x : Command).
-    Leaves honest leaves old new (λ held. clean old × Writes b x t (content old) held)) same left
+    Leaves old new (λ held. old.clean × Writes b x t old.tables held)) same left
 
 pub done_from : (b : Shelf) (c d : Command) (t : ℕ) (old new : Tables)
     (before after : Option (List ℕ)) (status : Status)

@@ -6,6 +6,7 @@ use Rattle.std.proofs.Math.Seq.{take-append_seam}
 use Rattle.commands.specs.declared.command.Command.TheVariants.{AddVoucher}
 use Rattle.commands.specs.declared.command.VoucherAddition.{VoucherAddition}
 use Rattle.shelves.specs.Shelves.{Shelf}
+use Rattle.keepers.specs.Seen.{Seen}
 use Rattle.keepers.specs.Tables.{Tables}
 use Rattle.charging.specs.Accepted.{Accepted, IsInTime}
 use Rattle.charging.specs.Parts.{Leaves}
@@ -64,45 +65,41 @@ held-next b t rows row old mid held n so writes =
     (sym (commands-more b list ds (addition_at t row)))
     (writes (after_commands b list ds) at.time at.tables)))
 
-module _ {K : Type 0} (content : K → Tables) (honest clean : K → Type 0)
-    (leaves : K → Tables → Type 0) (b : Shelf) (t : ℕ) (rows : List VoucherAddition)
-    (old mid new : K) (n : Counts)
-    (so : clean mid → ImportsSoFar b (additions t rows) (content old) (content mid) n)
-    (had : Leaves honest leaves old mid (HoldsBeginning b (additions t rows) (content old)))
-    (honesty : honest new → honest mid) where
+module _ (b : Shelf) (t : ℕ) (rows : List VoucherAddition) (old mid new : Seen) (n : Counts)
+    (so : mid.clean → ImportsSoFar b (additions t rows) old.tables mid.tables n)
+    (had : Leaves old mid (HoldsBeginning b (additions t rows) old.tables))
+    (honesty : new.honest → mid.honest) where
   -- whatever a stop leaves after a voucher more
   pub left-more : (row : VoucherAddition) →
-      Leaves honest leaves mid new
-      (λ held. clean mid × Writes b (AddVoucher row) t (content mid) held) →
-      Leaves honest leaves old new
-      (HoldsBeginning b (additions t (rows ++ row ∷ [])) (content old))
+      Leaves mid new (λ held. mid.clean × Writes b (AddVoucher row) t mid.tables held) →
+      Leaves old new (HoldsBeginning b (additions t (rows ++ row ∷ [])) old.tables)
   left-more row left = λ h held l. at held h (left h held l)
     where
       before : (held : Tables) →
-          leaves old held ⊎ HoldsBeginning b (additions t rows) (content old) held →
-          leaves old held ⊎ HoldsBeginning b (additions t (rows ++ row ∷ [])) (content old) held
+          old.left held ⊎ HoldsBeginning b (additions t rows) old.tables held →
+          old.left held ⊎ HoldsBeginning b (additions t (rows ++ row ∷ [])) old.tables held
       before held (inl l) = inl l
       before held (inr holds) = inr (subst
-          (λ (ds : List DatedCommand). HoldsBeginning b ds (content old) held)
+          (λ (ds : List DatedCommand). HoldsBeginning b ds old.tables held)
           (sym (additions-more t rows (row ∷ [])))
-          (held-more b (additions t rows) (additions t (row ∷ [])) (content old) held holds))
+          (held-more b (additions t rows) (additions t (row ∷ [])) old.tables held holds))
 
-      at : (held : Tables) → honest new →
-          leaves mid held ⊎ (clean mid × Writes b (AddVoucher row) t (content mid) held) →
-          leaves old held ⊎ HoldsBeginning b (additions t (rows ++ row ∷ [])) (content old) held
+      at : (held : Tables) → new.honest →
+          mid.left held ⊎ (mid.clean × Writes b (AddVoucher row) t mid.tables held) →
+          old.left held ⊎ HoldsBeginning b (additions t (rows ++ row ∷ [])) old.tables held
       at held h (inl l) = before held (had (honesty h) held l)
       at held h (inr w) =
-          inr (held-next b t rows row (content old) (content mid) held n (so w.0) w.1)
+          inr (held-next b t rows row old.tables mid.tables held n (so w.0) w.1)
 
 -- of the first vouchers, of all
-pub left-all : {K : Type 0} (honest : K → Type 0) (leaves : K → Tables → Type 0) (b : Shelf) (t : ℕ)
-    (rows rest all : List VoucherAddition) (tables : Tables) (old new : K) → rows ++ rest ≡ all →
-    Leaves honest leaves old new (HoldsBeginning b (additions t rows) tables) →
-    Leaves honest leaves old new (HoldsBeginning b (additions t all) tables)
-left-all honest leaves b t rows rest all tables old new e left = λ h held l. at held (left h held l)
+pub left-all : (b : Shelf) (t : ℕ)
+    (rows rest all : List VoucherAddition) (tables : Tables) (old new : Seen) → rows ++ rest ≡ all →
+    Leaves old new (HoldsBeginning b (additions t rows) tables) →
+    Leaves old new (HoldsBeginning b (additions t all) tables)
+left-all b t rows rest all tables old new e left = λ h held l. at held (left h held l)
   where
-    at : (held : Tables) → leaves old held ⊎ HoldsBeginning b (additions t rows) tables held →
-        leaves old held ⊎ HoldsBeginning b (additions t all) tables held
+    at : (held : Tables) → old.left held ⊎ HoldsBeginning b (additions t rows) tables held →
+        old.left held ⊎ HoldsBeginning b (additions t all) tables held
     at held (inl l) = inl l
     at held (inr holds) = inr (subst (λ (ds : List DatedCommand). HoldsBeginning b ds tables held)
         (sym (additions-more t rows rest) ∙ ap (additions t) e)

@@ -8,6 +8,7 @@ use Rattle.tariffs.specs.Books.{Book}
 use Rattle.shelves.specs.Shelves.{Shelf}
 use Rattle.ledger.specs.ChargeColumns.{ChargeColumns}
 use Rattle.ledger.specs.Charges.{charge_rows}
+use Rattle.keepers.specs.Seen.{Seen}
 use Rattle.keepers.specs.Tables.{Tables}
 use Rattle.keepers.specs.declared.fault.StoreFault.TheVariants as store
 use Rattle.charging.specs.Accepted.{Accepted}
@@ -178,12 +179,10 @@ store_failed (Err statement.Store) is = refl
 store_failed (Err statement.Write) is = absurd (cc)
 
 -- asked after a read, the source is as it was
-pub reads_asked : {T K : Type 0} (content : K → Tables) (failed : K → ℕ) (honest clean : K → Type 0)
-    (leaves : K → Tables → Type 0) (old mid new : K) (r : Result T StatementFault) →
-    (clean mid → content mid ≡ content old) → (clean mid → clean old) → failed old ≤ failed mid →
-    Asks content failed honest clean leaves mid new r →
-    OnlyReads content failed clean old new (month_ended r)
-reads_asked content failed honest clean leaves old mid new r same cleanness kept asks = record {
+pub reads_asked : {T : Type 0} (old mid new : Seen) (r : Result T StatementFault) →
+    (mid.clean → mid.tables ≡ old.tables) → (mid.clean → old.clean) → old.failed ≤ mid.failed →
+    Asks mid new r → OnlyReads old new (month_ended r)
+reads_asked old mid new r same cleanness kept asks = record {
   same = λ whole. asks.same whole ∙ same (asks.cleanness whole);
   cleanness = λ whole. cleanness (asks.cleanness whole);
   kept = omega (arith, kept, asks.kept);

@@ -1,6 +1,6 @@
 -- A command that was carried out, for every list of accepted commands whose tables a keeper holds.
 -- Source: profile.
-use Rattle.std.specs.Prelude.{◌≡◌, ◌≢◌, ℕ, List, Option, Result, Err, IfOk, OnOk}
+use Rattle.std.specs.Prelude.{◌≡◌, ◌≢◌, List, Option, Result, Err, IfOk, OnOk}
 use Rattle.std.specs.Io.KnownBytes.{Appends}
 use Rattle.units.specs.Words.{Moment}
 use Rattle.texts.specs.StreamWords.{Bytes}
@@ -9,6 +9,7 @@ use Rattle.texts.specs.declared.streams.StreamFault.TheVariants.{Read as ReadFai
 use Rattle.commands.specs.declared.answer.Answer.{Answer}
 use Rattle.commands.specs.declared.command.Command.{Command}
 use Rattle.shelves.specs.Shelves.{Shelf}
+use Rattle.keepers.specs.Seen.{Seen}
 use Rattle.keepers.specs.Tables.{Tables}
 use Rattle.keepers.specs.declared.fault.StoreFault.{StoreFault}
 use Rattle.charging.specs.Accepted.{Accepted, IsInTime}
@@ -36,22 +37,21 @@ IsCarriedOut b c t old new tells =
 
 -- a command is carried out and its answer written as a line; where the line isn't written, the
 -- command was carried out; where the store failed, nothing was
-pub record ServesOffice {K W : Type 0} (content : K → Tables) (failed : K → ℕ)
-    (honest clean : K → Type 0) (leaves : K → Tables → Type 0) (contents : W → Option Bytes)
-    (b : Shelf) (c : Command) (t : Moment) (old new : K) (before after : W)
+pub record ServesOffice {W : Type 0} (contents : W → Option Bytes)
+    (b : Shelf) (c : Command) (t : Moment) (old new : Seen) (before after : W)
     (result : Result Status OfficeFault) : Type 0 where
-  pub done : clean new → IfOk result (λ status.
-      IsCarriedOut b c t (content old) (content new) (λ answer. (status ≡ status_of answer)
+  pub done : new.clean → IfOk result (λ status.
+      IsCarriedOut b c t old.tables new.tables (λ answer. (status ≡ status_of answer)
       × Appends (contents before) (contents after) (answer_line answer)))
   pub printed : IfOk result (λ status. PrintsAnswer status (contents before) (contents after))
-  pub untold : (fault : StreamFault) → result ≡ Err (Write fault) → clean new →
-      IsCarriedOut b c t (content old) (content new)
+  pub untold : (fault : StreamFault) → result ≡ Err (Write fault) → new.clean →
+      IsCarriedOut b c t old.tables new.tables
       (λ answer. WritesBeginning (contents before) (contents after) (answer_line answer))
-  pub unserved : (fault : StoreFault) → result ≡ Err (Store fault) → clean new →
-      content new ≡ content old
-  pub honesty : honest new → honest old
-  pub stands : honest new → OnOk result (clean new)
-  pub asked : (fault : StreamFault) → result ≡ Err (Write fault) → honest new → clean new
+  pub unserved : (fault : StoreFault) → result ≡ Err (Store fault) → new.clean →
+      new.tables ≡ old.tables
+  pub honesty : new.honest → old.honest
+  pub stands : new.honest → OnOk result new.clean
+  pub asked : (fault : StreamFault) → result ≡ Err (Write fault) → new.honest → new.clean
   pub fault : (fault : StreamFault) → result ≡ Err (Write fault) → fault ≢ ReadFailed
-  pub left : Leaves honest leaves old new (λ held. clean old × Writes b c t (content old) held)
-  pub stops : StopsAtStore failed clean old new before after result
+  pub left : Leaves old new (λ held. old.clean × Writes b c t old.tables held)
+  pub stops : StopsAtStore old new before after result

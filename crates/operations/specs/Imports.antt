@@ -12,6 +12,7 @@ use Rattle.commands.specs.declared.command.Command.TheVariants.{AddVoucher}
 use Rattle.commands.specs.declared.command.VoucherAddition.{VoucherAddition}
 use Rattle.shelves.specs.Shelves.{Shelf}
 use Rattle.keepers.specs.Faults.{HasCause}
+use Rattle.keepers.specs.Seen.{Seen}
 use Rattle.keepers.specs.Tables.{Tables}
 use Rattle.keepers.specs.declared.fault.StoreFault.{StoreFault}
 use Rattle.charging.specs.Accepted.{Accepted, IsInTime}
@@ -102,38 +103,36 @@ TellsImport b commands old new tells =
 -- ---- over a keeper
 
 -- all are counted, or a beginning of them was added before the store failed
-pub record ImportsOver {K : Type 0} (content : K → Tables) (failed : K → ℕ)
-    (honest clean : K → Type 0) (leaves : K → Tables → Type 0) (b : Shelf) (t : Moment)
-    (rows : List VoucherAddition) (old new : K) (result : Result Counts StoreFault) : Type 0 where
-  pub imported : clean new → Imports b (additions t rows) (content old) (content new) result
+pub record ImportsOver (b : Shelf) (t : Moment) (rows : List VoucherAddition) (old new : Seen)
+    (result : Result Counts StoreFault) : Type 0 where
+  pub imported : new.clean → Imports b (additions t rows) old.tables new.tables result
   pub all : IfOk result (λ counts. total counts ≡ length rows)
-  pub cleanness : clean new → clean old
-  pub honesty : honest new → honest old
-  pub stands : honest new → clean old → OnOk result (clean new)
-  pub left : Leaves honest leaves old new (HoldsBeginning b (additions t rows) (content old))
-  pub cause : HasCause (failed old) (failed new) result
+  pub cleanness : new.clean → old.clean
+  pub honesty : new.honest → old.honest
+  pub stands : new.honest → old.clean → OnOk result new.clean
+  pub left : Leaves old new (HoldsBeginning b (additions t rows) old.tables)
+  pub cause : HasCause old.failed new.failed result
 
 -- the counts are written as a line; where it isn't written, all were added; where the store failed,
 -- a beginning of them was
-pub record ServesImport {A K W : Type 0} (content : K → Tables) (failed : K → ℕ)
-    (honest clean : K → Type 0) (leaves : K → Tables → Type 0) (contents : W → Option Bytes)
-    (b : Shelf) (t : Moment) (rows : List VoucherAddition) (old new : K) (before after : W)
+pub record ServesImport {A W : Type 0} (contents : W → Option Bytes)
+    (b : Shelf) (t : Moment) (rows : List VoucherAddition) (old new : Seen) (before after : W)
     (result : Result A OfficeFault) : Type 0 where
-  pub done : clean new → OnOk result (TellsImport b (additions t rows) (content old) (content new)
+  pub done : new.clean → OnOk result (TellsImport b (additions t rows) old.tables new.tables
       (λ counts. Appends (contents before) (contents after) (counts_line counts)))
   pub printed : OnOk result (PrintsCounts (contents before) (contents after))
-  pub untold : (fault : StreamFault) → result ≡ Err (Write fault) → clean new →
-      TellsImport b (additions t rows) (content old) (content new)
+  pub untold : (fault : StreamFault) → result ≡ Err (Write fault) → new.clean →
+      TellsImport b (additions t rows) old.tables new.tables
       (λ counts. WritesBeginning (contents before) (contents after) (counts_line counts))
-  pub unserved : (fault : StoreFault) → result ≡ Err (Store fault) → clean new →
-      BeginsImport b (additions t rows) (content old) (content new)
-  pub honesty : honest new → honest old
-  pub stands : honest new → clean old → OnOk result (clean new)
-  pub asked : (fault : StreamFault) → result ≡ Err (Write fault) → honest new → clean old →
-      clean new
+  pub unserved : (fault : StoreFault) → result ≡ Err (Store fault) → new.clean →
+      BeginsImport b (additions t rows) old.tables new.tables
+  pub honesty : new.honest → old.honest
+  pub stands : new.honest → old.clean → OnOk result new.clean
+  pub asked : (fault : StreamFault) → result ≡ Err (Write fault) → new.honest → old.clean →
+      new.clean
   pub fault : (fault : StreamFault) → result ≡ Err (Write fault) → fault ≢ ReadFailed
-  pub left : Leaves honest leaves old new (HoldsBeginning b (additions t rows) (content old))
-  pub stops : StopsAtStore failed clean old new before after result
+  pub left : Leaves old new (HoldsBeginning b (additions t rows) old.tables)
+  pub stops : StopsAtStore old new before after result
 
 -- ---- one voucher
 

@@ -1,6 +1,6 @@
 -- What is told of an account's month: a statement or an export of it, or that there is no account.
 -- Source: profile.
-use Rattle.std.specs.Prelude.{◌≡◌, ◌≢◌, ◌⊎◌, ◌+◌, ◌≤◌, ℕ, List, Option, Result, if◌then◌else◌, IfOk}
+use Rattle.std.specs.Prelude.{◌≡◌, ◌≢◌, ◌⊎◌, ◌+◌, ◌≤◌, List, Option, Result, if◌then◌else◌, IfOk}
 use Rattle.std.specs.Prelude.{Ok, Err, IsErrOf, OnErr, OnOk, min}
 use Rattle.std.specs.Io.KnownBytes.{Appends}
 use Rattle.units.specs.Words.{Moment}
@@ -17,6 +17,7 @@ use Rattle.ledger.specs.Charges.{charge_rows}
 use Rattle.ledger.specs.Ledger.{Ledger}
 use Rattle.ledger.specs.Pricing.{validity_of}
 use Rattle.keepers.specs.Faults.{max_failures}
+use Rattle.keepers.specs.Seen.{Seen}
 use Rattle.keepers.specs.Tables.{Tables}
 use Rattle.keepers.specs.declared.fault.StoreFault.TheVariants as store
 use Rattle.charging.specs.Accepted.{Accepted, IsInTime}
@@ -111,27 +112,24 @@ month_ended (Ok written) = Ok Done
 month_ended (Err fault) = Err (month_fault fault)
 
 -- the tables are as before, and store fault 2 comes only with a cause
-pub record OnlyReads {K : Type 0} (content : K → Tables) (failed : K → ℕ) (clean : K → Type 0)
-    (old new : K) (result : Result Status OfficeFault) : Type 0 where
-  pub same : clean new → content new ≡ content old
-  pub cleanness : clean new → clean old
-  pub kept : failed old ≤ failed new
-  pub cause : IsErrOf result (Store store.Store) → min (failed old + 1) max_failures ≤ failed new
+pub record OnlyReads (old new : Seen) (result : Result Status OfficeFault) : Type 0 where
+  pub same : new.clean → new.tables ≡ old.tables
+  pub cleanness : new.clean → old.clean
+  pub kept : old.failed ≤ new.failed
+  pub cause : IsErrOf result (Store store.Store) → min (old.failed + 1) max_failures ≤ new.failed
 
 -- ---- over a keeper
 
 -- an account's month is told, or that there is no account; nothing is changed
-pub record ServesStatement {K W : Type 0} (content : K → Tables) (failed : K → ℕ)
-    (honest clean : K → Type 0) (leaves : K → Tables → Type 0) (contents : W → Option Bytes)
-    (b : Shelf) (q : MonthQuery) (t : Moment) (old new : K) (before after : W)
+pub record ServesStatement {W : Type 0} (contents : W → Option Bytes)
+    (b : Shelf) (q : MonthQuery) (t : Moment) (old new : Seen) (before after : W)
     (result : Result Status OfficeFault) : Type 0 where
-  pub told : clean new →
-      IsMonthTold b q t (content old) (contents before) (contents after) result
+  pub told : new.clean → IsMonthTold b q t old.tables (contents before) (contents after) result
   pub ended : IfOk result (IsEnded (Appends (contents before) (contents after) unknown_line))
   pub printed : IfOk result (PrintsMonth b q (contents before) (contents after))
   pub begun : OnErr result (BeginsMonth b q (contents before) (contents after))
-  pub reads : OnlyReads content failed clean old new result
-  pub honesty : honest new → honest old
-  pub stands : honest new → OnOk result (clean new)
+  pub reads : OnlyReads old new result
+  pub honesty : new.honest → old.honest
+  pub stands : new.honest → OnOk result new.clean
   pub fault : (fault : StreamFault) → result ≡ Err (Write fault) → fault ≢ stream.Read
-  pub left : honest new → (tables : Tables) → leaves new tables → leaves old tables
+  pub left : new.honest → (tables : Tables) → new.left tables → old.left tables

@@ -37,8 +37,8 @@ pub fn import<K: Keeper>(
     rows: Vec<VoucherAddition>,
     moment: Moment,
 ) -> Result<Counts, StoreFault>
-    ensures { ImportsOver K.content K.failed K.honest K.clean K.left shelf.now moment
-        rows.items keeper.old keeper.new result }
+    ensures { ImportsOver shelf.now moment rows.items (K.seen keeper.old) (K.seen keeper.new)
+        result }
 {
     // For the prover alone: looking at the value makes known here what its type keeps.
     let _size = rows.len();
@@ -58,12 +58,12 @@ fn add_voucher<K: Keeper>(
     row: VoucherAddition,
     moment: Moment,
 ) -> Result<Addition, StoreFault>
-    ensures added { K.clean keeper.new →
-        Adds shelf.now (addition_at moment row) (K.content keeper.old) (K.content keeper.new)
-        result }
-    ensures kept { PartKeeps K.content K.failed K.honest K.clean keeper.old keeper.new result }
-    ensures left { Leaves K.honest K.left keeper.old keeper.new (λ t. K.clean keeper.old
-        × Writes shelf.now (AddVoucher row) moment (K.content keeper.old) t) }
+    ensures added { (K.seen keeper.new).clean →
+        Adds shelf.now (addition_at moment row) (K.seen keeper.old).tables
+        (K.seen keeper.new).tables result }
+    ensures kept { PartKeeps (K.seen keeper.old) (K.seen keeper.new) result }
+    ensures left { Leaves (K.seen keeper.old) (K.seen keeper.new) (λ t. (K.seen keeper.old).clean
+        × Writes shelf.now (AddVoucher row) moment (K.seen keeper.old).tables t) }
 {
     let found = keeper.find_voucher(&row.code)?;
     let addition = add(&found, row.terms);
@@ -87,8 +87,8 @@ pub fn serve_import<K: Keeper, W: Write>(
     moment: Moment,
     writer: &mut W,
 ) -> Result<(), OfficeFault>
-    ensures { ServesImport K.content K.failed K.honest K.clean K.left W.contents shelf.now moment
-        rows.items keeper.old keeper.new writer.old writer.new result }
+    ensures { ServesImport W.contents shelf.now moment rows.items
+        (K.seen keeper.old) (K.seen keeper.new) writer.old writer.new result }
 {
     let counts = import(alloc, keeper, shelf, rows, moment).map_err(OfficeFault::Store)?;
     write_counts(alloc, writer, counts).map_err(OfficeFault::Write)

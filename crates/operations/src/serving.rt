@@ -32,8 +32,8 @@ pub fn serve_office<K: Keeper, W: Write>(
     moment: Moment,
     writer: &mut W,
 ) -> Result<Status, OfficeFault>
-    ensures { ServesOffice K.content K.failed K.honest K.clean K.left W.contents shelf.now
-        (command_of command) moment keeper.old keeper.new writer.old writer.new result }
+    ensures { ServesOffice W.contents shelf.now (command_of command) moment
+        (K.seen keeper.old) (K.seen keeper.new) writer.old writer.new result }
 {
     let command = command.into_command();
     let answer = step(alloc, keeper, shelf, command, moment).map_err(OfficeFault::Store)?;

@@ -56,8 +56,8 @@ pub fn serve_statement<K: ChargeSource, W: Write>(
     moment: Moment,
     writer: &mut W,
 ) -> Result<Status, OfficeFault>
-    ensures { ServesStatement K.content K.failed K.honest K.clean K.left W.contents shelf.now
-        query.now moment keeper.old keeper.new writer.old writer.new result }
+    ensures { ServesStatement W.contents shelf.now query.now moment
+        (K.seen keeper.old) (K.seen keeper.new) writer.old writer.new result }
 {
     let state = match account_state(keeper, shelf, &query.account, moment) {
         Ok(state) => state,
@@ -78,16 +78,15 @@ fn write_month<K: ChargeSource, W: Write>(
     state: &AccountState,
     writer: &mut W,
 ) -> Result<(), StatementFault>
-    ensures writes { K.clean keeper.new →
-        Writes ((K.content keeper.old).charges query.now.account)
+    ensures writes { (K.seen keeper.new).clean →
+        Writes ((K.seen keeper.old).tables.charges query.now.account)
         (W.contents writer.old) (W.contents writer.new)
         (λ rows. rows_text shelf.now query.now state.now.moment rows state.now.buckets.items)
         result }
     ensures some { WritesSome (W.contents writer.old) (W.contents writer.new)
         (λ rows. rows_text shelf.now query.now state.now.moment rows state.now.buckets.items)
         result }
-    ensures asks { Asks K.content K.failed K.honest K.clean K.left keeper.old keeper.new
-        result }
+    ensures asks { Asks (K.seen keeper.old) (K.seen keeper.new) result }
 {
     let MonthQuery {
         account,

@@ -8,6 +8,7 @@ use Rattle.texts.specs.Lines.{lines_of}
 use Rattle.texts.specs.declared.streams.StreamFault.{StreamFault}
 use Rattle.commands.specs.declared.answer.Answer.{Answer}
 use Rattle.shelves.specs.Shelves.{Shelf}
+use Rattle.keepers.specs.Seen.{Seen}
 use Rattle.keepers.specs.Tables.{Tables}
 use Rattle.keepers.specs.declared.fault.StoreFault.{StoreFault}
 use Rattle.charging.specs.Continued.{ForEachList}
@@ -301,21 +302,20 @@ none_begun w (Some stream) =
     record { answers = []; written = nothing_written w (answer_texts (faults_in stream) []) }
 
 -- nothing was run and nothing was written
-pub none_answered : {A K : Type 0} (b : Shelf) (amount : Option ℕ) (r w : Option (List ℕ))
-    (content : K → Tables) (failed : K → ℕ) (clean : K → Type 0) (keeper : K)
-    (result : Result A LinesFault) (f : StreamFault) → result ≡ Err (Read f) →
-    AnswersLines b amount r w w content failed clean keeper keeper result
-none_answered {A = A} b amount r w content failed clean keeper result f is = record {
+pub none_answered : {A : Type 0} (b : Shelf) (amount : Option ℕ) (r w : Option (List ℕ))
+    (keeper : Seen) (result : Result A LinesFault) (f : StreamFault) → result ≡ Err (Read f) →
+    AnswersLines b amount r w w keeper keeper result
+none_answered {A = A} b amount r w keeper result f is = record {
   answered = λ whole. subst (λ (res : Result A LinesFault).
-      OnOk res (IfSome r (λ stream. ForEachList b (content keeper)
-      (IsAnswered b amount stream w w (content keeper))))) (sym is) tt;
-  begun = λ whole. on_err result (begun-none b amount w w r (content keeper));
+      OnOk res (IfSome r (λ stream. ForEachList b keeper.tables
+      (IsAnswered b amount stream w w keeper.tables)))) (sym is) tt;
+  begun = λ whole. on_err result (begun-none b amount w w r keeper.tables);
   stopped = λ fault no whole. absurd (subst IsRead (sym is ∙ no) tt);
   both = λ fault no whole. absurd (subst IsRead (sym is ∙ no) tt);
   untold = λ fault no whole. absurd (subst IsRead (sym is ∙ no) tt);
-  continued = λ whole. continued-same b (content keeper);
+  continued = λ whole. continued-same b keeper.tables;
   cleanness = λ whole. whole;
-  failures = le_refl (failed keeper);
+  failures = le_refl keeper.failed;
   cause = λ no. absurd (subst IsRead (sym is ∙ no) tt);
   cause_of_both = λ no. absurd (subst IsRead (sym is ∙ no) tt);
 }

@@ -1,12 +1,12 @@
 -- What answering the lines of a reader leaves of a keeper and a writer.
 -- Source: profile.
-use Rattle.std.specs.Prelude.{◌≡◌, ◌≢◌, ℕ, Option, IfSome, Result, Err, OnOk, OnErr}
+use Rattle.std.specs.Prelude.{◌≡◌, ◌≢◌, Option, IfSome, Result, Err, OnOk, OnErr}
 use Rattle.units.specs.Words.{Micros}
 use Rattle.texts.specs.StreamWords.{Bytes}
 use Rattle.texts.specs.declared.streams.StreamFault.{StreamFault}
 use Rattle.texts.specs.declared.streams.StreamFault.TheVariants.{Read as ReadFailed}
 use Rattle.shelves.specs.Shelves.{Shelf}
-use Rattle.keepers.specs.Tables.{Tables}
+use Rattle.keepers.specs.Seen.{Seen}
 use Rattle.charging.specs.Parts.{Leaves}
 use Rattle.operations.specs.Imports.{HoldsBeginning}
 use Rattle.request_lines.specs.Served.{AnswersLines, BeginsLines, TellsLines, commands_of}
@@ -15,20 +15,19 @@ use Rattle.request_lines.specs.declared.fault.LinesFault.TheVariants.{Read, Writ
 
 -- each line is answered, or a beginning of them is, and the fault says which; a stop leaves what
 -- was there, or that with a beginning of the requests
-pub record LinesOver {A K W : Type 0} (content : K → Tables) (failed : K → ℕ)
-    (honest clean : K → Type 0) (leaves : K → Tables → Type 0) (contents : W → Option Bytes)
+pub record LinesOver {A K W : Type 0} (seen : K → Seen) (contents : W → Option Bytes)
     (b : Shelf) (opening : Option Micros) (bytes : Option Bytes) (old new : K) (before after : W)
     (result : Result A LinesFault) : Type 0 where
-  pub answers : AnswersLines b opening bytes (contents before) (contents after) content failed
-      clean old new result
+  pub answers : AnswersLines b opening bytes (contents before) (contents after) (seen old)
+      (seen new) result
   pub told : OnOk result (IfSome bytes (TellsLines (contents before) (contents after)))
   pub begun : OnErr result (IfSome bytes (BeginsLines (contents before) (contents after)))
   pub unread : (fault : StreamFault) → result ≡ Err (Read fault) → new ≡ old
   pub unwritten : (fault : StreamFault) → result ≡ Err (Read fault) → after ≡ before
   pub fault : (fault : StreamFault) → result ≡ Err (Write fault) → fault ≢ ReadFailed
-  pub honesty : honest new → honest old
-  pub stands : honest new → clean old → OnOk result (clean new)
-  pub asked : (fault : StreamFault) → result ≡ Err (Write fault) → honest new → clean old →
-      clean new
-  pub left : clean old → Leaves honest leaves old new (λ t. IfSome bytes (λ stream.
-      HoldsBeginning b (commands_of opening stream) (content old) t))
+  pub honesty : (seen new).honest → (seen old).honest
+  pub stands : (seen new).honest → (seen old).clean → OnOk result (seen new).clean
+  pub asked : (fault : StreamFault) → result ≡ Err (Write fault) → (seen new).honest →
+      (seen old).clean → (seen new).clean
+  pub left : (seen old).clean → Leaves (seen old) (seen new) (λ t. IfSome bytes (λ stream.
+      HoldsBeginning b (commands_of opening stream) (seen old).tables t))

@@ -17,6 +17,7 @@ use Rattle.json_fields.specs.declared.fault.WireFault.{WireFault}
 use Rattle.wire.specs.Spelled.{answer_text, fault_text}
 use Rattle.shelves.specs.Shelves.{Shelf}
 use Rattle.keepers.specs.Faults.{max_failures}
+use Rattle.keepers.specs.Seen.{Seen}
 use Rattle.keepers.specs.Tables.{Tables}
 use Rattle.keepers.specs.declared.fault.StoreFault.{StoreFault}
 use Rattle.keepers.specs.declared.fault.StoreFault.TheVariants.{Store as StoreFailed}
@@ -171,28 +172,27 @@ pub record IsRunOpened {F : Type 0} (b : Shelf) (opening requests : List DatedCo
 
 -- what answering lines leaves of a keeper that stays clean, where the reader tells its bytes: all
 -- are answered, or a beginning of them, and the faults of the keeper and of the writer say which
-pub record AnswersLines {A K : Type 0} (b : Shelf) (opening : Option Micros)
-    (bytes empty full : Option Bytes) (content : K → Tables) (failed : K → ℕ) (clean : K → Type 0)
-    (old new : K) (result : Result A LinesFault) : Type 0 where
-  pub answered : clean new → OnOk result (IfSome bytes (λ stream. ForEachList b (content old)
-      (IsAnswered b opening stream empty full (content new))))
-  pub begun : clean new → OnErr result (IfSome bytes (λ stream. ForEachList b (content old)
-      (AreLinesBegun b opening stream empty full (content new))))
-  pub stopped : (fault : StoreFault) → result ≡ Err (Store fault) → clean new →
-      IfSome bytes (λ stream. ForEachList b (content old)
-      (IsStopped b opening stream empty full (content new)))
-  pub both : (fault : StoreFault) → result ≡ Err (Both fault) → clean new →
-      IfSome bytes (λ stream. ForEachList b (content old)
-      (IsCut b opening stream empty full (content new)))
-  pub untold : (fault : StreamFault) → result ≡ Err (Write fault) → clean new →
-      IfSome bytes (λ stream. ForEachList b (content old)
-      (IsUntold b opening stream empty full (content new)))
-  pub continued : clean new → Continues b (content old) (content new)
-  pub cleanness : clean new → clean old
-  pub failures : failed old ≤ failed new
-  pub cause : result ≡ Err (Store StoreFailed) → min (failed old + 1) max_failures ≤ failed new
+pub record AnswersLines {A : Type 0} (b : Shelf) (opening : Option Micros)
+    (bytes empty full : Option Bytes) (old new : Seen) (result : Result A LinesFault) : Type 0 where
+  pub answered : new.clean → OnOk result (IfSome bytes (λ stream. ForEachList b old.tables
+      (IsAnswered b opening stream empty full new.tables)))
+  pub begun : new.clean → OnErr result (IfSome bytes (λ stream. ForEachList b old.tables
+      (AreLinesBegun b opening stream empty full new.tables)))
+  pub stopped : (fault : StoreFault) → result ≡ Err (Store fault) → new.clean →
+      IfSome bytes (λ stream. ForEachList b old.tables
+      (IsStopped b opening stream empty full new.tables))
+  pub both : (fault : StoreFault) → result ≡ Err (Both fault) → new.clean →
+      IfSome bytes (λ stream. ForEachList b old.tables
+      (IsCut b opening stream empty full new.tables))
+  pub untold : (fault : StreamFault) → result ≡ Err (Write fault) → new.clean →
+      IfSome bytes (λ stream. ForEachList b old.tables
+      (IsUntold b opening stream empty full new.tables))
+  pub continued : new.clean → Continues b old.tables new.tables
+  pub cleanness : new.clean → old.clean
+  pub failures : old.failed ≤ new.failed
+  pub cause : result ≡ Err (Store StoreFailed) → min (old.failed + 1) max_failures ≤ new.failed
   pub cause_of_both : result ≡ Err (Both StoreFailed) →
-      min (failed old + 1) max_failures ≤ failed new
+      min (old.failed + 1) max_failures ≤ new.failed
 
 -- ---- whatever a keeper holds
 

@@ -45,7 +45,7 @@ pub fn lines<K: Keeper, R: Read, W: Write>(
     reader: &mut R,
     writer: &mut W,
 ) -> Result<(), LinesFault>
-    ensures { LinesOver K.content K.failed K.honest K.clean K.left W.contents shelf.now opening
+    ensures { LinesOver K.seen W.contents shelf.now opening
         (R.remaining reader.old) keeper.old keeper.new writer.old writer.new result }
 {
     let Input { lines, requests } = match read_input(alloc, reader) {
@@ -80,20 +80,21 @@ fn run_opened<K: Keeper>(
     opening: Vec<DatedCommand>,
     requests: Vec<DatedCommand>,
 ) -> Run
-    ensures runs { K.clean keeper.new → ForEachList shelf.now (K.content keeper.old)
+    ensures runs { (K.seen keeper.new).clean → ForEachList shelf.now (K.seen keeper.old).tables
         (IsRunOpened shelf.now opening.items requests.items
-        (K.content keeper.new) result.answers.items result.fault) }
+        (K.seen keeper.new).tables result.answers.items result.fault) }
     ensures whole { IfNone result.fault
         (length result.answers.items ≡ length requests.items) }
-    ensures cleanness { K.clean keeper.new → K.clean keeper.old }
-    ensures honesty { K.honest keeper.new → K.honest keeper.old }
-    ensures stands { K.honest keeper.new → K.clean keeper.old →
-        IfNone result.fault (K.clean keeper.new) }
-    ensures held { K.honest keeper.new → K.clean keeper.old → (t : Tables) → K.left keeper.new t →
-        HoldsBeginning shelf.now (opening.items ++ requests.items) (K.content keeper.old) t }
-    ensures failures { K.failed keeper.old ≤ K.failed keeper.new }
+    ensures cleanness { (K.seen keeper.new).clean → (K.seen keeper.old).clean }
+    ensures honesty { (K.seen keeper.new).honest → (K.seen keeper.old).honest }
+    ensures stands { (K.seen keeper.new).honest → (K.seen keeper.old).clean →
+        IfNone result.fault (K.seen keeper.new).clean }
+    ensures held { (K.seen keeper.new).honest → (K.seen keeper.old).clean → (t : Tables) →
+        (K.seen keeper.new).left t →
+        HoldsBeginning shelf.now (opening.items ++ requests.items) (K.seen keeper.old).tables t }
+    ensures failures { (K.seen keeper.old).failed ≤ (K.seen keeper.new).failed }
     ensures cause { result.fault ≡ Some StoreFailed →
-        min (K.failed keeper.old + 1) max_failures ≤ K.failed keeper.new }
+        min ((K.seen keeper.old).failed + 1) max_failures ≤ (K.seen keeper.new).failed }
 {
     let Run { answers: _, fault } = run(alloc, keeper, shelf, opening);
     if fault.is_some() {

@@ -1,13 +1,14 @@
 -- What becomes of a file of vouchers, for every list of accepted commands whose tables a keeper
 -- holds, and which faults are told.
 -- Source: profile.
-use Rattle.std.specs.Prelude.{◌≡◌, ◌≤◌, ℕ, List, Option, Result, Ok, Err, IsTrue, false}
+use Rattle.std.specs.Prelude.{◌≡◌, ◌≤◌, List, Option, Result, Ok, Err, IsTrue, false}
 use Rattle.std.specs.Prelude.{IfErr, IfSome, OnOk}
 use Rattle.std.specs.Io.KnownBytes.{Appends}
 use Rattle.units.specs.Words.{Moment}
 use Rattle.texts.specs.StreamWords.{Bytes}
 use Rattle.commands.specs.declared.command.VoucherAddition.{VoucherAddition}
 use Rattle.shelves.specs.Shelves.{Shelf}
+use Rattle.keepers.specs.Seen.{Seen}
 use Rattle.keepers.specs.Tables.{Tables}
 use Rattle.operations.specs.Counts.{counts_line}
 use Rattle.operations.specs.Imports.{BeginsImport, TellsImport, additions}
@@ -79,19 +80,18 @@ pub record ImportsOffice {A O : Type 0} (contents : O → Option Bytes) (at : Op
   pub fault : IfErr result (IsImportEnd at)
 
 -- over a keeper: the vouchers of a reader's text are added and counted, or a fault says why not
-pub record ImportsFile {A K O : Type 0} (content : K → Tables) (failed : K → ℕ)
-    (honest clean : K → Type 0) (contents : O → Option Bytes) (b : Shelf) (bytes : Option Bytes)
-    (t : Moment) (old new : K) (before after : O) (result : Result A ImportFault) : Type 0 where
-  pub done : clean new → OnOk result (IfSome bytes (λ text.
-      IsFileImported b text t (content old) (content new)
+pub record ImportsFile {A O : Type 0} (contents : O → Option Bytes) (b : Shelf)
+    (bytes : Option Bytes) (t : Moment) (old new : Seen) (before after : O) (result : Result A
+    ImportFault) : Type 0 where
+  pub done : new.clean → OnOk result (IfSome bytes (λ text.
+      IsFileImported b text t old.tables new.tables
       (λ counts. Appends (contents before) (contents after) (counts_line counts))))
   pub printed : OnOk result (PrintsCounts (contents before) (contents after))
-  pub fault : clean new → IfErr result (λ fault. IfSome bytes (λ text.
-      IsImportFault b text t (content old) (content new) (contents before) (contents after)
-      fault))
+  pub fault : new.clean → IfErr result (λ fault. IfSome bytes (λ text.
+      IsImportFault b text t old.tables new.tables (contents before) (contents after) fault))
   pub unwritten : IfErr result (λ fault. IsUntold fault → after ≡ before)
   pub told : IfErr result IsFileFault
-  pub honesty : honest new → honest old
-  pub stands : honest new → clean old → OnOk result (clean new)
-  pub cleanness : clean new → clean old
-  pub failures : failed old ≤ failed new
+  pub honesty : new.honest → old.honest
+  pub stands : new.honest → old.clean → OnOk result new.clean
+  pub cleanness : new.clean → old.clean
+  pub failures : old.failed ≤ new.failed

@@ -10,7 +10,7 @@ use Rattle.sqlite_wal.specs.Recovery.{Image}
 use Rattle.sqlite_store.specs.declared.store.FileStore.{FileStore}
 use Rattle.sqlite.specs.Files.{file_state}
 use Rattle.shelves.specs.Shelves.{Shelf}
-use Rattle.keepers.specs.Tables.{Tables}
+use Rattle.keepers.specs.Seen.{Seen}
 use Rattle.charging.specs.Continued.{Continues, LeavesOn}
 use Rattle.sql_keeper.specs.Inside.{KeeperState, IsClean}
 use Rattle.operations.specs.Written.{WritesBeginning}
@@ -104,13 +104,12 @@ pub record ListensOver {D O E : Type 0} {g : disk.Ghosts D} (image : Image)
 
 -- so many connections at most end in a fault, each of which is told; what was accepted is what the
 -- tables go on by
-pub record ServesConnections {K E : Type 0} (content : K → Tables) (failed : K → ℕ)
-    (honest clean : K → Type 0) (leaves : K → Tables → Type 0) (faults : E → Option Bytes)
-    (b : Shelf) (connections : ℕ) (old new : K) (before after : E) (result : ℕ) : Type 0 where
+pub record ServesConnections {E : Type 0} (faults : E → Option Bytes)
+    (b : Shelf) (connections : ℕ) (old new : Seen) (before after : E) (result : ℕ) : Type 0 where
   pub told : TellsFaults result (faults before) (faults after)
   pub bounded : result ≤ connections
-  pub continued : clean new → Continues b (content old) (content new)
-  pub cleanness : clean new → clean old
-  pub honesty : honest new → honest old
-  pub left : LeavesOn content honest clean leaves b old new
-  pub failures : failed old ≤ failed new
+  pub continued : new.clean → Continues b old.tables new.tables
+  pub cleanness : new.clean → old.clean
+  pub honesty : new.honest → old.honest
+  pub left : LeavesOn b old new
+  pub failures : old.failed ≤ new.failed

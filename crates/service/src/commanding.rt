@@ -103,24 +103,24 @@ fn carry_out<K: Keeper, O: Write>(
     moment: Moment,
     output: &mut O,
 ) -> Result<Status, DatabaseFault>
-    ensures done { K.clean keeper.new → IfOk result (λ status.
-        IsCarriedOut shelf.now (command_of words.command) moment (K.content keeper.old)
-        (K.content keeper.new) (λ answer. (status ≡ status_of answer)
+    ensures done { (K.seen keeper.new).clean → IfOk result (λ status.
+        IsCarriedOut shelf.now (command_of words.command) moment (K.seen keeper.old).tables
+        (K.seen keeper.new).tables (λ answer. (status ≡ status_of answer)
         × Appends (O.contents output.old) (O.contents output.new) (answer_line answer))) }
     ensures printed { IfOk result (λ status.
         PrintsAnswer status (O.contents output.old) (O.contents output.new)) }
     ensures untold { (fault : StreamFault) → result ≡ Err (OfOffice (Write fault)) →
-        K.clean keeper.new → IsCarriedOut shelf.now (command_of words.command) moment
-        (K.content keeper.old) (K.content keeper.new) (λ answer.
+        (K.seen keeper.new).clean → IsCarriedOut shelf.now (command_of words.command) moment
+        (K.seen keeper.old).tables (K.seen keeper.new).tables (λ answer.
         WritesBeginning (O.contents output.old) (O.contents output.new) (answer_line answer)) }
     ensures unserved { (fault : StoreFault) → result ≡ Err (OfOffice (Store fault)) →
-        K.clean keeper.new → K.content keeper.new ≡ K.content keeper.old }
+        (K.seen keeper.new).clean → (K.seen keeper.new).tables ≡ (K.seen keeper.old).tables }
     ensures unwritten { IfErr result (λ fault. IsUnanswered fault → output.new ≡ output.old) }
     ensures fault { IfErr result IsOfficeFault }
-    ensures honesty { K.honest keeper.new → K.honest keeper.old }
-    ensures stands { K.honest keeper.new → OnOk result (K.clean keeper.new) }
-    ensures cleanness { K.clean keeper.new → K.clean keeper.old }
-    ensures failures { K.failed keeper.old ≤ K.failed keeper.new }
+    ensures honesty { (K.seen keeper.new).honest → (K.seen keeper.old).honest }
+    ensures stands { (K.seen keeper.new).honest → OnOk result (K.seen keeper.new).clean }
+    ensures cleanness { (K.seen keeper.new).clean → (K.seen keeper.old).clean }
+    ensures failures { (K.seen keeper.old).failed ≤ (K.seen keeper.new).failed }
 {
     match serve_office(alloc, keeper, shelf, words.command, moment, output) {
         Ok(status) => Ok(status),

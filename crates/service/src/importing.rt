@@ -131,8 +131,8 @@ pub fn import_file<K: Keeper, R: Read + Drop, O: Write>(
     moment: Moment,
     output: &mut O,
 ) -> Result<(), ImportFault>
-    ensures { ImportsFile K.content K.failed K.honest K.clean O.contents shelf.now
-        (R.remaining reader) moment keeper.old keeper.new output.old output.new result }
+    ensures { ImportsFile O.contents shelf.now (R.remaining reader) moment
+        (K.seen keeper.old) (K.seen keeper.new) output.old output.new result }
 {
     let rows = match read_vouchers(alloc, reader) {
         Ok(rows) => rows,

@@ -23,8 +23,8 @@ pub fn serve_connections<K: ChargeSource, C: Clock, E: Write>(
     clock: &mut C,
     errors: &mut E,
 ) -> u32
-    ensures { ServesConnections K.content K.failed K.honest K.clean K.left E.contents shelf.now
-        connections keeper.old keeper.new errors.old errors.new result }
+    ensures { ServesConnections E.contents shelf.now connections
+        (K.seen keeper.old) (K.seen keeper.new) errors.old errors.new result }
 {
     let mut failed = 0;
     for _served in 0..connections {
@@ -42,8 +42,8 @@ fn serve_next<K: ChargeSource, C: Clock, E: Write>(
     clock: &mut C,
     errors: &mut E,
 ) -> u32
-    ensures { ServesConnections K.content K.failed K.honest K.clean K.left E.contents shelf.now
-        1 keeper.old keeper.new errors.old errors.new result }
+    ensures { ServesConnections E.contents shelf.now 1 (K.seen keeper.old) (K.seen keeper.new)
+        errors.old errors.new result }
 {
     match serve_accepted(rt, listener, keeper, shelf, clock) {
         Ok(_) => 0,
@@ -62,7 +62,7 @@ fn serve_accepted<K: ChargeSource, C: Clock>(
     shelf: &TariffShelf,
     clock: &mut C,
 ) -> Result<Served, ServeFault>
-    ensures { GoesOn K.content K.failed K.honest K.clean K.left shelf.now keeper.old keeper.new }
+    ensures { GoesOn shelf.now (K.seen keeper.old) (K.seen keeper.new) }
 {
     match listener.accept() {
         Ok((stream, _)) => serve_socket(rt, &stream, keeper, shelf, clock),

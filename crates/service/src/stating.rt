@@ -118,8 +118,8 @@ fn tell_month<K: ChargeSource, O: Write>(
     moment: Moment,
     output: &mut O,
 ) -> Result<Status, DatabaseFault>
-    ensures told { K.clean keeper.new →
-        IsOfOffice (IsMonthTold shelf.now (query_of words) moment (K.content keeper.old)
+    ensures told { (K.seen keeper.new).clean →
+        IsOfOffice (IsMonthTold shelf.now (query_of words) moment (K.seen keeper.old).tables
         (O.contents output.old) (O.contents output.new)) result }
     ensures ended { IfOk result (IsEnded
         (Appends (O.contents output.old) (O.contents output.new) unknown_line)) }
@@ -127,9 +127,9 @@ fn tell_month<K: ChargeSource, O: Write>(
         (PrintsMonthOf words (O.contents output.old) (O.contents output.new)) }
     ensures begun { OnErr result
         (BeginsMonthOf words (O.contents output.old) (O.contents output.new)) }
-    ensures reads { IsOfOffice (OnlyReads K.content K.failed K.clean keeper.old keeper.new) result }
-    ensures honesty { K.honest keeper.new → K.honest keeper.old }
-    ensures stands { K.honest keeper.new → OnOk result (K.clean keeper.new) }
+    ensures reads { IsOfOffice (OnlyReads (K.seen keeper.old) (K.seen keeper.new)) result }
+    ensures honesty { (K.seen keeper.new).honest → (K.seen keeper.old).honest }
+    ensures stands { (K.seen keeper.new).honest → OnOk result (K.seen keeper.new).clean }
     ensures unwritten { IfErr result (λ fault. IsUnasked fault → output.new ≡ output.old) }
     ensures fault { IfErr result IsOfficeFault }
 {

@@ -11,13 +11,14 @@ use Rattle.reserving.specs.Sessions.{counter_in, group_in, is_open}
 use Rattle.reserving.specs.Rows.{AccountRows}
 use Rattle.reserving.specs.Stored.{StoredRows, stored}
 use Rattle.reserving.specs.Restored.{in_key_order, FindsSame}
+use Rattle.keepers.specs.Seen.{Seen}
 use Rattle.keepers.specs.Tables.{group_row, held_of}
 use Rattle.reserving.proofs.LeftParted.{either_none}
 use Rattle.sql_rows.specs.Content.{TableRows}
 use Rattle.keepers.specs.declared.loaded.Loaded.{Loaded}
 use Rattle.keepers.specs.declared.fault.StoreFault.{StoreFault}
 use Rattle.keepers.specs.declared.fault.StoreFault.TheVariants.{Store}
-use Rattle.keepers.specs.Tables.{Rows, Tables}
+use Rattle.keepers.specs.Tables.{Rows}
 use Rattle.keepers.specs.Change.{IsLoadedFrom, IsLoad, IsView}
 use Rattle.keepers.specs.Keeping.{KeeperReads}
 use Rattle.sql_keeper.specs.Content.{head_in, told_rows, Names}
@@ -147,18 +148,17 @@ fault_or d (Ok x) = d
 fault_or d (Err e) = e
 
 -- a load without the rows once more is a view
-pub viewed : {K : Type 0} (content : K → Tables) (failed : K → ℕ) (honest clean : K → Type 0)
-    (leaves : K → Tables → Type 0) (old new : K)
+pub viewed : (old new : Seen)
     (shelf : Shelf) (t : ℕ) (a : List ℕ) (rows : Rows) (r : Result (Option Loaded) StoreFault)
     (q : Result (Option AccountRows) StoreFault) → IsAccountOf r q
-    → KeeperReads content failed honest clean leaves old new (IsLoad shelf t a rows) r
-    → KeeperReads content failed honest clean leaves old new (IsView shelf t rows) q
-viewed content failed honest clean leaves old new shelf t a rows r q is h = record {
+    → KeeperReads old new (IsLoad shelf t a rows) r
+    → KeeperReads old new (IsView shelf t rows) q
+viewed old new shelf t a rows r q is h = record {
   found = λ now. found r q is (h.found now);
   same = h.same;
   cleanness = h.cleanness;
   honesty = h.honesty;
-  stands = λ x. answers_so (clean new) r q is (h.stands x);
+  stands = λ x. answers_so new.clean r q is (h.stands x);
   left = h.left;
   cause = record { kept = h.cause.kept; cause = λ e. h.cause.cause (fault r q is e) };
 }

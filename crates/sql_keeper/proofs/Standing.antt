@@ -15,10 +15,10 @@ use Rattle.keepers.specs.Tables.{Tables}
 use Rattle.sql_keeper.specs.Asks.{Asks, IsHanded}
 use Rattle.sql_keeper.specs.Commits.{CommitsStanding, CommitsWhole}
 use Rattle.sql_keeper.specs.Content.{shelf_names, tables_of}
-use Rattle.sql_keeper.specs.Inside.{KeeperState, IsKeeper, StaysOpen, names_in, tables_in}
-use Rattle.sql_keeper.specs.Inside.{clean_in, failed_in}
+use Rattle.sql_keeper.specs.Inside.{KeeperState, IsKeeper, StaysOpen, names_in}
+use Rattle.sql_keeper.specs.Inside.{clean_in}
 use Rattle.sql_keeper.specs.Left.{IsHeld}
-use Rattle.sql_keeper.specs.Stops.{IsCommitWhole, LeavesIn, MayLeave, honest_in, trees_in}
+use Rattle.sql_keeper.specs.Stops.{as_seen, IsCommitWhole, LeavesIn, MayLeave, trees_in}
 use Rattle.sql_keeper.proofs.Asked.{cause_at_most, handed, open_of, stays_open, was_clean}
 use Rattle.sql_keeper.proofs.Committed.{committed_keeper, same_tables, stays_in, whole}
 use Rattle.sql_keeper.proofs.Committed.{was_clean as was_clean_before}
@@ -69,8 +69,7 @@ module _ {S : Type 0} (g : Ghosts S) (old new : KeeperState S) (keeper : IsKeepe
       (read : Result T ReadFault) (result : Result T StoreFault) → Asks told before after read
       → IsHanded read result → HasCause old.failures new.failures result
       → (HasCleanDisk before → IsTrue before.is_open → (x : T) → told before.now.trees x → Found x)
-      → KeeperReads (tables_in g) failed_in (honest_in g) (clean_in g) (LeavesIn g) old new Found
-      result
+      → KeeperReads (as_seen g old) (as_seen g new) Found result
   asked told Found read result asks e cause to = record {
     found = λ clean. handed (told before.now.trees) Found read result e
         (to (asks.only.cleanness clean.disk) (still clean).was_open) (asks.found clean.disk);
@@ -108,7 +107,7 @@ module _ {S : Type 0} (g : Ghosts S) (old new : KeeperState S) (keeper : IsKeepe
     pub keeps : (Written : Tables → Type 0) → HasCause old.failures new.failures r
         → ((db : Trees) → Become text (trees_in g old) db
         → Written (tables_of (names_in old) (tables_content db)))
-        → Keeps (tables_in g) failed_in (honest_in g) (clean_in g) (LeavesIn g) old new Written r
+        → Keeps (as_seen g old) (as_seen g new) Written r
     keeps Written cause to = record {
       err = λ clean. same_tables g old new Become text keeper r commits shelf clean
           (open_of after (stays_in g old new Become text keeper r commits) clean);

@@ -10,15 +10,14 @@ use Rattle.keepers.specs.Change.{IsSwept}
 use Rattle.keepers.specs.Keeping.{Keeps, KeeperReads}
 use Rattle.keepers.specs.Tables.{Tables}
 use Rattle.keepers.specs.declared.fault.StoreFault.{StoreFault}
-use Rattle.sql_keeper.specs.Inside.{KeeperState, clean_in, failed_in, names_in, tables_in}
-use Rattle.sql_keeper.specs.Stops.{IsCommitWhole, LeavesIn, honest_in, trees_in}
+use Rattle.sql_keeper.specs.Inside.{KeeperState, clean_in, names_in, tables_in}
+use Rattle.sql_keeper.specs.Stops.{as_seen, IsCommitWhole, trees_in}
 use Rattle.sql_keeper.specs.Sweeps.{BecomesSwept}
 
 -- a call that reads: what it finds is in the tables, and a stop leaves the rows that there were
 pub record AsksTables {S T : Type 0} (g : Ghosts S) (Found : Tables → T → Type 0)
     (old new : KeeperState S) (result : Result T StoreFault) : Type 0 where
-  pub reads : KeeperReads (tables_in g) failed_in (honest_in g) (clean_in g) (LeavesIn g) old new
-      (Found (tables_in g old)) result
+  pub reads : KeeperReads (as_seen g old) (as_seen g new) (Found (tables_in g old)) result
   pub whole : IsCommitWhole g old new (λ _. ⊥)
 
 -- a call that writes: the tables are changed so, and a stop leaves the rows that there were or
@@ -27,8 +26,7 @@ pub record StoresChange {S T : Type 0} (g : Ghosts S) (change : Tables → Table
     (becomes : Trees → Type 0) (old new : KeeperState S) (result : Result T StoreFault)
     : Type 0 where
   pub done : clean_in g new → OnOk result (tables_in g new ≡ change (tables_in g old))
-  pub kept : Keeps (tables_in g) failed_in (honest_in g) (clean_in g) (LeavesIn g) old new
-      (λ t. t ≡ change (tables_in g old)) result
+  pub kept : Keeps (as_seen g old) (as_seen g new) (λ t. t ≡ change (tables_in g old)) result
   pub whole : IsCommitWhole g old new becomes
 
 -- a sweep of all accounts, which are counted
@@ -36,7 +34,6 @@ pub record SweepsAll {S : Type 0} (g : Ghosts S) (b : Shelf) (moment : Moment)
     (old new : KeeperState S) (result : Result ℕ StoreFault) : Type 0 where
   pub count : clean_in g new → IfOk result (λ n. n ≡ (tables_in g old).count)
   pub done : clean_in g new → OnOk result (IsSwept b moment (tables_in g old) (tables_in g new))
-  pub kept : Keeps (tables_in g) failed_in (honest_in g) (clean_in g) (LeavesIn g) old new
-      (IsSwept b moment (tables_in g old)) result
+  pub kept : Keeps (as_seen g old) (as_seen g new) (IsSwept b moment (tables_in g old)) result
   pub whole : IsCommitWhole g old new (BecomesSwept (names_in old) old.text b moment
       (trees_in g old))

@@ -5,10 +5,12 @@ use Rattle.sqlite_trees.specs.declared.store.Store.{Ghosts}
 use Rattle.sqlite_trees.specs.Tree.{Trees}
 use Rattle.sqlite.specs.Held.{state}
 use Rattle.sqlite.specs.State.{HasCleanDisk}
+use Rattle.keepers.specs.Seen.{Seen}
 use Rattle.keepers.specs.Tables.{Tables}
 use Rattle.sql_rows.specs.Content.{tables_content}
 use Rattle.sql_keeper.specs.Content.{tables_of}
 use Rattle.sql_keeper.specs.Inside.{KeeperState, IsClean, IsKeeper, names_in}
+use Rattle.sql_keeper.specs.Inside.{clean_in, failed_in, tables_in}
 
 -- the rows of the database as they stand
 abbrev pub trees_in : {S : Type 0} → Ghosts S → KeeperState S → Trees
@@ -28,6 +30,16 @@ pub record LeavesIn {S : Type 0} (g : Ghosts S) (k : KeeperState S) (t : Tables)
   pub db : Trees
   pub may : MayLeave g k db
   pub is : t ≡ tables_of (names_in k) (tables_content db)
+
+-- a keeper over a database as a contract sees a keeper
+abbrev pub as_seen : {S : Type 0} → Ghosts S → KeeperState S → Seen
+as_seen g k = record {
+  tables = tables_in g k;
+  failed = failed_in k;
+  honest = honest_in g k;
+  clean = clean_in g k;
+  left = LeavesIn g k;
+}
 
 -- a stop at the exit of a call leaves what it left before the call, or all that the call writes,
 -- also where the connection is shut

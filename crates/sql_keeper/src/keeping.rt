@@ -11,18 +11,9 @@ use units::Moment;
 use voucher_rules::{Voucher, VoucherTerms};
 
 impl<S: Alter> Keeper for SqlKeeper<S> {
-    ghost use Rattle.sql_keeper.specs.Inside.{tables_in, failed_in, clean_in};
-    ghost use Rattle.sql_keeper.specs.Stops.{LeavesIn, honest_in};
+    ghost use Rattle.sql_keeper.specs.Stops.{as_seen};
 
-    ghost content = { tables_in S.Store };
-
-    ghost failed = { failed_in };
-
-    ghost honest = { honest_in S.Store };
-
-    ghost clean = { clean_in S.Store };
-
-    ghost left = { LeavesIn S.Store };
+    ghost seen = { as_seen S.Store };
 
     ghost use Rattle.std.proofs.Math.Nat.{min-le_right};
     ghost use Rattle.keepers.specs.Faults.{max_failures};

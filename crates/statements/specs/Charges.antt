@@ -1,11 +1,12 @@
 -- What the charges of a month that are asked of a source come to.
 -- Source: profile.
-use Rattle.std.specs.Prelude.{◌≡◌, ℕ, ◌+◌, ◌≤◌, min, List, Option, Result, IfOk, OnErr, OnOk}
+use Rattle.std.specs.Prelude.{◌≡◌, ◌+◌, ◌≤◌, min, List, Option, Result, IfOk, OnErr, OnOk}
 use Rattle.std.specs.Prelude.{IsErrOf}
 use Rattle.std.specs.Io.KnownBytes.{Appends}
 use Rattle.texts.specs.StreamWords.{Bytes}
 use Rattle.ledger.specs.Words.{ChargeNumber}
 use Rattle.keepers.specs.Faults.{max_failures}
+use Rattle.keepers.specs.Seen.{Seen}
 use Rattle.keepers.specs.Tables.{Tables}
 use Rattle.ledger.specs.ChargeColumns.{ChargeColumns}
 use Rattle.keepers.specs.Rows.{AreCharges}
@@ -18,15 +19,14 @@ use Rattle.identifiers.specs.Words.{AccountName}
 
 -- asking a source changes nothing of it, nor what a stop leaves; it answers only where the source
 -- can still be asked, and it fails only with a cause
-pub record Asks {K T : Type 0} (content : K → Tables) (failed : K → ℕ) (honest clean : K → Type 0)
-    (leaves : K → Tables → Type 0) (old new : K) (result : Result T StatementFault) : Type 0 where
-  pub same : clean new → content new ≡ content old
-  pub cleanness : clean new → clean old
-  pub honesty : honest new → honest old
-  pub stands : honest new → OnOk result (clean new)
-  pub left : honest new → (t : Tables) → leaves new t → leaves old t
-  pub kept : failed old ≤ failed new
-  pub cause : IsErrOf result Store → min (failed old + 1) max_failures ≤ failed new
+pub record Asks {T : Type 0} (old new : Seen) (result : Result T StatementFault) : Type 0 where
+  pub same : new.clean → new.tables ≡ old.tables
+  pub cleanness : new.clean → old.clean
+  pub honesty : new.honest → old.honest
+  pub stands : new.honest → OnOk result new.clean
+  pub left : new.honest → (t : Tables) → new.left t → old.left t
+  pub kept : old.failed ≤ new.failed
+  pub cause : IsErrOf result Store → min (old.failed + 1) max_failures ≤ new.failed
 
 -- the text of an account's charges is written, or a beginning of it at a fault
 pub record Writes {T : Type 0} (charges : ChargeNumber → Option ChargeColumns)
@@ -58,11 +58,10 @@ pub record SumsSome (old new : Option Bytes) (form : Form)
 -- ---- over a source and a writer
 
 -- the text of an account's charges is written; of a source that stays clean, of all that it has
-pub record WritesCharges {T K W : Type 0} (content : K → Tables) (failed : K → ℕ)
-    (honest clean : K → Type 0) (leaves : K → Tables → Type 0) (contents : W → Option Bytes)
-    (account : AccountName) (text : List ChargeColumns → Bytes) (old new : K) (before after : W)
+pub record WritesCharges {T W : Type 0} (contents : W → Option Bytes)
+    (account : AccountName) (text : List ChargeColumns → Bytes) (old new : Seen) (before after : W)
     (result : Result T StatementFault) : Type 0 where
-  pub writes : clean new →
-      Writes ((content old).charges account) (contents before) (contents after) text result
+  pub writes : new.clean →
+      Writes (old.tables.charges account) (contents before) (contents after) text result
   pub some : WritesSome (contents before) (contents after) text result
-  pub asks : Asks content failed honest clean leaves old new result
+  pub asks : Asks old new result

@@ -63,17 +63,16 @@ fn write_charges<S: ChargeSource, W: Write>(
     asked: &AccountMonth,
     form: Form,
 ) -> Result<Sums, StatementFault>
-    ensures writes { S.clean source.new →
-        Writes ((S.content source.old).charges asked.now.account.now)
+    ensures writes { (S.seen source.new).clean →
+        Writes ((S.seen source.old).tables.charges asked.now.account.now)
         (W.contents writer.old) (W.contents writer.new)
         (λ rows. charges_text form (of_month asked.now.book.now asked.now.month rows)) result }
-    ensures sums { S.clean source.new → (rows : List ChargeColumns) →
-        AreCharges ((S.content source.old).charges asked.now.account.now) rows →
+    ensures sums { (S.seen source.new).clean → (rows : List ChargeColumns) →
+        AreCharges ((S.seen source.old).tables.charges asked.now.account.now) rows →
         IfOk result (λ sums. sums ≡ sums_of (of_month asked.now.book.now asked.now.month rows)) }
     ensures some { SumsSome (W.contents writer.old) (W.contents writer.new) form
         (of_month asked.now.book.now asked.now.month) result }
-    ensures asks { Asks S.content S.failed S.honest S.clean S.left source.old source.new
-        result }
+    ensures asks { Asks (S.seen source.old) (S.seen source.new) result }
 {
     let mut charges = MonthRows {
         alloc,
@@ -162,10 +161,10 @@ pub fn statement<S: ChargeSource, W: Write>(
     moment: Moment,
     buckets: &[Bucket],
 ) -> Result<(), StatementFault>
-    ensures { WritesCharges S.content S.failed S.honest S.clean S.left W.contents
+    ensures { WritesCharges W.contents
         asked.now.account.now (λ rows. statement_text asked.now.book.now asked.now.account.now
-        asked.now.month moment rows buckets.now) source.old source.new writer.old writer.new
-        result }
+        asked.now.month moment rows buckets.now) (S.seen source.old) (S.seen source.new) writer.old
+        writer.new result }
 {
     write_head(alloc, writer, asked.account, asked.month, moment)?;
     let sums = write_charges(alloc, source, writer, asked, Form::Lines)?;
@@ -185,9 +184,9 @@ pub fn export<S: ChargeSource, W: Write>(
     writer: &mut W,
     asked: &AccountMonth,
 ) -> Result<(), StatementFault>
-    ensures { WritesCharges S.content S.failed S.honest S.clean S.left W.contents
-        asked.now.account.now (λ rows. export_text asked.now.book.now asked.now.month rows)
-        source.old source.new writer.old writer.new result }
+    ensures { WritesCharges W.contents asked.now.account.now
+        (λ rows. export_text asked.now.book.now asked.now.month rows)
+        (S.seen source.old) (S.seen source.new) writer.old writer.new result }
 {
     write_header(alloc, writer)?;
     write_charges(alloc, source, writer, asked, Form::Records)?;

@@ -51,15 +51,7 @@ fn counts_of(rows: &NamedRows, answers: usize, charges: usize) -> Counts {
 }
 
 impl<K: Keeper> Keeper for Counting<K> {
-    ghost content = { λ k. K.content k.inner };
-
-    ghost failed = { λ k. K.failed k.inner };
-
-    ghost honest = { λ k. K.honest k.inner };
-
-    ghost clean = { λ k. K.clean k.inner };
-
-    ghost left = { λ k. K.left k.inner };
+    ghost seen = { λ k. K.seen k.inner };
 
     ghost bounded = { λ k. K.bounded k.inner };
 

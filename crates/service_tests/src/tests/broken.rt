@@ -23,15 +23,13 @@ pub(crate) struct Broken {
 impl Keeper for Broken {
     ghost use Rattle.std.proofs.Common.{le_refl};
 
-    ghost content = { λ _. no_tables };
-
-    ghost failed = { λ _. max_failures };
-
-    ghost honest = { λ _. ⊥ };
-
-    ghost clean = { λ _. ⊥ };
-
-    ghost left = { λ _ _. ⊥ };
+    ghost seen = { λ _. record {
+      tables = no_tables;
+      failed = max_failures;
+      honest = ⊥;
+      clean = ⊥;
+      left = λ _. ⊥;
+    } };
 
     ghost bounded = { λ _. le_refl max_failures };
 

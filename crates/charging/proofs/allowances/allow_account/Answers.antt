@@ -20,15 +20,16 @@ done : (g : _) (c : After-commit g) (t : Tables) →
     (Some (record {
       content = content.Allow c.args.allowance;
       answer = answer.Bucket c.in-Ok-Ok.number;
-    })) None) (g.K.Keeper.content c.args.keeper.now) t →
+    })) None) (g.K.Keeper.seen c.args.keeper.now).tables t →
     (b : Shelf) → IsLoad b c.args.moment c.args.allowance.account
-    ((g.K.Keeper.content c.args.keeper.now).rows c.args.allowance.account) (Some c.args.loaded) →
-    (g.K.Keeper.content c.args.keeper.now).answers c.args.allowance.account
+    ((g.K.Keeper.seen c.args.keeper.now).tables.rows c.args.allowance.account)
+    (Some c.args.loaded) →
+    (g.K.Keeper.seen c.args.keeper.now).tables.answers c.args.allowance.account
     (key_of (content.Allow c.args.allowance)) ≡ None →
     Answers b (command.Allow c.args.allowance) c.args.moment
-    (g.K.Keeper.content c.args.keeper.now) t (answer.Bucket c.in-Ok-Ok.number)
+    (g.K.Keeper.seen c.args.keeper.now).tables t (answer.Bucket c.in-Ok-Ok.number)
 done g c t made = λ b load fresh list time is le.
-    allow-done b list c.args.allowance c.args.moment (g.K.Keeper.content c.args.keeper.now) t
+    allow-done b list c.args.allowance c.args.moment (g.K.Keeper.seen c.args.keeper.now).tables t
     c.args.loaded time le is (record { load = load; account = c.moment_on-moment.ensures.kept })
     c.moment_on-moment.result fresh c.moment_on-moment.ensures.value c.in-Ok-Ok.field-0
     c.add_allowance.new.account c.in-Ok-Ok.ensures.allows
@@ -49,11 +50,11 @@ done g c t made = λ b load fresh list time is le.
 pub returns-in-Ok-Ok-clause-served : goal.returns-in-Ok-Ok-clause-served
 returns-in-Ok-Ok-clause-served g c = λ clean b load fresh list time is le.
     served-by b list (command.Allow c.args.allowance) c.args.moment
-    (g.K.Keeper.content c.args.keeper.now) (g.K.Keeper.content c.args.keeper.now)
-    (g.K.Keeper.content c.commit.new.keeper) (answer.Bucket c.in-Ok-Ok.number) c.commit.result
+    (g.K.Keeper.seen c.args.keeper.now).tables (g.K.Keeper.seen c.args.keeper.now).tables
+    (g.K.Keeper.seen c.commit.new.keeper).tables (answer.Bucket c.in-Ok-Ok.number) c.commit.result
     refl (c.commit.ensures.done clean) (c.commit.ensures.kept.err clean)
     (λ made. done g (goal.at.returns-in-Ok-Ok-clause-served g c).After-commit
-    (g.K.Keeper.content c.commit.new.keeper) made b load fresh list time is le)
+    (g.K.Keeper.seen c.commit.new.keeper).tables made b load fresh list time is le)
 
 pub returns-in-Ok-Ok-clause-left : goal.returns-in-Ok-Ok-clause-left
 returns-in-Ok-Ok-clause-left g c = λ honest t l.
@@ -65,14 +66,14 @@ returns-in-Ok-Ok-clause-left g c = λ honest t l.
 pub returns-in_ok-refuse-in-Ok-Err-clause-served : goal.returns-in_ok-refuse-in-Ok-Err-clause-served
 returns-in_ok-refuse-in-Ok-Err-clause-served g c = λ clean b load fresh list time is le.
     served-as b list (command.Allow c.args.allowance) c.args.moment
-    (g.K.Keeper.content c.args.keeper.now) (g.K.Keeper.content c.abandon.new.self)
+    (g.K.Keeper.seen c.args.keeper.now).tables (g.K.Keeper.seen c.abandon.new.self).tables
     c.in_ok-refuse-in-Ok-Err.field-0 _ c.in_ok-refuse-in-Ok-Err.ensures
-    (allow-told b list c.args.allowance c.args.moment (g.K.Keeper.content c.args.keeper.now)
-    (g.K.Keeper.content c.abandon.new.self) c.args.loaded time le is
+    (allow-told b list c.args.allowance c.args.moment (g.K.Keeper.seen c.args.keeper.now).tables
+    (g.K.Keeper.seen c.abandon.new.self).tables c.args.loaded time le is
     (record { load = load; account = c.moment_on-moment.ensures.kept })
     c.moment_on-moment.result fresh c.moment_on-moment.ensures.value c.in-Ok-Err.field-0
     c.add_allowance.new.account c.in-Ok-Err.ensures.allows c.in-Ok-Err.refusal
-    c.in-Ok-Err.field-0-is (ap g.K.Keeper.content c.abandon.ensures))
+    c.in-Ok-Err.field-0-is (ap (λ k. (g.K.Keeper.seen k).tables) c.abandon.ensures))
 
 pub returns-in-Ok-Ok-clause-refused : goal.returns-in-Ok-Ok-clause-refused
 returns-in-Ok-Ok-clause-refused g c = λ clean.
@@ -82,4 +83,4 @@ returns-in-Ok-Ok-clause-refused g c = λ clean.
 pub returns-in_ok-refuse-in-Ok-Err-clause-refused :
     goal.returns-in_ok-refuse-in-Ok-Err-clause-refused
 returns-in_ok-refuse-in-Ok-Err-clause-refused g c = λ clean e.
-    ap g.K.Keeper.content c.abandon.ensures
+    ap (λ k. (g.K.Keeper.seen k).tables) c.abandon.ensures

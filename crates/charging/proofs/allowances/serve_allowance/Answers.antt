@@ -13,7 +13,7 @@ use Rattle.charging.proofs.allowances.serve_allowance.Goals.{After-allow_account
 pub returns-in-Some-clause-served : goal.returns-in-Some-clause-served
 returns-in-Some-clause-served g c = λ clean list time is le.
     allow-again c.args.shelf.now list c.args.allowance c.args.moment
-    (g.K.Keeper.content c.args.keeper.now) (g.K.Keeper.content c.find_allowance.new.keeper)
+    (g.K.Keeper.seen c.args.keeper.now).tables (g.K.Keeper.seen c.find_allowance.new.keeper).tables
     c.in-Some.kept c.in_ok-repeated_allowance.field-0 time le is
     (sym (c.in_ok-kept.ensures.found clean) ∙ c.in-Some.is) c.in_ok-repeated_allowance.ensures
     (c.in_ok-kept.ensures.same clean)
@@ -22,30 +22,31 @@ pub returns-in_default-2-clause-served : goal.returns-in_default-2-clause-served
 returns-in_default-2-clause-served g c = λ clean list time is le.
     let same = c.in_ok-kept.ensures.same (c.in_ok-loaded.ensures.cleanness clean) in
     served-as c.args.shelf.now list (command.Allow c.args.allowance) c.args.moment
-    (g.K.Keeper.content c.args.keeper.now) (g.K.Keeper.content c.load.new.self)
+    (g.K.Keeper.seen c.args.keeper.now).tables (g.K.Keeper.seen c.load.new.self).tables
     c.in_ok-refuse.field-0 _ c.in_ok-refuse.ensures
     (allow-unknown c.args.shelf.now list c.args.allowance c.args.moment
-    (g.K.Keeper.content c.args.keeper.now) (g.K.Keeper.content c.load.new.self) time le is
+    (g.K.Keeper.seen c.args.keeper.now).tables (g.K.Keeper.seen c.load.new.self).tables time le is
     (none_loaded c.args.shelf.now c.args.moment c.args.allowance.account
-    (g.K.Keeper.content c.find_allowance.new.keeper)
-    (g.K.Keeper.content c.args.keeper.now) c.in_ok-loaded.field-0 same
+    (g.K.Keeper.seen c.find_allowance.new.keeper).tables
+    (g.K.Keeper.seen c.args.keeper.now).tables c.in_ok-loaded.field-0 same
     (c.in_ok-loaded.ensures.found clean) c.in_default-2.is)
     (c.in_ok-loaded.ensures.same clean ∙ same))
 
 -- what was loaded and what was looked for, of the tables before the call
-taken : (g : _) (c : After-allow_account g) → g.K.Keeper.clean c.load.new.self →
+taken : (g : _) (c : After-allow_account g) → (g.K.Keeper.seen c.load.new.self).clean →
     IsLoad c.args.shelf.now c.args.moment c.args.allowance.account
-    ((g.K.Keeper.content c.load.new.self).rows c.args.allowance.account) (Some c.in-Some-2.loaded)
-    × ((g.K.Keeper.content c.load.new.self).answers c.args.allowance.account
+    ((g.K.Keeper.seen c.load.new.self).tables.rows c.args.allowance.account)
+    (Some c.in-Some-2.loaded)
+    × ((g.K.Keeper.seen c.load.new.self).tables.answers c.args.allowance.account
     (key_of (content.Allow c.args.allowance)) ≡ None)
-    × (g.K.Keeper.content c.load.new.self ≡ g.K.Keeper.content c.args.keeper.now)
+    × ((g.K.Keeper.seen c.load.new.self).tables ≡ (g.K.Keeper.seen c.args.keeper.now).tables)
 taken g c clean_load =
     let clean_find = c.in_ok-loaded.ensures.cleanness clean_load in
     let same_load = c.in_ok-loaded.ensures.same clean_load in
     let same = c.in_ok-kept.ensures.same clean_find in
     let loads = some_loaded c.args.shelf.now c.args.moment c.args.allowance.account
-    (g.K.Keeper.content c.find_allowance.new.keeper)
-    (g.K.Keeper.content c.load.new.self) c.in_ok-loaded.field-0 c.in-Some-2.loaded
+    (g.K.Keeper.seen c.find_allowance.new.keeper).tables
+    (g.K.Keeper.seen c.load.new.self).tables c.in_ok-loaded.field-0 c.in-Some-2.loaded
     (sym same_load) (c.in_ok-loaded.ensures.found clean_load) c.in-Some-2.is in
     let fresh = (λ i. ((same_load ∙ same) i).answers c.args.allowance.account
     (key_of (content.Allow c.args.allowance))) ∙ sym (c.in_ok-kept.ensures.found clean_find)
@@ -57,7 +58,7 @@ returns-clause-served g c = λ clean.
     let known = taken g (goal.at.returns-clause-served g c).After-allow_account
     (c.allow_account.ensures.kept.cleanness clean) in
     subst (λ (x : Tables). ServesAt c.args.shelf.now (command.Allow c.args.allowance)
-    c.args.moment x (g.K.Keeper.content c.allow_account.new.keeper) c.allow_account.result)
+    c.args.moment x (g.K.Keeper.seen c.allow_account.new.keeper).tables c.allow_account.result)
     known.2 (c.allow_account.ensures.served clean c.args.shelf.now known.0 known.1)
 
 pub returns-clause-left : goal.returns-clause-left
@@ -84,5 +85,5 @@ pub returns-clause-refused : goal.returns-clause-refused
 returns-clause-refused g c = λ clean.
     let known = taken g (goal.at.returns-clause-refused g c).After-allow_account
     (c.allow_account.ensures.kept.cleanness clean) in
-    subst (λ (x : Tables). LeavesRefused x (g.K.Keeper.content c.allow_account.new.keeper)
+    subst (λ (x : Tables). LeavesRefused x (g.K.Keeper.seen c.allow_account.new.keeper).tables
     c.allow_account.result) known.2 (c.allow_account.ensures.refused clean)

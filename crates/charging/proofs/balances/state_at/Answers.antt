@@ -7,9 +7,9 @@ use Rattle.charging.proofs.balances.state_at.Goals as goal
 
 pub returns-in_default-clause-found : goal.returns-in_default-clause-found
 returns-in_default-clause-found g c = λ clean list time is le.
-    none-stated c.args.shelf.now c.args.number.now list (g.K.Keeper.content c.args.keeper.now) is
-    (none_viewed c.args.shelf.now c.args.moment
-    ((g.K.Keeper.content c.args.keeper.now).rows c.args.number.now)
+    none-stated c.args.shelf.now c.args.number.now list (g.K.Keeper.seen c.args.keeper.now).tables
+    is (none_viewed c.args.shelf.now c.args.moment
+    ((g.K.Keeper.seen c.args.keeper.now).tables.rows c.args.number.now)
     c.in_ok-account.field-0 (c.in_ok-account.ensures.found clean) c.in_default.is)
 
 pub returns-clause-found : goal.returns-clause-found
@@ -17,10 +17,10 @@ returns-clause-found g c = λ clean list time is le.
     let viewed = c.in_ok-dead.ensures.cleanness clean in
     let same = c.in_ok-account.ensures.same viewed in
     some-stated c.args.shelf.now c.args.number.now c.args.moment list
-    (g.K.Keeper.content c.args.keeper.now) c.in-Some.account c.in_ok-dead.dead.items
+    (g.K.Keeper.seen c.args.keeper.now).tables c.in-Some.account c.in_ok-dead.dead.items
     c.in_ok-state_of.field-0 time is le
     (some_viewed c.args.shelf.now c.args.moment
-    ((g.K.Keeper.content c.args.keeper.now).rows c.args.number.now)
+    ((g.K.Keeper.seen c.args.keeper.now).tables.rows c.args.number.now)
     c.in_ok-account.field-0 c.in-Some.account (c.in_ok-account.ensures.found viewed) c.in-Some.is)
     (subst (λ (y : Tables). AreDeadOf (y.rows c.args.number.now) c.in_ok-dead.dead.items) same
     (c.in_ok-dead.ensures.found clean))

@@ -9,25 +9,25 @@ use Rattle.charging.proofs.balances.tell_balance.Goals as goal
 pub returns-in_default-clause-served : goal.returns-in_default-clause-served
 returns-in_default-clause-served g c = λ clean list time is le.
     served-as c.args.shelf.now list (command.Balance c.args.number) c.args.moment
-    (g.K.Keeper.content c.args.keeper.now) (g.K.Keeper.content c.state_at.new.keeper)
+    (g.K.Keeper.seen c.args.keeper.now).tables (g.K.Keeper.seen c.state_at.new.keeper).tables
     c.in_ok-refuse.field-0 _ c.in_ok-refuse.ensures
     (balance-unknown c.args.shelf.now list c.args.number c.args.moment
-    (g.K.Keeper.content c.args.keeper.now) (g.K.Keeper.content c.state_at.new.keeper) time le is
+    (g.K.Keeper.seen c.args.keeper.now).tables (g.K.Keeper.seen c.state_at.new.keeper).tables time
+    le is
     (subst (λ (o : Option AccountState). TellsStateAt c.args.shelf.now c.args.number c.args.moment
-    (g.K.Keeper.content c.args.keeper.now) o) c.in_default.is (c.in_ok-state.ensures.found clean)
-    list time is le)
-    (c.in_ok-state.ensures.same clean))
+    (g.K.Keeper.seen c.args.keeper.now).tables o) c.in_default.is (c.in_ok-state.ensures.found
+    clean) list time is le) (c.in_ok-state.ensures.same clean))
 
 pub returns-clause-served : goal.returns-clause-served
 returns-clause-served g c = λ clean list time is le.
     served-as c.args.shelf.now list (command.Balance c.args.number) c.args.moment
-    (g.K.Keeper.content c.args.keeper.now) (g.K.Keeper.content c.state_at.new.keeper)
+    (g.K.Keeper.seen c.args.keeper.now).tables (g.K.Keeper.seen c.state_at.new.keeper).tables
     c.in_ok-new.field-0 _ c.in_ok-new.ensures
     (balance-told c.args.shelf.now list c.args.number c.args.moment
-    (g.K.Keeper.content c.args.keeper.now) (g.K.Keeper.content c.state_at.new.keeper)
+    (g.K.Keeper.seen c.args.keeper.now).tables (g.K.Keeper.seen c.state_at.new.keeper).tables
     c.in-Some.state c.in_ok-balance.balance time le is
     (subst (λ (o : Option AccountState). TellsStateAt c.args.shelf.now c.args.number c.args.moment
-    (g.K.Keeper.content c.args.keeper.now) o) c.in-Some.is (c.in_ok-state.ensures.found clean)
+    (g.K.Keeper.seen c.args.keeper.now).tables o) c.in-Some.is (c.in_ok-state.ensures.found clean)
     list time is le)
     c.in_ok-balance.ensures (c.in_ok-state.ensures.same clean))
 

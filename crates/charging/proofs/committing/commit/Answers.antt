@@ -12,8 +12,8 @@ returns-clause-done g c = λ clean.
       commits-same
           (change_for own c.args.loaded c.args.charges c.in-Ok-kept_as.kept c.args.redeemed)
           (change_for own c.args.loaded c.args.charges (kept_as c.args.content c.args.answer)
-          c.args.redeemed) (g.K.Keeper.content c.args.keeper.now)
-          (g.K.Keeper.content c.commit_change.new.keeper)
+          c.args.redeemed) (g.K.Keeper.seen c.args.keeper.now).tables
+          (g.K.Keeper.seen c.commit_change.new.keeper).tables
           (ap (λ (kept : Option KeptAnswer).
           change_for own c.args.loaded c.args.charges kept c.args.redeemed)
           (c.in-Ok-kept_as.ensures ∙ ap (kept_as c.args.content) c.in-Ok.ensures))
@@ -27,7 +27,7 @@ returns-clause-left g c = λ honest t l.
     (commits-same (change_for own c.args.loaded c.args.charges c.in-Ok-kept_as.kept
     c.args.redeemed)
     (change_for own c.args.loaded c.args.charges (kept_as c.args.content c.args.answer)
-    c.args.redeemed) (g.K.Keeper.content c.args.keeper.now) t
+    c.args.redeemed) (g.K.Keeper.seen c.args.keeper.now).tables t
     (ap (λ (kept : Option KeptAnswer).
     change_for own c.args.loaded c.args.charges kept c.args.redeemed)
     (c.in-Ok-kept_as.ensures ∙ ap (kept_as c.args.content) c.in-Ok.ensures)))
@@ -39,7 +39,7 @@ returns-in_err-commit_change-clause-left g c = λ honest t l.
     (commits-same (change_for own c.args.loaded c.args.charges c.in-Ok-kept_as.kept
     c.args.redeemed)
     (change_for own c.args.loaded c.args.charges (kept_as c.args.content c.args.answer)
-    c.args.redeemed) (g.K.Keeper.content c.args.keeper.now) t
+    c.args.redeemed) (g.K.Keeper.seen c.args.keeper.now).tables t
     (ap (λ (kept : Option KeptAnswer).
     change_for own c.args.loaded c.args.charges kept c.args.redeemed)
     (c.in-Ok-kept_as.ensures ∙ ap (kept_as c.args.content) c.in-Ok.ensures)))

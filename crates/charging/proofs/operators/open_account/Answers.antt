@@ -15,12 +15,11 @@ use Rattle.charging.proofs.operators.open_account.Goals.{After-commit}
 pub returns-then-branch-clause-served : goal.returns-then-branch-clause-served
 returns-then-branch-clause-served g c = λ clean list time is le.
     served-as c.args.shelf.now list (command.OpenAccount c.args.number) c.args.moment
-    (g.K.Keeper.content c.args.keeper.now) (g.K.Keeper.content c.has_account.new.self)
+    (g.K.Keeper.seen c.args.keeper.now).tables (g.K.Keeper.seen c.has_account.new.self).tables
     c.in_ok-refuse.field-0 _ c.in_ok-refuse.ensures
     (open-again c.args.shelf.now list c.args.number c.args.moment
-    (g.K.Keeper.content c.args.keeper.now) (g.K.Keeper.content c.has_account.new.self) time le
-    is
-    (sym (c.in_ok-has_account.ensures.found clean) ∙ c.if-branch.true)
+    (g.K.Keeper.seen c.args.keeper.now).tables (g.K.Keeper.seen c.has_account.new.self).tables time
+    le is (sym (c.in_ok-has_account.ensures.found clean) ∙ c.if-branch.true)
     (c.in_ok-has_account.ensures.same clean))
 
 -- the change of a new account
@@ -35,14 +34,14 @@ change g c = record {
 }
 
 -- what its commit makes is what the command comes to
-done : (g : _) (c : After-commit g) (t : Tables) → g.K.Keeper.clean c.has_account.new.self →
-    Commits (change g c) (g.K.Keeper.content c.has_account.new.self) t →
+done : (g : _) (c : After-commit g) (t : Tables) → (g.K.Keeper.seen c.has_account.new.self).clean →
+    Commits (change g c) (g.K.Keeper.seen c.has_account.new.self).tables t →
     Answers c.args.shelf.now (command.OpenAccount c.args.number) c.args.moment
-    (g.K.Keeper.content c.args.keeper.now) t answer.Done
+    (g.K.Keeper.seen c.args.keeper.now).tables t answer.Done
 done g c t clean made = λ list time is le.
     open-done c.args.shelf.now list c.args.number c.args.moment c.advance.new.self c.new.result
-    (change g c) (g.K.Keeper.content c.args.keeper.now) t time le is
-    (not-there (g.K.Keeper.content c.args.keeper.now) c.args.number
+    (change g c) (g.K.Keeper.seen c.args.keeper.now).tables t time le is
+    (not-there (g.K.Keeper.seen c.args.keeper.now).tables c.args.number
     (sym (c.in_ok-has_account.ensures.found clean) ∙ c.if-branch.false))
     (record {
       account = c.commit.ensures.account;
@@ -62,19 +61,19 @@ done g c t clean made = λ list time is le.
       sessions = λ i. (c.new.ensures.rows i).sessions;
       groups = λ i. (c.new.ensures.rows i).groups;
     })
-    (commits-from (change g c) (g.K.Keeper.content c.args.keeper.now)
-    (g.K.Keeper.content c.has_account.new.self) t (c.in_ok-has_account.ensures.same clean) made)
+    (commits-from (change g c) (g.K.Keeper.seen c.args.keeper.now).tables
+    (g.K.Keeper.seen c.has_account.new.self).tables t (c.in_ok-has_account.ensures.same clean) made)
 
 pub returns-clause-served : goal.returns-clause-served
 returns-clause-served g c = λ clean list time is le.
     let clean_asked = c.commit.ensures.kept.cleanness clean in
     served-by c.args.shelf.now list (command.OpenAccount c.args.number) c.args.moment
-    (g.K.Keeper.content c.args.keeper.now) (g.K.Keeper.content c.has_account.new.self)
-    (g.K.Keeper.content c.commit.new.keeper) answer.Done c.commit.result
+    (g.K.Keeper.seen c.args.keeper.now).tables (g.K.Keeper.seen c.has_account.new.self).tables
+    (g.K.Keeper.seen c.commit.new.keeper).tables answer.Done c.commit.result
     (c.in_ok-has_account.ensures.same clean_asked) (c.commit.ensures.done clean)
     (c.commit.ensures.kept.err clean)
     (λ made. done g (goal.at.returns-clause-served g c).After-commit
-    (g.K.Keeper.content c.commit.new.keeper) clean_asked made list time is le)
+    (g.K.Keeper.seen c.commit.new.keeper).tables clean_asked made list time is le)
 
 pub returns-clause-left : goal.returns-clause-left
 returns-clause-left g c = λ honest t l.

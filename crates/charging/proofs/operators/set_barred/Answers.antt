@@ -12,30 +12,31 @@ use Rattle.charging.proofs.operators.set_barred.Goals.{After-commit}
 pub returns-in_default-clause-served : goal.returns-in_default-clause-served
 returns-in_default-clause-served g c = λ clean list time is le.
     served-as c.args.shelf.now list (bar_command c.args.number c.args.barred) c.args.moment
-    (g.K.Keeper.content c.args.keeper.now) (g.K.Keeper.content c.load.new.self)
+    (g.K.Keeper.seen c.args.keeper.now).tables (g.K.Keeper.seen c.load.new.self).tables
     c.in_ok-refuse.field-0 _ c.in_ok-refuse.ensures
     (bar-unknown c.args.shelf.now list c.args.number c.args.barred c.args.moment
-    (g.K.Keeper.content c.args.keeper.now) (g.K.Keeper.content c.load.new.self) time le is
-    (none_loaded c.args.shelf.now c.args.moment c.args.number (g.K.Keeper.content c.args.keeper.now)
-    (g.K.Keeper.content c.args.keeper.now) c.in_ok-loaded.field-0 refl
+    (g.K.Keeper.seen c.args.keeper.now).tables (g.K.Keeper.seen c.load.new.self).tables time le is
+    (none_loaded c.args.shelf.now c.args.moment c.args.number
+    (g.K.Keeper.seen c.args.keeper.now).tables
+    (g.K.Keeper.seen c.args.keeper.now).tables c.in_ok-loaded.field-0 refl
     (c.in_ok-loaded.ensures.found clean) c.in_default.is)
     (c.in_ok-loaded.ensures.same clean))
 
 -- what its commit makes is what the command comes to
-done : (g : _) (c : After-commit g) (t : Tables) → g.K.Keeper.clean c.load.new.self →
+done : (g : _) (c : After-commit g) (t : Tables) → (g.K.Keeper.seen c.load.new.self).clean →
     Commits (made_change c.in-Some.loaded c.set_barred.new.self c.new.result None None)
-    (g.K.Keeper.content c.load.new.self) t →
+    (g.K.Keeper.seen c.load.new.self).tables t →
     Answers c.args.shelf.now (bar_command c.args.number c.args.barred) c.args.moment
-    (g.K.Keeper.content c.args.keeper.now) t answer.Done
+    (g.K.Keeper.seen c.args.keeper.now).tables t answer.Done
 done g c t clean made = λ list time is le.
     bar-done c.args.shelf.now list c.args.number c.args.barred c.args.moment
     c.moment_on-moment.result c.in-Some.loaded c.set_barred.new.self
     (made_change c.in-Some.loaded c.set_barred.new.self c.new.result None None)
-    (g.K.Keeper.content c.args.keeper.now) t time le is
+    (g.K.Keeper.seen c.args.keeper.now).tables t time le is
     (record {
       load = some_loaded c.args.shelf.now c.args.moment c.args.number
-          (g.K.Keeper.content c.args.keeper.now)
-          (g.K.Keeper.content c.args.keeper.now) c.in_ok-loaded.field-0 c.in-Some.loaded refl
+          (g.K.Keeper.seen c.args.keeper.now).tables
+          (g.K.Keeper.seen c.args.keeper.now).tables c.in_ok-loaded.field-0 c.in-Some.loaded refl
           (c.in_ok-loaded.ensures.found clean) c.in-Some.is;
       account = c.moment_on-moment.ensures.kept;
     })
@@ -44,19 +45,19 @@ done g c t clean made = λ list time is le.
     (made_tells c.in-Some.loaded c.set_barred.new.self c.new.result None None None None
     c.new.ensures.items refl refl)
     (commits-from (made_change c.in-Some.loaded c.set_barred.new.self c.new.result None None)
-    (g.K.Keeper.content c.args.keeper.now) (g.K.Keeper.content c.load.new.self) t
+    (g.K.Keeper.seen c.args.keeper.now).tables (g.K.Keeper.seen c.load.new.self).tables t
     (c.in_ok-loaded.ensures.same clean) made)
 
 pub returns-clause-served : goal.returns-clause-served
 returns-clause-served g c = λ clean list time is le.
     let clean_load = c.commit.ensures.kept.cleanness clean in
     served-by c.args.shelf.now list (bar_command c.args.number c.args.barred) c.args.moment
-    (g.K.Keeper.content c.args.keeper.now) (g.K.Keeper.content c.load.new.self)
-    (g.K.Keeper.content c.commit.new.keeper) answer.Done c.commit.result
+    (g.K.Keeper.seen c.args.keeper.now).tables (g.K.Keeper.seen c.load.new.self).tables
+    (g.K.Keeper.seen c.commit.new.keeper).tables answer.Done c.commit.result
     (c.in_ok-loaded.ensures.same clean_load) (c.commit.ensures.done clean)
     (c.commit.ensures.kept.err clean)
     (λ made. done g (goal.at.returns-clause-served g c).After-commit
-    (g.K.Keeper.content c.commit.new.keeper) clean_load made list time is le)
+    (g.K.Keeper.seen c.commit.new.keeper).tables clean_load made list time is le)
 
 pub returns-clause-left : goal.returns-clause-left
 returns-clause-left g c = λ honest t l.

@@ -9,14 +9,14 @@ pub returns-in-Some-2-clause-served : goal.returns-in-Some-2-clause-served
 returns-in-Some-2-clause-served g c = λ clean list time is le.
     let answers = rw c.in-Some-2.is at c.in_ok-answer.ensures.answer in
     served-as c.args.shelf.now list (Ccr c.args.request.now) c.args.moment
-    (g.K.Keeper.content c.args.keeper.now) (g.K.Keeper.content c.view.new.self)
+    (g.K.Keeper.seen c.args.keeper.now).tables (g.K.Keeper.seen c.view.new.self).tables
     c.in_ok-new-in-Some-2.field-0 _ c.in_ok-new-in-Some-2.ensures
     (read-told c.args.shelf.now list c.args.request.now c.args.moment
-    (g.K.Keeper.content c.args.keeper.now)
-    (g.K.Keeper.content c.view.new.self) c.in-Some.account c.moment_on-now.result
+    (g.K.Keeper.seen c.args.keeper.now).tables
+    (g.K.Keeper.seen c.view.new.self).tables c.in-Some.account c.moment_on-now.result
     c.in-Some-2.answer time le is
     (some_viewed c.args.shelf.now c.args.moment
-    ((g.K.Keeper.content c.args.keeper.now).rows c.args.request.now.account)
+    ((g.K.Keeper.seen c.args.keeper.now).tables.rows c.args.request.now.account)
     c.in_ok-account.field-0 c.in-Some.account
     (c.in_ok-account.ensures.found clean) c.in-Some.is)
     c.moment_on-now.ensures.kept c.moment_on-now.ensures.value
@@ -26,9 +26,9 @@ returns-in-Some-2-clause-served g c = λ clean list time is le.
 pub returns-in_default-clause-served : goal.returns-in_default-clause-served
 returns-in_default-clause-served g c = λ clean list time is le.
     request-unknown c.args.shelf.now list c.args.request.now c.args.moment
-    (g.K.Keeper.content c.args.keeper.now)
-    (g.K.Keeper.content c.view.new.self) c.in_ok-tell_failed.field-0 time le is
+    (g.K.Keeper.seen c.args.keeper.now).tables
+    (g.K.Keeper.seen c.view.new.self).tables c.in_ok-tell_failed.field-0 time le is
     (none_viewed c.args.shelf.now c.args.moment
-    ((g.K.Keeper.content c.args.keeper.now).rows c.args.request.now.account)
+    ((g.K.Keeper.seen c.args.keeper.now).tables.rows c.args.request.now.account)
     c.in_ok-account.field-0 (c.in_ok-account.ensures.found clean) c.in_default.is)
     c.in_ok-tell_failed.ensures (c.in_ok-account.ensures.same clean)

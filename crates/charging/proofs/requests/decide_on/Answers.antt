@@ -25,15 +25,15 @@ change g c = made_for c.in-Ok.decided.own c.args.loaded c.decide.new.account c.i
 
 -- what its commit makes is what the request comes to
 done : (g : _) (c : After-keep g) (t : Tables) →
-    Commits (change g c) (g.K.Keeper.content c.args.keeper.now) t → (b : Shelf) →
+    Commits (change g c) (g.K.Keeper.seen c.args.keeper.now).tables t → (b : Shelf) →
     IsLoad b c.args.moment c.args.request.account
-    ((g.K.Keeper.content c.args.keeper.now).rows c.args.request.account) (Some c.args.loaded) →
-    kept_of_request c.args.request (g.K.Keeper.content c.args.keeper.now) ≡ None →
-    is_known c.args.request (g.K.Keeper.content c.args.keeper.now) ≡ false →
-    Answers b (Ccr c.args.request) c.args.moment (g.K.Keeper.content c.args.keeper.now) t
+    ((g.K.Keeper.seen c.args.keeper.now).tables.rows c.args.request.account) (Some c.args.loaded) →
+    kept_of_request c.args.request (g.K.Keeper.seen c.args.keeper.now).tables ≡ None →
+    is_known c.args.request (g.K.Keeper.seen c.args.keeper.now).tables ≡ false →
+    Answers b (Ccr c.args.request) c.args.moment (g.K.Keeper.seen c.args.keeper.now).tables t
     (answer.Request c.in-Ok.decided.answer)
 done g c t made = λ b load fresh new list time is le.
-    request-done b list c.args.request c.args.moment (g.K.Keeper.content c.args.keeper.now) t
+    request-done b list c.args.request c.args.moment (g.K.Keeper.seen c.args.keeper.now).tables t
     c.args.loaded time le is (record { load = load; account = c.moment_on-moment.ensures.kept })
     fresh new c.moment_on-moment.result c.moment_on-moment.ensures.value
     c.in-Ok.decided.answer c.in-Ok.decided.accepted c.in-Ok.ensures.answer c.in-Ok.ensures.accepted
@@ -48,12 +48,12 @@ done g c t made = λ b load fresh new list time is le.
 
 pub returns-in-Ok-clause-served : goal.returns-in-Ok-clause-served
 returns-in-Ok-clause-served g c = λ clean b load fresh new list time is le.
-    served-by b list (Ccr c.args.request) c.args.moment (g.K.Keeper.content c.args.keeper.now)
-    (g.K.Keeper.content c.args.keeper.now) (g.K.Keeper.content c.keep.new.keeper)
+    served-by b list (Ccr c.args.request) c.args.moment (g.K.Keeper.seen c.args.keeper.now).tables
+    (g.K.Keeper.seen c.args.keeper.now).tables (g.K.Keeper.seen c.keep.new.keeper).tables
     (answer.Request c.in-Ok.decided.answer) c.keep.result refl (c.keep.ensures.done clean)
     (c.keep.ensures.kept.err clean)
     (λ made. done g (goal.at.returns-in-Ok-clause-served g c).After-keep
-    (g.K.Keeper.content c.keep.new.keeper) made b load fresh new list time is le)
+    (g.K.Keeper.seen c.keep.new.keeper).tables made b load fresh new list time is le)
 
 pub returns-in-Ok-clause-left : goal.returns-in-Ok-clause-left
 returns-in-Ok-clause-left g c = λ honest t l.
@@ -65,14 +65,14 @@ returns-in-Ok-clause-left g c = λ honest t l.
 pub returns-in_ok-new-in-Ok-2-clause-served : goal.returns-in_ok-new-in-Ok-2-clause-served
 returns-in_ok-new-in-Ok-2-clause-served g c = λ clean b load fresh new list time is le.
     served-as b list (Ccr c.args.request) c.args.moment
-    (g.K.Keeper.content c.args.keeper.now) (g.K.Keeper.content c.abandon.new.self)
+    (g.K.Keeper.seen c.args.keeper.now).tables (g.K.Keeper.seen c.abandon.new.self).tables
     c.in_ok-new-in-Ok-2.field-0 _ c.in_ok-new-in-Ok-2.ensures
-    (request-told b list c.args.request c.args.moment (g.K.Keeper.content c.args.keeper.now)
-    (g.K.Keeper.content c.abandon.new.self) c.args.loaded time le is
+    (request-told b list c.args.request c.args.moment (g.K.Keeper.seen c.args.keeper.now).tables
+    (g.K.Keeper.seen c.abandon.new.self).tables c.args.loaded time le is
     (record { load = load; account = c.moment_on-moment.ensures.kept })
     fresh new c.moment_on-moment.result c.moment_on-moment.ensures.value
     c.in-Ok.decided.answer c.in-Ok.decided.accepted c.in-Ok.ensures.answer c.in-Ok.ensures.accepted
-    c.if-decide.false (ap g.K.Keeper.content c.abandon.ensures))
+    c.if-decide.false (ap (λ k. (g.K.Keeper.seen k).tables) c.abandon.ensures))
 
 pub returns-in-Ok-clause-refused : goal.returns-in-Ok-clause-refused
 returns-in-Ok-clause-refused g c = λ clean.
@@ -80,4 +80,5 @@ returns-in-Ok-clause-refused g c = λ clean.
     (ap not (c.in-Ok.decided.told c.if-decide.true)) (c.keep.ensures.done clean)
 
 pub returns-in_ok-new-in-Ok-2-clause-refused : goal.returns-in_ok-new-in-Ok-2-clause-refused
-returns-in_ok-new-in-Ok-2-clause-refused g c = λ clean e. ap g.K.Keeper.content c.abandon.ensures
+returns-in_ok-new-in-Ok-2-clause-refused g c = λ clean e. ap (λ k. (g.K.Keeper.seen k).tables)
+    c.abandon.ensures

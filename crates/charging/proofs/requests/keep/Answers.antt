@@ -12,14 +12,15 @@ returns-clause-done g c = λ clean.
     × Commits (change_for own c.args.loaded c.args.decided.charges (Some (record {
       content = content.Request c.args.request;
       answer = answer.Request c.args.decided.answer;
-    })) None) (g.K.Keeper.content c.args.keeper.now)
-    (g.K.Keeper.content c.commit.new.keeper))) c.as_ref.ensures.value (c.commit.ensures.done clean)
+    })) None) (g.K.Keeper.seen c.args.keeper.now).tables
+    (g.K.Keeper.seen c.commit.new.keeper).tables)) c.as_ref.ensures.value (c.commit.ensures.done
+    clean)
 
 pub returns-clause-left : goal.returns-clause-left
 returns-clause-left g c =
-    subst (λ own. Leaves g.K.Keeper.honest g.K.Keeper.left c.args.keeper.now c.commit.new.keeper
+    subst (λ own. Leaves (g.K.Keeper.seen c.args.keeper.now) (g.K.Keeper.seen c.commit.new.keeper)
     (Commits (change_for own c.args.loaded c.args.decided.charges (Some (record {
       content = content.Request c.args.request;
       answer = answer.Request c.args.decided.answer;
-    })) None) (g.K.Keeper.content c.args.keeper.now))) c.as_ref.ensures.value
+    })) None) (g.K.Keeper.seen c.args.keeper.now).tables)) c.as_ref.ensures.value
     c.commit.ensures.left

@@ -11,7 +11,7 @@ use Rattle.charging.proofs.requests.serve_request.Goals.{After-decide_on}
 pub returns-in-Some-clause-served : goal.returns-in-Some-clause-served
 returns-in-Some-clause-served g c = λ clean list time is le.
     request-again c.args.shelf.now list c.args.request c.args.moment
-    (g.K.Keeper.content c.args.keeper.now) (g.K.Keeper.content c.find_kept.new.keeper)
+    (g.K.Keeper.seen c.args.keeper.now).tables (g.K.Keeper.seen c.find_kept.new.keeper).tables
     c.in-Some.kept c.in_ok-repeat.field-0 time le is
     (sym (c.in_ok-kept.ensures.found clean) ∙ c.in-Some.is) c.in_ok-repeat.ensures
     (c.in_ok-kept.ensures.same clean)
@@ -22,7 +22,7 @@ returns-then-branch-clause-served g c = λ clean list time is le.
     let clean_find = c.in_ok-read.ensures.kept.cleanness clean_read in
     let before = c.in_ok-read.ensures.same clean_read ∙ c.in_ok-kept.ensures.same clean_find in
     request-known c.args.shelf.now list c.args.request c.args.moment
-    (g.K.Keeper.content c.args.keeper.now) (g.K.Keeper.content c.is_known.new.keeper)
+    (g.K.Keeper.seen c.args.keeper.now).tables (g.K.Keeper.seen c.is_known.new.keeper).tables
     c.in_ok-tell_failed.field-0 time le is
     (sym (c.in_ok-kept.ensures.found clean_find) ∙ c.in_default.is)
     (ap (is_known c.args.request) (sym before) ∙ sym (c.in_ok-is_known.ensures.found clean)
@@ -37,21 +37,21 @@ returns-in_default-2-clause-served g c = λ clean list time is le.
     let same = c.in_ok-is_known.ensures.same clean_known ∙ c.in_ok-read.ensures.same clean_read
     ∙ c.in_ok-kept.ensures.same clean_find in
     request-unknown c.args.shelf.now list c.args.request c.args.moment
-    (g.K.Keeper.content c.args.keeper.now)
-    (g.K.Keeper.content c.load.new.self) c.in_ok-tell_failed-2.field-0 time le is
+    (g.K.Keeper.seen c.args.keeper.now).tables
+    (g.K.Keeper.seen c.load.new.self).tables c.in_ok-tell_failed-2.field-0 time le is
     (none_loaded c.args.shelf.now c.args.moment c.args.request.account
-    (g.K.Keeper.content c.is_known.new.keeper)
-    (g.K.Keeper.content c.args.keeper.now) c.in_ok-loaded.field-0 same
+    (g.K.Keeper.seen c.is_known.new.keeper).tables
+    (g.K.Keeper.seen c.args.keeper.now).tables c.in_ok-loaded.field-0 same
     (c.in_ok-loaded.ensures.found clean) c.in_default-2.is)
     c.in_ok-tell_failed-2.ensures (c.in_ok-loaded.ensures.same clean ∙ same)
 
 -- what was loaded and what was looked for, of the tables before the call
-taken : (g : _) (c : After-decide_on g) → g.K.Keeper.clean c.load.new.self →
+taken : (g : _) (c : After-decide_on g) → (g.K.Keeper.seen c.load.new.self).clean →
     IsLoad c.args.shelf.now c.args.moment c.args.request.account
-    ((g.K.Keeper.content c.load.new.self).rows c.args.request.account) (Some c.in-Some-2.loaded)
-    × (kept_of_request c.args.request (g.K.Keeper.content c.load.new.self) ≡ None)
-    × (is_known c.args.request (g.K.Keeper.content c.load.new.self) ≡ false)
-    × (g.K.Keeper.content c.load.new.self ≡ g.K.Keeper.content c.args.keeper.now)
+    ((g.K.Keeper.seen c.load.new.self).tables.rows c.args.request.account) (Some c.in-Some-2.loaded)
+    × (kept_of_request c.args.request (g.K.Keeper.seen c.load.new.self).tables ≡ None)
+    × (is_known c.args.request (g.K.Keeper.seen c.load.new.self).tables ≡ false)
+    × ((g.K.Keeper.seen c.load.new.self).tables ≡ (g.K.Keeper.seen c.args.keeper.now).tables)
 taken g c clean_load =
     let clean_known = c.in_ok-loaded.ensures.cleanness clean_load in
     let clean_read = c.in_ok-is_known.ensures.cleanness clean_known in
@@ -61,8 +61,8 @@ taken g c clean_load =
     let all = same_load ∙ same_known ∙ c.in_ok-read.ensures.same clean_read
     ∙ c.in_ok-kept.ensures.same clean_find in
     let loads = some_loaded c.args.shelf.now c.args.moment c.args.request.account
-    (g.K.Keeper.content c.is_known.new.keeper)
-    (g.K.Keeper.content c.load.new.self) c.in_ok-loaded.field-0 c.in-Some-2.loaded
+    (g.K.Keeper.seen c.is_known.new.keeper).tables
+    (g.K.Keeper.seen c.load.new.self).tables c.in_ok-loaded.field-0 c.in-Some-2.loaded
     (sym same_load) (c.in_ok-loaded.ensures.found clean_load) c.in-Some-2.is in
     let fresh = ap (kept_of_request c.args.request) all
     ∙ sym (c.in_ok-kept.ensures.found clean_find) ∙ c.in_default.is in
@@ -75,7 +75,7 @@ returns-clause-served g c = λ clean.
     let known = taken g (goal.at.returns-clause-served g c).After-decide_on
     (c.decide_on.ensures.kept.cleanness clean) in
     subst (λ (x : Tables). ServesAt c.args.shelf.now (Ccr c.args.request) c.args.moment x
-    (g.K.Keeper.content c.decide_on.new.keeper) c.decide_on.result) known.3
+    (g.K.Keeper.seen c.decide_on.new.keeper).tables c.decide_on.result) known.3
     (c.decide_on.ensures.served clean c.args.shelf.now known.0 known.1 known.2)
 
 pub returns-clause-left : goal.returns-clause-left
@@ -115,5 +115,5 @@ pub returns-clause-refused : goal.returns-clause-refused
 returns-clause-refused g c = λ clean.
     let known = taken g (goal.at.returns-clause-refused g c).After-decide_on
     (c.decide_on.ensures.kept.cleanness clean) in
-    subst (λ (x : Tables). LeavesRefused x (g.K.Keeper.content c.decide_on.new.keeper)
+    subst (λ (x : Tables). LeavesRefused x (g.K.Keeper.seen c.decide_on.new.keeper).tables
     c.decide_on.result) known.3 (c.decide_on.ensures.refused clean)

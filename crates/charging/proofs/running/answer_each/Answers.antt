@@ -10,11 +10,9 @@ use Rattle.charging.proofs.running.answer_each.Goals.{After-reserve}
 
 pub loop-dated-init : goal.loop-dated-init
 loop-dated-init g c = record {
-  had = subst (λ (given : List Answer). HasRun g.K.Keeper.content g.K.Keeper.failed
-      g.K.Keeper.honest g.K.Keeper.clean g.K.Keeper.left c.args.shelf.now c.args.keeper.now
-      c.args.keeper.now [] given) (sym c.new-answers.ensures.items)
-      (has-run_none g.K.Keeper.content g.K.Keeper.failed g.K.Keeper.honest g.K.Keeper.clean
-      g.K.Keeper.left g.met.K.Keeper.honesty g.met.K.Keeper.settled c.args.shelf.now
+  had = subst (λ (given : List Answer). HasRun c.args.shelf.now (g.K.Keeper.seen c.args.keeper.now)
+      (g.K.Keeper.seen c.args.keeper.now) [] given) (sym c.new-answers.ensures.items)
+      (has-run_none g.K.Keeper.seen g.met.K.Keeper.honesty g.met.K.Keeper.settled c.args.shelf.now
       c.args.keeper.now);
   all = search rules;
   count = search rules;
@@ -25,10 +23,9 @@ loop-dated-preserved g c =
     let grown = c.push_reserved.ensures.items
     ∙ ap (λ (given : List Answer). given ++ c.in-Ok.answer ∷ []) c.reserve.ensures.items in
     record {
-      had = has-run_more g.K.Keeper.content g.K.Keeper.failed g.K.Keeper.honest g.K.Keeper.clean
-          g.K.Keeper.left g.met.K.Keeper.honesty g.met.K.Keeper.settled c.args.shelf.now
-          c.args.keeper.now c.loop-dated.keeper c.step.new.keeper c.loop-dated.yielded
-          c.in-Some.dated c.loop-dated.answers.items c.loop-dated.invariant.had
+      had = has-run_more g.K.Keeper.seen g.met.K.Keeper.honesty g.met.K.Keeper.settled
+          c.args.shelf.now c.args.keeper.now c.loop-dated.keeper c.step.new.keeper
+          c.loop-dated.yielded c.in-Some.dated c.loop-dated.answers.items c.loop-dated.invariant.had
           c.in-Ok.ensures.cleanness c.in-Ok.ensures.honesty c.push_reserved.new.self.items
           c.in-Ok.answer c.in-Ok.ensures.served c.in-Ok.ensures.stands c.in-Ok.ensures.cause.kept
           grown;
@@ -41,13 +38,12 @@ loop-dated-preserved g c =
     }
 
 -- a growth that was refused or made leaves the answers
-had_then : (g : _) (c : After-reserve g) → HasRun g.K.Keeper.content g.K.Keeper.failed
-    g.K.Keeper.honest g.K.Keeper.clean g.K.Keeper.left c.args.shelf.now c.args.keeper.now
-    c.loop-dated.keeper c.loop-dated.yielded c.reserve.new.self.items
-had_then g c = subst (λ (given : List Answer). HasRun g.K.Keeper.content g.K.Keeper.failed
-    g.K.Keeper.honest g.K.Keeper.clean g.K.Keeper.left c.args.shelf.now c.args.keeper.now
-    c.loop-dated.keeper c.loop-dated.yielded given) (sym c.reserve.ensures.items)
-    c.loop-dated.invariant.had
+had_then : (g : _) (c : After-reserve g) →
+    HasRun c.args.shelf.now (g.K.Keeper.seen c.args.keeper.now)
+    (g.K.Keeper.seen c.loop-dated.keeper) c.loop-dated.yielded c.reserve.new.self.items
+had_then g c = subst (λ (given : List Answer). HasRun c.args.shelf.now
+    (g.K.Keeper.seen c.args.keeper.now) (g.K.Keeper.seen c.loop-dated.keeper) c.loop-dated.yielded
+    given) (sym c.reserve.ensures.items) c.loop-dated.invariant.had
 
 all_then : (g : _) (c : After-reserve g) →
     c.loop-dated.yielded ++ c.in-Some.dated ∷ c.next.new.self.rest.items ≡ c.args.commands.items
@@ -61,8 +57,7 @@ count_then g c = ap length c.reserve.ensures.items ∙ c.loop-dated.invariant.co
 pub returns-then-is_err : goal.returns-then-is_err
 returns-then-is_err g c =
     let at = (goal.at.returns-then-is_err g c).After-reserve in
-    run-refused g.K.Keeper.content g.K.Keeper.failed g.K.Keeper.honest g.K.Keeper.clean
-    g.K.Keeper.left g.met.K.Keeper.honesty g.met.K.Keeper.settled c.args.shelf.now
+    run-refused g.K.Keeper.seen g.met.K.Keeper.honesty g.met.K.Keeper.settled c.args.shelf.now
     c.args.commands.items c.loop-dated.yielded (c.in-Some.dated ∷ c.next.new.self.rest.items)
     c.args.keeper.now c.loop-dated.keeper c.reserve.new.self (had_then g at) (all_then g at)
     (count_then g at) c.in-Some.dated c.next.new.self.rest.items refl
@@ -70,8 +65,7 @@ returns-then-is_err g c =
 pub returns-in-Err : goal.returns-in-Err
 returns-in-Err g c =
     let at = (goal.at.returns-in-Err g c).After-reserve in
-    run-failed g.K.Keeper.content g.K.Keeper.failed g.K.Keeper.honest g.K.Keeper.clean
-    g.K.Keeper.left g.met.K.Keeper.honesty g.met.K.Keeper.settled c.args.shelf.now
+    run-failed g.K.Keeper.seen g.met.K.Keeper.honesty g.met.K.Keeper.settled c.args.shelf.now
     c.args.commands.items c.loop-dated.yielded c.next.new.self.rest.items c.in-Some.dated
     c.args.keeper.now c.loop-dated.keeper c.step.new.keeper c.reserve.new.self (had_then g at)
     (all_then g at) (count_then g at) c.in-Err.ensures.err c.in-Err.ensures.cleanness
@@ -79,8 +73,7 @@ returns-in-Err g c =
 
 pub returns : goal.returns
 returns g c =
-    run-whole g.K.Keeper.content g.K.Keeper.failed g.K.Keeper.honest g.K.Keeper.clean
-    g.K.Keeper.left g.met.K.Keeper.honesty g.met.K.Keeper.settled c.args.shelf.now
+    run-whole g.K.Keeper.seen g.met.K.Keeper.honesty g.met.K.Keeper.settled c.args.shelf.now
     c.args.commands.items c.loop-dated.yielded c.loop-dated.dated-iterator.rest.items
     c.args.keeper.now c.loop-dated.keeper c.loop-dated.answers c.loop-dated.invariant.had
     c.loop-dated.invariant.all c.loop-dated.invariant.count (search rules)

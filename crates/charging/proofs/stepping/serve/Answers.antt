@@ -12,14 +12,14 @@ returns-clause-left g c = λ honest t l.
     (λ writes. (
       c.in_ok-last.ensures.cleanness clean_last,
       writes-at c.args.shelf.now c.args.command c.args.moment c.in_ok-last.last
-          (g.K.Keeper.content c.args.keeper.now) (g.K.Keeper.content c.last.new.self) t
+          (g.K.Keeper.seen c.args.keeper.now).tables (g.K.Keeper.seen c.last.new.self).tables t
           (c.in_ok-last.ensures.found clean_last) (c.in_ok-last.ensures.same clean_last)
           (subst (λ (u : ℕ). WritesAt c.args.shelf.now c.args.command u
-          (g.K.Keeper.content c.last.new.self) t) c.later-moment.ensures writes),
+          (g.K.Keeper.seen c.last.new.self).tables t) c.later-moment.ensures writes),
     ))
 
 pub returns-clause-refused : goal.returns-clause-refused
 returns-clause-refused g c = λ clean.
-    subst (λ (x : Tables). LeavesRefused x (g.K.Keeper.content c.serve_at.new.keeper)
+    subst (λ (x : Tables). LeavesRefused x (g.K.Keeper.seen c.serve_at.new.keeper).tables
     c.serve_at.result) (c.in_ok-last.ensures.same (c.serve_at.ensures.kept.cleanness clean))
     (c.serve_at.ensures.refused clean)

@@ -12,6 +12,6 @@ returns g c = record {
   left = c.serve.ensures.left;
   cause = c.serve.ensures.kept.cause;
   again = λ clean. served_again c.args.shelf.now c.args.command c.args.moment
-      (g.K.Keeper.content c.args.keeper.now) (g.K.Keeper.content c.serve.new.keeper)
+      (g.K.Keeper.seen c.args.keeper.now).tables (g.K.Keeper.seen c.serve.new.keeper).tables
       c.serve.result (c.serve.ensures.served clean);
 }

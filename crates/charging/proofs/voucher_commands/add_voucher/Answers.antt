@@ -13,14 +13,15 @@ use Rattle.charging.proofs.voucher_commands.add_voucher.Goals as goal
 use Rattle.charging.proofs.voucher_commands.add_voucher.Goals.{After-add_voucher}
 
 -- what is put is what the command comes to
-done : (g : _) (c : After-add_voucher g) (t : Tables) → g.K.Keeper.clean c.find_voucher.new.self →
+done : (g : _) (c : After-add_voucher g) (t : Tables) →
+    (g.K.Keeper.seen c.find_voucher.new.self).clean →
     t ≡ with_voucher c.args.addition.code c.args.addition.terms c.args.moment
-    (g.K.Keeper.content c.find_voucher.new.self) → (b : Shelf) →
+    (g.K.Keeper.seen c.find_voucher.new.self).tables → (b : Shelf) →
     Answers b (command.AddVoucher c.args.addition) c.args.moment
-    (g.K.Keeper.content c.args.keeper.now) t answer.Done
+    (g.K.Keeper.seen c.args.keeper.now).tables t answer.Done
 done g c t clean_find made = λ b list time is le.
     let v = c.args.addition in
-    add-done b list v c.args.moment (g.K.Keeper.content c.args.keeper.now) t time le is
+    add-done b list v c.args.moment (g.K.Keeper.seen c.args.keeper.now).tables t time le is
     c.add.result
     (ap (λ o. addition o v.terms) (sym (c.in_ok-found.ensures.found clean_find))
     ∙ sym c.add.ensures.value) c.in-New.field-0 c.in-New.is
@@ -30,10 +31,10 @@ pub returns-in_ok-add_voucher-in-New-clause-served :
     goal.returns-in_ok-add_voucher-in-New-clause-served
 returns-in_ok-add_voucher-in-New-clause-served g c = λ clean b list time is le.
     served-as b list (command.AddVoucher c.args.addition) c.args.moment
-    (g.K.Keeper.content c.args.keeper.now) (g.K.Keeper.content c.add_voucher.new.self)
+    (g.K.Keeper.seen c.args.keeper.now).tables (g.K.Keeper.seen c.add_voucher.new.self).tables
     c.in_ok-done.done answer.Done c.in_ok-done.ensures
     (done g (goal.at.returns-in_ok-add_voucher-in-New-clause-served g c).After-add_voucher
-    (g.K.Keeper.content c.add_voucher.new.self) (c.add_voucher.ensures.kept.cleanness clean)
+    (g.K.Keeper.seen c.add_voucher.new.self).tables (c.add_voucher.ensures.kept.cleanness clean)
     (c.in_ok-add_voucher-in-New.ensures.done clean) b list time is le)
 
 pub returns-in_ok-add_voucher-in-New-clause-left :
@@ -60,10 +61,10 @@ returns-in-Present-clause-served g c = λ clean b list time is le.
     let present = ap (λ o. addition o v.terms) (sym (c.in_ok-found.ensures.found clean))
     ∙ sym c.add.ensures.value ∙ c.in-Present.is in
     served-as b list (command.AddVoucher c.args.addition) c.args.moment
-    (g.K.Keeper.content c.args.keeper.now) (g.K.Keeper.content c.find_voucher.new.self)
+    (g.K.Keeper.seen c.args.keeper.now).tables (g.K.Keeper.seen c.find_voucher.new.self).tables
     c.in_ok-done.done _ c.in_ok-done.ensures
-    (add-told b list v c.args.moment (g.K.Keeper.content c.args.keeper.now)
-    (g.K.Keeper.content c.find_voucher.new.self) time le is _ present _ refl refl
+    (add-told b list v c.args.moment (g.K.Keeper.seen c.args.keeper.now).tables
+    (g.K.Keeper.seen c.find_voucher.new.self).tables time le is _ present _ refl refl
     (c.in_ok-found.ensures.same clean))
 
 pub returns-in_ok-refuse-in-Conflicting-clause-served :
@@ -73,10 +74,10 @@ returns-in_ok-refuse-in-Conflicting-clause-served g c = λ clean b list time is 
     let conflicting = ap (λ o. addition o v.terms) (sym (c.in_ok-found.ensures.found clean))
     ∙ sym c.add.ensures.value ∙ c.in-Conflicting.is in
     served-as b list (command.AddVoucher c.args.addition) c.args.moment
-    (g.K.Keeper.content c.args.keeper.now) (g.K.Keeper.content c.find_voucher.new.self)
+    (g.K.Keeper.seen c.args.keeper.now).tables (g.K.Keeper.seen c.find_voucher.new.self).tables
     c.in_ok-refuse-in-Conflicting.field-0 _ c.in_ok-refuse-in-Conflicting.ensures
-    (add-told b list v c.args.moment (g.K.Keeper.content c.args.keeper.now)
-    (g.K.Keeper.content c.find_voucher.new.self) time le is _ conflicting _ refl refl
+    (add-told b list v c.args.moment (g.K.Keeper.seen c.args.keeper.now).tables
+    (g.K.Keeper.seen c.find_voucher.new.self).tables time le is _ conflicting _ refl refl
     (c.in_ok-found.ensures.same clean))
 
 pub returns-in_ok-add_voucher-in-New-clause-refused :

@@ -24,17 +24,17 @@ done : (g : _) (c : After-commit g) (t : Tables) →
       answer = answer.Bucket c.in-Ok-Some.number;
     }))
     (Some (record { code = c.args.code; voucher = c.args.redeemed.voucher })))
-    (g.K.Keeper.content c.args.keeper.now) t → (b : Shelf) →
+    (g.K.Keeper.seen c.args.keeper.now).tables t → (b : Shelf) →
     IsLoad b c.args.moment c.args.asked.account
-    ((g.K.Keeper.content c.args.keeper.now).rows c.args.asked.account) (Some c.args.loaded) →
-    (g.K.Keeper.content c.args.keeper.now).answers c.args.asked.account
+    ((g.K.Keeper.seen c.args.keeper.now).tables.rows c.args.asked.account) (Some c.args.loaded) →
+    (g.K.Keeper.seen c.args.keeper.now).tables.answers c.args.asked.account
     (key_of (content.Redeem c.args.asked)) ≡ None → c.args.code ≡ c.args.asked.code →
-    redemption (book_days b) ((g.K.Keeper.content c.args.keeper.now).vouchers c.args.asked.code)
+    redemption (book_days b) ((g.K.Keeper.seen c.args.keeper.now).tables.vouchers c.args.asked.code)
     c.args.asked.account c.args.moment ≡ Ok c.args.redeemed →
-    Answers b (command.Redeem c.args.asked) c.args.moment (g.K.Keeper.content c.args.keeper.now) t
-    (answer.Bucket c.in-Ok-Some.number)
+    Answers b (command.Redeem c.args.asked) c.args.moment (g.K.Keeper.seen c.args.keeper.now).tables
+    t (answer.Bucket c.in-Ok-Some.number)
 done g c t made = λ b load fresh code redeems list time is le.
-    redeem-done b list c.args.asked c.args.moment (g.K.Keeper.content c.args.keeper.now) t
+    redeem-done b list c.args.asked c.args.moment (g.K.Keeper.seen c.args.keeper.now).tables t
     c.args.loaded time le is (record { load = load; account = c.moment_on-moment.ensures.kept })
     c.moment_on-moment.result fresh c.moment_on-moment.ensures.value c.args.redeemed redeems
     c.in-Ok-Some.field-0 c.make_bucket.new.account c.in-Ok-Some.ensures.makes
@@ -58,11 +58,11 @@ done g c t made = λ b load fresh code redeems list time is le.
 pub returns-in-Ok-Some-clause-served : goal.returns-in-Ok-Some-clause-served
 returns-in-Ok-Some-clause-served g c = λ clean b load fresh code redeems list time is le.
     served-by b list (command.Redeem c.args.asked) c.args.moment
-    (g.K.Keeper.content c.args.keeper.now) (g.K.Keeper.content c.args.keeper.now)
-    (g.K.Keeper.content c.commit.new.keeper) (answer.Bucket c.in-Ok-Some.number) c.commit.result
+    (g.K.Keeper.seen c.args.keeper.now).tables (g.K.Keeper.seen c.args.keeper.now).tables
+    (g.K.Keeper.seen c.commit.new.keeper).tables (answer.Bucket c.in-Ok-Some.number) c.commit.result
     refl (c.commit.ensures.done clean) (c.commit.ensures.kept.err clean)
     (λ made. done g (goal.at.returns-in-Ok-Some-clause-served g c).After-commit
-    (g.K.Keeper.content c.commit.new.keeper) made b load fresh code redeems list time is le)
+    (g.K.Keeper.seen c.commit.new.keeper).tables made b load fresh code redeems list time is le)
 
 pub returns-in-Ok-Some-clause-left : goal.returns-in-Ok-Some-clause-left
 returns-in-Ok-Some-clause-left g c = λ honest t l.
@@ -76,14 +76,14 @@ pub returns-in_ok-refuse-in-Ok-None-clause-served :
 returns-in_ok-refuse-in-Ok-None-clause-served g c =
     λ clean b load fresh code redeems list time is le.
     served-as b list (command.Redeem c.args.asked) c.args.moment
-    (g.K.Keeper.content c.args.keeper.now) (g.K.Keeper.content c.abandon.new.self)
+    (g.K.Keeper.seen c.args.keeper.now).tables (g.K.Keeper.seen c.abandon.new.self).tables
     c.in_ok-refuse-in-Ok-None.field-0 _ c.in_ok-refuse-in-Ok-None.ensures
-    (redeem-told b list c.args.asked c.args.moment (g.K.Keeper.content c.args.keeper.now)
-    (g.K.Keeper.content c.abandon.new.self) c.args.loaded time le is
+    (redeem-told b list c.args.asked c.args.moment (g.K.Keeper.seen c.args.keeper.now).tables
+    (g.K.Keeper.seen c.abandon.new.self).tables c.args.loaded time le is
     (record { load = load; account = c.moment_on-moment.ensures.kept })
     c.moment_on-moment.result fresh c.moment_on-moment.ensures.value c.args.redeemed redeems
     c.in-Ok-None.field-0 c.make_bucket.new.account c.in-Ok-None.ensures.makes
-    c.in-Ok-None.field-0-is (ap g.K.Keeper.content c.abandon.ensures))
+    c.in-Ok-None.field-0-is (ap (λ k. (g.K.Keeper.seen k).tables) c.abandon.ensures))
 
 pub returns-in-Ok-Some-clause-refused : goal.returns-in-Ok-Some-clause-refused
 returns-in-Ok-Some-clause-refused g c = λ clean.
@@ -93,4 +93,4 @@ returns-in-Ok-Some-clause-refused g c = λ clean.
 pub returns-in_ok-refuse-in-Ok-None-clause-refused :
     goal.returns-in_ok-refuse-in-Ok-None-clause-refused
 returns-in_ok-refuse-in-Ok-None-clause-refused g c = λ clean e.
-    ap g.K.Keeper.content c.abandon.ensures
+    ap (λ k. (g.K.Keeper.seen k).tables) c.abandon.ensures

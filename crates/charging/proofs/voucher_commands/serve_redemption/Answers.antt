@@ -16,22 +16,22 @@ use Rattle.charging.proofs.voucher_commands.serve_redemption.Goals.{After-credit
 pub returns-in-Some-clause-served : goal.returns-in-Some-clause-served
 returns-in-Some-clause-served g c = λ clean list time is le.
     redeem-again c.args.shelf.now list c.args.asked c.args.moment
-    (g.K.Keeper.content c.args.keeper.now) (g.K.Keeper.content c.find_redemption.new.keeper)
+    (g.K.Keeper.seen c.args.keeper.now).tables (g.K.Keeper.seen c.find_redemption.new.keeper).tables
     c.in-Some.kept c.in_ok-repeated_redemption.field-0 time le is
     (sym (c.in_ok-kept.ensures.found clean) ∙ c.in-Some.is) c.in_ok-repeated_redemption.ensures
     (c.in_ok-kept.ensures.same clean)
 
 -- what was loaded and what was looked for, of the tables before the call
-taken : (g : _) (c : After-credit_redeemed g) → g.K.Keeper.clean c.load.new.self →
+taken : (g : _) (c : After-credit_redeemed g) → (g.K.Keeper.seen c.load.new.self).clean →
     IsLoad c.args.shelf.now c.args.moment c.args.asked.account
-    ((g.K.Keeper.content c.load.new.self).rows c.args.asked.account) (Some c.in-Some-2.loaded)
-    × ((g.K.Keeper.content c.load.new.self).answers c.args.asked.account
+    ((g.K.Keeper.seen c.load.new.self).tables.rows c.args.asked.account) (Some c.in-Some-2.loaded)
+    × ((g.K.Keeper.seen c.load.new.self).tables.answers c.args.asked.account
     (key_of (content.Redeem c.args.asked)) ≡ None)
     × (c.in_ok-code.code ≡ c.args.asked.code)
     × (redemption (book_days c.args.shelf.now)
-    ((g.K.Keeper.content c.load.new.self).vouchers c.args.asked.code) c.args.asked.account
+    ((g.K.Keeper.seen c.load.new.self).tables.vouchers c.args.asked.code) c.args.asked.account
     c.args.moment ≡ Ok c.in-Ok.redeemed)
-    × (g.K.Keeper.content c.load.new.self ≡ g.K.Keeper.content c.args.keeper.now)
+    × ((g.K.Keeper.seen c.load.new.self).tables ≡ (g.K.Keeper.seen c.args.keeper.now).tables)
 taken g c clean_load =
     let code : c.in_ok-code.code ≡ c.args.asked.code = search rules in
     let clean_voucher = c.in_ok-loaded.ensures.cleanness clean_load in
@@ -40,8 +40,8 @@ taken g c clean_load =
     let same_voucher = c.in_ok-found.ensures.same clean_voucher in
     let same = same_load ∙ same_voucher ∙ c.in_ok-kept.ensures.same clean_find in
     let loads = some_loaded c.args.shelf.now c.args.moment c.args.asked.account
-    (g.K.Keeper.content c.find_voucher.new.self)
-    (g.K.Keeper.content c.load.new.self) c.in_ok-loaded.field-0 c.in-Some-2.loaded
+    (g.K.Keeper.seen c.find_voucher.new.self).tables
+    (g.K.Keeper.seen c.load.new.self).tables c.in_ok-loaded.field-0 c.in-Some-2.loaded
     (sym same_load) (c.in_ok-loaded.ensures.found clean_load) c.in-Some-2.is in
     let fresh = (λ i. (same i).answers c.args.asked.account
     (key_of (content.Redeem c.args.asked))) ∙ sym (c.in_ok-kept.ensures.found clean_find)
@@ -58,7 +58,7 @@ returns-in-Ok-clause-served g c = λ clean.
     let known = taken g (goal.at.returns-in-Ok-clause-served g c).After-credit_redeemed
     (c.credit_redeemed.ensures.kept.cleanness clean) in
     subst (λ (x : Tables). ServesAt c.args.shelf.now (command.Redeem c.args.asked) c.args.moment x
-    (g.K.Keeper.content c.credit_redeemed.new.keeper) c.credit_redeemed.result) known.4
+    (g.K.Keeper.seen c.credit_redeemed.new.keeper).tables c.credit_redeemed.result) known.4
     (c.credit_redeemed.ensures.served clean c.args.shelf.now known.0 known.1 known.2 known.3)
 
 pub returns-in-Ok-clause-left : goal.returns-in-Ok-clause-left
@@ -76,8 +76,8 @@ returns-in-Ok-clause-left g c = λ honest t l.
 
 pub returns-in_ok-refuse-in-Err-clause-served : goal.returns-in_ok-refuse-in-Err-clause-served
 returns-in_ok-refuse-in-Err-clause-served g c = λ clean list time is le.
-    let given = ap g.K.Keeper.content c.abandon.ensures in
-    let clean_load = subst g.K.Keeper.clean c.abandon.ensures clean in
+    let given = ap (λ k. (g.K.Keeper.seen k).tables) c.abandon.ensures in
+    let clean_load = subst (λ k. (g.K.Keeper.seen k).clean) c.abandon.ensures clean in
     let clean_voucher = c.in_ok-loaded.ensures.cleanness clean_load in
     let clean_find = c.in_ok-found.ensures.cleanness clean_voucher in
     let same_load = c.in_ok-loaded.ensures.same clean_load in
@@ -85,8 +85,8 @@ returns-in_ok-refuse-in-Err-clause-served g c = λ clean list time is le.
     let same_find = c.in_ok-kept.ensures.same clean_find in
     let before = same_voucher ∙ same_find in
     let loads = some_loaded c.args.shelf.now c.args.moment c.args.asked.account
-    (g.K.Keeper.content c.find_voucher.new.self)
-    (g.K.Keeper.content c.args.keeper.now) c.in_ok-loaded.field-0 c.in-Some-2.loaded
+    (g.K.Keeper.seen c.find_voucher.new.self).tables
+    (g.K.Keeper.seen c.args.keeper.now).tables c.in_ok-loaded.field-0 c.in-Some-2.loaded
     before (c.in_ok-loaded.ensures.found clean_load) c.in-Some-2.is in
     let fresh = sym (c.in_ok-kept.ensures.found clean_find) ∙ c.in_default.is in
     let redeems = ap
@@ -95,11 +95,11 @@ returns-in_ok-refuse-in-Err-clause-served g c = λ clean list time is le.
     ∙ sym (c.in_ok-found.ensures.found clean_voucher))
     ∙ sym c.in_ok-redeemed.ensures ∙ c.in-Err.is in
     served-as c.args.shelf.now list (command.Redeem c.args.asked) c.args.moment
-    (g.K.Keeper.content c.args.keeper.now) (g.K.Keeper.content c.abandon.new.self)
+    (g.K.Keeper.seen c.args.keeper.now).tables (g.K.Keeper.seen c.abandon.new.self).tables
     c.in_ok-refuse-in-Err.field-0 _
     (c.in_ok-refuse-in-Err.ensures ∙ ap answer.Refused c.told_refusal.ensures)
     (redeem-refused c.args.shelf.now list c.args.asked c.args.moment
-    (g.K.Keeper.content c.args.keeper.now) (g.K.Keeper.content c.abandon.new.self)
+    (g.K.Keeper.seen c.args.keeper.now).tables (g.K.Keeper.seen c.abandon.new.self).tables
     c.in-Some-2.loaded c.in-Err.refusal time le is loads fresh redeems
     (given ∙ same_load ∙ before))
 
@@ -109,13 +109,13 @@ returns-in_default-2-clause-served g c = λ clean list time is le.
     let same = c.in_ok-found.ensures.same clean_voucher
     ∙ c.in_ok-kept.ensures.same (c.in_ok-found.ensures.cleanness clean_voucher) in
     served-as c.args.shelf.now list (command.Redeem c.args.asked) c.args.moment
-    (g.K.Keeper.content c.args.keeper.now) (g.K.Keeper.content c.load.new.self)
+    (g.K.Keeper.seen c.args.keeper.now).tables (g.K.Keeper.seen c.load.new.self).tables
     c.in_ok-refuse.field-0 _ c.in_ok-refuse.ensures
     (redeem-unknown c.args.shelf.now list c.args.asked c.args.moment
-    (g.K.Keeper.content c.args.keeper.now) (g.K.Keeper.content c.load.new.self) time le is
+    (g.K.Keeper.seen c.args.keeper.now).tables (g.K.Keeper.seen c.load.new.self).tables time le is
     (none_loaded c.args.shelf.now c.args.moment c.args.asked.account
-    (g.K.Keeper.content c.find_voucher.new.self)
-    (g.K.Keeper.content c.args.keeper.now) c.in_ok-loaded.field-0 same
+    (g.K.Keeper.seen c.find_voucher.new.self).tables
+    (g.K.Keeper.seen c.args.keeper.now).tables c.in_ok-loaded.field-0 same
     (c.in_ok-loaded.ensures.found clean) c.in_default-2.is)
     (c.in_ok-loaded.ensures.same clean ∙ same))
 
@@ -126,14 +126,14 @@ pub returns-in-Ok-clause-refused : goal.returns-in-Ok-clause-refused
 returns-in-Ok-clause-refused g c = λ clean.
     let known = taken g (goal.at.returns-in-Ok-clause-refused g c).After-credit_redeemed
     (c.credit_redeemed.ensures.kept.cleanness clean) in
-    subst (λ (x : Tables). LeavesRefused x (g.K.Keeper.content c.credit_redeemed.new.keeper)
+    subst (λ (x : Tables). LeavesRefused x (g.K.Keeper.seen c.credit_redeemed.new.keeper).tables
     c.credit_redeemed.result) known.4 (c.credit_redeemed.ensures.refused clean)
 
 pub returns-in_ok-refuse-in-Err-clause-refused : goal.returns-in_ok-refuse-in-Err-clause-refused
 returns-in_ok-refuse-in-Err-clause-refused g c = λ clean e.
-    let clean_load = subst g.K.Keeper.clean c.abandon.ensures clean in
+    let clean_load = subst (λ k. (g.K.Keeper.seen k).clean) c.abandon.ensures clean in
     let clean_voucher = c.in_ok-loaded.ensures.cleanness clean_load in
-    ap g.K.Keeper.content c.abandon.ensures ∙ c.in_ok-loaded.ensures.same clean_load
+    ap (λ k. (g.K.Keeper.seen k).tables) c.abandon.ensures ∙ c.in_ok-loaded.ensures.same clean_load
     ∙ c.in_ok-found.ensures.same clean_voucher
     ∙ c.in_ok-kept.ensures.same (c.in_ok-found.ensures.cleanness clean_voucher)
 

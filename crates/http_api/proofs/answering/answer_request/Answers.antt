@@ -14,8 +14,8 @@ returns-in-Refused-clause-shown g c = shows_same
     (λ Writes x y. (asking : Asking) → IsAsked asking c.args.asked →
     Replies g.C.Clock.gives c.args.shelf.now asking c.args.closes c.args.clock.now
     c.args.clock.now Writes x y) (g.W.Write.contents c.args.writer.now)
-    (g.W.Write.contents c.tell_refusal.new.writer) g.K.Keeper.content g.K.Keeper.honest
-    g.K.Keeper.clean c.args.keeper.now c.args.keeper.now c.tell_refusal.result
+    (g.W.Write.contents c.tell_refusal.new.writer) (g.K.Keeper.seen c.args.keeper.now)
+    (g.K.Keeper.seen c.args.keeper.now) c.tell_refusal.result
     (λ Writes. Writes (response (refusal_status c.in-Refused.refusal) c.args.closes no_members))
     (λ clean. clean) (λ clean. refl)
     (λ Writes t tells asking asked. refused_reply g.C.Clock.gives c.args.shelf.now c.args.closes
@@ -28,8 +28,8 @@ returns-in-Unread-clause-shown g c = shows_same
     (λ Writes x y. (asking : Asking) → IsAsked asking c.args.asked →
     Replies g.C.Clock.gives c.args.shelf.now asking c.args.closes c.args.clock.now
     c.args.clock.now Writes x y) (g.W.Write.contents c.args.writer.now)
-    (g.W.Write.contents c.tell_fault.new.writer) g.K.Keeper.content g.K.Keeper.honest
-    g.K.Keeper.clean c.args.keeper.now c.args.keeper.now c.tell_fault.result
+    (g.W.Write.contents c.tell_fault.new.writer) (g.K.Keeper.seen c.args.keeper.now)
+    (g.K.Keeper.seen c.args.keeper.now) c.tell_fault.result
     (TellsFault c.args.closes c.in-Unread.fault) (λ clean. clean) (λ clean. refl)
     (λ Writes t tells asking asked. unread_reply g.C.Clock.gives c.args.shelf.now c.args.closes
     Writes c.in-Unread.fault c.args.clock.now t tells asking
@@ -39,8 +39,8 @@ pub returns-in-Does-clause-shown : goal.returns-in-Does-clause-shown
 returns-in-Does-clause-shown g c = shows_as
     (Replies g.C.Clock.gives c.args.shelf.now (reads (Ok c.in-Does.command)) c.args.closes
     c.args.clock.now c.serve_command.new.clock) (g.W.Write.contents c.args.writer.now)
-    (g.W.Write.contents c.serve_command.new.writer) g.K.Keeper.content g.K.Keeper.honest
-    g.K.Keeper.clean c.args.keeper.now c.serve_command.new.keeper c.serve_command.result
+    (g.W.Write.contents c.serve_command.new.writer) (g.K.Keeper.seen c.args.keeper.now)
+    (g.K.Keeper.seen c.serve_command.new.keeper) c.serve_command.result
     (λ Writes x y. (asking : Asking) → IsAsked asking c.args.asked →
     Replies g.C.Clock.gives c.args.shelf.now asking c.args.closes c.args.clock.now
     c.serve_command.new.clock Writes x y)
@@ -52,8 +52,8 @@ pub returns-in-States-clause-shown : goal.returns-in-States-clause-shown
 returns-in-States-clause-shown g c = shows_as
     (Replies g.C.Clock.gives c.args.shelf.now (states c.in-States.statement) c.args.closes
     c.args.clock.now c.serve_statement.new.clock) (g.W.Write.contents c.args.writer.now)
-    (g.W.Write.contents c.serve_statement.new.writer) g.K.Keeper.content g.K.Keeper.honest
-    g.K.Keeper.clean c.args.keeper.now c.serve_statement.new.keeper c.serve_statement.result
+    (g.W.Write.contents c.serve_statement.new.writer) (g.K.Keeper.seen c.args.keeper.now)
+    (g.K.Keeper.seen c.serve_statement.new.keeper) c.serve_statement.result
     (λ Writes x y. (asking : Asking) → IsAsked asking c.args.asked →
     Replies g.C.Clock.gives c.args.shelf.now asking c.args.closes c.args.clock.now
     c.serve_statement.new.clock Writes x y)
@@ -70,8 +70,8 @@ returns-in-Unread-clause-held g c = λ asking asked h t l. inl l
 
 pub returns-in-Does-clause-held : goal.returns-in-Does-clause-held
 returns-in-Does-clause-held g c = λ asking asked.
-    held_asked g.K.Keeper.content g.K.Keeper.honest g.K.Keeper.clean g.K.Keeper.left
-    c.args.shelf.now c.in-Does.command c.args.keeper.now c.serve_command.new.keeper
+    held_asked c.args.shelf.now c.in-Does.command (g.K.Keeper.seen c.args.keeper.now)
+    (g.K.Keeper.seen c.serve_command.new.keeper)
     c.serve_command.ensures.held asking (subst (IsAsked asking) c.in-Does.is asked)
 
 pub returns-in-States-clause-held : goal.returns-in-States-clause-held

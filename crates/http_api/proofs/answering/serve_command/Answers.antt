@@ -14,13 +14,12 @@ pub returns-in-Ok-clause-goes_on : goal.returns-in-Ok-clause-goes_on
 returns-in-Ok-clause-goes_on g c = record {
   fault = c.tell_answer.ensures.fault;
   continued = λ clean. continued_step c.args.shelf.now c.args.command c.in-Some.moment
-      (g.K.Keeper.content c.args.keeper.now) (g.K.Keeper.content c.step.new.keeper) c.step.result
-      (c.step.ensures.served clean);
+      (g.K.Keeper.seen c.args.keeper.now).tables (g.K.Keeper.seen c.step.new.keeper).tables
+      c.step.result (c.step.ensures.served clean);
   cleanness = c.step.ensures.cleanness;
   honesty = c.step.ensures.honesty;
-  left = leaves_step g.K.Keeper.content g.K.Keeper.honest g.K.Keeper.clean g.K.Keeper.left
-      c.args.shelf.now c.args.command c.in-Some.moment c.args.keeper.now c.step.new.keeper
-      c.step.ensures.left;
+  left = leaves_step c.args.shelf.now c.args.command c.in-Some.moment
+      (g.K.Keeper.seen c.args.keeper.now) (g.K.Keeper.seen c.step.new.keeper) c.step.ensures.left;
   failures = c.step.ensures.cause.kept;
 }
 
@@ -28,13 +27,12 @@ pub returns-in-Err-clause-goes_on : goal.returns-in-Err-clause-goes_on
 returns-in-Err-clause-goes_on g c = record {
   fault = c.tell_unable-in-Err.ensures.fault;
   continued = λ clean. continued_step c.args.shelf.now c.args.command c.in-Some.moment
-      (g.K.Keeper.content c.args.keeper.now) (g.K.Keeper.content c.step.new.keeper) c.step.result
-      (c.step.ensures.served clean);
+      (g.K.Keeper.seen c.args.keeper.now).tables (g.K.Keeper.seen c.step.new.keeper).tables
+      c.step.result (c.step.ensures.served clean);
   cleanness = c.step.ensures.cleanness;
   honesty = c.step.ensures.honesty;
-  left = leaves_step g.K.Keeper.content g.K.Keeper.honest g.K.Keeper.clean g.K.Keeper.left
-      c.args.shelf.now c.args.command c.in-Some.moment c.args.keeper.now c.step.new.keeper
-      c.step.ensures.left;
+  left = leaves_step c.args.shelf.now c.args.command c.in-Some.moment
+      (g.K.Keeper.seen c.args.keeper.now) (g.K.Keeper.seen c.step.new.keeper) c.step.ensures.left;
   failures = c.step.ensures.cause.kept;
 }
 
@@ -42,8 +40,8 @@ pub returns-in_default-clause-shown : goal.returns-in_default-clause-shown
 returns-in_default-clause-shown g c = shows_same
     (Replies g.C.Clock.gives c.args.shelf.now (reads (Ok c.args.command)) c.args.closes
     c.args.clock.now c.now.new.self) (g.W.Write.contents c.args.writer.now)
-    (g.W.Write.contents c.tell_unable.new.writer) g.K.Keeper.content g.K.Keeper.honest
-    g.K.Keeper.clean c.args.keeper.now c.args.keeper.now c.tell_unable.result
+    (g.W.Write.contents c.tell_unable.new.writer) (g.K.Keeper.seen c.args.keeper.now)
+    (g.K.Keeper.seen c.args.keeper.now) c.tell_unable.result
     (λ Writes. Writes (response service_unavailable c.args.closes unable)) (λ clean. clean)
     (λ clean. refl)
     (λ Writes t w. unclocked_reply g.C.Clock.gives c.args.shelf.now c.args.closes Writes
@@ -55,13 +53,14 @@ pub returns-in-Ok-clause-shown : goal.returns-in-Ok-clause-shown
 returns-in-Ok-clause-shown g c = shows_new
     (Replies g.C.Clock.gives c.args.shelf.now (reads (Ok c.args.command)) c.args.closes
     c.args.clock.now c.now.new.self) (g.W.Write.contents c.args.writer.now)
-    (g.W.Write.contents c.tell_answer.new.writer) g.K.Keeper.content g.K.Keeper.honest
-    g.K.Keeper.clean c.args.keeper.now c.step.new.keeper c.tell_answer.result
+    (g.W.Write.contents c.tell_answer.new.writer) (g.K.Keeper.seen c.args.keeper.now)
+    (g.K.Keeper.seen c.step.new.keeper) c.tell_answer.result
     (λ Writes. Writes (response ok c.args.closes (answer_text c.in-Ok.answer)))
     c.in-Ok.ensures.stands c.in-Ok.ensures.cleanness
     (λ Writes clean tells. served_reply g.C.Clock.gives c.args.shelf.now c.args.closes Writes
     c.args.command c.in-Some.moment c.args.clock.now c.now.new.self
-    (g.K.Keeper.content c.args.keeper.now) (g.K.Keeper.content c.step.new.keeper) c.in-Ok.answer
+    (g.K.Keeper.seen c.args.keeper.now).tables (g.K.Keeper.seen c.step.new.keeper).tables
+    c.in-Ok.answer
     (subst (λ o. g.C.Clock.gives c.args.clock.now o c.now.new.self) c.in-Some.is c.now.ensures)
     (c.in-Ok.ensures.served clean) tells) c.tell_answer.ensures.ok c.tell_answer.ensures.err
 
@@ -69,8 +68,8 @@ pub returns-in-Err-clause-shown : goal.returns-in-Err-clause-shown
 returns-in-Err-clause-shown g c = shows_same
     (Replies g.C.Clock.gives c.args.shelf.now (reads (Ok c.args.command)) c.args.closes
     c.args.clock.now c.now.new.self) (g.W.Write.contents c.args.writer.now)
-    (g.W.Write.contents c.tell_unable-in-Err.new.writer) g.K.Keeper.content g.K.Keeper.honest
-    g.K.Keeper.clean c.args.keeper.now c.step.new.keeper c.tell_unable-in-Err.result
+    (g.W.Write.contents c.tell_unable-in-Err.new.writer) (g.K.Keeper.seen c.args.keeper.now)
+    (g.K.Keeper.seen c.step.new.keeper) c.tell_unable-in-Err.result
     (λ Writes. Writes (response service_unavailable c.args.closes unable))
     c.in-Err.ensures.cleanness c.in-Err.ensures.err
     (λ Writes t w. failed_reply g.C.Clock.gives c.args.shelf.now c.args.closes Writes
@@ -82,11 +81,9 @@ pub returns-in_default-clause-held : goal.returns-in_default-clause-held
 returns-in_default-clause-held g c = λ h t l. inl l
 
 pub returns-in-Ok-clause-held : goal.returns-in-Ok-clause-held
-returns-in-Ok-clause-held g c = held_step g.K.Keeper.content g.K.Keeper.honest g.K.Keeper.clean
-    g.K.Keeper.left c.args.shelf.now c.args.command c.in-Some.moment c.args.keeper.now
-    c.step.new.keeper c.step.ensures.left
+returns-in-Ok-clause-held g c = held_step c.args.shelf.now c.args.command c.in-Some.moment
+    (g.K.Keeper.seen c.args.keeper.now) (g.K.Keeper.seen c.step.new.keeper) c.step.ensures.left
 
 pub returns-in-Err-clause-held : goal.returns-in-Err-clause-held
-returns-in-Err-clause-held g c = held_step g.K.Keeper.content g.K.Keeper.honest g.K.Keeper.clean
-    g.K.Keeper.left c.args.shelf.now c.args.command c.in-Some.moment c.args.keeper.now
-    c.step.new.keeper c.step.ensures.left
+returns-in-Err-clause-held g c = held_step c.args.shelf.now c.args.command c.in-Some.moment
+    (g.K.Keeper.seen c.args.keeper.now) (g.K.Keeper.seen c.step.new.keeper) c.step.ensures.left

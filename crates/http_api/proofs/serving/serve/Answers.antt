@@ -21,27 +21,23 @@ unread r inner remaining capacity empty is =
 pub returns-in_default : goal.returns-in_default
 returns-in_default g c =
     none_served g.C.Clock.gives c.args.shelf.now (g.R.Read.remaining c.args.reader.now)
-    c.args.clock.now (g.W.Write.contents c.args.writer.now) g.K.Keeper.content g.K.Keeper.failed
-    g.K.Keeper.honest g.K.Keeper.clean g.K.Keeper.left c.args.keeper.now
+    c.args.clock.now (g.W.Write.contents c.args.writer.now) (g.K.Keeper.seen c.args.keeper.now)
 
 pub returns-in_default-from_elem : goal.returns-in_default-from_elem
 returns-in_default-from_elem g c =
     none_served g.C.Clock.gives c.args.shelf.now (g.R.Read.remaining c.args.reader.now)
-    c.args.clock.now (g.W.Write.contents c.args.writer.now) g.K.Keeper.content g.K.Keeper.failed
-    g.K.Keeper.honest g.K.Keeper.clean g.K.Keeper.left c.args.keeper.now
+    c.args.clock.now (g.W.Write.contents c.args.writer.now) (g.K.Keeper.seen c.args.keeper.now)
 
 pub returns-in_default-new : goal.returns-in_default-new
 returns-in_default-new g c =
     none_served g.C.Clock.gives c.args.shelf.now (g.R.Read.remaining c.args.reader.now)
-    c.args.clock.now (g.W.Write.contents c.args.writer.now) g.K.Keeper.content g.K.Keeper.failed
-    g.K.Keeper.honest g.K.Keeper.clean g.K.Keeper.left c.args.keeper.now
+    c.args.clock.now (g.W.Write.contents c.args.writer.now) (g.K.Keeper.seen c.args.keeper.now)
 
 pub returns : goal.returns
 returns g c =
     subst (λ (bytes : Option (List ℕ)). ServesConnection g.C.Clock.gives c.args.shelf.now bytes
     c.args.clock.now c.serve_requests.new.clock (g.W.Write.contents c.args.writer.now)
-    (g.W.Write.contents c.serve_requests.new.writer) g.K.Keeper.content g.K.Keeper.failed
-    g.K.Keeper.honest g.K.Keeper.clean g.K.Keeper.left c.args.keeper.now c.serve_requests.new.keeper
-    c.serve_requests.result)
+    (g.W.Write.contents c.serve_requests.new.writer) (g.K.Keeper.seen c.args.keeper.now)
+    (g.K.Keeper.seen c.serve_requests.new.keeper) c.serve_requests.result)
     (unread c.in-Ok-new.buffered _ (λ m. g.R.Read.remaining m.now) c.in-Ok-new.ensures.capacity
     c.in-Ok-new.ensures.empty c.in-Ok-new.ensures.inner) c.serve_requests.ensures

@@ -24,22 +24,21 @@ loop-served-init g c = record {
   turns = refl;
   so_far = λ clean. so_far-none g.C.Clock.gives c.args.shelf.now
       (g.R.Read.remaining c.args.reader.now) c.args.clock.now (g.W.Write.contents c.args.writer.now)
-      (g.K.Keeper.content c.args.keeper.now);
+      (g.K.Keeper.seen c.args.keeper.now).tables;
   shown = λ honest. record {
-    held = g.K.Keeper.content c.args.keeper.now;
+    held = (g.K.Keeper.seen c.args.keeper.now).tables;
     now = λ clean. refl;
     so_far = so_far-none g.C.Clock.gives c.args.shelf.now (g.R.Read.remaining c.args.reader.now)
         c.args.clock.now (g.W.Write.contents c.args.writer.now)
-        (g.K.Keeper.content c.args.keeper.now);
+        (g.K.Keeper.seen c.args.keeper.now).tables;
   };
-  continued = λ clean. continued_none c.args.shelf.now (g.K.Keeper.content c.args.keeper.now);
+  continued = λ clean. continued_none c.args.shelf.now (g.K.Keeper.seen c.args.keeper.now).tables;
   cleanness = λ clean. clean;
   honesty = λ honest. honest;
   left = λ honest t l. inl l;
-  held = turns_none g.C.Clock.gives c.args.shelf.now g.K.Keeper.content g.K.Keeper.honest
-      g.K.Keeper.clean g.K.Keeper.left (g.R.Read.remaining c.args.reader.now) 0
-      c.args.keeper.now;
-  failures = le_refl (g.K.Keeper.failed c.args.keeper.now);
+  held = turns_none g.C.Clock.gives c.args.shelf.now (g.R.Read.remaining c.args.reader.now) 0
+      (g.K.Keeper.seen c.args.keeper.now);
+  failures = le_refl (g.K.Keeper.seen c.args.keeper.now).failed;
 }
 
 -- one request more was heard, and its answer is written so
@@ -48,7 +47,7 @@ one_more_of : (g : _) (c : After-answer_request g) (Writes : List ℕ → Type 0
     IsSoFar g.C.Clock.gives c.args.shelf.now stream c.loop-served.served c.loop-served.left
     (g.R.Read.remaining c.loop-served.reader) c.args.clock.now c.loop-served.clock
     (g.W.Write.contents c.args.writer.now) (g.W.Write.contents c.loop-served.writer)
-    (g.K.Keeper.content c.args.keeper.now) mid) →
+    (g.K.Keeper.seen c.args.keeper.now).tables mid) →
     ((asking : Asking) → IsAsked asking c.in-Some.heard.asked →
     Replies g.C.Clock.gives c.args.shelf.now asking (c.left_after-left.result == 0)
     c.loop-served.clock c.answer_request.new.clock Writes mid new) →
@@ -56,67 +55,69 @@ one_more_of : (g : _) (c : After-answer_request g) (Writes : List ℕ → Type 0
     IsOneMore g.C.Clock.gives c.args.shelf.now stream c.loop-served.served c.loop-served.left
     c.in-Some.heard.closes (g.R.Read.remaining c.hear.new.reader) c.args.clock.now
     c.answer_request.new.clock (g.W.Write.contents c.args.writer.now)
-    (g.W.Write.contents c.loop-served.writer) Writes (g.K.Keeper.content c.args.keeper.now) new)
+    (g.W.Write.contents c.loop-served.writer) Writes (g.K.Keeper.seen c.args.keeper.now).tables new)
 one_more_of g c Writes mid new so replies = taken_one g.C.Clock.gives c.args.shelf.now
     c.loop-served.served
     c.loop-served.left c.left_after-left.result (c.left_after-left.result == 0)
     (g.R.Read.remaining c.args.reader.now) (g.R.Read.remaining c.loop-served.reader)
     (g.R.Read.remaining c.hear.new.reader) c.args.clock.now c.loop-served.clock
     c.answer_request.new.clock (g.W.Write.contents c.args.writer.now)
-    (g.W.Write.contents c.loop-served.writer) Writes (g.K.Keeper.content c.args.keeper.now) mid new
-    c.in_ok-heard.field-0 c.in-Some.heard
+    (g.W.Write.contents c.loop-served.writer) Writes (g.K.Keeper.seen c.args.keeper.now).tables mid
+    new c.in_ok-heard.field-0 c.in-Some.heard
     (some_left c.loop-served.left c.loop-served.served c.loop-served.invariant.turns
     c.loop-served-test.true) c.in-Some.is c.left_after-left.ensures refl so
     c.in_ok-heard.ensures.heard replies
 
 -- of the keeper's tables
 one_more : (g : _) (c : After-answer_request g) (Writes : List ℕ → Type 0) →
-    g.K.Keeper.clean c.answer_request.new.keeper →
+    (g.K.Keeper.seen c.answer_request.new.keeper).clean →
     ((asking : Asking) → IsAsked asking c.in-Some.heard.asked →
     Replies g.C.Clock.gives c.args.shelf.now asking (c.left_after-left.result == 0)
-    c.loop-served.clock c.answer_request.new.clock Writes (g.K.Keeper.content c.loop-served.keeper)
-    (g.K.Keeper.content c.answer_request.new.keeper)) →
+    c.loop-served.clock c.answer_request.new.clock Writes
+    (g.K.Keeper.seen c.loop-served.keeper).tables
+    (g.K.Keeper.seen c.answer_request.new.keeper).tables) →
     IfSome (g.R.Read.remaining c.args.reader.now) (λ stream.
     IsOneMore g.C.Clock.gives c.args.shelf.now stream c.loop-served.served c.loop-served.left
     c.in-Some.heard.closes (g.R.Read.remaining c.hear.new.reader) c.args.clock.now
     c.answer_request.new.clock (g.W.Write.contents c.args.writer.now)
-    (g.W.Write.contents c.loop-served.writer) Writes (g.K.Keeper.content c.args.keeper.now)
-    (g.K.Keeper.content c.answer_request.new.keeper))
+    (g.W.Write.contents c.loop-served.writer) Writes (g.K.Keeper.seen c.args.keeper.now).tables
+    (g.K.Keeper.seen c.answer_request.new.keeper).tables)
 one_more g c Writes clean replies = one_more_of g c Writes
-    (g.K.Keeper.content c.loop-served.keeper) (g.K.Keeper.content c.answer_request.new.keeper)
+    (g.K.Keeper.seen c.loop-served.keeper).tables
+    (g.K.Keeper.seen c.answer_request.new.keeper).tables
     (c.loop-served.invariant.so_far (c.answer_request.ensures.goes_on.cleanness clean)) replies
 
 -- and the accepted commands went on
 continued : (g : _) (c : After-answer_request g) →
-    g.K.Keeper.clean c.answer_request.new.keeper →
-    Continues c.args.shelf.now (g.K.Keeper.content c.args.keeper.now)
-    (g.K.Keeper.content c.answer_request.new.keeper)
-continued g c clean = continued_more c.args.shelf.now (g.K.Keeper.content c.args.keeper.now)
-    (g.K.Keeper.content c.loop-served.keeper) (g.K.Keeper.content c.answer_request.new.keeper)
+    (g.K.Keeper.seen c.answer_request.new.keeper).clean →
+    Continues c.args.shelf.now (g.K.Keeper.seen c.args.keeper.now).tables
+    (g.K.Keeper.seen c.answer_request.new.keeper).tables
+continued g c clean = continued_more c.args.shelf.now (g.K.Keeper.seen c.args.keeper.now).tables
+    (g.K.Keeper.seen c.loop-served.keeper).tables
+    (g.K.Keeper.seen c.answer_request.new.keeper).tables
     (c.loop-served.invariant.continued (c.answer_request.ensures.goes_on.cleanness clean))
     (c.answer_request.ensures.goes_on.continued clean)
 
 -- and so did what a stop leaves
 left : (g : _) (c : After-answer_request g) →
-    LeavesOn g.K.Keeper.content g.K.Keeper.honest g.K.Keeper.clean g.K.Keeper.left c.args.shelf.now
-    c.args.keeper.now c.answer_request.new.keeper
-left g c = leaves_more g.K.Keeper.content g.K.Keeper.honest g.K.Keeper.clean g.K.Keeper.left
-    c.args.shelf.now c.args.keeper.now c.loop-served.keeper c.answer_request.new.keeper
+    LeavesOn c.args.shelf.now (g.K.Keeper.seen c.args.keeper.now)
+    (g.K.Keeper.seen c.answer_request.new.keeper)
+left g c = leaves_more c.args.shelf.now (g.K.Keeper.seen c.args.keeper.now)
+    (g.K.Keeper.seen c.loop-served.keeper) (g.K.Keeper.seen c.answer_request.new.keeper)
     c.loop-served.invariant.cleanness c.loop-served.invariant.continued
     c.answer_request.ensures.goes_on.honesty c.loop-served.invariant.left
     c.answer_request.ensures.goes_on.left
 
 -- of the requests that were taken, and this one
 held : (g : _) (c : After-answer_request g) →
-    LeavesTurns g.K.Keeper.content g.K.Keeper.honest g.K.Keeper.clean g.K.Keeper.left
-    c.args.shelf.now (g.R.Read.remaining c.args.reader.now) (c.loop-served.served + 1)
-    c.args.keeper.now c.answer_request.new.keeper
-held g c = turns_more g.C.Clock.gives c.args.shelf.now g.K.Keeper.content g.K.Keeper.honest
-    g.K.Keeper.clean g.K.Keeper.left c.loop-served.served c.loop-served.left
+    LeavesTurns c.args.shelf.now (g.R.Read.remaining c.args.reader.now) (c.loop-served.served + 1)
+    (g.K.Keeper.seen c.args.keeper.now) (g.K.Keeper.seen c.answer_request.new.keeper)
+held g c = turns_more g.C.Clock.gives c.args.shelf.now c.loop-served.served c.loop-served.left
     (g.R.Read.remaining c.args.reader.now) (g.R.Read.remaining c.loop-served.reader)
     (g.R.Read.remaining c.hear.new.reader) c.args.clock.now c.loop-served.clock
     (g.W.Write.contents c.args.writer.now) (g.W.Write.contents c.loop-served.writer)
-    c.args.keeper.now c.loop-served.keeper c.answer_request.new.keeper c.in_ok-heard.field-0
+    (g.K.Keeper.seen c.args.keeper.now) (g.K.Keeper.seen c.loop-served.keeper)
+    (g.K.Keeper.seen c.answer_request.new.keeper) c.in_ok-heard.field-0
     c.in-Some.heard (some_left c.loop-served.left c.loop-served.served
     c.loop-served.invariant.turns c.loop-served-test.true) c.in-Some.is
     c.loop-served.invariant.cleanness c.answer_request.ensures.goes_on.honesty
@@ -125,12 +126,12 @@ held g c = turns_more g.C.Clock.gives c.args.shelf.now g.K.Keeper.content g.K.Ke
 
 -- of no more than a connection takes
 held_most : (g : _) (c : After-answer_request g) →
-    LeavesTurns g.K.Keeper.content g.K.Keeper.honest g.K.Keeper.clean g.K.Keeper.left
-    c.args.shelf.now (g.R.Read.remaining c.args.reader.now) 1000 c.args.keeper.now
-    c.answer_request.new.keeper
-held_most g c = turns_most g.C.Clock.gives c.args.shelf.now g.K.Keeper.content g.K.Keeper.honest
-    g.K.Keeper.clean g.K.Keeper.left (g.R.Read.remaining c.args.reader.now)
-    (c.loop-served.served + 1) 1000 c.args.keeper.now c.answer_request.new.keeper
+    LeavesTurns
+    c.args.shelf.now (g.R.Read.remaining c.args.reader.now) 1000 (g.K.Keeper.seen c.args.keeper.now)
+    (g.K.Keeper.seen c.answer_request.new.keeper)
+held_most g c = turns_most g.C.Clock.gives c.args.shelf.now (g.R.Read.remaining c.args.reader.now)
+    (c.loop-served.served + 1) 1000 (g.K.Keeper.seen c.args.keeper.now)
+    (g.K.Keeper.seen c.answer_request.new.keeper)
     (omega (arith, c.loop-served-test.true)) (held g c)
 
 -- what failed gives no value
@@ -146,23 +147,23 @@ returns-in_err-heard g c = record {
       (so_far-begun g.C.Clock.gives c.args.shelf.now c.loop-served.served c.loop-served.left
       (g.R.Read.remaining c.args.reader.now) (g.R.Read.remaining c.loop-served.reader)
       c.args.clock.now c.loop-served.clock (g.W.Write.contents c.args.writer.now)
-      (g.W.Write.contents c.loop-served.writer) (g.K.Keeper.content c.args.keeper.now)
-      (g.K.Keeper.content c.loop-served.keeper)
+      (g.W.Write.contents c.loop-served.writer) (g.K.Keeper.seen c.args.keeper.now).tables
+      (g.K.Keeper.seen c.loop-served.keeper).tables
       (omega (arith, c.loop-served.invariant.turns)) (c.loop-served.invariant.so_far clean));
   memory = λ clean e.
       so_far-unread g.C.Clock.gives c.args.shelf.now c.loop-served.served c.loop-served.left
       (g.R.Read.remaining c.args.reader.now) (g.R.Read.remaining c.loop-served.reader)
       c.args.clock.now c.loop-served.clock (g.W.Write.contents c.args.writer.now)
-      (g.W.Write.contents c.loop-served.writer) (g.K.Keeper.content c.args.keeper.now)
-      (g.K.Keeper.content c.loop-served.keeper) c.loop-served-test.true
+      (g.W.Write.contents c.loop-served.writer) (g.K.Keeper.seen c.args.keeper.now).tables
+      (g.K.Keeper.seen c.loop-served.keeper).tables c.loop-served-test.true
       (some_left c.loop-served.left c.loop-served.served c.loop-served.invariant.turns
       c.loop-served-test.true) (c.loop-served.invariant.so_far clean);
   read = λ clean e.
       so_far-unread g.C.Clock.gives c.args.shelf.now c.loop-served.served c.loop-served.left
       (g.R.Read.remaining c.args.reader.now) (g.R.Read.remaining c.loop-served.reader)
       c.args.clock.now c.loop-served.clock (g.W.Write.contents c.args.writer.now)
-      (g.W.Write.contents c.loop-served.writer) (g.K.Keeper.content c.args.keeper.now)
-      (g.K.Keeper.content c.loop-served.keeper) c.loop-served-test.true
+      (g.W.Write.contents c.loop-served.writer) (g.K.Keeper.seen c.args.keeper.now).tables
+      (g.K.Keeper.seen c.loop-served.keeper).tables c.loop-served-test.true
       (some_left c.loop-served.left c.loop-served.served c.loop-served.invariant.turns
       c.loop-served-test.true) (c.loop-served.invariant.so_far clean);
   write = λ clean e. absurd (c.hear.ensures.fault (fault_told c.hear.result c.from_residual.result _
@@ -176,20 +177,20 @@ returns-in_err-heard g c = record {
             (so_far-begun g.C.Clock.gives c.args.shelf.now c.loop-served.served c.loop-served.left
             (g.R.Read.remaining c.args.reader.now) (g.R.Read.remaining c.loop-served.reader)
             c.args.clock.now c.loop-served.clock (g.W.Write.contents c.args.writer.now)
-            (g.W.Write.contents c.loop-served.writer) (g.K.Keeper.content c.args.keeper.now)
+            (g.W.Write.contents c.loop-served.writer) (g.K.Keeper.seen c.args.keeper.now).tables
             had.held (omega (arith, c.loop-served.invariant.turns)) had.so_far);
         memory = λ e. so_far-unread g.C.Clock.gives c.args.shelf.now c.loop-served.served
             c.loop-served.left (g.R.Read.remaining c.args.reader.now)
             (g.R.Read.remaining c.loop-served.reader) c.args.clock.now c.loop-served.clock
             (g.W.Write.contents c.args.writer.now) (g.W.Write.contents c.loop-served.writer)
-            (g.K.Keeper.content c.args.keeper.now) had.held c.loop-served-test.true
+            (g.K.Keeper.seen c.args.keeper.now).tables had.held c.loop-served-test.true
             (some_left c.loop-served.left c.loop-served.served c.loop-served.invariant.turns
             c.loop-served-test.true) had.so_far;
         read = λ e. so_far-unread g.C.Clock.gives c.args.shelf.now c.loop-served.served
             c.loop-served.left (g.R.Read.remaining c.args.reader.now)
             (g.R.Read.remaining c.loop-served.reader) c.args.clock.now c.loop-served.clock
             (g.W.Write.contents c.args.writer.now) (g.W.Write.contents c.loop-served.writer)
-            (g.K.Keeper.content c.args.keeper.now) had.held c.loop-served-test.true
+            (g.K.Keeper.seen c.args.keeper.now).tables had.held c.loop-served-test.true
             (some_left c.loop-served.left c.loop-served.served c.loop-served.invariant.turns
             c.loop-served-test.true) had.so_far;
         write = λ e. absurd (c.hear.ensures.fault (fault_told c.hear.result
@@ -200,10 +201,10 @@ returns-in_err-heard g c = record {
   cleanness = c.loop-served.invariant.cleanness;
   honesty = c.loop-served.invariant.honesty;
   left = c.loop-served.invariant.left;
-  held = turns_most g.C.Clock.gives c.args.shelf.now g.K.Keeper.content g.K.Keeper.honest
-      g.K.Keeper.clean g.K.Keeper.left (g.R.Read.remaining c.args.reader.now) c.loop-served.served
-      1000 c.args.keeper.now c.loop-served.keeper (omega (arith, c.loop-served.invariant.turns))
-      c.loop-served.invariant.held;
+  held = turns_most g.C.Clock.gives c.args.shelf.now (g.R.Read.remaining c.args.reader.now)
+      c.loop-served.served 1000 (g.K.Keeper.seen c.args.keeper.now)
+      (g.K.Keeper.seen c.loop-served.keeper)
+      (omega (arith, c.loop-served.invariant.turns)) c.loop-served.invariant.held;
   failures = c.loop-served.invariant.failures;
 }
 
@@ -214,7 +215,7 @@ returns-in_default g c = record {
       (g.R.Read.remaining c.args.reader.now) (g.R.Read.remaining c.loop-served.reader)
       (g.R.Read.remaining c.hear.new.reader) c.args.clock.now c.loop-served.clock
       (g.W.Write.contents c.args.writer.now) (g.W.Write.contents c.loop-served.writer)
-      (g.K.Keeper.content c.args.keeper.now) (g.K.Keeper.content c.loop-served.keeper)
+      (g.K.Keeper.seen c.args.keeper.now).tables (g.K.Keeper.seen c.loop-served.keeper).tables
       c.in_ok-heard.field-0 c.in_default.is
       (c.loop-served.invariant.so_far clean) c.in_ok-heard.ensures.heard;
   begun = λ clean. tt;
@@ -229,7 +230,7 @@ returns-in_default g c = record {
             c.loop-served.left (g.R.Read.remaining c.args.reader.now)
             (g.R.Read.remaining c.loop-served.reader) (g.R.Read.remaining c.hear.new.reader)
             c.args.clock.now c.loop-served.clock (g.W.Write.contents c.args.writer.now)
-            (g.W.Write.contents c.loop-served.writer) (g.K.Keeper.content c.args.keeper.now)
+            (g.W.Write.contents c.loop-served.writer) (g.K.Keeper.seen c.args.keeper.now).tables
             had.held c.in_ok-heard.field-0 c.in_default.is had.so_far c.in_ok-heard.ensures.heard;
         begun = tt;
         memory = λ e. absurd (cc);
@@ -241,10 +242,10 @@ returns-in_default g c = record {
   cleanness = c.loop-served.invariant.cleanness;
   honesty = c.loop-served.invariant.honesty;
   left = c.loop-served.invariant.left;
-  held = turns_most g.C.Clock.gives c.args.shelf.now g.K.Keeper.content g.K.Keeper.honest
-      g.K.Keeper.clean g.K.Keeper.left (g.R.Read.remaining c.args.reader.now) c.loop-served.served
-      1000 c.args.keeper.now c.loop-served.keeper (omega (arith, c.loop-served.invariant.turns))
-      c.loop-served.invariant.held;
+  held = turns_most g.C.Clock.gives c.args.shelf.now (g.R.Read.remaining c.args.reader.now)
+      c.loop-served.served 1000 (g.K.Keeper.seen c.args.keeper.now)
+      (g.K.Keeper.seen c.loop-served.keeper)
+      (omega (arith, c.loop-served.invariant.turns)) c.loop-served.invariant.held;
   failures = c.loop-served.invariant.failures;
 }
 
@@ -259,8 +260,9 @@ returns-in_err-answer_request g c = record {
       (one_more g (goal.at.returns-in_err-answer_request g c).After-answer_request
       (Begins (g.W.Write.contents c.loop-served.writer)
       (g.W.Write.contents c.answer_request.new.writer)) clean
-      (shown_err _ _ _ g.K.Keeper.content g.K.Keeper.honest g.K.Keeper.clean
-      c.loop-served.keeper c.answer_request.new.keeper _ c.in_err-answer_request.ensures.shown
+      (shown_err _ _ _
+      (g.K.Keeper.seen c.loop-served.keeper) (g.K.Keeper.seen c.answer_request.new.keeper) _
+      c.in_err-answer_request.ensures.shown
       (g.met.K.Keeper.honesty c.answer_request.new.keeper clean) clean)));
   memory = λ clean e. not_memory c.answer_request.result c.answer_request.ensures.goes_on.fault
       (fault_told c.answer_request.result c.from_residual-in_err-answer_request.result _
@@ -275,8 +277,9 @@ returns-in_err-answer_request g c = record {
       (one_more g (goal.at.returns-in_err-answer_request g c).After-answer_request
       (Begins (g.W.Write.contents c.loop-served.writer)
       (g.W.Write.contents c.answer_request.new.writer)) clean
-      (shown_err _ _ _ g.K.Keeper.content g.K.Keeper.honest g.K.Keeper.clean
-      c.loop-served.keeper c.answer_request.new.keeper _ c.in_err-answer_request.ensures.shown
+      (shown_err _ _ _
+      (g.K.Keeper.seen c.loop-served.keeper) (g.K.Keeper.seen c.answer_request.new.keeper) _
+      c.in_err-answer_request.ensures.shown
       (g.met.K.Keeper.honesty c.answer_request.new.keeper clean) clean));
   shown = λ honest.
       let had = c.loop-served.invariant.shown (c.answer_request.ensures.goes_on.honesty honest) in
@@ -330,8 +333,9 @@ returns-then-left-eq0 g c = record {
       (one_more g (goal.at.returns-then-left-eq0 g c).After-answer_request
       (Appends (g.W.Write.contents c.loop-served.writer)
       (g.W.Write.contents c.answer_request.new.writer)) clean
-      (shown_ok _ _ _ g.K.Keeper.content g.K.Keeper.honest g.K.Keeper.clean
-      c.loop-served.keeper c.answer_request.new.keeper _ c.in_ok-answer_request.ensures.shown
+      (shown_ok _ _ _
+      (g.K.Keeper.seen c.loop-served.keeper) (g.K.Keeper.seen c.answer_request.new.keeper) _
+      c.in_ok-answer_request.ensures.shown
       (g.met.K.Keeper.honesty c.answer_request.new.keeper clean) clean));
   begun = λ clean. tt;
   memory = λ clean e. absurd (cc);
@@ -378,8 +382,9 @@ loop-served-preserved g c = record {
       c.if-left-eq0.false (one_more g (goal.at.loop-served-preserved g c).After-answer_request
       (Appends (g.W.Write.contents c.loop-served.writer)
       (g.W.Write.contents c.answer_request.new.writer)) clean
-      (shown_ok _ _ _ g.K.Keeper.content g.K.Keeper.honest g.K.Keeper.clean
-      c.loop-served.keeper c.answer_request.new.keeper _ c.in_ok-answer_request.ensures.shown
+      (shown_ok _ _ _
+      (g.K.Keeper.seen c.loop-served.keeper) (g.K.Keeper.seen c.answer_request.new.keeper) _
+      c.in_ok-answer_request.ensures.shown
       (g.met.K.Keeper.honesty c.answer_request.new.keeper clean) clean));
   shown = λ honest.
       let had = c.loop-served.invariant.shown (c.answer_request.ensures.goes_on.honesty honest) in
@@ -412,8 +417,8 @@ returns g c = record {
       so_far-full g.C.Clock.gives c.args.shelf.now c.loop-served.served 1000 c.loop-served.left
       (g.R.Read.remaining c.args.reader.now) (g.R.Read.remaining c.loop-served.reader)
       c.args.clock.now c.loop-served.clock (g.W.Write.contents c.args.writer.now)
-      (g.W.Write.contents c.loop-served.writer) (g.K.Keeper.content c.args.keeper.now)
-      (g.K.Keeper.content c.loop-served.keeper)
+      (g.W.Write.contents c.loop-served.writer) (g.K.Keeper.seen c.args.keeper.now).tables
+      (g.K.Keeper.seen c.loop-served.keeper).tables
       (omega (arith, c.loop-served.invariant.turns, c.loop-served-test.false)) (omega (
         arith,
         c.loop-served.invariant.turns,
@@ -431,7 +436,7 @@ returns g c = record {
             c.loop-served.left (g.R.Read.remaining c.args.reader.now)
             (g.R.Read.remaining c.loop-served.reader) c.args.clock.now c.loop-served.clock
             (g.W.Write.contents c.args.writer.now) (g.W.Write.contents c.loop-served.writer)
-            (g.K.Keeper.content c.args.keeper.now) had.held
+            (g.K.Keeper.seen c.args.keeper.now).tables had.held
             (omega (arith, c.loop-served.invariant.turns, c.loop-served-test.false)) (omega (
               arith,
               c.loop-served.invariant.turns,
@@ -447,9 +452,9 @@ returns g c = record {
   cleanness = c.loop-served.invariant.cleanness;
   honesty = c.loop-served.invariant.honesty;
   left = c.loop-served.invariant.left;
-  held = turns_most g.C.Clock.gives c.args.shelf.now g.K.Keeper.content g.K.Keeper.honest
-      g.K.Keeper.clean g.K.Keeper.left (g.R.Read.remaining c.args.reader.now) c.loop-served.served
-      1000 c.args.keeper.now c.loop-served.keeper (omega (arith, c.loop-served.invariant.turns))
-      c.loop-served.invariant.held;
+  held = turns_most g.C.Clock.gives c.args.shelf.now (g.R.Read.remaining c.args.reader.now)
+      c.loop-served.served 1000 (g.K.Keeper.seen c.args.keeper.now)
+      (g.K.Keeper.seen c.loop-served.keeper)
+      (omega (arith, c.loop-served.invariant.turns)) c.loop-served.invariant.held;
   failures = c.loop-served.invariant.failures;
 }

@@ -18,8 +18,8 @@ pub returns-in_default-clause-shown : goal.returns-in_default-clause-shown
 returns-in_default-clause-shown g c = shows_same
     (Replies g.C.Clock.gives c.args.shelf.now (states c.args.asked.now) c.args.closes
     c.args.clock.now c.now.new.self) (g.W.Write.contents c.args.writer.now)
-    (g.W.Write.contents c.tell_unable.new.writer) g.K.Keeper.content g.K.Keeper.honest
-    g.K.Keeper.clean c.args.keeper.now c.args.keeper.now c.tell_unable.result
+    (g.W.Write.contents c.tell_unable.new.writer) (g.K.Keeper.seen c.args.keeper.now)
+    (g.K.Keeper.seen c.args.keeper.now) c.tell_unable.result
     (λ Writes. Writes (response service_unavailable c.args.closes unable)) (λ clean. clean)
     (λ clean. refl)
     (λ Writes t w. unstated_reply g.C.Clock.gives c.args.shelf.now c.args.closes Writes
@@ -31,8 +31,8 @@ pub returns-in-Err-clause-shown : goal.returns-in-Err-clause-shown
 returns-in-Err-clause-shown g c = shows_same
     (Replies g.C.Clock.gives c.args.shelf.now (states c.args.asked.now) c.args.closes
     c.args.clock.now c.now.new.self) (g.W.Write.contents c.args.writer.now)
-    (g.W.Write.contents c.tell_unable-in-Err.new.writer) g.K.Keeper.content g.K.Keeper.honest
-    g.K.Keeper.clean c.args.keeper.now c.account_state.new.keeper c.tell_unable-in-Err.result
+    (g.W.Write.contents c.tell_unable-in-Err.new.writer) (g.K.Keeper.seen c.args.keeper.now)
+    (g.K.Keeper.seen c.account_state.new.keeper) c.tell_unable-in-Err.result
     (λ Writes. Writes (response service_unavailable c.args.closes unable))
     c.in-Err.ensures.cleanness c.in-Err.ensures.same
     (λ Writes t w. unstated_reply g.C.Clock.gives c.args.shelf.now c.args.closes Writes
@@ -44,13 +44,13 @@ pub returns-in-None-clause-shown : goal.returns-in-None-clause-shown
 returns-in-None-clause-shown g c = shows_new
     (Replies g.C.Clock.gives c.args.shelf.now (states c.args.asked.now) c.args.closes
     c.args.clock.now c.now.new.self) (g.W.Write.contents c.args.writer.now)
-    (g.W.Write.contents c.tell_unknown.new.writer) g.K.Keeper.content g.K.Keeper.honest
-    g.K.Keeper.clean c.args.keeper.now c.account_state.new.keeper c.tell_unknown.result
+    (g.W.Write.contents c.tell_unknown.new.writer) (g.K.Keeper.seen c.args.keeper.now)
+    (g.K.Keeper.seen c.account_state.new.keeper) c.tell_unknown.result
     (TellsAnswer (Refused AccountUnknown) c.args.closes) c.in-Ok.ensures.stands
     c.in-Ok.ensures.cleanness
     (λ Writes clean tells. unknown_reply g.C.Clock.gives c.args.shelf.now c.args.closes Writes
     c.args.asked.now c.in-Some.moment c.args.clock.now c.now.new.self
-    (g.K.Keeper.content c.args.keeper.now) (g.K.Keeper.content c.account_state.new.keeper)
+    (g.K.Keeper.seen c.args.keeper.now).tables (g.K.Keeper.seen c.account_state.new.keeper).tables
     c.in-Ok.state
     (subst (λ o. g.C.Clock.gives c.args.clock.now o c.now.new.self) c.in-Some.is c.now.ensures)
     (c.in-Ok.ensures.found clean) c.in-None.is (c.in-Ok.ensures.same clean) tells)
@@ -62,27 +62,27 @@ returns-in-Some-state-clause-shown g c = λ h held before.
     let is = sym (before (c.in-Ok.ensures.cleanness viewed)) in
     let told : (Writes : List ℕ → Type 0) → TellsCharges _ _ c.args.closes Writes →
     Replies g.C.Clock.gives c.args.shelf.now (states c.args.asked.now) c.args.closes
-    c.args.clock.now c.now.new.self Writes (g.K.Keeper.content c.args.keeper.now)
-    (g.K.Keeper.content c.account_state.new.keeper) = λ Writes tells.
+    c.args.clock.now c.now.new.self Writes (g.K.Keeper.seen c.args.keeper.now).tables
+    (g.K.Keeper.seen c.account_state.new.keeper).tables = λ Writes tells.
     stated_reply g.C.Clock.gives c.args.shelf.now c.args.closes Writes c.args.asked.now
-    c.in-Some.moment c.args.clock.now c.now.new.self (g.K.Keeper.content c.args.keeper.now)
-    (g.K.Keeper.content c.account_state.new.keeper) (g.K.Keeper.content c.account_state.new.keeper)
-    c.in-Ok.state c.in-Some-state.state
+    c.in-Some.moment c.args.clock.now c.now.new.self (g.K.Keeper.seen c.args.keeper.now).tables
+    (g.K.Keeper.seen c.account_state.new.keeper).tables
+    (g.K.Keeper.seen c.account_state.new.keeper).tables c.in-Ok.state c.in-Some-state.state
     (subst (λ o. g.C.Clock.gives c.args.clock.now o c.now.new.self) c.in-Some.is c.now.ensures)
     (c.in-Ok.ensures.found viewed) c.in-Some-state.is (c.in-Ok.ensures.same viewed) refl tells in
     record {
-      next = g.K.Keeper.content c.account_state.new.keeper;
+      next = (g.K.Keeper.seen c.account_state.new.keeper).tables;
       now = λ clean. sym (c.tell_statement.ensures.same clean);
       ok = subst (λ (x : Tables). OnOk c.tell_statement.result (Replies g.C.Clock.gives
           c.args.shelf.now (states c.args.asked.now) c.args.closes c.args.clock.now c.now.new.self
           (Appends (g.W.Write.contents c.args.writer.now)
           (g.W.Write.contents c.tell_statement.new.writer)) x
-          (g.K.Keeper.content c.account_state.new.keeper))) is
+          (g.K.Keeper.seen c.account_state.new.keeper).tables)) is
           (ok_gives c.tell_statement.result (told _) (c.tell_statement.ensures.ok h));
       err = subst (λ (x : Tables). OnErr c.tell_statement.result (Replies g.C.Clock.gives
           c.args.shelf.now (states c.args.asked.now) c.args.closes c.args.clock.now c.now.new.self
           (Begins (g.W.Write.contents c.args.writer.now)
           (g.W.Write.contents c.tell_statement.new.writer)) x
-          (g.K.Keeper.content c.account_state.new.keeper))) is
+          (g.K.Keeper.seen c.account_state.new.keeper).tables)) is
           (err_gives c.tell_statement.result (told _) (c.tell_statement.ensures.err h));
     }

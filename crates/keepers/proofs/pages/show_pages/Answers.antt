@@ -12,9 +12,8 @@ loop-page-init g c = record {
   turns = λ clean. omega arith;
   asked = λ one. absurd (omega (arith, one));
   small = omega arith;
-  shown = none_shown g.K.Keeper.content g.K.Keeper.failed g.K.Keeper.honest
-      g.K.Keeper.clean g.K.Keeper.left g.V.ChargeVisitor.sees c.args.account.now c.args.from
-      c.args.until c.args.keeper.now c.args.visitor.now
+  shown = none_shown g.V.ChargeVisitor.sees c.args.account.now c.args.from
+      c.args.until (g.K.Keeper.seen c.args.keeper.now) c.args.visitor.now
       (g.met.K.ChargePages.numbered c.args.keeper.now c.args.account.now);
   gone = goes_not_yet g.V.ChargeVisitor.sees c.args.from c.args.until c.args.visitor.now;
 }
@@ -46,28 +45,25 @@ returns-clause-shown g c =
 pub returns-in_err-page-clause-beginning : goal.returns-in_err-page-clause-beginning
 returns-in_err-page-clause-beginning g c = λ clean.
     on_err c.from_residual.result
-    (begun g.K.Keeper.content g.K.Keeper.failed g.K.Keeper.honest g.K.Keeper.clean g.K.Keeper.left
-    g.V.ChargeVisitor.sees
-    c.args.account.now c.args.from c.args.until c.loop-page.after c.args.keeper.now
-    c.loop-page.keeper c.page.new.self c.args.visitor.now c.loop-page.visitor _ c.page.result
-    c.loop-page.invariant.shown c.page.ensures clean)
+    (begun g.V.ChargeVisitor.sees c.args.account.now c.args.from c.args.until c.loop-page.after
+    (g.K.Keeper.seen c.args.keeper.now) (g.K.Keeper.seen c.loop-page.keeper)
+    (g.K.Keeper.seen c.page.new.self) c.args.visitor.now
+    c.loop-page.visitor _ c.page.result c.loop-page.invariant.shown c.page.ensures clean)
 
 pub returns-then-not-show-clause-reads : goal.returns-then-not-show-clause-reads
 returns-then-not-show-clause-reads g c =
-    stopped g.K.Keeper.content g.K.Keeper.failed g.K.Keeper.honest g.K.Keeper.clean g.K.Keeper.left
-    g.V.ChargeVisitor.sees
-    c.args.account.now c.args.from c.args.until c.loop-page.after c.args.keeper.now
-    c.loop-page.keeper c.page.new.self c.in_ok-page.page c.args.visitor.now c.loop-page.visitor
+    stopped g.V.ChargeVisitor.sees c.args.account.now c.args.from c.args.until c.loop-page.after
+    (g.K.Keeper.seen c.args.keeper.now) (g.K.Keeper.seen c.loop-page.keeper)
+    (g.K.Keeper.seen c.page.new.self) c.in_ok-page.page c.args.visitor.now c.loop-page.visitor
     c.show.new.visitor c.loop-page.invariant.shown c.in_ok-page.ensures
     (subst (λ l. Shows g.V.ChargeVisitor.sees (filter (is_between c.args.from c.args.until) l) _
     c.loop-page.visitor c.show.new.visitor) c.deref.ensures.value c.if-not-show.ensures)
 
 pub returns-then-page-clause-reads : goal.returns-then-page-clause-reads
 returns-then-page-clause-reads g c =
-    ended g.K.Keeper.content g.K.Keeper.failed g.K.Keeper.honest g.K.Keeper.clean g.K.Keeper.left
-    g.V.ChargeVisitor.sees
-    c.args.account.now c.args.from c.args.until c.loop-page.after c.args.keeper.now
-    c.loop-page.keeper c.page.new.self c.in_ok-page.page c.args.visitor.now c.loop-page.visitor
+    ended g.V.ChargeVisitor.sees c.args.account.now c.args.from c.args.until c.loop-page.after
+    (g.K.Keeper.seen c.args.keeper.now) (g.K.Keeper.seen c.loop-page.keeper)
+    (g.K.Keeper.seen c.page.new.self) c.in_ok-page.page c.args.visitor.now c.loop-page.visitor
     c.show.new.visitor c.loop-page.invariant.shown c.in_ok-page.ensures
     (subst (λ l. Shows g.V.ChargeVisitor.sees (filter (is_between c.args.from c.args.until) l) _
     c.loop-page.visitor c.show.new.visitor) c.deref.ensures.value c.if-not-show.ensures)
@@ -81,10 +77,10 @@ loop-page-preserved g c = record {
       omega (arith, was, further);
   asked = λ one honest. c.in_ok-page.ensures.stands honest;
   small = omega arith;
-  shown = page_shown g.K.Keeper.content g.K.Keeper.failed g.K.Keeper.honest
-      g.K.Keeper.clean g.K.Keeper.left g.V.ChargeVisitor.sees c.args.account.now c.args.from
-      c.args.until c.loop-page.after c.args.keeper.now
-      c.loop-page.keeper c.page.new.self c.in_ok-page.page c.args.visitor.now c.loop-page.visitor
+  shown = page_shown g.V.ChargeVisitor.sees c.args.account.now c.args.from
+      c.args.until c.loop-page.after (g.K.Keeper.seen c.args.keeper.now)
+      (g.K.Keeper.seen c.loop-page.keeper) (g.K.Keeper.seen c.page.new.self) c.in_ok-page.page
+      c.args.visitor.now c.loop-page.visitor
       c.show.new.visitor c.loop-page.invariant.shown c.in_ok-page.ensures
       (subst (λ l. Shows g.V.ChargeVisitor.sees (filter (is_between c.args.from c.args.until) l) _
       c.loop-page.visitor c.show.new.visitor) c.deref.ensures.value c.if-not-show.ensures);
@@ -97,10 +93,9 @@ loop-page-preserved g c = record {
 
 pub returns-clause-reads : goal.returns-clause-reads
 returns-clause-reads g c =
-    never g.K.Keeper.content g.K.Keeper.failed g.K.Keeper.honest g.K.Keeper.clean g.K.Keeper.left
-    g.V.ChargeVisitor.sees
-    c.args.account.now c.args.from c.args.until c.loop-page.after c.args.keeper.now
-    c.loop-page.keeper c.args.visitor.now c.loop-page.visitor c.loop-page.invariant.shown
+    never g.V.ChargeVisitor.sees c.args.account.now c.args.from c.args.until c.loop-page.after
+    (g.K.Keeper.seen c.args.keeper.now) (g.K.Keeper.seen c.loop-page.keeper) c.args.visitor.now
+    c.loop-page.visitor c.loop-page.invariant.shown
     (c.loop-page.invariant.asked (omega (arith, c.loop-page-test.false)))
     (λ clean.
     let turns = c.loop-page.invariant.turns clean in

@@ -5,12 +5,10 @@ use Rattle.keepers.proofs.pages.show_pages.Given as goal
 
 abbrev pub invariant-loop-page : goal.invariant-loop-page
 invariant-loop-page g l = record {
-  turns : g.K.Keeper.clean l.keeper → l._page ≤ l.after;
-  asked : 1 ≤ l._page → g.K.Keeper.honest l.keeper → g.K.Keeper.clean l.keeper;
+  turns : (g.K.Keeper.seen l.keeper).clean → l._page ≤ l.after;
+  asked : 1 ≤ l._page → (g.K.Keeper.seen l.keeper).honest → (g.K.Keeper.seen l.keeper).clean;
   small : l.after ≤ 4294967295;
-  shown : HasShown g.K.Keeper.content g.K.Keeper.failed g.K.Keeper.honest
-      g.K.Keeper.clean g.K.Keeper.left
-      g.V.ChargeVisitor.sees l.account
-      l.from l.until l.after l.fn.keeper l.keeper l.fn.visitor l.visitor;
+  shown : HasShown g.V.ChargeVisitor.sees l.account l.from l.until l.after
+      (g.K.Keeper.seen l.fn.keeper) (g.K.Keeper.seen l.keeper) l.fn.visitor l.visitor;
   gone : Goes g.V.ChargeVisitor.sees l.from l.until l.fn.visitor l.visitor;
 }

@@ -13,8 +13,8 @@ pub returns-in-Ok-answer_requests-clause-done : goal.returns-in-Ok-answer_reques
 returns-in-Ok-answer_requests-clause-done g c = λ clean honest.
     subst (λ (bytes : Option (List ℕ)). IfSome bytes (λ stream. IsReplayDone stream
     (g.O.Write.contents c.args.output.now) (g.O.Write.contents c.answer_requests.new.output)
-    c.args.shelf.now (g.K.Keeper.content c.args.keeper.now)
-    (g.K.Keeper.content c.answer_requests.new.keeper)))
+    c.args.shelf.now (g.K.Keeper.seen c.args.keeper.now).tables
+    (g.K.Keeper.seen c.answer_requests.new.keeper).tables))
     (buffer_unread c.in-Ok.buffered c.args.reader g.R.Read.remaining c.in-Ok.ensures.capacity
     c.in-Ok.ensures.empty c.in-Ok.ensures.inner)
     (c.in-Ok-answer_requests.ensures.answers.answered

@@ -15,8 +15,8 @@ returns-in_err-addition g c = record {
       let all = ap (λ (more : List VoucherAddition). c.loop-row.yielded ++ more)
       (sym c.in-Some.ensures.steps.0) ∙ c.loop-row.invariant.all in
       begun_at c.args.shelf.now c.args.moment c.loop-row.yielded c.next.new.self.rest.items
-      c.args.rows.items c.in-Some.row (g.K.Keeper.content c.args.keeper.now)
-      (g.K.Keeper.content c.loop-row.keeper) (g.K.Keeper.content c.add_voucher.new.keeper)
+      c.args.rows.items c.in-Some.row (g.K.Keeper.seen c.args.keeper.now).tables
+      (g.K.Keeper.seen c.loop-row.keeper).tables (g.K.Keeper.seen c.add_voucher.new.keeper).tables
       c.loop-row.counts c.from_residual.result c.from_residual.ensures.0 all
       (c.loop-row.invariant.runs (c.in_err-addition.ensures.kept.cleanness clean))
       (c.in_err-addition.ensures.added clean);
@@ -27,12 +27,13 @@ returns-in_err-addition g c = record {
   left = let all = append_assoc c.loop-row.yielded (c.in-Some.row ∷ []) c.next.new.self.rest.items
       ∙ ap (λ (more : List VoucherAddition). c.loop-row.yielded ++ more)
       (sym c.in-Some.ensures.steps.0) ∙ c.loop-row.invariant.all in
-      left-all g.K.Keeper.honest g.K.Keeper.left c.args.shelf.now c.args.moment
+      left-all c.args.shelf.now c.args.moment
       (c.loop-row.yielded ++ c.in-Some.row ∷ []) c.next.new.self.rest.items c.args.rows.items
-      (g.K.Keeper.content c.args.keeper.now) c.args.keeper.now c.add_voucher.new.keeper all
-      (left-more g.K.Keeper.content g.K.Keeper.honest g.K.Keeper.clean g.K.Keeper.left
-      c.args.shelf.now c.args.moment c.loop-row.yielded c.args.keeper.now c.loop-row.keeper
-      c.add_voucher.new.keeper c.loop-row.counts c.loop-row.invariant.runs
+      (g.K.Keeper.seen c.args.keeper.now).tables (g.K.Keeper.seen c.args.keeper.now)
+      (g.K.Keeper.seen c.add_voucher.new.keeper) all (left-more
+      c.args.shelf.now c.args.moment c.loop-row.yielded (g.K.Keeper.seen c.args.keeper.now)
+      (g.K.Keeper.seen c.loop-row.keeper)
+      (g.K.Keeper.seen c.add_voucher.new.keeper) c.loop-row.counts c.loop-row.invariant.runs
       c.loop-row.invariant.left c.in_err-addition.ensures.kept.honesty c.in-Some.row
       c.in_err-addition.ensures.left);
   cause = search rules;
@@ -44,8 +45,8 @@ loop-row-preserved g c = record {
       let so = c.loop-row.invariant.runs (c.in_ok-addition.ensures.kept.cleanness clean) list time
       is in
       one-more c.args.shelf.now c.args.moment list c.loop-row.yielded c.in-Some.row
-      (g.K.Keeper.content c.args.keeper.now) (g.K.Keeper.content c.loop-row.keeper)
-      (g.K.Keeper.content c.add_voucher.new.keeper) c.loop-row.counts c.count_one-counts.result
+      (g.K.Keeper.seen c.args.keeper.now).tables (g.K.Keeper.seen c.loop-row.keeper).tables
+      (g.K.Keeper.seen c.add_voucher.new.keeper).tables c.loop-row.counts c.count_one-counts.result
       c.in_ok-addition.addition so
       (c.in_ok-addition.ensures.added clean
       (after_commands c.args.shelf.now list (additions c.args.moment c.loop-row.yielded))
@@ -63,9 +64,9 @@ loop-row-preserved g c = record {
       c.loop-row.invariant.honesty (c.in_ok-addition.ensures.kept.honesty honest);
   stands = λ honest clean. c.in_ok-addition.ensures.kept.stands honest
       (c.loop-row.invariant.stands (c.in_ok-addition.ensures.kept.honesty honest) clean);
-  left = left-more g.K.Keeper.content g.K.Keeper.honest g.K.Keeper.clean g.K.Keeper.left
-      c.args.shelf.now c.args.moment c.loop-row.yielded c.args.keeper.now c.loop-row.keeper
-      c.add_voucher.new.keeper c.loop-row.counts c.loop-row.invariant.runs
+  left = left-more c.args.shelf.now c.args.moment c.loop-row.yielded
+      (g.K.Keeper.seen c.args.keeper.now) (g.K.Keeper.seen c.loop-row.keeper)
+      (g.K.Keeper.seen c.add_voucher.new.keeper) c.loop-row.counts c.loop-row.invariant.runs
       c.loop-row.invariant.left c.in_ok-addition.ensures.kept.honesty c.in-Some.row
       c.in_ok-addition.ensures.left;
   failures = omega (arith, c.loop-row.invariant.failures, c.in_ok-addition.ensures.kept.cause.kept);
@@ -78,19 +79,19 @@ returns g c =
     c.loop-row.invariant.all (search rules) in
     record {
       imported = λ clean. subst (λ (rows : List VoucherAddition). Imports c.args.shelf.now
-          (additions c.args.moment rows) (g.K.Keeper.content c.args.keeper.now)
-          (g.K.Keeper.content c.loop-row.keeper) (Ok c.loop-row.counts)) whole
+          (additions c.args.moment rows) (g.K.Keeper.seen c.args.keeper.now).tables
+          (g.K.Keeper.seen c.loop-row.keeper).tables (Ok c.loop-row.counts)) whole
           (all-imported c.args.shelf.now c.args.moment c.loop-row.yielded
-          (g.K.Keeper.content c.args.keeper.now) (g.K.Keeper.content c.loop-row.keeper)
+          (g.K.Keeper.seen c.args.keeper.now).tables (g.K.Keeper.seen c.loop-row.keeper).tables
           c.loop-row.counts (c.loop-row.invariant.runs clean));
       all = c.loop-row.invariant.count ∙ ap length whole;
       cleanness = search rules;
       honesty = search rules;
       stands = search rules;
-      left = left-all g.K.Keeper.honest g.K.Keeper.left c.args.shelf.now c.args.moment
-          c.loop-row.yielded
+      left = left-all c.args.shelf.now c.args.moment c.loop-row.yielded
           c.loop-row.row-iterator.rest.items c.args.rows.items
-          (g.K.Keeper.content c.args.keeper.now)
-          c.args.keeper.now c.loop-row.keeper c.loop-row.invariant.all c.loop-row.invariant.left;
+          (g.K.Keeper.seen c.args.keeper.now).tables
+          (g.K.Keeper.seen c.args.keeper.now) (g.K.Keeper.seen c.loop-row.keeper)
+          c.loop-row.invariant.all c.loop-row.invariant.left;
       cause = search rules;
     }

@@ -24,9 +24,8 @@ returns-in_err-map_err g c = record {
   stands = search rules;
   asked = search rules;
   fault = search rules;
-  left = left_from g.K.Keeper.content g.K.Keeper.honest g.K.Keeper.clean g.K.Keeper.left
-      c.args.shelf.now _ _ c.args.moment c.args.keeper.now c.step.new.keeper
-      c.step.ensures.left c.into_command-command.ensures;
+  left = left_from c.args.shelf.now _ _ c.args.moment (g.K.Keeper.seen c.args.keeper.now)
+      (g.K.Keeper.seen c.step.new.keeper) c.step.ensures.left c.into_command-command.ensures;
   stops = search rules;
 }
 
@@ -52,9 +51,8 @@ returns g c =
       stands = search rules;
       asked = search rules;
       fault = search rules;
-      left = left_from g.K.Keeper.content g.K.Keeper.honest g.K.Keeper.clean g.K.Keeper.left
-          c.args.shelf.now _ _ c.args.moment c.args.keeper.now c.step.new.keeper
-          c.step.ensures.left c.into_command-command.ensures;
+      left = left_from c.args.shelf.now _ _ c.args.moment (g.K.Keeper.seen c.args.keeper.now)
+          (g.K.Keeper.seen c.step.new.keeper) c.step.ensures.left c.into_command-command.ensures;
       stops = record {
         unwritten = search rules;
         cleanness = c.step.ensures.cleanness;

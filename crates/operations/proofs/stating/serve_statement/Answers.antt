@@ -16,7 +16,7 @@ pub returns-in-Err : goal.returns-in-Err
 returns-in-Err g c = record {
   told = λ clean.
       nothing_told c.args.shelf.now c.args.query.now c.args.moment
-      (g.K.Keeper.content c.args.keeper.now) (g.W.Write.contents c.args.writer.now) _
+      (g.K.Keeper.seen c.args.keeper.now).tables (g.W.Write.contents c.args.writer.now) _
       (nothing_written (g.W.Write.contents c.args.writer.now));
   ended = search rules;
   printed = search rules;
@@ -35,12 +35,12 @@ returns-in-Some g c = record {
       let viewed = c.write_month.ensures.asks.cleanness clean in
       let b = c.args.shelf.now in
       let q = c.args.query.now in
-      let old = g.K.Keeper.content c.args.keeper.now in
+      let old = (g.K.Keeper.seen c.args.keeper.now).tables in
       let w0 = g.W.Write.contents c.args.writer.now in
       let w1 = g.W.Write.contents c.write_month.new.writer in
       subst (IsMonthTold b q c.args.moment old w0 w1) (sym c.month_ended.ensures)
       (month_told b q c.args.moment old w0 w1 c.in-Ok.state c.in-Some.state
-      (g.K.Keeper.content c.account_state.new.keeper) (month_ended c.write_month.result)
+      (g.K.Keeper.seen c.account_state.new.keeper).tables (month_ended c.write_month.result)
       (c.in-Ok.ensures.found viewed) c.in-Some.is (c.in-Ok.ensures.same viewed)
       (tells_ended _ _ _ _ c.write_month.result (c.write_month.ensures.writes clean)));
   ended = ended_done c.write_month.result c.month_ended.result _ c.month_ended.ensures;
@@ -52,17 +52,16 @@ returns-in-Some g c = record {
       c.in-Some.state.buckets.items (g.W.Write.contents c.args.writer.now)
       (g.W.Write.contents c.write_month.new.writer) c.write_month.result c.month_ended.result
       c.month_ended.ensures c.write_month.ensures.some;
-  reads = subst (OnlyReads g.K.Keeper.content g.K.Keeper.failed g.K.Keeper.clean c.args.keeper.now
-      c.write_month.new.keeper) (sym c.month_ended.ensures)
-      (reads_asked g.K.Keeper.content g.K.Keeper.failed g.K.Keeper.honest g.K.Keeper.clean
-      g.K.Keeper.left c.args.keeper.now c.account_state.new.keeper c.write_month.new.keeper
-      c.write_month.result c.in-Ok.ensures.same
+  reads = subst (OnlyReads (g.K.Keeper.seen c.args.keeper.now)
+      (g.K.Keeper.seen c.write_month.new.keeper)) (sym c.month_ended.ensures)
+      (reads_asked (g.K.Keeper.seen c.args.keeper.now) (g.K.Keeper.seen c.account_state.new.keeper)
+      (g.K.Keeper.seen c.write_month.new.keeper) c.write_month.result c.in-Ok.ensures.same
       c.in-Ok.ensures.cleanness c.in-Ok.ensures.cause.kept c.write_month.ensures.asks);
   honesty = search rules;
   stands = λ honest.
-      subst (λ (x : Result Status OfficeFault). OnOk x (g.K.Keeper.clean c.write_month.new.keeper))
-      (sym c.month_ended.ensures)
-      (ended_stands c.write_month.result (g.K.Keeper.clean c.write_month.new.keeper)
+      subst (λ (x : Result Status OfficeFault). OnOk x
+      (g.K.Keeper.seen c.write_month.new.keeper).clean) (sym c.month_ended.ensures)
+      (ended_stands c.write_month.result (g.K.Keeper.seen c.write_month.new.keeper).clean
       (c.write_month.ensures.asks.stands honest));
   fault = λ fault told.
       no_reading c.month_ended.result fault
@@ -75,7 +74,7 @@ pub returns-in-None : goal.returns-in-None
 returns-in-None g c = record {
   told = λ clean.
       unknown_told c.args.shelf.now c.args.query.now c.args.moment
-      (g.K.Keeper.content c.args.keeper.now)
+      (g.K.Keeper.seen c.args.keeper.now).tables
       (g.W.Write.contents c.args.writer.now) (g.W.Write.contents c.tell_unknown.new.writer)
       c.in-Ok.state c.tell_unknown.result (c.in-Ok.ensures.found clean) c.in-None.is
       c.tell_unknown.ensures.told;

@@ -22,7 +22,7 @@ pub returns-in-Err : goal.returns-in-Err
 returns-in-Err g c = record {
   answers = none_answered c.args.shelf.now c.args.opening
       (g.R.Read.remaining c.args.reader.now) (g.W.Write.contents c.args.writer.now)
-      g.K.Keeper.content g.K.Keeper.failed g.K.Keeper.clean c.args.keeper.now _ _ refl;
+      (g.K.Keeper.seen c.args.keeper.now) _ _ refl;
   told = search rules;
   begun = none_begun (g.W.Write.contents c.args.writer.now) (g.R.Read.remaining c.args.reader.now);
   unread = search rules;
@@ -38,7 +38,7 @@ pub returns-in_default : goal.returns-in_default
 returns-in_default g c = record {
   answers = none_answered c.args.shelf.now c.args.opening
       (g.R.Read.remaining c.args.reader.now) (g.W.Write.contents c.args.writer.now)
-      g.K.Keeper.content g.K.Keeper.failed g.K.Keeper.clean c.args.keeper.now _ _ refl;
+      (g.K.Keeper.seen c.args.keeper.now) _ _ refl;
   told = search rules;
   begun = none_begun (g.W.Write.contents c.args.writer.now) (g.R.Read.remaining c.args.reader.now);
   unread = search rules;
@@ -57,8 +57,8 @@ returns g c =
     let w0 = g.W.Write.contents c.args.writer.now in
     let w1 = g.W.Write.contents c.write_output-written.new.writer in
     let r = g.R.Read.remaining c.args.reader.now in
-    let old = g.K.Keeper.content c.args.keeper.now in
-    let new = g.K.Keeper.content c.run_opened-answers.new.keeper in
+    let old = (g.K.Keeper.seen c.args.keeper.now).tables in
+    let new = (g.K.Keeper.seen c.run_opened-answers.new.keeper).tables in
     let fault = c.run_opened-answers.result.fault in
     let written = c.write_output-written.result in
     let result = c.ended_as.result in
@@ -78,7 +78,7 @@ returns g c =
     ≡ opening_for opening c.in-Ok.input.requests.items =
     subst (λ (rs : List DatedCommand). c.in-Ok-open_first.opening.items ≡ opening_for opening rs)
     c.deref.ensures.value c.in-Ok-open_first.ensures in
-    let h : g.K.Keeper.clean c.run_opened-answers.new.keeper →
+    let h : (g.K.Keeper.seen c.run_opened-answers.new.keeper).clean →
     IsWritten b opening w0 w1 r old new fault written =
     λ clean. record {
       input = c.in-Ok.input;
@@ -123,8 +123,8 @@ returns g c =
           c.write_output-written.ensures.fault;
       honesty = c.run_opened-answers.ensures.honesty;
       stands = λ honest clean.
-          ended-stands (g.K.Keeper.clean c.run_opened-answers.new.keeper) fault written result is
-          (c.run_opened-answers.ensures.stands honest clean);
+          ended-stands (g.K.Keeper.seen c.run_opened-answers.new.keeper).clean fault written result
+          is (c.run_opened-answers.ensures.stands honest clean);
       asked = λ f k honest clean.
           ended-asked fault written result f is k
           (c.run_opened-answers.ensures.stands honest clean);

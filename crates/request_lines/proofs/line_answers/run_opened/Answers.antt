@@ -9,8 +9,8 @@ use Rattle.request_lines.proofs.line_answers.run_opened.Goals as goal
 pub returns-then-is_some-clause-runs : goal.returns-then-is_some-clause-runs
 returns-then-is_some-clause-runs g c = λ clean.
     let b = c.args.shelf.now in
-    let old = g.K.Keeper.content c.args.keeper.now in
-    let new = g.K.Keeper.content c.run-fault.new.keeper in
+    let old = (g.K.Keeper.seen c.args.keeper.now).tables in
+    let new = (g.K.Keeper.seen c.run-fault.new.keeper).tables in
     subst (λ (answers : List Answer). ForEachList b old (IsRunOpened b c.args.opening.items
     c.args.requests.items new answers c.run-fault.result.fault)) (sym c.new-answers.ensures.items)
     (opening-stopped b c.args.opening.items c.args.requests.items c.run-fault.result.fault
@@ -20,9 +20,9 @@ returns-then-is_some-clause-runs g c = λ clean.
 
 pub returns-clause-runs : goal.returns-clause-runs
 returns-clause-runs g c = λ clean.
-    let old = g.K.Keeper.content c.args.keeper.now in
-    let mid = g.K.Keeper.content c.run-fault.new.keeper in
-    let new = g.K.Keeper.content c.run.new.keeper in
+    let old = (g.K.Keeper.seen c.args.keeper.now).tables in
+    let mid = (g.K.Keeper.seen c.run-fault.new.keeper).tables in
+    let new = (g.K.Keeper.seen c.run.new.keeper).tables in
     let before = c.run-fault.result.answers.items in
     let all : length before ≡ length c.args.opening.items =
     where_none (length before ≡ length c.args.opening.items) c.run-fault.result.fault
@@ -43,13 +43,13 @@ returns-then-is_some-clause-stands g c = λ honest clean.
 pub returns-clause-stands : goal.returns-clause-stands
 returns-clause-stands g c = λ honest clean.
     c.run.ensures.runs.stands honest
-    (where_none (g.K.Keeper.clean c.run-fault.new.keeper) c.run-fault.result.fault
+    (where_none (g.K.Keeper.seen c.run-fault.new.keeper).clean c.run-fault.result.fault
     (sym c.is_some.ensures ∙ c.if-is_some.false)
     (c.run-fault.ensures.runs.stands (c.run.ensures.runs.honesty honest) clean))
 
 pub returns-then-is_some-clause-held : goal.returns-then-is_some-clause-held
 returns-then-is_some-clause-held g c = λ honest clean t left.
-    held-opening c.args.shelf.now (g.K.Keeper.content c.args.keeper.now) t c.args.opening.items
+    held-opening c.args.shelf.now (g.K.Keeper.seen c.args.keeper.now).tables t c.args.opening.items
     c.args.requests.items c.run-fault.result.answers.items
     (c.run-fault.ensures.runs.held honest clean t left)
 
@@ -60,10 +60,10 @@ returns-clause-held g c = λ honest clean t left.
     let all : length before ≡ length c.args.opening.items =
     where_none (length before ≡ length c.args.opening.items) c.run-fault.result.fault none
     c.run-fault.ensures.runs.whole in
-    let asked : g.K.Keeper.clean c.run-fault.new.keeper =
-    where_none (g.K.Keeper.clean c.run-fault.new.keeper) c.run-fault.result.fault none
+    let asked : (g.K.Keeper.seen c.run-fault.new.keeper).clean =
+    where_none (g.K.Keeper.seen c.run-fault.new.keeper).clean c.run-fault.result.fault none
     (c.run-fault.ensures.runs.stands (c.run.ensures.runs.honesty honest) clean) in
-    held-requests c.args.shelf.now (g.K.Keeper.content c.args.keeper.now) t
-    (g.K.Keeper.content c.run-fault.new.keeper) c.args.opening.items c.args.requests.items before
-    c.run.result.answers.items all (c.run-fault.ensures.runs.runs asked)
+    held-requests c.args.shelf.now (g.K.Keeper.seen c.args.keeper.now).tables t
+    (g.K.Keeper.seen c.run-fault.new.keeper).tables c.args.opening.items c.args.requests.items
+    before c.run.result.answers.items all (c.run-fault.ensures.runs.runs asked)
     (c.run.ensures.runs.held honest asked t left)

@@ -7,8 +7,8 @@ returns-in-Err-serve_import g c = record {
   done = search rules;
   printed = search rules;
   fault = λ clean.
-      not_told c.args.shelf.now c.args.moment (g.K.Keeper.content c.args.keeper.now)
-      (g.K.Keeper.content c.serve_import.new.keeper) (g.O.Write.contents c.args.output.now)
+      not_told c.args.shelf.now c.args.moment (g.K.Keeper.seen c.args.keeper.now).tables
+      (g.K.Keeper.seen c.serve_import.new.keeper).tables (g.O.Write.contents c.args.output.now)
       (g.O.Write.contents c.serve_import.new.writer) c.in-Ok.rows.items
       (g.R.Read.remaining c.args.reader) c.serve_import.result c.in-Err-serve_import.fault
       c.in-Err-serve_import.is c.in-Ok.ensures.rows

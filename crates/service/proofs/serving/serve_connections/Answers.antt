@@ -7,11 +7,11 @@ pub loop-served-init : goal.loop-served-init
 loop-served-init g c = record {
   told = faults_none (g.E.Write.contents c.args.errors.now);
   few = le_refl 0;
-  continued = λ clean. continued_none c.args.shelf.now (g.K.Keeper.content c.args.keeper.now);
+  continued = λ clean. continued_none c.args.shelf.now (g.K.Keeper.seen c.args.keeper.now).tables;
   cleanness = λ clean. clean;
   honesty = λ honest. honest;
   left = λ honest t l. inl l;
-  failures = le_refl (g.K.Keeper.failed c.args.keeper.now);
+  failures = le_refl (g.K.Keeper.seen c.args.keeper.now).failed;
 }
 
 pub loop-served-preserved : goal.loop-served-preserved
@@ -23,16 +23,17 @@ loop-served-preserved g c = record {
       c.loop-served.invariant.told c.serve_next-failed.ensures.told;
   few = omega (arith, c.loop-served.invariant.few, c.serve_next-failed.ensures.bounded);
   continued = λ clean.
-      continued_more c.args.shelf.now (g.K.Keeper.content c.args.keeper.now)
-      (g.K.Keeper.content c.loop-served.keeper) (g.K.Keeper.content c.serve_next-failed.new.keeper)
+      continued_more c.args.shelf.now (g.K.Keeper.seen c.args.keeper.now).tables
+      (g.K.Keeper.seen c.loop-served.keeper).tables
+      (g.K.Keeper.seen c.serve_next-failed.new.keeper).tables
       (c.loop-served.invariant.continued (c.serve_next-failed.ensures.cleanness clean))
       (c.serve_next-failed.ensures.continued clean);
   cleanness = λ clean.
       c.loop-served.invariant.cleanness (c.serve_next-failed.ensures.cleanness clean);
   honesty = λ honest.
       c.loop-served.invariant.honesty (c.serve_next-failed.ensures.honesty honest);
-  left = leaves_more g.K.Keeper.content g.K.Keeper.honest g.K.Keeper.clean g.K.Keeper.left
-      c.args.shelf.now c.args.keeper.now c.loop-served.keeper c.serve_next-failed.new.keeper
+  left = leaves_more c.args.shelf.now (g.K.Keeper.seen c.args.keeper.now)
+      (g.K.Keeper.seen c.loop-served.keeper) (g.K.Keeper.seen c.serve_next-failed.new.keeper)
       c.loop-served.invariant.cleanness c.loop-served.invariant.continued
       c.serve_next-failed.ensures.honesty c.loop-served.invariant.left
       c.serve_next-failed.ensures.left;

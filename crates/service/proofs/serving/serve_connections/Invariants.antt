@@ -7,11 +7,10 @@ abbrev pub invariant-loop-served : goal.invariant-loop-served
 invariant-loop-served g l = record {
   told : TellsFaults l.failed (g.E.Write.contents l.fn.errors) (g.E.Write.contents l.errors);
   few : l.failed ≤ l._served;
-  continued : g.K.Keeper.clean l.keeper → ForEachList l.shelf (g.K.Keeper.content l.fn.keeper)
-      (IsContinued l.shelf (g.K.Keeper.content l.keeper));
-  cleanness : g.K.Keeper.clean l.keeper → g.K.Keeper.clean l.fn.keeper;
-  honesty : g.K.Keeper.honest l.keeper → g.K.Keeper.honest l.fn.keeper;
-  left : LeavesOn g.K.Keeper.content g.K.Keeper.honest g.K.Keeper.clean g.K.Keeper.left l.shelf
-      l.fn.keeper l.keeper;
-  failures : g.K.Keeper.failed l.fn.keeper ≤ g.K.Keeper.failed l.keeper;
+  continued : (g.K.Keeper.seen l.keeper).clean → ForEachList l.shelf
+      (g.K.Keeper.seen l.fn.keeper).tables (IsContinued l.shelf (g.K.Keeper.seen l.keeper).tables);
+  cleanness : (g.K.Keeper.seen l.keeper).clean → (g.K.Keeper.seen l.fn.keeper).clean;
+  honesty : (g.K.Keeper.seen l.keeper).honest → (g.K.Keeper.seen l.fn.keeper).honest;
+  left : LeavesOn l.shelf (g.K.Keeper.seen l.fn.keeper) (g.K.Keeper.seen l.keeper);
+  failures : (g.K.Keeper.seen l.fn.keeper).failed ≤ (g.K.Keeper.seen l.keeper).failed;
 }

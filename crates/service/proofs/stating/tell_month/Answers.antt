@@ -9,7 +9,7 @@ returns-in-Ok-clause-told g c = λ clean. record {
   answer = c.serve_statement.result;
   is = sym (ap of_office c.in-Ok.is);
   was = subst
-      (λ q. IsMonthTold c.args.shelf.now q c.args.moment (g.K.Keeper.content c.args.keeper.now)
+      (λ q. IsMonthTold c.args.shelf.now q c.args.moment (g.K.Keeper.seen c.args.keeper.now).tables
       (g.O.Write.contents c.args.output.now) (g.O.Write.contents c.serve_statement.new.writer)
       c.serve_statement.result)
       c.query_of-query.ensures (c.serve_statement.ensures.told clean);
@@ -20,7 +20,7 @@ returns-clause-told g c = λ clean. record {
   answer = c.serve_statement.result;
   is = sym (ap of_office c.in-Err.is);
   was = subst
-      (λ q. IsMonthTold c.args.shelf.now q c.args.moment (g.K.Keeper.content c.args.keeper.now)
+      (λ q. IsMonthTold c.args.shelf.now q c.args.moment (g.K.Keeper.seen c.args.keeper.now).tables
       (g.O.Write.contents c.args.output.now) (g.O.Write.contents c.serve_statement.new.writer)
       c.serve_statement.result)
       c.query_of-query.ensures (c.serve_statement.ensures.told clean);

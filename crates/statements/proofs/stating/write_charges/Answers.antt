@@ -15,11 +15,11 @@ returns-in_err-each-clause-writes g c = λ clean.
     (λ rows are.
     let shown = c.in_err-each.ensures.beginning clean in
     let name = begun_name g.W.Write.contents c.args.asked.now.book.now c.args.asked.now.month
-    c.args.form ((g.S.Keeper.content c.args.source.now).charges c.args.asked.now.account.now)
+    c.args.form ((g.S.Keeper.seen c.args.source.now).tables.charges c.args.asked.now.account.now)
     c.first.result c.no_end.result c.first.ensures c.no_end.ensures _ c.each.new.visitor
     h shown rows are in
     let text = begun_text g.W.Write.contents c.args.asked.now.book.now c.args.asked.now.month
-    c.args.form ((g.S.Keeper.content c.args.source.now).charges c.args.asked.now.account.now)
+    c.args.form ((g.S.Keeper.seen c.args.source.now).tables.charges c.args.asked.now.account.now)
     c.first.result c.no_end.result c.first.ensures c.no_end.ensures _ c.each.new.visitor
     h shown rows are in
     subst (λ x. WritesBeginning (g.W.Write.contents c.args.writer.now) (g.W.Write.contents x)
@@ -30,7 +30,7 @@ pub returns-in-None-clause-writes : goal.returns-in-None-clause-writes
 returns-in-None-clause-writes g c = λ clean. record {
   whole = λ rows are.
       let w = wrote_all g.W.Write.contents c.args.asked.now.book.now c.args.asked.now.month
-      c.args.form ((g.S.Keeper.content c.args.source.now).charges c.args.asked.now.account.now)
+      c.args.form ((g.S.Keeper.seen c.args.source.now).tables.charges c.args.asked.now.account.now)
       c.first.result c.no_end.result c.first.ensures c.no_end.ensures _ c.each.new.visitor
       (record { fault = refl; book = refl; cycle = c.cycle_of_month.ensures; form = refl })
       (c.in_ok-each.ensures.reads.found clean) rows are in
@@ -43,7 +43,7 @@ returns-in-None-clause-writes g c = λ clean. record {
 pub returns-in-None-clause-sums : goal.returns-in-None-clause-sums
 returns-in-None-clause-sums g c = λ clean rows are.
     let w = wrote_all g.W.Write.contents c.args.asked.now.book.now c.args.asked.now.month
-    c.args.form ((g.S.Keeper.content c.args.source.now).charges c.args.asked.now.account.now)
+    c.args.form ((g.S.Keeper.seen c.args.source.now).tables.charges c.args.asked.now.account.now)
     c.first.result c.no_end.result c.first.ensures c.no_end.ensures _ c.each.new.visitor
     (record { fault = refl; book = refl; cycle = c.cycle_of_month.ensures; form = refl })
     (c.in_ok-each.ensures.reads.found clean) rows are in
@@ -57,7 +57,7 @@ returns-in-Some-clause-writes g c = λ clean. record {
   whole = λ rows are. tt;
   beginning = λ rows are.
       let w = wrote_all g.W.Write.contents c.args.asked.now.book.now c.args.asked.now.month
-      c.args.form ((g.S.Keeper.content c.args.source.now).charges c.args.asked.now.account.now)
+      c.args.form ((g.S.Keeper.seen c.args.source.now).tables.charges c.args.asked.now.account.now)
       c.first.result c.no_end.result c.first.ensures c.no_end.ensures _ c.each.new.visitor
       (record { fault = refl; book = refl; cycle = c.cycle_of_month.ensures; form = refl })
       (c.in_ok-each.ensures.reads.found clean) rows are in
