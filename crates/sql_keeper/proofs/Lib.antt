@@ -19,6 +19,7 @@ pub mod Empty
 pub mod Granted
 pub mod GroupRows
 pub mod Groups
+pub mod HandedOn
 pub mod Held
 pub mod HeldAlong
 pub mod HoldRuns

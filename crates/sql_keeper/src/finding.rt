@@ -39,20 +39,14 @@ fn content_said(alloc: Global, account: &AccountNumber, text: &str) -> Result<Co
 {
     let account = account.clone()?;
     let bytes = text.as_bytes();
-    match read_content(alloc, account, bytes) {
-        Ok(content) => Ok(content),
-        Err(fault) => Err(fault_of(fault)),
-    }
+    read_content(alloc, account, bytes).map_err(fault_of)
 }
 
 /// The answer that a kept text says, with that text as it stands.
 fn answer_said(alloc: Global, text: String) -> Result<WrittenAnswer, ReadFault>
     ensures { IfOk result (λ a. answer_of (string_bytes text) ≡ Ok a) }
 {
-    match WrittenAnswer::read(alloc, text) {
-        Ok(answer) => Ok(answer),
-        Err(fault) => Err(fault_of(fault)),
-    }
+    WrittenAnswer::read(alloc, text).map_err(fault_of)
 }
 
 /// What texts that are kept under an account say; texts that say nothing are out of the rules.
