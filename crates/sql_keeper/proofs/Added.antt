@@ -21,7 +21,7 @@ use Rattle.sql_keeper.specs.Tidy.{IsTidy}
 use Rattle.sql_keeper.specs.Writes.{meta_at, voucher_row}
 use Rattle.sql_tables.specs.Statements.{HasIdleBook}
 use Rattle.sql_keeper.proofs.InTurn.{none_read}
-use Rattle.sql_keeper.proofs.NewGroups.{meta_put}
+use Rattle.sql_keeper.proofs.NewGroups.{moment_put}
 use Rattle.sql_keeper.proofs.Redeemed.{told_over}
 use Rattle.sql_keeper.proofs.TidyChanges.{tidy_addition}
 use Rattle.sql_keeper.proofs.Whole.{refused}
@@ -57,17 +57,16 @@ become text code terms t last ruled old new turns = record {
   stored = turns.stored;
 }
 
--- so it is where what is kept once stands already, and isn't put
+-- so it is where the moment alone is put, or stands already
 pub become_added : (text code : List ℕ) (terms : VoucherTerms) (t : ℕ) → t ≤ 4_102_488_000
     → is_ruled_addition code terms t ≡ true → (stands : Bool) (old : State)
     → Stands stands (meta_at text t) old → HasCleanDisk old → IsTrue old.is_open → (db : Trees)
-    → Turns (with_addition_put stands text code terms t) old.now.trees db
+    → Turns (with_addition_put stands code terms t) old.now.trees db
     → BecomesAdded text code terms t old.now.trees db
 become_added text code terms t last ruled stands old there clean on db turns =
     become text code terms t last ruled old.now.trees db (record {
       content = turns.content ∙ ap (with_voucher_row code (voucher_row (unspent terms)))
-          (meta_put stands (meta_at text t) (tables_content old.now.trees)
-          (λ is. there is clean on));
+          (moment_put stands (meta_at text t) (tables_content old.now.trees) (there clean on));
       catalog = turns.catalog;
       stored = turns.stored;
       plain = turns.plain;

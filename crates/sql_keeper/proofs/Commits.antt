@@ -31,7 +31,7 @@ use Rattle.sql_rules.specs.Ruled.{IsInRules}
 use Rattle.sql_keeper.specs.Content.{tables_of, Names}
 use Rattle.sql_keeper.specs.Commits.{Becomes}
 use Rattle.sql_keeper.specs.RuledRows.{are_ruled_texts, is_ruled_change}
-use Rattle.sql_keeper.specs.Seen.{AreSeen, Sees, Stands}
+use Rattle.sql_keeper.specs.Seen.{AreSeen, IsKeptOnce, Sees, Stands}
 use Rattle.sql_keeper.specs.Tests.{AreWritable, IsTested, MayBeMade}
 use Rattle.sql_keeper.specs.Tidy.{IsTidy}
 use Rattle.sql_keeper.specs.Writes.{AreTexts, columns_of, head_columns_of, meta_with, with_change}
@@ -156,13 +156,12 @@ module _ (names : Names) (text : List ℕ) (change : Change) (texts : Option Kep
   -- the groups that are new are put without a removal, and so is what stays
   turned : (new : Bool) (seen : Option SeenAccount) (stands : Bool) (old db : Trees) →
       IsTested names change (rows_in old change.number) new → Sees seen old →
-      (stands ≡ true → (tables_content old).meta ≡ Some (meta_with text change)) →
-      Turns (with_change_put names new seen stands (meta_with text change) change texts) old db →
+      IsKeptOnce stands (meta_with text change) (tables_content old).meta →
+      Turns (with_change_put names new seen stands change texts) old db →
       Turns (with_change names (meta_with text change) change texts) old db
   turned new seen stands old db found sees there turns = record {
     content = turns.content
-        ∙ put_over names new seen stands (meta_with text change) change texts (tables_content old)
-        named found
+        ∙ put_over names new seen stands text change texts (tables_content old) named found
         (λ x e. sees_kept seen old change.number x sees e) there;
     catalog = turns.catalog;
     stored = turns.stored;
@@ -175,14 +174,13 @@ module _ (names : Names) (text : List ℕ) (change : Change) (texts : Option Kep
       → IsTested names change (rows_in old.now.trees change.number) new) → AreSeen seen old
       → Stands stands (meta_with text change) old
       → HasCleanDisk mid → IsTrue mid.is_open → (db : Trees)
-      → Turns (with_change_put names new seen stands (meta_with text change) change texts)
-      mid.now.trees db
+      → Turns (with_change_put names new seen stands change texts) mid.now.trees db
       → Becomes names text change old.now.trees db
   become_at new seen stands old mid only may sees there clean on db turns =
       let was : IsTrue old.is_open = (only.still clean on).was_open in
       become old.now.trees db (may clean on).made
       (turned new seen stands old.now.trees db (may clean on) (sees (only.cleanness clean) was)
-      (λ is. there is (only.cleanness clean) was)
+      (there (only.cleanness clean) was)
       (subst (λ (d : Database).
-      Turns (with_change_put names new seen stands (meta_with text change) change texts) d.trees db)
+      Turns (with_change_put names new seen stands change texts) d.trees db)
       (only.still clean on).now_is turns))

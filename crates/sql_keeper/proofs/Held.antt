@@ -1,6 +1,6 @@
 -- What the commands leave is in its rules, and is found again: it is refused for no row.
 use Rattle.std.proofs.Common.{◌≡◌, ◌≤◌, ◌<◌, inl, inr, ◌∙◌, ◌++◌, ◌+◌, ℕ, suc, List, [], ◌∷◌, Some}
-use Rattle.std.proofs.Common.{refl, sym, ap, subst, arith, length, length-append, true}
+use Rattle.std.proofs.Common.{refl, sym, ap, subst, arith, length, length-append, true, Bool}
 use Rattle.std.specs.Prelude.{◌==◌, is_some}
 use Rattle.std.proofs.lemmas.Bool.{and_from}
 use Rattle.std.proofs.lemmas.Bool.Decides.{nat_tests}
@@ -31,6 +31,7 @@ use Rattle.sql_keeper.specs.Again.{AreLeftRuledAgain, IsFoundAgain}
 use Rattle.sql_keeper.specs.Books.{IsBookOf}
 use Rattle.sql_keeper.specs.Commits.{Becomes}
 use Rattle.sql_keeper.specs.Content.{last_in, shelf_names}
+use Rattle.sql_keeper.specs.Seen.{IsKeptOnce}
 use Rattle.sql_keeper.specs.Left.{IsHeld, IsKept, IsLeftRuled}
 use Rattle.sql_keeper.specs.RuledOpening.{HasUnruledRow}
 use Rattle.sql_keeper.specs.Shelves.{IsShelfOf}
@@ -164,22 +165,23 @@ held_committed text shelf last change old new held b = record {
   moment = sym (ap last_in b.meta);
 }
 
--- what is kept once stands as a command leaves it that is at the last moment
-pub held_stands : (text : List ℕ) (shelf : Shelf) (last : ℕ) (given : List ℕ) (t : ℕ)
-    (trees : Trees) → given ≡ text → (last == t) ≡ true → IsHeld text shelf last trees
-    → (tables_content trees).meta ≡ Some (meta_at given t)
-held_stands text shelf last given t trees same at_last held =
-    kept.is ∙ (λ i. Some (record {
-      version = kept.version i;
-      book = (kept.book ∙ sym same) i;
-      last = moment i;
-    }))
+-- what is kept once stands with the text, and as a command leaves it that is at the last moment
+pub held_stands : (text : List ℕ) (shelf : Shelf) (last : ℕ) (given : List ℕ) (t : ℕ) (told : Bool)
+    (trees : Trees) → given ≡ text → told ≡ (last == t) → IsHeld text shelf last trees
+    → IsKeptOnce told (meta_at given t) (tables_content trees).meta
+held_stands text shelf last given t told trees same at_last held = record {
+  last = kept.row.last;
+  row = kept.is ∙ (λ i. Some (record {
+    version = kept.version i;
+    book = (kept.book ∙ sym same) i;
+    last = kept.row.last;
+  }));
+  moment = λ is. sym (held.moment ∙ ap last_in kept.is)
+      ∙ number_from last t (sym at_last ∙ is);
+}
   where
     kept : IsKept trees text
     kept = held.left.left.kept
-
-    moment : kept.row.last ≡ t
-    moment = sym (held.moment ∙ ap last_in kept.is) ∙ number_from last t at_last
 
 pub held_added : (text : List ℕ) (shelf : Shelf) (last : ℕ) (code : List ℕ) (terms : VoucherTerms)
     (t : ℕ) (old new : Trees) → IsHeld text shelf last old → BecomesAdded text code terms t old new

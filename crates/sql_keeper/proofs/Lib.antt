@@ -62,4 +62,5 @@ pub mod TidyChanges
 pub mod TidySweeps
 pub mod Told
 pub mod ToldWithin
+pub mod Transacted
 pub mod Whole

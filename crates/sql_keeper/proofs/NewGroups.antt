@@ -23,10 +23,12 @@ use Rattle.sql_rows.specs.Values.{Kept, Meta}
 use Rattle.sql_rows.specs.Content.{TableRows, TablesContent, with_group_row, with_meta, with_rows}
 use Rattle.sql_rows.specs.Lists.{AreCoveredBeside, HasNoGroups}
 use Rattle.sql_keeper.specs.Content.{Names}
+use Rattle.sql_keeper.specs.Seen.{IsKeptOnce}
 use Rattle.sql_keeper.specs.Tests.{AreNewGroups, AreWritable, IsTested}
 use Rattle.sql_keeper.specs.Writes.{columns_of, with_all_charged, with_change, with_change_put}
 use Rattle.sql_keeper.specs.Writes.{with_kept, with_named, with_new_book, with_new_group}
-use Rattle.sql_keeper.specs.Writes.{with_meta_put, with_new_groups, with_redeemed, with_stored}
+use Rattle.sql_keeper.specs.Writes.{with_changed_rows, with_moment_put, with_new_groups, with_redeemed}
+use Rattle.sql_keeper.specs.Writes.{meta_with, with_stored}
 use Rattle.sql_keeper.proofs.Changed.{AreKeyed, keyed_named, keyed_without, over_stored}
 use Rattle.sql_keeper.proofs.Changed.{stored_over, without_groups}
 use Rattle.sql_keeper.specs.Grants.{is_kept}
@@ -244,7 +246,8 @@ put_is : (names : Names) (new : Bool) (seen : Option SeenAccount) (m : Meta) (ch
     (texts : Option Kept) (c : TablesContent) → IsNamed change.rows
     → IsTested names change (c.rows change.number) new →
     ((x : SessionGroup) → is_kept seen change.number x ≡ true → IsKeptIn (c.rows change.number) x)
-    → with_change_put names new seen false m change texts c ≡ with_change names m change texts c
+    → with_redeemed change.redeemed (with_kept change.number change.kept texts
+    (with_changed_rows names new seen change (with_meta m c))) ≡ with_change names m change texts c
 put_is names new seen m change texts c named t kept =
     ap (λ (d : TablesContent). with_redeemed change.redeemed (with_kept change.number change.kept
     texts
@@ -254,24 +257,32 @@ put_is names new seen m change texts c named t kept =
     (with_stored change.number names change.rows (with_meta m c))
     (stored_beside names m change c named t.made.reservations t.covered))
 
--- what is kept once stands already where it isn't put
-meta_same : (m : Meta) (c : TablesContent) → c.meta ≡ Some m → c ≡ with_meta m c
-meta_same m c is = λ i. record c { meta = is i; kept = count i }
+-- what is kept once is the same at this moment, where its version and its text stand
+moment_same : (m : Meta) (last : ℕ) (c : TablesContent) → c.meta ≡ Some (record m { last = last })
+    → (o : Option Meta) → o ≡ Some m
+    → record c { meta = o } ≡ with_meta m c
+moment_same m last c stood o is = λ i. record c { meta = is i; kept = count i }
   where
     count : c.kept ≡ (if is_some c.meta then c.kept else c.kept + 1)
-    count = ap (λ (o : Option Meta). if is_some o then c.kept else c.kept + 1) (sym is)
+    count = ap (λ (x : Option Meta). if is_some x then c.kept else c.kept + 1) (sym stood)
 
-pub meta_put : (stands : Bool) (m : Meta) (c : TablesContent) → (stands ≡ true → c.meta ≡ Some m)
-    → with_meta_put stands m c ≡ with_meta m c
-meta_put false m c is = refl
-meta_put true m c is = meta_same m c (is refl)
+pub moment_put : (stands : Bool) (m : Meta) (c : TablesContent) → IsKeptOnce stands m c.meta
+    → with_moment_put stands m.last c ≡ with_meta m c
+moment_put false m c it = moment_same m it.last c it.row
+    (option_map (λ (x : Meta). record x { last = m.last }) c.meta)
+    (ap (option_map (λ (x : Meta). record x { last = m.last })) it.row)
+moment_put true m c it = moment_same m it.last c it.row c.meta
+    (it.row ∙ ap (λ t. Some (record m { last = t })) (it.moment refl))
 
-pub put_over : (names : Names) (new : Bool) (seen : Option SeenAccount) (stands : Bool) (m : Meta)
-    (change : Change) (texts : Option Kept) (c : TablesContent) → IsNamed change.rows
+pub put_over : (names : Names) (new : Bool) (seen : Option SeenAccount) (stands : Bool)
+    (text : List ℕ) (change : Change) (texts : Option Kept) (c : TablesContent) →
+    IsNamed change.rows
     → IsTested names change (c.rows change.number) new →
     ((x : SessionGroup) → is_kept seen change.number x ≡ true → IsKeptIn (c.rows change.number) x)
-    → (stands ≡ true → c.meta ≡ Some m)
-    → with_change_put names new seen stands m change texts c ≡ with_change names m change texts c
-put_over names new seen stands m change texts c named t kept is =
-    ap (with_change_put names new seen true m change texts) (meta_put stands m c is)
-    ∙ put_is names new seen m change texts c named t kept
+    → IsKeptOnce stands (meta_with text change) c.meta
+    → with_change_put names new seen stands change texts c
+    ≡ with_change names (meta_with text change) change texts c
+put_over names new seen stands text change texts c named t kept is =
+    ap (with_change_put names new seen true change texts)
+    (moment_put stands (meta_with text change) c is)
+    ∙ put_is names new seen (meta_with text change) change texts c named t kept

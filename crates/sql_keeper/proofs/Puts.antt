@@ -26,7 +26,7 @@ use Rattle.sql_keeper.specs.Additions.{with_addition_put}
 use Rattle.sql_keeper.specs.Commits.{with_money}
 use Rattle.sql_keeper.specs.Content.{Names}
 use Rattle.sql_keeper.specs.Writes.{head_columns_of, meta_at, voucher_row, with_all_charged}
-use Rattle.sql_keeper.specs.Writes.{with_all_counted, with_blocks, with_groups, with_meta_put}
+use Rattle.sql_keeper.specs.Writes.{with_all_counted, with_blocks, with_groups, with_moment_put}
 use Rattle.sql_keeper.proofs.Overlays.{number_from}
 
 pub made_then : (f g : TablesContent → TablesContent) (a b c : State) → Makes f a b → Makes g b c →
@@ -222,16 +222,16 @@ module _ {A B C E : Type 0} (a : List ℕ) (p q r s : State) (x : A) (y : B) (z 
       (makes_all_then money (with_sessions a xs) p q r x (Ok y) one two) three)
 
 -- the moment unless it stands, and a voucher that no account has redeemed
-pub puts_addition : {A B E : Type 0} (stands : Bool) (text code k : List ℕ) (terms : VoucherTerms)
+pub puts_addition : {A B E : Type 0} (stands : Bool) (code k : List ℕ) (terms : VoucherTerms)
     (t : ℕ) (v : VoucherRow) (a b c : State) (x : A) (r : Result B E) → k ≡ code
     → v ≡ voucher_row (unspent terms)
-    → Attempts {A = A} {E = E} (MakesIfOpen (with_meta_put stands (meta_at text t))) a b (Ok x)
+    → Attempts {A = A} {E = E} (MakesIfOpen (with_moment_put stands t)) a b (Ok x)
     → Attempts {A = B} {E = E} (Makes (with_voucher_row k v)) b c r
-    → Attempts {A = B} {E = E} (Makes (with_addition_put stands text code terms t)) a c r
-puts_addition {A} {B} {E} stands text code k terms t v a b c x r same row one two =
+    → Attempts {A = B} {E = E} (Makes (with_addition_put stands code terms t)) a c r
+puts_addition {A} {B} {E} stands code k terms t v a b c x r same row one two =
     subst (λ (f : TablesContent → TablesContent). Attempts {A = B} {E = E} (Makes f) a c r)
-    (λ i d. with_voucher_row (same i) (row i) (with_meta_put stands (meta_at text t) d))
-    (list_makes (with_meta_put stands (meta_at text t)) (with_voucher_row k v) a b c x r one two)
+    (λ i d. with_voucher_row (same i) (row i) (with_moment_put stands t d))
+    (list_makes (with_moment_put stands t) (with_voucher_row k v) a b c x r one two)
 
 -- the charges of the same list
 pub puts_paid : {A E : Type 0} (a : List ℕ) (xs ys : List ChargeRow) → ys ≡ xs

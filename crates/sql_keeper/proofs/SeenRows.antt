@@ -32,7 +32,7 @@ use Rattle.sql_keeper.specs.Grants.{IsGrantIn, IsGrantSeen, grant_with, is_name,
 use Rattle.sql_keeper.specs.LiveRows.{AreLoadedGrants, IsLoadStored}
 use Rattle.sql_keeper.specs.LiveGroups.{Gathers}
 use Rattle.sql_keeper.specs.Seen.{AreSeen, IsJoined, IsKnown, IsSeen, IsSeenOf, IsSeenWith}
-use Rattle.sql_keeper.specs.Seen.{IsStanding, IsUnknown, IsUnknownAlone, Sees, Stands}
+use Rattle.sql_keeper.specs.Seen.{IsKeptOnce, IsStanding, IsUnknown, IsUnknownAlone, Sees, Stands}
 use Rattle.sql_keeper.specs.Seen.{standing_in, standing_of}
 use Rattle.sql_keeper.specs.Writes.{head_columns_of}
 use Rattle.sql_keeper.specs.declared.seen.SeenAccount.{SeenAccount}
@@ -56,10 +56,10 @@ seen_after o old new seen only clean on =
 -- so what is kept once stands after what was only read
 pub stands_after : (told : Bool) (m : Meta) (old new : State) → Stands told m old
     → OnlyReads old new → Stands told m new
-stands_after told m old new stands only is clean on =
+stands_after told m old new stands only clean on =
     let still = only.still clean on in
-    subst (λ (d : Database). (tables_content d.trees).meta ≡ Some m) (sym still.now_is)
-    (stands is (only.cleanness clean) still.was_open)
+    subst (λ (d : Database). IsKeptOnce told m (tables_content d.trees).meta) (sym still.now_is)
+    (stands (only.cleanness clean) still.was_open)
 
 -- what is made of an answer
 pub seen_asked : {A E : Type 0} (told : Trees → A → Type 0) (o p : Option SeenAccount)

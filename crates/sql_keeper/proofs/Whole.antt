@@ -2,10 +2,13 @@
 use Rattle.std.proofs.Common.{◌≡◌, ◌⊎◌, inl, inr, ◌∙◌, ap, sym, subst, IsTrue, Bool, true, false}
 use Rattle.std.proofs.Common.{true≢false, Ok, Err, Result, refl, arith}
 use Rattle.sqlite.specs.Effect.{Database}
-use Rattle.sqlite.specs.State.{State, HasCleanDisk, Survives}
+use Rattle.sqlite.specs.Held.{Held, state}
+use Rattle.sqlite.specs.State.{State, HasCleanDisk, IsLive, Survives}
 use Rattle.sqlite.proofs.StateLemmas.{survives_then, survives_weaker}
 use Rattle.sqlite_trees.specs.Tree.{Trees}
-use Rattle.sql_tables.specs.Statements.{HasIdleBook, IsStill, OnlyReads}
+use Rattle.sqlite_trees.specs.declared.store.Store.{Ghosts}
+use Rattle.sql_tables.specs.Statements.{HasIdleBook, HasRules, IsStill, OnlyReads}
+use Rattle.sql_tables.proofs.Keeps.{fits_of}
 use Rattle.sql_rows.specs.Content.{TablesContent}
 use Rattle.sql_rows.specs.Makes.{Turns}
 use Rattle.sql_keeper.specs.Asks.{IsHanded}
@@ -14,6 +17,14 @@ use Rattle.sql_keeper.specs.Commits.{CommitsWhole, Transacts}
 pub not_shut : (b : Bool) → IsTrue b → b ≡ false → ⊥
 not_shut true on e = true≢false e
 not_shut false on e = absurd (let no : false ≡ true = on in cc)
+
+-- the rows obey their rules where a transaction begins
+pub begun_rules : {S : Type 0} (g : Ghosts S) (old begun : Held S)
+    → begun ≡ record old { in_transaction = true } → HasIdleBook (state g old)
+    → IsLive (state g old) → HasRules (state g begun)
+begun_rules g old begun is idle live =
+    subst (λ h. HasRules (state g h)) (sym is)
+    (λ clean on. fits_of (state g old) on (idle clean on).book live)
 
 -- nothing is done, so a stop leaves what it would have left
 pub survives_self : (s : State) (P : Trees → Type 0) → Survives s s P

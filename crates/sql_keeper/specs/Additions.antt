@@ -16,7 +16,7 @@ use Rattle.sql_rows.specs.Plain.{ArePlain}
 use Rattle.sql_rules.specs.Ruled.{IsInRules}
 use Rattle.sql_keeper.specs.Content.{tables_of, Names}
 use Rattle.sql_keeper.specs.Tidy.{IsTidy}
-use Rattle.sql_keeper.specs.Writes.{meta_at, voucher_row, with_meta_put}
+use Rattle.sql_keeper.specs.Writes.{meta_at, voucher_row, with_moment_put}
 
 -- what is written: the moment, and a voucher that no account has redeemed
 abbrev pub with_addition : BookText → VoucherCode → VoucherTerms → Moment → TablesContent →
@@ -24,11 +24,11 @@ abbrev pub with_addition : BookText → VoucherCode → VoucherTerms → Moment 
 with_addition text code terms t c =
     with_voucher_row code (voucher_row (unspent terms)) (with_meta (meta_at text t) c)
 
--- the same as it is put: what is kept once isn't where it stands so already
-abbrev pub with_addition_put : Bool → BookText → VoucherCode → VoucherTerms → Moment →
-    TablesContent → TablesContent
-with_addition_put stands text code terms t c =
-    with_voucher_row code (voucher_row (unspent terms)) (with_meta_put stands (meta_at text t) c)
+-- the same as it is put: the moment isn't where it stands already
+abbrev pub with_addition_put : Bool → VoucherCode → VoucherTerms → Moment → TablesContent →
+    TablesContent
+with_addition_put stands code terms t c =
+    with_voucher_row code (voucher_row (unspent terms)) (with_moment_put stands t c)
 
 -- the tables hold the voucher; they would be found again: the catalog is the same, and so are the
 -- version and the books, no rowid stands twice, and the moment is in the range of moments

@@ -2,6 +2,7 @@
 -- Source: profile.
 use Rattle.std.specs.Prelude.{◌≡◌, true, false, Bool, Option, Some, None, IsTrue, is_some}
 use Rattle.std.specs.Prelude.{if◌then◌else◌}
+use Rattle.units.specs.Words.{Moment}
 use Rattle.identifiers.specs.Words.{AccountName, SessionName}
 use Rattle.sqlite_trees.specs.Tree.{Trees}
 use Rattle.sqlite_trees.specs.declared.store.Store.{Ghosts}
@@ -112,10 +113,16 @@ Sees (Some x) trees = IsSeen (rows_in trees x.account) x
 abbrev pub AreSeen : Option SeenAccount → State → Type 0
 AreSeen o s = HasCleanDisk s → IsTrue s.is_open → Sees o s.now.trees
 
--- where it is told that what is kept once stands so, it does
+-- what is kept once is there with this version and this text, and where it is told, at this moment
+pub record IsKeptOnce (told : Bool) (m : Meta) (o : Option Meta) : Type 0 where
+  pub last : Moment
+  pub row : o ≡ Some (record m { last = last })
+  pub moment : told ≡ true → last ≡ m.last
+
+-- while the disk returned what was written and the connection is open
 abbrev pub Stands : Bool → Meta → State → Type 0
-Stands told m s = told ≡ true → HasCleanDisk s → IsTrue s.is_open →
-    (tables_content s.now.trees).meta ≡ Some m
+Stands told m s = HasCleanDisk s → IsTrue s.is_open →
+    IsKeptOnce told m (tables_content s.now.trees).meta
 
 -- what a keeper keeps between calls, with what it has seen
 pub record IsSeeing {S : Type 0} (g : Ghosts S) (k : KeeperState S) (o : Option SeenAccount)

@@ -29,7 +29,7 @@ use Rattle.sql_rows.specs.declared.head.HeadColumns.{HeadColumns}
 use Rattle.sql_rows.specs.Values.{Meta, Group, PeriodNames, Kept, VoucherRow}
 use Rattle.sql_rows.specs.Values.{request_kind, reference_kind, plain_bucket, plain_charge}
 use Rattle.sql_rows.specs.Content.{TablesContent, TableRows, with_rows, with_meta, with_account}
-use Rattle.sql_rows.specs.Content.{with_group_row}
+use Rattle.sql_rows.specs.Content.{with_group_row, with_last_moment}
 use Rattle.sql_rows.specs.Content.{without_holds, with_answer, with_voucher_row, with_bucket}
 use Rattle.sql_rows.specs.Content.{has_charge, with_charge_row, with_grant_book, without_grant_book}
 use Rattle.sql_rows.specs.Content.{with_allowance, without_allowance, with_covered, without_covered}
@@ -230,17 +230,17 @@ with_changed_rows names new seen change c =
     with_all_charged change.number change.charges.items
     (with_named change.number names new seen change.rows c)
 
--- what is kept once, as it is put: not where it stands so already
-abbrev pub with_meta_put : Bool → Meta → TablesContent → TablesContent
-with_meta_put true m c = c
-with_meta_put false m c = with_meta m c
+-- the moment, as it is put: not where it stands already
+abbrev pub with_moment_put : Bool → Moment → TablesContent → TablesContent
+with_moment_put true t c = c
+with_moment_put false t c = with_last_moment t c
 
 -- all of a change, as it is put
-abbrev pub with_change_put : Names → Bool → Option SeenAccount → Bool → Meta → Change →
-    Option Kept → TablesContent → TablesContent
-with_change_put names new seen stands m change texts c =
+abbrev pub with_change_put : Names → Bool → Option SeenAccount → Bool → Change → Option Kept →
+    TablesContent → TablesContent
+with_change_put names new seen stands change texts c =
     with_redeemed change.redeemed (with_kept change.number change.kept texts
-    (with_changed_rows names new seen change (with_meta_put stands m c)))
+    (with_changed_rows names new seen change (with_moment_put stands change.moment c)))
 
 -- all of a change
 abbrev pub with_change : Names → Meta → Change → Option Kept → TablesContent → TablesContent

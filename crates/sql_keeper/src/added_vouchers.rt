@@ -3,7 +3,7 @@
 ghost use Rattle.std.specs.Prelude.{◌≡◌, false};
 ghost use Rattle.keepers.specs.Change.{with_voucher};
 ghost use Rattle.sql_rows.specs.Makes.{Makes};
-ghost use Rattle.sql_tables.specs.Statements.{Attempts, HasBook, HasIdleBook, IsInside};
+ghost use Rattle.sql_tables.specs.Statements.{Attempts, HasBook, HasIdleBook, HasRules, IsInside};
 ghost use Rattle.sql_keeper.specs.Additions.{BecomesAdded, with_addition_put};
 ghost use Rattle.sql_keeper.specs.Commits.{CommitsStanding, CommitsWhole, Transacts};
 ghost use Rattle.sql_keeper.specs.Seen.{Stands};
@@ -29,7 +29,6 @@ use voucher_rules::VoucherTerms;
 /// Puts the moment unless it stands already, and a voucher that no account has redeemed.
 fn put_addition<S: Alter>(
     tx: &mut Transaction<'_, S>,
-    text: &str,
     stands: bool,
     code: &VoucherCode,
     terms: VoucherTerms,
@@ -37,11 +36,12 @@ fn put_addition<S: Alter>(
 ) -> Result<usize, Error>
     requires open { IsInside (state S.Store tx.old.conn.now) }
     requires book { HasBook (state S.Store tx.old.conn.now) }
+    requires rules { HasRules (state S.Store tx.old.conn.now) }
     ensures same_reference { tx.new.conn.ghost_name ≡ tx.old.conn.ghost_name }
-    ensures makes { Attempts (Makes (with_addition_put stands text.now code.now terms moment))
+    ensures makes { Attempts (Makes (with_addition_put stands code.now terms moment))
         (state S.Store tx.old.conn.now) (state S.Store tx.new.conn.now) result }
 {
-    put_moment(tx, text, moment, stands)?;
+    put_moment(tx, moment, stands)?;
     let code = code.as_str();
     put_voucher(tx, code, terms.amount(), terms.days(), terms.scope(), None)
 }
@@ -49,7 +49,6 @@ fn put_addition<S: Alter>(
 /// Writes a voucher in one transaction.
 fn write_addition<S: Alter>(
     conn: &mut Connection<S>,
-    text: &str,
     stands: bool,
     code: &VoucherCode,
     terms: VoucherTerms,
@@ -58,11 +57,13 @@ fn write_addition<S: Alter>(
     requires plain { conn.old.in_transaction ≡ false }
     requires idle { HasIdleBook (state S.Store conn.old) }
     ensures plain { conn.new.in_transaction ≡ false }
-    ensures transacts { Transacts (with_addition_put stands text.now code.now terms moment)
+    ensures transacts { Transacts (with_addition_put stands code.now terms moment)
         (state S.Store conn.old) (state S.Store conn.new) result }
 {
+    // For the prover alone: looking at the value makes known here what its type keeps.
+    let _ours = conn.schema();
     let mut tx = conn.transaction();
-    put_addition(&mut tx, text, stands, code, terms, moment)?;
+    put_addition(&mut tx, stands, code, terms, moment)?;
     tx.commit()
 }
 
@@ -88,7 +89,7 @@ fn make_addition<S: Alter>(
     if !is_ruled_addition(code, terms, moment) {
         return Err(ReadFault::Rules);
     }
-    write_addition(conn, text, stands, code, terms, moment)?;
+    write_addition(conn, stands, code, terms, moment)?;
     Ok(())
 }
 

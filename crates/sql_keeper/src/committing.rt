@@ -28,14 +28,12 @@ use sql_tables::ReadFault;
 use sqlite::{Alter, Connection, Error};
 use std::alloc::Global;
 
-/// Writes a change in one transaction; its moment with the text of the book, unless both stand
-/// already.
+/// Writes a change in one transaction; its moment unless it stands already.
 fn write_change<S: Alter>(
     conn: &mut Connection<S>,
     books: &TariffShelf,
     are_new: bool,
     seen: &Option<SeenAccount>,
-    text: &str,
     stands: bool,
     change: &Change,
     texts: &Option<KeptTexts>,
@@ -44,11 +42,13 @@ fn write_change<S: Alter>(
     requires idle { HasIdleBook (state S.Store conn.old) }
     ensures plain { conn.new.in_transaction ≡ false }
     ensures transacts { Transacts (with_change_put (shelf_names books.now) are_new seen.now
-        stands (meta_with text.now change.now) change.now (option_map kept_of texts.now))
+        stands change.now (option_map kept_of texts.now))
         (state S.Store conn.old) (state S.Store conn.new) result }
 {
+    // For the prover alone: looking at the value makes known here what its type keeps.
+    let _ours = conn.schema();
     let mut tx = conn.transaction();
-    put_change(&mut tx, books, are_new, seen, text, stands, change, texts)?;
+    put_change(&mut tx, books, are_new, seen, stands, change, texts)?;
     tx.commit()
 }
 
@@ -77,7 +77,7 @@ fn make_change<S: Alter>(
     let _moment = change.moment.seconds();
     let are_new = test_change(conn, alloc, books, seen, change)?;
     let texts = kept_texts(alloc, &change.number, &change.kept)?;
-    write_change(conn, books, are_new, seen, text, stands, change, &texts)?;
+    write_change(conn, books, are_new, seen, stands, change, &texts)?;
     Ok(())
 }
 

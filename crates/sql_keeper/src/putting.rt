@@ -2,13 +2,13 @@
 
 ghost use Rattle.std.specs.Prelude.{◌≡◌, option_map};
 ghost use Rattle.keepers.specs.Keys.{key_of};
-ghost use Rattle.sql_tables.specs.Statements.{Attempts, HasBook, IsInside};
+ghost use Rattle.sql_tables.specs.Statements.{Attempts, HasBook, HasRules, IsInside};
 ghost use Rattle.sql_rows.specs.Makes.{Makes, MakesIfOpen};
 ghost use Rattle.sql_rows.specs.Texts.{kept_of};
 ghost use Rattle.sql_keeper.specs.Content.{shelf_names};
 ghost use Rattle.sql_keeper.specs.Commits.{with_money};
-ghost use Rattle.sql_keeper.specs.Writes.{head_columns_of, meta_with, with_change_put, with_kept};
-ghost use Rattle.sql_keeper.specs.Writes.{meta_at, with_changed_rows, with_meta_put, with_named};
+ghost use Rattle.sql_keeper.specs.Writes.{head_columns_of, with_change_put, with_kept};
+ghost use Rattle.sql_keeper.specs.Writes.{with_changed_rows, with_moment_put, with_named};
 ghost use Rattle.sql_keeper.specs.Writes.{with_texts};
 ghost use Rattle.sqlite.specs.Held.{state};
 
@@ -23,9 +23,8 @@ use keepers::{Change, KeptAnswer, NamedRows};
 use reserving::StoredAccount;
 use shelves::TariffShelf;
 use sql_rows::{
-    HeadColumns, KeptTexts, put_account, put_answer, put_counters, put_meta, put_sessions,
+    HeadColumns, KeptTexts, put_account, put_answer, put_counters, put_last_moment, put_sessions,
 };
-use sql_tables::LATEST;
 use sqlite::{Alter, Error, Transaction};
 use units::Moment;
 
@@ -169,24 +168,25 @@ fn put_rows<S: Alter>(
     put_paid(tx, &change.number, &change.charges)
 }
 
-/// Puts the moment of the last accepted command, with what else is kept once. Where it stands there
-/// already nothing is written, so that the text of the book isn't written again either.
+/// Puts the moment of the last accepted command, where what is kept once is there. Where it stands
+/// there already nothing is written, so that the engine doesn't write the row again either, which
+/// has the text of the book.
 pub(crate) fn put_moment<S: Alter>(
     tx: &mut Transaction<'_, S>,
-    text: &str,
     moment: Moment,
     stands: bool,
 ) -> Result<(), Error>
     requires open { IsInside (state S.Store tx.old.conn.now) }
     requires book { HasBook (state S.Store tx.old.conn.now) }
+    requires rules { HasRules (state S.Store tx.old.conn.now) }
     ensures same_reference { tx.new.conn.ghost_name ≡ tx.old.conn.ghost_name }
-    ensures makes { Attempts (MakesIfOpen (with_meta_put stands (meta_at text.now moment)))
+    ensures makes { Attempts (MakesIfOpen (with_moment_put stands moment))
         (state S.Store tx.old.conn.now) (state S.Store tx.new.conn.now) result }
 {
     if stands {
         return Ok(());
     }
-    put_meta(tx, LATEST, text, moment)?;
+    put_last_moment(tx, moment)?;
     Ok(())
 }
 
@@ -198,19 +198,19 @@ pub(crate) fn put_change<S: Alter>(
     books: &TariffShelf,
     are_new: bool,
     seen: &Option<SeenAccount>,
-    text: &str,
     stands: bool,
     change: &Change,
     texts: &Option<KeptTexts>,
 ) -> Result<(), Error>
     requires open { IsInside (state S.Store tx.old.conn.now) }
     requires book { HasBook (state S.Store tx.old.conn.now) }
+    requires rules { HasRules (state S.Store tx.old.conn.now) }
     ensures same_reference { tx.new.conn.ghost_name ≡ tx.old.conn.ghost_name }
     ensures makes { Attempts (Makes (with_change_put (shelf_names books.now) are_new seen.now
-        stands (meta_with text.now change.now) change.now (option_map kept_of texts.now)))
+        stands change.now (option_map kept_of texts.now)))
         (state S.Store tx.old.conn.now) (state S.Store tx.new.conn.now) result }
 {
-    put_moment(tx, text, change.moment, stands)?;
+    put_moment(tx, change.moment, stands)?;
     put_rows(tx, books, are_new, seen, change)?;
     put_kept(tx, &change.number, &change.kept, texts)?;
     put_redeemed(tx, &change.redeemed)

@@ -2,7 +2,7 @@ use Rattle.std.proofs.Common.{option_map, Ok}
 use Rattle.std.proofs.lemmas.Result.{err_from_is_err_and}
 use Rattle.sql_rows.specs.Texts.{kept_of}
 use Rattle.sql_keeper.specs.Content.{shelf_names}
-use Rattle.sql_keeper.specs.Writes.{meta_with, with_changed_rows, with_kept, with_meta_put}
+use Rattle.sql_keeper.specs.Writes.{with_changed_rows, with_kept, with_moment_put}
 use Rattle.sql_keeper.specs.Writes.{with_redeemed}
 use Rattle.sql_keeper.proofs.Puts.{list_failed, list_makes, makes_all_then, makes_failed}
 use Rattle.sql_keeper.proofs.putting.put_change.Goals as goal
@@ -10,7 +10,7 @@ use Rattle.sql_keeper.proofs.putting.put_change.Goals as goal
 pub returns-clause-makes : goal.returns-clause-makes
 returns-clause-makes g c =
     let change = c.args.change.now in
-    let opened = with_meta_put c.args.stands (meta_with c.args.text.now change) in
+    let opened = with_moment_put c.args.stands change.moment in
     let rows = with_changed_rows (shelf_names c.args.books.now) c.args.are_new c.args.seen.now
     change in
     let kept = with_kept change.number change.kept (option_map kept_of c.args.texts.now) in

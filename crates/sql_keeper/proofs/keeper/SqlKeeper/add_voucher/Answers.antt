@@ -1,4 +1,4 @@
-use Rattle.std.proofs.Common.{◌∙◌, refl, sym}
+use Rattle.std.proofs.Common.{refl}
 use Rattle.sql_keeper.specs.Additions.{BecomesAdded}
 use Rattle.sql_keeper.specs.Content.{shelf_names}
 use Rattle.sql_keeper.proofs.Held.{held_added, held_stands}
@@ -8,9 +8,9 @@ use Rattle.sql_keeper.proofs.Whole.{handed_on}
 use Rattle.sql_keeper.proofs.keeper.SqlKeeper.add_voucher.Goals as goal
 
 pub ask_to_add-made-requires-clause-stands : goal.ask_to_add-made-requires-clause-stands
-ask_to_add-made-requires-clause-stands g c = λ is clean on.
-    held_stands _ c.self.inside.shelf _ _ c.args.moment _ c.as_str-text.ensures.value
-    (sym c.is_last-stands.ensures ∙ is) (c.self.invariant.keeper.held clean on)
+ask_to_add-made-requires-clause-stands g c = λ clean on.
+    held_stands _ c.self.inside.shelf _ _ c.args.moment _ _ c.as_str-text.ensures.value
+    c.is_last-stands.ensures (c.self.invariant.keeper.held clean on)
 
 pub invariant_of-self : goal.invariant_of-self
 invariant_of-self g c = record {

@@ -1,4 +1,4 @@
-use Rattle.std.proofs.Common.{◌∙◌, refl, sym}
+use Rattle.std.proofs.Common.{refl}
 use Rattle.sql_keeper.specs.Content.{shelf_names}
 use Rattle.sql_keeper.specs.Commits.{Becomes}
 use Rattle.sql_keeper.proofs.Held.{held_committed, held_stands}
@@ -8,9 +8,9 @@ use Rattle.sql_keeper.proofs.Whole.{handed_on}
 use Rattle.sql_keeper.proofs.keeper.SqlKeeper.commit.Goals as goal
 
 pub ask_to_change-made-requires-clause-stands : goal.ask_to_change-made-requires-clause-stands
-ask_to_change-made-requires-clause-stands g c = λ is clean on.
-    held_stands _ c.self.inside.shelf _ _ c.args.change.moment _ c.as_str-text.ensures.value
-    (sym c.is_last-stands.ensures ∙ is) (c.self.invariant.keeper.held clean on)
+ask_to_change-made-requires-clause-stands g c = λ clean on.
+    held_stands _ c.self.inside.shelf _ _ c.args.change.moment _ _ c.as_str-text.ensures.value
+    c.is_last-stands.ensures (c.self.invariant.keeper.held clean on)
 
 pub invariant_of-self : goal.invariant_of-self
 invariant_of-self g c = record {
