@@ -14,6 +14,7 @@ use Rattle.ledger.specs.declared.charge.ChargeRow.{ChargeRow}
 use Rattle.reserving.specs.declared.session.Session.{Session}
 use Rattle.reserving.specs.declared.session.SessionGroup.{SessionGroup}
 use Rattle.reserving.specs.declared.session.Reservation.{Reservation}
+use Rattle.ledger.proofs.Holds.{same_itself}
 use Rattle.ledger.specs.declared.terms.Terms.{Terms}
 use Rattle.reserving.specs.Sessions.{session_in, is_session, is_of, is_open, group_in, holds_in}
 use Rattle.ledger.specs.Lists.{EachIn}
@@ -27,6 +28,7 @@ use Rattle.keepers.specs.declared.key.Key.{Key}
 use Rattle.keepers.specs.declared.key.Key.TheVariants.{Request, Reference}
 use Rattle.keepers.specs.declared.key.KeptAnswer.{KeptAnswer}
 use Rattle.keepers.specs.declared.loaded.Change.{Change}
+use Rattle.keepers.specs.declared.loaded.Redeemed.{Redeemed}
 use Rattle.keepers.specs.Keys.{same_key, key_of}
 use Rattle.keepers.specs.Tables.{GroupRow, group_row, charge_in}
 use Rattle.keepers.specs.Tables as tables
@@ -371,6 +373,32 @@ kept_rows names None t r = refl
 kept_rows names (Some k) None r = refl
 kept_rows names (Some k) (Some t) r = texts_rows names (key_of k.content) t r
 
+-- how reservations are stored
+pub record GrantRows : Type 0 where
+  pub books : List ℕ → ℕ → Option ℕ
+  pub holds : List ℕ → ℕ → ℕ → Option ℕ
+
+abbrev pub grant_rows : TableRows → GrantRows
+grant_rows r = record { books = r.grant_books; holds = r.holds }
+
+texts_grants : (key : Key) (t : Kept) (r : TableRows) →
+    grant_rows (put_texts key t r) ≡ grant_rows r
+unfolding put_texts
+texts_grants (Request s n) t r = refl
+texts_grants (Reference x) t r = refl
+
+kept_grants : (kept : Option KeptAnswer) (t : Option Kept) (r : TableRows) →
+    grant_rows (put_kept kept t r) ≡ grant_rows r
+unfolding put_kept
+kept_grants None t r = refl
+kept_grants (Some k) None r = refl
+kept_grants (Some k) (Some t) r = texts_grants (key_of k.content) t r
+
+redeemed_rows : (redeemed : Option Redeemed) (c : TablesContent) →
+    (with_redeemed redeemed c).rows ≡ c.rows
+redeemed_rows None c = refl
+redeemed_rows (Some x) c = refl
+
 texts_charges : (n : ℕ) (key : Key) (t : Kept) (r : TableRows) →
     charge_of n (put_texts key t r) ≡ charge_of n r
 unfolding put_texts
@@ -440,6 +468,19 @@ module _ (names : Names) (m : Meta) (change : Change) (texts : Option Kept) (c :
       (over_stored names change.rows) (with_meta m c))
       ∙ kept_over change.number change.kept texts
       (λ r. over_paid change.charges.items (over_stored names change.rows r)) (with_meta m c))
+
+  -- how reservations of the account are stored: those that are named as they are, others as before
+  pub grants_after : grant_rows ((with_change names m change texts c).rows change.number)
+      ≡ grant_rows (over_groups names change.rows.groups (c.rows change.number))
+  unfolding row_after
+  grants_after =
+      ap (λ (x : TablesContent). grant_rows (x.rows change.number)) content_after
+      ∙ ap (λ (rows : List ℕ → TableRows). grant_rows (rows change.number))
+      (redeemed_rows change.redeemed (opened change.number row_after (with_meta m c)))
+      ∙ ap (λ t. grant_rows (if t then row_after (c.rows change.number)
+      else c.rows change.number)) (same_itself change.number)
+      ∙ kept_grants change.kept texts
+      (over_paid change.charges.items (over_stored names change.rows (c.rows change.number)))
 
   module _ (last : m.last ≡ change.moment) where
     rows_at : (x : List ℕ) (t : Bool) → same_name change.number x ≡ t

@@ -30,6 +30,7 @@ use Rattle.sql_rows.specs.Makes.{Turns}
 use Rattle.sql_rules.specs.Ruled.{IsInRules}
 use Rattle.sql_keeper.specs.Content.{tables_of, Names}
 use Rattle.sql_keeper.specs.Commits.{Becomes}
+use Rattle.sql_keeper.specs.KeptRows.{AreGrantsOver, BecomesOver}
 use Rattle.sql_keeper.specs.RuledRows.{are_ruled_texts, is_ruled_change}
 use Rattle.sql_keeper.specs.Seen.{AreSeen, IsKeptOnce, Sees, Stands}
 use Rattle.sql_keeper.specs.Tests.{AreWritable, IsTested, MayBeMade}
@@ -42,6 +43,7 @@ use Rattle.sql_keeper.proofs.TidyChanges.{tidy_change}
 use Rattle.sql_keeper.proofs.Changed.{changes_read}
 use Rattle.sql_keeper.specs.declared.seen.SeenAccount.{SeenAccount}
 use Rattle.sql_keeper.proofs.KeptGroups.{sees_kept}
+use Rattle.sql_keeper.proofs.GrantsWritten.{grants_written}
 use Rattle.sql_keeper.proofs.NewGroups.{put_over}
 use Rattle.sql_keeper.proofs.RuledRows.{change_kept}
 
@@ -153,6 +155,18 @@ module _ (names : Names) (text : List ℕ) (change : Change) (texts : Option Kep
     stored = turns.stored;
   }
 
+  -- and reservations are stored so
+  become_over : (old new : Trees) → MayBeMade names change (rows_in old change.number)
+      → Turns (with_change names (meta_with text change) change texts) old new
+      → BecomesOver names text change old new
+  become_over old new may turns = record {
+    becomes = become old new may turns;
+    grants = subst (λ (c : TablesContent). AreGrantsOver change.rows.groups
+        (rows_in old change.number) (c.rows change.number)) (sym turns.content)
+        (grants_written names (meta_with text change) change texts (tables_content old) named may
+        told);
+  }
+
   -- the groups that are new are put without a removal, and so is what stays
   turned : (new : Bool) (seen : Option SeenAccount) (stands : Bool) (old db : Trees) →
       IsTested names change (rows_in old change.number) new → Sees seen old →
@@ -175,10 +189,10 @@ module _ (names : Names) (text : List ℕ) (change : Change) (texts : Option Kep
       → Stands stands (meta_with text change) old
       → HasCleanDisk mid → IsTrue mid.is_open → (db : Trees)
       → Turns (with_change_put names new seen stands change texts) mid.now.trees db
-      → Becomes names text change old.now.trees db
+      → BecomesOver names text change old.now.trees db
   become_at new seen stands old mid only may sees there clean on db turns =
       let was : IsTrue old.is_open = (only.still clean on).was_open in
-      become old.now.trees db (may clean on).made
+      become_over old.now.trees db (may clean on).made
       (turned new seen stands old.now.trees db (may clean on) (sees (only.cleanness clean) was)
       (there (only.cleanness clean) was)
       (subst (λ (d : Database).

@@ -17,6 +17,7 @@ pub mod Dated
 pub mod DeadRows
 pub mod Empty
 pub mod Granted
+pub mod GrantsWritten
 pub mod GroupRows
 pub mod Groups
 pub mod HandedOn
@@ -25,6 +26,7 @@ pub mod HeldAlong
 pub mod HoldRuns
 pub mod InTurn
 pub mod KeptGroups
+pub mod KeptRows
 pub mod LiveGroups
 pub mod LiveRows
 pub mod LoadedAlone
@@ -45,6 +47,7 @@ pub mod Puts
 pub mod Redeemed
 pub mod Reopening
 pub mod Repeating
+pub mod RowsOver
 pub mod RuledOpening
 pub mod RuledRows
 pub mod SeenRows

@@ -124,7 +124,7 @@ pub load_made : {E : Type 0} (names : Names) (shelf : Shelf) (t : ℕ) (a : List
     → IfOk r (IsLoadOf shelf a o) → IsLiveAccount names shelf t rows o
     → IfOk r (IsLoadStored names shelf t a rows)
 load_made names shelf t a rows None (Ok None) made live =
-    record { load = ap (option_map head_in) live; grants = tt }
+    record { load = ap (option_map head_in) live; rows = tt }
 load_made names shelf t a rows None (Ok (Some l)) made live = absurd made
 load_made names shelf t a rows (Some w) (Ok None) made live = absurd made
 load_made names shelf t a rows (Some w) (Ok (Some l)) (number, account, before) live = record {
@@ -134,8 +134,8 @@ load_made names shelf t a rows (Some w) (Ok (Some l)) (number, account, before) 
         (live_loaded names shelf t rows w live.0),
     before ∙ ap stored (sym account),
   );
-  grants = λ s g x v e f.
-      live.1 s g x v (ap (λ (y : StoredRows). group_in s g y.groups) (sym before) ∙ e) f;
+  rows = subst (λ (v : StoredRows). AreLiveRows names rows v.buckets v.sessions v.groups)
+      (sym before) (record { told = live.0.1; grants = live.1 });
 }
 load_made names shelf t a rows o (Err e) made live = tt
 

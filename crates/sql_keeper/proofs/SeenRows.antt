@@ -29,8 +29,8 @@ use Rattle.sql_rows.specs.Values.{Meta}
 use Rattle.sql_keeper.specs.Asks.{Asks}
 use Rattle.sql_keeper.specs.Content.{Names, head_in}
 use Rattle.sql_keeper.specs.Grants.{IsGrantIn, IsGrantSeen, grant_with, is_name, only_bucket}
-use Rattle.sql_keeper.specs.LiveRows.{AreLoadedGrants, IsLoadStored}
-use Rattle.sql_keeper.specs.LiveGroups.{Gathers}
+use Rattle.sql_keeper.specs.LiveRows.{IsLoadStored}
+use Rattle.sql_keeper.specs.LiveGroups.{AreGrantsStored, Gathers}
 use Rattle.sql_keeper.specs.Seen.{AreSeen, IsJoined, IsKnown, IsSeen, IsSeenOf, IsSeenWith}
 use Rattle.sql_keeper.specs.Seen.{IsKeptOnce, IsStanding, IsUnknown, IsUnknownAlone, Sees, Stands}
 use Rattle.sql_keeper.specs.Seen.{standing_in, standing_of}
@@ -203,7 +203,7 @@ one_held n b (h ∷ []) e apart = none_at n (h ∷ []) (at (nat_eq h.bucket n) r
     at false k = k
 
 grant_stored : (r : TableRows) (l : Loaded) (s : List ℕ) (y : SeenGrant)
-    → AreLoadedGrants r (Some l) → IsGrantIn l.before.groups s y → IsGrantSeen r s y
+    → AreGrantsStored r l.before.groups → IsGrantIn l.before.groups s y → IsGrantSeen r s y
 grant_stored r l s y grants there =
     let told = told_grant y.group there.row.reservation y there.grant in
     let is = grants s y.group there.row told.reservation there.found told.is in
@@ -228,7 +228,8 @@ load_seen names shelf t a trees l (Some x) h stored =
           (ap is_open_row (sym (from.sessions s))
           ∙ ap (λ (w : StoredRows). is_open_row (session_in s w.sessions)) (sym before)
           ∙ h.live s e);
-      grant = λ s y e f. grant_stored (rows_in trees a) l s y stored.grants (h.grant s y e f);
+      grant = λ s y e f. grant_stored (rows_in trees a) l s y stored.rows.grants
+          (h.grant s y e f);
       unknown = λ s e. absurd (no_some s (sym h.unknown ∙ e));
     })
 

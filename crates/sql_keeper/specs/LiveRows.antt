@@ -130,13 +130,14 @@ IsAccountOf (Ok o) (Err f) = ⊥
 IsAccountOf (Err e) (Ok o) = ⊥
 IsAccountOf (Err e) (Err f) = f ≡ e
 
--- what is loaded, and how the reservations of it are stored
-abbrev pub AreLoadedGrants : TableRows → Option Loaded → Type 0
-AreLoadedGrants r None = Unit {0}
-AreLoadedGrants r (Some l) = AreGrantsStored r l.before.groups
+-- what is loaded is all that may still change of the tables' rows
+abbrev pub AreLoadedRows : Names → TableRows → Option Loaded → Type 0
+AreLoadedRows names r None = Unit {0}
+AreLoadedRows names r (Some l) =
+    AreLiveRows names r l.before.buckets l.before.sessions l.before.groups
 
 pub record IsLoadStored (names : Names) (shelf : Shelf) (t : Moment) (a : AccountName)
     (r : TableRows)
     (o : Option Loaded) : Type 0 where
   pub load : IsLoad shelf t a (told_rows names r) o
-  pub grants : AreLoadedGrants r o
+  pub rows : AreLoadedRows names r o

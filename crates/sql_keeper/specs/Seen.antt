@@ -17,8 +17,10 @@ use Rattle.sql_rows.specs.Lists.{HasNoGroups}
 use Rattle.sql_rows.specs.Values.{Meta}
 use Rattle.sql_rows.specs.declared.head.HeadColumns.{HeadColumns}
 use Rattle.sql_keeper.specs.Grants.{IsGrantIn, IsGrantSeen, is_name}
-use Rattle.sql_keeper.specs.Inside.{IsKeeper, KeeperState}
+use Rattle.sql_keeper.specs.Inside.{IsKeeper, KeeperState, names_in}
+use Rattle.sql_keeper.specs.KeptRows.{AreKept}
 use Rattle.sql_keeper.specs.Writes.{head_columns_of}
+use Rattle.sql_keeper.specs.declared.kept_rows.KeptRows.{KeptRows}
 use Rattle.sql_keeper.specs.declared.seen.SeenAccount.{SeenAccount}
 use Rattle.sql_keeper.specs.declared.seen.SeenGrant.{SeenGrant}
 use Rattle.sql_keeper.specs.declared.seen.Standing.{Standing}
@@ -124,8 +126,9 @@ abbrev pub Stands : Bool → Meta → State → Type 0
 Stands told m s = HasCleanDisk s → IsTrue s.is_open →
     IsKeptOnce told m (tables_content s.now.trees).meta
 
--- what a keeper keeps between calls, with what it has seen
+-- what a keeper keeps between calls, with what it has seen, and the rows that it keeps
 pub record IsSeeing {S : Type 0} (g : Ghosts S) (k : KeeperState S) (o : Option SeenAccount)
-    : Type 0 where
+    (p : Option KeptRows) : Type 0 where
   pub keeper : IsKeeper g k
   pub seen : AreSeen o (state g k.connection)
+  pub kept : AreKept (names_in k) p (state g k.connection)

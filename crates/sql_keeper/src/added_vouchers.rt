@@ -134,6 +134,7 @@ impl<S: Alter> SqlKeeper<S> {
         let stands = is_last(self.last, moment);
         let made = ask_to_add(&mut self.connection, text, stands, &code, terms, moment);
         self.seen = None;
+        self.kept = None;
         self.last = last_after(&made, self.last, moment);
         counted(&mut self.failures, made)
     }

@@ -264,6 +264,7 @@ impl<S: Alter> SqlKeeper<S> {
         let (own, last) = (&mut self.shelf, self.last);
         let added = add_to_all(&mut self.connection, shelf, own, from, last, text, books);
         self.seen = None;
+        self.kept = None;
         told(counted(&mut self.failures, added))
     }
 }

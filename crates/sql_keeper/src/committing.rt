@@ -5,8 +5,9 @@ ghost use Rattle.keepers.specs.Change.{changed};
 ghost use Rattle.sql_rows.specs.Texts.{kept_of};
 ghost use Rattle.sql_tables.specs.Statements.{HasIdleBook};
 ghost use Rattle.sql_keeper.specs.Content.{shelf_names};
-ghost use Rattle.sql_keeper.specs.Commits.{Becomes, CommitsChange, CommitsStanding, Transacts};
+ghost use Rattle.sql_keeper.specs.Commits.{Becomes, CommitsStanding, CommitsWhole, Transacts};
 ghost use Rattle.sql_keeper.specs.Inside.{names_in};
+ghost use Rattle.sql_keeper.specs.KeptRows.{BecomesOver};
 ghost use Rattle.sql_keeper.specs.Seen.{AreSeen, Stands};
 ghost use Rattle.sql_keeper.specs.Stops.{trees_in};
 ghost use Rattle.sql_keeper.specs.Writes.{meta_with, with_change_put};
@@ -15,6 +16,7 @@ ghost use Rattle.sql_keeper.specs.Calls.{StoresChange};
 
 use crate::faults::counted;
 use crate::keeper::SqlKeeper;
+use crate::kept_rows::kept_over;
 use crate::last_moment::{is_last, last_after};
 use crate::putting::put_change;
 use crate::seen::SeenAccount;
@@ -69,7 +71,7 @@ fn make_change<S: Alter>(
     requires seen { AreSeen seen.now (state S.Store conn.old) }
     requires stands { Stands stands (meta_with text.now change.now) (state S.Store conn.old) }
     ensures plain { conn.new.in_transaction ≡ false }
-    ensures commits { CommitsChange (shelf_names books.now) text.now change.now
+    ensures commits { CommitsWhole (BecomesOver (shelf_names books.now) text.now change.now)
         (state S.Store conn.old) (state S.Store conn.new) result }
 {
     // For the prover alone: looking at the value makes known here what its type keeps.
@@ -96,7 +98,7 @@ fn ask_to_change<S: Alter>(
     requires seen { AreSeen seen.now (state S.Store conn.old) }
     requires stands { Stands stands (meta_with text.now change.now) (state S.Store conn.old) }
     ensures plain { conn.new.in_transaction ≡ false }
-    ensures commits { CommitsStanding (Becomes (shelf_names books.now) text.now change.now)
+    ensures commits { CommitsStanding (BecomesOver (shelf_names books.now) text.now change.now)
         (state S.Store conn.old) (state S.Store conn.new) result }
 {
     still_open(conn)?;
@@ -129,6 +131,8 @@ impl<S: Alter> SqlKeeper<S> {
             &change,
         );
         self.seen = None;
+        let kept = self.kept.take();
+        self.kept = kept_over(self.alloc, kept, &made, &change);
         self.last = last_after(&made, self.last, change.moment);
         counted(&mut self.failures, made)
     }

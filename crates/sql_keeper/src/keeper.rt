@@ -3,6 +3,7 @@
 ghost use Rattle.std.specs.Prelude.{◌≡◌};
 ghost use Rattle.sql_keeper.specs.Inside.{IsKeeper, failed_in};
 
+use crate::kept_rows::KeptRows;
 use crate::seen::SeenAccount;
 use shelves::TariffShelf;
 use sqlite::{Alter, Connection};
@@ -13,7 +14,9 @@ use units::Moment;
 /// A keeper over a database. Between calls no transaction is open, so what it holds is what was
 /// committed last. It knows the text of its first book, its books and the moment of the last
 /// accepted command as the database keeps them, so that an open finds the same again. What it read
-/// last of an account it knows until it writes, so that a commit needn't read it once more.
+/// last of an account it knows until it writes, so that a commit needn't read it once more. The rows
+/// of one account that may still change it keeps as it read or wrote them last, so that a load of
+/// that account needn't read them once more.
 ///
 /// Its store is clean while the disk returns what was written; where the disk failed a call, it is
 /// clean as long as the connection is open still. Nothing but a failure of the disk shuts it.
@@ -24,6 +27,7 @@ pub struct SqlKeeper<S: Alter> {
     pub(crate) last: Moment,
     pub(crate) failures: u64,
     pub(crate) seen: Option<SeenAccount>,
+    pub(crate) kept: Option<KeptRows>,
     pub(crate) alloc: Global,
 }
 
@@ -50,7 +54,7 @@ impl<S: Alter> Model for SqlKeeper<S> {
       text = string_bytes k.text;
       last = k.last;
       failures = k.failures;
-    }) k.seen };
+    }) k.seen k.kept };
 }
 
 // It is written out, so that a caller doesn't prove again how each part is dropped.
@@ -63,6 +67,7 @@ impl<S: Alter + Drop> Drop for SqlKeeper<S> {
             last: _,
             failures: _,
             seen: _,
+            kept: _,
             alloc: _,
         } = self;
     }
@@ -90,6 +95,7 @@ impl<S: Alter> SqlKeeper<S> {
             last: _,
             failures: _,
             seen: _,
+            kept: _,
             alloc: _,
         } = self;
         connection

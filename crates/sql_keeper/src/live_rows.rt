@@ -3,6 +3,7 @@
 ghost use Rattle.std.specs.Prelude.{◌≡◌, ℕ, ◌++◌, filter, IfOk};
 ghost use Rattle.calendar.specs.contracts.cycle.CyclePartialEq.TheImpl.{ghosts as cycles};
 ghost use Rattle.sql_keeper.specs.Content.{Names, shelf_names};
+ghost use Rattle.sql_keeper.specs.KeptRows.{AreKept, AreOf};
 ghost use Rattle.sql_keeper.specs.LiveGroups.{Gathers};
 ghost use Rattle.sql_keeper.specs.Repeating.{AreEachCycle, AreRepeating, IsFirst, repeats_in};
 ghost use Rattle.sql_keeper.specs.Repeating.{has_repeating, may_repeat};
@@ -15,6 +16,7 @@ ghost use Rattle.sqlite.specs.Held.{state};
 ghost use Rattle.shelves.specs.Shelves.{Shelf, book_at};
 
 use crate::counted_buckets::read_counted;
+use crate::kept_rows::{KeptRows, copy_of_kept};
 use crate::live_groups::{OpenSessions, read_open_sessions};
 use buckets::{Bucket, Purse};
 use calendar::Cycle;
@@ -275,16 +277,38 @@ fn read_live_rows<S: Alter>(
     })
 }
 
+/// What may still change of an account, whatever the moment: a copy of what is kept of it, or it is
+/// read.
+fn live_rows_of<S: Alter>(
+    conn: &mut Connection<S>,
+    alloc: Global,
+    account: &AccountNumber,
+    names: &TariffShelf,
+    kept: &Option<KeptRows>,
+) -> Result<LiveRows, ReadFault>
+    requires idle { HasIdleBook (state S.Store conn.old) }
+    requires kept { AreKept (shelf_names names.now) kept.now (state S.Store conn.old) }
+    ensures { Gathers (λ trees. AreOf (shelf_names names.now) (rows_in trees account.now))
+        (state S.Store conn.old) (state S.Store conn.new) result }
+{
+    match copy_of_kept(alloc, kept, account) {
+        Some(rows) => Ok(rows),
+        None => read_live_rows(conn, alloc, account, names),
+    }
+}
+
 /// What may still change of the account of this number at a moment; None where there is no account.
 fn read_rows_at<S: Alter>(
     conn: &mut Connection<S>,
     alloc: Global,
     account: &AccountNumber,
     names: &TariffShelf,
+    kept: &Option<KeptRows>,
     shelf: &TariffShelf,
     moment: Moment,
 ) -> Result<Option<ReadRows>, ReadFault>
     requires idle { HasIdleBook (state S.Store conn.old) }
+    requires kept { AreKept (shelf_names names.now) kept.now (state S.Store conn.old) }
     ensures { Gathers (λ trees o. IsReadAccount (shelf_names names.now) shelf.now moment
         (rows_in trees account.now) o)
         (state S.Store conn.old) (state S.Store conn.new) result }
@@ -294,7 +318,7 @@ fn read_rows_at<S: Alter>(
     let Some(head) = head else {
         return Ok(None);
     };
-    let rows = read_live_rows(conn, alloc, account, names)?;
+    let rows = live_rows_of(conn, alloc, account, names, kept)?;
     let counters = read_counters_at(conn, alloc, account, book, moment, never)?;
     Ok(Some(ReadRows {
         head,
@@ -358,14 +382,16 @@ pub(crate) fn read_live_account<S: Alter>(
     alloc: Global,
     account: &AccountNumber,
     names: &TariffShelf,
+    kept: &Option<KeptRows>,
     shelf: &TariffShelf,
     moment: Moment,
 ) -> Result<Option<StoredAccount>, ReadFault>
     requires idle { HasIdleBook (state S.Store conn.old) }
+    requires kept { AreKept (shelf_names names.now) kept.now (state S.Store conn.old) }
     ensures { Gathers (λ trees o. IsLiveAccount (shelf_names names.now) shelf.now moment
         (rows_in trees account.now) o)
         (state S.Store conn.old) (state S.Store conn.new) result }
 {
-    let read = read_rows_at(conn, alloc, account, names, shelf, moment)?;
+    let read = read_rows_at(conn, alloc, account, names, kept, shelf, moment)?;
     live_account_of(alloc, read)
 }

@@ -5,6 +5,7 @@ ghost use Rattle.keepers.specs.Change.{IsLoad, IsView};
 ghost use Rattle.reserving.specs.Stored.{priced};
 ghost use Rattle.sql_keeper.specs.Asks.{Asks};
 ghost use Rattle.sql_keeper.specs.Content.{shelf_names};
+ghost use Rattle.sql_keeper.specs.KeptRows.{AreKept};
 ghost use Rattle.sql_keeper.specs.LiveGroups.{Gathers};
 ghost use Rattle.sql_keeper.specs.LiveRows.{IsAccountOf, IsLoadOf, IsLoadStored};
 ghost use Rattle.sql_rows.specs.Content.{rows_in};
@@ -14,6 +15,7 @@ ghost use Rattle.sql_keeper.specs.Calls.{AsksTables};
 
 use crate::faults::counted;
 use crate::keeper::SqlKeeper;
+use crate::kept_rows::{KeptRows, kept_after};
 use crate::live_rows::read_live_account;
 use crate::seen::{seen_in, seen_later};
 use crate::still_open::still_open;
@@ -87,16 +89,18 @@ fn load_of<'b, S: Alter>(
     conn: &mut Connection<S>,
     alloc: Global,
     names: &TariffShelf,
+    kept: &Option<KeptRows>,
     shelf: &'b TariffShelf,
     account: &AccountNumber,
     moment: Moment,
 ) -> Result<Option<Loaded<'b>>, ReadFault>
     requires idle { HasIdleBook (state S.Store conn.old) }
+    requires kept { AreKept (shelf_names names.now) kept.now (state S.Store conn.old) }
     ensures { Gathers (λ trees found. IsLoadStored (shelf_names names.now) shelf.now moment
         account.now (rows_in trees account.now) found)
         (state S.Store conn.old) (state S.Store conn.new) result }
 {
-    let rows = read_live_account(conn, alloc, account, names, shelf, moment)?;
+    let rows = read_live_account(conn, alloc, account, names, kept, shelf, moment)?;
     loaded_of(rows, shelf, account, moment)
 }
 
@@ -104,17 +108,19 @@ fn ask_to_load<'b, S: Alter>(
     conn: &mut Connection<S>,
     alloc: Global,
     names: &TariffShelf,
+    kept: &Option<KeptRows>,
     shelf: &'b TariffShelf,
     account: &AccountNumber,
     moment: Moment,
 ) -> Result<Option<Loaded<'b>>, ReadFault>
     requires idle { HasIdleBook (state S.Store conn.old) }
+    requires kept { AreKept (shelf_names names.now) kept.now (state S.Store conn.old) }
     ensures { Asks (λ trees found. IsLoadStored (shelf_names names.now) shelf.now moment
         account.now (rows_in trees account.now) found)
         (state S.Store conn.old) (state S.Store conn.new) result }
 {
     still_open(conn)?;
-    load_of(conn, alloc, names, shelf, account, moment)
+    load_of(conn, alloc, names, kept, shelf, account, moment)
 }
 
 impl<S: Alter> SqlKeeper<S> {
@@ -138,6 +144,7 @@ impl<S: Alter> SqlKeeper<S> {
             &mut self.connection,
             self.alloc,
             &self.shelf,
+            &self.kept,
             shelf,
             account,
             moment,
@@ -145,6 +152,8 @@ impl<S: Alter> SqlKeeper<S> {
         let newer = seen_in(&read);
         let older = self.seen.take();
         self.seen = seen_later(older, newer);
+        let kept = self.kept.take();
+        self.kept = kept_after(self.alloc, kept, &read);
         counted(&mut self.failures, read)
     }
 

@@ -66,6 +66,7 @@ pub(crate) fn keeper_of<S: Alter>(
         last: read.last,
         failures: 0,
         seen: None,
+        kept: None,
         alloc,
     };
     (keeper, read.given)

@@ -199,6 +199,7 @@ impl<S: Alter> SqlKeeper<S> {
         let (alloc, names) = (self.alloc, &self.shelf);
         let made = ask_to_sweep(&mut self.connection, alloc, names, text, shelf, moment);
         self.seen = None;
+        self.kept = None;
         self.last = last_after(&made, self.last, moment);
         counted(&mut self.failures, made)
     }

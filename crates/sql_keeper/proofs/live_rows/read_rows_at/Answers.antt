@@ -1,7 +1,14 @@
 use Rattle.std.proofs.Common.{sym, ◌∙◌}
 use Rattle.sqlite.specs.Held.{state}
+use Rattle.sql_keeper.specs.Content.{shelf_names}
+use Rattle.sql_keeper.proofs.KeptRows.{still_kept}
 use Rattle.sql_keeper.proofs.Told.{made_of, several_tell, tell_both}
 use Rattle.sql_keeper.proofs.live_rows.read_rows_at.Goals as goal
+
+pub live_rows_of-requires-clause-kept : goal.live_rows_of-requires-clause-kept
+live_rows_of-requires-clause-kept g c =
+    still_kept (shelf_names c.args.names.now) c.args.kept.now (state g.S.Store c.args.conn.now)
+    (state g.S.Store c.read_first.new.conn) c.requires.kept c.in_ok-head.ensures.only
 
 pub returns-in_default : goal.returns-in_default
 returns-in_default g c =
@@ -16,7 +23,7 @@ returns g c =
     (state g.S.Store c.read_counters_at.new.conn)
     (several_tell _ _ _ c.in_ok-head.field-0 c.in_ok-head.ensures)
     (tell_both _ _ (state g.S.Store c.read_first.new.conn)
-    (state g.S.Store c.read_live_rows.new.conn) (state g.S.Store c.read_counters_at.new.conn)
+    (state g.S.Store c.live_rows_of.new.conn) (state g.S.Store c.read_counters_at.new.conn)
     (several_tell _ _ _ c.in_ok-rows.rows c.in_ok-rows.ensures)
     (several_tell _ _ _ c.in_ok-counters.counters c.in_ok-counters.ensures)))
     (λ trees told. (

@@ -1,6 +1,13 @@
 use Rattle.sqlite.specs.Held.{state}
+use Rattle.sql_keeper.specs.Content.{shelf_names}
+use Rattle.sql_keeper.proofs.KeptRows.{still_kept}
 use Rattle.sql_keeper.proofs.StillOpen.{asked_several, asked_shut}
 use Rattle.sql_keeper.proofs.loading.ask_to_load.Goals as goal
+
+pub load_of-requires-clause-kept : goal.load_of-requires-clause-kept
+load_of-requires-clause-kept g c =
+    still_kept (shelf_names c.args.names.now) c.args.kept.now (state g.S.Store c.args.conn.now)
+    (state g.S.Store c.still_open.new.conn) c.requires.kept c.in_ok-still_open.ensures.only
 
 pub returns-in_err-still_open : goal.returns-in_err-still_open
 returns-in_err-still_open g c =

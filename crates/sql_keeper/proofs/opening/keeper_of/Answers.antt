@@ -7,6 +7,7 @@ invariant_of-keeper g c = record {
       c.args.read c.requires.plain c.requires.idle c.requires.open c.requires.read
       c.schema-listed.ensures.live;
   seen = λ clean on. tt;
+  kept = λ clean on. tt;
 }
 
 pub returns-clause-kept : goal.returns-clause-kept

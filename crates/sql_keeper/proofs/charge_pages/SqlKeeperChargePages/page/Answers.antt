@@ -1,6 +1,8 @@
 use Rattle.std.proofs.Common.{refl}
 use Rattle.sqlite.specs.Held.{state}
+use Rattle.sql_keeper.specs.Content.{shelf_names}
 use Rattle.sql_keeper.proofs.Asked.{keeper_after}
+use Rattle.sql_keeper.proofs.KeptRows.{still_kept}
 use Rattle.sql_keeper.proofs.SeenRows.{seen_after}
 use Rattle.sql_keeper.proofs.Standing.{asked}
 use Rattle.sql_keeper.proofs.charge_pages.SqlKeeperChargePages.page.Goals as goal
@@ -12,6 +14,9 @@ invariant_of-self g c = record {
   seen = seen_after c.self.inside.seen (state g.S.Store c.self.inside.connection)
       (state g.S.Store c.ask_for_page-read.new.conn) c.self.invariant.seen
       c.ask_for_page-read.ensures.only;
+  kept = still_kept (shelf_names c.self.inside.shelf) c.self.inside.kept
+      (state g.S.Store c.self.inside.connection) (state g.S.Store c.ask_for_page-read.new.conn)
+      c.self.invariant.kept c.ask_for_page-read.ensures.only;
 }
 
 pub returns : goal.returns

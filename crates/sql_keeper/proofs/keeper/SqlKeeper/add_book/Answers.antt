@@ -15,6 +15,7 @@ invariant_of-self g c = record {
       refl refl c.add_to_all-added.ensures.plain
       c.counted.ensures.bounded;
   seen = λ clean on. tt;
+  kept = λ clean on. tt;
 }
 
 pub returns : goal.returns

@@ -1,8 +1,11 @@
-use Rattle.std.proofs.Common.{refl}
+use Rattle.std.proofs.Common.{refl, subst, sym}
+use Rattle.sqlite.specs.Held.{state}
 use Rattle.sql_keeper.specs.Content.{shelf_names}
 use Rattle.sql_keeper.specs.Commits.{Becomes}
+use Rattle.sql_keeper.specs.KeptRows.{BecomesOver, Keeps}
 use Rattle.sql_keeper.proofs.Held.{held_committed, held_stands}
 use Rattle.sql_keeper.proofs.Committed.{committed}
+use Rattle.sql_keeper.proofs.KeptRows.{becomes_standing, kept_made}
 use Rattle.sql_keeper.proofs.Standing.{keeps, standing_keeper, standing_whole}
 use Rattle.sql_keeper.proofs.Whole.{handed_on}
 use Rattle.sql_keeper.proofs.keeper.SqlKeeper.commit.Goals as goal
@@ -17,26 +20,36 @@ invariant_of-self g c = record {
   keeper = standing_keeper g.S.Store _ _ c.self.invariant.keeper refl
       (λ text. Becomes (shelf_names c.self.inside.shelf) text c.args.change) _
       c.ask_to_change-made.result c.counted.result c.counted.ensures.handed
-      c.ask_to_change-made.ensures.commits _ c.as_str-text.ensures.value
+      (becomes_standing _ _ _ _ _ _ c.ask_to_change-made.ensures.commits) _ c.as_str-text.ensures.value
       (λ db. held_committed _ c.self.inside.shelf _ c.args.change _ db)
       c.last_after-self-inside.ensures.made c.last_after-self-inside.ensures.kept refl
       c.ask_to_change-made.ensures.plain
       c.counted.ensures.bounded;
   seen = λ clean on. tt;
+  kept = kept_made (shelf_names c.self.inside.shelf)
+      (BecomesOver (shelf_names c.self.inside.shelf) c.as_str-text.result.now c.args.change)
+      c.self.inside.kept c.kept_over.result
+      (state g.S.Store c.self.inside.connection) (state g.S.Store c.ask_to_change-made.new.conn)
+      c.ask_to_change-made.result c.self.invariant.kept c.ask_to_change-made.ensures.commits
+      (λ trees db made before. c.kept_over.ensures (shelf_names c.self.inside.shelf)
+      c.as_str-text.result.now trees db made
+      (subst (λ o. Keeps (shelf_names c.self.inside.shelf) o trees)
+      (sym c.take-kept.ensures.value) before));
 }
 
 pub returns : goal.returns
 returns g c = rw (← c.self.view_is) (record {
   done = committed g.S.Store _ c.ask_to_change-made.new.conn _ _
       c.self.invariant.keeper _
-      (handed_on _ _ _ _ _ c.counted.ensures.handed c.ask_to_change-made.ensures.commits.commits);
+      (handed_on _ _ _ _ _ c.counted.ensures.handed
+      (becomes_standing _ _ _ _ _ _ c.ask_to_change-made.ensures.commits).commits);
   kept = keeps g.S.Store _ _ c.self.invariant.keeper refl
       (λ text. Becomes (shelf_names c.self.inside.shelf) text c.args.change) _
       c.ask_to_change-made.result c.counted.result c.counted.ensures.handed
-      c.ask_to_change-made.ensures.commits _ c.counted.ensures.cause (λ db b. b.tables);
+      (becomes_standing _ _ _ _ _ _ c.ask_to_change-made.ensures.commits) _ c.counted.ensures.cause (λ db b. b.tables);
   whole = standing_whole g.S.Store _ _
       c.self.invariant.keeper refl
       (λ text. Becomes (shelf_names c.self.inside.shelf) text c.args.change) _
       c.ask_to_change-made.result c.counted.result c.counted.ensures.handed
-      c.ask_to_change-made.ensures.commits c.as_str-text.ensures.value;
+      (becomes_standing _ _ _ _ _ _ c.ask_to_change-made.ensures.commits) c.as_str-text.ensures.value;
 })

@@ -1,8 +1,10 @@
 use Rattle.std.proofs.Common.{refl, subst, sym}
 use Rattle.sqlite.specs.Held.{state}
 use Rattle.sql_rows.specs.Content.{rows_in}
+use Rattle.sql_keeper.specs.Content.{shelf_names}
 use Rattle.sql_keeper.specs.Seen.{IsKnown, Sees}
 use Rattle.sql_keeper.proofs.Asked.{keeper_after}
+use Rattle.sql_keeper.proofs.KeptRows.{still_kept}
 use Rattle.sql_keeper.proofs.SeenRows.{seen_asked}
 use Rattle.sql_keeper.proofs.Standing.{asked, asked_whole}
 use Rattle.sql_keeper.proofs.keeper.SqlKeeper.knows_session.Goals as goal
@@ -17,6 +19,9 @@ invariant_of-self g c = record {
       c.ask_for_session-read.result c.self.invariant.seen c.ask_for_session-read.ensures
       (λ trees before told. c.seen_with.ensures trees
       (subst (λ o. Sees o trees) (sym c.take-seen.ensures.value) before) told);
+  kept = still_kept (shelf_names c.self.inside.shelf) c.self.inside.kept
+      (state g.S.Store c.self.inside.connection) (state g.S.Store c.ask_for_session-read.new.conn)
+      c.self.invariant.kept c.ask_for_session-read.ensures.only;
 }
 
 pub returns : goal.returns

@@ -2,12 +2,17 @@ use Rattle.std.proofs.Common.{refl, subst, sym}
 use Rattle.sqlite.specs.Held.{state}
 use Rattle.sql_rows.specs.Content.{rows_in}
 use Rattle.sql_keeper.specs.Content.{shelf_names}
+use Rattle.sql_keeper.specs.KeptRows.{Keeps}
 use Rattle.sql_keeper.specs.LiveRows.{IsLoadStored}
 use Rattle.sql_keeper.specs.Seen.{Sees}
 use Rattle.sql_keeper.proofs.Asked.{keeper_after}
+use Rattle.sql_keeper.proofs.KeptRows.{kept_asked}
 use Rattle.sql_keeper.proofs.SeenRows.{seen_asked}
 use Rattle.sql_keeper.proofs.Standing.{asked, asked_whole}
 use Rattle.sql_keeper.proofs.keeper.SqlKeeper.load.Goals as goal
+
+pub ask_to_load-read-requires-clause-kept : goal.ask_to_load-read-requires-clause-kept
+ask_to_load-read-requires-clause-kept g c = c.self.invariant.kept
 
 pub invariant_of-self : goal.invariant_of-self
 invariant_of-self g c = record {
@@ -22,6 +27,16 @@ invariant_of-self g c = record {
       (subst (λ o. Sees o trees) (sym c.take-older.ensures.value) before)
       (c.seen_in-newer.ensures (shelf_names c.self.inside.shelf)
       c.args.shelf.now c.args.moment c.args.account.now trees told));
+  kept = kept_asked (shelf_names c.self.inside.shelf)
+      (λ trees found. IsLoadStored (shelf_names c.self.inside.shelf) c.args.shelf.now
+      c.args.moment c.args.account.now (rows_in trees c.args.account.now) found)
+      c.self.inside.kept c.kept_after.result
+      (state g.S.Store c.self.inside.connection) (state g.S.Store c.ask_to_load-read.new.conn)
+      c.ask_to_load-read.result c.self.invariant.kept c.ask_to_load-read.ensures
+      (λ trees before told. c.kept_after.ensures (shelf_names c.self.inside.shelf)
+      c.args.shelf.now c.args.moment c.args.account.now trees
+      (subst (λ o. Keeps (shelf_names c.self.inside.shelf) o trees)
+      (sym c.take-kept.ensures.value) before) told);
 }
 
 pub returns : goal.returns

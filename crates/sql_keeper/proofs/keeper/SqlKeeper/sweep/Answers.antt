@@ -19,6 +19,7 @@ invariant_of-self g c = record {
       c.ask_to_sweep-made.ensures.plain
       c.counted.ensures.bounded;
   seen = λ clean on. tt;
+  kept = λ clean on. tt;
 }
 
 pub returns : goal.returns
