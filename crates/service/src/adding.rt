@@ -49,8 +49,5 @@ pub fn add_text<S: Alter>(
         shelf.old shelf.new) result }
     ensures fault { IfErr result IsAddingFault }
 {
-    match keeper.add_book(shelf, from, text) {
-        Ok(()) => Ok(()),
-        Err(fault) => Err(adding_fault(fault)),
-    }
+    keeper.add_book(shelf, from, text).map_err(adding_fault)
 }

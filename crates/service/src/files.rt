@@ -54,10 +54,7 @@ pub(crate) fn connect<S: Start>(
         (λ c. HasCleanDisk (file_state c) → FindsIn (image_at S.Start) (file_state c)) }
     ensures told { IfErr result IsUnopened }
 {
-    match open_database(rt, path, start) {
-        Ok(connection) => Ok(connection),
-        Err(error) => Err(opening_fault(error)),
-    }
+    open_database(rt, path, start).map_err(opening_fault)
 }
 
 /// Whether there is something at a path that isn't an empty file.

@@ -74,10 +74,8 @@ pub fn book_text(alloc: Global, bytes: &[u8]) -> Result<&str, DatabaseFault>
     let Ok(text) = str::from_utf8(bytes) else {
         return Err(DatabaseFault::Book(BookFault::NotToml));
     };
-    match TariffBook::read(alloc, bytes) {
-        Ok(_book) => Ok(text),
-        Err(fault) => Err(DatabaseFault::Book(fault)),
-    }
+    TariffBook::read(alloc, bytes).map_err(DatabaseFault::Book)?;
+    Ok(text)
 }
 
 /// Makes the tables of a tariff book's text in a database that has none, and answers its office.
