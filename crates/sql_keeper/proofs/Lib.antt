@@ -47,6 +47,7 @@ pub mod Puts
 pub mod Redeemed
 pub mod Reopening
 pub mod Repeating
+pub mod RowsAdded
 pub mod RowsOver
 pub mod RuledOpening
 pub mod RuledRows

@@ -2,7 +2,8 @@
 -- still change once the change is written.
 use Rattle.std.proofs.Common.{◌≡◌, ℕ, Bool, true, false, cond, List, [], ◌∷◌, Option, Some, None}
 use Rattle.std.proofs.Common.{map, refl, sym, ap, subst, ◌∙◌}
-use Rattle.std.specs.Prelude.{if◌then◌else◌, ◌==◌, ◌&&◌, ◌||◌, not, is_some, option_map, unwrap_or}
+use Rattle.std.specs.Prelude.{if◌then◌else◌, ◌==◌, ◌&&◌, ◌||◌, filter, not, is_some, option_map}
+use Rattle.std.specs.Prelude.{unwrap_or}
 use Rattle.std.specs.List.{find, list_all}
 use Rattle.buckets.specs.Row.{BucketRow}
 use Rattle.ledger.specs.Ledger.{is_same}
@@ -13,20 +14,24 @@ use Rattle.reserving.specs.Left.{bucket_in, first_of, is_dead, is_open_row, only
 use Rattle.reserving.specs.Sessions.{group_in, is_of, is_open, is_session, session_in}
 use Rattle.reserving.specs.Stored.{StoredRows}
 use Rattle.reserving.proofs.Keys.{first_true, same_number, second_true}
+use Rattle.reserving.proofs.LeftTests.{find_filter}
 use Rattle.reserving.proofs.Lists.{find-map, find-passes, no_some, not_both, some_of}
 use Rattle.keepers.specs.Change.{held_over, over}
 use Rattle.keepers.specs.Tables.{GroupRow, Rows, group_row, held_of}
+use Rattle.keepers.specs.Keyed.{same_bucket}
+use Rattle.keepers.proofs.Found.{one_bucket}
 use Rattle.keepers.proofs.GroupRows.{held_over_is, row_over}
 use Rattle.sql_tables.specs.Selects.{passing}
 use Rattle.sql_rows.specs.Content.{TableRows}
 use Rattle.sql_keeper.specs.Content.{Names, held_in, is_reserved, stored_group_in, told_rows}
-use Rattle.sql_keeper.specs.KeptRows.{AreGrantsOver, AreOf, AreOpenRows, AreReplaced, HavePlaces}
-use Rattle.sql_keeper.specs.KeptRows.{bucket_over, group_over, has_bucket_place, has_group_place}
-use Rattle.sql_keeper.specs.KeptRows.{has_session_place, session_over}
+use Rattle.sql_keeper.specs.KeptRows.{AreGrantsOver, AreOf, AreOpenRows, AreReplaced, buckets_over}
+use Rattle.sql_keeper.specs.KeptRows.{groups_over, is_known, sessions_over, stays, stays_bucket}
+use Rattle.sql_keeper.specs.KeptRows.{stays_session}
 use Rattle.sql_keeper.specs.LiveGroups.{AreGrantsStored, IsGrantStored}
 use Rattle.sql_keeper.specs.LiveRows.{AreToldRows}
 use Rattle.sql_keeper.specs.declared.live_rows.LiveRows.{LiveRows}
 use Rattle.sql_keeper.proofs.DeadRows.{those_are}
+use Rattle.sql_keeper.proofs.LiveRows.{find_kept}
 
 -- ---- rows of one kind
 
@@ -58,20 +63,32 @@ all_found p q (y ∷ ys) x h e =
     at true f rest = ap p (sym (some_of y x f)) ∙ first_true (p y) (list_all p ys) h
     at false f rest = rest f
 
-bucket_found : (n : ℕ) (ws bs : List BucketRow) → bucket_in n (map (bucket_over ws) bs)
-    ≡ option_map (λ x. unwrap_or (bucket_in n ws) x) (bucket_in n bs)
+bucket_found : (n : ℕ) (ws bs : List BucketRow) → bucket_in n (buckets_over ws bs)
+    ≡ option_map (λ x. unwrap_or (bucket_in n ws) x)
+    (if stays (λ b. not (is_dead b)) (bucket_in n ws) then bucket_in n bs else None)
 bucket_found n ws bs =
-    over_found (λ (b : BucketRow). b.number == n) (λ x. bucket_in x.number ws) (bucket_in n ws) bs
+    over_found (λ (b : BucketRow). b.number == n) (λ x. bucket_in x.number ws) (bucket_in n ws)
+    (filter (stays_bucket ws) bs)
     (λ x y e. ap (λ m. m == n) (same_number y.number x.number
     (find-passes (λ (b : BucketRow). b.number == x.number) ws y e)))
     (λ x e. ap (λ m. bucket_in m ws) (same_number x.number n e))
+    ∙ ap (option_map (λ x. unwrap_or (bucket_in n ws) x))
+    (find_kept (λ (b : BucketRow). b.number == n) (stays_bucket ws)
+    (stays (λ b. not (is_dead b)) (bucket_in n ws))
+    (λ x e. ap (λ m. stays (λ (b : BucketRow). not (is_dead b)) (bucket_in m ws))
+    (same_number x.number n e)) bs)
 
-session_found : (s : List ℕ) (ws ss : List Session) → session_in s (map (session_over ws) ss)
-    ≡ option_map (λ x. unwrap_or (session_in s ws) x) (session_in s ss)
+session_found : (s : List ℕ) (ws ss : List Session) → session_in s (sessions_over ws ss)
+    ≡ option_map (λ x. unwrap_or (session_in s ws) x)
+    (if stays_session ws s then session_in s ss else None)
 session_found s ws ss =
-    over_found (is_session s) (λ x. session_in x.id ws) (session_in s ws) ss
+    over_found (is_session s) (λ x. session_in x.id ws) (session_in s ws)
+    (filter (λ x. stays_session ws x.id) ss)
     (λ x y e. ap (λ m. is_same m s) (same_from y.id x.id (find-passes (is_session x.id) ws y e)))
     (λ x e. ap (λ m. session_in m ws) (same_from x.id s e))
+    ∙ ap (option_map (λ x. unwrap_or (session_in s ws) x))
+    (find_kept (is_session s) (λ x. stays_session ws x.id) (stays_session ws s)
+    (λ x e. ap (stays_session ws) (same_from x.id s e)) ss)
 
 -- the key of a rating group's row that is found
 key_session : (s : List ℕ) (g : ℕ) (x : SessionGroup) → is_of s g x ≡ true → x.session ≡ s
@@ -80,15 +97,71 @@ key_session s g x e = same_from x.session s (first_true (is_same x.session s) (x
 key_group : (s : List ℕ) (g : ℕ) (x : SessionGroup) → is_of s g x ≡ true → x.group ≡ g
 key_group s g x e = same_number x.group g (second_true (is_same x.session s) (x.group == g) e)
 
-group_found : (s : List ℕ) (g : ℕ) (ws xs : List SessionGroup)
-    → group_in s g (map (group_over ws) xs)
-    ≡ option_map (λ x. unwrap_or (group_in s g ws) x) (group_in s g xs)
-group_found s g ws xs =
-    over_found (is_of s g) (λ x. group_in x.session x.group ws) (group_in s g ws) xs
+group_found : (s : List ℕ) (g : ℕ) (ts : List Session) (ws xs : List SessionGroup)
+    → group_in s g (groups_over ts ws xs)
+    ≡ option_map (λ x. unwrap_or (group_in s g ws) x)
+    (if stays_session ts s then group_in s g xs else None)
+group_found s g ts ws xs =
+    over_found (is_of s g) (λ x. group_in x.session x.group ws) (group_in s g ws)
+    (filter (λ x. stays_session ts x.session) xs)
     (λ x y e. let key = find-passes (is_of x.session x.group) ws y e in
     (λ i. is_same (key_session x.session x.group y key i) s
     && (key_group x.session x.group y key i == g)))
     (λ x e. (λ i. group_in (key_session s g x e i) (key_group s g x e i) ws))
+    ∙ ap (option_map (λ x. unwrap_or (group_in s g ws) x))
+    (find_kept (is_of s g) (λ x. stays_session ts x.session) (stays_session ts s)
+    (λ x e. ap (stays_session ts) (key_session s g x e)) xs)
+
+-- ---- with what is new
+
+-- of rows that are in their places or new, those that may still change
+last_over : {A : Type 0} (live : A → Bool) (o m t : Option A) → m ≡ only live t
+    → first_of (option_map (λ x. unwrap_or o x) (if stays live o then m else None)) (only live o)
+    ≡ only live (first_of o t)
+last_over live None None t e = e
+last_over live None (Some x) t e = e
+last_over {A} live (Some y) m t e = at (live y) m
+  where
+    at : (l : Bool) (n : Option A)
+        → first_of (option_map (λ x. unwrap_or (Some y) x) (if l then n else None))
+        (if l then Some y else None) ≡ (if l then Some y else None)
+    at true None = refl
+    at true (Some x) = refl
+    at false n = refl
+
+-- of rows in their places alone, where what is named may still change only if it is there
+places_over : {A : Type 0} (live : A → Bool) (o m t : Option A) → m ≡ only live t
+    → ((y : A) → o ≡ Some y → live y ≡ true → is_some m ≡ true)
+    → option_map (λ x. unwrap_or o x) (if stays live o then m else None)
+    ≡ only live (first_of o t)
+places_over live None None t e there = e
+places_over live None (Some x) t e there = e
+places_over {A} live (Some y) m t e there = at (live y) m (there y refl)
+  where
+    at : (l : Bool) (n : Option A) → (l ≡ true → is_some n ≡ true)
+        → option_map (λ x. unwrap_or (Some y) x) (if l then n else None)
+        ≡ (if l then Some y else None)
+    at true None k = absurd (not_both (k refl))
+    at true (Some x) k = refl
+    at false n k = refl
+
+-- what an open session has of a rating group, in its place or new
+group_last : (t c : Bool) (o k : Option SessionGroup) → (t ≡ true → c ≡ true)
+    → (t ≡ false → (if c then k else None) ≡ None)
+    → first_of (option_map (λ x. unwrap_or o x) (if c then k else None)) (if t then o else None)
+    ≡ (if t then first_of o k else None)
+group_last true c o k stay none =
+    ap (λ b. first_of (option_map (λ x. unwrap_or o x) (if b then k else None)) o) (stay refl)
+    ∙ at o k
+  where
+    at : (p l : Option SessionGroup)
+        → first_of (option_map (λ x. unwrap_or p x) l) p ≡ first_of p l
+    at None None = refl
+    at None (Some x) = refl
+    at (Some y) None = refl
+    at (Some y) (Some x) = refl
+group_last false c o k stay none =
+    ap (λ l. first_of (option_map (λ x. unwrap_or o x) l) None) (none refl)
 
 -- ---- an account's rows, whatever the tables
 
@@ -106,148 +179,129 @@ row_none : (o : Option SessionGroup) → option_map group_row o ≡ None → o �
 row_none None e = refl
 row_none (Some x) e = absurd (no_some (group_row x) (sym e))
 
-row_then : (t : Bool) (o k : Option SessionGroup) (z : Option GroupRow)
-    → option_map group_row k ≡ (if t then z else None)
+row_then : (t u : Bool) (o k : Option SessionGroup) (z : Option GroupRow)
+    → (t ≡ true → u ≡ true) → option_map group_row k ≡ (if u then z else None)
     → option_map group_row (if t then first_of o k else None)
     ≡ (if t then first_of (option_map group_row o) z else None)
-row_then true o k z e = sym (row_over o k) ∙ ap (first_of (option_map group_row o)) e
-row_then false o k z e = refl
+row_then true u o k z still e =
+    sym (row_over o k) ∙ ap (first_of (option_map group_row o))
+    (e ∙ ap (λ b. if b then z else None) (still refl))
+row_then false u o k z still e = refl
 
-held_then : (n : ℕ) (t : Bool) (o k : Option SessionGroup) (z : ℕ)
-    → held_of n k ≡ (if t then z else 0)
+held_then : (n : ℕ) (t u : Bool) (o k : Option SessionGroup) (z : ℕ) → (t ≡ true → u ≡ true)
+    → held_of n k ≡ (if u then z else 0)
     → held_of n (if t then first_of o k else None) ≡ (if t then held_over n o z else 0)
-held_then n true o k z e = sym (held_over_is n o k) ∙ ap (held_over n o) e
-held_then n false o k z e = refl
+held_then n true u o k z still e =
+    sym (held_over_is n o k) ∙ ap (held_over n o) (e ∙ ap (λ b. if b then z else 0) (still refl))
+held_then n false u o k z still e = refl
 
-module _ (r : Rows) (w : StoredRows) (bs : List BucketRow) (ss : List Session)
-    (xs : List SessionGroup) (are : AreOpenRows r bs ss xs) (places : HavePlaces w bs ss xs) where
-  bucket_place : (n : ℕ) (y : BucketRow) → bucket_in n w.buckets ≡ Some y
-      → (is_some (bucket_in n bs) && not (is_dead y)) ≡ true
-  bucket_place n y e =
-      ap (λ m. is_some (bucket_in m bs) && not (is_dead y))
-      (sym (same_number y.number n (find-passes (λ (b : BucketRow). b.number == n) w.buckets y e)))
-      ∙ all_found (has_bucket_place bs) (λ (b : BucketRow). b.number == n) w.buckets y
-      places.buckets e
-
-  bucket_over_is : (n : ℕ) → bucket_in n (map (bucket_over w.buckets) bs)
+module _ (r : Rows) (w : StoredRows) (x y : LiveRows)
+    (are : AreOpenRows r x.purse x.sessions.items x.groups.items) (put : AreReplaced w x y) where
+  bucket_over_is : (n : ℕ) → bucket_in n y.purse
       ≡ only (λ b. not (is_dead b)) (first_of (bucket_in n w.buckets) (r.buckets n))
   bucket_over_is n =
-      bucket_found n w.buckets bs
-      ∙ at (bucket_in n w.buckets) (bucket_in n bs) (bucket_place n) refl (are.buckets n)
+      put.buckets n
+      ∙ (λ i. first_of (bucket_found n w.buckets x.purse i)
+      (find_filter same_bucket (λ (b : BucketRow). b.number == n) (one_bucket n)
+      (λ (b : BucketRow). not (is_dead b)) w.buckets put.named.apart.buckets i))
+      ∙ last_over (λ (b : BucketRow). not (is_dead b)) (bucket_in n w.buckets)
+      (bucket_in n x.purse) (r.buckets n) (are.buckets n)
+
+  -- a session that is open as it is named was open
+  was_known : (s : List ℕ) (z : Session) → session_in s w.sessions ≡ Some z
+      → is_open z.state ≡ true → is_some (session_in s x.sessions.items) ≡ true
+  was_known s z e on =
+      at (is_open z.state) (is_some (session_in s x.sessions.items))
+      (ap (λ m. not (is_open z.state) || is_some (session_in m x.sessions.items))
+      (sym (same_from z.id s (find-passes (is_session s) w.sessions z e)))
+      ∙ all_found (is_known x.sessions.items) (is_session s) w.sessions z put.known e) on
     where
-      at : (o m : Option BucketRow)
-          → ((y : BucketRow) → o ≡ Some y → (is_some (bucket_in n bs) && not (is_dead y)) ≡ true)
-          → bucket_in n bs ≡ m → m ≡ only (λ (b : BucketRow). not (is_dead b)) (r.buckets n)
-          → option_map (λ x. unwrap_or o x) m
-          ≡ only (λ (b : BucketRow). not (is_dead b)) (first_of o (r.buckets n))
-      at None None place f h = h
-      at None (Some x) place f h = h
-      at (Some y) None place f h =
-          absurd (not_both (ap is_some (sym f)
-          ∙ first_true (is_some (bucket_in n bs)) (not (is_dead y)) (place y refl)))
-      at (Some y) (Some x) place f h =
-          sym (ap (λ t. if t then Some y else None)
-          (second_true (is_some (bucket_in n bs)) (not (is_dead y)) (place y refl)))
+      at : (t u : Bool) → (not t || u) ≡ true → t ≡ true → u ≡ true
+      at true u h k = h
+      at false u h k = absurd (not_both k)
 
-  session_place : (s : List ℕ) (y : Session) → session_in s w.sessions ≡ Some y
-      → (if is_open y.state then is_some (session_in s ss) else not (is_some (session_in s ss)))
-      ≡ true
-  session_place s y e =
-      ap (λ m. if is_open y.state then is_some (session_in m ss)
-      else not (is_some (session_in m ss)))
-      (sym (same_from y.id s (find-passes (is_session s) w.sessions y e)))
-      ∙ all_found (has_session_place ss) (is_session s) w.sessions y places.sessions e
-
-  -- a session is open as it was
-  open_as : (s : List ℕ) (y : Session) → session_in s w.sessions ≡ Some y
-      → is_open y.state ≡ is_some (session_in s ss)
-  open_as s y e = at (is_open y.state) (is_some (session_in s ss)) (session_place s y e)
-    where
-      at : (t u : Bool) → (if t then u else not u) ≡ true → t ≡ u
-      at true true h = refl
-      at true false h = sym h
-      at false true h = h
-      at false false h = refl
-
-  open_same : (s : List ℕ) → is_open_row (first_of (session_in s w.sessions) (r.sessions s))
-      ≡ is_open_row (r.sessions s)
-  open_same s = at (session_in s w.sessions) (open_as s)
-    where
-      at : (o : Option Session)
-          → ((y : Session) → o ≡ Some y → is_open y.state ≡ is_some (session_in s ss))
-          → is_open_row (first_of o (r.sessions s)) ≡ is_open_row (r.sessions s)
-      at None opens = refl
-      at (Some y) opens = opens y refl ∙ ap is_some (are.sessions s) ∙ open_found (r.sessions s)
-
-  session_over_is : (s : List ℕ) → session_in s (map (session_over w.sessions) ss)
-      ≡ only (λ x. is_open x.state) (first_of (session_in s w.sessions) (r.sessions s))
+  session_over_is : (s : List ℕ) → session_in s y.sessions.items
+      ≡ only (λ z. is_open z.state) (first_of (session_in s w.sessions) (r.sessions s))
   session_over_is s =
-      session_found s w.sessions ss
-      ∙ at (session_in s w.sessions) (session_in s ss) (open_as s) refl (are.sessions s)
+      ap (session_in s) put.sessions ∙ session_found s w.sessions x.sessions.items
+      ∙ places_over (λ (z : Session). is_open z.state) (session_in s w.sessions)
+      (session_in s x.sessions.items) (r.sessions s) (are.sessions s) (was_known s)
+
+  open_after : List ℕ → Bool
+  open_after s = is_open_row (first_of (session_in s w.sessions) (r.sessions s))
+
+  open_is : (s : List ℕ) → is_some (session_in s y.sessions.items) ≡ open_after s
+  unfolding open_after
+  open_is s = ap is_some (session_over_is s)
+      ∙ open_found (first_of (session_in s w.sessions) (r.sessions s))
+
+  was_open : (s : List ℕ) → is_some (session_in s x.sessions.items) ≡ is_open_row (r.sessions s)
+  was_open s = ap is_some (are.sessions s) ∙ open_found (r.sessions s)
+
+  -- none is opened
+  still : (s : List ℕ) → open_after s ≡ true → is_open_row (r.sessions s) ≡ true
+  unfolding open_after
+  still s = at (session_in s w.sessions) (was_known s)
     where
-      at : (o k : Option Session)
-          → ((y : Session) → o ≡ Some y → is_open y.state ≡ is_some (session_in s ss))
-          → session_in s ss ≡ k → k ≡ only (λ (x : Session). is_open x.state) (r.sessions s)
-          → option_map (λ x. unwrap_or o x) k
-          ≡ only (λ (x : Session). is_open x.state) (first_of o (r.sessions s))
-      at None None opens f h = h
-      at None (Some x) opens f h = h
-      at (Some y) None opens f h =
-          sym (ap (λ t. if t then Some y else None) (opens y refl ∙ ap is_some f))
-      at (Some y) (Some x) opens f h =
-          sym (ap (λ t. if t then Some y else None) (opens y refl ∙ ap is_some f))
+      at : (o : Option Session) → ((z : Session) → o ≡ Some z → is_open z.state ≡ true
+          → is_some (session_in s x.sessions.items) ≡ true)
+          → is_open_row (first_of o (r.sessions s)) ≡ true → is_open_row (r.sessions s) ≡ true
+      at None known e = e
+      at (Some z) known e = sym (was_open s) ∙ known z refl e
 
-  group_place : (s : List ℕ) (g : ℕ) (y : SessionGroup) → group_in s g w.groups ≡ Some y
-      → (not (is_some (session_in s ss)) || is_some (group_in s g xs)) ≡ true
-  group_place s g y e =
-      let key = find-passes (is_of s g) w.groups y e in
-      (λ i. not (is_some (session_in (sym (key_session s g y key) i) ss))
-      || is_some (group_in (sym (key_session s g y key) i) (sym (key_group s g y key) i) xs))
-      ∙ all_found (has_group_place ss xs) (is_of s g) w.groups y places.groups e
+  stays_on : (s : List ℕ) → open_after s ≡ true → stays_session w.sessions s ≡ true
+  unfolding open_after
+  stays_on s = at (session_in s w.sessions)
+    where
+      at : (o : Option Session) → is_open_row (first_of o (r.sessions s)) ≡ true
+          → stays (λ (z : Session). is_open z.state) o ≡ true
+      at None e = refl
+      at (Some z) e = e
 
-  group_over_is : (s : List ℕ) (g : ℕ) → group_in s g (map (group_over w.groups) xs)
-      ≡ (if is_open_row (r.sessions s) then first_of (group_in s g w.groups) (group_in s g xs)
-      else None)
+  none_on : (s : List ℕ) (g : ℕ) → open_after s ≡ false
+      → (if stays_session w.sessions s then group_in s g x.groups.items else None) ≡ None
+  unfolding open_after
+  none_on s g = at (session_in s w.sessions)
+    where
+      at : (o : Option Session) → is_open_row (first_of o (r.sessions s)) ≡ false
+          → (if stays (λ (z : Session). is_open z.state) o then group_in s g x.groups.items
+          else None) ≡ None
+      at None e = row_none (group_in s g x.groups.items)
+          (are.groups s g ∙ ap (λ t. if t then r.groups s g else None) e)
+      at (Some z) e = ap (λ t. if t then group_in s g x.groups.items else None) e
+
+  -- what is named of a rating group is put in where its session is open
+  named_of : (s : List ℕ) (g : ℕ) → group_in s g
+      (filter (λ z. is_some (session_in z.session y.sessions.items)) w.groups)
+      ≡ (if open_after s then group_in s g w.groups else None)
+  named_of s g =
+      find_kept (is_of s g) (λ z. is_some (session_in z.session y.sessions.items)) (open_after s)
+      (λ z e. ap (λ m. is_some (session_in m y.sessions.items)) (key_session s g z e) ∙ open_is s)
+      w.groups
+
+  pub group_over_is : (s : List ℕ) (g : ℕ) → group_in s g y.groups.items
+      ≡ (if is_open_row (first_of (session_in s w.sessions) (r.sessions s))
+      then first_of (group_in s g w.groups) (group_in s g x.groups.items) else None)
+  unfolding open_after
   group_over_is s g =
-      group_found s g w.groups xs
-      ∙ at (is_open_row (r.sessions s)) (group_in s g w.groups) (group_in s g xs) refl
-      (group_place s g) refl (are.groups s g)
-    where
-      at : (t : Bool) (o k : Option SessionGroup) → is_open_row (r.sessions s) ≡ t
-          → ((y : SessionGroup) → o ≡ Some y
-          → (not (is_some (session_in s ss)) || is_some (group_in s g xs)) ≡ true)
-          → group_in s g xs ≡ k
-          → option_map group_row (group_in s g xs)
-          ≡ (if is_open_row (r.sessions s) then r.groups s g else None)
-          → option_map (λ x. unwrap_or o x) k ≡ (if t then first_of o k else None)
-      at true None None e place f h = refl
-      at true None (Some x) e place f h = refl
-      at true (Some y) (Some x) e place f h = refl
-      at true (Some y) None e place f h =
-          absurd (not_both (sym (λ i. not ((ap is_some (are.sessions s)
-          ∙ open_found (r.sessions s) ∙ e) i) || is_some (f i)) ∙ place y refl))
-      at false o None e place f h = refl
-      at false o (Some x) e place f h =
-          absurd (no_some x (sym (row_none (group_in s g xs)
-          (h ∙ ap (λ t. if t then r.groups s g else None) e)) ∙ f))
+      put.groups s g
+      ∙ (λ i. first_of (group_found s g w.sessions w.groups x.groups.items i) (named_of s g i))
+      ∙ group_last (open_after s) (stays_session w.sessions s) (group_in s g w.groups)
+      (group_in s g x.groups.items) (stays_on s) (none_on s g)
 
-  pub open_over : AreOpenRows (over w r) (map (bucket_over w.buckets) bs)
-      (map (session_over w.sessions) ss) (map (group_over w.groups) xs)
+  pub open_over : AreOpenRows (over w r) y.purse y.sessions.items y.groups.items
+  unfolding open_after
   open_over = record {
     buckets = bucket_over_is;
     sessions = session_over_is;
     groups = λ s g.
         ap (option_map group_row) (group_over_is s g)
-        ∙ row_then (is_open_row (r.sessions s)) (group_in s g w.groups) (group_in s g xs)
-        (r.groups s g) (are.groups s g)
-        ∙ ap (λ t. if t then first_of (option_map group_row (group_in s g w.groups)) (r.groups s g)
-        else None) (sym (open_same s));
+        ∙ row_then (open_after s) (is_open_row (r.sessions s)) (group_in s g w.groups)
+        (group_in s g x.groups.items) (r.groups s g) (still s) (are.groups s g);
     holds = λ s g n.
         ap (held_of n) (group_over_is s g)
-        ∙ held_then n (is_open_row (r.sessions s)) (group_in s g w.groups) (group_in s g xs)
-        (r.holds s g n) (are.holds s g n)
-        ∙ ap (λ t. if t then held_over n (group_in s g w.groups) (r.holds s g n) else 0)
-        (sym (open_same s));
+        ∙ held_then n (open_after s) (is_open_row (r.sessions s)) (group_in s g w.groups)
+        (group_in s g x.groups.items) (r.holds s g n) (still s) (are.holds s g n);
   }
 
 -- ---- told by the tables
@@ -302,16 +356,19 @@ module _ (names : Names) (r : TableRows) (bs : List BucketRow) (ss : List Sessio
 
 -- ---- how reservations are stored
 
-pub grants_over : (old new : TableRows) (ws xs : List SessionGroup) → AreGrantsStored old xs
-    → AreGrantsOver ws old new → AreGrantsStored new (map (group_over ws) xs)
-grants_over old new ws xs stored are s g x v e f =
-    at (group_in s g ws) (group_in s g xs) refl refl (sym (group_found s g ws xs) ∙ e)
+grants_over : (old new : TableRows) (ws xs ys : List SessionGroup) (on : List ℕ → Bool)
+    → AreGrantsStored old xs → AreGrantsOver ws old new
+    → ((s : List ℕ) (g : ℕ) → group_in s g ys
+    ≡ (if on s then first_of (group_in s g ws) (group_in s g xs) else None))
+    → AreGrantsStored new ys
+grants_over old new ws xs ys on stored are found s g x v e f =
+    at (on s) (group_in s g ws) (group_in s g xs) refl refl (sym (found s g) ∙ e)
   where
-    at : (o k : Option SessionGroup) → group_in s g ws ≡ o → group_in s g xs ≡ k
-        → option_map (λ y. unwrap_or o y) k ≡ Some x → IsGrantStored new s g v
-    at o None d h is = absurd (no_some x is)
-    at (Some y) (Some z) d h is = are.named s g x v (d ∙ is) f
-    at None (Some z) d h is =
+    at : (t : Bool) (o k : Option SessionGroup) → group_in s g ws ≡ o → group_in s g xs ≡ k
+        → (if t then first_of o k else None) ≡ Some x → IsGrantStored new s g v
+    at false o k d h is = absurd (no_some x is)
+    at true (Some y) k d h is = are.named s g x v (d ∙ is) f
+    at true None k d h is =
         let was : IsGrantStored old s g v = stored s g x v (h ∙ is) f in
         record {
           book = are.books s g d ∙ was.book;
@@ -325,26 +382,12 @@ pub live_over : (names : Names) (old new : TableRows) (w : StoredRows) (x y : Li
     → AreGrantsOver w.groups old new → AreOf names new y
 live_over names old new w x y live replaced told grants =
     let open_old = open_of_told names old x.purse x.sessions.items x.groups.items live.told in
-    let open_new = open_over (told_rows names old) w x.purse x.sessions.items x.groups.items
-    open_old replaced.places in
-    let rows = told_of_open names new (map (bucket_over w.buckets) x.purse)
-    (map (session_over w.sessions) x.sessions.items) (map (group_over w.groups) x.groups.items)
-    (subst (λ (r : Rows). AreOpenRows r (map (bucket_over w.buckets) x.purse)
-    (map (session_over w.sessions) x.sessions.items)
-    (map (group_over w.groups) x.groups.items)) (sym told) open_new) in
-    let stored = grants_over old new w.groups x.groups.items live.grants grants in
+    let open_new = open_over (told_rows names old) w x y open_old replaced in
     record {
-      told = record {
-        buckets = subst (λ bs. (n : ℕ) → bucket_in n bs
-            ≡ only (λ b. not (is_dead b)) ((told_rows names new).buckets n))
-            (sym replaced.buckets) rows.buckets;
-        sessions = λ s. ap (session_in s) replaced.sessions ∙ rows.sessions s;
-        groups = record {
-          groups = λ s g. ap (λ l. option_map group_row (group_in s g l)) replaced.groups
-              ∙ rows.groups.groups s g;
-          holds = λ s g n. ap (λ l. held_of n (group_in s g l)) replaced.groups
-              ∙ rows.groups.holds s g n;
-        };
-      };
-      grants = subst (AreGrantsStored new) (sym replaced.groups) stored;
+      told = told_of_open names new y.purse y.sessions.items y.groups.items
+          (subst (λ (r : Rows). AreOpenRows r y.purse y.sessions.items y.groups.items)
+          (sym told) open_new);
+      grants = grants_over old new w.groups x.groups.items y.groups.items
+          (λ s. is_open_row (first_of (session_in s w.sessions) (old.sessions s)))
+          live.grants grants (group_over_is (told_rows names old) w x y open_old replaced);
     }

@@ -1,9 +1,9 @@
--- The rows of one account that a keeper keeps: all of it that may still change, as they were read or
--- written last.
+-- The rows of one account that a keeper keeps: all of it that may still change, as they were read
+-- or written last.
 -- Source: profile.
-use Rattle.std.specs.Prelude.{◌≡◌, ◌&&◌, ◌||◌, Bool, true, false, not, List, Option, Some, None}
+use Rattle.std.specs.Prelude.{◌≡◌, ◌&&◌, ◌||◌, ℕ, Bool, true, not, filter, List, Option, Some, None}
 use Rattle.std.specs.Prelude.{IsTrue, is_some, map, option_map, unwrap_or, if◌then◌else◌}
-use Rattle.std.specs.List.{list_all}
+use Rattle.std.specs.List.{insert, list_all}
 use Rattle.units.specs.Words.{GroupId}
 use Rattle.identifiers.specs.Words.{SessionName}
 use Rattle.buckets.specs.Words.{BucketNumber}
@@ -12,12 +12,13 @@ use Rattle.sqlite.specs.State.{State, HasCleanDisk}
 use Rattle.buckets.specs.Row.{BucketRow}
 use Rattle.reserving.specs.declared.session.Session.{Session}
 use Rattle.reserving.specs.declared.session.SessionGroup.{SessionGroup}
-use Rattle.reserving.specs.Left.{bucket_in, is_dead, is_open_row, only}
+use Rattle.reserving.specs.Left.{bucket_in, first_of, is_dead, is_open_row, only}
 use Rattle.reserving.specs.Sessions.{group_in, is_open, session_in}
 use Rattle.reserving.specs.Stored.{StoredRows}
 use Rattle.shelves.specs.Words.{BookText}
 use Rattle.keepers.specs.declared.loaded.Change.{Change}
 use Rattle.keepers.specs.declared.loaded.Loaded.{Loaded}
+use Rattle.keepers.specs.Naming.{IsNamed}
 use Rattle.keepers.specs.Tables.{Rows, group_row, held_of}
 use Rattle.sql_rows.specs.Content.{TableRows, rows_in}
 use Rattle.sql_keeper.specs.Commits.{Becomes}
@@ -70,33 +71,64 @@ session_over ws x = unwrap_or (session_in x.id ws) x
 abbrev pub group_over : List SessionGroup → SessionGroup → SessionGroup
 group_over ws x = unwrap_or (group_in x.session x.group ws) x
 
--- a bucket that is named has a place among those that are kept, and isn't dead
-abbrev pub has_bucket_place : List BucketRow → BucketRow → Bool
-has_bucket_place bs b = is_some (bucket_in b.number bs) && not (is_dead b)
+-- a row stays unless what is named under its key can't change any more
+abbrev pub stays : {A : Type 0} → (A → Bool) → Option A → Bool
+stays live None = true
+stays live (Some y) = live y
 
--- a session that is named has a place among those that are kept exactly if it is open
-abbrev pub has_session_place : List Session → Session → Bool
-has_session_place ss x =
-    if is_open x.state then is_some (session_in x.id ss) else not (is_some (session_in x.id ss))
+abbrev pub stays_bucket : List BucketRow → BucketRow → Bool
+stays_bucket ws x = stays (λ b. not (is_dead b)) (bucket_in x.number ws)
 
--- what is named of a rating group has a place, or is of a session that isn't kept
-abbrev pub has_group_place : List Session → List SessionGroup → SessionGroup → Bool
-has_group_place ss xs y =
-    not (is_some (session_in y.session ss)) || is_some (group_in y.session y.group xs)
+abbrev pub stays_session : List Session → SessionName → Bool
+stays_session ws s = stays (λ x. is_open x.state) (session_in s ws)
 
--- so has each row that is named
-pub record HavePlaces (w : StoredRows) (bs : List BucketRow) (ss : List Session)
-    (xs : List SessionGroup) : Type 0 where
-  pub buckets : list_all (has_bucket_place bs) w.buckets ≡ true
-  pub sessions : list_all (has_session_place ss) w.sessions ≡ true
-  pub groups : list_all (has_group_place ss xs) w.groups ≡ true
+-- the rows that stay, with those that are named in their places
+abbrev pub buckets_over : List BucketRow → List BucketRow → List BucketRow
+buckets_over ws bs = map (bucket_over ws) (filter (stays_bucket ws) bs)
 
--- the rows with those of the change in their places
+abbrev pub sessions_over : List Session → List Session → List Session
+sessions_over ws ss = map (session_over ws) (filter (λ x. stays_session ws x.id) ss)
+
+-- what a session has of rating groups stays as the session does
+abbrev pub groups_over : List Session → List SessionGroup → List SessionGroup → List SessionGroup
+groups_over ss ws xs = map (group_over ws) (filter (λ x. stays_session ss x.session) xs)
+
+-- a row of a new key that may still change, or is of one of these sessions
+abbrev pub is_new_bucket : List BucketRow → BucketRow → Bool
+is_new_bucket bs b = not (is_dead b) && not (is_some (bucket_in b.number bs))
+
+abbrev pub is_new_group : List Session → List SessionGroup → SessionGroup → Bool
+is_new_group ss xs y =
+    is_some (session_in y.session ss) && not (is_some (group_in y.session y.group xs))
+
+-- a row is put in at a place
+pub record IsPutIn {A : Type 0} (x : A) (old new : List A) : Type 0 where
+  pub place : ℕ
+  pub is : new ≡ insert old place x
+
+-- rows with those of more that have a new key
+abbrev pub AreWithBuckets : List BucketRow → List BucketRow → List BucketRow → Type 0
+AreWithBuckets old more new =
+    (n : BucketNumber) → bucket_in n new ≡ first_of (bucket_in n old) (bucket_in n more)
+
+abbrev pub AreWithGroups : List SessionGroup → List SessionGroup → List SessionGroup → Type 0
+AreWithGroups old more new =
+    (s : SessionName) (g : GroupId) →
+    group_in s g new ≡ first_of (group_in s g old) (group_in s g more)
+
+-- a session that is named is one of these, unless it isn't open
+abbrev pub is_known : List Session → Session → Bool
+is_known ss x = not (is_open x.state) || is_some (session_in x.id ss)
+
+-- the rows with those of the change: no session is opened
 pub record AreReplaced (w : StoredRows) (old new : LiveRows) : Type 0 where
-  pub places : HavePlaces w old.purse old.sessions.items old.groups.items
-  pub buckets : new.purse ≡ map (bucket_over w.buckets) old.purse
-  pub sessions : new.sessions.items ≡ map (session_over w.sessions) old.sessions.items
-  pub groups : new.groups.items ≡ map (group_over w.groups) old.groups.items
+  pub named : IsNamed w
+  pub known : list_all (is_known old.sessions.items) w.sessions ≡ true
+  pub buckets : AreWithBuckets (buckets_over w.buckets old.purse)
+      (filter (λ b. not (is_dead b)) w.buckets) new.purse
+  pub sessions : new.sessions.items ≡ sessions_over w.sessions old.sessions.items
+  pub groups : AreWithGroups (groups_over w.sessions w.groups old.groups.items)
+      (filter (λ x. is_some (session_in x.session new.sessions.items)) w.groups) new.groups.items
 
 -- how reservations are stored once a change was written: those that it names so, and all others as
 -- before

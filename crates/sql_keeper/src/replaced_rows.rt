@@ -1,12 +1,14 @@
-//! The rows of a change in the places of those that a keeper keeps.
+//! The rows of a change over those that a keeper keeps.
 
-ghost use Rattle.std.specs.Prelude.{◌≡◌, is_some, map, option_copied, IfOk, IsTrue, OnOk};
+ghost use Rattle.std.specs.Prelude.{◌≡◌, ◌∷◌, [], filter, is_some, map, not, option_copied, IfOk};
+ghost use Rattle.std.specs.Prelude.{OnOk};
 ghost use Rattle.std.specs.List.{list_all};
-ghost use Rattle.reserving.specs.Left.{bucket_in};
+ghost use Rattle.reserving.specs.Left.{bucket_in, is_dead};
 ghost use Rattle.reserving.specs.Sessions.{group_in, session_in};
-ghost use Rattle.sql_keeper.specs.KeptRows.{AreReplaced, bucket_over, group_over, session_over};
-ghost use Rattle.sql_keeper.specs.KeptRows.{has_bucket_place, has_group_place, has_session_place};
-ghost use Rattle.sql_keeper.specs.KeptRows.{HavePlaces};
+ghost use Rattle.sql_keeper.specs.KeptRows.{AreReplaced, AreWithBuckets, AreWithGroups, IsPutIn};
+ghost use Rattle.sql_keeper.specs.KeptRows.{bucket_over, buckets_over, group_over, groups_over};
+ghost use Rattle.sql_keeper.specs.KeptRows.{is_known, is_new_bucket, is_new_group, session_over};
+ghost use Rattle.sql_keeper.specs.KeptRows.{sessions_over, stays_bucket, stays_session};
 
 use crate::live_rows::{LiveRows, purse_of};
 use crate::seen::is_open;
@@ -43,7 +45,7 @@ fn group_among<'a>(
         .find(|row| row.session == *session && row.group == group)
 }
 
-// ---- places
+// ---- what is there, and what stays
 
 fn has_bucket(rows: &[Bucket], number: u32) -> bool
     ensures { result ≡ is_some (bucket_in number rows.now) }
@@ -63,47 +65,45 @@ fn has_group(rows: &[SessionGroup], session: &SessionId, group: u32) -> bool
     group_among(rows, session, group).is_some()
 }
 
-/// Whether a bucket that is named has a place: it is kept, and isn't dead.
-fn has_bucket_place(rows: &[Bucket], named: &Bucket) -> bool
-    ensures { result ≡ has_bucket_place rows.now named.now }
+/// Whether a bucket stays: it isn't named, or isn't dead as it is named.
+fn stays_bucket(named: &[Bucket], row: &Bucket) -> bool
+    ensures { result ≡ stays_bucket named.now row.now }
 {
-    has_bucket(rows, named.number()) && !named.is_dead()
-}
-
-/// Whether a session that is named has a place exactly if it is open.
-fn has_session_place(rows: &[Session], named: &Session) -> bool
-    ensures { result ≡ has_session_place rows.now named.now }
-{
-    if is_open(named.state) {
-        has_session(rows, &named.id)
-    } else {
-        !has_session(rows, &named.id)
+    match bucket_among(named, row.number()) {
+        None => true,
+        Some(new) => !new.is_dead(),
     }
 }
 
-/// Whether what is named of a rating group has a place, or is of a session that isn't kept.
-fn has_group_place(sessions: &[Session], rows: &[SessionGroup], named: &SessionGroup) -> bool
-    ensures { result ≡ has_group_place sessions.now rows.now named.now }
+/// Whether a session stays: it isn't named, or is open as it is named.
+fn stays_session(named: &[Session], id: &SessionId) -> bool
+    ensures { result ≡ stays_session named.now id.now }
 {
-    !has_session(sessions, &named.session) || has_group(rows, &named.session, named.group)
+    match session_among(named, id) {
+        None => true,
+        Some(new) => is_open(new.state),
+    }
 }
 
-fn have_bucket_places(rows: &[Bucket], named: &[Bucket]) -> bool
-    ensures { result ≡ list_all (has_bucket_place rows.now) named.now }
+/// Takes out the buckets that don't stay.
+fn keep_buckets(rows: &mut Vec<Bucket>, named: &[Bucket])
+    ensures { rows.new.items ≡ filter (stays_bucket named.now) rows.old.items }
 {
-    named.iter().all(|row| has_bucket_place(rows, row))
+    rows.retain(|row| stays_bucket(named, row));
 }
 
-fn have_session_places(rows: &[Session], named: &[Session]) -> bool
-    ensures { result ≡ list_all (has_session_place rows.now) named.now }
+/// Takes out the sessions that don't stay.
+fn keep_sessions(rows: &mut Vec<Session>, named: &[Session])
+    ensures { rows.new.items ≡ filter (λ x. stays_session named.now x.id) rows.old.items }
 {
-    named.iter().all(|row| has_session_place(rows, row))
+    rows.retain(|row| stays_session(named, &row.id));
 }
 
-fn have_group_places(sessions: &[Session], rows: &[SessionGroup], named: &[SessionGroup]) -> bool
-    ensures { result ≡ list_all (has_group_place sessions.now rows.now) named.now }
+/// Takes out what sessions that don't stay have of rating groups.
+fn keep_groups(rows: &mut Vec<SessionGroup>, named: &[Session])
+    ensures { rows.new.items ≡ filter (λ x. stays_session named.now x.session) rows.old.items }
 {
-    named.iter().all(|row| has_group_place(sessions, rows, row))
+    rows.retain(|row| stays_session(named, &row.session));
 }
 
 // ---- in the places
@@ -183,48 +183,214 @@ fn put_groups(rows: &mut Vec<SessionGroup>, named: &[SessionGroup]) -> Result<()
     Ok(())
 }
 
-/// A purse with the buckets that are named in their places.
-fn purse_over(alloc: Global, purse: &Purse, named: &[Bucket]) -> Result<Purse, ReadFault>
-    ensures { IfOk result (λ new. new ≡ map (bucket_over named.now) purse.now) }
+// ---- new rows
+
+/// Puts a row in at a place, or behind all others where there are fewer.
+fn insert_at<T: Drop>(rows: &mut Vec<T>, place: usize, row: T) -> Result<(), AllocError>
+    ensures { OnOk result (IsPutIn row rows.old.items rows.new.items) }
 {
+    let place = place.min(rows.len());
+    rows.insert(place, row)?;
+    Ok(())
+}
+
+/// Where a bucket would stand among others in the order of their use.
+fn place_in_use(rows: &[Bucket], row: &Bucket) -> usize {
+    match rows.binary_search_by(|other| {
+        other
+            .until()
+            .cmp(&row.until())
+            .then(other.number().cmp(&row.number()))
+    }) {
+        Ok(place) => place,
+        Err(place) => place,
+    }
+}
+
+/// Where what a session has of a rating group would stand among others in order.
+fn place_of_group(rows: &[SessionGroup], row: &SessionGroup) -> usize {
+    match rows.binary_search_by(|other| {
+        other
+            .session
+            .cmp(&row.session)
+            .then(other.group.cmp(&row.group))
+    }) {
+        Ok(place) => place,
+        Err(place) => place,
+    }
+}
+
+/// Whether a bucket that is named isn't dead, and is none of these.
+fn is_new_bucket(rows: &Vec<Bucket>, row: &Bucket) -> bool
+    ensures { result ≡ is_new_bucket rows.now.items row.now }
+{
+    !row.is_dead() && !has_bucket(rows, row.number())
+}
+
+/// Whether what is named of a rating group is of one of these sessions, and none of these.
+fn is_new_group(sessions: &Vec<Session>, rows: &Vec<SessionGroup>, row: &SessionGroup) -> bool
+    ensures { result ≡ is_new_group sessions.now.items rows.now.items row.now }
+{
+    has_session(sessions, &row.session) && !has_group(rows, &row.session, row.group)
+}
+
+/// Puts a bucket in, if it is new.
+fn add_bucket(rows: &mut Vec<Bucket>, row: &Bucket) -> Result<(), AllocError>
+    ensures { OnOk result (AreWithBuckets rows.old.items
+        (filter (λ b. not (is_dead b)) (row.now ∷ [])) rows.new.items) }
+{
+    if !is_new_bucket(rows, row) {
+        return Ok(());
+    }
+    let place = place_in_use(rows, row);
+    let copy = copy_of_bucket(row)?;
+    insert_at(rows, place, copy)?;
+    Ok(())
+}
+
+/// Puts in what a session has of a rating group, if it is new and of one of these sessions.
+fn add_group(
+    rows: &mut Vec<SessionGroup>,
+    sessions: &Vec<Session>,
+    row: &SessionGroup,
+) -> Result<(), AllocError>
+    ensures { OnOk result (AreWithGroups rows.old.items
+        (filter (λ x. is_some (session_in x.session sessions.now.items)) (row.now ∷ []))
+        rows.new.items) }
+{
+    if !is_new_group(sessions, rows, row) {
+        return Ok(());
+    }
+    let place = place_of_group(rows, row);
+    let copy = copy_of_group(row)?;
+    insert_at(rows, place, copy)?;
+    Ok(())
+}
+
+/// Puts the buckets in that are new.
+fn add_buckets(rows: &mut Vec<Bucket>, named: &[Bucket]) -> Result<(), AllocError>
+    ensures { OnOk result (AreWithBuckets rows.old.items
+        (filter (λ b. not (is_dead b)) named.now) rows.new.items) }
+{
+    for row in named {
+        add_bucket(rows, row)?;
+    }
+    Ok(())
+}
+
+/// Puts in what these sessions have of rating groups that are new.
+fn add_groups(
+    rows: &mut Vec<SessionGroup>,
+    sessions: &Vec<Session>,
+    named: &[SessionGroup],
+) -> Result<(), AllocError>
+    ensures { OnOk result (AreWithGroups rows.old.items
+        (filter (λ x. is_some (session_in x.session sessions.now.items)) named.now)
+        rows.new.items) }
+{
+    for row in named {
+        add_group(rows, sessions, row)?;
+    }
+    Ok(())
+}
+
+// ---- all of them
+
+/// A purse with the buckets that a change names, without those that are dead.
+fn purse_over(alloc: Global, purse: &Purse, change: &NamedRows) -> Result<Purse, ReadFault>
+    ensures { IfOk result (AreWithBuckets (buckets_over change.now.buckets purse.now)
+        (filter (λ b. not (is_dead b)) change.now.buckets)) }
+{
+    let named = change.buckets();
     let mut buckets = purse.to_vec()?;
+    keep_buckets(&mut buckets, named);
     put_buckets(&mut buckets, named)?;
-    purse_of(alloc, buckets)
+    add_buckets(&mut buckets, named)?;
+    let purse = purse_of(alloc, buckets)?;
+    Ok(purse)
 }
 
-/// Whether each row that a change names has a place among those that are kept.
-fn have_places(rows: &LiveRows, named: &NamedRows) -> bool
-    ensures { IsTrue result → HavePlaces named.now rows.now.purse rows.now.sessions.items
-        rows.now.groups.items }
+/// Sessions as a change names them, without those that aren't open.
+fn sessions_over(
+    sessions: Vec<Session>,
+    change: &NamedRows,
+) -> Result<Vec<Session>, AllocError>
+    ensures { IfOk result (λ rows. rows.items
+        ≡ sessions_over change.now.sessions sessions.items) }
 {
-    have_bucket_places(rows.purse.buckets(), named.buckets())
-        && have_session_places(&rows.sessions, named.sessions())
-        && have_group_places(&rows.sessions, &rows.groups, named.groups())
+    let named = change.sessions();
+    let mut rows = sessions;
+    keep_sessions(&mut rows, named);
+    put_sessions(&mut rows, named)?;
+    Ok(rows)
 }
 
-/// The rows that are kept, with those that a change names in their places.
+/// What sessions have of rating groups as a change names it, where these are the sessions after it.
+fn groups_over(
+    groups: Vec<SessionGroup>,
+    sessions: &Vec<Session>,
+    change: &NamedRows,
+) -> Result<Vec<SessionGroup>, AllocError>
+    ensures { IfOk result (λ rows. AreWithGroups
+        (groups_over change.now.sessions change.now.groups groups.items)
+        (filter (λ x. is_some (session_in x.session sessions.now.items)) change.now.groups)
+        rows.items) }
+{
+    let ended = change.sessions();
+    let named = change.groups();
+    let mut rows = groups;
+    keep_groups(&mut rows, ended);
+    put_groups(&mut rows, named)?;
+    add_groups(&mut rows, sessions, named)?;
+    Ok(rows)
+}
+
+/// Whether a session that is named is one of these, or isn't open.
+fn is_known(sessions: &[Session], row: &Session) -> bool
+    ensures { result ≡ is_known sessions.now row.now }
+{
+    !is_open(row.state) || has_session(sessions, &row.id)
+}
+
+/// Whether no session is opened by the rows that are named.
+fn are_known(sessions: &[Session], named: &[Session]) -> bool
+    ensures { result ≡ list_all (is_known sessions.now) named.now }
+{
+    named.iter().all(|row| is_known(sessions, row))
+}
+
+/// Whether a change opens no session beside those that are kept.
+fn opens_none(rows: &LiveRows, change: &NamedRows) -> bool
+    ensures { result ≡ list_all (is_known rows.now.sessions.items) change.now.sessions }
+{
+    are_known(&rows.sessions, change.sessions())
+}
+
+/// The rows that are kept, with those that a change names: each in the place of the one with its
+/// key or among the others, without what can't change any more.
 ///
 /// # Errors
-/// `Rules` where one that is named has no place: a bucket that isn't kept or is dead, a session
-/// that is opened or ended, or a rating group more; want of memory.
+/// `Rules` where a session is opened; want of memory.
 pub(crate) fn rows_over(
     alloc: Global,
     rows: LiveRows,
-    named: &NamedRows,
+    change: &NamedRows,
 ) -> Result<LiveRows, ReadFault>
-    ensures { IfOk result (AreReplaced named.now rows) }
+    ensures { IfOk result (AreReplaced change.now rows) }
 {
-    if !have_places(&rows, named) {
+    // For the prover alone: looking at the value makes known here what its type keeps.
+    let _named = change.as_of();
+    if !opens_none(&rows, change) {
         return Err(ReadFault::Rules);
     }
     let LiveRows {
         purse,
-        mut sessions,
-        mut groups,
+        sessions,
+        groups,
     } = rows;
-    let purse = purse_over(alloc, &purse, named.buckets())?;
-    put_sessions(&mut sessions, named.sessions())?;
-    put_groups(&mut groups, named.groups())?;
+    let purse = purse_over(alloc, &purse, change)?;
+    let sessions = sessions_over(sessions, change)?;
+    let groups = groups_over(groups, &sessions, change)?;
     Ok(LiveRows {
         purse,
         sessions,
