@@ -11,6 +11,8 @@ use Rattle.buckets.specs.Row.{BucketRow}
 use Rattle.reserving.specs.declared.session.Session.{Session}
 use Rattle.reserving.specs.declared.session.SessionGroup.{SessionGroup}
 use Rattle.ledger.proofs.Holds.{same_itself}
+use Rattle.reserving.proofs.Keys.{first_true, second_true}
+use Rattle.reserving.proofs.Lists.{not_both}
 use Rattle.keepers.specs.Change.{over}
 use Rattle.keepers.specs.Tables.{Tables}
 use Rattle.keepers.specs.declared.loaded.Change.{Change}
@@ -23,11 +25,14 @@ use Rattle.sql_keeper.specs.Asks.{Asks}
 use Rattle.sql_keeper.specs.Commits.{Becomes, CommitsStanding}
 use Rattle.sql_keeper.specs.Content.{Names, told_rows}
 use Rattle.sql_keeper.specs.KeptRows.{AreCopied, AreKept, AreOf, AreReplaced, AreTaken}
-use Rattle.sql_keeper.specs.KeptRows.{BecomesOver, IsOf, Keeps}
+use Rattle.sql_keeper.specs.KeptRows.{BecomesOver, IsOf, Keeps, is_unknown_in}
+use Rattle.sql_keeper.specs.Grants.{is_name}
 use Rattle.sql_keeper.specs.LiveGroups.{Gathers}
 use Rattle.sql_keeper.specs.LiveRows.{AreLiveRows, IsLoadStored}
+use Rattle.sql_keeper.specs.Seen.{AreSeen, IsUnknown, Sees}
 use Rattle.sql_keeper.specs.declared.kept_rows.KeptRows.{KeptRows}
 use Rattle.sql_keeper.specs.declared.live_rows.LiveRows.{LiveRows}
+use Rattle.sql_keeper.specs.declared.seen.SeenAccount.{SeenAccount}
 use Rattle.sql_keeper.proofs.InTurn.{gathers_from, none_read}
 use Rattle.sql_keeper.proofs.Overlays.{name_from}
 use Rattle.sql_keeper.proofs.RowsOver.{live_over}
@@ -64,17 +69,19 @@ told_kept {A} {E} names told o x s idle kept to =
 
 -- after what writes, whether it was made or not
 pub kept_made : {A E : Type 0} (names : Names) (Become : Trees → Trees → Type 0)
-    (o p : Option KeptRows) (old new : State) (r : Result A E) → AreKept names o old
-    → CommitsStanding Become old new r
-    → ((trees db : Trees) → OnOk r (Become trees db) → Keeps names o trees → Keeps names p db)
+    (seen : Option SeenAccount) (o p : Option KeptRows) (old new : State) (r : Result A E)
+    → AreSeen seen old → AreKept names o old → CommitsStanding Become old new r
+    → ((trees db : Trees) → OnOk r (Become trees db) → Sees seen trees → Keeps names o trees
+    → Keeps names p db)
     → AreKept names p new
-kept_made names Become o p old new (Ok x) kept h to clean on =
+kept_made names Become seen o p old new (Ok x) sees kept h to clean on =
     let d = h.commits.done clean in
     let was : HasCleanDisk old = omega (arith, h.commits.survives.clean, clean) in
-    to old.now.trees new.now.trees d.2 (kept was d.0)
-kept_made names Become o p old new (Err e) kept h to clean on =
+    to old.now.trees new.now.trees d.2 (sees was d.0) (kept was d.0)
+kept_made names Become seen o p old new (Err e) sees kept h to clean on =
     let was : HasCleanDisk old = omega (arith, h.commits.survives.clean, clean) in
-    to old.now.trees new.now.trees tt (kept was (h.commits.err clean on).was_open)
+    let open_was = (h.commits.err clean on).was_open in
+    to old.now.trees new.now.trees tt (sees was open_was) (kept was open_was)
 
 -- ---- copies
 
@@ -114,16 +121,36 @@ told_of names text change old new becomes =
     ∙ ap (λ b. if b then over change.rows (told_rows names (rows_in old change.number))
     else told_rows names (rows_in old change.number)) (same_itself change.number)
 
--- the rows of the account that is kept, with those of the change in their places
+-- of a session that was seen to have no row nothing is stored
+fresh_seen : (seen : Option SeenAccount) (a : List ℕ) (trees : Trees) → Sees seen trees
+    → (s : List ℕ) → is_unknown_in seen a s ≡ true → IsUnknown (rows_in trees a) s
+fresh_seen None a trees sees s e = absurd (not_both e)
+fresh_seen (Some x) a trees sees s e =
+    at x.unknown refl (second_true (same_name x.account a) (is_name s x.unknown) e)
+  where
+    here : x.account ≡ a
+    here = name_from x.account a (first_true (same_name x.account a) (is_name s x.unknown) e)
+
+    at : (o : Option (List ℕ)) → x.unknown ≡ o → is_name s o ≡ true → IsUnknown (rows_in trees a) s
+    at None k f = absurd (not_both f)
+    at (Some z) k f =
+        subst (λ b. IsUnknown (rows_in trees b) s) here
+        (subst (IsUnknown (rows_in trees x.account)) (name_from z s f) (sees.unknown z k))
+
+-- the rows of the account that is kept, with those of the change over them
 pub kept_changed : (names : Names) (text : List ℕ) (change : Change) (old new : Trees)
-    (x : KeptRows) (y : LiveRows) → true ≡ same_name x.account change.number
-    → BecomesOver names text change old new → AreReplaced change.rows x.rows y
+    (seen : Option SeenAccount) (x : KeptRows) (y : LiveRows)
+    → true ≡ same_name x.account change.number → BecomesOver names text change old new
+    → Sees seen old
+    → AreReplaced (is_unknown_in seen change.number) change.rows x.rows y
     → Keeps names (Some x) old → AreOf names (rows_in new x.account) y
-kept_changed names text change old new x y same becomes replaced kept =
+kept_changed names text change old new seen x y same becomes sees replaced kept =
     let here : x.account ≡ change.number = name_from x.account change.number (sym same) in
     subst (λ b. AreOf names (rows_in new b) y) (sym here)
-    (live_over names (rows_in old change.number) (rows_in new change.number) change.rows x.rows y
+    (live_over names (is_unknown_in seen change.number) (rows_in old change.number)
+    (rows_in new change.number) change.rows x.rows y
     (subst (λ b. AreOf names (rows_in old b) x.rows) here kept) replaced
+    (fresh_seen seen change.number old sees)
     (told_of names text change old new becomes) becomes.grants)
 
 -- ---- what is committed, without how reservations are stored

@@ -11,15 +11,15 @@ use Rattle.ledger.specs.Ledger.{is_same}
 use Rattle.reserving.specs.declared.session.Session.{Session}
 use Rattle.reserving.specs.declared.session.SessionGroup.{SessionGroup}
 use Rattle.reserving.specs.Left.{bucket_in, first_of, is_dead}
-use Rattle.reserving.specs.Sessions.{group_in, is_of, session_in}
+use Rattle.reserving.specs.Sessions.{group_in, is_of, is_open, is_session, session_in}
 use Rattle.reserving.proofs.Keys.{first_true, same_number, second_true}
 use Rattle.reserving.proofs.LeftParted.{find_both}
 use Rattle.reserving.proofs.LeftTests.{first_alone}
 use Rattle.reserving.proofs.Lists.{no_some, not_both}
-use Rattle.sql_keeper.specs.KeptRows.{AreWithBuckets, AreWithGroups, IsPutIn, bucket_over}
-use Rattle.sql_keeper.specs.KeptRows.{buckets_over, group_over, groups_over, is_new_bucket}
-use Rattle.sql_keeper.specs.KeptRows.{is_new_group, session_over, sessions_over, stays_bucket}
-use Rattle.sql_keeper.specs.KeptRows.{stays_session}
+use Rattle.sql_keeper.specs.KeptRows.{AreWithBuckets, AreWithGroups, AreWithSessions, IsPutIn}
+use Rattle.sql_keeper.specs.KeptRows.{bucket_over, buckets_over, group_over, groups_over}
+use Rattle.sql_keeper.specs.KeptRows.{is_new_bucket, is_new_group, is_new_session, session_over}
+use Rattle.sql_keeper.specs.KeptRows.{sessions_over, stays_bucket, stays_session}
 
 -- ---- what is first
 
@@ -141,6 +141,25 @@ bucket_unadded x old test n =
     unadded (λ (b : BucketRow). b.number == n) (λ (b : BucketRow). not (is_dead b))
     (λ (b : BucketRow). b.number == x.number) x old test (own_number n x old)
 
+-- ---- sessions
+
+own_name : (s : List ℕ) (x : Session) (old : List Session) → is_session s x ≡ true
+    → session_in x.id old ≡ session_in s old
+own_name s x old e = ap (λ m. session_in m old) (same_from x.id s e)
+
+pub session_added : (x : Session) (old new : List Session) → is_new_session old x ≡ true
+    → IsPutIn x old new
+    → AreWithSessions old (filter (λ (y : Session). is_open y.state) (x ∷ [])) new
+session_added x old new test put s =
+    added (is_session s) (λ (y : Session). is_open y.state) (is_session x.id) x old new test
+    (own_name s x old) put
+
+pub session_unadded : (x : Session) (old : List Session) → is_new_session old x ≡ false
+    → AreWithSessions old (filter (λ (y : Session). is_open y.state) (x ∷ [])) old
+session_unadded x old test s =
+    unadded (is_session s) (λ (y : Session). is_open y.state) (is_session x.id) x old test
+    (own_name s x old)
+
 -- ---- groups
 
 own_group : (s : List ℕ) (g : ℕ) (x : SessionGroup) (old : List SessionGroup)
@@ -179,11 +198,15 @@ purse_made us ws bs read kept put now made u r k p h m =
     (subst (λ l. AreWithBuckets l (filter (λ (b : BucketRow). not (is_dead b)) us) now)
     (p ∙ ap (map (bucket_over us)) (k ∙ ap (filter (stays_bucket us)) r)) h))
 
-pub sessions_made : (us ws old kept now : List Session) → us ≡ ws
-    → kept ≡ filter (λ x. stays_session us x.id) old → now ≡ map (session_over us) kept
-    → now ≡ sessions_over ws old
-sessions_made us ws old kept now u k p =
-    p ∙ ap (map (session_over us)) k ∙ ap (λ l. sessions_over l old) u
+pub sessions_made : (us ws old kept put now : List Session) → us ≡ ws
+    → kept ≡ filter (λ x. stays_session us x.id) old → put ≡ map (session_over us) kept
+    → AreWithSessions put (filter (λ (x : Session). is_open x.state) us) now
+    → AreWithSessions (sessions_over ws old) (filter (λ (x : Session). is_open x.state) ws) now
+sessions_made us ws old kept put now u k p h =
+    subst (λ l. AreWithSessions (sessions_over l old)
+    (filter (λ (x : Session). is_open x.state) l) now) u
+    (subst (λ l. AreWithSessions l (filter (λ (x : Session). is_open x.state) us) now)
+    (p ∙ ap (map (session_over us)) k) h)
 
 pub groups_made : (es ts ss : List Session) (us ws old kept put now : List SessionGroup)
     → es ≡ ts → us ≡ ws → kept ≡ filter (λ x. stays_session es x.session) old

@@ -1,7 +1,7 @@
 -- The live rows of an account that a keeper keeps, with those of a change in their places: what may
 -- still change once the change is written.
 use Rattle.std.proofs.Common.{◌≡◌, ℕ, Bool, true, false, cond, List, [], ◌∷◌, Option, Some, None}
-use Rattle.std.proofs.Common.{map, refl, sym, ap, subst, ◌∙◌}
+use Rattle.std.proofs.Common.{map, refl, sym, ap, subst, ◌∙◌, ◌⊎◌, inl, inr}
 use Rattle.std.specs.Prelude.{if◌then◌else◌, ◌==◌, ◌&&◌, ◌||◌, filter, not, is_some, option_map}
 use Rattle.std.specs.Prelude.{unwrap_or}
 use Rattle.std.specs.List.{find, list_all}
@@ -14,11 +14,12 @@ use Rattle.reserving.specs.Left.{bucket_in, first_of, is_dead, is_open_row, only
 use Rattle.reserving.specs.Sessions.{group_in, is_of, is_open, is_session, session_in}
 use Rattle.reserving.specs.Stored.{StoredRows}
 use Rattle.reserving.proofs.Keys.{first_true, same_number, second_true}
+use Rattle.reserving.proofs.LeftParted.{one_session}
 use Rattle.reserving.proofs.LeftTests.{find_filter}
 use Rattle.reserving.proofs.Lists.{find-map, find-passes, no_some, not_both, some_of}
 use Rattle.keepers.specs.Change.{held_over, over}
 use Rattle.keepers.specs.Tables.{GroupRow, Rows, group_row, held_of}
-use Rattle.keepers.specs.Keyed.{same_bucket}
+use Rattle.keepers.specs.Keyed.{same_bucket, same_session}
 use Rattle.keepers.proofs.Found.{one_bucket}
 use Rattle.keepers.proofs.GroupRows.{held_over_is, row_over}
 use Rattle.sql_tables.specs.Selects.{passing}
@@ -29,6 +30,7 @@ use Rattle.sql_keeper.specs.KeptRows.{groups_over, is_known, sessions_over, stay
 use Rattle.sql_keeper.specs.KeptRows.{stays_session}
 use Rattle.sql_keeper.specs.LiveGroups.{AreGrantsStored, IsGrantStored}
 use Rattle.sql_keeper.specs.LiveRows.{AreToldRows}
+use Rattle.sql_keeper.specs.Seen.{IsUnknown}
 use Rattle.sql_keeper.specs.declared.live_rows.LiveRows.{LiveRows}
 use Rattle.sql_keeper.proofs.DeadRows.{those_are}
 use Rattle.sql_keeper.proofs.LiveRows.{find_kept}
@@ -129,22 +131,6 @@ last_over {A} live (Some y) m t e = at (live y) m
     at true (Some x) = refl
     at false n = refl
 
--- of rows in their places alone, where what is named may still change only if it is there
-places_over : {A : Type 0} (live : A → Bool) (o m t : Option A) → m ≡ only live t
-    → ((y : A) → o ≡ Some y → live y ≡ true → is_some m ≡ true)
-    → option_map (λ x. unwrap_or o x) (if stays live o then m else None)
-    ≡ only live (first_of o t)
-places_over live None None t e there = e
-places_over live None (Some x) t e there = e
-places_over {A} live (Some y) m t e there = at (live y) m (there y refl)
-  where
-    at : (l : Bool) (n : Option A) → (l ≡ true → is_some n ≡ true)
-        → option_map (λ x. unwrap_or (Some y) x) (if l then n else None)
-        ≡ (if l then Some y else None)
-    at true None k = absurd (not_both (k refl))
-    at true (Some x) k = refl
-    at false n k = refl
-
 -- what an open session has of a rating group, in its place or new
 group_last : (t c : Bool) (o k : Option SessionGroup) → (t ≡ true → c ≡ true)
     → (t ≡ false → (if c then k else None) ≡ None)
@@ -179,24 +165,36 @@ row_none : (o : Option SessionGroup) → option_map group_row o ≡ None → o �
 row_none None e = refl
 row_none (Some x) e = absurd (no_some (group_row x) (sym e))
 
-row_then : (t u : Bool) (o k : Option SessionGroup) (z : Option GroupRow)
-    → (t ≡ true → u ≡ true) → option_map group_row k ≡ (if u then z else None)
+row_then : (t : Bool) (o k : Option SessionGroup) (now z : Option GroupRow) → (t ≡ true → now ≡ z)
+    → option_map group_row k ≡ now
     → option_map group_row (if t then first_of o k else None)
     ≡ (if t then first_of (option_map group_row o) z else None)
-row_then true u o k z still e =
-    sym (row_over o k) ∙ ap (first_of (option_map group_row o))
-    (e ∙ ap (λ b. if b then z else None) (still refl))
-row_then false u o k z still e = refl
+row_then true o k now z as_now e =
+    sym (row_over o k) ∙ ap (first_of (option_map group_row o)) (e ∙ as_now refl)
+row_then false o k now z as_now e = refl
 
-held_then : (n : ℕ) (t u : Bool) (o k : Option SessionGroup) (z : ℕ) → (t ≡ true → u ≡ true)
-    → held_of n k ≡ (if u then z else 0)
+held_then : (n : ℕ) (t : Bool) (o k : Option SessionGroup) (now z : ℕ) → (t ≡ true → now ≡ z)
+    → held_of n k ≡ now
     → held_of n (if t then first_of o k else None) ≡ (if t then held_over n o z else 0)
-held_then n true u o k z still e =
-    sym (held_over_is n o k) ∙ ap (held_over n o) (e ∙ ap (λ b. if b then z else 0) (still refl))
-held_then n false u o k z still e = refl
+held_then n true o k now z as_now e =
+    sym (held_over_is n o k) ∙ ap (held_over n o) (e ∙ as_now refl)
+held_then n false o k now z as_now e = refl
 
-module _ (r : Rows) (w : StoredRows) (x y : LiveRows)
-    (are : AreOpenRows r x.purse x.sessions.items x.groups.items) (put : AreReplaced w x y) where
+-- what is there of an open session, or nothing where nothing is there
+if_there : {A : Type 0} (t : Bool) (x none : A) → (t ≡ true) ⊎ (x ≡ none)
+    → (if t then x else none) ≡ x
+if_there true x none h = refl
+if_there false x none (inl e) = absurd (not_both e)
+if_there false x none (inr e) = sym e
+
+-- of a session nothing is there
+pub record IsNothing (r : Rows) (s : List ℕ) : Type 0 where
+  pub groups : (g : ℕ) → r.groups s g ≡ None
+  pub holds : (g n : ℕ) → r.holds s g n ≡ 0
+
+module _ (fresh : List ℕ → Bool) (r : Rows) (w : StoredRows) (x y : LiveRows)
+    (are : AreOpenRows r x.purse x.sessions.items x.groups.items) (put : AreReplaced fresh w x y)
+    (nothing : (s : List ℕ) → fresh s ≡ true → IsNothing r s) where
   bucket_over_is : (n : ℕ) → bucket_in n y.purse
       ≡ only (λ b. not (is_dead b)) (first_of (bucket_in n w.buckets) (r.buckets n))
   bucket_over_is n =
@@ -207,25 +205,15 @@ module _ (r : Rows) (w : StoredRows) (x y : LiveRows)
       ∙ last_over (λ (b : BucketRow). not (is_dead b)) (bucket_in n w.buckets)
       (bucket_in n x.purse) (r.buckets n) (are.buckets n)
 
-  -- a session that is open as it is named was open
-  was_known : (s : List ℕ) (z : Session) → session_in s w.sessions ≡ Some z
-      → is_open z.state ≡ true → is_some (session_in s x.sessions.items) ≡ true
-  was_known s z e on =
-      at (is_open z.state) (is_some (session_in s x.sessions.items))
-      (ap (λ m. not (is_open z.state) || is_some (session_in m x.sessions.items))
-      (sym (same_from z.id s (find-passes (is_session s) w.sessions z e)))
-      ∙ all_found (is_known x.sessions.items) (is_session s) w.sessions z put.known e) on
-    where
-      at : (t u : Bool) → (not t || u) ≡ true → t ≡ true → u ≡ true
-      at true u h k = h
-      at false u h k = absurd (not_both k)
-
   session_over_is : (s : List ℕ) → session_in s y.sessions.items
       ≡ only (λ z. is_open z.state) (first_of (session_in s w.sessions) (r.sessions s))
   session_over_is s =
-      ap (session_in s) put.sessions ∙ session_found s w.sessions x.sessions.items
-      ∙ places_over (λ (z : Session). is_open z.state) (session_in s w.sessions)
-      (session_in s x.sessions.items) (r.sessions s) (are.sessions s) (was_known s)
+      put.sessions s
+      ∙ (λ i. first_of (session_found s w.sessions x.sessions.items i)
+      (find_filter same_session (is_session s) (one_session s)
+      (λ (z : Session). is_open z.state) w.sessions put.named.apart.sessions i))
+      ∙ last_over (λ (z : Session). is_open z.state) (session_in s w.sessions)
+      (session_in s x.sessions.items) (r.sessions s) (are.sessions s)
 
   open_after : List ℕ → Bool
   open_after s = is_open_row (first_of (session_in s w.sessions) (r.sessions s))
@@ -238,16 +226,54 @@ module _ (r : Rows) (w : StoredRows) (x y : LiveRows)
   was_open : (s : List ℕ) → is_some (session_in s x.sessions.items) ≡ is_open_row (r.sessions s)
   was_open s = ap is_some (are.sessions s) ∙ open_found (r.sessions s)
 
-  -- none is opened
-  still : (s : List ℕ) → open_after s ≡ true → is_open_row (r.sessions s) ≡ true
+  -- a session that is open as it is named was open, or nothing was there of it
+  was_known : (s : List ℕ) (z : Session) → session_in s w.sessions ≡ Some z
+      → is_open z.state ≡ true → (is_some (session_in s x.sessions.items) || fresh s) ≡ true
+  was_known s z e on =
+      at (is_open z.state) (is_some (session_in s x.sessions.items) || fresh s)
+      (ap (λ m. not (is_open z.state)
+      || (is_some (session_in m x.sessions.items) || fresh m))
+      (sym (same_from z.id s (find-passes (is_session s) w.sessions z e)))
+      ∙ all_found (is_known fresh x.sessions.items) (is_session s) w.sessions z put.known e) on
+    where
+      at : (t u : Bool) → (not t || u) ≡ true → t ≡ true → u ≡ true
+      at true u h k = h
+      at false u h k = absurd (not_both k)
+
+  still : (s : List ℕ) → open_after s ≡ true
+      → (is_open_row (r.sessions s) ≡ true) ⊎ (fresh s ≡ true)
   unfolding open_after
   still s = at (session_in s w.sessions) (was_known s)
     where
+      either : (t u : Bool) → (t || u) ≡ true → (t ≡ true) ⊎ (u ≡ true)
+      either true u e = inl refl
+      either false u e = inr e
+
       at : (o : Option Session) → ((z : Session) → o ≡ Some z → is_open z.state ≡ true
-          → is_some (session_in s x.sessions.items) ≡ true)
-          → is_open_row (first_of o (r.sessions s)) ≡ true → is_open_row (r.sessions s) ≡ true
-      at None known e = e
-      at (Some z) known e = sym (was_open s) ∙ known z refl e
+          → (is_some (session_in s x.sessions.items) || fresh s) ≡ true)
+          → is_open_row (first_of o (r.sessions s)) ≡ true
+          → (is_open_row (r.sessions s) ≡ true) ⊎ (fresh s ≡ true)
+      at None known e = inl e
+      at (Some z) known e = either (is_open_row (r.sessions s)) (fresh s)
+          (ap (λ t. t || fresh s) (sym (was_open s)) ∙ known z refl e)
+
+  rows_there : (s : List ℕ) (g : ℕ) → open_after s ≡ true
+      → (if is_open_row (r.sessions s) then r.groups s g else None) ≡ r.groups s g
+  rows_there s g e = if_there (is_open_row (r.sessions s)) (r.groups s g) None (by (still s e))
+    where
+      by : (is_open_row (r.sessions s) ≡ true) ⊎ (fresh s ≡ true)
+          → (is_open_row (r.sessions s) ≡ true) ⊎ (r.groups s g ≡ None)
+      by (inl k) = inl k
+      by (inr k) = inr ((nothing s k).groups g)
+
+  holds_there : (s : List ℕ) (g n : ℕ) → open_after s ≡ true
+      → (if is_open_row (r.sessions s) then r.holds s g n else 0) ≡ r.holds s g n
+  holds_there s g n e = if_there (is_open_row (r.sessions s)) (r.holds s g n) 0 (by (still s e))
+    where
+      by : (is_open_row (r.sessions s) ≡ true) ⊎ (fresh s ≡ true)
+          → (is_open_row (r.sessions s) ≡ true) ⊎ (r.holds s g n ≡ 0)
+      by (inl k) = inl k
+      by (inr k) = inr ((nothing s k).holds g n)
 
   stays_on : (s : List ℕ) → open_after s ≡ true → stays_session w.sessions s ≡ true
   unfolding open_after
@@ -296,12 +322,14 @@ module _ (r : Rows) (w : StoredRows) (x y : LiveRows)
     sessions = session_over_is;
     groups = λ s g.
         ap (option_map group_row) (group_over_is s g)
-        ∙ row_then (open_after s) (is_open_row (r.sessions s)) (group_in s g w.groups)
-        (group_in s g x.groups.items) (r.groups s g) (still s) (are.groups s g);
+        ∙ row_then (open_after s) (group_in s g w.groups) (group_in s g x.groups.items)
+        (if is_open_row (r.sessions s) then r.groups s g else None) (r.groups s g)
+        (rows_there s g) (are.groups s g);
     holds = λ s g n.
         ap (held_of n) (group_over_is s g)
-        ∙ held_then n (open_after s) (is_open_row (r.sessions s)) (group_in s g w.groups)
-        (group_in s g x.groups.items) (r.holds s g n) (still s) (are.holds s g n);
+        ∙ held_then n (open_after s) (group_in s g w.groups) (group_in s g x.groups.items)
+        (if is_open_row (r.sessions s) then r.holds s g n else 0) (r.holds s g n)
+        (holds_there s g n) (are.holds s g n);
   }
 
 -- ---- told by the tables
@@ -377,17 +405,39 @@ grants_over old new ws xs ys on stored are found s g x v e f =
 
 -- ---- all of it
 
-pub live_over : (names : Names) (old new : TableRows) (w : StoredRows) (x y : LiveRows)
-    → AreOf names old x → AreReplaced w x y → told_rows names new ≡ over w (told_rows names old)
+-- of a session of which nothing is stored nothing is told
+nothing_told : (names : Names) (r : TableRows) (s : List ℕ) → IsUnknown r s
+    → IsNothing (told_rows names r) s
+nothing_told names r s none = record {
+  groups = λ g.
+      ap (option_map (stored_group_in names (is_open_row (r.sessions s)) (r.grant_books s g)))
+      (none.groups.groups g);
+  holds = λ g n.
+      ap (held_in (is_open_row (r.sessions s) && is_reserved (r.groups s g)))
+      (none.groups.holds g n)
+      ∙ not_held (is_open_row (r.sessions s) && is_reserved (r.groups s g));
+}
+  where
+    not_held : (b : Bool) → held_in b None ≡ 0
+    not_held true = refl
+    not_held false = refl
+
+pub live_over : (names : Names) (fresh : List ℕ → Bool) (old new : TableRows) (w : StoredRows)
+    (x y : LiveRows) → AreOf names old x → AreReplaced fresh w x y
+    → ((s : List ℕ) → fresh s ≡ true → IsUnknown old s)
+    → told_rows names new ≡ over w (told_rows names old)
     → AreGrantsOver w.groups old new → AreOf names new y
-live_over names old new w x y live replaced told grants =
+live_over names fresh old new w x y live replaced unknown told grants =
     let open_old = open_of_told names old x.purse x.sessions.items x.groups.items live.told in
-    let open_new = open_over (told_rows names old) w x y open_old replaced in
+    let none : (s : List ℕ) → fresh s ≡ true → IsNothing (told_rows names old) s =
+    λ s e. nothing_told names old s (unknown s e) in
+    let open_new = open_over fresh (told_rows names old) w x y open_old replaced none in
     record {
       told = told_of_open names new y.purse y.sessions.items y.groups.items
           (subst (λ (r : Rows). AreOpenRows r y.purse y.sessions.items y.groups.items)
           (sym told) open_new);
       grants = grants_over old new w.groups x.groups.items y.groups.items
           (λ s. is_open_row (first_of (session_in s w.sessions) (old.sessions s)))
-          live.grants grants (group_over_is (told_rows names old) w x y open_old replaced);
+          live.grants grants
+          (group_over_is fresh (told_rows names old) w x y open_old replaced none);
     }

@@ -1,11 +1,12 @@
 -- The rows of one account that a keeper keeps: all of it that may still change, as they were read
 -- or written last.
 -- Source: profile.
-use Rattle.std.specs.Prelude.{◌≡◌, ◌&&◌, ◌||◌, ℕ, Bool, true, not, filter, List, Option, Some, None}
-use Rattle.std.specs.Prelude.{IsTrue, is_some, map, option_map, unwrap_or, if◌then◌else◌}
+use Rattle.std.specs.Prelude.{◌≡◌, ◌&&◌, ◌||◌, ℕ, Bool, true, false, not, filter, List, Option}
+use Rattle.std.specs.Prelude.{Some, None, IsTrue, is_some, map, option_map, unwrap_or}
+use Rattle.std.specs.Prelude.{if◌then◌else◌}
 use Rattle.std.specs.List.{insert, list_all}
 use Rattle.units.specs.Words.{GroupId}
-use Rattle.identifiers.specs.Words.{SessionName}
+use Rattle.identifiers.specs.Words.{AccountName, SessionName}
 use Rattle.buckets.specs.Words.{BucketNumber}
 use Rattle.sqlite_trees.specs.Tree.{Trees}
 use Rattle.sqlite.specs.State.{State, HasCleanDisk}
@@ -20,13 +21,16 @@ use Rattle.keepers.specs.declared.loaded.Change.{Change}
 use Rattle.keepers.specs.declared.loaded.Loaded.{Loaded}
 use Rattle.keepers.specs.Naming.{IsNamed}
 use Rattle.keepers.specs.Tables.{Rows, group_row, held_of}
+use Rattle.sql_tables.specs.Keyed.{same_name}
 use Rattle.sql_rows.specs.Content.{TableRows, rows_in}
 use Rattle.sql_keeper.specs.Commits.{Becomes}
 use Rattle.sql_keeper.specs.Content.{Names}
+use Rattle.sql_keeper.specs.Grants.{is_name}
 use Rattle.sql_keeper.specs.LiveGroups.{AreGrantsStored}
 use Rattle.sql_keeper.specs.LiveRows.{AreLiveRows}
 use Rattle.sql_keeper.specs.declared.kept_rows.KeptRows.{KeptRows}
 use Rattle.sql_keeper.specs.declared.live_rows.LiveRows.{LiveRows}
+use Rattle.sql_keeper.specs.declared.seen.SeenAccount.{SeenAccount}
 
 -- ---- what is kept
 
@@ -94,6 +98,9 @@ abbrev pub groups_over : List Session → List SessionGroup → List SessionGrou
 groups_over ss ws xs = map (group_over ws) (filter (λ x. stays_session ss x.session) xs)
 
 -- a row of a new key that may still change, or is of one of these sessions
+abbrev pub is_new_session : List Session → Session → Bool
+is_new_session ss x = is_open x.state && not (is_some (session_in x.id ss))
+
 abbrev pub is_new_bucket : List BucketRow → BucketRow → Bool
 is_new_bucket bs b = not (is_dead b) && not (is_some (bucket_in b.number bs))
 
@@ -111,22 +118,33 @@ abbrev pub AreWithBuckets : List BucketRow → List BucketRow → List BucketRow
 AreWithBuckets old more new =
     (n : BucketNumber) → bucket_in n new ≡ first_of (bucket_in n old) (bucket_in n more)
 
+abbrev pub AreWithSessions : List Session → List Session → List Session → Type 0
+AreWithSessions old more new =
+    (s : SessionName) → session_in s new ≡ first_of (session_in s old) (session_in s more)
+
 abbrev pub AreWithGroups : List SessionGroup → List SessionGroup → List SessionGroup → Type 0
 AreWithGroups old more new =
     (s : SessionName) (g : GroupId) →
     group_in s g new ≡ first_of (group_in s g old) (group_in s g more)
 
--- a session that is named is one of these, unless it isn't open
-abbrev pub is_known : List Session → Session → Bool
-is_known ss x = not (is_open x.state) || is_some (session_in x.id ss)
+-- whether it was seen of an account that a session has no row
+abbrev pub is_unknown_in : Option SeenAccount → AccountName → SessionName → Bool
+is_unknown_in None a s = false
+is_unknown_in (Some x) a s = same_name x.account a && is_name s x.unknown
 
--- the rows with those of the change: no session is opened
-pub record AreReplaced (w : StoredRows) (old new : LiveRows) : Type 0 where
+-- a session that is named is one of these, or nothing was there of it, unless it isn't open
+abbrev pub is_known : (SessionName → Bool) → List Session → Session → Bool
+is_known fresh ss x = not (is_open x.state) || (is_some (session_in x.id ss) || fresh x.id)
+
+-- the rows with those of the change: of a session that is opened nothing was there
+pub record AreReplaced (fresh : SessionName → Bool) (w : StoredRows) (old new : LiveRows)
+    : Type 0 where
   pub named : IsNamed w
-  pub known : list_all (is_known old.sessions.items) w.sessions ≡ true
+  pub known : list_all (is_known fresh old.sessions.items) w.sessions ≡ true
   pub buckets : AreWithBuckets (buckets_over w.buckets old.purse)
       (filter (λ b. not (is_dead b)) w.buckets) new.purse
-  pub sessions : new.sessions.items ≡ sessions_over w.sessions old.sessions.items
+  pub sessions : AreWithSessions (sessions_over w.sessions old.sessions.items)
+      (filter (λ x. is_open x.state) w.sessions) new.sessions.items
   pub groups : AreWithGroups (groups_over w.sessions w.groups old.groups.items)
       (filter (λ x. is_some (session_in x.session new.sessions.items)) w.groups) new.groups.items
 

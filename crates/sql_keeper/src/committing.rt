@@ -130,9 +130,9 @@ impl<S: Alter> SqlKeeper<S> {
             stands,
             &change,
         );
-        self.seen = None;
+        let seen = self.seen.take();
         let kept = self.kept.take();
-        self.kept = kept_over(self.alloc, kept, &made, &change);
+        self.kept = kept_over(self.alloc, kept, &seen, &made, &change);
         self.last = last_after(&made, self.last, change.moment);
         counted(&mut self.failures, made)
     }

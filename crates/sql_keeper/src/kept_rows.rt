@@ -8,9 +8,11 @@ ghost use Rattle.sql_tables.specs.Keyed.{same_name};
 ghost use Rattle.sql_keeper.specs.Content.{Names};
 ghost use Rattle.sql_keeper.specs.KeptRows.{AreCopied, AreOf, AreTaken, BecomesOver, IsOf, Keeps};
 ghost use Rattle.sql_keeper.specs.LiveRows.{IsLoadStored};
+ghost use Rattle.sql_keeper.specs.Seen.{Sees};
 
 use crate::live_rows::LiveRows;
 use crate::replaced_rows::rows_over;
+use crate::seen::SeenAccount;
 use buckets::Purse;
 use identifiers::AccountNumber;
 use keepers::{Change, Loaded};
@@ -179,18 +181,24 @@ pub(crate) fn kept_after(
     }
 }
 
-/// What is kept once a change was written: its rows are in the places of those that they replace.
-/// It is forgotten where one of them has no place, or the change is of another account.
-fn kept_with(alloc: Global, kept: KeptRows, change: &Change) -> Option<KeptRows>
+/// What is kept once a change was written: its rows are over those that they replace, or among
+/// them. It is forgotten where a session is opened of which it wasn't seen that it has no row, or
+/// the change is of another account.
+fn kept_with(
+    alloc: Global,
+    kept: KeptRows,
+    seen: &Option<SeenAccount>,
+    change: &Change,
+) -> Option<KeptRows>
     ensures { (names : Names) (text : List ℕ) (old new : Trees) →
-        BecomesOver names text change.now old new → Keeps names (Some kept) old →
-        Keeps names result new }
+        BecomesOver names text change.now old new → Sees seen.now old →
+        Keeps names (Some kept) old → Keeps names result new }
 {
     if !is_of(&kept, &change.number) {
         return None;
     }
     let KeptRows { account, rows } = kept;
-    match rows_over(alloc, rows, &change.rows) {
+    match rows_over(alloc, rows, seen, change) {
         Ok(rows) => Some(KeptRows { account, rows }),
         Err(_) => None,
     }
@@ -200,18 +208,19 @@ fn kept_with(alloc: Global, kept: KeptRows, change: &Change) -> Option<KeptRows>
 pub(crate) fn kept_over(
     alloc: Global,
     kept: Option<KeptRows>,
+    seen: &Option<SeenAccount>,
     made: &Result<(), ReadFault>,
     change: &Change,
 ) -> Option<KeptRows>
     ensures { (names : Names) (text : List ℕ) (old new : Trees) →
-        OnOk made.now (BecomesOver names text change.now old new) → Keeps names kept old →
-        Keeps names result new }
+        OnOk made.now (BecomesOver names text change.now old new) → Sees seen.now old →
+        Keeps names kept old → Keeps names result new }
 {
     match made {
         Err(_) => None,
         Ok(()) => match kept {
             None => None,
-            Some(kept) => kept_with(alloc, kept, change),
+            Some(kept) => kept_with(alloc, kept, seen, change),
         },
     }
 }

@@ -4,17 +4,19 @@ ghost use Rattle.std.specs.Prelude.{◌≡◌, ◌∷◌, [], filter, is_some, m
 ghost use Rattle.std.specs.Prelude.{OnOk};
 ghost use Rattle.std.specs.List.{list_all};
 ghost use Rattle.reserving.specs.Left.{bucket_in, is_dead};
-ghost use Rattle.reserving.specs.Sessions.{group_in, session_in};
-ghost use Rattle.sql_keeper.specs.KeptRows.{AreReplaced, AreWithBuckets, AreWithGroups, IsPutIn};
-ghost use Rattle.sql_keeper.specs.KeptRows.{bucket_over, buckets_over, group_over, groups_over};
-ghost use Rattle.sql_keeper.specs.KeptRows.{is_known, is_new_bucket, is_new_group, session_over};
-ghost use Rattle.sql_keeper.specs.KeptRows.{sessions_over, stays_bucket, stays_session};
+ghost use Rattle.reserving.specs.Sessions.{group_in, is_open, session_in};
+ghost use Rattle.sql_keeper.specs.KeptRows.{AreReplaced, AreWithBuckets, AreWithGroups};
+ghost use Rattle.sql_keeper.specs.KeptRows.{AreWithSessions, IsPutIn, bucket_over, buckets_over};
+ghost use Rattle.sql_keeper.specs.KeptRows.{group_over, groups_over, is_known, is_new_bucket};
+ghost use Rattle.sql_keeper.specs.KeptRows.{is_new_group, is_new_session, is_unknown_in};
+ghost use Rattle.sql_keeper.specs.KeptRows.{session_over, sessions_over, stays_bucket};
+ghost use Rattle.sql_keeper.specs.KeptRows.{stays_session};
 
 use crate::live_rows::{LiveRows, purse_of};
-use crate::seen::is_open;
+use crate::seen::{SeenAccount, is_open, is_unknown_in};
 use buckets::{Bucket, Purse};
-use identifiers::SessionId;
-use keepers::NamedRows;
+use identifiers::{AccountNumber, SessionId};
+use keepers::{Change, NamedRows};
 use reserving::{Session, SessionGroup};
 use sql_tables::ReadFault;
 use std::alloc::{AllocError, Global};
@@ -207,6 +209,14 @@ fn place_in_use(rows: &[Bucket], row: &Bucket) -> usize {
     }
 }
 
+/// Where a session would stand among others in the order of their names.
+fn place_of_session(rows: &[Session], row: &Session) -> usize {
+    match rows.binary_search_by(|other| other.id.cmp(&row.id)) {
+        Ok(place) => place,
+        Err(place) => place,
+    }
+}
+
 /// Where what a session has of a rating group would stand among others in order.
 fn place_of_group(rows: &[SessionGroup], row: &SessionGroup) -> usize {
     match rows.binary_search_by(|other| {
@@ -227,6 +237,13 @@ fn is_new_bucket(rows: &Vec<Bucket>, row: &Bucket) -> bool
     !row.is_dead() && !has_bucket(rows, row.number())
 }
 
+/// Whether a session that is named is open, and is none of these.
+fn is_new_session(rows: &Vec<Session>, row: &Session) -> bool
+    ensures { result ≡ is_new_session rows.now.items row.now }
+{
+    is_open(row.state) && !has_session(rows, &row.id)
+}
+
 /// Whether what is named of a rating group is of one of these sessions, and none of these.
 fn is_new_group(sessions: &Vec<Session>, rows: &Vec<SessionGroup>, row: &SessionGroup) -> bool
     ensures { result ≡ is_new_group sessions.now.items rows.now.items row.now }
@@ -244,6 +261,20 @@ fn add_bucket(rows: &mut Vec<Bucket>, row: &Bucket) -> Result<(), AllocError>
     }
     let place = place_in_use(rows, row);
     let copy = copy_of_bucket(row)?;
+    insert_at(rows, place, copy)?;
+    Ok(())
+}
+
+/// Puts a session in, if it is new.
+fn add_session(rows: &mut Vec<Session>, row: &Session) -> Result<(), AllocError>
+    ensures { OnOk result (AreWithSessions rows.old.items
+        (filter (λ x. is_open x.state) (row.now ∷ [])) rows.new.items) }
+{
+    if !is_new_session(rows, row) {
+        return Ok(());
+    }
+    let place = place_of_session(rows, row);
+    let copy = copy_of_session(row)?;
     insert_at(rows, place, copy)?;
     Ok(())
 }
@@ -274,6 +305,17 @@ fn add_buckets(rows: &mut Vec<Bucket>, named: &[Bucket]) -> Result<(), AllocErro
 {
     for row in named {
         add_bucket(rows, row)?;
+    }
+    Ok(())
+}
+
+/// Puts the sessions in that are new.
+fn add_sessions(rows: &mut Vec<Session>, named: &[Session]) -> Result<(), AllocError>
+    ensures { OnOk result (AreWithSessions rows.old.items
+        (filter (λ x. is_open x.state) named.now) rows.new.items) }
+{
+    for row in named {
+        add_session(rows, row)?;
     }
     Ok(())
 }
@@ -315,13 +357,15 @@ fn sessions_over(
     sessions: Vec<Session>,
     change: &NamedRows,
 ) -> Result<Vec<Session>, AllocError>
-    ensures { IfOk result (λ rows. rows.items
-        ≡ sessions_over change.now.sessions sessions.items) }
+    ensures { IfOk result (λ rows. AreWithSessions
+        (sessions_over change.now.sessions sessions.items)
+        (filter (λ x. is_open x.state) change.now.sessions) rows.items) }
 {
     let named = change.sessions();
     let mut rows = sessions;
     keep_sessions(&mut rows, named);
     put_sessions(&mut rows, named)?;
+    add_sessions(&mut rows, named)?;
     Ok(rows)
 }
 
@@ -345,42 +389,59 @@ fn groups_over(
     Ok(rows)
 }
 
-/// Whether a session that is named is one of these, or isn't open.
-fn is_known(sessions: &[Session], row: &Session) -> bool
-    ensures { result ≡ is_known sessions.now row.now }
+/// Whether a session that is named is one of these, was seen to have no row, or isn't open.
+fn is_known(
+    sessions: &[Session],
+    seen: &Option<SeenAccount>,
+    account: &AccountNumber,
+    row: &Session,
+) -> bool
+    ensures { result ≡ is_known (is_unknown_in seen.now account.now) sessions.now row.now }
 {
-    !is_open(row.state) || has_session(sessions, &row.id)
+    !is_open(row.state)
+        || (has_session(sessions, &row.id) || is_unknown_in(seen, account, &row.id))
 }
 
-/// Whether no session is opened by the rows that are named.
-fn are_known(sessions: &[Session], named: &[Session]) -> bool
-    ensures { result ≡ list_all (is_known sessions.now) named.now }
+/// Whether each session that is named is so.
+fn are_known(
+    sessions: &[Session],
+    seen: &Option<SeenAccount>,
+    account: &AccountNumber,
+    named: &[Session],
+) -> bool
+    ensures { result
+        ≡ list_all (is_known (is_unknown_in seen.now account.now) sessions.now) named.now }
 {
-    named.iter().all(|row| is_known(sessions, row))
+    named
+        .iter()
+        .all(|row| is_known(sessions, seen, account, row))
 }
 
-/// Whether a change opens no session beside those that are kept.
-fn opens_none(rows: &LiveRows, change: &NamedRows) -> bool
-    ensures { result ≡ list_all (is_known rows.now.sessions.items) change.now.sessions }
+/// Whether each session that a change opens beside those that are kept was seen to have no row.
+fn opens_unknown(rows: &LiveRows, seen: &Option<SeenAccount>, change: &Change) -> bool
+    ensures { result ≡ list_all (is_known (is_unknown_in seen.now change.now.number)
+        rows.now.sessions.items) change.now.rows.sessions }
 {
-    are_known(&rows.sessions, change.sessions())
+    are_known(&rows.sessions, seen, &change.number, change.rows.sessions())
 }
 
 /// The rows that are kept, with those that a change names: each in the place of the one with its
 /// key or among the others, without what can't change any more.
 ///
 /// # Errors
-/// `Rules` where a session is opened; want of memory.
+/// `Rules` where a session is opened of which it wasn't seen that it has no row; want of memory.
 pub(crate) fn rows_over(
     alloc: Global,
     rows: LiveRows,
-    change: &NamedRows,
+    seen: &Option<SeenAccount>,
+    change: &Change,
 ) -> Result<LiveRows, ReadFault>
-    ensures { IfOk result (AreReplaced change.now rows) }
+    ensures { IfOk result
+        (AreReplaced (is_unknown_in seen.now change.now.number) change.now.rows rows) }
 {
     // For the prover alone: looking at the value makes known here what its type keeps.
-    let _named = change.as_of();
-    if !opens_none(&rows, change) {
+    let _named = change.rows.as_of();
+    if !opens_unknown(&rows, seen, change) {
         return Err(ReadFault::Rules);
     }
     let LiveRows {
@@ -388,9 +449,9 @@ pub(crate) fn rows_over(
         sessions,
         groups,
     } = rows;
-    let purse = purse_over(alloc, &purse, change)?;
-    let sessions = sessions_over(sessions, change)?;
-    let groups = groups_over(groups, &sessions, change)?;
+    let purse = purse_over(alloc, &purse, &change.rows)?;
+    let sessions = sessions_over(sessions, &change.rows)?;
+    let groups = groups_over(groups, &sessions, &change.rows)?;
     Ok(LiveRows {
         purse,
         sessions,

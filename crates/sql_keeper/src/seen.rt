@@ -11,6 +11,7 @@ ghost use Rattle.sql_rows.specs.Content.{rows_in};
 ghost use Rattle.sql_keeper.specs.Content.{Names};
 ghost use Rattle.sql_keeper.specs.Grants.{IsGrantIn, grant_with, is_grant, is_kept};
 ghost use Rattle.sql_keeper.specs.Grants.{is_name, only_bucket, same_grant};
+ghost use Rattle.sql_keeper.specs.KeptRows.{is_unknown_in};
 ghost use Rattle.sql_keeper.specs.LiveRows.{IsLoadStored};
 ghost use Rattle.sql_keeper.specs.Seen.{IsJoined, IsKnown, IsSeen, IsSeenOf, IsSeenWith};
 ghost use Rattle.sql_keeper.specs.Seen.{IsStanding, IsUnknownAlone, Sees, is_unknown};
@@ -463,6 +464,27 @@ pub(crate) fn standing_seen(
     match seen {
         None => None,
         Some(seen) => standing_of_seen(seen, account, session),
+    }
+}
+
+/// Whether a session of the account that was seen has no row, if it is this account.
+fn is_unknown_of(seen: &SeenAccount, account: &AccountNumber, session: &SessionId) -> bool
+    ensures { result ≡ is_unknown_in (Some seen.now) account.now session.now }
+{
+    is_same_account(&seen.account, account) && is_name(&seen.unknown, session)
+}
+
+/// Whether it was seen that a session of an account has no row.
+pub(crate) fn is_unknown_in(
+    seen: &Option<SeenAccount>,
+    account: &AccountNumber,
+    session: &SessionId,
+) -> bool
+    ensures { result ≡ is_unknown_in seen.now account.now session.now }
+{
+    match seen {
+        None => false,
+        Some(seen) => is_unknown_of(seen, account, session),
     }
 }
 

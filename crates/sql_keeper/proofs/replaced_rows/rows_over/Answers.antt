@@ -4,7 +4,7 @@ use Rattle.sql_keeper.proofs.replaced_rows.rows_over.Goals as goal
 pub returns : goal.returns
 returns c = record {
   named = search rules;
-  known = sym c.if-not-opens_none.ensures;
+  known = sym c.if-not-opens_unknown.ensures;
   buckets = c.in_ok-purse.ensures;
   sessions = c.in_ok-sessions.ensures;
   groups = c.in_ok-groups.ensures;

@@ -3,6 +3,7 @@ use Rattle.sqlite.specs.Held.{state}
 use Rattle.sql_keeper.specs.Content.{shelf_names}
 use Rattle.sql_keeper.specs.Commits.{Becomes}
 use Rattle.sql_keeper.specs.KeptRows.{BecomesOver, Keeps}
+use Rattle.sql_keeper.specs.Seen.{Sees}
 use Rattle.sql_keeper.proofs.Held.{held_committed, held_stands}
 use Rattle.sql_keeper.proofs.Committed.{committed}
 use Rattle.sql_keeper.proofs.KeptRows.{becomes_standing, kept_made}
@@ -28,11 +29,13 @@ invariant_of-self g c = record {
   seen = λ clean on. tt;
   kept = kept_made (shelf_names c.self.inside.shelf)
       (BecomesOver (shelf_names c.self.inside.shelf) c.as_str-text.result.now c.args.change)
-      c.self.inside.kept c.kept_over.result
+      c.self.inside.seen c.self.inside.kept c.kept_over.result
       (state g.S.Store c.self.inside.connection) (state g.S.Store c.ask_to_change-made.new.conn)
-      c.ask_to_change-made.result c.self.invariant.kept c.ask_to_change-made.ensures.commits
-      (λ trees db made before. c.kept_over.ensures (shelf_names c.self.inside.shelf)
+      c.ask_to_change-made.result c.self.invariant.seen c.self.invariant.kept
+      c.ask_to_change-made.ensures.commits
+      (λ trees db made sees before. c.kept_over.ensures (shelf_names c.self.inside.shelf)
       c.as_str-text.result.now trees db made
+      (subst (λ o. Sees o trees) (sym c.take-seen.ensures.value) sees)
       (subst (λ o. Keeps (shelf_names c.self.inside.shelf) o trees)
       (sym c.take-kept.ensures.value) before));
 }

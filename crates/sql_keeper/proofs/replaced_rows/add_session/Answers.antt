@@ -1,0 +1,15 @@
+use Rattle.std.proofs.Common.{subst, sym}
+use Rattle.sql_keeper.specs.KeptRows.{IsPutIn}
+use Rattle.sql_keeper.proofs.RowsAdded.{session_added, session_unadded}
+use Rattle.sql_keeper.proofs.replaced_rows.add_session.Goals as goal
+
+pub returns-then-not-is_new_session : goal.returns-then-not-is_new_session
+returns-then-not-is_new_session c =
+    session_unadded c.args.row.now c.args.rows.now.items (sym c.if-not-is_new_session.ensures)
+
+pub returns : goal.returns
+returns c =
+    session_added c.args.row.now c.args.rows.now.items c.insert_at.new.rows.items
+    (sym c.if-not-is_new_session.ensures)
+    (subst (λ x. IsPutIn x c.args.rows.now.items c.insert_at.new.rows.items)
+    c.in_ok-copy.ensures c.in_ok-insert_at.ensures)
