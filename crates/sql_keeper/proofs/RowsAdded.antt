@@ -51,9 +51,9 @@ module _ {A : Type 0} (q live : A → Bool) where
       at : (t : Bool) (a b : Option A) → (t ≡ true → find q old ≡ None)
           → find q old ≡ first_of a b
           → first_of a (cond t (Some x) b) ≡ first_of (find q old) (cond t (Some x) None)
-      at true a b no e =
-          none_first a b x (sym e ∙ no refl) ∙ ap (λ o. first_of o (Some x)) (sym (no refl))
-      at false a b no e = sym e ∙ sym (first_alone (find q old))
+      at true a b away e =
+          none_first a b x (sym e ∙ away refl) ∙ ap (λ o. first_of o (Some x)) (sym (away refl))
+      at false a b away e = sym e ∙ sym (first_alone (find q old))
 
   pub added : (own : A → Bool) (x : A) (old new : List A)
       → (live x && not (is_some (find own old))) ≡ true

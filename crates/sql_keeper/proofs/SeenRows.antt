@@ -61,6 +61,10 @@ stands_after told m old new stands only clean on =
     subst (λ (d : Database). IsKeptOnce told m (tables_content d.trees).meta) (sym still.now_is)
     (stands (only.cleanness clean) still.was_open)
 
+-- nothing was seen
+pub none_seen : (o : Option SeenAccount) (s : State) → o ≡ None → AreSeen o s
+none_seen o s e clean on = subst (λ p. Sees p s.now.trees) (sym e) tt
+
 -- what is made of an answer
 pub seen_asked : {A E : Type 0} (told : Trees → A → Type 0) (o p : Option SeenAccount)
     (old new : State) (r : Result A E) → AreSeen o old → Asks told old new r

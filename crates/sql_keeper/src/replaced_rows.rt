@@ -353,10 +353,7 @@ fn purse_over(alloc: Global, purse: &Purse, change: &NamedRows) -> Result<Purse,
 }
 
 /// Sessions as a change names them, without those that aren't open.
-fn sessions_over(
-    sessions: Vec<Session>,
-    change: &NamedRows,
-) -> Result<Vec<Session>, AllocError>
+fn sessions_over(sessions: Vec<Session>, change: &NamedRows) -> Result<Vec<Session>, AllocError>
     ensures { IfOk result (λ rows. AreWithSessions
         (sessions_over change.now.sessions sessions.items)
         (filter (λ x. is_open x.state) change.now.sessions) rows.items) }
@@ -398,8 +395,7 @@ fn is_known(
 ) -> bool
     ensures { result ≡ is_known (is_unknown_in seen.now account.now) sessions.now row.now }
 {
-    !is_open(row.state)
-        || (has_session(sessions, &row.id) || is_unknown_in(seen, account, &row.id))
+    !is_open(row.state) || (has_session(sessions, &row.id) || is_unknown_in(seen, account, &row.id))
 }
 
 /// Whether each session that is named is so.

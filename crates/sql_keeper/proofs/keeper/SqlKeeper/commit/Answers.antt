@@ -7,6 +7,7 @@ use Rattle.sql_keeper.specs.Seen.{Sees}
 use Rattle.sql_keeper.proofs.Held.{held_committed, held_stands}
 use Rattle.sql_keeper.proofs.Committed.{committed}
 use Rattle.sql_keeper.proofs.KeptRows.{becomes_standing, kept_made}
+use Rattle.sql_keeper.proofs.SeenRows.{none_seen}
 use Rattle.sql_keeper.proofs.Standing.{keeps, standing_keeper, standing_whole}
 use Rattle.sql_keeper.proofs.Whole.{handed_on}
 use Rattle.sql_keeper.proofs.keeper.SqlKeeper.commit.Goals as goal
@@ -26,7 +27,7 @@ invariant_of-self g c = record {
       c.last_after-self-inside.ensures.made c.last_after-self-inside.ensures.kept refl
       c.ask_to_change-made.ensures.plain
       c.counted.ensures.bounded;
-  seen = λ clean on. tt;
+  seen = none_seen _ (state g.S.Store c.ask_to_change-made.new.conn) c.take-seen.ensures.after;
   kept = kept_made (shelf_names c.self.inside.shelf)
       (BecomesOver (shelf_names c.self.inside.shelf) c.as_str-text.result.now c.args.change)
       c.self.inside.seen c.self.inside.kept c.kept_over.result
