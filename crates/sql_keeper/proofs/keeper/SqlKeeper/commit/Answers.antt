@@ -22,7 +22,8 @@ invariant_of-self g c = record {
   keeper = standing_keeper g.S.Store _ _ c.self.invariant.keeper refl
       (λ text. Becomes (shelf_names c.self.inside.shelf) text c.args.change) _
       c.ask_to_change-made.result c.counted.result c.counted.ensures.handed
-      (becomes_standing _ _ _ _ _ _ c.ask_to_change-made.ensures.commits) _ c.as_str-text.ensures.value
+      (becomes_standing _ _ _ _ _ _ c.ask_to_change-made.ensures.commits) _
+      c.as_str-text.ensures.value
       (λ db. held_committed _ c.self.inside.shelf _ c.args.change _ db)
       c.last_after-self-inside.ensures.made c.last_after-self-inside.ensures.kept refl
       c.ask_to_change-made.ensures.plain
@@ -50,10 +51,12 @@ returns g c = rw (← c.self.view_is) (record {
   kept = keeps g.S.Store _ _ c.self.invariant.keeper refl
       (λ text. Becomes (shelf_names c.self.inside.shelf) text c.args.change) _
       c.ask_to_change-made.result c.counted.result c.counted.ensures.handed
-      (becomes_standing _ _ _ _ _ _ c.ask_to_change-made.ensures.commits) _ c.counted.ensures.cause (λ db b. b.tables);
+      (becomes_standing _ _ _ _ _ _ c.ask_to_change-made.ensures.commits) _
+      c.counted.ensures.cause (λ db b. b.tables);
   whole = standing_whole g.S.Store _ _
       c.self.invariant.keeper refl
       (λ text. Becomes (shelf_names c.self.inside.shelf) text c.args.change) _
       c.ask_to_change-made.result c.counted.result c.counted.ensures.handed
-      (becomes_standing _ _ _ _ _ _ c.ask_to_change-made.ensures.commits) c.as_str-text.ensures.value;
+      (becomes_standing _ _ _ _ _ _ c.ask_to_change-made.ensures.commits)
+      c.as_str-text.ensures.value;
 })
