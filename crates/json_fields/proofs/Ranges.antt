@@ -1,6 +1,7 @@
 -- What is read of a value whose numbers are in range, and of one with a number that isn't.
-use Rattle.std.proofs.Common.{◌≡◌, ℕ, List, [], ◌∷◌, Bool, true, false, cond, ◌&&◌, Option, Some, None}
-use Rattle.std.proofs.Common.{Result, Ok, Err, option_map, option_and_then, refl, ap, ◌∙◌, sym}
+use Rattle.std.proofs.Common.{◌≡◌, ℕ, List, [], ◌∷◌, Bool, true, false, cond, ◌&&◌, Option}
+use Rattle.std.proofs.Common.{Some, None}
+use Rattle.std.proofs.Common.{Result, Ok, Err, option_map, option_and_then, refl, ap, ◌∙◌}
 use Rattle.std.specs.Prelude.{is_some, unwrap_or}
 use Rattle.std.specs.Borrow.{Bor}
 use Rattle.std.specs.List.{list_all}
@@ -13,7 +14,7 @@ use Rattle.serde_json.specs.Read.{number_of, of_json, of_items, of_members, read
 use Rattle.json_fields.specs.declared.fault.WireFault.{WireFault}
 use Rattle.json_fields.specs.declared.fault.WireFault.TheVariants.{NotRequest}
 use Rattle.json_fields.specs.Gives.{or_fault}
-use Rattle.json_fields.specs.View.{number_seen, data_of, items_data, members_data, is_in_range}
+use Rattle.json_fields.specs.View.{data_of, items_data, members_data, is_in_range}
 use Rattle.json_fields.specs.View.{are_in_range, members_in_range, tree_of}
 
 -- the value where the test holds

@@ -1,5 +1,5 @@
 -- Testing items one after the other, as a loop does that ends at the first that fails.
-use Rattle.std.proofs.Common.{◌≡◌, ℕ, ◌+◌, ◌≤◌, ◌<◌, List, ◌∷◌, length, get_or, drop, Bool}
+use Rattle.std.proofs.Common.{◌≡◌, ℕ, ◌+◌, ◌≤◌, ◌<◌, List, length, get_or, drop, Bool}
 use Rattle.std.proofs.Common.{true, false, ◌&&◌, add-one, refl, sym, ap, ◌∙◌}
 use Rattle.std.proofs.Math.Seq.{drop-cons}
 use Rattle.std.proofs.lemmas.List.{drop_all}
@@ -11,12 +11,6 @@ module _ {V : Type 0} (test : V → Bool) where
   here vs i v lt is =
       let e = drop-cons vs i v lt in
       rw (e, ← is, add-one) refl
-
-  pub goes_on : (vs : List V) (i : ℕ) (v : V) → i < length vs → v ≡ get_or vs i v → test v ≡ true
-      → list_all test (drop i vs) ≡ list_all test vs
-      → list_all test (drop (i + 1) vs) ≡ list_all test vs
-  goes_on vs i v lt is holds so_far =
-      sym (here vs i v lt is ∙ ap (λ b. b && list_all test (drop (i + 1) vs)) holds) ∙ so_far
 
   pub fails_at : (vs : List V) (i : ℕ) (v : V) → i < length vs → v ≡ get_or vs i v
       → test v ≡ false → list_all test (drop i vs) ≡ list_all test vs → false ≡ list_all test vs

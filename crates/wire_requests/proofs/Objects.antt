@@ -1,6 +1,6 @@
 -- The items of an array, seen as values.
-use Rattle.std.proofs.Common.{◌≡◌, List, [], ◌∷◌, is_some, ◌&&◌, length, Bool, true, false, None}
-use Rattle.std.proofs.Common.{Result, Ok, Err, nat_le, refl, sym, ap, ap₂, ◌∙◌}
+use Rattle.std.proofs.Common.{◌≡◌, List, [], ◌∷◌, is_some, ◌&&◌, length, Bool, None}
+use Rattle.std.proofs.Common.{Result, Ok, nat_le, refl, sym, ap, ap₂, ◌∙◌}
 use Rattle.std.specs.List.{list_all}
 use Rattle.std.specs.declared.alloc.Global.{Global}
 use Rattle.json.specs.declared.value.Value.{Value}

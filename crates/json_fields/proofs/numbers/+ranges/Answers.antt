@@ -1,10 +1,10 @@
-use Rattle.std.proofs.Common.{◌≡◌, ◌<◌, length, get_or, false, sym, ap, ◌∙◌, subst, arith, rules}
+use Rattle.std.proofs.Common.{◌≡◌, ◌<◌, length, false, sym, ap, ◌∙◌, subst, arith, rules}
 use Rattle.json.specs.Tree.{json_tokens, items_tokens, members_tokens}
 use Rattle.json.specs.Value.{value_view, items_view, members_view}
 use Rattle.json.proofs.Trees.{item_smaller, member_smaller}
 use Rattle.json_fields.specs.View.{is_in_range, are_in_range, members_in_range}
 use Rattle.json_fields.proofs.Ranges.{items_all, members_all}
-use Rattle.json_fields.proofs.Tests.{goes_on, fails_at, is_done}
+use Rattle.json_fields.proofs.Tests.{fails_at, is_done}
 use Rattle.json_fields.proofs.numbers.+ranges.Goals as goal
 
 pub are_in_range-is_in_range-requires : goal.are_in_range-is_in_range-requires

@@ -1,5 +1,5 @@
 use Rattle.std.proofs.Common.{◌≡◌, ◌&&◌, List, length, true, false, is_some, nat_le, Result, Vec}
-use Rattle.std.proofs.Common.{Global, rules, subst, sym, ap, ◌∙◌}
+use Rattle.std.proofs.Common.{Global, rules, subst, sym}
 use Rattle.std.specs.List.{list_all}
 use Rattle.serde_json.specs.Find.{as_object}
 use Rattle.commands.specs.declared.service.Service.{Service}
