@@ -12,6 +12,7 @@ use http_messages::{
 use std::alloc::Global;
 use std::io::BufRead;
 use texts::StreamFault;
+use wire::Scratch;
 
 /// A request: what it asks, and whether the connection ends after it.
 #[derive(Drop)]
@@ -30,6 +31,7 @@ pub(crate) fn hear<R: BufRead>(
     router: &Router<Route>,
     reader: &mut R,
     room: &mut [HeaderSpan],
+    scratch: &mut Scratch,
 ) -> Result<Option<Heard>, StreamFault>
     requires router { router.now ≡ table }
     requires room { 8192 ≤ 3 * length room.old }
@@ -38,17 +40,22 @@ pub(crate) fn hear<R: BufRead>(
     ensures fault { IsErrOf result StreamFault.Write → ⊥ }
 {
     let taken = next_request(alloc, reader, room)?;
-    Ok(heard_of(alloc, router, taken))
+    Ok(heard_of(alloc, router, taken, scratch))
 }
 
 /// What a request that was taken asks. A refusal ends the connection.
-fn heard_of(alloc: Global, router: &Router<Route>, taken: Taken) -> Option<Heard>
+fn heard_of(
+    alloc: Global,
+    router: &Router<Route>,
+    taken: Taken,
+    scratch: &mut Scratch,
+) -> Option<Heard>
     requires { router.now ≡ table }
     ensures { (next : Next) (left : Option (List ℕ)) → IsOfHead next → Tells next taken left →
         HearsNext next result left }
 {
     match taken {
-        Taken::Request(request) => Some(heard_request(alloc, router, &request)),
+        Taken::Request(request) => Some(heard_request(alloc, router, &request, scratch)),
         Taken::Refused(status) => Some(Heard {
             asked: HttpAsked::Refused(HttpRefusal::of_head(status)),
             closes: true,
@@ -58,13 +65,18 @@ fn heard_of(alloc: Global, router: &Router<Route>, taken: Taken) -> Option<Heard
 }
 
 /// What a request asks.
-fn heard_request(alloc: Global, router: &Router<Route>, request: &HttpRequest) -> Heard
+fn heard_request(
+    alloc: Global,
+    router: &Router<Route>,
+    request: &HttpRequest,
+    scratch: &mut Scratch,
+) -> Heard
     requires { router.now ≡ table }
     ensures asked { IsAsked (asked_of (seen request.now)) result.asked }
     ensures closes { result.closes ≡ request.now.closes }
 {
     Heard {
-        asked: ask(alloc, router, request),
+        asked: ask(alloc, router, request, scratch),
         closes: request.closes,
     }
 }

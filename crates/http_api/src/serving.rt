@@ -13,6 +13,7 @@ use keepers::ChargeSource;
 use shelves::TariffShelf;
 use std::alloc::Global;
 use std::io::{BufRead, BufReader, Read, Write};
+use wire::Scratch;
 
 /// The most requests of a connection.
 pub const MAX_REQUESTS: u32 = 1000;
@@ -56,11 +57,13 @@ pub fn serve<R: Read, W: Write, K: ChargeSource, C: Clock>(
     let Ok(mut buffered) = BufReader::new(alloc, reader) else {
         return Err(ServeFault::Memory);
     };
+    let mut scratch = Scratch::new(alloc);
     serve_requests(
         alloc,
         &router,
         &mut buffered,
         room.as_mut_slice(),
+        &mut scratch,
         writer,
         keeper,
         shelf,
@@ -92,6 +95,7 @@ fn serve_requests<R: BufRead, W: Write, K: ChargeSource, C: Clock>(
     router: &Router<Route>,
     reader: &mut R,
     room: &mut [HeaderSpan],
+    scratch: &mut Scratch,
     writer: &mut W,
     keeper: &mut K,
     shelf: &TariffShelf,
@@ -105,7 +109,7 @@ fn serve_requests<R: BufRead, W: Write, K: ChargeSource, C: Clock>(
 {
     let mut left = MAX_REQUESTS;
     for served in 0..MAX_REQUESTS {
-        let Some(heard) = hear(alloc, router, reader, room)? else {
+        let Some(heard) = hear(alloc, router, reader, room, scratch)? else {
             return Ok(Served { requests: served });
         };
         let Heard { asked, closes } = heard;

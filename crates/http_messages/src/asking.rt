@@ -23,7 +23,7 @@ use identifiers::{AccountNumber, VoucherCode};
 use matchit::Router;
 use std::alloc::Global;
 use texts::Month;
-use wire::{WireFault, read_allow, read_credit, read_redeem, read_request};
+use wire::{Scratch, WireFault, read_allow, read_credit, read_redeem, read_request};
 
 /// A statement that is asked for.
 #[derive(Drop)]
@@ -124,27 +124,42 @@ fn read_account(alloc: Global, method: &Method, target: &str) -> Result<Command,
 }
 
 /// The credit of the account in a path.
-fn read_credits(alloc: Global, target: &str, body: &[u8]) -> Result<Command, WireFault>
+fn read_credits(
+    alloc: Global,
+    target: &str,
+    body: &[u8],
+    scratch: &mut Scratch,
+) -> Result<Command, WireFault>
     ensures { Gives (λ c. c) result (credit_asked target.now body.now) }
 {
     let account = account_in(alloc, target)?;
-    Ok(Command::Credit(read_credit(alloc, account, body)?))
+    Ok(Command::Credit(read_credit(alloc, account, body, scratch)?))
 }
 
 /// The allowance of the account in a path.
-fn read_allowance(alloc: Global, target: &str, body: &[u8]) -> Result<Command, WireFault>
+fn read_allowance(
+    alloc: Global,
+    target: &str,
+    body: &[u8],
+    scratch: &mut Scratch,
+) -> Result<Command, WireFault>
     ensures { Gives (λ c. c) result (allowance_asked target.now body.now) }
 {
     let account = account_in(alloc, target)?;
-    Ok(Command::Allow(read_allow(alloc, account, body)?))
+    Ok(Command::Allow(read_allow(alloc, account, body, scratch)?))
 }
 
 /// The redemption of the voucher in a path.
-fn read_redemption(alloc: Global, target: &str, body: &[u8]) -> Result<Command, WireFault>
+fn read_redemption(
+    alloc: Global,
+    target: &str,
+    body: &[u8],
+    scratch: &mut Scratch,
+) -> Result<Command, WireFault>
     ensures { Gives (λ c. c) result (redemption_asked target.now body.now) }
 {
     let code = code_in(alloc, target)?;
-    Ok(Command::Redeem(read_redeem(alloc, code, body)?))
+    Ok(Command::Redeem(read_redeem(alloc, code, body, scratch)?))
 }
 
 /// The statement that a path names, or its first fault: of the account, then of the month.
@@ -180,22 +195,35 @@ fn told_statement(read: Result<StatementAsked, WireFault>) -> HttpAsked
 }
 
 /// What a request asks of a route that has its method: first the path is read, then the body.
-fn asked_by(alloc: Global, route: Route, method: &Method, target: &str, body: &[u8]) -> HttpAsked
+fn asked_by(
+    alloc: Global,
+    route: Route,
+    method: &Method,
+    target: &str,
+    body: &[u8],
+    scratch: &mut Scratch,
+) -> HttpAsked
     ensures { IsAsked (asking_by route method.now target.now body.now) result }
 {
     match route {
-        Route::Ccr => told(read_request(alloc, body)),
+        Route::Ccr => told(read_request(alloc, body, scratch)),
         Route::Account => told(read_account(alloc, method, target)),
         Route::Statement => told_statement(read_statement(alloc, target)),
-        Route::Credits => told(read_credits(alloc, target, body)),
-        Route::Allowances => told(read_allowance(alloc, target, body)),
-        Route::Redeem => told(read_redemption(alloc, target, body)),
+        Route::Credits => told(read_credits(alloc, target, body, scratch)),
+        Route::Allowances => told(read_allowance(alloc, target, body, scratch)),
+        Route::Redeem => told(read_redemption(alloc, target, body, scratch)),
         Route::Sweep => HttpAsked::Does(Command::Sweep),
     }
 }
 
-/// What a request asks by the table of routes.
-pub fn ask(alloc: Global, router: &Router<Route>, request: &HttpRequest) -> HttpAsked
+/// What a request asks by the table of routes. Its body is read by `scratch`, which may serve all
+/// requests of a connection.
+pub fn ask(
+    alloc: Global,
+    router: &Router<Route>,
+    request: &HttpRequest,
+    scratch: &mut Scratch,
+) -> HttpAsked
     requires { router.now ≡ table }
     ensures { IsAsked (asked_of (seen request.now)) result }
 {
@@ -211,5 +239,6 @@ pub fn ask(alloc: Global, router: &Router<Route>, request: &HttpRequest) -> Http
         &request.method,
         request.target.as_str(),
         request.body.as_slice(),
+        scratch,
     )
 }

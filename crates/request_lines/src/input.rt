@@ -15,7 +15,7 @@ use commands::Avp;
 use std::alloc::{AllocError, Global};
 use std::io::Read;
 use texts::{StreamFault, next_line};
-use wire::WireFault;
+use wire::{Scratch, WireFault};
 
 /// Why a line isn't a request.
 #[derive(Clone, Copy)]
@@ -67,22 +67,28 @@ pub(crate) fn read_input<R: Read>(alloc: Global, reader: &mut R) -> Result<Input
         lines: Vec::new(alloc),
         requests: Vec::new(alloc),
     };
+    let mut scratch = Scratch::new(alloc);
     for _line in 0..u64::MAX {
         let Some(line) = next_line(alloc, reader)? else {
             return Ok(input);
         };
-        input.add_line(alloc, &line)?;
+        input.add_line(alloc, &line, &mut scratch)?;
     }
     Err(StreamFault::Memory)
 }
 
 impl Input {
-    fn add_line(&mut self, alloc: Global, line: &[u8]) -> Result<(), AllocError>
+    fn add_line(
+        &mut self,
+        alloc: Global,
+        line: &[u8],
+        scratch: &mut Scratch,
+    ) -> Result<(), AllocError>
         ensures { OnOk result
             ((read : List (Result DatedCommand WireFault)) → IsInput read self.old →
             IsInput (read ++ line_request line.now ∷ []) self.new) }
     {
-        match read_line(alloc, line) {
+        match read_line(alloc, line, scratch) {
             Ok(request) => self.add_request(request),
             Err(fault) => self.add_fault(fault),
         }

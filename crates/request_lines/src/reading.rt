@@ -7,7 +7,7 @@ ghost use Rattle.request_lines.specs.Lines.{line_moment, line_rest, line_request
 use charging::DatedCommand;
 use operator::{DatedLine, dated_line};
 use std::alloc::Global;
-use wire::{WireFault, read_request};
+use wire::{Scratch, WireFault, read_request};
 
 /// The moment and the body of a line; None where it isn't UTF-8, or isn't a moment, a space and a
 /// body.
@@ -26,12 +26,16 @@ fn parted(line: &[u8]) -> Option<DatedLine<'_>>
 /// # Errors
 /// The first fault: `NotRequest` where the line isn't UTF-8, or isn't a moment of 1 to 10 digits, a
 /// space and a body, then those of `read_request`; `Memory` where a growth was refused.
-pub fn read_line(alloc: Global, line: &[u8]) -> Result<DatedCommand, WireFault>
+pub fn read_line(
+    alloc: Global,
+    line: &[u8],
+    scratch: &mut Scratch,
+) -> Result<DatedCommand, WireFault>
     ensures { Gives (λ d. d) result (line_request line.now) }
 {
     let Some(DatedLine { moment, body }) = parted(line) else {
         return Err(WireFault::NotRequest);
     };
-    let command = read_request(alloc, body.as_bytes())?;
+    let command = read_request(alloc, body.as_bytes(), scratch)?;
     Ok(DatedCommand { moment, command })
 }

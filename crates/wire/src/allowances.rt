@@ -58,11 +58,11 @@ pub fn read_allow(
     alloc: Global,
     account: AccountNumber,
     bytes: &[u8],
+    scratch: &mut Scratch,
 ) -> Result<Allowance, WireFault>
     ensures { Gives (λ a. a) result (allowance_of account bytes.now) }
 {
-    let mut scratch = Scratch::new(alloc);
-    let parent = document(alloc, bytes, &mut scratch)?;
+    let parent = document(alloc, bytes, scratch)?;
     allowance_in(alloc, account, &parent)
 }
 

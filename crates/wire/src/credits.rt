@@ -123,11 +123,15 @@ pub(crate) fn credit_in(
 /// # Errors
 /// `NotRequest`, `Missing` and `Invalid` as the members say; `Memory` where memory ran out.
 #[tactic(auto, unfolding(crate::specs::Credits::credit_of))]
-pub fn read_credit(alloc: Global, account: AccountNumber, bytes: &[u8]) -> Result<Credit, WireFault>
+pub fn read_credit(
+    alloc: Global,
+    account: AccountNumber,
+    bytes: &[u8],
+    scratch: &mut Scratch,
+) -> Result<Credit, WireFault>
     ensures { Gives (λ c. c) result (credit_of account bytes.now) }
 {
-    let mut scratch = Scratch::new(alloc);
-    let parent = document(alloc, bytes, &mut scratch)?;
+    let parent = document(alloc, bytes, scratch)?;
     credit_in(alloc, account, &parent)
 }
 

@@ -62,11 +62,11 @@ pub fn read_redeem(
     alloc: Global,
     code: VoucherCode,
     bytes: &[u8],
+    scratch: &mut Scratch,
 ) -> Result<VoucherRedemption, WireFault>
     ensures { Gives (λ r. r) result (redemption_of code bytes.now) }
 {
-    let mut scratch = Scratch::new(alloc);
-    let parent = document(alloc, bytes, &mut scratch)?;
+    let parent = document(alloc, bytes, scratch)?;
     redemption_in(alloc, code, &parent)
 }
 

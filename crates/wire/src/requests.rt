@@ -4,6 +4,7 @@ ghost use Rattle.json_fields.specs.Gives.{Gives};
 ghost use Rattle.wire.specs.Requests.{command_of};
 
 use commands::Command;
+use json::Scratch;
 use json_fields::WireFault;
 use std::alloc::Global;
 
@@ -12,8 +13,12 @@ use std::alloc::Global;
 /// # Errors
 /// `NotRequest` where the bytes are no JSON object, `Missing` and `Invalid` with the first member
 /// at fault; `Memory` where memory ran out.
-pub fn read_request(alloc: Global, bytes: &[u8]) -> Result<Command, WireFault>
+pub fn read_request(
+    alloc: Global,
+    bytes: &[u8],
+    scratch: &mut Scratch,
+) -> Result<Command, WireFault>
     ensures { Gives (λ c. c) result (command_of bytes.now) }
 {
-    Ok(Command::Ccr(wire_requests::read_request(alloc, bytes)?))
+    Ok(Command::Ccr(wire_requests::read_request(alloc, bytes, scratch)?))
 }

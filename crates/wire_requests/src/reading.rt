@@ -169,11 +169,14 @@ pub fn request(alloc: Global, parent: &Value<'_>) -> Result<Request, WireFault>
 /// `NotRequest` where the bytes are no JSON object, `Missing` and `Invalid` as `request` says;
 /// `Memory` where memory ran out.
 #[tactic(auto, unfolding(crate::specs::Reading::request_of))]
-pub fn read_request(alloc: Global, bytes: &[u8]) -> Result<Request, WireFault>
+pub fn read_request(
+    alloc: Global,
+    bytes: &[u8],
+    scratch: &mut Scratch,
+) -> Result<Request, WireFault>
     ensures { Gives (λ r. r) result (request_of bytes.now) }
 {
-    let mut scratch = Scratch::new(alloc);
-    let parent = document(alloc, bytes, &mut scratch)?;
+    let parent = document(alloc, bytes, scratch)?;
     request(alloc, &parent)
 }
 

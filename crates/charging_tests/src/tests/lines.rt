@@ -11,7 +11,7 @@ use std::alloc::Global;
 use std::process::Abort;
 use units::{Moment, Money};
 use voucher_rules::VoucherTerms;
-use wire::{read_allow, read_credit, read_request};
+use wire::{Scratch, read_allow, read_credit, read_request};
 
 /// The first word of these, and the others.
 pub(crate) fn first_word<'w>(rt: &impl Abort, words: &'w str) -> (&'w str, &'w str) {
@@ -55,14 +55,19 @@ fn optional(rt: &impl Abort, word: &str) -> Option<u32> {
 fn credit(rt: &impl Abort, alloc: Global, words: &str) -> Command {
     let (number, body) = first_word(rt, words);
     let number = account(rt, alloc, number);
-    Command::Credit(read_credit(alloc, number, body.as_bytes()).expect(rt, "a credit"))
+    Command::Credit(read_credit(alloc, number, body.as_bytes(), &mut Scratch::new(alloc)).expect(
+        rt, "a credit",
+    ))
 }
 
 /// `ACCOUNT BODY`
 fn allowance(rt: &impl Abort, alloc: Global, words: &str) -> Command {
     let (number, body) = first_word(rt, words);
     let number = account(rt, alloc, number);
-    Command::Allow(read_allow(alloc, number, body.as_bytes()).expect(rt, "an allowance"))
+    Command::Allow(read_allow(alloc, number, body.as_bytes(), &mut Scratch::new(alloc)).expect(
+        rt,
+        "an allowance",
+    ))
 }
 
 /// `ACCOUNT REFERENCE`: a credit of 0, which no body can tell.
@@ -125,7 +130,10 @@ fn command(rt: &impl Abort, alloc: Global, name: &str, words: &str) -> Command {
 /// A command but for its moment.
 fn read(rt: &impl Abort, alloc: Global, words: &str) -> Command {
     if words.starts_with("{") {
-        return read_request(alloc, words.as_bytes()).expect(rt, "a request");
+        return read_request(alloc, words.as_bytes(), &mut Scratch::new(alloc)).expect(
+            rt,
+            "a request",
+        );
     }
     let (name, words) = words.split_once(" ").unwrap_or((words, ""));
     command(rt, alloc, name, words)

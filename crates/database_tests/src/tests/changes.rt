@@ -13,12 +13,14 @@ use sql_tables::ReadFault;
 use std::alloc::Global;
 use std::process::Abort;
 use tariffs::TariffBook;
-use wire::{WrittenAnswer, read_credit};
+use wire::{Scratch, WrittenAnswer, read_credit};
 
 /// What is kept of a credit of account 49151 by its body.
 fn kept_of(rt: &impl Abort, alloc: Global, body: &str) -> KeptAnswer {
     let number = account(rt, alloc, "49151");
-    let credit = read_credit(alloc, number, body.as_bytes()).expect(rt, body);
+    let credit = read_credit(alloc, number, body.as_bytes(), &mut Scratch::new(alloc)).expect(
+        rt, body,
+    );
     assert!(rt; credit.can_be_kept());
     KeptAnswer {
         content: Content::Credit(KeptCredit::new(credit)),

@@ -6,7 +6,7 @@ use identifiers::{AccountNumber, VoucherCode};
 use std::alloc::Global;
 use std::process::Abort;
 use units::Moment;
-use wire::{read_allow, read_content, read_credit, read_redeem, write_content};
+use wire::{Scratch, read_allow, read_content, read_credit, read_redeem, write_content};
 
 fn account(rt: &impl Abort, alloc: Global) -> AccountNumber {
     AccountNumber::new(alloc, "49151")
@@ -53,7 +53,9 @@ fn content_of(rt: &impl Abort, credit: Credit) -> Content {
 
 fn credit(rt: &impl Abort, alloc: Global, body: &str) -> Content {
     let account = account(rt, alloc);
-    let credit = read_credit(alloc, account, body.as_bytes()).expect(rt, "a credit");
+    let credit = read_credit(alloc, account, body.as_bytes(), &mut Scratch::new(alloc)).expect(
+        rt, "a credit",
+    );
     content_of(rt, credit)
 }
 
@@ -64,7 +66,12 @@ pub(crate) fn kept_credit(rt: &impl Abort, alloc: Global, body: &str) -> String 
 
 /// What is kept of the allowance that a body is, or its fault.
 pub(crate) fn kept_allowance(rt: &impl Abort, alloc: Global, body: &str) -> String {
-    match read_allow(alloc, account(rt, alloc), body.as_bytes()) {
+    match read_allow(
+        alloc,
+        account(rt, alloc),
+        body.as_bytes(),
+        &mut Scratch::new(alloc),
+    ) {
         Ok(allowance) => kept(rt, alloc, &Content::Allow(allowance)),
         Err(fault) => format!(in alloc; "{fault}").expect(rt, "memory"),
     }
@@ -73,7 +80,10 @@ pub(crate) fn kept_allowance(rt: &impl Abort, alloc: Global, body: &str) -> Stri
 /// The redemption of a voucher by a body.
 fn redemption(rt: &impl Abort, alloc: Global, body: &str) -> Content {
     let code = code(rt, alloc);
-    Content::Redeem(read_redeem(alloc, code, body.as_bytes()).expect(rt, "a redemption"))
+    Content::Redeem(read_redeem(alloc, code, body.as_bytes(), &mut Scratch::new(alloc)).expect(
+        rt,
+        "a redemption",
+    ))
 }
 
 pub(crate) fn kept_redemption(rt: &impl Abort, alloc: Global, body: &str) -> String {
@@ -278,7 +288,12 @@ fn values(rt: HostRuntime) {
 
 /// What a body is: an allowance where it says one, else a credit.
 fn given(rt: &impl Abort, alloc: Global, body: &str) -> Content {
-    match read_allow(alloc, account(rt, alloc), body.as_bytes()) {
+    match read_allow(
+        alloc,
+        account(rt, alloc),
+        body.as_bytes(),
+        &mut Scratch::new(alloc),
+    ) {
         Ok(allowance) => Content::Allow(allowance),
         Err(_) => credit(rt, alloc, body),
     }

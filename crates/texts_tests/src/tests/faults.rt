@@ -3,11 +3,11 @@
 use crate::tests::tables::{Told, try_told};
 use std::alloc::Global;
 use std::process::Abort;
-use wire::{read_request, write_fault};
+use wire::{Scratch, read_request, write_fault};
 
 /// The fault of a body, and the text that answers it.
 pub(crate) fn told(rt: &impl Abort, alloc: Global, body: &str) -> String {
-    let fault = read_request(alloc, body.as_bytes())
+    let fault = read_request(alloc, body.as_bytes(), &mut Scratch::new(alloc))
         .err()
         .expect(rt, "a fault");
     let answer = write_fault(alloc, fault).expect(rt, "memory");

@@ -5,6 +5,7 @@ use crate::tests::tables::{Told, same, try_told};
 use commands::{Content, Request, same_request};
 use std::alloc::Global;
 use std::process::Abort;
+use wire::Scratch;
 use wire_requests::{read_request, write_request};
 
 /// The body of an update of four services.
@@ -29,7 +30,7 @@ fn body_of(text: &str) -> &str {
 }
 
 fn request(rt: &impl Abort, alloc: Global, text: &str) -> Request {
-    read_request(alloc, body_of(text).as_bytes()).expect(rt, "a request")
+    read_request(alloc, body_of(text).as_bytes(), &mut Scratch::new(alloc)).expect(rt, "a request")
 }
 
 /// Whether the text is read as this request.
