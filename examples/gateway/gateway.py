@@ -36,8 +36,12 @@ while True:
         "Multiple-Services-Credit-Control": [service]})
     print(now, json.dumps(answer.get("Multiple-Services-Credit-Control", answer)))
     grant = answer.get("Multiple-Services-Credit-Control", [{}])[0]
-    if kind == 3 or grant.get("Result-Code") != 2001:
+    granted = grant.get("Result-Code") == 2001
+    if kind == 3 or kind == 1 and not granted:
         break
+    if not granted:
+        used, left, number = [], 0, number + 1
+        continue
     units = grant["Granted-Service-Unit"]
     going = min(left, units["CC-Time"], grant["Validity-Time"])
     before = min(going, max(0, units.get("Tariff-Time-Change", now + going) - now))
