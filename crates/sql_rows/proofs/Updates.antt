@@ -1,19 +1,15 @@
 -- What UPDATE .. WHERE of a whole key makes of its table: the row under the key has its new values,
 -- or there is none.
-use Rattle.std.proofs.Common.{◌≡◌, ◌≢◌, ◌⊎◌, inl, inr, ℕ, List, [], ◌∷◌, map, filter, flat_map}
-use Rattle.std.proofs.Common.{slice_get, Bool, true, false, ◌&&◌, cond, None, Option, Some, Ok}
-use Rattle.std.proofs.Common.{refl, sym, ap, subst, ◌∙◌}
-use Rattle.std.proofs.lemmas.Bool.{cases_Bool, and_parts, not-true}
-use Rattle.std.proofs.lemmas.List.Sorted.{IsPermutation-map}
+use Rattle.std.proofs.Common.{◌≡◌, ◌≢◌, ◌⊎◌, inl, inr, ℕ, List, [], ◌∷◌}
+use Rattle.std.proofs.Common.{slice_get, Bool, true, false, ◌&&◌, None, Option, Some, Ok}
+use Rattle.std.proofs.Common.{sym, ap, subst, ◌∙◌}
+use Rattle.std.proofs.lemmas.Bool.{and_parts, not-true}
 use Rattle.std.specs.List.{AllByRecursion, list_all}
-use Rattle.std.specs.List.Sorted.{IsPermutation}
 use Rattle.std.specs.Ordering.{eq_by_cmp}
 use Rattle.sqlite_value.specs.declared.value.Value.TheVariants.{Null, Int}
 use Rattle.sqlite_value.specs.Order.{Row, row_cmp}
 use Rattle.sqlite_trees.specs.Tree.{Trees, rowid, without_rowid}
 use Rattle.sqlite_sql.specs.Ops.{is_null}
-use Rattle.sqlite_sql.specs.Program.{overlay}
-use Rattle.sqlite_sql.specs.Query.{Query, Output, output, IsAnswer}
 use Rattle.sqlite_sql.specs.Term.{Term, eval_all, holds}
 use Rattle.sqlite_schema.specs.Rules.{Fits, guards}
 use Rattle.sqlite_schema.specs.declared.command.Command.TheVariants.{Update}
@@ -35,9 +31,9 @@ use Rattle.sqlite.proofs.Callers.{one_step}
 use Rattle.sql_tables.specs.Keyed.{key_of, IsStored}
 use Rattle.sql_tables.specs.Schema.{book_schema, key_index}
 use Rattle.sql_tables.specs.Selects.{Selects}
-use Rattle.sql_tables.proofs.Selected.{select_from, selected_to}
+use Rattle.sql_tables.proofs.Selected.{answered, select_from, selected_to}
 use Rattle.sql_tables.proofs.Single.{one_selected}
-use Rattle.sql_tables.proofs.Steps.{bare, does_over, same_value, went}
+use Rattle.sql_tables.proofs.Steps.{does_over, same_value, went}
 use Rattle.sql_tables.proofs.Upserts.{Put}
 
 -- no row passes, and the trees of tables are as they were
@@ -59,37 +55,6 @@ pub record OneUpdated (table : Table) (test : Row → Bool) (values : Row → Ro
 abbrev pub Updated : Table → (Row → Bool) → (Row → Row) → Trees → Trees → Type 0
 Updated table test values db next = NoneUpdated table test db next
     ⊎ OneUpdated table test values db next
-
--- what the query of the update answers
-module _ (tree : ℕ) (terms project : List Term) (params : Row) (test : Row → Bool)
-    (columns : Row → Row)
-    (tests : (r : Row) → list_all (holds (params ∷ r ∷ [])) terms ≡ test r)
-    (shows : (r : Row) → eval_all project (params ∷ r ∷ []) ≡ columns r) where
-  abbrev query : Query
-  query = select_from tree terms project []
-
-  matched : (rs : List Row) → map (λ (o : Output). o.1) (map (output query)
-      (flat_map (λ r.
-      cond (list_all (holds (params ∷ r ∷ [])) terms) ((params ∷ r ∷ []) ∷ []) []) rs)) ≡ map
-      columns (filter test rs)
-  matched [] = refl
-  matched (r ∷ rs) = elim (cases_Bool (test r)) [
-    | inl e ↦ rw (tests r, e, matched rs, shows r) refl
-    | inr e ↦ rw (tests r, e, matched rs) refl
-  ]
-
-  answered : (db : Trees) (rows : List Row) → IsAnswer query (overlay db []) params rows →
-      Selects test columns (db tree) rows
-  answered db rows a =
-      let kept : map (λ (o : Output). o.1) a.kept ≡ map columns (filter test (db tree)) =
-      ap (map (λ (o : Output). o.1)) (a.distinct ∙ ap (map (output query))
-      (a.grouped ∙ ap (λ rs. flat_map (λ r. cond (list_all (holds (params ∷ r ∷ [])) terms)
-      ((params ∷ r ∷ []) ∷ []) []) rs) (bare db tree))) ∙ matched (db tree) in
-      record {
-        same = subst (IsPermutation (map columns (filter test (db tree)))) (sym a.shown)
-            (subst (λ xs. IsPermutation xs (map (λ (o : Output). o.1) a.ordered)) kept
-            (IsPermutation-map (λ (o : Output). o.1) a.kept a.ordered a.same));
-      }
 
 -- a key of the table, and the row that an update makes of each row that has it
 module _ (table : Table) (tabled : Has book_schema.tables table)
@@ -170,7 +135,7 @@ module _ (table : Table) (tabled : Has book_schema.tables table)
         }) params q.0 = q.1 in
         let it = went q.2 in
         let selects : Selects test columns (db table.tree) q.0 =
-        answered table.tree terms project params test columns tests shows db q.0
+        answered table.tree terms project [] params test columns tests shows db q.0
         (a.answer Null) in
         let trees : one.trees ≡ it.0 = ap (λ (w : Written). w.trees) (same_value it.2) in
         subst (Updated table test values db) (sym trees)

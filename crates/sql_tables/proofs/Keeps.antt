@@ -15,7 +15,7 @@ use Rattle.sqlite_schema.specs.Rules.{Fits, Keeps}
 use Rattle.sqlite.specs.State.{State, IsLive, ExecutesInside, KeepsCommit, IsUnchanged}
 use Rattle.sqlite.specs.State.{Shown, ShowsRows, FailsToQuery, FailsToShow, IsNotRun, HasCleanDisk}
 use Rattle.sqlite.specs.State.{Survives, CommitsShowing, IsTooLate}
-use Rattle.sqlite.proofs.Callers.{IsPlain, never_commits}
+use Rattle.sqlite.proofs.Callers.{IsPlain, never_commits, unchanged_then}
 use Rattle.sqlite.proofs.StateLemmas.{survives_weaker}
 use Rattle.sqlite_trees.specs.Tree.{Trees}
 use Rattle.sql_tables.specs.Schema.{book_schema}
@@ -65,7 +65,7 @@ fails_shown old new sql c params e None h = inl h.3
 fails_shown old new sql c params e (Some what) (inl h) = inl h.1
 fails_shown old new sql c params e (Some what) (inr h) = inr h.3
 
-fails_spares : (sql : List ℕ) (params : Row) (old new : State) (e : Error) →
+pub fails_spares : (sql : List ℕ) (params : Row) (old new : State) (e : Error) →
     FailsToQuery sql params old new e →
     Spares old new
 unfolding FailsToQuery IsNotRun
@@ -95,6 +95,37 @@ unfolding Shown
 shown_unchanged sql params old new rows plain h = let bare = subst IsPlain h.1.is plain in
     (rw bare.0 at h.2).3
 
+-- what a refusal leaves after nothing was changed
+pub spares_then : (a b c : State) → IsUnchanged a b → Spares b c → Spares a c
+spares_then a b c same (inl u) = inl (unchanged_then a b c same u)
+spares_then a b c same (inr r) = inr (record {
+  was_open = λ on. same.0.was_open;
+  undone = λ on. (
+    (r.undone on).0 ∙ same.0.committed_is,
+    (r.undone on).1 ∙ same.0.committed_is,
+  );
+  autocommit = r.autocommit;
+  unmarked = r.unmarked;
+  counts = record {
+    changes = r.counts.changes ∙ same.1.changes;
+    last_rowid = r.counts.last_rowid ∙ same.1.last_rowid;
+  };
+})
+
+-- outside a transaction it leaves what was there
+pub spares_still : (old new : State) → (IsTrue old.is_open → old.now ≡ old.committed)
+    → Spares old new → IsTrue new.is_open → IsStill old new
+spares_still old new settled (inl u) on =
+    record { was_open = u.0.was_open; now_is = u.0.now_is; committed_is = u.0.committed_is }
+spares_still old new settled (inr b) on = record {
+  was_open = b.was_open on;
+  now_is = (b.undone on).0 ∙ sym (settled (b.was_open on));
+  committed_is = (b.undone on).1;
+}
+
+pub still_itself : (s : State) → IsTrue s.is_open → IsStill s s
+still_itself s on = record { was_open = on; now_is = refl; committed_is = refl }
+
 -- a selection changes nothing, whether it answers or fails outside a transaction
 pub reads_still : {V : Type 0} (items : V → List Row) (sql : List ℕ) (params : Row)
     (old new : State) (r : Result V Error) → IsPlain (understood book_schema sql)
@@ -106,16 +137,7 @@ reads_still items sql params old new (Ok v) plain idle ok err on =
     (sym (idle was).book.schema) plain) ok in
     record { was_open = was; now_is = same.0.now_is; committed_is = same.0.committed_is }
 reads_still items sql params old new (Err e) plain idle ok err on =
-    go (fails_spares sql params old new e err)
-  where
-    go : Spares old new → IsStill old new
-    go (inl u) =
-        record { was_open = u.0.was_open; now_is = u.0.now_is; committed_is = u.0.committed_is }
-    go (inr b) = record {
-      was_open = b.was_open on;
-      now_is = (b.undone on).0 ∙ sym (idle (b.was_open on)).settled;
-      committed_is = (b.undone on).1;
-    }
+    spares_still old new (λ was. (idle was).settled) (fails_spares sql params old new e err) on
 
 -- a selection within a transaction changes nothing, or it keeps what was committed
 pub reads_within : {V : Type 0} (items : V → List Row) (sql : List ℕ) (params : Row)
@@ -180,7 +202,8 @@ attempt_err {A} {B} {E} does old new r e f is a =
     subst (λ x. Attempts {A = A} {E = E} does old new x) is a in
     record { done = λ clean. tt; kept = it.kept; survives = it.survives }
 
-idle_still : (old new : State) → IsIdle old → IsStill old new → IsIdle new
+-- one that is idle and stays as it was is idle still
+pub idle_still : (old new : State) → IsIdle old → IsStill old new → IsIdle new
 idle_still old new idle still = record {
   book = record {
     schema = ap (λ d. d.schema) still.now_is ∙ idle.book.schema;

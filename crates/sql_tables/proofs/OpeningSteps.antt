@@ -1,6 +1,6 @@
 -- One more table whose rowids differ.
 use Rattle.std.proofs.Common.{◌≡◌, ℕ, zero, suc, ◌+◌, List, [], ◌∷◌, take, length, sym, ap, subst}
-use Rattle.std.proofs.Common.{◌∙◌, refl, arith, Ok, Err, Result}
+use Rattle.std.proofs.Common.{◌∙◌, refl, arith, Ok, Err, Result, inl}
 use Rattle.std.specs.List.{AllByRecursion}
 use Rattle.sqlite_value.specs.Order.{Row}
 use Rattle.sqlite_trees.specs.declared.store.Store.{Ghosts}
@@ -19,6 +19,7 @@ use Rattle.sql_tables.specs.Opens.{IsOpenFaultTold}
 use Rattle.sql_tables.specs.declared.fault.OpenFault.{OpenFault}
 use Rattle.sql_tables.specs.Rises.{AreRising}
 use Rattle.sql_tables.proofs.Ascents.{all_end}
+use Rattle.sql_tables.proofs.Keeps.{spares_then}
 use Rattle.sql_tables.proofs.Standing.{rows_rise, rows_stand}
 
 -- one more table
@@ -98,6 +99,8 @@ found_not v k a b c e r is so f = subst (FindsAll v a c) (sym is) (record {
   means = λ clean.
       let here = so.1 (omega (arith, f.survives.clean, clean)) in
       subst (λ db. IsOpenFaultTold db e) here.0.0.now_is (f.means clean);
+  spares = λ clean. spares_then a b c (so.1 (omega (arith, f.survives.clean, clean))).0
+      (f.spares clean);
   survives = survives_then a b c (λ _. ⊥) (λ _. ⊥) (λ _. ⊥) (λ clean db none. none)
       (λ clean db none. none) so.0 f.survives;
 })
@@ -105,7 +108,13 @@ found_not v k a b c e r is so f = subst (FindsAll v a c) (sym is) (record {
 pub none_found_not : {A B : Type 0} (v k : ℕ) (a c : State) (e : OpenFault)
     (r : Result B OpenFault) → r ≡ Err e → Finds {A = A} v k a c (Err e) → FindsAll v a c r
 none_found_not v k a c e r is f = subst (FindsAll v a c) (sym is)
-    (record { found = λ clean. tt; told = f.told; means = f.means; survives = f.survives })
+    (record {
+      found = λ clean. tt;
+      told = f.told;
+      means = f.means;
+      spares = f.spares;
+      survives = f.survives;
+    })
 
 whole : {A : Type 0} (xs : List A) (k : ℕ) → k ≡ length xs → take k xs ≡ xs
 whole [] zero e = refl
@@ -124,5 +133,6 @@ found_all v k a b u end so = record {
   );
   told = tt;
   means = λ clean. tt;
+  spares = λ clean. inl (so.1 clean).0;
   survives = so.0;
 }

@@ -68,13 +68,11 @@ select_from tree filter project order = record {
   offset = lit (Int (pos 0));
 }
 
-module _ (text : List ℕ) (names : List (List ℕ)) (tree : ℕ) (terms project : List Term)
-    (order : List (Term × Key)) (is : (command_of (understood book_schema text) ≡ Select (record
-    { lets = []; body = select_from tree terms project order }) names) ×
-    (reads_listing book_schema text ≡ false)) (plain : IsPlain (understood book_schema text))
-    (params : Row) (test : Row → Bool) (columns : Row → Row)
-    (tests : (r : Row) → list_all (holds (params ∷ r ∷ []))
-    terms ≡ test r) (shows : (r : Row) → eval_all project (params ∷ r ∷ []) ≡ columns r) where
+-- what the query of a selection answers
+module _ (tree : ℕ) (terms project : List Term) (order : List (Term × Key)) (params : Row)
+    (test : Row → Bool) (columns : Row → Row)
+    (tests : (r : Row) → list_all (holds (params ∷ r ∷ [])) terms ≡ test r)
+    (shows : (r : Row) → eval_all project (params ∷ r ∷ []) ≡ columns r) where
   abbrev query : Query
   query = select_from tree terms project order
 
@@ -88,7 +86,7 @@ module _ (text : List ℕ) (names : List (List ℕ)) (tree : ℕ) (terms project
     | inr e ↦ rw (tests r, e, matched rs) refl
   ]
 
-  answered : (db : Trees) (rows : List Row) → IsAnswer query (overlay db []) params rows →
+  pub answered : (db : Trees) (rows : List Row) → IsAnswer query (overlay db []) params rows →
       Selects test columns (db tree) rows
   answered db rows a =
       let kept : map (λ (o : Output). o.1) a.kept ≡ map columns (filter test (db tree)) =
@@ -101,12 +99,22 @@ module _ (text : List ℕ) (names : List (List ℕ)) (tree : ℕ) (terms project
             (IsPermutation-map (λ (o : Output). o.1) a.kept a.ordered a.same));
       }
 
+-- what a statement that is a selection answers
+module _ (text : List ℕ) (names : List (List ℕ)) (tree : ℕ) (terms project : List Term)
+    (order : List (Term × Key)) (is : (command_of (understood book_schema text) ≡ Select (record
+    { lets = []; body = select_from tree terms project order }) names) ×
+    (reads_listing book_schema text ≡ false)) (plain : IsPlain (understood book_schema text))
+    (params : Row) (test : Row → Bool) (columns : Row → Row)
+    (tests : (r : Row) → list_all (holds (params ∷ r ∷ []))
+    terms ≡ test r) (shows : (r : Row) → eval_all project (params ∷ r ∷ []) ≡ columns r) where
   selects : (old new : State) (rows : List Row) → old.now.schema ≡ book_schema →
       Shown text params old new rows →
       Selects test columns (old.now.trees tree) rows
   selects old new rows has h =
-      answered old.now.trees rows ((reads_as text params old new book_schema has
-      (Select (record { lets = []; body = query }) names) is.0 plain is.1 rows h).answer Null)
+      answered tree terms project order params test columns tests shows old.now.trees rows
+      ((reads_as text params old new book_schema has
+      (Select (record { lets = []; body = select_from tree terms project order }) names)
+      is.0 plain is.1 rows h).answer Null)
 
   -- the first rows of an answer
   pub starts : (s : State) (rows : List Row) → s.now.schema ≡ book_schema →
@@ -114,8 +122,12 @@ module _ (text : List ℕ) (names : List (List ℕ)) (tree : ℕ) (terms project
       (tail : List Row) × Selects test columns (s.now.trees tree) (rows ++ tail)
   starts s rows has h =
       let first = begins_as text params s s book_schema has
-      (Select (record { lets = []; body = query }) names) is.0 plain is.1 rows h in
-      (first.1.0, answered s.now.trees (rows ++ first.1.0) (first.1.1 Null))
+      (Select (record { lets = []; body = select_from tree terms project order }) names)
+      is.0 plain is.1 rows h in (
+        first.1.0,
+        answered tree terms project order params test columns tests shows s.now.trees
+            (rows ++ first.1.0) (first.1.1 Null),
+      )
 
   pub told : (old new : State) (rows : List Row) → Answers text params old new rows →
       Selects test columns (old.now.trees tree) rows

@@ -1,7 +1,7 @@
 -- What is tested of a database that was made elsewhere.
 -- Source: profile.
 use Rattle.std.specs.Prelude.{◌≡◌, ◌≤◌, ◌<◌, ℕ, ◌+◌, List, take, codes, None, [], ◌∷◌, pos, negsuc}
-use Rattle.std.specs.Prelude.{false}
+use Rattle.std.specs.Prelude.{false, IsTrue}
 use Rattle.std.specs.Prelude.{Result, IfErr, IfOk, OnOk, ◌++◌, ⊤}
 use Rattle.std.specs.List.{AllByRecursion}
 use Rattle.sql_tables.specs.Words.{TablesVersion, TreeNumber}
@@ -21,6 +21,7 @@ use Rattle.sqlite.specs.State.{State, HasCleanDisk, IsUnchanged, Survives}
 use Rattle.sql_tables.specs.Keyed.{IsStored}
 use Rattle.sql_tables.specs.Schema.{latest, schema_at}
 use Rattle.sql_tables.specs.Stages.{AreStoredAt}
+use Rattle.sql_tables.specs.Statements.{IsStill, Spares}
 use Rattle.sql_tables.specs.declared.fault.OpenFault.{OpenFault}
 use Rattle.sql_tables.specs.declared.fault.OpenFault.TheVariants.{Foreign, Version, Rules, Store}
 use Rattle.sql_tables.specs.declared.fault.OpenFault.TheVariants.{Memory, Older}
@@ -61,6 +62,7 @@ pub record Finds {A : Type 0} (v : TablesVersion) (k : ℕ) (old new : State)
   pub found : HasCleanDisk new → OnOk result (IsUnchanged old new × IsStoredTo v k new)
   pub told : IfErr result IsNoVersion
   pub means : HasCleanDisk new → IfErr result (IsOpenFaultTold old.now)
+  pub spares : HasCleanDisk new → Spares old new
   pub survives : Survives old new (λ _. ⊥)
 
 -- where it answers, no table of the version has a rowid twice
@@ -70,6 +72,7 @@ pub record FindsAll {A : Type 0} (v : TablesVersion) (old new : State) (result :
       × (new.now.schema ≡ schema_at v) × AreStoredAt v new.now.trees)
   pub told : IfErr result IsNoVersion
   pub means : HasCleanDisk new → IfErr result (IsOpenFaultTold old.now)
+  pub spares : HasCleanDisk new → Spares old new
   pub survives : Survives old new (λ _. ⊥)
 
 -- the rowids of a table, in order
@@ -135,4 +138,6 @@ pub record FindsVersion {S : Type 0} (g : Ghosts S) (old new : Held S)
   pub idle : OnOk result (new.in_transaction ≡ false)
   pub told : IfErr result IsNoVersion
   pub means : HasCleanDisk (state g new) → IfErr result (IsOpenFaultTold (state g old).now)
+  pub still : HasCleanDisk (state g new) → IsTrue (state g new).is_open →
+      IsStill (state g old) (state g new)
   pub survives : Survives (state g old) (state g new) (λ _. ⊥)

@@ -12,6 +12,7 @@ ghost use Rattle.sql_tables.specs.Schema.{schema_at};
 ghost use Rattle.sql_tables.specs.Opens.{Finds, HasStoredTo, IsNext, IsNoVersion, IsOpenFaultTold};
 ghost use Rattle.sql_tables.specs.Opens.{IsVersion};
 ghost use Rattle.sql_tables.specs.Rises.{AreRising, Climbs, IsAbove};
+ghost use Rattle.sql_tables.specs.Statements.{Spares};
 
 use crate::fault::OpenFault;
 use sqlite::types::ValueRef;
@@ -79,6 +80,8 @@ fn are_rising<S: Alter>(conn: &mut Connection<S>, sql: &str) -> Result<bool, Err
         × (IsTrue rises → AreRising rows) × (AreRising rows → IsTrue rises)) }
     ensures same { HasCleanDisk (state S.Store conn.new) →
         OnOk result (IsUnchanged (state S.Store conn.old) (state S.Store conn.new)) }
+    ensures spares { HasCleanDisk (state S.Store conn.new) →
+        Spares (state S.Store conn.old) (state S.Store conn.new) }
     ensures crash { Survives (state S.Store conn.old) (state S.Store conn.new) (λ _. ⊥) }
 {
     let mut climb = Climb {

@@ -20,6 +20,7 @@ returns-in-Ok-true g c = λ k next so. record {
       );
   told = tt;
   means = λ clean. tt;
+  spares = c.in-Ok-true.ensures.spares;
   survives = c.in-Ok-true.ensures.crash;
 }
 
@@ -39,6 +40,7 @@ returns-in-Ok-false g c = λ k next so. record {
         told_twice g.S.Store c.args.version c.args.sql.now k next c.args.conn.now rise.0
             (state g.S.Store c.are_rising.new.conn) rise.1 rise.2 rise.3 falls (so was),
       );
+  spares = c.in-Ok-false.ensures.spares;
   survives = c.in-Ok-false.ensures.crash;
 }
 
@@ -47,5 +49,6 @@ returns-in-Err g c = λ k next so. record {
   found = λ clean. tt;
   told = c.fault_of.ensures.told;
   means = λ clean. c.fault_of.ensures.means (state g.S.Store c.args.conn.now).now;
+  spares = c.in-Err.ensures.spares;
   survives = c.in-Err.ensures.crash;
 }
