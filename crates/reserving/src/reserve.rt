@@ -22,7 +22,7 @@ use crate::pricing::{wanted_of, window_at};
 use buckets::HoldRoom;
 use identifiers::SessionId;
 use ledger::Terms;
-use rating::{Grant, Periods, greatest_grant};
+use rating::{Grant, Means, Periods, greatest_grant};
 use units::{Amount, Blocks, Moment, Units};
 
 /// What is granted of a wanted amount (Granted-Service-Unit, RFC 8506 section 8.17).
@@ -160,7 +160,8 @@ impl<'b> Account<'b> {
         let place = self.place_at(group, moment);
         let funds = self.funds(group, moment);
         let allowance = self.allowance(group, moment);
-        let grant = greatest_grant(&prices, Units(used), place, Units(wanted), funds, allowance);
+        let means = Means { allowance, funds };
+        let grant = greatest_grant(&prices, Units(used), place, Units(wanted), means);
         Quota { wanted, grant }
     }
 

@@ -6,7 +6,7 @@
 use crate::tests::tables::{Teller, Words, try_table};
 use crate::tests::values::book;
 use calendar::Period;
-use rating::{Grant, Part, greatest_grant, rate, rate_report};
+use rating::{Grant, Means, Part, greatest_grant, rate, rate_report};
 use std::alloc::Global;
 use std::process::Abort;
 use tariffs::{Prices, Side, TariffBook, Tier};
@@ -136,11 +136,12 @@ fn grant(rt: &impl Abort, alloc: Global, book: &TariffBook, words: &mut Words<'_
     let (used, place) = (Units(words.number(rt)), words.number(rt));
     let (wanted, funds) = (Units(words.number(rt)), Amount(words.number(rt)));
     let prices = prices_of(rt, book, group, Period(before), PEAK);
-    grant_text(
-        rt,
-        alloc,
-        greatest_grant(&prices, used, place, wanted, funds, Blocks(0)),
-    )
+    let means = Means {
+        allowance: Blocks(0),
+        funds,
+    };
+    let grant = greatest_grant(&prices, used, place, wanted, means);
+    grant_text(rt, alloc, grant)
 }
 
 /// `GROUP BEFORE USED PLACE WANTED FUNDS ALLOWANCE`: the blocks of the greatest grant that the
@@ -151,7 +152,8 @@ fn allowed(rt: &impl Abort, alloc: Global, book: &TariffBook, words: &mut Words<
     let (wanted, funds) = (Units(words.number(rt)), Amount(words.number(rt)));
     let prices = prices_of(rt, book, group, Period(before), PEAK);
     let allowance = Blocks(words.number(rt));
-    let grant = greatest_grant(&prices, used, place, wanted, funds, allowance);
+    let means = Means { allowance, funds };
+    let grant = greatest_grant(&prices, used, place, wanted, means);
     let text = grant_text(rt, alloc, grant);
     format!(in alloc; "{} {text}", grant.allowed.0).expect(rt, "memory")
 }
@@ -339,10 +341,14 @@ fn rated_otherwise(prices: &Prices, side: Side, blocks: u64) -> u64 {
 /// At how many places the grant of 20 blocks isn't what the funds cover one by one.
 fn granted_otherwise(prices: &Prices, funds: u128) -> u64 {
     let mut count: u64 = 0;
+    let means = Means {
+        allowance: Blocks(0),
+        funds: Amount(funds),
+    };
     for place in 0..20 {
         let (before, after) = (prices.tiers(Side::Before), prices.tiers(Side::After));
         let (blocks, amount) = covered_by_blocks(before, after, place, funds);
-        let grant = greatest_grant(prices, Units(0), place, Units(20), Amount(funds), Blocks(0));
+        let grant = greatest_grant(prices, Units(0), place, Units(20), means);
         if (grant.blocks.0, grant.units.0, grant.amount.0) != (blocks, blocks, amount) {
             count = count.saturating_add(1);
         }
