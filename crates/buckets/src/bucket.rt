@@ -7,8 +7,10 @@ ghost use Rattle.buckets.specs.Row.{with_charge_of_hold, with_release, with_end,
 ghost use Rattle.buckets.specs.Row.{IsBalanced};
 
 mod columns;
+mod terms;
 
 pub use crate::bucket::columns::Columns;
+pub use crate::bucket::terms::BucketTerms;
 use crate::kind::BucketKind;
 use std::marker::Model;
 use units::Moment;
@@ -156,27 +158,21 @@ impl Bucket {
         self.expired
     }
 
-    pub(crate) fn new(
-        number: u32,
-        kind: BucketKind,
-        from: Moment,
-        until: Moment,
-        scope: Option<u32>,
-        amount: u64,
-    ) -> Self
-        requires most { amount ≤ most_of kind }
-        requires scope { IsScopeOf kind scope }
-        ensures row { result ≡ new_row kind number from until scope amount }
+    pub(crate) fn new(number: u32, terms: BucketTerms) -> Self
+        requires most { terms.amount ≤ most_of terms.kind }
+        requires scope { IsScopeOf terms.kind terms.scope }
+        ensures row { result
+            ≡ new_row terms.kind number terms.from terms.until terms.scope terms.amount }
         ensures balanced { IsBalanced result }
     {
         Bucket {
             number,
-            kind,
-            from,
-            until,
-            scope,
-            credited: amount,
-            available: amount,
+            kind: terms.kind,
+            from: terms.from,
+            until: terms.until,
+            scope: terms.scope,
+            credited: terms.amount,
+            available: terms.amount,
             reserved: 0,
             charged: 0,
             expired: 0,

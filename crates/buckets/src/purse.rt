@@ -13,7 +13,7 @@ ghost use Rattle.buckets.specs.Holding.{held_sum};
 mod tested;
 
 use crate::along;
-use crate::bucket::Bucket;
+use crate::bucket::{Bucket, BucketTerms};
 use crate::holds::{HoldRoom, Holds};
 use crate::kind::{BucketKind, Due};
 use std::alloc::{AllocError, Global};
@@ -121,14 +121,14 @@ impl Purse {
         ensures { Adds (new_row BucketKind.Money number from until scope amount) self.old self.new
             result }
     {
-        self.add(
-            number,
-            BucketKind::Money,
+        let terms = BucketTerms {
+            kind: BucketKind::Money,
             from,
             until,
             scope,
-            amount.micros(),
-        )
+            amount: amount.micros(),
+        };
+        self.add(number, terms)
     }
 
     /// Adds an allowance of so many blocks of a rating group, all of them available, under a number
@@ -149,36 +149,30 @@ impl Purse {
         ensures { Adds (new_row BucketKind.Blocks number from until (Some group) blocks.0) self.old
             self.new result }
     {
-        self.add(
-            number,
-            BucketKind::Blocks,
+        let terms = BucketTerms {
+            kind: BucketKind::Blocks,
             from,
             until,
-            Some(group),
-            blocks.0,
-        )
+            scope: Some(group),
+            amount: blocks.0,
+        };
+        self.add(number, terms)
     }
 
     /// Adds a bucket of either kind, as `credit` and `allow` do.
     ///
     /// # Errors
     /// A growth was refused. Then the purse is unchanged.
-    pub fn add(
-        &mut self,
-        number: u32,
-        kind: BucketKind,
-        from: Moment,
-        until: Moment,
-        scope: Option<u32>,
-        amount: u64,
-    ) -> Result<(), AllocError>
+    pub fn add(&mut self, number: u32, terms: BucketTerms) -> Result<(), AllocError>
         requires below { IsBelow number self.old }
-        requires most { amount ≤ most_of kind }
-        requires scope { IsScopeOf kind scope }
-        ensures { Adds (new_row kind number from until scope amount) self.old self.new result }
+        requires most { terms.amount ≤ most_of terms.kind }
+        requires scope { IsScopeOf terms.kind terms.scope }
+        ensures { Adds
+            (new_row terms.kind number terms.from terms.until terms.scope terms.amount) self.old
+            self.new result }
     {
-        let place = along::place_of(&self.buckets, until);
-        let bucket = Bucket::new(number, kind, from, until, scope, amount);
+        let place = along::place_of(&self.buckets, terms.until);
+        let bucket = Bucket::new(number, terms);
         self.buckets.insert(place, bucket)?;
         Ok(())
     }

@@ -9,7 +9,7 @@ ghost use Rattle.reserving.specs.Changes.{credited_account};
 
 use crate::account::Account;
 use crate::fault::AccountFault;
-use buckets::BucketKind;
+use buckets::{BucketKind, BucketTerms};
 use units::{Blocks, Moment, Money};
 
 impl<'b> Account<'b> {
@@ -80,9 +80,14 @@ impl<'b> Account<'b> {
         let Ok(number) = u32::try_from(self.rows.next_bucket) else {
             return Err(AccountFault::Limit);
         };
-        self.rows
-            .purse
-            .add(number, kind, from, until, scope, amount)?;
+        let terms = BucketTerms {
+            kind,
+            from,
+            until,
+            scope,
+            amount,
+        };
+        self.rows.purse.add(number, terms)?;
         self.rows.next_bucket += 1;
         self.calm = false;
         self.quiet = None;
