@@ -1,4 +1,5 @@
 pub mod Documents
+pub mod Digits
 pub mod Loop
 pub mod Counts
 pub mod Compact

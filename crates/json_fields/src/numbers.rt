@@ -1,8 +1,10 @@
 //! Numbers of JSON, read from their texts.
 
-ghost use Rattle.std.specs.Prelude.{◌≡◌, ◌<◌, ◌==◌, length, slice_index, IsTrue, option_map, true};
-ghost use Rattle.std.specs.Prelude.{false};
+ghost use Rattle.std.specs.Prelude.{◌≡◌, ◌<◌, ◌==◌, length, slice_index, IsTrue, IfSome, Some};
+ghost use Rattle.std.specs.Prelude.{option_map, option_and_then, is_some, true, false};
 ghost use Rattle.json.specs.Value.{value_view, items_view, members_view};
+ghost use Rattle.serde_json.specs.Data.{unsigned};
+ghost use Rattle.serde_json.specs.Find.{as_u64};
 ghost use Rattle.serde_json.specs.Read.{number_of, number_from, float_of};
 ghost use Rattle.serde_json.specs.View.{number_view};
 ghost use Rattle.json_fields.specs.View.{is_in_range, are_in_range, members_in_range};
@@ -44,8 +46,8 @@ fn negative(numeral: &Numeral<'_>) -> Option<Number>
     nearest(true, numeral)
 }
 
-/// The number that a text of JSON's grammar writes, where it is in range: a whole number of 64 bits,
-/// or a finite float.
+/// The number that a text of JSON's grammar writes, where it is in range: a whole number of 64
+/// bits, or a finite float.
 pub(crate) fn number(text: &str) -> Option<Number>
     ensures { option_map number_view result ≡ number_of text.now }
 {
@@ -57,6 +59,42 @@ pub(crate) fn number(text: &str) -> Option<Number>
     }
 }
 
+fn has_plus(bytes: &[u8]) -> bool
+    ensures { result ≡ (slice_index bytes.now 0 == 43) }
+{
+    !bytes.is_empty() && bytes[0] == b'+'
+}
+
+/// The whole number that a text writes by digits alone, where it fits. Most numbers are read so,
+/// without a look for a point or an exponent.
+#[inline]
+fn digits(text: &str) -> Option<u64>
+    ensures { IfSome result (λ n. number_of text.now ≡ Some (unsigned n)) }
+{
+    let bytes = text.as_bytes();
+    if has_plus(bytes) {
+        return None;
+    }
+    fast_float::parse_u64(bytes).ok()
+}
+
+/// Whether the number that a text of JSON's grammar writes is in range.
+fn has_number(text: &str) -> bool
+    ensures { result ≡ is_some (number_of text.now) }
+{
+    digits(text).is_some() || number(text).is_some()
+}
+
+/// The number that a text of JSON's grammar writes, where it is a whole one from 0 on that fits.
+pub(crate) fn whole_number(text: &str) -> Option<u64>
+    ensures { result ≡ option_and_then as_u64 (number_of text.now) }
+{
+    match digits(text) {
+        Some(n) => Some(n),
+        None => number(text)?.as_u64(),
+    }
+}
+
 /// Whether each number of a value is in range.
 #[cycle(ranges)]
 pub(crate) fn is_in_range(value: &Value<'_>) -> bool
@@ -65,7 +103,7 @@ pub(crate) fn is_in_range(value: &Value<'_>) -> bool
     match value {
         Value::Null => true,
         Value::Bool(_) => true,
-        Value::Number(text) => number(text).is_some(),
+        Value::Number(text) => has_number(text),
         Value::String(_) => true,
         Value::Array(items) => are_in_range(items),
         Value::Object(members) => members_in_range(members),

@@ -9,7 +9,7 @@ ghost use Rattle.json_fields.specs.Gives.{Gives, or_fault};
 ghost use Rattle.json_fields.specs.View.{view, items_view, tree_of};
 
 use crate::fault::WireFault;
-use crate::numbers::{is_in_range, number};
+use crate::numbers::{is_in_range, number, whole_number};
 use json::{Error, Reader, Scratch, Value};
 use std::alloc::Global;
 
@@ -104,7 +104,7 @@ pub fn as_bool(value: &Value<'_>) -> Option<bool>
 pub fn as_u64(value: &Value<'_>) -> Option<u64>
     ensures { result ≡ option_and_then as_u64 (as_number (view value.now)) }
 {
-    number(value.as_number()?)?.as_u64()
+    whole_number(value.as_number()?)
 }
 
 /// The number, where the value is a whole one that fits.
