@@ -1,7 +1,5 @@
 -- A command that was served is carried out.
-use Rattle.std.proofs.Common.{◌≡◌, ℕ, List, Option, subst, Result, Ok, Err, true, false, ap, sym}
-use Rattle.std.proofs.Common.{OnErr, OnOk}
-use Rattle.std.specs.Prelude.{is_ok, MatchResult}
+use Rattle.std.proofs.Common.{◌≡◌, ℕ, List, Option, subst, Result, Ok}
 use Rattle.commands.specs.declared.answer.Answer.{Answer}
 use Rattle.commands.specs.declared.command.Command.{Command}
 use Rattle.shelves.specs.Shelves.{Shelf}
@@ -14,7 +12,6 @@ use Rattle.keepers.specs.declared.fault.StoreFault.{StoreFault}
 use Rattle.operations.specs.Carried.{IsCarriedOut}
 use Rattle.operations.specs.Told.{answer_line, status_of}
 use Rattle.operations.specs.Written.{WritesBeginning}
-use Rattle.operations.specs.declared.fault.OfficeFault.{OfficeFault}
 use Rattle.operations.specs.declared.status.Status.{Status}
 
 pub carried_out : (b : Shelf) (c : Command) (t : ℕ) (old new : Tables) (tells : Answer → Type 0)
@@ -62,26 +59,3 @@ pub untold_from : (b : Shelf) (c d : Command) (t : ℕ) (old new : Tables)
 untold_from b c d t old new before after r given serves e same written =
     carried_out b c t old new (λ answer. WritesBeginning before after (answer_line answer)) given
     (served_from b c d t old new r given serves e same) written
-
--- ---- by what an error was turned into
-
-abbrev pub given_out : Answer → Result Answer OfficeFault
-given_out answer = Ok answer
-
--- an answer that is handed on was given
-pub given_by : (r : Result Answer StoreFault) (answer : Answer)
-    → MatchResult r (λ given. given_out answer ≡ given_out given) (λ fault. ⊥) → r ≡ Ok answer
-given_by (Ok given) answer h =
-    let same : answer ≡ given = cc in
-    ap Ok (sym same)
-given_by (Err fault) answer h = absurd h
-
--- what an error says, where a result with an error shows that there is one
-pub told_error : {A E P : Type 0} (r : Result A E) → false ≡ is_ok r → OnErr r P → P
-told_error (Ok x) is told = absurd (cc)
-told_error (Err e) is told = told
-
--- what an answer says, where a result without an error shows that there is one
-pub told_ok : {A E P : Type 0} (r : Result A E) → true ≡ is_ok r → OnOk r P → P
-told_ok (Ok x) is told = told
-told_ok (Err e) is told = absurd (cc)

@@ -41,6 +41,26 @@ impl OfficeFault {
     }
 }
 
+impl From<StoreFault> for OfficeFault {
+    ghost use Rattle.operations.specs.declared.fault.OfficeFault.TheVariants.{Store};
+
+    ghost from_gives = { λ fault e. e ≡ Store fault };
+
+    fn from(fault: StoreFault) -> OfficeFault {
+        OfficeFault::Store(fault)
+    }
+}
+
+impl From<StreamFault> for OfficeFault {
+    ghost use Rattle.operations.specs.declared.fault.OfficeFault.TheVariants.{Write};
+
+    ghost from_gives = { λ fault e. e ≡ Write fault };
+
+    fn from(fault: StreamFault) -> OfficeFault {
+        OfficeFault::Write(fault)
+    }
+}
+
 /// The line that tells a fault of a store, without its number and its line feed.
 pub fn store_line() -> &'static str
     ensures { result.now ≡ store_line }

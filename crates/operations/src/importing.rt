@@ -90,8 +90,9 @@ pub fn serve_import<K: Keeper, W: Write>(
     ensures { ServesImport W.contents shelf.now moment rows.items
         (K.seen keeper.old) (K.seen keeper.new) writer.old writer.new result }
 {
-    let counts = import(alloc, keeper, shelf, rows, moment).map_err(OfficeFault::Store)?;
-    write_counts(alloc, writer, counts).map_err(OfficeFault::Write)
+    let counts = import(alloc, keeper, shelf, rows, moment)?;
+    write_counts(alloc, writer, counts)?;
+    Ok(())
 }
 
 /// Writes counts as a line.

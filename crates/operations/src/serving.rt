@@ -36,7 +36,7 @@ pub fn serve_office<K: Keeper, W: Write>(
         (K.seen keeper.old) (K.seen keeper.new) writer.old writer.new result }
 {
     let command = command.into_command();
-    let answer = step(alloc, keeper, shelf, command, moment).map_err(OfficeFault::Store)?;
-    write_answer_line(writer, &answer).map_err(OfficeFault::Write)?;
+    let answer = step(alloc, keeper, shelf, command, moment)?;
+    write_answer_line(writer, &answer)?;
     Ok(ends_as(&answer))
 }

@@ -59,10 +59,7 @@ pub fn serve_statement<K: ChargeSource, W: Write>(
     ensures { ServesStatement W.contents shelf.now query.now moment
         (K.seen keeper.old) (K.seen keeper.new) writer.old writer.new result }
 {
-    let state = match account_state(keeper, shelf, &query.account, moment) {
-        Ok(state) => state,
-        Err(fault) => return Err(OfficeFault::Store(fault)),
-    };
+    let state = account_state(keeper, shelf, &query.account, moment)?;
     match state {
         Some(state) => month_ended(write_month(alloc, keeper, shelf, query, &state, writer)),
         None => tell_unknown(alloc, writer),
@@ -134,7 +131,7 @@ fn tell_unknown<W: Write>(alloc: Global, writer: &mut W) -> Result<Status, Offic
     ensures unstored { IsErrOf result (Store StoreFailed) → ⊥ }
     ensures fault { (fault : StreamFault) → result ≡ Err (Write fault) → fault ≢ ReadFailed }
 {
-    write_unknown(alloc, writer).map_err(OfficeFault::Write)?;
+    write_unknown(alloc, writer)?;
     Ok(Status::Failed)
 }
 
