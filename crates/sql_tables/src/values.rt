@@ -1,6 +1,6 @@
 //! Parameters of statements.
 
-ghost use Rattle.std.specs.Prelude.{◌≡◌, ◌<◌, ◌^◌, pos, IfOk, if◌then◌else◌};
+ghost use Rattle.std.specs.Prelude.{◌≡◌, ◌<◌, ◌≤◌, ◌^◌, pos, MatchResult, if◌then◌else◌};
 ghost use Rattle.sqlite.specs.Values.{bound_value, or_null};
 ghost use Rattle.sqlite_value.specs.Value.{owned};
 ghost use Rattle.sqlite_value.specs.declared.value.Value.TheVariants.{Int, Null, Text};
@@ -54,7 +54,7 @@ pub fn large<'a>(number: u64) -> ValueRef<'a>
 /// `IntegralValueOutOfRange`, of the place, where the number is 2^63 or more: SQL's integers don't
 /// have it.
 pub fn checked<'a>(number: u128, place: usize) -> Result<ValueRef<'a>, Error>
-    ensures { IfOk result (λ value. owned value ≡ Int (pos number)) }
+    ensures { MatchResult result (λ value. owned value ≡ Int (pos number)) (λ _. 2 ^ 63 ≤ number) }
 {
     let Ok(number) = i64::try_from(number) else {
         return Err(Error::IntegralValueOutOfRange(place));
