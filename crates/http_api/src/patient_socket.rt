@@ -59,10 +59,8 @@ impl<'s> JoinedAnswers<'s> {
             return Err(io::Error::from(ErrorKind::Other));
         };
         let mut stream = self.stream;
-        match join(&mut stream, &mut waiting, bytes) {
-            Ok(()) => Ok(bytes.len()),
-            Err(_) => Err(self.failure()),
-        }
+        join(&mut stream, &mut waiting, bytes).map_err(|_| self.failure())?;
+        Ok(bytes.len())
     }
 
     /// Writes those that wait; no more once a write failed.
@@ -74,10 +72,7 @@ impl<'s> JoinedAnswers<'s> {
             return Err(io::Error::from(ErrorKind::Other));
         };
         let mut stream = self.stream;
-        match write_waiting(&mut stream, &mut waiting) {
-            Ok(()) => Ok(()),
-            Err(_) => Err(self.failure()),
-        }
+        write_waiting(&mut stream, &mut waiting).map_err(|_| self.failure())
     }
 
     /// Sees that a write failed.

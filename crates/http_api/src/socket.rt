@@ -46,10 +46,8 @@ pub fn serve_socket<K: ChargeSource, C: Clock>(
         failed: Cell::new(false),
     };
     let served = serve_joined(rt, &answers, keeper, shelf, clock);
-    match answers.write() {
-        Ok(()) => served,
-        Err(_) => Err(ServeFault::Write),
-    }
+    answers.write().map_err(|_| ServeFault::Write)?;
+    served
 }
 
 /// Serves the requests of a socket that is set, whose answers wait for each other.
