@@ -89,11 +89,11 @@ voucher_used ends (redeems_code code account) t found =
     after_redemption (redemption ends found account t) found
 voucher_used ends no_code t found = found
 
--- what stands under the code that it names, once it is accepted
+-- what is under the code that it names, once it is accepted
 abbrev pub voucher_after : DayEnds → Command → Moment → Option Voucher → Option Voucher
 voucher_after ends c t found = voucher_used ends (about c).code t found
 
--- what stands under a code after accepted commands
+-- what is under a code after accepted commands
 abbrev pub voucher_under : DayEnds → VoucherCode → List Accepted → Option Voucher
 voucher_under ends code [] = None
 voucher_under ends code (d ∷ before) =
@@ -106,7 +106,7 @@ standing_under ends (adds_code code terms) list = voucher_under ends code list
 standing_under ends (redeems_code code account) list = voucher_under ends code list
 standing_under ends no_code list = None
 
--- what stands under the code that a command names; nothing where it names none
+-- what is under the code that a command names; nothing where it names none
 abbrev pub standing_for : DayEnds → Command → List Accepted → Option Voucher
 standing_for ends c list = standing_under ends (about c).code list
 
@@ -121,7 +121,7 @@ IsRowOf (Some head) shelf t history r = (history.opened ≡ true) × AreRowsAt s
 abbrev pub IsRow : Shelf → Moment → History → Rows → Type 0
 IsRow shelf t history r = IsRowOf r.head shelf t history r
 
--- by where days end, and what commands come to over what stands under their codes and on an
+-- by where days end, and what commands come to over what is under their codes and on an
 -- account's history
 module _ (ends : DayEnds) (outcome : Option Voucher → History → Command → Moment →
     CommandOutcome) where

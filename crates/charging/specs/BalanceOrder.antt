@@ -1,4 +1,4 @@
--- A balance tells each bucket of an account once, in the order of their numbers.
+-- A balance lists each bucket of an account once, in the order of their numbers.
 -- Source: TS 32.296, account balance management function; the order: profile.
 use Rattle.std.specs.Prelude.{◌≡◌, ◌<◌, List, [], ◌∷◌}
 use Rattle.std.specs.List.{AllByRecursion}
@@ -19,7 +19,7 @@ abbrev pub AreRising : List BucketRow → Type 0
 AreRising [] = Unit {0}
 AreRising (b ∷ bs) = AllByRecursion (λ (x : BucketRow). b.number < x.number) bs × AreRising bs
 
--- under each number the bucket is told that has it, and numbers rise
+-- under each number the bucket is listed that has it, and numbers rise
 pub record AreToldByNumber (buckets told : List BucketRow) : Type 0 where
   pub each : (n : BucketNumber) → bucket_in n told ≡ bucket_in n buckets
   pub order : AreRising told

@@ -16,7 +16,7 @@ use Rattle.ledger.specs.Ledger.{Ledger, is_barred}
 use Rattle.ledger.specs.Balance.{buckets_at}
 use Rattle.ledger.specs.Pricing.{validity_of}
 
--- a bucket stands before the first of a greater number
+-- a bucket is before the first of a greater number
 abbrev pub numbered : BucketRow → List BucketRow → List BucketRow
 numbered b [] = b ∷ []
 numbered b (x ∷ xs) = if nat_lt b.number x.number then b ∷ x ∷ xs else x ∷ numbered b xs
@@ -30,7 +30,7 @@ abbrev pub unit_of : BucketKind → BucketUnit
 unit_of kind.Money = MicroUnits
 unit_of kind.Blocks = Blocks
 
--- a bucket as it is told
+-- a bucket as it is listed
 abbrev pub bucket_balance : BucketRow → BucketBalance
 bucket_balance b = record {
   number = b.number;

@@ -20,6 +20,6 @@ taken_of Blocks c = c.covered.0
 abbrev pub taken_to_date : BucketKind → Ledger → BucketAmount
 taken_to_date kind ledger = sum_by (taken_of kind) (charge_rows ledger)
 
--- from all buckets of a kind, as they stand at a moment
+-- from all buckets of a kind, as they are at a moment
 abbrev pub charged_to_date : BucketKind → (Moment → Seconds) → Moment → Ledger → BucketAmount
 charged_to_date kind v t ledger = sum_in kind (λ x. x.charged) (buckets_at v t ledger)

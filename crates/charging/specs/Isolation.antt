@@ -78,7 +78,7 @@ abbrev pub DontFall : Moment → List DatedCommand → Type 0
 DontFall t [] = Unit {0}
 DontFall t (d ∷ ds) = (t ≤ d.moment) × DontFall d.moment ds
 
--- rows that tell the same: the same head, and the same bucket, counter, session, group and hold
+-- rows that say the same: the same head, and the same bucket, counter, session, group and hold
 -- under each key
 pub record TellTheSame (x y : Rows) : Type 0 where
   pub head : x.head ≡ y.head

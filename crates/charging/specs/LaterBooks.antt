@@ -38,7 +38,7 @@ pub record IsAddition (last : Moment) (s u : Shelf) : Type 0 where
 -- ---- what was before
 
 -- accepted commands have left the same over both shelves: each account's history and reports, what
--- stands under each code, and the tables; and a command of a moment before the new books begin is
+-- is under each code, and the tables; and a command of a moment before the new books begin is
 -- answered alike
 pub record LeaveTheSame (from : Moment) (s u : Shelf) (list : List Accepted) : Type 0 where
   pub histories : (a : AccountName) → history s a list ≡ history u a list

@@ -23,7 +23,7 @@ granting s g d = tells granted_by s g d
 abbrev pub granted : SessionName → GroupId → Ledger → Option PlacedGrant
 granted s g ledger = inner (newest (granting s g) ledger)
 
--- by its terms a report is priced, and by its units and its counter a quota is told: both are of
+-- by its terms a report is priced, and by its units and its counter a quota is known: both are of
 -- this one grant
 pub record IsOneGrant (s : SessionName) (g : GroupId) (ledger : Ledger) : Type 0 where
   pub priced : open_grant s g ledger ≡ option_map (λ x. x.terms) (granted s g ledger)

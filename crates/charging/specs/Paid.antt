@@ -20,7 +20,7 @@ use Rattle.ledger.specs.Debiting.{rest_price, is_covered}
 use Rattle.ledger.specs.Pricing.{validity_of}
 use Rattle.charging.specs.SessionReports.{Report}
 
--- ---- the charges of a use stand right before it
+-- ---- the charges of a use are right before it
 
 abbrev pub is_charge : Fact → Bool
 is_charge f = is_some (counts f).charge

@@ -1,4 +1,4 @@
--- Rows that are loaded and rows that were left, together: under each key stands the row of one of
+-- Rows that are loaded and rows that were left, together: under each key is the row of one of
 -- both, and none has a row in both.
 -- Source: profile.
 use Rattle.std.specs.Prelude.{◌≡◌, false, ◌&&◌, List, Option, None, is_some}

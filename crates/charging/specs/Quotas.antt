@@ -35,7 +35,7 @@ IsWithinGrant b t u before =
 abbrev pub IsQuotaPaid : Shelf → Moment → Fact → Ledger → Type 0
 IsQuotaPaid b t f older = IfSome (counts f).usage (λ u. IsWithinGrant b t u (before_charges older))
 
--- so each use of a ledger, whatever stood between
+-- so each use of a ledger, whatever came between
 abbrev pub AreQuotasPaid : Shelf → Ledger → Type 0
 AreQuotasPaid b [] = Unit {0}
 AreQuotasPaid b (d ∷ older) = IsQuotaPaid b d.at d.fact older × AreQuotasPaid b older

@@ -1,4 +1,4 @@
--- Vouchers over a run: what stands under a code, and how often it was redeemed.
+-- Vouchers over a run: what is under a code, and how often it was redeemed.
 -- Source: profile.
 use Rattle.std.specs.Prelude.{◌≡◌, ℕ, ◌+◌, ◌≤◌, Bool, true, false, if◌then◌else◌, List, [], ◌∷◌}
 use Rattle.std.specs.Prelude.{◌++◌, None}
@@ -30,7 +30,7 @@ abbrev pub voucher_commands : List Accepted → List VoucherCommand
 voucher_commands [] = []
 voucher_commands (d ∷ before) = voucher_commands before ++ voucher_command d.command d.moment
 
--- what stands under a code is what these leave of it: what is redeemed over one account's history
+-- what is under a code is what these leave of it: what is redeemed over one account's history
 -- and what is redeemed at all is one telling
 abbrev pub IsLeftByThese : Type 0
 IsLeftByThese = (b : Shelf) (list : List Accepted) (code : VoucherCode) →
@@ -52,7 +52,7 @@ redemption_count code (d ∷ before) =
     (if is_redemption code d.command then 1 else 0) + redemption_count code before
 
 -- in a run, from whichever commands on, it is redeemed once more at most, and not at all where the
--- voucher that stands under it is spent
+-- voucher that is under it is spent
 pub record AreRedeemedOnce (b : Shelf) (code : VoucherCode) (list : List Accepted)
     (ds : List DatedCommand) : Type 0 where
   pub once : redemption_count code (after_commands b list ds) ≤ redemption_count code list + 1

@@ -1,5 +1,5 @@
 -- Repeats: a command that comes again with equal content gets its first answer and changes nothing,
--- whatever stood between (RFC 8506 section 8.2: CC-Request-Number; references of operators'
+-- whatever came between (RFC 8506 section 8.2: CC-Request-Number; references of operators'
 -- commands and codes of vouchers: profile).
 use Rattle.std.specs.Prelude.{◌≡◌, Bool, true, false, List, ◌∷◌}
 use Rattle.units.specs.Words.{Moment}

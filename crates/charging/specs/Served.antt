@@ -21,7 +21,7 @@ use Rattle.charging.specs.Outcomes.{book_days, outcome}
 abbrev pub history : Shelf → AccountName → List Accepted → History
 history b a list = accepted.history_of (book_days b) (outcome b) a list
 
--- what stands under a code after it
+-- what is under a code after it
 abbrev pub voucher : Shelf → VoucherCode → List Accepted → Option Voucher
 voucher b code list = accepted.voucher_under (book_days b) code list
 
@@ -42,7 +42,7 @@ answer_on each b list c t = Swept (account_count list)
 answer_on none b list c t = (outcome b (standing b c list) no_history c t).answer
 answer_on (one a) b list c t = (outcome b (standing b c list) (history b a list) c t).answer
 
--- a command's answer at its moment: by what stands under the code that it names, and the history of
+-- a command's answer at its moment: by what is under the code that it names, and the history of
 -- the account that it names, where it names one; a sweep's is the number of accounts
 abbrev pub answer_to : Shelf → List Accepted → Command → Moment → Answer
 answer_to b list c t = answer_on (concerned_by c) b list c t

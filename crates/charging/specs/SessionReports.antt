@@ -1,4 +1,4 @@
--- What the sessions of an account report, as its accepted commands tell (RFC 8506 sections 8.16 and
+-- What the sessions of an account report, as its accepted commands say (RFC 8506 sections 8.16 and
 -- 8.18).
 use Rattle.std.specs.Prelude.{List, [], ◌∷◌, if◌then◌else◌, Option, Some, None}
 use Rattle.units.specs.Words.{Moment, GroupId}
@@ -18,7 +18,7 @@ use Rattle.charging.specs.Served.{history, standing}
 use Rattle.charging.specs.About.{about}
 use Rattle.commands.specs.declared.request.Request.{Request}
 
--- a session's report of a rating group: its parts tell which units were used before, on both sides
+-- a session's report of a rating group: its parts say which units were used before, on both sides
 -- of and after a tariff switch
 pub record Report : Type 0 where
   pub at : Moment

@@ -57,7 +57,7 @@ Answers b c t old new given = (list : List Accepted) → IsInTime list → AreTa
 
 -- ---- refusals
 
--- the answer tells by itself that nothing was accepted: it is a refusal, what was read, or a
+-- the answer shows by itself that nothing was accepted: it is a refusal, what was read, or a
 -- failure of a request that isn't a denial
 abbrev pub is_unaccepted : Answer → Bool
 is_unaccepted (answer.Request r) = not (may_be_accepted r.outcome)

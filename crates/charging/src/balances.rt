@@ -109,7 +109,7 @@ fn sort(buckets: &mut Vec<Bucket>) -> Result<(), AllocError>
     Ok(())
 }
 
-/// Tells what became of an account's money.
+/// Answers what became of an account's money.
 pub(crate) fn tell_balance<K: Keeper>(
     alloc: Global,
     keeper: &mut K,
@@ -133,7 +133,7 @@ pub(crate) fn tell_balance<K: Keeper>(
     Ok(WrittenAnswer::new(alloc, Answer::Balance(balance))?)
 }
 
-/// The balance that an account's state tells.
+/// The balance of an account's state.
 fn balance_of(
     alloc: Global,
     account: AccountNumber,

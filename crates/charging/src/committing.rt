@@ -39,7 +39,7 @@ fn kept_as(
     }
 }
 
-/// Commits an account as it stands, with the charges that a command made, its content where it is
+/// Commits an account as it is, with the charges that a command made, its content where it is
 /// kept and the voucher that it redeemed, and gives the command's answer. The answer's text is made
 /// before: where its growth is refused nothing has changed. Where the rows of one session alone may
 /// have changed, no other session's row is looked at.
@@ -76,7 +76,7 @@ pub(crate) fn commit<K: Keeper>(
     Ok(given)
 }
 
-/// Commits an account as it stands: the rows alone that differ from those loaded.
+/// Commits an account as it is: the rows alone that differ from those loaded.
 fn commit_change<K: Keeper>(
     alloc: Global,
     keeper: &mut K,

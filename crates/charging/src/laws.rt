@@ -50,7 +50,7 @@ pub fn reservations_are_priced()
 {}
 
 /// Rows that are loaded and rows that were left are an account's rows together: under each key
-/// stands the row of one of both, and none has a row in both. Of a session without a recorded
+/// is the row of one of both, and none has a row in both. Of a session without a recorded
 /// request no row was left (profile).
 pub fn loaded_or_left()
     ensures rows { RowsAreParted }
@@ -73,7 +73,7 @@ pub fn open_grants_are_one()
 {}
 
 /// Dead rows are dead for good: a bucket that has nothing available and nothing reserved, a session
-/// that is over or was never opened, and what it used of each group stand as they are, whatever
+/// that is over or was never opened, and what it used of each group stay as they are, whatever
 /// commands come, and at every later moment (RFC 8506 section 8.2; profile).
 pub fn dead_rows_stay()
     ensures { DeadRowsStay }
@@ -105,7 +105,7 @@ pub fn allowances_before_money()
 {}
 
 /// A quota pays: a report that ends a grant, has at most its units and starts at its place of the
-/// group's counter is collected whole, whatever stood between: the blocks and the money that were
+/// group's counter is collected whole, whatever came between: the blocks and the money that were
 /// held for it pay for it (TS 32.299, session charging with unit reservation).
 pub fn quota()
     ensures { QuotasArePaid }
@@ -125,14 +125,14 @@ pub fn charges_within_bounds()
     ensures { ChargesAreBounded }
 {}
 
-/// A balance tells each bucket of an account once, in the order of their numbers, as the account's
+/// A balance lists each bucket of an account once, in the order of their numbers, as the account's
 /// ledger has it at the moment (TS 32.296, account balance management function).
 pub fn balances_by_number()
     ensures { BalancesAreByNumber }
 {}
 
 /// Repeats: once a request that isn't a read, a credit, an allowance, a redemption or the addition
-/// of a voucher is accepted, it has one answer for good. Whatever commands stand between, the same
+/// of a voucher is accepted, it has one answer for good. Whatever commands come between, the same
 /// command is answered as the first time and isn't accepted again (RFC 8506 section 8.2; references
 /// of credits, allowances and redemptions, and codes of vouchers: profile).
 pub fn repeats()
@@ -141,7 +141,7 @@ pub fn repeats()
 
 /// A code is redeemed at most once, by whichever accounts: in a run from nothing on at most one
 /// accepted command redeems it, in a run from any accepted commands on one more at most, and none
-/// where the voucher is spent. What stands under each code is what the accepted additions and
+/// where the voucher is spent. What is under each code is what the accepted additions and
 /// redemptions leave of it (profile).
 pub fn codes_redeemed_once()
     ensures left { IsLeftByThese }
@@ -149,7 +149,7 @@ pub fn codes_redeemed_once()
     ensures once { IsRedeemedAtMostOnce }
 {}
 
-/// Isolation: in a run of commands from nothing an account's answers and rows, and what stands
+/// Isolation: in a run of commands from nothing an account's answers and rows, and what is
 /// under the codes that it redeems, are those of its own commands alone: those that name it, and
 /// the additions of the vouchers that it redeems, where no redemption for another account names the
 /// code of one. Others and sweeps reach it through the moments of its commands, and where moments

@@ -119,7 +119,7 @@ fn repeat(alloc: Global, kept: KeptAnswer, request: Request) -> Result<WrittenAn
     repeated(alloc, kept, &Content::Request(request), conflict)
 }
 
-/// The answer to a check or an enquiry, by the account as it stands; None: the request is neither.
+/// The answer to a check or an enquiry, by the account as it is; None: the request is neither.
 fn answer_read<K: Keeper>(
     alloc: Global,
     keeper: &mut K,

@@ -138,7 +138,7 @@ fn find_redemption<K: Keeper>(
     keeper.find_answer(&asked.account, &key)
 }
 
-/// What a redemption comes to by the days of the book at its moment, over what stands under its
+/// What a redemption comes to by the days of the book at its moment, over what is under its
 /// code.
 fn redeem_by(
     shelf: &TariffShelf,
@@ -153,7 +153,7 @@ fn redeem_by(
     Ok(redeem(found, account, moment, &BookDays { shelf }))
 }
 
-/// The refusal as an operator is told it.
+/// The refusal as an operator is answered.
 fn told_refusal(refusal: RedeemRefusal) -> Refusal
     ensures { result ≡ refused_as refusal }
 {

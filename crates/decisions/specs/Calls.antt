@@ -23,7 +23,7 @@ own_of r t a = if is_quiet_at t a then Some r.session else None
 
 -- a request is decided: its answer, whether it is accepted, and its charges are the decision's, and
 -- the account has the rows of the ledger after it; what isn't accepted changes nothing; where its
--- session is told, no row of another session has changed
+-- session is named, no row of another session has changed
 pub record Decides {E : Type 0} (request : Request) (known : Bool) (t : Moment)
     (before after : AccountRows) (result : Result Decided E) : Type 0 where
   pub answer : IfOk result (λ d. (ledger : Ledger) (left : LeftRows) →

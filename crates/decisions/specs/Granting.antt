@@ -37,7 +37,7 @@ abbrev pub last_unit : FinalAction → FinalUnit
 last_unit action.Terminate = final.Terminate
 last_unit (action.Redirect address) = final.Redirect address
 
--- Final-Unit-Indication (RFC 8506 section 8.34) stands exactly where fewer units are granted than
+-- Final-Unit-Indication (RFC 8506 section 8.34) is there exactly where fewer units are granted than
 -- wanted
 abbrev pub final_unit : GroupTariff → Bool → Option FinalUnit
 final_unit tariff fewer = if fewer then Some (last_unit tariff.final_action) else None

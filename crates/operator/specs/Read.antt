@@ -36,7 +36,7 @@ pub record IsInvalid (words : List Text) : Type 0 where
   pub taken : fault_of program_app words ≡ []
   pub means : said_by (subcommand_of program_app words) ≡ Err value.Invalid
 
--- an error of `clap`, of a kind that it tells of the words; or one isn't what its place takes
+-- an error of `clap`, of a kind that it states of the words; or one isn't what its place takes
 abbrev pub IsUnread : List Text → WordsFault → Type 0
 IsUnread words (Unread error) = IsAmong (kind_of error) (fault_of program_app words)
 IsUnread words Invalid = IsInvalid words
@@ -56,7 +56,7 @@ IsRefused kinds Memory = Unit {0}
 
 -- ---- ranges
 
--- the moment of a command, where it is told
+-- the moment of a command, where it is said
 abbrev pub IsAtInRange : Option Moment → Type 0
 IsAtInRange at = IfSome at (λ t. t ≤ 4_102_444_799)
 

@@ -58,19 +58,19 @@ optional_in low high (Some text) = do
   n ← number_in low high text
   Ok (Some n)
 
--- the moment of a command, where it is told
+-- the moment of a command, where it is said
 abbrev pub at_of : List Row → Result (Option Moment) ValueFault
 at_of rows = optional_in 0 4_102_444_799 (first_of (codes "at") rows)
 
--- until when a credit can be used, where it is told
+-- until when a credit can be used, where it is said
 abbrev pub until_of : List Row → Result (Option Moment) ValueFault
 until_of rows = optional_in 1 no_end (first_of (codes "until") rows)
 
--- the rating group that a credit pays for, where it is told
+-- the rating group that a credit pays for, where it is said
 abbrev pub scope_of : List Row → Result (Option GroupId) ValueFault
 scope_of rows = optional_in 0 greatest_number (first_of (codes "scope") rows)
 
--- the rating group of an allowance, which must be told
+-- the rating group of an allowance, which must be said
 abbrev pub group_of : List Row → Result GroupId ValueFault
 group_of rows = number_at 0 greatest_number (codes "scope") rows
 
@@ -101,7 +101,7 @@ month_at rows = do
   text ← word (codes "YYYYMM") rows
   or_fault Invalid (month_of text)
 
--- whether a flag stands
+-- whether a flag is there
 abbrev pub has_flag : Text → List Row → Bool
 has_flag id rows = same_name (unwrap_or (first_of id rows) []) (codes "true")
 

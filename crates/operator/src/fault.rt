@@ -6,7 +6,7 @@ use thiserror::Error;
 /// Why words aren't the program's.
 #[derive(Debug, Drop, Error)]
 pub enum WordsFault {
-    /// `clap` doesn't take them, or they ask for the help or the version: its text tells.
+    /// `clap` doesn't take them, or they ask for the help or the version: its text says which.
     #[error("{0}")]
     Unread(clap::Error),
     /// A word isn't one that its place takes: no number, out of range, or no name.

@@ -200,7 +200,7 @@ pub(crate) fn month(matches: &ArgMatches<'_>) -> Result<Month, ValueFault>
     Month::from_word(text).ok_or(ValueFault::Invalid)
 }
 
-/// Whether a flag stands.
+/// Whether a flag is there.
 pub(crate) fn has_flag(matches: &ArgMatches<'_>, id: &str) -> bool
     ensures { result ≡ has_flag id.now (rows_of (found_of matches.now)) }
 {

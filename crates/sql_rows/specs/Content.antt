@@ -30,7 +30,7 @@ use Rattle.sql_rows.specs.Values.{allowance_in, covered_in_row}
 -- what is stored of an account; texts are known by their bytes
 pub record TableRows : Type 0 where
   pub head : Option HeadColumns
-  -- by number, as their columns tell them: as buckets of money
+  -- by number, as their columns say them: as buckets of money
   pub buckets : BucketNumber → Option BucketRow
   -- by rating group and cycle
   pub counters : GroupId → CycleNumber → Option Counter
@@ -42,7 +42,7 @@ pub record TableRows : Type 0 where
   pub holds : SessionName → GroupId → BucketNumber → Option BucketAmount
   -- by kind, name and number
   pub answers : KeyKind → KeyName → CcRequestNumber → Option Kept
-  -- by number, as their columns tell them: without covered blocks
+  -- by number, as their columns say them: without covered blocks
   pub charges : ChargeNumber → Option ChargeRow
   -- the number of the book that a reservation goes by, by session and rating group
   pub grant_books : SessionName → GroupId → Option BookNumber

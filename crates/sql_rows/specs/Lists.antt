@@ -1,4 +1,4 @@
--- What lists that are read tell of an account's rows: the row under each key, or that there is
+-- What lists that are read say of an account's rows: the row under each key, or that there is
 -- none.
 -- Source: profile.
 use Rattle.std.specs.Prelude.{◌≡◌, ℕ, ◌&&◌, ◌||◌, nat_eq, nat_lt, nat_le, ◌<◌, Bool, not, List, []}
@@ -46,13 +46,13 @@ Rises number [] = Unit {0}
 Rises number (x ∷ []) = Unit {0}
 Rises number (x ∷ y ∷ zs) = (number x < number y) × Rises number (y ∷ zs)
 
--- each row stands before the one after it
+-- each row is before the one after it
 abbrev pub Ascends : {X : Type 0} → (X → X → Bool) → List X → Type 0
 Ascends before [] = Unit {0}
 Ascends before (x ∷ []) = Unit {0}
 Ascends before (x ∷ y ∷ zs) = IsTrue (before x y) × Ascends before (y ∷ zs)
 
--- names stand in the order of their bytes
+-- names are in the order of their bytes
 abbrev pub name_before : AccountName → AccountName → Bool
 name_before x y = is_lt (slice_cmp nat_cmp x y)
 
@@ -249,7 +249,7 @@ AreCovered after last rows xs = (n : ChargeNumber) →
     option_map (λ (x : CoveredRow). x.blocks) (find (λ x. nat_eq x.number n) xs)
     ≡ (if nat_lt after n && nat_le n last then rows.covered n else None)
 
--- covered blocks stand beside a charge
+-- covered blocks are beside a charge
 abbrev pub AreCoveredBeside : TableRows → Type 0
 AreCoveredBeside r = (n : ChargeNumber) → r.charges n ≡ None → r.covered n ≡ None
 

@@ -1,4 +1,4 @@
--- What a statement does to a connection, told by the content of the tables.
+-- What a statement does to a connection, by the content of the tables.
 -- Source: profile.
 use Rattle.std.specs.Prelude.{◌≡◌, Bool, true, not, IsTrue, Result, IfOk, if◌then◌else◌}
 use Rattle.sqlite_trees.specs.Objects.{catalog_tree}
@@ -9,7 +9,7 @@ use Rattle.sql_rows.specs.Content.{TablesContent, tables_content}
 use Rattle.sql_rows.specs.Plain.{ArePlain}
 
 -- the trees after have the content that the change makes of that before, and the same catalog; no
--- rowid stands twice there, and rows are as the statements write them if they were
+-- rowid comes twice there, and rows are as the statements write them if they were
 pub record Turns (change : TablesContent → TablesContent) (old new : Trees) : Type 0 where
   pub content : tables_content new ≡ change (tables_content old)
   pub catalog : new catalog_tree ≡ old catalog_tree
@@ -28,7 +28,7 @@ pub record MakesIfOpen (change : TablesContent → TablesContent) (old new : Sta
   pub was_open : IsTrue new.is_open → IsTrue old.is_open
   pub made : IsTrue old.is_open → Makes change old new
 
--- the change is made where nothing stood in its place, and it is told whether anything did
+-- the change is made where nothing was in its place, and it is said whether anything was
 pub record AddsIfNone {E : Type 0} (stands : TablesContent → Bool)
     (change : TablesContent → TablesContent)
     (old new : State) (result : Result Bool E) : Type 0 where

@@ -34,8 +34,8 @@ abbrev pub AreRuledBooks : (BookNumber → Option BookRow) → Type 0
 AreRuledBooks books = (n : BookNumber) (x : BookRow) → books n ≡ Some x
     → IsRuledBook (record { number = n; row = x })
 
--- a reservation is told: its account's number and its session's name are such texts, and its rating
--- group is below 2^32
+-- a reservation is given: its account's number and its session's name are such texts, and its
+-- rating group is below 2^32
 pub record IsRuledReserved (x : ReservedAt) : Type 0 where
   pub account : IsTrue (is_account_number x.account)
   pub session : IsTrue (is_session_id x.session)

@@ -37,7 +37,7 @@ kept_of k = record { content = string_bytes k.content; answer = string_bytes k.a
 abbrev pub meta_of : MetaColumns → Meta
 meta_of m = record { version = m.version; book = string_bytes m.book; last = m.last }
 
--- a selection tells the buckets of the account that pass the test
+-- a selection gives the buckets of the account that pass the test
 abbrev pub ReadsBuckets : {E : Type 0} → (BucketRow → Bool) → AccountName → State → State →
     Result (Vec BucketColumns Global) E → Type 0
 ReadsBuckets test account =
@@ -110,7 +110,7 @@ reserved_at x = record {
 abbrev pub covered_row : CoveredColumns → CoveredRow
 covered_row x = record { number = x.number; blocks = x.blocks }
 
--- the names stand in their columns, and are there exactly where the group has a reservation
+-- the names are in their columns, and are there exactly where the group has a reservation
 pub record ArePeriods (row : Values) (is_reserved : Bool) (o : Option PeriodTexts) : Type 0 where
   pub there : is_some o ≡ is_reserved
   pub before : column row 3 ≡ or_null (λ p. Text (string_bytes p.before)) o

@@ -123,7 +123,7 @@ head_in v = record {
 abbrev pub bucket_key : AccountName → BucketNumber → Values
 bucket_key a n = Text a ∷ nat n ∷ []
 
--- the columns after the account's; whether they count money or blocks stands in
+-- the columns after the account's; whether they count money or blocks is in
 -- `allowance_buckets`
 abbrev pub money_cells : BucketRow → Values
 money_cells b =
@@ -138,7 +138,7 @@ cells_of Blocks cells = []
 abbrev pub bucket_cells : BucketRow → Values
 bucket_cells b = cells_of b.kind (money_cells b)
 
--- as the columns tell it: not whether it counts money or blocks
+-- as the columns say it: not whether it counts money or blocks
 abbrev pub plain_bucket : BucketRow → BucketRow
 plain_bucket b = record b { kind = Money }
 
@@ -203,7 +203,7 @@ pub record PeriodNames : Type 0 where
   pub before : List ℕ
   pub after : List ℕ
 
--- what a session has of a rating group; what its reservation holds stands in `holds`
+-- what a session has of a rating group; what its reservation holds is in `holds`
 pub record Group : Type 0 where
   pub used : UnitCount
   pub periods : Option PeriodNames
@@ -299,7 +299,7 @@ voucher_in_row v = record {
 abbrev pub charge_key : AccountName → ChargeNumber → Values
 charge_key a n = Text a ∷ nat n ∷ []
 
--- the columns after the account's; its covered blocks stand in `covered`
+-- the columns after the account's; its covered blocks are in `covered`
 abbrev pub priced_cells : ChargeRow → Values
 priced_cells r =
     nat r.number ∷ nat r.moment ∷ Text r.session ∷ nat r.group ∷ nat r.blocks.0
@@ -313,7 +313,7 @@ cells_beside (suc n) cells = []
 abbrev pub charge_cells : ChargeRow → Values
 charge_cells r = cells_beside r.covered.0 (priced_cells r)
 
--- as the columns tell it: not which of its blocks are covered
+-- as the columns say it: not which of its blocks are covered
 abbrev pub plain_charge : ChargeRow → ChargeRow
 plain_charge x = record x { covered = record { 0 = 0 } }
 

@@ -112,7 +112,7 @@ pub fn read_allowance_within<S: Alter>(
     allowance_among(&rows)
 }
 
-/// Whether there is a row, which tells a number.
+/// Whether there is a row, which says a number.
 fn allowance_among(rows: &[Row]) -> Result<bool, ReadFault>
     ensures { IfOk result (λ is.
         (o : Option ℕ) × (is ≡ is_some o) × (rows.now ≡ map number_cells (one_or_none o))) }

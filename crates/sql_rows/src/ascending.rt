@@ -3,17 +3,17 @@
 ghost use Rattle.std.specs.Prelude.{◌≡◌, Bool, IsTrue};
 ghost use Rattle.sql_rows.specs.Lists.{Ascends};
 
-/// A row that stands before others by its key.
+/// A row that is before others by its key.
 pub(crate) trait InOrder {
-    /// Whether the first stands before the second.
+    /// Whether the first is before the second.
     ghost before: { Self → Self → Bool };
 
-    /// Whether it stands before the other.
+    /// Whether it is before the other.
     fn is_before(&self, other: &Self) -> bool
         ensures { result ≡ before self.now other.now };
 }
 
-/// Whether each row stands before the next.
+/// Whether each row is before the next.
 pub(crate) fn do_ascend<T: InOrder>(rows: &[T]) -> bool
     ensures { IsTrue result → Ascends T.before rows.now }
 {

@@ -21,7 +21,7 @@ use sqlite::{Alter, Connection, Error, Row, Transaction};
 use std::alloc::Global;
 use units::Moment;
 
-/// A tariff book after the first, as it stands: no rule of its text is tested yet.
+/// A tariff book after the first, as it is: no rule of its text is tested yet.
 pub struct BookColumns {
     /// Its number on the shelf.
     pub number: u32,

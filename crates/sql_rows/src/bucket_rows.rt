@@ -21,7 +21,7 @@ use sql_tables::{
 use sqlite::{Alter, Connection, Error, Row, Transaction};
 use std::alloc::Global;
 
-/// Puts the columns of an account's bucket. Whether they count money or blocks stands beside them
+/// Puts the columns of an account's bucket. Whether they count money or blocks is beside them
 /// (`put_allowance`).
 ///
 /// # Errors
@@ -61,8 +61,8 @@ pub fn put_bucket<S: Alter>(
     )
 }
 
-/// All buckets, in the order of their numbers, each once, as their columns stand: no other rule of
-/// theirs is tested yet, and each is told as one of money.
+/// All buckets, in the order of their numbers, each once, as their columns say: no other rule of
+/// theirs is tested yet, and each is given as one of money.
 ///
 /// # Errors
 /// `Store` where the store failed, `Rules` where a row is out of its rules or the numbers don't
@@ -99,7 +99,7 @@ fn all_from(alloc: Global, rows: &[Row]) -> Result<Vec<BucketColumns>, ReadFault
 }
 
 /// The buckets of which nothing is available and nothing reserved, in the order of their numbers,
-/// as their columns stand: no other rule of theirs is tested yet, and each is told as one of money.
+/// as their columns say: no other rule of theirs is tested yet, and each is given as one of money.
 ///
 /// # Errors
 /// `Store` where the store failed, `Rules` where a row is out of its rules or the numbers don't

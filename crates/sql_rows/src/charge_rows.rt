@@ -19,7 +19,7 @@ use sqlite::{Alter, Connection, Error, Row, Transaction};
 use std::alloc::Global;
 use units::{Amount, Blocks};
 
-/// Puts the columns of an account's charge. Its covered blocks stand beside them (`put_covered`).
+/// Puts the columns of an account's charge. Its covered blocks are beside them (`put_covered`).
 ///
 /// # Errors
 /// `IntegralValueOutOfRange` where an amount or the number of blocks is 2^63 or more, else an error
@@ -110,7 +110,7 @@ pub fn add_charge<S: Alter>(
 }
 
 /// The charges of an account beyond a number and up to another, in the order of their numbers, as
-/// their columns stand: each is told without covered blocks.
+/// their columns say: each is given without covered blocks.
 ///
 /// # Errors
 /// `Store` where the store failed, `Rules` where a row is out of its rules or the numbers don't

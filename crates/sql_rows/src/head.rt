@@ -7,7 +7,7 @@ use units::Moment;
 pub struct HeadColumns {
     /// Whether it is barred (profile).
     pub barred: bool,
-    /// The moment that its rows stand for.
+    /// The moment that its rows are as of.
     pub as_of: Moment,
     /// The number of its next bucket.
     pub next_bucket: u64,

@@ -108,7 +108,7 @@ fn head_in_part(row: &Row) -> Result<HeadColumns, ReadFault>
     })
 }
 
-/// Tests that the last column is 0, which stands where a counter has none.
+/// Tests that the last column is 0, which is there where a counter has none.
 fn has_no_more(row: &Row) -> Result<(), ReadFault>
     ensures { IfOk result (λ _. column row.now 4 ≡ nat 0) }
 {

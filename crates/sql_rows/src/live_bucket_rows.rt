@@ -24,7 +24,7 @@ impl InOrder for BucketColumns {
     }
 }
 
-/// The buckets of these rows, if they stand in the order of their use.
+/// The buckets of these rows, if they are in the order of their use.
 fn live_from(alloc: Global, rows: &[Row]) -> Result<Vec<BucketColumns>, ReadFault>
     ensures cells { IfOk result (λ bs. map bucket_cells (map bucket_row bs.items) ≡ rows.now) }
     ensures order { IfOk result (λ bs. Ascends precedes (map bucket_row bs.items)) }
@@ -37,12 +37,12 @@ fn live_from(alloc: Global, rows: &[Row]) -> Result<Vec<BucketColumns>, ReadFaul
 }
 
 /// The buckets of which something is available or reserved, in the order of their use, each once,
-/// as their columns stand: no other rule of theirs is tested yet, and each is told as one of money.
+/// as their columns say: no other rule of theirs is tested yet, and each is given as one of money.
 /// One selection of two parts: the index finds each part without a bucket that is spent, which it
 /// wouldn't by one test of either.
 ///
 /// # Errors
-/// `Store` where the store failed, `Rules` where a row is out of its rules or they don't stand in
+/// `Store` where the store failed, `Rules` where a row is out of its rules or they aren't in
 /// the order of their use, `Memory` where a growth was refused. Nothing is changed then either.
 pub fn read_buckets_live<S: Alter>(
     conn: &mut Connection<S>,

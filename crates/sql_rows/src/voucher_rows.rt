@@ -23,7 +23,7 @@ use sqlite::{Alter, Connection, Error, Row, Transaction};
 use std::alloc::Global;
 use units::Money;
 
-/// A voucher, as it stands.
+/// A voucher, as it is.
 #[derive(Drop)]
 pub struct VoucherColumns {
     /// Micro-units.

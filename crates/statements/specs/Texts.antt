@@ -72,7 +72,7 @@ buckets_text kind (b ∷ rest) = line_among kind b ++ buckets_text kind rest
 abbrev pub has_allowance : List BucketRow → Bool
 has_allowance rows = list_any (λ b. is_alike b.kind Blocks) rows
 
--- of allowances nothing is told where there is none
+-- of allowances nothing is printed where there is none
 abbrev pub allowances_text : List BucketRow → Bytes
 allowances_text rows =
     if has_allowance rows then allowance_heading ++ buckets_text Blocks rows else []

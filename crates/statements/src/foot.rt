@@ -14,7 +14,7 @@ use crate::rows::Sums;
 use buckets::{Bucket, BucketKind};
 use std::alloc::{AllocError, Global};
 
-/// What stands in the columns of a bucket's amounts.
+/// What is in the columns of a bucket's amounts.
 const AMOUNT_NAMES: &str =
     "         CREDITED        AVAILABLE         RESERVED          CHARGED          EXPIRED\n";
 

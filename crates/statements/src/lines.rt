@@ -15,7 +15,7 @@ use std::alloc::{AllocError, Global};
 use texts::Month;
 use units::Moment;
 
-/// The line before the charges: what stands in their columns.
+/// The line before the charges: what is in their columns.
 const HEADING: &str =
     "    MOMENT      GROUP     BLOCKS               RATED           COLLECTED         UNCOLLECTED\n";
 

@@ -5,7 +5,7 @@ use Rattle.vouchers.specs.declared.fault.FaultKind.{FaultKind}
 use Rattle.vouchers.specs.declared.fault.FaultKind.TheVariants.{Header, FieldCount, Code, Amount}
 use Rattle.vouchers.specs.declared.fault.FaultKind.TheVariants.{Days, Scope, Read, Memory}
 
--- the number under which a fault is told
+-- the number under which a fault is reported
 abbrev pub voucher_fault_number : FaultKind → ℕ
 voucher_fault_number Header = 1
 voucher_fault_number FieldCount = 2
@@ -16,7 +16,7 @@ voucher_fault_number Scope = 6
 voucher_fault_number Read = 7
 voucher_fault_number Memory = 8
 
--- the fault stands in the file itself; the others are the reader's, and want of memory
+-- the fault is in the file itself; the others are the reader's, and want of memory
 abbrev pub is_in_file : FaultKind → Bool
 is_in_file Header = true
 is_in_file FieldCount = true

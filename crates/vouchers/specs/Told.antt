@@ -1,5 +1,5 @@
 -- A file of vouchers, record by record: the first is the header, and each other says one voucher;
--- or the first record with a fault is told.
+-- or the first record with a fault is reported.
 -- Source: profile; the records are those of CSV, RFC 4180.
 use Rattle.std.specs.Prelude.{◌≡◌, ◌↔◌, ◌⊎◌, ℕ, ◌+◌, List, [], ◌∷◌, ◌++◌, length, map, true, false}
 use Rattle.std.specs.Prelude.{Result, Ok, Err}
@@ -30,7 +30,7 @@ abbrev pub HasNoHeader : List Record → Type 0
 HasNoHeader [] = Unit {0}
 HasNoHeader (first ∷ others) = is_header first ≡ false
 
--- this is told at record 1
+-- this is reported at record 1
 pub record IsHeaderFault (file : List Record) (fault : VoucherFault) : Type 0 where
   pub none : HasNoHeader file
   pub told : fault ≡ fault_at 1 Header
@@ -57,7 +57,7 @@ abbrev pub VouchersAreRecords : Type 0
 VouchersAreRecords = (text : List ℕ) (rows : List VoucherAddition) →
     (vouchers_in text ≡ Ok rows) ↔ AreVouchers (records_in text) rows
 
--- a fault is told exactly where it is the first record's that has one
+-- a fault is reported exactly where it is the first record's that has one
 abbrev pub VoucherFaultIsTold : Type 0
 VoucherFaultIsTold = (text : List ℕ) (fault : VoucherFault) →
     (vouchers_in text ≡ Err fault) ↔ IsFirstFault (records_in text) fault

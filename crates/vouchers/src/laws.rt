@@ -8,8 +8,8 @@ pub fn vouchers_are_records()
     ensures { VouchersAreRecords }
 {}
 
-/// A fault is told of a file exactly where it is that of the first record that has one, the header
-/// being record 1.
+/// A fault is reported of a file exactly where it is that of the first record that has one, the
+/// header being record 1.
 pub fn voucher_fault_is_told()
     ensures { VoucherFaultIsTold }
 {}

@@ -28,7 +28,7 @@ fn kind_of(error: &Error) -> FaultKind
     }
 }
 
-/// Takes the next record, which has this number, and tells whether there was one.
+/// Takes the next record, which has this number, and says whether there was one.
 fn next_record<R: Read>(
     records: &mut Reader<R>,
     fields: &mut ByteRecord,
@@ -51,7 +51,7 @@ fn next_record<R: Read>(
     }
 }
 
-/// Takes the first record, and tells whether it is the header.
+/// Takes the first record, and says whether it is the header.
 fn has_header<R: Read>(
     records: &mut Reader<R>,
     fields: &mut ByteRecord,
