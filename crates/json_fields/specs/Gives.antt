@@ -11,7 +11,7 @@ use Rattle.json_fields.specs.declared.fault.WireFault.{WireFault}
 use Rattle.json_fields.specs.declared.fault.WireFault.TheVariants.{Memory}
 use Rattle.json_fields.specs.View.{view}
 
--- what a fault tells of reading, where it isn't want of memory
+-- what a fault says of reading, where it isn't want of memory
 abbrev pub Fails : {Y : Type 0} → WireFault → Result Y WireFault → Type 0
 Fails fault reading = ¬ (fault ≡ Memory) → reading ≡ Err fault
 

@@ -22,14 +22,14 @@ has_unit kind d = is_some (get (name_of_unit kind) d)
 abbrev pub lacks_unit : UnitKind → Data → Bool
 lacks_unit kind d = is_none (get (name_of_unit kind) d)
 
--- the first unit member that stands
+-- the first unit member that is there
 unfoldable pub kind_told : Data → Option UnitKind
 kind_told d =
     if has_unit Time d then Some Time
     else (if has_unit TotalOctets d then Some TotalOctets
     else (if has_unit ServiceSpecific d then Some ServiceSpecific else None))
 
--- neither of the other two stands
+-- neither of the other two is there
 abbrev pub lacks_others : UnitKind → Data → Bool
 lacks_others Time d = lacks_unit TotalOctets d && lacks_unit ServiceSpecific d
 lacks_others TotalOctets d = lacks_unit Time d && lacks_unit ServiceSpecific d

@@ -1,4 +1,4 @@
-//! Members of JSON objects, read one after another with the first fault told, and written in
+//! Members of JSON objects, read one after another with the first fault reported, and written in
 //! compact form.
 #![tactic(auto)]
 

@@ -29,7 +29,7 @@ fn has_unit(value: &Value<'_>, kind: UnitKind) -> bool
     get(value, unit_name(kind)).is_some()
 }
 
-/// The kind of the first unit member that stands.
+/// The kind of the first unit member that is there.
 #[tactic(auto, unfolding(crate::specs::Unit::kind_told))]
 pub fn unit_told(value: &Value<'_>) -> Option<UnitKind>
     ensures { result ≡ kind_told (view value.now) }

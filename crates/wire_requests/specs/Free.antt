@@ -28,14 +28,14 @@ abbrev pub IsScale : Data → Type 0
 IsScale value = IfSome (option_and_then as_i64 (as_number value))
     (λ z. (int_le (negsuc 5) z && int_le z (pos 0)) ≡ true)
 
--- nothing stands in the way of what is asked: the services ask for units, and the money of a refund
--- is told in steps from a millionth to 1
+-- nothing is in the way of what is asked: the services ask for units, and the money of a refund
+-- is said in steps from a millionth to 1
 abbrev pub IsFree : Ask → Data → Type 0
 IsFree (ask.Refund refund) d =
     IfSome (option_and_then (get (name_of avp.Exponent)) (amount_told d)) IsScale
 IsFree a d = AllByRecursion AsksForUnits (services_told d)
 
--- what is said is read, where nothing stands in its way
+-- what is said is read, where nothing is in its way
 abbrev pub ReadsAllThatIsSaid : Type 0
 ReadsAllThatIsSaid = (r : Request) (d : Data) → IsRequest r → SaysRequest r d → IsFree r.ask d →
     request_in d ≡ Ok r

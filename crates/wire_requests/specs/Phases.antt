@@ -1,4 +1,4 @@
--- The services of a session's request, by where it stands in its session.
+-- The services of a session's request, by where it is in its session.
 use Rattle.std.specs.Prelude.{ℕ, ◌&&◌, ◌==◌, List, [], Bool, true, not, Option, Some, None, is_some}
 use Rattle.std.specs.Prelude.{is_none, Result, Ok, Err, nat_le}
 use Rattle.std.specs.List.{list_any}

@@ -1,4 +1,4 @@
--- The fields of a request, read in their order: the first fault is the one told.
+-- The fields of a request, read in their order: the first fault is the one reported.
 use Rattle.std.specs.Prelude.{ℕ, ◌==◌, List, Option, Some, None, is_none, Result, Ok, if◌then◌else◌}
 use Rattle.units.specs.Words.{greatest_number}
 use Rattle.identifiers.specs.Words.{SessionName, AccountName}

@@ -61,14 +61,14 @@ pub record SaysUnits (kind : UnitKind) (units : UnitCount) (d : Data) : Type 0 w
   pub is : option_and_then as_u64 (as_number value) ≡ Some units
   pub alone : lacks_others kind d ≡ true
 
--- a value that stands says this
+-- a value that is there says this
 pub record SaysValue {A : Type 0} (Says : A → Data → Type 0)
     (x : A) (told : Option Data) : Type 0 where
   pub value : Data
   pub stands : told ≡ Some value
   pub says : Says x value
 
--- a value that stands says this; nothing stands for nothing
+-- a value that is there says this; none says nothing
 abbrev pub SaysPerhaps : {A : Type 0} → (A → Data → Type 0) → Option A → Option Data → Type 0
 SaysPerhaps Says None told = told ≡ None
 SaysPerhaps Says (Some x) told = SaysValue Says x told

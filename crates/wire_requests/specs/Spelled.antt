@@ -61,7 +61,7 @@ event_data e = service_data (record { group = e.group; requested = Some e.reques
 unfoldable pub refund_data : Refunded → Data
 refund_data r = object (member (name_of avp.Money) (money_data r.micros r.currency) no_members)
 
--- what stands between the type and the Session-Id, each member by its name; the Requested-Action 1
+-- what is between the type and the Session-Id, each member by its name; the Requested-Action 1
 -- is REFUND_ACCOUNT
 abbrev pub ask_named : Ask → List (List ℕ × Data)
 ask_named (ask.Initial ss) = (name_of avp.Services, array (service_items ss)) ∷ []

@@ -1,4 +1,4 @@
--- What a fault of a request tells: a member is missing only where an object that can hold it has
+-- What a fault of a request says: a member is missing only where an object that can hold it has
 -- none of that name, and invalid only where one has it.
 use Rattle.std.specs.Prelude.{◌≡◌, ℕ, ◌&&◌, List, [], ◌∷◌, Bool, true, Option, Some, None, is_some}
 use Rattle.std.specs.Prelude.{is_none, Result, Ok, Err, nat_eq, option_and_then, if◌then◌else◌, ⊤}
@@ -15,7 +15,7 @@ use Rattle.json_fields.specs.declared.fault.WireFault.TheVariants.{Memory}
 use Rattle.json_fields.specs.Gives.{item_list}
 use Rattle.wire_requests.specs.Reading.{request_in}
 
--- ---- where the members of a request stand
+-- ---- where the members of a request are
 
 abbrev pub values : Option Data → List Data
 values None = []
@@ -63,9 +63,9 @@ holders avp.ValueDigits d = values (amount_told d)
 holders avp.Exponent d = values (amount_told d)
 holders a d = d ∷ []
 
--- ---- what is told of them
+-- ---- what is reported of them
 
--- of an object neither want of memory nor another document is told
+-- of an object neither want of memory nor another document is reported
 abbrev pub IsRequestFaultTold : Data → WireFault → Type 0
 IsRequestFaultTold d (Missing a) = list_any (λ h. is_none (get (name_of a) h)) (holders a d) ≡ true
 IsRequestFaultTold d (Invalid a) = list_any (λ h. is_some (get (name_of a) h)) (holders a d) ≡ true
@@ -76,6 +76,6 @@ abbrev pub TellsOf : {A : Type 0} → Data → Result A WireFault → Type 0
 TellsOf d (Ok x) = ⊤
 TellsOf d (Err fault) = IsRequestFaultTold d fault
 
--- the fault of a request is told of a member that is missing or stands
+-- the fault of a request is reported of a member that is missing or there
 abbrev pub FaultsAreTold : Type 0
 FaultsAreTold = (d : Data) → TellsOf d (request_in d)

@@ -187,7 +187,7 @@ pub fn request_is_said()
 {}
 
 /// What is said of a request is read, whatever the order of its members and whatever else it has,
-/// where nothing stands in its way: a Requested-Service-Unit of a service is an object without
+/// where nothing is in its way: a Requested-Service-Unit of a service is an object without
 /// CC-Money, and the Exponent of a refund is from -6 to 0 (RFC 8506 sections 8.9 and 8.18). So it
 /// is of each that is read.
 pub fn request_is_read()
@@ -195,8 +195,8 @@ pub fn request_is_read()
     ensures free { ReadsOnlyWhatIsFree }
 {}
 
-/// A fault of a request is told of a member: missing only where the object that has to hold it has
-/// none of that name, invalid only where it has one.
+/// A fault of a request is reported of a member: missing only where the object that has to hold it
+/// has none of that name, invalid only where it has one.
 pub fn request_fault_is_told()
     ensures { FaultsAreTold }
 {}

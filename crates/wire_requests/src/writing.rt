@@ -133,7 +133,7 @@ pub fn request_again()
     ensures { RequestsReadAgain request_text }
 {}
 
-/// The members of a request as it is kept, and of each object in it, stand in the byte order of
+/// The members of a request as it is kept, and of each object in it, are in the byte order of
 /// their names.
 #[tactic(auto, using(crate::proofs::RequestsAgain::requests_in_order))]
 pub fn request_in_order()
