@@ -102,24 +102,22 @@ fn put_texts<S: Alter>(
         (Makes (with_texts account.now (key_of content.now) (kept_of texts.now)))
         (state S.Store tx.old.conn.now) (state S.Store tx.new.conn.now) result }
 {
-    let of_content = texts.content.as_str();
-    let of_answer = texts.answer.as_str();
     match content {
         Content::Request(request) => {
             let name = request.session.as_str();
-            put_answer(tx, account, 1, name, request.number, of_content, of_answer)
+            put_answer(tx, account, 1, name, request.number, texts)
         }
         Content::Credit(kept) => {
             let name = kept.credit().reference.as_str();
-            put_answer(tx, account, 2, name, 0, of_content, of_answer)
+            put_answer(tx, account, 2, name, 0, texts)
         }
         Content::Allow(allowance) => {
             let name = allowance.reference.as_str();
-            put_answer(tx, account, 2, name, 0, of_content, of_answer)
+            put_answer(tx, account, 2, name, 0, texts)
         }
         Content::Redeem(redemption) => {
             let name = redemption.reference.as_str();
-            put_answer(tx, account, 2, name, 0, of_content, of_answer)
+            put_answer(tx, account, 2, name, 0, texts)
         }
     }
 }

@@ -34,19 +34,18 @@ pub fn put_answer<S: Alter>(
     kind: u32,
     name: &str,
     number: u32,
-    content: &str,
-    answer: &str,
+    texts: &KeptTexts,
 ) -> Result<usize, Error>
     requires book { HasBook (state S.Store tx.old.conn.now) }
     ensures { AttemptsOver S.Store (Makes (with_rows account.now (with_answer kind name.now number
-        (record { content = content.now; answer = answer.now })))) tx.old.conn tx.new.conn result }
+        (kept_of texts.now)))) tx.old.conn tx.new.conn result }
 {
     let of_account = text(account.as_str());
     let of_kind = whole(kind);
     let of_name = text(name);
     let of_number = whole(number);
-    let of_content = text(content);
-    let of_answer = text(answer);
+    let of_content = text(texts.content.as_str());
+    let of_answer = text(texts.answer.as_str());
     write(
         tx,
         "INSERT INTO answers VALUES (?1, ?2, ?3, ?4, ?5, ?6) \

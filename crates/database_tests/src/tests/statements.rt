@@ -280,9 +280,9 @@ fn try_answers<S: Alter>(
     ensures ready { IsReady (state S.Store conn.new) }
 {
     tell_answers(rt, conn, names, text);
-    keep_answers(rt, conn, names, "first");
+    keep_answers(rt, alloc, conn, names, "first");
     tell_answers(rt, conn, names, text);
-    keep_answers(rt, conn, names, "second");
+    keep_answers(rt, alloc, conn, names, "second");
     tell_answers(rt, conn, names, text);
     keep_vouchers(rt, conn, names.account);
     tell_vouchers(rt, alloc, conn, text);

@@ -19,8 +19,16 @@ pub(crate) struct Names<'a> {
     pub(crate) reference: &'a Reference,
 }
 
+fn kept_texts(rt: &impl Abort, alloc: Global, content: &str, answer: &str) -> KeptTexts {
+    KeptTexts {
+        content: String::from_str(alloc, content).expect(rt, "memory"),
+        answer: String::from_str(alloc, answer).expect(rt, "memory"),
+    }
+}
+
 pub(crate) fn keep_answers<S: Alter>(
     rt: &impl Abort,
+    alloc: Global,
     conn: &mut Connection<S>,
     names: &Names,
     answer: &str,
@@ -31,8 +39,10 @@ pub(crate) fn keep_answers<S: Alter>(
     let (account, session, reference) = (names.account, names.session, names.reference);
     let mut tx = conn.transaction();
     let (session, reference) = (session.as_str(), reference.as_str());
-    put_answer(&mut tx, account, 1, session, 0, "a request", answer).expect(rt, "a row");
-    put_answer(&mut tx, account, 2, reference, 0, "a credit", answer).expect(rt, "a row");
+    let request = kept_texts(rt, alloc, "a request", answer);
+    put_answer(&mut tx, account, 1, session, 0, &request).expect(rt, "a row");
+    let credit = kept_texts(rt, alloc, "a credit", answer);
+    put_answer(&mut tx, account, 2, reference, 0, &credit).expect(rt, "a row");
     tx.commit().expect(rt, "a commit");
 }
 
