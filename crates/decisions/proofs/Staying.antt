@@ -1,7 +1,14 @@
 -- Calls on a session, one after another, leave the others' rows.
 use Rattle.std.proofs.Common.{◌≡◌, ℕ, Bool, true, false, List, Option, Some, None, Result, Ok, Err}
 use Rattle.std.proofs.Common.{refl, ap, sym, subst}
-use Rattle.std.specs.Prelude.{OnOk, IfSome, if◌then◌else◌}
+use Rattle.std.specs.Prelude.{OnOk, IfSome, if◌then◌else◌, Vec}
+use Rattle.std.specs.Global.{Global}
+use Rattle.commands.specs.declared.service.Service.{Service}
+use Rattle.commands.specs.declared.answer.Failure.{Failure}
+use Rattle.ledger.specs.declared.charge.ChargeRow.{ChargeRow}
+use Rattle.decisions.specs.declared.deciding.Settling.{Settling}
+use Rattle.decisions.specs.declared.deciding.Settling.TheVariants.{Settled, Refused}
+use Rattle.decisions.specs.Follows.{HasRefused, HasSettled, SettlesOrRefuses}
 use Rattle.reserving.specs.Calm.{IsCalm}
 use Rattle.reserving.specs.Rows.{AccountRows}
 use Rattle.reserving.specs.Others.{other_rows, OthersStay}
@@ -38,3 +45,24 @@ stay_alone own s t x y alone told quiet stay =
 -- a call that changes nothing
 pub stay_same : (s : List ℕ) (t : ℕ) (x y : AccountRows) → y ≡ x → OthersStay s t x y
 stay_same s t x y e = λ h. ap (other_rows s) e
+
+-- ---- the settlement of a request's services, which settles or refuses
+
+module _ (s : List ℕ) (t n : ℕ) (xs : List Service) (x y : AccountRows) (it : Settling)
+    (says : SettlesOrRefuses x y t s n xs it) where
+  -- what is settled
+  pub settled_by : (charges : Vec ChargeRow Global) → it ≡ Settled charges →
+      HasSettled charges.items x y t s n xs
+  settled_by charges is = subst (SettlesOrRefuses x y t s n xs) is says
+
+  -- it is refused
+  pub stay_refused : (failure : Failure) → it ≡ Refused failure → OthersStay s t x y
+  stay_refused failure is =
+      let refused : HasRefused failure x y t s n xs =
+      subst (SettlesOrRefuses x y t s n xs) is says in
+      stay_same s t x y refused.same
+
+  -- it is settled, and a call comes after it
+  pub stay_settled : (z : AccountRows) (charges : Vec ChargeRow Global) → it ≡ Settled charges →
+      OthersStay s t y z → OthersStay s t x z
+  stay_settled z charges is next = stays_chain s t x y z (settled_by charges is).stay next
