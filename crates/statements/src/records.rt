@@ -27,10 +27,7 @@ fn made(alloc: Global, fields: &[&[u8]]) -> Result<Vec<u8>, StreamFault>
     ensures { IfOk result (λ text.
         text.items ≡ row_text default_writer (map (λ f. f.now) fields.now)) }
 {
-    match record_text(alloc, fields) {
-        Ok(text) => Ok(text),
-        Err(_) => Err(StreamFault::Memory),
-    }
+    record_text(alloc, fields).map_err(|_| StreamFault::Memory)
 }
 
 /// The record of names, before those of charges.

@@ -90,10 +90,9 @@ fn code(alloc: Global, field: &[u8]) -> Result<VoucherCode, FaultKind>
     let Ok(text) = str::from_utf8(field) else {
         return Err(FaultKind::Code);
     };
-    match VoucherCode::new(alloc, text) {
-        Ok(code) => code.ok_or(FaultKind::Code),
-        Err(_) => Err(FaultKind::Memory),
-    }
+    VoucherCode::new(alloc, text)
+        .map_err(|_| FaultKind::Memory)?
+        .ok_or(FaultKind::Code)
 }
 
 fn amount(field: &[u8]) -> Result<Money, FaultKind>
