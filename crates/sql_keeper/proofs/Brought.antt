@@ -454,6 +454,7 @@ asks_err : {A : Type 0} (v : ℕ) (old new : State) (e : OpenFault)
     → AsksVersion {A = A} v old new (Err e)
 asks_err v old new e b rules = record {
   keeps = λ clean. tt;
+  kept = b.brings.kept;
   version = b.version;
   rules = rules;
   other = b.other;
@@ -500,6 +501,9 @@ module _ (v : ℕ) (known : IsVersion v) (less : v < latest) (old mid : State) w
       ruled = ruled_row m number last;
       version = version;
     };
+    kept = λ clean.
+        let m = read.has.made clean in
+        record { was_open = λ on. m.shows.was_open; committed = λ on. m.shows.committed_is };
     version = λ clean. tt;
     rules = λ clean. tt;
     other = tt;

@@ -160,28 +160,34 @@ module _ {S : Type 0} (g : Ghosts S) (old begun : Held S)
 
     -- the version of the tables is kept
     pub asked_older : {A : Type 0} (u : A)
-        → AsksVersion {A = A} v (state g begun) mid (Ok u) → Survives mid new (λ _. ⊥)
+        → AsksVersion {A = A} v (state g begun) mid (Ok u)
+        → (HasCleanDisk new → IsRolledBack mid new) → Survives mid new (λ _. ⊥)
         → IsNotLatest v (state g old) new Older
-    asked_older u asks ends = record {
+    asked_older u asks rolled ends = record {
       older = λ clean is. subst (λ (d : Database). KeepsVersion v d.trees) same_now
           (asks.keeps (mid_clean ends clean));
       version = λ clean is. absurd (let no : Older ≡ Version = is in cc);
       rules = λ clean is. absurd (let no : Older ≡ Rules = is in cc);
       ours = λ is. let no : Older ≡ Foreign = is in cc;
+      still = λ clean. undone (was_clean asks.survives ends clean)
+          (asks.kept (mid_clean ends clean)) (rolled clean);
       survives = survives_to asks.survives ends;
     }
 
     -- a fault says why not
     pub asked_fault : {A : Type 0} (e : OpenFault)
-        → AsksVersion {A = A} v (state g begun) mid (Err e) → Survives mid new (λ _. ⊥)
+        → AsksVersion {A = A} v (state g begun) mid (Err e)
+        → (HasCleanDisk new → IsRolledBack mid new) → Survives mid new (λ _. ⊥)
         → IsNotLatest v (state g old) new e
-    asked_fault e asks ends = record {
+    asked_fault e asks rolled ends = record {
       older = λ clean is. absurd (asks.other.1 is);
       version = λ clean is. subst (λ (d : Database). IsOtherThan v d.trees) same_now
           (asks.version (mid_clean ends clean) is);
       rules = λ clean is. subst (λ (d : Database). IsUnruledMeta d.trees) same_now
           (asks.rules (mid_clean ends clean) is);
       ours = asks.other.0;
+      still = λ clean. undone (was_clean asks.survives ends clean)
+          (asks.kept (mid_clean ends clean)) (rolled clean);
       survives = survives_to asks.survives ends;
     }
 

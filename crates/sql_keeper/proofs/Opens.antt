@@ -240,6 +240,7 @@ module _ (v : ℕ) (old mid new : State) (found : HasCleanDisk mid → IsFound v
     read = reads.read;
     idle = only.idle;
     cause = λ clean. tt;
+    still = still_read;
     survives = reads_survived;
   }
   finds_books same (Err e) reads = record {
@@ -263,6 +264,7 @@ module _ (v : ℕ) (old mid new : State) (found : HasCleanDisk mid → IsFound v
           unruled = λ stored. subst (λ n. AreUnruled n mid.now.trees) (sym same)
               (reads.rules clean is);
         }) (λ is. absurd (reads.ours.1 is)));
+    still = still_read;
     survives = reads_survived;
   }
 
@@ -281,9 +283,10 @@ idle_book v old mid same found clean on =
 
 -- no table was found
 pub finds_none : (old new : State) (e : OpenFault) → IsNoVersion e
-    → (HasCleanDisk new → IsOpenFaultTold old.now e) → Survives old new (λ _. ⊥)
+    → (HasCleanDisk new → IsOpenFaultTold old.now e)
+    → (HasCleanDisk new → IsTrue new.is_open → IsStill old new) → Survives old new (λ _. ⊥)
     → FindsBooks old new (Err e)
-finds_none old new e told means survives = record {
+finds_none old new e told means still survives = record {
   found = λ clean. tt;
   given = tt;
   read = tt;
@@ -297,6 +300,7 @@ finds_none old new e told means survives = record {
         schema = it.2;
         unruled = λ stored. absurd (it.3 stored);
       }) (λ is. absurd (told.1 is));
+  still = still;
   survives = survives;
 }
 
@@ -331,6 +335,14 @@ finds_older v old mid new e other found one asked = record {
         stored = was.stored;
         kept = asked.older clean is;
       }));
+  still = λ clean on.
+      let first = (found (before clean)).unchanged.0 in
+      let then' = asked.still clean on in
+      record {
+        was_open = first.was_open;
+        now_is = then'.now_is ∙ first.now_is;
+        committed_is = then'.committed_is ∙ first.committed_is;
+      };
   survives = survives_then old mid new (λ _. ⊥) (λ _. ⊥) (λ _. ⊥) (λ clean db no. no)
       (λ clean db no. no) one asked.survives;
 }

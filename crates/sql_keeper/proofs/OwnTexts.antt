@@ -1,6 +1,6 @@
 -- Texts that were written of a command and its answer are those of both.
-use Rattle.std.proofs.Common.{◌≡◌, ◌∙◌, ◌&&◌, ap, sym, subst, List, ℕ, true}
-use Rattle.std.specs.Prelude.{Ok}
+use Rattle.std.proofs.Common.{◌≡◌, ◌∙◌, ◌&&◌, ap, sym, subst, Bool, List, ℕ, true}
+use Rattle.std.specs.Prelude.{Ok, if◌then◌else◌}
 use Rattle.std.proofs.lemmas.Bool.{and_from}
 use Rattle.identifiers.specs.Texts.{is_account_number, same_name}
 use Rattle.commands.specs.declared.answer.Answer.{Answer}
@@ -11,6 +11,8 @@ use Rattle.wire.specs.ReadingAnswers.{answer_of, is_answer_text}
 use Rattle.wire.specs.ReadingAnswers.{is_own_answer}
 use Rattle.wire.specs.Spelled.{answer_text}
 use Rattle.sql_rules.specs.Rules.{are_kept_texts}
+use Rattle.sql_tables.specs.declared.reading.ReadFault.TheVariants.{Memory, Rules}
+use Rattle.sql_keeper.specs.Writes.{texts_fault}
 
 own_content : (a : List ℕ) (c : Content) (text : List ℕ) → text ≡ content_text c
     → account_of c ≡ a → content_of (account_of c) text ≡ Ok c → is_content_text a text ≡ true
@@ -33,3 +35,9 @@ own_texts a c x content answer name is so of read again =
     (and_from (is_account_number a) (is_content_text a content) name
     (own_content a c content is of read))
     (own_answer x answer so again)
+
+-- of the account itself only memory is told
+pub memory_told : (a : List ℕ) (c : Content) → account_of c ≡ a → Memory ≡ texts_fault a c
+memory_told a c is =
+    sym (ap (λ (b : Bool). if b then Memory else Rules)
+    (subst (λ n. same_name (account_of c) n ≡ true) is (same_itself (account_of c))))

@@ -10,7 +10,8 @@ use Rattle.sqlite.specs.State.{State, HasCleanDisk, IsUnchanged, Survives}
 use Rattle.sqlite.proofs.StateLemmas.{survives_then}
 use Rattle.sql_tables.specs.Schema.{latest, schema_at}
 use Rattle.sql_tables.specs.Stages.{AreStoredAt}
-use Rattle.sql_tables.specs.Statements.{AreStored}
+use Rattle.sql_tables.specs.Statements.{AreStored, IsStill, Spares}
+use Rattle.sql_tables.proofs.Keeps.{spares_still}
 use Rattle.sql_rows.specs.Content.{tables_content}
 use Rattle.sql_rows.specs.Values.{Meta}
 use Rattle.sql_tables.specs.declared.fault.OpenFault.{OpenFault}
@@ -52,6 +53,13 @@ kept_latest trees text utf8 kept = record {
 
 -- ---- what is found
 
+unchanged_still : {old new : State} → IsUnchanged old new → IsStill old new
+unchanged_still same = record {
+  was_open = same.0.was_open;
+  now_is = same.0.now_is;
+  committed_is = same.0.committed_is;
+}
+
 module _ (old mid new : State) (r : ReadBooks) (finds : FindsBooks old mid (Ok r)) where
   -- a row is out of its rules
   unruled : HasCleanDisk mid → ¬ AreRuled r.own latest mid.now.trees → HasUnruledRow old.now
@@ -70,6 +78,16 @@ module _ (old mid new : State) (r : ReadBooks) (finds : FindsBooks old mid (Ok r
         unruled = not_ruled;
       })
 
+  -- what the rows' test leaves as it was stands as it was before
+  still_after : HasCleanDisk mid → IsStill mid new → IsStill old new
+  still_after clean last =
+      let first = (finds.found clean).1 in
+      record {
+        was_open = first.was_open;
+        now_is = last.now_is ∙ first.now_is;
+        committed_is = last.committed_is ∙ first.committed_is;
+      }
+
   module _ (before : HasCleanDisk new → HasCleanDisk mid) (two : Survives mid new (λ _. ⊥)) where
     both_survive : Survives old new (λ _. ⊥)
     both_survive = survives_then old mid new (λ _. ⊥) (λ _. ⊥) (λ _. ⊥) (λ clean db no'. no')
@@ -77,13 +95,18 @@ module _ (old mid new : State) (r : ReadBooks) (finds : FindsBooks old mid (Ok r
 
     -- why it isn't told whether each row is in its rules
     pub rows_refused : (e : OpenFault) → (HasCleanDisk new → IsRowFault e old.now)
-        → FindsRuled old new (Err e)
-    rows_refused e cause = record {
+        → (HasCleanDisk new → Spares mid new) → FindsRuled old new (Err e)
+    rows_refused e cause spares = record {
       found = λ clean. tt;
       given = tt;
       read = tt;
       idle = tt;
       cause = cause;
+      still = λ clean on.
+          let open' = (finds.found (before clean)).2 in
+          still_after (before clean)
+          (spares_still mid new (λ was. (finds.idle (before clean) open').settled) (spares clean)
+          on);
       survives = both_survive;
     }
 
@@ -95,11 +118,7 @@ module _ (old mid new : State) (r : ReadBooks) (finds : FindsBooks old mid (Ok r
           let it = finds.found (before clean) in
           let then' = found clean in (
             subst (λ (d : Database). IsReadOf r d.trees) (sym then'.0.0.now_is) it.0,
-            record {
-              was_open = it.1.was_open;
-              now_is = then'.0.0.now_is ∙ it.1.now_is;
-              committed_is = then'.0.0.committed_is ∙ it.1.committed_is;
-            },
+            still_after (before clean) (unchanged_still then'.0),
             then'.0.0.is_open,
             then'.1,
           );
@@ -118,6 +137,7 @@ module _ (old mid new : State) (r : ReadBooks) (finds : FindsBooks old mid (Ok r
             settled = then'.now_is ∙ idle.settled ∙ sym then'.committed_is;
           };
       cause = λ clean. tt;
+      still = λ clean on. still_after (before clean) (unchanged_still (found clean).0);
       survives = both_survive;
     }
 
@@ -133,6 +153,7 @@ rows_unasked old mid e finds = record {
     | inl stores ↦ inl stores
     | inr has ↦ inr (inl has)
   ];
+  still = finds.still;
   survives = finds.survives;
 }
 
@@ -153,7 +174,7 @@ rows_untold old mid new r e finds tells =
     λ clean. omega (arith, tells.survives.clean, clean) in
     rows_refused old mid new r finds before tells.survives e (λ clean.
     row_caused e old.now tells.told
-    (λ is. unruled old mid new r finds (before clean) (tells.means clean is)))
+    (λ is. unruled old mid new r finds (before clean) (tells.means clean is))) tells.spares
 
 -- the schema that the rows are read over
 pub ruled_schema : (old mid : State) (r : ReadBooks) → FindsBooks old mid (Ok r)
@@ -193,6 +214,7 @@ untested are old new u tells = record {
     version = λ is. let no : Store ≡ Version = is in cc;
     latest = λ is. let no : Store ≡ Older = is in cc;
   };
+  spares = tells.spares;
   survives = tells.survives;
 }
 
@@ -202,6 +224,7 @@ retold are old new u w tells = record {
   found = tells.found;
   means = λ clean. tt;
   told = tt;
+  spares = tells.spares;
   survives = tells.survives;
 }
 
@@ -211,5 +234,6 @@ retold_err are old new e tells = record {
   found = λ clean. tt;
   means = tells.means;
   told = tells.told;
+  spares = tells.spares;
   survives = tells.survives;
 }

@@ -55,4 +55,5 @@ pub record FindsBooks (old new : State) (result : Result ReadBooks OpenFault) : 
   pub idle : OnOk result (HasIdleBook new)
   pub cause : HasCleanDisk new →
       IfErr result (λ fault. IsStores fault ⊎ HasFault fault old.now)
+  pub still : HasCleanDisk new → IsTrue new.is_open → IsStill old new
   pub survives : Survives old new (λ _. ⊥)

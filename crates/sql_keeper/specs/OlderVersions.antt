@@ -1,8 +1,9 @@
 -- Whether a database of an older version tells that version, as an opening asks it.
 -- Source: profile.
-use Rattle.std.specs.Prelude.{◌≡◌, Result, IfErr, OnOk}
+use Rattle.std.specs.Prelude.{◌≡◌, IsTrue, Result, IfErr, OnOk}
 use Rattle.sql_tables.specs.Words.{TablesVersion}
-use Rattle.sqlite.specs.State.{State, HasCleanDisk, Survives}
+use Rattle.sqlite.specs.State.{KeepsCommit, State, HasCleanDisk, Survives}
+use Rattle.sql_tables.specs.Statements.{IsStill}
 use Rattle.sql_tables.specs.declared.fault.OpenFault.{OpenFault}
 use Rattle.sql_tables.specs.declared.fault.OpenFault.TheVariants.{Foreign, Version, Rules, Older}
 use Rattle.sql_keeper.specs.Causes.{IsOtherThan, IsUnruledMeta, KeepsVersion}
@@ -12,6 +13,7 @@ use Rattle.sql_keeper.specs.Causes.{IsOtherThan, IsUnruledMeta, KeepsVersion}
 pub record AsksVersion {A : Type 0} (v : TablesVersion) (old new : State)
     (result : Result A OpenFault) : Type 0 where
   pub keeps : HasCleanDisk new → OnOk result (KeepsVersion v old.now.trees)
+  pub kept : HasCleanDisk new → KeepsCommit old new
   pub version : HasCleanDisk new → IfErr result (λ e. e ≡ Version → IsOtherThan v old.now.trees)
   pub rules : HasCleanDisk new → IfErr result (λ e. e ≡ Rules → IsUnruledMeta old.now.trees)
   pub other : IfErr result (λ e. (¬ (e ≡ Foreign)) × (¬ (e ≡ Older)))
@@ -23,4 +25,5 @@ pub record IsNotLatest (v : TablesVersion) (old new : State) (fault : OpenFault)
   pub version : HasCleanDisk new → fault ≡ Version → IsOtherThan v old.now.trees
   pub rules : HasCleanDisk new → fault ≡ Rules → IsUnruledMeta old.now.trees
   pub ours : ¬ (fault ≡ Foreign)
+  pub still : HasCleanDisk new → IsTrue new.is_open → IsStill old new
   pub survives : Survives old new (λ _. ⊥)

@@ -73,6 +73,11 @@ pub record IsOpened {S : Type 0} (g : Ghosts S) (old : Held S) (k : KeeperState 
     pub still : HasCleanDisk (state g k.connection) → IsStill (state g old) (state g k.connection)
     pub survives : Survives (state g old) (state g k.connection) (λ _. ⊥)
 
+-- while the connection is open it shows what it showed
+abbrev pub LeavesStill : {S : Type 0} → Ghosts S → Held S → Held S → Type 0
+LeavesStill g old new = HasCleanDisk (state g new) → IsTrue (state g new).is_open →
+    IsStill (state g old) (state g new)
+
 -- nothing was written; the fault is the store's or memory's, or the database has it, or a row
 pub record IsNotOpened {S : Type 0} (g : Ghosts S) (old new : Held S)
     (fault : OpenFault) : Type 0 where

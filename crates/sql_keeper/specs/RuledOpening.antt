@@ -49,4 +49,5 @@ pub record FindsRuled (old new : State) (result : Result ReadBooks OpenFault) : 
   pub read : IfOk result (λ r. IsBookOf (string_bytes r.text) r.own.first)
   pub idle : OnOk result (HasIdleBook new)
   pub cause : HasCleanDisk new → IfErr result (λ fault. IsRowFault fault old.now)
+  pub still : HasCleanDisk new → IsTrue new.is_open → IsStill old new
   pub survives : Survives old new (λ _. ⊥)

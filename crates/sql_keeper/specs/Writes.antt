@@ -3,6 +3,7 @@
 use Rattle.std.specs.Prelude.{◌≡◌, ◌==◌, ℕ, Bool, true, false, List, [], Option, Some, None}
 use Rattle.std.specs.Prelude.{unwrap_or, if◌then◌else◌, option_map, slice_get}
 use Rattle.units.specs.Words.{Moment, BlockCount, GroupId}
+use Rattle.identifiers.specs.Texts.{same_name}
 use Rattle.identifiers.specs.Words.{SessionName, AccountName}
 use Rattle.buckets.specs.Words.{BucketNumber}
 use Rattle.shelves.specs.Words.{BookText}
@@ -17,6 +18,7 @@ use Rattle.reserving.specs.declared.session.SessionGroup.{SessionGroup}
 use Rattle.reserving.specs.declared.session.Reservation.{Reservation}
 use Rattle.reserving.specs.Sessions.{holds_in}
 use Rattle.reserving.specs.Stored.{StoredRows}
+use Rattle.commands.specs.declared.command.Content.{Content}
 use Rattle.keepers.specs.declared.key.Key.{Key}
 use Rattle.keepers.specs.declared.key.KeptAnswer.{KeptAnswer}
 use Rattle.keepers.specs.declared.loaded.Change.{Change}
@@ -24,7 +26,10 @@ use Rattle.keepers.specs.declared.loaded.Redeemed.{Redeemed}
 use Rattle.keepers.specs.Keys.{key_of}
 use Rattle.keepers.specs.declared.key.Key.TheVariants.{Request, Reference}
 use Rattle.voucher_rules.specs.declared.voucher.Voucher.{Voucher}
+use Rattle.wire.specs.Contents.{account_of}
 use Rattle.sql_tables.specs.Schema.{latest}
+use Rattle.sql_tables.specs.declared.reading.ReadFault.{ReadFault}
+use Rattle.sql_tables.specs.declared.reading.ReadFault.TheVariants.{Memory, Rules}
 use Rattle.sql_rows.specs.declared.head.HeadColumns.{HeadColumns}
 use Rattle.sql_rows.specs.Values.{Meta, Group, PeriodNames, Kept, VoucherRow}
 use Rattle.sql_rows.specs.Values.{request_kind, reference_kind, plain_bucket, plain_charge}
@@ -205,6 +210,14 @@ abbrev pub AreTexts : AccountName → Option KeptAnswer → Option Kept → Type
 AreTexts a None t = Unit {0}
 AreTexts a (Some k) None = ⊥
 AreTexts a (Some k) (Some t) = kept_in a t ≡ Some k
+
+-- why there are none: it is of another account, or else memory was refused
+abbrev pub texts_fault : AccountName → Content → ReadFault
+texts_fault a c = if same_name (account_of c) a then Memory else Rules
+
+abbrev pub IsTextsFault : AccountName → Option KeptAnswer → ReadFault → Type 0
+IsTextsFault a None fault = ⊥
+IsTextsFault a (Some k) fault = fault ≡ texts_fault a k.content
 
 -- what is kept once: the version of the tables, the text of the book, and the moment of the
 -- last accepted command

@@ -20,6 +20,7 @@ ghost use Rattle.sql_keeper.specs.Faults.{IsCreateFault};
 ghost use Rattle.sql_keeper.specs.Finds.{FindsBooks, IsReadRuled, ReadsBooks};
 ghost use Rattle.sql_keeper.specs.Inside.{IsKeeper};
 ghost use Rattle.sql_keeper.specs.Opened.{IsCreated, IsNotCreated, IsNotOpened, IsOpened};
+ghost use Rattle.sql_keeper.specs.Opened.{LeavesStill};
 ghost use Rattle.sqlite.specs.Held.{state};
 ghost use Rattle.sqlite.specs.State.{HasCleanDisk, IsLive};
 
@@ -257,6 +258,7 @@ impl<S: Alter> SqlKeeper<S> {
     ) -> Result<(SqlKeeper<S>, TariffShelf), (OpenFault, Connection<S>)>
         ensures opened { IfOk result (λ made. IsOpened S.Store connection made.0 made.1) }
         ensures refused { IfErr result (λ left. IsNotOpened S.Store connection left.1 left.0) }
+        ensures still { IfErr result (λ left. LeavesStill S.Store connection left.1) }
     {
         match ruled_books_in(alloc, &mut connection) {
             Ok(read) => Ok(keeper_of(alloc, connection, read)),

@@ -1,12 +1,12 @@
 //! The texts that stand for what is kept of a command.
 
-ghost use Rattle.std.specs.Prelude.{◌≡◌, IfOk, Some, option_map, true};
+ghost use Rattle.std.specs.Prelude.{◌≡◌, IfErr, IfOk, Some, option_map, true};
 ghost use Rattle.sql_rows.specs.Texts.{kept_of};
 ghost use Rattle.sql_rules.specs.Rules.{are_kept_texts};
 ghost use Rattle.wire.specs.Contents.{account_of};
 ghost use Rattle.sql_keeper.specs.Content.{kept_in};
 ghost use Rattle.sql_keeper.specs.RuledRows.{are_ruled_texts};
-ghost use Rattle.sql_keeper.specs.Writes.{AreTexts};
+ghost use Rattle.sql_keeper.specs.Writes.{AreTexts, IsTextsFault, texts_fault};
 
 use commands::Content;
 use identifiers::AccountNumber;
@@ -30,7 +30,7 @@ fn account_of(content: &Content) -> &AccountNumber
 
 /// The texts that stand for what is kept of a command of this account. What is of another account
 /// wouldn't be read again as what it is: it is out of the rules.
-#[tactic(auto, using(crate::proofs::OwnTexts::own_texts))]
+#[tactic(auto, using(crate::proofs::OwnTexts::own_texts, crate::proofs::OwnTexts::memory_told))]
 fn texts_of(
     alloc: Global,
     account: &AccountNumber,
@@ -39,6 +39,7 @@ fn texts_of(
     ensures told { IfOk result (λ t. kept_in account.now (kept_of t) ≡ Some kept.now) }
     ensures rules { IfOk result (λ t. are_kept_texts account.now (kept_of t).content
         (kept_of t).answer ≡ true) }
+    ensures fault { IfErr result (λ e. e ≡ texts_fault account.now kept.now.content) }
 {
     // For the prover alone: looking at the value makes known here what its type keeps.
     let _number = account.as_str();
@@ -53,7 +54,7 @@ fn texts_of(
 /// The texts that stand for what is kept of a command of this account, where something is kept.
 ///
 /// # Errors
-/// `Rules` where the command is of another account; out of memory.
+/// `Rules` where the command is of another account, exactly then; `Memory`.
 pub fn kept_texts(
     alloc: Global,
     account: &AccountNumber,
@@ -62,6 +63,7 @@ pub fn kept_texts(
     ensures told { IfOk result (λ t. AreTexts account.now kept.now (option_map kept_of t)) }
     ensures rules { IfOk result (λ t.
         are_ruled_texts account.now (option_map kept_of t) ≡ true) }
+    ensures fault { IfErr result (IsTextsFault account.now kept.now) }
 {
     match kept {
         None => Ok(None),

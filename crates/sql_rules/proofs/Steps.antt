@@ -1,6 +1,6 @@
 -- One more table whose rows are in their rules.
 use Rattle.std.proofs.Common.{◌≡◌, ◌<◌, ℕ, zero, suc, ◌+◌, List, [], map, length, sym, ap, subst}
-use Rattle.std.proofs.Common.{◌∙◌, refl, arith, Ok, Err, Result}
+use Rattle.std.proofs.Common.{◌∙◌, refl, arith, Ok, Err, Result, inl}
 use Rattle.shelves.specs.Shelves.{Shelf}
 use Rattle.sqlite_value.specs.Order.{Row, column}
 use Rattle.sqlite_trees.specs.declared.store.Store.{Ghosts}
@@ -10,6 +10,7 @@ use Rattle.sqlite.specs.State.{State, HasCleanDisk, IsUnchanged, Shown, Survives
 use Rattle.sqlite.proofs.Callers.{unchanged_then}
 use Rattle.sqlite.proofs.StateLemmas.{survives_then}
 use Rattle.sql_tables.specs.Schema.{schema_at}
+use Rattle.sql_tables.proofs.Keeps.{spares_then}
 use Rattle.sql_tables.specs.declared.fault.OpenFault.{OpenFault}
 use Rattle.sql_rules.specs.Rules.{rule_at}
 use Rattle.sql_rules.specs.Tables.{table_at, places_at, places_from, IsTable, IsRuledAt}
@@ -116,6 +117,8 @@ found_not shelf v k a b c e r is low so f = subst (Tells (AreRuled shelf v) a c)
       f.means clean rules
       (subst (λ (d : Database). IsRuledAt shelf k d.trees) (sym here.0.0.now_is) (all k low));
   told = f.told;
+  spares = λ clean. spares_then a b c (so.1 (omega (arith, f.survives.clean, clean))).0
+      (f.spares clean);
   survives = survives_then a b c (λ _. ⊥) (λ _. ⊥) (λ _. ⊥) (λ clean db none. none)
       (λ clean db none. none) so.0 f.survives;
 })
@@ -127,6 +130,7 @@ none_found_not shelf v a c e r is low f = subst (Tells (AreRuled shelf v) a c) (
   found = λ clean. tt;
   means = λ clean rules all. f.means clean rules (all 0 low);
   told = f.told;
+  spares = f.spares;
   survives = f.survives;
 })
 
@@ -137,6 +141,7 @@ found_all shelf v k a b u end so = record {
       (here.0, subst (λ n. AreRuledTo shelf n b.now.trees) end here.1);
   means = λ clean. tt;
   told = tt;
+  spares = λ clean. inl (so.1 clean).0;
   survives = so.0;
 }
 

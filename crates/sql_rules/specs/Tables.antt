@@ -18,6 +18,7 @@ use Rattle.sqlite.proofs.Callers.{command_of}
 use Rattle.sqlite.specs.State.{State, HasCleanDisk, IsUnchanged, Survives}
 use Rattle.sql_tables.specs.Keyed.{IsStored}
 use Rattle.sql_tables.specs.Schema.{book_schema, meta, schema_at}
+use Rattle.sql_tables.specs.Statements.{Spares}
 use Rattle.sql_tables.specs.declared.fault.OpenFault.{OpenFault}
 use Rattle.sql_tables.specs.declared.fault.OpenFault.TheVariants.{Foreign, Version, Rules, Older}
 use Rattle.sql_rules.specs.Rules.{rule_at}
@@ -56,6 +57,7 @@ pub record Tells {A : Type 0} (are : Trees → Type 0) (old new : State)
   pub found : HasCleanDisk new → OnOk result (IsUnchanged old new × are new.now.trees)
   pub means : HasCleanDisk new → IfErr result (λ fault. fault ≡ Rules → ¬ are old.now.trees)
   pub told : IfErr result IsOfRows
+  pub spares : HasCleanDisk new → Spares old new
   pub survives : Survives old new (λ _. ⊥)
 
 -- the columns at these places of each row of a table, in the order of their rowids

@@ -11,6 +11,7 @@ ghost use Rattle.sqlite.specs.State.{HasCleanDisk, IsUnchanged, Shown, Survives}
 ghost use Rattle.sql_tables.specs.Schema.{schema_at};
 ghost use Rattle.sql_tables.specs.Opens.{IsVersion};
 ghost use Rattle.sql_tables.specs.Rises.{IsAbove};
+ghost use Rattle.sql_tables.specs.Statements.{Spares};
 ghost use Rattle.sql_tables.specs.declared.fault.OpenFault.TheVariants.{Rules};
 ghost use Rattle.sql_rules.specs.Rules.{rule_at};
 ghost use Rattle.sql_rules.specs.Tables.{IsOfRows, IsRuledAt, Tells, texts};
@@ -108,6 +109,8 @@ fn do_pass<S: Alter>(
         × (Pass (rule_at shelf.now at) rows → IsTrue passes)) }
     ensures same { HasCleanDisk (state S.Store conn.new) →
         OnOk result (IsUnchanged (state S.Store conn.old) (state S.Store conn.new)) }
+    ensures spares { HasCleanDisk (state S.Store conn.new) →
+        Spares (state S.Store conn.old) (state S.Store conn.new) }
     ensures crash { Survives (state S.Store conn.old) (state S.Store conn.new) (λ _. ⊥) }
 {
     let mut walk = Walk {

@@ -17,7 +17,7 @@ returns-in_err-version-clause-finds g c =
     subst (FindsBooks (state g.S.Store c.args.conn.now) (state g.S.Store c.find_tables.new.conn))
     (sym (p.1 ∙ ap Err p.2))
     (finds_none _ _ _ c.in_err-version.ensures.told c.in_err-version.ensures.means
-    c.in_err-version.ensures.survives)
+    c.in_err-version.ensures.still c.in_err-version.ensures.survives)
 
 pub returns-then-version-ne-LATEST-clause-finds : goal.returns-then-version-ne-LATEST-clause-finds
 returns-then-version-ne-LATEST-clause-finds g c =

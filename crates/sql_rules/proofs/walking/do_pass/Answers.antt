@@ -4,6 +4,7 @@ use Rattle.sqlite.specs.State.{HasCleanDisk, Survives, CommitsShowing}
 use Rattle.sqlite.specs.Held.{state}
 use Rattle.sqlite.proofs.StateLemmas.{survives_then}
 use Rattle.sqlite.proofs.Callers.{begun_plain, unchanged_then}
+use Rattle.sql_tables.proofs.Keeps.{fails_spares}
 use Rattle.sql_tables.proofs.Steps.{commits_nothing}
 use Rattle.sql_rules.specs.Rules.{rule_at}
 use Rattle.sql_rules.proofs.Passing.{walked}
@@ -16,6 +17,12 @@ returns-in_err-rows-clause-crash g c =
     let held = c.query.follows.holds-at-none in
     let kept : Survives old new (CommitsShowing c.args.sql.now [] old) = search rules in
     commits_nothing c.args.sql.now [] old new c.requires.plain kept
+
+pub returns-in_err-rows-clause-spares : goal.returns-in_err-rows-clause-spares
+returns-in_err-rows-clause-spares g c clean =
+    let held = (rw (c.in_err-rows.was) at c.query.follows.holds-at-none) in
+    fails_spares c.args.sql.now [] (state g.S.Store c.args.conn.now)
+    (state g.S.Store c.query.follows.lender-at-none) c.in_err-rows.field-0.0 (held.err clean)
 
 pub rows-init : goal.rows-init
 rows-init g c =

@@ -37,6 +37,7 @@ returns-in-Ok-true g c = record {
       );
   means = λ clean. tt;
   told = tt;
+  spares = c.in-Ok-true.ensures.spares;
   survives = c.in-Ok-true.ensures.crash;
 }
 
@@ -60,6 +61,7 @@ returns-in-Ok-false g c = record {
     version = λ is. absurd (cc is);
     latest = λ is. absurd (cc is);
   };
+  spares = c.in-Ok-false.ensures.spares;
   survives = c.in-Ok-false.ensures.crash;
 }
 
@@ -68,5 +70,6 @@ returns-in-Err g c = record {
   found = λ clean. tt;
   means = λ clean rules. absurd (c.fault_of.ensures.none rules);
   told = c.fault_of.ensures.told;
+  spares = c.in-Err.ensures.spares;
   survives = c.in-Err.ensures.crash;
 }
