@@ -1,17 +1,11 @@
 -- One more row that rises and is in its rules, or isn't.
 use Rattle.std.proofs.Common.{◌≡◌, ℤ, List, [], ◌∷◌, ◌++◌, Option, Some, None, is_some, IfSome}
 use Rattle.std.proofs.Common.{Bool, true, false, not, IsTrue, refl, sym, ◌∙◌}
-use Rattle.std.specs.List.{AllByRecursion}
 use Rattle.sqlite_value.specs.Order.{Row}
 use Rattle.sqlite_trees.proofs.ListLemmas.{all-append}
 use Rattle.sql_tables.specs.Rises.{IsAbove}
-use Rattle.sql_tables.proofs.Ascents.{all_end, climbs_on, still_falls, up_to}
+use Rattle.sql_tables.proofs.Ascents.{all_end, all_front, climbs_on, still_falls, up_to}
 use Rattle.sql_rules.specs.Walks.{Pass, Walks}
-
-all_front : {A : Type 0} (P : A → Type 0) (xs ys : List A) → AllByRecursion P (xs ++ ys) →
-    AllByRecursion P xs
-all_front P [] ys h = tt
-all_front P (x ∷ xs) ys h = (h.0, all_front P xs ys h.1)
 
 module _ (rule : Row → Bool) where
   abbrev In : Row → Type 0
