@@ -1,5 +1,5 @@
 -- What a migration leaves of what the tables held.
-use Rattle.std.proofs.Common.{◌≡◌, ◌≤◌, ◌<◌, ◌∙◌, ℕ, zero, suc, Bool, true, false, List, Option}
+use Rattle.std.proofs.Common.{◌≡◌, ◌≤◌, ◌<◌, ◌∙◌, ℕ, zero, suc, Bool, true, false, List, [], Option}
 use Rattle.std.proofs.Common.{Some, None, refl, sym, ap, subst, arith, length, nat_le}
 use Rattle.std.proofs.lemmas.Option.{same_Some}
 use Rattle.std.specs.Prelude.{if◌then◌else◌, is_some, option_map}
@@ -19,6 +19,7 @@ use Rattle.sql_tables.specs.Keyed.{look, table_of}
 use Rattle.sql_tables.specs.Schema.{book_schema, latest, pieces_to, schema_at}
 use Rattle.sql_tables.specs.Schema as table
 use Rattle.sql_tables.specs.Stages.{AreEmpty, tables_between}
+use Rattle.sql_tables.proofs.Ascents.{all_front}
 use Rattle.sql_rows.specs.Content.{TablesContent, TableRows, tables_content, with_meta}
 use Rattle.sql_rows.specs.Makes.{Turns}
 use Rattle.sql_rows.specs.Values as values
@@ -46,8 +47,27 @@ abbrev pub AreKept : ℕ → Trees → Trees → Type 0
 AreKept v old new = KeepsRows (schema_at v).tables old new
     × AreEmpty (tables_between (length (pieces_to v)) (length (pieces_to latest))) new
 
-kept_1 : (old new : Trees) → AreKept 1 old new → tables_content new ≡ content_at 1 old
-kept_1 old new (k, e) = λ i. record {
+-- what the tables after those of version 1 hold
+record AreSince (c d : TablesContent) : Type 0 where
+  pub grant_books : (a s : List ℕ) (g : ℕ) → (d.rows a).grant_books s g ≡ (c.rows a).grant_books s g
+  pub allowances : (a : List ℕ) (n : ℕ) → (d.rows a).allowances n ≡ (c.rows a).allowances n
+  pub covered : (a : List ℕ) (n : ℕ) → (d.rows a).covered n ≡ (c.rows a).covered n
+  pub books : (n : ℕ) → d.books n ≡ c.books n
+
+abbrev with_since : TablesContent → TablesContent → TablesContent
+with_since c d = record d {
+  rows = λ a. record (d.rows a) {
+    grant_books = (c.rows a).grant_books;
+    allowances = (c.rows a).allowances;
+    covered = (c.rows a).covered;
+  };
+  books = c.books;
+}
+
+-- where the tables of version 1 keep their rows
+kept_since : (old new : Trees) (c : TablesContent) → KeepsRows (schema_at 1).tables old new
+    → AreSince c (tables_content new) → tables_content new ≡ with_since c (tables_content old)
+kept_since old new c k since = λ i. record {
   meta = option_map values.meta_in (looked_still table.meta old new k.0 values.meta_key i);
   kept = length (k.0 i);
   rows = λ a. record {
@@ -68,56 +88,58 @@ kept_1 old new (k, e) = λ i. record {
         (values.answer_key a kind name number) i);
     charges = λ n. option_map values.charge_in_row
         (looked_still table.charges old new k.1.1.1.1.1.1.1.1.1.0 (values.charge_key a n) i);
-    grant_books = λ s g. option_map values.grant_book_in
-        (none_stored table.grant_books new e.1.0 (values.group_key a s g) i);
-    allowances = λ n. is_some (option_map values.allowance_in
-        (none_stored table.allowance_buckets new e.1.1.0 (values.bucket_key a n) i));
-    covered = λ n. option_map values.covered_in_row
-        (none_stored table.covered new e.1.1.1.0 (values.charge_key a n) i);
+    grant_books = λ s g. since.grant_books a s g i;
+    allowances = λ n. since.allowances a n i;
+    covered = λ n. since.covered a n i;
   };
   vouchers = λ code. option_map values.voucher_in_row
       (looked_still table.vouchers old new k.1.1.1.1.1.1.1.1.0 (values.voucher_key code) i);
-  books = λ n. option_map values.book_in_row
-      (none_stored table.books new e.0 (values.book_key n) i);
+  books = λ n. since.books n i;
   count = length (k.1.0 i);
 }
 
+-- what is looked up in a table without rows
+no_grant : (new : Trees) → new table.grant_books.tree ≡ [] → (a s : List ℕ) (g : ℕ)
+    → ((tables_content new).rows a).grant_books s g ≡ None
+no_grant new none a s g =
+    ap (option_map values.grant_book_in)
+    (none_stored table.grant_books new none (values.group_key a s g))
+
+no_allowance : (new : Trees) → new table.allowance_buckets.tree ≡ [] → (a : List ℕ) (n : ℕ)
+    → ((tables_content new).rows a).allowances n ≡ false
+no_allowance new none a n =
+    ap (λ row. is_some (option_map values.allowance_in row))
+    (none_stored table.allowance_buckets new none (values.bucket_key a n))
+
+no_covered : (new : Trees) → new table.covered.tree ≡ [] → (a : List ℕ) (n : ℕ)
+    → ((tables_content new).rows a).covered n ≡ None
+no_covered new none a n =
+    ap (option_map values.covered_in_row)
+    (none_stored table.covered new none (values.charge_key a n))
+
+kept_1 : (old new : Trees) → AreKept 1 old new → tables_content new ≡ content_at 1 old
+kept_1 old new (k, e) = kept_since old new (content_at 1 old) k (record {
+  grant_books = no_grant new e.1.0;
+  allowances = no_allowance new e.1.1.0;
+  covered = no_covered new e.1.1.1.0;
+  books = λ n. ap (option_map values.book_in_row)
+      (none_stored table.books new e.0 (values.book_key n));
+})
+
 kept_2 : (old new : Trees) → AreKept 2 old new → tables_content new ≡ content_at 2 old
-kept_2 old new (k, e) = λ i. record {
-  meta = option_map values.meta_in (looked_still table.meta old new k.0 values.meta_key i);
-  kept = length (k.0 i);
-  rows = λ a. record {
-    head = option_map values.head_in
-        (looked_still table.accounts old new k.1.0 (values.head_key a) i);
-    buckets = λ n. option_map values.bucket_in_row
-        (looked_still table.buckets old new k.1.1.0 (values.bucket_key a n) i);
-    counters = λ g c. option_map values.counter_in_row
-        (looked_still table.counters old new k.1.1.1.0 (values.counter_key a g c) i);
-    sessions = λ s. option_map values.session_in_row
-        (looked_still table.sessions old new k.1.1.1.1.0 (values.session_key a s) i);
-    groups = λ s g. option_map values.group_in_row
-        (looked_still table.session_groups old new k.1.1.1.1.1.0 (values.group_key a s g) i);
-    holds = λ s g n. option_map values.hold_in
-        (looked_still table.holds old new k.1.1.1.1.1.1.0 (values.hold_key a s g n) i);
-    answers = λ kind name number. option_map values.answer_in_row
-        (looked_still table.answers old new k.1.1.1.1.1.1.1.0
-        (values.answer_key a kind name number) i);
-    charges = λ n. option_map values.charge_in_row
-        (looked_still table.charges old new k.1.1.1.1.1.1.1.1.1.0 (values.charge_key a n) i);
-    grant_books = λ s g. option_map values.grant_book_in
-        (looked_still table.grant_books old new k.1.1.1.1.1.1.1.1.1.1.1.0
-        (values.group_key a s g) i);
-    allowances = λ n. is_some (option_map values.allowance_in
-        (none_stored table.allowance_buckets new e.0 (values.bucket_key a n) i));
-    covered = λ n. option_map values.covered_in_row
-        (none_stored table.covered new e.1.0 (values.charge_key a n) i);
-  };
-  vouchers = λ code. option_map values.voucher_in_row
-      (looked_still table.vouchers old new k.1.1.1.1.1.1.1.1.0 (values.voucher_key code) i);
-  books = λ n. option_map values.book_in_row
-      (looked_still table.books old new k.1.1.1.1.1.1.1.1.1.1.0 (values.book_key n) i);
-  count = length (k.1.0 i);
-}
+kept_2 old new (k, e) =
+    let first : KeepsRows (schema_at 1).tables old new =
+    all_front (λ (t : Table). new t.tree ≡ old t.tree) (schema_at 1).tables
+    (tables_between (length (pieces_to 1)) (length (pieces_to 2))) k in
+    kept_since old new (content_at 2 old) first (record {
+      grant_books = λ a s g. ap (option_map values.grant_book_in)
+          (looked_still table.grant_books old new k.1.1.1.1.1.1.1.1.1.1.1.0
+          (values.group_key a s g));
+      allowances = no_allowance new e.0;
+      covered = no_covered new e.1.0;
+      books = λ n. ap (option_map values.book_in_row)
+          (looked_still table.books old new k.1.1.1.1.1.1.1.1.1.1.0 (values.book_key n));
+    })
 
 -- what the tables hold once those that a version hasn't are made
 pub kept_content : (v : ℕ) (old new : Trees) → IsVersion v → v < latest → AreKept v old new →

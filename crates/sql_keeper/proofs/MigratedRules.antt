@@ -1,16 +1,21 @@
 -- The rows of an older version are in the rules of the latest once the tables that it hasn't are
 -- made.
-use Rattle.std.proofs.Common.{◌≡◌, ◌<◌, ℕ, zero, suc, List, [], Option, Some, Bool, true}
-use Rattle.std.proofs.Common.{false, refl, sym, ap, subst, arith, IsTrue, ◌∙◌}
-use Rattle.std.specs.Prelude.{if◌then◌else◌, is_some, nat_le}
+use Rattle.std.proofs.Common.{◌≡◌, ◌<◌, ◌⊎◌, inl, inr, ℕ, zero, suc, List, [], ◌∷◌, ◌++◌, length}
+use Rattle.std.proofs.Common.{Option, Some, Bool, true, false, refl, sym, ap, subst, arith, IsTrue}
+use Rattle.std.proofs.Common.{◌∙◌}
+use Rattle.std.specs.Prelude.{if◌then◌else◌, is_some, nat_le, slice_index_or}
 use Rattle.std.proofs.lemmas.Bool.Decides.{nat_tests}
 use Rattle.std.specs.List.{AllByRecursion}
 use Rattle.shelves.specs.Shelves.{Shelf, count}
 use Rattle.sqlite_trees.specs.Tree.{Trees}
 use Rattle.sqlite_schema.specs.Rules.{Fits}
+use Rattle.sqlite_schema.specs.declared.schema.Table.{Table}
+use Rattle.sqlite_catalog.specs.Change.{KeepsRows}
 use Rattle.sql_tables.specs.Keyed.{IsStored}
 use Rattle.sql_tables.specs.Opens.{IsVersion}
-use Rattle.sql_tables.specs.Schema.{book_schema, latest}
+use Rattle.sql_tables.specs.Schema.{book_schema, latest, pieces_to, schema_at}
+use Rattle.sql_tables.specs.Schema as table
+use Rattle.sql_tables.specs.Stages.{AreEmpty, tables_between}
 use Rattle.sql_rows.specs.Content.{TablesContent, TableRows, tables_content}
 use Rattle.sql_rows.specs.Makes.{Turns}
 use Rattle.sql_rows.specs.Plain.{ArePlain}
@@ -18,13 +23,40 @@ use Rattle.sql_rows.specs.Values.{Meta}
 use Rattle.sql_rules.specs.Columns.{is_in_bounds}
 use Rattle.sql_rules.specs.Rules.{rule_at}
 use Rattle.sql_rules.specs.Ruled.{AreInRules, IsInRules}
-use Rattle.sql_rules.specs.Tables.{AreRuled, IsRuledAt, table_at}
+use Rattle.sql_rules.specs.Tables.{AreRuled, AreRuledTo, IsRuledAt, table_at}
 use Rattle.sql_rules.proofs.Contents.{content_ruled}
 use Rattle.sql_rules.proofs.KeptRules.{meta_kept}
 use Rattle.sql_keeper.specs.Content.{is_reserved}
 use Rattle.sql_keeper.specs.Migrates.{granted_in, with_granted}
 use Rattle.sql_keeper.proofs.Migrated.{AreKept, with_latest}
 use Rattle.sql_keeper.proofs.PlainRows.{rows_plain}
+
+-- the table at a place of a list keeps its rows, or has none
+abbrev KeepsAt : Trees → Trees → List Table → ℕ → Type 0
+KeepsAt old mid tables at =
+    mid (slice_index_or tables at table.meta).tree ≡ old (slice_index_or tables at table.meta).tree
+
+abbrev IsEmptyAt : Trees → List Table → ℕ → Type 0
+IsEmptyAt mid tables at = mid (slice_index_or tables at table.meta).tree ≡ []
+
+-- one of those whose rows stay, or of those that are new
+in_parts : (old mid : Trees) (first later : List Table) → KeepsRows first old mid
+    → AreEmpty later mid → (at : ℕ) → at < length (first ++ later)
+    → ((at < length first) × KeepsAt old mid (first ++ later) at)
+    ⊎ IsEmptyAt mid (first ++ later) at
+in_parts old mid [] [] kept none at low = absurd (omega (arith, low))
+in_parts old mid [] (t ∷ later) kept none zero low = inr none.0
+in_parts old mid [] (t ∷ later) kept none (suc at) low =
+    elim (in_parts old mid [] later tt none.1 at (omega (arith, low))) [
+      | inl stays ↦ absurd (omega (arith, stays.0))
+      | inr empty ↦ inr empty
+    ]
+in_parts old mid (t ∷ first) later kept none zero low = inl (omega arith, kept.0)
+in_parts old mid (t ∷ first) later kept none (suc at) low =
+    elim (in_parts old mid first later kept.1 none at (omega (arith, low))) [
+      | inl stays ↦ inl (omega (arith, stays.0), stays.1)
+      | inr empty ↦ inr empty
+    ]
 
 module _ (shelf : Shelf) (old mid : Trees) where
   -- a table whose rows stay
@@ -42,69 +74,27 @@ module _ (shelf : Shelf) (old mid : Trees) where
     rows = subst (AllByRecursion (λ row. IsTrue (rule_at shelf at row))) (sym none) tt;
   }
 
-  ruled_1 : AreKept 1 old mid → AreRuled shelf 1 old → AreRuled shelf latest mid
-  ruled_1 (k, e) all = go
-    where
-      go : (at : ℕ) → at < 14 → IsRuledAt shelf at mid
-      go zero low = still_ruled 0 k.0 (all 0 (omega arith))
-      go (suc zero) low = still_ruled 1 k.1.0 (all 1 (omega arith))
-      go (suc (suc zero)) low = still_ruled 2 k.1.1.0 (all 2 (omega arith))
-      go (suc (suc (suc zero))) low = still_ruled 3 k.1.1.1.0 (all 3 (omega arith))
-      go (suc (suc (suc (suc zero)))) low = still_ruled 4 k.1.1.1.1.0 (all 4 (omega arith))
-      go (suc (suc (suc (suc (suc zero))))) low = still_ruled 5 k.1.1.1.1.1.0 (all 5 (omega arith))
-      go (suc (suc (suc (suc (suc (suc zero)))))) low =
-          still_ruled 6 k.1.1.1.1.1.1.0 (all 6 (omega arith))
-      go (suc (suc (suc (suc (suc (suc (suc zero))))))) low =
-          still_ruled 7 k.1.1.1.1.1.1.1.0 (all 7 (omega arith))
-      go (suc (suc (suc (suc (suc (suc (suc (suc zero)))))))) low =
-          still_ruled 8 k.1.1.1.1.1.1.1.1.0 (all 8 (omega arith))
-      go (suc (suc (suc (suc (suc (suc (suc (suc (suc zero))))))))) low =
-          still_ruled 9 k.1.1.1.1.1.1.1.1.1.0 (all 9 (omega arith))
-      go (suc (suc (suc (suc (suc (suc (suc (suc (suc (suc zero)))))))))) low = none_ruled 10 e.0
-      go (suc (suc (suc (suc (suc (suc (suc (suc (suc (suc (suc zero))))))))))) low =
-          none_ruled 11 e.1.0
-      go (suc (suc (suc (suc (suc (suc (suc (suc (suc (suc (suc (suc zero)))))))))))) low =
-          none_ruled 12 e.1.1.0
-      go (suc (suc (suc (suc (suc (suc (suc (suc (suc (suc (suc (suc (suc zero))))))))))))) low =
-          none_ruled 13 e.1.1.1.0
-      go (suc (suc (suc (suc (suc (suc (suc (suc (suc (suc (suc (suc (suc (suc n)))))))))))))) low =
-          absurd (omega (arith, low))
-
-  ruled_2 : AreKept 2 old mid → AreRuled shelf 2 old → AreRuled shelf latest mid
-  ruled_2 (k, e) all = go
-    where
-      go : (at : ℕ) → at < 14 → IsRuledAt shelf at mid
-      go zero low = still_ruled 0 k.0 (all 0 (omega arith))
-      go (suc zero) low = still_ruled 1 k.1.0 (all 1 (omega arith))
-      go (suc (suc zero)) low = still_ruled 2 k.1.1.0 (all 2 (omega arith))
-      go (suc (suc (suc zero))) low = still_ruled 3 k.1.1.1.0 (all 3 (omega arith))
-      go (suc (suc (suc (suc zero)))) low = still_ruled 4 k.1.1.1.1.0 (all 4 (omega arith))
-      go (suc (suc (suc (suc (suc zero))))) low = still_ruled 5 k.1.1.1.1.1.0 (all 5 (omega arith))
-      go (suc (suc (suc (suc (suc (suc zero)))))) low =
-          still_ruled 6 k.1.1.1.1.1.1.0 (all 6 (omega arith))
-      go (suc (suc (suc (suc (suc (suc (suc zero))))))) low =
-          still_ruled 7 k.1.1.1.1.1.1.1.0 (all 7 (omega arith))
-      go (suc (suc (suc (suc (suc (suc (suc (suc zero)))))))) low =
-          still_ruled 8 k.1.1.1.1.1.1.1.1.0 (all 8 (omega arith))
-      go (suc (suc (suc (suc (suc (suc (suc (suc (suc zero))))))))) low =
-          still_ruled 9 k.1.1.1.1.1.1.1.1.1.0 (all 9 (omega arith))
-      go (suc (suc (suc (suc (suc (suc (suc (suc (suc (suc zero)))))))))) low =
-          still_ruled 10 k.1.1.1.1.1.1.1.1.1.1.0 (all 10 (omega arith))
-      go (suc (suc (suc (suc (suc (suc (suc (suc (suc (suc (suc zero))))))))))) low =
-          still_ruled 11 k.1.1.1.1.1.1.1.1.1.1.1.0 (all 11 (omega arith))
-      go (suc (suc (suc (suc (suc (suc (suc (suc (suc (suc (suc (suc zero)))))))))))) low =
-          none_ruled 12 e.0
-      go (suc (suc (suc (suc (suc (suc (suc (suc (suc (suc (suc (suc (suc zero))))))))))))) low =
-          none_ruled 13 e.1.0
-      go (suc (suc (suc (suc (suc (suc (suc (suc (suc (suc (suc (suc (suc (suc n)))))))))))))) low =
-          absurd (omega (arith, low))
+  -- the tables of a version whose rows stay, and no row of those that are new
+  ruled_tables : (first later : List Table) → first ++ later ≡ book_schema.tables
+      → KeepsRows first old mid → AreEmpty later mid → AreRuledTo shelf (length first) old
+      → AreRuledTo shelf (length (first ++ later)) mid
+  ruled_tables first later is kept none all at low =
+      elim (in_parts old mid first later kept none at low) [
+        | inl stays ↦
+          still_ruled at (subst (λ ts. KeepsAt old mid ts at) is stays.1) (all at stays.0)
+        | inr empty ↦ none_ruled at (subst (λ ts. IsEmptyAt mid ts at) is empty)
+      ]
 
   -- those of each older version
   pub ruled_since : (v : ℕ) → IsVersion v → v < latest → AreKept v old mid → AreRuled shelf v old →
       AreRuled shelf latest mid
   ruled_since zero known less kept all = absurd (omega (arith, known.0))
-  ruled_since (suc zero) known less kept all = ruled_1 kept all
-  ruled_since (suc (suc zero)) known less kept all = ruled_2 kept all
+  ruled_since (suc zero) known less kept all =
+      ruled_tables (schema_at 1).tables
+      (tables_between (length (pieces_to 1)) (length (pieces_to latest))) refl kept.0 kept.1 all
+  ruled_since (suc (suc zero)) known less kept all =
+      ruled_tables (schema_at 2).tables
+      (tables_between (length (pieces_to 2)) (length (pieces_to latest))) refl kept.0 kept.1 all
   ruled_since (suc (suc (suc n))) known less kept all =
       let low : suc (suc (suc n)) < 3 = less in absurd (omega (arith, low))
 
