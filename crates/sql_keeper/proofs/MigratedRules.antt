@@ -81,7 +81,7 @@ module _ (shelf : Shelf) (old mid : Trees) where
   ruled_tables first later is kept none all at low =
       elim (in_parts old mid first later kept none at low) [
         | inl stays ↦
-          still_ruled at (subst (λ ts. KeepsAt old mid ts at) is stays.1) (all at stays.0)
+            still_ruled at (subst (λ ts. KeepsAt old mid ts at) is stays.1) (all at stays.0)
         | inr empty ↦ none_ruled at (subst (λ ts. IsEmptyAt mid ts at) is empty)
       ]
 

@@ -1,6 +1,6 @@
 -- What a connection is after it was tested whether it can still be asked.
-use Rattle.std.proofs.Common.{◌≡◌, ◌∙◌, inl, inr, ℕ, List, Ok, Err, Result, IsTrue, OnOk, false, []}
-use Rattle.std.proofs.Common.{sym, ap, subst, arith, true≢false, IfOk}
+use Rattle.std.proofs.Common.{◌≡◌, inl, inr, ℕ, List, Ok, Err, Result, IsTrue, OnOk, false, []}
+use Rattle.std.proofs.Common.{sym, subst, arith, true≢false, IfOk}
 use Rattle.std.specs.Result.{IsErr}
 use Rattle.sqlite_value.specs.Order.{Row}
 use Rattle.sqlite_trees.specs.Tree.{Trees}
@@ -8,9 +8,8 @@ use Rattle.sqlite.specs.declared.error.Error.{Error}
 use Rattle.sqlite.specs.Effect.{Database}
 use Rattle.sqlite.specs.State.{State, HasCleanDisk, IsNotRun, IsUnchanged, Survives}
 use Rattle.sqlite.proofs.StateLemmas.{survives_then, survives_weaker}
-use Rattle.sql_tables.specs.Statements.{AreStored, HasIdleBook, IsIdle, IsStill, OnlyReads}
-use Rattle.sql_tables.specs.Statements.{Reads, Spares}
-use Rattle.sql_tables.proofs.Keeps.{only_reads_then}
+use Rattle.sql_tables.specs.Statements.{HasIdleBook, IsStill, OnlyReads, Reads, Spares}
+use Rattle.sql_tables.proofs.Keeps.{idle_still, only_reads_then, spares_still}
 use Rattle.sql_keeper.specs.Asks.{Asks, IsStillOpen}
 use Rattle.sql_keeper.specs.Commits.{CommitsStanding, CommitsWhole}
 use Rattle.sql_keeper.specs.LiveGroups.{Gathers}
@@ -23,15 +22,6 @@ unfolding IsNotRun
 not_run sql params old new e (inl h) = inl h.1
 not_run sql params old new e (inr h) = inr h.3
 
-idle_still : (old new : State) → IsIdle old → IsStill old new → IsIdle new
-idle_still old new idle still = record {
-  book = record {
-    schema = ap (λ d. d.schema) still.now_is ∙ idle.book.schema;
-    stored = subst (λ d. AreStored d.trees) (sym still.now_is) idle.book.stored;
-  };
-  settled = still.now_is ∙ idle.settled ∙ sym still.committed_is;
-}
-
 module _ (sql : List ℕ) (old new : State) (idle : HasIdleBook old)
     (survives : Survives old new (λ _. ⊥))
     (mode : old.in_transaction ≡ false → new.in_transaction ≡ false) where
@@ -39,13 +29,8 @@ module _ (sql : List ℕ) (old new : State) (idle : HasIdleBook old)
   was_clean clean = omega (arith, survives.clean, clean)
 
   stays : Spares old new → HasCleanDisk new → IsTrue new.is_open → IsStill old new
-  stays (inl u) clean on =
-      record { was_open = u.0.was_open; now_is = u.0.now_is; committed_is = u.0.committed_is }
-  stays (inr b) clean on = record {
-    was_open = b.was_open on;
-    now_is = (b.undone on).0 ∙ sym (idle (was_clean clean) (b.was_open on)).settled;
-    committed_is = (b.undone on).1;
-  }
+  stays left clean on =
+      spares_still old new (λ was. (idle (was_clean clean) was).settled) left on
 
   only_tested : (HasCleanDisk new → IsTrue new.is_open → IsStill old new) → OnlyReads old new
   only_tested still = record {

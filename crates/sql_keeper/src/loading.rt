@@ -5,12 +5,13 @@ ghost use Rattle.keepers.specs.Change.{IsLoad, IsView};
 ghost use Rattle.reserving.specs.Stored.{priced};
 ghost use Rattle.sql_keeper.specs.Asks.{Asks};
 ghost use Rattle.sql_keeper.specs.Content.{shelf_names};
-ghost use Rattle.sql_keeper.specs.KeptRows.{AreKept};
+ghost use Rattle.sql_keeper.specs.KeptRows.{AreKept, Keeps};
 ghost use Rattle.sql_keeper.specs.LiveGroups.{Gathers};
 ghost use Rattle.sql_keeper.specs.LiveRows.{IsAccountOf, IsLoadOf, IsLoadStored};
 ghost use Rattle.sql_rows.specs.Content.{rows_in};
 ghost use Rattle.sql_tables.specs.Statements.{HasIdleBook};
 ghost use Rattle.sqlite.specs.Held.{state};
+ghost use Rattle.sqlite_trees.specs.Tree.{Trees};
 ghost use Rattle.sql_keeper.specs.Calls.{AsksTables};
 
 use crate::faults::counted;
@@ -104,7 +105,7 @@ fn load_of<'b, S: Alter>(
     loaded_of(rows, shelf, account, moment)
 }
 
-fn ask_to_load<'b, S: Alter>(
+fn ask_with_kept<'b, S: Alter>(
     conn: &mut Connection<S>,
     alloc: Global,
     names: &TariffShelf,
@@ -121,6 +122,35 @@ fn ask_to_load<'b, S: Alter>(
 {
     still_open(conn)?;
     load_of(conn, alloc, names, kept, shelf, account, moment)
+}
+
+/// The account, with a copy of the rows that are kept. Where they make none with what is read
+/// beside them, they are forgotten, and all of it is read from the tables.
+fn ask_to_load<'b, S: Alter>(
+    conn: &mut Connection<S>,
+    alloc: Global,
+    names: &TariffShelf,
+    kept: &mut Option<KeptRows>,
+    shelf: &'b TariffShelf,
+    account: &AccountNumber,
+    moment: Moment,
+) -> Result<Option<Loaded<'b>>, ReadFault>
+    requires idle { HasIdleBook (state S.Store conn.old) }
+    requires kept { AreKept (shelf_names names.now) kept.old (state S.Store conn.old) }
+    ensures asks { Asks (λ trees found. IsLoadStored (shelf_names names.now) shelf.now moment
+        account.now (rows_in trees account.now) found)
+        (state S.Store conn.old) (state S.Store conn.new) result }
+    ensures kept { (trees : Trees) → Keeps (shelf_names names.now) kept.old trees →
+        Keeps (shelf_names names.now) kept.new trees }
+{
+    match ask_with_kept(conn, alloc, names, kept, shelf, account, moment) {
+        Ok(loaded) => Ok(loaded),
+        Err(ReadFault::Rules) => {
+            *kept = None;
+            ask_with_kept(conn, alloc, names, kept, shelf, account, moment)
+        }
+        Err(fault) => Err(fault),
+    }
 }
 
 impl<S: Alter> SqlKeeper<S> {
@@ -144,7 +174,7 @@ impl<S: Alter> SqlKeeper<S> {
             &mut self.connection,
             self.alloc,
             &self.shelf,
-            &self.kept,
+            &mut self.kept,
             shelf,
             account,
             moment,

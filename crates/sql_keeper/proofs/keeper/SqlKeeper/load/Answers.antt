@@ -16,13 +16,13 @@ ask_to_load-read-requires-clause-kept g c = c.self.invariant.kept
 
 pub invariant_of-self : goal.invariant_of-self
 invariant_of-self g c = record {
-  keeper = keeper_after g.S.Store _ _ c.self.invariant.keeper c.ask_to_load-read.ensures.only
-      c.ask_to_load-read.ensures.survives refl refl refl c.counted.ensures.bounded;
+  keeper = keeper_after g.S.Store _ _ c.self.invariant.keeper c.ask_to_load-read.ensures.asks.only
+      c.ask_to_load-read.ensures.asks.survives refl refl refl c.counted.ensures.bounded;
   seen = seen_asked (λ trees found. IsLoadStored (shelf_names c.self.inside.shelf)
       c.args.shelf.now c.args.moment c.args.account.now (rows_in trees c.args.account.now) found)
       c.self.inside.seen c.seen_later.result
       (state g.S.Store c.self.inside.connection) (state g.S.Store c.ask_to_load-read.new.conn)
-      c.ask_to_load-read.result c.self.invariant.seen c.ask_to_load-read.ensures
+      c.ask_to_load-read.result c.self.invariant.seen c.ask_to_load-read.ensures.asks
       (λ trees before told. c.seen_later.ensures trees
       (subst (λ o. Sees o trees) (sym c.take-older.ensures.value) before)
       (c.seen_in-newer.ensures (shelf_names c.self.inside.shelf)
@@ -32,19 +32,19 @@ invariant_of-self g c = record {
       c.args.moment c.args.account.now (rows_in trees c.args.account.now) found)
       c.self.inside.kept c.kept_after.result
       (state g.S.Store c.self.inside.connection) (state g.S.Store c.ask_to_load-read.new.conn)
-      c.ask_to_load-read.result c.self.invariant.kept c.ask_to_load-read.ensures
+      c.ask_to_load-read.result c.self.invariant.kept c.ask_to_load-read.ensures.asks
       (λ trees before told. c.kept_after.ensures (shelf_names c.self.inside.shelf)
       c.args.shelf.now c.args.moment c.args.account.now trees
       (subst (λ o. Keeps (shelf_names c.self.inside.shelf) o trees)
-      (sym c.take-kept.ensures.value) before) told);
+      (sym c.take-kept.ensures.value) (c.ask_to_load-read.ensures.kept trees before)) told);
 }
 
 pub returns : goal.returns
 returns g c = rw (← c.self.view_is) (record {
   reads = asked g.S.Store _ _ c.self.invariant.keeper
-      refl _ _ c.ask_to_load-read.result c.counted.result c.ask_to_load-read.ensures
+      refl _ _ c.ask_to_load-read.result c.counted.result c.ask_to_load-read.ensures.asks
       c.counted.ensures.handed c.counted.ensures.cause
       (λ clean on x t. t.load);
   whole = asked_whole g.S.Store _ _
-      c.self.invariant.keeper refl _ c.ask_to_load-read.result c.ask_to_load-read.ensures;
+      c.self.invariant.keeper refl _ c.ask_to_load-read.result c.ask_to_load-read.ensures.asks;
 })

@@ -2,7 +2,7 @@ use Rattle.sqlite.specs.Held.{state}
 use Rattle.sql_keeper.specs.Content.{shelf_names}
 use Rattle.sql_keeper.proofs.KeptRows.{still_kept}
 use Rattle.sql_keeper.proofs.StillOpen.{asked_several, asked_shut}
-use Rattle.sql_keeper.proofs.loading.ask_to_load.Goals as goal
+use Rattle.sql_keeper.proofs.loading.ask_with_kept.Goals as goal
 
 pub load_of-requires-clause-kept : goal.load_of-requires-clause-kept
 load_of-requires-clause-kept g c =
