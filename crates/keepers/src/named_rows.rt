@@ -3,6 +3,7 @@
 ghost use Rattle.std.specs.Prelude.{◌≡◌, IfOk, not, option_copied};
 ghost use Rattle.std.specs.List.{list_any};
 ghost use Rattle.reserving.specs.Left.{differing};
+ghost use Rattle.reserving.specs.Others.{own_sessions};
 ghost use Rattle.keepers.specs.Differing.{equal_bucket, equal_counter, equal_session, equal_group};
 ghost use Rattle.keepers.specs.Differing.{named_rows, named_rows_of, is_changed, changed_session};
 ghost use Rattle.keepers.specs.Naming.{IsNamed};
@@ -83,8 +84,7 @@ impl NamedRows {
     ) -> Result<NamedRows, AllocError>
         ensures { IfOk result (λ named. named ≡ named_rows_of session.now before.now after.now) }
     {
-        // For the prover alone: looking at the values makes known here what their types keep.
-        let _before = before.as_of();
+        // For the prover alone: looking at the value makes known here what its type keeps.
         let _kept = after.as_of();
         Ok(NamedRows {
             as_of: after.as_of(),
@@ -93,7 +93,7 @@ impl NamedRows {
             next_charge: after.next_charge(),
             buckets: new_buckets(alloc, before, after.purse().buckets())?,
             counters: new_counters(alloc, before, after.counters())?,
-            sessions: changed_session(alloc, before.session(session), after.session(session))?,
+            sessions: changed_sessions(alloc, session, before, after)?,
             groups: changed_groups(alloc, before.groups_of(session), after.groups_of(session))?,
         })
     }
@@ -278,6 +278,23 @@ fn changed_session(
     }
     new.push(copy_of_session(row)?)?;
     Ok(new)
+}
+
+/// The rows of one session that differ from what they were: its only one, or none.
+fn changed_sessions(
+    alloc: Global,
+    session: &SessionId,
+    before: &StoredAccount,
+    after: &StoredAccount,
+) -> Result<Vec<Session>, AllocError>
+    ensures { IfOk result (λ new. new.items
+        ≡ differing equal_session (own_sessions session.now before.now.sessions)
+        (own_sessions session.now after.now.sessions)) }
+{
+    // For the prover alone: looking at the values makes known here what their types keep.
+    let _before = before.as_of();
+    let _kept = after.as_of();
+    changed_session(alloc, before.session(session), after.session(session))
 }
 
 /// Whether what a session has of a group differs from all of these.
