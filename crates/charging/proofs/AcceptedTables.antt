@@ -8,6 +8,7 @@ use Rattle.identifiers.specs.Texts.{same_name}
 use Rattle.commands.specs.declared.command.Command.{Command}
 use Rattle.commands.specs.declared.command.Command.TheVariants.{AddVoucher}
 use Rattle.commands.specs.declared.command.VoucherAddition.{VoucherAddition}
+use Rattle.commands.specs.declared.key.Key.{Key}
 use Rattle.voucher_rules.specs.declared.voucher.Voucher.{Voucher}
 use Rattle.voucher_rules.specs.Standing.{unspent}
 use Rattle.voucher_rules.specs.Adding.{addition, after_addition}
@@ -16,7 +17,6 @@ use Rattle.shelves.specs.Shelves.{Shelf}
 use Rattle.ledger.specs.Charges.{charge_rows}
 use Rattle.reserving.specs.Left.{first_of}
 use Rattle.reserving.proofs.LeftParted.{find_both}
-use Rattle.keepers.specs.declared.key.Key.{Key}
 use Rattle.charging.specs.Histories.{History, kept_under}
 use Rattle.charging.specs.Accepted.{Accepted, CommandOutcome, one, each, concerned_by, names}
 use Rattle.charging.specs.Accepted.{reaches}

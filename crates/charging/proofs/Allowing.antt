@@ -10,6 +10,8 @@ use Rattle.commands.specs.declared.answer.Refusal.TheVariants.{AccountUnknown, C
 use Rattle.commands.specs.declared.answer.Refusal.TheVariants.{OutOfRange, ScopeUnknown}
 use Rattle.commands.specs.declared.command.Command.TheVariants as command
 use Rattle.commands.specs.declared.command.Content.TheVariants as content
+use Rattle.commands.specs.declared.key.Key.{Key}
+use Rattle.commands.specs.Keys.{key_of}
 use Rattle.shelves.specs.Shelves.{Shelf, book_at}
 use Rattle.buckets.specs.declared.kind.BucketKind.TheVariants.{Blocks}
 use Rattle.ledger.specs.Ledger.{Ledger, next_bucket}
@@ -19,11 +21,9 @@ use Rattle.reserving.specs.Rows.{AccountRows}
 use Rattle.reserving.specs.Stored.{priced}
 use Rattle.reserving.specs.Left.{LeftRows, IsWith, left_of}
 use Rattle.decisions.specs.Known.{is_known}
-use Rattle.keepers.specs.declared.key.Key.{Key}
-use Rattle.keepers.specs.declared.key.KeptAnswer.{KeptAnswer}
+use Rattle.keepers.specs.declared.kept_answer.KeptAnswer.{KeptAnswer}
 use Rattle.keepers.specs.declared.loaded.Change.{Change}
 use Rattle.keepers.specs.declared.loaded.Loaded.{Loaded}
-use Rattle.keepers.specs.Keys.{key_of}
 use Rattle.keepers.specs.Tables.{Tables}
 use Rattle.keepers.specs.Change.{changed}
 use Rattle.charging.specs.Histories.{History}

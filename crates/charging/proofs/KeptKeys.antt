@@ -23,6 +23,7 @@ use Rattle.commands.specs.declared.request.Event.{Event}
 use Rattle.commands.specs.declared.request.EventAction.{EventAction}
 use Rattle.commands.specs.declared.request.EventAction.TheVariants as action
 use Rattle.commands.specs.declared.request.Request.{Request}
+use Rattle.commands.specs.Keys.{key_of}
 use Rattle.voucher_rules.specs.declared.voucher.Voucher.{Voucher}
 use Rattle.shelves.specs.Shelves.{Shelf, book_at}
 use Rattle.ledger.specs.Ledger.{Ledger}
@@ -32,8 +33,7 @@ use Rattle.decisions.specs.Events.{is_read_action, decided_action, read_refusal,
 use Rattle.decisions.specs.Events.{priced_by}
 use Rattle.decisions.specs.Decisions.{decision, decided, answer_of, is_read}
 use Rattle.ledger.specs.Pricing.{tariff_at}
-use Rattle.keepers.specs.declared.key.KeptAnswer.{KeptAnswer}
-use Rattle.keepers.specs.Keys.{key_of}
+use Rattle.keepers.specs.declared.kept_answer.KeptAnswer.{KeptAnswer}
 use Rattle.charging.specs.Histories.{History, kept_under}
 use Rattle.charging.specs.Accepted.{CommandOutcome}
 use Rattle.charging.specs.Outcomes.{only_told, keeping, same_content, repeated, unless_kept, failed}

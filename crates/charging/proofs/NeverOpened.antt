@@ -17,6 +17,8 @@ use Rattle.commands.specs.declared.command.Content.TheVariants as content
 use Rattle.commands.specs.declared.command.Credit.{Credit}
 use Rattle.commands.specs.declared.request.Request.{Request}
 use Rattle.commands.specs.declared.command.VoucherRedemption.{VoucherRedemption}
+use Rattle.commands.specs.declared.key.Key.{Key}
+use Rattle.commands.specs.Keys.{key_of}
 use Rattle.voucher_rules.specs.declared.adding.Addition.{Addition}
 use Rattle.voucher_rules.specs.declared.adding.Addition.TheVariants.{New, Present, Conflicting}
 use Rattle.voucher_rules.specs.declared.redeeming.Redemption.{Redemption}
@@ -31,9 +33,7 @@ use Rattle.ledger.specs.Requests.{credited}
 use Rattle.reserving.proofs.Lists.{no_some}
 use Rattle.decisions.specs.Decided.{Decision}
 use Rattle.decisions.specs.Decisions.{decision, answer_of, is_read}
-use Rattle.keepers.specs.declared.key.Key.{Key}
-use Rattle.keepers.specs.declared.key.KeptAnswer.{KeptAnswer}
-use Rattle.keepers.specs.Keys.{key_of}
+use Rattle.keepers.specs.declared.kept_answer.KeptAnswer.{KeptAnswer}
 use Rattle.charging.specs.Histories.{History, is_kept_under, kept_under}
 use Rattle.charging.specs.Accepted.{Accepted, CommandOutcome, concerned_by, names}
 use Rattle.charging.specs.Outcomes.{outcome, opened_outcome, unopened_outcome, only_told, keeping}

@@ -10,6 +10,7 @@ use Rattle.commands.specs.declared.command.Content.{Content}
 use Rattle.commands.specs.declared.command.Content.TheVariants as content
 use Rattle.commands.specs.declared.command.VoucherRedemption.{VoucherRedemption}
 use Rattle.commands.specs.declared.answer.Answer.{Answer}
+use Rattle.commands.specs.Keys.{key_of}
 use Rattle.voucher_rules.specs.declared.redeeming.RedeemRefusal.TheVariants.{VoucherSpent}
 use Rattle.voucher_rules.specs.declared.redeeming.Redemption.{Redemption}
 use Rattle.voucher_rules.specs.declared.redeeming.RedeemRefusal.{RedeemRefusal}
@@ -20,8 +21,7 @@ use Rattle.voucher_rules.specs.Redeeming.{after_redemption}
 use Rattle.voucher_rules.specs.Histories.{VoucherCommand, Vouchers, with_command, with_commands}
 use Rattle.voucher_rules.proofs.StandingLemmas.{spent_for_good}
 use Rattle.shelves.specs.Shelves.{Shelf}
-use Rattle.keepers.specs.declared.key.KeptAnswer.{KeptAnswer}
-use Rattle.keepers.specs.Keys.{key_of}
+use Rattle.keepers.specs.declared.kept_answer.KeptAnswer.{KeptAnswer}
 use Rattle.charging.specs.Histories.{History, kept_under}
 use Rattle.charging.specs.Accepted.{Accepted, CommandOutcome, names_code, voucher_after}
 use Rattle.charging.specs.Outcomes.{book_days, unless_kept}

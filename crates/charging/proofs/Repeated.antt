@@ -22,6 +22,7 @@ use Rattle.commands.specs.declared.command.Content.TheVariants as content
 use Rattle.commands.specs.declared.command.Credit.{Credit}
 use Rattle.commands.specs.declared.request.Request.{Request}
 use Rattle.commands.specs.declared.command.VoucherRedemption.{VoucherRedemption}
+use Rattle.commands.specs.Keys.{key_of, key_decides}
 use Rattle.voucher_rules.specs.declared.redeeming.Redemption.{Redemption}
 use Rattle.voucher_rules.specs.declared.redeeming.RedeemRefusal.{RedeemRefusal}
 use Rattle.voucher_rules.specs.declared.voucher.Voucher.{Voucher}
@@ -33,8 +34,7 @@ use Rattle.ledger.specs.Ledger.{Ledger, next_bucket}
 use Rattle.ledger.specs.Requests.{credited}
 use Rattle.decisions.specs.Decided.{Decision}
 use Rattle.decisions.specs.Decisions.{decision, answer_of, is_read}
-use Rattle.keepers.specs.declared.key.KeptAnswer.{KeptAnswer}
-use Rattle.keepers.specs.Keys.{key_of, key_decides}
+use Rattle.keepers.specs.declared.kept_answer.KeptAnswer.{KeptAnswer}
 use Rattle.charging.specs.Histories.{History, is_kept_under, kept_under}
 use Rattle.charging.specs.Accepted.{Accepted, CommandOutcome, one, concerned_by, names}
 use Rattle.charging.specs.declared.running.DatedCommand.{DatedCommand}

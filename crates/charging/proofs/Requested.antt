@@ -22,6 +22,8 @@ use Rattle.commands.specs.declared.request.EventAction.{EventAction}
 use Rattle.commands.specs.declared.request.EventAction.TheVariants.{DirectDebiting, CheckBalance}
 use Rattle.commands.specs.declared.request.EventAction.TheVariants.{PriceEnquiry}
 use Rattle.commands.specs.declared.request.Request.{Request}
+use Rattle.commands.specs.declared.key.Key.{Key}
+use Rattle.commands.specs.Keys.{key_of}
 use Rattle.shelves.specs.Shelves.{Shelf, IsShelf}
 use Rattle.ledger.specs.Ledger.{Ledger, Recording, last_recording}
 use Rattle.ledger.specs.Charges.{charge_rows}
@@ -34,11 +36,9 @@ use Rattle.decisions.specs.Recorded.{has_record}
 use Rattle.decisions.specs.Decided.{Decision, invalid, refused_or}
 use Rattle.decisions.specs.Decided as decision_of
 use Rattle.decisions.specs.Decisions.{decided, decision, answer_of, is_read}
-use Rattle.keepers.specs.declared.key.Key.{Key}
-use Rattle.keepers.specs.declared.key.KeptAnswer.{KeptAnswer}
+use Rattle.keepers.specs.declared.kept_answer.KeptAnswer.{KeptAnswer}
 use Rattle.keepers.specs.declared.loaded.Change.{Change}
 use Rattle.keepers.specs.declared.loaded.Loaded.{Loaded}
-use Rattle.keepers.specs.Keys.{key_of}
 use Rattle.keepers.specs.Tables.{Head, Rows, Tables}
 use Rattle.keepers.specs.Change.{IsLoadedFrom, IsView, changed}
 use Rattle.keepers.specs.Differing.{named_rows}

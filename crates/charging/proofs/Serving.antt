@@ -6,6 +6,7 @@ use Rattle.std.specs.Prelude.{if◌then◌else◌, is_some, max, Result, Ok, Err
 use Rattle.std.specs.Prelude.{MatchResult}
 use Rattle.commands.specs.declared.answer.Answer.{Answer}
 use Rattle.commands.specs.declared.command.Command.{Command}
+use Rattle.commands.specs.declared.key.Key.{Key}
 use Rattle.shelves.specs.Shelves.{Shelf}
 use Rattle.ledger.specs.Charges.{charge_rows}
 use Rattle.reserving.specs.Rows.{AccountRows, IsAccount}
@@ -14,8 +15,7 @@ use Rattle.reserving.specs.Left.{left_of, IsWith}
 use Rattle.reserving.proofs.Lists.{some_of}
 use Rattle.ledger.proofs.Names.{is_same-refl}
 use Rattle.keepers.specs.declared.fault.StoreFault.{StoreFault}
-use Rattle.keepers.specs.declared.key.Key.{Key}
-use Rattle.keepers.specs.declared.key.KeptAnswer.{KeptAnswer}
+use Rattle.keepers.specs.declared.kept_answer.KeptAnswer.{KeptAnswer}
 use Rattle.keepers.specs.declared.loaded.Change.{Change}
 use Rattle.keepers.specs.declared.loaded.Loaded.{Loaded}
 use Rattle.keepers.specs.Tables.{Head, Tables, no_rows, head_of}

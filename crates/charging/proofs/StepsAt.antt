@@ -26,6 +26,7 @@ use Rattle.commands.specs.declared.request.Request.{Request}
 use Rattle.commands.specs.declared.service.Service.{Service}
 use Rattle.commands.specs.declared.service.Requested.{Requested}
 use Rattle.commands.specs.Refunds.{Refunded}
+use Rattle.commands.specs.Keys.{key_of}
 use Rattle.voucher_rules.specs.declared.adding.Addition.{Addition}
 use Rattle.voucher_rules.specs.declared.adding.Addition.TheVariants.{New, Present, Conflicting}
 use Rattle.voucher_rules.specs.declared.redeeming.Redemption.{Redemption}
@@ -61,8 +62,7 @@ use Rattle.decisions.specs.Events.{decided_action, refund_refusal, refunded, ref
 use Rattle.decisions.specs.Decisions.{initial_refusal, opened, opened_unless_barred}
 use Rattle.decisions.specs.Decisions.{session_refusal, settled_touched, updated, ended, decided}
 use Rattle.decisions.specs.Decisions.{decision, is_read}
-use Rattle.keepers.specs.declared.key.KeptAnswer.{KeptAnswer}
-use Rattle.keepers.specs.Keys.{key_of}
+use Rattle.keepers.specs.declared.kept_answer.KeptAnswer.{KeptAnswer}
 use Rattle.charging.specs.Histories.{History, kept_under}
 use Rattle.charging.specs.Accepted.{CommandOutcome}
 use Rattle.charging.specs.Outcomes.{unless_kept, decided_by, request_outcome}

@@ -12,6 +12,8 @@ use Rattle.commands.specs.declared.command.Command.TheVariants as command
 use Rattle.commands.specs.declared.command.Content.TheVariants as content
 use Rattle.commands.specs.declared.command.VoucherAddition.{VoucherAddition}
 use Rattle.commands.specs.declared.command.VoucherRedemption.{VoucherRedemption}
+use Rattle.commands.specs.declared.key.Key.{Key}
+use Rattle.commands.specs.Keys.{key_of}
 use Rattle.voucher_rules.specs.declared.terms.VoucherTerms.{VoucherTerms}
 use Rattle.voucher_rules.specs.declared.voucher.Voucher.{Voucher}
 use Rattle.voucher_rules.specs.declared.adding.Addition.{Addition}
@@ -28,11 +30,9 @@ use Rattle.ledger.specs.Requests.{credited}
 use Rattle.reserving.specs.Rows.{AccountRows}
 use Rattle.reserving.specs.Stored.{priced}
 use Rattle.reserving.specs.Left.{LeftRows, IsWith, left_of}
-use Rattle.keepers.specs.declared.key.Key.{Key}
-use Rattle.keepers.specs.declared.key.KeptAnswer.{KeptAnswer}
+use Rattle.keepers.specs.declared.kept_answer.KeptAnswer.{KeptAnswer}
 use Rattle.keepers.specs.declared.loaded.Change.{Change}
 use Rattle.keepers.specs.declared.loaded.Loaded.{Loaded}
-use Rattle.keepers.specs.Keys.{key_of}
 use Rattle.keepers.specs.Tables.{Tables}
 use Rattle.keepers.specs.Change.{IsLoad, redeemed_over, changed, with_voucher}
 use Rattle.charging.specs.Histories.{History, no_history}

@@ -9,12 +9,12 @@ use Rattle.ledger.specs.Words.{ChargeNumber}
 use Rattle.identifiers.specs.Texts.{same_name}
 use Rattle.commands.specs.declared.command.Command.{Command}
 use Rattle.commands.specs.declared.answer.Answer.{Answer}
+use Rattle.commands.specs.declared.key.Key.{Key}
 use Rattle.voucher_rules.specs.declared.voucher.Voucher.{Voucher}
 use Rattle.voucher_rules.specs.Adding.{addition, after_addition}
 use Rattle.voucher_rules.specs.Redeeming.{DayEnds, redemption, after_redemption}
 use Rattle.shelves.specs.Shelves.{Shelf}
 use Rattle.ledger.specs.Charges.{charge_rows}
-use Rattle.keepers.specs.declared.key.Key.{Key}
 use Rattle.keepers.specs.Tables.{Head, Rows, Tables, no_rows, charge_in}
 use Rattle.keepers.specs.Change.{AreRowsAt}
 pub use Rattle.charging.specs.About.{Concerned, one, each, none}

@@ -3,9 +3,9 @@
 use Rattle.std.specs.Prelude.{Bool, false, List, [], Option}
 use Rattle.std.specs.List.{find}
 use Rattle.ledger.specs.Ledger.{Ledger}
-use Rattle.keepers.specs.declared.key.Key.{Key}
-use Rattle.keepers.specs.declared.key.KeptAnswer.{KeptAnswer}
-use Rattle.keepers.specs.Keys.{same_key, key_of}
+use Rattle.commands.specs.declared.key.Key.{Key}
+use Rattle.commands.specs.Keys.{same_key, key_of}
+use Rattle.keepers.specs.declared.kept_answer.KeptAnswer.{KeptAnswer}
 
 -- whether the account was opened; its ledger; and the accepted commands that have a key with their
 -- answers, the newest first

@@ -10,9 +10,9 @@ use Rattle.ledger.specs.Words.{ChargeNumber}
 use Rattle.identifiers.specs.Texts.{same_name}
 use Rattle.commands.specs.declared.answer.Answer.{Answer}
 use Rattle.commands.specs.declared.command.Command.{Command}
+use Rattle.commands.specs.declared.key.Key.{Key}
 use Rattle.shelves.specs.Shelves.{Shelf}
 use Rattle.reserving.specs.Stored.{StoredRows, IsStored, advanced_stored}
-use Rattle.keepers.specs.declared.key.Key.{Key}
 use Rattle.keepers.specs.Tables.{Rows, Tables, AreListed}
 use Rattle.charging.specs.Accepted.{Accepted, concerned_by, names, last_moment}
 use Rattle.charging.specs.declared.running.DatedCommand.{DatedCommand}

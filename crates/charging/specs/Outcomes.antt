@@ -24,6 +24,7 @@ use Rattle.commands.specs.declared.command.Content.TheVariants as content
 use Rattle.commands.specs.declared.command.Credit.{Credit}
 use Rattle.commands.specs.declared.command.VoucherRedemption.{VoucherRedemption}
 use Rattle.commands.specs.declared.request.Request.{Request}
+use Rattle.commands.specs.Keys.{key_of}
 use Rattle.calendar.specs.Timetable.{day_end}
 use Rattle.voucher_rules.specs.declared.adding.Addition.{Addition}
 use Rattle.voucher_rules.specs.declared.adding.Addition.TheVariants.{New, Present, Conflicting}
@@ -40,8 +41,7 @@ use Rattle.ledger.specs.Requests.{credited, with_bar}
 use Rattle.decisions.specs.Decided.{Decision}
 use Rattle.decisions.specs.Decisions.{decision, answer_of, is_read}
 use Rattle.decisions.specs.Known.{is_known}
-use Rattle.keepers.specs.declared.key.KeptAnswer.{KeptAnswer}
-use Rattle.keepers.specs.Keys.{key_of}
+use Rattle.keepers.specs.declared.kept_answer.KeptAnswer.{KeptAnswer}
 use Rattle.charging.specs.Balances.{account_balance}
 use Rattle.charging.specs.Histories.{History, kept_under}
 use Rattle.charging.specs.Accepted.{CommandOutcome}

@@ -4,12 +4,12 @@ ghost use Rattle.std.specs.Prelude.{◌≡◌, ◌≤◌, IfOk, IfSome, None, So
 ghost use Rattle.commands.specs.declared.answer.Answer.TheVariants as answer;
 ghost use Rattle.commands.specs.declared.command.Command.TheVariants as command;
 ghost use Rattle.commands.specs.declared.command.Content.TheVariants as content;
+ghost use Rattle.commands.specs.Keys.{key_of};
 ghost use Rattle.shelves.specs.Shelves.{Shelf, book_at};
 ghost use Rattle.buckets.specs.declared.kind.BucketKind.{BucketKind};
 ghost use Rattle.ledger.specs.Ledger.{Ledger};
 ghost use Rattle.reserving.specs.Left.{LeftRows, IsWith};
 ghost use Rattle.decisions.specs.Known.{is_known};
-ghost use Rattle.keepers.specs.Keys.{key_of};
 ghost use Rattle.keepers.specs.Change.{IsLoad};
 ghost use Rattle.keepers.specs.Keeping.{KeeperReads};
 ghost use Rattle.charging.specs.Outcomes.{is_over, repeated};

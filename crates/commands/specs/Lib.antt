@@ -10,3 +10,4 @@ pub mod Codes
 pub mod Alike
 pub mod Inverse
 pub mod Kept
+pub mod Keys

@@ -1,11 +1,14 @@
 //! Commands, and what is kept of them.
 
-ghost use Rattle.std.specs.Prelude.{◌≡◌, ◌↔◌, ◌≤◌, IsSome, IfSome, IsTrue, unwrap_or};
+ghost use Rattle.std.specs.Prelude.{◌≡◌, ◌↔◌, ◌≤◌, IsSome, IfSome, IfOk, IsTrue, unwrap_or};
 ghost use Rattle.commands.specs.Kept.{is_kept};
+ghost use Rattle.commands.specs.Keys.{account_of, key_of, lent_key};
 
 use crate::allowance::Allowance;
+use crate::key::KeyRef;
 use crate::request::Request;
 use identifiers::{AccountNumber, Reference, VoucherCode};
+use std::alloc::AllocError;
 use std::marker::Model;
 use units::{Moment, Money};
 use voucher_rules::VoucherTerms;
@@ -278,7 +281,7 @@ pub enum Command {
 }
 
 /// What is kept of an accepted command beside its answer, so that a repeat of it is known.
-#[derive(Debug, PartialEq, Eq)]
+#[derive(Clone, Debug, PartialEq, Eq)]
 pub enum Content {
     /// Of a request, under its session and number.
     Request(Request),
@@ -299,6 +302,42 @@ impl Drop for Content {
             Content::Allow(_) => {}
             Content::Redeem(_) => {}
         }
+    }
+}
+
+impl Content {
+    /// The account of the command.
+    pub fn account(&self) -> &AccountNumber
+        ensures { result.now ≡ account_of self.now }
+    {
+        match self {
+            Content::Request(request) => &request.account,
+            Content::Credit(kept) => &kept.credit().account,
+            Content::Allow(allowance) => &allowance.account,
+            Content::Redeem(redemption) => &redemption.account,
+        }
+    }
+
+    /// The key under which the command's answer is kept.
+    pub fn key(&self) -> KeyRef<'_>
+        ensures { lent_key result ≡ key_of self.now }
+    {
+        match self {
+            Content::Request(request) => KeyRef::Request {
+                session: &request.session,
+                number: request.number,
+            },
+            Content::Credit(kept) => KeyRef::Reference(&kept.credit().reference),
+            Content::Allow(allowance) => KeyRef::Reference(&allowance.reference),
+            Content::Redeem(redemption) => KeyRef::Reference(&redemption.reference),
+        }
+    }
+
+    /// The same content once more.
+    pub fn copy(&self) -> Result<Content, AllocError>
+        ensures { IfOk result (λ copy. copy ≡ self.now) }
+    {
+        self.clone()
     }
 }
 

@@ -9,6 +9,7 @@ mod answer;
 mod avp;
 mod balance;
 mod command;
+mod key;
 pub mod names;
 mod quantity;
 mod request;
@@ -27,6 +28,7 @@ pub use crate::command::{
     VoucherRedemption, is_kept_allowance, is_kept_credit, is_kept_redemption, same_allowance,
     same_content, same_credit, same_redemption,
 };
+pub use crate::key::{Key, KeyRef};
 pub use crate::quantity::Quantity;
 pub use crate::request::{Ask, Event, EventAction, Refund, Request, RequestKind, same_request};
 pub use crate::service::{

@@ -11,8 +11,8 @@ use Rattle.std.specs.HashMap.{get}
 use Rattle.identifiers.specs.Texts.{same_name}
 use Rattle.shelves.specs.Shelves.{Shelf}
 use Rattle.ledger.specs.Ledger.{Ledger}
-use Rattle.keepers.specs.declared.key.Key.{Key}
-use Rattle.keepers.specs.Keys.{same_key}
+use Rattle.commands.specs.declared.key.Key.{Key}
+use Rattle.commands.specs.Keys.{same_key}
 use Rattle.keepers.specs.declared.entries.AccountEntry.{AccountEntry}
 use Rattle.keepers.specs.Change.{AreRowsAt, AreBroughtTo, IsSwept}
 use Rattle.keepers.specs.Memory.{is_entry, entry_in, rows_of_entry, answer_of_entry}

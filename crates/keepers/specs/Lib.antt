@@ -1,5 +1,4 @@
 pub mod Faults
-pub mod Keys
 pub mod Keyed
 pub mod Naming
 pub mod Tables

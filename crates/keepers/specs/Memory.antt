@@ -13,9 +13,9 @@ use Rattle.shelves.specs.Shelves.{Shelf}
 use Rattle.ledger.specs.declared.charge.ChargeRow.{ChargeRow}
 use Rattle.reserving.specs.declared.session.Session.{Session}
 use Rattle.voucher_rules.specs.declared.voucher.Voucher.{Voucher}
-use Rattle.keepers.specs.declared.key.Key.{Key}
-use Rattle.keepers.specs.declared.key.KeptAnswer.{KeptAnswer}
-use Rattle.keepers.specs.Keys.{same_key}
+use Rattle.commands.specs.declared.key.Key.{Key}
+use Rattle.commands.specs.Keys.{same_key}
+use Rattle.keepers.specs.declared.kept_answer.KeptAnswer.{KeptAnswer}
 use Rattle.keepers.specs.declared.entries.AccountEntry.{AccountEntry}
 use Rattle.keepers.specs.Tables.{Rows, Tables, no_rows, charge_in}
 use Rattle.keepers.specs.Parts.{rows_of_parts}

@@ -18,8 +18,8 @@ use Rattle.reserving.specs.Sessions.{session_in, group_in, counter_in, holds_in}
 use Rattle.reserving.specs.Left.{bucket_in}
 use Rattle.reserving.specs.Stored.{StoredRows}
 use Rattle.voucher_rules.specs.declared.voucher.Voucher.{Voucher}
-use Rattle.keepers.specs.declared.key.Key.{Key}
-use Rattle.keepers.specs.declared.key.KeptAnswer.{KeptAnswer}
+use Rattle.commands.specs.declared.key.Key.{Key}
+use Rattle.keepers.specs.declared.kept_answer.KeptAnswer.{KeptAnswer}
 
 -- what is kept of an account once
 pub record Head : Type 0 where

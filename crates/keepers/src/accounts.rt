@@ -5,7 +5,7 @@ ghost use Rattle.std.specs.Option.{option_copied};
 ghost use Rattle.keepers.specs.Memory.{entry_in, AreSwept, ArePlaced, ArePut, AreUnchanged};
 
 use crate::entries::{AccountEntry, advance_entries, place_of, put_entry};
-use crate::key::KeptAnswer;
+use crate::kept_answer::KeptAnswer;
 use crate::named_rows::NamedRows;
 use identifiers::AccountNumber;
 use ledger::ChargeRow;

@@ -4,8 +4,8 @@ ghost use Rattle.std.specs.Prelude.{◌≡◌, ◌<◌, ◌+◌, ◌++◌, ℕ, 
 ghost use Rattle.std.specs.Prelude.{OnOk, OnErr, option_map, if◌then◌else◌};
 ghost use Rattle.std.specs.HashMap.{get, spare};
 ghost use Rattle.identifiers.specs.Texts.{same_name};
-ghost use Rattle.keepers.specs.declared.key.Key.{Key};
-ghost use Rattle.keepers.specs.Keys.{same_key, key_of};
+ghost use Rattle.commands.specs.declared.key.Key.{Key};
+ghost use Rattle.commands.specs.Keys.{same_key, key_of};
 ghost use Rattle.keepers.specs.Change.{kept_after, AreDeadOf};
 ghost use Rattle.keepers.specs.Tables.{no_rows};
 ghost use Rattle.keepers.specs.Whole.{AreWhole};
@@ -16,12 +16,13 @@ ghost use Rattle.keepers.specs.Memory.{session_of_entry, IsSweptEntry, AreSwept,
 ghost use Rattle.keepers.specs.Memory.{AreUnchanged};
 
 use crate::accounts::Accounts;
-use crate::key::{KeptAnswer, Key};
+use crate::kept_answer::KeptAnswer;
 use crate::loaded::Loaded;
 use crate::named_rows::NamedRows;
 use crate::store::Store;
 use crate::whole::WholeAccount;
 use buckets::Bucket;
+use commands::Key;
 use identifiers::{AccountNumber, SessionId};
 use ledger::ChargeRow;
 use reserving::{Account, LoadFault};

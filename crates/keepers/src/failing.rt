@@ -4,9 +4,10 @@ ghost use Rattle.std.specs.Prelude.{◌≡◌, ◌==◌, ◌-◌, ◌&&◌, not,
 
 use crate::fault::StoreFault;
 use crate::keeper::Keeper;
-use crate::key::{KeptAnswer, Key};
+use crate::kept_answer::KeptAnswer;
 use crate::loaded::{Change, Loaded};
 use buckets::Bucket;
+use commands::Key;
 use identifiers::{AccountNumber, SessionId, VoucherCode};
 use reserving::Account;
 use shelves::TariffShelf;

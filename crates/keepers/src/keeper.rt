@@ -9,9 +9,10 @@ ghost use Rattle.keepers.specs.Change.{IsLoad, IsView, AreDeadOf, changed};
 ghost use Rattle.keepers.specs.Change.{with_voucher, IsSwept};
 
 use crate::fault::StoreFault;
-use crate::key::{KeptAnswer, Key};
+use crate::kept_answer::KeptAnswer;
 use crate::loaded::{Change, Loaded};
 use buckets::Bucket;
+use commands::Key;
 use identifiers::{AccountNumber, SessionId, VoucherCode};
 use reserving::Account;
 use shelves::TariffShelf;

@@ -4,7 +4,7 @@ ghost use Rattle.std.specs.Prelude.{◌≡◌, IfOk, option_copied};
 ghost use Rattle.reserving.specs.Stored.{stored};
 ghost use Rattle.keepers.specs.Differing.{named_for};
 
-use crate::key::KeptAnswer;
+use crate::kept_answer::KeptAnswer;
 use crate::named_rows::NamedRows;
 use identifiers::{AccountNumber, SessionId, VoucherCode};
 use ledger::ChargeRow;

@@ -10,11 +10,12 @@ use crate::entries::{
 };
 use crate::fault::StoreFault;
 use crate::keeper::Keeper;
-use crate::key::{KeptAnswer, Key};
+use crate::kept_answer::KeptAnswer;
 use crate::loaded::{Change, Loaded};
 use crate::voucher_map::{make_voucher_room, put_redeemed, put_voucher, voucher_in};
 use crate::whole::WholeAccount;
 use buckets::Bucket;
+use commands::Key;
 use identifiers::{AccountNumber, SessionId, VoucherCode};
 use ledger::ChargeRow;
 use reserving::{Account, LoadFault};

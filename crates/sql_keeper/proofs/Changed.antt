@@ -22,14 +22,14 @@ use Rattle.reserving.specs.Rows.{AreApart}
 use Rattle.reserving.specs.Stored.{StoredRows, IsStored}
 use Rattle.reserving.specs.Left.{is_open_row, first_of}
 use Rattle.reserving.proofs.Lists.{find-passes, EachIn-found, EachIn-weaker}
+use Rattle.commands.specs.declared.key.Key.{Key}
+use Rattle.commands.specs.declared.key.Key.TheVariants.{Request, Reference}
+use Rattle.commands.specs.Keys.{same_key, key_of}
 use Rattle.keepers.specs.Keyed.{same_bucket, same_counter, same_session, same_group}
 use Rattle.keepers.proofs.Found.{distinct_apart}
-use Rattle.keepers.specs.declared.key.Key.{Key}
-use Rattle.keepers.specs.declared.key.Key.TheVariants.{Request, Reference}
-use Rattle.keepers.specs.declared.key.KeptAnswer.{KeptAnswer}
+use Rattle.keepers.specs.declared.kept_answer.KeptAnswer.{KeptAnswer}
 use Rattle.keepers.specs.declared.loaded.Change.{Change}
 use Rattle.keepers.specs.declared.loaded.Redeemed.{Redeemed}
-use Rattle.keepers.specs.Keys.{same_key, key_of}
 use Rattle.keepers.specs.Tables.{GroupRow, group_row, charge_in}
 use Rattle.keepers.specs.Tables as tables
 use Rattle.keepers.specs.Change.{over, held_over, kept_after, redeemed_over, changed}

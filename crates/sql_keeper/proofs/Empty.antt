@@ -6,8 +6,8 @@ use Rattle.std.specs.FinMap.{get, get-empty}
 use Rattle.sqlite_value.specs.Order.{Row, row_cmp}
 use Rattle.sqlite_schema.specs.declared.schema.Table.{Table}
 use Rattle.shelves.specs.Shelves.{Shelf}
-use Rattle.keepers.specs.declared.key.Key.{Key}
-use Rattle.keepers.specs.declared.key.Key.TheVariants.{Request, Reference}
+use Rattle.commands.specs.declared.key.Key.{Key}
+use Rattle.commands.specs.declared.key.Key.TheVariants.{Request, Reference}
 use Rattle.sqlite.specs.State.{State}
 use Rattle.sqlite.proofs.StateLemmas.{survives_then}
 use Rattle.sqlite_trees.specs.Objects.{catalog_tree}

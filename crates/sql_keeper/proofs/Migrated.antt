@@ -13,8 +13,8 @@ use Rattle.sqlite_catalog.specs.Change.{KeepsRows}
 use Rattle.sqlite_catalog.specs.Listing.{Lists}
 use Rattle.shelves.specs.Shelves.{Shelf}
 use Rattle.reserving.specs.Left.{is_open_row}
-use Rattle.keepers.specs.declared.key.Key.{Key}
-use Rattle.keepers.specs.declared.key.Key.TheVariants.{Reference, Request}
+use Rattle.commands.specs.declared.key.Key.{Key}
+use Rattle.commands.specs.declared.key.Key.TheVariants.{Reference, Request}
 use Rattle.sql_tables.specs.Keyed.{look, table_of}
 use Rattle.sql_tables.specs.Schema.{book_schema, latest, pieces_to, schema_at}
 use Rattle.sql_tables.specs.Schema as table

@@ -5,8 +5,9 @@ use Rattle.std.proofs.lemmas.Bool.{and_from}
 use Rattle.identifiers.specs.Texts.{is_account_number, same_name}
 use Rattle.commands.specs.declared.answer.Answer.{Answer}
 use Rattle.commands.specs.declared.command.Content.{Content}
+use Rattle.commands.specs.Keys.{account_of}
 use Rattle.ledger.proofs.Holds.{same_itself}
-use Rattle.wire.specs.Contents.{account_of, content_of, content_text, is_content_text, is_own_text}
+use Rattle.wire.specs.Contents.{content_of, content_text, is_content_text, is_own_text}
 use Rattle.wire.specs.ReadingAnswers.{answer_of, is_answer_text}
 use Rattle.wire.specs.ReadingAnswers.{is_own_answer}
 use Rattle.wire.specs.Spelled.{answer_text}

@@ -13,7 +13,7 @@ use Rattle.reserving.specs.Rows.{AreApart}
 use Rattle.reserving.specs.Stored.{StoredRows, advanced_stored}
 use Rattle.reserving.proofs.Lists.{no_some, some_of, EachIn-weaker}
 use Rattle.reserving.proofs.LeftTests.{none_more}
-use Rattle.keepers.specs.declared.key.Key.{Key}
+use Rattle.commands.specs.declared.key.Key.{Key}
 use Rattle.keepers.specs.Tables.{Head, head_of, AreListed}
 use Rattle.keepers.specs.Change.{AreRowsAt, AreBroughtTo, IsSwept, over}
 use Rattle.keepers.proofs.SweptRows.{brought_over, rows_brought}

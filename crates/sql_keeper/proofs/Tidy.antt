@@ -12,11 +12,11 @@ use Rattle.reserving.specs.Left.{bucket_in, first_of, is_open_row}
 use Rattle.reserving.specs.Sessions.{group_in, holds_in, session_in}
 use Rattle.reserving.specs.Stored.{StoredRows}
 use Rattle.ledger.proofs.Holds.{same_itself as name_itself}
-use Rattle.keepers.specs.declared.key.Key.{Key}
-use Rattle.keepers.specs.declared.key.Key.TheVariants.{Request, Reference}
-use Rattle.keepers.specs.declared.key.KeptAnswer.{KeptAnswer}
+use Rattle.commands.specs.declared.key.Key.{Key}
+use Rattle.commands.specs.declared.key.Key.TheVariants.{Request, Reference}
+use Rattle.commands.specs.Keys.{key_of}
+use Rattle.keepers.specs.declared.kept_answer.KeptAnswer.{KeptAnswer}
 use Rattle.keepers.specs.declared.loaded.Redeemed.{Redeemed}
-use Rattle.keepers.specs.Keys.{key_of}
 use Rattle.keepers.specs.Tables.{charge_in}
 use Rattle.sql_rows.specs.Values.{Kept, Meta, reference_kind, request_kind}
 use Rattle.sql_rows.specs.Content.{TablesContent, TableRows, with_answer, with_meta, with_rows}

@@ -9,10 +9,10 @@ use Rattle.buckets.specs.declared.holds.HeldAmount.{HeldAmount}
 use Rattle.reserving.specs.Stored.{StoredRows}
 use Rattle.reserving.specs.declared.session.Reservation.{Reservation}
 use Rattle.reserving.specs.declared.session.SessionGroup.{SessionGroup}
-use Rattle.keepers.specs.Keys.{key_of}
-use Rattle.keepers.specs.declared.key.KeptAnswer.{KeptAnswer}
-use Rattle.keepers.specs.declared.key.Key.{Key}
-use Rattle.keepers.specs.declared.key.Key.TheVariants.{Request, Reference}
+use Rattle.commands.specs.Keys.{key_of}
+use Rattle.commands.specs.declared.key.Key.{Key}
+use Rattle.commands.specs.declared.key.Key.TheVariants.{Request, Reference}
+use Rattle.keepers.specs.declared.kept_answer.KeptAnswer.{KeptAnswer}
 use Rattle.keepers.specs.declared.loaded.Change.{Change}
 use Rattle.keepers.specs.declared.loaded.Redeemed.{Redeemed}
 use Rattle.voucher_rules.specs.Standing.{unspent}

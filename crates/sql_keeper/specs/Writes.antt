@@ -19,14 +19,13 @@ use Rattle.reserving.specs.declared.session.Reservation.{Reservation}
 use Rattle.reserving.specs.Sessions.{holds_in}
 use Rattle.reserving.specs.Stored.{StoredRows}
 use Rattle.commands.specs.declared.command.Content.{Content}
-use Rattle.keepers.specs.declared.key.Key.{Key}
-use Rattle.keepers.specs.declared.key.KeptAnswer.{KeptAnswer}
+use Rattle.commands.specs.declared.key.Key.{Key}
+use Rattle.commands.specs.Keys.{account_of, key_of}
+use Rattle.commands.specs.declared.key.Key.TheVariants.{Request, Reference}
+use Rattle.keepers.specs.declared.kept_answer.KeptAnswer.{KeptAnswer}
 use Rattle.keepers.specs.declared.loaded.Change.{Change}
 use Rattle.keepers.specs.declared.loaded.Redeemed.{Redeemed}
-use Rattle.keepers.specs.Keys.{key_of}
-use Rattle.keepers.specs.declared.key.Key.TheVariants.{Request, Reference}
 use Rattle.voucher_rules.specs.declared.voucher.Voucher.{Voucher}
-use Rattle.wire.specs.Contents.{account_of}
 use Rattle.sql_tables.specs.Schema.{latest}
 use Rattle.sql_tables.specs.declared.reading.ReadFault.{ReadFault}
 use Rattle.sql_tables.specs.declared.reading.ReadFault.TheVariants.{Memory, Rules}

@@ -1,7 +1,7 @@
 //! The rows of a change, put one after another.
 
 ghost use Rattle.std.specs.Prelude.{◌≡◌, option_map};
-ghost use Rattle.keepers.specs.Keys.{key_of};
+ghost use Rattle.commands.specs.Keys.{key_of};
 ghost use Rattle.sql_tables.specs.Statements.{Attempts, HasBook, HasRules, IsInside};
 ghost use Rattle.sql_rows.specs.Makes.{Makes, MakesIfOpen};
 ghost use Rattle.sql_rows.specs.Texts.{kept_of};
@@ -17,7 +17,7 @@ use crate::held_groups::put_groups_of;
 use crate::paid_charges::put_paid;
 use crate::seen::SeenAccount;
 use crate::voucher_puts::put_redeemed;
-use commands::Content;
+use commands::{Content, KeyRef};
 use identifiers::AccountNumber;
 use keepers::{Change, KeptAnswer, NamedRows};
 use reserving::StoredAccount;
@@ -102,23 +102,11 @@ fn put_texts<S: Alter>(
         (Makes (with_texts account.now (key_of content.now) (kept_of texts.now)))
         (state S.Store tx.old.conn.now) (state S.Store tx.new.conn.now) result }
 {
-    match content {
-        Content::Request(request) => {
-            let name = request.session.as_str();
-            put_answer(tx, account, 1, name, request.number, texts)
+    match content.key() {
+        KeyRef::Request { session, number } => {
+            put_answer(tx, account, 1, session.as_str(), number, texts)
         }
-        Content::Credit(kept) => {
-            let name = kept.credit().reference.as_str();
-            put_answer(tx, account, 2, name, 0, texts)
-        }
-        Content::Allow(allowance) => {
-            let name = allowance.reference.as_str();
-            put_answer(tx, account, 2, name, 0, texts)
-        }
-        Content::Redeem(redemption) => {
-            let name = redemption.reference.as_str();
-            put_answer(tx, account, 2, name, 0, texts)
-        }
+        KeyRef::Reference(reference) => put_answer(tx, account, 2, reference.as_str(), 0, texts),
     }
 }
 

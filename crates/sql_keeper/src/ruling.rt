@@ -7,7 +7,7 @@ ghost use Rattle.sql_keeper.specs.Content.{shelf_names};
 ghost use Rattle.voucher_rules.specs.Standing.{unspent};
 ghost use Rattle.sql_keeper.specs.RuledRows.{are_ruled_rows, is_ruled_addition, is_ruled_change};
 ghost use Rattle.sql_keeper.specs.RuledRows.{is_ruled_group, is_ruled_swept};
-ghost use Rattle.keepers.specs.Keys.{key_of};
+ghost use Rattle.commands.specs.Keys.{key_of};
 ghost use Rattle.sql_keeper.specs.RuledRows.{is_ruled_hold, is_ruled_kept, is_ruled_key};
 ghost use Rattle.sql_keeper.specs.RuledRows.{is_ruled_redeemed, is_ruled_reservation};
 ghost use Rattle.sql_keeper.specs.Writes.{head_columns_of, voucher_row};
@@ -17,7 +17,7 @@ ghost use Rattle.sql_rules.specs.Ruled.{is_none_or_within, is_session, is_vouche
 
 use crate::swept_rows::SweptAccount;
 use buckets::{Bucket, HeldAmount};
-use commands::Content;
+use commands::{Content, KeyRef};
 use identifiers::{AccountNumber, Reference, SessionId, VoucherCode};
 use keepers::{Change, KeptAnswer, NamedRows, Redeemed};
 use ledger::ChargeRow;
@@ -227,11 +227,9 @@ fn is_redeemed(redeemed: &Option<Redeemed>) -> bool
 fn is_key(content: &Content) -> bool
     ensures { result ≡ is_ruled_key (key_of content.now) }
 {
-    match content {
-        Content::Request(request) => is_name(&request.session) && is_small(request.number),
-        Content::Credit(kept) => is_reference(&kept.credit().reference),
-        Content::Allow(allowance) => is_reference(&allowance.reference),
-        Content::Redeem(redemption) => is_reference(&redemption.reference),
+    match content.key() {
+        KeyRef::Request { session, number } => is_name(session) && is_small(number),
+        KeyRef::Reference(reference) => is_reference(reference),
     }
 }
 

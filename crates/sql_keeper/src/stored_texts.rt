@@ -3,30 +3,16 @@
 ghost use Rattle.std.specs.Prelude.{◌≡◌, IfErr, IfOk, Some, option_map, true};
 ghost use Rattle.sql_rows.specs.Texts.{kept_of};
 ghost use Rattle.sql_rules.specs.Rules.{are_kept_texts};
-ghost use Rattle.wire.specs.Contents.{account_of};
 ghost use Rattle.sql_keeper.specs.Content.{kept_in};
 ghost use Rattle.sql_keeper.specs.RuledRows.{are_ruled_texts};
 ghost use Rattle.sql_keeper.specs.Writes.{AreTexts, IsTextsFault, texts_fault};
 
-use commands::Content;
 use identifiers::AccountNumber;
 use keepers::KeptAnswer;
 use sql_rows::KeptTexts;
 use sql_tables::ReadFault;
 use std::alloc::Global;
 use wire::write_content;
-
-/// The account of a command that is kept.
-fn account_of(content: &Content) -> &AccountNumber
-    ensures { result.now ≡ account_of content.now }
-{
-    match content {
-        Content::Request(request) => &request.account,
-        Content::Credit(kept) => &kept.credit().account,
-        Content::Allow(allowance) => &allowance.account,
-        Content::Redeem(redemption) => &redemption.account,
-    }
-}
 
 /// The texts that stand for what is kept of a command of this account. What is of another account
 /// wouldn't be read again as what it is: it is out of the rules.
@@ -43,7 +29,7 @@ fn texts_of(
 {
     // For the prover alone: looking at the value makes known here what its type keeps.
     let _number = account.as_str();
-    if account_of(&kept.content) != account {
+    if kept.content.account() != account {
         return Err(ReadFault::Rules);
     }
     let content = write_content(alloc, &kept.content)?;

@@ -8,6 +8,7 @@ use Rattle.commands.specs.Names.{name_of}
 use Rattle.commands.specs.declared.allowance.Allowance.{Allowance}
 use Rattle.commands.specs.declared.command.Content.{Content}
 use Rattle.commands.specs.declared.command.Content.TheVariants as content
+use Rattle.commands.specs.Keys.{account_of}
 use Rattle.json_fields.specs.Fields.{number_at, optional_at}
 use Rattle.json_fields.specs.Spelling.{whole, perhaps}
 use Rattle.json_fields.proofs.Found.{get_skip, get_here, number_found, from_zero, optional_found}
@@ -19,7 +20,7 @@ use Rattle.json_fields.proofs.Kept.{same_value, bind_ok}
 use Rattle.json_fields.proofs.Order.{in_order}
 use Rattle.wire.specs.Credits.{reference_at}
 use Rattle.wire.specs.Allowances.{allowance_at, allowance_data, allowance_text, IsAllowance}
-use Rattle.wire.specs.Contents.{content_of, allowance_content_in, account_of, AllowancesAreInOrder}
+use Rattle.wire.specs.Contents.{content_of, allowance_content_in, AllowancesAreInOrder}
 use Rattle.wire.proofs.RedeemedAgain.{reference_utf8}
 
 abbrev allowance_members : ℕ → Option Data → List ℕ → ℕ → Option Data → Members

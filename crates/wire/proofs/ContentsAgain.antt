@@ -12,6 +12,7 @@ use Rattle.commands.specs.Kept.{is_kept}
 use Rattle.commands.specs.declared.command.Credit.{Credit}
 use Rattle.commands.specs.declared.command.Content.{Content}
 use Rattle.commands.specs.declared.command.Content.TheVariants as content
+use Rattle.commands.specs.Keys.{account_of}
 use Rattle.json_fields.specs.declared.fault.WireFault.{WireFault}
 use Rattle.json_fields.specs.declared.fault.WireFault.TheVariants.{Missing, Invalid, Memory}
 use Rattle.json_fields.specs.declared.fault.WireFault.TheVariants.{NotRequest}
@@ -34,8 +35,7 @@ use Rattle.wire.proofs.AllowancesAgain.{at_most, allowance_content_again, allowa
 use Rattle.wire.proofs.RedeemedAgain.{reference_utf8, redemption_content_again, redemption_account}
 use Rattle.wire.specs.Contents.{content_text, content_of, request_content_in, credit_content_in}
 use Rattle.wire.specs.Contents.{given_content_when, operator_content_when, content_when}
-use Rattle.wire.specs.Contents.{account_of, IsContent, is_content_text, is_own_text}
-use Rattle.wire.specs.Contents.{fault_of_content}
+use Rattle.wire.specs.Contents.{IsContent, is_content_text, is_own_text, fault_of_content}
 use Rattle.wire.specs.Contents.{ContentsReadAgain, ReadsWritten, CreditsAreInOrder}
 
 abbrev credit_members : ℕ → Option Data → List ℕ → Option Data → Option Data → Members

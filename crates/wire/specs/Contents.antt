@@ -6,6 +6,7 @@ use Rattle.identifiers.specs.Words.{AccountName}
 use Rattle.serde_json.specs.Data.{Data}
 use Rattle.serde_json.specs.Find.{get}
 use Rattle.commands.specs.Names.{name_of}
+use Rattle.commands.specs.Keys.{account_of}
 use Rattle.commands.specs.declared.avp.Avp.TheVariants as avp
 use Rattle.commands.specs.declared.command.Credit.{Credit}
 use Rattle.commands.specs.declared.allowance.Allowance.{Allowance}
@@ -78,12 +79,6 @@ unfoldable pub content_of : AccountName → List ℕ → Result Content WireFaul
 content_of account bytes = do
   d ← document_at bytes
   content_when account d (get (name_of avp.SessionId) d)
-
-abbrev pub account_of : Content → AccountName
-account_of (content.Request r) = r.account
-account_of (content.Credit c) = c.account
-account_of (content.Allow a) = a.account
-account_of (content.Redeem r) = r.account
 
 abbrev pub IsContent : Content → Type 0
 IsContent (content.Request r) = IsRequest r

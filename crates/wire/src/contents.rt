@@ -3,6 +3,7 @@
 ghost use Rattle.std.specs.Prelude.{◌≡◌, IfOk, Ok, string_bytes};
 ghost use Rattle.serde_json.specs.Find.{get};
 ghost use Rattle.commands.specs.Names.{name_of};
+ghost use Rattle.commands.specs.Keys.{account_of};
 ghost use Rattle.json_fields.specs.Gives.{Gives};
 ghost use Rattle.json_fields.specs.View.{view};
 ghost use Rattle.wire.specs.Credits.{credit_data};
@@ -11,7 +12,7 @@ ghost use Rattle.wire.specs.Redeemed.{redemption_data};
 ghost use Rattle.wire.specs.Contents.{content_text, content_of, request_content_in};
 ghost use Rattle.wire.specs.Contents.{credit_content_in, allowance_content_in};
 ghost use Rattle.wire.specs.Contents.{redemption_content_in, given_content_when};
-ghost use Rattle.wire.specs.Contents.{operator_content_when, content_when, account_of};
+ghost use Rattle.wire.specs.Contents.{operator_content_when, content_when};
 ghost use Rattle.wire.specs.Contents.{ContentsReadAgain, ReadsContent};
 ghost use Rattle.wire.specs.Contents.{CreditsAreInOrder};
 ghost use Rattle.wire.specs.Contents.{AllowancesAreInOrder, RedemptionsAreInOrder};

@@ -22,13 +22,7 @@ fn code(rt: &impl Abort, alloc: Global) -> VoucherCode {
 
 /// The account that the content is kept under.
 fn account_of(rt: &impl Abort, content: &Content) -> AccountNumber {
-    let account = match content {
-        Content::Request(request) => &request.account,
-        Content::Credit(kept) => &kept.credit().account,
-        Content::Allow(allowance) => &allowance.account,
-        Content::Redeem(redemption) => &redemption.account,
-    };
-    account.clone().expect(rt, "memory")
+    content.account().clone().expect(rt, "memory")
 }
 
 /// Whether the text is read as this content.

@@ -1,8 +1,8 @@
 use Rattle.std.proofs.Common.{◌≡◌, ◌∙◌, sym, subst, Some, None}
 use Rattle.commands.specs.declared.command.Command.TheVariants as command
 use Rattle.commands.specs.declared.command.Content.TheVariants as content
+use Rattle.commands.specs.Keys.{key_of}
 use Rattle.keepers.specs.Change.{IsLoad}
-use Rattle.keepers.specs.Keys.{key_of}
 use Rattle.keepers.specs.Tables.{Tables}
 use Rattle.charging.specs.Stepping.{ServesAt, WritesAt, LeavesRefused}
 use Rattle.charging.proofs.Serving.{left_as, none_loaded, some_loaded, served-as}

@@ -2,10 +2,10 @@ use Rattle.std.proofs.Common.{◌≡◌, ap, refl, Ok, Some, None}
 use Rattle.commands.specs.declared.answer.Answer.TheVariants as answer
 use Rattle.commands.specs.declared.command.Command.TheVariants as command
 use Rattle.commands.specs.declared.command.Content.TheVariants as content
+use Rattle.commands.specs.Keys.{key_of}
 use Rattle.voucher_rules.specs.Redeeming.{redemption}
 use Rattle.shelves.specs.Shelves.{Shelf}
 use Rattle.keepers.specs.Change.{IsLoad}
-use Rattle.keepers.specs.Keys.{key_of}
 use Rattle.keepers.specs.Tables.{Tables}
 use Rattle.charging.specs.Outcomes.{book_days}
 use Rattle.charging.specs.Stepping.{Answers, Commits}

@@ -1,7 +1,7 @@
 use Rattle.std.proofs.Common.{◌≡◌, sym, ap, ◌∙◌, Some, None, rules}
 use Rattle.std.specs.HashMap.{get}
 use Rattle.std.specs.Option.{option_copied}
-use Rattle.keepers.specs.Keys.{same_key}
+use Rattle.commands.specs.Keys.{same_key}
 use Rattle.keepers.specs.Memory.{answer_of_entry}
 use Rattle.keepers.proofs.entries.find_kept.Goals as goal
 

@@ -1,6 +1,6 @@
 use Rattle.std.proofs.Common.{◌≡◌, ◌∙◌, ap, None, rules}
 use Rattle.std.specs.HashMap.{get}
-use Rattle.keepers.specs.Keys.{same_key}
+use Rattle.commands.specs.Keys.{same_key}
 use Rattle.keepers.specs.Change.{kept_after}
 use Rattle.keepers.proofs.entries.first_answers.Goals as goal
 

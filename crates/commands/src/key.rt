@@ -1,14 +1,12 @@
-//! Keys of kept answers.
+//! The keys under which the answers of commands are kept.
 
 ghost use Rattle.std.specs.Prelude.{◌≡◌, IfOk};
-ghost use Rattle.keepers.specs.Keys.{same_key, key_of};
+ghost use Rattle.commands.specs.Keys.{same_key, key_of};
 
-use crate::copies::copy_content;
-use commands::Content;
+use crate::command::Content;
 use identifiers::{Reference, SessionId};
 use std::alloc::AllocError;
 use std::hash::{Hash, Hasher};
-use wire::WrittenAnswer;
 
 /// The key of a kept answer within its account: an accepted command with the same key is its
 /// repeat, or at fault.
@@ -33,13 +31,13 @@ impl Drop for Key {
     }
 }
 
-/// What is kept of an accepted command, so that its repeat is answered as it was.
-#[derive(Drop)]
-pub struct KeptAnswer {
-    /// The command. It tells the key.
-    pub content: Content,
-    /// Its first answer, with the text that was written of it.
-    pub answer: WrittenAnswer,
+/// A key as what is kept of a command has it, which is borrowed.
+#[derive(Clone, Copy)]
+pub enum KeyRef<'a> {
+    /// Of a request: its session and its number in it (RFC 8506 section 8.2).
+    Request { session: &'a SessionId, number: u32 },
+    /// Of an operator's command: its reference (profile).
+    Reference(&'a Reference),
 }
 
 impl Key {
@@ -47,36 +45,19 @@ impl Key {
     pub fn of(content: &Content) -> Result<Key, AllocError>
         ensures { IfOk result (λ key. key ≡ key_of content.now) }
     {
-        match content {
-            Content::Request(request) => {
-                let session = request.session.clone()?;
-                Ok(Key::Request {
-                    session,
-                    number: request.number,
-                })
+        match content.key() {
+            KeyRef::Request { session, number } => {
+                let session = session.clone()?;
+                Ok(Key::Request { session, number })
             }
-            Content::Credit(kept) => Ok(Key::Reference(kept.credit().reference.clone()?)),
-            Content::Allow(allowance) => Ok(Key::Reference(allowance.reference.clone()?)),
-            Content::Redeem(redemption) => Ok(Key::Reference(redemption.reference.clone()?)),
+            KeyRef::Reference(reference) => Ok(Key::Reference(reference.clone()?)),
         }
-    }
-}
-
-impl KeptAnswer {
-    /// A copy of the kept answer.
-    pub fn copy(&self) -> Result<KeptAnswer, AllocError>
-        ensures { IfOk result (λ copy. copy ≡ self.now) }
-    {
-        Ok(KeptAnswer {
-            content: copy_content(&self.content)?,
-            answer: self.answer.copy()?,
-        })
     }
 }
 
 impl PartialEq for Key {
     ghost use Rattle.std.specs.Cmp.{decided, partial_equiv_from_equiv};
-    ghost use Rattle.keepers.specs.Keys.{same_key, key_decides};
+    ghost use Rattle.commands.specs.Keys.{same_key, key_decides};
 
     ghost eq = { same_key };
 
@@ -99,14 +80,14 @@ impl PartialEq for Key {
 
 impl Eq for Key {
     ghost use Rattle.std.specs.Cmp.{decided};
-    ghost use Rattle.keepers.specs.Keys.{same_key, key_decides};
+    ghost use Rattle.commands.specs.Keys.{same_key, key_decides};
 
     ghost laws = { decided same_key key_decides };
 }
 
 impl Hash for Key {
     ghost use Rattle.std.specs.Hash.{same_Alike};
-    ghost use Rattle.keepers.specs.Keys.{same_key, key_decides, key_writes};
+    ghost use Rattle.commands.specs.Keys.{same_key, key_decides, key_writes};
 
     ghost hash_input = { key_writes };
 

@@ -1,4 +1,4 @@
--- The keys of kept answers.
+-- What is asked of each command that is kept: its account, and the key of its answer.
 -- Source: profile; a request's key is its Session-Id and CC-Request-Number (RFC 8506 sections 8.2
 -- and 8.4).
 use Rattle.std.specs.Prelude.{◌≡◌, ℕ, ◌&&◌, ◌++◌, Bool, true, false, List, nat_eq}
@@ -9,18 +9,34 @@ use Rattle.std.specs.Hash as fed
 use Rattle.std.proofs.Common.{refl, sym, ap, subst, true≢false}
 use Rattle.std.proofs.lemmas.Bool.{and_parts}
 use Rattle.identifiers.specs.Texts.{same_name}
+use Rattle.identifiers.specs.Words.{AccountName}
 use Rattle.commands.specs.declared.command.Content.{Content}
 use Rattle.commands.specs.declared.command.Content.TheVariants as content
-use Rattle.keepers.specs.declared.key.Key.{Key}
-use Rattle.keepers.specs.declared.key.Key.TheVariants.{Request, Reference}
+use Rattle.commands.specs.declared.key.Key.{Key}
+use Rattle.commands.specs.declared.key.Key.TheVariants.{Request, Reference}
+use Rattle.commands.specs.declared.key.KeyRef.{KeyRef}
+use Rattle.commands.specs.declared.key.KeyRef.TheVariants as lent
 
--- the key of a command with this content
+-- the account of a command with this content
+abbrev pub account_of : Content → AccountName
+account_of (content.Request r) = r.account
+account_of (content.Credit c) = c.account
+account_of (content.Allow a) = a.account
+account_of (content.Redeem r) = r.account
+
+-- its key
 abbrev pub key_of : Content → Key
 key_of (content.Request r) = Request r.session r.number
 key_of (content.Credit c) = Reference c.reference
 key_of (content.Allow a) = Reference a.reference
 key_of (content.Redeem r) = Reference r.reference
 
+-- the key that a borrowed one is
+abbrev pub lent_key : KeyRef → Key
+lent_key (lent.Request s n) = Request s.now n
+lent_key (lent.Reference r) = Reference r.now
+
+-- two are the same
 abbrev pub same_key : Key → Key → Bool
 same_key (Request s n) (Request t m) = same_name s t && nat_eq n m
 same_key (Reference r) (Reference q) = same_name r q
