@@ -5,6 +5,7 @@ ghost use Rattle.commands.specs.Kept.{is_kept};
 ghost use Rattle.commands.specs.Keys.{account_of, key_of, lent_key};
 
 use crate::allowance::Allowance;
+use crate::copies::{copy_allowance, copy_credit, copy_redemption, copy_request};
 use crate::key::KeyRef;
 use crate::request::Request;
 use identifiers::{AccountNumber, Reference, VoucherCode};
@@ -281,7 +282,7 @@ pub enum Command {
 }
 
 /// What is kept of an accepted command beside its answer, so that a repeat of it is known.
-#[derive(Clone, Debug, PartialEq, Eq)]
+#[derive(Debug, PartialEq, Eq)]
 pub enum Content {
     /// Of a request, under its session and number.
     Request(Request),
@@ -337,7 +338,12 @@ impl Content {
     pub fn copy(&self) -> Result<Content, AllocError>
         ensures { IfOk result (λ copy. copy ≡ self.now) }
     {
-        self.clone()
+        match self {
+            Content::Request(request) => Ok(Content::Request(copy_request(request)?)),
+            Content::Credit(credit) => Ok(Content::Credit(copy_credit(credit)?)),
+            Content::Allow(allowance) => Ok(Content::Allow(copy_allowance(allowance)?)),
+            Content::Redeem(redemption) => Ok(Content::Redeem(copy_redemption(redemption)?)),
+        }
     }
 }
 

@@ -9,6 +9,7 @@ mod answer;
 mod avp;
 mod balance;
 mod command;
+mod copies;
 mod key;
 pub mod names;
 mod quantity;
