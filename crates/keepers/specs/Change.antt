@@ -99,7 +99,7 @@ abbrev pub kept_after : Option KeptAnswer → Key → Option KeptAnswer → Opti
 kept_after None k before = before
 kept_after (Some kept) k before = if same_key (key_of kept.content) k then Some kept else before
 
--- what stands under a code once a voucher was redeemed
+-- what is under a code once a voucher was redeemed
 abbrev pub redeemed_over : Option Redeemed → VoucherCode → Option Voucher → Option Voucher
 redeemed_over None code before = before
 redeemed_over (Some redeemed) code before =
@@ -120,7 +120,7 @@ changed change tables = record {
 
 -- ---- a voucher that is added
 
--- an unspent voucher stands under the code, from the moment on
+-- an unspent voucher is under the code, from the moment on
 abbrev pub with_voucher : VoucherCode → VoucherTerms → Moment → Tables → Tables
 with_voucher code terms moment tables = record {
   last = moment;

@@ -13,7 +13,7 @@ abbrev pub max_failures : ℕ
 max_failures = 1000000000000000000
 
 -- a call doesn't lower the count, and a store fault comes only where the call raised it or it
--- stands at the highest
+-- is at the highest
 pub record HasCause {T : Type 0} (old new : ℕ) (result : Result T StoreFault) : Type 0 where
   pub kept : old ≤ new
   pub cause : IsErrOf result Store → min (old + 1) max_failures ≤ new

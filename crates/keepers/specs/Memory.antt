@@ -45,7 +45,7 @@ abbrev pub charges_of_entry : Option AccountEntry → List ChargeRow
 charges_of_entry None = []
 charges_of_entry (Some e) = e.charges.items
 
--- ---- where each account stands
+-- ---- where each account is
 
 abbrev pub Places : Type 0
 Places = HashMap (List ℕ) ℕ (BuildHasherDefault FoldHasher)

@@ -1,4 +1,4 @@
--- The charges of rows that don't stand in the order of their numbers: of each number the first.
+-- The charges of rows that aren't in the order of their numbers: of each number the first.
 -- Source: profile.
 use Rattle.std.specs.Prelude.{◌&&◌, List, [], ◌∷◌, Option, Some, None, nat_le, nat_lt}
 use Rattle.std.specs.Prelude.{if◌then◌else◌}

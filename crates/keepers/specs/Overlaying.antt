@@ -1,5 +1,5 @@
 -- What the keeper in memory makes live of an account by a change: the change's rows, and of those
--- that stand the ones that may still change. Of private functions alone.
+-- that are there the ones that may still change. Of private functions alone.
 use Rattle.std.specs.Prelude.{◌≡◌, Bool, false, not, ◌==◌, ◌&&◌, ◌||◌, ◌++◌, List, [], None}
 use Rattle.std.specs.Prelude.{Some, filter, is_some, if◌then◌else◌}
 use Rattle.std.specs.List.{list_any}
@@ -23,7 +23,7 @@ use Rattle.keepers.specs.Differing.{AreThere}
 use Rattle.keepers.specs.Named.{Names, Numbers, is_named, is_numbered}
 use Rattle.keepers.specs.Keyed.{same_bucket}
 
--- ---- of the rows that stand, those that stay live beside the ones that are named
+-- ---- of the rows that are there, those that stay live beside the ones that are named
 
 abbrev pub stays_bucket : List BucketRow → BucketRow → Bool
 stays_bucket named b = not (is_dead b) && not (is_some (bucket_in b.number named))

@@ -34,7 +34,7 @@ pub record AreNoted (rows : LeftStore) (known : Known) : Type 0 where
   pub sessions : EachIn (λ r. is_named known.names r.id ≡ true) rows.sessions.items
   pub groups : EachIn (λ r. is_named known.names r.session ≡ true) rows.groups.items
 
--- these rows stand behind the others
+-- these rows are behind the others
 pub record IsAppended (old rows new : LeftStore) : Type 0 where
   pub buckets : new.buckets.items ≡ old.buckets.items ++ rows.buckets.items
   pub counters : new.counters.items ≡ old.counters.items ++ rows.counters.items

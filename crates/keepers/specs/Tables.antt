@@ -66,7 +66,7 @@ pub record Tables : Type 0 where
   pub answers : AccountName → Key → Option KeptAnswer
   -- the charges of an account, by their numbers
   pub charges : AccountName → ChargeNumber → Option ChargeRow
-  -- what stands under the code of a voucher
+  -- what is under the code of a voucher
   pub vouchers : VoucherCode → Option Voucher
   -- how many accounts there are
   pub count : ℕ

@@ -1,4 +1,4 @@
-//! Rows that differ from those before. A row mostly stands where it stood, so that a cursor finds
+//! Rows that differ from those before. A row is mostly where it was, so that a cursor finds
 //! the one with its key; a cursor that is elsewhere costs time alone.
 
 ghost use Rattle.std.specs.Prelude.{◌≡◌, ◌<◌, not, length, get_or};

@@ -24,7 +24,7 @@ use voucher_rules::{Voucher, VoucherTerms};
 /// Contracts see its content as tables. What a call says of them it says where the store is clean
 /// after it, and a store that is clean was clean before. Where the store is honest a call that
 /// answers leaves it clean, also over a disk that fails. A store fault comes only where the store
-/// failed in the call. A change that would leave rows which a keeper can't tell, as holds without
+/// failed in the call. A change that would leave rows which a keeper can't hold, as holds without
 /// the reservation that holds them, is refused as a fault: store fault 1 in memory, 2 over a store.
 pub trait Keeper {
     /// What a contract sees of it.
@@ -93,7 +93,7 @@ pub trait Keeper {
         ensures { KeeperReads (seen self.old) (seen self.new)
             (λ found. found ≡ (seen self.old).tables.answers account.now key.now) result };
 
-    /// What stands under the code of a voucher; None where nothing does.
+    /// What is under the code of a voucher; None where nothing is.
     fn find_voucher(&mut self, code: &VoucherCode) -> Result<Option<Voucher>, StoreFault>
         ensures { KeeperReads (seen self.old) (seen self.new)
             (λ found. found ≡ (seen self.old).tables.vouchers code.now) result };
@@ -146,7 +146,7 @@ pub trait Keeper {
     /// A clean store is honest.
     ghost honesty: { (k : Self) → (seen k).clean → (seen k).honest };
 
-    /// A stop between two calls leaves the tables as they stand.
+    /// A stop between two calls leaves the tables as they are.
     ghost settled: { (k : Self) (t : Tables) → (seen k).clean → (seen k).left t →
         t ≡ (seen k).tables };
 }

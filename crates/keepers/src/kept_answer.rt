@@ -9,7 +9,7 @@ use wire::WrittenAnswer;
 /// What is kept of an accepted command, so that its repeat is answered as it was.
 #[derive(Drop)]
 pub struct KeptAnswer {
-    /// The command. It tells the key.
+    /// The command. It says the key.
     pub content: Content,
     /// Its first answer, with the text that was written of it.
     pub answer: WrittenAnswer,

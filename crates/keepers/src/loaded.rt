@@ -29,7 +29,7 @@ pub struct Loaded<'b> {
 pub struct Redeemed {
     /// The code of the voucher.
     pub code: VoucherCode,
-    /// The voucher as it stands from now on.
+    /// The voucher as it is from now on.
     pub voucher: Voucher,
 }
 

@@ -69,8 +69,9 @@ impl MemoryKeeper {
     }
 }
 
-/// What a load that failed is told as. Its store doesn't fail: rows that the shelf doesn't price
-/// aren't loaded, as if there were no room for them. A run has one shelf, so that it meets none.
+/// What a load that failed is reported as. Its store doesn't fail: rows that the shelf doesn't
+/// price aren't loaded, as if there were no room for them. A run has one shelf, so that it meets
+/// none.
 fn refused(fault: LoadFault) -> StoreFault
     ensures { result ≡ StoreFault.Memory }
 {

@@ -124,7 +124,7 @@ fn show_by_number<V: ChargeVisitor>(
 }
 
 /// Shows a visitor the rows of the range in the order of their numbers, until it stops. Rows that
-/// rise in their numbers are shown as they stand.
+/// rise in their numbers are shown as they are.
 fn show_in_order<V: ChargeVisitor>(rows: &[ChargeRow], from: Moment, until: Moment, visitor: &mut V)
     ensures sees { SeesCharges V.sees from until (λ n. charge_in n rows.now) visitor.old
         visitor.new }
@@ -137,7 +137,7 @@ fn show_in_order<V: ChargeVisitor>(rows: &[ChargeRow], from: Moment, until: Mome
     show_by_number(rows, from, until, visitor);
 }
 
-/// A run numbers an account's charges in order, so that they are shown as they stand. Rows in
+/// A run numbers an account's charges in order, so that they are shown as they are. Rows in
 /// another order are looked through once for each number.
 impl ChargeSource for MemoryKeeper {
     fn each<V: ChargeVisitor>(

@@ -261,7 +261,7 @@ fn move_last<T: Drop>(rows: &mut Vec<T>, place: usize) -> Result<(), AllocError>
     Ok(())
 }
 
-/// Where the last session would stand among the first ones, which are in order.
+/// Where the last session would be among the first ones, which are in order.
 fn session_place(rows: &[Session], first: usize) -> usize {
     let Some(row) = rows.last() else {
         return 0;
@@ -273,7 +273,7 @@ fn session_place(rows: &[Session], first: usize) -> usize {
     }
 }
 
-/// Moves a few sessions that stand behind others in order each to its place.
+/// Moves a few sessions that are behind others in order each to its place.
 fn place_sessions(rows: &mut Vec<Session>, count: usize) -> Result<(), AllocError>
     ensures { OnOk result (IsPermutation rows.old.items rows.new.items) }
 {
@@ -288,7 +288,7 @@ fn place_sessions(rows: &mut Vec<Session>, count: usize) -> Result<(), AllocErro
     Ok(())
 }
 
-/// Where the last group would stand among the first ones, which are in order.
+/// Where the last group would be among the first ones, which are in order.
 fn group_place(rows: &[SessionGroup], first: usize) -> usize {
     let Some(row) = rows.last() else {
         return 0;
@@ -305,7 +305,7 @@ fn group_place(rows: &[SessionGroup], first: usize) -> usize {
     }
 }
 
-/// Moves a few groups that stand behind others in order each to its place.
+/// Moves a few groups that are behind others in order each to its place.
 fn place_groups(rows: &mut Vec<SessionGroup>, count: usize) -> Result<(), AllocError>
     ensures { OnOk result (IsPermutation rows.old.items rows.new.items) }
 {

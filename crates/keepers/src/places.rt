@@ -1,4 +1,4 @@
-//! Where the rows of an account stand, looked for by their keys.
+//! Where the rows of an account are, looked for by their keys.
 
 ghost use Rattle.std.specs.Prelude.{◌≡◌, true, ◌==◌, is_some, position};
 ghost use Rattle.reserving.specs.Sessions.{session_in, group_in, counter_in, is_session, is_of};
@@ -30,7 +30,7 @@ fn end_alike(a: &SessionId, b: &SessionId) -> bool {
     }
 }
 
-/// Whether two names are one. Such as stand side by side mostly differ at their ends, so that these
+/// Whether two names are one. Such as are side by side mostly differ at their ends, so that these
 /// are looked at first.
 fn is_one_name(a: &SessionId, b: &SessionId) -> bool
     ensures { result ≡ true → is_same a.now b.now ≡ true }
@@ -41,7 +41,7 @@ fn is_one_name(a: &SessionId, b: &SessionId) -> bool
     *a == *b
 }
 
-/// Whether the row of a session stands at a place.
+/// Whether the row of a session is at a place.
 fn stands_at(rows: &[Session], place: usize, session: &SessionId) -> bool
     ensures { result ≡ true → is_some (session_in session.now rows.now) ≡ true }
 {
@@ -53,7 +53,7 @@ fn stands_at(rows: &[Session], place: usize, session: &SessionId) -> bool
 }
 
 /// Whether there is a row of this session, for a walk that asks for sessions in their order: the
-/// row mostly stands at the place of the last one or at the next one, and is searched for only
+/// row is mostly at the place of the last one or at the next one, and is searched for only
 /// where it doesn't. The place is then that of the row.
 pub(crate) fn has_session_near(rows: &[Session], place: &mut usize, session: &SessionId) -> bool
     ensures { result ≡ is_some (session_in session.now rows.now) }

@@ -148,8 +148,8 @@ impl Store {
             || (self.known.names.contains_key(session) && has_session(&self.left.sessions, session))
     }
 
-    /// Puts the rows of a change over those that stand. At a fault nothing has changed, as where
-    /// they would be no rows of an account.
+    /// Puts the rows of a change over those that are there. At a fault nothing has changed, as
+    /// where they would be no rows of an account.
     pub(crate) fn put(&mut self, named: NamedRows) -> Result<(), AllocError>
         ensures over { OnOk result (rows_of_parts self.new ≡ over named (rows_of_parts self.old)) }
         ensures err { OnErr result (self.new ≡ self.old) }

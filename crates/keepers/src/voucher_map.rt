@@ -13,7 +13,7 @@ use std::alloc::AllocError;
 use std::collections::HashMap;
 use voucher_rules::Voucher;
 
-/// A copy of what stands under a code.
+/// A copy of what is under a code.
 pub(crate) fn voucher_in(
     vouchers: &HashMap<VoucherCode, Voucher>,
     code: &VoucherCode,
@@ -41,7 +41,7 @@ pub(crate) fn put_voucher(
     Ok(())
 }
 
-/// Makes room for one voucher more. What stands there stays.
+/// Makes room for one voucher more. What is there stays.
 pub(crate) fn make_voucher_room(
     vouchers: &mut HashMap<VoucherCode, Voucher>,
 ) -> Result<(), AllocError>

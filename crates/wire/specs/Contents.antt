@@ -56,19 +56,19 @@ redemption_content_in account d = do
   where_holds (pointwise nat_eq r.account account) (Invalid avp.SubscriptionIdData)
       (content.Redeem r)
 
--- what a kept text without a Voucher-Code is, by the member that stands: an allowance has Blocks
+-- what a kept text without a Voucher-Code is, by the member that is there: an allowance has Blocks
 abbrev pub given_content_when : AccountName → Data → Option Data → Result Content WireFault
 given_content_when account d (Some blocks) = allowance_content_in account d
 given_content_when account d None = credit_content_in account d
 
--- what a kept text of an operator's command is, by the member that stands: a redemption has a
+-- what a kept text of an operator's command is, by the member that is there: a redemption has a
 -- Voucher-Code
 abbrev pub operator_content_when : AccountName → Data → Option Data → Result Content WireFault
 operator_content_when account d (Some code) = redemption_content_in account d
 operator_content_when account d None =
     given_content_when account d (get (name_of avp.Blocks) d)
 
--- what a kept text is, by the member that stands: a request has a Session-Id
+-- what a kept text is, by the member that is there: a request has a Session-Id
 abbrev pub content_when : AccountName → Data → Option Data → Result Content WireFault
 content_when account d (Some session) = request_content_in account d
 content_when account d None = operator_content_when account d (get (name_of avp.VoucherCode) d)
@@ -104,13 +104,13 @@ is_own_text bytes (Err e) = false
 abbrev pub is_content_text : List ℕ → List ℕ → Bool
 is_content_text account bytes = is_own_text bytes (content_of account bytes)
 
--- what is told of bytes that aren't the text of a content of this account: the first fault of what
--- they say, and where they say a content, that they aren't its text
+-- what is reported of bytes that aren't the text of a content of this account: the first fault of
+-- what they say, and where they say a content, that they aren't its text
 abbrev pub fault_of_content : Result Content WireFault → WireFault
 fault_of_content (Ok c) = NotRequest
 fault_of_content (Err e) = e
 
--- such a text is read, unless memory runs out, and no other is: its fault is told
+-- such a text is read, unless memory runs out, and no other is: its fault is reported
 abbrev pub ReadsTexts : AccountName → List ℕ → Result Content WireFault → Type 0
 ReadsTexts account bytes returned =
     MatchResult returned (λ c. is_content_text account bytes ≡ true)

@@ -254,7 +254,7 @@ is_own_answer bytes (Err e) = false
 abbrev pub is_answer_text : List ℕ → Bool
 is_answer_text bytes = is_own_answer bytes (answer_of bytes)
 
--- such a text is read, and of any other it is told that it is none, unless memory runs out
+-- such a text is read, and of any other it is reported that it is none, unless memory runs out
 abbrev pub ReadsTexts : List ℕ → Result Answer WireFault → Type 0
 ReadsTexts bytes returned =
     MatchResult returned (λ a. is_answer_text bytes ≡ true)

@@ -102,7 +102,7 @@ failure_named (InvalidAvpValue avp) = (failed_avp, string (name_of avp)) ∷ []
 failure_named UnableToComply = []
 failure_named UserUnknown = []
 
--- what stands between the type and the Result-Code, each member by its name
+-- what is between the type and the Result-Code, each member by its name
 abbrev pub outcome_named : Outcome → List (List ℕ × Data)
 outcome_named (outcome.Services ss) = (name_of avp.Services, array (service_items ss)) ∷ []
 outcome_named outcome.Refunded = []

@@ -137,7 +137,7 @@ fn redemption_content(
     }
 }
 
-/// What a kept object without a Voucher-Code is, by the member that stands.
+/// What a kept object without a Voucher-Code is, by the member that is there.
 fn given_content(
     alloc: Global,
     account: AccountNumber,
@@ -153,7 +153,7 @@ fn given_content(
     }
 }
 
-/// What a kept object of an operator's command is, by the member that stands.
+/// What a kept object of an operator's command is, by the member that is there.
 fn operator_content(
     alloc: Global,
     account: AccountNumber,
@@ -169,7 +169,7 @@ fn operator_content(
     }
 }
 
-/// What a kept object of this account is, by the member that stands.
+/// What a kept object of this account is, by the member that is there.
 fn content_in(
     alloc: Global,
     account: AccountNumber,
@@ -222,19 +222,19 @@ pub fn content_again()
     ensures { ContentsReadAgain content_text }
 {}
 
-/// The members of a credit as it is kept stand in the byte order of their names.
+/// The members of a credit as it is kept are in the byte order of their names.
 #[tactic(auto, using(crate::proofs::ContentsAgain::credits_in_order))]
 pub fn credit_in_order()
     ensures { CreditsAreInOrder credit_data }
 {}
 
-/// The members of an allowance as it is kept stand in the byte order of their names.
+/// The members of an allowance as it is kept are in the byte order of their names.
 #[tactic(auto, using(crate::proofs::AllowancesAgain::allowances_in_order))]
 pub fn allowance_in_order()
     ensures { AllowancesAreInOrder allowance_data }
 {}
 
-/// The members of a redemption as it is kept stand in the byte order of their names.
+/// The members of a redemption as it is kept are in the byte order of their names.
 #[tactic(auto, using(crate::proofs::RedeemedAgain::redemptions_in_order))]
 pub fn redemption_in_order()
     ensures { RedemptionsAreInOrder redemption_data }

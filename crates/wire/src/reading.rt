@@ -193,7 +193,7 @@ fn answer(alloc: Global, bytes: &[u8]) -> Result<Answer, WireFault>
     answered(alloc, &parent)
 }
 
-/// Want of memory is told, and no other fault of a text.
+/// Want of memory is reported, and no other fault of a text.
 fn told(fault: WireFault) -> WireFault
     ensures memory { fault ≡ WireFault.Memory → result ≡ WireFault.Memory }
     ensures other { (result ≡ WireFault.Memory) ⊎ (result ≡ WireFault.NotRequest) }
@@ -232,7 +232,7 @@ pub fn answer_again()
     ensures { AnswersReadAgain answer_text }
 {}
 
-/// The members of an answer, and of each object in it, stand in the byte order of their names.
+/// The members of an answer, and of each object in it, are in the byte order of their names.
 #[tactic(auto, using(crate::proofs::AnswersAgain::answers_in_order))]
 pub fn answer_in_order()
     ensures { AnswersAreInOrder answer_data }

@@ -121,7 +121,7 @@ fn put_session_grant(out: &mut Writer, granted: &GrantedServiceUnit) -> Result<(
     Ok(())
 }
 
-/// The members that stand before the rating group.
+/// The members that are before the rating group.
 fn put_grant(out: &mut Writer, outcome: &ServiceOutcome) -> Result<(), AllocError>
     ensures adds { Adds result out.old out.new
         (perhaps_tokens final_unit (final_of outcome.now)

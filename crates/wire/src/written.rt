@@ -15,7 +15,7 @@ use std::alloc::{AllocError, Global};
 use std::marker::Model;
 
 /// An answer as its text, as `write_answer` writes it: the same bytes are kept of a command and
-/// written to whoever asked it. Beside them it is told whether it is a refusal.
+/// written to whoever asked it. Beside them it says whether it is a refusal.
 ///
 /// Contracts see the answer that the text says.
 #[derive(Debug, Drop)]
