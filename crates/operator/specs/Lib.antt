@@ -1,8 +1,8 @@
 pub mod Lines
 pub mod Paths
 pub mod Faults
-pub mod Commands
+pub mod Values
+pub mod Office
 pub mod Program
 pub mod Said
 pub mod Read
-pub mod Office

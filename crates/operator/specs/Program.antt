@@ -1,9 +1,41 @@
--- The program as `clap` knows it: its commands, each with its operands and options. What the words
+-- The program's commands, each with its operands and options as `clap` knows them. What the words
 -- of a command line are to them is clap's own statement (`subcommand_of`, `fault_of`).
 -- Source: profile.
-use Rattle.std.specs.Prelude.{Bool, true, false, Some, codes}
+use Rattle.std.specs.Prelude.{Bool, true, false, Some, codes, List, [], ◌∷◌, Option, nat_eq}
+use Rattle.std.specs.List.{find}
+use Rattle.std.specs.Cmp.Lexicographic.{pointwise}
 use Rattle.clap.specs.Words.{App, Rule, Text, new_app, new_rule, with_rule, with_subcommand}
 use Rattle.clap.specs.declared.builder.action.ArgAction.TheVariants.{Set, SetTrue}
+use Rattle.operator.specs.Office.{office_name}
+use Rattle.operator.specs.declared.office.OfficeName.TheVariants as office
+use Rattle.operator.specs.declared.program.CommandName.{CommandName}
+use Rattle.operator.specs.declared.program.CommandName.TheVariants.{Once, Init, Migrate, Book}
+use Rattle.operator.specs.declared.program.CommandName.TheVariants.{Serve, Import, Office}
+use Rattle.operator.specs.declared.program.CommandName.TheVariants.{Statement, Replay}
+
+-- ---- names
+
+abbrev pub command_name : CommandName → Text
+command_name Once = codes "once"
+command_name Init = codes "init"
+command_name Migrate = codes "migrate"
+command_name Book = codes "book"
+command_name Serve = codes "serve"
+command_name Import = codes "import"
+command_name (Office office) = office_name office
+command_name Statement = codes "statement"
+command_name Replay = codes "replay"
+
+abbrev pub command_names : List CommandName
+command_names = Once ∷ Init ∷ Migrate ∷ Book ∷ Serve ∷ Import
+    ∷ Office office.Open ∷ Office office.Bar ∷ Office office.Unbar ∷ Office office.Sweep ∷ Office office.Credit
+    ∷ Office office.Allow ∷ Statement ∷ Replay ∷ []
+
+-- the command of a name
+abbrev pub command_named : Text → Option CommandName
+command_named name = find (λ c. pointwise nat_eq (command_name c) name) command_names
+
+-- ---- operands and options
 
 -- a word in its place, which must be there
 abbrev pub operand : Text → Rule

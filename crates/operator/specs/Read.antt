@@ -5,6 +5,7 @@ use Rattle.std.specs.Borrow.{Bor}
 use Rattle.units.specs.Words.{Moment}
 use Rattle.clap.specs.Values.{kind_of}
 use Rattle.clap.specs.Words.{IsAmong, Kinds, Text, fault_of, subcommand_of}
+use Rattle.operator.specs.Office.{IsOfficeCommandInRange}
 use Rattle.operator.specs.Program.{program_app}
 use Rattle.operator.specs.Said.{said_by}
 use Rattle.clap.specs.declared.error.Error.{Error}
@@ -14,8 +15,6 @@ use Rattle.operator.specs.declared.fault.WordsFault.{WordsFault}
 use Rattle.operator.specs.declared.fault.WordsFault.TheVariants.{Unread, Invalid, Memory}
 use Rattle.operator.specs.declared.parsed.BookWords.{BookWords}
 use Rattle.operator.specs.declared.parsed.ImportWords.{ImportWords}
-use Rattle.operator.specs.declared.parsed.OfficeCommand.{OfficeCommand}
-use Rattle.operator.specs.declared.parsed.OfficeCommand.TheVariants as office
 use Rattle.operator.specs.declared.parsed.OfficeWords.{OfficeWords}
 use Rattle.operator.specs.declared.parsed.OnceWords.{OnceWords}
 use Rattle.operator.specs.declared.parsed.ProgramWords.{ProgramWords}
@@ -78,13 +77,6 @@ IsBookInRange book = book.from ≤ 4_102_444_799
 
 abbrev pub IsImportInRange : ImportWords → Type 0
 IsImportInRange import = IsAtInRange import.at
-
--- a credit is of 1 micro-unit or more, an allowance of 1 to 10^9 blocks
-abbrev pub IsOfficeCommandInRange : OfficeCommand → Type 0
-IsOfficeCommandInRange (office.Credit credit) = 1 ≤ credit.amount
-IsOfficeCommandInRange (office.Allow allowance) =
-    (1 ≤ allowance.blocks) × (allowance.blocks ≤ 1_000_000_000)
-IsOfficeCommandInRange _ = Unit {0}
 
 pub record IsOfficeInRange (words : OfficeWords) : Type 0 where
   pub command : IsOfficeCommandInRange words.command

@@ -2,9 +2,9 @@
 #![tactic(auto)]
 
 mod arguments;
-mod command_name;
 mod dated;
 mod fault;
+mod office;
 mod parsed;
 mod path;
 mod program;
@@ -14,9 +14,10 @@ mod values;
 
 pub use crate::dated::{DatedLine, dated_line};
 pub use crate::fault::WordsFault;
+pub use crate::office::OfficeCommand;
 pub use crate::parsed::{
-    BookWords, ImportWords, InitWords, MigrateWords, OfficeCommand, OfficeWords, OnceWords,
-    ProgramWords, ReplayWords, ServeWords, StatementWords,
+    BookWords, ImportWords, InitWords, MigrateWords, OfficeWords, OnceWords, ProgramWords,
+    ReplayWords, ServeWords, StatementWords,
 };
 pub use crate::path::FilePath;
 pub use crate::reading::program_words;

@@ -1,10 +1,7 @@
 //! What the program's words say.
 
-ghost use Rattle.std.specs.Prelude.{◌≡◌};
-ghost use Rattle.operator.specs.Office.{command_of};
-
+use crate::office::OfficeCommand;
 use crate::path::FilePath;
-use commands::{Allowance, Command, Credit};
 use identifiers::AccountNumber;
 use texts::Month;
 use units::{Moment, Money};
@@ -69,39 +66,6 @@ pub struct ImportWords {
     pub file: FilePath,
     /// The moment of each command, 0 to 4,102,444,799; None: the clock's.
     pub at: Option<Moment>,
-}
-
-/// A command that an operator types.
-#[derive(Drop)]
-pub enum OfficeCommand {
-    /// Opens an account.
-    Open(AccountNumber),
-    /// Bars an account.
-    Bar(AccountNumber),
-    /// Lifts the bar of an account.
-    Unbar(AccountNumber),
-    /// Gives an account money, from the moment of the command on.
-    Credit(Credit),
-    /// Gives an account blocks of a rating group, from the moment of the command on.
-    Allow(Allowance),
-    /// Brings each account to the moment of the command.
-    Sweep,
-}
-
-impl OfficeCommand {
-    /// The command of the charging system that it is.
-    pub fn into_command(self) -> Command
-        ensures { result ≡ command_of self }
-    {
-        match self {
-            OfficeCommand::Open(account) => Command::OpenAccount(account),
-            OfficeCommand::Bar(account) => Command::Bar(account),
-            OfficeCommand::Unbar(account) => Command::Unbar(account),
-            OfficeCommand::Credit(credit) => Command::Credit(credit),
-            OfficeCommand::Allow(allowance) => Command::Allow(allowance),
-            OfficeCommand::Sweep => Command::Sweep,
-        }
-    }
 }
 
 /// What the words of an operator's command say.

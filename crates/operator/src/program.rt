@@ -1,17 +1,85 @@
-//! The program's commands with their operands and options.
+//! The program's commands: their names, operands and options.
 
-ghost use Rattle.std.specs.Prelude.{◌≡◌, IfOk, false};
+ghost use Rattle.std.specs.Prelude.{◌≡◌, IfOk, false, nat_eq};
+ghost use Rattle.std.specs.List.{find};
+ghost use Rattle.std.specs.Cmp.Lexicographic.{pointwise};
 ghost use Rattle.clap.specs.Words.{App, app_of, with_rule, with_subcommand};
 ghost use Rattle.clap.specs.declared.builder.command.Command.TheViews.{out-Command as fields_of};
 ghost use Rattle.operator.specs.Program.{account_app, accounts_app, allow_app, allow_operands_app};
-ghost use Rattle.operator.specs.Program.{at, book_app, books_app, credit_app};
-ghost use Rattle.operator.specs.Program.{credit_operands_app, files_app, first_app, import_app};
-ghost use Rattle.operator.specs.Program.{init_app, migrate_app, office_app, once_app, program_app};
-ghost use Rattle.operator.specs.Program.{replay_app, serve_app, statement_app, sweep_app, top_app};
+ghost use Rattle.operator.specs.Program.{at, book_app, books_app, command_name, command_named};
+ghost use Rattle.operator.specs.Program.{credit_app, credit_operands_app, files_app, first_app};
+ghost use Rattle.operator.specs.Program.{import_app, init_app, migrate_app, office_app, once_app};
+ghost use Rattle.operator.specs.Program.{program_app, replay_app, serve_app, statement_app};
+ghost use Rattle.operator.specs.Program.{sweep_app, top_app};
 
 use crate::arguments::{with_flag, with_operand, with_option};
+use crate::office::OfficeName;
 use clap::Command;
 use std::alloc::{AllocError, Global};
+
+/// A command of the program, by its name.
+#[derive(Clone, Copy)]
+pub(crate) enum CommandName {
+    Once,
+    Init,
+    Migrate,
+    Book,
+    Serve,
+    Import,
+    Office(OfficeName),
+    Statement,
+    Replay,
+}
+
+/// All commands of the program.
+const COMMANDS: [CommandName; 14] = [
+    CommandName::Once,
+    CommandName::Init,
+    CommandName::Migrate,
+    CommandName::Book,
+    CommandName::Serve,
+    CommandName::Import,
+    CommandName::Office(OfficeName::Open),
+    CommandName::Office(OfficeName::Bar),
+    CommandName::Office(OfficeName::Unbar),
+    CommandName::Office(OfficeName::Sweep),
+    CommandName::Office(OfficeName::Credit),
+    CommandName::Office(OfficeName::Allow),
+    CommandName::Statement,
+    CommandName::Replay,
+];
+
+fn first_named(all: &[CommandName], name: &str) -> Option<CommandName>
+    ensures { result ≡ find (λ c. pointwise nat_eq (command_name c) name.now) all.now }
+{
+    all.iter().copied().find(|command| command.name() == name)
+}
+
+impl CommandName {
+    /// The word that names it.
+    pub(crate) fn name(self) -> &'static str
+        ensures { result.now ≡ command_name self }
+    {
+        match self {
+            CommandName::Once => "once",
+            CommandName::Init => "init",
+            CommandName::Migrate => "migrate",
+            CommandName::Book => "book",
+            CommandName::Serve => "serve",
+            CommandName::Import => "import",
+            CommandName::Office(office) => office.name(),
+            CommandName::Statement => "statement",
+            CommandName::Replay => "replay",
+        }
+    }
+
+    /// The one that a word names.
+    pub(crate) fn named(name: &str) -> Option<CommandName>
+        ensures { result ≡ command_named name.now }
+    {
+        first_named(&COMMANDS, name)
+    }
+}
 
 const DATABASE: &str = "The database's file";
 

@@ -9,10 +9,9 @@ ghost use Rattle.operator.specs.Read.{IsInRange, IsRefusal, IsRefused, IsSaid, I
 ghost use Rattle.operator.specs.Said.{command_said, said_by};
 ghost use Rattle.operator.specs.declared.fault.ValueFault.TheVariants.{Memory};
 
-use crate::command_name::CommandName;
 use crate::fault::{ValueFault, WordsFault};
 use crate::parsed::ProgramWords;
-use crate::program::program;
+use crate::program::{CommandName, program};
 use crate::saying::{
     book_words, import_words, init_words, migrate_words, office_words, once_said, replay_words,
     serve_words, statement_words,

@@ -1,28 +1,24 @@
 //! What the words of each command say.
 
-ghost use Rattle.std.specs.Prelude.{◌≤◌, IfOk};
+ghost use Rattle.std.specs.Prelude.{IfOk};
 ghost use Rattle.clap.specs.Words.{found_of, rows_of};
 ghost use Rattle.texts.specs.Steps.{GivesUnless, Says};
-ghost use Rattle.operator.specs.Read.{IsBookInRange, IsImportInRange, IsOfficeCommandInRange};
-ghost use Rattle.operator.specs.Read.{IsOfficeInRange, IsOnceInRange, IsServeInRange};
-ghost use Rattle.operator.specs.Read.{IsStatementInRange};
-ghost use Rattle.operator.specs.Said.{allowance_said, book_said, credit_said, import_said};
-ghost use Rattle.operator.specs.Said.{init_said, migrate_said, office_command_said, office_said};
+ghost use Rattle.operator.specs.Read.{IsBookInRange, IsImportInRange, IsOfficeInRange};
+ghost use Rattle.operator.specs.Read.{IsOnceInRange, IsServeInRange, IsStatementInRange};
+ghost use Rattle.operator.specs.Said.{book_said, import_said, init_said, migrate_said, office_said};
 ghost use Rattle.operator.specs.Said.{once_said, replay_said, serve_said, statement_said};
 ghost use Rattle.operator.specs.declared.fault.ValueFault.TheVariants.{Memory};
 
-use crate::command_name::OfficeName;
 use crate::fault::ValueFault;
+use crate::office::{OfficeName, office_command};
 use crate::parsed::{
-    BookWords, ImportWords, InitWords, MigrateWords, OfficeCommand, OfficeWords, OnceWords,
-    ReplayWords, ServeWords, StatementWords,
+    BookWords, ImportWords, InitWords, MigrateWords, OfficeWords, OnceWords, ReplayWords,
+    ServeWords, StatementWords,
 };
 use crate::values::{
-    account, amount_at, at, blocks, database, first_moment, group, has_flag, month, number_at,
-    path_at, reference, scope, until,
+    account, amount_at, at, database, first_moment, has_flag, month, number_at, path_at,
 };
 use clap::ArgMatches;
-use commands::{Allowance, Credit};
 use std::alloc::Global;
 
 /// The words of `once`.
@@ -133,70 +129,6 @@ pub(crate) fn office_words(
         database,
         command,
         at,
-    })
-}
-
-/// The command of an operator that the words say.
-fn office_command(
-    alloc: Global,
-    name: OfficeName,
-    matches: &ArgMatches<'_>,
-) -> Result<OfficeCommand, ValueFault>
-    ensures value { GivesUnless Memory (λ w. w) result
-        (office_command_said name (rows_of (found_of matches.now))) }
-    ensures in_range { IfOk result IsOfficeCommandInRange }
-{
-    match name {
-        OfficeName::Open => Ok(OfficeCommand::Open(account(alloc, matches)?)),
-        OfficeName::Bar => Ok(OfficeCommand::Bar(account(alloc, matches)?)),
-        OfficeName::Unbar => Ok(OfficeCommand::Unbar(account(alloc, matches)?)),
-        OfficeName::Sweep => Ok(OfficeCommand::Sweep),
-        OfficeName::Credit => Ok(OfficeCommand::Credit(credit(alloc, matches)?)),
-        OfficeName::Allow => Ok(OfficeCommand::Allow(allowance(alloc, matches)?)),
-    }
-}
-
-/// The credit that the words say.
-#[tactic(auto, unfolding(crate::specs::Said::credit_said))]
-fn credit(alloc: Global, matches: &ArgMatches<'_>) -> Result<Credit, ValueFault>
-    ensures value { GivesUnless Memory (λ c. c) result
-        (credit_said (rows_of (found_of matches.now))) }
-    ensures in_range { IfOk result (λ c. 1 ≤ c.amount) }
-{
-    let account = account(alloc, matches)?;
-    let amount = amount_at(matches, "AMOUNT")?;
-    let reference = reference(alloc, matches)?;
-    let until = until(matches)?;
-    let scope = scope(matches)?;
-    Ok(Credit {
-        account,
-        amount,
-        from: None,
-        until,
-        scope,
-        reference,
-    })
-}
-
-/// The allowance that the words say.
-#[tactic(auto, unfolding(crate::specs::Said::allowance_said))]
-fn allowance(alloc: Global, matches: &ArgMatches<'_>) -> Result<Allowance, ValueFault>
-    ensures value { GivesUnless Memory (λ a. a) result
-        (allowance_said (rows_of (found_of matches.now))) }
-    ensures in_range { IfOk result (λ a. (1 ≤ a.blocks) × (a.blocks ≤ 1_000_000_000)) }
-{
-    let account = account(alloc, matches)?;
-    let blocks = blocks(matches)?;
-    let reference = reference(alloc, matches)?;
-    let until = until(matches)?;
-    let scope = group(matches)?;
-    Ok(Allowance {
-        account,
-        blocks,
-        from: None,
-        until,
-        scope,
-        reference,
     })
 }
 

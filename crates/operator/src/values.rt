@@ -3,9 +3,9 @@
 ghost use Rattle.std.specs.Prelude.{◌≡◌, ◌≤◌, IfOk, IfSome, codes, option_map};
 ghost use Rattle.clap.specs.Words.{found_of, first_of, rows_of};
 ghost use Rattle.texts.specs.Steps.{GivesUnless, Says};
-ghost use Rattle.operator.specs.Said.{account_of, at_of, database_of, from_of, group_of, has_flag};
-ghost use Rattle.operator.specs.Said.{month_at, number_at, number_in, optional_in, path_at};
-ghost use Rattle.operator.specs.Said.{reference_of, scope_of, until_of, word};
+ghost use Rattle.operator.specs.Values.{account_of, at_of, database_of, from_of, group_of, has_flag};
+ghost use Rattle.operator.specs.Values.{month_at, number_at, number_in, optional_in, path_at};
+ghost use Rattle.operator.specs.Values.{reference_of, scope_of, until_of, word};
 ghost use Rattle.operator.specs.declared.fault.ValueFault.TheVariants.{Memory};
 
 use crate::fault::ValueFault;
@@ -32,7 +32,7 @@ fn word<'a>(matches: &ArgMatches<'a>, id: &str) -> Result<&'a str, ValueFault>
 }
 
 /// The number of this range that a word says.
-#[tactic(auto, unfolding(crate::specs::Said::number_in))]
+#[tactic(auto, unfolding(crate::specs::Values::number_in))]
 fn number_in(low: u64, high: u64, word: &str) -> Result<u64, ValueFault>
     ensures value { Says (λ n. n) result (number_in low high word.now) }
     ensures in_range { IfOk result (λ n. (low ≤ n) × (n ≤ high)) }
@@ -46,7 +46,7 @@ fn number_in(low: u64, high: u64, word: &str) -> Result<u64, ValueFault>
 }
 
 /// The number of this range that an operand or an option says.
-#[tactic(auto, unfolding(crate::specs::Said::number_at))]
+#[tactic(auto, unfolding(crate::specs::Values::number_at))]
 pub(crate) fn number_at(
     matches: &ArgMatches<'_>,
     low: u64,
@@ -61,7 +61,7 @@ pub(crate) fn number_at(
 }
 
 /// The number of this range that an option says, where it is there.
-#[tactic(auto, unfolding(crate::specs::Said::optional_in))]
+#[tactic(auto, unfolding(crate::specs::Values::optional_in))]
 fn optional_at(
     matches: &ArgMatches<'_>,
     low: u64,
@@ -150,7 +150,7 @@ pub(crate) fn group(matches: &ArgMatches<'_>) -> Result<u32, ValueFault>
 }
 
 /// The path that an operand says.
-#[tactic(auto, unfolding(crate::specs::Said::path_at))]
+#[tactic(auto, unfolding(crate::specs::Values::path_at))]
 pub(crate) fn path_at(
     alloc: Global,
     matches: &ArgMatches<'_>,
@@ -172,7 +172,7 @@ pub(crate) fn database(alloc: Global, matches: &ArgMatches<'_>) -> Result<FilePa
 }
 
 /// The account's number.
-#[tactic(auto, unfolding(crate::specs::Said::account_of))]
+#[tactic(auto, unfolding(crate::specs::Values::account_of))]
 pub(crate) fn account(alloc: Global, matches: &ArgMatches<'_>) -> Result<AccountNumber, ValueFault>
     ensures { GivesUnless Memory (λ a. a) result
         (account_of (rows_of (found_of matches.now))) }
@@ -182,7 +182,7 @@ pub(crate) fn account(alloc: Global, matches: &ArgMatches<'_>) -> Result<Account
 }
 
 /// The reference of a credit or an allowance.
-#[tactic(auto, unfolding(crate::specs::Said::reference_of))]
+#[tactic(auto, unfolding(crate::specs::Values::reference_of))]
 pub(crate) fn reference(alloc: Global, matches: &ArgMatches<'_>) -> Result<Reference, ValueFault>
     ensures { GivesUnless Memory (λ r. r) result
         (reference_of (rows_of (found_of matches.now))) }
@@ -192,7 +192,7 @@ pub(crate) fn reference(alloc: Global, matches: &ArgMatches<'_>) -> Result<Refer
 }
 
 /// The month.
-#[tactic(auto, unfolding(crate::specs::Said::month_at))]
+#[tactic(auto, unfolding(crate::specs::Values::month_at))]
 pub(crate) fn month(matches: &ArgMatches<'_>) -> Result<Month, ValueFault>
     ensures { Says (λ m. m) result (month_at (rows_of (found_of matches.now))) }
 {

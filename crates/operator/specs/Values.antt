@@ -1,0 +1,84 @@
+-- What an operand or an option says, by what `clap` finds for it. A number is 1 to 16 digits without
+-- a sign.
+-- Source: profile.
+use Rattle.std.specs.Prelude.{ℕ, ◌&&◌, nat_le, Bool, List, [], Option, Some, None, Result, Ok, Err}
+use Rattle.std.specs.Prelude.{codes, unwrap_or}
+use Rattle.units.specs.Words.{Moment, GroupId, no_end, greatest_number}
+use Rattle.identifiers.specs.Texts.{is_account_number, is_reference, same_name}
+use Rattle.texts.specs.Months.{month_of}
+use Rattle.texts.specs.Numbers.{number_of}
+use Rattle.texts.specs.NumberWords.{MonthNumber}
+use Rattle.texts.specs.Steps.{◌>>=◌, or_fault, where_holds}
+use Rattle.clap.specs.Words.{Row, Text, first_of}
+use Rattle.operator.specs.Paths.{is_file_path}
+use Rattle.operator.specs.declared.fault.ValueFault.{ValueFault}
+use Rattle.operator.specs.declared.fault.ValueFault.TheVariants.{Invalid}
+
+-- the word of an operand or an option
+abbrev pub word : Text → List Row → Result Text ValueFault
+word id rows = or_fault Invalid (first_of id rows)
+
+-- a number of this range
+unfoldable pub number_in : ℕ → ℕ → Text → Result ℕ ValueFault
+number_in low high text = do
+  n ← or_fault Invalid (number_of text)
+  where_holds (nat_le low n && nat_le n high) Invalid n
+
+unfoldable pub number_at : ℕ → ℕ → Text → List Row → Result ℕ ValueFault
+number_at low high id rows = do
+  text ← word id rows
+  number_in low high text
+
+-- the same, where the option is there
+unfoldable pub optional_in : ℕ → ℕ → Option Text → Result (Option ℕ) ValueFault
+optional_in low high None = Ok None
+optional_in low high (Some text) = do
+  n ← number_in low high text
+  Ok (Some n)
+
+-- the moment of a command, where it is said
+abbrev pub at_of : List Row → Result (Option Moment) ValueFault
+at_of rows = optional_in 0 4_102_444_799 (first_of (codes "at") rows)
+
+-- until when a credit can be used, where it is said
+abbrev pub until_of : List Row → Result (Option Moment) ValueFault
+until_of rows = optional_in 1 no_end (first_of (codes "until") rows)
+
+-- the rating group that a credit pays for, where it is said
+abbrev pub scope_of : List Row → Result (Option GroupId) ValueFault
+scope_of rows = optional_in 0 greatest_number (first_of (codes "scope") rows)
+
+-- the rating group of an allowance, which must be said
+abbrev pub group_of : List Row → Result GroupId ValueFault
+group_of rows = number_at 0 greatest_number (codes "scope") rows
+
+-- the moment from which a book holds
+abbrev pub from_of : List Row → Result Moment ValueFault
+from_of rows = number_at 0 4_102_444_799 (codes "from") rows
+
+unfoldable pub path_at : Text → List Row → Result Text ValueFault
+path_at id rows = do
+  text ← word id rows
+  where_holds (is_file_path text) Invalid text
+
+abbrev pub database_of : List Row → Result Text ValueFault
+database_of rows = path_at (codes "DB") rows
+
+unfoldable pub account_of : List Row → Result Text ValueFault
+account_of rows = do
+  text ← word (codes "ACCOUNT") rows
+  where_holds (is_account_number text) Invalid text
+
+unfoldable pub reference_of : List Row → Result Text ValueFault
+reference_of rows = do
+  text ← word (codes "REFERENCE") rows
+  where_holds (is_reference text) Invalid text
+
+unfoldable pub month_at : List Row → Result MonthNumber ValueFault
+month_at rows = do
+  text ← word (codes "YYYYMM") rows
+  or_fault Invalid (month_of text)
+
+-- whether a flag is there
+abbrev pub has_flag : Text → List Row → Bool
+has_flag id rows = same_name (unwrap_or (first_of id rows) []) (codes "true")
