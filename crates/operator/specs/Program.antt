@@ -7,6 +7,7 @@ use Rattle.std.specs.Cmp.Lexicographic.{pointwise}
 use Rattle.clap.specs.Words.{App, Rule, Text, new_app, new_rule, with_rule, with_subcommand}
 use Rattle.clap.specs.declared.builder.action.ArgAction.TheVariants.{Set, SetTrue}
 use Rattle.operator.specs.Office.{office_name}
+use Rattle.operator.specs.declared.office.OfficeName.{OfficeName}
 use Rattle.operator.specs.declared.office.OfficeName.TheVariants as office
 use Rattle.operator.specs.declared.program.CommandName.{CommandName}
 use Rattle.operator.specs.declared.program.CommandName.TheVariants.{Once, Init, Migrate, Book}
@@ -126,29 +127,37 @@ abbrev pub replay_app : App
 replay_app = with_rule (with_rule (new_app (codes "replay"))
     (operand (codes "DB"))) (operand (codes "FILE"))
 
--- the program's name and version; one of its commands must be there
+abbrev pub office_app : OfficeName → App
+office_app office.Open = account_app (codes "open")
+office_app office.Bar = account_app (codes "bar")
+office_app office.Unbar = account_app (codes "unbar")
+office_app office.Sweep = sweep_app
+office_app office.Credit = credit_app
+office_app office.Allow = allow_app
+
+abbrev pub command_app : CommandName → App
+command_app Once = once_app
+command_app Init = init_app
+command_app Migrate = migrate_app
+command_app Book = book_app
+command_app Serve = serve_app
+command_app Import = import_app
+command_app (Office office) = office_app office
+command_app Statement = statement_app
+command_app Replay = replay_app
+
+-- ---- the program
+
+-- its name and version; one of its commands must be there
 abbrev pub top_app : App
 top_app = let empty = new_app (codes "ocs") in
     record empty { top = record (empty.top) { has_version = true; subcommand_required = true } }
 
--- with its first commands, then more of them
-abbrev pub first_app : App
-first_app = with_subcommand (with_subcommand top_app once_app.top) init_app.top
-
-abbrev pub books_app : App
-books_app = with_subcommand (with_subcommand first_app migrate_app.top) book_app.top
-
-abbrev pub files_app : App
-files_app = with_subcommand (with_subcommand books_app serve_app.top) import_app.top
-
-abbrev pub accounts_app : App
-accounts_app = with_subcommand (with_subcommand (with_subcommand files_app
-    (account_app (codes "open")).top) (account_app (codes "bar")).top)
-    (account_app (codes "unbar")).top
-
-abbrev pub office_app : App
-office_app = with_subcommand (with_subcommand (with_subcommand accounts_app
-    sweep_app.top) credit_app.top) allow_app.top
+-- a program with these commands more
+abbrev pub with_commands : List CommandName → App → App
+with_commands [] program = program
+with_commands (name ∷ rest) program =
+    with_commands rest (with_subcommand program (command_app name).top)
 
 abbrev pub program_app : App
-program_app = with_subcommand (with_subcommand office_app statement_app.top) replay_app.top
+program_app = with_commands command_names top_app

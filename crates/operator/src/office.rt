@@ -26,7 +26,7 @@ pub(crate) enum OfficeName {
 }
 
 impl OfficeName {
-    fn name(self) -> &'static str
+    pub(crate) fn name(self) -> &'static str
         ensures { result.now ≡ office_name self }
     {
         match self {

@@ -3,14 +3,13 @@
 ghost use Rattle.std.specs.Prelude.{◌≡◌, IfOk, false, nat_eq};
 ghost use Rattle.std.specs.List.{find};
 ghost use Rattle.std.specs.Cmp.Lexicographic.{pointwise};
-ghost use Rattle.clap.specs.Words.{App, app_of, with_rule, with_subcommand};
+ghost use Rattle.clap.specs.Words.{app_of, with_rule, with_subcommand};
 ghost use Rattle.clap.specs.declared.builder.command.Command.TheViews.{out-Command as fields_of};
-ghost use Rattle.operator.specs.Program.{account_app, accounts_app, allow_app, allow_operands_app};
-ghost use Rattle.operator.specs.Program.{at, book_app, books_app, command_name, command_named};
-ghost use Rattle.operator.specs.Program.{credit_app, credit_operands_app, files_app, first_app};
-ghost use Rattle.operator.specs.Program.{import_app, init_app, migrate_app, office_app, once_app};
-ghost use Rattle.operator.specs.Program.{program_app, replay_app, serve_app, statement_app};
-ghost use Rattle.operator.specs.Program.{sweep_app, top_app};
+ghost use Rattle.operator.specs.Program.{account_app, allow_app, allow_operands_app, at, book_app};
+ghost use Rattle.operator.specs.Program.{command_app, command_name, command_named, credit_app};
+ghost use Rattle.operator.specs.Program.{credit_operands_app, import_app, init_app, migrate_app};
+ghost use Rattle.operator.specs.Program.{office_app, once_app, program_app, replay_app, serve_app};
+ghost use Rattle.operator.specs.Program.{statement_app, sweep_app, top_app, with_commands};
 
 use crate::arguments::{with_flag, with_operand, with_option};
 use crate::office::OfficeName;
@@ -70,6 +69,24 @@ impl CommandName {
             CommandName::Office(office) => office.name(),
             CommandName::Statement => "statement",
             CommandName::Replay => "replay",
+        }
+    }
+
+    /// The command with its operands and options, as `clap` takes it.
+    fn command<'a>(self, alloc: Global) -> Result<Command<'a>, AllocError>
+        ensures app { IfOk result (λ c. app_of c ≡ command_app self) }
+        ensures local { IfOk result (λ c. (fields_of c).has_globals ≡ false) }
+    {
+        match self {
+            CommandName::Once => once_command(alloc),
+            CommandName::Init => init_command(alloc),
+            CommandName::Migrate => migrate_command(alloc),
+            CommandName::Book => book_command(alloc),
+            CommandName::Serve => serve_command(alloc),
+            CommandName::Import => import_command(alloc),
+            CommandName::Office(office) => office_command(alloc, office),
+            CommandName::Statement => statement_command(alloc),
+            CommandName::Replay => replay_command(alloc),
         }
     }
 
@@ -262,19 +279,21 @@ fn replay_command<'a>(alloc: Global) -> Result<Command<'a>, AllocError>
     )
 }
 
-/// A program with one more command, where that was made.
-fn with_command<'a>(
-    program: Command<'a>,
-    command: Result<Command<'a>, AllocError>,
-) -> Result<Command<'a>, AllocError>
-    requires program { (fields_of program).has_globals ≡ false }
-    requires command { IfOk command (λ c. (fields_of c).has_globals ≡ false) }
-    ensures app { IfOk result (λ made. (app : App) → IfOk command.entry (λ c. app_of c ≡ app) →
-        app_of made ≡ with_subcommand (app_of program.entry) app.top) }
+/// An operator's command with its operands and options.
+fn office_command<'a>(alloc: Global, name: OfficeName) -> Result<Command<'a>, AllocError>
+    ensures app { IfOk result (λ c. app_of c ≡ office_app name) }
     ensures local { IfOk result (λ c. (fields_of c).has_globals ≡ false) }
 {
-    let command = command?;
-    program.subcommand(command)
+    match name {
+        OfficeName::Open => account_command(alloc, "open", "Opens an account"),
+        OfficeName::Bar => {
+            account_command(alloc, "bar", "Bars an account: it is granted nothing more")
+        }
+        OfficeName::Unbar => account_command(alloc, "unbar", "Ends that an account is barred"),
+        OfficeName::Sweep => sweep_command(alloc),
+        OfficeName::Credit => credit_command(alloc),
+        OfficeName::Allow => allow_command(alloc),
+    }
 }
 
 /// The program, before its commands.
@@ -288,58 +307,37 @@ fn top_command<'a>(alloc: Global) -> Command<'a>
         .subcommand_required(true)
 }
 
-/// The program with `once` and `init`.
-fn first_program<'a>(alloc: Global) -> Result<Command<'a>, AllocError>
-    ensures app { IfOk result (λ c. app_of c ≡ first_app) }
+/// A program with one command more.
+fn with_command<'a>(
+    alloc: Global,
+    program: Command<'a>,
+    name: CommandName,
+) -> Result<Command<'a>, AllocError>
+    requires { (fields_of program).has_globals ≡ false }
+    ensures app { IfOk result
+        (λ c. app_of c ≡ with_subcommand (app_of program.entry) (command_app name).top) }
     ensures local { IfOk result (λ c. (fields_of c).has_globals ≡ false) }
 {
-    let program = with_command(top_command(alloc), once_command(alloc))?;
-    with_command(program, init_command(alloc))
+    let command = name.command(alloc)?;
+    program.subcommand(command)
 }
 
-/// The program with `once`, `init`, `migrate` and `book`.
-fn books_program<'a>(alloc: Global) -> Result<Command<'a>, AllocError>
-    ensures app { IfOk result (λ c. app_of c ≡ books_app) }
+/// A program with these commands more.
+fn with_commands<'a>(
+    alloc: Global,
+    program: Command<'a>,
+    names: &[CommandName],
+) -> Result<Command<'a>, AllocError>
+    requires { (fields_of program).has_globals ≡ false }
+    ensures app { IfOk result
+        (λ c. app_of c ≡ with_commands names.now (app_of program.entry)) }
     ensures local { IfOk result (λ c. (fields_of c).has_globals ≡ false) }
 {
-    let program = first_program(alloc)?;
-    let program = with_command(program, migrate_command(alloc))?;
-    with_command(program, book_command(alloc))
-}
-
-/// The same with `serve` and `import`.
-fn files_program<'a>(alloc: Global) -> Result<Command<'a>, AllocError>
-    ensures app { IfOk result (λ c. app_of c ≡ files_app) }
-    ensures local { IfOk result (λ c. (fields_of c).has_globals ≡ false) }
-{
-    let program = books_program(alloc)?;
-    let program = with_command(program, serve_command(alloc))?;
-    with_command(program, import_command(alloc))
-}
-
-/// The same with `open`, `bar` and `unbar`.
-fn account_program<'a>(alloc: Global) -> Result<Command<'a>, AllocError>
-    ensures app { IfOk result (λ c. app_of c ≡ accounts_app) }
-    ensures local { IfOk result (λ c. (fields_of c).has_globals ≡ false) }
-{
-    let program = files_program(alloc)?;
-    let open = account_command(alloc, "open", "Opens an account");
-    let program = with_command(program, open)?;
-    let bar = account_command(alloc, "bar", "Bars an account: it is granted nothing more");
-    let program = with_command(program, bar)?;
-    let unbar = account_command(alloc, "unbar", "Ends that an account is barred");
-    with_command(program, unbar)
-}
-
-/// The program with all its commands but `statement` and `replay`.
-fn office_program<'a>(alloc: Global) -> Result<Command<'a>, AllocError>
-    ensures app { IfOk result (λ c. app_of c ≡ office_app) }
-    ensures local { IfOk result (λ c. (fields_of c).has_globals ≡ false) }
-{
-    let program = account_program(alloc)?;
-    let program = with_command(program, sweep_command(alloc))?;
-    let program = with_command(program, credit_command(alloc))?;
-    with_command(program, allow_command(alloc))
+    let mut program = program;
+    for name in names {
+        program = with_command(alloc, program, *name)?;
+    }
+    Ok(program)
 }
 
 /// The program with all its commands.
@@ -347,7 +345,5 @@ pub(crate) fn program<'a>(alloc: Global) -> Result<Command<'a>, AllocError>
     ensures app { IfOk result (λ c. app_of c ≡ program_app) }
     ensures local { IfOk result (λ c. (fields_of c).has_globals ≡ false) }
 {
-    let program = office_program(alloc)?;
-    let program = with_command(program, statement_command(alloc))?;
-    with_command(program, replay_command(alloc))
+    with_commands(alloc, top_command(alloc), &COMMANDS)
 }
