@@ -29,8 +29,8 @@ command_name Replay = codes "replay"
 
 abbrev pub command_names : List CommandName
 command_names = Once ∷ Init ∷ Migrate ∷ Book ∷ Serve ∷ Import
-    ∷ Office office.Open ∷ Office office.Bar ∷ Office office.Unbar ∷ Office office.Sweep ∷ Office office.Credit
-    ∷ Office office.Allow ∷ Statement ∷ Replay ∷ []
+    ∷ Office office.Open ∷ Office office.Bar ∷ Office office.Unbar ∷ Office office.Sweep
+    ∷ Office office.Credit ∷ Office office.Allow ∷ Statement ∷ Replay ∷ []
 
 -- the command of a name
 abbrev pub command_named : Text → Option CommandName

@@ -1,5 +1,5 @@
--- What an operand or an option says, by what `clap` finds for it. A number is 1 to 16 digits without
--- a sign.
+-- What an operand or an option says, by what `clap` finds for it. A number is 1 to 16 digits
+-- without a sign.
 -- Source: profile.
 use Rattle.std.specs.Prelude.{ℕ, ◌&&◌, nat_le, Bool, List, [], Option, Some, None, Result, Ok, Err}
 use Rattle.std.specs.Prelude.{codes, unwrap_or}

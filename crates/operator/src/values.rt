@@ -3,9 +3,9 @@
 ghost use Rattle.std.specs.Prelude.{◌≡◌, ◌≤◌, IfOk, IfSome, codes, option_map};
 ghost use Rattle.clap.specs.Words.{found_of, first_of, rows_of};
 ghost use Rattle.texts.specs.Steps.{GivesUnless, Says};
-ghost use Rattle.operator.specs.Values.{account_of, at_of, database_of, from_of, group_of, has_flag};
-ghost use Rattle.operator.specs.Values.{month_at, number_at, number_in, optional_in, path_at};
-ghost use Rattle.operator.specs.Values.{reference_of, scope_of, until_of, word};
+ghost use Rattle.operator.specs.Values.{account_of, at_of, database_of, from_of, group_of};
+ghost use Rattle.operator.specs.Values.{has_flag, month_at, number_at, number_in, optional_in};
+ghost use Rattle.operator.specs.Values.{path_at, reference_of, scope_of, until_of, word};
 ghost use Rattle.operator.specs.declared.fault.ValueFault.TheVariants.{Memory};
 
 use crate::fault::ValueFault;
