@@ -12,7 +12,8 @@ use Rattle.http_messages.proofs.OneNext.{next_is_one}
 use Rattle.http_messages.proofs.Refusals.{refused_says}
 use Rattle.http_messages.specs.Parts.{first_part}
 use Rattle.http_messages.specs.Requests.{Next, asks, refused, ended, IsNext}
-use Rattle.http_messages.specs.Asking.{Asking, refuses, reads, states, asked_of}
+use Rattle.http_messages.specs.Asking.{Asking, refuses, reads, states}
+use Rattle.http_messages.specs.Table.{asked_of}
 use Rattle.http_api.specs.Replies.{Reply, reply_at, statement_at, IsDue, IsReply}
 use Rattle.http_api.specs.Connections.{Connection, new_connection, left_after, after_reply, IsOver}
 use Rattle.http_api.specs.Connections.{IsAnswered, Takes}

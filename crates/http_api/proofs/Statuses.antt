@@ -8,9 +8,9 @@ use Rattle.shelves.specs.Shelves.{Shelf}
 use Rattle.charging.specs.Accepted.{Accepted}
 use Rattle.http_messages.specs.Statuses.{IsAnswerStatus, method_not_allowed}
 use Rattle.http_messages.specs.Requests.{Ask}
-use Rattle.http_messages.specs.Asking.{Asking, refuses, reads, states, stated, statement_in}
-use Rattle.http_messages.specs.Asking.{asking_by, asked_by, asked_of}
-use Rattle.http_messages.specs.Routes.{route_of, serves}
+use Rattle.http_messages.specs.Asking.{Asking, refuses, reads, states, stated}
+use Rattle.http_messages.specs.Routes.{statement_in, asking_by}
+use Rattle.http_messages.specs.Table.{asked_by, asked_of, route_of, serves}
 use Rattle.http_messages.specs.declared.asking.StatementAsked.{StatementAsked}
 use Rattle.http_messages.specs.declared.routes.Route.{Route}
 use Rattle.http_messages.specs.declared.routes.Route.TheVariants.{Ccr, Account, Statement, Credits}

@@ -16,7 +16,8 @@ use Rattle.charging.proofs.Serving.{left_as}
 use Rattle.http_messages.specs.Parts.{first_part}
 use Rattle.http_messages.proofs.Refusals.{refused_says}
 use Rattle.http_messages.specs.Requests.{Next, asks, refused, ended, IsNext}
-use Rattle.http_messages.specs.Asking.{Asking, refuses, asked_of, IsAsked}
+use Rattle.http_messages.specs.Asking.{Asking, refuses, IsAsked}
+use Rattle.http_messages.specs.Table.{asked_of}
 use Rattle.http_messages.specs.Texts.{Begins}
 use Rattle.http_messages.proofs.Begun.{begun_second}
 use Rattle.http_api.specs.declared.fault.ServeFault.TheVariants as fault

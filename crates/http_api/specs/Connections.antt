@@ -17,7 +17,8 @@ use Rattle.charging.specs.Parts.{Leaves}
 use Rattle.charging.specs.Served.{AreTables}
 use Rattle.http_messages.specs.Statuses.{IsAnswerStatus}
 use Rattle.http_messages.specs.Requests.{Next, asks, refused, ended, IsNext}
-use Rattle.http_messages.specs.Asking.{Asking, refuses, asked_of}
+use Rattle.http_messages.specs.Asking.{Asking, refuses}
+use Rattle.http_messages.specs.Table.{asked_of}
 use Rattle.http_messages.specs.Texts.{Begins}
 use Rattle.http_api.specs.Clocks.{GivesInTurn}
 use Rattle.http_api.specs.Replies.{Reply, reply_text, IsReply}

@@ -2,7 +2,8 @@
 use Rattle.std.specs.Prelude.{◌≡◌, true, Option, Some, None, ⊤}
 use Rattle.texts.specs.StreamWords.{Bytes}
 use Rattle.http_messages.specs.Requests.{Next, asks, refused, ended, IsNext}
-use Rattle.http_messages.specs.Asking.{refuses, asked_of, IsAsked}
+use Rattle.http_messages.specs.Asking.{refuses, IsAsked}
+use Rattle.http_messages.specs.Table.{asked_of}
 use Rattle.http_messages.specs.Refusals.{refusal_status, refusal_of}
 use Rattle.http_api.specs.declared.hearing.Heard.{Heard}
 

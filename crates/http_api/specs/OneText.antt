@@ -6,7 +6,8 @@ use Rattle.texts.specs.StreamWords.{Bytes}
 use Rattle.shelves.specs.Shelves.{Shelf}
 use Rattle.charging.specs.Accepted.{Accepted}
 use Rattle.http_messages.specs.Requests.{Next, asks, refused, ended, IsNext}
-use Rattle.http_messages.specs.Asking.{Asking, refuses, asked_of}
+use Rattle.http_messages.specs.Asking.{Asking, refuses}
+use Rattle.http_messages.specs.Table.{asked_of}
 use Rattle.http_api.specs.Replies.{Reply, IsDue}
 use Rattle.http_api.specs.Connections.{Connection, new_connection, after_reply, IsOver, Turns}
 

@@ -2,8 +2,8 @@
 
 ghost use Rattle.std.specs.Prelude.{◌≡◌, ◌≤◌, ◌*◌, ℕ, List, Option, length, IfOk, IsErrOf, IfSome};
 ghost use Rattle.http_messages.specs.Requests.{Next, Tells, seen};
-ghost use Rattle.http_messages.specs.Routes.{table};
-ghost use Rattle.http_messages.specs.Asking.{asked_of, IsAsked};
+ghost use Rattle.http_messages.specs.Asking.{IsAsked};
+ghost use Rattle.http_messages.specs.Table.{table, asked_of};
 ghost use Rattle.http_api.specs.Hearing.{IsOfHead, Hears, HearsNext};
 
 use http_messages::{

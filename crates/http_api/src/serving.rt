@@ -1,7 +1,7 @@
 //! The requests of a connection, one after another.
 
 ghost use Rattle.std.specs.Prelude.{◌≡◌, ◌≤◌, ◌<◌, ◌+◌, ◌*◌, length};
-ghost use Rattle.http_messages.specs.Routes.{table};
+ghost use Rattle.http_messages.specs.Table.{table};
 ghost use Rattle.http_api.specs.Connections.{left_after, ServesConnection};
 
 use crate::answering::answer_request;

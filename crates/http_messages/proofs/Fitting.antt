@@ -1,54 +1,55 @@
--- Each route of the table fits among those before it.
-use Rattle.std.proofs.Common.{[], codes, refl}
+-- Routes that are added one after another, each of which fits among those before it.
+use Rattle.std.proofs.Common.{◌≡◌, ◌∙◌, ◌<◌, ◌≤◌, ◌+◌, ℕ, List, [], ◌∷◌, ap, drop, get_or}
+use Rattle.std.proofs.Common.{length, refl, subst, sym}
+use Rattle.std.proofs.lemmas.List.{drop_more}
+use Rattle.std.proofs.Math.ListN.{drop_of_length-le}
+use Rattle.texts.specs.StreamWords.{Bytes}
 use Rattle.matchit.specs.Route.{scan}
-use Rattle.http_messages.specs.Routes.{Routes, Fits, added}
-use Rattle.http_messages.specs.declared.routes.Route.TheVariants.{Ccr, Account, Statement, Credits}
-use Rattle.http_messages.specs.declared.routes.Route.TheVariants.{Allowances, Redeem}
+use Rattle.http_messages.specs.Routes.{every_route, about_route}
+use Rattle.http_messages.specs.Table.{Rows, Fits, AreFitting, added, with_routes}
+use Rattle.http_messages.specs.declared.routes.Route.{Route}
 
--- the rows so far
-abbrev pub one : Routes
-one = added (codes "/ccr") Ccr []
+-- the routes that are left fit, and make of these rows what all of them make of the first rows
+pub record IsAddedTo (all : List Route) (first : Rows) (left : List Route) (rows : Rows) :
+    Type 0 where
+  pub fit : AreFitting left rows
+  pub made : with_routes left rows ≡ with_routes all first
 
-abbrev pub two : Routes
-two = added (codes "/accounts/{a}") Account one
+-- the next one, at a place of the list
+next_is : (all : List Route) (first : Rows) (i : ℕ) (d : Route) (rows : Rows) → i < length all →
+    IsAddedTo all first (drop i all) rows →
+    IsAddedTo all first (get_or all i d ∷ drop (i + 1) all) rows
+next_is all first i d rows less so =
+    subst (λ left. IsAddedTo all first left rows) (drop_more all i d less) so
 
-abbrev pub three : Routes
-three = added (codes "/accounts/{a}/statement/{yyyymm}") Statement two
+pub next_fits : (all : List Route) (first : Rows) (i : ℕ) (d : Route) (rows : Rows)
+    (text : Bytes) → text ≡ (about_route (get_or all i d)).pattern → i < length all →
+    IsAddedTo all first (drop i all) rows → Fits text rows
+next_fits all first i d rows text is less so =
+    subst (λ t. Fits t rows) (sym is) (next_is all first i d rows less so).fit.0
 
-abbrev pub four : Routes
-four = added (codes "/accounts/{a}/credits") Credits three
+pub one_added : (all : List Route) (first : Rows) (i : ℕ) (d : Route) (rows new : Rows)
+    (text : Bytes) → text ≡ (about_route (get_or all i d)).pattern →
+    new ≡ added text (get_or all i d) rows → i < length all →
+    IsAddedTo all first (drop i all) rows → IsAddedTo all first (drop (i + 1) all) new
+one_added all first i d rows new text is adds less so =
+    let route : Route = get_or all i d in
+    let rest : List Route = drop (i + 1) all in
+    let next : IsAddedTo all first (route ∷ rest) rows = next_is all first i d rows less so in
+    let e : new ≡ added (about_route route).pattern route rows =
+    adds ∙ ap (λ t. added t route rows) is in
+    record {
+      fit = subst (AreFitting rest) (sym e) next.fit.1;
+      made = ap (with_routes rest) e ∙ next.made;
+    }
 
-abbrev pub five : Routes
-five = added (codes "/accounts/{a}/allowances") Allowances four
+-- after the last one
+pub all_added : (all : List Route) (first : Rows) (i : ℕ) (rows : Rows) → length all ≤ i →
+    IsAddedTo all first (drop i all) rows → rows ≡ with_routes all first
+all_added all first i rows less so =
+    (subst (λ left. IsAddedTo all first left rows) (drop_of_length-le all less) so).made
 
-abbrev pub six : Routes
-six = added (codes "/vouchers/{code}/redeem") Redeem five
-
--- and the route that comes next
-pub ccr_fits : Fits (codes "/ccr") []
+-- each of ours
+pub all_fit : AreFitting every_route []
 unfolding scan
-ccr_fits = refl
-
-pub account_fits : Fits (codes "/accounts/{a}") one
-unfolding scan
-account_fits = refl
-
-pub statement_fits : Fits (codes "/accounts/{a}/statement/{yyyymm}") two
-unfolding scan
-statement_fits = refl
-
-pub credits_fits : Fits (codes "/accounts/{a}/credits") three
-unfolding scan
-credits_fits = refl
-
-pub allowances_fits : Fits (codes "/accounts/{a}/allowances") four
-unfolding scan
-allowances_fits = refl
-
-pub redeem_fits : Fits (codes "/vouchers/{code}/redeem") five
-unfolding scan
-redeem_fits = refl
-
-pub sweep_fits : Fits (codes "/sweep") six
-unfolding scan
-sweep_fits = refl
+all_fit = (refl, (refl, (refl, (refl, (refl, (refl, (refl, tt)))))))

@@ -1,5 +1,5 @@
 -- What an insert leaves, by what its text reads as.
-use Rattle.std.proofs.Common.{◌≡◌, ◌∙◌, ap, sym, subst, refl, List, ℕ, Result, Ok, Err}
+use Rattle.std.proofs.Common.{◌≡◌, ◌∙◌, sym, subst, refl, Result, Ok, Err}
 use Rattle.std.proofs.lemmas.Option.{none-some}
 use Rattle.matchit.specs.Route.{Scan}
 use Rattle.matchit.specs.Router.{InsertsRead}
@@ -8,9 +8,9 @@ use Rattle.matchit.specs.declared.InsertError.TheVariants.{Conflict, InvalidPara
 use Rattle.matchit.specs.declared.InsertError.TheVariants.{InvalidParam, InvalidCatchAll}
 use Rattle.matchit.specs.declared.InsertError.TheVariants.{OutOfMemory}
 use Rattle.http_messages.specs.declared.routes.Route.{Route}
-use Rattle.http_messages.specs.Routes.{Routes, added, added_read, fits_read, Fits}
+use Rattle.http_messages.specs.Table.{Rows, added_read, fits_read}
 
-pub inserts_read : (x : Result Scan InsertError) (value : Route) (old new : Routes)
+pub inserts_read : (x : Result Scan InsertError) (value : Route) (old new : Rows)
     (r : Result (Unit {0}) InsertError) (u : Unit {0}) → InsertsRead x value old new r →
     r ≡ Ok u → new ≡ added_read x value old
 inserts_read x value old new r u h is = inserted x (subst (InsertsRead x value old new) is h)
@@ -20,13 +20,8 @@ inserts_read x value old new r u h is = inserted x (subst (InsertsRead x value o
     inserted (Ok s) h = h.1
     inserted (Err e) h = h.0
 
--- one row more of a known table
-pub one_more : (text : List ℕ) (value : Route) (old new known : Routes) →
-    new ≡ added text value old → old ≡ known → new ≡ added text value known
-one_more text value old new known e h = e ∙ ap (added text value) h
-
 -- of a route that fits the one error is want of memory
-pub one_error : (x : Result Scan InsertError) (value : Route) (old new : Routes)
+pub one_error : (x : Result Scan InsertError) (value : Route) (old new : Rows)
     (r : Result (Unit {0}) InsertError) (e : InsertError) → fits_read x old →
     InsertsRead x value old new r → r ≡ Err e → e ≡ OutOfMemory
 one_error x value old new r e fits h is =
@@ -40,8 +35,3 @@ one_error x value old new r e fits h is =
     refused (Ok s) InvalidCatchAll fits h = absurd h.1
     refused (Ok s) OutOfMemory fits h = refl
     refused (Err f) e fits h = absurd fits
-
--- a route that fits among known rows
-pub fits_known : (text : List ℕ) (old known : Routes) → old ≡ known → Fits text known →
-    Fits text old
-fits_known text old known is fits = subst (Fits text) (sym is) fits

@@ -23,8 +23,8 @@ use Rattle.matchit.proofs.LongestLemmas.{longest-kid}
 use Rattle.http_messages.specs.declared.routes.Route.{Route}
 use Rattle.http_messages.specs.declared.routes.Route.TheVariants.{Ccr, Account, Statement, Credits}
 use Rattle.http_messages.specs.declared.routes.Route.TheVariants.{Allowances, Redeem, Sweep}
-use Rattle.http_messages.specs.Routes.{table, route_at}
-use Rattle.http_messages.specs.Paths.{IsPart, IsPathOf, AreRoutesPaths}
+use Rattle.http_messages.specs.Routes.{IsPart, IsPathOf}
+use Rattle.http_messages.specs.Table.{table, route_at, AreRoutesPaths}
 
 -- ---- the table as nodes
 

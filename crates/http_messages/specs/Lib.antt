@@ -7,7 +7,7 @@ pub mod Requests
 pub mod Shortest
 pub mod Words
 pub mod Refusals
-pub mod Routes
-pub mod Paths
 pub mod Asking
+pub mod Routes
+pub mod Table
 pub mod Texts

@@ -6,12 +6,12 @@ ghost use Rattle.commands.specs.declared.command.Command.{Command};
 ghost use Rattle.json_fields.specs.Gives.{Gives, Says};
 ghost use Rattle.json_fields.specs.declared.fault.WireFault.{WireFault};
 ghost use Rattle.http_messages.specs.Requests.{seen};
-ghost use Rattle.http_messages.specs.Routes.{table};
-ghost use Rattle.http_messages.specs.Asking.{is_slash, second_part, fourth_part, account_command};
-ghost use Rattle.http_messages.specs.Asking.{account_in, account_asked, allowance_asked, code_in};
-ghost use Rattle.http_messages.specs.Asking.{credit_asked, month_in, redemption_asked};
-ghost use Rattle.http_messages.specs.Asking.{statement_in};
-ghost use Rattle.http_messages.specs.Asking.{reads, stated, asking_by, asked_of, IsAsked};
+ghost use Rattle.http_messages.specs.Asking.{is_slash, second_part, fourth_part, account_in};
+ghost use Rattle.http_messages.specs.Asking.{code_in, month_in, reads, stated, IsAsked};
+ghost use Rattle.http_messages.specs.Routes.{account_asked, account_command, allowance_asked};
+ghost use Rattle.http_messages.specs.Routes.{asking_by, credit_asked, redemption_asked};
+ghost use Rattle.http_messages.specs.Routes.{statement_in};
+ghost use Rattle.http_messages.specs.Table.{table, asked_of};
 ghost use Rattle.http_messages.specs.declared.asking.StatementAsked.{StatementAsked};
 
 use crate::refusal::HttpRefusal;

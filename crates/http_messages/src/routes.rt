@@ -1,10 +1,11 @@
-//! The table of routes.
+//! The routes, and their table.
 
-ghost use Rattle.std.specs.Prelude.{◌≡◌, [], IfOk, OnOk, OnErr};
+ghost use Rattle.std.specs.Prelude.{◌≡◌, IfOk, OnOk, OnErr};
 ghost use Rattle.matchit.specs.declared.InsertError.TheVariants.{OutOfMemory};
 ghost use Rattle.http_messages.specs.Methods.{is_get, is_post, is_put};
-ghost use Rattle.http_messages.specs.Routes.{added, table, route_at, has_query, route_of, serves};
-ghost use Rattle.http_messages.specs.Routes.{Fits};
+ghost use Rattle.http_messages.specs.Routes.{about_route};
+ghost use Rattle.http_messages.specs.Table.{Fits, AreFitting, added, with_routes, table};
+ghost use Rattle.http_messages.specs.Table.{route_at, has_query, route_of, serves};
 
 use http::Method;
 use matchit::{InsertError, Router};
@@ -30,6 +31,17 @@ pub enum Route {
     Sweep,
 }
 
+/// All routes, in the order in which a router gets them.
+const ROUTES: [Route; 7] = [
+    Route::Ccr,
+    Route::Account,
+    Route::Statement,
+    Route::Credits,
+    Route::Allowances,
+    Route::Redeem,
+    Route::Sweep,
+];
+
 /// Whether a method is GET.
 pub(crate) fn is_get(method: &Method) -> bool
     ensures { result ≡ is_get method.now }
@@ -52,6 +64,21 @@ fn is_put(method: &Method) -> bool
 }
 
 impl Route {
+    /// The text of its path: a part in braces is any that isn't empty.
+    fn pattern(self) -> &'static str
+        ensures { result.now ≡ (about_route self).pattern }
+    {
+        match self {
+            Route::Ccr => "/ccr",
+            Route::Account => "/accounts/{a}",
+            Route::Statement => "/accounts/{a}/statement/{yyyymm}",
+            Route::Credits => "/accounts/{a}/credits",
+            Route::Allowances => "/accounts/{a}/allowances",
+            Route::Redeem => "/vouchers/{code}/redeem",
+            Route::Sweep => "/sweep",
+        }
+    }
+
     /// Whether the path has this method.
     pub(crate) fn serves(self, method: &Method) -> bool
         ensures { result ≡ serves self method.now }
@@ -89,21 +116,16 @@ fn add(router: &mut Router<Route>, text: &str, value: Route) -> Result<(), Strea
     }
 }
 
-/// Puts the rows of the table into a router that has none. The one fault is `Memory`, where a
-/// growth was refused.
-#[tactic(auto, unfolding(crate::specs::Routes::table))]
-fn add_routes(router: &mut Router<Route>) -> Result<(), StreamFault>
-    requires { router.old ≡ [] }
-    ensures table { OnOk result (router.new ≡ table) }
+/// Adds routes, one after another, each of which fits among those before it. The one fault is
+/// `Memory`, where a growth was refused.
+fn add_each(router: &mut Router<Route>, routes: &[Route]) -> Result<(), StreamFault>
+    requires { AreFitting routes.now router.old }
+    ensures added { OnOk result (router.new ≡ with_routes routes.now router.old) }
     ensures fault { OnErr result (result ≡ Err StreamFault.Memory) }
 {
-    add(router, "/ccr", Route::Ccr)?;
-    add(router, "/accounts/{a}", Route::Account)?;
-    add(router, "/accounts/{a}/statement/{yyyymm}", Route::Statement)?;
-    add(router, "/accounts/{a}/credits", Route::Credits)?;
-    add(router, "/accounts/{a}/allowances", Route::Allowances)?;
-    add(router, "/vouchers/{code}/redeem", Route::Redeem)?;
-    add(router, "/sweep", Route::Sweep)?;
+    for route in routes {
+        add(router, route.pattern(), *route)?;
+    }
     Ok(())
 }
 
@@ -111,16 +133,17 @@ fn add_routes(router: &mut Router<Route>) -> Result<(), StreamFault>
 ///
 /// # Errors
 /// `Memory` where a growth was refused.
+#[tactic(auto, unfolding(crate::specs::Table::table))]
 pub fn known_router(alloc: Global) -> Result<Router<Route>, StreamFault>
     ensures table { IfOk result (λ r. r ≡ table) }
     ensures fault { OnErr result (result ≡ Err StreamFault.Memory) }
 {
     let mut router = Router::new(alloc);
-    add_routes(&mut router)?;
+    add_each(&mut router, &ROUTES)?;
     Ok(router)
 }
 
-/// The row of a path.
+/// The route of a path.
 fn row_of(router: &Router<Route>, path: &str) -> Option<Route>
     requires { router.now ≡ table }
     ensures { result ≡ route_at path.now }
@@ -138,7 +161,7 @@ fn has_query(target: &str) -> bool
     target.as_bytes().iter().any(|b| *b == b'?')
 }
 
-/// What a target names: a path without a query that has a row in the table.
+/// What a target names: a path without a query that has a route in the table.
 pub(crate) fn route_of(router: &Router<Route>, target: &str) -> Option<Route>
     requires { router.now ≡ table }
     ensures { result ≡ route_of target.now }
