@@ -257,13 +257,17 @@ fn count_past(sessions: &[Session]) -> usize {
     count
 }
 
+/// So many sessions that aren't open may stay among the live ones, however few these are.
+const ALWAYS_FEW: usize = 4;
+
 /// For so many live sessions one that isn't open may stay among them.
 const FOR_ONE_PAST: usize = 32;
 
 /// Whether few of the live rows can't change any more, and each of the counters has its row: such
 /// rows wait among the live ones until there are more, and then all of them leave at once.
 fn are_few(past: usize, live: &StoredAccount, rows: &GivenRows) -> bool {
-    past <= live.sessions().len() / FOR_ONE_PAST && have_rows(live.counters(), &rows.counters)
+    let most = ALWAYS_FEW.max(live.sessions().len() / FOR_ONE_PAST);
+    past <= most && have_rows(live.counters(), &rows.counters)
 }
 
 /// Whether each of the counters has its row.
