@@ -49,10 +49,7 @@ fn read_shelf(alloc: Global, text: &str) -> Result<TariffShelf, BookFault>
     ensures fault { IfErr result (IsBookFault text.now) }
 {
     let book = read_text(alloc, text)?;
-    match TariffShelf::new(alloc, book) {
-        Ok(shelf) => Ok(shelf),
-        Err(_) => Err(BookFault::Memory),
-    }
+    TariffShelf::new(alloc, book).map_err(|_| BookFault::Memory)
 }
 
 /// A copy of the text of a book.
@@ -60,10 +57,7 @@ fn kept_text(alloc: Global, text: &str) -> Result<String, BookFault>
     ensures same { IfOk result (λ s. string_bytes s ≡ text.now) }
     ensures fault { IfErr result (IsBookFault text.now) }
 {
-    match String::from_str(alloc, text) {
-        Ok(kept) => Ok(kept),
-        Err(_) => Err(BookFault::Memory),
-    }
+    Ok(String::from_str(alloc, text)?)
 }
 
 /// Reads the book of a text, which stands alone on both shelves.

@@ -32,10 +32,7 @@ fn last_number(head: &Option<HeadColumns>) -> Result<u32, ReadFault>
     let Some(head) = head else {
         return Ok(0);
     };
-    match u32::try_from(head.next_charge.saturating_sub(1)) {
-        Ok(number) => Ok(number),
-        Err(_) => Err(ReadFault::Rules),
-    }
+    u32::try_from(head.next_charge.saturating_sub(1)).map_err(|_| ReadFault::Rules)
 }
 
 /// The number up to which a page goes that begins beyond this one.

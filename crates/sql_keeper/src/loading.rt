@@ -72,18 +72,15 @@ fn account_of<'b>(
 ) -> Result<Option<Account<'b>>, StoreFault>
     ensures { IsAccountOf loaded.entry result }
 {
-    match loaded {
-        Ok(None) => Ok(None),
-        Ok(Some(loaded)) => {
-            let Loaded {
-                number: _,
-                account,
-                before: _,
-            } = loaded;
-            Ok(Some(account))
-        }
-        Err(fault) => Err(fault),
-    }
+    let Some(loaded) = loaded? else {
+        return Ok(None);
+    };
+    let Loaded {
+        number: _,
+        account,
+        before: _,
+    } = loaded;
+    Ok(Some(account))
 }
 
 fn load_of<'b, S: Alter>(

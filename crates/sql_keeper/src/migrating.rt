@@ -124,11 +124,9 @@ pub(crate) fn kept_within<S: Alter>(tx: &mut Transaction<'_, S>) -> Result<MetaC
     ensures rules { HasCleanDisk (state S.Store tx.new.conn.now) → IfErr result
         (λ fault. fault ≡ Rules → IsUnruledMeta (state S.Store tx.old.conn.now).now.trees) }
 {
-    match read_meta_within(tx) {
-        Ok(Some(meta)) => Ok(meta),
-        Ok(None) => Err(OpenFault::Rules),
-        Err(fault) => Err(read_fault(fault)),
-    }
+    read_meta_within(tx)
+        .map_err(read_fault)?
+        .ok_or(OpenFault::Rules)
 }
 
 /// The version that is kept is that of the tables, and the moment in the range of moments.

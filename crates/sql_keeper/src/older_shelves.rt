@@ -62,8 +62,6 @@ pub(crate) fn ask_open<S: Alter>(conn: &mut Connection<S>) -> Result<(), OpenFau
     ensures told { IfErr result IsStores }
     ensures survives { Survives (state S.Store conn.old) (state S.Store conn.new) (λ _. ⊥) }
 {
-    match conn.prepare("SELECT 1") {
-        Ok(_) => Ok(()),
-        Err(error) => Err(open_fault(error)),
-    }
+    conn.prepare("SELECT 1").map_err(open_fault)?;
+    Ok(())
 }

@@ -134,11 +134,7 @@ fn find_meta<S: Alter>(conn: &mut Connection<S>) -> Result<MetaColumns, OpenFaul
     ensures rules { HasCleanDisk (state S.Store conn.new) → IfErr result
         (λ fault. fault ≡ Rules → IsUnruledMeta (state S.Store conn.old).now.trees) }
 {
-    match read_meta(conn) {
-        Ok(Some(meta)) => Ok(meta),
-        Ok(None) => Err(OpenFault::Rules),
-        Err(fault) => Err(read_fault(fault)),
-    }
+    read_meta(conn).map_err(read_fault)?.ok_or(OpenFault::Rules)
 }
 
 /// The books after the first.

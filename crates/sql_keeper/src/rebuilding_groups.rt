@@ -42,10 +42,7 @@ fn small_number(number: Option<u32>) -> Result<u8, ReadFault>
     ensures { IfOk result (λ n. number ≡ Some n) }
 {
     let number = number.ok_or(ReadFault::Rules)?;
-    match u8::try_from(number) {
-        Ok(number) => Ok(number),
-        Err(_) => Err(ReadFault::Rules),
-    }
+    u8::try_from(number).map_err(|_| ReadFault::Rules)
 }
 
 /// The terms of a reservation of the book of this number, with these names of periods. Without a

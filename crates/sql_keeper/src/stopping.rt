@@ -41,10 +41,8 @@ fn stop<S: Alter + Reopen + Drop>(connection: Connection<S>) -> Result<S, OpenFa
     ensures fault { IfErr result IsStores }
 {
     let mut store = connection.into_store();
-    match store.crash_and_reopen() {
-        Ok(()) => Ok(store),
-        Err(error) => Err(stop_fault(error)),
-    }
+    store.crash_and_reopen().map_err(stop_fault)?;
+    Ok(store)
 }
 
 /// A connection to a store that was just opened.
