@@ -10,6 +10,7 @@ use Rattle.sqlite_value.specs.declared.keys.Collation.TheVariants.{Binary}
 use Rattle.sqlite_sql.specs.Term.{lit, col}
 use Rattle.sqlite_sql.specs.Query.{Query, inner, end}
 use Rattle.sqlite_trees.specs.Tree.{Trees}
+use Rattle.sqlite_schema.specs.declared.schema.Column.{Column}
 use Rattle.sqlite_schema.specs.declared.schema.Table.{Table}
 use Rattle.sqlite_schema.specs.declared.command.Command.TheVariants.{Select}
 use Rattle.sqlite.specs.Given.{IsPlain}
@@ -82,27 +83,20 @@ pub record IsRows (v : ℕ) (text : List ℕ) (tree : ℕ) (places : List ℕ) :
   pub listing : reads_listing (schema_at v) text ≡ false
   pub plain : IsPlain (understood (schema_at v) text)
 
+-- the names of columns, each behind a comma
+abbrev pub names_text : List Column → List ℕ
+names_text [] = []
+names_text (c ∷ cs) = codes ", " ++ (c.name ++ names_text cs)
+
+-- the text for a table: of its rowid and all its columns
+abbrev pub text_for : Table → List ℕ
+text_for t =
+    codes "SELECT rowid" ++ (names_text t.columns
+    ++ (codes " FROM " ++ (t.name ++ codes " ORDER BY rowid")))
+
 -- the texts for the tables of all versions, in their order
 abbrev pub texts : List (List ℕ)
-texts = codes "SELECT rowid, id, version, book, last_moment FROM meta ORDER BY rowid"
-    ∷ (codes "SELECT rowid, account, barred, as_of, next_bucket, next_charge FROM accounts"
-    ++ codes " ORDER BY rowid")
-    ∷ (codes "SELECT rowid, account, number, starts, ends, scope, credited, available,"
-    ++ codes " reserved, charged, expired FROM buckets ORDER BY rowid")
-    ∷ codes "SELECT rowid, account, rating_group, cycle, blocks FROM counters ORDER BY rowid"
-    ∷ (codes "SELECT rowid, account, session, last_number, touched, state FROM sessions"
-    ++ codes " ORDER BY rowid")
-    ∷ (codes "SELECT rowid, account, session, rating_group, used, reserved, period_before,"
-    ++ codes " period_after FROM session_groups ORDER BY rowid")
-    ∷ codes "SELECT rowid, account, session, rating_group, bucket, amount FROM holds ORDER BY rowid"
-    ∷ codes "SELECT rowid, account, kind, name, number, content, answer FROM answers ORDER BY rowid"
-    ∷ codes "SELECT rowid, code, amount, days, scope, account FROM vouchers ORDER BY rowid"
-    ∷ (codes "SELECT rowid, account, number, moment, session, rating_group, blocks, rated,"
-    ++ codes " collected, uncollected FROM charges ORDER BY rowid")
-    ∷ codes "SELECT rowid, number, starts, content FROM books ORDER BY rowid"
-    ∷ codes "SELECT rowid, account, session, rating_group, book FROM grant_books ORDER BY rowid"
-    ∷ codes "SELECT rowid, account, number FROM allowance_buckets ORDER BY rowid"
-    ∷ codes "SELECT rowid, account, number, blocks FROM covered ORDER BY rowid" ∷ []
+texts = map text_for book_schema.tables
 
 -- so many places, from one on
 abbrev pub places_from : ℕ → ℕ → List ℕ
