@@ -34,5 +34,5 @@ pub use crate::making::{book_text, make_database, make_over, make_tables};
 pub use crate::migrating::{migrate_database, migrate_over, migrate_tables};
 pub use crate::office_clock::OfficeClock;
 pub use crate::opening::{Office, open_office, open_tables};
-pub use crate::serving::serve_connections;
+pub use crate::serving::{Connections, serve_connections};
 pub use crate::stating::{state_office, state_over};

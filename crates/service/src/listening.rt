@@ -14,7 +14,7 @@ use crate::database_files::DatabaseFiles;
 use crate::fault::DatabaseFault;
 use crate::office_clock::OfficeClock;
 use crate::opening::{Office, open_office};
-use crate::serving::serve_connections;
+use crate::serving::{Connections, serve_connections};
 use operator::ServeWords;
 use sql_keeper::SqlKeeper;
 use sqlite::Alter;
@@ -87,15 +87,11 @@ fn serve_office<S: Alter + Drop, O: Write, E: Write>(
     };
     tell_listening(rt.alloc(), words.port, output)?;
     let mut clock = OfficeClock::new(rt, words.at);
-    let failed = serve_connections(
-        rt,
-        &listener,
-        words.connections,
-        &mut keeper,
-        &shelf,
-        &mut clock,
-        errors,
-    );
+    let connections = Connections {
+        listener: &listener,
+        count: words.connections,
+    };
+    let failed = serve_connections(rt, connections, &mut keeper, &shelf, &mut clock, errors);
     Ok((failed, keeper))
 }
 

@@ -10,25 +10,33 @@ use shelves::TariffShelf;
 use std::io::Write;
 use std::net::TcpListener;
 
+/// The connections that are served: so many of a listener.
+#[derive(Clone, Copy)]
+pub struct Connections<'a> {
+    /// The socket that listens.
+    pub listener: &'a TcpListener,
+    /// How many of its connections are served.
+    pub count: u32,
+}
+
 /// Serves so many connections of a listener, one after another, each as `serve_socket` does, and
 /// answers how many of them ended in a fault. A connection's fault is one line on `errors`, as far
 /// as that can be written, and the next connection is served; one that the listener couldn't hand
 /// over counts as one whose socket failed.
 pub fn serve_connections<K: ChargeSource, C: Clock, E: Write>(
     rt: &HostRuntime,
-    listener: &TcpListener,
-    connections: u32,
+    connections: Connections<'_>,
     keeper: &mut K,
     shelf: &TariffShelf,
     clock: &mut C,
     errors: &mut E,
 ) -> u32
-    ensures { ServesConnections E.contents shelf.now connections
+    ensures { ServesConnections E.contents shelf.now connections.entry.count
         (K.seen keeper.old) (K.seen keeper.new) errors.old errors.new result }
 {
     let mut failed = 0;
-    for _served in 0..connections {
-        failed += serve_next(rt, listener, keeper, shelf, clock, errors);
+    for _served in 0..connections.count {
+        failed += serve_next(rt, connections.listener, keeper, shelf, clock, errors);
     }
     failed
 }
