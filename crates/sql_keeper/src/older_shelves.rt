@@ -49,10 +49,7 @@ pub(crate) fn older_shelf<S: Alter>(
         (state S.Store conn.old) (state S.Store conn.new) result }
 {
     let mut tx = conn.transaction();
-    match shelf_within(&mut tx, alloc, version) {
-        Ok(read) => Ok(read),
-        Err(fault) => Err(fault),
-    }
+    shelf_within(&mut tx, alloc, version)
 }
 
 /// Tests that the connection can still be asked.
