@@ -61,10 +61,8 @@ fn put_first_numbers<S: Alter>(tx: &mut Transaction<'_, S>, alloc: Global) -> Re
         IfErr result (AreUnruledReserved 1 (state S.Store tx.old.conn.now).now.trees) }
 {
     let rows = read_reserved_within(tx, alloc)?;
-    match put_numbers(tx, &rows) {
-        Ok(()) => Ok(()),
-        Err(error) => Err(ReadFault::Store(error)),
-    }
+    put_numbers(tx, &rows)?;
+    Ok(())
 }
 
 /// Whether a version has no numbers of books for its reservations.
@@ -180,10 +178,8 @@ fn put_latest<S: Alter>(
         IfErr result (AreUnruledReserved version (state S.Store tx.old.conn.now).now.trees) }
 {
     put_all_numbers(tx, alloc, version)?;
-    match put_meta(tx, LATEST, meta.book.as_str(), meta.last) {
-        Ok(_) => Ok(()),
-        Err(error) => Err(ReadFault::Store(error)),
-    }
+    put_meta(tx, LATEST, meta.book.as_str(), meta.last)?;
+    Ok(())
 }
 
 /// Makes the tables that a database of an older version hasn't, reads its shelf, and brings it to

@@ -9,7 +9,7 @@ pub put_numbers-requires-clause-book : goal.put_numbers-requires-clause-book
 put_numbers-requires-clause-book g c =
     still_book _ _ _ c.requires.book c.in_ok-rows.ensures.reads.still
 
-pub returns-in-Ok-clause-makes : goal.returns-in-Ok-clause-makes
-returns-in-Ok-clause-makes g c =
+pub returns-clause-makes : goal.returns-clause-makes
+returns-clause-makes g c =
     grants_rows c.deref.result.now _ _ _ c.in_ok-rows.rows _ _ c.deref.ensures.value
-    c.in_ok-rows.ensures.reads c.in-Ok.ensures.makes
+    c.in_ok-rows.ensures.reads c.in_ok-put_numbers.ensures.makes

@@ -5,9 +5,9 @@ use Rattle.sql_keeper.specs.Migrates.{with_granted}
 use Rattle.sql_keeper.proofs.Granted.{all_makes_then, puts_meta}
 use Rattle.sql_keeper.proofs.migrating.put_latest.Goals as goal
 
-pub returns-in-Ok-clause-makes : goal.returns-in-Ok-clause-makes
-returns-in-Ok-clause-makes g c =
+pub returns-clause-makes : goal.returns-clause-makes
+returns-clause-makes g c =
     let m = meta_of c.args.meta.now in
     all_makes_then (with_granted c.args.version) (with_meta (record m { version = latest })) _ _ _
     _ _ _ c.in_ok-put_all_numbers.ensures.makes
-    (puts_meta m _ c.as_str.ensures.value _ _ _ c.in-Ok.ensures.makes)
+    (puts_meta m _ c.as_str.ensures.value _ _ _ c.in_ok-put_meta.ensures.makes)
