@@ -3,5 +3,6 @@ pub mod CommandLemmas
 pub mod ImportingLemmas
 pub mod MakingLemmas
 pub mod OverLemmas
+pub mod AddingLemmas
 pub mod FaultLines
 pub mod CleanOffices

@@ -1,6 +1,6 @@
 -- What words make of the database that files held before, whatever they held.
 -- Source: profile.
-use Rattle.std.specs.Prelude.{◌≡◌, ◌<◌, ℕ, Option, None, Some, Result, Ok, Err}
+use Rattle.std.specs.Prelude.{◌≡◌, ◌<◌, ℕ, suc, Option, None, Some, Result, Ok, Err}
 use Rattle.std.specs.Prelude.{IfErr, IfOk, IfSome, OnErr, OnOk}
 use Rattle.std.specs.Io.KnownBytes.{Appends}
 use Rattle.units.specs.Words.{Moment, no_end}
@@ -13,13 +13,16 @@ use Rattle.sqlite_trees.specs.Tree.{Trees}
 use Rattle.sqlite.specs.Effect.{IsDatabase}
 use Rattle.sqlite.specs.Files.{HoldsDatabase, file_state, over_files}
 use Rattle.sqlite.specs.State.{HasCleanDisk}
-use Rattle.shelves.specs.Shelves.{Shelf}
+use Rattle.tariffs.specs.Books.{Book}
+use Rattle.shelves.specs.Shelves.{Shelf, count, with_book}
 use Rattle.keepers.specs.Tables.{Tables}
 use Rattle.sql_tables.specs.Schema.{latest}
 use Rattle.sql_tables.specs.Texts.{stage}
 use Rattle.sql_tables.specs.Opens.{IsVersion}
 use Rattle.sql_rows.specs.Content.{tables_content}
-use Rattle.sql_keeper.specs.Content.{shelf_names, tables_of}
+use Rattle.sql_keeper.specs.AddsBook.{BecomesDated, IsAdded}
+use Rattle.sql_keeper.specs.Books.{IsBookOf}
+use Rattle.sql_keeper.specs.Content.{last_in, shelf_names, tables_of}
 use Rattle.sql_keeper.specs.Creates.{IsNewBook}
 use Rattle.sql_keeper.specs.Inside.{KeeperState, IsClean, tables_in}
 use Rattle.sql_keeper.specs.Migrates.{BecomesLatest}
@@ -79,6 +82,29 @@ pub record IsMigratedIn {D : Type 0} {g : disk.Ghosts D} (image : Image)
         BecomesLatest version db (trees_in over_files k)
     pub still : version ≡ latest → (db : Trees) → HoldsDatabase image db →
         trees_in over_files k ≡ db
+
+-- the last book of a shelf is that of a text, from a moment on
+pub record EndsWith (text : BookText) (from : Moment) (shelf : Shelf) : Type 0 where
+  pub before : Shelf
+  pub book : Book
+  pub read : IsBookOf text book
+  pub is : shelf ≡ with_book before from book
+
+abbrev pub EndsWithSome : Moment → Shelf → Type 0
+EndsWithSome from shelf = (text : BookText) × EndsWith text from shelf
+
+-- the book of a text was added behind those of a shelf, which had no fault of it, and to its tables
+pub record IsAddedBehind (text : BookText) (from : Moment) (before after : Shelf)
+    (old new : Trees) : Type 0 where
+  pub added : IsAdded text from (last_in (tables_content old).meta) before after
+  pub becomes : BecomesDated (suc (count before)) from text old new
+
+-- so it was to the shelf of the database that the files held, and to its tables
+abbrev pub IsAddedIn : {D : Type 0} → {g : disk.Ghosts D} → Image → BookText → Moment →
+    KeeperState (FileStore D g) → Shelf → Type 0
+IsAddedIn image text from k shelf = (db : Trees) (first : BookText) (before : Shelf) →
+    HoldsDatabase image db → IsLeft first db → IsShelfOf first (tables_content db).books before →
+    IsAddedBehind text from before shelf db (trees_in over_files k)
 
 -- where the files held a database that was left with a text, this is so of the shelf of its books,
 -- and of the tables of its rows

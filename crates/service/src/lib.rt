@@ -21,7 +21,7 @@ mod serving;
 mod stating;
 mod telling;
 
-pub use crate::adding::{add_book, add_text};
+pub use crate::adding::{add_book, add_over, add_text};
 pub use crate::clock::{command_moment, machine_moment};
 pub use crate::commanding::{command_office, command_over};
 pub use crate::database_files::{DatabaseFiles, open_database};
